@@ -1,0 +1,30 @@
+-- Two guards with the same fields are one: the facts beside them have one proof each.
+use Rattle.std.proofs.Common.{◌≡◌, [], ◌∷◌}
+use Rattle.std.specs.Prelude as std
+use Rattle.std.proofs.Props.{props}
+use Rattle.std.specs.Coded.{Coded, Coded-set}
+use Rattle.ticket_lock.specs.declared.guard.Guard.{Guard}
+use Rattle.ticket_lock.specs.Standing.{stage_of, seat_of, number_of}
+
+module _ {B H L : Type 0} (code : Coded B) (x : Guard B H L) where
+  -- the guard's seat is of its lock
+  abbrev Own : Type 0
+  Own = x.place.table_id ≡ x.lock.now.board.shared.table_id
+
+  -- the guard's seat holds the book, which is out of its slot
+  abbrev Holding : Type 0
+  Holding = (stage_of x.place.me.0 ≡ 3) × (seat_of x.place.me.0 ≡ x.seat) × (number_of x.place.me.0 ≡ x.number) × (x.place.me.1 ≡ (0, std.None) ∷ [])
+
+  own_prop : IsProp Own
+  own_prop = hlevel props
+
+  holding_prop : IsProp Holding
+  holding_prop = hlevel (props, Coded-set code)
+
+  -- the guard with the book w and these proofs
+  abbrev with_facts : B → Own → Holding → Guard B H L
+  with_facts w own holding = record { lock = x.lock; place = x.place; seat = x.seat; number = x.number; book = w; own = own; holding = holding }
+
+  -- which proofs it has makes no difference
+  pub same_guard : (w : B) (p q : Own) (r s : Holding) → with_facts w p r ≡ with_facts w q s
+  same_guard w p q r s = λ i. with_facts w (own_prop p q i) (holding_prop r s i)

@@ -1,0 +1,9 @@
+pub mod Sums
+pub mod Machine
+pub mod FormsKept
+pub mod Seats
+pub mod Worlds
+pub mod Schedules
+pub mod Steps
+pub mod Guards
+pub mod Gather

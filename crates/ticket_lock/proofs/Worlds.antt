@@ -1,0 +1,80 @@
+-- A world that stands under the invariant is good.
+use Rattle.std.proofs.Common.{◌≡◌, ℕ, zero, suc, ◌+◌, ◌<◌, List, [], ◌∷◌, length, sym, refl, ap, ◌∙◌, subst, arith}
+use mathlib.Core.Option.{some, some-injective, some-ne-none}
+use lib.ListN.{get_elem?}
+use Rattle.ticket_lock.specs.declared.chronicle.Chronicle.{Ghosts}
+use Rattle.ticket_lock.specs.declared.sight.Memo.{Memo}
+use Rattle.ticket_lock.specs.declared.sight.Sight.{Sight}
+use Rattle.ticket_lock.specs.declared.sight.Sight.TheVariants.{Keeper, Idle, Waiting, Holding}
+use Rattle.ticket_lock.specs.World.{Form, World, wrap, memos, HasNumber, Remembers, Knows, Good}
+use Rattle.ticket_lock.specs.GoodWorld.{Owns, GoodWorld, Shut}
+use Rattle.ticket_lock.specs.Standing.{RestingTablesAreGood, world_of}
+use Rattle.ticket_lock.proofs.Seats.{Ended}
+use Rattle.ticket_lock.proofs.Sums.{wrap_small, one_place, at_below}
+use Rattle.ticket_lock.proofs.Machine.{FormLaws, true_false, few}
+
+at_of : (q : List ℕ) (i : ℕ) → i < length q → (j : ℕ) × (get_elem? q i ≡ some j)
+at_of [] i h = absurd (omega arith)
+at_of (x ∷ xs) zero h = (x, refl)
+at_of (x ∷ xs) (suc i) h = at_of xs i (omega arith)
+
+module _ {B H L : Type 0} (K : Ghosts B H L) (F : Form) (laws : FormLaws F) (n : ℕ) (opening : B) (w : World B H L) (q : List ℕ) (g : Good K F n opening w q) where
+  place_of : (k t : ℕ) (v : Sight H L) → Knows K opening w.current w.home w.serving q k v → HasNumber v t → (i : ℕ) × (get_elem? q i ≡ some k) × (t ≡ wrap (w.serving + i))
+  place_of k t (Keeper ms) know has = absurd has
+  place_of k t (Idle m) know has = absurd has
+  place_of k t (Waiting m u looks) know has = (know.1.0, know.1.1, sym has ∙ know.1.2)
+  place_of k t (Holding m u) know has = (0, know.1, sym has ∙ (know.2 ∙ (sym (wrap_small w.serving g.small) ∙ ap wrap (omega arith))))
+
+  owner : (k t : ℕ) → Owns w k t → (i : ℕ) × (get_elem? q i ≡ some k) × (t ≡ wrap (w.serving + i))
+  owner k t o = place_of k t o.0 (g.each_seat k o.0 o.1) o.2
+
+  only_one : (x m : Memo H L) (a : ℕ) → Remembers K opening w.current x → get_elem? (x ∷ []) a ≡ some m → Remembers K opening w.current m
+  only_one x m zero r e = subst (Remembers K opening w.current) (some-injective x m e) r
+  only_one x m (suc a) r e = absurd (some-ne-none m (sym e))
+
+  remembered : (j a : ℕ) (m : Memo H L) (v : Sight H L) → Knows K opening w.current w.home w.serving q j v → get_elem? (memos v) a ≡ some m → Remembers K opening w.current m
+  remembered j a m (Keeper ms) know e = know a m e
+  remembered j a m (Idle x) know e = only_one x m a know e
+  remembered j a m (Waiting x t looks) know e = only_one x m a know.0 e
+  remembered j a m (Holding x t) know e = only_one x m a know.0 e
+
+  pub good_world : GoodWorld K F opening w
+  good_world = let most = few K F laws n opening w q g in record {
+    words = g.shows;
+    out = length q;
+    few = most;
+    next_is = g.next_is;
+    each_number = λ i below. let j = at_of q i below in (
+      j.0,
+      g.queued i j.0 j.1,
+      λ k o. let p = owner k (wrap (w.serving + i)) o in let inside = at_below q p.0 k p.1 in
+          let same : i ≡ p.0 = one_place w.serving i p.0 (omega arith) (omega arith) p.2 in
+          some-injective k j.0 (sym p.1 ∙ (ap (get_elem? q) (sym same) ∙ j.1)),
+    );
+    each_owner = λ j t o. let p = owner j t o in (p.0, at_below q p.0 j p.1, p.2);
+    holder = λ j t h. (g.each_seat j (Holding h.0 t) h.1).2;
+    one_holder = λ j k t u h i. some-injective j k (sym (g.each_seat j (Holding h.0 t) h.1).1 ∙ (g.each_seat k (Holding i.0 u) i.1).1);
+    home = λ is j t h. true_false (sym is ∙ (g.each_seat j (Holding h.0 t) h.1).3);
+    away = λ is. let a = g.away is in (a.0, a.2, (a.1, a.3));
+    lawful = g.lawful;
+    head = g.head;
+    turn = g.turn;
+    begins = λ j m s. (remembered j s.1 m s.0 (g.each_seat j s.0 s.2) s.3).begins;
+    own_lines = λ j m s. (remembered j s.1 m s.0 (g.each_seat j s.0 s.2) s.3).own_lines;
+  }
+
+module _ {B H L : Type 0} (K : Ghosts B H L) (F : Form) (laws : FormLaws F) where
+  -- a lock that ends in the working form has ended well
+  pub shut : (n : ℕ) (opening b : B) → Ended K F n opening b → Shut K F opening b
+  shut n opening b e = record {
+    world = e.0;
+    good = good_world K F laws n opening e.0 [] e.1;
+    none_out = λ j t o. let p = owner K F laws n opening e.0 [] e.1 j t o in some-ne-none j (sym p.1);
+    home = e.2;
+    current = e.3;
+    next = e.4;
+  }
+
+  -- whatever stands in the table under the rule shows a good world
+  pub resting : RestingTablesAreGood K F
+  resting n opening s r = (good_world K F laws n opening (world_of s r.next r.serving r.home r.current) r.queue r.good, r.shelved)

@@ -1,0 +1,6 @@
+pub mod World
+pub mod Forms
+pub mod GoodWorld
+pub mod Schedule
+pub mod Standing
+pub mod Tokens

@@ -1,0 +1,50 @@
+//! A lock is closed, and its book comes back.
+ghost use Rattle.std.specs.Prelude.{◌≡◌, ◌+◌, ◌<◌, [], length, All, map, vec_len};
+ghost use Rattle.ticket_lock.specs.Standing.{stage_of, memos_of, idles};
+ghost use Rattle.ticket_lock.specs.Forms.{partitioned_form};
+ghost use Rattle.ticket_lock.specs.GoodWorld.{Shut};
+ghost use Rattle.ticket_lock.specs.Tokens.{seat_count, opening_book, IsSeatOf, seat_number, seat_seen, Stands};
+
+use crate::chronicle::Chronicle;
+use crate::lock::TicketLock;
+use crate::plays::{Glue, Sit};
+use crate::rule::{Board, Place};
+use crate::seat::Seat;
+
+// Joins all seats into the keeper.
+fn gather<B: Chronicle>(board: &Board<B>, keeper: &mut Place<B>, mut seats: Vec<Seat<B>>)
+    requires table { (keeper.old.table_id ≡ board.now.shared.table_id) × (0 < board.now.shared.table_id.words) }
+    requires keeper { (stage_of keeper.old.me.0 ≡ 0) × (length (memos_of keeper.old.me.0) ≡ 0) × (keeper.old.me.1 ≡ []) }
+    requires own { All (λ s. s.place.table_id ≡ board.now.shared.table_id) seats.items }
+    ensures keeper { (keeper.new.table_id ≡ keeper.old.table_id) × (stage_of keeper.new.me.0 ≡ 0) × (keeper.new.me.1 ≡ []) }
+    ensures memos { map (λ s. s.place.me.0) seats.items ≡ idles (memos_of keeper.new.me.0) }
+{
+    while let Some(seat) = seats.pop() {
+        let Seat { place, number: _ } = seat;
+        board.shared.join_seat::<Glue>(keeper, place);
+    }
+    seats.destroy_empty();
+}
+
+impl<B: Chronicle> TicketLock<B> {
+    /// Ends the lock, and gives its book back. It asks for all seats of this lock, idle.
+    ///
+    /// The book is lawful, its head is that at opening, and its turn is the number that the next take would have had. Its journal begins with what each seat
+    /// has seen, and holds in each seat's name just the lines that the seat has seen in its name.
+    pub fn close(self, seats: Vec<Seat<B>>) -> B
+        requires all { vec_len seats ≡ seat_count self }
+        requires own { All (IsSeatOf self) seats.items }
+        ensures lawful { B.lawful result }
+        ensures head { B.head result ≡ B.head (opening_book self) }
+        ensures next { Shut B.Chronicle partitioned_form (opening_book self) result }
+        ensures seen { All (λ s. Stands B.Chronicle (seat_number s) (seat_seen s) result) seats.items }
+    {
+        let TicketLock { board, seats: _ } = self;
+        let mut keeper = board.shared.load_new_seat::<Sit>(0).1;
+        gather(&board, &mut keeper, seats);
+        let mut closed = board.close_with(keeper);
+        let book = closed.take(0).unwrap();
+        closed.free();
+        book
+    }
+}

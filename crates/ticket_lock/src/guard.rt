@@ -1,0 +1,54 @@
+//! A guard: a seat that holds the book.
+ghost use Rattle.std.specs.Prelude.{◌≡◌, [], ◌∷◌, None};
+ghost use Rattle.ticket_lock.specs.Standing.{stage_of, seat_of, number_of};
+
+use crate::chronicle::Chronicle;
+use crate::lock::TicketLock;
+use crate::plays;
+use crate::rule::Place;
+use crate::seat::Seat;
+
+/// A seat that holds the book. It can't be dropped: it is spent by `hand_on`.
+pub struct Guard<'a, B: Chronicle> {
+    pub(crate) lock: &'a TicketLock<B>,
+    pub(crate) place: Place<B>,
+    pub(crate) seat: u8,
+    pub(crate) number: u64,
+    pub(crate) book: B,
+    ghost own: { place.table_id ≡ lock.now.board.shared.table_id },
+    ghost holding: { (stage_of place.me.0 ≡ 3) × (seat_of place.me.0 ≡ seat) × (number_of place.me.0 ≡ number) × (place.me.1 ≡ (0, None) ∷ []) },
+}
+
+impl<'a, B: Chronicle> Guard<'a, B> {
+    ghost use Rattle.ticket_lock.specs.World.{memo, HandsOn};
+    ghost use Rattle.ticket_lock.specs.Tokens.{guard_lock, guard_seat, guard_number, guard_seen, guard_book, opening_book, KeepsHead, IsSeatOf, seat_number, seat_seen};
+
+    /// Gives the book back, and the next number is served. The seat that comes back has seen the lines handed on.
+    ///
+    /// It asks that the book is lawful, that its head is that at opening, that its turn is one more than the number served, and that its lines are those
+    /// at entry and one line of this seat with this number, or those at entry alone where they filled the capacity.
+    pub fn hand_on(self) -> Seat<B>
+        requires head { KeepsHead B.Chronicle self }
+        requires hands { HandsOn B.Chronicle (memo (guard_seat self) (B.head (opening_book (guard_lock self))) (guard_seen self)) (guard_number self) (guard_book self) }
+        ensures own { IsSeatOf (guard_lock self.entry) result }
+        ensures seat { seat_number result ≡ guard_seat self.entry }
+        ensures seen { seat_seen result ≡ B.lines (guard_book self.entry) }
+    {
+        let Guard {
+            lock,
+            mut place,
+            seat,
+            number,
+            book,
+        } = self;
+        let shared = &lock.board.shared;
+        let left = shared.exchange(&mut place, 0, Some(book));
+        let None = left else { unreachable!() };
+        let next = number.wrapping_add(1);
+        shared.store::<plays::HandOn>(&mut place, (next % 8) as usize + 1, next);
+        Seat {
+            place,
+            number: seat,
+        }
+    }
+}

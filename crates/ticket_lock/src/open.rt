@@ -1,0 +1,112 @@
+//! A lock is opened round a book.
+ghost use Rattle.std.specs.Prelude.{◌≡◌, ◌<◌, ◌≤◌, ◌⊎◌, [], ◌∷◌, length, vec_len, vec_capacity, All, IfOk, IfErr, IsErrAnd, map};
+ghost use Rattle.ticket_lock.specs.Standing.{keeper_of, heads_of, seen_of};
+ghost use Rattle.ticket_lock.specs.Schedule.{idle_from};
+ghost use Rattle.ticket_lock.specs.Tokens.{seat_count, opening_book, IsSeatOf, AreNumbered, seat_seen};
+ghost use Rattle.ticket_lock.specs.declared.open.OpenFault.TheVariants.{SeatCount, NoMemory};
+
+use crate::chronicle::Chronicle;
+use crate::lock::TicketLock;
+use crate::plays::Cut;
+use crate::rule::{Board, Origin, Place};
+use crate::seat::Seat;
+use atomic_table::{Refused, Table};
+use std::alloc::Global;
+use std::snapshot::Snapshot;
+
+/// Why a lock was not opened.
+#[derive(Drop, Debug, Clone, Copy, PartialEq, Eq)]
+pub enum OpenFault {
+    /// There were to be no seats, or more than 64.
+    SeatCount,
+    /// Memory was refused.
+    NoMemory,
+}
+
+// The one value of a list.
+fn only<T>(mut all: Vec<T>) -> T
+    requires { length all.items ≡ 1 }
+    ensures { all.items ≡ result ∷ [] }
+{
+    let one = all.pop().unwrap();
+    all.destroy_empty();
+    one
+}
+
+// A table with the book in its slot. The book comes back where there is no memory.
+fn lay<B: Chronicle>(alloc: Global, book: B, seats: u8) -> Result<(Board<B>, Place<B>), B>
+    requires lawful { B.lawful book }
+    requires few { seats ≤ 64 }
+    ensures sized { IfOk result (λ r. (r.0.shared.table_id.words ≡ 9) × (r.0.shared.table_id.slots ≡ 1) × (r.0.shared.key.seats ≡ seats) × (r.0.shared.key.book.value ≡ book)) }
+    ensures keeper { IfOk result (λ r. (r.1.table_id ≡ r.0.shared.table_id) × (r.1.me ≡ (keeper_of (B.head book) (B.lines book) 0 seats, []))) }
+    ensures back { IfErr result (λ b. b ≡ book) }
+{
+    let turn = book.turn();
+    let about = Origin {
+        book: Snapshot::of(&book),
+        seats: u64::from(seats),
+    };
+    let Ok(mut slots) = Vec::with_capacity(alloc, 1) else {
+        return Err(book);
+    };
+    slots.push_reserved(Some(book));
+    match Table::new(alloc, &[turn; 9], slots, &about) {
+        Ok(made) => Ok(made),
+        Err(Refused { slots }) => Err(only(slots).unwrap()),
+    }
+}
+
+// Cuts the seats off the keeper.
+fn cut<B: Chronicle>(board: &Board<B>, keeper: &mut Place<B>, all: &mut Vec<Seat<B>>, seats: u8)
+    requires table { (keeper.old.table_id ≡ board.now.shared.table_id) × (0 < board.now.shared.table_id.words) × (board.now.shared.key.seats ≡ seats) }
+    requires keeper { keeper.old.me ≡ (keeper_of (B.head board.now.shared.key.book.value) (B.lines board.now.shared.key.book.value) 0 seats, []) }
+    requires room { (all.old.items ≡ []) × (seats ≤ vec_capacity all.old) }
+    ensures keeper { (keeper.new.table_id ≡ keeper.old.table_id) × (keeper.new.me ≡ (keeper_of (B.head board.now.shared.key.book.value) (B.lines board.now.shared.key.book.value) seats 0, [])) }
+    ensures own { All (λ s. (s.place.table_id ≡ board.now.shared.table_id) × (heads_of s.place.me.0 ≡ B.head board.now.shared.key.book.value ∷ [])) all.new.items }
+    ensures seen { All (λ s. seen_of s.place.me.0 ≡ B.lines board.now.shared.key.book.value) all.new.items }
+    ensures numbers { AreNumbered all.new.items }
+    ensures room { (vec_len all.new ≡ seats) × (seats ≤ vec_capacity all.new) }
+{
+    for number in 0..seats {
+        let place = board.shared.split_seat::<Cut>(keeper);
+        all.push_reserved(Seat { place, number });
+    }
+}
+
+impl<B: Chronicle> TicketLock<B> {
+    /// A lock round a lawful book, and its seats, numbered from 0. There can be 1 to 64 seats. Each seat has seen the book's journal, and the first number
+    /// handed out is the book's turn. The memory of all later calls is asked for here.
+    ///
+    /// Refusals, of which the first is tried first: `SeatCount` where `seats` is 0 or above 64, and `NoMemory`. The book comes back unchanged.
+    ///
+    /// The book is moved at each entry and each hand-over, so a large one is better passed as a `Box` of it, which is a `Chronicle` too.
+    pub fn open(alloc: Global, book: B, seats: u8) -> Result<(TicketLock<B>, Vec<Seat<B>>), (OpenFault, B)>
+        requires lawful { B.lawful book }
+        ensures range { IfOk result (λ _. (1 ≤ seats) × (seats ≤ 64)) }
+        ensures lock { IfOk result (λ r. (seat_count r.0 ≡ seats) × (opening_book r.0 ≡ book)) }
+        ensures seats { IfOk result (λ r. (vec_len r.1 ≡ seats) × (seats ≤ vec_capacity r.1)) }
+        ensures own { IfOk result (λ r. All (IsSeatOf r.0) r.1.items) }
+        ensures numbers { IfOk result (λ r. AreNumbered r.1.items) }
+        ensures seen { IfOk result (λ r. All (λ s. seat_seen s ≡ B.lines book) r.1.items) }
+        ensures seat_count { (seats ≡ 0) ⊎ (64 < seats) → IsErrAnd result (λ e. e.0 ≡ SeatCount) }
+        ensures no_memory { IfErr result (λ e. 1 ≤ seats → seats ≤ 64 → e.0 ≡ NoMemory) }
+        ensures back { IfErr result (λ e. e.1 ≡ book) }
+    {
+        if seats == 0 || seats > 64 {
+            return Err((OpenFault::SeatCount, book));
+        }
+        let Ok(mut all) = Vec::with_capacity(alloc, usize::from(seats)) else {
+            return Err((OpenFault::NoMemory, book));
+        };
+        let (board, mut keeper) = match lay(alloc, book, seats) {
+            Ok(made) => made,
+            Err(book) => {
+                all.destroy_empty();
+                return Err((OpenFault::NoMemory, book));
+            }
+        };
+        cut(&board, &mut keeper, &mut all, seats);
+        drop(keeper);
+        Ok((TicketLock { board, seats }, all))
+    }
+}
