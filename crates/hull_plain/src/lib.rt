@@ -1,0 +1,19 @@
+//! Sets of lattice points that answer questions about their convex hull: what such a set promises, and a plain one.
+//!
+//! [`HullSet`] is the promise: each call answers by the allowed-reply relation of `specs/Replies.antt`, which speaks of
+//! the set of live points alone. [`PlainSet`] keeps it with a sorted list and slow questions: it is what faster sets are
+//! compared with, and what a checker replays on.
+#![tactic(auto)]
+
+mod call;
+mod point_list;
+mod reply;
+mod set;
+
+pub use call::Call;
+pub use point_list::PointList;
+pub use reply::Reply;
+pub use set::{AddReply, HullSet, NoMemory, Place, RemoveReply};
+
+/// The greatest limit of a set, and so the greatest number of its points.
+pub const POINT_LIMIT: u32 = 1048576;

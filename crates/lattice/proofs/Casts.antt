@@ -1,0 +1,75 @@
+-- What the program's casts and sums of 64 and 128 bits are, at numbers of a known size.
+use Rattle.std.proofs.Common.{◌≡◌, ℕ, ◌+◌, ◌*◌, ◌^◌, ◌∙◌, arith, lit≤, FitsSigned}
+use Rattle.std.proofs.lemmas.Int.{to_z-of_z}
+use lib.IntN.{ℤ, ◌+ℤ◌, ◌-ℤ◌, ◌*ℤ◌}
+use mir.Val.{to_z, of_z}
+use mir.Syntax.{w128, w64}
+use borrow.Author.Differences.{ints}
+use Rattle.lattice.specs.Plane.{IsWithin, widest, widest_side, IsCoordinate}
+use Rattle.lattice.specs.Integers.{within_add, within_sub, within_mul, within_more}
+
+-- a number of 64 bits that is no larger than a coordinate
+pub cast64 : (z : ℤ) → IsWithin widest z → to_z w64 (of_z w64 z) ≡ z
+cast64 z h = omega (arith, ints)
+
+-- a number of 128 bits
+pub cast128 : (z : ℤ) → FitsSigned w128 z → to_z w128 (of_z w128 z) ≡ z
+cast128 z h = to_z-of_z w128 z h
+
+-- a number that is no larger than the widest product
+pub cast_product : (z : ℤ) → IsWithin (2 ^ 125) z → to_z w128 (of_z w128 z) ≡ z
+cast_product z h = omega (arith, ints)
+
+-- a coordinate, cast to 128 bits
+pub cast_wide : (z : ℤ) → IsWithin widest z → to_z w128 (of_z w128 (to_z w64 (of_z w64 z))) ≡ z
+cast_wide z h = omega (arith, ints)
+
+-- u - v in 64 bits, cast to 128
+pub cast_difference : (u v : ℤ) → IsWithin widest u → IsWithin widest v → to_z w128 (of_z w128 (to_z w64 (of_z w64 (to_z w64 (of_z w64 u) -ℤ to_z w64 (of_z w64 v))))) ≡ u -ℤ v
+cast_difference u v hu hv = omega (arith, ints)
+
+-- a difference of two numbers of 128 bits that are small enough
+pub cast_sub : (m n : ℤ) → IsWithin (2 ^ 125) m → IsWithin (2 ^ 125) n → to_z w128 (of_z w128 (to_z w128 (of_z w128 m) -ℤ to_z w128 (of_z w128 n))) ≡ m -ℤ n
+cast_sub m n h k = omega (arith, ints)
+
+-- a sum of two numbers of 128 bits that are small enough
+pub cast_add : (m n : ℤ) → IsWithin (2 ^ 125) m → IsWithin (2 ^ 125) n → to_z w128 (of_z w128 (to_z w128 (of_z w128 m) +ℤ to_z w128 (of_z w128 n))) ≡ m +ℤ n
+cast_add m n h k = omega (arith, ints)
+
+-- the limit of coordinates is safe
+pub coordinate_within : (z : ℤ) → IsCoordinate z → IsWithin widest z
+coordinate_within z h = omega (arith, ints)
+
+-- (u - v) * (p - q), of coordinates
+pub minor_within : (u v p q : ℤ) → IsWithin widest u → IsWithin widest v → IsWithin widest p → IsWithin widest q → IsWithin (4 * (widest * widest)) ((u -ℤ v) *ℤ (p -ℤ q))
+minor_within u v p q hu hv hp hq =
+    within_mul (widest + widest) (widest + widest) (u -ℤ v) (p -ℤ q) (within_sub widest widest u v hu hv) (within_sub widest widest p q hp hq)
+
+-- that is no larger than the widest product
+pub minor_small : (z : ℤ) → IsWithin (4 * (widest * widest)) z → IsWithin (2 ^ 125) z
+minor_small z h = within_more (4 * (widest * widest)) (2 ^ 125) z (lit≤ tt) h
+
+-- a product of two coordinates
+pub pair_within : (u p : ℤ) → IsWithin widest u → IsWithin widest p → IsWithin (widest * widest) (u *ℤ p)
+pair_within u p hu hp = within_mul widest widest u p hu hp
+
+-- that is no larger than the widest product
+pub pair_small : (z : ℤ) → IsWithin (widest * widest) z → IsWithin (2 ^ 125) z
+pair_small z h = within_more (widest * widest) (2 ^ 125) z (lit≤ tt) h
+
+-- a side times a difference of two coordinates
+pub weight_within : (u p r : ℤ) → IsWithin widest_side u → IsWithin widest p → IsWithin widest r → IsWithin (2 ^ 125) (u *ℤ (p -ℤ r))
+weight_within u p r hu hp hr =
+    within_more (widest_side * (widest + widest)) (2 ^ 125) (u *ℤ (p -ℤ r)) (lit≤ tt) (within_mul widest_side (widest + widest) u (p -ℤ r) hu (within_sub widest widest p r hp hr))
+
+-- a coordinate that a point told
+pub cast_told : (z w : ℤ) → IsCoordinate z → z ≡ w → to_z w64 (of_z w64 z) ≡ w
+cast_told z w h e = cast64 z (coordinate_within z h) ∙ e
+
+-- a sum of two small enough numbers fits 128 bits
+pub sum_fits : (m n : ℤ) → IsWithin (2 ^ 125) m → IsWithin (2 ^ 125) n → FitsSigned w128 (to_z w128 (of_z w128 m) +ℤ to_z w128 (of_z w128 n))
+sum_fits m n h k = omega (arith, ints)
+
+-- a side
+pub cast_side : (z : ℤ) → IsWithin widest_side z → to_z w128 (of_z w128 z) ≡ z
+cast_side z h = omega (arith, ints)

@@ -1,0 +1,7 @@
+pub mod Vectors
+pub mod Lines
+pub mod LineCrossings
+pub mod TurnedBridges
+pub mod UniqueBridge
+pub mod Casts
+pub mod Weights

@@ -1,0 +1,10 @@
+pub mod Plane
+pub mod Covers
+pub mod Bridges
+pub mod Places
+pub mod Vertices
+pub mod Integers
+pub mod Signs
+pub mod Polynomials
+pub mod Crossing
+pub mod Laws

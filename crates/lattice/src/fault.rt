@@ -1,0 +1,8 @@
+/// Why two numbers are no point, or no direction.
+#[derive(Clone, Copy, PartialEq, Eq, Debug)]
+pub enum LatticeFault {
+    /// A number is larger in size than [`COORDINATE_LIMIT`](crate::COORDINATE_LIMIT).
+    OutOfRange,
+    /// Both components are zero.
+    ZeroDirection,
+}

@@ -1,0 +1,12 @@
+//! Laws of the definitions: each function has an empty body, and its contract is the law.
+ghost use Rattle.lattice.specs.Laws.{UpperBridgeIsUnique, LowerBridgeIsUnique};
+
+/// Two sets of points, all of the one before all of the other, have one upper bridge at most.
+pub fn upper_bridge_is_unique()
+    ensures { UpperBridgeIsUnique }
+{}
+
+/// Two sets of points, all of the one before all of the other, have one lower bridge at most.
+pub fn lower_bridge_is_unique()
+    ensures { LowerBridgeIsUnique }
+{}
