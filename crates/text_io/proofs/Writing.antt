@@ -1,0 +1,39 @@
+-- Writing one text after another.
+use Rattle.std.proofs.Common.{◌≡◌, ◌<◌, ◌++◌, ◌∙◌, ℕ, zero, suc, List, [], take, drop, Option, Err, refl, sym, ap, arith, append_assoc}
+use Rattle.std.proofs.lemmas.List.{take-append-drop}
+use Rattle.std.specs.Io.KnownBytes.{Appends}
+use Rattle.std.proofs.KnownBytes.{Appends-trans, Appends-nil}
+use Rattle.text_io.specs.Write.{WritesText}
+use Rattle.text_io.specs.Count.{CountsTaken, raised}
+
+-- A failed writing fails a longer text the same way.
+pub text_stopped : {E : Type 0} (a b : Option (List ℕ)) (l m : ℕ) (e : E) (t u : List ℕ) → WritesText a b l m (Err e) t → WritesText a b l m (Err e) (t ++ u)
+text_stopped a b l m e t u p = ((p.0.0, p.0.1 ++ u, ap (λ (w : List ℕ). w ++ u) p.0.2 ∙ append_assoc p.0.0 p.0.1 u, p.0.3), p.1)
+
+-- What a loop over pieces has written so far.
+pub record Written (a b : Option (List ℕ)) (piece rest : List ℕ) : Type 0 where
+  pub front : List ℕ
+  pub whole : piece ≡ front ++ rest
+  pub grown : Appends a b front
+
+-- One more write of a part of the rest.
+pub written_more : (a b c : Option (List ℕ)) (piece rest : List ℕ) (n : ℕ) → Written a b piece rest → Appends b c (take n rest) → Written a c piece (drop n rest)
+written_more a b c piece rest n w p = record {
+  front = w.front ++ take n rest;
+  whole = w.whole ∙ ap (λ (t : List ℕ). w.front ++ t) (sym (take-append-drop n rest)) ∙ sym (append_assoc w.front (take n rest) (drop n rest));
+  grown = Appends-trans a b c w.front (take n rest) w.grown p;
+}
+
+-- Before the first write.
+pub written_none : (a : Option (List ℕ)) (piece : List ℕ) → Written a a piece piece
+written_none a piece = record { front = []; whole = refl; grown = Appends-nil a }
+
+-- A write that took something leaves the count.
+pub count_kept : (n len old new : ℕ) → (n ≡ 0 → ⊥) → CountsTaken n len old new → new ≡ old
+count_kept zero len old new h p = absurd (h refl)
+count_kept (suc n) len old new h p = p
+
+-- A write that took nothing of a nonempty piece raises it.
+pub count_raised : (len old new : ℕ) → 0 < len → CountsTaken 0 len old new → new ≡ raised old
+count_raised zero old new h p = absurd (omega arith)
+count_raised (suc len) old new h p = p

@@ -1,0 +1,87 @@
+ghost use Rattle.std.specs.Prelude.{◌≡◌, ◌<◌, ◌-◌, ◌^◌, [], OnOk, IsOk, decimal};
+ghost use Rattle.text_io.specs.Write.{WritesOn, WritesText};
+
+use super::device::Sink;
+use itoa::{Buffer, Integer};
+
+/// The writer failed, or took nothing of a piece. What went out before is a beginning of the text.
+#[derive(Clone, Copy, Debug, PartialEq, Eq)]
+pub struct WriteFault;
+
+/// Writes a piece, all of it unless the writer fails. It takes no memory.
+///
+/// The count of failures has to be below its last value, so that a failure shows in it.
+///
+/// # Errors
+///
+/// `WriteFault` at the first failure, of whatever kind; a beginning of the piece has gone out then.
+pub fn put<W: Sink>(out: &mut W, piece: &[u8]) -> Result<(), WriteFault>
+    requires { W.failed out.old < 2 ^ 64 - 1 }
+    ensures { WritesText (W.contents out.old) (W.contents out.new) (W.failed out.old) (W.failed out.new) result piece.now }
+{
+    let mut rest = piece;
+    while !rest.is_empty() {
+        match out.write_counted(rest) {
+            Ok(0) => return Err(WriteFault),
+            Ok(n) => {
+                let (_, after) = rest.split_at(n);
+                rest = after;
+            }
+            Err(_) => return Err(WriteFault),
+        }
+    }
+    Ok(())
+}
+
+/// Writes a piece behind what was written so far. Where that failed it writes nothing, and the fault stays.
+pub fn put_after<W: Sink>(
+    done: Result<(), WriteFault>,
+    out: &mut W,
+    piece: &[u8],
+) -> Result<(), WriteFault>
+    requires { OnOk done (W.failed out.old < 2 ^ 64 - 1) }
+    ensures wrote { WritesOn done result (W.contents out.old) (W.contents out.new) (W.failed out.old) (W.failed out.new) piece.now }
+    ensures kept { OnOk result (W.failed out.new ≡ W.failed out.old) }
+    ensures was { OnOk result (IsOk done) }
+{
+    match done {
+        Ok(()) => put(out, piece),
+        Err(fault) => Err(fault),
+    }
+}
+
+/// Writes a number behind what was written so far, as `put_after` does: its digits without leading zeros,
+/// behind a minus where it is negative.
+pub fn number_after<W: Sink, N: Integer>(
+    done: Result<(), WriteFault>,
+    out: &mut W,
+    number: N,
+) -> Result<(), WriteFault>
+    requires { OnOk done (W.failed out.old < 2 ^ 64 - 1) }
+    ensures wrote { WritesOn done result (W.contents out.old) (W.contents out.new) (W.failed out.old) (W.failed out.new) (N.text number) }
+    ensures kept { OnOk result (W.failed out.new ≡ W.failed out.old) }
+    ensures was { OnOk result (IsOk done) }
+{
+    let mut buffer = Buffer::new();
+    put_after(done, out, buffer.format(number).as_bytes())
+}
+
+/// Hands on to the device whatever a writer of blocks still holds of what was written so far.
+///
+/// # Errors
+///
+/// The fault of before, or `WriteFault` where the flush fails.
+pub fn flush_after<W: Sink>(done: Result<(), WriteFault>, out: &mut W) -> Result<(), WriteFault>
+    requires { OnOk done (W.failed out.old < 2 ^ 64 - 1) }
+    ensures wrote { WritesOn done result (W.contents out.old) (W.contents out.new) (W.failed out.old) (W.failed out.new) [] }
+    ensures kept { OnOk result (W.failed out.new ≡ W.failed out.old) }
+    ensures was { OnOk result (IsOk done) }
+{
+    match done {
+        Ok(()) => match out.flush_counted() {
+            Ok(()) => Ok(()),
+            Err(_) => Err(WriteFault),
+        },
+        Err(fault) => Err(fault),
+    }
+}
