@@ -1,0 +1,91 @@
+ghost use Rattle.std.specs.Prelude.{◌≡◌, ◌<◌, ◌≤◌, List, length, map, slice_index_or, [], IfSome, IfNone};
+ghost use Rattle.std.specs.List.{All};
+ghost use Rattle.hull_book.specs.Scripts.{IsScript, lists_of};
+
+use hull_plain::Call;
+use std::marker::Model;
+
+/// What the workers do between two meetings: a list of calls for each of them.
+#[derive(Debug, Drop)]
+pub struct Phase {
+    jobs: Vec<Vec<Call>>,
+}
+
+impl Model for Phase {
+    ghost use Rattle.std.specs.Prelude.{List};
+    ghost use Rattle.hull_book.specs.Scripts.{PhaseValue};
+    ghost use Rattle.hull_book.specs.Scripts.{lists_of};
+
+    ghost Value = { PhaseValue };
+
+    ghost view = { λ p. lists_of p.jobs.items };
+}
+
+impl Phase {
+    /// The phase of these lists of calls, one a worker.
+    pub fn new(jobs: Vec<Vec<Call>>) -> Phase
+        ensures { result ≡ lists_of jobs.items }
+    {
+        Phase { jobs }
+    }
+
+    /// How many lists of calls the phase has.
+    pub fn workers(&self) -> usize
+        ensures { result ≡ length self.now }
+    {
+        self.jobs.len()
+    }
+
+    /// The calls of a worker in their order.
+    pub fn calls(&self, worker: u8) -> &[Call]
+        requires { worker < length self.now }
+        ensures { result.now ≡ slice_index_or self.now worker [] }
+    {
+        let calls = &self.jobs[usize::from(worker)];
+        calls.as_slice()
+    }
+}
+
+/// Phases of calls for a number of workers: one to [`SEAT_LIMIT`](crate::SEAT_LIMIT) workers, a list of calls a worker
+/// in each phase, and at most [`TEXT_LINE_LIMIT`](crate::TEXT_LINE_LIMIT) calls in all.
+#[derive(Debug, Drop)]
+pub struct Script {
+    workers: u8,
+    phases: Vec<Phase>,
+}
+
+impl Model for Script {
+    ghost use Rattle.hull_book.specs.Scripts.{ScriptValue, IsScript};
+
+    ghost Value = { ScriptValue };
+
+    ghost view = { λ s. record { workers = s.workers; phases = s.phases.items } };
+
+    ghost invariant = { λ s. IsScript s.workers s.phases.items };
+}
+
+impl Script {
+    /// The script of these phases.
+    pub fn new(workers: u8, phases: Vec<Phase>) -> Script
+        requires { IsScript workers phases.items }
+        ensures { result ≡ record { workers = workers; phases = phases.items } }
+    {
+        Script { workers, phases }
+    }
+
+    /// How many workers the script has, from 1 to 64.
+    pub fn workers(&self) -> u8
+        ensures workers { result ≡ self.now.workers }
+        ensures limits { IsScript self.now.workers self.now.phases }
+    {
+        self.workers
+    }
+
+    /// The phases in their order.
+    pub fn phases(&self) -> &[Phase]
+        ensures phases { result.now ≡ self.now.phases }
+        ensures limits { IsScript self.now.workers self.now.phases }
+    {
+        &self.phases
+    }
+}
