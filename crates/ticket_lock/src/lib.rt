@@ -12,9 +12,12 @@ mod law;
 mod lock;
 mod open;
 mod plays;
+pub mod roll;
 mod rule;
 mod seat;
 mod sight;
+#[cfg(test)]
+mod tests;
 mod ticket;
 
 pub use chronicle::Chronicle;
