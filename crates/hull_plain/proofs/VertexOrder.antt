@@ -1,0 +1,66 @@
+-- No three extreme points stand in one line, so the vertex after a vertex is determined.
+use Rattle.std.proofs.Common.{◌≡◌, ℤ, pos, ◌≤ℤ◌, neg_ℤ, inl, inr, sym, ap, ◌∙◌, subst, List, arith, ◌≢◌}
+use Rattle.std.proofs.lemmas.Int.{ints}
+use Rattle.std.proofs.lemmas.List.Elements.{All-contains}
+use Rattle.lattice.specs.Covers.{IsExtreme, OnSegment}
+use Rattle.lattice.specs.Plane.{Pair, orient, IsBefore}
+use Rattle.lattice.specs.Vertices.{IsLeftOf}
+use Rattle.hull_plain.proofs.ChangedSets.{in_without}
+use Rattle.hull_plain.proofs.CoveredByEdges.{on_segment}
+use Rattle.hull_plain.proofs.Order.{before_irrefl, before_total}
+use Rattle.hull_plain.proofs.Orientation.{orient_swap, orient-cycle}
+
+-- no extreme point stands between two others on their line
+not_between : (S : List Pair) (a x b : Pair) → IsExtreme S a → IsExtreme S x → IsExtreme S b → orient x a b ≡ pos 0 → IsBefore a x → IsBefore x b → ⊥
+not_between S a x b ea ex eb z h k =
+    ex.1 (OnSegment a b (in_without x a S (λ e. before_irrefl x (subst (λ (y : Pair). IsBefore y x) e h)) ea.0) (in_without x b S (λ e. before_irrefl x (subst (IsBefore x) e k)) eb.0) (on_segment a b x h k z))
+
+-- three points in line
+swap_zero : (q u v : Pair) → orient q u v ≡ pos 0 → orient q v u ≡ pos 0
+swap_zero q u v e = orient_swap q v u ∙ ap neg_ℤ e
+
+-- three extreme points do not stand in one line
+pub not_in_line : (S : List Pair) (u v w : Pair) → IsExtreme S u → IsExtreme S v → IsExtreme S w → u ≢ v → u ≢ w → v ≢ w → orient u v w ≡ pos 0 → ⊥
+not_in_line S u v w eu ev ew uv uw vw z =
+    let zw : orient w u v ≡ pos 0 = sym (orient-cycle u v w) ∙ z in
+    let zv : orient v w u ≡ pos 0 = sym (orient-cycle w u v) ∙ zw in
+    elim (before_total u v) [
+      | inr (inl e) ↦ uv e
+      | inl a ↦ elim (before_total v w) [
+        | inr (inl e) ↦ vw e
+        | inl b ↦ not_between S u v w eu ev ew (swap_zero v w u zv) a b
+        | inr (inr b) ↦ elim (before_total u w) [
+          | inr (inl e) ↦ uw e
+          | inl c ↦ not_between S u w v eu ew ev zw c b
+          | inr (inr c) ↦ not_between S w u v ew eu ev (swap_zero u v w z) c a
+        ]
+      ]
+      | inr (inr a) ↦ elim (before_total u w) [
+        | inr (inl e) ↦ uw e
+        | inl b ↦ not_between S v u w ev eu ew z a b
+        | inr (inr b) ↦ elim (before_total v w) [
+          | inr (inl e) ↦ vw e
+          | inl c ↦ not_between S v w u ev ew eu (swap_zero w u v zw) c b
+          | inr (inr c) ↦ not_between S w v u ew ev eu zv c a
+        ]
+      ]
+    ]
+
+-- two extreme points that may come after u in a vertex list are not apart
+pub next_unique : (S : List Pair) (u v w : Pair) → IsExtreme S u → IsExtreme S v → IsExtreme S w → u ≢ v → u ≢ w → IsLeftOf S u v → IsLeftOf S u w → ¬ (¬ (v ≡ w))
+next_unique S u v w eu ev ew uv uw hv hw n =
+    let a : pos 0 ≤ℤ orient u v w = All-contains (λ t. pos 0 ≤ℤ orient u v t) S w hv ew.0 in
+    let b : pos 0 ≤ℤ orient u w v = All-contains (λ t. pos 0 ≤ℤ orient u w t) S v hw ev.0 in
+    not_in_line S u v w eu ev ew uv uw n (squeeze _ _ (orient_swap u v w) a b)
+  where
+    squeeze : (x y : ℤ) → x ≡ neg_ℤ y → pos 0 ≤ℤ x → pos 0 ≤ℤ y → x ≡ pos 0
+    squeeze x y e h k = omega (arith, ints)
+
+-- two extreme points that may come after u in a vertex list are one
+pub next_same : (S : List Pair) (u v w : Pair) → IsExtreme S u → IsExtreme S v → IsExtreme S w → u ≢ v → u ≢ w → IsLeftOf S u v → IsLeftOf S u w → v ≡ w
+next_same S u v w eu ev ew uv uw hv hw =
+    elim (before_total v w) [
+      | inr (inl e) ↦ e
+      | inl b ↦ absurd (next_unique S u v w eu ev ew uv uw hv hw (λ e. before_irrefl w (subst (λ (y : Pair). IsBefore y w) e b)))
+      | inr (inr b) ↦ absurd (next_unique S u v w eu ev ew uv uw hv hw (λ e. before_irrefl w (subst (IsBefore w) e b)))
+    ]
