@@ -1,2 +1,6 @@
 pub mod Journals
 pub mod Scripts
+pub mod History
+pub mod Books
+pub mod Ledgers
+pub mod Verdicts
