@@ -7,3 +7,4 @@ pub mod Schedules
 pub mod Steps
 pub mod Guards
 pub mod Gather
+pub mod Tallies

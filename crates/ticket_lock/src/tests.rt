@@ -1,6 +1,8 @@
 //! A roll under the lock.
-ghost use Rattle.std.specs.Prelude.{◌≡◌, ◌+◌, ◌≤◌, [], vec_len, vec_capacity, All};
-ghost use Rattle.ticket_lock.specs.Tokens.{seat_count, IsSeatOf, IsTicketOf, ticket_seat, seat_number};
+ghost use Rattle.std.specs.Prelude.{◌≡◌, ◌+◌, ◌≤◌, [], vec_len, vec_capacity, All, IfOk};
+ghost use Rattle.ticket_lock.specs.Tokens.{seat_count, IsSeatOf, IsTicketOf, ticket_seat, seat_number, seat_seen};
+
+mod threads;
 
 use crate::roll::{Roll, Signature, sign};
 use crate::{Look, OpenFault, Seat, Ticket, TicketLock};
@@ -43,25 +45,32 @@ fn waits(rt: &impl Abort, lock: &TicketLock<Roll>, ticket: Ticket<Roll>) -> Tick
     }
 }
 
-// A lock round an empty roll.
+// A lock round a roll. Where memory is refused, the roll comes back as it was.
 fn opened(
     rt: &impl Abort,
     alloc: Global,
     roll: Roll,
     seats: u8,
-) -> (TicketLock<Roll>, Vec<Seat<Roll>>)
-    requires { roll.capacity ≤ vec_capacity roll.lines }
-    ensures { (seat_count result.0 ≡ seats) × (vec_len result.1 ≡ seats) × (seats ≤ vec_capacity result.1) × All (IsSeatOf result.0) result.1.items }
+) -> Result<(TicketLock<Roll>, Vec<Seat<Roll>>), AllocError>
+    requires lawful { roll.capacity ≤ vec_capacity roll.lines }
+    requires seats { (1 ≤ seats) × (seats ≤ 64) }
+    ensures lock { IfOk result (λ r. (seat_count r.0 ≡ seats) × (vec_len r.1 ≡ seats) × (seats ≤ vec_capacity r.1)) }
+    ensures seats { IfOk result (λ r. All (λ s. IsSeatOf r.0 s × (seat_seen s ≡ roll.lines.items)) r.1.items) }
 {
+    let was = (roll.turn, roll.capacity, roll.lines.len());
     match TicketLock::open(alloc, roll, seats) {
-        Ok(made) => made,
-        Err(_) => panic!(rt; "a lock is opened"),
+        Ok(made) => Ok(made),
+        Err((fault, roll)) => {
+            assert_eq!(rt; fault, OpenFault::NoMemory);
+            assert_eq!(rt; (roll.turn, roll.capacity, roll.lines.len()), was);
+            Err(AllocError)
+        }
     }
 }
 
 // Two seats take numbers and serve in turn. The numbers, and the roll after them.
 fn two_serve(rt: &impl Abort, alloc: Global, turn: u64) -> Result<(u64, u64, Roll), AllocError> {
-    let (lock, mut seats) = opened(rt, alloc, Roll::blank(alloc, 4, turn)?, 2);
+    let (lock, mut seats) = opened(rt, alloc, Roll::blank(alloc, 4, turn)?, 2)?;
     let one = last_seat(rt, &lock, &mut seats);
     let zero = last_seat(rt, &lock, &mut seats);
     let (k, j) = (zero.number(), one.number());
@@ -125,7 +134,7 @@ fn words_after(
     turn: u64,
     again: bool,
 ) -> Result<[u64; 8], AllocError> {
-    let (lock, mut seats) = opened(rt, alloc, Roll::blank(alloc, 4, turn)?, 2);
+    let (lock, mut seats) = opened(rt, alloc, Roll::blank(alloc, 4, turn)?, 2)?;
     last_serves(rt, &lock, &mut seats);
     if again {
         last_serves(rt, &lock, &mut seats);
@@ -163,7 +172,7 @@ fn refuses_no_seats_and_too_many(rt: HostRuntime) -> Result<(), Fail> {
 fn a_full_book_hands_on(rt: HostRuntime) -> Result<(), Fail> {
     let mut roll = Roll::blank(rt.alloc(), 1, 7)?;
     roll.lines.push_reserved(Signature { seat: 0, number: 6 });
-    let (lock, mut seats) = opened(&rt, rt.alloc(), roll, 2);
+    let (lock, mut seats) = opened(&rt, rt.alloc(), roll, 2)?;
     let one = last_seat(&rt, &lock, &mut seats);
     let zero = last_seat(&rt, &lock, &mut seats);
     let (k, j) = (zero.number(), one.number());
@@ -193,7 +202,13 @@ fn all_serve(rt: &impl Abort, lock: &TicketLock<Roll>, mut seats: Vec<Seat<Roll>
 fn sixty_four_seats_serve(rt: HostRuntime) -> Result<(), Fail> {
     let roll = Roll::blank(rt.alloc(), 64, 0)?;
     let mut done = Vec::with_capacity(rt.alloc(), 64)?;
-    let (lock, seats) = opened(&rt, rt.alloc(), roll, 64);
+    let (lock, seats) = match opened(&rt, rt.alloc(), roll, 64) {
+        Ok(made) => made,
+        Err(refused) => {
+            done.destroy_empty();
+            return Err(refused.into());
+        }
+    };
     all_serve(&rt, &lock, seats, &mut done);
     let roll = lock.close(done);
     assert!(rt; roll.turn == 64 && roll.lines.len() == 64);

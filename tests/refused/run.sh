@@ -1,0 +1,49 @@
+#!/bin/sh
+# Tries what must not compile over the lock: each NAME.rt beside this script is the whole of a small crate that uses `ticket_lock`.
+# Its first line says what has to come of it: `//! must pass`, or `//! must fail: ERROR` with the name of the one error that the check has to give.
+# It works on a copy in a temporary folder. The last line counts, and the status is not 0 where a case came out otherwise.
+set -u
+here=$(cd "$(dirname "$0")" && pwd)
+top=$(cd "$here/../.." && pwd)
+room=$(mktemp -d)
+trap 'rm -rf "$room"' EXIT
+
+mkdir -p "$room/crates/refused/src"
+cp "$top/HANDLES" "$room/"
+{
+    grep '^ticket_lock[ :]' "$top/crates.txt"
+    echo 'refused: ticket_lock'
+} >"$room/crates.txt"
+cp -r "$top/crates/ticket_lock" "$room/crates/"
+
+passed=0
+failed=0
+said() {
+    echo "$1: $2"
+    case $2 in
+    ok*) passed=$((passed + 1)) ;;
+    *) failed=$((failed + 1)) ;;
+    esac
+}
+
+for case in "$here"/*.rt; do
+    name=$(basename "$case" .rt)
+    cp "$case" "$room/crates/refused/src/lib.rt"
+    (cd "$room/crates/refused" && rt check --jobs 1) >"$room/told" 2>&1
+    status=$?
+    wanted=$(sed -n '1s/^\/\/! must fail: //p' "$case")
+    errors=$(sed -n 's/^.*error\[\([a-z0-9-]*\)\].*$/\1/p' "$room/told" | sort -u | tr '\n' ' ')
+    if [ -z "$wanted" ]; then
+        if [ $status -eq 0 ] && tail -n 1 "$room/told" | grep -q '^logic=proved'; then
+            said "$name" 'ok, it is proved'
+        else
+            said "$name" "FAILED, it must pass: $(grep -m 1 error "$room/told")"
+        fi
+    elif [ $status -eq 1 ] && [ "$errors" = "$wanted " ]; then
+        said "$name" "ok, refused by $wanted"
+    else
+        said "$name" "FAILED, it must be refused by $wanted: status $status, errors $errors"
+    fi
+done
+echo "$passed passed, $failed failed"
+[ $failed -eq 0 ]
