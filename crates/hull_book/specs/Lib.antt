@@ -3,4 +3,5 @@ pub mod Scripts
 pub mod History
 pub mod Books
 pub mod Ledgers
+pub mod Copies
 pub mod Verdicts
