@@ -47,6 +47,8 @@ best_moves S d b i x l h n e f =
 
 -- the best point is the first of the farthest
 pub first_farthest : (S : List Pair) (d t : Pair) → Contains S t → IsBestOf S d t → IsFirstFarthest S d t
-first_farthest S d t m h =
-    (m, All-weaker (λ u. ¬ (IsBetter d u t)) (λ u. product d u ≤ℤ product d t) (λ u n. elim (le_or_lt (product d u) (product d t)) [ inl k ↦ k | inr k ↦ absurd (n (inl k)) ]) S h,
-     All-weaker (λ u. ¬ (IsBetter d u t)) (λ u. IsBefore u t → product d u ≡ product d t → ⊥) (λ u n b e. n (inr (e, b))) S h)
+first_farthest S d t m h = (
+  m,
+  All-weaker (λ u. ¬ (IsBetter d u t)) (λ u. product d u ≤ℤ product d t) (λ u n. elim (le_or_lt (product d u) (product d t)) [ inl k ↦ k | inr k ↦ absurd (n (inl k)) ]) S h,
+  All-weaker (λ u. ¬ (IsBetter d u t)) (λ u. IsBefore u t → product d u ≡ product d t → ⊥) (λ u n b e. n (inr (e, b))) S h,
+)

@@ -31,7 +31,7 @@ lower_at S i v s l r reached =
     let e : S ≡ take i S ++ (point_at S i ∷ drop (suc i) S) = cut_at S i origin l in
     subst (λ (z : List Pair). IsLowerEdge z (point_at S i) v) (sym e)
     (lower_step (take i S) (drop (suc i) S) (point_at S i) v (set_below S i s l) (set_above S i s l) r
-      (λ t m. let p = reached t m in (p.0, subst (λ (z : List Pair). IsLowerEdge z p.0 (point_at S i)) e p.1)))
+    (λ t m. let p = reached t m in (p.0, subst (λ (z : List Pair). IsLowerEdge z p.0 (point_at S i)) e p.1)))
 
 -- the rightmost of the points before the one at i makes an upper edge
 pub upper_at : (S : List Pair) (i : ℕ) (v : Pair) → IsPointSet S → i < length S → IsRightTangent (take i S) (point_at S i) v → IsUpperReached S i → IsUpperEdge S (point_at S i) v
@@ -40,7 +40,7 @@ upper_at S i v s l r reached =
     let n : suc i ≡ i + 1 = omega arith in
     subst (λ (z : List Pair). IsUpperEdge z (point_at S i) v) (sym e)
     (upper_step (take i S) (drop (suc i) S) (point_at S i) v (set_below S i s l) (set_above S i s l) r
-      (λ t m. let p = reached t (subst (λ (z : ℕ). Contains (drop z S) t) n m) in (p.0, subst (λ (z : List Pair). IsUpperEdge z p.0 (point_at S i)) e p.1)))
+    (λ t m. let p = reached t (subst (λ (z : ℕ). Contains (drop z S) t) n m) in (p.0, subst (λ (z : List Pair). IsUpperEdge z p.0 (point_at S i)) e p.1)))
 
 -- the point that was read is the one at i
 pub same_point : (S : List Pair) (i : ℕ) (x : Pair) → i < length S → x ≡ get_or S i x → x ≡ point_at S i
@@ -54,7 +54,7 @@ suc_is i = omega arith
 pub lower_side_ok : (S : List Pair) (i : ℕ) (x : Pair) → IsPointSet S → i + 1 < length S → x ≡ get_or S i x → IsOneSided (take (length S - (i + 1)) (drop (i + 1) S)) x
 lower_side_ok S i x s l e =
     subst (λ (z : List Pair). IsOneSided z x) (sym (take_rest (i + 1) S)) (subst (λ (z : ℕ). IsOneSided (drop z S) x) (suc_is i)
-      (subst (IsOneSided (drop (suc i) S)) (sym (same_point S i x (omega arith) e)) (inl (set_above S i s (omega arith)))))
+    (subst (IsOneSided (drop (suc i) S)) (sym (same_point S i x (omega arith) e)) (inl (set_above S i s (omega arith)))))
 
 -- the rightmost of them makes a lower edge
 pub lower_edge_ok : (S : List Pair) (i k : ℕ) (x : Pair) → IsPointSet S → i + 1 < length S → x ≡ get_or S i x → IsLowerReached S i

@@ -19,15 +19,19 @@ use Rattle.hull_plain.proofs.Separators.{across, corner_apart}
 
 -- the first point of S is extreme
 pub first_extreme : (S : List Pair) (v : Pair) → IsPointSet S → Contains S v → IsFirst S v → IsExtreme S v
-first_extreme S v s m h =
-    (m, not_covered (without_point v S) v (ahead_separated (without_point v S) v (all_without (IsBefore v) v S s
-      (λ t i n. elim (before_total v t) [ inl b ↦ b | inr (inl e) ↦ absurd (n (sym e)) | inr (inr b) ↦ absurd (h t i b) ]))))
+first_extreme S v s m h = (
+  m,
+  not_covered (without_point v S) v (ahead_separated (without_point v S) v (all_without (IsBefore v) v S s
+      (λ t i n. elim (before_total v t) [ inl b ↦ b | inr (inl e) ↦ absurd (n (sym e)) | inr (inr b) ↦ absurd (h t i b) ]))),
+)
 
 -- the last point of S is extreme
 pub last_extreme : (S : List Pair) (v : Pair) → IsPointSet S → Contains S v → IsLast S v → IsExtreme S v
-last_extreme S v s m h =
-    (m, not_covered (without_point v S) v (behind_separated (without_point v S) v (all_without (λ t. IsBefore t v) v S s
-      (λ t i n. elim (before_total t v) [ inl b ↦ b | inr (inl e) ↦ absurd (n e) | inr (inr b) ↦ absurd (h t i b) ]))))
+last_extreme S v s m h = (
+  m,
+  not_covered (without_point v S) v (behind_separated (without_point v S) v (all_without (λ t. IsBefore t v) v S s
+      (λ t i n. elim (before_total t v) [ inl b ↦ b | inr (inl e) ↦ absurd (n e) | inr (inr b) ↦ absurd (h t i b) ]))),
+)
 
 -- v is the end of the line from u, and w is past it: the chain turns left at v
 corner_turns : (S : List Pair) (u v w : Pair) → (far : Pair → Type 0) → IsLeftOf S u v → All (λ t. orient u v t ≡ pos 0 → ¬ (far t)) S → Contains S w → far w → pos 0 <ℤ orient u v w
@@ -44,9 +48,14 @@ corner_turns S u v w far left last m f =
 -- a corner that turns left, with S on the left of both its edges, is extreme
 corner_extreme : (S : List Pair) (u v w : Pair) → IsPointSet S → Contains S v → pos 0 <ℤ orient u v w → IsLeftOf S u v → IsLeftOf S v w → IsExtreme S v
 corner_extreme S u v w s m h a b =
-    let d : Pair = (across u w) in
-    (m, not_covered (without_point v S) v (d, all_without (λ t. product d t <ℤ product d v) v S s
-      (λ t i n. corner_apart u v w t h (All-contains (λ t. pos 0 ≤ℤ orient u v t) S t a i) (All-contains (λ t. pos 0 ≤ℤ orient v w t) S t b i) n)))
+    let d : Pair = (across u w) in (
+      m,
+      not_covered (without_point v S) v (
+        d,
+        all_without (λ t. product d t <ℤ product d v) v S s
+            (λ t i n. corner_apart u v w t h (All-contains (λ t. pos 0 ≤ℤ orient u v t) S t a i) (All-contains (λ t. pos 0 ≤ℤ orient v w t) S t b i) n),
+      ),
+    )
 
 -- the point between two lower edges is extreme
 pub lower_corner : (S : List Pair) (u v w : Pair) → IsPointSet S → IsLowerEdge S u v → IsLowerEdge S v w → IsExtreme S v
@@ -138,5 +147,6 @@ no_common_corner S u t c e f =
   where
     swap : orient c u t ≡ neg_ℤ (orient c t u)
     swap = orient_swap c u t
+
     squeeze : (x y : ℤ) → x ≡ neg_ℤ y → pos 0 ≤ℤ x → pos 0 ≤ℤ y → x ≡ pos 0
     squeeze x y e h k = omega (arith, ints)

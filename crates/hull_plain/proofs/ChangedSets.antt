@@ -13,7 +13,7 @@ set-insert p [] ys s a b = AllPairs-cons p ys b s
 set-insert p (x ∷ xs) ys s a b =
     AllPairs-cons x (xs ++ p ∷ ys)
     (all_append_right (IsBefore x) xs (p ∷ ys) (left_part (IsBefore x) xs ys (AllPairs-head x (xs ++ ys) s))
-      (All-cons (IsBefore x) p ys (All-head (λ t. IsBefore t p) x xs a) (right_part (IsBefore x) xs ys (AllPairs-head x (xs ++ ys) s))))
+    (All-cons (IsBefore x) p ys (All-head (λ t. IsBefore t p) x xs a) (right_part (IsBefore x) xs ys (AllPairs-head x (xs ++ ys) s))))
     (set-insert p xs ys (AllPairs-tail x (xs ++ ys) s) (All-tail (λ t. IsBefore t p) x xs a) b)
 
 -- `with_point` puts p between the points before it and those after it
@@ -36,7 +36,7 @@ pub absent_between : (p : Pair) (xs ys : List Pair) → All (λ t. IsBefore t p)
 absent_between p xs ys a b m =
     All-contains (λ t. ¬ (t ≡ p)) (xs ++ ys) p
     (all_append_right (λ t. ¬ (t ≡ p)) xs ys (All-weaker (λ t. IsBefore t p) (λ t. ¬ (t ≡ p)) (λ t h e. before_irrefl p (subst (λ (z : Pair). IsBefore z p) e h)) xs a)
-      (All-weaker (IsBefore p) (λ t. ¬ (t ≡ p)) (λ t h e. before_irrefl p (subst (IsBefore p) e h)) ys b)) m refl
+    (All-weaker (IsBefore p) (λ t. ¬ (t ≡ p)) (λ t h e. before_irrefl p (subst (IsBefore p) e h)) ys b)) m refl
 
 -- The chains of hull edges, and that their points are the extreme points.
 pub all_without : (P : Pair → Type 0) (p : Pair) (S : List Pair) → IsPointSet S → ((t : Pair) → Contains S t → ¬ (t ≡ p) → P t) → All P (without_point p S)
@@ -49,11 +49,12 @@ all_without P p (x ∷ xs) s h =
           (λ k d l. h (get_or xs k d) (suc k, omega arith, refl2 k d l) (λ f. before_irrefl p (subst (IsBefore p) f (subst (λ (z : Pair). IsBefore z (get_or xs k d)) e (AllPairs-head x xs s k d l)))))
       | inr (inr b) ↦ rw (is_before-false x p (before_not p x b), is_before-true p x b)
           (λ k d l. h (get_or (x ∷ xs) k d) (k, l, get_or_free (x ∷ xs) k _ d l)
-            (λ f. before_irrefl p (subst (IsBefore p) f (All-cons (IsBefore p) x xs b (All-weaker (IsBefore x) (IsBefore p) (λ t c. before_trans p x t b c) xs (AllPairs-head x xs s)) k d l))))
+          (λ f. before_irrefl p (subst (IsBefore p) f (All-cons (IsBefore p) x xs b (All-weaker (IsBefore x) (IsBefore p) (λ t c. before_trans p x t b c) xs (AllPairs-head x xs s)) k d l))))
     ]
   where
     later : (t : Pair) → Contains xs t → Contains (x ∷ xs) t
     later t m = (suc m.0, omega (arith, m.1), m.2)
+
     refl2 : (k : ℕ) (d : Pair) (l : k < length xs) → get_or xs k (get_or xs k d) ≡ get_or xs k d
     refl2 k d l = get_or_free xs k _ d l
 
@@ -70,6 +71,7 @@ in_without p t (x ∷ xs) n m =
     first : (Contains xs t → Contains (without_point p xs) t) → Contains (x ∷ xs) t → Contains (x ∷ without_point p xs) t
     first again (zero, l, e) = (zero, omega arith, e)
     first again (suc k, l, e) = let r = again (k, omega arith, e) in (suc r.0, omega (arith, r.1), r.2)
+
     gone : x ≡ p → Contains (x ∷ xs) t → Contains xs t
     gone f (zero, l, e) = absurd (n (sym e ∙ f))
     gone f (suc k, l, e) = (k, omega arith, e)

@@ -23,9 +23,11 @@ between_y a b q (inr h) = inr (omega (arith, ints, h.1), omega (arith, ints, h.0
 -- q between a and b in the order and on their line is on their segment
 pub on_segment : (a b q : Pair) → IsBefore a q → IsBefore q b → orient q a b ≡ pos 0 → IsOnSegment a b q
 unfolding orient
-on_segment a b q ha hb z =
-    (orient-cycle a b q ∙ z, between_x a b q ha hb,
-     between_y a b q (along (opp (minus a q)) (minus b q) (behind_of a q ha) (ahead_of q b hb) (cross-opp_left (minus a q) (minus b q) ∙ orient_swap q b a ∙ ap neg_ℤ z)))
+on_segment a b q ha hb z = (
+  orient-cycle a b q ∙ z,
+  between_x a b q ha hb,
+  between_y a b q (along (opp (minus a q)) (minus b q) (behind_of a q ha) (ahead_of q b hb) (cross-opp_left (minus a q) (minus b q) ∙ orient_swap q b a ∙ ap neg_ℤ z)),
+)
 
 -- a, b, c orient to the left round q, which lies between a and b in the order
 covered_by_turn : (S : List Pair) (q a b c : Pair) → Contains S a → Contains S b → Contains S c → IsBefore a q → IsBefore q b
@@ -34,8 +36,11 @@ unfolding orient
 covered_by_turn S q a b c ma mb mc ha hb ab bc ca =
     elim (le_or_lt (orient a b c) (pos 0)) [
       | inl h ↦ let z : orient q a b ≡ pos 0 = let e = orient-sum a b c q in omega (arith, ints) in
-          OnSegment a b ma mb (orient-cycle a b q ∙ z, between_x a b q ha hb,
-            between_y a b q (along (opp (minus a q)) (minus b q) (behind_of a q ha) (ahead_of q b hb) (cross-opp_left (minus a q) (minus b q) ∙ orient_swap q b a ∙ ap neg_ℤ z)))
+          OnSegment a b ma mb (
+            orient-cycle a b q ∙ z,
+            between_x a b q ha hb,
+            between_y a b q (along (opp (minus a q)) (minus b q) (behind_of a q ha) (ahead_of q b hb) (cross-opp_left (minus a q) (minus b q) ∙ orient_swap q b a ∙ ap neg_ℤ z)),
+          )
       | inr h ↦ InTriangle a b c ma mb mc (h, at_least _ _ (sym (orient-cycle a b q)) ab, at_least _ _ (sym (orient-cycle b c q)) bc, at_least _ _ (sym (orient-cycle c a q)) ca)
     ]
 
@@ -63,7 +68,7 @@ covered_by_edges S q a b c d ma mb mc md ha hb hc hd ab cd =
         ]
       ]
       | inr bc ↦
-        let CA : pos 0 ≤ℤ cross C (opp A) = turn_trans C B (opp A) pC pB oA (turned q b c bc) (at_least _ _ (sym (cross-opp_right B A)) ab) in
-        covered_by_turn S q a c d ma mc md ha hc (at_least _ _ (cross-opp_right C A) CA) cd
+          let CA : pos 0 ≤ℤ cross C (opp A) = turn_trans C B (opp A) pC pB oA (turned q b c bc) (at_least _ _ (sym (cross-opp_right B A)) ab) in
+          covered_by_turn S q a c d ma mc md ha hc (at_least _ _ (cross-opp_right C A) CA) cd
           (at_least _ _ (cross-opp D A) (turn_trans (opp D) C (opp A) oD pC oA DC CA))
     ]

@@ -65,7 +65,7 @@ dot-opp v w = rw (as_difference v.x, as_difference v.y, as_difference w.x, as_di
 pub past_farther_back : (u v t : Pair) → IsBefore v u → IsBefore t v → orient u v t ≡ pos 0 → distance_squared u v <ℤ distance_squared u t
 past_farther_back u v t b c e =
     longer _ _ _ _ (sum_length u v t) (above _ _ (dot-opp (minus t v) (minus t v)) (length_above (opp (minus t v)) (behind_of t v c)))
-      (at_least _ _ (dot-opp (minus v u) (minus t v)) (dot_nn (opp (minus v u)) (opp (minus t v)) (behind_of v u b) (behind_of t v c) (cross-opp (minus v u) (minus t v) ∙ orient_at_end u v t ∙ e)))
+    (at_least _ _ (dot-opp (minus v u) (minus t v)) (dot_nn (opp (minus v u)) (opp (minus t v)) (behind_of v u b) (behind_of t v c) (cross-opp (minus v u) (minus t v) ∙ orient_at_end u v t ∙ e)))
 
 -- the edge from p to u keeps t on its left and turns left into the edge from u to v: then t is left of that too
 pub left_before : (p u v t : Pair) → IsBefore p u → IsBefore u v → IsBefore t u → pos 0 ≤ℤ orient p u t → pos 0 ≤ℤ orient p u v → pos 0 ≤ℤ orient u v t
@@ -73,8 +73,8 @@ unfolding orient
 left_before p u v t pu uv tu pt pv =
     at_least _ _ (cross-opp_left (minus t u) (minus v u))
     (turn_trans (opp (minus t u)) (minus u p) (minus v u) (behind_of t u tu) (ahead_of p u pu) (ahead_of u v uv)
-      (at_least _ _ (sym (orient_at_end p u t) ∙ sym (cross-opp_left (minus t u) (minus u p))) pt)
-      (at_least _ _ (sym (orient_at_end p u v)) pv))
+    (at_least _ _ (sym (orient_at_end p u t) ∙ sym (cross-opp_left (minus t u) (minus u p))) pt)
+    (at_least _ _ (sym (orient_at_end p u v)) pv))
 
 -- the same of an upper edge
 pub left_after : (p u v t : Pair) → IsBefore u p → IsBefore v u → IsBefore u t → pos 0 ≤ℤ orient p u t → pos 0 ≤ℤ orient p u v → pos 0 ≤ℤ orient u v t
@@ -82,8 +82,8 @@ unfolding orient
 left_after p u v t pu uv tu pt pv =
     at_least _ _ (cross-opp_right (minus t u) (minus v u))
     (turn_trans (minus t u) (opp (minus u p)) (opp (minus v u)) (ahead_of u t tu) (behind_of u p pu) (behind_of v u uv)
-      (at_least _ _ (sym (orient_at_end p u t) ∙ sym (cross-opp_right (minus t u) (minus u p))) pt)
-      (at_least _ _ (sym (orient_at_end p u v) ∙ sym (cross-opp (minus u p) (minus v u))) pv))
+    (at_least _ _ (sym (orient_at_end p u t) ∙ sym (cross-opp_right (minus t u) (minus u p))) pt)
+    (at_least _ _ (sym (orient_at_end p u v) ∙ sym (cross-opp (minus u p) (minus v u))) pv))
 
 -- v is the rightmost of the points R after u; a lower edge ends at u, or no point stands before u: u to v is a lower edge
 pub lower_step : (L R : List Pair) (u v : Pair) → All (λ t. IsBefore t u) L → All (IsBefore u) R → IsRightTangent R u v
@@ -97,7 +97,7 @@ lower_step L R u v hl hr r prior =
       to = Contains-append_right L (u ∷ R) v (suc r.0.0, omega (arith, r.0.1), r.0.2);
       forward = forward;
       left = All-append P L (u ∷ R) (λ k d l. before_it forward (get_or L k d) (k, l, get_or_free L k _ d l) (hl k d l)) (All-cons P u R (zero_nn _ (orient_back u v)) (λ k d l. (r.1 k d l).0));
-      last = All-append Q L (u ∷ R) (λ k d l e b. before_not u v forward (before_trans v _ u b (hl k d l))) (All-cons Q u R (λ e b. before_not u v forward b) (λ k d l e b. beyond forward _ b e ((r.1 k d l).1 e)))
+      last = All-append Q L (u ∷ R) (λ k d l e b. before_not u v forward (before_trans v _ u b (hl k d l))) (All-cons Q u R (λ e b. before_not u v forward b) (λ k d l e b. beyond forward _ b e ((r.1 k d l).1 e)));
     }
   where
     before_it : IsBefore u v → (t : Pair) → Contains L t → IsBefore t u → pos 0 ≤ℤ orient u v t
@@ -105,6 +105,7 @@ lower_step L R u v hl hr r prior =
         let p = prior t m in
         left_before p.0 u v t p.1.forward forward b (All-contains (λ z. pos 0 ≤ℤ orient p.0 u z) (L ++ (u ∷ R)) t p.1.left (Contains-append_left L (u ∷ R) t m))
         (All-contains (λ z. pos 0 ≤ℤ orient p.0 u z) (L ++ (u ∷ R)) v p.1.left (Contains-append_right L (u ∷ R) v (suc r.0.0, omega (arith, r.0.1), r.0.2)))
+
     beyond : IsBefore u v → (t : Pair) → IsBefore v t → orient u v t ≡ pos 0 → distance_squared u t ≤ℤ distance_squared u v → ⊥
     beyond forward t b e d = let f = past_farther u v t forward b e in omega (arith, ints)
 
@@ -120,7 +121,7 @@ upper_step L R u v hl hr r prior =
       to = Contains-append_left L (u ∷ R) v r.0;
       backward = backward;
       left = All-append P L (u ∷ R) (λ k d l. (r.1 k d l).0) (All-cons P u R (zero_nn _ (orient_back u v)) (λ k d l. after_it backward (get_or R k d) (k, l, get_or_free R k _ d l) (hr k d l)));
-      last = All-append Q L (u ∷ R) (λ k d l e b. beyond backward _ b e ((r.1 k d l).1 e)) (All-cons Q u R (λ e b. before_not v u backward b) (λ k d l e b. before_not v u backward (before_trans u _ v (hr k d l) b)))
+      last = All-append Q L (u ∷ R) (λ k d l e b. beyond backward _ b e ((r.1 k d l).1 e)) (All-cons Q u R (λ e b. before_not v u backward b) (λ k d l e b. before_not v u backward (before_trans u _ v (hr k d l) b)));
     }
   where
     after_it : IsBefore v u → (t : Pair) → Contains R t → IsBefore u t → pos 0 ≤ℤ orient u v t
@@ -129,5 +130,6 @@ upper_step L R u v hl hr r prior =
         let mt : Contains (L ++ (u ∷ R)) t = Contains-append_right L (u ∷ R) t (suc m.0, omega (arith, m.1), m.2) in
         left_after p.0 u v t p.1.backward backward b (All-contains (λ z. pos 0 ≤ℤ orient p.0 u z) (L ++ (u ∷ R)) t p.1.left mt)
         (All-contains (λ z. pos 0 ≤ℤ orient p.0 u z) (L ++ (u ∷ R)) v p.1.left (Contains-append_left L (u ∷ R) v r.0))
+
     beyond : IsBefore v u → (t : Pair) → IsBefore t v → orient u v t ≡ pos 0 → distance_squared u t ≤ℤ distance_squared u v → ⊥
     beyond backward t b e d = let f = past_farther_back u v t backward b e in omega (arith, ints)

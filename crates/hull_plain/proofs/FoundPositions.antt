@@ -1,13 +1,15 @@
 -- The position of a point in a list in the order "before".
-use Rattle.std.proofs.Common.{◌≡◌, ℕ, inl, inr, sym, ap, ◌∙◌, subst, List, arith, zero, suc, ◌+◌, ◌<◌, [], ◌∷◌, ◌++◌, length, get_or, take, drop, length-drop, Ok, Err}
+use Rattle.std.proofs.Common.{◌≡◌, ℕ, inl, inr, sym, ap, ◌∙◌, subst, List, arith, zero, suc, ◌+◌, ◌<◌, ◌≤◌, [], ◌∷◌, ◌++◌, length, get_or, true, false, take, drop, length-drop, length-take, Ok, Err}
 use Rattle.std.specs.List.{All, Contains}
-use Rattle.std.proofs.lemmas.List.{get_or-drop}
+use Rattle.std.specs.List.Sorted.{IsPartitionPoint, IsPartitionedBy}
+use Rattle.std.proofs.lemmas.Bool.{cases_lt}
+use Rattle.std.proofs.lemmas.List.{get_or-drop, get_or-take}
 use Rattle.std.proofs.lemmas.List.Elements.{All-weaker, All-cons, All-head}
-use Rattle.lattice.specs.Covers.{IsPointSet, with_point, without_point}
+use Rattle.lattice.specs.Covers.{IsPointSet, is_before, with_point, without_point}
 use Rattle.lattice.specs.Plane.{Pair, IsBefore}
 use Rattle.hull_plain.specs.Positions.{IsPositionOf}
 use Rattle.hull_plain.proofs.ChangedSets.{set-insert, with_point-at, without_point-at, absent_between}
-use Rattle.hull_plain.proofs.Order.{before_trans, before_irrefl, before_total}
+use Rattle.hull_plain.proofs.Order.{before_trans, before_irrefl, before_total, is_before-true, is_before-holds, is_before-fails}
 use Rattle.hull_plain.proofs.PointLists.{AllPairs-head, AllPairs-tail, get_or_free, cut, cut_at}
 
 -- where the first of a set is not before p, none is
@@ -81,3 +83,19 @@ found_after S p i s h k d l =
 -- a list around the position of p
 pub cut_around : (S : List Pair) (p : Pair) (i : ℕ) → IsPositionOf S p (Ok i) → take i S ++ p ∷ drop (i + 1) S ≡ S
 cut_around S p i h = sym (cut_at S i p h.0 ∙ ap (λ (z : Pair). take i S ++ z ∷ drop (suc i) S) (h.1 p) ∙ (let e : suc i ≡ i + 1 = omega arith in ap (λ (z : ℕ). take i S ++ p ∷ drop z S) e))
+
+-- in a set the points before p come first
+pub parted : (S : List Pair) (p : Pair) → IsPointSet S → IsPartitionedBy (λ t. is_before t p) S
+parted S p s i j d le l t =
+    elim (cases_lt i j) [
+      | inl h ↦ is_before-true _ p (before_trans _ (get_or S j d) p (s i j d h l) (is_before-holds _ p t))
+      | inr h ↦ let e : j ≡ i = omega arith in subst (λ (k : ℕ). is_before (get_or S k d) p ≡ true) e t
+    ]
+
+-- the points below the place where the test turns stand before p
+pub parted_below : (S : List Pair) (p : Pair) (i : ℕ) → i ≤ length S → IsPartitionPoint (λ t. is_before t p ≡ true) (λ t. is_before t p ≡ false) S i → All (λ t. IsBefore t p) (take i S)
+parted_below S p i l h k d lt = let n : k < i = omega (arith, length-take i S) in rw get_or-take (is_before-holds _ p (h.0 k d (omega arith) n))
+
+-- and those from there on do not
+pub parted_rest : (S : List Pair) (p : Pair) (i : ℕ) → i ≤ length S → IsPartitionPoint (λ t. is_before t p ≡ true) (λ t. is_before t p ≡ false) S i → All (λ t. ¬ (IsBefore t p)) (drop i S)
+parted_rest S p i l h k d lt = let n : i + k < length S = omega (arith, length-drop i S) in rw (get_or-drop i S k d) (is_before-fails _ p (h.1 (i + k) d (omega arith) n))

@@ -20,3 +20,4 @@ pub mod Comparisons
 pub mod EdgeSteps
 pub mod ChainWalks
 pub mod Rounding
+pub mod FewVertices

@@ -51,7 +51,7 @@ lifted k w x y hk hw hy (inr h) = subst (λ (z : ℤ). pos 0 <ℤ ((k +ℤ w) *�
 
 -- k + w times x
 distribute : (k w x y : ℤ) → (k +ℤ w) *ℤ x +ℤ y ≡ (k *ℤ x +ℤ y) +ℤ w *ℤ x
-distribute k w x y = rw (as_difference k, as_difference w, as_difference x, as_difference y) (simp (difference-add, difference-neg, difference-mul) (difference-eq _ _ _ _ (omega arith)))
+distribute k w x y = rw (as_difference k, as_difference w, as_difference x, as_difference y) (simp (difference-add, difference-mul) (difference-eq _ _ _ _ (omega arith)))
 
 -- a vector that is lifted stays so
 lifted_more : (k w x y : ℤ) → pos 0 ≤ℤ w → pos 0 ≤ℤ x → pos 0 <ℤ (k *ℤ x +ℤ y) → pos 0 <ℤ ((k +ℤ w) *ℤ x +ℤ y)
@@ -64,10 +64,13 @@ lifts_all f (t ∷ ts) h =
     let r = lifts_all f ts (All-tail (λ t. Ahead (f t)) t ts h) in
     let w : ℤ = pos (lift (f t).y + 1) in
     let w_above : pos 0 <ℤ w = omega (arith, ints) in
-    let w_lifts : pos 0 <ℤ (w +ℤ (f t).y) = omega (arith, ints, lift_is (f t).y) in
-    (r.0 +ℤ w, omega (arith, ints, r.1), All-cons (Lifts f (r.0 +ℤ w)) t ts
-      (lifted r.0 w (f t).x (f t).y r.1 w_above w_lifts (All-head (λ t. Ahead (f t)) t ts h))
-      (both ts (All-tail (λ t. Ahead (f t)) t ts h) r.0 w r.2 w_above))
+    let w_lifts : pos 0 <ℤ (w +ℤ (f t).y) = omega (arith, ints, lift_is (f t).y) in (
+      r.0 +ℤ w,
+      omega (arith, ints, r.1),
+      All-cons (Lifts f (r.0 +ℤ w)) t ts
+          (lifted r.0 w (f t).x (f t).y r.1 w_above w_lifts (All-head (λ t. Ahead (f t)) t ts h))
+          (both ts (All-tail (λ t. Ahead (f t)) t ts h) r.0 w r.2 w_above),
+    )
   where
     both : (us : List Pair) → All (λ t. Ahead (f t)) us → (k w : ℤ) → All (Lifts f k) us → pos 0 <ℤ w → All (Lifts f (k +ℤ w)) us
     both us a k w l hw = λ i d lt. lifted_more k w _ _ (omega (arith, ints)) (ahead_nn _ (a i d lt)) (l i d lt)

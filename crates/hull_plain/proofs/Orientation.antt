@@ -83,6 +83,7 @@ along u b hu hb e =
         let n : pos 0 <ℤ (u.y *ℤ b.x) = product_pp u.y b.x h.1 k in
         let z : u.x *ℤ b.y ≡ pos 0 = ap (λ (z : ℤ). z *ℤ b.y) h.0 ∙ omega (arith, ints) in omega (arith, ints)
     clash (inr h) (inr k) up_u down_b = omega (arith, ints)
+
     clash_down : Ahead u → u.y <ℤ pos 0 → pos 0 <ℤ b.y → ⊥
     clash_down (inl h) down_u up_b =
         let p : pos 0 <ℤ (u.x *ℤ b.y) = product_pp u.x b.y h up_b in

@@ -57,10 +57,11 @@ first_outside (x ∷ L) R q e h = absurd (omega arith)
 
 -- q present, and no point after it
 pub last_on : (L R : List Pair) (q : Pair) → length R ≡ 0 → All (λ t. IsBefore t q) L → LiesAt (joined L true q R) q On
-last_on L [] q e h =
-    (Member (Contains-append_right L (q ∷ []) q (0, omega arith, refl)),
-     outer_last (L ++ (q ∷ [])) q (All-append (λ t. ¬ (IsBefore q t)) L (q ∷ []) (All-weaker (λ t. IsBefore t q) (λ t. ¬ (IsBefore q t)) (λ t k. before_not t q k) L h)
-       (All-cons (λ t. ¬ (IsBefore q t)) q [] (before_irrefl q) (λ k d l. absurd (omega arith)))))
+last_on L [] q e h = (
+  Member (Contains-append_right L (q ∷ []) q (0, omega arith, refl)),
+  outer_last (L ++ (q ∷ [])) q (All-append (λ t. ¬ (IsBefore q t)) L (q ∷ []) (All-weaker (λ t. IsBefore t q) (λ t. ¬ (IsBefore q t)) (λ t k. before_not t q k) L h)
+      (All-cons (λ t. ¬ (IsBefore q t)) q [] (before_irrefl q) (λ k d l. absurd (omega arith)))),
+)
 last_on L (x ∷ R) q e h = absurd (omega arith)
 
 -- q absent, and no point after it

@@ -1,91 +1,55 @@
--- The walk round the hull: what it has put out so far, and that at its end this is the vertex list.
-use Rattle.std.proofs.Common.{◌≡◌, ℕ, inl, inr, refl, sym, ap, ◌∙◌, subst, List, arith, zero, suc, ◌+◌, ◌<◌, [], ◌∷◌, ◌++◌, length, get_or, ◌-◌}
+-- The walk round the hull: what it has passed so far, and that at its end this is the vertex list, and its fan the doubled area.
+use Rattle.std.proofs.Common.{◌≡◌, ℕ, pos, ◌+ℤ◌, ◌≤ℤ◌, inl, inr, refl, sym, ap, ◌∙◌, subst, List, arith, zero, suc, ◌+◌, ◌<◌, [], ◌∷◌, ◌++◌, length, get_or, ◌-◌, length-drop, ◌≢◌}
+use Rattle.std.specs.List.{Contains}
 use Rattle.std.proofs.lemmas.Bool.{cases_lt}
-use Rattle.lattice.specs.Covers.{IsPointSet}
-use Rattle.lattice.specs.Plane.{Pair, IsBefore}
-use Rattle.lattice.specs.Vertices.{IsVertexList}
+use Rattle.std.proofs.lemmas.Int.{ints}
+use Rattle.std.proofs.lemmas.List.Elements.{All-contains, All-cons}
+use Rattle.lattice.specs.Covers.{IsPointSet, IsExtreme}
+use Rattle.lattice.specs.Plane.{Pair, orient, IsBefore}
+use Rattle.lattice.specs.Vertices.{IsVertexList, fan, IsDoubledArea}
 use Rattle.hull_plain.specs.Edges.{IsLowerEdge, IsUpperEdge, IsChain, end_of, IsFirst, IsLast}
 use Rattle.hull_plain.specs.Positions.{origin, point_at}
-use Rattle.hull_plain.specs.Walks.{IsLowerReached, IsUpperReached}
-use Rattle.hull_plain.proofs.Order.{before_irrefl, before_not}
-use Rattle.hull_plain.proofs.PointLists.{get_or_free, append_none, append_twice}
+use Rattle.hull_plain.specs.Walks.{IsLowerWalk, IsUpperWalk, IsLowerOutline, IsLowerFan, IsUpperFan}
+use Rattle.hull_plain.proofs.ChainWalks.{same_point}
+use Rattle.hull_plain.proofs.Chains.{first_extreme}
+use Rattle.hull_plain.proofs.Order.{before_irrefl, before_not, after_apart}
+use Rattle.hull_plain.proofs.Orientation.{orient-cycle, orient_back, at_least, zero_nn}
+use Rattle.hull_plain.proofs.PointLists.{AllPairs-cons, AllPairs-none, get_or_free, append_none, append_twice}
 use Rattle.hull_plain.proofs.VertexLists.{chain_push, end_push, vertex_list}
 
--- the walk along the lower chain has come to the point at i
-pub record LowerWalk (S out : List Pair) (i : ℕ) : Type 0 where
-  pub ls : List Pair
-  pub out_is : out ≡ point_at S 0 ∷ ls
-  pub chain : IsChain (IsLowerEdge S) (point_at S 0) ls
-  pub ends : end_of (point_at S 0) ls ≡ point_at S i
-  pub reached : IsLowerReached S i
-
--- at the first point
-pub lower_start : (S : List Pair) → LowerWalk S (point_at S 0 ∷ []) 0
-lower_start S = record { ls = []; out_is = refl; chain = tt; ends = refl; reached = λ t m. absurd (omega (arith, m.1)) }
+-- the walk along the lower chain begins
+pub lower_start : (S : List Pair) → IsLowerWalk S [] 0
+lower_start S = record { chain = tt; ends = refl; reached = λ t m. absurd (omega (arith, m.1)) }
 
 -- one more lower edge
-pub lower_more : (S out : List Pair) (i j : ℕ) → LowerWalk S out i → IsLowerEdge S (point_at S i) (point_at S j) → LowerWalk S (out ++ point_at S j ∷ []) j
-lower_more S out i j w e =
+pub lower_more : (S passed : List Pair) (i j : ℕ) → IsLowerWalk S passed i → IsLowerEdge S (point_at S i) (point_at S j) → IsLowerWalk S (passed ++ point_at S j ∷ []) j
+lower_more S passed i j w e =
     record {
-      ls = w.ls ++ point_at S j ∷ [];
-      out_is = ap (λ (z : List Pair). z ++ point_at S j ∷ []) w.out_is;
-      chain = chain_push (IsLowerEdge S) (point_at S 0) w.ls (point_at S j) w.chain (subst (λ (z : Pair). IsLowerEdge S z (point_at S j)) (sym w.ends) e);
-      ends = end_push (point_at S 0) w.ls (point_at S j);
-      reached = λ t m. (point_at S i, e)
+      chain = chain_push (IsLowerEdge S) (point_at S 0) passed (point_at S j) w.chain (subst (λ (z : Pair). IsLowerEdge S z (point_at S j)) (sym w.ends) e);
+      ends = end_push (point_at S 0) passed (point_at S j);
+      reached = λ t m. (point_at S i, e);
     }
 
--- the walk along the upper chain has come to the point at j, which is not put out yet
-pub record UpperWalk (S out : List Pair) (j : ℕ) : Type 0 where
-  pub first_end : Pair
-  pub ls : List Pair
-  pub ms : List Pair
-  pub out_is : out ≡ point_at S 0 ∷ ((first_end ∷ ls) ++ ms)
-  pub lower : IsChain (IsLowerEdge S) (point_at S 0) (first_end ∷ ls)
-  pub ends : end_of first_end ls ≡ point_at S (length S - 1)
-  pub upper : IsChain (IsUpperEdge S) (point_at S (length S - 1)) (ms ++ point_at S j ∷ [])
-  pub reached : IsUpperReached S j
-
--- at the last point, with the first upper edge
-pub upper_start : (S out : List Pair) (i j : ℕ) → IsPointSet S → 0 < i → i + 1 ≡ length S → LowerWalk S out i → IsUpperEdge S (point_at S i) (point_at S j) → UpperWalk S out j
-upper_start S out i j s h l w e = go w.ls w.out_is w.chain w.ends
-  where
-    go : (ls : List Pair) → out ≡ point_at S 0 ∷ ls → IsChain (IsLowerEdge S) (point_at S 0) ls → end_of (point_at S 0) ls ≡ point_at S i → UpperWalk S out j
-    go [] o c n = absurd (before_irrefl (point_at S i) (subst (λ (z : Pair). IsBefore z (point_at S i)) n (s 0 i origin h (omega arith))))
-    go (v ∷ vs) o c n =
-        let k : i ≡ length S - 1 = omega arith in
-        record {
-          first_end = v;
-          ls = vs;
-          ms = [];
-          out_is = o ∙ ap (λ (z : List Pair). point_at S 0 ∷ z) (append_none (v ∷ vs));
-          lower = c;
-          ends = n ∙ ap (λ (z : ℕ). point_at S z) k;
-          upper = (subst (λ (z : ℕ). IsUpperEdge S (point_at S z) (point_at S j)) k e, tt);
-          reached = λ t m. (point_at S i, e)
-        }
+-- the walk along the upper chain begins
+pub upper_start : (S : List Pair) → 0 < length S → IsUpperWalk S [] (length S - 1)
+upper_start S l = record { chain = tt; ends = refl; reached = λ t m. absurd (omega (arith, m.1, length-drop (length S - 1 + 1) S)) }
 
 -- one more upper edge
-pub upper_more : (S out : List Pair) (j k : ℕ) → UpperWalk S out j → IsUpperEdge S (point_at S j) (point_at S k) → UpperWalk S (out ++ point_at S j ∷ []) k
-upper_more S out j k w e =
+pub upper_more : (S passed : List Pair) (i j : ℕ) → IsUpperWalk S passed i → IsUpperEdge S (point_at S i) (point_at S j) → IsUpperWalk S (passed ++ point_at S j ∷ []) j
+upper_more S passed i j w e =
     record {
-      first_end = w.first_end;
-      ls = w.ls;
-      ms = w.ms ++ point_at S j ∷ [];
-      out_is = ap (λ (z : List Pair). z ++ point_at S j ∷ []) w.out_is ∙ ap (λ (z : List Pair). point_at S 0 ∷ z) (append_twice (w.first_end ∷ w.ls) w.ms (point_at S j ∷ []));
-      lower = w.lower;
-      ends = w.ends;
-      upper = chain_push (IsUpperEdge S) (point_at S (length S - 1)) (w.ms ++ point_at S j ∷ []) (point_at S k) w.upper
-        (subst (λ (z : Pair). IsUpperEdge S z (point_at S k)) (sym (end_push (point_at S (length S - 1)) w.ms (point_at S j))) e);
-      reached = λ t m. (point_at S j, e)
+      chain = chain_push (IsUpperEdge S) (point_at S (length S - 1)) passed (point_at S j) w.chain (subst (λ (z : Pair). IsUpperEdge S z (point_at S j)) (sym w.ends) e);
+      ends = end_push (point_at S (length S - 1)) passed (point_at S j);
+      reached = λ t m. (point_at S i, e);
     }
 
 -- the point at 0 is the first
-least : (S : List Pair) → IsPointSet S → IsFirst S (point_at S 0)
+pub least : (S : List Pair) → IsPointSet S → IsFirst S (point_at S 0)
 least S s p (zero, l, e) b = before_irrefl p (subst (IsBefore p) (get_or_free S 0 origin p l ∙ e) b)
 least S s p (suc k, l, e) b = before_not p (point_at S 0) b (subst (IsBefore (point_at S 0)) (get_or_free S (suc k) origin p l ∙ e) (s 0 (suc k) origin (omega arith) l))
 
 -- the point at the last place is the last
-greatest : (S : List Pair) → IsPointSet S → IsLast S (point_at S (length S - 1))
+pub greatest : (S : List Pair) → IsPointSet S → IsLast S (point_at S (length S - 1))
 greatest S s p (k, l, e) b =
     let q : get_or S k origin ≡ p = get_or_free S k origin p l ∙ e in
     elim (cases_lt k (length S - 1)) [
@@ -93,7 +57,151 @@ greatest S s p (k, l, e) b =
       | inr h ↦ let n : length S - 1 ≡ k = omega arith in before_irrefl p (subst (λ (z : Pair). IsBefore z p) (ap (λ (z : ℕ). point_at S z) n ∙ q) b)
     ]
 
--- back at the first point: the vertex list is out
-pub upper_done : (S out : List Pair) → IsPointSet S → UpperWalk S out 0 → IsVertexList S out
-upper_done S out s w =
-    subst (IsVertexList S) (sym w.out_is) (vertex_list S (point_at S 0) (point_at S (length S - 1)) w.first_end w.ls w.ms s w.lower w.ends w.upper (least S s) (greatest S s))
+-- of two points or more, the first stands before the last
+first_last : (S : List Pair) → IsPointSet S → 1 < length S → IsBefore (point_at S 0) (point_at S (length S - 1))
+first_last S s l = s 0 (length S - 1) origin (omega arith) (omega arith)
+
+-- a whole lower walk, and the points of a whole upper walk but the first point of S where it ends
+pub walked : (S lower upper : List Pair) → IsPointSet S → 1 < length S → IsLowerWalk S lower (length S - 1) → IsChain (IsUpperEdge S) (point_at S (length S - 1)) (upper ++ point_at S 0 ∷ []) → IsVertexList S (point_at S 0 ∷ (lower ++ upper))
+walked S [] upper s l w c = absurd (before_irrefl (point_at S (length S - 1)) (subst (λ (z : Pair). IsBefore z (point_at S (length S - 1))) w.ends (first_last S s l)))
+walked S (v ∷ vs) upper s l w c = vertex_list S (point_at S 0) (point_at S (length S - 1)) v vs upper s w.chain w.ends c (least S s) (greatest S s)
+
+-- the points of a walk but the last
+front_of : (u w : Pair) (vs : List Pair) → end_of u vs ≡ w → u ≢ w → (front : List Pair) × (vs ≡ front ++ w ∷ [])
+front_of u w [] e n = absurd (n e)
+front_of u w (v ∷ []) e n = ([], ap (λ (z : Pair). z ∷ []) e)
+front_of u w (v ∷ (x ∷ xs)) e n = let r = front_last v x xs w e in (v ∷ r.0, ap (λ (z : List Pair). v ∷ z) r.1)
+  where
+    front_last : (v x : Pair) (xs : List Pair) (w : Pair) → end_of x xs ≡ w → (front : List Pair) × (x ∷ xs ≡ front ++ w ∷ [])
+    front_last v x [] w e = ([], ap (λ (z : Pair). z ∷ []) e)
+    front_last v x (y ∷ ys) w e = let r = front_last x y ys w e in (x ∷ r.0, ap (λ (z : List Pair). x ∷ z) r.1)
+
+-- two walks, one after the other: the sum of their fans
+fan-append : (f u : Pair) (xs ys : List Pair) → fan f u (xs ++ ys) ≡ fan f u xs +ℤ fan f (end_of u xs) ys
+fan-append f u [] ys = omega (arith, ints)
+fan-append f u (x ∷ xs) ys = let e = fan-append f x xs ys in omega (arith, ints)
+
+-- a step back to the corner of the fan adds nothing
+fan-back : (f u : Pair) (xs : List Pair) → fan f u (xs ++ f ∷ []) ≡ fan f u xs
+fan-back f u xs =
+    let e = fan-append f u xs (f ∷ []) in
+    let z : orient f (end_of u xs) f ≡ pos 0 = orient_back f (end_of u xs) in
+    omega (arith, ints)
+
+-- one more point of a walk
+pub fan-push : (f u w : Pair) (xs : List Pair) → fan f u (xs ++ w ∷ []) ≡ fan f u xs +ℤ orient f (end_of u xs) w
+fan-push f u w xs = let e = fan-append f u xs (w ∷ []) in omega (arith, ints)
+
+-- the doubled area is the sum of the fans of a whole lower walk and a whole upper walk
+pub fans_sum : (S : List Pair) (m n : ℕ) → IsPointSet S → 1 < length S → IsLowerFan S (length S - 1) m → IsUpperFan S 0 n → IsDoubledArea S (pos (m + n))
+fans_sum S m n s l (lower, w, e) (upper, x, g) =
+    let first : Pair = point_at S 0 in
+    let last : Pair = point_at S (length S - 1) in
+    let f = front_of last first upper x.ends (after_apart last first (first_last S s l)) in
+    let back : fan first last upper ≡ fan first last f.0 = ap (fan first last) f.1 ∙ fan-back first last f.0 in
+    let both : fan first first (lower ++ f.0) ≡ fan first first lower +ℤ fan first last f.0 = fan-append first first lower f.0 ∙ ap (λ (z : Pair). fan first first lower +ℤ fan first z f.0) w.ends in
+    (first ∷ (lower ++ f.0), walked S lower f.0 s l w (subst (IsChain (IsUpperEdge S) last) f.1 x.chain), omega (arith, ints))
+
+-- the triangle from the first point to a lower edge does not turn right
+pub lower_triangle : (S : List Pair) (u v t : Pair) → IsLowerEdge S u v → Contains S t → pos 0 ≤ℤ orient t u v
+lower_triangle S u v t e m = at_least _ _ (orient-cycle u v t) (All-contains (λ z. pos 0 ≤ℤ orient u v z) S t e.left m)
+
+-- nor that to an upper edge
+pub upper_triangle : (S : List Pair) (u v t : Pair) → IsUpperEdge S u v → Contains S t → pos 0 ≤ℤ orient t u v
+upper_triangle S u v t e m = at_least _ _ (orient-cycle u v t) (All-contains (λ z. pos 0 ≤ℤ orient u v z) S t e.left m)
+
+-- the list is the lower chain of S and the part of the upper chain that comes before the point at i
+abbrev pub IsHalfRound : List Pair → List Pair → ℕ → Type 0
+IsHalfRound S out i =
+    (lower : List Pair) × (upper : List Pair) × IsLowerWalk S lower (length S - 1) × IsUpperWalk S (upper ++ point_at S i ∷ []) i × (out ≡ point_at S 0 ∷ (lower ++ upper))
+
+-- with the first upper edge
+pub half_start : (S out : List Pair) (i : ℕ) → 1 < length S → IsLowerOutline S (length S - 1) out → IsUpperEdge S (point_at S (length S - 1)) (point_at S i) → IsHalfRound S out i
+half_start S out i l (lower, w, o) e =
+    (lower, [], w, upper_more S [] (length S - 1) i (upper_start S (omega arith)) e, o ∙ ap (λ (z : List Pair). point_at S 0 ∷ z) (append_none lower))
+
+-- one more upper edge
+pub half_more : (S out : List Pair) (i j : ℕ) → IsHalfRound S out i → IsUpperEdge S (point_at S i) (point_at S j) → IsHalfRound S (out ++ point_at S i ∷ []) j
+half_more S out i j (lower, upper, w, x, o) e = (
+  lower,
+  upper ++ point_at S i ∷ [],
+  w,
+  upper_more S (upper ++ point_at S i ∷ []) i j x e,
+  ap (λ (z : List Pair). z ++ point_at S i ∷ []) o ∙ ap (λ (z : List Pair). point_at S 0 ∷ z) (append_twice lower upper (point_at S i ∷ [])),
+)
+
+-- back at the first point the list is whole
+pub half_done : (S out : List Pair) → IsPointSet S → 1 < length S → IsHalfRound S out 0 → IsVertexList S out
+half_done S out s l (lower, upper, w, x, o) = subst (IsVertexList S) (sym o) (walked S lower upper s l w x.chain)
+
+-- with one more lower edge the outline goes on
+pub outline_more : (S out : List Pair) (i j : ℕ) → IsLowerOutline S i out → IsLowerEdge S (point_at S i) (point_at S j) → IsLowerOutline S j (out ++ point_at S j ∷ [])
+outline_more S out i j (passed, w, o) e = (passed ++ point_at S j ∷ [], lower_more S passed i j w e, ap (λ (z : List Pair). z ++ point_at S j ∷ []) o)
+
+-- the sides of three points that were read
+pub read_side : (S : List Pair) (i j : ℕ) (a b d : Pair) → 0 < length S → i < length S → j < length S → a ≡ get_or S 0 a → b ≡ get_or S i b → d ≡ get_or S j d → orient a b d ≡ orient (point_at S 0) (point_at S i) (point_at S j)
+read_side S i j a b d l m n ea eb ed =
+    ap (λ (z : Pair). orient z b d) (same_point S 0 a l ea) ∙ ap (λ (z : Pair). orient (point_at S 0) z d) (same_point S i b m eb) ∙ ap (orient (point_at S 0) (point_at S i)) (same_point S j d n ed)
+
+-- one more triangle under the lower chain
+pub lower_fan_more : (S : List Pair) (i j m n : ℕ) → IsLowerFan S i m → IsLowerEdge S (point_at S i) (point_at S j) → pos n ≡ orient (point_at S 0) (point_at S i) (point_at S j) → IsLowerFan S j (m + n)
+lower_fan_more S i j m n (passed, w, f) e t =
+    let first : Pair = point_at S 0 in
+    let g = fan-push first first (point_at S j) passed in
+    let h : orient first (end_of first passed) (point_at S j) ≡ orient first (point_at S i) (point_at S j) = ap (λ (z : Pair). orient first z (point_at S j)) w.ends in
+    (passed ++ point_at S j ∷ [], lower_more S passed i j w e, omega (arith, ints))
+
+-- one more triangle over the upper chain
+pub upper_fan_more : (S : List Pair) (i j m n : ℕ) → IsUpperFan S i m → IsUpperEdge S (point_at S i) (point_at S j) → pos n ≡ orient (point_at S 0) (point_at S i) (point_at S j) → IsUpperFan S j (m + n)
+upper_fan_more S i j m n (passed, w, f) e t =
+    let first : Pair = point_at S 0 in
+    let last : Pair = point_at S (length S - 1) in
+    let g = fan-push first last (point_at S j) passed in
+    let h : orient first (end_of last passed) (point_at S j) ≡ orient first (point_at S i) (point_at S j) = ap (λ (z : Pair). orient first z (point_at S j)) w.ends in
+    (passed ++ point_at S j ∷ [], upper_more S passed i j w e, omega (arith, ints))
+
+-- the only member of a list of one
+only_member : (v p : Pair) → Contains (v ∷ []) p → v ≡ p
+only_member v p (zero, l, e) = e
+only_member v p (suc k, l, e) = absurd (omega (arith, l))
+
+-- the point of a set of one is extreme
+alone_extreme : (v p : Pair) → Contains (v ∷ []) p → IsExtreme (v ∷ []) p
+alone_extreme v p m =
+    subst (IsExtreme (v ∷ [])) (only_member v p m)
+    (first_extreme (v ∷ []) v (AllPairs-cons v [] (λ k d l. absurd (omega (arith, l))) AllPairs-none) (0, omega arith, refl) (λ t i b. before_irrefl v (subst (λ (z : Pair). IsBefore z v) (sym (only_member v t i)) b)))
+
+-- a set of no point or of one is its own vertex list
+pub small_list : (S : List Pair) → length S < 2 → IsVertexList S S
+small_list [] l = record {
+  distinct = λ i j d h k. absurd (omega (arith, k));
+  members = λ p. ((λ m. absurd (omega (arith, m.1))), λ x. x.0);
+  order = tt;
+}
+small_list (v ∷ []) l = record {
+  distinct = λ i j d h k. absurd (omega (arith, h, k));
+  members = λ p. ((λ m. alone_extreme v p m), λ x. x.0);
+  order = (All-cons (λ t. pos 0 ≤ℤ orient v v t) v [] (zero_nn _ (orient_back v v)) (λ k d h. absurd (omega (arith, h))), λ k d h. absurd (omega (arith, h)));
+}
+small_list (v ∷ w ∷ vs) l = absurd (omega (arith, l))
+
+-- the list of the only point
+pub one_list : (S : List Pair) (x : Pair) → length S ≡ 1 → x ≡ get_or S 0 x → IsVertexList S (x ∷ [])
+one_list [] x l e = absurd (omega (arith, l))
+one_list (v ∷ []) x l e = subst (λ (z : Pair). IsVertexList (v ∷ []) (z ∷ [])) (sym e) (small_list (v ∷ []) (omega (arith, l)))
+one_list (v ∷ w ∷ vs) x l e = absurd (omega (arith, l))
+
+-- the empty list of no points
+pub no_list : (S out : List Pair) → length S ≡ 0 → out ≡ [] → IsVertexList S out
+no_list [] out l e = subst (IsVertexList []) (sym e) (small_list [] (omega arith))
+no_list (v ∷ vs) out l e = absurd (omega (arith, l))
+
+-- and its doubled area is zero
+pub small_area : (S : List Pair) → length S < 2 → IsDoubledArea S (pos 0)
+small_area [] l = ([], small_list [] l, refl)
+small_area (v ∷ []) l = (v ∷ [], small_list (v ∷ []) l, refl)
+small_area (v ∷ w ∷ vs) l = absurd (omega (arith, l))
+
+-- the first point is there
+pub first_there : (S : List Pair) → 0 < length S → Contains S (point_at S 0)
+first_there S l = (0, l, get_or_free S 0 _ origin l)

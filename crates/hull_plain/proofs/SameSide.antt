@@ -17,7 +17,7 @@ unfolding orient
 side_trans q u v w (inl h) a b = turn_trans (minus u q) (minus v q) (minus w q) (ahead_of q u h.0) (ahead_of q v h.1) (ahead_of q w h.2) a b
 side_trans q u v w (inr h) a b =
     at_least _ _ (cross-opp (minus u q) (minus w q)) (turn_trans (opp (minus u q)) (opp (minus v q)) (opp (minus w q)) (behind_of u q h.0) (behind_of v q h.1) (behind_of w q h.2)
-      (at_least _ _ (sym (cross-opp (minus u q) (minus v q))) a) (at_least _ _ (sym (cross-opp (minus v q) (minus w q))) b))
+    (at_least _ _ (sym (cross-opp (minus u q) (minus v q))) a) (at_least _ _ (sym (cross-opp (minus v q) (minus w q))) b))
 
 -- the three in reverse
 pub side_reverse : (q u v w : Pair) → OneSide q u v w → OneSide q w v u

@@ -46,70 +46,70 @@ pub above_ahead : (q l r t : Pair) → IsBefore l q → IsBefore q r → IsBefor
 unfolding orient
 above_ahead q l r t hl hr ht rl rt =
     sum_above _ _ rt (above _ _ (cross-opp_left (minus l q) (minus t q)) (turn_trans_strict (opp (minus l q)) (minus r q) (minus t q) (behind_of l q hl) (ahead_of q r hr) (ahead_of q t ht)
-      (above _ _ (sym (cross-opp_left (minus l q) (minus r q))) rl) rt))
+    (above _ _ (sym (cross-opp_left (minus l q) (minus r q))) rl) rt))
 
 -- and a point before q
 pub above_behind : (q l r t : Pair) → IsBefore l q → IsBefore q r → IsBefore t q → pos 0 <ℤ orient q r l → pos 0 ≤ℤ orient q t l → pos 0 <ℤ (orient q r t +ℤ orient q t l)
 unfolding orient
 above_behind q l r t hl hr ht rl tl =
     sum_above_left _ _ (above _ _ (cross-opp_left (minus t q) (minus r q)) (turn_trans_strict_right (opp (minus t q)) (opp (minus l q)) (minus r q) (behind_of t q ht) (behind_of l q hl) (ahead_of q r hr)
-      (at_least _ _ (sym (cross-opp (minus t q) (minus l q))) tl) (above _ _ (sym (cross-opp_left (minus l q) (minus r q))) rl))) tl
+    (at_least _ _ (sym (cross-opp (minus t q) (minus l q))) tl) (above _ _ (sym (cross-opp_left (minus l q) (minus r q))) rl))) tl
 
 -- all lies below a line through q, r the highest before q and l the highest after: a point after q
 pub below_ahead : (q l r t : Pair) → IsBefore q l → IsBefore r q → IsBefore q t → pos 0 <ℤ orient q r l → pos 0 ≤ℤ orient q t l → pos 0 <ℤ (orient q r t +ℤ orient q t l)
 unfolding orient
 below_ahead q l r t hl hr ht rl tl =
     sum_above_left _ _ (above _ _ (cross-opp_right (minus t q) (minus r q)) (turn_trans_strict_right (minus t q) (minus l q) (opp (minus r q)) (ahead_of q t ht) (ahead_of q l hl) (behind_of r q hr)
-      tl (above _ _ (sym (cross-opp_right (minus l q) (minus r q))) rl))) tl
+    tl (above _ _ (sym (cross-opp_right (minus l q) (minus r q))) rl))) tl
 
 -- and a point before q
 pub below_behind : (q l r t : Pair) → IsBefore q l → IsBefore r q → IsBefore t q → pos 0 <ℤ orient q r l → pos 0 ≤ℤ orient q r t → pos 0 <ℤ (orient q r t +ℤ orient q t l)
 unfolding orient
 below_behind q l r t hl hr ht rl rt =
     sum_above _ _ rt (above _ _ (cross-opp_right (minus l q) (minus t q)) (turn_trans_strict (minus l q) (opp (minus r q)) (opp (minus t q)) (ahead_of q l hl) (behind_of r q hr) (behind_of t q ht)
-      (above _ _ (sym (cross-opp_right (minus l q) (minus r q))) rl) (at_least _ _ (sym (cross-opp (minus r q) (minus t q))) rt)))
+    (above _ _ (sym (cross-opp_right (minus l q) (minus r q))) rl) (at_least _ _ (sym (cross-opp (minus r q) (minus t q))) rt)))
 
 -- the same of the far side alone
 pub above_ahead_left : (q l r t : Pair) → IsBefore l q → IsBefore q r → IsBefore q t → pos 0 <ℤ orient q r l → pos 0 ≤ℤ orient q r t → pos 0 <ℤ orient q t l
 unfolding orient
 above_ahead_left q l r t hl hr ht rl rt =
     above _ _ (cross-opp_left (minus l q) (minus t q)) (turn_trans_strict (opp (minus l q)) (minus r q) (minus t q) (behind_of l q hl) (ahead_of q r hr) (ahead_of q t ht)
-      (above _ _ (sym (cross-opp_left (minus l q) (minus r q))) rl) rt)
+    (above _ _ (sym (cross-opp_left (minus l q) (minus r q))) rl) rt)
 
 -- the same of the far side alone
 pub above_behind_right : (q l r t : Pair) → IsBefore l q → IsBefore q r → IsBefore t q → pos 0 <ℤ orient q r l → pos 0 ≤ℤ orient q t l → pos 0 <ℤ orient q r t
 unfolding orient
 above_behind_right q l r t hl hr ht rl tl =
     above _ _ (cross-opp_left (minus t q) (minus r q)) (turn_trans_strict_right (opp (minus t q)) (opp (minus l q)) (minus r q) (behind_of t q ht) (behind_of l q hl) (ahead_of q r hr)
-      (at_least _ _ (sym (cross-opp (minus t q) (minus l q))) tl) (above _ _ (sym (cross-opp_left (minus l q) (minus r q))) rl))
+    (at_least _ _ (sym (cross-opp (minus t q) (minus l q))) tl) (above _ _ (sym (cross-opp_left (minus l q) (minus r q))) rl))
 
 -- the same of the far side alone
 pub below_ahead_right : (q l r t : Pair) → IsBefore q l → IsBefore r q → IsBefore q t → pos 0 <ℤ orient q r l → pos 0 ≤ℤ orient q t l → pos 0 <ℤ orient q r t
 unfolding orient
 below_ahead_right q l r t hl hr ht rl tl =
     above _ _ (cross-opp_right (minus t q) (minus r q)) (turn_trans_strict_right (minus t q) (minus l q) (opp (minus r q)) (ahead_of q t ht) (ahead_of q l hl) (behind_of r q hr)
-      tl (above _ _ (sym (cross-opp_right (minus l q) (minus r q))) rl))
+    tl (above _ _ (sym (cross-opp_right (minus l q) (minus r q))) rl))
 
 -- the same of the far side alone
 pub below_behind_left : (q l r t : Pair) → IsBefore q l → IsBefore r q → IsBefore t q → pos 0 <ℤ orient q r l → pos 0 ≤ℤ orient q r t → pos 0 <ℤ orient q t l
 unfolding orient
 below_behind_left q l r t hl hr ht rl rt =
     above _ _ (cross-opp_right (minus l q) (minus t q)) (turn_trans_strict (minus l q) (opp (minus r q)) (opp (minus t q)) (ahead_of q l hl) (behind_of r q hr) (behind_of t q ht)
-      (above _ _ (sym (cross-opp_right (minus l q) (minus r q))) rl) (at_least _ _ (sym (cross-opp (minus r q) (minus t q))) rt))
+    (above _ _ (sym (cross-opp_right (minus l q) (minus r q))) rl) (at_least _ _ (sym (cross-opp (minus r q) (minus t q))) rt))
 
 -- the lowest points before and after q turn right or not at all: a point before q is on their side of the line to the one after
 pub upper_side : (q l r t : Pair) → IsBefore l q → IsBefore q r → IsBefore t q → pos 0 ≤ℤ orient q r l → pos 0 ≤ℤ orient q t l → pos 0 ≤ℤ orient q r t
 unfolding orient
 upper_side q l r t hl hr ht rl tl =
     at_least _ _ (cross-opp_left (minus t q) (minus r q)) (turn_trans (opp (minus t q)) (opp (minus l q)) (minus r q) (behind_of t q ht) (behind_of l q hl) (ahead_of q r hr)
-      (at_least _ _ (sym (cross-opp (minus t q) (minus l q))) tl) (at_least _ _ (sym (cross-opp_left (minus l q) (minus r q))) rl))
+    (at_least _ _ (sym (cross-opp (minus t q) (minus l q))) tl) (at_least _ _ (sym (cross-opp_left (minus l q) (minus r q))) rl))
 
 -- the same of the highest points and a point after q
 pub lower_side : (q l r t : Pair) → IsBefore q l → IsBefore r q → IsBefore q t → pos 0 ≤ℤ orient q r l → pos 0 ≤ℤ orient q t l → pos 0 ≤ℤ orient q r t
 unfolding orient
 lower_side q l r t hl hr ht rl tl =
     at_least _ _ (cross-opp_right (minus t q) (minus r q)) (turn_trans (minus t q) (minus l q) (opp (minus r q)) (ahead_of q t ht) (ahead_of q l hl) (behind_of r q hr)
-      tl (at_least _ _ (sym (cross-opp_right (minus l q) (minus r q))) rl))
+    tl (at_least _ _ (sym (cross-opp_right (minus l q) (minus r q))) rl))
 
 -- the direction to the right of the line from q to r
 product-right : (q r t : Pair) → product (across q r) q -ℤ product (across q r) t ≡ orient q r t
@@ -159,13 +159,14 @@ same_pair t v hx hy = let ex : t.x ≡ v.x = omega (arith, ints) in let ey : t.y
 pub corner_apart : (u v w t : Pair) → pos 0 <ℤ orient u v w → pos 0 ≤ℤ orient u v t → pos 0 ≤ℤ orient v w t → ¬ (t ≡ v) → product (across u w) t <ℤ product (across u w) v
 corner_apart u v w t h a b n =
     nearer (across u w) t v (above _ _ (sym (product-corner u v w t))
-      (elim (le_or_lt (orient u v t +ℤ orient v w t) (pos 0)) [
-        | inl k ↦ let za : orient u v t ≡ pos 0 = squeeze _ _ a b k in let zb : orient v w t ≡ pos 0 = squeeze_right _ _ a b k in
-            absurd (n (same_pair t v (zero_of _ _ _ _ _ _ h za zb (meets_x u v w t)) (zero_of _ _ _ _ _ _ h za zb (meets_y u v w t))))
-        | inr k ↦ k
-      ]))
+    (elim (le_or_lt (orient u v t +ℤ orient v w t) (pos 0)) [
+      | inl k ↦ let za : orient u v t ≡ pos 0 = squeeze _ _ a b k in let zb : orient v w t ≡ pos 0 = squeeze_right _ _ a b k in
+          absurd (n (same_pair t v (zero_of _ _ _ _ _ _ h za zb (meets_x u v w t)) (zero_of _ _ _ _ _ _ h za zb (meets_y u v w t))))
+      | inr k ↦ k
+    ]))
   where
     squeeze : (a b : ℤ) → pos 0 ≤ℤ a → pos 0 ≤ℤ b → (a +ℤ b) ≤ℤ pos 0 → a ≡ pos 0
     squeeze a b h k l = omega (arith, ints)
+
     squeeze_right : (a b : ℤ) → pos 0 ≤ℤ a → pos 0 ≤ℤ b → (a +ℤ b) ≤ℤ pos 0 → b ≡ pos 0
     squeeze_right a b h k l = omega (arith, ints)

@@ -56,18 +56,20 @@ right_tangent S q r m h = (m, All-weaker (λ t. ¬ (IsMoreRight q t r)) (λ t. (
   where
     one : (t : Pair) → ¬ (IsMoreRight q t r) → (pos 0 ≤ℤ orient q r t) × (orient q r t ≡ pos 0 → distance_squared q t ≤ℤ distance_squared q r)
     one t n =
-        let e : orient q r t ≡ neg_ℤ (orient q t r) = orient_swap q r t in
-        (elim (le_or_lt (orient q t r) (pos 0)) [ inl k ↦ omega (arith, ints) | inr k ↦ absurd (n (inl k)) ],
-         λ z. elim (le_or_lt (distance_squared q t) (distance_squared q r)) [ inl k ↦ k | inr k ↦ absurd (n (inr (omega (arith, ints), k))) ])
+        let e : orient q r t ≡ neg_ℤ (orient q t r) = orient_swap q r t in (
+          elim (le_or_lt (orient q t r) (pos 0)) [ inl k ↦ omega (arith, ints) | inr k ↦ absurd (n (inl k)) ],
+          λ z. elim (le_or_lt (distance_squared q t) (distance_squared q r)) [ inl k ↦ k | inr k ↦ absurd (n (inr (omega (arith, ints), k))) ],
+        )
 
 -- the leftmost point is the left tangent point
 pub left_tangent : (S : List Pair) (q l : Pair) → Contains S l → All (λ t. ¬ (IsMoreLeft q t l)) S → IsLeftTangent S q l
 left_tangent S q l m h = (m, All-weaker (λ t. ¬ (IsMoreLeft q t l)) (λ t. (orient q l t ≤ℤ pos 0) × (orient q l t ≡ pos 0 → distance_squared q t ≤ℤ distance_squared q l)) one S h)
   where
     one : (t : Pair) → ¬ (IsMoreLeft q t l) → (orient q l t ≤ℤ pos 0) × (orient q l t ≡ pos 0 → distance_squared q t ≤ℤ distance_squared q l)
-    one t n =
-        (elim (le_or_lt (orient q l t) (pos 0)) [ inl k ↦ k | inr k ↦ absurd (n (inl k)) ],
-         λ z. elim (le_or_lt (distance_squared q t) (distance_squared q l)) [ inl k ↦ k | inr k ↦ absurd (n (inr (z, k))) ])
+    one t n = (
+      elim (le_or_lt (orient q l t) (pos 0)) [ inl k ↦ k | inr k ↦ absurd (n (inl k)) ],
+      λ z. elim (le_or_lt (distance_squared q t) (distance_squared q l)) [ inl k ↦ k | inr k ↦ absurd (n (inr (z, k))) ],
+    )
 
 -- in line the test is the distance
 pub more_right : (q t r : Pair) (x : ℤ) (b : Bool) → x ≡ orient q t r → x ≤ℤ pos 0 → pos 0 ≤ℤ x → IsTrue b ↔ (distance_squared q r <ℤ distance_squared q t) → IsTrue b ↔ IsMoreRight q t r

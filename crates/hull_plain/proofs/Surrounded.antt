@@ -96,5 +96,5 @@ unfolding orient
 not_on S q a b c d ma mb mc md ha hb hc hd ab cd f h =
     let P : Pair → Type 0 = λ t. product f t ≤ℤ product f q in
     let r = surrounded (opp f) (minus a q) (minus b q) (minus c q) (minus d q) (behind_of a q ha) (ahead_of q b hb) (ahead_of q c hc) (behind_of d q hd) ab cd
-      (not_farther f a q (All-contains P S a h ma)) (not_farther f b q (All-contains P S b h mb)) (not_farther f c q (All-contains P S c h mc)) (not_farther f d q (All-contains P S d h md)) in
+    (not_farther f a q (All-contains P S a h ma)) (not_farther f b q (All-contains P S b h mb)) (not_farther f c q (All-contains P S c h mc)) (not_farther f d q (All-contains P S d h md)) in
     (omega (arith, ints, r.0), omega (arith, ints, r.1))

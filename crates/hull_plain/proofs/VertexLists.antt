@@ -91,8 +91,8 @@ apart_both : (S : List Pair) (u last : Pair) (ls ms : List Pair) → IsChain (Is
 apart_both S u last [] ms lc uc = upper_apart S last ms uc
 apart_both S u last (v ∷ ls) ms lc uc =
     apart_cons v (ls ++ ms) (all_append_right (λ t. v ≢ t) ls ms
-      (All-weaker (IsBefore v) (λ t. v ≢ t) (λ t b. before_apart v t b) ls (lower_above S v ls lc.1))
-      (All-weaker (λ t. (p : Pair) × IsUpperEdge S p t) (λ t. v ≢ t) (λ t q e. no_common_corner S u v q.0 lc.0 (subst (IsUpperEdge S q.0) (sym e) q.1)) ms (upper_ends S last ms uc)))
+    (All-weaker (IsBefore v) (λ t. v ≢ t) (λ t b. before_apart v t b) ls (lower_above S v ls lc.1))
+    (All-weaker (λ t. (p : Pair) × IsUpperEdge S p t) (λ t. v ≢ t) (λ t q e. no_common_corner S u v q.0 lc.0 (subst (IsUpperEdge S q.0) (sym e) q.1)) ms (upper_ends S last ms uc)))
     (apart_both S v last ls ms lc.1 uc)
 
 -- the theorem: a lower chain from the first point to the last, and an upper chain from there back to the first
@@ -106,26 +106,33 @@ vertex_list S first last l ls ms s lc le uc hf hl =
     let low : All (IsBefore first) ((l ∷ ls) ++ ms) = all_append_right (IsBefore first) (l ∷ ls) ms (lower_above S first (l ∷ ls) lc) (upper_above S first last ms uc).1 in
     record {
       distinct = apart_cons first ((l ∷ ls) ++ ms) (All-weaker (IsBefore first) (λ t. first ≢ t) (λ t b. before_apart first t b) ((l ∷ ls) ++ ms) low) (apart_both S first last (l ∷ ls) ms lc (front_chain (IsUpperEdge S) last ms first uc));
-      members = λ p. ((λ m. All-contains (IsExtreme S) (first ∷ ((l ∷ ls) ++ ms)) p extreme m),
-        (λ x. on_list p (extreme_on_chain S first last (l ∷ ls) (ms ++ first ∷ []) p lc le uc (end_push last ms first) hf hl x)));
-      order = (round_lower S first last first (l ∷ ls) ms lc le (round_upper S first last ms uc), low)
+      members = λ p. (
+        (λ m. All-contains (IsExtreme S) (first ∷ ((l ∷ ls) ++ ms)) p extreme m),
+        (λ x. on_list p (extreme_on_chain S first last (l ∷ ls) (ms ++ first ∷ []) p lc le uc (end_push last ms first) hf hl x)),
+      );
+      order = (round_lower S first last first (l ∷ ls) ms lc le (round_upper S first last ms uc), low);
     }
   where
     upper_all : (ns : List Pair) → IsChain (IsUpperEdge S) last (ns ++ first ∷ []) → All (IsExtreme S) ns
     upper_all [] c = λ k d l. absurd (omega arith)
     upper_all (n ∷ ns) c = left_part (IsExtreme S) (n ∷ ns) (first ∷ []) (All-tail (IsExtreme S) last ((n ∷ ns) ++ first ∷ [])
-      (upper_extreme S last n (ns ++ first ∷ []) s c hl (λ t m b. hf t m (subst (IsBefore t) (end_push n ns first) b))))
+        (upper_extreme S last n (ns ++ first ∷ []) s c hl (λ t m b. hf t m (subst (IsBefore t) (end_push n ns first) b))))
+
     last_in : Contains (first ∷ (l ∷ ls)) last
     last_in = subst (Contains (first ∷ (l ∷ ls))) le (end_contained first (l ∷ ls))
+
     only_first : (p : Pair) → Contains (first ∷ []) p → first ≡ p
     only_first p (zero, lt, e) = e
     only_first p (suc k, lt, e) = absurd (omega (arith, lt))
+
     back : (p : Pair) → Contains ms p ⊎ Contains (first ∷ []) p → Contains (first ∷ ((l ∷ ls) ++ ms)) p
     back p (inl m) = Contains-append_right (first ∷ (l ∷ ls)) ms p m
     back p (inr m) = (0, omega arith, only_first p m)
+
     on_upper : (p : Pair) → Contains (last ∷ (ms ++ first ∷ [])) p → Contains (first ∷ ((l ∷ ls) ++ ms)) p
     on_upper p (zero, lt, e) = Contains-append_left (first ∷ (l ∷ ls)) ms p (subst (Contains (first ∷ (l ∷ ls))) e last_in)
     on_upper p (suc k, lt, e) = back p (Contains-append_cases ms (first ∷ []) p (k, omega (arith, lt), e))
+
     on_list : (p : Pair) → Contains (first ∷ (l ∷ ls)) p ⊎ Contains (last ∷ (ms ++ first ∷ [])) p → Contains (first ∷ ((l ∷ ls) ++ ms)) p
     on_list p (inl m) = Contains-append_left (first ∷ (l ∷ ls)) ms p m
     on_list p (inr m) = on_upper p m

@@ -5,3 +5,4 @@ pub mod Positions
 pub mod Farthest
 pub mod Seen
 pub mod Walks
+pub mod Sets

@@ -1,8 +1,9 @@
 -- A walk round the hull by places in a list of points in the order "before".
 use Rattle.std.specs.List.{Contains}
-use Rattle.std.specs.Prelude.{ℕ, List, ◌+◌, take, drop}
+use Rattle.std.specs.Prelude.{◌≡◌, ℕ, pos, List, ◌+◌, ◌∷◌, length, take, ◌-◌, drop}
 use Rattle.lattice.specs.Plane.{Pair}
-use Rattle.hull_plain.specs.Edges.{IsLowerEdge, IsUpperEdge}
+use Rattle.lattice.specs.Vertices.{fan}
+use Rattle.hull_plain.specs.Edges.{IsLowerEdge, IsUpperEdge, IsChain, end_of}
 use Rattle.hull_plain.specs.Positions.{point_at}
 
 -- a lower edge ends at the point at i, or nothing stands before that point
@@ -12,3 +13,27 @@ IsLowerReached S i = (t : Pair) → Contains (take i S) t → (p : Pair) × IsLo
 -- an upper edge ends at the point at i, or nothing stands after that point
 abbrev pub IsUpperReached : List Pair → ℕ → Type 0
 IsUpperReached S i = (t : Pair) → Contains (drop (i + 1) S) t → (p : Pair) × IsUpperEdge S p (point_at S i)
+
+-- a walk along the lower chain from the first point of S over the points of `passed` has come to the point at i
+pub record IsLowerWalk (S passed : List Pair) (i : ℕ) : Type 0 where
+  pub chain : IsChain (IsLowerEdge S) (point_at S 0) passed
+  pub ends : end_of (point_at S 0) passed ≡ point_at S i
+  pub reached : IsLowerReached S i
+
+-- a walk along the upper chain from the last point of S over the points of `passed` has come to the point at i
+pub record IsUpperWalk (S passed : List Pair) (i : ℕ) : Type 0 where
+  pub chain : IsChain (IsUpperEdge S) (point_at S (length S - 1)) passed
+  pub ends : end_of (point_at S (length S - 1)) passed ≡ point_at S i
+  pub reached : IsUpperReached S i
+
+-- the list is the lower chain of S up to the point at i
+abbrev pub IsLowerOutline : List Pair → ℕ → List Pair → Type 0
+IsLowerOutline S i outline = (passed : List Pair) × IsLowerWalk S passed i × (outline ≡ point_at S 0 ∷ passed)
+
+-- n is the doubled area between the lower chain of S up to the point at i and the first point
+abbrev pub IsLowerFan : List Pair → ℕ → ℕ → Type 0
+IsLowerFan S i n = (passed : List Pair) × IsLowerWalk S passed i × (pos n ≡ fan (point_at S 0) (point_at S 0) passed)
+
+-- n is the doubled area between the upper chain of S down to the point at i and the first point
+abbrev pub IsUpperFan : List Pair → ℕ → ℕ → Type 0
+IsUpperFan S i n = (passed : List Pair) × IsUpperWalk S passed i × (pos n ≡ fan (point_at S 0) (point_at S (length S - 1)) passed)

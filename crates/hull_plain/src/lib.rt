@@ -5,12 +5,19 @@
 //! compared with, and what a checker replays on.
 #![tactic(auto)]
 
+mod around;
 mod call;
+mod farthest;
+mod plain_set;
 mod point_list;
+mod positions;
 mod reply;
+mod seen;
 mod set;
+mod wrapping;
 
 pub use call::Call;
+pub use plain_set::PlainSet;
 pub use point_list::PointList;
 pub use reply::Reply;
 pub use set::{AddReply, HullSet, NoMemory, Place, RemoveReply};

@@ -7,6 +7,7 @@ use super::POINT_LIMIT;
 use super::call::Call;
 use super::reply::Reply;
 use lattice::{Direction, Point};
+use std::alloc::AllocError;
 
 /// What `add` did.
 #[derive(Clone, Copy, PartialEq, Eq, Debug)]
@@ -44,6 +45,14 @@ pub enum Place {
 /// Memory was refused.
 #[derive(Clone, Copy, PartialEq, Eq, Debug)]
 pub struct NoMemory;
+
+impl From<AllocError> for NoMemory {
+    ghost from_gives = { λ _ fault. fault ≡ record {} };
+
+    fn from(_refused: AllocError) -> NoMemory {
+        NoMemory
+    }
+}
 
 /// A finite set of points with a limit on their number, which answers questions about its convex hull.
 ///

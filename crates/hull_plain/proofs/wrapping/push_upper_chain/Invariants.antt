@@ -1,0 +1,12 @@
+use Rattle.std.proofs.Common.{◌<◌, length}
+use Rattle.hull_plain.proofs.Rounding.{IsHalfRound}
+use Rattle.hull_plain.proofs.wrapping.push_upper_chain.Given as goal
+
+abbrev pub invariant-loop-i : goal.invariant-loop-i
+invariant-loop-i l = record {
+  within : l.i < length l.points;
+  walk : IsHalfRound l.points l.out.items l.i;
+}
+
+abbrev pub decreases-loop-i : goal.decreases-loop-i
+decreases-loop-i l = l.i
