@@ -15,9 +15,11 @@ module _ {B H L : Type 0} (code : Coded B) (x : Guard B H L) where
   abbrev Holding : Type 0
   Holding = (stage_of x.place.me.0 ≡ 3) × (seat_of x.place.me.0 ≡ x.seat) × (number_of x.place.me.0 ≡ x.number) × (x.place.me.1 ≡ (0, std.None) ∷ [])
 
+  -- that it is of its lock has one proof
   own_prop : IsProp Own
   own_prop = hlevel props
 
+  -- that it holds the book has one proof
   holding_prop : IsProp Holding
   holding_prop = hlevel (props, Coded-set code)
 

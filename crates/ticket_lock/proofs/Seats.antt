@@ -18,15 +18,18 @@ use Rattle.ticket_lock.proofs.Sums.{snoc_at, wrap_small, total_set, total_two, s
 use Rattle.ticket_lock.proofs.Machine.{true_false, same_there, seats_stay, is_true}
 
 module _ {H L : Type 0} where
+  -- the sum over two lists of views
   total_append : (f : Sight H L → ℕ) (vs ws : List (Sight H L)) → total f (vs ++ ws) ≡ total f vs + total f ws
   total_append f [] ws = omega arith
   total_append f (v ∷ vs) ws = let p = total_append f vs ws in omega arith
 
+  -- a keeper or an idle seat
   abbrev IsBare : Sight H L → Type 0
   IsBare (Keeper ms) = Unit {0}
   IsBare (Idle m) = Unit {0}
   IsBare _ = ⊥
 
+  -- such a view has no number
   bare_has_none : (v : Sight H L) (u : ℕ) → IsBare v → HasNumber v u → ⊥
   bare_has_none (Keeper ms) u b h = h
   bare_has_none (Idle m) u b h = h
@@ -37,42 +40,51 @@ module _ {H L : Type 0} where
   apart_from : (vs : List (Sight H L)) (j k : ℕ) (v w : Sight H L) (u : ℕ) → IsBare v → get_elem? vs j ≡ some v → get_elem? vs k ≡ some w → HasNumber w u → k ≢ j
   apart_from vs j k v w u bare at there has same = bare_has_none v u bare (subst (λ (x : Sight H L). HasNumber x u) (sym (same_there vs j v w at (subst (λ (z : ℕ). get_elem? vs z ≡ some w) same there))) has)
 
+  -- each memo counts one
   pub ones : (ms : List (Memo H L)) → weigh (λ _. 1) ms ≡ length ms
   ones [] = refl
   ones (m ∷ ms) = let p = ones ms in omega arith
 
+  -- a seat with a number has a memo
   numbered_weighs : (v : Sight H L) (u : ℕ) → HasNumber v u → 1 ≤ weigh (λ _. 1) (memos v)
   numbered_weighs (Keeper ms) u h = absurd h
   numbered_weighs (Idle m) u h = absurd h
   numbered_weighs (Waiting m t k) u h = omega arith
   numbered_weighs (Holding m t) u h = omega arith
 
+  -- the memos of the seats from k on weigh as those seats do
   weigh_from : (f : ℕ → ℕ) (h : H) (xs : List L) (k c : ℕ) → weigh f (memos_from h xs k c) ≡ span f k c
   weigh_from f h xs k zero = refl
   weigh_from f h xs k (suc c) = let p = weigh_from f h xs (suc k) c in omega arith
 
+  -- each of those memos is of one of the seats, and has seen the lines
   memo_from : (h : H) (xs : List L) (k c a : ℕ) (m : Memo H L) → get_elem? (memos_from h xs k c) a ≡ some m → (i : ℕ) × (memo i h xs ≡ m)
   memo_from h xs k zero a m e = absurd (some-ne-none m (sym e))
   memo_from h xs k (suc c) zero m e = (k, some-injective (memo k h xs) m e)
   memo_from h xs k (suc c) (suc a) m e = memo_from h xs (suc k) c a m e
 
+  -- one idle seat more, at the end
   pub idle_snoc : (h : H) (xs : List L) (k c : ℕ) → idle_from h xs k (suc c) ≡ idle_from h xs k c ++ Idle (memo (k + c) h xs) ∷ []
   idle_snoc h xs k zero = let e : k ≡ k + 0 = omega arith in ap (λ (z : ℕ). let v : Sight H L = Idle (memo z h xs) in v ∷ []) e
   idle_snoc h xs k (suc c) = let e : suc k + c ≡ k + suc c = omega arith in
       ap (λ (vs : List (Sight H L)). Idle (memo k h xs) ∷ vs) (idle_snoc h xs (suc k) c ∙ ap (λ (z : ℕ). idle_from h xs (suc k) c ++ Idle (memo z h xs) ∷ []) e)
 
+-- the value, or d
 abbrev held_or : {B : Type 0} → B → std.Option B → B
 held_or d (std.Some b) = b
 held_or d std.None = d
 
+-- two values that are the same where wrapped are the same
 unwrapped : {B : Type 0} (x y : B) → ◌≡◌ {A = std.Option B} (std.Some x) (std.Some y) → x ≡ y
 unwrapped x y e = ap (held_or x) e
 
+-- a queue with no first is empty
 empty : (q : List ℕ) → ((k : ℕ) → get_elem? q 0 ≡ some k → ⊥) → q ≡ []
 empty [] h = refl
 empty (k ∷ q) h = absurd (h k refl)
 
 module _ {H L : Type 0} where
+  -- a keeper of the seats from k to c has the seat k first
   pub keeper_step : (h : H) (xs : List L) (k c : ℕ) → k < c → keeper_of h xs k (c - k) ≡ Keeper (memo k h xs ∷ memos_from h xs (k + 1) (c - (k + 1)))
   keeper_step h xs k c less = let e : c - k ≡ suc (c - (k + 1)) = omega arith in let d : suc k ≡ k + 1 = omega arith in
       ap (keeper_of h xs k) e ∙ ap (λ (z : ℕ). let v : Sight H L = Keeper (memo k h xs ∷ memos_from h xs z (c - (k + 1))) in v) d
@@ -82,9 +94,11 @@ abbrev pub Ended : {B H L : Type 0} → Ghosts B H L → Form → ℕ → B → 
 Ended {B} {H} {L} K F n opening b = (w : World B H L) × Good K F n opening w [] × (w.home ≡ true) × (w.current ≡ b) × (w.next ≡ K.turn b)
 
 module _ {B H L : Type 0} (K : Ghosts B H L) (F : Form) (n : ℕ) (opened : B) where
+  -- the rule of the table
   abbrev Rule : State (std.Option B) (Sight H L) → Type 0
   Rule = Standing K F n opened
 
+  -- a keeper that gives its first seat away keeps the rule
   pub splits_ok : (id : ℕ) (m : Memo H L) (ms : List (Memo H L)) → Splits Rule id (Keeper (m ∷ ms)) (Keeper ms) (Idle m)
   splits_ok id m ms s r at =
       let old : Sight H L = Keeper (m ∷ ms) in
@@ -156,11 +170,13 @@ module _ {B H L : Type 0} (K : Ghosts B H L) (F : Form) (n : ℕ) (opened : B) w
   splits_from id k c h xs v is less = let P : Sight H L → Type 0 = λ z. Splits Rule id z (left_of z) (right_of z) in
       subst P (sym (is ∙ keeper_step h xs k c less)) (splits_ok id (memo k h xs) (memos_from h xs (k + 1) (c - (k + 1))))
 
+  -- one memo more is remembered
   more : (m : Memo H L) (ms : List (Memo H L)) (current : B) → Remembers K opened current m → ((a : ℕ) (x : Memo H L) → get_elem? ms a ≡ some x → Remembers K opened current x)
       → (a : ℕ) (x : Memo H L) → get_elem? (m ∷ ms) a ≡ some x → Remembers K opened current x
   more m ms current one rest zero x e = subst (Remembers K opened current) (some-injective m x e) one
   more m ms current one rest (suc a) x e = rest a x e
 
+  -- a keeper that takes in an idle seat keeps the rule
   pub joins_ok : (id other : ℕ) (m : Memo H L) (ms : List (Memo H L)) → Joins Rule id (Keeper ms) other (Idle m) (Keeper (m ∷ ms)) (Keeper [])
   joins_ok id other m ms s r at apart there =
       let both : Sight H L = Keeper (m ∷ ms) in
@@ -205,6 +221,7 @@ module _ {B H L : Type 0} (K : Ghosts B H L) (F : Form) (n : ℕ) (opened : B) w
         shelved = r.shelved;
       }
 
+  -- the same of any two views of these kinds
   pub joins_from : (id other : ℕ) (v w : Sight H L) → stage_of v ≡ 0 → stage_of w ≡ 1 → Joins Rule id v other w (joined v w) nobody
   joins_from id other (Keeper ms) (Idle m) is there = joins_ok id other m ms
   joins_from id other (Keeper ms) (Keeper ns) is there = absurd (omega arith)
@@ -214,6 +231,7 @@ module _ {B H L : Type 0} (K : Ghosts B H L) (F : Form) (n : ℕ) (opened : B) w
   joins_from id other (Waiting m t k) w is there = absurd (omega arith)
   joins_from id other (Holding m t) w is there = absurd (omega arith)
 
+  -- the first view of the table is the keeper of all seats
   one_keeper : (j : ℕ) (v : Sight H L) → get_elem? (keeper_of (K.head opened) (K.lines opened) 0 n ∷ []) j ≡ some v → Knows K opened opened true (K.turn opened) [] j v
   one_keeper zero v e = subst (Knows K opened opened true (K.turn opened) [] 0) (some-injective (keeper_of (K.head opened) (K.lines opened) 0 n) v e)
       (λ a m e. let i = memo_from (K.head opened) (K.lines opened) 0 n a m e in subst (Remembers K opened opened) i.1 record { head = refl; begins = prefix_refl (K.lines opened); own_lines = refl })
@@ -270,6 +288,7 @@ module _ {B H L : Type 0} (K : Ghosts B H L) (F : Form) (n : ℕ) (opened : B) w
         g.each_seat id (Keeper ms) at,
       )
 
+  -- the same of any keeper, and of what came out of the slot
   pub closes_from : (id seats : ℕ) (v : Sight H L) (ws : List ℕ) (xs : List (std.Option B)) (r : std.Option B) → stage_of v ≡ 0 → length (memos_of v) ≡ n → Final (Seen Rule id v) ws xs → get_elem? xs 0 ≡ some r
       → (b : B) × (r ≡ std.Some b) × K.lawful b × (K.head b ≡ K.head opened) × Ended K F n opened b × ((a : ℕ) (m : Memo H L) → get_elem? (memos_of v) a ≡ some m → Remembers K opened b m)
   closes_from id seats (Keeper ms) ws xs r is long f at = let c = closes_ok id ms ws xs long f in (c.0, some-injective r (std.Some c.0) (sym at ∙ c.1), c.2, c.3, c.4, c.5)
@@ -284,6 +303,7 @@ module _ {B H L : Type 0} (K : Ghosts B H L) (F : Form) (n : ℕ) (opened : B) w
       let same : c.0 ≡ b = unwrapped c.0 b (sym c.1 ∙ found) in
       subst (λ (z : B). K.lawful z × (K.head z ≡ K.head opened) × Ended K F n opened z × ((a : ℕ) (m : Memo H L) → get_elem? (memos_of v) a ≡ some m → Remembers K opened z m)) same (c.2, c.3, c.4, c.5)
 
+  -- the table as `open` lays it meets the rule
   pub opens_from : (turn seats : ℕ) (ws : List ℕ) (value : B) (items : List (std.Option B)) → F.Shows turn turn ws → n ≤ 64 → K.lawful opened → turn < 2 ^ 64 → turn ≡ K.turn opened → seats ≡ n → value ≡ opened → items ≡ std.Some opened ∷ []
       → Standing K F seats value (opening ws items (keeper_of (K.head value) (K.lines value) 0 seats))
   opens_from turn seats ws value items shows size lawful small is count same laid =
@@ -291,15 +311,19 @@ module _ {B H L : Type 0} (K : Ghosts B H L) (F : Form) (n : ℕ) (opened : B) w
       subst P (λ i. (sym count i, sym same i, sym laid i)) (opens_ok ws (subst (λ (z : ℕ). F.Shows z z ws) is shows) size lawful (subst (λ (z : ℕ). z < 2 ^ 64) is small))
 
 module _ {S H L : Type 0} where
+  -- the keeper after a seat was cut off it
   pub cut_keeper : (h : H) (xs : List L) (k c : ℕ) (old new : Me S (Sight H L)) → old ≡ (keeper_of h xs k (c - k), []) → k < c → new ≡ (left_of old.0, old.1) → new ≡ (keeper_of h xs (k + 1) (c - (k + 1)), [])
   cut_keeper h xs k c old new is less told = told ∙ (ap (λ (z : Me S (Sight H L)). (left_of z.0, z.1)) is ∙ ap (λ (v : Sight H L). (left_of v, [])) (keeper_step h xs k c less))
 
+  -- the seat that was cut off
   pub cut_seat : (h : H) (xs : List L) (k c : ℕ) (old new : Me S (Sight H L)) → old ≡ (keeper_of h xs k (c - k), []) → k < c → new ≡ (right_of old.0, []) → new ≡ (Idle (memo k h xs), [])
   cut_seat h xs k c old new is less told = told ∙ (ap (λ (z : Me S (Sight H L)). (right_of z.0, [])) is ∙ ap (λ (v : Sight H L). (right_of v, [])) (keeper_step h xs k c less))
 
+  -- a view that is an idle seat of number k
   pub is_idle : (m : Memo H L) (k : ℕ) (me : Me S (Sight H L)) → me ≡ (Idle m, []) → m.seat ≡ k → (stage_of me.0 ≡ 1) × (seat_of me.0 ≡ k) × (me.1 ≡ [])
   is_idle m k me e seat = let P : Me S (Sight H L) → Type 0 = λ z. (stage_of z.0 ≡ 1) × (seat_of z.0 ≡ k) × (z.1 ≡ []) in subst P (sym e) (refl, seat, refl)
 
+-- the seats cut off so far and one more
 pub seats_snoc : {A H L : Type 0} (f : A → Sight H L) (all new : List A) (a : A) (h : H) (xs : List L) (k : ℕ) → new ≡ all ++ a ∷ [] → map f all ≡ idle_from h xs 0 k → f a ≡ Idle (memo k h xs) → map f new ≡ idle_from h xs 0 (k + 1)
 seats_snoc f all new a h xs k is before last = let e : k + 1 ≡ suc k = omega arith in let z : 0 + k ≡ k = omega arith in
     ap (map f) is ∙ (map-append f all (a ∷ []) ∙ ((λ i. before i ++ last i ∷ []) ∙ (ap (λ (n : ℕ). idle_from h xs 0 k ++ Idle (memo n h xs) ∷ []) (sym z) ∙ (sym (idle_snoc h xs 0 k) ∙ ap (idle_from h xs 0) (sym e)))))

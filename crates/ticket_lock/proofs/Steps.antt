@@ -39,27 +39,34 @@ module _ {H L : Type 0} where
     pub seen : seen_of w ≡ xs
 
 module _ {B : Type 0} where
+  -- the book, or d
   abbrev book_or : B → std.Option B → B
   book_or d (std.Some b) = b
   book_or d std.None = d
 
+  -- the book that was taken last, or d
   abbrev first_book : B → List (ℕ × std.Option B) → B
   first_book d [] = d
   first_book d (x ∷ xs) = book_or d x.1
 
+  -- a seat that has taken one book has taken that one
   pub one_book : (b c : B) → ◌≡◌ {A = List (ℕ × std.Option B)} ((0, std.Some b) ∷ []) ((0, std.Some c) ∷ []) → b ≡ c
   one_book b c e = ap (first_book b) e
 
 module _ {B H L : Type 0} (K : Ghosts B H L) (F : Form) (laws : FormLaws F) (n : ℕ) (opening : B) where
+  -- the rule of the table
   abbrev Rule : State (std.Option B) (Sight H L) → Type 0
   Rule = Standing K F n opening
 
+  -- what the table is
   abbrev St : Type 0
   St = State (std.Option B) (Sight H L)
 
+  -- the table shows a good world
   abbrev Good' : St → (next serving : ℕ) → Bool → B → List ℕ → Type 0
   Good' s next serving home current q = Good K F n opening (world_of s next serving home current) q
 
+  -- a fetch-and-add on word 0 by an idle seat is an event take
   pub takes_ok : (slots id : ℕ) (v : Sight H L) (cs : List (ℕ × std.Option B)) → stage_of v ≡ 1 → Allows Rule slots id (v, cs) 0 (λ x. (x + 1) % 2 ^ 64) (took (step slots 0 1 0 none) (v, cs))
   takes_ok slots id (Keeper ms) cs is = absurd (omega arith)
   takes_ok slots id (Waiting m t looks) cs is = absurd (omega arith)
@@ -94,6 +101,7 @@ module _ {B H L : Type 0} (K : Ghosts B H L) (F : Form) (laws : FormLaws F) (n :
     shelved = shelved;
   }
 
+  -- a load of its serving word by a seat that waits is an event enter where it finds its number, and an event miss where it does not
   pub looks_ok : (slots id : ℕ) (v : Sight H L) (cs : List (ℕ × std.Option B)) → stage_of v ≡ 2 → Allows Rule slots id (v, cs) (F.serving_word (number_of v)) (λ x. x) (looked K (step slots (F.serving_word (number_of v)) 0 0 none) (v, cs))
   looks_ok slots id (Keeper ms) cs is = absurd (omega arith)
   looks_ok slots id (Idle m) cs is = absurd (omega arith)
@@ -133,9 +141,11 @@ module _ {B H L : Type 0} (K : Ghosts B H L) (F : Form) (laws : FormLaws F) (n :
         (λ e. absurd (off e), λ _. refl),
       ))
 
+  -- the same of a number that is known by an equation
   pub looks_from : (slots id t : ℕ) (v : Sight H L) (cs : List (ℕ × std.Option B)) → stage_of v ≡ 2 → number_of v ≡ t → Allows Rule slots id (v, cs) (F.serving_word t) (λ x. x) (looked K (step slots (F.serving_word t) 0 0 none) (v, cs))
   looks_from slots id t v cs is number = subst (λ (z : ℕ). Allows Rule slots id (v, cs) (F.serving_word z) (λ x. x) (looked K (step slots (F.serving_word z) 0 0 none) (v, cs))) number (looks_ok slots id v cs is)
 
+  -- a store of the number after its own by the seat that holds the book is an event hand on
   gives_at : (slots id : ℕ) (m : Memo H L) (t : ℕ) (b : B) → m.head ≡ K.head opening → HandsOn K (memo m.seat (K.head opening) m.seen) t b
       → Allows Rule slots id (Holding m t, (0, std.Some b) ∷ []) (F.serving_word (wrap (t + 1))) (λ _. wrap (t + 1)) (λ _. gave K (step slots (F.serving_word (wrap (t + 1))) (wrap (t + 1)) 0 none) (Holding m t, (0, std.Some b) ∷ []) (wrap (t + 1)))
   gives_at slots id m t b head hands = λ s r sized at small.
@@ -159,6 +169,7 @@ module _ {B H L : Type 0} (K : Ghosts B H L) (F : Form) (laws : FormLaws F) (n :
         λ c e. let same : b ≡ c = one_book b c e in ap (λ (z : B). (Idle (shown m (K.lines z)), [])) same,
       )
 
+  -- the same of any view of that kind
   pub gives_ok : (slots id : ℕ) (v : Sight H L) (cs : List (ℕ × std.Option B)) (b : B) (new : ℕ) → stage_of v ≡ 3 → cs ≡ (0, std.Some b) ∷ [] → heads_of v ≡ K.head opening ∷ []
       → new ≡ wrap (number_of v + 1) → HandsOn K (memo (seat_of v) (K.head opening) (seen_of v)) (number_of v) b
       → Allows Rule slots id (v, cs) (F.serving_word new) (λ _. new) (λ _. gave K (step slots (F.serving_word new) new 0 none) (v, cs) new)
@@ -171,12 +182,14 @@ module _ {B H L : Type 0} (K : Ghosts B H L) (F : Form) (laws : FormLaws F) (n :
       subst P (λ i. (sym has i, sym to i)) (gives_at slots id m t b one hands)
 
 module _ {H L : Type 0} where
+  -- the seat is idle after it handed on
   pub handed_stage : (xs : List L) (v : Sight H L) → stage_of v ≡ 3 → stage_of (after_hand xs v) ≡ 1
   handed_stage xs (Keeper ms) is = absurd (omega arith)
   handed_stage xs (Idle m) is = refl
   handed_stage xs (Waiting m t looks) is = absurd (omega arith)
   handed_stage xs (Holding m t) is = refl
 
+  -- it is the same seat
   pub handed_seat : (xs : List L) (v : Sight H L) → seat_of (after_hand xs v) ≡ seat_of v
   handed_seat xs (Keeper ms) = refl
   handed_seat xs (Idle m) = refl
@@ -188,6 +201,7 @@ module _ {B H L : Type 0} (K : Ghosts B H L) (F : Form) (laws : FormLaws F) wher
   abbrev Back : Me (std.Option B) (Sight H L) → Me (std.Option B) (Sight H L) → B → Type 0
   Back old new b = new ≡ (old.0, (0, std.Some b) ∷ rest old.1)
 
+  -- the store keeps the rule, after the book was laid back
   pub gives_from : (n : ℕ) (opening : B) (slots id k t word : ℕ) (old new : Me (std.Option B) (Sight H L)) (b : B) → Back old new b
       → (stage_of old.0 ≡ 3) × (seat_of old.0 ≡ k) × (number_of old.0 ≡ t) × (old.1 ≡ (0, std.None) ∷ []) → heads_of old.0 ≡ K.head opening ∷ []
       → HandsOn K (memo k (K.head opening) (seen_of old.0)) t b → word ≡ wrap (t + 1) → Allows (Rule K F laws n opening) slots id new (F.serving_word word) (λ _. word) (λ _. gave K (step slots (F.serving_word word) word 0 none) new word)
@@ -198,49 +212,59 @@ module _ {B H L : Type 0} (K : Ghosts B H L) (F : Form) (laws : FormLaws F) wher
       subst P (sym back) (gives_ok K F laws n opening slots id old.0 ((0, std.Some b) ∷ rest old.1) b word is.0 carried head (to ∙ ap (λ (z : ℕ). wrap (z + 1)) (sym is.2))
       (subst Q (λ i. (sym is.1 i, sym is.2 i)) hands))
 
+  -- what the store tells of the seat, after the book was laid back
   pub gave_from : (old new after : Me (std.Option B) (Sight H L)) (b : B) → Back old new b → old.1 ≡ (0, std.None) ∷ [] → ((c : B) → new.1 ≡ (0, std.Some c) ∷ [] → after ≡ (after_hand (K.lines c) new.0, []))
       → after ≡ (after_hand (K.lines b) old.0, [])
   gave_from old new after b back is told =
       let carried : new.1 ≡ (0, std.Some b) ∷ [] = ap (λ (z : Me (std.Option B) (Sight H L)). z.1) back ∙ ap (λ (z : List (ℕ × std.Option B)). (0, std.Some b) ∷ rest z) is in
       told b carried ∙ ap (λ (z : Me (std.Option B) (Sight H L)). (after_hand (K.lines b) z.0, [])) back
 
+  -- the seat that comes back is idle and has taken no slot
   pub handed_is : (old after : Me (std.Option B) (Sight H L)) (xs : List L) (k : ℕ) → stage_of old.0 ≡ 3 → seat_of old.0 ≡ k → after ≡ (after_hand xs old.0, []) → (stage_of after.0 ≡ 1) × (seat_of after.0 ≡ k) × (after.1 ≡ [])
   handed_is old after xs k is seat e = let P : Me (std.Option B) (Sight H L) → Type 0 = λ z. (stage_of z.0 ≡ 1) × (seat_of z.0 ≡ k) × (z.1 ≡ []) in
       subst P (sym e) (handed_stage xs old.0 is, handed_seat xs old.0 ∙ seat, refl)
 
 module _ {H L : Type 0} where
+  -- what a take changes in a view
   took_at : (t : ℕ) (v : Sight H L) → stage_of v ≡ 1 → Took v (after_take t v)
   took_at t (Keeper ms) is = absurd (omega arith)
   took_at t (Idle m) is = record { same = (refl, refl); seen = refl; looks = refl }
   took_at t (Waiting m u k) is = absurd (omega arith)
   took_at t (Holding m u) is = absurd (omega arith)
 
+  -- what a miss changes in a view
   missed_at : (v : Sight H L) → stage_of v ≡ 2 → Missed v (after_miss v)
   missed_at (Keeper ms) is = absurd (omega arith)
   missed_at (Idle m) is = absurd (omega arith)
   missed_at (Waiting m u k) is = record { same = (refl, refl); seen = refl; number = refl; looks = refl }
   missed_at (Holding m u) is = absurd (omega arith)
 
+  -- what an entry changes in a view
   entered_at : (xs : List L) (v : Sight H L) → stage_of v ≡ 2 → Sees xs v (after_enter xs v)
   entered_at xs (Keeper ms) is = absurd (omega arith)
   entered_at xs (Idle m) is = absurd (omega arith)
   entered_at xs (Waiting m u k) is = record { same = (refl, refl); seen = refl }
   entered_at xs (Holding m u) is = absurd (omega arith)
 
+  -- what a hand on changes in a view
   given_at : (xs : List L) (v : Sight H L) → stage_of v ≡ 3 → Sees xs v (after_hand xs v)
   given_at xs (Keeper ms) is = absurd (omega arith)
   given_at xs (Idle m) is = absurd (omega arith)
   given_at xs (Waiting m u k) is = absurd (omega arith)
   given_at xs (Holding m u) is = record { same = (refl, refl); seen = refl }
 
+  -- the same of a view that is known by an equation
   pub took_is : (t : ℕ) (v w : Sight H L) → stage_of v ≡ 1 → w ≡ after_take t v → Took v w
   took_is t v w is e = subst (Took v) (sym e) (took_at t v is)
 
+  -- the same of a view that is known by an equation
   pub missed_is : (v w : Sight H L) → stage_of v ≡ 2 → w ≡ after_miss v → Missed v w
   missed_is v w is e = subst (Missed v) (sym e) (missed_at v is)
 
+  -- the same of a view that is known by an equation
   pub entered_is : (xs : List L) (v w : Sight H L) → stage_of v ≡ 2 → w ≡ after_enter xs v → Sees xs v w
   entered_is xs v w is e = subst (Sees xs v) (sym e) (entered_at xs v is)
 
+  -- the same of a view that is known by an equation
   pub given_is : (xs : List L) (v w : Sight H L) → stage_of v ≡ 3 → w ≡ after_hand xs v → Sees xs v w
   given_is xs v w is e = subst (Sees xs v) (sym e) (given_at xs v is)

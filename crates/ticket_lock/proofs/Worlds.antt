@@ -1,6 +1,8 @@
 -- A world that stands under the invariant is good.
 use Rattle.std.proofs.Common.{◌≡◌, ℕ, zero, suc, ◌+◌, ◌<◌, List, [], ◌∷◌, length, sym, refl, ap, ◌∙◌, subst, arith}
+use mathlib.Core.Logic.{dite}
 use mathlib.Core.Option.{some, some-injective, some-ne-none}
+use native.Mathlib.Decide.{ℕ_discrete}
 use lib.ListN.{get_elem?}
 use Rattle.ticket_lock.specs.declared.chronicle.Chronicle.{Ghosts}
 use Rattle.ticket_lock.specs.declared.sight.Memo.{Memo}
@@ -11,33 +13,39 @@ use Rattle.ticket_lock.specs.GoodWorld.{Owns, GoodWorld, Shut}
 use Rattle.ticket_lock.specs.Standing.{RestingTablesAreGood, world_of}
 use Rattle.ticket_lock.proofs.Seats.{Ended}
 use Rattle.ticket_lock.proofs.Sums.{wrap_small, one_place, at_below}
-use Rattle.ticket_lock.proofs.Machine.{FormLaws, true_false, few}
+use Rattle.ticket_lock.proofs.Machine.{FormLaws, true_false, few, strangers}
 
+-- below the length of the queue stands a seat
 at_of : (q : List ℕ) (i : ℕ) → i < length q → (j : ℕ) × (get_elem? q i ≡ some j)
 at_of [] i h = absurd (omega arith)
 at_of (x ∷ xs) zero h = (x, refl)
 at_of (x ∷ xs) (suc i) h = at_of xs i (omega arith)
 
 module _ {B H L : Type 0} (K : Ghosts B H L) (F : Form) (laws : FormLaws F) (n : ℕ) (opening : B) (w : World B H L) (q : List ℕ) (g : Good K F n opening w q) where
+  -- a seat with a number stands in the queue at the place of that number
   place_of : (k t : ℕ) (v : Sight H L) → Knows K opening w.current w.home w.serving q k v → HasNumber v t → (i : ℕ) × (get_elem? q i ≡ some k) × (t ≡ wrap (w.serving + i))
   place_of k t (Keeper ms) know has = absurd has
   place_of k t (Idle m) know has = absurd has
   place_of k t (Waiting m u looks) know has = (know.1.0, know.1.1, sym has ∙ know.1.2)
   place_of k t (Holding m u) know has = (0, know.1, sym has ∙ (know.2 ∙ (sym (wrap_small w.serving g.small) ∙ ap wrap (omega arith))))
 
+  -- the same of the owner of a number
   owner : (k t : ℕ) → Owns w k t → (i : ℕ) × (get_elem? q i ≡ some k) × (t ≡ wrap (w.serving + i))
   owner k t o = place_of k t o.0 (g.each_seat k o.0 o.1) o.2
 
+  -- a seat has one memo
   only_one : (x m : Memo H L) (a : ℕ) → Remembers K opening w.current x → get_elem? (x ∷ []) a ≡ some m → Remembers K opening w.current m
   only_one x m zero r e = subst (Remembers K opening w.current) (some-injective x m e) r
   only_one x m (suc a) r e = absurd (some-ne-none m (sym e))
 
+  -- each memo of a seat is remembered
   remembered : (j a : ℕ) (m : Memo H L) (v : Sight H L) → Knows K opening w.current w.home w.serving q j v → get_elem? (memos v) a ≡ some m → Remembers K opening w.current m
   remembered j a m (Keeper ms) know e = know a m e
   remembered j a m (Idle x) know e = only_one x m a know e
   remembered j a m (Waiting x t looks) know e = only_one x m a know.0 e
   remembered j a m (Holding x t) know e = only_one x m a know.0 e
 
+  -- the working form says that the world is good
   pub good_world : GoodWorld K F opening w
   good_world = let most = few K F laws n opening w q g in record {
     words = g.shows;
@@ -52,6 +60,7 @@ module _ {B H L : Type 0} (K : Ghosts B H L) (F : Form) (laws : FormLaws F) (n :
           some-injective k j.0 (sym p.1 ∙ (ap (get_elem? q) (sym same) ∙ j.1)),
     );
     each_owner = λ j t o. let p = owner j t o in (p.0, at_below q p.0 j p.1, p.2);
+    apart = λ j k m x one other same. dite (ℕ_discrete j k) (λ e. e) (λ off. absurd (strangers K F laws n opening w q j k one.1 other.1 one.0 other.0 m x g off one.2 other.2 one.3 other.3 (sym same)));
     holder = λ j t h. (g.each_seat j (Holding h.0 t) h.1).2;
     one_holder = λ j k t u h i. some-injective j k (sym (g.each_seat j (Holding h.0 t) h.1).1 ∙ (g.each_seat k (Holding i.0 u) i.1).1);
     home = λ is j t h. true_false (sym is ∙ (g.each_seat j (Holding h.0 t) h.1).3);

@@ -5,13 +5,17 @@ ghost use Rattle.ticket_lock.specs.Tokens.{seat_count, IsSeatOf, IsTicketOf, tic
 mod threads;
 
 use crate::roll::{Roll, Signature, sign};
-use crate::{Look, OpenFault, Seat, Ticket, TicketLock};
+use crate::{Chronicle, Look, OpenFault, Seat, Ticket, TicketLock};
 use std::alloc::{AllocError, Global};
 use std::process::Abort;
 use std::test::Fail;
 
 // The last of the seats.
-fn last_seat(rt: &impl Abort, lock: &TicketLock<Roll>, seats: &mut Vec<Seat<Roll>>) -> Seat<Roll>
+fn last_seat<B: Chronicle>(
+    rt: &impl Abort,
+    lock: &TicketLock<B>,
+    seats: &mut Vec<Seat<B>>,
+) -> Seat<B>
     requires own { All (IsSeatOf lock.now) seats.old.items }
     ensures own { All (IsSeatOf lock.now) seats.new.items }
     ensures seat { IsSeatOf lock.now result }
@@ -215,5 +219,44 @@ fn sixty_four_seats_serve(rt: HostRuntime) -> Result<(), Fail> {
     for (k, line) in roll.lines.iter().enumerate() {
         assert!(rt; line.number == k as u64 && usize::from(line.seat) + k == 63);
     }
+    Ok(())
+}
+
+// One call by a lock round a roll on the heap.
+fn boxed_serves(
+    rt: &impl Abort,
+    lock: &TicketLock<Box<Roll>>,
+    seat: Seat<Box<Roll>>,
+) -> Seat<Box<Roll>>
+    requires own { IsSeatOf lock.now seat }
+    ensures own { IsSeatOf lock.now result }
+{
+    let number = seat.number();
+    let mut guard = match lock.look(lock.take(seat)) {
+        Look::Entered(guard) => guard,
+        Look::NotYet(_ticket) => panic!(rt; "the number is served"),
+    };
+    let roll: &mut Roll = guard.book();
+    if !roll.full() {
+        roll.lines.push_reserved(Signature {
+            seat: number,
+            number: roll.turn,
+        });
+    }
+    roll.turn = roll.turn.wrapping_add(1);
+    guard.hand_on()
+}
+
+#[test]
+fn a_boxed_roll_is_signed(rt: HostRuntime) -> Result<(), Fail> {
+    let roll = Box::new(rt.alloc(), Roll::blank(rt.alloc(), 2, 8)?)?;
+    assert!(rt; roll.turn() == 8 && !roll.full());
+    let Ok((lock, mut seats)) = TicketLock::open(rt.alloc(), roll, 1) else {
+        return Err(AllocError.into());
+    };
+    let seat = last_seat(&rt, &lock, &mut seats);
+    seats.push_reserved(boxed_serves(&rt, &lock, seat));
+    let roll = lock.close(seats);
+    assert!(rt; roll.turn == 9 && roll.lines.len() == 1);
     Ok(())
 }
