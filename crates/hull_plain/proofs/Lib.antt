@@ -21,3 +21,5 @@ pub mod EdgeSteps
 pub mod ChainWalks
 pub mod Rounding
 pub mod FewVertices
+pub mod UniqueVertices
+pub mod UniqueReplies

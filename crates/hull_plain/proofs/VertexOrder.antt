@@ -1,10 +1,11 @@
 -- No three extreme points stand in one line, so the vertex after a vertex is determined.
-use Rattle.std.proofs.Common.{◌≡◌, ℤ, pos, ◌≤ℤ◌, neg_ℤ, inl, inr, sym, ap, ◌∙◌, subst, List, arith, ◌≢◌}
+use Rattle.std.proofs.Common.{◌≡◌, ℤ, pos, ◌≤ℤ◌, neg_ℤ, inl, inr, refl, sym, ap, ◌∙◌, subst, List, arith, suc, [], ◌∷◌, ◌≢◌}
+use Rattle.std.specs.List.{All, AllPairs}
 use Rattle.std.proofs.lemmas.Int.{ints}
-use Rattle.std.proofs.lemmas.List.Elements.{All-contains}
+use Rattle.std.proofs.lemmas.List.Elements.{All-contains, All-tail}
 use Rattle.lattice.specs.Covers.{IsExtreme, OnSegment}
 use Rattle.lattice.specs.Plane.{Pair, orient, IsBefore}
-use Rattle.lattice.specs.Vertices.{IsLeftOf}
+use Rattle.lattice.specs.Vertices.{IsLeftOf, GoesRound}
 use Rattle.hull_plain.proofs.ChangedSets.{in_without}
 use Rattle.hull_plain.proofs.CoveredByEdges.{on_segment}
 use Rattle.hull_plain.proofs.Order.{before_irrefl, before_total}
@@ -64,3 +65,38 @@ next_same S u v w eu ev ew uv uw hv hw =
       | inl b ↦ absurd (next_unique S u v w eu ev ew uv uw hv hw (λ e. before_irrefl w (subst (λ (y : Pair). IsBefore y w) e b)))
       | inr (inr b) ↦ absurd (next_unique S u v w eu ev ew uv uw hv hw (λ e. before_irrefl w (subst (IsBefore w) e b)))
     ]
+
+-- from u along `rest` back to `first`, extreme points that are apart
+pub record IsArc (S : List Pair) (first u : Pair) (rest : List Pair) : Type 0 where
+  pub round : GoesRound S first u rest
+  pub extreme : All (IsExtreme S) (u ∷ rest)
+  pub distinct : AllPairs (λ a b. a ≢ b) (u ∷ rest)
+  pub apart : All (λ t. first ≢ t) (u ∷ rest)
+
+-- the arc from its second point
+arc_tail : (S : List Pair) (first u v : Pair) (rest : List Pair) → IsArc S first u (v ∷ rest) → IsArc S first v rest
+arc_tail S first u v rest a = record {
+  round = a.round.1;
+  extreme = All-tail (IsExtreme S) u (v ∷ rest) a.extreme;
+  distinct = λ i j d h l. a.distinct (suc i) (suc j) d (omega (arith, h)) (omega (arith, l));
+  apart = All-tail (λ t. first ≢ t) u (v ∷ rest) a.apart;
+}
+
+-- the first two points of an arc are apart
+arc_apart : (S : List Pair) (first u v : Pair) (rest : List Pair) → IsArc S first u (v ∷ rest) → u ≢ v
+arc_apart S first u v rest a = a.distinct 0 1 u (omega arith) (omega arith)
+
+-- an arc that is closed at u does not go on
+closed : (S : List Pair) (first u y : Pair) (ys : List Pair) → IsExtreme S first → IsArc S first u [] → IsArc S first u (y ∷ ys) → ⊥
+closed S first u y ys f a b =
+    b.apart 1 u (omega arith) (next_same S u first y (b.extreme 0 u (omega arith)) f (b.extreme 1 u (omega arith)) (λ e. b.apart 0 u (omega arith) (sym e)) (arc_apart S first u y ys b) a.round b.round.0)
+
+-- an arc that begins at a point other than the first is determined
+pub same_arc : (S : List Pair) (first u : Pair) (xs ys : List Pair) → IsExtreme S first → IsArc S first u xs → IsArc S first u ys → xs ≡ ys
+same_arc S first u [] [] f a b = refl
+same_arc S first u [] (y ∷ ys) f a b = absurd (closed S first u y ys f a b)
+same_arc S first u (x ∷ xs) [] f a b = absurd (closed S first u x xs f b a)
+same_arc S first u (x ∷ xs) (y ∷ ys) f a b =
+    let e : x ≡ y = next_same S u x y (a.extreme 0 u (omega arith)) (a.extreme 1 u (omega arith)) (b.extreme 1 u (omega arith)) (arc_apart S first u x xs a) (arc_apart S first u y ys b) a.round.0 b.round.0 in
+    let rest : xs ≡ ys = same_arc S first y xs ys f (subst (λ (z : Pair). IsArc S first z xs) e (arc_tail S first u x xs a)) (arc_tail S first u y ys b) in
+    ap (λ (z : Pair). z ∷ xs) e ∙ ap (λ (z : List Pair). y ∷ z) rest

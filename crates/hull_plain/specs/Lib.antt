@@ -6,3 +6,4 @@ pub mod Farthest
 pub mod Seen
 pub mod Walks
 pub mod Sets
+pub mod Laws

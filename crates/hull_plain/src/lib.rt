@@ -8,6 +8,7 @@
 mod around;
 mod call;
 mod farthest;
+mod laws;
 mod plain_set;
 mod point_list;
 mod positions;
@@ -17,6 +18,7 @@ mod set;
 mod wrapping;
 
 pub use call::Call;
+pub use laws::{doubled_area_is_unique, replies_are_unique, vertex_list_is_unique};
 pub use plain_set::PlainSet;
 pub use point_list::PointList;
 pub use reply::Reply;

@@ -1,0 +1,5 @@
+use Rattle.hull_plain.proofs.UniqueVertices.{doubled_area_unique}
+use Rattle.hull_plain.proofs.laws.doubled_area_is_unique.Goals as goal
+
+pub returns : goal.returns
+returns c = doubled_area_unique

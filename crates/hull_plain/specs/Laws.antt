@@ -1,0 +1,25 @@
+-- Laws of the definitions. Each is the contract of a public function with an empty body.
+use Rattle.std.specs.Prelude.{◌≡◌, ◌⊎◌, ℕ, ℤ, List}
+use Rattle.lattice.specs.Plane.{Pair}
+use Rattle.lattice.specs.Vertices.{IsVertexList, IsDoubledArea}
+use Rattle.hull_plain.specs.Replies.{Answers}
+use Rattle.hull_plain.specs.declared.call.Call.{Call}
+use Rattle.hull_plain.specs.declared.reply.Reply.{Reply}
+use Rattle.hull_plain.specs.declared.reply.Reply.TheVariants.{NoMemory}
+
+-- a list of points has one list of vertices at most
+abbrev pub VertexListIsUnique : Type 0
+VertexListIsUnique = (S vertices others : List Pair) → IsVertexList S vertices → IsVertexList S others → vertices ≡ others
+
+-- and so one doubled area at most
+abbrev pub DoubledAreaIsUnique : Type 0
+DoubledAreaIsUnique = (S : List Pair) (m n : ℤ) → IsDoubledArea S m → IsDoubledArea S n → m ≡ n
+
+-- the two replies are one, or one of them says that memory was refused
+abbrev pub AgreesWith : Reply → Reply → Type 0
+AgreesWith reply other = (reply ≡ other) ⊎ ((reply ≡ NoMemory) ⊎ (other ≡ NoMemory))
+
+-- a call has one reply, but for want of memory
+abbrev pub RepliesAreUnique : Type 0
+RepliesAreUnique =
+    (S : List Pair) (limit : ℕ) (call : Call) (reply other : Reply) → Answers S limit call reply → Answers S limit call other → AgreesWith reply other
