@@ -7,3 +7,4 @@ pub mod Seen
 pub mod Walks
 pub mod Sets
 pub mod Laws
+pub mod PointLists

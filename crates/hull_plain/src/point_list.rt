@@ -1,4 +1,8 @@
 ghost use Rattle.std.specs.Prelude.{◌≡◌, ◌≤◌, length, vec_len};
+ghost use Rattle.std.proofs.Common.{rules};
+ghost use Rattle.std.specs.Cmp.Rules.{comparing};
+ghost use Rattle.std.specs.Cmp.Lexicographic.{pointwise};
+ghost use Rattle.hull_plain.specs.PointLists.{is_same_pair};
 ghost use Rattle.hull_plain.specs.declared.TheConstants.{POINT_LIMIT};
 
 use lattice::Point;
@@ -20,6 +24,20 @@ impl Model for PointList {
     ghost view = { λ l. l.points.items };
 
     ghost invariant = { λ l. length l.points.items ≤ POINT_LIMIT };
+}
+
+impl PartialEq for PointList {
+    ghost eq = { pointwise is_same_pair };
+
+    ghost laws = { Prim.search (comparing, rules) };
+
+    fn eq(&self, other: &PointList) -> bool {
+        self.points == other.points
+    }
+}
+
+impl Eq for PointList {
+    ghost laws = { Prim.search (comparing, rules) };
 }
 
 impl PointList {

@@ -8,6 +8,8 @@ use super::call::Call;
 use super::reply::Reply;
 use lattice::{Direction, Point};
 use std::alloc::AllocError;
+use std::error::Error;
+use std::fmt;
 
 /// What `add` did.
 #[derive(Clone, Copy, PartialEq, Eq, Debug)]
@@ -45,6 +47,14 @@ pub enum Place {
 /// Memory was refused.
 #[derive(Clone, Copy, PartialEq, Eq, Debug)]
 pub struct NoMemory;
+
+impl fmt::Display for NoMemory {
+    fn fmt<W: fmt::Write>(&self, f: &mut fmt::Formatter<W>) -> fmt::Result {
+        f.write_str("out of memory")
+    }
+}
+
+impl Error for NoMemory {}
 
 impl From<AllocError> for NoMemory {
     ghost from_gives = { λ _ fault. fault ≡ record {} };
