@@ -34,13 +34,30 @@ module _ {A : Type 0} (P : A → Type 0) where
   all_front (y ∷ ys) x h zero d l = h 0 d (omega arith)
   all_front (y ∷ ys) x h (suc k) d l = all_front ys x (λ i e b. h (suc i) e (omega arith)) k d (omega arith)
 
+  -- what holds of each element and of one more holds of each of the longer list
+  pub all_snoc : (xs : List A) (x : A) → All P xs → P x → All P (xs ++ x ∷ [])
+  all_snoc [] x h p zero d l = p
+  all_snoc [] x h p (suc k) d l = absurd (omega arith)
+  all_snoc (y ∷ ys) x h p zero d l = h 0 d (omega arith)
+  all_snoc (y ∷ ys) x h p (suc k) d l = all_snoc ys x (λ i e b. h (suc i) e (omega arith)) p k d (omega arith)
+
   -- the same of a list that is known by an equation
+  pub all_push : (xs new : List A) (x : A) → new ≡ xs ++ x ∷ [] → All P xs → P x → All P new
+  all_push xs new x e h p = subst (All P) (sym e) (all_snoc xs x h p)
+
+  -- the same of the last of a list that is known by an equation
   pub last_of : (all xs : List A) (x : A) → all ≡ xs ++ x ∷ [] → All P all → P x
   last_of all xs x e h = all_last xs x (subst (All P) e h)
 
   -- the same of those before the last
   pub front_of : (all xs : List A) (x : A) → all ≡ xs ++ x ∷ [] → All P all → All P xs
   front_of all xs x e h = all_front xs x (subst (All P) e h)
+
+-- what holds of each element holds of the one at a place
+pub at_place : {A : Type 0} (P : A → Type 0) (xs : List A) (i : ℕ) (a : A) → All P xs → slice_get xs i ≡ Some a → P a
+at_place P [] i a h at = cc
+at_place P (x ∷ xs) zero a h at = subst P (ap (value_or x) at) (h 0 x (omega arith))
+at_place P (x ∷ xs) (suc i) a h at = at_place P xs i a (λ k d l. h (suc k) d (omega arith)) at
 
 module _ {H L : Type 0} where
   -- a list of no length is empty

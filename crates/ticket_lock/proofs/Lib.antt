@@ -7,4 +7,5 @@ pub mod Schedules
 pub mod Steps
 pub mod Guards
 pub mod Gather
+pub mod Own
 pub mod Tallies

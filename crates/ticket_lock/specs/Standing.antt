@@ -26,6 +26,10 @@ module _ {H L : Type 0} where
   seat_of (Waiting m t looks) = m.seat
   seat_of (Holding m t) = m.seat
 
+  -- a table's seat that is the idle seat k of the lock and has taken no slot
+  abbrev pub IsIdle : {S : Type 0} → ℕ → Me S (Sight H L) → Type 0
+  IsIdle k me = (stage_of me.0 ≡ 1) × (seat_of me.0 ≡ k) × (me.1 ≡ [])
+
   -- the number that the seat has taken, and 0 where it has none
   abbrev pub number_of : Sight H L → ℕ
   number_of (Waiting m t looks) = t

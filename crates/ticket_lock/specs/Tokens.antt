@@ -9,7 +9,7 @@ use Rattle.ticket_lock.specs.declared.ticket.Look.{Look}
 use Rattle.ticket_lock.specs.declared.ticket.Look.TheVariants.{Entered, NotYet}
 use Rattle.ticket_lock.specs.declared.guard.Guard.{Guard}
 use Rattle.ticket_lock.specs.World.{own}
-use Rattle.ticket_lock.specs.Standing.{seat_of, number_of, looks_of, seen_of, heads_of}
+use Rattle.ticket_lock.specs.Standing.{seat_of, number_of, looks_of, seen_of, heads_of, IsIdle}
 
 module _ {B H L : Type 0} where
   -- how many seats the lock has
@@ -19,6 +19,22 @@ module _ {B H L : Type 0} where
   -- the book as it was when the lock was opened round it
   abbrev pub opening_book : TicketLock B H L → B
   opening_book lock = lock.board.shared.key.book.value
+
+  -- the seat is of this lock, idle, and remembers the head at opening
+  abbrev pub IsSeatOf : Ghosts B H L → TicketLock B H L → Seat B H L → Type 0
+  IsSeatOf K lock s = (s.place.table_id ≡ lock.board.shared.table_id) × (heads_of s.place.me.0 ≡ K.head (opening_book lock) ∷ []) × IsIdle s.number s.place.me
+
+  -- which seat it is, counted from 0
+  abbrev pub seat_number : Seat B H L → ℕ
+  seat_number s = s.number
+
+  -- the lines that the seat has seen: the journal of the book as the seat last handed it on, or as it was at opening
+  abbrev pub seat_seen : Seat B H L → List L
+  seat_seen s = seen_of s.place.me.0
+
+  -- the seats are numbered from 0 in their order
+  abbrev pub AreNumbered : List (Seat B H L) → Type 0
+  AreNumbered seats = (i : ℕ) (s : Seat B H L) → slice_get seats i ≡ Some s → seat_number s ≡ i
 
   -- the lock whose book the guard holds
   abbrev pub guard_lock : Guard B H L → TicketLock B H L
@@ -49,22 +65,6 @@ module _ {B H L : Type 0} where
   KeepsHead K g = heads_of g.place.me.0 ≡ K.head (opening_book (guard_lock g)) ∷ []
 
 module _ {B H L : Type 0} {K : Ghosts B H L} where
-  -- the seat is of this lock
-  abbrev pub IsSeatOf : TicketLock B H L → Seat B H L K → Type 0
-  IsSeatOf lock s = (s.place.table_id ≡ lock.board.shared.table_id) × (heads_of s.place.me.0 ≡ K.head (opening_book lock) ∷ [])
-
-  -- which seat it is, counted from 0
-  abbrev pub seat_number : Seat B H L K → ℕ
-  seat_number s = seat_of s.place.me.0
-
-  -- the lines that the seat has seen: the journal of the book as the seat last handed it on, or as it was at opening
-  abbrev pub seat_seen : Seat B H L K → List L
-  seat_seen s = seen_of s.place.me.0
-
-  -- the seats are numbered from 0 in their order
-  abbrev pub AreNumbered : List (Seat B H L K) → Type 0
-  AreNumbered seats = (i : ℕ) (s : Seat B H L K) → slice_get seats i ≡ Some s → seat_number s ≡ i
-
   -- the ticket is of this lock
   abbrev pub IsTicketOf : TicketLock B H L → Ticket B H L K → Type 0
   IsTicketOf lock t = (t.place.table_id ≡ lock.board.shared.table_id) × (heads_of t.place.me.0 ≡ K.head (opening_book lock) ∷ [])

@@ -1,6 +1,6 @@
 //! A lock is closed, and its book comes back.
 ghost use Rattle.std.specs.Prelude.{◌≡◌, ◌+◌, ◌<◌, [], length, All, map, vec_len};
-ghost use Rattle.ticket_lock.specs.Standing.{stage_of, memos_of, idles};
+ghost use Rattle.ticket_lock.specs.Standing.{stage_of, memos_of, idles, IsIdle};
 ghost use Rattle.ticket_lock.specs.Forms.{partitioned_form};
 ghost use Rattle.ticket_lock.specs.GoodWorld.{Shut};
 ghost use Rattle.ticket_lock.specs.Tokens.{seat_count, opening_book, IsSeatOf, seat_number, seat_seen, Stands};
@@ -15,7 +15,7 @@ use crate::seat::Seat;
 fn gather<B: Chronicle>(board: &Board<B>, keeper: &mut Place<B>, mut seats: Vec<Seat<B>>)
     requires table { (keeper.old.table_id ≡ board.now.shared.table_id) × (0 < board.now.shared.table_id.words) }
     requires keeper { (stage_of keeper.old.me.0 ≡ 0) × (length (memos_of keeper.old.me.0) ≡ 0) × (keeper.old.me.1 ≡ []) }
-    requires own { All (λ s. s.place.table_id ≡ board.now.shared.table_id) seats.items }
+    requires own { All (λ s. (s.place.table_id ≡ board.now.shared.table_id) × IsIdle s.number s.place.me) seats.items }
     ensures keeper { (keeper.new.table_id ≡ keeper.old.table_id) × (stage_of keeper.new.me.0 ≡ 0) × (keeper.new.me.1 ≡ []) }
     ensures memos { map (λ s. s.place.me.0) seats.items ≡ idles (memos_of keeper.new.me.0) }
 {
@@ -33,7 +33,7 @@ impl<B: Chronicle> TicketLock<B> {
     /// has seen, and holds in each seat's name just the lines that the seat has seen in its name.
     pub fn close(self, seats: Vec<Seat<B>>) -> B
         requires all { vec_len seats ≡ seat_count self }
-        requires own { All (IsSeatOf self) seats.items }
+        requires own { All (IsSeatOf B.Chronicle self) seats.items }
         ensures lawful { B.lawful result }
         ensures head { B.head result ≡ B.head (opening_book self) }
         ensures next { Shut B.Chronicle partitioned_form (opening_book self) result }

@@ -30,7 +30,7 @@ impl<'a, B: Chronicle> Guard<'a, B> {
     pub fn hand_on(self) -> Seat<B>
         requires head { KeepsHead B.Chronicle self }
         requires hands { HandsOn B.Chronicle (memo (guard_seat self) (B.head (opening_book (guard_lock self))) (guard_seen self)) (guard_number self) (guard_book self) }
-        ensures own { IsSeatOf (guard_lock self.entry) result }
+        ensures own { IsSeatOf B.Chronicle (guard_lock self.entry) result }
         ensures seat { seat_number result ≡ guard_seat self.entry }
         ensures seen { seat_seen result ≡ B.lines (guard_book self.entry) }
     {

@@ -21,7 +21,7 @@ impl<B: Chronicle> TicketLock<B> {
 
     /// Takes the next number: one fetch-and-add. It never waits.
     pub fn take(&self, seat: Seat<B>) -> Ticket<B>
-        requires own { IsSeatOf self.now seat }
+        requires own { IsSeatOf B.Chronicle self.now seat }
         ensures own { IsTicketOf self.now result }
         ensures seat { (ticket_seat result ≡ seat_number seat) × (ticket_seen result ≡ seat_seen seat) }
         ensures looks { ticket_looks result ≡ 0 }
@@ -49,7 +49,8 @@ impl<B: Chronicle> TicketLock<B> {
             seat,
             number,
         } = ticket;
-        let found = self.board.shared.load::<plays::Look>(&mut place, (number % 8) as usize + 1);
+        let word = (number % 8) as usize + 1;
+        let found = self.board.shared.load::<plays::Look>(&mut place, word);
         if found != number {
             return Look::NotYet(Ticket {
                 place,

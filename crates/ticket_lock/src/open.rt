@@ -1,6 +1,6 @@
 //! A lock is opened round a book.
 ghost use Rattle.std.specs.Prelude.{◌≡◌, ◌<◌, ◌≤◌, ◌⊎◌, [], ◌∷◌, length, vec_len, vec_capacity, All, IfOk, IfErr, IsErrAnd, map};
-ghost use Rattle.ticket_lock.specs.Standing.{keeper_of, heads_of, seen_of};
+ghost use Rattle.ticket_lock.specs.Standing.{keeper_of, heads_of, seen_of, IsIdle};
 ghost use Rattle.ticket_lock.specs.Schedule.{idle_from};
 ghost use Rattle.ticket_lock.specs.Tokens.{seat_count, opening_book, IsSeatOf, AreNumbered, seat_seen};
 ghost use Rattle.ticket_lock.specs.declared.open.OpenFault.TheVariants.{SeatCount, NoMemory};
@@ -62,7 +62,7 @@ fn cut<B: Chronicle>(board: &Board<B>, keeper: &mut Place<B>, all: &mut Vec<Seat
     requires keeper { keeper.old.me ≡ (keeper_of (B.head board.now.shared.key.book.value) (B.lines board.now.shared.key.book.value) 0 seats, []) }
     requires room { (all.old.items ≡ []) × (seats ≤ vec_capacity all.old) }
     ensures keeper { (keeper.new.table_id ≡ keeper.old.table_id) × (keeper.new.me ≡ (keeper_of (B.head board.now.shared.key.book.value) (B.lines board.now.shared.key.book.value) seats 0, [])) }
-    ensures own { All (λ s. (s.place.table_id ≡ board.now.shared.table_id) × (heads_of s.place.me.0 ≡ B.head board.now.shared.key.book.value ∷ [])) all.new.items }
+    ensures own { All (λ s. (s.place.table_id ≡ board.now.shared.table_id) × (heads_of s.place.me.0 ≡ B.head board.now.shared.key.book.value ∷ []) × IsIdle s.number s.place.me) all.new.items }
     ensures seen { All (λ s. seen_of s.place.me.0 ≡ B.lines board.now.shared.key.book.value) all.new.items }
     ensures numbers { AreNumbered all.new.items }
     ensures room { (vec_len all.new ≡ seats) × (seats ≤ vec_capacity all.new) }
@@ -80,12 +80,16 @@ impl<B: Chronicle> TicketLock<B> {
     /// Refusals, of which the first is tried first: `SeatCount` where `seats` is 0 or above 64, and `NoMemory`. The book comes back unchanged.
     ///
     /// The book is moved at each entry and each hand-over, so a large one is better passed as a `Box` of it, which is a `Chronicle` too.
-    pub fn open(alloc: Global, book: B, seats: u8) -> Result<(TicketLock<B>, Vec<Seat<B>>), (OpenFault, B)>
+    pub fn open(
+        alloc: Global,
+        book: B,
+        seats: u8,
+    ) -> Result<(TicketLock<B>, Vec<Seat<B>>), (OpenFault, B)>
         requires lawful { B.lawful book }
         ensures range { IfOk result (λ _. (1 ≤ seats) × (seats ≤ 64)) }
         ensures lock { IfOk result (λ r. (seat_count r.0 ≡ seats) × (opening_book r.0 ≡ book)) }
         ensures seats { IfOk result (λ r. (vec_len r.1 ≡ seats) × (seats ≤ vec_capacity r.1)) }
-        ensures own { IfOk result (λ r. All (IsSeatOf r.0) r.1.items) }
+        ensures own { IfOk result (λ r. All (IsSeatOf B.Chronicle r.0) r.1.items) }
         ensures numbers { IfOk result (λ r. AreNumbered r.1.items) }
         ensures seen { IfOk result (λ r. All (λ s. seat_seen s ≡ B.lines book) r.1.items) }
         ensures seat_count { (seats ≡ 0) ⊎ (64 < seats) → IsErrAnd result (λ e. e.0 ≡ SeatCount) }

@@ -1,6 +1,6 @@
 //! A seat: the right to take a number.
-ghost use Rattle.std.specs.Prelude.{◌≡◌, []};
-ghost use Rattle.ticket_lock.specs.Standing.{stage_of, seat_of};
+ghost use Rattle.std.specs.Prelude.{◌≡◌};
+ghost use Rattle.ticket_lock.specs.Tokens.{seat_number};
 
 use crate::chronicle::Chronicle;
 use crate::rule::Place;
@@ -9,12 +9,9 @@ use crate::rule::Place;
 pub struct Seat<B: Chronicle> {
     pub(crate) place: Place<B>,
     pub(crate) number: u8,
-    ghost idle: { (stage_of place.me.0 ≡ 1) × (seat_of place.me.0 ≡ number) × (place.me.1 ≡ []) },
 }
 
 impl<B: Chronicle> Seat<B> {
-    ghost use Rattle.ticket_lock.specs.Tokens.{seat_number};
-
     /// Which seat of its lock it is, counted from 0.
     pub fn number(&self) -> u8
         ensures { result ≡ seat_number self.now }

@@ -1,6 +1,8 @@
-use Rattle.std.proofs.Common.{rules, ◌≡◌, length, sym, ◌∙◌, subst, refl, ℕ}
+use Rattle.std.proofs.Common.{rules, ◌≡◌, length, sym, ◌∙◌, subst, refl}
 use Rattle.std.specs.Option.{IsSome}
+use Rattle.std.proofs.Common.{slice_index_or, ℕ}
 use Rattle.ticket_lock.specs.Standing.{memos_of}
+use Rattle.ticket_lock.specs.Tokens.{Stands, seat_seen}
 use Rattle.ticket_lock.specs.Forms.{partitioned_form}
 use Rattle.ticket_lock.proofs.FormsKept.{partitioned_laws}
 use Rattle.ticket_lock.proofs.Seats.{arrives_ok, closes_from, closed_book}
@@ -12,7 +14,7 @@ pub load_new_seat-requires : goal.load_new_seat-requires
 load_new_seat-requires g c = (search rules, arrives_ok _ _ _ _ _ _)
 
 pub gather-requires-clause-own : goal.gather-requires-clause-own
-gather-requires-clause-own g c = λ k d l. (c.requires.own k d l).0
+gather-requires-clause-own g c = λ k d l. let own = c.requires.own k d l in (own.0, own.2)
 
 pub unwrap-book-requires : goal.unwrap-book-requires
 unwrap-book-requires g c =
@@ -29,5 +31,5 @@ returns g c =
       lawful = book.0;
       head = book.1;
       next = shut g.B.Chronicle partitioned_form partitioned_laws _ _ _ book.2;
-      seen = all_stand g.B.Chronicle _ _ _ c.args.seats.items _ c.gather.ensures.memos book.3;
+      seen = λ k d l. let own = c.requires.own k d l in subst (λ (z : ℕ). Stands g.B.Chronicle z (seat_seen (slice_index_or c.args.seats.items k d)) c.unwrap-book.result) own.2.1 (all_stand g.B.Chronicle _ _ _ c.args.seats.items _ c.gather.ensures.memos book.3 k d l);
     }

@@ -1,6 +1,6 @@
 use Rattle.ticket_lock.specs.Forms.{partitioned_form}
 use Rattle.ticket_lock.proofs.FormsKept.{partitioned_laws}
-use Rattle.std.proofs.Common.{rules, ◌≡◌, ◌∷◌, refl, sym, ap, ◌∙◌, Some}
+use Rattle.std.proofs.Common.{rules, ◌≡◌, ◌∷◌, sym, ap, ◌∙◌, Some}
 use Rattle.atomic_table.specs.Table.{rest}
 use Rattle.ticket_lock.specs.Standing.{number_of}
 use Rattle.ticket_lock.proofs.Steps.{looks_from}

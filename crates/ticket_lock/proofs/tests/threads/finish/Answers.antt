@@ -1,5 +1,3 @@
-use Rattle.std.proofs.Common.{length}
-use Rattle.ticket_lock.specs.World.{own}
 use Rattle.ticket_lock.specs.Tokens.{seat_number, seat_seen}
 use Rattle.ticket_lock.specs.contracts.roll.RollChronicle.TheImpl.{ghosts}
 use Rattle.ticket_lock.proofs.Tallies.{tallied}
