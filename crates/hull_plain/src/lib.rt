@@ -15,6 +15,8 @@ mod positions;
 mod reply;
 mod seen;
 mod set;
+#[cfg(test)]
+mod tests;
 mod wrapping;
 
 pub use call::Call;
