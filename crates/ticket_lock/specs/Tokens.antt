@@ -20,9 +20,9 @@ module _ {B H L : Type 0} where
   abbrev pub opening_book : TicketLock B H L → B
   opening_book lock = lock.board.shared.key.book.value
 
-  -- the seat is of this lock, idle, and remembers the head at opening
-  abbrev pub IsSeatOf : Ghosts B H L → TicketLock B H L → Seat B H L → Type 0
-  IsSeatOf K lock s = (s.place.table_id ≡ lock.board.shared.table_id) × (heads_of s.place.me.0 ≡ K.head (opening_book lock) ∷ []) × IsIdle s.number s.place.me
+  -- the seat is of this lock, idle, and remembers the head at opening, where `head` is that of the chronicle
+  abbrev pub IsSeatOf : (B → H) → TicketLock B H L → Seat B H L → Type 0
+  IsSeatOf head lock s = (s.place.table_id ≡ lock.board.shared.table_id) × (heads_of s.place.me.0 ≡ head (opening_book lock) ∷ []) × IsIdle s.number s.place.me
 
   -- which seat it is, counted from 0
   abbrev pub seat_number : Seat B H L → ℕ
@@ -60,9 +60,9 @@ module _ {B H L : Type 0} where
   abbrev pub with_book : Guard B H L → B → Guard B H L
   with_book g b = record g { book = b }
 
-  -- the seat that holds the book remembers the head at opening
-  abbrev pub KeepsHead : Ghosts B H L → Guard B H L → Type 0
-  KeepsHead K g = heads_of g.place.me.0 ≡ K.head (opening_book (guard_lock g)) ∷ []
+  -- the seat that holds the book remembers the head at opening, where `head` is that of the chronicle
+  abbrev pub KeepsHead : (B → H) → Guard B H L → Type 0
+  KeepsHead head g = heads_of g.place.me.0 ≡ head (opening_book (guard_lock g)) ∷ []
 
 module _ {B H L : Type 0} {K : Ghosts B H L} where
   -- the ticket is of this lock

@@ -33,7 +33,7 @@ impl<B: Chronicle> TicketLock<B> {
     /// has seen, and holds in each seat's name just the lines that the seat has seen in its name.
     pub fn close(self, seats: Vec<Seat<B>>) -> B
         requires all { vec_len seats ≡ seat_count self }
-        requires own { All (IsSeatOf B.Chronicle self) seats.items }
+        requires own { All (IsSeatOf B.head self) seats.items }
         ensures lawful { B.lawful result }
         ensures head { B.head result ≡ B.head (opening_book self) }
         ensures next { Shut B.Chronicle partitioned_form (opening_book self) result }

@@ -13,8 +13,8 @@ use std::sync::Wait;
 impl<B: Chronicle> TicketLock<B> {
     /// Takes a number, and looks until it is served. It pauses between two looks, for longer each time, and then yields the processor.
     pub fn enter<R: Wait>(&self, rt: &R, seat: Seat<B>) -> Guard<'_, B>
-        requires own { IsSeatOf B.Chronicle self.now seat }
-        ensures entered { (guard_lock result ≡ self.now) × (guard_seat result ≡ seat_number seat) × KeepsHead B.Chronicle result }
+        requires own { IsSeatOf B.head self.now seat }
+        ensures entered { (guard_lock result ≡ self.now) × (guard_seat result ≡ seat_number seat) × KeepsHead B.head result }
         ensures finds { Finds B.Chronicle (B.head (opening_book self.now)) (seat_number seat) (seat_seen seat) (guard_number result) (guard_book result) }
         ensures seen { guard_seen result ≡ B.lines (guard_book result) }
     {

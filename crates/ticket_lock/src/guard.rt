@@ -28,9 +28,9 @@ impl<'a, B: Chronicle> Guard<'a, B> {
     /// It asks that the book is lawful, that its head is that at opening, that its turn is one more than the number served, and that its lines are those
     /// at entry and one line of this seat with this number, or those at entry alone where they filled the capacity.
     pub fn hand_on(self) -> Seat<B>
-        requires head { KeepsHead B.Chronicle self }
+        requires head { KeepsHead B.head self }
         requires hands { HandsOn B.Chronicle (memo (guard_seat self) (B.head (opening_book (guard_lock self))) (guard_seen self)) (guard_number self) (guard_book self) }
-        ensures own { IsSeatOf B.Chronicle (guard_lock self.entry) result }
+        ensures own { IsSeatOf B.head (guard_lock self.entry) result }
         ensures seat { seat_number result ≡ guard_seat self.entry }
         ensures seen { seat_seen result ≡ B.lines (guard_book self.entry) }
     {

@@ -21,7 +21,7 @@ impl<B: Chronicle> TicketLock<B> {
 
     /// Takes the next number: one fetch-and-add. It never waits.
     pub fn take(&self, seat: Seat<B>) -> Ticket<B>
-        requires own { IsSeatOf B.Chronicle self.now seat }
+        requires own { IsSeatOf B.head self.now seat }
         ensures own { IsTicketOf self.now result }
         ensures seat { (ticket_seat result ≡ seat_number seat) × (ticket_seen result ≡ seat_seen seat) }
         ensures looks { ticket_looks result ≡ 0 }
@@ -38,7 +38,7 @@ impl<B: Chronicle> TicketLock<B> {
     /// Looks once whether the ticket's number is served: one load of the grant word that its number names. It never waits.
     pub fn look(&self, ticket: Ticket<B>) -> Look<'_, B>
         requires own { IsTicketOf self.now ticket }
-        ensures entered { IfEntered result (λ g. (guard_lock g ≡ self.now) × (guard_seat g ≡ ticket_seat ticket) × (guard_number g ≡ ticket_number ticket) × KeepsHead B.Chronicle g) }
+        ensures entered { IfEntered result (λ g. (guard_lock g ≡ self.now) × (guard_seat g ≡ ticket_seat ticket) × (guard_number g ≡ ticket_number ticket) × KeepsHead B.head g) }
         ensures finds { IfEntered result (λ g. Finds B.Chronicle (B.head (opening_book self.now)) (ticket_seat ticket) (ticket_seen ticket) (ticket_number ticket) (guard_book g)) }
         ensures seen { IfEntered result (λ g. guard_seen g ≡ B.lines (guard_book g)) }
         ensures not_yet { IfNotYet result (λ t. IsTicketOf self.now t × (ticket_seat t ≡ ticket_seat ticket) × (ticket_number t ≡ ticket_number ticket) × (ticket_seen t ≡ ticket_seen ticket)) }

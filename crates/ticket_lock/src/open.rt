@@ -89,7 +89,7 @@ impl<B: Chronicle> TicketLock<B> {
         ensures range { IfOk result (λ _. (1 ≤ seats) × (seats ≤ 64)) }
         ensures lock { IfOk result (λ r. (seat_count r.0 ≡ seats) × (opening_book r.0 ≡ book)) }
         ensures seats { IfOk result (λ r. (vec_len r.1 ≡ seats) × (seats ≤ vec_capacity r.1)) }
-        ensures own { IfOk result (λ r. All (IsSeatOf B.Chronicle r.0) r.1.items) }
+        ensures own { IfOk result (λ r. All (IsSeatOf B.head r.0) r.1.items) }
         ensures numbers { IfOk result (λ r. AreNumbered r.1.items) }
         ensures seen { IfOk result (λ r. All (λ s. seat_seen s ≡ B.lines book) r.1.items) }
         ensures seat_count { (seats ≡ 0) ⊎ (64 < seats) → IsErrAnd result (λ e. e.0 ≡ SeatCount) }

@@ -68,10 +68,10 @@ impl Roll {
 pub fn sign(guard: Guard<Roll>, seat: u8) -> Seat<Roll>
     requires seat { guard_seat guard ≡ seat }
     requires lawful { (guard_book guard).capacity ≤ vec_capacity (guard_book guard).lines }
-    requires head { KeepsHead ⟦<Roll as Chronicle>⟧ guard × ((guard_book guard).capacity ≡ (opening_book (guard_lock guard)).capacity) }
+    requires head { KeepsHead ⟦<Roll as Chronicle>⟧.head guard × ((guard_book guard).capacity ≡ (opening_book (guard_lock guard)).capacity) }
     requires turn { (guard_book guard).turn ≡ guard_number guard }
     requires seen { guard_seen guard ≡ (guard_book guard).lines.items }
-    ensures own { IsSeatOf ⟦<Roll as Chronicle>⟧ (guard_lock guard.entry) result × (seat_number result ≡ seat) }
+    ensures own { IsSeatOf ⟦<Roll as Chronicle>⟧.head (guard_lock guard.entry) result × (seat_number result ≡ seat) }
     ensures signed { length (guard_seen guard.entry) < (guard_book guard.entry).capacity → seat_seen result ≡ guard_seen guard.entry ++ record { seat = seat; number = guard_number guard.entry } ∷ [] }
     ensures full { (guard_book guard.entry).capacity ≤ length (guard_seen guard.entry) → seat_seen result ≡ guard_seen guard.entry }
 {

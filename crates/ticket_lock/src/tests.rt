@@ -16,9 +16,9 @@ fn last_seat<B: Chronicle>(
     lock: &TicketLock<B>,
     seats: &mut Vec<Seat<B>>,
 ) -> Seat<B>
-    requires own { All (IsSeatOf B.Chronicle lock.now) seats.old.items }
-    ensures own { All (IsSeatOf B.Chronicle lock.now) seats.new.items }
-    ensures seat { IsSeatOf B.Chronicle lock.now result }
+    requires own { All (IsSeatOf B.head lock.now) seats.old.items }
+    ensures own { All (IsSeatOf B.head lock.now) seats.new.items }
+    ensures seat { IsSeatOf B.head lock.now result }
     ensures room { (vec_capacity seats.new ≡ vec_capacity seats.old) × (vec_len seats.new + 1 ≡ vec_len seats.old) }
 {
     let Some(seat) = seats.pop() else {
@@ -30,7 +30,7 @@ fn last_seat<B: Chronicle>(
 // Looks with a ticket whose number is served, and serves one call.
 fn enters(rt: &impl Abort, lock: &TicketLock<Roll>, ticket: Ticket<Roll>, seat: u8) -> Seat<Roll>
     requires own { IsTicketOf lock.now ticket × (ticket_seat ticket ≡ seat) }
-    ensures own { IsSeatOf ⟦<Roll as Chronicle>⟧ lock.now result }
+    ensures own { IsSeatOf ⟦<Roll as Chronicle>⟧.head lock.now result }
 {
     match lock.look(ticket) {
         Look::Entered(guard) => sign(guard, seat),
@@ -59,7 +59,7 @@ fn opened(
     requires lawful { roll.capacity ≤ vec_capacity roll.lines }
     requires seats { (1 ≤ seats) × (seats ≤ 64) }
     ensures lock { IfOk result (λ r. (seat_count r.0 ≡ seats) × (vec_len r.1 ≡ seats) × (seats ≤ vec_capacity r.1)) }
-    ensures seats { IfOk result (λ r. All (λ s. IsSeatOf ⟦<Roll as Chronicle>⟧ r.0 s × (seat_seen s ≡ roll.lines.items)) r.1.items) }
+    ensures seats { IfOk result (λ r. All (λ s. IsSeatOf ⟦<Roll as Chronicle>⟧.head r.0 s × (seat_seen s ≡ roll.lines.items)) r.1.items) }
 {
     let was = (roll.turn, roll.capacity, roll.lines.len());
     match TicketLock::open(alloc, roll, seats) {
@@ -123,8 +123,8 @@ fn grant_words(lock: &TicketLock<Roll>) -> [u64; 8] {
 
 // The last seat serves one call, and is the last again.
 fn last_serves(rt: &impl Abort, lock: &TicketLock<Roll>, seats: &mut Vec<Seat<Roll>>)
-    requires own { All (IsSeatOf ⟦<Roll as Chronicle>⟧ lock.now) seats.old.items × (vec_len seats.old ≤ vec_capacity seats.old) }
-    ensures own { All (IsSeatOf ⟦<Roll as Chronicle>⟧ lock.now) seats.new.items × (vec_capacity seats.new ≡ vec_capacity seats.old) × (vec_len seats.new ≡ vec_len seats.old) }
+    requires own { All (IsSeatOf ⟦<Roll as Chronicle>⟧.head lock.now) seats.old.items × (vec_len seats.old ≤ vec_capacity seats.old) }
+    ensures own { All (IsSeatOf ⟦<Roll as Chronicle>⟧.head lock.now) seats.new.items × (vec_capacity seats.new ≡ vec_capacity seats.old) × (vec_len seats.new ≡ vec_len seats.old) }
 {
     let seat = last_seat(rt, lock, seats);
     let number = seat.number();
@@ -196,9 +196,9 @@ fn all_serve(
     mut seats: Vec<Seat<Roll>>,
     done: &mut Vec<Seat<Roll>>,
 )
-    requires own { All (IsSeatOf ⟦<Roll as Chronicle>⟧ lock.now) seats.items × (done.old.items ≡ []) }
+    requires own { All (IsSeatOf ⟦<Roll as Chronicle>⟧.head lock.now) seats.items × (done.old.items ≡ []) }
     requires room { vec_len seats ≤ vec_capacity done.old }
-    ensures own { All (IsSeatOf ⟦<Roll as Chronicle>⟧ lock.now) done.new.items × (vec_len done.new ≡ vec_len seats) }
+    ensures own { All (IsSeatOf ⟦<Roll as Chronicle>⟧.head lock.now) done.new.items × (vec_len done.new ≡ vec_len seats) }
 {
     while let Some(seat) = seats.pop() {
         let number = seat.number();
@@ -233,8 +233,8 @@ fn boxed_serves(
     lock: &TicketLock<Box<Roll>>,
     seat: Seat<Box<Roll>>,
 ) -> Seat<Box<Roll>>
-    requires own { IsSeatOf ⟦<Box<Roll> as Chronicle>⟧ lock.now seat }
-    ensures own { IsSeatOf ⟦<Box<Roll> as Chronicle>⟧ lock.now result }
+    requires own { IsSeatOf ⟦<Box<Roll> as Chronicle>⟧.head lock.now seat }
+    ensures own { IsSeatOf ⟦<Box<Roll> as Chronicle>⟧.head lock.now result }
 {
     let number = seat.number();
     let mut guard = match lock.look(lock.take(seat)) {

@@ -23,9 +23,9 @@ struct Worker {
 // Waits for the roll, signs it, and hands it on.
 fn work<R: Wait>(rt: &R, lock: &TicketLock<Roll>, worker: &mut Worker)
     requires some { IsSome worker.old.seat × (worker.old.signed < 2 ^ 32) }
-    requires own { IfSome worker.old.seat (λ s. IsSeatOf ⟦<Roll as Chronicle>⟧ lock.now s × (seat_number s ≡ worker.old.number) × (length (own ⟦<Roll as Chronicle>⟧ worker.old.number (seat_seen s)) ≡ worker.old.signed)) }
+    requires own { IfSome worker.old.seat (λ s. IsSeatOf ⟦<Roll as Chronicle>⟧.head lock.now s × (seat_number s ≡ worker.old.number) × (length (own ⟦<Roll as Chronicle>⟧ worker.old.number (seat_seen s)) ≡ worker.old.signed)) }
     ensures some { IsSome worker.new.seat × (worker.new.number ≡ worker.old.number) × (worker.new.signed ≤ worker.old.signed + 1) }
-    ensures own { IfSome worker.new.seat (λ s. IsSeatOf ⟦<Roll as Chronicle>⟧ lock.now s × (seat_number s ≡ worker.new.number) × (length (own ⟦<Roll as Chronicle>⟧ worker.new.number (seat_seen s)) ≡ worker.new.signed)) }
+    ensures own { IfSome worker.new.seat (λ s. IsSeatOf ⟦<Roll as Chronicle>⟧.head lock.now s × (seat_number s ≡ worker.new.number) × (length (own ⟦<Roll as Chronicle>⟧ worker.new.number (seat_seen s)) ≡ worker.new.signed)) }
 {
     let seat = worker.seat.take().unwrap();
     let mut guard = lock.enter(rt, seat);
@@ -40,8 +40,8 @@ fn work<R: Wait>(rt: &R, lock: &TicketLock<Roll>, worker: &mut Worker)
 
 // Each worker works once, in threads.
 fn all_work<R: Threads + Wait + Sync>(rt: &R, lock: &TicketLock<Roll>, workers: &mut [Worker])
-    requires ready { All (λ w. IsSome w.seat × (w.signed < 2 ^ 31) × IfSome w.seat (λ s. IsSeatOf ⟦<Roll as Chronicle>⟧ lock.now s × (seat_number s ≡ w.number) × (length (own ⟦<Roll as Chronicle>⟧ w.number (seat_seen s)) ≡ w.signed))) workers.old }
-    ensures ready { All (λ w. IsSome w.seat × (w.signed < 2 ^ 32) × IfSome w.seat (λ s. IsSeatOf ⟦<Roll as Chronicle>⟧ lock.now s × (seat_number s ≡ w.number) × (length (own ⟦<Roll as Chronicle>⟧ w.number (seat_seen s)) ≡ w.signed))) workers.new }
+    requires ready { All (λ w. IsSome w.seat × (w.signed < 2 ^ 31) × IfSome w.seat (λ s. IsSeatOf ⟦<Roll as Chronicle>⟧.head lock.now s × (seat_number s ≡ w.number) × (length (own ⟦<Roll as Chronicle>⟧ w.number (seat_seen s)) ≡ w.signed))) workers.old }
+    ensures ready { All (λ w. IsSome w.seat × (w.signed < 2 ^ 32) × IfSome w.seat (λ s. IsSeatOf ⟦<Roll as Chronicle>⟧.head lock.now s × (seat_number s ≡ w.number) × (length (own ⟦<Roll as Chronicle>⟧ w.number (seat_seen s)) ≡ w.signed))) workers.new }
 {
     thread::for_each_mut(rt, workers, 4, &|_, worker| work(rt, lock, worker));
 }
@@ -60,9 +60,9 @@ fn part(
     seats: &mut Vec<Seat<Roll>>,
     tallies: &mut Vec<Tally>,
 )
-    requires ready { All (λ w. IsSome w.seat × IfSome w.seat (λ s. IsSeatOf ⟦<Roll as Chronicle>⟧ lock.now s × (seat_number s ≡ w.number) × (length (own ⟦<Roll as Chronicle>⟧ w.number (seat_seen s)) ≡ w.signed))) workers.items }
+    requires ready { All (λ w. IsSome w.seat × IfSome w.seat (λ s. IsSeatOf ⟦<Roll as Chronicle>⟧.head lock.now s × (seat_number s ≡ w.number) × (length (own ⟦<Roll as Chronicle>⟧ w.number (seat_seen s)) ≡ w.signed))) workers.items }
     requires room { (vec_len workers ≤ vec_capacity seats.old) × (vec_len workers ≤ vec_capacity tallies.old) × (seats.old.items ≡ []) × (tallies.old.items ≡ []) }
-    ensures own { All (IsSeatOf ⟦<Roll as Chronicle>⟧ lock.now) seats.new.items × (vec_len seats.new ≡ vec_len workers) }
+    ensures own { All (IsSeatOf ⟦<Roll as Chronicle>⟧.head lock.now) seats.new.items × (vec_len seats.new ≡ vec_len workers) }
     ensures numbers { map (λ s. seat_number s) seats.new.items ≡ map (λ t. t.number) tallies.new.items }
     ensures counts { map (λ s. length (own ⟦<Roll as Chronicle>⟧ (seat_number s) (seat_seen s))) seats.new.items ≡ map (λ t. t.signed) tallies.new.items }
 {
@@ -80,7 +80,7 @@ fn part(
 
 // Closes the lock: the roll has in each worker's name just the lines that it has signed.
 fn finish(lock: TicketLock<Roll>, seats: Vec<Seat<Roll>>, tallies: &[Tally]) -> Roll
-    requires own { All (IsSeatOf ⟦<Roll as Chronicle>⟧ lock) seats.items × (vec_len seats ≡ seat_count lock) }
+    requires own { All (IsSeatOf ⟦<Roll as Chronicle>⟧.head lock) seats.items × (vec_len seats ≡ seat_count lock) }
     requires numbers { map (λ s. seat_number s) seats.items ≡ map (λ t. t.number) tallies.now }
     requires counts { map (λ s. length (own ⟦<Roll as Chronicle>⟧ (seat_number s) (seat_seen s))) seats.items ≡ map (λ t. t.signed) tallies.now }
     ensures counts { All (λ t. length (own ⟦<Roll as Chronicle>⟧ t.number result.lines.items) ≡ t.signed) tallies.now }
@@ -90,9 +90,9 @@ fn finish(lock: TicketLock<Roll>, seats: Vec<Seat<Roll>>, tallies: &[Tally]) -> 
 
 // A worker for each seat, before any line is signed.
 fn hire(lock: &TicketLock<Roll>, mut seats: Vec<Seat<Roll>>, workers: &mut Vec<Worker>)
-    requires own { All (λ s. IsSeatOf ⟦<Roll as Chronicle>⟧ lock.now s × (seat_seen s ≡ [])) seats.items }
+    requires own { All (λ s. IsSeatOf ⟦<Roll as Chronicle>⟧.head lock.now s × (seat_seen s ≡ [])) seats.items }
     requires room { (vec_len seats ≤ vec_capacity workers.old) × (workers.old.items ≡ []) }
-    ensures ready { All (λ w. IsSome w.seat × (w.signed < 2 ^ 31) × IfSome w.seat (λ s. IsSeatOf ⟦<Roll as Chronicle>⟧ lock.now s × (seat_number s ≡ w.number) × (length (own ⟦<Roll as Chronicle>⟧ w.number (seat_seen s)) ≡ w.signed))) workers.new.items }
+    ensures ready { All (λ w. IsSome w.seat × (w.signed < 2 ^ 31) × IfSome w.seat (λ s. IsSeatOf ⟦<Roll as Chronicle>⟧.head lock.now s × (seat_number s ≡ w.number) × (length (own ⟦<Roll as Chronicle>⟧ w.number (seat_seen s)) ≡ w.signed))) workers.new.items }
     ensures many { vec_len workers.new ≡ vec_len seats }
 {
     while let Some(seat) = seats.pop() {
@@ -159,8 +159,8 @@ fn take_and_look<'a, R: Threads>(
     lock: &'a TicketLock<Roll>,
     seat: Seat<Roll>,
 ) -> Look<'a, Roll>
-    requires own { IsSeatOf ⟦<Roll as Chronicle>⟧ lock.now seat }
-    ensures entered { IfEntered result (λ g. (guard_lock g ≡ lock.now) × (guard_seat g ≡ seat_number seat) × KeepsHead ⟦<Roll as Chronicle>⟧ g) }
+    requires own { IsSeatOf ⟦<Roll as Chronicle>⟧.head lock.now seat }
+    ensures entered { IfEntered result (λ g. (guard_lock g ≡ lock.now) × (guard_seat g ≡ seat_number seat) × KeepsHead ⟦<Roll as Chronicle>⟧.head g) }
     ensures roll { IfEntered result (λ g. ((guard_book g).capacity ≤ vec_capacity (guard_book g).lines) × ((guard_book g).capacity ≡ (opening_book lock.now).capacity) × ((guard_book g).turn ≡ guard_number g) × (guard_seen g ≡ (guard_book g).lines.items)) }
     ensures not_yet { IfNotYet result (λ t. IsTicketOf lock.now t × (ticket_seat t ≡ seat_number seat)) }
 {

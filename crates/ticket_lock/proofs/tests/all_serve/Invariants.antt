@@ -5,8 +5,8 @@ use Rattle.ticket_lock.proofs.tests.all_serve.Given as goal
 
 abbrev pub invariant-loop-seat : goal.invariant-loop-seat
 invariant-loop-seat g l = record {
-  left : All (λ s. IsSeatOf ghosts l.fn.lock s) l.seats.items;
-  own : All (λ s. IsSeatOf ghosts l.fn.lock s) l.done.items;
+  left : All (λ s. IsSeatOf ghosts.head l.fn.lock s) l.seats.items;
+  own : All (λ s. IsSeatOf ghosts.head l.fn.lock s) l.done.items;
   many : vec_len l.done + vec_len l.seats ≡ vec_len l.fn.seats;
   room : vec_len l.fn.seats ≤ vec_capacity l.done;
 }
