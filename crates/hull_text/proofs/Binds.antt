@@ -1,0 +1,54 @@
+-- What a reading that went well tells of its steps.
+use Rattle.std.proofs.Common.{◌≡◌, ◌<◌, ◌≤◌, ℕ, Bool, true, false, cond, Result, Ok, Err, refl, arith, ◌⊎◌, inl, inr}
+use Rattle.std.specs.Prelude.{nat_le, nat_lt}
+use Rattle.std.specs.Str.{bytes_eq}
+use Rattle.std.proofs.Common.{List}
+use Rattle.std.proofs.lemmas.Bool.Decides.{nat_tests}
+use Rattle.std.proofs.lemmas.Slice.Eq.{bytes_eq-Decides}
+use Rattle.hull_text.specs.declared.fault.FaultKind.{FaultKind}
+use Rattle.hull_text.specs.Field.{◌>>=◌}
+
+-- A choice took one of its sides.
+pub chosen : {A : Type 0} (b : Bool) (x y z : A) → cond b x y ≡ z → ((b ≡ true) × (x ≡ z)) ⊎ ((b ≡ false) × (y ≡ z))
+chosen true x y z e = inl (refl, e)
+chosen false x y z e = inr (refl, e)
+
+-- Both steps went well.
+pub bind_ok : {A B : Type 0} (r : Result A FaultKind) (f : A → Result B FaultKind) (y : B) → (r >>= f) ≡ Ok y → (x : A) × (r ≡ Ok x) × (f x ≡ Ok y)
+bind_ok (Ok x) f y e = (x, refl, e)
+bind_ok (Err d) f y e = absurd cc
+
+-- a reading that went well
+abbrev pub done : {A : Type 0} → A → Result A FaultKind
+done x = Ok x
+
+-- Equal readings read the same.
+pub ok_is : {A : Type 0} (x y : A) → done x ≡ done y → x ≡ y
+ok_is x y e = cc
+
+-- A test was met.
+pub guard_ok : {A : Type 0} (b : Bool) (x : Result A FaultKind) (f : FaultKind) (y : A) → cond b x (Err f) ≡ Ok y → (b ≡ true) × (x ≡ Ok y)
+guard_ok true x f y e = (refl, e)
+guard_ok false x f y e = absurd cc
+
+-- A test was not met.
+pub guard_err : {A : Type 0} (b : Bool) (x : Result A FaultKind) (f : FaultKind) (y : A) → cond b (Err f) x ≡ Ok y → (b ≡ false) × (x ≡ Ok y)
+guard_err true x f y e = absurd cc
+guard_err false x f y e = (refl, e)
+
+-- What the tests of numbers mean.
+pub low_le : (n m : ℕ) → nat_le n m ≡ true → n ≤ m
+low_le n m t = grind (arith, nat_tests)
+
+pub low_lt : (n m : ℕ) → nat_lt n m ≡ true → n < m
+low_lt n m t = grind (arith, nat_tests)
+
+pub le_test : (n m : ℕ) → n ≤ m → nat_le n m ≡ true
+le_test n m le = grind (arith, nat_tests)
+
+pub lt_test : (n m : ℕ) → n < m → nat_lt n m ≡ true
+lt_test n m lt = grind (arith, nat_tests)
+
+-- Equal bytes are one word.
+pub word_is : (w text : List ℕ) → bytes_eq w text ≡ true → w ≡ text
+word_is w text e = (bytes_eq-Decides w text).0 e

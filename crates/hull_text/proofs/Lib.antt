@@ -1,0 +1,14 @@
+pub mod Cut
+pub mod Lines
+pub mod Known
+pub mod Workers
+pub mod Parts
+pub mod ScriptLines
+pub mod Drafts
+pub mod Numbers
+pub mod Binds
+pub mod Fields
+pub mod Calls
+pub mod Joined
+pub mod ScriptSpelled
+pub mod ScriptTexts

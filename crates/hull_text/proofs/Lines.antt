@@ -1,0 +1,51 @@
+-- Lines of a text.
+use Rattle.std.proofs.Common.{◌≡◌, ◌<◌, ◌+◌, ℕ, zero, suc, List, [], ◌∷◌, ◌++◌, length, get_or, take, drop, false, refl, sym, ap, subst, ◌∙◌, arith, append_assoc, Err}
+use Rattle.std.specs.Prelude.{◌==◌}
+use Rattle.std.proofs.lemmas.Bool.{ne_eqb}
+use Rattle.std.proofs.lemmas.List.Elements.{All-cons, All-nil}
+use Rattle.hull_text.specs.declared.fault.TextFault.{TextFault}
+use Rattle.hull_text.specs.Reading.{HasNoNewline, Outlook, ReadsOn, FailsIn, newlines}
+
+-- Where the first newline stands behind some bytes, these are the first line.
+pub newline_at : (text : List ℕ) (i : ℕ) → i < length text → get_or text i 0 ≡ 10 → ((k : ℕ) → k < i → get_or text k 0 ≡ 10 → ⊥) → HasNoNewline (take i text) × (text ≡ take i text ++ 10 ∷ drop 1 (drop i text))
+newline_at [] i lt here before = absurd (omega arith)
+newline_at (b ∷ bs) zero lt here before = (All-nil (λ b. (b == 10) ≡ false), ap (λ (x : ℕ). x ∷ bs) here)
+newline_at (b ∷ bs) (suc i) lt here before =
+    let ne : (b == 10) ≡ false = ne_eqb b 10 (before 0 (omega arith)) in
+    let more = newline_at bs i (omega arith) here (λ k h. before (suc k) (omega arith)) in
+    (All-cons (λ b. (b == 10) ≡ false) b (take i bs) ne more.0, ap (λ (x : List ℕ). b ∷ x) more.1)
+
+-- Where no newline is left, the rest is a part of a line.
+pub newline_none : (text : List ℕ) → ((k : ℕ) → k < length text → get_or text k 0 ≡ 10 → ⊥) → HasNoNewline text
+newline_none [] none = All-nil (λ b. (b == 10) ≡ false)
+newline_none (b ∷ bs) none =
+    All-cons (λ b. (b == 10) ≡ false) b bs (ne_eqb b 10 (none 0 (omega arith))) (newline_none bs (λ k h. none (suc k) (omega arith)))
+
+-- A text that begins with a line: the parts of the line, its newline, and what stands behind it.
+around : (kept line after left rest : List ℕ) → left ≡ line ++ 10 ∷ after → (kept ++ line ++ 10 ∷ []) ++ (after ++ rest) ≡ kept ++ left ++ rest
+around kept line after left rest e =
+    append_assoc (kept ++ line) (10 ∷ []) (after ++ rest) ∙ sym (append_assoc (kept ++ line) (10 ∷ after) rest)
+    ∙ ap (λ (t : List ℕ). t ++ rest) (append_assoc kept line (10 ∷ after) ∙ ap (λ (t : List ℕ). kept ++ t) (sym e))
+
+-- One more line was taken.
+pub reads_on_line : {V : Type 0} (start mid new : Outlook V) (text kept line after left empty : List ℕ) → ReadsOn start mid text (kept ++ left) → left ≡ line ++ 10 ∷ after → empty ≡ []
+    → ReadsOn mid new (kept ++ line ++ 10 ∷ []) [] → ReadsOn start new text (empty ++ after)
+reads_on_line start mid new text kept line after left empty on e none more = λ rest answer h.
+    on rest answer (subst (λ (t : List ℕ). mid t answer) (around kept line after left rest e)
+    (more (after ++ rest) answer (subst (λ (t : List ℕ). new (t ++ after ++ rest) answer) none h)))
+
+-- A line that was taken has a fault.
+pub fails_on_line : {V : Type 0} (start mid : Outlook V) (text kept line after left : List ℕ) (f : TextFault) → ReadsOn start mid text (kept ++ left) → left ≡ line ++ 10 ∷ after
+    → FailsIn mid (kept ++ line ++ 10 ∷ []) f → FailsIn start text f
+fails_on_line start mid text kept line after left f on e more = λ rest.
+    on rest (Err f) (subst (λ (t : List ℕ). mid t (Err f)) (around kept line after left rest e) (more (after ++ rest)))
+
+-- A part of a line has no newline.
+pub newlines_none : (text : List ℕ) → HasNoNewline text → newlines text ≡ 0
+newlines_none [] whole = refl
+newlines_none (b ∷ bs) whole = rw (whole 0 0 (omega arith)) (newlines_none bs (λ k d lt. whole (suc k) d (omega arith)))
+
+-- A line ends with one newline.
+pub newlines_line : (line after : List ℕ) → HasNoNewline line → newlines (line ++ 10 ∷ after) ≡ newlines after + 1
+newlines_line [] after whole = refl
+newlines_line (b ∷ bs) after whole = rw (whole 0 0 (omega arith)) (newlines_line bs after (λ k d lt. whole (suc k) d (omega arith)))

@@ -1,0 +1,29 @@
+-- The numbers of the faults.
+use Rattle.std.specs.Prelude.{◌≡◌, ℕ, ◌≤◌, ◌⊎◌}
+use Rattle.hull_text.specs.declared.fault.FaultKind.{FaultKind}
+use Rattle.hull_text.specs.declared.fault.FaultKind.TheVariants.{Form, Number, Coordinate, Worker, Word, Truncated, Header, Read, NoMemory}
+use Rattle.hull_text.specs.declared.fault.TextFault.{TextFault}
+
+-- the number by which a fault is reported
+abbrev pub fault_number : FaultKind → ℕ
+fault_number Form = 1
+fault_number Number = 2
+fault_number Coordinate = 3
+fault_number Worker = 4
+fault_number Word = 5
+fault_number Truncated = 6
+fault_number Header = 7
+fault_number Read = 8
+fault_number NoMemory = 10
+
+-- the fault of a kind in a line
+abbrev pub fault_at : ℕ → FaultKind → TextFault
+fault_at n kind = record { number = fault_number kind; line = n }
+
+-- a fault of a line
+abbrev pub IsLineFault : FaultKind → Type 0
+IsLineFault kind = fault_number kind ≤ 5
+
+-- a fault that is not the text's own: of the reader, or of memory
+abbrev pub IsOutside : TextFault → Type 0
+IsOutside f = (f.number ≡ 8) ⊎ (f.number ≡ 10)

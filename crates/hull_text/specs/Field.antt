@@ -1,0 +1,94 @@
+-- What the fields of a line say from the left, or their first fault. What is read comes with the fields behind it.
+use Rattle.std.specs.Prelude.{◌≡◌, ◌⊎◌, ℕ, ℤ, pos, negsuc, List, [], ◌∷◌, Option, Some, None, Result, Ok, Err, ◌==◌, ◌&&◌, nat_le, nat_lt, Bool, false, if◌then◌else◌}
+use Rattle.std.specs.List.{slice_split}
+use Rattle.std.specs.Borrow.{Bor}
+use Rattle.lattice.specs.Plane.{Pair}
+use Rattle.hull_text.specs.declared.fault.FaultKind.{FaultKind}
+use Rattle.hull_text.specs.declared.fault.FaultKind.TheVariants.{Form, Number, Coordinate, Worker, NoMemory}
+use Rattle.hull_text.specs.declared.version.Version.{Version}
+use Rattle.hull_text.specs.Version.{coordinate_limit}
+use Rattle.hull_text.specs.Fault.{IsLineFault}
+use Rattle.hull_text.specs.Number.{number_of, signed_of}
+
+infixl 10 ◌>>=◌
+-- reading goes on with what was read, unless there was a fault
+abbrev pub ◌>>=◌ : {A B : Type 0} → Result A FaultKind → (A → Result B FaultKind) → Result B FaultKind
+(Ok x) >>= f = f x
+(Err e) >>= f = Err e
+
+-- a field is a run of bytes without a space
+abbrev pub Field : Type 0
+Field = List ℕ
+
+-- the fields of a line stand apart by one space
+abbrev pub fields_of : List ℕ → List Field
+fields_of line = slice_split (λ b. b == 32) line
+
+-- The fields in what a program holds of a line that it reads; it holds nothing at the end.
+abbrev pub fields_left : Option (Bor (List ℕ)) → List Field
+fields_left None = []
+fields_left (Some text) = fields_of text.now
+
+-- What a function returned, seen by view, is what reading gives.
+abbrev pub Gives : {X Y : Type 0} → (X → Y) → Result X FaultKind → Result Y FaultKind → Type 0
+Gives view (Ok x) read = read ≡ Ok (view x)
+Gives view (Err e) read = (read ≡ Err e) × IsLineFault e
+
+-- The same, unless memory was refused.
+abbrev pub GivesOrRefuses : {X Y : Type 0} → (X → Y) → Result X FaultKind → Result Y FaultKind → Type 0
+GivesOrRefuses view (Ok x) read = read ≡ Ok (view x)
+GivesOrRefuses view (Err e) read = (e ≡ NoMemory) ⊎ ((read ≡ Err e) × IsLineFault e)
+
+-- a signed number as a coordinate
+abbrev pub coordinate_in : ℕ → Option ℤ → Result ℤ FaultKind
+coordinate_in limit None = Err Number
+coordinate_in limit (Some (pos n)) = if nat_le n limit then Ok (pos n) else Err Coordinate
+coordinate_in limit (Some (negsuc n)) = if nat_lt n limit then Ok (negsuc n) else Err Coordinate
+
+-- a coordinate
+unfoldable pub coordinate_at : Version → List Field → Result (ℤ × List Field) FaultKind
+coordinate_at v [] = Err Form
+coordinate_at v (f ∷ fs) = coordinate_in (coordinate_limit v) (signed_of f) >>= λ z. Ok (z, fs)
+
+-- two coordinates: a point
+unfoldable pub point_at : Version → List Field → Result (Pair × List Field) FaultKind
+point_at v fs = do
+  x ← coordinate_at v fs
+  y ← coordinate_at v x.1
+  Ok (record { x = x.0; y = y.0 }, y.1)
+
+-- a number that is zero
+abbrev pub is_zero : ℤ → Bool
+is_zero (pos n) = n == 0
+is_zero (negsuc n) = false
+
+-- two coordinates that are not both zero: a direction
+unfoldable pub direction_at : Version → List Field → Result (Pair × List Field) FaultKind
+direction_at v fs = do
+  p ← point_at v fs
+  if is_zero p.0.x && is_zero p.0.y then Err Coordinate else Ok p
+
+-- an unsigned number as one up to a limit
+abbrev pub number_in : ℕ → Option ℕ → Result ℕ FaultKind
+number_in limit None = Err Number
+number_in limit (Some n) = if nat_le n limit then Ok n else Err Number
+
+-- an unsigned number up to a limit
+unfoldable pub number_at : ℕ → List Field → Result (ℕ × List Field) FaultKind
+number_at limit [] = Err Form
+number_at limit (f ∷ fs) = number_in limit (number_of f) >>= λ n. Ok (n, fs)
+
+-- an unsigned number as a worker or a seat
+abbrev pub seat_in : Option ℕ → Result ℕ FaultKind
+seat_in None = Err Number
+seat_in (Some n) = if nat_le n 63 then Ok n else Err Worker
+
+-- a worker or a seat
+unfoldable pub seat_at : List Field → Result (ℕ × List Field) FaultKind
+seat_at [] = Err Form
+seat_at (f ∷ fs) = seat_in (number_of f) >>= λ n. Ok (n, fs)
+
+-- no field is left
+abbrev pub ended : {X : Type 0} → X → List Field → Result X FaultKind
+ended x [] = Ok x
+ended x (f ∷ fs) = Err Form

@@ -1,0 +1,16 @@
+pub mod Fault
+pub mod Version
+pub mod Number
+pub mod Told
+pub mod Words
+pub mod Field
+pub mod Call
+pub mod Form
+pub mod Item
+pub mod ScriptLine
+pub mod ScriptText
+pub mod ScriptValue
+pub mod Reading
+pub mod ScriptReading
+pub mod Spelling
+pub mod ScriptGrammar

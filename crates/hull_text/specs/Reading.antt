@@ -1,0 +1,36 @@
+-- How the reading of a text goes on, line by line, whatever pieces it comes in.
+use Rattle.std.specs.Prelude.{◌≡◌, ◌<◌, ◌+◌, ◌^◌, ◌==◌, ℕ, List, [], ◌∷◌, ◌++◌, length, Option, Some, None, Result, Err, false, if◌then◌else◌}
+use Rattle.std.specs.List.{All}
+use Rattle.hull_text.specs.declared.fault.TextFault.{TextFault}
+
+-- a line, or a part of one
+abbrev pub HasNoNewline : List ℕ → Type 0
+HasNoNewline line = All (λ b. (b == 10) ≡ false) line
+
+-- how many lines end in a text
+abbrev pub newlines : List ℕ → ℕ
+newlines [] = 0
+newlines (b ∷ bs) = if b == 10 then newlines bs + 1 else newlines bs
+
+-- which answers a reader may give where this text is still to come
+abbrev pub Outlook : Type 0 → Type 1
+Outlook V = List ℕ → Result V TextFault → Type 0
+
+-- What a reader may answer with left still to come, it might answer with text before: text was read as far as left.
+abbrev pub ReadsOn : {V : Type 0} → Outlook V → Outlook V → List ℕ → List ℕ → Type 0
+ReadsOn {V = V} old new text left = (rest : List ℕ) (answer : Result V TextFault) → new (left ++ rest) answer → old (text ++ rest) answer
+
+-- The text has this fault, whatever comes behind it.
+abbrev pub FailsIn : {V : Type 0} → Outlook V → List ℕ → TextFault → Type 0
+FailsIn old text f = (rest : List ℕ) → old (text ++ rest) (Err f)
+
+-- The answer is right for the bytes that the reader had, where they are known and fewer than 2^63.
+abbrev pub AnswersAll : {V : Type 0} → Outlook V → Option (List ℕ) → Result V TextFault → Type 0
+AnswersAll start None answer = Unit {0}
+AnswersAll start (Some bytes) answer = length bytes < 2 ^ 63 → start bytes answer
+
+-- The line that was being read: one more than the newlines that were taken, where the bytes are known.
+abbrev pub IsLineBeingRead : Option (List ℕ) → Option (List ℕ) → ℕ → Type 0
+IsLineBeingRead None left line = Unit {0}
+IsLineBeingRead (Some bytes) None line = ⊥
+IsLineBeingRead (Some bytes) (Some left) line = (taken : List ℕ) × (bytes ≡ taken ++ left) × (line ≡ 1 + newlines taken)

@@ -1,0 +1,72 @@
+-- The grammar of scripts, and their first fault.
+use Rattle.std.specs.Prelude.{◌≡◌, ◌⊎◌, ◌<◌, ◌≤◌, ◌+◌, ◌^◌, ℕ, List, [], ◌∷◌, ◌++◌, length, codes, decimal, Option, Some, None, Result, Ok, Err}
+use Rattle.std.specs.List.{join_with_byte}
+use Rattle.hull_book.specs.Scripts.{ScriptValue}
+use Rattle.hull_text.specs.declared.fault.FaultKind.{FaultKind}
+use Rattle.hull_text.specs.declared.fault.TextFault.{TextFault}
+use Rattle.hull_text.specs.Fault.{IsOutside, fault_number}
+use Rattle.hull_text.specs.Version.{written}
+use Rattle.hull_text.specs.Item.{Item}
+use Rattle.hull_text.specs.Spelling.{IsCall, call_fields}
+use Rattle.hull_text.specs.ScriptLine.{script_line_of}
+use Rattle.hull_text.specs.ScriptText.{kept, pieces}
+use Rattle.hull_text.specs.ScriptValue.{script_of}
+
+-- The line says this, or nothing.
+abbrev pub IsScriptLine : List ℕ → Option Item → Type 0
+IsScriptLine line None = (line ≡ []) ⊎ ((rest : List ℕ) × (line ≡ 35 ∷ rest))
+IsScriptLine line (Some None) = line ≡ codes "join"
+IsScriptLine line (Some (Some order)) = (line ≡ join_with_byte 32 (decimal order.0 ∷ call_fields order.1)) × (order.0 ≤ 63) × IsCall written order.1
+
+-- The lines say these items.
+abbrev pub AreScriptLines : List (List ℕ) → List Item → Type 0
+AreScriptLines [] items = items ≡ []
+AreScriptLines (line ∷ lines) items = (said : Option Item) × (rest : List Item) × IsScriptLine line said × AreScriptLines lines rest × (items ≡ kept said rest)
+
+-- an empty last piece is no line
+abbrev pub last_line : List ℕ → List (List ℕ)
+last_line [] = []
+last_line (b ∷ bs) = (b ∷ bs) ∷ []
+
+-- the pieces without an empty last one
+abbrev pub without_last_empty : List (List ℕ) → List (List ℕ)
+without_last_empty [] = []
+without_last_empty (piece ∷ []) = last_line piece
+without_last_empty (piece ∷ next ∷ pieces) = piece ∷ without_last_empty (next ∷ pieces)
+
+-- the lines of a script; the last may end without a newline
+abbrev pub script_lines : List ℕ → List (List ℕ)
+script_lines bytes = without_last_empty (pieces bytes)
+
+-- The bytes are a text of the script.
+pub record IsScriptText (bytes : List ℕ) (script : ScriptValue) : Type 0 where
+  pub items : List Item
+  pub lines : AreScriptLines (script_lines bytes) items
+  pub count : length (script_lines bytes) ≤ 33554432
+  pub value : script ≡ script_of items
+
+-- A line behind so many others has this fault: its own first one from the left, or that it is one line too many.
+abbrev pub HasLineFault : ℕ → List ℕ → ℕ → Type 0
+HasLineFault before line number =
+    ((before ≡ 33554432) × (number ≡ 1)) ⊎ ((before < 33554432) × ((kind : FaultKind) × (script_line_of line ≡ Err kind) × (number ≡ fault_number kind)))
+
+-- The first fault of the bytes: all lines before it are right.
+pub record IsScriptFault (bytes : List ℕ) (f : TextFault) : Type 0 where
+  pub before : List (List ℕ)
+  pub line : List ℕ
+  pub after : List (List ℕ)
+  pub whole : script_lines bytes ≡ before ++ line ∷ after
+  pub items : List Item
+  pub right : AreScriptLines before items
+  pub place : f.line ≡ length before + 1
+  pub fault : HasLineFault (length before) line f.number
+
+-- What a reader of scripts may answer for the bytes: a script whose text they are, their first fault, or a fault from outside.
+abbrev pub ReadsScript : List ℕ → Result ScriptValue TextFault → Type 0
+ReadsScript bytes (Ok script) = IsScriptText bytes script
+ReadsScript bytes (Err f) = IsOutside f ⊎ IsScriptFault bytes f
+
+-- The same for bytes that may be unknown. They have to be fewer than 2^63.
+abbrev pub ReadsKnownScript : Option (List ℕ) → Result ScriptValue TextFault → Type 0
+ReadsKnownScript None answer = Unit {0}
+ReadsKnownScript (Some bytes) answer = length bytes < 2 ^ 63 → ReadsScript bytes answer

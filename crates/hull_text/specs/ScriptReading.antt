@@ -1,0 +1,28 @@
+-- How the reading of a script goes on from what was read so far.
+use Rattle.std.specs.Prelude.{◌≡◌, ◌⊎◌, ◌≤◌, ◌<◌, ℕ, List, Result, Ok, Err, length}
+use Rattle.hull_book.specs.Scripts.{ScriptValue}
+use Rattle.hull_text.specs.declared.fault.TextFault.{TextFault}
+use Rattle.hull_text.specs.Item.{Item}
+use Rattle.hull_text.specs.Fault.{IsOutside}
+use Rattle.hull_text.specs.ScriptText.{items_of, pieces, with_front}
+use Rattle.hull_text.specs.ScriptValue.{script_of, workers_in}
+
+-- what the text says where these items were read, and from line n on this is still to come
+unfoldable pub reading : List Item → ℕ → List ℕ → Result (List Item) TextFault
+reading items n rest = with_front items (items_of n (pieces rest))
+
+-- The answer of a reader for a script with these items or this fault; it may answer a fault from outside as well.
+abbrev pub AnswersItems : Result ScriptValue TextFault → Result (List Item) TextFault → Type 0
+AnswersItems (Ok v) read = (items : List Item) × (read ≡ Ok items) × (v ≡ script_of items)
+AnswersItems (Err f) read = IsOutside f ⊎ (read ≡ Err f)
+
+-- the answer of a reader that has these items and goes on at line n
+abbrev pub AnswersScript : List Item → ℕ → List ℕ → Result ScriptValue TextFault → Type 0
+AnswersScript items n text answer = AnswersItems answer (reading items n text)
+
+-- what a reader of scripts keeps
+pub record IsDraft (items : List Item) (line : ℕ) : Type 0 where
+  pub low : 1 ≤ line
+  pub high : line ≤ 33554433
+  pub few : length items < line
+  pub workers : workers_in items ≤ 64

@@ -1,0 +1,52 @@
+-- What a whole script says, or its first fault.
+use Rattle.std.specs.Prelude.{ℕ, suc, ◌==◌, List, [], ◌∷◌, ◌++◌, Option, Some, None, Result, Ok, Err, nat_le, if◌then◌else◌}
+use Rattle.std.specs.List.{slice_split}
+use Rattle.hull_text.specs.declared.fault.FaultKind.{FaultKind}
+use Rattle.hull_text.specs.declared.fault.FaultKind.TheVariants.{Form}
+use Rattle.hull_text.specs.declared.fault.TextFault.{TextFault}
+use Rattle.hull_text.specs.Item.{Item}
+use Rattle.hull_text.specs.Fault.{fault_at}
+use Rattle.hull_text.specs.ScriptLine.{script_line_of}
+
+infixl 10 ◌>>>◌
+-- reading goes on with what was read, unless there was a fault
+abbrev pub ◌>>>◌ : {A B : Type 0} → Result A TextFault → (A → Result B TextFault) → Result B TextFault
+(Ok x) >>> f = f x
+(Err e) >>> f = Err e
+
+-- the fault of line n stands there
+abbrev pub at_line : {A : Type 0} → ℕ → Result A FaultKind → Result A TextFault
+at_line n (Ok x) = Ok x
+at_line n (Err kind) = Err (fault_at n kind)
+
+-- line n of a text, which has at most 33554432
+unfoldable pub numbered : {A : Type 0} → ℕ → Result A FaultKind → Result A TextFault
+numbered n read = if nat_le n 33554432 then at_line n read else Err (fault_at n Form)
+
+-- what a line says, in front of what the lines behind it say
+abbrev pub kept : Option Item → List Item → List Item
+kept None items = items
+kept (Some item) items = item ∷ items
+
+-- the last piece of a script is a line where it is not empty
+abbrev pub last_items : ℕ → List ℕ → Result (List Item) TextFault
+last_items n [] = Ok []
+last_items n (b ∷ bs) = numbered n (script_line_of (b ∷ bs)) >>> λ i. Ok (kept i [])
+
+-- the pieces of a script that stand between its newlines, the first of them line n
+unfoldable pub items_of : ℕ → List (List ℕ) → Result (List Item) TextFault
+items_of n [] = Ok []
+items_of n (line ∷ []) = last_items n line
+items_of n (line ∷ next ∷ lines) = numbered n (script_line_of line) >>> λ i. items_of (suc n) (next ∷ lines) >>> λ is. Ok (kept i is)
+
+-- the pieces of a text between its newlines
+abbrev pub pieces : List ℕ → List (List ℕ)
+pieces bytes = slice_split (λ b. b == 10) bytes
+
+-- the items of a whole script, or its first fault
+abbrev pub script_items : List ℕ → Result (List Item) TextFault
+script_items bytes = items_of 1 (pieces bytes)
+
+-- what stands in front of what is still to be read
+abbrev pub with_front : List Item → Result (List Item) TextFault → Result (List Item) TextFault
+with_front front read = read >>> λ is. Ok (front ++ is)

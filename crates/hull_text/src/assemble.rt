@@ -1,0 +1,95 @@
+ghost use Rattle.std.specs.Prelude.{◌≡◌, ◌≤◌, ◌<◌, ◌+◌, ◌++◌, [], ◌∷◌, ℕ, List, IfOk, length, map, MatchOption, Option, Some};
+ghost use Rattle.hull_book.specs.Scripts.{IsScript, lists_of};
+ghost use Rattle.hull_text.specs.ScriptValue.{calls_by, jobs_below, parts, parts_left, script_of, workers_from, workers_in};
+
+use super::item::Item;
+use hull_book::{Phase, Script};
+use hull_plain::Call;
+use std::alloc::{AllocError, Global};
+
+/// The calls of one worker, in order.
+#[tactic(auto, unfolding(crate::specs::ScriptValue::calls_by))]
+fn calls_of_worker(alloc: Global, items: &[Item], worker: u8) -> Result<Vec<Call>, AllocError>
+    ensures { IfOk result (λ v. v.items ≡ calls_by worker items.now) }
+{
+    let mut calls = Vec::new(alloc);
+    let mut rest = items;
+    while let [item, after @ ..] = rest {
+        if let Some((w, call)) = item {
+            if *w == worker {
+                calls.push(*call)?;
+            }
+        }
+        rest = after;
+    }
+    Ok(calls)
+}
+
+/// The calls of each worker of a phase.
+#[tactic(auto, unfolding(crate::specs::ScriptValue::jobs_below))]
+fn phase_of(alloc: Global, items: &[Item], workers: u8) -> Result<Phase, AllocError>
+    ensures { IfOk result (λ phase. phase ≡ jobs_below workers items.now) }
+{
+    let mut jobs = Vec::new(alloc);
+    for worker in 0..workers {
+        jobs.push(calls_of_worker(alloc, items, worker)?)?;
+    }
+    Ok(Phase::new(jobs))
+}
+
+/// One more than the greatest worker, and 1 where there is no call.
+#[tactic(auto, using(crate::proofs::Workers::workers_least), unfolding(crate::specs::ScriptValue::workers_from))]
+fn count_workers(items: &[Item]) -> u8
+    requires { workers_in items.now ≤ 64 }
+    ensures { result ≡ workers_in items.now }
+{
+    let mut workers = 1;
+    let mut rest = items;
+    while let [item, after @ ..] = rest {
+        if let Some((worker, _)) = item {
+            workers = workers.max(*worker + 1);
+        }
+        rest = after;
+    }
+    workers
+}
+
+/// The items of the first phase, and those of the phases behind it.
+#[tactic(auto, using(crate::proofs::Parts::part_at, crate::proofs::Parts::part_last))]
+fn cut_phase(items: &[Item]) -> (&[Item], Option<&[Item]>)
+    ensures { parts items.now ≡ result.0.now ∷ parts_left result.1 }
+{
+    for (i, item) in items.iter().enumerate() {
+        if item.is_none() {
+            let (front, back) = items.split_at(i);
+            let (_, after) = back.split_at(1);
+            return (front, Some(after));
+        }
+    }
+    (items, None)
+}
+
+fn phases_of(alloc: Global, items: &[Item], workers: u8) -> Result<Vec<Phase>, AllocError>
+    ensures { IfOk result (λ phases. phases.items ≡ map (jobs_below workers) (parts items.now)) }
+{
+    let mut phases = Vec::new(alloc);
+    let mut rest = Some(items);
+    while let Some(left) = rest {
+        let (part, after) = cut_phase(left);
+        phases.push(phase_of(alloc, part, workers)?)?;
+        rest = after;
+    }
+    Ok(phases)
+}
+
+/// The script that the items make.
+#[tactic(auto, using(crate::proofs::Parts::items_make_script))]
+pub(crate) fn script_from(alloc: Global, items: &[Item]) -> Result<Script, AllocError>
+    requires workers { workers_in items.now ≤ 64 }
+    requires few { length items.now ≤ 33554432 }
+    ensures { IfOk result (λ script. script ≡ script_of items.now) }
+{
+    let workers = count_workers(items);
+    let phases = phases_of(alloc, items, workers)?;
+    Ok(Script::new(workers, phases))
+}

@@ -1,0 +1,25 @@
+//! Scripts, journals and reports as texts.
+#![tactic(auto)]
+
+mod assemble;
+mod call;
+mod fault;
+mod field;
+mod item;
+mod laws;
+mod number;
+mod reading;
+mod script;
+mod script_draft;
+mod script_line;
+mod version;
+mod words;
+
+pub use fault::{FaultKind, TextFault};
+pub use laws::{calls_are_read_again, numbers_have_one_spelling, scripts_have_one_reading};
+pub use script::read_script;
+pub use text_io::{Counted, Pieces, Sink, Source, Spout, WriteFault};
+pub use version::{Version, WRITTEN};
+
+#[cfg(test)]
+mod tests;

@@ -1,0 +1,156 @@
+use crate::{Counted, Pieces, TextFault, read_script};
+use hull_plain::Call;
+use std::alloc::Global;
+use std::test::Fail;
+
+// What a script reads as: its workers, phases and calls, or its fault.
+#[derive(Clone, Copy, Debug, PartialEq)]
+enum Outcome {
+    Script(u8, usize, usize),
+    Fault(u8, u32),
+}
+
+fn read(alloc: Global, text: &[u8], size: usize, failing: u64) -> Outcome {
+    let mut source = Counted::new(Pieces::new(text, size).failing_at(failing));
+    match read_script(alloc, &mut source) {
+        Ok(script) => {
+            let mut calls = 0usize;
+            for phase in script.phases() {
+                for worker in 0..script.workers() {
+                    if usize::from(worker) < phase.workers() {
+                        calls = calls.saturating_add(phase.calls(worker).len());
+                    }
+                }
+            }
+            Outcome::Script(script.workers(), script.phases().len(), calls)
+        }
+        Err(TextFault { number, line }) => Outcome::Fault(number, line),
+    }
+}
+
+#[test]
+fn each_row_of_the_script_table_reads_so_in_pieces_of_any_size(
+    rt: HostRuntime,
+) -> Result<(), Fail> {
+    let rows = [
+        ("0 add 5\n", Outcome::Fault(1, 1)),
+        ("0  count\n", Outcome::Fault(1, 1)),
+        ("0 count 1\n", Outcome::Fault(1, 1)),
+        ("0 add 01 1\n", Outcome::Fault(2, 1)),
+        ("0 add -0 1\n", Outcome::Fault(2, 1)),
+        ("join 3\n", Outcome::Fault(2, 1)),
+        ("0 add 1048577 0\n", Outcome::Fault(3, 1)),
+        ("0 extreme 0 0\n", Outcome::Fault(3, 1)),
+        ("64 count\n", Outcome::Fault(4, 1)),
+        ("0 hull\n", Outcome::Fault(5, 1)),
+        ("64 hull\n", Outcome::Fault(4, 1)),
+        ("0 add x\n", Outcome::Fault(2, 1)),
+        ("0 count\r\n", Outcome::Fault(1, 1)),
+        (" 0 count\n", Outcome::Fault(1, 1)),
+        ("0 count \n", Outcome::Fault(1, 1)),
+        ("0\n", Outcome::Fault(1, 1)),
+        ("+0 count\n", Outcome::Fault(2, 1)),
+        ("0 add +1 1\n", Outcome::Fault(2, 1)),
+        ("0 add 1 -1048577\n", Outcome::Fault(3, 1)),
+        ("0 Count\n", Outcome::Fault(5, 1)),
+        ("\n\n# a\n0 counts", Outcome::Fault(5, 4)),
+        ("0 count\n0 count\n64 x\n1 y\n", Outcome::Fault(4, 3)),
+        (
+            "99999999999999999999999999999999999999999999 count",
+            Outcome::Fault(4, 1),
+        ),
+        (
+            "0 add 99999999999999999999999999999999999999999999 1",
+            Outcome::Fault(3, 1),
+        ),
+        ("0 add 18446744073709551616 01", Outcome::Fault(3, 1)),
+        ("", Outcome::Script(1, 1, 0)),
+        ("join\njoin", Outcome::Script(1, 3, 0)),
+        (
+            "1 count\n0 add 0 0\njoin\n0 count\n",
+            Outcome::Script(2, 2, 3),
+        ),
+        (
+            "\n# a\n63 add -1048576 1048576\n0 remove 1 1\n0 extreme 0 -1\n0 place 0 0",
+            Outcome::Script(64, 1, 4),
+        ),
+        (
+            "0 tangents 0 0\n0 vertices\n0 area\n0 count\n",
+            Outcome::Script(1, 1, 4),
+        ),
+    ];
+    for (text, want) in &rows {
+        for size in [1, 2, 3, 4096] {
+            assert_eq!(rt;
+                &read(rt.alloc(), text.as_bytes(), size, 0),
+                want,
+                "{text} by {size}"
+            );
+        }
+    }
+    Ok(())
+}
+
+#[test]
+fn a_comment_may_hold_any_bytes(rt: HostRuntime) -> Result<(), Fail> {
+    assert_eq!(rt;
+        read(rt.alloc(), b"#\xff\n0 count", 1, 0),
+        Outcome::Script(1, 1, 1)
+    );
+    Ok(())
+}
+
+#[test]
+fn the_calls_of_a_worker_keep_their_order(rt: HostRuntime) -> Result<(), Fail> {
+    let text = b"1 count\n0 area\n1 vertices\njoin\n1 area\n";
+    let mut source = Counted::new(Pieces::new(text, 3));
+    let script = match read_script(rt.alloc(), &mut source) {
+        Ok(script) => script,
+        Err(fault) => return Err(fault.into()),
+    };
+    assert_eq!(rt; script.workers(), 2);
+    let [first, second] = script.phases() else {
+        return Err("two phases".into());
+    };
+    assert!(rt; first.workers() == 2 && second.workers() == 2);
+    assert_eq!(rt; first.calls(0), [Call::Area].as_slice());
+    assert_eq!(rt; first.calls(1), [Call::Count, Call::Vertices].as_slice());
+    assert!(rt; second.calls(0).is_empty());
+    assert_eq!(rt; second.calls(1), [Call::Area].as_slice());
+    Ok(())
+}
+
+#[test]
+fn each_failing_read_is_fault_8_in_the_line_being_read(rt: HostRuntime) -> Result<(), Fail> {
+    let text = b"0 count\n\n0 area\n0 count";
+    let mut line = 1u32;
+    for (i, b) in text.iter().enumerate() {
+        assert_eq!(rt;
+            read(rt.alloc(), text, 1, i as u64 + 1),
+            Outcome::Fault(8, line)
+        );
+        if *b == b'\n' {
+            line = line.saturating_add(1);
+        }
+    }
+    assert_eq!(rt; read(rt.alloc(), text, 1, 24), Outcome::Fault(8, 4));
+    assert_eq!(rt; read(rt.alloc(), b"0 hull\n0", 1, 8), Outcome::Fault(5, 1));
+    Ok(())
+}
+
+#[test]
+fn a_script_has_at_most_33554432_lines(rt: HostRuntime) -> Result<(), Fail> {
+    let mut text = vec![in rt.alloc(); 10u8; 33554432]?;
+    assert_eq!(rt; read(rt.alloc(), &text, 65536, 0), Outcome::Script(1, 1, 0));
+    text.push(35)?;
+    assert_eq!(rt;
+        read(rt.alloc(), &text, 65536, 0),
+        Outcome::Fault(1, 33554433)
+    );
+    text.push(10)?;
+    assert_eq!(rt;
+        read(rt.alloc(), &text, 65536, 0),
+        Outcome::Fault(1, 33554433)
+    );
+    Ok(())
+}
