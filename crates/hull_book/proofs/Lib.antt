@@ -1,3 +1,4 @@
 pub mod OneMore
 pub mod Counts
 pub mod Vertices
+pub mod Disagreement
