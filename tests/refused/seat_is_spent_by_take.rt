@@ -7,7 +7,7 @@ ghost use Rattle.ticket_lock.specs.Tokens.{IsSeatOf, IsTicketOf, seat_number, ti
 use ticket_lock::{Chronicle, Seat, Ticket, TicketLock};
 
 pub fn spent<B: Chronicle>(lock: &TicketLock<B>, seat: Seat<B>) -> Ticket<B>
-    requires { IsSeatOf lock.now seat }
+    requires { IsSeatOf B.head lock.now seat }
     ensures own { IsTicketOf lock.now result }
     ensures seat { ticket_seat result ≡ seat_number seat }
 {
