@@ -49,6 +49,7 @@ same_distance S q a b n ma mb z e =
   where
     back : orient q b a ≡ pos 0
     back = orient_swap q b a ∙ ap neg_ℤ z
+
     unequal : (m k : ℤ) → m <ℤ k → m ≡ k → ⊥
     unequal m k h f = omega (arith, ints)
 
@@ -79,6 +80,7 @@ right_tangent_unique S q a b n h g =
   where
     none : (m k : ℤ) → m ≡ neg_ℤ k → pos 0 ≤ℤ m → pos 0 ≤ℤ k → m ≡ pos 0
     none m k e h f = omega (arith, ints)
+
     equal : (m k : ℤ) → m ≤ℤ k → k ≤ℤ m → m ≡ k
     equal m k h f = omega (arith, ints)
 

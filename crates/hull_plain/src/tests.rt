@@ -89,7 +89,10 @@ fn range_corners(rt: HostRuntime) -> Result<(), Fail> {
     ];
     let set = set_of(&rt, rt.alloc(), &corners)?;
     assert_eq!(rt; set.area2(), 8796093022208);
-    assert_eq!(rt; set.extreme(Direction::new(1, 1)?), Some(at(1048576, 1048576)?));
+    assert_eq!(rt;
+        set.extreme(Direction::new(1, 1)?),
+        Some(at(1048576, 1048576)?)
+    );
     assert_eq!(rt; set.place(at(0, 0)?), Place::Inside);
     Ok(())
 }
