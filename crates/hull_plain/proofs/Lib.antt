@@ -23,3 +23,4 @@ pub mod Rounding
 pub mod FewVertices
 pub mod UniqueVertices
 pub mod UniqueReplies
+pub mod EdgePlaces

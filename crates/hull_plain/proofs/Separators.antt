@@ -3,9 +3,11 @@ use Rattle.std.proofs.Common.{◌≡◌, ℤ, pos, ◌+ℤ◌, ◌-ℤ◌, ◌*�
 use Rattle.std.specs.List.{All}
 use Rattle.std.proofs.lemmas.Int.{ints}
 use Rattle.std.proofs.lemmas.List.Elements.{All-weaker}
-use Rattle.lattice.specs.Plane.{Pair, orient, product, IsBefore}
+use Rattle.lattice.specs.Places.{IsOuter}
+use Rattle.lattice.specs.Plane.{Pair, orient, product, IsBefore, IsZero}
 use Rattle.lattice.specs.Polynomials.{difference-eq, as_difference, difference-add, difference-neg, difference-mul}
 use Rattle.lattice.specs.Signs.{le_or_lt, cancel_zero}
+use Rattle.lattice.specs.Vertices.{IsLeftOf}
 use Rattle.lattice.proofs.Vectors.{minus, opp, cross-opp_left, cross-opp_right, cross-opp, turn_trans, turn_trans_strict, turn_trans_strict_right}
 use Rattle.hull_plain.proofs.NotCovered.{Separated}
 use Rattle.hull_plain.proofs.Order.{couple}
@@ -112,7 +114,7 @@ lower_side q l r t hl hr ht rl tl =
     tl (at_least _ _ (sym (cross-opp_right (minus l q) (minus r q))) rl))
 
 -- the direction to the right of the line from q to r
-product-right : (q r t : Pair) → product (across q r) q -ℤ product (across q r) t ≡ orient q r t
+pub product-right : (q r t : Pair) → product (across q r) q -ℤ product (across q r) t ≡ orient q r t
 unfolding orient product
 product-right q r t = rw (as_difference q.x, as_difference q.y, as_difference r.x, as_difference r.y, as_difference t.x, as_difference t.y) (simp (difference-add, difference-neg, difference-mul) (difference-eq _ _ _ _ (omega arith)))
 
@@ -120,17 +122,17 @@ product-right q r t = rw (as_difference q.x, as_difference q.y, as_difference r.
 no_more : (a b c : ℤ) → a -ℤ b ≡ c → pos 0 ≤ℤ c → b ≤ℤ a
 no_more a b c e h = omega (arith, ints)
 
+-- the direction to the right of a line is no zero
+pub across_nonzero : (q r : Pair) → IsBefore q r ⊎ IsBefore r q → ¬ IsZero (across q r)
+across_nonzero q r (inl (inl b)) z = omega (arith, ints, z.1)
+across_nonzero q r (inl (inr b)) z = omega (arith, ints, z.0, b.1)
+across_nonzero q r (inr (inl b)) z = omega (arith, ints, z.1)
+across_nonzero q r (inr (inr b)) z = omega (arith, ints, z.0, b.1)
+
 -- no point lies right of a line through q: q is outer
-pub on_by_side : (S : List Pair) (q r : Pair) → IsBefore q r ⊎ IsBefore r q → All (λ t. pos 0 ≤ℤ orient q r t) S
-    → (d : Pair) × ¬ ((d.x ≡ pos 0) × (d.y ≡ pos 0)) × All (λ t. product d t ≤ℤ product d q) S
+pub on_by_side : (S : List Pair) (q r : Pair) → IsBefore q r ⊎ IsBefore r q → IsLeftOf S q r → IsOuter S q
 on_by_side S q r apart h =
-    ((across q r), not_zero apart, All-weaker (λ t. pos 0 ≤ℤ orient q r t) (λ t. product (across q r) t ≤ℤ product (across q r) q) (λ t k. no_more _ _ _ (product-right q r t) k) S h)
-  where
-    not_zero : IsBefore q r ⊎ IsBefore r q → ¬ ((r.y -ℤ q.y ≡ pos 0) × (q.x -ℤ r.x ≡ pos 0))
-    not_zero (inl (inl b)) z = omega (arith, ints, z.1)
-    not_zero (inl (inr b)) z = omega (arith, ints, z.0, b.1)
-    not_zero (inr (inl b)) z = omega (arith, ints, z.1)
-    not_zero (inr (inr b)) z = omega (arith, ints, z.0, b.1)
+    (across q r, across_nonzero q r apart, All-weaker (λ t. pos 0 ≤ℤ orient q r t) (λ t. product (across q r) t ≤ℤ product (across q r) q) (λ t k. no_more _ _ _ (product-right q r t) k) S h)
 
 -- the direction outwards at a corner
 product-corner : (u v w t : Pair) → product (opp (across u w)) (minus t v) ≡ orient u v t +ℤ orient v w t
