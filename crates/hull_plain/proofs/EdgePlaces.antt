@@ -40,9 +40,10 @@ between_covered S q a b c d e f ha hb hc hd low high =
 
 -- a point left of both lies inside
 pub between_inside : (S : List Pair) (q a b c d : Pair) → IsLowerEdge S a b → IsUpperEdge S c d → IsBefore a q → IsBefore q b → IsBefore q c → IsBefore d q → pos 0 <ℤ orient a b q → pos 0 <ℤ orient c d q → IsInside S q
-between_inside S q a b c d e f ha hb hc hd low high =
-    (between_covered S q a b c d e f ha hb hc hd (not_below _ low) (not_below _ high),
-     λ o. o.1 (not_on S q a b c d e.from e.to f.from f.to ha hb hc hd (above _ _ (orient-cycle a b q) low) (above _ _ (orient-cycle c d q) high) o.0 o.2))
+between_inside S q a b c d e f ha hb hc hd low high = (
+  between_covered S q a b c d e f ha hb hc hd (not_below _ low) (not_below _ high),
+  λ o. o.1 (not_on S q a b c d e.from e.to f.from f.to ha hb hc hd (above _ _ (orient-cycle a b q) low) (above _ _ (orient-cycle c d q) high) o.0 o.2),
+)
   where
     not_below : (m : ℤ) → pos 0 <ℤ m → pos 0 ≤ℤ m
     not_below m h = omega (arith, ints)

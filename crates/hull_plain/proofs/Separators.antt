@@ -35,11 +35,11 @@ pub separated_by_wedge : (S : List Pair) (q l r : Pair) → All (λ t. pos 0 <�
 separated_by_wedge S q l r h =
     (across l r, All-weaker (λ t. pos 0 <ℤ (orient q r t +ℤ orient q t l)) (λ t. product (across l r) t <ℤ product (across l r) q) (λ t p. nearer (across l r) t q (above _ _ (sym (product-across q l r t)) p)) S h)
 
--- a sum above 0
+-- a sum with a second part above 0
 sum_above : (a b : ℤ) → pos 0 ≤ℤ a → pos 0 <ℤ b → pos 0 <ℤ (a +ℤ b)
 sum_above a b h k = omega (arith, ints)
 
--- a sum above 0
+-- a sum with a first part above 0
 pub sum_above_left : (a b : ℤ) → pos 0 <ℤ a → pos 0 ≤ℤ b → pos 0 <ℤ (a +ℤ b)
 sum_above_left a b h k = omega (arith, ints)
 
@@ -71,28 +71,28 @@ below_behind q l r t hl hr ht rl rt =
     sum_above _ _ rt (above _ _ (cross-opp_right (minus l q) (minus t q)) (turn_trans_strict (minus l q) (opp (minus r q)) (opp (minus t q)) (ahead_of q l hl) (behind_of r q hr) (behind_of t q ht)
     (above _ _ (sym (cross-opp_right (minus l q) (minus r q))) rl) (at_least _ _ (sym (cross-opp (minus r q) (minus t q))) rt)))
 
--- the same of the far side alone
+-- all lies above a line through q: a point after q is right of the line to the lowest before q
 pub above_ahead_left : (q l r t : Pair) → IsBefore l q → IsBefore q r → IsBefore q t → pos 0 <ℤ orient q r l → pos 0 ≤ℤ orient q r t → pos 0 <ℤ orient q t l
 unfolding orient
 above_ahead_left q l r t hl hr ht rl rt =
     above _ _ (cross-opp_left (minus l q) (minus t q)) (turn_trans_strict (opp (minus l q)) (minus r q) (minus t q) (behind_of l q hl) (ahead_of q r hr) (ahead_of q t ht)
     (above _ _ (sym (cross-opp_left (minus l q) (minus r q))) rl) rt)
 
--- the same of the far side alone
+-- all lies above a line through q: a point before q is left of the line to the lowest after q
 pub above_behind_right : (q l r t : Pair) → IsBefore l q → IsBefore q r → IsBefore t q → pos 0 <ℤ orient q r l → pos 0 ≤ℤ orient q t l → pos 0 <ℤ orient q r t
 unfolding orient
 above_behind_right q l r t hl hr ht rl tl =
     above _ _ (cross-opp_left (minus t q) (minus r q)) (turn_trans_strict_right (opp (minus t q)) (opp (minus l q)) (minus r q) (behind_of t q ht) (behind_of l q hl) (ahead_of q r hr)
     (at_least _ _ (sym (cross-opp (minus t q) (minus l q))) tl) (above _ _ (sym (cross-opp_left (minus l q) (minus r q))) rl))
 
--- the same of the far side alone
+-- all lies below a line through q: a point after q is left of the line to the highest before q
 pub below_ahead_right : (q l r t : Pair) → IsBefore q l → IsBefore r q → IsBefore q t → pos 0 <ℤ orient q r l → pos 0 ≤ℤ orient q t l → pos 0 <ℤ orient q r t
 unfolding orient
 below_ahead_right q l r t hl hr ht rl tl =
     above _ _ (cross-opp_right (minus t q) (minus r q)) (turn_trans_strict_right (minus t q) (minus l q) (opp (minus r q)) (ahead_of q t ht) (ahead_of q l hl) (behind_of r q hr)
     tl (above _ _ (sym (cross-opp_right (minus l q) (minus r q))) rl))
 
--- the same of the far side alone
+-- all lies below a line through q: a point before q is right of the line to the highest after q
 pub below_behind_left : (q l r t : Pair) → IsBefore q l → IsBefore r q → IsBefore t q → pos 0 <ℤ orient q r l → pos 0 ≤ℤ orient q r t → pos 0 <ℤ orient q t l
 unfolding orient
 below_behind_left q l r t hl hr ht rl rt =
