@@ -1,0 +1,50 @@
+use Rattle.bridge_search.proofs.Signs.{not_under, is_under, passed, failed, crossing_told}
+use Rattle.lattice.specs.Plane.{orient}
+use Rattle.lattice.specs.Crossing.{IsCrossingAtOrBefore}
+use Rattle.bridge_search.proofs.Turns as turns
+use Rattle.bridge_search.proofs.search.turn_both.Goals as goal
+
+pub left-requires : goal.left-requires
+left-requires g c = turns.is_fork (g.H.Half.tree c.args.u) (c.args.a, c.args.b) c.requires.left_edge
+
+pub right-requires : goal.right-requires
+right-requires g c = turns.is_fork (g.H.Half.tree c.args.w) (c.args.c, c.args.d) c.requires.right_edge
+
+pub right-requires-then-weighted_at_or_before : goal.right-requires-then-weighted_at_or_before
+right-requires-then-weighted_at_or_before g c = turns.is_fork (g.H.Half.tree c.args.u) (c.args.a, c.args.b) c.requires.left_edge
+
+pub left-requires-else-weighted_at_or_before : goal.left-requires-else-weighted_at_or_before
+left-requires-else-weighted_at_or_before g c = turns.is_fork (g.H.Half.tree c.args.w) (c.args.c, c.args.d) c.requires.right_edge
+
+pub returns-then-side-ge0 : goal.returns-then-side-ge0
+returns-then-side-ge0 g c =
+    rw c.left.ensures
+    (turns.turn_left (g.H.Half.tree c.args.u) (g.H.Half.tree c.args.w) c.args.m c.args.a c.args.b c.args.c c.requires.ready c.requires.left_edge
+    (turns.on_edge (g.H.Half.tree c.args.w) c.args.c c.args.d c.requires.ready.right_bridged c.requires.right_edge).0
+    (not_under c.orient-side.result (orient c.args.a c.args.b c.args.c) c.orient-side.ensures.size c.orient-side.ensures.value c.if-side-ge0.true))
+
+pub returns-then-orient-ge0 : goal.returns-then-orient-ge0
+returns-then-orient-ge0 g c =
+    rw c.right.ensures
+    (turns.turn_right (g.H.Half.tree c.args.u) (g.H.Half.tree c.args.w) c.args.m c.args.b c.args.c c.args.d c.requires.ready c.requires.right_edge
+    (turns.on_edge (g.H.Half.tree c.args.u) c.args.a c.args.b c.requires.ready.left_bridged c.requires.left_edge).1
+    (not_under c.orient.result (orient c.args.b c.args.c c.args.d) c.orient.ensures.size c.orient.ensures.value c.if-orient-ge0.true))
+
+pub returns-then-weighted_at_or_before : goal.returns-then-weighted_at_or_before
+returns-then-weighted_at_or_before g c =
+    rw c.right-then-weighted_at_or_before.ensures
+    (turns.turn_right_left (g.H.Half.tree c.args.u) (g.H.Half.tree c.args.w) c.args.m c.args.a c.args.b c.args.c c.args.d c.requires.ready c.requires.left_edge c.requires.right_edge
+    (is_under c.orient-side.result (orient c.args.a c.args.b c.args.c) c.orient-side.ensures.size c.orient-side.ensures.value c.if-side-ge0.false)
+    (is_under c.orient.result (orient c.args.b c.args.c c.args.d) c.orient.ensures.size c.orient.ensures.value c.if-orient-ge0.false)
+    (passed c.weighted_at_or_before.result (IsCrossingAtOrBefore c.args.a c.args.b c.args.c c.args.d c.args.m) c.if-weighted_at_or_before.true
+    (crossing_told c.weighted_at_or_before.result c.orient-side.result c.orient-else-orient-ge0.result c.args.a c.args.b c.args.c c.args.d c.args.m c.orient-side.ensures.size c.orient-else-orient-ge0.ensures.size c.orient-side.ensures.value c.orient-else-orient-ge0.ensures.value c.weighted_at_or_before.ensures)))
+
+pub returns-else-weighted_at_or_before : goal.returns-else-weighted_at_or_before
+returns-else-weighted_at_or_before g c =
+    rw c.left-else-weighted_at_or_before.ensures
+    (turns.turn_left_right (g.H.Half.tree c.args.u) (g.H.Half.tree c.args.w) c.args.m c.args.a c.args.b c.args.c c.args.d c.requires.ready c.requires.left_edge c.requires.right_edge
+    (is_under c.orient-side.result (orient c.args.a c.args.b c.args.c) c.orient-side.ensures.size c.orient-side.ensures.value c.if-side-ge0.false)
+    (is_under c.orient.result (orient c.args.b c.args.c c.args.d) c.orient.ensures.size c.orient.ensures.value c.if-orient-ge0.false)
+    (turns.crossing_after c.args.a c.args.b c.args.c c.args.d c.args.m
+    (failed c.weighted_at_or_before.result (IsCrossingAtOrBefore c.args.a c.args.b c.args.c c.args.d c.args.m) c.if-weighted_at_or_before.false
+    (crossing_told c.weighted_at_or_before.result c.orient-side.result c.orient-else-orient-ge0.result c.args.a c.args.b c.args.c c.args.d c.args.m c.orient-side.ensures.size c.orient-else-orient-ge0.ensures.size c.orient-side.ensures.value c.orient-else-orient-ge0.ensures.value c.weighted_at_or_before.ensures))))

@@ -1,0 +1,23 @@
+use Rattle.bridge_search.proofs.Signs.{not_under, is_under}
+use Rattle.lattice.specs.Plane.{orient}
+use Rattle.bridge_search.proofs.Turns as turns
+use Rattle.bridge_search.proofs.search.turn_right.Goals as goal
+
+pub left-requires : goal.left-requires
+left-requires g c = turns.is_fork (g.H.Half.tree c.args.w) (c.args.c, c.args.d) c.requires.edge
+
+pub right-requires : goal.right-requires
+right-requires g c = turns.is_fork (g.H.Half.tree c.args.w) (c.args.c, c.args.d) c.requires.edge
+
+pub returns-then-orient-ge0 : goal.returns-then-orient-ge0
+returns-then-orient-ge0 g c =
+    rw c.right.ensures
+    (turns.turn_right (g.H.Half.tree c.args.u) (g.H.Half.tree c.args.w) c.args.m c.first.result c.args.c c.args.d c.requires.ready c.requires.edge
+    (rw c.first.ensures (turns.on_first (g.H.Half.tree c.args.u)))
+    (not_under c.orient.result (orient c.first.result c.args.c c.args.d) c.orient.ensures.size c.orient.ensures.value c.if-orient-ge0.true))
+
+pub returns-else-orient-ge0 : goal.returns-else-orient-ge0
+returns-else-orient-ge0 g c =
+    rw c.left.ensures
+    (turns.turn_left_right_one (g.H.Half.tree c.args.u) (g.H.Half.tree c.args.w) c.args.m c.first.result c.args.c c.args.d c.requires.ready c.requires.edge c.requires.one c.first.ensures
+    (is_under c.orient.result (orient c.first.result c.args.c c.args.d) c.orient.ensures.size c.orient.ensures.value c.if-orient-ge0.false))

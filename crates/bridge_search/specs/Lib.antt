@@ -1,0 +1,4 @@
+pub mod Trees
+pub mod Search
+pub mod TurnedTrees
+pub mod OneWay

@@ -1,0 +1,150 @@
+-- A turn by 180 degrees.
+use Rattle.std.specs.Prelude.{◌≡◌, ℤ, pos, neg_ℤ, ◌≤ℤ◌, Option, Some, None}
+use Rattle.std.proofs.Common.{refl, ap, ◌∙◌, arith, inl, inr}
+use Rattle.lattice.specs.Plane.{Pair, orient, IsBefore, turned_point}
+use Rattle.lattice.specs.Bridges.{IsAllBefore, IsUpperBridge, IsLowerBridge, IsNotBeyond}
+use Rattle.bridge_search.specs.Trees.{Tree, Leaf, Fork, On, IsBridged, IsFork, edge_of, lower_of, left_of, right_of, first_of, last_of, height_of}
+use Rattle.lattice.specs.Integers.{linear, ring_laws}
+use lib.IntN.{neg_ℤ-neg_ℤ}
+
+abbrev pub turned_pair : Pair × Pair → Pair × Pair
+turned_pair e = (turned_point e.1, turned_point e.0)
+
+-- each point turned, in the other order, the upper edges as the lower ones
+abbrev pub turned_tree : Tree → Tree
+turned_tree (Leaf x) = Leaf (turned_point x)
+turned_tree (Fork e f u w) = Fork (turned_pair f) (turned_pair e) (turned_tree w) (turned_tree u)
+
+turned_twice : (p : Pair) → turned_point (turned_point p) ≡ p
+turned_twice p = ap (λ (z : ℤ). let q : Pair = record { x = z; y = neg_ℤ (neg_ℤ p.y) } in q) (neg_ℤ-neg_ℤ p.x) ∙ ap (λ (z : ℤ). let q : Pair = record { x = p.x; y = z } in q) (neg_ℤ-neg_ℤ p.y)
+
+pub orient_turned : (p q t : Pair) → orient (turned_point q) (turned_point p) t ≡ neg_ℤ (orient p q (turned_point t))
+unfolding orient
+orient_turned p q t = simp ring_laws (omega (arith, linear))
+
+pub before_turned : (p q : Pair) → IsBefore (turned_point q) p → IsBefore (turned_point p) q
+before_turned p q (inl h) = inl (omega (arith, linear))
+before_turned p q (inr h) = inr (omega (arith, linear))
+
+pub before_turned_back : (p q : Pair) → IsBefore p (turned_point q) → IsBefore q (turned_point p)
+before_turned_back p q (inl h) = inl (omega (arith, linear))
+before_turned_back p q (inr h) = inr (omega (arith, linear))
+
+-- a point is in the turned half where it is, turned, in the half
+pub on_turned : (t : Tree) (p : Pair) → On (turned_tree t) p → On t (turned_point p)
+on_turned (Leaf x) p h = ap turned_point h ∙ turned_twice x
+on_turned (Fork e f u w) p (inl h) = inr (on_turned w p h)
+on_turned (Fork e f u w) p (inr h) = inl (on_turned u p h)
+
+pub turned_on : (t : Tree) (p : Pair) → On t p → On (turned_tree t) (turned_point p)
+turned_on (Leaf x) p h = ap turned_point h
+turned_on (Fork e f u w) p (inl h) = inr (turned_on u p h)
+turned_on (Fork e f u w) p (inr h) = inl (turned_on w p h)
+
+pub first_turned : (t : Tree) → first_of (turned_tree t) ≡ turned_point (last_of t)
+first_turned (Leaf x) = refl
+first_turned (Fork e f u w) = first_turned w
+
+pub last_turned : (t : Tree) → last_of (turned_tree t) ≡ turned_point (first_of t)
+last_turned (Leaf x) = refl
+last_turned (Fork e f u w) = last_turned u
+
+pub order_turned : (u w : Tree) → IsAllBefore (On u) (On w) → IsAllBefore (On (turned_tree w)) (On (turned_tree u))
+order_turned u w o p q i j = before_swap p q (o (turned_point q) (turned_point p) (on_turned u q j) (on_turned w p i))
+  where
+    before_swap : (p q : Pair) → IsBefore (turned_point q) (turned_point p) → IsBefore p q
+    before_swap p q (inl h) = inl (omega (arith, linear))
+    before_swap p q (inr h) = inr (omega (arith, linear))
+
+-- the lower bridge, turned, is the upper one of the turned halves
+pub upper_turned : (u w : Tree) (p q : Pair) → IsLowerBridge (On u) (On w) p q → IsUpperBridge (On (turned_tree w)) (On (turned_tree u)) (turned_point q) (turned_point p)
+upper_turned u w p q h = record {
+  from_left = turned_on w q h.to_right;
+  to_right = turned_on u p h.from_left;
+  below_left = λ t i. below t (h.above_right (turned_point t) (on_turned w t i));
+  below_right = λ t i. below t (h.above_left (turned_point t) (on_turned u t i));
+  tie_left = λ t i e. tie t (h.tie_right (turned_point t) (on_turned w t i) (zero t e));
+  tie_right = λ t i e. tie t (h.tie_left (turned_point t) (on_turned u t i) (zero t e));
+}
+  where
+    below : (t : Pair) → pos 0 ≤ℤ orient p q (turned_point t) → orient (turned_point q) (turned_point p) t ≤ℤ pos 0
+    below t g = let e : orient (turned_point q) (turned_point p) t ≡ neg_ℤ (orient p q (turned_point t)) = orient_turned p q t in omega (arith, linear)
+
+    zero : (t : Pair) → orient (turned_point q) (turned_point p) t ≡ pos 0 → orient p q (turned_point t) ≡ pos 0
+    zero t g = let e : orient (turned_point q) (turned_point p) t ≡ neg_ℤ (orient p q (turned_point t)) = orient_turned p q t in omega (arith, linear)
+
+    tie : (t : Pair) → IsNotBeyond p q (turned_point t) → IsNotBeyond (turned_point q) (turned_point p) t
+    tie t k = (λ b. k.1 (before_turned_back t q b), λ b. k.0 (before_turned t p b))
+
+-- the upper bridge, turned, is the lower one of the turned halves
+pub lower_turned : (u w : Tree) (p q : Pair) → IsUpperBridge (On u) (On w) p q → IsLowerBridge (On (turned_tree w)) (On (turned_tree u)) (turned_point q) (turned_point p)
+lower_turned u w p q h = record {
+  from_left = turned_on w q h.to_right;
+  to_right = turned_on u p h.from_left;
+  above_left = λ t i. above t (h.below_right (turned_point t) (on_turned w t i));
+  above_right = λ t i. above t (h.below_left (turned_point t) (on_turned u t i));
+  tie_left = λ t i e. tie t (h.tie_right (turned_point t) (on_turned w t i) (zero t e));
+  tie_right = λ t i e. tie t (h.tie_left (turned_point t) (on_turned u t i) (zero t e));
+}
+  where
+    above : (t : Pair) → orient p q (turned_point t) ≤ℤ pos 0 → pos 0 ≤ℤ orient (turned_point q) (turned_point p) t
+    above t g = let e : orient (turned_point q) (turned_point p) t ≡ neg_ℤ (orient p q (turned_point t)) = orient_turned p q t in omega (arith, linear)
+
+    zero : (t : Pair) → orient (turned_point q) (turned_point p) t ≡ pos 0 → orient p q (turned_point t) ≡ pos 0
+    zero t g = let e : orient (turned_point q) (turned_point p) t ≡ neg_ℤ (orient p q (turned_point t)) = orient_turned p q t in omega (arith, linear)
+
+    tie : (t : Pair) → IsNotBeyond p q (turned_point t) → IsNotBeyond (turned_point q) (turned_point p) t
+    tie t k = (λ b. k.1 (before_turned_back t q b), λ b. k.0 (before_turned t p b))
+
+-- and back: the upper bridge of the turned halves gives the lower one
+pub lower_from_turned : (u w : Tree) (p q : Pair) → IsUpperBridge (On (turned_tree w)) (On (turned_tree u)) p q → IsLowerBridge (On u) (On w) (turned_point q) (turned_point p)
+lower_from_turned u w p q h = record {
+  from_left = on_turned u q h.to_right;
+  to_right = on_turned w p h.from_left;
+  above_left = λ t i. above t (h.below_right (turned_point t) (turned_on u t i));
+  above_right = λ t i. above t (h.below_left (turned_point t) (turned_on w t i));
+  tie_left = λ t i e. tie t (h.tie_right (turned_point t) (turned_on u t i) (zero t e));
+  tie_right = λ t i e. tie t (h.tie_left (turned_point t) (turned_on w t i) (zero t e));
+}
+  where
+    above : (t : Pair) → orient p q (turned_point t) ≤ℤ pos 0 → pos 0 ≤ℤ orient (turned_point q) (turned_point p) t
+    above t g = let e : orient (turned_point q) (turned_point p) t ≡ neg_ℤ (orient p q (turned_point t)) = orient_turned p q t in omega (arith, linear)
+
+    zero : (t : Pair) → orient (turned_point q) (turned_point p) t ≡ pos 0 → orient p q (turned_point t) ≡ pos 0
+    zero t g = let e : orient (turned_point q) (turned_point p) t ≡ neg_ℤ (orient p q (turned_point t)) = orient_turned p q t in omega (arith, linear)
+
+    tie : (t : Pair) → IsNotBeyond p q (turned_point t) → IsNotBeyond (turned_point q) (turned_point p) t
+    tie t k = (λ b. k.1 (before_turned_back t q b), λ b. k.0 (before_turned t p b))
+
+pub bridged_turned : (t : Tree) → IsBridged t → IsBridged (turned_tree t)
+bridged_turned (Leaf x) h = tt
+bridged_turned (Fork e f u w) h =
+    (order_turned u w h.0, upper_turned u w f.0 f.1 h.2, lower_turned u w e.0 e.1 h.1, bridged_turned w h.4, bridged_turned u h.3)
+
+abbrev pub turned_edge : Option (Pair × Pair) → Option (Pair × Pair)
+turned_edge None = None
+turned_edge (Some e) = Some (turned_pair e)
+
+pub edge_turned : (t : Tree) → edge_of (turned_tree t) ≡ turned_edge (lower_of t)
+edge_turned (Leaf x) = refl
+edge_turned (Fork e f u w) = refl
+
+pub lower_edge_turned : (t : Tree) → lower_of (turned_tree t) ≡ turned_edge (edge_of t)
+lower_edge_turned (Leaf x) = refl
+lower_edge_turned (Fork e f u w) = refl
+
+pub left_turned : (t : Tree) → left_of (turned_tree t) ≡ turned_tree (right_of t)
+left_turned (Leaf x) = refl
+left_turned (Fork e f u w) = refl
+
+pub right_turned : (t : Tree) → right_of (turned_tree t) ≡ turned_tree (left_of t)
+right_turned (Leaf x) = refl
+right_turned (Fork e f u w) = refl
+
+pub fork_turned : (t : Tree) → IsFork (turned_tree t) → IsFork t
+fork_turned (Leaf x) h = h
+fork_turned (Fork e f u w) h = h
+
+pub height_turned : (t : Tree) → height_of (turned_tree t) ≡ height_of t
+height_turned (Leaf x) = refl
+height_turned (Fork e f u w) = omega (arith, height_turned u, height_turned w)

@@ -1,0 +1,40 @@
+ghost use Rattle.std.specs.Prelude.{◌≡◌};
+ghost use Rattle.bridge_search.specs.Trees.{Tree, IsBridged, IsFork, edge_of, lower_of, left_of, right_of, first_of, last_of};
+
+use lattice::Point;
+
+/// A half of a hull: one point, or two stored edges and two halves of its own.
+///
+/// Contracts see it as a finite tree. Its law: at each fork all points of the left half stand before all points of
+/// the right one, the upper edge is the upper bridge of these two halves, and the lower edge their lower bridge.
+pub trait Half: Copy {
+    ghost tree: { Self → Tree };
+
+    /// The upper edge, from its left to its right end, or nothing where the half is one point.
+    fn edge(self) -> Option<(Point, Point)>
+        ensures { result ≡ edge_of (tree self) };
+
+    /// The lower edge, from its left to its right end, or nothing where the half is one point.
+    fn lower(self) -> Option<(Point, Point)>
+        ensures { result ≡ lower_of (tree self) };
+
+    /// The left half of a half with edges.
+    fn left(self) -> Self
+        requires { IsFork (tree self) }
+        ensures { tree result ≡ left_of (tree self) };
+
+    /// The right half of a half with edges.
+    fn right(self) -> Self
+        requires { IsFork (tree self) }
+        ensures { tree result ≡ right_of (tree self) };
+
+    /// The first point, in the order [`before`](lattice::before).
+    fn first(self) -> Point
+        ensures { result ≡ first_of (tree self) };
+
+    /// The last point, in the order [`before`](lattice::before).
+    fn last(self) -> Point
+        ensures { result ≡ last_of (tree self) };
+
+    ghost bridged: { (x : Self) → IsBridged (tree x) };
+}

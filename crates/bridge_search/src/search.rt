@@ -1,0 +1,98 @@
+ghost use Rattle.std.specs.Prelude.{◌≡◌, MatchOption, Some, None};
+ghost use Rattle.lattice.specs.Bridges.{IsAllBefore, IsUpperBridge};
+ghost use Rattle.bridge_search.specs.Trees.{On, edge_of};
+ghost use Rattle.bridge_search.specs.Search.{IsReady, IsTurn, IsDone};
+
+use super::half::Half;
+use lattice::{Point, orient, weighted_at_or_before};
+
+/// A turn where `w` is one point: the half of `u`, whose upper edge is ab, that keeps the bridge.
+fn turn_left<H: Half>(u: H, w: H, a: Point, b: Point, m: Point) -> H
+    requires ready { IsReady (H.tree u) (H.tree w) m }
+    requires edge { edge_of (H.tree u) ≡ Some (a, b) }
+    requires one { edge_of (H.tree w) ≡ None }
+    ensures { IsTurn (H.tree u) (H.tree w) m (H.tree result) (H.tree w) }
+{
+    if orient(a, b, w.first()) >= 0 {
+        u.left()
+    } else {
+        u.right()
+    }
+}
+
+/// A turn where `u` is one point: the half of `w`, whose upper edge is cd, that keeps the bridge.
+fn turn_right<H: Half>(u: H, w: H, c: Point, d: Point, m: Point) -> H
+    requires ready { IsReady (H.tree u) (H.tree w) m }
+    requires one { edge_of (H.tree u) ≡ None }
+    requires edge { edge_of (H.tree w) ≡ Some (c, d) }
+    ensures { IsTurn (H.tree u) (H.tree w) m (H.tree u) (H.tree result) }
+{
+    if orient(u.first(), c, d) >= 0 {
+        w.right()
+    } else {
+        w.left()
+    }
+}
+
+/// A turn where both halves have an upper edge: ab that of `u`, cd that of `w`.
+fn turn_both<H: Half>(u: H, w: H, a: Point, b: Point, c: Point, d: Point, m: Point) -> (H, H)
+    requires ready { IsReady (H.tree u) (H.tree w) m }
+    requires left_edge { edge_of (H.tree u) ≡ Some (a, b) }
+    requires right_edge { edge_of (H.tree w) ≡ Some (c, d) }
+    ensures { IsTurn (H.tree u) (H.tree w) m (H.tree result.0) (H.tree result.1) }
+{
+    let side = orient(a, b, c);
+    if side >= 0 {
+        (u.left(), w)
+    } else if orient(b, c, d) >= 0 {
+        (u, w.right())
+    } else if weighted_at_or_before(side, orient(b, a, d), c, d, m) {
+        (u.right(), w)
+    } else {
+        (u, w.left())
+    }
+}
+
+/// One turn: two halves that have the same upper bridge, or nothing where both are one point.
+fn turn<H: Half>(u: H, w: H, m: Point) -> Option<(H, H)>
+    requires { IsReady (H.tree u) (H.tree w) m }
+    ensures { MatchOption result (IsDone (H.tree u) (H.tree w)) (λ r. IsTurn (H.tree u) (H.tree w) m (H.tree r.0) (H.tree r.1)) }
+{
+    match (u.edge(), w.edge()) {
+        (None, None) => None,
+        (None, Some((c, d))) => Some((u, turn_right(u, w, c, d, m))),
+        (Some((a, b)), None) => Some((turn_left(u, w, a, b, m), w)),
+        (Some((a, b)), Some((c, d))) => Some(turn_both(u, w, a, b, c, d, m)),
+    }
+}
+
+/// The upper bridge of `u` and `w`, from its end in `u` to its end in `w`: no point of either half lies left of the
+/// line through the two ends, and those on it lie between them. All of `u` must stand before all of `w`.
+///
+/// With ab the upper edge of `u`, cd that of `w`, and m the first point of `w` as the search began, each turn goes
+/// into a half that keeps the bridge (Overmars and van Leeuwen, 1981):
+///
+/// | Case | Turn |
+/// |---|---|
+/// | both are one point | the bridge is these points |
+/// | `u` is the point b, d on or left of bc | to the right half of `w` |
+/// | `u` is the point b, d right of bc | to the left half of `w` |
+/// | `w` is the point c, c on or left of ab | to the left half of `u` |
+/// | `w` is the point c, c right of ab | to the right half of `u` |
+/// | c on or left of ab | to the left half of `u` |
+/// | else d on or left of bc | to the right half of `w` |
+/// | else the lines ab and cd cross before m or at m | to the right half of `u` |
+/// | else | to the left half of `w` |
+pub fn upper_bridge<H: Half>(u: H, w: H) -> (Point, Point)
+    requires { IsAllBefore (On (H.tree u)) (On (H.tree w)) }
+    ensures { IsUpperBridge (On (H.tree u)) (On (H.tree w)) result.0 result.1 }
+{
+    let m = w.first();
+    let mut left = u;
+    let mut right = w;
+    while let Some((next_left, next_right)) = turn(left, right, m) {
+        left = next_left;
+        right = next_right;
+    }
+    (left.first(), right.first())
+}

@@ -1,0 +1,77 @@
+ghost use Rattle.std.specs.Prelude.{◌≡◌};
+ghost use Rattle.lattice.specs.Bridges.{IsAllBefore, IsLowerBridge};
+ghost use Rattle.bridge_search.specs.Trees.{On};
+ghost use Rattle.bridge_search.specs.TurnedTrees.{turned_tree};
+
+use super::half::Half;
+use super::search::upper_bridge;
+use lattice::Point;
+
+/// A half seen after a turn by 180 degrees about the origin: its points and edges are turned, its left half is the
+/// right one turned, and its upper edge the lower one turned.
+#[derive(Clone, Copy)]
+pub struct Turned<H> {
+    half: H,
+}
+
+impl<H: Half> Turned<H> {
+    /// The half after the turn.
+    pub fn new(half: H) -> Turned<H>
+        ensures { ⟦<Turned<H> as Half>⟧.tree result ≡ turned_tree (H.tree half) }
+    {
+        Turned { half }
+    }
+}
+
+impl<H: Half> Half for Turned<H> {
+    ghost use Rattle.bridge_search.specs.TurnedTrees.{turned_tree, bridged_turned};
+
+    ghost tree = { λ t. turned_tree (H.tree t.half) };
+
+    fn edge(self) -> Option<(Point, Point)> {
+        match self.half.lower() {
+            None => None,
+            Some((left, right)) => Some((right.turned(), left.turned())),
+        }
+    }
+
+    fn lower(self) -> Option<(Point, Point)> {
+        match self.half.edge() {
+            None => None,
+            Some((left, right)) => Some((right.turned(), left.turned())),
+        }
+    }
+
+    fn left(self) -> Self {
+        Turned {
+            half: self.half.right(),
+        }
+    }
+
+    fn right(self) -> Self {
+        Turned {
+            half: self.half.left(),
+        }
+    }
+
+    fn first(self) -> Point {
+        self.half.last().turned()
+    }
+
+    fn last(self) -> Point {
+        self.half.first().turned()
+    }
+
+    ghost bridged = { λ t. bridged_turned (H.tree t.half) (H.bridged t.half) };
+}
+
+/// The lower bridge of `u` and `w`, from its end in `u` to its end in `w`: no point of either half lies right of the
+/// line through the two ends, and those on it lie between them. All of `u` must stand before all of `w`.
+/// It is the upper bridge of the two halves turned by 180 degrees.
+pub fn lower_bridge<H: Half>(u: H, w: H) -> (Point, Point)
+    requires { IsAllBefore (On (H.tree u)) (On (H.tree w)) }
+    ensures { IsLowerBridge (On (H.tree u)) (On (H.tree w)) result.0 result.1 }
+{
+    let (first, last) = upper_bridge(Turned::new(w), Turned::new(u));
+    (last.turned(), first.turned())
+}
