@@ -12,3 +12,6 @@ pub mod Calls
 pub mod Joined
 pub mod ScriptSpelled
 pub mod ScriptTexts
+pub mod Chains
+pub mod Spaces
+pub mod Reports

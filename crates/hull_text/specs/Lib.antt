@@ -14,3 +14,7 @@ pub mod Reading
 pub mod ScriptReading
 pub mod Spelling
 pub mod ScriptGrammar
+pub mod Answers
+pub mod ReportText
+pub mod Spaced
+pub mod JournalText

@@ -1,9 +1,14 @@
 -- How values are spelled as fields.
-use Rattle.std.specs.Prelude.{◌≡◌, ◌<◌, ◌≤◌, ℕ, ℤ, pos, negsuc, List, [], ◌∷◌, codes}
+use Rattle.std.specs.Prelude.{◌≡◌, ◌<◌, ◌≤◌, ◌^◌, ℕ, ℤ, pos, negsuc, List, [], ◌∷◌, ◌++◌, length, codes, decimal}
+use Rattle.std.specs.List.{join_with_byte}
 use Rattle.std.specs.Fmt.{signed_decimal}
 use Rattle.lattice.specs.Plane.{Pair}
 use Rattle.hull_plain.specs.declared.call.Call.{Call}
 use Rattle.hull_plain.specs.declared.call.Call.TheVariants.{Add, Remove, Extreme, Place, Tangents, Vertices, Area, Count}
+use Rattle.hull_plain.specs.declared.reply.Reply.{Reply}
+use Rattle.hull_plain.specs.declared.reply.Reply.TheVariants.{Added, Already, TooMany, NoMemory, Removed, Absent, Farthest, Empty, Lies, TangentPoints, NoTangent, VertexList, DoubledArea, PointCount}
+use Rattle.hull_plain.specs.declared.set.Place.{Place as Where}
+use Rattle.hull_plain.specs.declared.set.Place.TheVariants.{Inside, On, Outside}
 use Rattle.hull_text.specs.declared.version.Version.{Version}
 use Rattle.hull_text.specs.Version.{coordinate_limit}
 
@@ -45,3 +50,49 @@ call_fields (Tangents q) = codes "tangents" ∷ pair_fields q
 call_fields Vertices = codes "vertices" ∷ []
 call_fields Area = codes "area" ∷ []
 call_fields Count = codes "count" ∷ []
+
+-- a point in a reply is spelled as in a call
+abbrev pub points_fields : List Pair → List (List ℕ)
+points_fields [] = []
+points_fields (p ∷ ps) = pair_fields p ++ points_fields ps
+
+-- the points are ones of the version
+abbrev pub ArePairs : Version → List Pair → Type 0
+ArePairs v [] = Unit {0}
+ArePairs v (p ∷ ps) = IsPair v p × ArePairs v ps
+
+-- a reply that the journals of a version can say
+abbrev pub IsReply : Version → Reply → Type 0
+IsReply v (Farthest p) = IsPair v p
+IsReply v (TangentPoints l r) = IsPair v l × IsPair v r
+IsReply v (VertexList ps) = (length ps ≤ 1048576) × ArePairs v ps
+IsReply v (DoubledArea n) = n < 2 ^ 128
+IsReply v (PointCount n) = n ≤ 4294967295
+IsReply v _ = Unit {0}
+
+-- how it is spelled where a point lies
+abbrev pub place_fields : Where → List (List ℕ)
+place_fields Inside = codes "inside" ∷ []
+place_fields On = codes "on" ∷ []
+place_fields Outside = codes "outside" ∷ []
+
+-- a reply is spelled by its word, and by what belongs to it
+abbrev pub reply_fields : Reply → List (List ℕ)
+reply_fields Added = codes "added" ∷ []
+reply_fields Already = codes "already" ∷ []
+reply_fields TooMany = codes "toomany" ∷ []
+reply_fields NoMemory = codes "nomemory" ∷ []
+reply_fields Removed = codes "removed" ∷ []
+reply_fields Absent = codes "absent" ∷ []
+reply_fields (Farthest p) = codes "point" ∷ pair_fields p
+reply_fields Empty = codes "empty" ∷ []
+reply_fields (Lies place) = place_fields place
+reply_fields (TangentPoints l r) = codes "tangents" ∷ (pair_fields l ++ pair_fields r)
+reply_fields NoTangent = codes "notangent" ∷ []
+reply_fields (VertexList ps) = codes "list" ∷ decimal (length ps) ∷ points_fields ps
+reply_fields (DoubledArea n) = codes "area" ∷ decimal n ∷ []
+reply_fields (PointCount n) = codes "count" ∷ decimal n ∷ []
+
+-- a line of a text: its fields, with one space between each two, and a newline
+abbrev pub line_text : List (List ℕ) → List ℕ
+line_text fields = join_with_byte 32 fields ++ 10 ∷ []
