@@ -1,0 +1,80 @@
+-- How many lines a phase adds: as many as it has calls, or as the journal had room.
+use Rattle.std.proofs.Common.{◌≡◌, ◌<◌, ◌≤◌, ◌+◌, ◌-◌, ℕ, zero, suc, List, [], ◌∷◌, ◌++◌, length, refl, sym, ap, subst, ◌∙◌, arith, ◌⊎◌, inl, inr, length-append, take, add-one}
+use Rattle.std.specs.Prelude.{min, sum_by, slice_index_or}
+use Rattle.std.proofs.lemmas.Bool.{cases_lt}
+use Rattle.std.proofs.lemmas.List.{take_more}
+use Rattle.std.proofs.lemmas.List.Sums.{sum_by-append, sum_by-cons}
+use Rattle.hull_plain.specs.declared.call.Call.{Call}
+use Rattle.hull_book.specs.declared.line.Line.{Line}
+use Rattle.hull_book.specs.declared.head.BookHead.{BookHead}
+use Rattle.hull_book.specs.Books.{BookValue, IsLawful}
+use Rattle.hull_book.specs.Ledgers.{count_of}
+use Rattle.hull_book.specs.Scripts.{PhaseValue, calls_in}
+use Rattle.hull_book.proofs.Counts.{below, below_more, below_none, below_all}
+use Rattle.hull_pool.specs.Runs.{job}
+use Rattle.hull_pool.specs.Answers.{Answer}
+use Rattle.hull_pool.specs.Work.{HasWorked, lines_of, capacity_of, workers_of}
+use Rattle.hull_pool.proofs.Called.{count-lines_of}
+
+-- a worker's lines are as many more as it was served
+count_grown : (k cap done : ℕ) (calls : List Call) (before lines : List Line) (old new : List Answer) (h : HasWorked k cap done calls before lines old new) → count_of k lines ≡ count_of k before + length h.served
+count_grown k cap done calls before lines old new h =
+    omega (arith, count-lines_of k lines, count-lines_of k before, ap length h.own_lines, length-append (lines_of k before) h.served)
+
+-- the calls of the first w + 1 workers
+first_jobs : (phase : PhaseValue) (w : ℕ) → w < length phase → calls_in (take (w + 1) phase) ≡ calls_in (take w phase) + length (job phase w)
+first_jobs phase w lt =
+    let last = sum_by-cons (λ (calls : List Call). length calls) (job phase w) [] in
+    ap (λ (xs : PhaseValue). calls_in xs) (take_more phase w [] lt) ∙ sum_by-append (λ (calls : List Call). length calls) (take w phase) (job phase w ∷ []) ∙ ap (λ (n : ℕ). calls_in (take w phase) + n) (last ∙ omega arith)
+
+-- the calls of all workers
+all_jobs : (phase : PhaseValue) → calls_in (take (length phase) phase) ≡ calls_in phase
+all_jobs phase = ap (λ (xs : PhaseValue). calls_in xs) (take_all phase)
+  where
+    take_all : (xs : PhaseValue) → take (length xs) xs ≡ xs
+    take_all [] = refl
+    take_all (x ∷ xs) = ap (λ (ys : PhaseValue). x ∷ ys) (take_all xs)
+
+-- the lines of the first w workers: no more than their calls were added, and fewer only where the journal is full
+pub record Grows (cap : ℕ) (phase : PhaseValue) (before lines : List Line) (w : ℕ) : Type 0 where
+  pub most : below w lines ≤ below w before + calls_in (take w phase)
+  pub all : (cap ≤ length lines) ⊎ (below w lines ≡ below w before + calls_in (take w phase))
+
+grows : (cap : ℕ) (phase : PhaseValue) (before lines : List Line) (olds news : ℕ → List Answer) (w : ℕ) → w ≤ length phase → ((k : ℕ) → k < w → HasWorked k cap (length (job phase k)) (job phase k) before lines (olds k) (news k)) → Grows cap phase before lines w
+grows cap phase before lines olds news zero le each = record {
+  most = omega (arith, below_none lines);
+  all = inr (omega (arith, below_none lines, below_none before));
+}
+grows cap phase before lines olds news (suc w) le each =
+    let less = grows cap phase before lines olds news w (omega arith) (λ k lt. each k (omega arith)) in
+    let h = each w (omega arith) in
+    let more : count_of w lines ≡ count_of w before + length h.served = count_grown w cap _ _ before lines _ _ h in
+    let jobs = first_jobs phase w (omega arith) in
+    let one = below_more w lines in
+    let two = below_more w before in
+    subst (Grows cap phase before lines) add-one' (record {
+      most = omega (arith, less.most, more, jobs, one, two, h.few);
+      all = elim less.all [
+        | inl full ↦ inl full
+        | inr same ↦ elim (cases_lt (length h.served) (length (job phase w))) [
+          | inl lt ↦ inl (h.full lt)
+          | inr ge ↦ inr (omega (arith, same, more, jobs, one, two, h.few))
+        ]
+      ];
+    })
+  where
+    add-one' : {w : ℕ} → w + 1 ≡ suc w
+    add-one' {w} = omega arith
+
+-- the journal has grown by the calls of the phase, or to its capacity
+pub grown_to : (b c : BookValue) (phase : PhaseValue) (olds news : ℕ → List Answer) → IsLawful b → IsLawful c → c.head ≡ b.head → length phase ≡ workers_of b → ((k : ℕ) → k < workers_of b → HasWorked k (capacity_of b) (length (job phase k)) (job phase k) b.lines c.lines (olds k) (news k)) → length c.lines ≡ min (length b.lines + calls_in phase) (capacity_of b)
+grown_to b c phase olds news law still same long each =
+    let g = grows (capacity_of b) phase b.lines c.lines olds news (length phase) (omega arith) (λ k lt. each k (omega arith)) in
+    let all_b : below (length phase) b.lines ≡ length b.lines = rw long (below_all (workers_of b) b.lines law.seats) in
+    let all_c : below (length phase) c.lines ≡ length c.lines = rw (long, ← ap (λ (h : BookHead). h.workers) same) (below_all (workers_of c) c.lines still.seats) in
+    let jobs = all_jobs phase in
+    let within : length c.lines ≤ capacity_of b = rw (ap (λ (h : BookHead). h.journal.capacity) same) at still.within in
+    elim g.all [
+      | inl full ↦ omega (arith, g.most, all_b, all_c, jobs, within, full)
+      | inr equal ↦ omega (arith, equal, all_b, all_c, jobs, within)
+    ]

@@ -1,0 +1,6 @@
+pub mod Called
+pub mod Worked
+pub mod Teams
+pub mod Phases
+pub mod Growth
+pub mod Reversed

@@ -1,0 +1,15 @@
+use Rattle.std.proofs.Common.{◌≡◌, ◌+◌, ◌≤◌, ◌++◌, length, reverse, vec_len, vec_capacity, Some}
+use Rattle.hull_pool.specs.Crews.{team, worker_of}
+use Rattle.hull_pool.proofs.crew.hire.Given as goal
+
+abbrev pub invariant-loop-seat : goal.invariant-loop-seat
+invariant-loop-seat g l = record {
+  answers_left : length l.answers.items ≡ length l.seats.items;
+  ledgers_left : length l.ledgers.items ≡ length l.seats.items;
+  room : vec_len l.crew + vec_len l.seats ≤ vec_capacity l.crew;
+  rooms : (vec_capacity l.seats ≡ vec_capacity l.fn.seats) × (vec_capacity l.answers ≡ vec_capacity l.fn.answers) × (vec_capacity l.ledgers ≡ vec_capacity l.fn.ledgers);
+  crew_is : team worker_of l.seats.items l.answers.items l.ledgers.items ++ reverse l.crew.items ≡ team worker_of l.fn.seats.items l.fn.answers.items l.fn.ledgers.items;
+}
+
+abbrev pub decreases-loop-seat : goal.decreases-loop-seat
+decreases-loop-seat g l = vec_len l.seats

@@ -1,0 +1,57 @@
+use Rattle.std.proofs.Common.{rules, arith, ◌≡◌, ◌∙◌, ◌+◌, sym, ap, subst, refl, box_value, ℕ, [], length}
+use Rattle.std.proofs.lemmas.Grind.{common_steps}
+use mathlib.Core.List.{IsPrefix}
+use Rattle.hull_book.specs.Ledgers.{IsLedgerOf}
+use Rattle.ticket_lock.specs.Tokens.{opening_book, IsSeatOf, seat_number, seat_seen}
+use Rattle.hull_pool.specs.Work.{HasWorked, capacity_of}
+use Rattle.hull_pool.proofs.Called.{begins_longer, begins_same}
+use Rattle.hull_pool.proofs.Worked.{not_begun_at, one_more, finished}
+use Rattle.hull_pool.proofs.worker.work.Goals as goal
+
+pub loop-call-init : goal.loop-call-init
+loop-call-init g c =
+    let e = sym c.take.ensures.value ∙ c.unwrap-seat.ensures in
+    let mine = rw e at c.requires.own in record {
+      own = mine.0;
+      seat_is = mine.1;
+      number_is = refl;
+      same_number = refl;
+      away = search (rules, common_steps);
+      begins = begins_same _ _ mine.2;
+      ledger_is = mine.3;
+      worked = not_begun_at _ _ _ _ _ _ mine.2;
+      index_is = refl;
+      room = omega (arith, ap length c.calls-call-items.ensures, c.requires.room);
+      same_room = refl;
+    }
+
+pub loop-call-preserved : goal.loop-call-preserved
+loop-call-preserved g c =
+    let inv = c.loop-call.invariant in record {
+      own = c.make_call-next.ensures.own;
+      seat_is = c.make_call-next.ensures.number;
+      number_is = inv.number_is;
+      same_number = inv.same_number;
+      away = inv.away;
+      begins = begins_longer _ _ _ inv.begins c.make_call-next.ensures.begins;
+      ledger_is = c.make_call-next.ensures.ledger;
+      worked = one_more _ _ _ _ _ _ _ _ _ _ _ c.make_call-next.result.1 inv.worked c.loop-call-test.true (sym c.call-item.is) c.make_call-next.ensures.called c.make_call-next.ensures.stays_full c.push_reserved.ensures.items;
+      index_is = ap (λ (n : ℕ). n + 1) inv.index_is;
+      room = omega (arith, c.push_reserved.ensures.len, c.push_reserved.ensures.capacity, inv.room, c.loop-call-test.true);
+      same_room = c.push_reserved.ensures.capacity ∙ inv.same_room;
+    }
+
+pub returns : goal.returns
+returns g c =
+    let inv = c.loop-call.invariant in record {
+      seated = search (rules, common_steps);
+      number = inv.same_number;
+      own = rw c.replace-none.ensures.after (
+        inv.own,
+        inv.seat_is ∙ sym inv.number_is,
+        inv.begins,
+        subst (λ (k : ℕ). IsLedgerOf k (seat_seen c.loop-call.seat) c.loop-call.worker.ledger) (sym inv.number_is) inv.ledger_is,
+        finished _ _ _ _ _ c.args.phase.now _ _ _ _ inv.number_is c.calls-call-items.ensures c.loop-call.auto.call-index-end c.loop-call-test.false inv.worked,
+      );
+      room = inv.same_room;
+    }

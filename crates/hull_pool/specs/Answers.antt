@@ -1,0 +1,32 @@
+-- The answers of workers as contracts see them.
+use Rattle.std.specs.Prelude.{ℕ, ◌-◌, List, [], map, Vec, vec_capacity, length}
+use Rattle.hull_book.specs.Ledgers.{LedgerValue}
+use Rattle.hull_plain.specs.declared.reply.Reply.{Reply}
+use Rattle.hull_book.specs.declared.report.JournalFull.{JournalFull}
+use Rattle.std.specs.Prelude.{Result}
+
+-- a reply, or that the journal is full
+abbrev pub Answer : Type 0
+Answer = Result Reply JournalFull
+
+-- the answers of one worker so far, and the room that is reserved for more
+pub record AnswersValue : Type 0 where
+  pub answers : List Answer
+  pub room : ℕ
+
+-- the answers and the ledger of each worker, in the order of their numbers
+pub record WorkersValue : Type 0 where
+  pub answers : List AnswersValue
+  pub ledgers : List LedgerValue
+
+-- what a vector of answers shows
+abbrev pub shown : {A : Type 0} → Vec Answer A → AnswersValue
+shown v = record { answers = v.items; room = vec_capacity v - length v.items }
+
+-- no answers, and no room for any
+abbrev pub no_answers : AnswersValue
+no_answers = record { answers = []; room = 0 }
+
+-- what the workers show whose answers and ledgers these are
+abbrev pub shown_workers : {A : Type 0} → List (Vec Answer A) → List LedgerValue → WorkersValue
+shown_workers answers ledgers = record { answers = map (λ v. shown v) answers; ledgers = ledgers }

@@ -1,0 +1,53 @@
+-- The workers of a phase: a seat, answers and a ledger each.
+use Rattle.std.specs.Prelude.{◌≡◌, ◌<◌, ◌≤◌, ◌+◌, ℕ, List, [], ◌∷◌, length, slice_index_or, Some, IsSome, IfSome, Vec, vec_len, vec_capacity, Box, box_value}
+use mathlib.Core.List.{IsPrefix}
+use Rattle.std.specs.Global.{Global}
+use Rattle.hull_book.specs.Ledgers.{LedgerValue, IsLedgerOf}
+use Rattle.hull_book.specs.Books.{BookValue}
+use Rattle.hull_book.specs.Scripts.{PhaseValue}
+use Rattle.hull_book.specs.declared.head.BookHead.{BookHead}
+use Rattle.hull_book.specs.declared.line.Line.{Line}
+use Rattle.hull_book.specs.declared.limits.TheConstants.{TEXT_LINE_LIMIT}
+use Rattle.ticket_lock.specs.declared.lock.TicketLock.{TicketLock}
+use Rattle.ticket_lock.specs.declared.seat.Seat.{Seat}
+use Rattle.ticket_lock.specs.Tokens.{IsSeatOf, seat_number, seat_seen}
+use Rattle.hull_pool.specs.Answers.{Answer}
+use Rattle.hull_pool.specs.Work.{HasWorked, capacity_of, workers_of}
+use Rattle.hull_pool.specs.declared.worker.Worker.{Worker}
+
+-- what `make` makes of the members of three lists at each place
+abbrev pub team : {A B C D : Type 0} → (A → B → C → D) → List A → List B → List C → List D
+team make (x ∷ xs) (y ∷ ys) (z ∷ zs) = make x y z ∷ team make xs ys zs
+team make _ _ _ = []
+
+module _ {B H L : Type 0} where
+  -- the worker with this seat, these answers and this ledger
+  abbrev pub worker_of : Seat B H L → Vec Answer Global → LedgerValue → Worker B H L
+  worker_of s a l = record { number = seat_number s; seat = Some s; ledger = l; answers = a }
+
+-- a book on the heap, as contracts see it
+abbrev pub Boxed : Type 0
+Boxed = Box BookValue Global
+
+-- the head of a book on the heap
+abbrev pub book_head : Boxed → BookHead
+book_head b = (box_value b).head
+
+-- The worker may work on the phase: its seat is there, is of the lock, and has seen the lines of the book b; its ledger
+-- counts its lines among them; it has a list of calls, and room for an answer to each.
+pub record IsReady (lock : TicketLock Boxed BookHead Line) (b : BookValue) (phase : PhaseValue) (w : Worker Boxed BookHead Line) : Type 0 where
+  pub seated : IsSome w.seat
+  pub own : IfSome w.seat (λ s. IsSeatOf book_head lock s × (seat_number s ≡ w.number) × (seat_seen s ≡ b.lines) × IsLedgerOf w.number (seat_seen s) w.ledger)
+  pub below : w.number < workers_of b
+  pub job : w.number < length phase
+  pub few : length (slice_index_or phase w.number []) ≤ TEXT_LINE_LIMIT
+  pub room : vec_len w.answers + length (slice_index_or phase w.number []) ≤ vec_capacity w.answers
+
+-- The worker has worked on the phase: its seat is there, is of the lock, and has seen what it did since the lines of the
+-- book b; its ledger counts its lines among those.
+pub record HasRun (lock : TicketLock Boxed BookHead Line) (b : BookValue) (phase : PhaseValue) (old new : Worker Boxed BookHead Line) : Type 0 where
+  pub seated : IsSome new.seat
+  pub number : new.number ≡ old.number
+  pub own : IfSome new.seat (λ s. IsSeatOf book_head lock s × (seat_number s ≡ new.number) × IsPrefix b.lines (seat_seen s) × IsLedgerOf new.number (seat_seen s) new.ledger
+      × HasWorked new.number (capacity_of b) (length (slice_index_or phase new.number [])) (slice_index_or phase new.number []) b.lines (seat_seen s) old.answers.items new.answers.items)
+  pub room : vec_capacity new.answers ≡ vec_capacity old.answers

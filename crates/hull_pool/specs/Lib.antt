@@ -1,0 +1,4 @@
+pub mod Work
+pub mod Answers
+pub mod Crews
+pub mod Runs

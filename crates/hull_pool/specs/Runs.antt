@@ -1,0 +1,44 @@
+-- What a run of phases comes to.
+use Rattle.std.specs.Prelude.{◌≡◌, ◌+◌, ◌<◌, ◌≤◌, ℕ, min, List, [], ◌∷◌, ◌++◌, length, slice_index_or}
+use mathlib.Core.List.{IsPrefix}
+use Rattle.hull_book.specs.declared.line.Line.{Line}
+use Rattle.hull_book.specs.Books.{BookValue, IsLawful}
+use Rattle.hull_book.specs.Ledgers.{AreLedgers}
+use Rattle.hull_book.specs.Scripts.{PhaseValue, calls_in}
+use Rattle.hull_plain.specs.declared.call.Call.{Call}
+use Rattle.hull_book.specs.declared.limits.TheConstants.{TEXT_LINE_LIMIT}
+use Rattle.hull_pool.specs.Answers.{AnswersValue, WorkersValue, no_answers}
+use Rattle.hull_pool.specs.Work.{HasWorked, capacity_of, workers_of}
+
+-- the calls of a worker in a phase
+abbrev pub job : PhaseValue → ℕ → List Call
+job phase k = slice_index_or phase k []
+
+-- the answers of a worker
+abbrev pub answers_of : WorkersValue → ℕ → AnswersValue
+answers_of w k = slice_index_or w.answers k no_answers
+
+-- The workers may run the phase on the book: it is lawful, the ledgers are its own, there is a list of calls for each
+-- worker, none longer than a text, and room for an answer to each call.
+pub record MayRun (b : BookValue) (w : WorkersValue) (phase : PhaseValue) : Type 0 where
+  pub lawful : IsLawful b
+  pub some : 1 ≤ workers_of b
+  pub ledgers : AreLedgers b w.ledgers
+  pub answers : length w.answers ≡ workers_of b
+  pub jobs : length phase ≡ workers_of b
+  pub few : (k : ℕ) → k < workers_of b → length (job phase k) ≤ TEXT_LINE_LIMIT
+  pub room : (k : ℕ) → k < workers_of b → length (job phase k) ≤ (answers_of w k).room
+
+-- The phase was run. The book is lawful, with the same head; its journal is the earlier one and then new lines, as many
+-- as the phase has calls or, where that is less, as the journal had room; the new lines of each worker are a front of its
+-- calls in their order, and its new answers are their replies and then that the journal is full; the ledgers are the
+-- book's own.
+pub record HasRunPhase (b : BookValue) (w : WorkersValue) (phase : PhaseValue) (c : BookValue) (v : WorkersValue) : Type 0 where
+  pub lawful : IsLawful c
+  pub head : c.head ≡ b.head
+  pub begins : IsPrefix b.lines c.lines
+  pub as_many : length c.lines ≡ min (length b.lines + calls_in phase) (capacity_of b)
+  pub each : (k : ℕ) → k < workers_of b → HasWorked k (capacity_of b) (length (job phase k)) (job phase k) b.lines c.lines (answers_of w k).answers (answers_of v k).answers
+  pub ledgers : AreLedgers c v.ledgers
+  pub answers : length v.answers ≡ workers_of b
+  pub room : (k : ℕ) → k < workers_of b → (answers_of v k).room + length (job phase k) ≡ (answers_of w k).room

@@ -1,0 +1,45 @@
+//! One call of a worker: it enters the lock, has the call served, and hands the book on.
+ghost use Rattle.std.specs.Prelude.{◌≡◌, ◌<◌, ◌≤◌, length, box_value, IsErr};
+ghost use mathlib.Core.List.{IsPrefix};
+ghost use Rattle.ticket_lock.specs.Tokens.{opening_book, IsSeatOf, seat_number, seat_seen};
+ghost use Rattle.hull_book.specs.Ledgers.{IsLedgerOf};
+ghost use Rattle.hull_pool.specs.Crews.{book_head};
+ghost use Rattle.hull_pool.specs.Work.{HasCalled, capacity_of, workers_of};
+
+use hull_book::{Answer, Book, Ledger};
+use hull_plain::{Call, HullSet};
+use std::sync::Wait;
+use ticket_lock::{Seat, TicketLock};
+
+/// The lock round a book on the heap, which is cheap to hand on.
+pub(crate) type Lock<S> = TicketLock<Box<Book<S>>>;
+
+/// A seat of that lock.
+pub(crate) type BookSeat<S> = Seat<Box<Book<S>>>;
+
+/// Has one call served. The seat that comes back has seen the journal as it handed it on.
+pub(crate) fn make_call<R: Wait, S: HullSet + Drop>(
+    rt: &R,
+    lock: &TicketLock<Box<Book<S>>>,
+    seat: Seat<Box<Book<S>>>,
+    number: u8,
+    call: Call,
+    ledger: &mut Ledger,
+) -> (Seat<Box<Book<S>>>, Answer)
+    requires own { IsSeatOf book_head lock.now seat }
+    requires number { seat_number seat ≡ number }
+    requires below { number < workers_of (box_value (opening_book lock.now)) }
+    requires ledger { IsLedgerOf number (seat_seen seat) ledger.old }
+    ensures own { IsSeatOf book_head lock.now result.0 }
+    ensures number { seat_number result.0 ≡ number }
+    ensures ledger { IsLedgerOf number (seat_seen result.0) ledger.new }
+    ensures begins { IsPrefix (seat_seen seat) (seat_seen result.0) }
+    ensures called { HasCalled number (capacity_of (box_value (opening_book lock.now))) call (seat_seen seat) (seat_seen result.0) result.1 }
+    ensures stays_full { capacity_of (box_value (opening_book lock.now)) ≤ length (seat_seen seat) → IsErr result.1 }
+{
+    let mut guard = lock.enter(rt, seat);
+    let book = guard.book();
+    let answer = book.serve(number, call, ledger);
+    let seat = guard.hand_on();
+    (seat, answer)
+}

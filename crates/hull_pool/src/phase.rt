@@ -1,0 +1,125 @@
+//! One phase: a lock is opened round the book, the workers run, and the lock is closed.
+ghost use Rattle.std.specs.Prelude.{◌≡◌, ◌≤◌, [], OnOk, OnErr, All, box_value, vec_len, vec_capacity};
+ghost use Rattle.ticket_lock.specs.Tokens.{seat_count, opening_book, IsSeatOf, AreNumbered, seat_seen};
+ghost use Rattle.hull_pool.specs.Answers.{shown_workers};
+ghost use Rattle.hull_pool.specs.Crews.{book_head};
+ghost use Rattle.hull_pool.specs.Work.{workers_of};
+ghost use Rattle.hull_pool.specs.Runs.{MayRun, HasRunPhase};
+
+use super::crew::{dismiss, hire};
+use super::gate::Gate;
+use super::worker::{Worker, work_all};
+use super::workers::Workers;
+use hull_book::{Answer, Book, Ledger, Phase};
+use hull_plain::HullSet;
+use std::alloc::Global;
+use std::sync::Wait;
+use std::thread::Threads;
+use ticket_lock::{Seat, TicketLock};
+
+/// Why a phase was not run.
+#[derive(Clone, Copy, PartialEq, Eq, Debug)]
+pub enum PoolFault {
+    /// Memory for the lock or for setting the phase up was refused.
+    NoMemory,
+}
+
+/// What is there after a run: the book, which is closed, the workers, and how it ended.
+pub struct PhaseEnd<S: HullSet + Drop> {
+    /// The book, lawful in every case.
+    pub book: Book<S>,
+    /// The workers with their answers and ledgers.
+    pub workers: Workers,
+    /// Whether all was run; else the phase that was refused was not run at all.
+    pub ended: Result<(), PoolFault>,
+}
+
+/// Runs the workers over the phase under a lock that was opened for them, and closes it.
+fn run_locked<R: Threads + Wait + Sync, S: HullSet + Drop + Send + Sync, G: Gate>(
+    rt: &R,
+    lock: TicketLock<Box<Book<S>>>,
+    mut seats: Vec<Seat<Box<Book<S>>>>,
+    answers: &mut Vec<Vec<Answer>>,
+    ledgers: &mut Vec<Ledger>,
+    mut crew: Vec<Worker<Box<Book<S>>>>,
+    phase: &Phase,
+    gate: &G,
+) -> Box<Book<S>>
+    requires crew { (crew.items ≡ []) × (vec_len seats ≤ vec_capacity crew) }
+    requires seats { (seat_count lock ≡ workers_of (box_value (opening_book lock))) × (vec_len seats ≡ seat_count lock) × (vec_len seats ≤ vec_capacity seats) × All (IsSeatOf book_head lock) seats.items × AreNumbered seats.items × All (λ s. seat_seen s ≡ (box_value (opening_book lock)).lines) seats.items }
+    requires may { MayRun (box_value (opening_book lock)) (shown_workers answers.old.items ledgers.old.items) phase.now }
+    ensures { HasRunPhase (box_value (opening_book lock)) (shown_workers answers.old.items ledgers.old.items) phase.now (box_value result) (shown_workers answers.new.items ledgers.new.items) }
+{
+    hire(&mut seats, answers, ledgers, &mut crew);
+    work_all(rt, &lock, phase, gate, &mut crew);
+    dismiss(&mut crew, &mut seats, answers, ledgers);
+    crew.destroy_empty();
+    lock.close(seats)
+}
+
+/// Runs the workers over one phase of calls: a lock with a seat for each worker is opened round the book, the workers
+/// run, each in a thread of its own where the system starts that many, and the lock is closed.
+///
+/// `NoMemory` where the lock or the set-up was refused; nothing of the phase ran then.
+pub fn run_phase<R: Threads + Wait + Sync, S: HullSet + Drop + Send + Sync, G: Gate>(
+    rt: &R,
+    alloc: Global,
+    book: Book<S>,
+    workers: Workers,
+    phase: &Phase,
+    gate: &G,
+) -> PhaseEnd<S>
+    requires { MayRun book workers phase.now }
+    ensures ran { OnOk result.ended (HasRunPhase book workers phase.now result.book result.workers) }
+    ensures refused { OnErr result.ended ((result.book ≡ book) × (result.workers ≡ workers)) }
+{
+    let seats = book.workers();
+    let Ok(mut crew) = Vec::with_capacity(alloc, usize::from(seats)) else {
+        return PhaseEnd {
+            book,
+            workers,
+            ended: Err(PoolFault::NoMemory),
+        };
+    };
+    let boxed = match Box::new(alloc, book) {
+        Ok(boxed) => boxed,
+        Err(refused) => {
+            crew.destroy_empty();
+            return PhaseEnd {
+                book: refused.value,
+                workers,
+                ended: Err(PoolFault::NoMemory),
+            };
+        }
+    };
+    let (lock, mut places) = match TicketLock::open(alloc, boxed, seats) {
+        Ok(made) => made,
+        Err((_, boxed)) => {
+            crew.destroy_empty();
+            return PhaseEnd {
+                book: Box::into_inner(boxed),
+                workers,
+                ended: Err(PoolFault::NoMemory),
+            };
+        }
+    };
+    let Workers {
+        mut answers,
+        mut ledgers,
+    } = workers;
+    let boxed = run_locked(
+        rt,
+        lock,
+        places,
+        &mut answers,
+        &mut ledgers,
+        crew,
+        phase,
+        gate,
+    );
+    PhaseEnd {
+        book: Box::into_inner(boxed),
+        workers: Workers { answers, ledgers },
+        ended: Ok(()),
+    }
+}
