@@ -4,3 +4,5 @@ pub mod Teams
 pub mod Phases
 pub mod Growth
 pub mod Reversed
+pub mod Chained
+pub mod Fronts

@@ -1,6 +1,7 @@
 -- The answers of workers as contracts see them.
-use Rattle.std.specs.Prelude.{ℕ, ◌-◌, List, [], map, Vec, vec_capacity, length}
+use Rattle.std.specs.Prelude.{◌≡◌, ◌<◌, ◌≤◌, slice_index_or, ℕ, ◌-◌, List, [], map, Vec, vec_capacity, length}
 use Rattle.hull_book.specs.Ledgers.{LedgerValue}
+use Rattle.hull_book.specs.Scripts.{PhaseValue, calls_of}
 use Rattle.hull_plain.specs.declared.reply.Reply.{Reply}
 use Rattle.hull_book.specs.declared.report.JournalFull.{JournalFull}
 use Rattle.std.specs.Prelude.{Result}
@@ -30,3 +31,13 @@ no_answers = record { answers = []; room = 0 }
 -- what the workers show whose answers and ledgers these are
 abbrev pub shown_workers : {A : Type 0} → List (Vec Answer A) → List LedgerValue → WorkersValue
 shown_workers answers ledgers = record { answers = map (λ v. shown v) answers; ledgers = ledgers }
+
+-- the lists in these vectors
+abbrev pub lists_in : {A : Type 0} → List (Vec Answer A) → List (List Answer)
+lists_in vectors = map (λ v. v.items) vectors
+
+-- no answer was given yet, and each worker has room for an answer to each of its calls
+pub record HasRoomFor (workers : ℕ) (phases : List PhaseValue) (answers : List AnswersValue) : Type 0 where
+  pub number : length answers ≡ workers
+  pub none : (k : ℕ) → k < workers → (slice_index_or answers k no_answers).answers ≡ []
+  pub room : (k : ℕ) → k < workers → length (calls_of k phases) ≤ (slice_index_or answers k no_answers).room

@@ -2,3 +2,4 @@ pub mod Work
 pub mod Answers
 pub mod Crews
 pub mod Runs
+pub mod Scripts

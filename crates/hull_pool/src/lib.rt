@@ -12,5 +12,5 @@ mod worker;
 mod workers;
 
 pub use gate::{Gate, NoGate};
-pub use phase::{PhaseEnd, PoolFault, run_phase};
+pub use phase::{PhaseEnd, PoolFault, run_phase, run_phases};
 pub use workers::Workers;

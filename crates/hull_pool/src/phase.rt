@@ -5,12 +5,13 @@ ghost use Rattle.hull_pool.specs.Answers.{shown_workers};
 ghost use Rattle.hull_pool.specs.Crews.{book_head};
 ghost use Rattle.hull_pool.specs.Work.{workers_of};
 ghost use Rattle.hull_pool.specs.Runs.{MayRun, HasRunPhase};
+ghost use Rattle.hull_pool.specs.Scripts.{MayRunAll, Runs, RunsFront};
 
 use super::crew::{dismiss, hire};
 use super::gate::Gate;
 use super::worker::{Worker, work_all};
 use super::workers::Workers;
-use hull_book::{Answer, Book, Ledger, Phase};
+use hull_book::{Answer, Book, Ledger, Phase, Script};
 use hull_plain::HullSet;
 use std::alloc::Global;
 use std::sync::Wait;
@@ -120,6 +121,47 @@ pub fn run_phase<R: Threads + Wait + Sync, S: HullSet + Drop + Send + Sync, G: G
     PhaseEnd {
         book: Box::into_inner(boxed),
         workers: Workers { answers, ledgers },
+        ended: Ok(()),
+    }
+}
+
+/// Runs the phases of a script in their order, and stops at the first that is refused.
+///
+/// `NoMemory` where a phase was refused; those before it ran whole, and nothing of it.
+pub fn run_phases<R: Threads + Wait + Sync, S: HullSet + Drop + Send + Sync, G: Gate>(
+    rt: &R,
+    alloc: Global,
+    book: Book<S>,
+    workers: Workers,
+    script: &Script,
+    gate: &G,
+) -> PhaseEnd<S>
+    requires { MayRunAll book workers script.now.phases }
+    ensures ran { OnOk result.ended (Runs book workers script.now.phases result.book result.workers) }
+    ensures refused { OnErr result.ended (RunsFront book workers script.now.phases result.book result.workers) }
+{
+    let mut book = book;
+    let mut workers = workers;
+    for phase in script.phases() {
+        let end = run_phase(rt, alloc, book, workers, phase, gate);
+        let PhaseEnd {
+            book: after,
+            workers: with,
+            ended,
+        } = end;
+        book = after;
+        workers = with;
+        if let Err(fault) = ended {
+            return PhaseEnd {
+                book,
+                workers,
+                ended: Err(fault),
+            };
+        }
+    }
+    PhaseEnd {
+        book,
+        workers,
         ended: Ok(()),
     }
 }

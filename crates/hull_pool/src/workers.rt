@@ -1,8 +1,9 @@
-ghost use Rattle.std.specs.Prelude.{◌≡◌, ◌≤◌, ◌<◌, ℕ, IfOk, IfErr, length, map, vec_len, slice_index_or, []};
-ghost use Rattle.hull_book.specs.Scripts.{calls_of};
-ghost use Rattle.hull_pool.specs.Answers.{AnswersValue};
+ghost use Rattle.std.specs.Prelude.{◌≡◌, ◌≤◌, ◌<◌, All, IfOk, IfErr, length, map, vec_len};
+ghost use Rattle.hull_book.specs.Scripts.{calls_of, calls_in_all};
+ghost use Rattle.hull_book.specs.declared.limits.TheConstants.{TEXT_LINE_LIMIT};
+ghost use Rattle.hull_pool.specs.Answers.{HasRoomFor, lists_in, shown};
 
-use hull_book::{Answer, Ledger, Script};
+use hull_book::{Answer, Ledger, Phase, Script};
 use hull_plain::NoMemory;
 use std::alloc::{AllocError, Global};
 use std::marker::Model;
@@ -14,10 +15,66 @@ pub struct Workers {
 }
 
 impl Model for Workers {
-    ghost use Rattle.std.specs.Prelude.{map};
-    ghost use Rattle.hull_pool.specs.Answers.{WorkersValue, shown};
+    ghost use Rattle.hull_pool.specs.Answers.{WorkersValue, shown_workers};
 
     ghost Value = { WorkersValue };
 
-    ghost view = { λ w. record { answers = map (λ v. shown v) w.answers.items; ledgers = w.ledgers.items } };
+    ghost view = { λ w. shown_workers w.answers.items w.ledgers.items };
+}
+
+/// How many calls a worker has in these phases.
+fn count_of(phases: &[Phase], worker: u8) -> usize
+    requires jobs { All (λ phase. worker < length phase) phases.now }
+    requires few { calls_in_all phases.now ≤ TEXT_LINE_LIMIT }
+    ensures { result ≡ length (calls_of worker phases.now) }
+{
+    let mut count = 0;
+    let mut rest = phases;
+    while let Some((phase, after)) = rest.split_first() {
+        count += phase.calls(worker).len();
+        rest = after;
+    }
+    count
+}
+
+/// A list for each worker, with room for its answers.
+fn lists_for(alloc: Global, script: &Script) -> Result<Vec<Vec<Answer>>, AllocError>
+    ensures { IfOk result (λ lists. HasRoomFor script.now.workers script.now.phases (map (λ v. shown v) lists.items)) }
+{
+    let workers = script.workers();
+    let mut lists = Vec::with_capacity(alloc, usize::from(workers))?;
+    for worker in 0..workers {
+        lists.push_reserved(Vec::with_capacity(alloc, count_of(script.phases(), worker))?);
+    }
+    Ok(lists)
+}
+
+impl Workers {
+    /// Workers with these ledgers, in the order of their seats, and with room for every answer of the script.
+    ///
+    /// `NoMemory` where memory for that room was refused; the ledgers come back with it.
+    pub fn new(
+        alloc: Global,
+        ledgers: Vec<Ledger>,
+        script: &Script,
+    ) -> Result<Workers, (NoMemory, Vec<Ledger>)>
+        requires { vec_len ledgers ≡ script.now.workers }
+        ensures ledgers { IfOk result (λ w. w.ledgers ≡ ledgers.items) }
+        ensures room { IfOk result (λ w. HasRoomFor script.now.workers script.now.phases w.answers) }
+        ensures back { IfErr result (λ e. e.1 ≡ ledgers) }
+    {
+        match lists_for(alloc, script) {
+            Ok(answers) => Ok(Workers { answers, ledgers }),
+            Err(_) => Err((NoMemory, ledgers)),
+        }
+    }
+
+    /// Each worker's answers in their order, and the ledgers. It takes no memory.
+    pub fn into_parts(self) -> (Vec<Vec<Answer>>, Vec<Ledger>)
+        ensures answers { lists_in result.0.items ≡ map (λ a. a.answers) self.answers }
+        ensures ledgers { result.1.items ≡ self.ledgers }
+    {
+        let Workers { answers, ledgers } = self;
+        (answers, ledgers)
+    }
 }

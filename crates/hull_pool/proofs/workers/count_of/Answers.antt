@@ -1,0 +1,22 @@
+use Rattle.std.proofs.Common.{◌≡◌, ◌+◌, ◌<◌, ◌∙◌, arith, ap, subst, sym, All, length, length-append, List, [], rules}
+use Rattle.std.specs.Prelude.{slice_index_or}
+use Rattle.std.proofs.lemmas.List.Elements.{All-head, All-tail}
+use Rattle.hull_book.specs.Scripts.{PhaseValue, calls_of}
+use Rattle.hull_pool.proofs.Fronts.{calls_le, counted_more}
+use Rattle.hull_pool.proofs.workers.count_of.Goals as goal
+
+pub loop-phase-init : goal.loop-phase-init
+loop-phase-init c = record {
+  counted = omega arith;
+  jobs = c.requires.jobs;
+  few = omega (arith, calls_le c.args.phases.now c.args.worker, c.requires.few);
+}
+
+pub loop-phase-preserved : goal.loop-phase-preserved
+loop-phase-preserved c =
+    let inv = c.loop-phase.invariant in
+    let split = c.in-Some.ensures.cases.0 in record {
+      counted = counted_more _ _ _ _ _ _ _ split c.calls.ensures inv.counted;
+      jobs = All-tail (λ phase. c.args.worker < length phase) _ _ (subst (All (λ phase. c.args.worker < length phase)) split inv.jobs);
+      few = inv.few;
+    }

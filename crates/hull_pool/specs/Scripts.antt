@@ -1,0 +1,50 @@
+-- What a run of all phases of a script comes to.
+use Rattle.std.specs.Prelude.{◌≡◌, ◌+◌, ◌<◌, ◌≤◌, ◌++◌, ℕ, min, List, [], ◌∷◌, length, Result, Ok, Err}
+use Rattle.std.specs.List.{All}
+use mathlib.Core.List.{IsPrefix}
+use Rattle.hull_book.specs.declared.line.Line.{Line}
+use Rattle.hull_book.specs.Books.{BookValue, IsLawful}
+use Rattle.hull_book.specs.Ledgers.{AreLedgers}
+use Rattle.hull_book.specs.Scripts.{PhaseValue, calls_in_all, calls_of}
+use Rattle.hull_book.specs.declared.limits.TheConstants.{TEXT_LINE_LIMIT}
+use Rattle.hull_pool.specs.Answers.{WorkersValue}
+use Rattle.hull_pool.specs.Runs.{HasRunPhase, answers_of}
+use Rattle.hull_pool.specs.Work.{HasWorked, capacity_of, workers_of}
+
+-- The workers may run these phases on the book: it is lawful, the ledgers are its own, each phase has a list of calls for
+-- each worker, there are no more calls than a text has lines, and there is room for an answer to each.
+pub record MayRunAll (b : BookValue) (w : WorkersValue) (phases : List PhaseValue) : Type 0 where
+  pub lawful : IsLawful b
+  pub some : 1 ≤ workers_of b
+  pub ledgers : AreLedgers b w.ledgers
+  pub answers : length w.answers ≡ workers_of b
+  pub jobs : All (λ phase. length phase ≡ workers_of b) phases
+  pub few : calls_in_all phases ≤ TEXT_LINE_LIMIT
+  pub room : (k : ℕ) → k < workers_of b → length (calls_of k phases) ≤ (answers_of w k).room
+
+-- the phases were run one after the other: all lines of a phase stand before those of the next
+abbrev pub HasRunPhases : BookValue → WorkersValue → List PhaseValue → BookValue → WorkersValue → Type 0
+HasRunPhases b w [] c v = (c ≡ b) × (v ≡ w)
+HasRunPhases b w (phase ∷ phases) c v = (m : BookValue) × (x : WorkersValue) × HasRunPhase b w phase m x × HasRunPhases m x phases c v
+
+-- All phases were run. The book is lawful, with the same head; its journal is the earlier one and then new lines, as many
+-- as there are calls or, where that is less, as the journal had room; the new lines of each worker are a front of its
+-- calls over all phases in their order, and its new answers are their replies and then that the journal is full; the
+-- ledgers are the book's own.
+pub record HasRunAll (b : BookValue) (w : WorkersValue) (phases : List PhaseValue) (c : BookValue) (v : WorkersValue) : Type 0 where
+  pub lawful : IsLawful c
+  pub head : c.head ≡ b.head
+  pub begins : IsPrefix b.lines c.lines
+  pub as_many : length c.lines ≡ min (length b.lines + calls_in_all phases) (capacity_of b)
+  pub each : (k : ℕ) → k < workers_of b → HasWorked k (capacity_of b) (length (calls_of k phases)) (calls_of k phases) b.lines c.lines (answers_of w k).answers (answers_of v k).answers
+  pub ledgers : AreLedgers c v.ledgers
+  pub answers : length v.answers ≡ workers_of b
+  pub room : (k : ℕ) → k < workers_of b → (answers_of v k).room + length (calls_of k phases) ≡ (answers_of w k).room
+
+-- the phases were run, one after the other, to what they come to in all
+abbrev pub Runs : BookValue → WorkersValue → List PhaseValue → BookValue → WorkersValue → Type 0
+Runs b w phases c v = HasRunPhases b w phases c v × HasRunAll b w phases c v
+
+-- the phases before one that was refused were run, and nothing of it
+abbrev pub RunsFront : BookValue → WorkersValue → List PhaseValue → BookValue → WorkersValue → Type 0
+RunsFront b w phases c v = (front : List PhaseValue) × (back : List PhaseValue) × (phases ≡ front ++ back) × Runs b w front c v
