@@ -2,3 +2,4 @@ pub mod Trees
 pub mod Search
 pub mod TurnedTrees
 pub mod OneWay
+pub mod Listed

@@ -6,7 +6,11 @@
 #![tactic(auto)]
 
 mod half;
+#[cfg(test)]
+mod listed;
 mod search;
+#[cfg(test)]
+mod tests;
 mod turned;
 
 pub use half::Half;

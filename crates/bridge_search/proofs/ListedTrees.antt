@@ -1,0 +1,44 @@
+-- The parts of a half over a lent list.
+use Rattle.std.proofs.Common.{◌≡◌, ◌≤◌, ◌<◌, length, slice_index_or, refl, arith, List, [], ◌∷◌, Some, None}
+use Rattle.bridge_search.specs.Trees.{Leaf, Fork, IsBridged, IsFork, edge_of, lower_of}
+use Rattle.bridge_search.specs.Listed.{Entry, listed_tree}
+
+-- a half with edges has two points
+pub fork_listed : (es : List Entry) → IsFork (listed_tree es) → 2 ≤ length es
+fork_listed [] h = absurd h
+fork_listed (e ∷ []) h = absurd h
+fork_listed (e ∷ f ∷ es) h = omega arith
+
+-- the part that it keeps
+pub bridged_rest : (e : Entry) (es : List Entry) → 1 ≤ length es → IsBridged (listed_tree (e ∷ es)) → IsBridged (listed_tree es)
+bridged_rest e [] h k = absurd (omega arith)
+bridged_rest e (f ∷ es) h k = k.3
+
+-- a point behind a list, with the bridges between them, is a list
+pub bridged_more : (e : Entry) (es : List Entry) → 1 ≤ length es → IsBridged (Fork e.1 e.2 (listed_tree es) (Leaf e.0)) → IsBridged (listed_tree (e ∷ es))
+bridged_more e [] h k = absurd (omega arith)
+bridged_more e (f ∷ es) h k = k
+
+-- one point has no upper edge
+pub edge_one : (es : List Entry) → length es < 2 → None ≡ edge_of (listed_tree es)
+edge_one [] h = refl
+edge_one (e ∷ []) h = refl
+edge_one (e ∷ f ∷ es) h = absurd (omega arith)
+
+-- two points and more have the upper edge of the first entry
+pub edge_more : (es : List Entry) (d : Entry) → 2 ≤ length es → Some (slice_index_or es 0 d).1 ≡ edge_of (listed_tree es)
+edge_more [] d h = absurd (omega arith)
+edge_more (e ∷ []) d h = absurd (omega arith)
+edge_more (e ∷ f ∷ es) d h = refl
+
+-- one point has no lower edge
+pub lower_one : (es : List Entry) → length es < 2 → None ≡ lower_of (listed_tree es)
+lower_one [] h = refl
+lower_one (e ∷ []) h = refl
+lower_one (e ∷ f ∷ es) h = absurd (omega arith)
+
+-- two points and more have the lower edge of the first entry
+pub lower_more : (es : List Entry) (d : Entry) → 2 ≤ length es → Some (slice_index_or es 0 d).2 ≡ lower_of (listed_tree es)
+lower_more [] d h = absurd (omega arith)
+lower_more (e ∷ []) d h = absurd (omega arith)
+lower_more (e ∷ f ∷ es) d h = refl

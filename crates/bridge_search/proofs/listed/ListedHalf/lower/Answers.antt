@@ -1,0 +1,9 @@
+use Rattle.std.proofs.Common.{arith}
+use Rattle.bridge_search.proofs.ListedTrees.{lower_one, lower_more}
+use Rattle.bridge_search.proofs.listed.ListedHalf.lower.Goals as goal
+
+pub returns-then-self-lt2 : goal.returns-then-self-lt2
+returns-then-self-lt2 c = lower_one c.args.self.entries.now (omega (arith, c.if-self-lt2.true))
+
+pub returns-else-self-lt2 : goal.returns-else-self-lt2
+returns-else-self-lt2 c = lower_more c.args.self.entries.now c.index-self-0.result (omega (arith, c.if-self-lt2.false))

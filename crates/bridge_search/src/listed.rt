@@ -1,0 +1,129 @@
+//! A small half for the tests, over a lent list of points.
+ghost use Rattle.std.specs.Prelude.{◌≡◌, ◌≤◌, ◌∷◌, [], Option, None, IfOk, IfSome, MatchOption, length};
+ghost use Rattle.bridge_search.specs.Trees.{Leaf, Fork, IsBridged, first_of};
+ghost use Rattle.bridge_search.specs.Listed.{listed_tree};
+ghost use Rattle.bridge_search.specs.OneWay.{IsBridged-prop};
+
+use super::half::Half;
+use super::search::upper_bridge;
+use super::turned::lower_bridge;
+use lattice::{Point, before};
+use std::test::Fail;
+
+/// A point, and the upper and the lower edge between the points before it and itself.
+pub type Entry = (Point, (Point, Point), (Point, Point));
+
+/// The half of the points of a list, which come from right to left. The right half is the last point alone.
+#[derive(Clone, Copy)]
+pub struct Listed<'a> {
+    entries: &'a [Entry],
+    ghost bridged: { IsBridged (listed_tree entries.now) } by { IsBridged-prop (listed_tree entries.now) },
+    ghost filled: { 1 ≤ length entries.now },
+}
+
+/// The first of the points of a list that is not empty.
+fn first_point(entries: &[Entry]) -> Point
+    requires { 1 ≤ length entries.now }
+    ensures { result ≡ first_of (listed_tree entries.now) }
+{
+    if entries.len() == 1 {
+        entries[0].0
+    } else {
+        first_point(&entries[1..])
+    }
+}
+
+impl<'a> Listed<'a> {
+    /// The half of a list, or nothing where it is empty.
+    pub fn new(entries: &'a [Entry]) -> Option<Listed<'a>>
+        requires { IsBridged (listed_tree entries.now) }
+        ensures { MatchOption result (entries.now ≡ []) (λ h. h.entries.now ≡ entries.now) }
+    {
+        if entries.is_empty() {
+            None
+        } else {
+            Some(Listed { entries })
+        }
+    }
+}
+
+impl<'a> Half for Listed<'a> {
+    ghost tree = { λ s. listed_tree s.entries.now };
+
+    fn edge(self) -> Option<(Point, Point)> {
+        if self.entries.len() < 2 {
+            None
+        } else {
+            Some(self.entries[0].1)
+        }
+    }
+
+    fn lower(self) -> Option<(Point, Point)> {
+        if self.entries.len() < 2 {
+            None
+        } else {
+            Some(self.entries[0].2)
+        }
+    }
+
+    #[tactic(auto, using(crate::proofs::ListedTrees::fork_listed, crate::proofs::ListedTrees::bridged_rest))]
+    fn left(self) -> Self {
+        Listed {
+            entries: &self.entries[1..],
+        }
+    }
+
+    #[tactic(auto, using(crate::proofs::ListedTrees::fork_listed))]
+    fn right(self) -> Self {
+        Listed {
+            entries: &self.entries[..1],
+        }
+    }
+
+    fn first(self) -> Point {
+        first_point(self.entries)
+    }
+
+    fn last(self) -> Point {
+        self.entries[0].0
+    }
+
+    ghost bridged = { λ s. s.bridged };
+}
+
+/// The upper and the lower bridge of two halves, or nothing where the one does not end before the other begins.
+pub fn bridges<H: Half>(u: H, w: H) -> Option<((Point, Point), (Point, Point))>
+    ensures { IfSome result (λ e. IsBridged (Fork e.0 e.1 (H.tree u) (H.tree w))) }
+{
+    if before(u.last(), w.first()) {
+        Some((upper_bridge(u, w), lower_bridge(u, w)))
+    } else {
+        None
+    }
+}
+
+/// The entry of a point behind the others, with the edges between them and it; nothing where the point does not
+/// stand after all of them.
+#[tactic(auto, using(crate::proofs::ListedTrees::bridged_more))]
+fn entry_behind(entries: &[Entry], point: Point) -> Option<Entry>
+    requires { IsBridged (listed_tree entries.now) }
+    ensures { IfSome result (λ e. IsBridged (listed_tree (e ∷ entries.now))) }
+{
+    let alone = [(point, (point, point), (point, point))];
+    let Some(half) = Listed::new(entries) else {
+        return Some(alone[0]);
+    };
+    let single = Listed { entries: &alone };
+    let (upper, lower) = bridges(half, single)?;
+    Some((point, upper, lower))
+}
+
+/// Puts a point behind the others, which must all stand before it.
+pub fn put_behind(entries: &mut Vec<Entry>, point: Point) -> Result<(), Fail>
+    requires { IsBridged (listed_tree entries.old.items) }
+    ensures { IfOk result (λ _. IsBridged (listed_tree entries.new.items)) }
+{
+    let entry = entry_behind(entries, point).ok_or("order")?;
+    entries.insert(0, entry)?;
+    Ok(())
+}
