@@ -1,5 +1,5 @@
 -- A half over a lent list of points, with the edges that part each point from those before it.
-use Rattle.std.specs.Prelude.{◌≡◌, ℕ, pos, List, [], ◌∷◌}
+use Rattle.std.specs.Prelude.{pos, List, [], ◌∷◌}
 use Rattle.lattice.specs.Plane.{Pair}
 use Rattle.bridge_search.specs.Trees.{Tree, Leaf, Fork}
 

@@ -1,6 +1,4 @@
-use Rattle.std.proofs.Common.{sym, ◌∙◌}
 use Rattle.lattice.specs.Plane.{IsBefore}
-use Rattle.bridge_search.specs.Trees.{first_of, last_of}
 use Rattle.bridge_search.proofs.Ends.{all_before}
 use Rattle.bridge_search.proofs.Signs.{passed}
 use Rattle.bridge_search.proofs.listed.bridges.Goals as goal
