@@ -9,18 +9,22 @@ use Rattle.bridge_search.proofs.Steps.{before_asym, before_trans}
 use Rattle.bridge_search.proofs.Turns.{first_by}
 use Rattle.lattice.proofs.UniqueBridge.{same_point}
 
+-- the last point is a point of the half
 pub on_last : (t : Tree) → On t (last_of t)
 on_last (Leaf x) = refl
 on_last (Fork e f u w) = inr (on_last w)
 
+-- no point stands before itself
 irreflexive : (p : Pair) → IsBefore p p → ⊥
 irreflexive p h = omega (arith, linear)
 
+-- no point of a half stands after its last point
 pub last_by : (t : Tree) → IsBridged t → (p : Pair) → On t p → IsBefore (last_of t) p → ⊥
 last_by (Leaf x) h p i b = irreflexive x (rw i at b)
 last_by (Fork e f u w) h p (inl i) b = before_asym p (last_of w) (h.0 p (last_of w) i (on_last w)) b
 last_by (Fork e f u w) h p (inr i) b = last_by w h.4 p i b
 
+-- two points are the same, or one stands before the other
 order : (p q : Pair) → IsBefore p q ⊎ ((p ≡ q) ⊎ IsBefore q p)
 order p q =
     by_lt_z p.x q.x (λ g. inl (inl g))
@@ -35,5 +39,6 @@ between p a b q h k l =
     let pb : IsBefore p b = ⊎_elim (λ x. before_trans p a b x k) (λ r. ⊎_elim (λ e. rw e k) (λ x. absurd (h x)) r) (order p a) in
     ⊎_elim (λ x. before_trans p b q pb x) (λ r. ⊎_elim (λ e. rw e at pb) (λ x. absurd (l x)) r) (order b q)
 
+-- where the last point of u stands before the first of w, all of u stands before all of w
 pub all_before : (u w : Tree) → IsBridged u → IsBridged w → IsBefore (last_of u) (first_of w) → IsAllBefore (On u) (On w)
 all_before u w h k b p q i j = between p (last_of u) (first_of w) q (last_by u h p i) b (first_by w k q j)

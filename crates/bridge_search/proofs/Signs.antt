@@ -11,15 +11,19 @@ use Rattle.lattice.specs.Plane.{Pair, orient, IsWithin, widest_side}
 use Rattle.lattice.specs.Crossing.{IsWeightedAtOrBefore, IsCrossingAtOrBefore}
 use Rattle.lattice.proofs.Casts.{cast_side}
 
-pub not_under : (r z : ℤ) → IsWithin (widest_side) r → r ≡ z → le_z (pos 0) (to_z w128 (of_z w128 r)) ≡ true → pos 0 ≤ℤ z
+-- where the test against 0 passes, the side is not negative
+pub not_under : (r z : ℤ) → IsWithin widest_side r → r ≡ z → le_z (pos 0) (to_z w128 (of_z w128 r)) ≡ true → pos 0 ≤ℤ z
 not_under r z f e h = omega (arith, ints)
 
-pub is_under : (r z : ℤ) → IsWithin (widest_side) r → r ≡ z → le_z (pos 0) (to_z w128 (of_z w128 r)) ≡ false → z <ℤ pos 0
+-- where the test against 0 fails, the side is negative
+pub is_under : (r z : ℤ) → IsWithin widest_side r → r ≡ z → le_z (pos 0) (to_z w128 (of_z w128 r)) ≡ false → z <ℤ pos 0
 is_under r z f e h = omega (arith, ints)
 
+-- a test that passed says what it stands for
 pub passed : (r : Bool) (P : Type 0) → r ≡ true → (IsTrue r ↔ P) → P
 passed r P e h = h.0 e
 
+-- a test that failed says that it does not hold
 pub failed : (r : Bool) (P : Type 0) → r ≡ false → (IsTrue r ↔ P) → P → ⊥
 failed r P e h p = let t : r ≡ true = h.1 p in cc
 

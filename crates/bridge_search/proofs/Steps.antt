@@ -10,9 +10,11 @@ use Rattle.lattice.specs.Integers.{linear}
 use Rattle.lattice.proofs.Lines.{under, over}
 use Rattle.lattice.proofs.LineCrossings.{orient_start, orient_end, orient_cycle, right_of_crossing, left_of_crossing}
 
+-- of two points only one stands before the other
 pub before_asym : (p q : Pair) → IsBefore p q → IsBefore q p → ⊥
 before_asym p q h k = omega (arith, linear)
 
+-- the order goes from point to point
 pub before_trans : (p q r : Pair) → IsBefore p q → IsBefore q r → IsBefore p r
 before_trans p q r (inl h) (inl k) = inl (omega (arith, linear))
 before_trans p q r (inl h) (inr k) = inl (omega (arith, linear))
@@ -23,7 +25,7 @@ before_trans p q r (inr h) (inr k) = inr (omega (arith, linear))
 abbrev pub Joined : (Pair → Type 0) → (Pair → Type 0) → Pair → Type 0
 Joined u v t = u t ⊎ v t
 
--- ---- more points that are not over the line
+-- points behind those of the left half, none over the line
 grow_left_after : (u1 u2 w : Pair → Type 0) (p q : Pair) → IsAllBefore u1 u2 → IsAllBefore u2 w → ((t : Pair) → u2 t → orient p q t ≤ℤ pos 0) → IsUpperBridge u1 w p q → IsUpperBridge (Joined u1 u2) w p q
 grow_left_after u1 u2 w p q o12 o2 low h = record {
   from_left = inl h.from_left;
@@ -34,6 +36,7 @@ grow_left_after u1 u2 w p q o12 o2 low h = record {
   tie_right = h.tie_right;
 }
 
+-- points before those of the left half, all under the line
 grow_left_before : (u1 u2 w : Pair → Type 0) (p q : Pair) → ((t : Pair) → u1 t → orient p q t <ℤ pos 0) → IsUpperBridge u2 w p q → IsUpperBridge (Joined u1 u2) w p q
 grow_left_before u1 u2 w p q low h = record {
   from_left = inr h.from_left;
@@ -44,6 +47,7 @@ grow_left_before u1 u2 w p q low h = record {
   tie_right = h.tie_right;
 }
 
+-- points before those of the right half, none over the line
 grow_right_before : (u w1 w2 : Pair → Type 0) (p q : Pair) → IsAllBefore w1 w2 → IsAllBefore u w1 → ((t : Pair) → w1 t → orient p q t ≤ℤ pos 0) → IsUpperBridge u w2 p q → IsUpperBridge u (Joined w1 w2) p q
 grow_right_before u w1 w2 p q o12 o1 low h = record {
   from_left = h.from_left;
@@ -54,6 +58,7 @@ grow_right_before u w1 w2 p q o12 o1 low h = record {
   tie_right = λ t s e. ⊎_elim (λ a. (before_asym p t (o1 p t h.from_left a), before_asym t q (o12 t q a h.to_right))) (λ a. h.tie_right t a e) s;
 }
 
+-- points behind those of the right half, all under the line
 grow_right_after : (u w1 w2 : Pair → Type 0) (p q : Pair) → ((t : Pair) → w2 t → orient p q t <ℤ pos 0) → IsUpperBridge u w1 p q → IsUpperBridge u (Joined w1 w2) p q
 grow_right_after u w1 w2 p q low h = record {
   from_left = h.from_left;
@@ -64,7 +69,6 @@ grow_right_after u w1 w2 p q low h = record {
   tie_right = λ t s e. ⊎_elim (λ a. h.tie_right t a e) (λ a. let k : orient p q t <ℤ pos 0 = low t a in absurd (omega (arith, linear))) s;
 }
 
--- ---- the cases of the table
 -- c in w is not under ab: u2 is not needed
 pub to_left_of_left : (u1 u2 w : Pair → Type 0) (a b c p q : Pair) → IsAllBefore u1 u2 → IsAllBefore (Joined u1 u2) w → IsUpperBridge u1 u2 a b → w c → pos 0 ≤ℤ orient a b c → IsUpperBridge u1 w p q → IsUpperBridge (Joined u1 u2) w p q
 to_left_of_left u1 u2 w a b c p q o12 o e inc g h =

@@ -12,31 +12,36 @@ use Rattle.lattice.specs.Integers.{linear}
 use Rattle.lattice.proofs.LineCrossings.{orient_start, orient_end}
 use Rattle.bridge_search.proofs.Steps.{to_left_of_left, to_right_of_right, to_right_of_left, to_left_of_right, to_right_of_left_one, to_left_of_right_one}
 
+-- a half has a point
 pub size_positive : (t : Tree) → 1 ≤ size_of t
 size_positive (Leaf x) = omega arith
 size_positive (Fork e f u w) = omega (arith, size_positive u, size_positive w)
 
+-- the first point is a point of the half
 pub on_first : (t : Tree) → On t (first_of t)
 on_first (Leaf x) = refl
 on_first (Fork e f u w) = inl (on_first u)
 
+-- two edges that are the answer are the same
 same_edge : {e e' : Pair × Pair} → Some e ≡ Some e' → e ≡ e'
 same_edge h = cc
 
--- the tables of a fork's parts
 pub depth_left : (e f : Pair × Pair) (u1 u2 w : Tree) (p q : Pair) (n : ℕ) → IsDepthSum u1 w p q n → IsDepthSum (Fork e f u1 u2) w p q (n + 1)
 depth_left e f u1 u2 w p q n (i, j, a, b, h) = (i + 1, j, (i, refl, inl a), b, omega arith)
 
+-- from the right half of the left one, a fork deeper
 pub depth_right_left : (e f : Pair × Pair) (u1 u2 w : Tree) (p q : Pair) (n : ℕ) → IsDepthSum u2 w p q n → IsDepthSum (Fork e f u1 u2) w p q (n + 1)
 depth_right_left e f u1 u2 w p q n (i, j, a, b, h) = (i + 1, j, (i, refl, inr a), b, omega arith)
 
+-- from the left half of the right one, a fork deeper
 pub depth_left_right : (e f : Pair × Pair) (u w1 w2 : Tree) (p q : Pair) (n : ℕ) → IsDepthSum u w1 p q n → IsDepthSum u (Fork e f w1 w2) p q (n + 1)
 depth_left_right e f u w1 w2 p q n (i, j, a, b, h) = (i, j + 1, a, (j, refl, inl b), omega arith)
 
+-- from the right half of the right one, a fork deeper
 pub depth_right : (e f : Pair × Pair) (u w1 w2 : Tree) (p q : Pair) (n : ℕ) → IsDepthSum u w2 p q n → IsDepthSum u (Fork e f w1 w2) p q (n + 1)
 depth_right e f u w1 w2 p q n (i, j, a, b, h) = (i, j + 1, a, (j, refl, inr b), omega arith)
 
--- ---- to a half of u
+-- into the left half of u
 in_left : (e f : Pair × Pair) (u1 u2 w : Tree) (m : Pair) → IsReady (Fork e f u1 u2) w m → IsReady u1 w m
 in_left e f u1 u2 w m r = record {
   left_bridged = r.left_bridged.3;
@@ -46,6 +51,7 @@ in_left e f u1 u2 w m r = record {
   by_right = r.by_right;
 }
 
+-- into the right half of u
 in_right_left : (e f : Pair × Pair) (u1 u2 w : Tree) (m : Pair) → IsReady (Fork e f u1 u2) w m → IsReady u2 w m
 in_right_left e f u1 u2 w m r = record {
   left_bridged = r.left_bridged.4;
@@ -55,6 +61,7 @@ in_right_left e f u1 u2 w m r = record {
   by_right = r.by_right;
 }
 
+-- into the left half of w
 in_left_right : (e f : Pair × Pair) (u w1 w2 : Tree) (m : Pair) → IsReady u (Fork e f w1 w2) m → IsReady u w1 m
 in_left_right e f u w1 w2 m r = record {
   left_bridged = r.left_bridged;
@@ -64,6 +71,7 @@ in_left_right e f u w1 w2 m r = record {
   by_right = λ t i. r.by_right t (inl i);
 }
 
+-- into the right half of w
 in_right : (e f : Pair × Pair) (u w1 w2 : Tree) (m : Pair) → IsReady u (Fork e f w1 w2) m → IsReady u w2 m
 in_right e f u w1 w2 m r = record {
   left_bridged = r.left_bridged;
@@ -73,7 +81,7 @@ in_right e f u w1 w2 m r = record {
   by_right = λ t i. r.by_right t (inr i);
 }
 
--- ---- the cases of the table
+-- a point of w is not under the edge of u
 pub turn_left : (u w : Tree) (m a b c : Pair) → IsReady u w m → edge_of u ≡ Some (a, b) → On w c → pos 0 ≤ℤ orient a b c → IsTurn u w m (left_of u) w
 turn_left (Leaf x) w m a b c r e i g = absurd (cc)
 turn_left (Fork e f u1 u2) w m a b c r h i g = record {
@@ -84,6 +92,7 @@ turn_left (Fork e f u1 u2) w m a b c r h i g = record {
   deeper = depth_left e f u1 u2 w;
 }
 
+-- a point of u is not under the edge of w
 pub turn_right : (u w : Tree) (m b c d : Pair) → IsReady u w m → edge_of w ≡ Some (c, d) → On u b → pos 0 ≤ℤ orient b c d → IsTurn u w m u (right_of w)
 turn_right u (Leaf x) m b c d r h i g = absurd (cc)
 turn_right u (Fork e f w1 w2) m b c d r h i g = record {
@@ -118,6 +127,7 @@ turn_left_right_one (Leaf x) (Fork e f w1 w2) m b c d r h n k g = record {
   deeper = depth_left_right e f (Leaf x) w1 w2;
 }
 
+-- the lines of the two edges cross before m or at m
 pub turn_right_left : (u w : Tree) (m a b c d : Pair) → IsReady u w m → edge_of u ≡ Some (a, b) → edge_of w ≡ Some (c, d) → orient a b c <ℤ pos 0 → orient b c d <ℤ pos 0 → IsCrossingAtOrBefore a b c d m → IsTurn u w m (right_of u) w
 turn_right_left (Leaf x) w m a b c d r h k g1 g2 at = absurd (cc)
 turn_right_left (Fork e f u1 u2) (Leaf x) m a b c d r h k g1 g2 at = absurd (cc)
@@ -130,6 +140,7 @@ turn_right_left (Fork e f u1 u2) (Fork e' f' w1 w2) m a b c d r h k g1 g2 at = r
   deeper = depth_right_left e f u1 u2 (Fork e' f' w1 w2);
 }
 
+-- the lines of the two edges cross after m
 pub turn_left_right : (u w : Tree) (m a b c d : Pair) → IsReady u w m → edge_of u ≡ Some (a, b) → edge_of w ≡ Some (c, d) → orient a b c <ℤ pos 0 → orient b c d <ℤ pos 0 → IsCrossingAfter a b c d m → IsTurn u w m u (left_of w)
 turn_left_right u (Leaf x) m a b c d r h k g1 g2 at = absurd (cc)
 turn_left_right (Leaf x) (Fork e' f' w1 w2) m a b c d r h k g1 g2 at = absurd (cc)
@@ -176,6 +187,7 @@ first_by (Fork e f u w) h p (inr i) b = asymmetric p (first_of u) b (h.0 (first_
     asymmetric : (p q : Pair) → IsBefore p q → IsBefore q p → ⊥
     asymmetric p q h k = omega (arith, linear)
 
+-- the search begins at two halves in order
 pub start : (u w : Tree) → IsBridged u → IsBridged w → IsAllBefore (On u) (On w) → IsReady u w (first_of w)
 start u w h k o = record {
   left_bridged = h;
@@ -185,6 +197,7 @@ start u w h k o = record {
   by_right = first_by w k;
 }
 
+-- the ends of an edge are points of its half
 pub on_edge : (t : Tree) (a b : Pair) → IsBridged t → edge_of t ≡ Some (a, b) → On t a × On t b
 on_edge (Leaf x) a b h e = absurd (cc)
 on_edge (Fork g f u w) a b h e =
@@ -204,6 +217,7 @@ in_order (Fork e f u1 u2) (Fork e' f' w1 w2) m a b c d r h k =
     rw (← ea, ← eb, ← ec, ← ed)
     (r.left_bridged.0 e.0 e.1 r.left_bridged.1.from_left r.left_bridged.1.to_right, r.ordered e.1 e'.0 (inr r.left_bridged.1.to_right) (inl r.right_bridged.1.from_left), r.right_bridged.0 e'.0 e'.1 r.right_bridged.1.from_left r.right_bridged.1.to_right)
 
+-- a crossing that is not before m and not m is after m
 pub crossing_after : (a b c d m : Pair) → (IsCrossingAtOrBefore a b c d m → ⊥) → IsCrossingAfter a b c d m
 crossing_after a b c d m n =
     by_lt_z ((orient a b c +ℤ orient b a d) *ℤ m.x) (orient a b c *ℤ d.x +ℤ orient b a d *ℤ c.x)
@@ -215,14 +229,15 @@ crossing_after a b c d m n =
     (λ k. inr (e, k))
     (λ k. absurd (n (inr (e, k))))))
 
+-- a half that gives an edge has edges
 pub is_fork : (t : Tree) (e : Pair × Pair) → edge_of t ≡ Some e → IsFork t
 is_fork (Leaf x) e h = absurd (cc)
 is_fork (Fork g f u w) e h = tt
 
--- ---- the whole search
 same_sum : (u w : Tree) (p q : Pair) (k n : ℕ) → k ≡ n → IsDepthSum u w p q k → IsDepthSum u w p q n
 same_sum u w p q k n e h = subst (λ (i : ℕ). IsDepthSum u w p q i) e h
 
+-- before the first turn
 pub reached_none : (u w : Tree) → IsBridged u → IsBridged w → IsAllBefore (On u) (On w) → (m : Pair) → m ≡ first_of w → IsReached u w u w m 0
 reached_none u w h k o m e = record {
   ready = rw e (start u w h k o);
@@ -231,6 +246,7 @@ reached_none u w h k o m e = record {
   within = omega arith;
 }
 
+-- one turn more
 pub reached_more : (u0 w0 u w u2 w2 : Tree) (m : Pair) (n : ℕ) → IsReached u0 w0 u w m n → IsTurn u w m u2 w2 → IsReached u0 w0 u2 w2 m (n + 1)
 reached_more u0 w0 u w u2 w2 m n r t = record {
   ready = t.ready;
@@ -239,9 +255,11 @@ reached_more u0 w0 u w u2 w2 m n r t = record {
   within = omega (arith, r.within, t.shallower);
 }
 
+-- where the search ends, it has the bridge of the halves that it began with
 pub reached_bridge : (u0 w0 u w : Tree) (m : Pair) (n : ℕ) (p q : Pair) → IsReached u0 w0 u w m n → IsDone u w → p ≡ first_of u → q ≡ first_of w → IsUpperBridge (On u0) (On w0) p q
 reached_bridge u0 w0 u w m n p q r d e f = rw (e, f) (r.lifts (first_of u) (first_of w) d.bridge)
 
+-- and it took as many turns as the ends of the bridge are deep
 pub reached_depth : (u0 w0 u w : Tree) (m : Pair) (n : ℕ) (p q : Pair) → IsReached u0 w0 u w m n → IsDone u w → p ≡ first_of u → q ≡ first_of w → IsDepthSum u0 w0 p q n
 reached_depth u0 w0 u w m n p q r d e f =
     rw (e, f) (same_sum u0 w0 (first_of u) (first_of w) (0 + n) n (omega arith) (r.deeper (first_of u) (first_of w) 0 d.depth))

@@ -8,6 +8,7 @@ use Rattle.lattice.specs.Bridges.{IsAllBefore, IsUpperBridge, IsLowerBridge}
 use Rattle.bridge_search.specs.Trees.{Tree, Leaf, Fork, On, IsBridged}
 use Rattle.lattice.specs.Integers.{linear}
 
+-- a choice of two facts that exclude each other has one proof, where each has one
 either_prop : {A B : Type 0} → IsProp A → IsProp B → (A → B → ⊥) → IsProp (A ⊎ B)
 either_prop pa pb n (inl x) (inl y) = ap inl (pa x y)
 either_prop pa pb n (inl x) (inr y) = absurd (n x y)
@@ -18,34 +19,44 @@ either_prop pa pb n (inr x) (inr y) = ap inr (pb x y)
 given : {A : Type 0} → (A → IsProp A) → IsProp A
 given f x y = f x x y
 
+-- a comparison of whole numbers has one proof
 le_prop : (a b : ℤ) → IsProp (a ≤ℤ b)
 le_prop a b = hlevel T_prop
 
+-- and so has a strict one
 lt_prop : (a b : ℤ) → IsProp (a <ℤ b)
 lt_prop a b = hlevel T_prop
 
+-- that two points are the same has one proof
 pub point_set : IsSet Pair
 point_set = hlevel ℤ_set
 
+-- that a point stands before another has one proof
 before_prop : (p q : Pair) → IsProp (IsBefore p q)
 before_prop p q = either_prop (lt_prop p.x q.x) (let e : IsProp (p.x ≡ q.x) = ℤ_set p.x q.x in hlevel (e, lt_prop)) (λ h k. omega (arith, linear))
 
+-- that one set stands before another has one proof
 all_before_prop : (l r : Pair → Type 0) → IsProp (IsAllBefore l r)
 all_before_prop l r = hlevel before_prop
 
+-- that an edge is the upper bridge has one proof, where being a point of either set has one
 upper_prop : (l r : Pair → Type 0) (p q : Pair) → ((t : Pair) → IsProp (l t)) → ((t : Pair) → IsProp (r t)) → IsProp (IsUpperBridge l r p q)
 upper_prop l r p q pl pr = hlevel (pl, pr, le_prop)
 
+-- the same of the lower bridge
 lower_prop : (l r : Pair → Type 0) (p q : Pair) → ((t : Pair) → IsProp (l t)) → ((t : Pair) → IsProp (r t)) → IsProp (IsLowerBridge l r p q)
 lower_prop l r p q pl pr = hlevel (pl, pr, le_prop)
 
+-- no point stands before itself
 irreflexive : (p : Pair) → IsBefore p p → ⊥
 irreflexive p h = omega (arith, linear)
 
+-- a point stands in one place of a half that keeps the law
 pub on_prop : (t : Tree) → IsBridged t → (p : Pair) → IsProp (On t p)
 on_prop (Leaf x) h p = point_set p x
 on_prop (Fork e f u w) h p = either_prop (on_prop u h.3 p) (on_prop w h.4 p) (λ i j. irreflexive p (h.0 p p i j))
 
+-- that a half keeps the law has one proof
 pub IsBridged-prop : (t : Tree) → IsProp (IsBridged t)
 IsBridged-prop (Leaf x) = hlevel
 IsBridged-prop (Fork e f u w) = given (λ h.

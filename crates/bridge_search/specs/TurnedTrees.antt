@@ -7,6 +7,7 @@ use Rattle.bridge_search.specs.Trees.{Tree, Leaf, Fork, On, IsBridged, IsFork, e
 use Rattle.lattice.specs.Integers.{linear, ring_laws}
 use lib.IntN.{neg_ℤ-neg_ℤ}
 
+-- an edge turned: its ends turned, in the other order
 abbrev pub turned_pair : Pair × Pair → Pair × Pair
 turned_pair e = (turned_point e.1, turned_point e.0)
 
@@ -15,17 +16,21 @@ abbrev pub turned_tree : Tree → Tree
 turned_tree (Leaf x) = Leaf (turned_point x)
 turned_tree (Fork e f u w) = Fork (turned_pair f) (turned_pair e) (turned_tree w) (turned_tree u)
 
+-- two turns are none
 turned_twice : (p : Pair) → turned_point (turned_point p) ≡ p
 turned_twice p = ap (λ (z : ℤ). let q : Pair = record { x = z; y = neg_ℤ (neg_ℤ p.y) } in q) (neg_ℤ-neg_ℤ p.x) ∙ ap (λ (z : ℤ). let q : Pair = record { x = p.x; y = z } in q) (neg_ℤ-neg_ℤ p.y)
 
+-- a turn that takes the ends of a line along keeps the side in size and changes its sign
 pub orient_turned : (p q t : Pair) → orient (turned_point q) (turned_point p) t ≡ neg_ℤ (orient p q (turned_point t))
 unfolding orient
 orient_turned p q t = simp ring_laws (omega (arith, linear))
 
+-- a turn reverses the order
 pub before_turned : (p q : Pair) → IsBefore (turned_point q) p → IsBefore (turned_point p) q
 before_turned p q (inl h) = inl (omega (arith, linear))
 before_turned p q (inr h) = inr (omega (arith, linear))
 
+-- and so it does from the other side
 pub before_turned_back : (p q : Pair) → IsBefore p (turned_point q) → IsBefore q (turned_point p)
 before_turned_back p q (inl h) = inl (omega (arith, linear))
 before_turned_back p q (inr h) = inr (omega (arith, linear))
@@ -36,19 +41,23 @@ on_turned (Leaf x) p h = ap turned_point h ∙ turned_twice x
 on_turned (Fork e f u w) p (inl h) = inr (on_turned w p h)
 on_turned (Fork e f u w) p (inr h) = inl (on_turned u p h)
 
+-- a point of the half is, turned, a point of the turned half
 pub turned_on : (t : Tree) (p : Pair) → On t p → On (turned_tree t) (turned_point p)
 turned_on (Leaf x) p h = ap turned_point h
 turned_on (Fork e f u w) p (inl h) = inr (turned_on u p h)
 turned_on (Fork e f u w) p (inr h) = inl (turned_on w p h)
 
+-- the first point of the turned half is the last point turned
 pub first_turned : (t : Tree) → first_of (turned_tree t) ≡ turned_point (last_of t)
 first_turned (Leaf x) = refl
 first_turned (Fork e f u w) = first_turned w
 
+-- the last point of the turned half is the first point turned
 pub last_turned : (t : Tree) → last_of (turned_tree t) ≡ turned_point (first_of t)
 last_turned (Leaf x) = refl
 last_turned (Fork e f u w) = last_turned u
 
+-- the order of two halves, after a turn
 pub order_turned : (u w : Tree) → IsAllBefore (On u) (On w) → IsAllBefore (On (turned_tree w)) (On (turned_tree u))
 order_turned u w o p q i j = before_swap p q (o (turned_point q) (turned_point p) (on_turned u q j) (on_turned w p i))
   where
@@ -116,35 +125,43 @@ lower_from_turned u w p q h = record {
     tie : (t : Pair) → IsNotBeyond p q (turned_point t) → IsNotBeyond (turned_point q) (turned_point p) t
     tie t k = (λ b. k.1 (before_turned_back t q b), λ b. k.0 (before_turned t p b))
 
+-- a half that keeps the law keeps it after a turn
 pub bridged_turned : (t : Tree) → IsBridged t → IsBridged (turned_tree t)
 bridged_turned (Leaf x) h = tt
 bridged_turned (Fork e f u w) h =
     (order_turned u w h.0, upper_turned u w f.0 f.1 h.2, lower_turned u w e.0 e.1 h.1, bridged_turned w h.4, bridged_turned u h.3)
 
+-- a stored edge turned
 abbrev pub turned_edge : Option (Pair × Pair) → Option (Pair × Pair)
 turned_edge None = None
 turned_edge (Some e) = Some (turned_pair e)
 
+-- the upper edge of the turned half is the lower one turned
 pub edge_turned : (t : Tree) → edge_of (turned_tree t) ≡ turned_edge (lower_of t)
 edge_turned (Leaf x) = refl
 edge_turned (Fork e f u w) = refl
 
+-- the lower edge of the turned half is the upper one turned
 pub lower_edge_turned : (t : Tree) → lower_of (turned_tree t) ≡ turned_edge (edge_of t)
 lower_edge_turned (Leaf x) = refl
 lower_edge_turned (Fork e f u w) = refl
 
+-- the left half of the turned half is the right one turned
 pub left_turned : (t : Tree) → left_of (turned_tree t) ≡ turned_tree (right_of t)
 left_turned (Leaf x) = refl
 left_turned (Fork e f u w) = refl
 
+-- the right half of the turned half is the left one turned
 pub right_turned : (t : Tree) → right_of (turned_tree t) ≡ turned_tree (left_of t)
 right_turned (Leaf x) = refl
 right_turned (Fork e f u w) = refl
 
+-- a turned half with edges has edges without the turn
 pub fork_turned : (t : Tree) → IsFork (turned_tree t) → IsFork t
 fork_turned (Leaf x) h = h
 fork_turned (Fork e f u w) h = h
 
+-- a turn keeps the height
 pub height_turned : (t : Tree) → height_of (turned_tree t) ≡ height_of t
 height_turned (Leaf x) = refl
 height_turned (Fork e f u w) = omega (arith, height_turned u, height_turned w)
