@@ -52,3 +52,8 @@ lt_test n m lt = grind (arith, nat_tests)
 -- Equal bytes are one word.
 pub word_is : (w text : List ℕ) → bytes_eq w text ≡ true → w ≡ text
 word_is w text e = (bytes_eq-Decides w text).0 e
+
+-- What follows from both steps having gone well.
+pub with_ok : {A B : Type 0} (r : Result A FaultKind) (f : A → Result B FaultKind) (y : B) (P : Type 0) → (r >>= f) ≡ Ok y → ((x : A) → r ≡ Ok x → f x ≡ Ok y → P) → P
+with_ok (Ok x) f y P e k = k x refl e
+with_ok (Err d) f y P e k = absurd cc

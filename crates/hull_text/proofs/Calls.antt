@@ -13,7 +13,7 @@ use Rattle.hull_text.specs.Spelling.{IsCall, call_fields}
 use Rattle.hull_text.proofs.Binds.{bind_ok, ok_is, word_is}
 use Rattle.hull_text.proofs.Fields.{point_takes, point_again, direction_takes, direction_again}
 
-some_is : {A : Type 0} (x y : A) → Some x ≡ Some y → x ≡ y
+pub some_is : {A : Type 0} (x y : A) → Some x ≡ Some y → x ≡ y
 some_is x y e = cc
 
 -- A look-up found its first entry, or went on.

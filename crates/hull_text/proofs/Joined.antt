@@ -1,5 +1,5 @@
 -- Fields as bytes, joined by spaces and cut apart again.
-use Rattle.std.proofs.Common.{◌≡◌, ◌<◌, ◌≤◌, ◌+◌, ◌-◌, ◌*◌, ◌^◌, ℕ, suc, List, [], ◌∷◌, ◌++◌, length, Some, Bool, true, false, decimal, codes, refl, sym, ap, ◌∙◌, arith}
+use Rattle.std.proofs.Common.{◌≡◌, ◌<◌, ◌≤◌, ◌+◌, ◌-◌, ◌*◌, ◌^◌, ℕ, suc, List, [], ◌∷◌, ◌++◌, length, Some, Bool, true, false, cond, not, decimal, codes, refl, sym, ap, ◌∙◌, arith}
 use Rattle.std.specs.Prelude.{◌==◌, ◌&&◌, nat_le, ℤ, pos, negsuc}
 use Rattle.std.specs.Fmt.{signed_decimal}
 use Rattle.std.specs.List.{slice_split, join_with_byte}
@@ -12,7 +12,13 @@ use Rattle.hull_text.specs.declared.version.Version.{Version}
 use Rattle.hull_text.specs.Version.{coordinate_limit}
 use Rattle.hull_text.specs.Number.{is_digit, digits_after, number_of}
 use Rattle.hull_text.specs.Form.{has_form_after}
-use Rattle.hull_text.specs.Spelling.{IsSized, IsPair, pair_fields, IsCall, call_fields}
+use Rattle.hull_text.specs.Spelling.{ArePairs, IsSized, IsPair, IsReply, pair_fields, points_fields, IsCall, call_fields, reply_fields}
+use Rattle.hull_text.specs.Reading.{HasNoNewline}
+use Rattle.hull_plain.specs.declared.reply.Reply.{Reply}
+use Rattle.hull_plain.specs.declared.reply.Reply.TheVariants.{Added, Already, TooMany, NoMemory, Removed, Absent, Farthest, Empty, Lies, TangentPoints, NoTangent, VertexList, DoubledArea, PointCount}
+use Rattle.hull_plain.specs.declared.set.Place.TheVariants.{Inside, On, Outside}
+use Rattle.std.proofs.lemmas.Bool.{eqb-true, ne_eqb}
+use Rattle.std.proofs.lemmas.List.Elements.{All-cons, All-nil}
 use Rattle.hull_text.proofs.Numbers.{guard_some, guard_not, digit_low, text_number}
 use Rattle.hull_text.proofs.Fields.{limit_small}
 
@@ -119,3 +125,48 @@ split_last (b ∷ bs) plain =
 pub split_joined : (f : List ℕ) (fs : List (List ℕ)) → IsField f → AreFields fs → cut (join_with_byte 32 (f ∷ fs)) ≡ f ∷ fs
 split_joined f [] h hs = split_last f h.plain
 split_joined f (g ∷ gs) h hs = split_skip f (join_with_byte 32 (g ∷ gs)) h.plain ∙ ap (λ (r : List (List ℕ)). f ∷ r) (split_joined g gs hs.0 hs.1)
+
+-- Two lists of fields are one.
+pub fields_append : (fs gs : List (List ℕ)) → AreFields fs → AreFields gs → AreFields (fs ++ gs)
+fields_append [] gs h k = k
+fields_append (f ∷ fs) gs h k = (h.0, fields_append fs gs h.1 k)
+
+-- Points are fields.
+pub points_are_fields : (v : Version) (ps : List Pair) → ArePairs v ps → AreFields (points_fields ps)
+points_are_fields v [] fits = tt
+points_are_fields v (p ∷ ps) fits = fields_append (pair_fields p) (points_fields ps) (pair_are_fields v p fits.0) (points_are_fields v ps fits.1)
+
+-- So is a reply.
+pub reply_are_fields : (v : Version) (r : Reply) → IsReply v r → AreFields (reply_fields r)
+reply_are_fields v Added fits = (word_field (codes "added") refl (omega arith), tt)
+reply_are_fields v Already fits = (word_field (codes "already") refl (omega arith), tt)
+reply_are_fields v TooMany fits = (word_field (codes "toomany") refl (omega arith), tt)
+reply_are_fields v NoMemory fits = (word_field (codes "nomemory") refl (omega arith), tt)
+reply_are_fields v Removed fits = (word_field (codes "removed") refl (omega arith), tt)
+reply_are_fields v Absent fits = (word_field (codes "absent") refl (omega arith), tt)
+reply_are_fields v (Farthest p) fits = (word_field (codes "point") refl (omega arith), pair_are_fields v p fits)
+reply_are_fields v Empty fits = (word_field (codes "empty") refl (omega arith), tt)
+reply_are_fields v (Lies Inside) fits = (word_field (codes "inside") refl (omega arith), tt)
+reply_are_fields v (Lies On) fits = (word_field (codes "on") refl (omega arith), tt)
+reply_are_fields v (Lies Outside) fits = (word_field (codes "outside") refl (omega arith), tt)
+reply_are_fields v (TangentPoints l r) fits = (word_field (codes "tangents") refl (omega arith), fields_append (pair_fields l) (pair_fields r) (pair_are_fields v l fits.0) (pair_are_fields v r fits.1))
+reply_are_fields v NoTangent fits = (word_field (codes "notangent") refl (omega arith), tt)
+reply_are_fields v (VertexList ps) fits = (word_field (codes "list") refl (omega arith), (decimal_field (length ps) (omega (arith, fits.0)), points_are_fields v ps fits.1))
+reply_are_fields v (DoubledArea n) fits = (word_field (codes "area") refl (omega arith), (decimal_field n (omega (arith, fits)), tt))
+reply_are_fields v (PointCount n) fits = (word_field (codes "count") refl (omega arith), (decimal_field n (omega (arith, fits)), tt))
+
+-- What has the form of a line has no newline.
+pub formed_whole : (s : Bool) (line : List ℕ) → has_form_after s line ≡ true → HasNoNewline line
+formed_whole s [] e = All-nil (λ b. (b == 10) ≡ false)
+formed_whole s (b ∷ bs) e = step (b == 32) refl e (λ t h. formed_whole t bs h)
+  where
+    above : (b : ℕ) → (nat_le 33 b && nat_le b 126) ≡ true → (b == 10) ≡ false
+    above b e = grind (arith, nat_tests)
+
+    step : (t : Bool) → (b == 32) ≡ t → cond t (not s && has_form_after true bs) (nat_le 33 b && nat_le b 126 && has_form_after false bs) ≡ true → ((t : Bool) → has_form_after t bs ≡ true → HasNoNewline bs) → HasNoNewline (b ∷ bs)
+    step true t h rest =
+        let p = both (not s) (has_form_after true bs) h in
+        All-cons (λ b. (b == 10) ≡ false) b bs (ne_eqb b 10 (λ same. omega (arith, same, eqb-true b 32 t))) (rest true p.1)
+    step false t h rest =
+        let p = both (nat_le 33 b && nat_le b 126) (has_form_after false bs) h in
+        All-cons (λ b. (b == 10) ≡ false) b bs (above b p.0) (rest false p.1)

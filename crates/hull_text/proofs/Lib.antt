@@ -15,3 +15,9 @@ pub mod ScriptTexts
 pub mod Chains
 pub mod Spaces
 pub mod Reports
+pub mod PointLists
+pub mod JournalLines
+pub mod Replies
+pub mod JournalSpelled
+pub mod JournalTexts
+pub mod JournalFaults

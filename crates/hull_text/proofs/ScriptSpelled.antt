@@ -25,7 +25,7 @@ use Rattle.hull_text.proofs.Calls.{call_takes, call_again}
 use Rattle.hull_text.proofs.Joined.{cut, decimal_field, call_are_fields, joined_form, split_joined}
 
 -- No field is left where the fields end.
-ended_ok : {X : Type 0} (x y : X) (fs : List Field) → ended x fs ≡ Ok y → (fs ≡ []) × (x ≡ y)
+pub ended_ok : {X : Type 0} (x y : X) (fs : List Field) → ended x fs ≡ Ok y → (fs ≡ []) × (x ≡ y)
 ended_ok x y [] e = (refl, ok_is x y e)
 ended_ok x y (f ∷ fs) e = absurd cc
 
@@ -79,7 +79,7 @@ digit_line line b bs is low high form =
     not_106 b high = grind (arith, nat_tests)
 
 -- A number's text begins with a digit.
-first_of : (f : List ℕ) (n : ℕ) → number_of f ≡ Some n → (b : ℕ) × (bs : List ℕ) × (f ≡ b ∷ bs) × (48 ≤ b) × (b ≤ 57)
+pub first_of : (f : List ℕ) (n : ℕ) → number_of f ≡ Some n → (b : ℕ) × (bs : List ℕ) × (f ≡ b ∷ bs) × (48 ≤ b) × (b ≤ 57)
 unfolding number_of
 first_of [] n e = absurd cc
 first_of (b ∷ bs) n e =
@@ -87,7 +87,7 @@ first_of (b ∷ bs) n e =
     (b, bs, refl, d.0, d.1)
 
 -- Joined fields begin as the first does.
-joined_first : (f : List ℕ) (fs : List (List ℕ)) (b : ℕ) (bs : List ℕ) → f ≡ b ∷ bs → (rest : List ℕ) × (join_with_byte 32 (f ∷ fs) ≡ b ∷ rest)
+pub joined_first : (f : List ℕ) (fs : List (List ℕ)) (b : ℕ) (bs : List ℕ) → f ≡ b ∷ bs → (rest : List ℕ) × (join_with_byte 32 (f ∷ fs) ≡ b ∷ rest)
 joined_first f [] b bs e = (bs, e)
 joined_first f (g ∷ gs) b bs e = (bs ++ 32 ∷ join_with_byte 32 (g ∷ gs), ap (λ (t : List ℕ). t ++ 32 ∷ join_with_byte 32 (g ∷ gs)) e)
 

@@ -18,7 +18,8 @@ use Rattle.hull_text.specs.ScriptGrammar.{ReadsScript, ReadsKnownScript, IsScrip
 use Rattle.hull_text.proofs.ScriptLines.{at_start}
 use Rattle.hull_text.proofs.ScriptSpelled.{line_takes, line_again}
 
-text_bind : {A B : Type 0} (r : Result A TextFault) (f : A → Result B TextFault) (y : B) → (r >>> f) ≡ Ok y → (x : A) × (r ≡ Ok x) × (f x ≡ Ok y)
+-- Both steps went well.
+pub text_bind : {A B : Type 0} (r : Result A TextFault) (f : A → Result B TextFault) (y : B) → (r >>> f) ≡ Ok y → (x : A) × (r ≡ Ok x) × (f x ≡ Ok y)
 text_bind (Ok x) f y e = (x, refl, e)
 text_bind (Err d) f y e = absurd cc
 
@@ -29,13 +30,15 @@ text_done x = Ok x
 pub text_ok_is : {A : Type 0} (x y : A) → text_done x ≡ text_done y → x ≡ y
 text_ok_is x y e = cc
 
-abbrev text_failed : {A : Type 0} → TextFault → Result A TextFault
+-- a reading with a fault
+abbrev pub text_failed : {A : Type 0} → TextFault → Result A TextFault
 text_failed f = Err f
 
-text_err_is : {A : Type 0} (f g : TextFault) → text_failed {A = A} f ≡ text_failed {A = A} g → f ≡ g
+pub text_err_is : {A : Type 0} (f g : TextFault) → text_failed {A = A} f ≡ text_failed {A = A} g → f ≡ g
 text_err_is f g e = cc
 
-at_line_ok : {A : Type 0} (n : ℕ) (r : Result A FaultKind) (x : A) → at_line n r ≡ Ok x → r ≡ Ok x
+-- A line was read.
+pub at_line_ok : {A : Type 0} (n : ℕ) (r : Result A FaultKind) (x : A) → at_line n r ≡ Ok x → r ≡ Ok x
 at_line_ok n (Ok y) x e = ap (λ z. Ok z) (text_ok_is y x e)
 at_line_ok n (Err f) x e = absurd cc
 
@@ -100,11 +103,11 @@ script_again bytes script s = items_again 1 (pieces bytes) s.items s.lines (omeg
 -- ---- faults
 
 -- how a reading that went wrong did so
-text_bind_err : {A B : Type 0} (r : Result A TextFault) (f : A → Result B TextFault) (g : TextFault) → (r >>> f) ≡ Err g → (r ≡ Err g) ⊎ ((x : A) × (r ≡ Ok x) × (f x ≡ Err g))
+pub text_bind_err : {A B : Type 0} (r : Result A TextFault) (f : A → Result B TextFault) (g : TextFault) → (r >>> f) ≡ Err g → (r ≡ Err g) ⊎ ((x : A) × (r ≡ Ok x) × (f x ≡ Err g))
 text_bind_err (Ok x) f g e = inr (x, refl, e)
 text_bind_err (Err d) f g e = inl (ap (λ (t : TextFault). Err t) (text_err_is d g e))
 
-at_line_err : {A : Type 0} (n : ℕ) (r : Result A FaultKind) (f : TextFault) → at_line n r ≡ Err f → (kind : FaultKind) × (r ≡ Err kind) × (fault_at n kind ≡ f)
+pub at_line_err : {A : Type 0} (n : ℕ) (r : Result A FaultKind) (f : TextFault) → at_line n r ≡ Err f → (kind : FaultKind) × (r ≡ Err kind) × (fault_at n kind ≡ f)
 at_line_err n (Ok x) f e = absurd cc
 at_line_err {A = A} n (Err kind) f e = (kind, refl, text_err_is {A = A} (fault_at n kind) f e)
 

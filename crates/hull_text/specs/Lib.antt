@@ -18,3 +18,7 @@ pub mod Answers
 pub mod ReportText
 pub mod Spaced
 pub mod JournalText
+pub mod Reply
+pub mod JournalLine
+pub mod JournalReading
+pub mod JournalGrammar

@@ -6,21 +6,29 @@ mod call;
 mod fault;
 mod field;
 mod item;
+mod journal;
+mod journal_draft;
+mod journal_line;
 mod journal_text;
 mod laws;
 mod number;
 mod reading;
+mod reply;
 mod report;
 mod script;
 mod script_draft;
 mod script_line;
+mod stage;
 mod version;
 mod words;
 mod writing;
 
 pub use fault::{FaultKind, TextFault};
+pub use journal::read_journal;
 pub use journal_text::write_journal;
-pub use laws::{calls_are_read_again, numbers_have_one_spelling, scripts_have_one_reading};
+pub use laws::{
+    calls_are_read_again, numbers_have_one_spelling, replies_are_read_again, texts_hold,
+};
 pub use report::write_report;
 pub use script::read_script;
 pub use text_io::{Counted, Pieces, Sink, Source, Spout, WriteFault};
