@@ -1,5 +1,5 @@
 -- Scripts as contracts see them.
-use Rattle.std.specs.Prelude.{◌≡◌, ◌≤◌, ◌<◌, ℕ, ◌+◌, List, [], ◌∷◌, length, map, sum_by, slice_index_or, ◌++◌, Vec}
+use Rattle.std.specs.Prelude.{◌≡◌, ◌≤◌, ℕ, List, [], ◌∷◌, length, map, sum_by, slice_index_or, ◌++◌, Vec}
 use Rattle.std.specs.List.{All}
 use Rattle.hull_plain.specs.declared.call.Call.{Call}
 use Rattle.hull_book.specs.declared.limits.TheConstants.{SEAT_LIMIT, TEXT_LINE_LIMIT}

@@ -310,7 +310,7 @@ fn refused_memory_open(rt: HostRuntime) -> Result<(), Fail> {
     Ok(())
 }
 
-// The same at N = 3 to 8: the new point, the vertices, and their copy for the journal.
+// The same at N = 1 to 8: also the room for the new point, for the vertices, and for their copy in the journal.
 #[test]
 fn refused_memory_serve(rt: HostRuntime) -> Result<(), Fail> {
     let journal = refused_once(&rt, rt.alloc(), at(3, 4)?);

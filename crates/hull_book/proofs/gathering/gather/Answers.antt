@@ -1,4 +1,4 @@
-use Rattle.std.proofs.Common.{◌≡◌, ◌+◌, ◌++◌, ◌∙◌, [], sym, ap, arith, rules, length, length-append}
+use Rattle.std.proofs.Common.{◌≡◌, ◌∙◌, ap, arith, length}
 use Rattle.hull_book.specs.Ledgers.{LedgerValue}
 use Rattle.hull_book.proofs.Counts.{gather_step, gather_left, gather_start, none_left, end_of_sum}
 use Rattle.hull_book.proofs.gathering.gather.Goals as goal

@@ -1,4 +1,4 @@
-use Rattle.std.proofs.Common.{◌≡◌, ◌≤◌, ◌<◌, ◌+◌, ℕ, length, vec_len}
+use Rattle.std.proofs.Common.{◌≡◌, ◌<◌, ◌+◌, ℕ, length, vec_len}
 use Rattle.std.specs.List.{slice_index_or}
 use Rattle.hull_book.specs.Ledgers.{LedgerValue, IsLedger}
 use Rattle.hull_book.proofs.Counts.{below}

@@ -1,4 +1,3 @@
-use Rattle.std.proofs.Common.{◌≡◌}
 use Rattle.hull_book.specs.Books.{IsLawful}
 use Rattle.hull_book.specs.Ledgers.{AreLedgers}
 use Rattle.hull_book.proofs.tests.serve_lines.Given as goal
