@@ -27,8 +27,12 @@ sum_text ledgers journal = line_text (codes "sum" ∷ decimal (sum ledgers) ∷ 
 abbrev pub report_text : ScriptValue → List (List Answer) → List ℕ → JournalValue → List ℕ
 report_text script answers ledgers journal = workers_text 0 script.phases answers ++ ledgers_text 0 ledgers ++ sum_text ledgers journal
 
+-- There is an answer for each call of each worker.
+abbrev pub AreAnswered : ℕ → List PhaseValue → List (List Answer) → Type 0
+AreAnswered workers phases answers = (k : ℕ) → k < workers → length (slice_index_or answers k []) ≡ length (calls_of k phases)
+
 -- What a report lends fits together: a list of answers and a ledger for each worker, and an answer for each call.
 pub record IsReport (script : ScriptValue) (answers : List (List Answer)) (ledgers : List ℕ) : Type 0 where
   pub answers_each : length answers ≡ script.workers
   pub ledgers_each : length ledgers ≡ script.workers
-  pub answered : (k : ℕ) → k < script.workers → length (slice_index_or answers k []) ≡ length (calls_of k script.phases)
+  pub answered : AreAnswered script.workers script.phases answers

@@ -5,6 +5,7 @@ mod assemble;
 mod call;
 mod fault;
 mod field;
+mod fitting;
 mod item;
 mod journal;
 mod journal_draft;
@@ -24,6 +25,7 @@ mod words;
 mod writing;
 
 pub use fault::{FaultKind, TextFault};
+pub use fitting::report_fits;
 pub use journal::read_journal;
 pub use journal_text::write_journal;
 pub use laws::{

@@ -81,8 +81,7 @@ pub(crate) fn wide_number_in(field: &[u8]) -> Number<u128>
     ensures { TellsNumber (2 ^ 128) result (number_of field.now) }
 {
     match field {
-        [] => Number::Unspelled,
-        [b'0', _, ..] => Number::Unspelled,
+        [] | [b'0', _, ..] => Number::Unspelled,
         _ => digits_wide(field),
     }
 }

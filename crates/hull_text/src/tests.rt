@@ -1,1 +1,3 @@
+mod journals;
+mod reports;
 mod scripts;

@@ -154,3 +154,16 @@ fn a_script_has_at_most_33554432_lines(rt: HostRuntime) -> Result<(), Fail> {
     );
     Ok(())
 }
+
+#[test]
+fn whichever_request_is_refused_the_script_is_read_or_fault_10(
+    rt: HostRuntime,
+) -> Result<(), Fail> {
+    let text = b"1 count\n0 add 0 0\njoin\n0 vertices\n";
+    match read(rt.alloc(), text, 3, 0) {
+        Outcome::Script(2, 2, 3) => {}
+        Outcome::Fault(10, line) => assert!(rt; line <= 5),
+        other => assert_eq!(rt; other, Outcome::Script(2, 2, 3)),
+    }
+    Ok(())
+}

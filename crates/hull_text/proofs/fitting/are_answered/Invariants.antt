@@ -1,0 +1,5 @@
+use Rattle.hull_text.specs.ReportText.{AreAnswered, answers_in}
+use Rattle.hull_text.proofs.fitting.are_answered.Given as goal
+
+abbrev pub invariant-loop-worker : goal.invariant-loop-worker
+invariant-loop-worker l = AreAnswered l.worker l.phases (answers_in l.answers)
