@@ -1,0 +1,4 @@
+pub mod Tasks
+pub mod Outcomes
+pub mod Reads
+pub mod Checks

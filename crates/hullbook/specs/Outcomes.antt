@@ -1,0 +1,71 @@
+-- What a run of a script comes to, and the text that is written of it.
+use Rattle.std.specs.Prelude.{◌≡◌, ◌<◌, ℕ, ◌^◌, cond, List, [], ◌++◌, length, map, Option, Some, None}
+use Rattle.std.specs.Io.KnownBytes.{Appends}
+use Rattle.hull_book.specs.Books.{BookValue}
+use Rattle.hull_book.specs.Journals.{JournalValue}
+use Rattle.hull_book.specs.Scripts.{ScriptValue}
+use Rattle.hull_pool.specs.Answers.{Answer, WorkersValue}
+use Rattle.hull_pool.specs.Runs.{answers_of}
+use Rattle.hull_pool.specs.Scripts.{Runs}
+use Rattle.hull_text.specs.ReportText.{report_text}
+use Rattle.hull_text.specs.JournalText.{journal_text}
+use Rattle.hull_text.specs.Version.{written}
+use Rattle.hull_text.specs.ScriptGrammar.{IsScriptText}
+use Rattle.hullbook.specs.declared.options.Options.{Options}
+
+-- the book over an empty set that a run begins with
+abbrev pub opening : Options → ℕ → BookValue
+opening o workers = record {
+  points = [];
+  bound = o.limit;
+  head = record { journal = record { first = o.first; limit = o.limit; capacity = o.capacity }; workers = workers };
+  turn = o.first;
+  lines = [];
+}
+
+-- the journal of a book
+abbrev pub journal_of : BookValue → JournalValue
+journal_of b = record { head = b.head.journal; lines = b.lines }
+
+-- The workers of the script ran all its phases on a book that was opened so: these are their answers, the counts of the
+-- closed book's ledgers, and its journal.
+pub record IsRun (script : ScriptValue) (o : Options) (answers : List (List Answer)) (counts : List ℕ) (journal : JournalValue) : Type 0 where
+  pub before : WorkersValue
+  pub after : WorkersValue
+  pub closed : BookValue
+  pub none : (k : ℕ) → k < script.workers → (answers_of before k).answers ≡ []
+  pub ran : Runs (opening o script.workers) before script.phases closed after
+  pub answers_are : answers ≡ map (λ a. a.answers) after.answers
+  pub counts_are : counts ≡ map (λ l. l.count) after.ledgers
+  pub journal_is : journal ≡ journal_of closed
+
+-- the journal or the report, as the options ask
+abbrev pub output_text : Options → ScriptValue → List (List Answer) → List ℕ → JournalValue → List ℕ
+output_text o script answers counts journal = cond o.journal (journal_text written journal) (report_text script answers counts journal)
+
+-- The bytes were read as a script, it was run, and the bytes written have grown by the text of the run.
+pub record HasRunText (o : Options) (bytes : List ℕ) (old new : Option (List ℕ)) : Type 0 where
+  pub script : ScriptValue
+  pub answers : List (List Answer)
+  pub counts : List ℕ
+  pub journal : JournalValue
+  pub reads : IsScriptText bytes script
+  pub runs : IsRun script o answers counts journal
+  pub writes : Appends old new (output_text o script answers counts journal)
+
+-- the same for bytes that may be unknown; they have to be fewer than 2^63
+abbrev pub HasRunKnownText : Options → Option (List ℕ) → Option (List ℕ) → Option (List ℕ) → Type 0
+HasRunKnownText o None old new = Unit {0}
+HasRunKnownText o (Some bytes) old new = length bytes < 2 ^ 63 → HasRunText o bytes old new
+
+-- what was written is a beginning of a text of a run
+pub record HasWrittenFront (o : Options) (old new : Option (List ℕ)) : Type 0 where
+  pub script : ScriptValue
+  pub answers : List (List Answer)
+  pub counts : List ℕ
+  pub journal : JournalValue
+  pub front : List ℕ
+  pub back : List ℕ
+  pub runs : IsRun script o answers counts journal
+  pub text : output_text o script answers counts journal ≡ front ++ back
+  pub writes : Appends old new front

@@ -1,0 +1,59 @@
+use crate::options::OptionFault;
+use crate::run::RunFault;
+use hull_text::TextFault;
+use thiserror::Error;
+
+/// What a refused program ends with: its text on standard error, and its status.
+#[derive(Debug, Drop, Error)]
+pub enum Fault {
+    /// The words after the program's name are refused.
+    #[error("hullbook: usage")]
+    Usage,
+    /// The file cannot be opened.
+    #[error("hullbook: open")]
+    Open,
+    /// Memory was refused, but not while a text was read.
+    #[error("hullbook: memory")]
+    Memory,
+    /// The output failed.
+    #[error("hullbook: write")]
+    Write,
+    /// The input is no text of its kind, could not be read, or memory to read it was refused.
+    #[error("hullbook: line {}: fault {}", .0.line, .0.number)]
+    Text(TextFault),
+}
+
+impl Fault {
+    /// The exit status of a program that ends with this.
+    pub fn status(&self) -> u8 {
+        match self {
+            Fault::Usage => 2,
+            Fault::Open | Fault::Write => 3,
+            Fault::Memory => 4,
+            Fault::Text(TextFault { number, line: _ }) => match *number {
+                8 => 3,
+                10 => 4,
+                _ => 2,
+            },
+        }
+    }
+}
+
+impl From<OptionFault> for Fault {
+    fn from(fault: OptionFault) -> Fault {
+        match fault {
+            OptionFault::Usage => Fault::Usage,
+            OptionFault::Memory => Fault::Memory,
+        }
+    }
+}
+
+impl From<RunFault> for Fault {
+    fn from(fault: RunFault) -> Fault {
+        match fault {
+            RunFault::Text(fault) => Fault::Text(fault),
+            RunFault::Memory => Fault::Memory,
+            RunFault::Write => Fault::Write,
+        }
+    }
+}

@@ -1,0 +1,98 @@
+//! `hullbook`: runs a script of calls on a shared convex hull, and checks a journal of such a run.
+#![tactic(auto)]
+
+ghost use Rattle.std.specs.Prelude.{IfOk};
+ghost use Rattle.hullbook.specs.Tasks.{AreWithinLimits, IsWithinLimits};
+
+mod check;
+mod fault;
+mod options;
+mod run;
+
+use check::check_text;
+use fault::Fault;
+use options::{OptionFault, Options, Task, options};
+use run::run;
+use std::alloc::Global;
+use std::io::BufWriter;
+use std::process::ExitCode;
+use std::rt::{Env, Files};
+use std::sync::Wait;
+use std::thread::Threads;
+use std::{env, fs, io};
+use text_io::Counted;
+
+/// The bytes that are gathered before they are written.
+const WRITE_BLOCK: usize = 65536;
+
+/// What the words after the program's name ask for.
+fn task_of<R: Env + AllocGlobal>(rt: &R) -> Result<Task, Fault>
+    ensures { IfOk result IsWithinLimits }
+{
+    let mut words = Vec::new(rt.alloc());
+    let Ok(args) = env::args(rt) else {
+        return Err(Fault::Usage);
+    };
+    for word in args.skip(1) {
+        words.push(word).map_err(|_| Fault::Memory)?;
+    }
+    let mut texts = Vec::new(rt.alloc());
+    for word in &words {
+        texts.push(word.as_str()).map_err(|_| Fault::Memory)?;
+    }
+    options(rt.alloc(), &texts).map_err(Fault::from)
+}
+
+/// Runs the script at the path and writes to standard output.
+fn run_file<R: Threads + Wait + Sync + Files + Print + AllocGlobal>(
+    rt: &R,
+    path: &str,
+    options: &Options,
+) -> Result<(), Fault>
+    requires { AreWithinLimits options.now }
+{
+    let Ok(file) = fs::open(rt, path) else {
+        return Err(Fault::Open);
+    };
+    let Ok(block) = BufWriter::with_capacity(rt.alloc(), WRITE_BLOCK, io::writer(rt)) else {
+        return Err(Fault::Memory);
+    };
+    let mut input = Counted::new(file);
+    let mut output = Counted::new(block);
+    run(rt, rt.alloc(), &mut input, &mut output, options).map_err(Fault::from)
+}
+
+/// Checks the journal at the path and writes to standard output. `true` for legal.
+fn check_file<R: Files + Print + AllocGlobal>(rt: &R, path: &str) -> Result<bool, Fault> {
+    let Ok(file) = fs::open(rt, path) else {
+        return Err(Fault::Open);
+    };
+    let mut input = Counted::new(file);
+    let mut output = Counted::new(io::writer(rt));
+    check_text(rt.alloc(), &mut input, &mut output).map_err(Fault::from)
+}
+
+/// Does what the words after the program's name ask for. `false` for an illegal journal.
+fn work<R: Threads + Wait + Sync + Env + Files + Print + AllocGlobal>(
+    rt: &R,
+) -> Result<bool, Fault> {
+    match task_of(rt)? {
+        Task::Run(path, options) => {
+            run_file(rt, &path, &options)?;
+            Ok(true)
+        }
+        Task::Check(path) => check_file(rt, &path),
+    }
+}
+
+fn main(rt: HostRuntime) -> ExitCode {
+    match work(&rt) {
+        Ok(true) => ExitCode::SUCCESS,
+        Ok(false) => ExitCode::from(1),
+        Err(fault) => {
+            let status = fault.status();
+            let _ = eprintln!(rt; "{fault}");
+            ExitCode::from(status)
+        }
+    }
+}

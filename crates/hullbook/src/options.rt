@@ -1,0 +1,36 @@
+//! What the words after the program's name ask for.
+
+mod parse;
+
+pub use parse::options;
+
+/// The numbers of a run.
+#[derive(Clone, Copy, PartialEq, Eq, Debug)]
+pub struct Options {
+    /// How many lines the journal may have: 1 to 16777216.
+    pub capacity: u32,
+    /// How many points the set may have: 1 to 1048576.
+    pub limit: u32,
+    /// The number of the first line.
+    pub first: u64,
+    /// Whether the journal is written in place of the report.
+    pub journal: bool,
+}
+
+/// What is asked for.
+#[derive(Debug, Drop)]
+pub enum Task {
+    /// To run the script at this path.
+    Run(String, Options),
+    /// To check the journal at this path.
+    Check(String),
+}
+
+/// Why the words were refused.
+#[derive(Clone, Copy, Debug, PartialEq, Eq)]
+pub enum OptionFault {
+    /// They ask for nothing that the program does, or for a number outside its limits.
+    Usage,
+    /// Memory was refused.
+    Memory,
+}
