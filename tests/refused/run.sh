@@ -26,8 +26,8 @@ said() {
     esac
 }
 
-for case in "$here"/*.rt; do
-    name=$(basename "$case" .rt)
+for case in "$here"/*.case; do
+    name=$(basename "$case" .case)
     cp "$case" "$room/crates/refused/src/lib.rt"
     (cd "$room/crates/refused" && rt check --jobs 1) >"$room/told" 2>&1
     status=$?
