@@ -8,6 +8,8 @@ mod call;
 mod crew;
 mod gate;
 mod phase;
+#[cfg(test)]
+mod tests;
 mod worker;
 mod workers;
 
