@@ -1,5 +1,5 @@
 #!/bin/sh
-# Tries what must not compile over the lock: each NAME.rt beside this script is the whole of a small crate that uses `ticket_lock`.
+# Tries what must not compile over the lock: each NAME.case beside this script is the whole of a small crate that uses `ticket_lock`.
 # Its first line says what has to come of it: `//! must pass`, or `//! must fail: ERROR` with the name of the one error that the check has to give.
 # It works on a copy in a temporary folder. The last line counts, and the status is not 0 where a case came out otherwise.
 set -u

@@ -8,6 +8,8 @@ mod check;
 mod fault;
 mod options;
 mod run;
+#[cfg(test)]
+mod tests;
 
 use check::check_text;
 use fault::Fault;

@@ -11,6 +11,8 @@ mod direction;
 mod fault;
 mod laws;
 mod point;
+#[cfg(test)]
+mod tests;
 mod wide;
 
 pub use compare::{before, distance_squared, orient, product};

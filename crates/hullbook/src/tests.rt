@@ -1,0 +1,257 @@
+ghost use Rattle.hullbook.specs.Tasks.{AreWithinLimits};
+
+use crate::check::check_text;
+use crate::fault::Fault;
+use crate::options::{OptionFault, Options, Task, options};
+use crate::run::{RunFault, run};
+use hull_text::TextFault;
+use std::alloc::Global;
+use std::sync::Wait;
+use std::test::Fail;
+use std::thread::Threads;
+use text_io::{Counted, Pieces, Spout};
+
+const PLAIN: Options = Options {
+    capacity: 65536,
+    limit: 1048576,
+    first: 0,
+    journal: false,
+};
+
+const FIVE: &str = "0 add 0 2\n0 add 2 2\n0 extreme 0 1\n0 remove 0 2\n0 extreme 0 1\n";
+
+const JOURNAL: &str =
+    "hullbook journal 1 first 18446744073709551615 limit 4 capacity 4\n18446744073709551615 0 add 5 5 = added\n0 0 count = count 1\n1 0 remove 5 5 = removed\nend 3\n";
+
+// Whether a run of the script, read and written in small pieces, ends well with this text.
+fn runs_to<R: Threads + Wait + Sync>(
+    rt: &R,
+    alloc: Global,
+    script: &str,
+    options: &Options,
+    wanted: &str,
+) -> Result<bool, Fail>
+    requires { AreWithinLimits options.now }
+{
+    let mut input = Counted::new(Pieces::new(script.as_bytes(), 7));
+    let mut output = Counted::new(Spout::new(alloc, 4096, 5)?);
+    let ended = run(rt, alloc, &mut input, &mut output, options);
+    Ok(ended == Ok(()) && output.get_ref().bytes() == wanted.as_bytes())
+}
+
+// How a run of the script ends, and how many bytes it wrote.
+fn ends<R: Threads + Wait + Sync>(
+    rt: &R,
+    alloc: Global,
+    script: &str,
+    reads: u64,
+    writes: u64,
+) -> Result<(Result<(), RunFault>, usize), Fail> {
+    let mut input = Counted::new(Pieces::new(script.as_bytes(), 7).failing_at(reads));
+    let mut output = Counted::new(Spout::new(alloc, 4096, 5)?.failing_at(writes));
+    let ended = run(rt, alloc, &mut input, &mut output, &PLAIN);
+    Ok((ended, output.get_ref().bytes().len()))
+}
+
+// How a check of the journal ends; an output without room takes nothing.
+fn judges(alloc: Global, journal: &str, wanted: &str) -> Result<Option<bool>, Fail> {
+    let mut input = Counted::new(Pieces::new(journal.as_bytes(), 7));
+    let mut output = Counted::new(Spout::new(alloc, 64, 5)?);
+    let ended = check_text(alloc, &mut input, &mut output);
+    if output.get_ref().bytes() != wanted.as_bytes() {
+        return Ok(None);
+    }
+    Ok(ended.ok())
+}
+
+#[test]
+fn five_line_script(rt: HostRuntime) -> Result<(), Fail> {
+    let wanted =
+        "0 add 0 2 = added\n0 add 2 2 = added\n0 extreme 0 1 = point 0 2\n0 remove 0 2 = removed\n0 extreme 0 1 = point 2 2\nledger 0 5\nsum 5 journal 5 capacity 65536\n";
+    assert!(rt; runs_to(&rt, rt.alloc(), FIVE, &PLAIN, wanted)?);
+    Ok(())
+}
+
+#[test]
+fn empty_script(rt: HostRuntime) -> Result<(), Fail> {
+    let wanted = "ledger 0 0\nsum 0 journal 0 capacity 65536\n";
+    assert!(rt; runs_to(&rt, rt.alloc(), "", &PLAIN, wanted)?);
+    Ok(())
+}
+
+#[test]
+fn square_questions(rt: HostRuntime) -> Result<(), Fail> {
+    let script =
+        "0 add 0 0\n0 add 2 0\n0 add 2 2\n0 add 0 2\n0 extreme 0 1\n0 extreme 1 0\n0 tangents 4 1\n0 tangents 4 0\n0 tangents 1 1\n0 place 1 1\n0 vertices\n0 area\n0 count\n";
+    let wanted =
+        "0 add 0 0 = added\n0 add 2 0 = added\n0 add 2 2 = added\n0 add 0 2 = added\n0 extreme 0 1 = point 0 2\n0 extreme 1 0 = point 2 0\n0 tangents 4 1 = tangents 2 0 2 2\n0 tangents 4 0 = tangents 0 0 2 2\n0 tangents 1 1 = notangent\n0 place 1 1 = inside\n0 vertices = list 4 0 0 2 0 2 2 0 2\n0 area = area 8\n0 count = count 4\nledger 0 13\nsum 13 journal 13 capacity 65536\n";
+    assert!(rt; runs_to(&rt, rt.alloc(), script, &PLAIN, wanted)?);
+    Ok(())
+}
+
+#[test]
+fn three_workers_and_a_join(rt: HostRuntime) -> Result<(), Fail> {
+    let script = "0 add 0 0\n1 add 4 0\n2 add 0 4\njoin\n0 vertices\n";
+    let wanted =
+        "0 add 0 0 = added\n0 vertices = list 3 0 0 4 0 0 4\n1 add 4 0 = added\n2 add 0 4 = added\nledger 0 2\nledger 1 1\nledger 2 1\nsum 4 journal 4 capacity 65536\n";
+    assert!(rt; runs_to(&rt, rt.alloc(), script, &PLAIN, wanted)?);
+    Ok(())
+}
+
+#[test]
+fn full_journal(rt: HostRuntime) -> Result<(), Fail> {
+    let options = Options {
+        capacity: 2,
+        limit: 1048576,
+        first: 0,
+        journal: false,
+    };
+    let wanted =
+        "0 add 0 0 = added\n0 add 1 0 = added\n0 count = full\nledger 0 2\nsum 2 journal 2 capacity 2\n";
+    assert!(rt;
+        runs_to(
+            &rt,
+            rt.alloc(),
+            "0 add 0 0\n0 add 1 0\n0 count\n",
+            &options,
+            wanted
+        )?
+    );
+    Ok(())
+}
+
+#[test]
+fn wrapping_journal(rt: HostRuntime) -> Result<(), Fail> {
+    let options = Options {
+        capacity: 4,
+        limit: 4,
+        first: 18446744073709551615,
+        journal: true,
+    };
+    assert!(rt;
+        runs_to(
+            &rt,
+            rt.alloc(),
+            "0 add 5 5\n0 count\n0 remove 5 5\n",
+            &options,
+            JOURNAL
+        )?
+    );
+    Ok(())
+}
+
+#[test]
+fn coordinate_out_of_range(rt: HostRuntime) -> Result<(), Fail> {
+    let fault = TextFault { number: 3, line: 1 };
+    assert_eq!(rt;
+        ends(&rt, rt.alloc(), "0 add 1048577 0\n", 0, 0)?,
+        (Err(RunFault::Text(fault)), 0)
+    );
+    Ok(())
+}
+
+#[test]
+fn input_fails_midway(rt: HostRuntime) -> Result<(), Fail> {
+    let fault = TextFault { number: 8, line: 1 };
+    assert_eq!(rt;
+        ends(&rt, rt.alloc(), FIVE, 1, 0)?,
+        (Err(RunFault::Text(fault)), 0)
+    );
+    Ok(())
+}
+
+#[test]
+fn output_fails_midway(rt: HostRuntime) -> Result<(), Fail> {
+    assert_eq!(rt;
+        ends(&rt, rt.alloc(), FIVE, 0, 1)?,
+        (Err(RunFault::Write), 0)
+    );
+    assert_eq!(rt; ends(&rt, rt.alloc(), FIVE, 0, 2)?.0, Err(RunFault::Write));
+    Ok(())
+}
+
+#[test]
+fn journals_are_judged(rt: HostRuntime) -> Result<(), Fail> {
+    let wrong =
+        "hullbook journal 1 first 0 limit 4 capacity 4\n0 0 add 5 5 = added\n1 0 count = count 2\nend 2\n";
+    assert_eq!(rt; judges(rt.alloc(), JOURNAL, "legal\n")?, Some(true));
+    assert_eq!(rt; judges(rt.alloc(), wrong, "illegal 3\n")?, Some(false));
+    Ok(())
+}
+
+// Whether the words are refused as no use of the program.
+fn is_refused(alloc: Global, words: &[&str]) -> bool {
+    match options(alloc, words) {
+        Ok(_) => false,
+        Err(fault) => fault == OptionFault::Usage,
+    }
+}
+
+#[test]
+fn words_that_are_taken(rt: HostRuntime) -> Result<(), Fail> {
+    let words = [
+        "run",
+        "a b.txt",
+        "--capacity",
+        "16777216",
+        "--limit",
+        "1",
+        "--first",
+        "18446744073709551615",
+        "--journal",
+    ];
+    let wanted = Options {
+        capacity: 16777216,
+        limit: 1,
+        first: 18446744073709551615,
+        journal: true,
+    };
+    let Ok(Task::Run(path, numbers)) = options(rt.alloc(), &words) else {
+        return Err(Fail::new("other words"));
+    };
+    assert_eq!(rt; path.as_str(), "a b.txt");
+    assert_eq!(rt; numbers, wanted);
+    let Ok(Task::Run(_, numbers)) = options(rt.alloc(), &["run", "x"]) else {
+        return Err(Fail::new("other words"));
+    };
+    assert_eq!(rt; numbers, PLAIN);
+    let Ok(Task::Check(path)) = options(rt.alloc(), &["check", "x"]) else {
+        return Err(Fail::new("other words"));
+    };
+    assert_eq!(rt; path.as_str(), "x");
+    Ok(())
+}
+
+#[test]
+fn words_that_are_refused(rt: HostRuntime) -> Result<(), Fail> {
+    assert!(rt; is_refused(rt.alloc(), &[]));
+    assert!(rt; is_refused(rt.alloc(), &["run"]));
+    assert!(rt; is_refused(rt.alloc(), &["check"]));
+    assert!(rt; is_refused(rt.alloc(), &["run", "x", "y"]));
+    assert!(rt; is_refused(rt.alloc(), &["run", "x", "--capacity", "0"]));
+    assert!(rt; is_refused(rt.alloc(), &["run", "x", "--capacity", "16777217"]));
+    assert!(rt; is_refused(rt.alloc(), &["run", "x", "--limit", "1048577"]));
+    assert!(rt; is_refused(rt.alloc(), &["run", "x", "--first", "18446744073709551616"]));
+    assert!(rt; is_refused(rt.alloc(), &["check", "x", "--journal"]));
+    assert!(rt; is_refused(rt.alloc(), &["upgrade", "x"]));
+    Ok(())
+}
+
+#[test]
+fn faults_have_their_statuses(rt: HostRuntime) -> Result<(), Fail> {
+    assert_eq!(rt; Fault::Usage.status(), 2);
+    assert_eq!(rt; Fault::Open.status(), 3);
+    assert_eq!(rt; Fault::Write.status(), 3);
+    assert_eq!(rt; Fault::Memory.status(), 4);
+    assert_eq!(rt; Fault::Text(TextFault { number: 7, line: 1 }).status(), 2);
+    assert_eq!(rt; Fault::Text(TextFault { number: 8, line: 1 }).status(), 3);
+    assert_eq!(rt;
+        Fault::Text(TextFault {
+            number: 10,
+            line: 1
+        })
+        .status(),
+        4
+    );
+    Ok(())
+}

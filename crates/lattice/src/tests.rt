@@ -1,0 +1,38 @@
+use crate::{Direction, LatticeFault, Point, before, distance_squared, orient, product};
+use std::test::Fail;
+
+#[test]
+fn coordinates_at_the_limit(rt: HostRuntime) -> Result<(), Fail> {
+    let corner = Point::new(-1048576, 1048576)?;
+    assert_eq!(rt; corner.x(), -1048576);
+    assert_eq!(rt; corner.y(), 1048576);
+    assert_eq!(rt; Point::new(1048577, 0), Err(LatticeFault::OutOfRange));
+    assert_eq!(rt; Point::new(0, -1048577), Err(LatticeFault::OutOfRange));
+    assert_eq!(rt; Direction::new(0, 0), Err(LatticeFault::ZeroDirection));
+    assert_eq!(rt; Direction::new(0, 1048577), Err(LatticeFault::OutOfRange));
+    Ok(())
+}
+
+#[test]
+fn range_corners(rt: HostRuntime) -> Result<(), Fail> {
+    let a = Point::new(-1048576, -1048576)?;
+    let b = Point::new(1048576, -1048576)?;
+    let c = Point::new(1048576, 1048576)?;
+    assert_eq!(rt; orient(a, b, c), 4398046511104);
+    assert_eq!(rt; orient(a, c, b), -4398046511104);
+    assert_eq!(rt; distance_squared(a, c), 8796093022208);
+    assert_eq!(rt; product(Direction::new(1, 1)?, c), 2097152);
+    Ok(())
+}
+
+#[test]
+fn order_by_x_and_then_by_y(rt: HostRuntime) -> Result<(), Fail> {
+    let low = Point::new(0, 0)?;
+    let high = Point::new(0, 1)?;
+    let right = Point::new(1, -5)?;
+    assert!(rt; before(low, high));
+    assert!(rt; before(high, right));
+    assert!(rt; !before(high, low));
+    assert!(rt; !before(low, low));
+    Ok(())
+}
