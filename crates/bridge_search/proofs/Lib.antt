@@ -3,3 +3,4 @@ pub mod Turns
 pub mod Signs
 pub mod Ends
 pub mod ListedTrees
+pub mod Leaves

@@ -3,3 +3,4 @@ pub mod Search
 pub mod TurnedTrees
 pub mod OneWay
 pub mod Listed
+pub mod Leaves
