@@ -1,0 +1,4 @@
+pub mod Extremes
+pub mod ChainEdges
+pub mod TurnedEdges
+pub mod Sighted

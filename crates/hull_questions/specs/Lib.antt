@@ -1,0 +1,3 @@
+pub mod Parts
+pub mod Chains
+pub mod Sights

@@ -1,0 +1,19 @@
+-- One step down a half: into a part of it that has the answer to a question.
+use Rattle.std.specs.Prelude.{◌≡◌, ◌⊎◌, ◌<◌, pos, ◌<ℤ◌, ◌≤ℤ◌, List, Option}
+use Rattle.lattice.specs.Plane.{Pair}
+use Rattle.bridge_search.specs.Trees.{Tree, edge_of, lower_of, height_of}
+use Rattle.bridge_search.specs.Leaves.{points_of}
+use Rattle.hull_plain.specs.Tangents.{IsFirstFarthest}
+
+-- what answers a question about the part answers it about the whole, and the part is lower
+pub record IsPartFor (A : Type 0) (IsAnswer : List Pair → A → Type 0) (whole part : Tree) : Type 0 where
+  pub lifts : (a : A) → IsAnswer (points_of part) a → IsAnswer (points_of whole) a
+  pub lower : height_of part < height_of whole
+
+-- the stored edge on the side that d faces: the upper one where d goes up, else the lower one
+abbrev pub IsFacing : Pair → Tree → Option (Pair × Pair) → Type 0
+IsFacing d t e = ((pos 0 <ℤ d.y) × (e ≡ edge_of t)) ⊎ ((d.y ≤ℤ pos 0) × (e ≡ lower_of t))
+
+-- the part has the first of the farthest points of the whole
+abbrev pub IsFartherPart : Pair → Tree → Tree → Type 0
+IsFartherPart d whole part = IsPartFor Pair (λ S p. IsFirstFarthest S d p) whole part

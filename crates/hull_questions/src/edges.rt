@@ -1,0 +1,35 @@
+//! The edges of the lower and of the upper chain, each found by one way down the stored bridges.
+ghost use Rattle.std.specs.Prelude.{◌≡◌};
+ghost use Rattle.bridge_search.specs.Leaves.{points_of};
+ghost use Rattle.hull_questions.specs.Chains.{IsBeforeEnd, IsAfterStart, IsLowerEdgeAt, IsUpperEdgeAt};
+
+use bridge_search::{Half, Turned};
+use lattice::{Point, before};
+
+/// The lower edge that begins at `v`, or the one that begins before `v` and ends after it.
+pub(crate) fn lower_after<H: Half>(half: H, v: Point) -> (Point, Point)
+    requires { IsBeforeEnd (H.tree half) v }
+    ensures { IsLowerEdgeAt (points_of (H.tree half)) v result }
+{
+    let mut part = half;
+    while let Some(edge) = part.lower() {
+        if before(v, edge.0) {
+            part = part.left();
+        } else if before(v, edge.1) {
+            return edge;
+        } else {
+            part = part.right();
+        }
+    }
+    unreachable!()
+}
+
+/// The upper edge that goes back from `v`, or the one that goes back from a point after `v` to one before it: the lower
+/// one after a turn by 180 degrees.
+pub(crate) fn upper_before<H: Half>(half: H, v: Point) -> (Point, Point)
+    requires { IsAfterStart (H.tree half) v }
+    ensures { IsUpperEdgeAt (points_of (H.tree half)) v result }
+{
+    let edge = lower_after(Turned::new(half), v.turned());
+    (edge.0.turned(), edge.1.turned())
+}

@@ -1,0 +1,61 @@
+//! The first of the points that lie farthest in a direction.
+ghost use Rattle.std.specs.Prelude.{◌≡◌, ◌↔◌, IsTrue, MatchOption, None, pos, ◌<ℤ◌};
+ghost use Rattle.lattice.specs.Plane as plane;
+ghost use Rattle.bridge_search.specs.Trees.{edge_of};
+ghost use Rattle.bridge_search.specs.Leaves.{points_of};
+ghost use Rattle.hull_plain.specs.Tangents.{IsFirstFarthest};
+ghost use Rattle.hull_questions.specs.Parts.{IsFacing, IsFartherPart};
+
+use bridge_search::Half;
+use lattice::{Direction, Point, product};
+
+/// Whether `d` has an upward component.
+fn is_upward(d: Direction) -> bool
+    ensures { IsTrue result ↔ (pos 0 <ℤ d.y) }
+{
+    d.y() > 0
+}
+
+/// Whether `p` lies less far than `q` in the direction `d`.
+fn is_nearer(d: Direction, p: Point, q: Point) -> bool
+    ensures { IsTrue result ↔ (plane.product d p <ℤ plane.product d q) }
+{
+    product(d, p) < product(d, q)
+}
+
+/// The stored edge on the side that `d` faces: the upper one where `d` goes up, else the lower one.
+fn facing<H: Half>(half: H, d: Direction) -> Option<(Point, Point)>
+    ensures { IsFacing d (H.tree half) result }
+{
+    if is_upward(d) {
+        half.edge()
+    } else {
+        half.lower()
+    }
+}
+
+/// The half of `half` that has the first of its farthest points, or nothing where it is one point.
+fn farther_part<H: Half>(half: H, d: Direction) -> Option<H>
+    ensures { MatchOption result (edge_of (H.tree half) ≡ None) (λ part. IsFartherPart d (H.tree half) (H.tree part)) }
+{
+    let (p, q) = facing(half, d)?;
+    if is_nearer(d, p, q) {
+        Some(half.right())
+    } else {
+        Some(half.left())
+    }
+}
+
+/// The first, by x and then y, of the points of a half that lie farthest in the direction `d`.
+///
+/// Of the two halves at a fork, the left one has it where the left end of the bridge on the side that `d` faces lies as
+/// far as the right end (Overmars and van Leeuwen, 1981).
+pub fn extreme<H: Half>(half: H, d: Direction) -> Point
+    ensures { IsFirstFarthest (points_of (H.tree half)) d result }
+{
+    let mut part = half;
+    while let Some(next) = farther_part(part, d) {
+        part = next;
+    }
+    part.first()
+}
