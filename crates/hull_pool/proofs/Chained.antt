@@ -31,6 +31,7 @@ none_served : (k : ℕ) (before lines served : List Line) → lines ≡ before �
 none_served k before lines [] same own = refl
 none_served k before lines (l ∷ served) same own = absurd (omega (arith, ap length own, ap (λ (xs : List Line). length (lines_of k xs)) same, length-append (lines_of k before) (l ∷ served)))
 
+-- all of the first list, and so many of the second
 take_both : (xs ys : List Call) (n : ℕ) → take (length xs + n) (xs ++ ys) ≡ xs ++ take n ys
 take_both [] ys n = ap (λ (m : ℕ). take m ys) (let e : 0 + n ≡ n = omega arith in e)
 take_both (x ∷ xs) ys n = ap (λ (m : ℕ). take m ((x ∷ xs) ++ ys)) (let e : length (x ∷ xs) + n ≡ suc (length xs + n) = omega arith in e) ∙ ap (λ (zs : List Call). x ∷ zs) (take_both xs ys n)
@@ -39,6 +40,7 @@ take_both (x ∷ xs) ys n = ap (λ (m : ℕ). take m ((x ∷ xs) ++ ys)) (let e 
 fulls_both : (m n k : ℕ) → k ≡ m + n → fulls m ++ fulls n ≡ fulls k
 fulls_both m n k e = replicate-append-replicate m n (Err (record {})) ∙ ap (λ (j : ℕ). fulls j) (sym e)
 
+-- the parts of a list, bracketed another way
 four : (a b c d e : List Answer) → (a ++ b ++ c) ++ d ++ e ≡ a ++ b ++ (c ++ d) ++ e
 four a b c d e = ap (λ (xs : List Answer). xs ++ e) (append_assoc (a ++ b) c d)
 

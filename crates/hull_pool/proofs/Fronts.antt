@@ -47,10 +47,12 @@ may_next b w (phase ∷ phases) zero d m x may lt chain =
 may_next b w (phase ∷ phases) (suc i) d m x may lt chain =
     may_next chain.0 chain.1 phases i d m x (may_more b chain.0 w chain.1 phase phases may chain.2) (omega arith) chain.3
 
+-- a worker's calls in two runs of phases are those in the first and then those in the second
 calls_of-append : (k : ℕ) (front back : List PhaseValue) → calls_of k (front ++ back) ≡ calls_of k front ++ calls_of k back
 calls_of-append k [] back = refl
 calls_of-append k (phase ∷ front) back = ap (λ (xs : List Call). job phase k ++ xs) (calls_of-append k front back) ∙ sym (append_assoc (job phase k) (calls_of k front) (calls_of k back))
 
+-- what holds of all phases holds of those in front
 all_front : (P : PhaseValue → Type 0) (front back : List PhaseValue) → All P (front ++ back) → All P front
 all_front P [] back all = λ k d lt. absurd (omega arith)
 all_front P (phase ∷ front) back all = All-cons P phase front (All-head P phase (front ++ back) all) (all_front P front back (All-tail P phase (front ++ back) all))
@@ -78,6 +80,7 @@ take_whole (phase ∷ phases) (suc i) le = ap (λ (xs : List PhaseValue). phase 
 pub shown_front : (vs : List AnswerVec) (v : AnswerVec) (k : ℕ) → k < length vs → slice_index_or (map (λ v. shown v) (vs ++ v ∷ [])) k no_answers ≡ slice_index_or (map (λ v. shown v) vs) k no_answers
 shown_front vs v k lt = ap (λ (xs : List AnswersValue). slice_index_or xs k no_answers) (map-append (λ (v : AnswerVec). shown v) vs (v ∷ [])) ∙ get_or_append_left (map (λ v. shown v) vs) (shown v ∷ []) no_answers k (omega (arith, length-map vs (λ (v : AnswerVec). shown v)))
 
+-- and what that last one shows
 pub shown_last : (vs : List AnswerVec) (v : AnswerVec) (k : ℕ) → k ≡ length vs → slice_index_or (map (λ v. shown v) (vs ++ v ∷ [])) k no_answers ≡ shown v
 shown_last vs v k e =
     ap (λ (xs : List AnswersValue). slice_index_or xs k no_answers) (map-append (λ (v : AnswerVec). shown v) vs (v ∷ []))

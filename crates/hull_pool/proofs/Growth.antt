@@ -40,6 +40,7 @@ pub record Grows (cap : ℕ) (phase : PhaseValue) (before lines : List Line) (w 
   pub most : below w lines ≤ below w before + calls_in (take w phase)
   pub all : (cap ≤ length lines) ⊎ (below w lines ≡ below w before + calls_in (take w phase))
 
+-- the first w workers added so many, each having worked
 grows : (cap : ℕ) (phase : PhaseValue) (before lines : List Line) (olds news : ℕ → List Answer) (w : ℕ) → w ≤ length phase → ((k : ℕ) → k < w → HasWorked k cap (length (job phase k)) (job phase k) before lines (olds k) (news k)) → Grows cap phase before lines w
 grows cap phase before lines olds news zero le each = record {
   most = omega (arith, below_none lines);

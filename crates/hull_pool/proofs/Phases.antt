@@ -25,9 +25,11 @@ use Rattle.hull_pool.proofs.Growth.{grown_to}
 use Rattle.hull_pool.specs.Work.{HasWorked, lines_of, capacity_of, workers_of, replies_of, fulls}
 use Rattle.hull_pool.proofs.Called.{same_count, begins_longer}
 
+-- a seat of a lock round a book on the heap
 abbrev pub BookSeat : Type 0
 BookSeat = Seat Boxed BookHead Line
 
+-- a worker's answers, in memory
 abbrev pub AnswerVec : Type 0
 AnswerVec = Vec Answer Global
 
@@ -36,10 +38,12 @@ abbrev pub Numbered : ℕ → List BookSeat → Type 0
 Numbered j [] = Unit {0}
 Numbered j (s ∷ ss) = (seat_number s ≡ j) × Numbered (suc j) ss
 
+-- seats that each have the number of their place are numbered so
 pub numbered_from : (j : ℕ) (ss : List BookSeat) → ((i : ℕ) (s : BookSeat) → slice_get ss i ≡ Some s → seat_number s ≡ i + j) → Numbered j ss
 numbered_from j [] h = tt
 numbered_from j (s ∷ ss) h = (h 0 s refl ∙ omega arith, numbered_from (suc j) ss (λ i t e. h (suc i) t e ∙ omega arith))
 
+-- nothing and j is j
 zero_plus : (j : ℕ) → 0 + j ≡ j
 zero_plus j = omega arith
 
@@ -54,6 +58,7 @@ pub record Fits (b : BookValue) (phase : PhaseValue) (j : ℕ) (vs : List Answer
   pub jobs : length ls + j ≤ length phase
   pub room : (i : ℕ) (d : AnswerVec) → i < length vs → length (job phase (i + j)) ≤ vec_capacity (slice_index_or vs i d) - length (slice_index_or vs i d).items
 
+-- what fits the workers from j on fits those from j + 1 on
 fits_rest : (b : BookValue) (phase : PhaseValue) (j : ℕ) (v : AnswerVec) (vs : List AnswerVec) (l : LedgerValue) (ls : List LedgerValue) → Fits b phase j (v ∷ vs) (l ∷ ls) → Fits b phase (suc j) vs ls
 fits_rest b phase j v vs l ls f = record {
   ledgers = λ i d lt. subst (λ (n : ℕ). IsLedger b n (slice_index_or ls i d)) (omega arith) (f.ledgers (suc i) d (omega arith));
@@ -91,6 +96,7 @@ pub record Outcome (b c : BookValue) (phase : PhaseValue) (n : ℕ) (v w : Answe
 abbrev pub IsSeenIn : BookValue → BookSeat → Type 0
 IsSeenIn c s = IsPrefix (seat_seen s) c.lines × (lines_of (seat_number s) c.lines ≡ lines_of (seat_number s) (seat_seen s))
 
+-- what a worker did stands where the journal grew on by other seats' lines
 worked_on : (n cap done : ℕ) (calls : List Call) (before seen lines : List Line) (old new : List Answer) → IsPrefix seen lines → lines_of n lines ≡ lines_of n seen → HasWorked n cap done calls before seen old new → HasWorked n cap done calls before lines old new
 worked_on n cap done calls before seen lines old new begins own h = record {
   served = h.served;
@@ -104,6 +110,7 @@ worked_on n cap done calls before seen lines old new begins own h = record {
     longer_by : (xs ys : List Line) → IsPrefix xs ys → length xs ≤ length ys
     longer_by xs ys p = omega (arith, length-append xs p.0, ap length p.1)
 
+-- what came of one worker
 outcome : (lock : TicketLock Boxed BookHead Line) (b c : BookValue) (phase : PhaseValue) (n : ℕ) (s t : BookSeat) (v w : AnswerVec) (l m : LedgerValue) → seat_number s ≡ n → IsSeenIn c t → HasRun lock b phase (worker_of s v l) (worker_of t w m) → Outcome b c phase n v w m
 outcome lock b c phase n s t v w l m num seen run =
     let e : seat_number t ≡ n = run.number ∙ num in
@@ -159,6 +166,7 @@ shown_at [] k lt = absurd (omega arith)
 shown_at (v ∷ vs) zero lt = (v, refl, λ d. refl)
 shown_at (v ∷ vs) (suc k) lt = shown_at vs k (omega arith)
 
+-- k and nothing is k
 plus_zero : (k : ℕ) → k + 0 ≡ k
 plus_zero k = omega arith
 
@@ -184,6 +192,7 @@ pub record CameOut (b c : BookValue) (phase : PhaseValue) (vs ws : List AnswerVe
   pub new_shown : slice_index_or (map (λ v. shown v) ws) k no_answers ≡ shown new
   pub outcome_is : (f : LedgerValue) → Outcome b c phase k old new (slice_index_or ms k f)
 
+-- what came of the worker k of a crew
 pub came_out : (lock : TicketLock Boxed BookHead Line) (b c : BookValue) (phase : PhaseValue) (ss ts : List BookSeat) (vs ws : List AnswerVec) (ls ms : List LedgerValue) → length vs ≡ length ss → length ls ≡ length ss → length ts ≡ length ss → length ws ≡ length ss → length ms ≡ length ss → Numbered 0 ss → All (IsSeenIn c) ts → AllZip (HasRun lock b phase) (team worker_of ss vs ls) (team worker_of ts ws ms) → (k : ℕ) → k < length ss → CameOut b c phase vs ws ms k
 came_out lock b c phase ss ts vs ws ls ms lv ll lt lw lm num seen runs k below =
     let v = shown_at vs k (omega arith) in
@@ -209,6 +218,7 @@ answers_grown : (k cap : ℕ) (calls : List Call) (before lines : List Line) (ol
 answers_grown k room calls before lines old new h =
     omega (arith, ap length h.answers, length-append (old ++ replies_of h.served) (fulls (length calls - length h.served)), length-append old (replies_of h.served), length-map {B = Answer} h.served (λ (line : Line). Ok line.reply), length-replicate {A = Answer} (length calls - length h.served) (Err (record {})), h.few)
 
+-- the room that is left is less by the worker's calls
 came_room : (b c : BookValue) (phase : PhaseValue) (vs ws : List AnswerVec) (ls ms : List LedgerValue) (k : ℕ) (f : LedgerValue) → CameOut b c phase vs ws ms k → length (job phase k) ≤ (answers_of (shown_workers vs ls) k).room → (answers_of (shown_workers ws ms) k).room + length (job phase k) ≡ (answers_of (shown_workers vs ls) k).room
 came_room b c phase vs ws ls ms k f out room =
     let grown : length out.new.items ≡ length out.old.items + length (job phase k) = answers_grown k (capacity_of b) (job phase k) b.lines c.lines out.old.items out.new.items (out.outcome_is f).worked in
@@ -261,6 +271,7 @@ pub record AreLong (b : BookValue) (ss : List BookSeat) (vs : List AnswerVec) (l
   pub answers : length vs ≡ length ss
   pub ledgers : length ls ≡ length ss
 
+-- what may be run has lists that long
 pub are_long : (b : BookValue) (phase : PhaseValue) (ss : List BookSeat) (vs : List AnswerVec) (ls : List LedgerValue) → length ss ≡ workers_of b → MayRun b (shown_workers vs ls) phase → AreLong b ss vs ls
 are_long b phase ss vs ls n may = record {
   seats = n;

@@ -35,6 +35,7 @@ no_fulls n e = ap (λ (m : ℕ). fulls m) e
 fulls_more : (n m : ℕ) (f : JournalFull) → m ≡ n + 1 → fulls n ++ Err f ∷ [] ≡ fulls m
 fulls_more n m f e = replicate-append-replicate n 1 (Err f) ∙ sym (ap (λ (k : ℕ). fulls k) e)
 
+-- one reply more, where no answer was that the journal is full
 answers_ok : (old new newer : List Answer) (served : List Line) (line : Line) (reply : Reply) (n m : ℕ) → new ≡ old ++ replies_of served ++ fulls n → n ≡ 0 → m ≡ 0 → newer ≡ new ++ Ok reply ∷ [] → line.reply ≡ reply → newer ≡ old ++ replies_of (served ++ line ∷ []) ++ fulls m
 answers_ok old new newer served line reply n m so_far none still pushed same =
     let plain : new ≡ old ++ replies_of served = so_far ∙ ap (λ (xs : List Answer). old ++ replies_of served ++ xs) (no_fulls n none) ∙ sym (append_none (old ++ replies_of served)) in
@@ -42,6 +43,7 @@ answers_ok old new newer served line reply n m so_far none still pushed same =
     pushed ∙ ap (λ (xs : List Answer). xs ++ Ok reply ∷ []) plain ∙ append_assoc old (replies_of served) (Ok reply ∷ []) ∙ ap (λ (xs : List Answer). old ++ xs) ends
     ∙ append_none (old ++ replies_of (served ++ line ∷ [])) ∙ ap (λ (xs : List Answer). old ++ replies_of (served ++ line ∷ []) ++ xs) (sym (no_fulls m still))
 
+-- one answer more that the journal is full
 answers_err : (old new newer : List Answer) (served : List Line) (f : JournalFull) (n m : ℕ) → new ≡ old ++ replies_of served ++ fulls n → m ≡ n + 1 → newer ≡ new ++ Err f ∷ [] → newer ≡ old ++ replies_of served ++ fulls m
 answers_err old new newer served f n m so_far more pushed =
     pushed ∙ ap (λ (xs : List Answer). xs ++ Err f ∷ []) so_far ∙ append_assoc (old ++ replies_of served) (fulls n) (Err f ∷ []) ∙ ap (λ (xs : List Answer). old ++ replies_of served ++ xs) (fulls_more n m f more)
