@@ -1,0 +1,113 @@
+//! Scripts from a seed, for the benchmarks.
+//!
+//!     generate KIND CALLS WORKERS SEED
+//!
+//! Kinds: `count` (counts alone), `small` (all calls on a grid of 8 by 8 points), `build` (adds alone), `churn` (adds,
+//! removes, extreme and place), `ask` (few adds, many questions), `mixed` (all calls but vertices). The last four take
+//! their coordinates from the whole range. The calls are dealt out to the workers in turn.
+use std::io::Write;
+
+const LIMIT: i64 = 1 << 20;
+
+/// A xorshift generator (Marsaglia, 2003).
+struct Random(u64);
+
+impl Random {
+    fn next(&mut self) -> u64 {
+        self.0 ^= self.0 << 13;
+        self.0 ^= self.0 >> 7;
+        self.0 ^= self.0 << 17;
+        self.0
+    }
+
+    fn below(&mut self, n: u64) -> u64 {
+        (self.next() >> 11) % n
+    }
+
+    fn coordinate(&mut self, limit: i64) -> i64 {
+        self.below(2 * limit as u64 + 1) as i64 - limit
+    }
+
+    fn point(&mut self, limit: i64) -> (i64, i64) {
+        (self.coordinate(limit), self.coordinate(limit))
+    }
+}
+
+/// The points that were added and not removed since.
+struct Live(Vec<(i64, i64)>);
+
+impl Live {
+    fn add(&mut self, random: &mut Random, limit: i64) -> String {
+        let p = random.point(limit);
+        self.0.push(p);
+        format!("add {} {}", p.0, p.1)
+    }
+
+    fn remove(&mut self, random: &mut Random, limit: i64) -> String {
+        if self.0.is_empty() {
+            return self.add(random, limit);
+        }
+        let i = random.below(self.0.len() as u64) as usize;
+        let p = self.0.swap_remove(i);
+        format!("remove {} {}", p.0, p.1)
+    }
+}
+
+fn question(random: &mut Random, word: &str, limit: i64) -> String {
+    let (mut x, y) = random.point(limit);
+    if word == "extreme" && (x, y) == (0, 0) {
+        x = 1;
+    }
+    format!("{word} {x} {y}")
+}
+
+fn call(kind: &str, i: u64, random: &mut Random, live: &mut Live) -> String {
+    let roll = random.below(100);
+    match kind {
+        "count" => "count".to_string(),
+        "build" => live.add(random, LIMIT),
+        "churn" => match roll {
+            0..=39 => live.add(random, LIMIT),
+            40..=69 => live.remove(random, LIMIT),
+            70..=84 => question(random, "extreme", LIMIT),
+            _ => question(random, "place", LIMIT),
+        },
+        "ask" if i < 2000 => live.add(random, LIMIT),
+        "ask" => match roll {
+            0 => live.add(random, LIMIT),
+            1..=50 => question(random, "extreme", LIMIT),
+            _ => question(random, "place", LIMIT),
+        },
+        "mixed" => match roll {
+            0..=34 => live.add(random, LIMIT),
+            35..=54 => live.remove(random, LIMIT),
+            55..=69 => question(random, "extreme", LIMIT),
+            70..=84 => question(random, "place", LIMIT),
+            85..=94 => question(random, "tangents", LIMIT),
+            95..=97 => "area".to_string(),
+            _ => "count".to_string(),
+        },
+        _ => match roll {
+            0..=29 => live.add(random, 4),
+            30..=49 => live.remove(random, 4),
+            50..=59 => question(random, "extreme", 4),
+            60..=69 => question(random, "place", 4),
+            70..=79 => question(random, "tangents", 4),
+            80..=84 => "vertices".to_string(),
+            85..=89 => "area".to_string(),
+            _ => "count".to_string(),
+        },
+    }
+}
+
+fn main() {
+    let words: Vec<String> = std::env::args().skip(1).collect();
+    let [kind, calls, workers, seed] = words.as_slice() else { panic!("generate KIND CALLS WORKERS SEED") };
+    let [calls, workers, seed] = [calls, workers, seed].map(|n| n.parse::<u64>().unwrap());
+    let mut random = Random(seed.wrapping_mul(0x9e37_79b9_7f4a_7c15) | 1);
+    let mut live = Live(Vec::new());
+    let mut out = std::io::BufWriter::new(std::io::stdout().lock());
+    for i in 0..calls {
+        writeln!(out, "{} {}", i % workers, call(kind, i, &mut random, &mut live)).unwrap();
+    }
+}

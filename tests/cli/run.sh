@@ -1,0 +1,72 @@
+#!/bin/sh
+# Runs the built program on each case of cases/ and compares what it wrote, byte for byte, and its status.
+#
+# A case is a text in parts. `words:` are the program's words, where INPUT stands for a file with the bytes of the part
+# `input:`, ABSENT for a path where nothing is, and FOLDER for a folder. `status:` is the exit status. `output:` and
+# `error:` are standard output and standard error, both empty where the part is left out; `or:` is another output that
+# may come. A line of a part begins with `|`, or with `\` where no newline ends it. `device: full` lets the output fail.
+# A line that begins with `#` is a remark. The last line counts, and the status is not 0 where a case came out otherwise.
+set -uf
+here=$(cd "$(dirname "$0")" && pwd)
+top=$(cd "$here/../.." && pwd)
+room=$(mktemp -d)
+trap 'rm -rf "$room"' EXIT
+mkdir "$room/folder"
+
+# the bytes of a part of a case
+part() {
+    LC_ALL=C awk -v part="$2:" '
+        /^[a-z]+:/ { inside = ($0 == part); next }
+        inside && /^\|/ { printf "%s\n", substr($0, 2) }
+        inside && /^\\/ { printf "%s", substr($0, 2) }' "$1"
+}
+
+# what stands behind a name in the head of a case
+head_of() {
+    sed -n "s/^$2: //p" "$1"
+}
+
+# runs a case; says nothing where it came out as it says
+outcome() {
+    part "$1" input >"$room/input"
+    for name in output or error; do
+        part "$1" "$name" >"$room/wanted.$name"
+    done
+    words=$(head_of "$1" words | sed "s#INPUT#$room/input#; s#ABSENT#$room/absent#; s#FOLDER#$room/folder#")
+    told="$room/told.output"
+    if [ "$(head_of "$1" device)" = full ]; then
+        told=/dev/full
+    fi
+    : >"$room/told.output"
+    # shellcheck disable=SC2086 # the words stand apart by spaces
+    "$top/bin/hullbook" $words >"$told" 2>"$room/told.error"
+    status=$?
+    if [ "$status" != "$(head_of "$1" status)" ]; then
+        echo "status $status"
+    elif ! cmp -s "$room/told.error" "$room/wanted.error"; then
+        echo "on standard error: $(head -n 3 "$room/told.error")"
+    elif cmp -s "$room/told.output" "$room/wanted.output"; then
+        :
+    elif grep -q '^or:' "$1" && cmp -s "$room/told.output" "$room/wanted.or"; then
+        :
+    else
+        echo "wrote: $(head -n 20 "$room/told.output")"
+    fi
+}
+
+# The first call builds the program where it is not built for this commit.
+"$top/bin/hullbook" >/dev/null 2>&1
+
+passed=0
+failed=0
+for case in $(find "$here/cases" -name '*.case' | sort); do
+    why=$(outcome "$case")
+    if [ -z "$why" ]; then
+        passed=$((passed + 1))
+    else
+        failed=$((failed + 1))
+        echo "$(basename "$case" .case): FAILED, $why"
+    fi
+done
+echo "$passed passed, $failed failed"
+[ "$failed" -eq 0 ]
