@@ -1,0 +1,158 @@
+-- Two nodes in a row: the parts of a fork, and where a point goes that is added or taken.
+use Rattle.std.proofs.Common.{◌≡◌, ◌+◌, max, refl, sym, ap, subst, List, ◌++◌, inl, inr, append_assoc, Some}
+use Rattle.std.specs.List.{All, Contains}
+use Rattle.std.proofs.lemmas.List.Elements.{All-contains, All-contains_itself, All-weaker, Contains-append_cases}
+use Rattle.lattice.specs.Covers.{IsPointSet, with_point, without_point}
+use Rattle.lattice.specs.Plane.{Pair, IsBefore}
+use Rattle.bridge_search.specs.Trees.{first_of}
+use Rattle.bridge_search.proofs.Leaves.{on_of_contains, points_in_order}
+use Rattle.bridge_search.proofs.Turns.{on_first, first_by}
+use Rattle.hull_plain.proofs.Order.{before_trans, before_irrefl, before_total}
+use Rattle.hull_tree.specs.declared.node.Node as node
+use Rattle.hull_tree.specs.Nodes.{tree_of, halves_of, IsWellBuilt, DifferByAtMost}
+use Rattle.hull_tree.specs.Changes.{points_below, height_at, AreInRow}
+use Rattle.hull_tree.proofs.PointRows.{set_left, set_right, all_before_of_set}
+use Rattle.hull_tree.proofs.ChangedRows.{with_left, with_right, without_left, without_right, with_set, without_set}
+
+-- what is known of the halves l and r of the well-built fork n
+pub record IsOver (n l r : node.Node) : Type 0 where
+  pub row : AreInRow l r
+  pub points : points_below n ≡ points_below l ++ points_below r
+  pub height : height_at n ≡ max (height_at l) (height_at r) + 1
+  pub near : DifferByAtMost 1 (height_at l) (height_at r)
+
+-- two pairs that are the answer are the same
+same_halves : {e d : node.Node × node.Node} → Some e ≡ Some d → e ≡ d
+same_halves h = cc
+
+-- a well-built fork is over its halves
+pub over_halves : (n l r : node.Node) → IsWellBuilt n → halves_of n ≡ Some (l, r) → IsOver n l r
+over_halves (node.Leaf p) l r h e = absurd (cc)
+over_halves (node.Fork' i upper lower first last height left right) l r h e =
+    let a : left ≡ l = ap (λ (z : node.Node × node.Node). z.0) (same_halves e) in
+    let b : right ≡ r = ap (λ (z : node.Node × node.Node). z.1) (same_halves e) in
+    subst (λ (z : node.Node). IsOver (node.Fork' i upper lower first last height left right) z r) a
+    (subst (λ (z : node.Node). IsOver (node.Fork' i upper lower first last height left right) left z) b record {
+      row = record {
+        left_built = record { bridged = h.bridged.3; balanced = h.balanced.1; labelled = h.labelled.3 };
+        right_built = record { bridged = h.bridged.4; balanced = h.balanced.2; labelled = h.labelled.4 };
+        in_order = points_in_order (tree_of (node.Fork' i upper lower first last height left right)) h.bridged;
+      };
+      points = refl;
+      height = refl;
+      near = h.balanced.0;
+    })
+
+-- a node that stands in a row with a fork stands in a row with the fork's left half
+pub row_with_left : (l n a b : node.Node) → IsOver n a b → AreInRow l n → AreInRow l a
+row_with_left l n a b o k =
+    let e : points_below l ++ points_below n ≡ (points_below l ++ points_below a) ++ points_below b = rw o.points (simp append_assoc) in
+    record {
+      left_built = k.left_built;
+      right_built = o.row.left_built;
+      in_order = set_left (points_below l ++ points_below a) (points_below b) (subst IsPointSet e k.in_order);
+    }
+
+-- and a fork's right half with the node after the fork
+pub row_with_right : (n a b r : node.Node) → IsOver n a b → AreInRow n r → AreInRow b r
+row_with_right n a b r o k =
+    let e : points_below n ++ points_below r ≡ points_below a ++ (points_below b ++ points_below r) = rw o.points (simp append_assoc) in
+    record {
+      left_built = o.row.right_built;
+      right_built = k.right_built;
+      in_order = set_right (points_below a) (points_below b ++ points_below r) (subst IsPointSet e k.in_order);
+    }
+
+-- two nodes with the same points as two in a row are in a row
+pub regrouped : (l r s t : node.Node) → AreInRow l r → IsWellBuilt s → IsWellBuilt t → points_below l ++ points_below r ≡ points_below s ++ points_below t → AreInRow s t
+regrouped l r s t k a b e = record {
+  left_built = a;
+  right_built = b;
+  in_order = subst IsPointSet e k.in_order;
+}
+
+-- what holds of each member
+all_of : (P : Pair → Type 0) (xs : List Pair) → ((t : Pair) → Contains xs t → P t) → All P xs
+all_of P xs f = All-weaker (Contains xs) P f xs (All-contains_itself xs)
+
+-- p before the first point of r: it stands before all of r
+before_first : (l r : node.Node) (p : Pair) → AreInRow l r → IsBefore p (first_of (tree_of r)) → All (IsBefore p) (points_below r)
+before_first l r p k b = all_of (IsBefore p) (points_below r) (λ t i. elim (before_total (first_of (tree_of r)) t) [
+  | inl h ↦ before_trans p (first_of (tree_of r)) t b h
+  | inr (inl e) ↦ subst (IsBefore p) e b
+  | inr (inr h) ↦ absurd (first_by (tree_of r) k.right_built.bridged t (on_of_contains (tree_of r) t i) h)
+])
+
+-- else all of l stands before p
+after_first : (l r : node.Node) (p : Pair) → AreInRow l r → ¬ (IsBefore p (first_of (tree_of r))) → All (λ t. IsBefore t p) (points_below l)
+after_first l r p k n = all_of (λ t. IsBefore t p) (points_below l) (λ t i.
+    let h : IsBefore t (first_of (tree_of r)) = all_before_of_set (tree_of l) (tree_of r) k.in_order t (first_of (tree_of r)) (on_of_contains (tree_of l) t i) (on_first (tree_of r)) in
+    elim (before_total p (first_of (tree_of r))) [
+      | inl m ↦ absurd (n m)
+      | inr (inl e) ↦ subst (IsBefore t) (sym e) h
+      | inr (inr m) ↦ before_trans t (first_of (tree_of r)) p h m
+    ])
+
+-- a point before the first one of r is added to l
+pub add_left : (l r : node.Node) (p : Pair) → AreInRow l r → IsBefore p (first_of (tree_of r)) → with_point p (points_below l ++ points_below r) ≡ with_point p (points_below l) ++ points_below r
+add_left l r p k b = with_left p (points_below l) (points_below r) (before_first l r p k b)
+
+-- any other to r
+pub add_right : (l r : node.Node) (p : Pair) → AreInRow l r → ¬ (IsBefore p (first_of (tree_of r))) → with_point p (points_below l ++ points_below r) ≡ points_below l ++ with_point p (points_below r)
+add_right l r p k n = with_right p (points_below l) (points_below r) (after_first l r p k n)
+
+-- a point before the first one of r is taken from l
+pub drop_left : (l r : node.Node) (p : Pair) → AreInRow l r → IsBefore p (first_of (tree_of r)) → without_point p (points_below l ++ points_below r) ≡ without_point p (points_below l) ++ points_below r
+drop_left l r p k b = without_left p (points_below l) (points_below r) (before_first l r p k b)
+
+-- any other from r
+pub drop_right : (l r : node.Node) (p : Pair) → AreInRow l r → ¬ (IsBefore p (first_of (tree_of r))) → without_point p (points_below l ++ points_below r) ≡ points_below l ++ without_point p (points_below r)
+drop_right l r p k n = without_right p (points_below l) (points_below r) (after_first l r p k n)
+
+-- l with such a point stays in a row with r
+pub row_add_left : (l r m : node.Node) (p : Pair) → AreInRow l r → IsBefore p (first_of (tree_of r)) → IsWellBuilt m → points_below m ≡ with_point p (points_below l) → AreInRow m r
+row_add_left l r m p k b h e = record {
+  left_built = h;
+  right_built = k.right_built;
+  in_order = rw e (subst IsPointSet (add_left l r p k b) (with_set p (points_below l ++ points_below r) k.in_order));
+}
+
+-- and l with r with any other
+pub row_add_right : (l r m : node.Node) (p : Pair) → AreInRow l r → ¬ (IsBefore p (first_of (tree_of r))) → IsWellBuilt m → points_below m ≡ with_point p (points_below r) → AreInRow l m
+row_add_right l r m p k n h e = record {
+  left_built = k.left_built;
+  right_built = h;
+  in_order = rw e (subst IsPointSet (add_right l r p k n) (with_set p (points_below l ++ points_below r) k.in_order));
+}
+
+-- l without such a point stays in a row with r
+pub row_drop_left : (l r m : node.Node) (p : Pair) → AreInRow l r → IsBefore p (first_of (tree_of r)) → IsWellBuilt m → points_below m ≡ without_point p (points_below l) → AreInRow m r
+row_drop_left l r m p k b h e = record {
+  left_built = h;
+  right_built = k.right_built;
+  in_order = rw e (subst IsPointSet (drop_left l r p k b) (without_set p (points_below l ++ points_below r) k.in_order));
+}
+
+-- and l with r without any other
+pub row_drop_right : (l r m : node.Node) (p : Pair) → AreInRow l r → ¬ (IsBefore p (first_of (tree_of r))) → IsWellBuilt m → points_below m ≡ without_point p (points_below r) → AreInRow l m
+row_drop_right l r m p k n h e = record {
+  left_built = k.left_built;
+  right_built = h;
+  in_order = rw e (subst IsPointSet (drop_right l r p k n) (without_set p (points_below l ++ points_below r) k.in_order));
+}
+
+-- a point of both that stands before the first one of r is in l
+pub in_left : (l r : node.Node) (p : Pair) → AreInRow l r → IsBefore p (first_of (tree_of r)) → Contains (points_below l ++ points_below r) p → Contains (points_below l) p
+in_left l r p k b h =
+    elim (Contains-append_cases (points_below l) (points_below r) p h) [
+      | inl i ↦ i
+      | inr i ↦ absurd (before_irrefl p (All-contains (IsBefore p) (points_below r) p (before_first l r p k b) i))
+    ]
+
+-- any other is in r
+pub in_right : (l r : node.Node) (p : Pair) → AreInRow l r → ¬ (IsBefore p (first_of (tree_of r))) → Contains (points_below l ++ points_below r) p → Contains (points_below r) p
+in_right l r p k n h =
+    elim (Contains-append_cases (points_below l) (points_below r) p h) [
+      | inl i ↦ absurd (before_irrefl p (All-contains (λ t. IsBefore t p) (points_below l) p (after_first l r p k n) i))
+      | inr i ↦ i
+    ]

@@ -1,0 +1,5 @@
+pub mod PointRows
+pub mod ChangedRows
+pub mod HalfRows
+pub mod Heights
+pub mod LimitedTrees

@@ -1,0 +1,31 @@
+use Rattle.std.proofs.Common.{rules, append_assoc}
+use Rattle.hull_tree.proofs.HalfRows.{IsOver, over_halves, row_with_left, row_with_right, regrouped}
+use Rattle.hull_tree.proofs.build.rotated_left.Goals as goal
+
+pub joined-first-requires-clause-row : goal.joined-first-requires-clause-row
+joined-first-requires-clause-row c =
+    let o : IsOver c.args.right c.take_halves-inner.result.0 c.take_halves-inner.result.1 = over_halves _ _ _ c.requires.row.right_built (search rules) in
+    row_with_left _ _ _ _ o c.requires.row
+
+pub joined-requires-clause-row : goal.joined-requires-clause-row
+joined-requires-clause-row c =
+    let o : IsOver c.args.right c.take_halves-inner.result.0 c.take_halves-inner.result.1 = over_halves _ _ _ c.requires.row.right_built (search rules) in
+    regrouped _ _ _ _ c.requires.row c.joined-first.ensures.built o.row.right_built (rw (o.points, c.joined-first.ensures.points) (simp append_assoc))
+
+pub joined-first-requires-2-clause-row : goal.joined-first-requires-2-clause-row
+joined-first-requires-2-clause-row c =
+    let o : IsOver c.args.right c.take_halves-inner.result.0 c.take_halves-inner.result.1 = over_halves _ _ _ c.requires.row.right_built (search rules) in
+    let m : IsOver c.take_halves-inner.result.0 c.take_halves-middle_left.result.0 c.take_halves-middle_left.result.1 = over_halves _ _ _ o.row.left_built (search rules) in
+    row_with_left _ _ _ _ m (row_with_left _ _ _ _ o c.requires.row)
+
+pub joined-second-requires-clause-row : goal.joined-second-requires-clause-row
+joined-second-requires-clause-row c =
+    let o : IsOver c.args.right c.take_halves-inner.result.0 c.take_halves-inner.result.1 = over_halves _ _ _ c.requires.row.right_built (search rules) in
+    let m : IsOver c.take_halves-inner.result.0 c.take_halves-middle_left.result.0 c.take_halves-middle_left.result.1 = over_halves _ _ _ o.row.left_built (search rules) in
+    row_with_right _ _ _ _ m o.row
+
+pub joined-requires-2-clause-row : goal.joined-requires-2-clause-row
+joined-requires-2-clause-row c =
+    let o : IsOver c.args.right c.take_halves-inner.result.0 c.take_halves-inner.result.1 = over_halves _ _ _ c.requires.row.right_built (search rules) in
+    let m : IsOver c.take_halves-inner.result.0 c.take_halves-middle_left.result.0 c.take_halves-middle_left.result.1 = over_halves _ _ _ o.row.left_built (search rules) in
+    regrouped _ _ _ _ c.requires.row c.joined-first-2.ensures.built c.joined-second.ensures.built (rw (o.points, m.points, c.joined-first-2.ensures.points, c.joined-second.ensures.points) (simp append_assoc))

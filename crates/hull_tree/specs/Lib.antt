@@ -1,0 +1,5 @@
+pub mod Nodes
+pub mod OneWay
+pub mod Changes
+pub mod Roots
+pub mod Sets

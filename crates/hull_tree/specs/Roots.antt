@@ -1,0 +1,21 @@
+-- A whole tree: a node, or nothing.
+use Rattle.std.specs.Prelude.{ℕ, List, [], Option, Some, None}
+use Rattle.lattice.specs.Plane.{Pair}
+use Rattle.hull_tree.specs.declared.node.Node.{Node}
+use Rattle.hull_tree.specs.Nodes.{IsWellBuilt}
+use Rattle.hull_tree.specs.Changes.{points_below, height_at}
+
+-- its points, in order
+abbrev pub points_of_root : Option Node → List Pair
+points_of_root None = []
+points_of_root (Some n) = points_below n
+
+-- it is nothing, or a well-built node
+abbrev pub IsWellBuiltRoot : Option Node → Type 0
+IsWellBuiltRoot None = Unit {0}
+IsWellBuiltRoot (Some n) = IsWellBuilt n
+
+-- its height; of nothing 0
+abbrev pub height_of_root : Option Node → ℕ
+height_of_root None = 0
+height_of_root (Some n) = height_at n

@@ -1,0 +1,25 @@
+-- What a tree with a limit on the number of its points is seen as, and what it keeps.
+use Rattle.std.specs.Prelude.{◌≡◌, ℕ, ◌≤◌, Option, length}
+use Rattle.lattice.specs.Covers.{IsPointSet}
+use Rattle.hull_plain.specs.declared.TheConstants.{POINT_LIMIT}
+use Rattle.hull_tree.specs.declared.node.Node.{Node}
+use Rattle.hull_tree.specs.Roots.{points_of_root, IsWellBuiltRoot, height_of_root}
+
+-- the greatest number of points, and the tree
+pub record LimitedTree : Type 0 where
+  pub limit : ℕ
+  pub root : Option Node
+
+-- a well-built tree with its number of points and its limit
+pub record IsLimited (root : Option Node) (count limit : ℕ) : Type 0 where
+  pub built : IsWellBuiltRoot root
+  pub counted : count ≡ length (points_of_root root)
+  pub room : count ≤ limit
+  pub low : 1 ≤ limit
+  pub high : limit ≤ POINT_LIMIT
+
+-- the tree is well built, its points stand in order, and it is at most 28 high
+pub record IsSound (root : Option Node) : Type 0 where
+  pub built : IsWellBuiltRoot root
+  pub in_order : IsPointSet (points_of_root root)
+  pub low : height_of_root root ≤ 28

@@ -1,0 +1,69 @@
+ghost use Rattle.std.specs.Prelude.{◌≡◌};
+ghost use Rattle.bridge_search.specs.Trees.{IsBridged};
+ghost use Rattle.bridge_search.specs.OneWay.{IsBridged-prop};
+ghost use Rattle.hull_tree.specs.Nodes.{tree_of, IsLabelled, IsWellBuilt};
+ghost use Rattle.hull_tree.specs.OneWay.{IsLabelled-prop};
+
+use super::node::{Node, first_of, last_of};
+use bridge_search::Half;
+use lattice::Point;
+
+/// A lent node that is well built: the half of a hull that the bridge search and the questions walk down.
+#[derive(Clone, Copy)]
+pub struct NodeRef<'a> {
+    node: &'a Node,
+    ghost bridged: { IsBridged (tree_of node.now) } by { IsBridged-prop (tree_of node.now) },
+    ghost labelled: { IsLabelled node.now } by { IsLabelled-prop node.now },
+}
+
+impl<'a> NodeRef<'a> {
+    /// The half that a well-built node is.
+    pub fn new(node: &'a Node) -> NodeRef<'a>
+        requires { IsWellBuilt node.now }
+        ensures { ⟦<NodeRef<'a> as Half>⟧.tree result ≡ tree_of node.now }
+    {
+        NodeRef { node }
+    }
+}
+
+impl<'a> Half for NodeRef<'a> {
+    ghost tree = { λ s. tree_of s.node.now };
+
+    fn edge(self) -> Option<(Point, Point)> {
+        match self.node {
+            Node::Leaf(_) => None,
+            Node::Fork(fork) => Some(fork.upper),
+        }
+    }
+
+    fn lower(self) -> Option<(Point, Point)> {
+        match self.node {
+            Node::Leaf(_) => None,
+            Node::Fork(fork) => Some(fork.lower),
+        }
+    }
+
+    fn left(self) -> Self {
+        match self.node {
+            Node::Leaf(_) => self,
+            Node::Fork(fork) => NodeRef { node: &fork.left },
+        }
+    }
+
+    fn right(self) -> Self {
+        match self.node {
+            Node::Leaf(_) => self,
+            Node::Fork(fork) => NodeRef { node: &fork.right },
+        }
+    }
+
+    fn first(self) -> Point {
+        first_of(self.node)
+    }
+
+    fn last(self) -> Point {
+        last_of(self.node)
+    }
+
+    ghost bridged = { λ s. s.bridged };
+}
