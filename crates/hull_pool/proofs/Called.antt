@@ -1,15 +1,13 @@
 -- One call of a worker, from what the lock found to what it handed on.
-use Rattle.std.proofs.Common.{◌≡◌, ◌<◌, ◌≤◌, ℕ, List, [], ◌∷◌, ◌++◌, length, refl, sym, ap, subst, ◌∙◌, arith, append_assoc, Result, Ok, Err, Bool, true, false, eq-eqb}
-use Rattle.std.specs.Prelude.{◌==◌, ◌↔◌, IfOk, OnErr, IsErr, filter, count_by, IsTrue}
+use Rattle.std.proofs.Common.{◌≡◌, ◌<◌, ℕ, List, [], ◌∷◌, ◌++◌, length, refl, sym, ap, subst, ◌∙◌, arith, append_assoc, Ok, Err, eq-eqb}
+use Rattle.std.specs.Prelude.{◌==◌, ◌↔◌, IfOk, OnErr, IsErr}
 use Rattle.std.proofs.lemmas.List.Elements.{filter-append}
 use Rattle.std.proofs.lemmas.List.Sums.{length-filter}
 use mathlib.Core.List.{IsPrefix}
 use Rattle.hull_plain.specs.declared.call.Call.{Call}
-use Rattle.hull_plain.specs.declared.reply.Reply.{Reply}
 use Rattle.hull_book.specs.declared.line.Line.{Line}
 use Rattle.hull_book.specs.declared.head.BookHead.{BookHead}
-use Rattle.hull_book.specs.declared.report.JournalFull.{JournalFull}
-use Rattle.hull_book.specs.Books.{BookValue, Serves, passed, served, line_for}
+use Rattle.hull_book.specs.Books.{BookValue, Serves, passed, line_for}
 use Rattle.hull_book.specs.Ledgers.{LedgerValue, IsLedger, IsLedgerOf, count_of}
 use Rattle.hull_pool.specs.Answers.{Answer}
 use Rattle.hull_pool.specs.Work.{lines_of, capacity_of, workers_of, HasCalled}

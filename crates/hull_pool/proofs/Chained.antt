@@ -1,15 +1,14 @@
 -- Phases one after the other.
-use Rattle.std.proofs.Common.{◌≡◌, ◌<◌, ◌≤◌, ◌+◌, ◌-◌, ℕ, zero, suc, List, [], ◌∷◌, ◌++◌, length, refl, sym, ap, subst, ◌∙◌, arith, append_assoc, length-append, map, take, inl, inr, ◌⊎◌, All, Ok, Err}
-use Rattle.std.specs.Prelude.{min, sum_by, replicate}
+use Rattle.std.proofs.Common.{◌≡◌, ◌<◌, ◌≤◌, ◌+◌, ◌-◌, ℕ, suc, List, [], ◌∷◌, ◌++◌, length, refl, sym, ap, subst, ◌∙◌, arith, append_assoc, length-append, map, take, inl, inr, All, Ok, Err}
 use Rattle.std.proofs.lemmas.Bool.{cases_lt}
 use Rattle.std.proofs.lemmas.List.{map-append, replicate-append-replicate, take-append-le}
 use Rattle.std.proofs.lemmas.List.Sums.{sum_by-cons}
-use Rattle.std.proofs.lemmas.List.Elements.{All-cons, All-head, All-tail}
+use Rattle.std.proofs.lemmas.List.Elements.{All-tail}
 use mathlib.Core.List.{IsPrefix}
 use Rattle.hull_plain.specs.declared.call.Call.{Call}
 use Rattle.hull_book.specs.declared.line.Line.{Line}
 use Rattle.hull_book.specs.declared.head.BookHead.{BookHead}
-use Rattle.hull_book.specs.Books.{BookValue, IsLawful}
+use Rattle.hull_book.specs.Books.{BookValue}
 use Rattle.hull_book.specs.Scripts.{PhaseValue, calls_in, calls_in_all, calls_of}
 use Rattle.hull_pool.specs.Answers.{Answer, WorkersValue}
 use Rattle.hull_pool.specs.Runs.{job, answers_of, HasRunPhase}

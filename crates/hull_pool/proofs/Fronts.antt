@@ -1,6 +1,6 @@
 -- Which phase may be run next, and the calls of some phases among those of all.
-use Rattle.std.proofs.Common.{◌≡◌, ◌<◌, ◌≤◌, ◌+◌, ◌-◌, ℕ, zero, suc, List, [], ◌∷◌, ◌++◌, length, refl, sym, ap, subst, ◌∙◌, arith, append_assoc, length-append, map, take, drop, All}
-use Rattle.std.specs.Prelude.{sum_by, slice_index_or, Vec, Result, Ok, Err, OnOk}
+use Rattle.std.proofs.Common.{◌≡◌, ◌<◌, ◌≤◌, ◌+◌, ℕ, zero, suc, List, [], ◌∷◌, ◌++◌, length, refl, sym, ap, subst, ◌∙◌, arith, append_assoc, length-append, map, take, All}
+use Rattle.std.specs.Prelude.{slice_index_or, Result, Ok, Err, OnOk}
 use Rattle.std.proofs.lemmas.List.Sums.{sum_by-cons, sum_by-append}
 use Rattle.std.proofs.lemmas.List.Elements.{All-cons, All-head, All-tail}
 use Rattle.std.proofs.lemmas.List.{get_or_append_left, map-append, length-map}
@@ -8,9 +8,8 @@ use Rattle.std.proofs.Math.Seq.{get_or-append_seam}
 use Rattle.hull_plain.specs.declared.call.Call.{Call}
 use Rattle.hull_book.specs.Books.{BookValue}
 use Rattle.hull_book.specs.Scripts.{PhaseValue, calls_in, calls_in_all, calls_of}
-use Rattle.hull_book.specs.declared.limits.TheConstants.{TEXT_LINE_LIMIT}
 use Rattle.hull_pool.specs.Answers.{Answer, AnswersValue, WorkersValue, shown, no_answers}
-use Rattle.hull_pool.specs.Runs.{job, answers_of, MayRun, HasRunPhase}
+use Rattle.hull_pool.specs.Runs.{job, MayRun}
 use Rattle.hull_pool.specs.Scripts.{MayRunAll, HasRunPhases}
 use Rattle.hull_pool.specs.Work.{workers_of}
 use Rattle.hull_pool.proofs.Phases.{AnswerVec}

@@ -1,6 +1,6 @@
 -- A phase: from the lists that its crew is made of to the lists that are left of it.
-use Rattle.std.proofs.Common.{◌≡◌, ◌<◌, ◌≤◌, ◌+◌, ◌-◌, ℕ, zero, suc, List, [], ◌∷◌, ◌++◌, length, refl, sym, ap, subst, ◌∙◌, arith, reverse, map, append_assoc, length-append}
-use Rattle.std.specs.Prelude.{All, slice_index_or, slice_get, Option, Some, None, IsSome, IfSome, Vec, vec_len, vec_capacity, Box, box_value}
+use Rattle.std.proofs.Common.{◌≡◌, ◌<◌, ◌≤◌, ◌+◌, ◌-◌, ℕ, zero, suc, List, [], ◌∷◌, ◌++◌, length, refl, sym, ap, subst, ◌∙◌, arith, reverse, map, length-append}
+use Rattle.std.specs.Prelude.{All, slice_index_or, slice_get, Option, Some, None, IfSome, Vec, vec_len, vec_capacity}
 use Rattle.std.specs.Global.{Global}
 use Rattle.std.specs.List.{AllZip}
 use Rattle.std.proofs.lemmas.List.{length-map, length-replicate, length-reverse}
@@ -16,7 +16,7 @@ use Rattle.hull_book.specs.Ledgers.{LedgerValue, IsLedger, IsLedgerOf, count_of}
 use Rattle.hull_book.specs.Scripts.{PhaseValue}
 use Rattle.ticket_lock.specs.declared.lock.TicketLock.{TicketLock}
 use Rattle.ticket_lock.specs.declared.seat.Seat.{Seat}
-use Rattle.ticket_lock.specs.Tokens.{IsSeatOf, AreNumbered, seat_number, seat_seen}
+use Rattle.ticket_lock.specs.Tokens.{IsSeatOf, seat_number, seat_seen}
 use Rattle.hull_pool.specs.declared.worker.Worker.{Worker}
 use Rattle.hull_pool.specs.Answers.{Answer, AnswersValue, shown, shown_workers, no_answers}
 use Rattle.hull_pool.specs.Crews.{Boxed, book_head, team, worker_of, IsReady, HasRun}

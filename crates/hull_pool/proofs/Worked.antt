@@ -1,9 +1,8 @@
 -- A worker's calls, one after the other.
-use Rattle.std.proofs.Common.{◌≡◌, ◌<◌, ◌≤◌, ◌+◌, ◌-◌, ℕ, zero, suc, List, [], ◌∷◌, ◌++◌, length, refl, sym, ap, subst, ◌∙◌, arith, append_assoc, Result, Ok, Err, Bool, true, false, take, map, ◌⊎◌, inl, inr, length-append}
-use Rattle.std.specs.Prelude.{IsErr, slice_index_or, replicate}
+use Rattle.std.proofs.Common.{◌≡◌, ◌<◌, ◌≤◌, ◌+◌, ◌-◌, ℕ, List, [], ◌∷◌, ◌++◌, length, refl, sym, ap, subst, ◌∙◌, arith, append_assoc, Ok, Err, take, inl, inr, length-append}
+use Rattle.std.specs.Prelude.{IsErr, slice_index_or}
 use Rattle.std.proofs.lemmas.Bool.{cases_lt}
 use Rattle.std.proofs.lemmas.List.{take_more, map-append, replicate-append-replicate}
-use mathlib.Core.List.{IsPrefix}
 use Rattle.hull_plain.specs.declared.call.Call.{Call}
 use Rattle.hull_plain.specs.declared.reply.Reply.{Reply}
 use Rattle.hull_book.specs.declared.line.Line.{Line}

@@ -1,5 +1,5 @@
 -- The workers of a phase: a seat, answers and a ledger each.
-use Rattle.std.specs.Prelude.{◌≡◌, ◌<◌, ◌≤◌, ◌+◌, ℕ, List, [], ◌∷◌, length, slice_index_or, Some, IsSome, IfSome, Vec, vec_len, vec_capacity, Box, box_value}
+use Rattle.std.specs.Prelude.{◌≡◌, ◌<◌, ◌≤◌, ◌+◌, List, [], ◌∷◌, length, slice_index_or, Some, IsSome, IfSome, Vec, vec_len, vec_capacity, Box, box_value}
 use mathlib.Core.List.{IsPrefix}
 use Rattle.std.specs.Global.{Global}
 use Rattle.hull_book.specs.Ledgers.{LedgerValue, IsLedgerOf}

@@ -1,7 +1,6 @@
 -- What a run of phases comes to.
-use Rattle.std.specs.Prelude.{◌≡◌, ◌+◌, ◌<◌, ◌≤◌, ℕ, min, List, [], ◌∷◌, ◌++◌, length, slice_index_or}
+use Rattle.std.specs.Prelude.{◌≡◌, ◌+◌, ◌<◌, ◌≤◌, ℕ, min, List, [], length, slice_index_or}
 use mathlib.Core.List.{IsPrefix}
-use Rattle.hull_book.specs.declared.line.Line.{Line}
 use Rattle.hull_book.specs.Books.{BookValue, IsLawful}
 use Rattle.hull_book.specs.Ledgers.{AreLedgers}
 use Rattle.hull_book.specs.Scripts.{PhaseValue, calls_in}

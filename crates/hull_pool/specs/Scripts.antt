@@ -1,8 +1,7 @@
 -- What a run of all phases of a script comes to.
-use Rattle.std.specs.Prelude.{◌≡◌, ◌+◌, ◌<◌, ◌≤◌, ◌++◌, ℕ, min, List, [], ◌∷◌, length, Result, Ok, Err}
+use Rattle.std.specs.Prelude.{◌≡◌, ◌+◌, ◌<◌, ◌≤◌, ◌++◌, ℕ, min, List, [], ◌∷◌, length}
 use Rattle.std.specs.List.{All}
 use mathlib.Core.List.{IsPrefix}
-use Rattle.hull_book.specs.declared.line.Line.{Line}
 use Rattle.hull_book.specs.Books.{BookValue, IsLawful}
 use Rattle.hull_book.specs.Ledgers.{AreLedgers}
 use Rattle.hull_book.specs.Scripts.{PhaseValue, calls_in_all, calls_of}

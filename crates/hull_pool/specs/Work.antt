@@ -1,9 +1,7 @@
 -- What a worker has done: which lines are its, and what it was answered.
-use Rattle.std.specs.Prelude.{◌≡◌, ◌==◌, ◌+◌, ◌-◌, ◌<◌, ◌≤◌, ℕ, List, [], ◌∷◌, ◌++◌, length, map, filter, take, replicate, Result, Ok, Err}
+use Rattle.std.specs.Prelude.{◌≡◌, ◌==◌, ◌-◌, ◌<◌, ◌≤◌, ℕ, List, [], ◌∷◌, ◌++◌, length, map, filter, take, replicate, Ok, Err}
 use Rattle.hull_plain.specs.declared.call.Call.{Call}
-use Rattle.hull_plain.specs.declared.reply.Reply.{Reply}
 use Rattle.hull_book.specs.declared.line.Line.{Line}
-use Rattle.hull_book.specs.declared.report.JournalFull.{JournalFull}
 use Rattle.hull_book.specs.Books.{BookValue}
 use Rattle.hull_pool.specs.Answers.{Answer}
 

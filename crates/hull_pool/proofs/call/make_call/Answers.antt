@@ -1,10 +1,8 @@
-use Rattle.std.proofs.Common.{◌≡◌, ◌∙◌, ap, sym, subst, rules, box_value, List, ℕ}
+use Rattle.std.proofs.Common.{◌≡◌, ◌∙◌, ap, sym, subst, box_value}
 use mathlib.Core.List.{IsPrefix}
-use Rattle.hull_book.specs.declared.line.Line.{Line}
 use Rattle.hull_book.specs.declared.head.BookHead.{BookHead}
 use Rattle.hull_book.specs.Books.{BookValue}
-use Rattle.ticket_lock.specs.Tokens.{seat_number, seat_seen, guard_book, opening_book}
-use Rattle.hull_pool.specs.Work.{lines_of, capacity_of}
+use Rattle.ticket_lock.specs.Tokens.{seat_seen, guard_book, opening_book}
 use Rattle.hull_pool.proofs.Called.{found_ledger, found_own, call_begins, call_made}
 use Rattle.hull_pool.proofs.call.make_call.Goals as goal
 

@@ -1,4 +1,4 @@
-use Rattle.std.proofs.Common.{rules, arith, ◌≡◌, ◌∙◌, sym, ap, refl, length, reverse}
+use Rattle.std.proofs.Common.{rules, ◌≡◌, reverse}
 use Rattle.std.specs.Prelude.{IsSome, IfSome}
 use Rattle.std.proofs.lemmas.Grind.{common_steps}
 use Rattle.ticket_lock.specs.Tokens.{seat_number}

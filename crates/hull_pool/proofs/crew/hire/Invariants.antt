@@ -1,4 +1,4 @@
-use Rattle.std.proofs.Common.{◌≡◌, ◌+◌, ◌≤◌, ◌++◌, length, reverse, vec_len, vec_capacity, Some}
+use Rattle.std.proofs.Common.{◌≡◌, ◌+◌, ◌≤◌, ◌++◌, length, reverse, vec_len, vec_capacity}
 use Rattle.hull_pool.specs.Crews.{team, worker_of}
 use Rattle.hull_pool.proofs.crew.hire.Given as goal
 

@@ -1,13 +1,10 @@
-use Rattle.std.proofs.Common.{rules, arith, ◌≡◌, ◌∙◌, ◌<◌, sym, ap, subst, reverse, length, List}
-use Rattle.std.specs.Prelude.{box_value, All, IsSome, IfSome, vec_len}
-use Rattle.std.specs.List.{AllZip}
-use Rattle.std.proofs.lemmas.List.{length-reverse}
+use Rattle.std.proofs.Common.{arith, ◌≡◌, ◌∙◌, sym, length}
+use Rattle.std.specs.Prelude.{box_value, IsSome, IfSome}
 use Rattle.hull_book.specs.Books.{BookValue}
-use Rattle.ticket_lock.specs.Tokens.{opening_book, seat_number, IsSeatOf}
-use Rattle.hull_pool.specs.Crews.{team, worker_of, IsReady, HasRun, book_head}
+use Rattle.ticket_lock.specs.Tokens.{opening_book, seat_number}
 use Rattle.hull_pool.specs.Work.{workers_of}
 use Rattle.hull_pool.proofs.Reversed.{all_unreverse}
-use Rattle.hull_pool.proofs.Phases.{Numbered, numbered_from, ready_from, fits_all, team-length, zip_all, seats_back, phase_ran, numbered_worker, AreLong, are_long, crew_long}
+use Rattle.hull_pool.proofs.Phases.{numbered_from, ready_from, fits_all, zip_all, seats_back, phase_ran, numbered_worker, AreLong, are_long, crew_long}
 use Rattle.hull_pool.proofs.phase.run_locked.Goals as goal
 
 pub work_all-requires-clause-some : goal.work_all-requires-clause-some

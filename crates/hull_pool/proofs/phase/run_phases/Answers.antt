@@ -1,11 +1,11 @@
-use Rattle.std.proofs.Common.{◌≡◌, ◌++◌, ◌∷◌, ◌∙◌, ◌+◌, List, [], sym, ap, subst, take, drop, rules}
+use Rattle.std.proofs.Common.{◌≡◌, ◌++◌, ◌∙◌, List, sym, subst, take, drop}
 use Rattle.std.specs.Prelude.{slice_index_or}
 use Rattle.std.proofs.lemmas.List.{take_more, take-append-drop}
 use Rattle.hull_book.specs.Books.{BookValue}
 use Rattle.hull_book.specs.Scripts.{PhaseValue}
 use Rattle.hull_pool.specs.Answers.{WorkersValue}
 use Rattle.hull_pool.specs.Runs.{MayRun, HasRunPhase}
-use Rattle.hull_pool.specs.Scripts.{MayRunAll, HasRunPhases, HasRunAll}
+use Rattle.hull_pool.specs.Scripts.{MayRunAll, HasRunPhases}
 use Rattle.hull_pool.proofs.Chained.{run_all, run_one_more}
 use Rattle.hull_pool.proofs.Fronts.{may_next, may_front, take_whole, of_ok}
 use Rattle.hull_pool.proofs.phase.run_phases.Goals as goal

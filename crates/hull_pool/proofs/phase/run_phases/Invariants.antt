@@ -1,4 +1,4 @@
-use Rattle.std.proofs.Common.{◌≡◌, take}
+use Rattle.std.proofs.Common.{take}
 use Rattle.hull_pool.specs.Scripts.{HasRunPhases}
 use Rattle.hull_pool.proofs.phase.run_phases.Given as goal
 

@@ -1,9 +1,7 @@
-use Rattle.std.proofs.Common.{rules, arith, ◌≡◌, ◌∙◌, ◌+◌, sym, ap, subst, refl, box_value, ℕ, [], length}
+use Rattle.std.proofs.Common.{rules, arith, ◌∙◌, ◌+◌, sym, ap, subst, refl, ℕ, length}
 use Rattle.std.proofs.lemmas.Grind.{common_steps}
-use mathlib.Core.List.{IsPrefix}
 use Rattle.hull_book.specs.Ledgers.{IsLedgerOf}
-use Rattle.ticket_lock.specs.Tokens.{opening_book, IsSeatOf, seat_number, seat_seen}
-use Rattle.hull_pool.specs.Work.{HasWorked, capacity_of}
+use Rattle.ticket_lock.specs.Tokens.{seat_seen}
 use Rattle.hull_pool.proofs.Called.{begins_longer, begins_same}
 use Rattle.hull_pool.proofs.Worked.{not_begun_at, one_more, finished}
 use Rattle.hull_pool.proofs.worker.work.Goals as goal

@@ -1,6 +1,5 @@
-use Rattle.std.proofs.Common.{rules, arith, ◌≡◌, ◌∙◌, sym, ap, subst, reverse, length, List}
-use Rattle.std.specs.Prelude.{box_value, All}
-use Rattle.std.specs.List.{AllZip}
+use Rattle.std.proofs.Common.{arith, ◌≡◌, ◌∙◌, ap, length}
+use Rattle.std.specs.Prelude.{box_value}
 use Rattle.ticket_lock.specs.Tokens.{opening_book}
 use Rattle.hull_pool.specs.Crews.{IsReady, HasRun}
 use Rattle.hull_pool.proofs.Reversed.{all_unreverse, zip_reverse, written_back}

@@ -1,7 +1,5 @@
-use Rattle.std.proofs.Common.{◌≡◌, ◌+◌, ◌<◌, ◌∙◌, arith, ap, subst, sym, All, length, length-append, List, [], rules}
-use Rattle.std.specs.Prelude.{slice_index_or}
-use Rattle.std.proofs.lemmas.List.Elements.{All-head, All-tail}
-use Rattle.hull_book.specs.Scripts.{PhaseValue, calls_of}
+use Rattle.std.proofs.Common.{◌<◌, arith, subst, All, length}
+use Rattle.std.proofs.lemmas.List.Elements.{All-tail}
 use Rattle.hull_pool.proofs.Fronts.{calls_le, counted_more}
 use Rattle.hull_pool.proofs.workers.count_of.Goals as goal
 

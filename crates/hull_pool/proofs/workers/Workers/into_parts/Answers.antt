@@ -1,4 +1,4 @@
-use Rattle.std.proofs.Common.{◌∙◌, ap, map, rules}
+use Rattle.std.proofs.Common.{◌∙◌, ap, map}
 use Rattle.hull_pool.specs.Answers.{WorkersValue}
 use Rattle.hull_pool.proofs.Fronts.{shown_answers}
 use Rattle.hull_pool.proofs.workers.Workers.into_parts.Goals as goal
