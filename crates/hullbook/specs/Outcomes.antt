@@ -1,5 +1,5 @@
 -- What a run of a script comes to, and the text that is written of it.
-use Rattle.std.specs.Prelude.{◌≡◌, ◌<◌, ℕ, ◌^◌, cond, List, [], ◌++◌, length, map, Option, Some, None}
+use Rattle.std.specs.Prelude.{◌≡◌, ◌<◌, ℕ, ◌^◌, cond, List, [], ◌++◌, length, map, Option, Some, None, Ok}
 use Rattle.std.specs.Io.KnownBytes.{Appends}
 use Rattle.hull_book.specs.Books.{BookValue}
 use Rattle.hull_book.specs.Journals.{JournalValue}
@@ -10,7 +10,7 @@ use Rattle.hull_pool.specs.Scripts.{Runs}
 use Rattle.hull_text.specs.ReportText.{report_text}
 use Rattle.hull_text.specs.JournalText.{journal_text}
 use Rattle.hull_text.specs.Version.{written}
-use Rattle.hull_text.specs.ScriptGrammar.{IsScriptText}
+use Rattle.hull_text.specs.ScriptGrammar.{IsScriptText, ReadsKnownScript}
 use Rattle.hullbook.specs.declared.options.Options.{Options}
 
 -- the book over an empty set that a run begins with
@@ -58,14 +58,16 @@ abbrev pub HasRunKnownText : Options → Option (List ℕ) → Option (List ℕ)
 HasRunKnownText o None old new = Unit {0}
 HasRunKnownText o (Some bytes) old new = length bytes < 2 ^ 63 → HasRunText o bytes old new
 
--- what was written is a beginning of a text of a run
-pub record HasWrittenFront (o : Options) (old new : Option (List ℕ)) : Type 0 where
+-- The bytes, where they are known, were read as a script, it was run, and what was written is a beginning of the text of
+-- the run.
+pub record HasWrittenFront (o : Options) (bytes old new : Option (List ℕ)) : Type 0 where
   pub script : ScriptValue
   pub answers : List (List Answer)
   pub counts : List ℕ
   pub journal : JournalValue
   pub front : List ℕ
   pub back : List ℕ
+  pub reads : ReadsKnownScript bytes (Ok script)
   pub runs : IsRun script o answers counts journal
   pub text : output_text o script answers counts journal ≡ front ++ back
   pub writes : Appends old new front

@@ -1,4 +1,8 @@
+//! The program's engines over texts, and the words that it takes.
 ghost use Rattle.hullbook.specs.Tasks.{AreWithinLimits};
+
+mod answers;
+mod refused;
 
 use crate::check::check_text;
 use crate::fault::Fault;
@@ -19,6 +23,9 @@ const PLAIN: Options = Options {
 };
 
 const FIVE: &str = "0 add 0 2\n0 add 2 2\n0 extreme 0 1\n0 remove 0 2\n0 extreme 0 1\n";
+
+const FIVE_REPORT: &str =
+    "0 add 0 2 = added\n0 add 2 2 = added\n0 extreme 0 1 = point 0 2\n0 remove 0 2 = removed\n0 extreme 0 1 = point 2 2\nledger 0 5\nsum 5 journal 5 capacity 65536\n";
 
 const JOURNAL: &str =
     "hullbook journal 1 first 18446744073709551615 limit 4 capacity 4\n18446744073709551615 0 add 5 5 = added\n0 0 count = count 1\n1 0 remove 5 5 = removed\nend 3\n";
@@ -66,9 +73,7 @@ fn judges(alloc: Global, journal: &str, wanted: &str) -> Result<Option<bool>, Fa
 
 #[test]
 fn five_line_script(rt: HostRuntime) -> Result<(), Fail> {
-    let wanted =
-        "0 add 0 2 = added\n0 add 2 2 = added\n0 extreme 0 1 = point 0 2\n0 remove 0 2 = removed\n0 extreme 0 1 = point 2 2\nledger 0 5\nsum 5 journal 5 capacity 65536\n";
-    assert!(rt; runs_to(&rt, rt.alloc(), FIVE, &PLAIN, wanted)?);
+    assert!(rt; runs_to(&rt, rt.alloc(), FIVE, &PLAIN, FIVE_REPORT)?);
     Ok(())
 }
 
@@ -95,6 +100,25 @@ fn three_workers_and_a_join(rt: HostRuntime) -> Result<(), Fail> {
     let wanted =
         "0 add 0 0 = added\n0 vertices = list 3 0 0 4 0 0 4\n1 add 4 0 = added\n2 add 0 4 = added\nledger 0 2\nledger 1 1\nledger 2 1\nsum 4 journal 4 capacity 65536\n";
     assert!(rt; runs_to(&rt, rt.alloc(), script, &PLAIN, wanted)?);
+    Ok(())
+}
+
+/// All lines of a phase stand before those of the next: worker 1 counts before worker 0 puts its point in.
+#[test]
+fn second_worker_first(rt: HostRuntime) -> Result<(), Fail> {
+    let script = "1 count\njoin\n0 add 5 5\n";
+    let report =
+        "0 add 5 5 = added\n1 count = count 0\nledger 0 1\nledger 1 1\nsum 2 journal 2 capacity 65536\n";
+    assert!(rt; runs_to(&rt, rt.alloc(), script, &PLAIN, report)?);
+    let options = Options {
+        capacity: 4,
+        limit: 4,
+        first: 7,
+        journal: true,
+    };
+    let journal =
+        "hullbook journal 1 first 7 limit 4 capacity 4\n7 1 count = count 0\n8 0 add 5 5 = added\nend 2\n";
+    assert!(rt; runs_to(&rt, rt.alloc(), script, &options, journal)?);
     Ok(())
 }
 
@@ -234,6 +258,37 @@ fn words_that_are_refused(rt: HostRuntime) -> Result<(), Fail> {
     assert!(rt; is_refused(rt.alloc(), &["run", "x", "--first", "18446744073709551616"]));
     assert!(rt; is_refused(rt.alloc(), &["check", "x", "--journal"]));
     assert!(rt; is_refused(rt.alloc(), &["upgrade", "x"]));
+    Ok(())
+}
+
+/// A journal of no lines is refused as a word, with status 2.
+#[test]
+fn zero_capacity(rt: HostRuntime) -> Result<(), Fail> {
+    let words = ["run", "x", "--capacity", "0"];
+    let fault = match options(rt.alloc(), &words) {
+        Ok(_) => return Err(Fail::new("capacity 0 was taken")),
+        Err(fault) => Fault::from(fault),
+    };
+    assert_eq!(rt; fault.status(), 2);
+    let text = format!(in rt.alloc(); "{fault}")?;
+    assert_eq!(rt; text.as_str(), "hullbook: usage");
+    Ok(())
+}
+
+/// The line that each fault ends the program with.
+#[test]
+fn faults_have_their_words(rt: HostRuntime) -> Result<(), Fail> {
+    let text = TextFault { number: 3, line: 2 };
+    for (fault, words) in [
+        (Fault::Usage, "hullbook: usage"),
+        (Fault::Open, "hullbook: open"),
+        (Fault::Memory, "hullbook: memory"),
+        (Fault::Write, "hullbook: write"),
+        (Fault::Text(text), "hullbook: line 2: fault 3"),
+    ] {
+        let told = format!(in rt.alloc(); "{fault}")?;
+        assert_eq!(rt; told.as_str(), words);
+    }
     Ok(())
 }
 

@@ -1,0 +1,90 @@
+//! Memory that is refused. `rt try --test --fail-alloc N` refuses the Nth allocation of each test.
+use super::{FIVE, FIVE_REPORT, JOURNAL, PLAIN, judges, runs_to};
+use crate::check::check_text;
+use crate::options::{OptionFault, options};
+use crate::run::{RunFault, run};
+use hull_text::TextFault;
+use std::alloc::Global;
+use std::process::Abort;
+use std::test::Fail;
+use text_io::{Counted, Pieces, Spout};
+
+/// The report of the five calls where memory for the first point was refused.
+const FIRST_REFUSED: &str =
+    "0 add 0 2 = nomemory\n0 add 2 2 = added\n0 extreme 0 1 = point 2 2\n0 remove 0 2 = absent\n0 extreme 0 1 = point 2 2\nledger 0 5\nsum 5 journal 5 capacity 65536\n";
+
+// A writer with room for a report. Where memory is refused, the second attempt has it.
+fn spout(rt: &impl Abort, alloc: Global) -> Spout {
+    if let Ok(spout) = Spout::new(alloc, 4096, 5) {
+        return spout;
+    }
+    match Spout::new(alloc, 4096, 5) {
+        Ok(spout) => spout,
+        Err(_) => panic!(rt; "memory is refused once"),
+    }
+}
+
+// Whether the fault tells that memory was refused.
+fn is_memory(fault: RunFault) -> bool {
+    match fault {
+        RunFault::Memory => true,
+        RunFault::Text(TextFault { number, line: _ }) => number == 10,
+        RunFault::Write => false,
+    }
+}
+
+/// A run that is refused memory writes nothing and says so, and the next run ends well. Where it is a point that memory
+/// is refused to, the run goes on with that reply.
+#[test]
+fn refused_memory_run(rt: HostRuntime) -> Result<(), Fail> {
+    let mut input = Counted::new(Pieces::new(FIVE.as_bytes(), 7));
+    let mut output = Counted::new(spout(&rt, rt.alloc()));
+    let ended = run(&rt, rt.alloc(), &mut input, &mut output, &PLAIN);
+    let written = output.get_ref().bytes();
+    match ended {
+        Ok(()) => {
+            assert!(rt; written == FIVE_REPORT.as_bytes() || written == FIRST_REFUSED.as_bytes());
+        }
+        Err(fault) => {
+            assert!(rt; is_memory(fault));
+            assert_eq!(rt; written.len(), 0);
+            assert!(rt; runs_to(&rt, rt.alloc(), FIVE, &PLAIN, FIVE_REPORT)?);
+        }
+    }
+    Ok(())
+}
+
+/// A check that is refused memory writes nothing and says so, and the next check ends well.
+#[test]
+fn refused_memory_check(rt: HostRuntime) -> Result<(), Fail> {
+    let mut input = Counted::new(Pieces::new(JOURNAL.as_bytes(), 7));
+    let mut output = Counted::new(spout(&rt, rt.alloc()));
+    let ended = check_text(rt.alloc(), &mut input, &mut output);
+    let written = output.get_ref().bytes();
+    match ended {
+        Ok(legal) => {
+            assert!(rt; legal);
+            assert!(rt; written == "legal\n".as_bytes());
+        }
+        Err(fault) => {
+            assert!(rt; is_memory(fault));
+            assert_eq!(rt; written.len(), 0);
+            assert_eq!(rt; judges(rt.alloc(), JOURNAL, "legal\n")?, Some(true));
+        }
+    }
+    Ok(())
+}
+
+/// Words that memory is refused to are not refused as words.
+#[test]
+fn refused_memory_options(rt: HostRuntime) -> Result<(), Fail> {
+    let words = ["run", "x", "--limit", "7"];
+    match options(rt.alloc(), &words) {
+        Ok(_) => {}
+        Err(fault) => {
+            assert_eq!(rt; fault, OptionFault::Memory);
+            assert!(rt; options(rt.alloc(), &words).is_ok());
+        }
+    }
+    Ok(())
+}
