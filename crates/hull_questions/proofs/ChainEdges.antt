@@ -1,10 +1,9 @@
 -- A lower edge of one half is one of both, where it stands clear of the lower bridge.
-use Rattle.std.proofs.Common.{◌≡◌, ℤ, pos, ◌+ℤ◌, ◌≤ℤ◌, ◌<ℤ◌, neg_ℤ, inl, inr, refl, sym, ap, subst, List, arith, ◌++◌, Some, None}
+use Rattle.std.proofs.Common.{◌≡◌, ℤ, pos, ◌≤ℤ◌, ◌<ℤ◌, neg_ℤ, inl, inr, sym, ap, subst, List, arith, ◌++◌, Some, None}
 use Rattle.std.proofs.lemmas.Int.{ints}
 use Rattle.std.proofs.lemmas.List.Elements.{All-contains, All-append, Contains-append_left, Contains-append_right}
 use Rattle.lattice.specs.Plane.{Pair, orient, IsBefore}
 use Rattle.lattice.specs.Bridges.{IsAllBefore, IsLowerBridge}
-use Rattle.lattice.specs.Polynomials.{difference-eq, as_difference, difference-add, difference-neg, difference-mul}
 use Rattle.lattice.specs.Signs.{le_or_lt}
 use Rattle.lattice.proofs.Vectors.{minus, cross, Ahead, turn_trans_strict, turn_trans_strict_right}
 use Rattle.bridge_search.specs.Trees.{Tree, Leaf, Fork, On, IsBridged, IsFork, lower_of, left_of, right_of, first_of, last_of}
@@ -12,55 +11,12 @@ use Rattle.bridge_search.specs.Leaves.{points_of}
 use Rattle.bridge_search.proofs.Ends.{last_by}
 use Rattle.bridge_search.proofs.Leaves.{all_of, on_of_contains, contains_of_on}
 use Rattle.bridge_search.proofs.Turns.{first_by}
-use Rattle.hull_plain.specs.Edges.{IsLowerEdge}
+use Rattle.hull_plain.specs.Edges.{IsLowerEdge, IsUpperEdge}
 use Rattle.hull_plain.proofs.Order.{before_trans, before_total}
 use Rattle.hull_plain.proofs.Orientation.{orient_swap, ahead_of}
+use Rattle.hull_questions.proofs.Sides.{side_by_start, side_by_end, side_before, side_after, side_to_end, side_from_start, side_back, side_beyond, sum_above, equal_nn, equal_above}
 use Rattle.hull_questions.specs.Parts.{IsPartFor}
-use Rattle.hull_questions.specs.Chains.{IsBeforeEnd, IsLowerEdgeAt, IsLowerCorner}
-
--- ---- the sides of four points, by the steps between them
-
--- the side of t, by way of a
-side_by_start : (c d a t : Pair) → orient c d t ≡ cross (minus d c) (minus a c) +ℤ cross (minus d c) (minus t a)
-unfolding orient
-side_by_start c d a t = rw (as_difference c.x, as_difference c.y, as_difference d.x, as_difference d.y, as_difference a.x, as_difference a.y, as_difference t.x, as_difference t.y) (simp (difference-add, difference-neg, difference-mul) (difference-eq _ _ _ _ (omega arith)))
-
--- the side of t, by way of b and the end of the line
-side_by_end : (c d b t : Pair) → orient c d t ≡ cross (minus d b) (minus d c) +ℤ cross (minus b t) (minus d c)
-unfolding orient
-side_by_end c d b t = rw (as_difference c.x, as_difference c.y, as_difference d.x, as_difference d.y, as_difference b.x, as_difference b.y, as_difference t.x, as_difference t.y) (simp (difference-add, difference-neg, difference-mul) (difference-eq _ _ _ _ (omega arith)))
-
--- the side of a point before the line, by the step to its start
-side_before : (a b c : Pair) → orient a b c ≡ cross (minus a c) (minus b a)
-unfolding orient
-side_before a b c = rw (as_difference a.x, as_difference a.y, as_difference b.x, as_difference b.y, as_difference c.x, as_difference c.y) (simp (difference-add, difference-neg, difference-mul) (difference-eq _ _ _ _ (omega arith)))
-
--- the side of a point after the line, by the step from its end
-side_after : (a b d : Pair) → orient a b d ≡ cross (minus b a) (minus d b)
-unfolding orient
-side_after a b d = rw (as_difference a.x, as_difference a.y, as_difference b.x, as_difference b.y, as_difference d.x, as_difference d.y) (simp (difference-add, difference-neg, difference-mul) (difference-eq _ _ _ _ (omega arith)))
-
--- the side of a point before the end of the line, by the step to that end
-side_to_end : (a b t : Pair) → orient a b t ≡ cross (minus b t) (minus b a)
-unfolding orient
-side_to_end a b t = rw (as_difference a.x, as_difference a.y, as_difference b.x, as_difference b.y, as_difference t.x, as_difference t.y) (simp (difference-add, difference-neg, difference-mul) (difference-eq _ _ _ _ (omega arith)))
-
--- the side of a point, by the step from the start
-side_from_start : (a b t : Pair) → orient a b t ≡ cross (minus b a) (minus t a)
-unfolding orient
-side_from_start a b t = refl
-
--- a sum of a number at least 0 and one above 0
-sum_above : (s a b : ℤ) → s ≡ a +ℤ b → pos 0 ≤ℤ a → pos 0 <ℤ b → pos 0 <ℤ s
-sum_above s a b e h k = omega (arith, ints)
-
--- a number equal to one at least 0
-equal_nn : (a b : ℤ) → a ≡ b → pos 0 ≤ℤ a → pos 0 ≤ℤ b
-equal_nn a b e h = omega (arith, ints)
-
--- a number equal to one above 0
-equal_above : (a b : ℤ) → a ≡ b → pos 0 <ℤ a → pos 0 <ℤ b
-equal_above a b e h = omega (arith, ints)
+use Rattle.hull_questions.specs.Chains.{IsBeforeEnd, IsLowerEdgeAt, IsUpperEdgeAt, IsLowerCorner, IsUpperCorner}
 
 -- an edge cd that begins before a, where the edge ab is steeper: what lies over ab, after a, lies over cd
 over_from_left : (a b c d t : Pair) → IsBefore a b → IsBefore c d → IsBefore c a → IsBefore a t → pos 0 ≤ℤ orient c d a → pos 0 <ℤ orient a b c → pos 0 ≤ℤ orient a b t → pos 0 <ℤ orient c d t
@@ -250,5 +206,31 @@ from_corner S v e corner k =
     ]
   where
     no_start : IsLowerCorner S v → IsBefore e.0 v → ⊥
-    no_start (inl first) b = first e.0 k.edge.from b
+    no_start (inl first) b = first.1 e.0 k.edge.from b
     no_start (inr p) b = no_span S p.0 v e.0 e.1 p.1 k.edge b k.onward
+
+-- no upper edge spans the end of another
+no_span_back : (S : List Pair) (u v c d : Pair) → IsUpperEdge S u v → IsUpperEdge S c d → IsBefore v c → IsBefore d v → ⊥
+no_span_back S u v c d e f vc dv =
+    let a : pos 0 ≤ℤ cross (minus c v) (minus u v) = equal_nn _ _ (side_back u v c) (All-contains (λ t. pos 0 ≤ℤ orient u v t) S c e.left f.from) in
+    let b : pos 0 <ℤ cross (minus u v) (minus v d) =
+    equal_above _ _ (side_beyond u v d) (not_zero _ (All-contains (λ t. pos 0 ≤ℤ orient u v t) S d e.left f.to) (λ z. All-contains (λ t. orient u v t ≡ pos 0 → ¬ (IsBefore t v)) S d e.last f.to z dv)) in
+    let k : pos 0 <ℤ cross (minus c v) (minus v d) = turn_trans_strict_right (minus c v) (minus u v) (minus v d) (ahead_of v c vc) (ahead_of v u e.backward) (ahead_of d v dv) a b in
+    let m : pos 0 ≤ℤ orient c d v = All-contains (λ t. pos 0 ≤ℤ orient c d t) S v f.left e.to in
+    clash _ _ _ (side_beyond c v d) (orient_swap c v d) k m
+  where
+    clash : (x y z : ℤ) → x ≡ y → x ≡ neg_ℤ z → pos 0 <ℤ y → pos 0 ≤ℤ z → ⊥
+    clash x y z e f h k = omega (arith, ints)
+
+-- the upper edge at a corner begins there
+pub from_upper_corner : (S : List Pair) (v : Pair) (e : Pair × Pair) → IsUpperCorner S v → IsUpperEdgeAt S v e → e.0 ≡ v
+from_upper_corner S v e corner k =
+    elim (before_total v e.0) [
+      | inl b ↦ absurd (no_start corner b)
+      | inr (inl q) ↦ sym q
+      | inr (inr b) ↦ absurd (k.starts b)
+    ]
+  where
+    no_start : IsUpperCorner S v → IsBefore v e.0 → ⊥
+    no_start (inl last) b = last.1 e.0 k.edge.from b
+    no_start (inr p) b = no_span_back S p.0 v e.0 e.1 p.1 k.edge b k.onward

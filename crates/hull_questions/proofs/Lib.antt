@@ -1,4 +1,11 @@
+pub mod Sides
 pub mod Extremes
 pub mod ChainEdges
 pub mod TurnedEdges
 pub mod Sighted
+pub mod Counted
+pub mod Walked
+pub mod Fans
+pub mod Views
+pub mod TangentParts
+pub mod TurnedTangents

@@ -2,6 +2,7 @@
 use Rattle.std.proofs.Common.{◌≡◌, ℤ, pos, ◌≤ℤ◌, ◌<ℤ◌, ◌⊎◌, inl, inr, sym, ap, ◌∙◌, subst, List, arith}
 use Rattle.std.specs.List.{All, Contains}
 use Rattle.std.proofs.lemmas.Int.{ints}
+use Rattle.std.proofs.lemmas.List.Elements.{All-contains}
 use Rattle.lattice.specs.Covers.{Covers, Member}
 use Rattle.lattice.specs.Places.{IsOuter, IsOutside, IsInside, IsOnBoundary}
 use Rattle.lattice.specs.Plane.{Pair, orient, IsBefore}
@@ -10,14 +11,14 @@ use Rattle.bridge_search.specs.Leaves.{points_of}
 use Rattle.bridge_search.proofs.Ends.{last_by, on_last}
 use Rattle.bridge_search.proofs.Leaves.{all_of, on_of_contains, contains_of_on}
 use Rattle.bridge_search.proofs.Turns.{first_by, on_first}
-use Rattle.hull_plain.proofs.EdgePlaces.{on_line_outer, between_covered, between_inside}
+use Rattle.hull_plain.proofs.EdgePlaces.{right_outside, on_line_outer, between_covered, between_inside}
 use Rattle.hull_plain.proofs.NotCovered.{not_covered}
 use Rattle.hull_plain.proofs.OneSided.{ahead_separated, behind_separated}
 use Rattle.hull_plain.proofs.Order.{before_total, before_trans, equal_by}
 use Rattle.hull_plain.proofs.Orientation.{orient_back}
 use Rattle.hull_plain.proofs.Placings.{outer_first, outer_last}
 use Rattle.hull_questions.specs.Chains.{IsLowerEdgeAt, IsUpperEdgeAt}
-use Rattle.hull_questions.specs.Sights.{IsBetweenEnds, IsSeen, IsSightBy}
+use Rattle.hull_questions.specs.Sights.{IsBetweenEnds, IsBelowEdge, IsAboveEdge, IsSeen, IsSightBy}
 use Rattle.hull_questions.specs.declared.sights.Sight.{Sight}
 use Rattle.hull_questions.specs.declared.sights.Sight.TheVariants.{Before, After, Below, Above, Touching, Within}
 
@@ -38,6 +39,22 @@ outside_before t q h b = not_covered (points_of t) q (ahead_separated (points_of
 -- a point after all lies outside
 pub outside_after : (t : Tree) (q : Pair) → IsBridged t → IsBefore (last_of t) q → IsOutside (points_of t) q
 outside_after t q h b = not_covered (points_of t) q (behind_separated (points_of t) q (after_all t q h b))
+
+-- a point below a lower edge lies outside
+pub outside_below : (S : List Pair) (q : Pair) → IsBelowEdge S q → IsOutside S q
+outside_below S q (c, d, e, h) = right_outside S c d q e.left h
+
+-- a point above an upper edge lies outside
+pub outside_above : (S : List Pair) (q : Pair) → IsAboveEdge S q → IsOutside S q
+outside_above S q (c, d, e, h) = right_outside S c d q e.left h
+
+-- a point before the first is before the last
+pub before_last : (t : Tree) (q : Pair) → IsBridged t → IsBefore q (first_of t) → IsBefore q (last_of t)
+before_last t q h b = All-contains (IsBefore q) (points_of t) (last_of t) (before_all t q h b) (contains_of_on t (last_of t) (on_last t))
+
+-- a point after the last is after the first
+pub after_first : (t : Tree) (q : Pair) → IsBridged t → IsBefore (last_of t) q → IsBefore (first_of t) q
+after_first t q h b = All-contains (λ s. IsBefore s q) (points_of t) (first_of t) (after_all t q h b) (contains_of_on t (first_of t) (on_first t))
 
 -- the first point lies on the boundary
 pub touching_first : (t : Tree) (q : Pair) → IsBridged t → ¬ (IsBefore q (first_of t)) → ¬ (IsBefore (first_of t) q) → IsOnBoundary (points_of t) q

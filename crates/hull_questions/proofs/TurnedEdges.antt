@@ -26,12 +26,12 @@ pub turned_member : (t : Tree) (p : Pair) → Contains (points_of (turned_tree t
 turned_member t p m = contains_of_on t (turned_point p) (on_turned t p (on_of_contains (turned_tree t) p m))
 
 -- a turn reverses the order
-turned_order : (c d : Pair) → IsBefore c d → IsBefore (turned_point d) (turned_point c)
+pub turned_order : (c d : Pair) → IsBefore c d → IsBefore (turned_point d) (turned_point c)
 turned_order c d (inl h) = inl (omega (arith, ints))
 turned_order c d (inr h) = inr (omega (arith, ints, h.0), omega (arith, ints, h.1))
 
 -- the same, told of one turned point
-turned_before : (p q : Pair) → IsBefore (turned_point p) q → IsBefore (turned_point q) p
+pub turned_before : (p q : Pair) → IsBefore (turned_point p) q → IsBefore (turned_point q) p
 turned_before p q (inl h) = inl (omega (arith, ints))
 turned_before p q (inr h) = inr (omega (arith, ints, h.0), omega (arith, ints, h.1))
 

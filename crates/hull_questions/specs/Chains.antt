@@ -1,5 +1,6 @@
 -- The edges of the two chains, by a point below or above which they lie, and the corners where they meet.
 use Rattle.std.specs.Prelude.{◌⊎◌, List}
+use Rattle.std.specs.List.{Contains}
 use Rattle.lattice.specs.Plane.{Pair, IsBefore}
 use Rattle.bridge_search.specs.Trees.{Tree, first_of, last_of}
 use Rattle.hull_plain.specs.Edges.{IsLowerEdge, IsUpperEdge, IsFirst, IsLast}
@@ -26,8 +27,8 @@ pub record IsUpperEdgeAt (S : List Pair) (v : Pair) (e : Pair × Pair) : Type 0 
 
 -- a lower edge ends at v, or v is the first point
 abbrev pub IsLowerCorner : List Pair → Pair → Type 0
-IsLowerCorner S v = IsFirst S v ⊎ ((p : Pair) × IsLowerEdge S p v)
+IsLowerCorner S v = (Contains S v × IsFirst S v) ⊎ ((p : Pair) × IsLowerEdge S p v)
 
 -- an upper edge ends at v, or v is the last point
 abbrev pub IsUpperCorner : List Pair → Pair → Type 0
-IsUpperCorner S v = IsLast S v ⊎ ((p : Pair) × IsUpperEdge S p v)
+IsUpperCorner S v = (Contains S v × IsLast S v) ⊎ ((p : Pair) × IsUpperEdge S p v)

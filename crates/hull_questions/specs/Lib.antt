@@ -1,3 +1,5 @@
 pub mod Parts
 pub mod Chains
 pub mod Sights
+pub mod Walks
+pub mod Shapes

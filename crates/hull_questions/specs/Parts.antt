@@ -1,9 +1,10 @@
 -- One step down a half: into a part of it that has the answer to a question.
 use Rattle.std.specs.Prelude.{◌≡◌, ◌⊎◌, ◌<◌, pos, ◌<ℤ◌, ◌≤ℤ◌, List, Option}
-use Rattle.lattice.specs.Plane.{Pair}
-use Rattle.bridge_search.specs.Trees.{Tree, edge_of, lower_of, height_of}
+use Rattle.lattice.specs.Plane.{Pair, IsBefore}
+use Rattle.bridge_search.specs.Trees.{Tree, edge_of, lower_of, height_of, first_of, last_of}
 use Rattle.bridge_search.specs.Leaves.{points_of}
-use Rattle.hull_plain.specs.Tangents.{IsFirstFarthest}
+use Rattle.hull_plain.specs.Tangents.{IsFirstFarthest, IsLeftTangent, IsRightTangent}
+use Rattle.hull_questions.specs.Sights.{IsBelow}
 
 -- what answers a question about the part answers it about the whole, and the part is lower
 pub record IsPartFor (A : Type 0) (IsAnswer : List Pair → A → Type 0) (whole part : Tree) : Type 0 where
@@ -17,3 +18,15 @@ IsFacing d t e = ((pos 0 <ℤ d.y) × (e ≡ edge_of t)) ⊎ ((d.y ≤ℤ pos 0)
 -- the part has the first of the farthest points of the whole
 abbrev pub IsFartherPart : Pair → Tree → Tree → Type 0
 IsFartherPart d whole part = IsPartFor Pair (λ S p. IsFirstFarthest S d p) whole part
+
+-- the part has the left tangent point of the whole as seen from q, which lies below it and after its first point
+pub record IsLeftPart (q : Pair) (whole part : Tree) : Type 0 where
+  pub part_for : IsPartFor Pair (λ S l. IsLeftTangent S q l) whole part
+  pub below : IsBelow (points_of part) q
+  pub after : IsBefore (first_of part) q
+
+-- the part has the right tangent point of the whole as seen from q, which lies below it and before its last point
+pub record IsRightPart (q : Pair) (whole part : Tree) : Type 0 where
+  pub part_for : IsPartFor Pair (λ S r. IsRightTangent S q r) whole part
+  pub below : IsBelow (points_of part) q
+  pub before : IsBefore q (last_of part)

@@ -1,5 +1,6 @@
 -- From where a point looks at a hull.
 use Rattle.std.specs.Prelude.{◌⊎◌, ℤ, pos, ◌<ℤ◌, ◌≤ℤ◌, List}
+use Rattle.std.specs.List.{Contains}
 use Rattle.lattice.specs.Plane.{Pair, orient, IsBefore}
 use Rattle.lattice.specs.Places.{IsInside, IsOnBoundary}
 use Rattle.bridge_search.specs.Trees.{Tree, first_of, last_of}
@@ -15,6 +16,16 @@ IsBelowEdge S q = (c : Pair) × (d : Pair) × IsLowerEdge S c d × (orient c d q
 -- q lies above an upper edge
 abbrev pub IsAboveEdge : List Pair → Pair → Type 0
 IsAboveEdge S q = (c : Pair) × (d : Pair) × IsUpperEdge S c d × (orient c d q <ℤ pos 0)
+
+-- q is no point of S, and lies below each segment from a point of S before it to one after it
+pub record IsBelow (S : List Pair) (q : Pair) : Type 0 where
+  pub absent : ¬ Contains S q
+  pub under : (s t : Pair) → Contains S s → Contains S t → IsBefore s q → IsBefore q t → orient s t q <ℤ pos 0
+
+-- q is no point of S, and lies above each such segment
+pub record IsAbove (S : List Pair) (q : Pair) : Type 0 where
+  pub absent : ¬ Contains S q
+  pub over : (s t : Pair) → Contains S s → Contains S t → IsBefore s q → IsBefore q t → pos 0 <ℤ orient s t q
 
 -- q stands after the first point of the half and before the last
 abbrev pub IsBetweenEnds : Tree → Pair → Type 0

@@ -5,10 +5,19 @@
 //! at each fork, and ask for no memory; [`vertices`] and [`area2`] go down once for each corner.
 #![tactic(auto)]
 
+mod area;
+mod corners;
 mod edges;
 mod farthest;
+mod outline;
 mod placing;
 mod sights;
+#[cfg(test)]
+mod tests;
+mod touching;
 
+pub use area::area2;
 pub use farthest::extreme;
+pub use outline::vertices;
 pub use placing::place;
+pub use touching::tangents;

@@ -1,6 +1,5 @@
 use Rattle.bridge_search.specs.Leaves.{points_of}
-use Rattle.hull_plain.proofs.EdgePlaces.{right_outside}
-use Rattle.hull_questions.proofs.Sighted.{outside_before, outside_after}
+use Rattle.hull_questions.proofs.Sighted.{outside_before, outside_after, outside_below, outside_above}
 use Rattle.hull_questions.proofs.placing.place.Goals as goal
 
 pub returns-in-Before : goal.returns-in-Before
@@ -10,11 +9,7 @@ pub returns-in-After : goal.returns-in-After
 returns-in-After g c = outside_after (g.H.Half.tree c.args.half) c.args.q (g.met.H.Half.bridged c.args.half) c.in-After.ensures
 
 pub returns-in-Below : goal.returns-in-Below
-returns-in-Below g c =
-    let e = c.in-Below.ensures.1 in
-    right_outside (points_of (g.H.Half.tree c.args.half)) e.0 e.1 c.args.q e.2.left e.3
+returns-in-Below g c = outside_below (points_of (g.H.Half.tree c.args.half)) c.args.q c.in-Below.ensures.1
 
 pub returns-in-Above : goal.returns-in-Above
-returns-in-Above g c =
-    let e = c.in-Above.ensures.1 in
-    right_outside (points_of (g.H.Half.tree c.args.half)) e.0 e.1 c.args.q e.2.left e.3
+returns-in-Above g c = outside_above (points_of (g.H.Half.tree c.args.half)) c.args.q c.in-Above.ensures.1
