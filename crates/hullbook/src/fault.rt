@@ -1,6 +1,8 @@
 use crate::options::OptionFault;
 use crate::run::RunFault;
 use hull_text::TextFault;
+use std::io;
+use std::io::ErrorKind;
 use thiserror::Error;
 
 /// What a refused program ends with: its text on standard error, and its status.
@@ -24,6 +26,15 @@ pub enum Fault {
 }
 
 impl Fault {
+    /// The fault of a call on the system that failed: `Memory` where memory was refused to it, and else `other`.
+    pub fn of_system(error: &io::Error, other: Fault) -> Fault {
+        if error.kind() == ErrorKind::OutOfMemory {
+            Fault::Memory
+        } else {
+            other
+        }
+    }
+
     /// The exit status of a program that ends with this.
     pub fn status(&self) -> u8 {
         match self {

@@ -32,9 +32,7 @@ fn task_of<R: Env + AllocGlobal>(rt: &R) -> Result<Task, Fault>
     ensures { IfOk result IsWithinLimits }
 {
     let mut words = Vec::new(rt.alloc());
-    let Ok(args) = env::args(rt) else {
-        return Err(Fault::Usage);
-    };
+    let args = env::args(rt).map_err(|error| Fault::of_system(&error, Fault::Usage))?;
     for word in args.skip(1) {
         words.push(word).map_err(|_| Fault::Memory)?;
     }
@@ -53,9 +51,7 @@ fn run_file<R: Threads + Wait + Sync + Files + Print + AllocGlobal>(
 ) -> Result<(), Fault>
     requires { AreWithinLimits options.now }
 {
-    let Ok(file) = fs::open(rt, path) else {
-        return Err(Fault::Open);
-    };
+    let file = fs::open(rt, path).map_err(|error| Fault::of_system(&error, Fault::Open))?;
     let Ok(block) = BufWriter::with_capacity(rt.alloc(), WRITE_BLOCK, io::writer(rt)) else {
         return Err(Fault::Memory);
     };
@@ -66,9 +62,7 @@ fn run_file<R: Threads + Wait + Sync + Files + Print + AllocGlobal>(
 
 /// Checks the journal at the path and writes to standard output. `true` for legal.
 fn check_file<R: Files + Print + AllocGlobal>(rt: &R, path: &str) -> Result<bool, Fault> {
-    let Ok(file) = fs::open(rt, path) else {
-        return Err(Fault::Open);
-    };
+    let file = fs::open(rt, path).map_err(|error| Fault::of_system(&error, Fault::Open))?;
     let mut input = Counted::new(file);
     let mut output = Counted::new(io::writer(rt));
     check_text(rt.alloc(), &mut input, &mut output).map_err(Fault::from)

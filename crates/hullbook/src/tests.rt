@@ -10,6 +10,8 @@ use crate::options::{OptionFault, Options, Task, options};
 use crate::run::{RunFault, run};
 use hull_text::TextFault;
 use std::alloc::Global;
+use std::io;
+use std::io::ErrorKind;
 use std::sync::Wait;
 use std::test::Fail;
 use std::thread::Threads;
@@ -272,6 +274,18 @@ fn zero_capacity(rt: HostRuntime) -> Result<(), Fail> {
     assert_eq!(rt; fault.status(), 2);
     let text = format!(in rt.alloc(); "{fault}")?;
     assert_eq!(rt; text.as_str(), "hullbook: usage");
+    Ok(())
+}
+
+/// A call on the system that was refused memory is told as that, and not as refused words or a file that is not there.
+#[test]
+fn refused_memory_of_the_system(rt: HostRuntime) -> Result<(), Fail> {
+    let refused = io::Error::from(ErrorKind::OutOfMemory);
+    assert_eq!(rt; Fault::of_system(&refused, Fault::Usage).status(), 4);
+    assert_eq!(rt; Fault::of_system(&refused, Fault::Open).status(), 4);
+    let absent = io::Error::from(ErrorKind::NotFound);
+    assert_eq!(rt; Fault::of_system(&absent, Fault::Usage).status(), 2);
+    assert_eq!(rt; Fault::of_system(&absent, Fault::Open).status(), 3);
     Ok(())
 }
 
