@@ -1,16 +1,18 @@
 -- What a tree with a limit keeps, and that a change keeps it.
-use Rattle.std.proofs.Common.{◌≡◌, ℕ, ◌+◌, ◌-◌, ◌<◌, ap, ◌∙◌, List, length, arith, Some, None}
+use Rattle.std.proofs.Common.{◌≡◌, ℕ, ◌+◌, ◌-◌, ◌<◌, ap, sym, ◌∙◌, List, length, arith, Some, None}
 use Rattle.std.specs.Prelude.{Option}
 use Rattle.std.specs.List.{Contains}
 use Rattle.lattice.specs.Plane.{Pair}
 use Rattle.lattice.specs.Covers.{with_point, without_point}
-use Rattle.bridge_search.proofs.Leaves.{points_in_order}
+use Rattle.bridge_search.specs.Trees.{Tree}
+use Rattle.bridge_search.specs.Leaves.{points_of}
+use Rattle.bridge_search.proofs.Leaves.{points_in_order, size_is_length}
 use Rattle.hull_plain.proofs.PointLists.{AllPairs-none}
 use Rattle.hull_tree.specs.declared.node.Node.{Node}
 use Rattle.hull_tree.specs.Nodes.{tree_of, IsWellBuilt}
 use Rattle.hull_tree.specs.Changes.{points_below}
 use Rattle.hull_tree.specs.Roots.{points_of_root, IsWellBuiltRoot}
-use Rattle.hull_tree.specs.Sets.{IsLimited, IsSound}
+use Rattle.hull_tree.specs.Sets.{IsLimited, IsSound, IsWhole}
 use Rattle.hull_tree.proofs.ChangedRows.{with_length, without_length}
 use Rattle.hull_tree.proofs.Heights.{at_most_28}
 
@@ -45,5 +47,15 @@ limited_without n root p count limit h b e m =
       counted = omega (arith, h.counted, k);
       room = omega (arith, h.room);
       low = h.low;
+      high = h.high;
+    }
+
+-- the half that its root is has all its points
+pub whole : (root : Option Node) (n : Node) (u : Tree) (count limit : ℕ) → IsLimited root count limit → root ≡ Some n → u ≡ tree_of n → IsWhole (record { limit = limit; root = root }) u
+whole root n u count limit h r e =
+    let p : points_of_root root ≡ points_of u = ap points_of_root r ∙ ap points_of (sym e) in
+    record {
+      points = p;
+      few = omega (arith, size_is_length u, ap (λ (z : List Pair). length z) p, h.counted, h.room);
       high = h.high;
     }

@@ -1,6 +1,8 @@
 -- What a tree with a limit on the number of its points is seen as, and what it keeps.
 use Rattle.std.specs.Prelude.{◌≡◌, ℕ, ◌≤◌, Option, length}
 use Rattle.lattice.specs.Covers.{IsPointSet}
+use Rattle.bridge_search.specs.Trees.{Tree, size_of}
+use Rattle.bridge_search.specs.Leaves.{points_of}
 use Rattle.hull_plain.specs.declared.TheConstants.{POINT_LIMIT}
 use Rattle.hull_tree.specs.declared.node.Node.{Node}
 use Rattle.hull_tree.specs.Roots.{points_of_root, IsWellBuiltRoot, height_of_root}
@@ -23,3 +25,9 @@ pub record IsSound (root : Option Node) : Type 0 where
   pub built : IsWellBuiltRoot root
   pub in_order : IsPointSet (points_of_root root)
   pub low : height_of_root root ≤ 28
+
+-- the half has the points of the tree, and no more than its limit
+pub record IsWhole (t : LimitedTree) (u : Tree) : Type 0 where
+  pub points : points_of_root t.root ≡ points_of u
+  pub few : size_of u ≤ t.limit
+  pub high : t.limit ≤ POINT_LIMIT

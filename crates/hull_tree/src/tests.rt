@@ -1,8 +1,10 @@
-//! Worked examples, memory that is refused, and a walk beside the plain set.
-use super::{HullTree, Node, trees_are_sound};
-use hull_plain::{AddReply, HullSet, POINT_LIMIT, PlainSet, RemoveReply};
-use lattice::{Point, before};
-use std::alloc::{AllocError, Global};
+//! Worked examples, and memory that is refused. The tree beside the plain set is in `tests/beside_plain.rt`.
+mod beside_plain;
+
+use super::{HullTree, trees_are_sound};
+use hull_plain::{AddReply, HullSet, NoMemory, POINT_LIMIT, Place, RemoveReply};
+use lattice::{Direction, Point};
+use std::alloc::Global;
 use std::process::Abort;
 use std::test::Fail;
 
@@ -19,27 +21,6 @@ fn tree_of(rt: &impl Abort, alloc: Global, points: &[(i64, i64)]) -> Result<Hull
     Ok(tree)
 }
 
-/// Puts the points below a node behind others, from left to right.
-fn push_points(points: &mut Vec<Point>, node: &Node) -> Result<(), AllocError> {
-    match node {
-        Node::Leaf(point) => points.push(*point)?,
-        Node::Fork(fork) => {
-            push_points(points, &fork.left)?;
-            push_points(points, &fork.right)?;
-        }
-    }
-    Ok(())
-}
-
-/// The points of a tree from left to right.
-fn points_of(alloc: Global, tree: &HullTree) -> Result<Vec<Point>, AllocError> {
-    let mut points = Vec::new(alloc);
-    if let Some(root) = tree.root() {
-        push_points(&mut points, root)?;
-    }
-    Ok(points)
-}
-
 #[test]
 fn empty_tree(rt: HostRuntime) -> Result<(), Fail> {
     let mut tree = HullTree::new(rt.alloc(), 3);
@@ -48,6 +29,11 @@ fn empty_tree(rt: HostRuntime) -> Result<(), Fail> {
     assert_eq!(rt; tree.count(), 0);
     assert_eq!(rt; tree.remove(at(7, 7)?), RemoveReply::Absent);
     assert_eq!(rt; tree.count(), 0);
+    assert_eq!(rt; tree.extreme(Direction::new(1, 0)?), None);
+    assert_eq!(rt; tree.place(at(0, 0)?), Place::Outside);
+    assert_eq!(rt; tree.tangents(at(0, 0)?), None);
+    assert_eq!(rt; tree.vertices()?.len(), 0);
+    assert_eq!(rt; tree.area2(), 0);
     trees_are_sound(&tree);
     Ok(())
 }
@@ -134,49 +120,52 @@ fn refused_leaf(rt: HostRuntime) -> Result<(), Fail> {
     Ok(())
 }
 
-/// The next of the pseudo-random numbers below 2^31.
-fn next_random(random: u32) -> u32 {
-    ((1103515245 * random as u64 + 12345) % 2147483648) as u32
-}
-
-/// The point that a pseudo-random number chooses in a square of 7 by 7.
-fn chosen(number: u32) -> Result<Point, Fail> {
-    at((number % 7) as i64 - 3, (number / 7 % 7) as i64 - 3)
-}
-
-/// All points of the tree are points of the plain set, in order, and no other is.
-fn assert_same_points(
-    rt: &impl Abort,
-    alloc: Global,
-    tree: &HullTree,
-    plain: &mut PlainSet,
-) -> Result<(), Fail> {
-    let points = points_of(alloc, tree)?;
-    assert_eq!(rt; points.len(), tree.count() as usize);
-    assert_eq!(rt; plain.count(), tree.count());
-    for i in 0..points.len() {
-        assert!(rt; i == 0 || before(points[i - 1], points[i]), "point {i}");
-        assert_eq!(rt; plain.remove(points[i]), RemoveReply::Removed, "point {i}");
-        assert_eq!(rt; plain.add(points[i]), AddReply::Added, "point {i}");
-    }
+/// A body of `add` that always refuses memory fails here.
+#[test]
+fn add_always_refuses(rt: HostRuntime) -> Result<(), Fail> {
+    let mut tree = HullTree::new(rt.alloc(), POINT_LIMIT);
+    assert_eq!(rt; tree.add(at(3, 4)?), AddReply::Added);
+    assert_eq!(rt; tree.add(at(3, 5)?), AddReply::Added);
+    assert_eq!(rt; tree.add(at(3, 4)?), AddReply::Already);
+    assert_eq!(rt; tree.count(), 2);
     Ok(())
 }
 
 #[test]
-fn random_changes(rt: HostRuntime) -> Result<(), Fail> {
-    let mut tree = HullTree::new(rt.alloc(), POINT_LIMIT);
-    let mut plain = PlainSet::new(rt.alloc(), POINT_LIMIT);
-    let mut random = 1;
-    for step in 0..300 {
-        random = next_random(random);
-        let number = random / 65536;
-        let point = chosen(number)?;
-        if number / 49 % 2 == 0 {
-            assert_eq!(rt; tree.add(point), plain.add(point), "step {step}");
-        } else {
-            assert_eq!(rt; tree.remove(point), plain.remove(point), "step {step}");
-        }
-        assert_same_points(&rt, rt.alloc(), &tree, &mut plain)?;
+fn triangle_answers(rt: HostRuntime) -> Result<(), Fail> {
+    let tree = tree_of(&rt, rt.alloc(), &[(0, 0), (4, 0), (2, 3), (2, 1)])?;
+    assert_eq!(rt; tree.area2(), 12);
+    assert_eq!(rt; tree.extreme(Direction::new(0, 1)?), Some(at(2, 3)?));
+    assert_eq!(rt; tree.extreme(Direction::new(0, -1)?), Some(at(0, 0)?));
+    assert_eq!(rt; tree.place(at(2, 1)?), Place::Inside);
+    assert_eq!(rt; tree.place(at(2, 0)?), Place::On);
+    assert_eq!(rt; tree.place(at(2, 4)?), Place::Outside);
+    assert_eq!(rt; tree.tangents(at(6, 0)?), Some((at(0, 0)?, at(2, 3)?)));
+    let corners = [at(0, 0)?, at(4, 0)?, at(2, 3)?];
+    assert_eq!(rt; tree.vertices()?.as_slice(), corners.as_slice());
+    Ok(())
+}
+
+/// Adds a new point; where memory is refused, at the second attempt.
+fn add_again(rt: &impl Abort, tree: &mut HullTree, p: Point) {
+    let mut reply = tree.add(p);
+    if reply == AddReply::NoMemory {
+        reply = tree.add(p);
     }
+    assert_eq!(rt; reply, AddReply::Added);
+}
+
+// `rt try --test --fail-alloc N`: N = 1 and 2 refuse the boxes of the second and the third point, N = 3 the list.
+#[test]
+fn refused_vertices(rt: HostRuntime) -> Result<(), Fail> {
+    let mut tree = HullTree::new(rt.alloc(), POINT_LIMIT);
+    let corners = [at(0, 0)?, at(4, 0)?, at(2, 3)?];
+    for corner in corners {
+        add_again(&rt, &mut tree, corner);
+    }
+    if tree.vertices() == Err(NoMemory) {
+        assert_eq!(rt; tree.count(), 3);
+    }
+    assert_eq!(rt; tree.vertices()?.as_slice(), corners.as_slice());
     Ok(())
 }

@@ -1,22 +1,24 @@
-ghost use Rattle.std.specs.Prelude.{◌≡◌, ◌≤◌, Option, None, option_map};
+ghost use Rattle.std.specs.Prelude.{◌≡◌, ◌≤◌, Option, None, option_map, MatchOption};
 ghost use Rattle.std.specs.Borrow.{Bor};
-ghost use Rattle.hull_plain.specs.Replies.{Answers, after, reply_to_add, reply_to_remove};
 ghost use Rattle.hull_tree.specs.declared.node.Node.{Node};
 ghost use Rattle.hull_tree.specs.Roots.{points_of_root, IsWellBuiltRoot};
-ghost use Rattle.hull_tree.specs.Sets.{LimitedTree, IsSound};
+ghost use Rattle.hull_tree.specs.Sets.{LimitedTree, IsSound, IsWhole};
 
 use super::build::blank;
 use super::change::{contains, insert, remove};
 use super::node::Node;
-use hull_plain::{AddReply, Call, POINT_LIMIT, RemoveReply, Reply};
-use lattice::Point;
+use super::node_ref::NodeRef;
+use bridge_search::Half;
+use hull_plain::{AddReply, HullSet, NoMemory, POINT_LIMIT, Place, RemoveReply};
+use hull_questions::{area2, extreme, place, tangents, vertices};
+use lattice::{Direction, Point};
 use std::alloc::Global;
 use std::marker::Model;
 
 /// A set of points as a balanced leaf tree, whose forks keep the bridges of their two halves.
 ///
-/// `add` and `remove` renew the forks on the way to the point and those that a rotation makes. Only `add` asks for
-/// memory: one box, and none for the first point.
+/// `add` and `remove` renew the forks on the way to the point and those that a rotation makes; each question goes down
+/// the stored bridges. Only `add` and `vertices` ask for memory: `add` for one box, and none for the first point.
 #[derive(Drop)]
 pub struct HullTree {
     root: Option<Node>,
@@ -40,7 +42,7 @@ impl Model for HullTree {
 }
 
 impl HullTree {
-    /// The empty set, which takes `limit` points at most. Asks for no memory; `add` asks `alloc`.
+    /// The empty set, which takes `limit` points at most. Asks for no memory; `add` and `vertices` ask `alloc`.
     pub fn new(alloc: Global, limit: u32) -> HullTree
         requires low { 1 ≤ limit }
         requires high { limit ≤ POINT_LIMIT }
@@ -65,29 +67,31 @@ impl HullTree {
         }
     }
 
-    /// The greatest number of points that the set takes.
-    pub fn limit(&self) -> u32
-        ensures value { result ≡ self.now.limit }
-        ensures low { 1 ≤ result }
-        ensures high { result ≤ POINT_LIMIT }
+    /// The half that the whole tree is; `None` for the empty set.
+    fn half<'a>(&'a self) -> Option<NodeRef<'a>>
+        ensures { MatchOption result (self.now.root ≡ None) (λ half. IsWhole self.now (⟦<NodeRef<'a> as Half>⟧.tree half)) }
     {
+        match &self.root {
+            None => None,
+            Some(node) => Some(NodeRef::new(node)),
+        }
+    }
+}
+
+impl HullSet for HullTree {
+    ghost points = { λ t. points_of_root t.root };
+
+    ghost bound = { λ t. t.limit };
+
+    fn limit(&self) -> u32 {
         self.limit
     }
 
-    /// The number of points.
-    pub fn count(&self) -> u32
-        ensures reply { Answers (points_of_root self.now.root) self.now.limit Call.Count (Reply.PointCount result) }
-        ensures room { result ≤ self.now.limit }
-    {
+    fn count(&self) -> u32 {
         self.count
     }
 
-    /// Puts `p` into the set. `NoMemory` comes only for a new point below the limit, and leaves the set as it was.
-    pub fn add(&mut self, p: Point) -> AddReply
-        ensures reply { Answers (points_of_root self.old.root) self.old.limit (Call.Add p) (reply_to_add result) }
-        ensures effect { points_of_root self.new.root ≡ after (points_of_root self.old.root) (Call.Add p) (reply_to_add result) }
-        ensures same_limit { self.new.limit ≡ self.old.limit }
-    {
+    fn add(&mut self, p: Point) -> AddReply {
         let Some(root) = &self.root else {
             self.root = Some(Node::Leaf(p));
             self.count = 1;
@@ -110,12 +114,7 @@ impl HullTree {
         AddReply::Added
     }
 
-    /// Takes `p` out of the set. Takes no memory.
-    pub fn remove(&mut self, p: Point) -> RemoveReply
-        ensures reply { Answers (points_of_root self.old.root) self.old.limit (Call.Remove p) (reply_to_remove result) }
-        ensures effect { points_of_root self.new.root ≡ after (points_of_root self.old.root) (Call.Remove p) (reply_to_remove result) }
-        ensures same_limit { self.new.limit ≡ self.old.limit }
-    {
+    fn remove(&mut self, p: Point) -> RemoveReply {
         let Some(root) = &self.root else {
             return RemoveReply::Absent;
         };
@@ -128,6 +127,35 @@ impl HullTree {
         self.root = remove(root, p);
         self.count -= 1;
         RemoveReply::Removed
+    }
+
+    fn extreme(&self, d: Direction) -> Option<Point> {
+        Some(extreme(self.half()?, d))
+    }
+
+    fn place(&self, q: Point) -> Place {
+        match self.half() {
+            None => Place::Outside,
+            Some(half) => place(half, q),
+        }
+    }
+
+    fn tangents(&self, q: Point) -> Option<(Point, Point)> {
+        tangents(self.half()?, q)
+    }
+
+    fn vertices(&self) -> Result<Vec<Point>, NoMemory> {
+        match self.half() {
+            None => Ok(Vec::new(self.alloc)),
+            Some(half) => Ok(vertices(self.alloc, half)?),
+        }
+    }
+
+    fn area2(&self) -> u128 {
+        match self.half() {
+            None => 0,
+            Some(half) => area2(half),
+        }
     }
 }
 

@@ -4,17 +4,17 @@ use Rattle.std.specs.List.{Contains}
 use Rattle.hull_tree.specs.declared.node.Node.{Node}
 use Rattle.hull_tree.specs.Changes.{points_below, height_at}
 use Rattle.hull_tree.specs.Sets.{IsLimited}
-use Rattle.hull_tree.proofs.LimitedTrees.{sound, limited_with}
-use Rattle.hull_tree.proofs.tree.HullTree.add.Goals as goal
+use Rattle.hull_tree.proofs.LimitedTrees.{sound, limited_without}
+use Rattle.hull_tree.proofs.tree.HullTreeHullSet.remove.Goals as goal
 
-pub insert-requires-clause-fits : goal.insert-requires-clause-fits
-insert-requires-clause-fits c =
+pub remove-requires-clause-fits : goal.remove-requires-clause-fits
+remove-requires-clause-fits c =
     let r : c.self.inside.root ≡ Some c.in-Some-take.root = sym c.take.ensures.value ∙ c.in-Some-take.is in
     let h : height_at c.in-Some-take.root ≤ 28 = (sound _ _ _ (subst (λ (z : Option Node). IsLimited z c.self.inside.count c.self.inside.limit) r c.self.invariant)).low in
     omega (arith, h)
 
-pub invariant_of-self-2 : goal.invariant_of-self-2
-invariant_of-self-2 c =
+pub invariant_of-self : goal.invariant_of-self
+invariant_of-self c =
     let r : c.self.inside.root ≡ Some c.in-Some-take.root = sym c.take.ensures.value ∙ c.in-Some-take.is in
-    let a : ¬ (Contains (points_below c.in-Some-take.root) c.args.p) = search rules in
-    limited_with _ _ _ _ _ (subst (λ (z : Option Node). IsLimited z c.self.inside.count c.self.inside.limit) r c.self.invariant) c.insert.ensures.built c.insert.ensures.points a c.if-self.false
+    let m : Contains (points_below c.in-Some-take.root) c.args.p = search rules in
+    limited_without _ _ _ _ _ (subst (λ (z : Option Node). IsLimited z c.self.inside.count c.self.inside.limit) r c.self.invariant) c.remove.ensures.built c.remove.ensures.points m

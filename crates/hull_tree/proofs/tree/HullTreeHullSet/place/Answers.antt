@@ -1,0 +1,4 @@
+use Rattle.hull_tree.proofs.tree.HullTreeHullSet.place.Goals as goal
+
+pub returns-in-Some : goal.returns-in-Some
+returns-in-Some c = rw c.in-Some.ensures.points c.place.ensures
