@@ -1,4 +1,4 @@
-use Rattle.std.proofs.Common.{refl, ◌∙◌}
+use Rattle.std.proofs.Common.{◌∙◌}
 use Rattle.hull_questions.proofs.tests.shapes.JoinedHalf.right.Goals as goal
 
 pub returns-in-None : goal.returns-in-None
