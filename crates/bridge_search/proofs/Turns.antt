@@ -26,6 +26,7 @@ on_first (Fork e f u w) = inl (on_first u)
 same_edge : {e e' : Pair × Pair} → Some e ≡ Some e' → e ≡ e'
 same_edge h = cc
 
+-- a depth in the left half of u is one more in u
 pub depth_left : (e f : Pair × Pair) (u1 u2 w : Tree) (p q : Pair) (n : ℕ) → IsDepthSum u1 w p q n → IsDepthSum (Fork e f u1 u2) w p q (n + 1)
 depth_left e f u1 u2 w p q n (i, j, a, b, h) = (i + 1, j, (i, refl, inl a), b, omega arith)
 
@@ -234,6 +235,7 @@ pub is_fork : (t : Tree) (e : Pair × Pair) → edge_of t ≡ Some e → IsFork 
 is_fork (Leaf x) e h = absurd (cc)
 is_fork (Fork g f u w) e h = tt
 
+-- a sum of depths under another name
 same_sum : (u w : Tree) (p q : Pair) (k n : ℕ) → k ≡ n → IsDepthSum u w p q k → IsDepthSum u w p q n
 same_sum u w p q k n e h = subst (λ (i : ℕ). IsDepthSum u w p q i) e h
 

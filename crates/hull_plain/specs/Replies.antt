@@ -104,24 +104,29 @@ after S Count reply = S
 
 -- ---- what the calls of a set return, as replies
 
+-- what `add` returned
 abbrev pub reply_to_add : AddReply → Reply
 reply_to_add add.Added = Added
 reply_to_add add.Already = Already
 reply_to_add add.TooMany = TooMany
 reply_to_add add.NoMemory = NoMemory
 
+-- what `remove` returned
 abbrev pub reply_to_remove : RemoveReply → Reply
 reply_to_remove remove.Removed = Removed
 reply_to_remove remove.Absent = Absent
 
+-- what `extreme` returned
 abbrev pub reply_to_extreme : Option Pair → Reply
 reply_to_extreme None = Empty
 reply_to_extreme (Some t) = Farthest t
 
+-- what `tangents` returned
 abbrev pub reply_to_tangents : Option (Pair × Pair) → Reply
 reply_to_tangents None = NoTangent
 reply_to_tangents (Some ends) = TangentPoints ends.0 ends.1
 
+-- what `vertices` returned
 abbrev pub reply_to_vertices : {A E : Type 0} → Result (Vec Pair A) E → Reply
 reply_to_vertices (Ok v) = VertexList v.items
 reply_to_vertices (Err e) = NoMemory

@@ -40,12 +40,15 @@ guard_err false x f y e = (refl, e)
 pub low_le : (n m : ℕ) → nat_le n m ≡ true → n ≤ m
 low_le n m t = grind (arith, nat_tests)
 
+-- a strict test that passed
 pub low_lt : (n m : ℕ) → nat_lt n m ≡ true → n < m
 low_lt n m t = grind (arith, nat_tests)
 
+-- a test of naturals that passes
 pub le_test : (n m : ℕ) → n ≤ m → nat_le n m ≡ true
 le_test n m le = grind (arith, nat_tests)
 
+-- a strict test that passes
 pub lt_test : (n m : ℕ) → n < m → nat_lt n m ≡ true
 lt_test n m lt = grind (arith, nat_tests)
 

@@ -13,6 +13,7 @@ use Rattle.hull_text.specs.Spelling.{IsCall, call_fields}
 use Rattle.hull_text.proofs.Binds.{bind_ok, ok_is, word_is}
 use Rattle.hull_text.proofs.Fields.{point_takes, point_again, direction_takes, direction_again}
 
+-- what two equal options hold is equal
 pub some_is : {A : Type 0} (x y : A) → Some x ≡ Some y → x ≡ y
 some_is x y e = cc
 
@@ -51,6 +52,7 @@ call_word_again word.Count = refl
 abbrev Takes : Version → List Field → Call × List Field → Type 0
 Takes v fs c = (fs ≡ call_fields c.0 ++ c.1) × IsCall v c.0
 
+-- a call that was read is the word and the fields that spell it
 after_takes : (v : Version) (w : CallWord) (fs : List Field) (c : Call × List Field) → call_after v (Some w) fs ≡ Ok c → Takes v (call_word_text w ∷ fs) c
 unfolding call_after
 after_takes v word.Add fs c e =

@@ -21,11 +21,13 @@ limit_small First = omega arith
 
 -- ---- signed numbers
 
+-- a number behind a minus sign is not zero
 negated_some : (o : Option ℕ) (z : ℤ) → negated o ≡ Some z → (n : ℕ) × (o ≡ Some (suc n)) × (z ≡ negsuc n)
 negated_some None z e = absurd cc
 negated_some (Some zero) z e = absurd cc
 negated_some (Some (suc n)) z e = (n, refl, cc)
 
+-- a number without a sign
 positive_some : (o : Option ℕ) (z : ℤ) → positive o ≡ Some z → (n : ℕ) × (o ≡ Some n) × (z ≡ pos n)
 positive_some None z e = absurd cc
 positive_some (Some n) z e = (n, refl, cc)
@@ -54,6 +56,7 @@ signed_text limit (b ∷ bs) z small fits e = elim (chosen (b == 45) (negated (n
       rw g.2 (number_text (b ∷ bs) g.0 (omega (arith, size)) g.1)
 ]
 
+-- an unsigned number is a signed one
 unsigned_signed : (f : List ℕ) (n : ℕ) → number_of f ≡ Some n → signed_of f ≡ Some (pos n)
 unfolding signed_of number_of
 unsigned_signed [] n e = absurd cc
@@ -73,6 +76,7 @@ text_signed limit (negsuc n) small fits = rw (text_number (suc n) (omega (arith,
 
 -- ---- coordinates
 
+-- a coordinate that was taken is within its limit
 coordinate_some : (limit : ℕ) (o : Option ℤ) (z : ℤ) → coordinate_in limit o ≡ Ok z → (o ≡ Some z) × IsSized limit z
 coordinate_some limit None z e = absurd cc
 coordinate_some limit (Some (pos n)) z e =
@@ -82,10 +86,12 @@ coordinate_some limit (Some (negsuc n)) z e =
     let g = guard_ok (nat_lt n limit) (Ok (negsuc n)) Coordinate z e in
     subst (λ (y : ℤ). (Some (negsuc n) ≡ Some y) × IsSized limit y) (ok_is (negsuc n) z g.1) (refl, low_lt n limit g.0)
 
+-- a number within the limit is taken
 in_coordinate : (limit : ℕ) (z : ℤ) → IsSized limit z → coordinate_in limit (Some z) ≡ Ok z
 in_coordinate limit (pos n) fits = rw (le_test n limit fits) refl
 in_coordinate limit (negsuc n) fits = rw (lt_test n limit fits) refl
 
+-- a coordinate that was read is the spelling of its field
 coordinate_takes : (v : Version) (fs : List Field) (x : ℤ × List Field) → coordinate_at v fs ≡ Ok x → (fs ≡ signed_decimal x.0 ∷ x.1) × IsSized (coordinate_limit v) x.0
 unfolding coordinate_at
 coordinate_takes v [] x e = absurd cc
@@ -95,6 +101,7 @@ coordinate_takes v (f ∷ fs) x e =
     subst (λ (y : ℤ × List Field). (f ∷ fs ≡ signed_decimal y.0 ∷ y.1) × IsSized (coordinate_limit v) y.0) (ok_is (b.0, fs) x b.2)
     (ap (λ (t : List ℕ). t ∷ fs) (signed_text (coordinate_limit v) f b.0 (limit_small v) s.1 s.0), s.1)
 
+-- the spelling of a coordinate is read as that coordinate
 coordinate_again : (v : Version) (z : ℤ) (rest : List Field) → IsSized (coordinate_limit v) z → coordinate_at v (signed_decimal z ∷ rest) ≡ Ok (z, rest)
 unfolding coordinate_at
 coordinate_again v z rest fits = rw (text_signed (coordinate_limit v) z (limit_small v) fits, in_coordinate (coordinate_limit v) z fits) refl
@@ -118,10 +125,12 @@ pub point_again : (v : Version) (p : Pair) (rest : List Field) → IsPair v p �
 unfolding point_at
 point_again v p rest fits = rw (coordinate_again v p.x (signed_decimal p.y ∷ rest) fits.0, coordinate_again v p.y rest fits.1) refl
 
+-- what passes the test for zero is zero
 zero_is : (z : ℤ) → is_zero z ≡ true → z ≡ pos 0
 zero_is (pos n) e = ap (λ (m : ℕ). pos m) (eqb-true n 0 e)
 zero_is (negsuc n) e = absurd cc
 
+-- a conjunction fails where both parts cannot hold
 both_false : (a b : Bool) → ((a ≡ true) → (b ≡ true) → ⊥) → (a && b) ≡ false
 both_false true true h = absurd (h refl refl)
 both_false true false h = refl
@@ -151,6 +160,7 @@ direction_again v p rest fits =
 
 -- ---- numbers and seats
 
+-- a number that was taken is within its limit
 number_some : (limit : ℕ) (o : Option ℕ) (n : ℕ) → number_in limit o ≡ Ok n → (o ≡ Some n) × (n ≤ limit)
 number_some limit None n e = absurd cc
 number_some limit (Some m) n e =
@@ -172,6 +182,7 @@ pub number_again : (limit n : ℕ) (rest : List Field) → limit < 10 ^ 64 → n
 unfolding number_at
 number_again limit n rest small fits = rw (text_number n (omega arith), le_test n limit fits) refl
 
+-- a seat that was taken is 63 at most
 seat_some : (o : Option ℕ) (w : ℕ) → seat_in o ≡ Ok w → (o ≡ Some w) × (w ≤ 63)
 seat_some None w e = absurd cc
 seat_some (Some n) w e =

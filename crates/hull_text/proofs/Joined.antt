@@ -27,13 +27,16 @@ abbrev pub is_plain : List ℕ → Bool
 is_plain [] = true
 is_plain (b ∷ bs) = (nat_le 33 b && nat_le b 126) && is_plain bs
 
+-- both parts of a conjunction hold
 both : (a b : Bool) → (a && b) ≡ true → (a ≡ true) × (b ≡ true)
 both true b e = (refl, e)
 both false b e = absurd cc
 
+-- a digit is a byte of a field
 digit_plain : (b : ℕ) → 48 ≤ b → b ≤ 57 → (nat_le 33 b && nat_le b 126) ≡ true
 digit_plain b low high = grind (arith, nat_tests)
 
+-- digits are bytes of a field
 digits_plain : (cs : List ℕ) (m n : ℕ) → digits_after m cs ≡ Some n → is_plain cs ≡ true
 unfolding digits_after
 digits_plain [] m n e = refl
@@ -42,6 +45,7 @@ digits_plain (c ∷ cs) m n e =
     let d = digit_low c g.0 in
     rw (digit_plain c d.0 d.1) (digits_plain cs (m * 10 + (c - 48)) n g.1)
 
+-- an unsigned number is a field
 number_plain : (f : List ℕ) (n : ℕ) → number_of f ≡ Some n → (is_plain f ≡ true) × (0 < length f)
 unfolding number_of
 number_plain [] n e = absurd cc
@@ -88,9 +92,11 @@ call_are_fields v Vertices fits = (word_field (codes "vertices") refl (omega ari
 call_are_fields v Area fits = (word_field (codes "area") refl (omega arith), tt)
 call_are_fields v Count fits = (word_field (codes "count") refl (omega arith), tt)
 
+-- a byte of a field is no space
 no_space : (b : ℕ) → (nat_le 33 b && nat_le b 126) ≡ true → (b == 32) ≡ false
 no_space b e = grind (arith, nat_tests)
 
+-- the test for the form passes over a field
 form_skip : (s : Bool) (f rest : List ℕ) → is_plain f ≡ true → 0 < length f → has_form_after s (f ++ rest) ≡ has_form_after false rest
 form_skip s [] rest plain some = absurd (omega arith)
 form_skip s (b ∷ []) rest plain some =
@@ -109,12 +115,14 @@ joined_form f (g ∷ gs) h hs = form_skip true f (32 ∷ join_with_byte 32 (g �
 abbrev pub cut : List ℕ → List (List ℕ)
 cut text = slice_split (λ b. b == 32) text
 
+-- a field and a space are cut off
 split_skip : (f rest : List ℕ) → is_plain f ≡ true → cut (f ++ 32 ∷ rest) ≡ f ∷ cut rest
 split_skip [] rest plain = refl
 split_skip (b ∷ bs) rest plain =
     let p = both (nat_le 33 b && nat_le b 126) (is_plain bs) plain in
     rw (no_space b p.0, split_skip bs rest p.1) refl
 
+-- the last field is cut off
 split_last : (f : List ℕ) → is_plain f ≡ true → cut f ≡ f ∷ []
 split_last [] plain = refl
 split_last (b ∷ bs) plain =

@@ -21,3 +21,4 @@ pub mod Replies
 pub mod JournalSpelled
 pub mod JournalTexts
 pub mod JournalFaults
+pub mod Said

@@ -7,20 +7,25 @@ use Rattle.std.proofs.lemmas.Bool.Decides.{nat_tests}
 use Rattle.std.proofs.lemmas.Fmt.{decimal_digit, decimal_step_wide, decimal_by_steps_wide}
 use Rattle.hull_text.specs.Number.{is_digit, digits_after, number_of}
 
+-- what passed a guard
 pub guard_some : {A : Type 0} (b : Bool) (x : Option A) (y : A) → cond b x None ≡ Some y → (b ≡ true) × (x ≡ Some y)
 guard_some true x y e = (refl, e)
 guard_some false x y e = absurd cc
 
+-- what passed the opposite of a guard
 pub guard_not : {A : Type 0} (b : Bool) (x : Option A) (y : A) → cond b None x ≡ Some y → (b ≡ false) × (x ≡ Some y)
 guard_not true x y e = absurd cc
 guard_not false x y e = (refl, e)
 
+-- a digit is a byte from 48 to 57
 pub digit_low : (b : ℕ) → is_digit b ≡ true → (48 ≤ b) × (b ≤ 57)
 digit_low b e = grind (arith, nat_tests)
 
+-- a byte from 48 to 57 is a digit
 digit_is : (b : ℕ) → 48 ≤ b → b ≤ 57 → is_digit b ≡ true
 digit_is b l h = grind (arith, nat_tests)
 
+-- more digits, no smaller number
 digits_grow : (cs : List ℕ) (m n : ℕ) → digits_after m cs ≡ Some n → m ≤ n
 unfolding digits_after
 digits_grow [] m n e =
@@ -30,6 +35,7 @@ digits_grow (c ∷ cs) m n e =
     let g = guard_some (is_digit c) (digits_after (m * 10 + (c - 48)) cs) n e in
     omega (arith, digits_grow cs (m * 10 + (c - 48)) n g.1)
 
+-- one more digit at the end of a decimal spelling
 next_decimal : (m c : ℕ) → 1 ≤ m → 48 ≤ c → c ≤ 57 → m * 10 + (c - 48) < 10 ^ 64 → decimal (m * 10 + (c - 48)) ≡ decimal m ++ (c ∷ [])
 next_decimal m c some low high small =
     let step = decimal_step_wide (m * 10 + (c - 48)) (omega arith) small in
@@ -37,6 +43,7 @@ next_decimal m c some low high small =
     let last : 48 + (m * 10 + (c - 48)) % 10 ≡ c = omega arith in
     step ∙ rw (front, last) refl
 
+-- digits that were read behind a number spell it together
 digits_text : (cs : List ℕ) (m n : ℕ) → 1 ≤ m → n < 10 ^ 64 → digits_after m cs ≡ Some n → decimal n ≡ decimal m ++ cs
 unfolding digits_after
 digits_text [] m n some small e =
@@ -48,11 +55,13 @@ digits_text (c ∷ cs) m n some small e =
     let le = digits_grow cs (m * 10 + (c - 48)) n g.1 in
     digits_text cs (m * 10 + (c - 48)) n (omega arith) small g.1 ∙ rw (next_decimal m c some d.0 d.1 (omega arith)) (append_assoc (decimal m) (c ∷ []) cs)
 
+-- a number of one digit
 one_digit : (b : ℕ) → 48 ≤ b → b ≤ 57 → decimal (b - 48) ≡ b ∷ []
 one_digit b low high =
     let is : 48 + (b - 48) ≡ b = omega arith in
     decimal_digit (b - 48) (omega arith) ∙ rw is refl
 
+-- a field that was read as a number is its decimal spelling
 pub number_text : (f : List ℕ) (n : ℕ) → n < 10 ^ 64 → number_of f ≡ Some n → f ≡ decimal n
 unfolding number_of digits_after
 number_text [] n small e = absurd cc
@@ -84,6 +93,7 @@ record IsSpelled (n : ℕ) (ds : List ℕ) : Type 0 where
   head : 1 ≤ n → (first == 48) ≡ false
   short : n < 10 → rest ≡ []
 
+-- one more digit is read
 digits_more : (ds : List ℕ) (m k x : ℕ) → is_digit x ≡ true → digits_after m ds ≡ Some k → digits_after m (ds ++ x ∷ []) ≡ Some (k * 10 + (x - 48))
 unfolding digits_after
 digits_more [] m k x d e =
@@ -93,6 +103,7 @@ digits_more (c ∷ cs) m k x d e =
     let g = guard_some (is_digit c) (digits_after (m * 10 + (c - 48)) cs) k e in
     rw g.0 (digits_more cs (m * 10 + (c - 48)) k x d g.1)
 
+-- one digit spells a number below ten
 spelled_one : (n : ℕ) → n < 10 → IsSpelled n ((48 + n) ∷ [])
 unfolding digits_after
 spelled_one n lt =
@@ -107,6 +118,7 @@ spelled_one n lt =
       short = λ _. refl;
     }
 
+-- a digit more spells a number from ten on
 spelled_more : (n : ℕ) (ds : List ℕ) → 10 ≤ n → IsSpelled (n / 10) ds → IsSpelled n (ds ++ ((48 + n % 10) ∷ []))
 spelled_more n ds le s =
     let d : is_digit (48 + n % 10) ≡ true = digit_is (48 + n % 10) (omega arith) (omega arith) in
@@ -120,6 +132,7 @@ spelled_more n ds le s =
       short = λ lt. absurd (omega arith);
     }
 
+-- digits without a leading zero are a number
 is_number : (n first : ℕ) (rest : List ℕ) → digits_after 0 (first ∷ rest) ≡ Some n → (1 ≤ n → (first == 48) ≡ false) → (n < 10 → rest ≡ []) → number_of (first ∷ rest) ≡ Some n
 unfolding number_of
 is_number n first [] e head short = e
@@ -133,6 +146,7 @@ is_number n first (c ∷ cs) e head short = elim (small_or_not n) [
     small_or_not : (n : ℕ) → (n < 10) ⊎ (10 ≤ n)
     small_or_not n = cases_lt n 10
 
+-- a decimal spelling is read as its number
 pub text_number : (n : ℕ) → n < 10 ^ 64 → number_of (decimal n) ≡ Some n
 text_number n small =
     let s = decimal_by_steps_wide IsSpelled spelled_one spelled_more n small in

@@ -79,6 +79,7 @@ ledger_is worker count = go (codes "ledger") (decimal worker) (decimal count) (1
     go : (w k c l : List ℕ) → w ++ 32 ∷ (k ++ 32 ∷ c) ++ l ≡ w ++ 32 ∷ k ++ 32 ∷ c ++ l
     go w k c l = ap (λ (t : List ℕ). t ++ l) (sym (append_assoc w (32 ∷ k) (32 ∷ c)))
 
+-- six texts in a row, whichever way they were joined
 six_flat : (a b c d e f : List ℕ) → a ++ (b ++ (c ++ (d ++ (e ++ f)))) ≡ a ++ b ++ c ++ d ++ e ++ f
 six_flat a b c d e f = simp append_assoc
 

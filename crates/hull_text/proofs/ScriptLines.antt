@@ -57,6 +57,7 @@ script_fault items n line f whole e = λ rest.
 pub script_refused : (items : List Item) (n : ℕ) (text : List ℕ) (f : TextFault) → f.number ≡ 10 → FailsIn (AnswersScript items n) text f
 script_refused items n text f e = λ rest. inl (inr e)
 
+-- what came out well passed the guard
 guard_true : {A : Type 0} (b : Bool) (x : A) (y : Result A TextFault) (e : TextFault) → Ok x ≡ cond b y (Err e) → b ≡ true
 guard_true true x y e h = refl
 guard_true false x y e h = absurd cc

@@ -102,6 +102,7 @@ call_line w c low fits =
     digit_line line first.0 begins.0 begins.1 first.3 first.4 (joined_form (decimal w) (call_fields c) field fields)
     ∙ ap served_at (split_joined (decimal w) (call_fields c) field fields) ∙ served_again w c low fits
 
+-- the line that ends a phase
 join_line : script_line_of (codes "join") ≡ Ok (Some None)
 unfolding script_line_of has_form
 join_line = refl

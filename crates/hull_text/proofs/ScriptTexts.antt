@@ -23,6 +23,7 @@ pub text_bind : {A B : Type 0} (r : Result A TextFault) (f : A → Result B Text
 text_bind (Ok x) f y e = (x, refl, e)
 text_bind (Err d) f y e = absurd cc
 
+-- a text that was read
 abbrev text_done : {A : Type 0} → A → Result A TextFault
 text_done x = Ok x
 
@@ -34,6 +35,7 @@ text_ok_is x y e = cc
 abbrev pub text_failed : {A : Type 0} → TextFault → Result A TextFault
 text_failed f = Err f
 
+-- equal refusals tell equal faults
 pub text_err_is : {A : Type 0} (f g : TextFault) → text_failed {A = A} f ≡ text_failed {A = A} g → f ≡ g
 text_err_is f g e = cc
 
@@ -42,10 +44,12 @@ pub at_line_ok : {A : Type 0} (n : ℕ) (r : Result A FaultKind) (x : A) → at_
 at_line_ok n (Ok y) x e = ap (λ z. Ok z) (text_ok_is y x e)
 at_line_ok n (Err f) x e = absurd cc
 
+-- what came out well passed the guard
 text_guard : {A : Type 0} (b : Bool) (x : Result A TextFault) (f : TextFault) (y : A) → cond b x (Err f) ≡ Ok y → (b ≡ true) × (x ≡ Ok y)
 text_guard true x f y e = (refl, e)
 text_guard false x f y e = absurd cc
 
+-- the test for the number of lines passes
 low : (n : ℕ) → n ≤ 33554432 → nat_le n 33554432 ≡ true
 low n le = grind (arith, nat_tests)
 
@@ -107,6 +111,7 @@ pub text_bind_err : {A B : Type 0} (r : Result A TextFault) (f : A → Result B 
 text_bind_err (Ok x) f g e = inr (x, refl, e)
 text_bind_err (Err d) f g e = inl (ap (λ (t : TextFault). Err t) (text_err_is d g e))
 
+-- a fault of a line tells its kind and its number
 pub at_line_err : {A : Type 0} (n : ℕ) (r : Result A FaultKind) (f : TextFault) → at_line n r ≡ Err f → (kind : FaultKind) × (r ≡ Err kind) × (fault_at n kind ≡ f)
 at_line_err n (Ok x) f e = absurd cc
 at_line_err {A = A} n (Err kind) f e = (kind, refl, text_err_is {A = A} (fault_at n kind) f e)
@@ -120,6 +125,7 @@ record IsFaultOf (m : ℕ) (line : List ℕ) (f : TextFault) : Type 0 where
   place : f.line ≡ suc m
   fault : HasLineFault m line f.number
 
+-- a fault of a script line is that of its bytes
 numbered_err : (m : ℕ) (line : List ℕ) (f : TextFault) → m ≤ 33554432 → numbered (suc m) (script_line_of line) ≡ Err f → IsFaultOf m line f
 unfolding numbered
 numbered_err m line f le e = step (nat_le (suc m) 33554432) refl e

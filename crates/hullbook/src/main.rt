@@ -8,6 +8,7 @@ mod check;
 mod fault;
 mod options;
 mod run;
+mod stored_bridges;
 #[cfg(test)]
 mod tests;
 

@@ -14,18 +14,22 @@ pub orient_end : (a b : Pair) → orient a b b ≡ pos 0
 unfolding orient
 orient_end a b = simp ring_laws (omega (arith, linear))
 
+-- a point lies on a line from itself
 pub orient_start : (a b : Pair) → orient a b a ≡ pos 0
 unfolding orient
 orient_start a b = simp ring_laws (omega (arith, linear))
 
+-- the side does not depend on where the triangle begins
 pub orient_cycle : (a b c : Pair) → orient a b c ≡ orient b c a
 unfolding orient
 orient_cycle a b c = simp ring_laws (omega (arith, linear))
 
+-- the side changes its sign with the direction
 pub orient_swap : (a b c : Pair) → orient b a c ≡ neg_ℤ (orient a b c)
 unfolding orient
 orient_swap a b c = simp ring_laws (omega (arith, linear))
 
+-- the bend of two lines by the two sides
 bend_is : (a b c d : Pair) → bend a b c d ≡ neg_ℤ (s1 a b c d +ℤ s2 a b c d)
 unfolding bend orient
 bend_is a b c d = simp ring_laws (omega (arith, linear))
@@ -34,13 +38,16 @@ bend_is a b c d = simp ring_laws (omega (arith, linear))
 abbrev excess : ℤ → ℤ → ℤ → ℤ → ℤ → ℤ
 excess u v dx cx qx = (u +ℤ v) *ℤ qx -ℤ (u *ℤ dx +ℤ v *ℤ cx)
 
+-- one rearrangement of the identity below
 regroup : (g1 g2 u v dx cx qx w : ℤ) → (g1 -ℤ u) *ℤ (dx -ℤ cx) +ℤ (pos 0 -ℤ g2) *ℤ w +ℤ neg_ℤ (u +ℤ v) *ℤ (cx -ℤ qx) ≡ g1 *ℤ (dx -ℤ cx) +ℤ neg_ℤ g2 *ℤ w +ℤ excess u v dx cx qx
 regroup g1 g2 u v dx cx qx w = simp (ring_laws, +ℤ_idl) (omega (arith, linear))
 
+-- how far q is from the crossing, by x
 cross_x : (a b c d q : Pair) → orient a b q *ℤ (d.x -ℤ c.x) +ℤ neg_ℤ (orient c d q) *ℤ (b.x -ℤ a.x) +ℤ excess (s1 a b c d) (s2 a b c d) d.x c.x q.x ≡ pos 0
 cross_x a b c d q =
     sym (regroup (orient a b q) (orient c d q) (s1 a b c d) (s2 a b c d) d.x c.x q.x (b.x -ℤ a.x)) ∙ (rw (orient_start c d, bend_is a b c d) at (slope_x a b c d q c))
 
+-- how far q is from the crossing, by y
 cross_y : (a b c d q : Pair) → orient a b q *ℤ (d.y -ℤ c.y) +ℤ neg_ℤ (orient c d q) *ℤ (b.y -ℤ a.y) +ℤ excess (s1 a b c d) (s2 a b c d) d.y c.y q.y ≡ pos 0
 cross_y a b c d q =
     sym (regroup (orient a b q) (orient c d q) (s1 a b c d) (s2 a b c d) d.y c.y q.y (b.y -ℤ a.y)) ∙ (rw (orient_start c d, bend_is a b c d) at (slope_y a b c d q c))
@@ -55,6 +62,7 @@ bend_negative a b c d hab hbc hcd g1 g2 =
     (step_positive c d hcd) (step_positive a b hab) (omega (arith, linear)) (omega (arith, linear)) (scale_nonnegative (bend a b c d) (c.x -ℤ b.x) (c.y -ℤ b.y) up (step_positive b c hbc))
     (slope_x a b c d b c) (slope_y a b c d b c) (inl (omega (arith, linear)))))
 
+-- two lines that both turn right do cross
 pub s_positive : (a b c d : Pair) → IsBefore a b → IsBefore b c → IsBefore c d → orient a b c <ℤ pos 0 → orient c d b <ℤ pos 0 → pos 0 <ℤ (s1 a b c d +ℤ s2 a b c d)
 s_positive a b c d hab hbc hcd g1 g2 = omega (arith, linear, bend_negative a b c d hab hbc hcd g1 g2, bend_is a b c d)
 
@@ -65,12 +73,14 @@ add_nonnegative ax ay bx by (inl a) (inr b) = inl (omega (arith, linear))
 add_nonnegative ax ay bx by (inr a) (inl b) = inl (omega (arith, linear))
 add_nonnegative ax ay bx by (inr a) (inr b) = inr (omega (arith, linear))
 
+-- a positive vector and one that is not negative
 add_positive : (ax ay bx by : ℤ) → IsPositive ax ay → IsNonnegative bx by → IsPositive (ax +ℤ bx) (ay +ℤ by)
 add_positive ax ay bx by (inl a) (inl b) = inl (omega (arith, linear))
 add_positive ax ay bx by (inl a) (inr b) = inl (omega (arith, linear))
 add_positive ax ay bx by (inr a) (inl b) = inl (omega (arith, linear))
 add_positive ax ay bx by (inr a) (inr b) = inr (omega (arith, linear))
 
+-- a positive vector is not negative
 weaken : (ux uy : ℤ) → IsPositive ux uy → IsNonnegative ux uy
 weaken ux uy (inl h) = inl h
 weaken ux uy (inr h) = inr (h.0, omega (arith, linear, h.1))
@@ -96,6 +106,7 @@ excess_step u v dx cx mx qx = simp ring_laws (omega (arith, linear))
 excess_from : (u v dx cx qx : ℤ) → neg_ℤ u *ℤ (dx -ℤ cx) +ℤ (u +ℤ v) *ℤ (qx -ℤ cx) ≡ excess u v dx cx qx
 excess_from u v dx cx qx = simp ring_laws (omega (arith, linear))
 
+-- a fact of two numbers under other names
 two : (P : ℤ → ℤ → Type 0) {a b c d : ℤ} → a ≡ c → b ≡ d → P a b → P c d
 two P {a} {b} {c} {d} e f h = subst (λ (z : ℤ). P z d) e (subst (λ (w : ℤ). P a w) f h)
 

@@ -13,9 +13,11 @@ side_change : (p q t z : Pair) → orient p q t -ℤ orient p q z ≡ (q.x -ℤ 
 unfolding orient
 side_change p q t z = simp ring_laws (omega (arith, linear))
 
+-- the identity of three vectors, by x
 triple_x : (vx vy wx wy zx zy tx ty : ℤ) → (wx *ℤ (ty -ℤ zy) -ℤ wy *ℤ (tx -ℤ zx)) *ℤ vx +ℤ (vx *ℤ (zy -ℤ ty) -ℤ vy *ℤ (zx -ℤ tx)) *ℤ wx +ℤ (wx *ℤ vy -ℤ wy *ℤ vx) *ℤ (zx -ℤ tx) ≡ pos 0
 triple_x vx vy wx wy zx zy tx ty = simp ring_laws (omega (arith, linear))
 
+-- the same by y
 triple_y : (vx vy wx wy zx zy tx ty : ℤ) → (wx *ℤ (ty -ℤ zy) -ℤ wy *ℤ (tx -ℤ zx)) *ℤ vy +ℤ (vx *ℤ (zy -ℤ ty) -ℤ vy *ℤ (zx -ℤ tx)) *ℤ wy +ℤ (wx *ℤ vy -ℤ wy *ℤ vx) *ℤ (zy -ℤ ty) ≡ pos 0
 triple_y vx vy wx wy zx zy tx ty = simp ring_laws (omega (arith, linear))
 
@@ -23,25 +25,31 @@ triple_y vx vy wx wy zx zy tx ty = simp ring_laws (omega (arith, linear))
 abbrev pub IsPositive : ℤ → ℤ → Type 0
 IsPositive ux uy = (pos 0 <ℤ ux) ⊎ ((ux ≡ pos 0) × (pos 0 <ℤ uy))
 
+-- a vector that is zero or positive
 abbrev pub IsNonnegative : ℤ → ℤ → Type 0
 IsNonnegative ux uy = (pos 0 <ℤ ux) ⊎ ((ux ≡ pos 0) × (pos 0 ≤ℤ uy))
 
+-- a product with zero on the right
 times_zero : (k u : ℤ) → u ≡ pos 0 → k *ℤ u ≡ pos 0
 times_zero k u e = ap (λ (z : ℤ). k *ℤ z) e ∙ *ℤ-zero k
 
+-- a product with zero on the left
 zero_times : (k u : ℤ) → k ≡ pos 0 → k *ℤ u ≡ pos 0
 zero_times k u e = ap (λ (z : ℤ). z *ℤ u) e ∙ zero-*ℤ u
 
+-- a positive multiple of a positive vector
 pub scale_positive : (k ux uy : ℤ) → pos 0 <ℤ k → IsPositive ux uy → IsPositive (k *ℤ ux) (k *ℤ uy)
 scale_positive k ux uy h (inl u) = inl (product_pp _ _ h u)
 scale_positive k ux uy h (inr u) = inr (times_zero k ux u.0, product_pp _ _ h u.1)
 
+-- a multiple, zero or positive, of a positive vector
 pub scale_nonnegative : (k ux uy : ℤ) → pos 0 ≤ℤ k → IsPositive ux uy → IsNonnegative (k *ℤ ux) (k *ℤ uy)
 scale_nonnegative k ux uy h u =
     by_lt_z (pos 0) k
     (λ g. ⊎_elim (λ a. inl (product_pp _ _ g a)) (λ b. inr (times_zero k ux b.0, product_nn _ _ h (omega (arith, linear, b.1)))) u)
     (λ g. let e : k ≡ pos 0 = omega (arith, linear) in inr (zero_times k ux e, let z : k *ℤ uy ≡ pos 0 = zero_times k uy e in omega (arith, linear)))
 
+-- three vectors that are not negative, one of them positive, do not sum to zero
 sum_apart : (ax ay bx by cx cy : ℤ) → IsNonnegative ax ay → IsNonnegative bx by → IsNonnegative cx cy → (IsPositive ax ay ⊎ (IsPositive bx by ⊎ IsPositive cx cy)) → ax +ℤ bx +ℤ cx ≡ pos 0 → ay +ℤ by +ℤ cy ≡ pos 0 → ⊥
 sum_apart ax ay bx by cx cy a b c s e f = omega (arith, linear)
 
@@ -56,16 +64,19 @@ no_sum a b vx vy wx wy ux uy v w ha hb u ex ey s =
 unfoldable pub bend : Pair → Pair → Pair → Pair → ℤ
 bend p q a b = (q.x -ℤ p.x) *ℤ (b.y -ℤ a.y) -ℤ (q.y -ℤ p.y) *ℤ (b.x -ℤ a.x)
 
+-- how the sides of two lines change from z to t, by x
 pub slope_x : (p q a b t z : Pair) → (orient p q t -ℤ orient p q z) *ℤ (b.x -ℤ a.x) +ℤ (orient a b z -ℤ orient a b t) *ℤ (q.x -ℤ p.x) +ℤ bend p q a b *ℤ (z.x -ℤ t.x) ≡ pos 0
 unfolding bend
 slope_x p q a b t z =
     rw (side_change p q t z, side_change a b z t) (triple_x (b.x -ℤ a.x) (b.y -ℤ a.y) (q.x -ℤ p.x) (q.y -ℤ p.y) z.x z.y t.x t.y)
 
+-- the same by y
 pub slope_y : (p q a b t z : Pair) → (orient p q t -ℤ orient p q z) *ℤ (b.y -ℤ a.y) +ℤ (orient a b z -ℤ orient a b t) *ℤ (q.y -ℤ p.y) +ℤ bend p q a b *ℤ (z.y -ℤ t.y) ≡ pos 0
 unfolding bend
 slope_y p q a b t z =
     rw (side_change p q t z, side_change a b z t) (triple_y (b.x -ℤ a.x) (b.y -ℤ a.y) (q.x -ℤ p.x) (q.y -ℤ p.y) z.x z.y t.x t.y)
 
+-- the step to a later point is a positive vector
 pub step_positive : (p q : Pair) → IsBefore p q → IsPositive (q.x -ℤ p.x) (q.y -ℤ p.y)
 step_positive p q (inl h) = inl (omega (arith, linear))
 step_positive p q (inr h) = inr (omega (arith, linear))
@@ -80,6 +91,7 @@ bend_step p q a b t z (inl h) = scale_nonnegative (bend p q a b) (z.x -ℤ t.x) 
 bend_step p q a b t z (inr h) =
     rw (← (flip (bend p q a b) t.x z.x), ← (flip (bend p q a b) t.y z.y)) (scale_nonnegative (neg_ℤ (bend p q a b)) (t.x -ℤ z.x) (t.y -ℤ z.y) (omega (arith, linear, h.0)) (step_positive z t h.1))
 
+-- the bend times a step in its sense is a positive vector
 pub bend_strict : (p q a b t z : Pair) → ((pos 0 <ℤ bend p q a b) × IsBefore t z) ⊎ ((bend p q a b <ℤ pos 0) × IsBefore z t) → IsPositive (bend p q a b *ℤ (z.x -ℤ t.x)) (bend p q a b *ℤ (z.y -ℤ t.y))
 bend_strict p q a b t z (inl h) = scale_positive (bend p q a b) (z.x -ℤ t.x) (z.y -ℤ t.y) h.0 (step_positive t z h.1)
 bend_strict p q a b t z (inr h) =
@@ -98,6 +110,7 @@ under p q a b x t z hpq hab hxt htz fx gx fz gz gt =
     (slope_x p q a b t z) (slope_y p q a b t z) (inl (omega (arith, linear))))))
     (λ done. done)
 
+-- y stands between x and t, from either side
 abbrev pub IsBetween : Pair → Pair → Pair → Type 0
 IsBetween x y t = (IsBefore x y × IsBefore y t) ⊎ (IsBefore t y × IsBefore y x)
 

@@ -20,6 +20,7 @@ pub before_turned : (p q : Pair) → IsBefore (turned_point q) p → IsBefore (t
 before_turned p q (inl h) = inl (omega (arith, linear))
 before_turned p q (inr h) = inr (omega (arith, linear))
 
+-- a turn reverses the order, seen from the other point
 pub before_turned_back : (p q : Pair) → IsBefore p (turned_point q) → IsBefore q (turned_point p)
 before_turned_back p q (inl h) = inl (omega (arith, linear))
 before_turned_back p q (inr h) = inr (omega (arith, linear))

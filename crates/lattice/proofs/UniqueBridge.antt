@@ -10,6 +10,7 @@ use Rattle.lattice.specs.Integers.{linear}
 use Rattle.lattice.proofs.Lines.{IsPositive, no_sum, bend, bend_step, bend_strict, slope_x, slope_y, step_positive}
 use Rattle.lattice.proofs.LineCrossings.{orient_start, orient_end}
 
+-- points of which neither stands before the other are one
 pub same_point : (p q : Pair) → (IsBefore p q → ⊥) → (IsBefore q p → ⊥) → p ≡ q
 same_point p q h k =
     by_lt_z p.x q.x (λ g. absurd (h (inl g)))
@@ -31,6 +32,7 @@ level p q a b t z hpq hab ft gz fz gt way =
       by_lt_z (orient a b t) (pos 0) (λ h. absurd (end (inr (inl (omega (arith, linear)))))) (λ h. omega (arith, linear)),
     )
 
+-- two bridges do not bend apart
 apart : (p q a b t z : Pair) → IsBefore p q → IsBefore a b → orient p q t ≡ pos 0 → orient a b z ≡ pos 0 → orient p q z ≤ℤ pos 0 → orient a b t ≤ℤ pos 0 → ((pos 0 <ℤ bend p q a b) × IsBefore t z) ⊎ ((bend p q a b <ℤ pos 0) × IsBefore z t) → ⊥
 apart p q a b t z hpq hab ft gz fz gt way =
     no_sum (orient p q t -ℤ orient p q z) (orient a b z -ℤ orient a b t) (b.x -ℤ a.x) (b.y -ℤ a.y) (q.x -ℤ p.x) (q.y -ℤ p.y) (bend p q a b *ℤ (z.x -ℤ t.x)) (bend p q a b *ℤ (z.y -ℤ t.y))
@@ -38,6 +40,7 @@ apart p q a b t z hpq hab ft gz fz gt way =
     (bend_step p q a b t z (⊎_elim (λ h. inl (omega (arith, linear, h.0), h.1)) (λ h. inr (omega (arith, linear, h.0), h.1)) way))
     (slope_x p q a b t z) (slope_y p q a b t z) (inr (inr (bend_strict p q a b t z way)))
 
+-- two upper bridges of the same sets are one
 pub one_bridge : (l r : Pair → Type 0) (p q a b : Pair) → IsAllBefore l r → IsUpperBridge l r p q → IsUpperBridge l r a b → (p ≡ a) × (q ≡ b)
 one_bridge l r p q a b o h k =
     let hpq : IsBefore p q = o p q h.from_left h.to_right in

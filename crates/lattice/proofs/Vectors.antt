@@ -5,12 +5,15 @@ use Rattle.lattice.specs.Plane.{Pair, orient, IsBefore}
 use Rattle.lattice.specs.Polynomials.{as_difference, difference-add, difference-neg, difference-mul, difference-eq, difference-pos}
 use Rattle.lattice.specs.Signs.{le_or_lt, product_nn, product_pp, cancel_nn, cancel_zero, cancel_pp}
 
+-- the step from q to p
 abbrev pub minus : Pair → Pair → Pair
 minus p q = record { x = p.x -ℤ q.x; y = p.y -ℤ q.y }
 
+-- a vector backwards
 abbrev pub opp : Pair → Pair
 opp u = record { x = neg_ℤ u.x; y = neg_ℤ u.y }
 
+-- twice the area between two vectors
 abbrev pub cross : Pair → Pair → ℤ
 cross u v = u.x *ℤ v.y -ℤ u.y *ℤ v.x
 
@@ -18,25 +21,32 @@ cross u v = u.x *ℤ v.y -ℤ u.y *ℤ v.x
 abbrev pub Ahead : Pair → Type 0
 Ahead u = (pos 0 <ℤ u.x) ⊎ ((u.x ≡ pos 0) × (pos 0 <ℤ u.y))
 
+-- the identity of three vectors
 plucker : (u v w : Pair) → cross u w *ℤ v.x ≡ cross u v *ℤ w.x +ℤ cross v w *ℤ u.x
 plucker u v w = rw (as_difference u.x, as_difference u.y, as_difference v.x, as_difference v.y, as_difference w.x, as_difference w.y) (simp (difference-add, difference-neg, difference-mul) (difference-eq _ _ _ _ (omega arith)))
 
+-- the first vector backwards
 pub cross-opp_left : (u v : Pair) → cross (opp u) v ≡ cross v u
 cross-opp_left u v = rw (as_difference u.x, as_difference u.y, as_difference v.x, as_difference v.y) (simp (difference-add, difference-neg, difference-mul) (difference-eq _ _ _ _ (omega arith)))
 
+-- the second vector backwards
 pub cross-opp_right : (u v : Pair) → cross u (opp v) ≡ cross v u
 cross-opp_right u v = rw (as_difference u.x, as_difference u.y, as_difference v.x, as_difference v.y) (simp (difference-add, difference-neg, difference-mul) (difference-eq _ _ _ _ (omega arith)))
 
+-- both vectors backwards
 pub cross-opp : (u v : Pair) → cross (opp u) (opp v) ≡ cross u v
 cross-opp u v = rw (as_difference u.x, as_difference u.y, as_difference v.x, as_difference v.y) (simp (difference-add, difference-neg, difference-mul) (difference-eq _ _ _ _ (omega arith)))
 
+-- the vectors exchanged
 pub cross_swap : (u v : Pair) → cross u v ≡ neg_ℤ (cross v u)
 cross_swap u v = rw (as_difference u.x, as_difference u.y, as_difference v.x, as_difference v.y) (simp (difference-add, difference-neg, difference-mul) (difference-eq _ _ _ _ (omega arith)))
 
+-- a vector ahead does not go left
 pub ahead_nn : (u : Pair) → Ahead u → pos 0 ≤ℤ u.x
 ahead_nn u (inl h) = omega (arith, ints)
 ahead_nn u (inr h) = omega (arith, ints)
 
+-- a sum of two that are not negative
 sum_nn : (a b c : ℤ) → c ≡ a +ℤ b → pos 0 ≤ℤ a → pos 0 ≤ℤ b → pos 0 ≤ℤ c
 sum_nn a b c e h k = omega (arith, ints)
 
@@ -55,6 +65,7 @@ turn_trans u v w hu (inl h) hw uv vw =
 turn_trans u v w hu (inr h) hw uv vw =
     vertical u w v.y (ahead_nn u hu) h.1 hw (subst (λ (z : ℤ). pos 0 ≤ℤ (z *ℤ w.y -ℤ v.y *ℤ w.x)) h.0 vw)
 
+-- the same where the first turn is strict
 pub turn_trans_strict : (u v w : Pair) → Ahead u → Ahead v → Ahead w → pos 0 <ℤ cross u v → pos 0 ≤ℤ cross v w → pos 0 <ℤ cross u w
 turn_trans_strict u v w hu hv hw uv vw =
     elim (le_or_lt (cross u w) (pos 0)) [
@@ -63,6 +74,7 @@ turn_trans_strict u v w hu hv hw uv vw =
       | inr h ↦ h
     ]
 
+-- the same where the second turn is strict
 pub turn_trans_strict_right : (u v w : Pair) → Ahead u → Ahead v → Ahead w → pos 0 ≤ℤ cross u v → pos 0 <ℤ cross v w → pos 0 <ℤ cross u w
 turn_trans_strict_right u v w hu hv hw uv vw =
     elim (le_or_lt (cross u w) (pos 0)) [

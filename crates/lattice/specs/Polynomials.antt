@@ -5,25 +5,32 @@ use Rattle.std.proofs.lemmas.Bool.{cases_lt}
 use Rattle.std.proofs.lemmas.Int.{ints}
 use borrow.Author.Differences.{up, down, same_in, sum_is_lem, neg_is, product_is}
 
+-- a - b, as it computes
 abbrev raw : ℕ → ℕ → ℤ
 raw a b = pos a +ℤ neg_ℤ (pos b)
 
+-- a - b, closed to computing
 pub difference : ℕ → ℕ → ℤ
 difference a b = raw a b
 
+-- what the difference of two naturals is, as an equation of naturals
 difference-is : (a b : ℕ) → up (difference a b) + b ≡ down (difference a b) + a
 unfolding difference
 difference-is a b = omega (arith, ints)
 
+-- when two differences are equal
 pub difference-eq : (a b c d : ℕ) → a + d ≡ c + b → difference a b ≡ difference c d
 difference-eq a b c d e = same_in (difference a b) (difference c d) (omega (arith, difference-is a b, difference-is c d))
 
+-- each whole number is a difference of two naturals
 pub as_difference : (z : ℤ) → z ≡ difference (up z) (down z)
 as_difference z = same_in z (difference (up z) (down z)) (omega (arith, difference-is (up z) (down z)))
 
+-- a sum of differences
 pub difference-add : (a b c d : ℕ) → difference a b +ℤ difference c d ≡ difference (a + c) (b + d)
 difference-add a b c d = same_in (difference a b +ℤ difference c d) (difference (a + c) (b + d)) (omega (arith, difference-is a b, difference-is c d, difference-is (a + c) (b + d), sum_is_lem (difference a b) (difference c d)))
 
+-- a negated difference
 pub difference-neg : (a b : ℕ) → neg_ℤ (difference a b) ≡ difference b a
 difference-neg a b = same_in (neg_ℤ (difference a b)) (difference b a) (omega (arith, difference-is a b, difference-is b a, neg_is (difference a b)))
 
@@ -31,6 +38,7 @@ difference-neg a b = same_in (neg_ℤ (difference a b)) (difference b a) (omega 
 split : (a b : ℕ) → ((k : ℕ) × (a ≡ b + k)) ⊎ ((k : ℕ) × (b ≡ a + k))
 split a b = elim (cases_lt a b) [ inl h ↦ inr (b - a, omega arith) | inr h ↦ inl (a - b, omega arith) ]
 
+-- the equation of naturals behind a product of differences
 prod : (u v w x a b c d : ℕ) → u + b ≡ v + a → w + d ≡ x + c → (u * w + v * x) + (a * d + b * c) ≡ (a * c + b * d) + (u * x + v * w)
 prod u v w x a b c d e f =
     elim (split a b) [
@@ -44,17 +52,10 @@ prod u v w x a b c d e f =
       ]
     ]
 
+-- a product of differences
 pub difference-mul : (a b c d : ℕ) → difference a b *ℤ difference c d ≡ difference (a * c + b * d) (a * d + b * c)
 difference-mul a b c d = same_in (difference a b *ℤ difference c d) (difference (a * c + b * d) (a * d + b * c)) (omega (arith, prod (up (difference a b)) (down (difference a b)) (up (difference c d)) (down (difference c d)) a b c d (difference-is a b) (difference-is c d), difference-is (a * c + b * d) (a * d + b * c), product_is (difference a b) (difference c d)))
 
-pub ring_test : (a b c d : ℤ) → (a +ℤ b) *ℤ (c -ℤ d) ≡ a *ℤ c +ℤ b *ℤ c -ℤ a *ℤ d -ℤ b *ℤ d
-ring_test a b c d = rw (as_difference a, as_difference b, as_difference c, as_difference d) (simp (difference-add, difference-neg, difference-mul) (difference-eq _ _ _ _ (omega arith)))
-
-turn_test : (a0 a1 b0 b1 c0 c1 : ℤ) → (b0 -ℤ a0) *ℤ (c1 -ℤ a1) -ℤ (b1 -ℤ a1) *ℤ (c0 -ℤ a0) ≡ (c0 -ℤ b0) *ℤ (a1 -ℤ b1) -ℤ (c1 -ℤ b1) *ℤ (a0 -ℤ b0)
-turn_test a0 a1 b0 b1 c0 c1 = rw (as_difference a0, as_difference a1, as_difference b0, as_difference b1, as_difference c0, as_difference c1) (simp (difference-add, difference-neg, difference-mul) (difference-eq _ _ _ _ (omega arith)))
-
-plucker : (ax ay bx by cx cy : ℤ) → (ax *ℤ cy -ℤ ay *ℤ cx) *ℤ bx ≡ (ax *ℤ by -ℤ ay *ℤ bx) *ℤ cx +ℤ (bx *ℤ cy -ℤ by *ℤ cx) *ℤ ax
-plucker ax ay bx by cx cy = rw (as_difference ax, as_difference ay, as_difference bx, as_difference by, as_difference cx, as_difference cy) (simp (difference-add, difference-neg, difference-mul) (difference-eq _ _ _ _ (omega arith)))
-
+-- when a difference is a natural number
 pub difference-pos : (a b n : ℕ) → a ≡ n + b → difference a b ≡ pos n
 difference-pos a b n e = same_in (difference a b) (pos n) (omega (arith, difference-is a b))

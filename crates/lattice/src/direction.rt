@@ -1,5 +1,5 @@
 ghost use Rattle.std.specs.Prelude.{◌≡◌, ◌↔◌, IfOk, Ok, Err, pos};
-ghost use Rattle.lattice.specs.Plane.{IsCoordinate};
+ghost use Rattle.lattice.specs.Plane.{IsCoordinate, IsZero};
 
 use super::fault::LatticeFault;
 use super::point::is_coordinate;
@@ -48,6 +48,7 @@ impl Direction {
     pub fn x(self) -> i64
         ensures value { result ≡ self.x }
         ensures range { IsCoordinate result }
+        ensures nonzero { ¬ IsZero self }
     {
         self.dx
     }

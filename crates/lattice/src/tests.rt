@@ -1,4 +1,7 @@
-use crate::{Direction, LatticeFault, Point, before, distance_squared, orient, product};
+use crate::{
+    Direction, LatticeFault, Point, before, crossing_at_or_before, distance_squared, orient,
+    product,
+};
 use std::test::Fail;
 
 #[test]
@@ -34,5 +37,30 @@ fn order_by_x_and_then_by_y(rt: HostRuntime) -> Result<(), Fail> {
     assert!(rt; before(high, right));
     assert!(rt; !before(high, low));
     assert!(rt; !before(low, low));
+    Ok(())
+}
+
+/// Whether the lines ab and cd cross before m or at m; nothing where a, b, c, d are not in order, or the way along them
+/// does not turn right at b and at c.
+fn crossing(a: Point, b: Point, c: Point, d: Point, m: Point) -> Option<bool> {
+    if !before(a, b) || !before(b, c) || !before(c, d) {
+        return None;
+    }
+    if orient(a, b, c) >= 0 || orient(b, c, d) >= 0 {
+        return None;
+    }
+    Some(crossing_at_or_before(a, b, c, d, m))
+}
+
+#[test]
+fn lines_that_cross_above_the_left_wall(rt: HostRuntime) -> Result<(), Fail> {
+    let a = Point::new(0, 0)?;
+    let b = Point::new(0, 1)?;
+    let c = Point::new(1, 3)?;
+    let d = Point::new(2, 3)?;
+    assert_eq!(rt; crossing(a, b, c, d, Point::new(0, 2)?), Some(false));
+    assert_eq!(rt; crossing(a, b, c, d, Point::new(0, 3)?), Some(true));
+    assert_eq!(rt; crossing(a, b, c, d, Point::new(1, -9)?), Some(true));
+    assert_eq!(rt; crossing(d, c, b, a, Point::new(0, 2)?), None);
     Ok(())
 }
