@@ -1,5 +1,5 @@
 -- A lower edge of one half is one of both, where it stands clear of the lower bridge.
-use Rattle.std.proofs.Common.{◌≡◌, ℤ, pos, ◌≤ℤ◌, ◌<ℤ◌, neg_ℤ, inl, inr, sym, ap, subst, List, arith, ◌++◌, Some, None}
+use Rattle.std.proofs.Common.{◌≡◌, ℤ, pos, ◌≤ℤ◌, ◌<ℤ◌, neg_ℤ, inl, inr, sym, subst, List, arith, ◌++◌, Some, None}
 use Rattle.std.proofs.lemmas.Int.{ints}
 use Rattle.std.proofs.lemmas.List.Elements.{All-contains, All-append, Contains-append_left, Contains-append_right}
 use Rattle.lattice.specs.Plane.{Pair, orient, IsBefore}
@@ -13,8 +13,9 @@ use Rattle.bridge_search.proofs.Leaves.{all_of, on_of_contains, contains_of_on}
 use Rattle.bridge_search.proofs.Turns.{first_by}
 use Rattle.hull_plain.specs.Edges.{IsLowerEdge, IsUpperEdge}
 use Rattle.hull_plain.proofs.Order.{before_trans, before_total}
-use Rattle.hull_plain.proofs.Orientation.{orient_swap, ahead_of}
-use Rattle.hull_questions.proofs.Sides.{side_by_start, side_by_end, side_before, side_after, side_to_end, side_from_start, side_back, side_beyond, sum_above, equal_nn, equal_above}
+use Rattle.hull_plain.proofs.Orientation.{orient_swap, at_least, above, ahead_of}
+use Rattle.hull_questions.proofs.Sides.{side_by_start, side_by_end, side_before, side_after, side_to_end, side_from_start, side_back, side_beyond, sum_above, weak}
+use Rattle.hull_questions.proofs.StoredEdges.{same_ends}
 use Rattle.hull_questions.specs.Parts.{IsPartFor}
 use Rattle.hull_questions.specs.Chains.{IsBeforeEnd, IsLowerEdgeAt, IsUpperEdgeAt, IsLowerCorner, IsUpperCorner}
 
@@ -23,8 +24,8 @@ over_from_left : (a b c d t : Pair) → IsBefore a b → IsBefore c d → IsBefo
 over_from_left a b c d t ab cd ca at da bc bt =
     let hA : Ahead (minus a c) = ahead_of c a ca in
     let hT : Ahead (minus t a) = ahead_of a t at in
-    let low : pos 0 ≤ℤ cross (minus d c) (minus a c) = equal_nn _ _ (side_from_start c d a) da in
-    let mid : pos 0 <ℤ cross (minus a c) (minus t a) = turn_trans_strict (minus a c) (minus b a) (minus t a) hA (ahead_of a b ab) hT (equal_above _ _ (side_before a b c) bc) (equal_nn _ _ (side_from_start a b t) bt) in
+    let low : pos 0 ≤ℤ cross (minus d c) (minus a c) = at_least _ _ (side_from_start c d a) da in
+    let mid : pos 0 <ℤ cross (minus a c) (minus t a) = turn_trans_strict (minus a c) (minus b a) (minus t a) hA (ahead_of a b ab) hT (above _ _ (side_before a b c) bc) (at_least _ _ (side_from_start a b t) bt) in
     sum_above _ _ _ (side_by_start c d a t) low (turn_trans_strict_right (minus d c) (minus a c) (minus t a) (ahead_of c d cd) hA hT low mid)
 
 -- an edge cd that ends after b, where the edge ab is less steep: what lies over ab, before b, lies over cd
@@ -32,8 +33,8 @@ over_from_right : (a b c d t : Pair) → IsBefore a b → IsBefore c d → IsBef
 over_from_right a b c d t ab cd bd tb db bd_turn bt =
     let hE : Ahead (minus d b) = ahead_of b d bd in
     let hT : Ahead (minus b t) = ahead_of t b tb in
-    let low : pos 0 ≤ℤ cross (minus d b) (minus d c) = equal_nn _ _ (side_to_end c d b) db in
-    let mid : pos 0 <ℤ cross (minus b t) (minus d b) = turn_trans_strict_right (minus b t) (minus b a) (minus d b) hT (ahead_of a b ab) hE (equal_nn _ _ (side_to_end a b t) bt) (equal_above _ _ (side_after a b d) bd_turn) in
+    let low : pos 0 ≤ℤ cross (minus d b) (minus d c) = at_least _ _ (side_to_end c d b) db in
+    let mid : pos 0 <ℤ cross (minus b t) (minus d b) = turn_trans_strict_right (minus b t) (minus b a) (minus d b) hT (ahead_of a b ab) hE (at_least _ _ (side_to_end a b t) bt) (above _ _ (side_after a b d) bd_turn) in
     sum_above _ _ _ (side_by_end c d b t) low (turn_trans_strict (minus b t) (minus d b) (minus d c) hT hE (ahead_of c d cd) mid low)
 
 -- ---- the order
@@ -53,10 +54,6 @@ not_zero z h n = elim (le_or_lt z (pos 0)) [ inl k ↦ absurd (n (omega (arith, 
 -- a number above 0 is no 0
 no_zero : (z : ℤ) → pos 0 <ℤ z → z ≡ pos 0 → ⊥
 no_zero z h e = omega (arith, ints)
-
--- a number above 0 is at least 0
-weak : (z : ℤ) → pos 0 <ℤ z → pos 0 ≤ℤ z
-weak z h = omega (arith, ints)
 
 -- ---- from a half to both
 
@@ -127,10 +124,6 @@ pub record IsEdgePart (v : Pair) (whole part : Tree) : Type 0 where
   pub part_for : IsPartFor (Pair × Pair) (λ S e. IsLowerEdgeAt S v e) whole part
   pub inside : IsBeforeEnd part v
 
--- the ends of two edges that are the answer are the same
-same_ends : {p q : Pair} {e : Pair × Pair} → Some (p, q) ≡ Some e → (p ≡ e.0) × (q ≡ e.1)
-same_ends {p = p} {q = q} {e = e} h = let k : (p, q) ≡ e = cc in (ap (λ (z : Pair × Pair). z.0) k, ap (λ (z : Pair × Pair). z.1) k)
-
 -- a half with a lower edge has two halves
 pub lower_fork : (t : Tree) (e : Pair × Pair) → Some e ≡ lower_of t → IsFork t
 lower_fork (Leaf x) e h = absurd (cc)
@@ -186,9 +179,9 @@ no_span S u v c d e f cv vd =
     let hC : Ahead (minus v c) = ahead_of c v cv in
     let hU : Ahead (minus v u) = ahead_of u v e.forward in
     let hD : Ahead (minus d v) = ahead_of v d vd in
-    let a : pos 0 ≤ℤ cross (minus v c) (minus v u) = equal_nn _ _ (side_to_end u v c) (All-contains (λ t. pos 0 ≤ℤ orient u v t) S c e.left f.from) in
+    let a : pos 0 ≤ℤ cross (minus v c) (minus v u) = at_least _ _ (side_to_end u v c) (All-contains (λ t. pos 0 ≤ℤ orient u v t) S c e.left f.from) in
     let b : pos 0 <ℤ cross (minus v u) (minus d v) =
-    equal_above _ _ (side_after u v d) (not_zero _ (All-contains (λ t. pos 0 ≤ℤ orient u v t) S d e.left f.to) (λ z. All-contains (λ t. orient u v t ≡ pos 0 → ¬ (IsBefore v t)) S d e.last f.to z vd)) in
+    above _ _ (side_after u v d) (not_zero _ (All-contains (λ t. pos 0 ≤ℤ orient u v t) S d e.left f.to) (λ z. All-contains (λ t. orient u v t ≡ pos 0 → ¬ (IsBefore v t)) S d e.last f.to z vd)) in
     let k : pos 0 <ℤ cross (minus v c) (minus d v) = turn_trans_strict_right (minus v c) (minus v u) (minus d v) hC hU hD a b in
     let m : pos 0 ≤ℤ orient c d v = All-contains (λ t. pos 0 ≤ℤ orient c d t) S v f.left e.to in
     clash _ _ _ (side_after c v d) (orient_swap c v d) k m
@@ -212,9 +205,9 @@ from_corner S v e corner k =
 -- no upper edge spans the end of another
 no_span_back : (S : List Pair) (u v c d : Pair) → IsUpperEdge S u v → IsUpperEdge S c d → IsBefore v c → IsBefore d v → ⊥
 no_span_back S u v c d e f vc dv =
-    let a : pos 0 ≤ℤ cross (minus c v) (minus u v) = equal_nn _ _ (side_back u v c) (All-contains (λ t. pos 0 ≤ℤ orient u v t) S c e.left f.from) in
+    let a : pos 0 ≤ℤ cross (minus c v) (minus u v) = at_least _ _ (side_back u v c) (All-contains (λ t. pos 0 ≤ℤ orient u v t) S c e.left f.from) in
     let b : pos 0 <ℤ cross (minus u v) (minus v d) =
-    equal_above _ _ (side_beyond u v d) (not_zero _ (All-contains (λ t. pos 0 ≤ℤ orient u v t) S d e.left f.to) (λ z. All-contains (λ t. orient u v t ≡ pos 0 → ¬ (IsBefore t v)) S d e.last f.to z dv)) in
+    above _ _ (side_beyond u v d) (not_zero _ (All-contains (λ t. pos 0 ≤ℤ orient u v t) S d e.left f.to) (λ z. All-contains (λ t. orient u v t ≡ pos 0 → ¬ (IsBefore t v)) S d e.last f.to z dv)) in
     let k : pos 0 <ℤ cross (minus c v) (minus v d) = turn_trans_strict_right (minus c v) (minus u v) (minus v d) (ahead_of v c vc) (ahead_of v u e.backward) (ahead_of d v dv) a b in
     let m : pos 0 ≤ℤ orient c d v = All-contains (λ t. pos 0 ≤ℤ orient c d t) S v f.left e.to in
     clash _ _ _ (side_beyond c v d) (orient_swap c v d) k m

@@ -15,6 +15,7 @@ use Rattle.bridge_search.proofs.Leaves.{all_of, on_of_contains, contains_of_on}
 use Rattle.hull_plain.specs.Tangents.{IsFirstFarthest}
 use Rattle.hull_plain.proofs.Order.{before_not, before_irrefl}
 use Rattle.hull_plain.proofs.Orientation.{ahead_of}
+use Rattle.hull_questions.proofs.StoredEdges.{same_ends}
 use Rattle.hull_questions.specs.Parts.{IsFacing, IsFartherPart}
 
 -- how far two vectors go in a direction, weighed by how far they go to the right and by their sides
@@ -153,10 +154,6 @@ in_right u w d r f g =
       All-append (λ s. IsBefore s r → product d s ≢ product d r) (points_of u) (points_of w)
           (all_of (λ s. IsBefore s r → product d s ≢ product d r) (points_of u) (λ s m b e. let h = less s m in omega (arith, ints))) f.2,
     )
-
--- the ends of two edges that are the answer are the same
-same_ends : {p q : Pair} {e : Pair × Pair} → Some (p, q) ≡ Some e → (p ≡ e.0) × (q ≡ e.1)
-same_ends {p = p} {q = q} {e = e} h = let k : (p, q) ≡ e = cc in (ap (λ (z : Pair × Pair). z.0) k, ap (λ (z : Pair × Pair). z.1) k)
 
 -- not less far, told of the stored ends
 at_most : (d p q a b : Pair) → (p ≡ a) × (q ≡ b) → ¬ (product d p <ℤ product d q) → product d b ≤ℤ product d a

@@ -1,4 +1,5 @@
 pub mod Sides
+pub mod StoredEdges
 pub mod Extremes
 pub mod ChainEdges
 pub mod TurnedEdges
@@ -9,3 +10,4 @@ pub mod Fans
 pub mod Views
 pub mod TangentParts
 pub mod TurnedTangents
+pub mod SmallTrees

@@ -59,10 +59,6 @@ side_less c d q s = rw (as_difference c.x, as_difference c.y, as_difference d.x,
 pub sum_above : (s a b : ℤ) → s ≡ a +ℤ b → pos 0 ≤ℤ a → pos 0 <ℤ b → pos 0 <ℤ s
 sum_above s a b e h k = omega (arith, ints)
 
--- a number equal to one at least 0
-pub equal_nn : (a b : ℤ) → a ≡ b → pos 0 ≤ℤ a → pos 0 ≤ℤ b
-equal_nn a b e h = omega (arith, ints)
-
--- a number equal to one above 0
-pub equal_above : (a b : ℤ) → a ≡ b → pos 0 <ℤ a → pos 0 <ℤ b
-equal_above a b e h = omega (arith, ints)
+-- a number above 0 is at least 0
+pub weak : (a : ℤ) → pos 0 <ℤ a → pos 0 ≤ℤ a
+weak a h = omega (arith, ints)

@@ -16,12 +16,13 @@ use Rattle.hull_plain.specs.Seen.{IsMoreRight, IsMoreLeft}
 use Rattle.hull_plain.specs.Tangents.{IsLeftTangent, IsRightTangent}
 use Rattle.hull_plain.proofs.EdgeSteps.{past_farther, past_farther_back}
 use Rattle.hull_plain.proofs.Order.{before_total, before_trans}
-use Rattle.hull_plain.proofs.Orientation.{orient_swap, orient-cycle, ahead_of}
+use Rattle.hull_plain.proofs.Orientation.{orient_swap, orient-cycle, at_least, above, ahead_of}
 use Rattle.hull_plain.proofs.SameSide.{left_trans, right_trans}
 use Rattle.hull_plain.proofs.Sightings.{left_tangent, right_tangent, left_irrefl, right_irrefl}
+use Rattle.hull_questions.proofs.StoredEdges.{same_ends}
 use Rattle.hull_questions.specs.Parts.{IsLeftPart, IsRightPart}
 use Rattle.hull_questions.specs.Sights.{IsBelow}
-use Rattle.hull_questions.proofs.Sides.{side_before, side_after, side_to_end, side_from_start, equal_nn, equal_above}
+use Rattle.hull_questions.proofs.Sides.{side_before, side_after, side_to_end, side_from_start}
 
 -- ---- the order in which q sees the points that lie above it
 
@@ -129,16 +130,16 @@ start_left S q a b t h ma mt ab at aq over under =
       | inr k ↦ more_left S q a t h ma mt aq k
       | inl k ↦
           let x : pos 0 ≤ℤ cross (minus q a) (minus b a) = flip_nn _ _ (cross_swap (minus q a) (minus b a)) (subst (λ (z : ℤ). z ≤ℤ pos 0) (side_from_start a b q) under) in
-          let y : pos 0 ≤ℤ cross (minus q a) (minus t a) = turn_trans (minus q a) (minus b a) (minus t a) (ahead_of a q aq) (ahead_of a b ab) (ahead_of a t at) x (equal_nn _ _ (side_from_start a b t) over) in
-          let z : pos 0 ≤ℤ orient q t a = equal_nn _ _ (sym (side_from_start a q t) ∙ orient-cycle a q t ∙ orient-cycle t a q) y in
+          let y : pos 0 ≤ℤ cross (minus q a) (minus t a) = turn_trans (minus q a) (minus b a) (minus t a) (ahead_of a q aq) (ahead_of a b ab) (ahead_of a t at) x (at_least _ _ (side_from_start a b t) over) in
+          let z : pos 0 ≤ℤ orient q t a = at_least _ _ (sym (side_from_start a q t) ∙ orient-cycle a q t ∙ orient-cycle t a q) y in
           elim (above_or_zero _ z) [ inl g ↦ inl g | inr e ↦ inr (e, past_farther_back q t a k at e) ]
     ]
 
 -- q over the line ab and after b: b is seen left of each point t over the line and before b
 end_left : (S : List Pair) (q a b t : Pair) → IsBefore a b → IsBefore t b → IsBefore b q → pos 0 ≤ℤ orient a b t → pos 0 <ℤ orient a b q → IsMoreLeft q b t
 end_left S q a b t ab tb bq over left =
-    inl (equal_above _ _ (sym (side_after t b q) ∙ orient-cycle t b q)
-    (turn_trans_strict_right (minus b t) (minus b a) (minus q b) (ahead_of t b tb) (ahead_of a b ab) (ahead_of b q bq) (equal_nn _ _ (side_to_end a b t) over) (equal_above _ _ (side_after a b q) left)))
+    inl (above _ _ (sym (side_after t b q) ∙ orient-cycle t b q)
+    (turn_trans_strict_right (minus b t) (minus b a) (minus q b) (ahead_of t b tb) (ahead_of a b ab) (ahead_of b q bq) (at_least _ _ (side_to_end a b t) over) (above _ _ (side_after a b q) left)))
 
 -- q not over the line ab and before b: b is seen right of each point t over the line and before b, or farther in line with it
 end_right : (S : List Pair) (q a b t : Pair) → IsBelow S q → Contains S b → Contains S t → IsBefore a b → IsBefore t b → IsBefore q b → pos 0 ≤ℤ orient a b t → orient a b q ≤ℤ pos 0 → IsMoreRight q b t
@@ -147,16 +148,16 @@ end_right S q a b t h mb mt ab tb qb over under =
       | inl k ↦ more_right S q t b h mt mb k qb
       | inr k ↦
           let x : pos 0 ≤ℤ cross (minus b a) (minus b q) = flip_nn _ _ (cross_swap (minus b a) (minus b q)) (subst (λ (z : ℤ). z ≤ℤ pos 0) (side_to_end a b q) under) in
-          let y : pos 0 ≤ℤ cross (minus b t) (minus b q) = turn_trans (minus b t) (minus b a) (minus b q) (ahead_of t b tb) (ahead_of a b ab) (ahead_of q b qb) (equal_nn _ _ (side_to_end a b t) over) x in
-          let z : pos 0 ≤ℤ orient q b t = equal_nn _ _ (sym (side_to_end q b t)) y in
+          let y : pos 0 ≤ℤ cross (minus b t) (minus b q) = turn_trans (minus b t) (minus b a) (minus b q) (ahead_of t b tb) (ahead_of a b ab) (ahead_of q b qb) (at_least _ _ (side_to_end a b t) over) x in
+          let z : pos 0 ≤ℤ orient q b t = at_least _ _ (sym (side_to_end q b t)) y in
           elim (above_or_zero _ z) [ inl g ↦ inl g | inr e ↦ inr (e, past_farther q t b k tb (orient_swap q t b ∙ ap neg_ℤ e)) ]
     ]
 
 -- q over the line ab and before a: a is seen right of each point t over the line and after a
 start_right : (S : List Pair) (q a b t : Pair) → IsBefore a b → IsBefore a t → IsBefore q a → pos 0 ≤ℤ orient a b t → pos 0 <ℤ orient a b q → IsMoreRight q a t
 start_right S q a b t ab at qa over left =
-    inl (equal_above _ _ (sym (side_after q a t))
-    (turn_trans_strict (minus a q) (minus b a) (minus t a) (ahead_of q a qa) (ahead_of a b ab) (ahead_of a t at) (equal_above _ _ (side_before a b q) left) (equal_nn _ _ (side_from_start a b t) over)))
+    inl (above _ _ (sym (side_after q a t))
+    (turn_trans_strict (minus a q) (minus b a) (minus t a) (ahead_of q a qa) (ahead_of a b ab) (ahead_of a t at) (above _ _ (side_before a b q) left) (at_least _ _ (side_from_start a b t) over)))
 
 -- ---- one step down
 
@@ -173,10 +174,6 @@ below_right u w q h = record {
   absent = λ m. h.absent (Contains-append_right (points_of u) (points_of w) q m);
   under = λ s t m n. h.under s t (Contains-append_right (points_of u) (points_of w) s m) (Contains-append_right (points_of u) (points_of w) t n);
 }
-
--- the ends of two edges that are the answer are the same
-same_ends : {p q : Pair} {e : Pair × Pair} → Some (p, q) ≡ Some e → (p ≡ e.0) × (q ≡ e.1)
-same_ends {p = p} {q = q} {e = e} h = let k : (p, q) ≡ e = cc in (ap (λ (z : Pair × Pair). z.0) k, ap (λ (z : Pair × Pair). z.1) k)
 
 -- the left tangent point is in the left half
 keep_left : (u w : Tree) (q l : Pair) → IsBelow (points_of u ++ points_of w) q → ((t : Pair) → On w t → (s : Pair) × On u s × IsMoreLeft q s t) → IsLeftTangent (points_of u) q l → IsLeftTangent (points_of u ++ points_of w) q l

@@ -9,7 +9,7 @@ use Rattle.lattice.proofs.Vectors.{minus, cross, cross_swap, turn_trans_strict}
 use Rattle.hull_plain.proofs.Order.{before_irrefl, before_not}
 use Rattle.hull_plain.proofs.Orientation.{orient_swap, ahead_of}
 use Rattle.hull_questions.specs.Sights.{IsBelow, IsAbove, IsBelowEdge, IsAboveEdge}
-use Rattle.hull_questions.proofs.Sides.{side_more, side_less, side_after}
+use Rattle.hull_questions.proofs.Sides.{side_more, side_less, side_after, weak}
 
 -- before all: below
 pub below_before : (S : List Pair) (q : Pair) → All (IsBefore q) S → IsBelow S q
@@ -42,10 +42,6 @@ above_after S q h = record {
 -- a difference of a number at least 0 and one below 0
 apart : (a b d : ℤ) → a -ℤ b ≡ d → pos 0 ≤ℤ a → b <ℤ pos 0 → pos 0 <ℤ d
 apart a b d e h k = omega (arith, ints)
-
--- a number above 0 is at least 0
-weak : (a : ℤ) → pos 0 <ℤ a → pos 0 ≤ℤ a
-weak a h = omega (arith, ints)
 
 -- a number below 0 is not at least 0
 not_nn : (a : ℤ) → a <ℤ pos 0 → pos 0 ≤ℤ a → ⊥

@@ -1,7 +1,12 @@
 -- The halves that the tests are put together from.
 use Rattle.std.specs.Prelude.{Option, Some, None}
 use Rattle.lattice.specs.Plane.{Pair}
-use Rattle.bridge_search.specs.Trees.{Tree, Fork}
+use Rattle.bridge_search.specs.Trees.{Tree, Leaf, Fork}
+
+-- one point, or two with the edge from the one to the other
+abbrev pub small_tree : Pair → Option Pair → Tree
+small_tree p None = Leaf p
+small_tree p (Some q) = Fork (p, q) (p, q) (Leaf p) (Leaf q)
 
 -- one half alone, or two with the bridges between them
 abbrev pub joined_tree : Tree → Option Tree → Pair × Pair → Pair × Pair → Tree

@@ -1,47 +1,67 @@
 //! Halves of up to sixteen points for the tests, put together from smaller ones.
 ghost use Rattle.std.specs.Prelude.{◌≡◌, ◌≤◌, ◌+◌, option_map, IfSome};
-ghost use Rattle.bridge_search.specs.Trees.{Leaf, IsBridged, size_of};
+ghost use Rattle.bridge_search.specs.Trees.{IsBridged, size_of};
 ghost use Rattle.bridge_search.specs.OneWay.{IsBridged-prop};
-ghost use Rattle.hull_questions.specs.Shapes.{joined_tree};
+ghost use Rattle.hull_questions.specs.Shapes.{small_tree, joined_tree};
 
 use bridge_search::{Half, lower_bridge, upper_bridge};
 use lattice::{Point, before};
 use std::alloc::AllocError;
 
-/// One point.
+/// One point, or two.
 #[derive(Clone, Copy)]
-pub struct One {
-    point: Point,
+pub struct Small {
+    left: Point,
+    right: Option<Point>,
+    ghost bridged: { IsBridged (small_tree left right) } by { IsBridged-prop (small_tree left right) },
 }
 
-impl Half for One {
-    ghost tree = { λ s. Leaf s.point };
+impl Half for Small {
+    ghost tree = { λ s. small_tree s.left s.right };
 
     fn edge(self) -> Option<(Point, Point)> {
-        None
+        match self.right {
+            None => None,
+            Some(right) => Some((self.left, right)),
+        }
     }
 
     fn lower(self) -> Option<(Point, Point)> {
-        None
+        match self.right {
+            None => None,
+            Some(right) => Some((self.left, right)),
+        }
     }
 
     fn left(self) -> Self {
-        self
+        Small {
+            left: self.left,
+            right: None,
+        }
     }
 
     fn right(self) -> Self {
-        self
+        match self.right {
+            None => self,
+            Some(right) => Small {
+                left: right,
+                right: None,
+            },
+        }
     }
 
     fn first(self) -> Point {
-        self.point
+        self.left
     }
 
     fn last(self) -> Point {
-        self.point
+        match self.right {
+            None => self.left,
+            Some(right) => right,
+        }
     }
 
-    ghost bridged = { λ s. tt };
+    ghost bridged = { λ s. s.bridged };
 }
 
 /// One half alone, or two with the bridges between them.
@@ -73,7 +93,7 @@ fn alone<A: Half>(left: A) -> Joined<A>
     }
 }
 
-/// Two halves, or nothing where the left one does not end before the right one begins.
+/// Small halves, or nothing where the left one does not end before the right one begins.
 fn join<A: Half>(left: A, right: A) -> Option<Joined<A>>
     ensures { IfSome result (λ h. size_of (⟦<Joined<A> as Half>⟧.tree h) ≡ size_of (A.tree left) + size_of (A.tree right)) }
 {
@@ -133,11 +153,8 @@ impl<A: Half> Half for Joined<A> {
     ghost bridged = { λ s. s.bridged };
 }
 
-/// Up to two points.
-pub type Two = Joined<One>;
-
 /// Up to four points.
-pub type Four = Joined<Two>;
+pub type Four = Joined<Small>;
 
 /// Up to eight points.
 pub type Eight = Joined<Four>;
@@ -145,12 +162,28 @@ pub type Eight = Joined<Four>;
 /// Up to sixteen points.
 pub type Sixteen = Joined<Eight>;
 
-fn two(points: &[Point]) -> Option<Two>
-    ensures { IfSome result (λ h. size_of (⟦<Two as Half>⟧.tree h) ≤ 2) }
+/// Small points, or nothing where the first does not stand before the second.
+fn pair(left: Point, right: Point) -> Option<Small>
+    ensures { IfSome result (λ h. size_of (⟦<Small as Half>⟧.tree h) ≤ 2) }
+{
+    if !before(left, right) {
+        return None;
+    }
+    Some(Small {
+        left,
+        right: Some(right),
+    })
+}
+
+fn two(points: &[Point]) -> Option<Small>
+    ensures { IfSome result (λ h. size_of (⟦<Small as Half>⟧.tree h) ≤ 2) }
 {
     match points {
-        [point] => Some(alone(One { point: *point })),
-        [left, right] => join(One { point: *left }, One { point: *right }),
+        [point] => Some(Small {
+            left: *point,
+            right: None,
+        }),
+        [left, right] => pair(*left, *right),
         _ => None,
     }
 }
