@@ -15,8 +15,9 @@ for kind in small count; do
             made=$((calls / 20))
         fi
         "$room/generate" "$kind" "$made" "$workers" 7 >"$room/script"
-        ours=$(seconds "$rounds" "$hullbook" run "$room/script" --capacity "$made")
-        rival=$(seconds "$rounds" "$room/rival" run "$room/script" --capacity "$made")
+        both=$(pair "$hullbook" "$room/rival" "$rounds" run "$room/script" --capacity "$made")
+        ours=${both% *}
+        rival=${both#* }
         rate=$(calc %.0f "$made / $ours")
         one=${one:-$rate}
         calc "%-7s %7d %9.0f %18.3f %14.0f %15.2f\n" \

@@ -19,6 +19,18 @@ peak() {
     "$room/measure" "$@" | cut -d ' ' -f 2
 }
 
+# the least wall seconds of some rounds of each of two programs on the same words, taken in turn: PROGRAM RIVAL ROUNDS WORDS..
+pair() {
+    first=$1
+    second=$2
+    left=$3
+    shift 3
+    while [ "$left" -gt 0 ]; do
+        echo "$("$room/measure" 1 "$first" "$@") $("$room/measure" 1 "$second" "$@")"
+        left=$((left - 1))
+    done | awk 'NR == 1 || $1 < a { a = $1 } NR == 1 || $3 < b { b = $3 } END { print a, b }'
+}
+
 # a formula over numbers
 calc() {
     awk "BEGIN { printf \"$1\", $2 }"

@@ -4,7 +4,7 @@
 # line only: that reads the script, takes the lock for each call and writes a report, and serves nothing.
 . "$(dirname "$0")/tools.sh"
 calls=${1:-200000}
-rounds=${2:-3}
+rounds=${2:-5}
 echo "kind    workers   whole s   rival s   ratio   serving s   rival s   ratio   peak MB   rival MB"
 for kind in build churn ask mixed; do
     for workers in 1 4; do
@@ -13,10 +13,12 @@ for kind in build churn ask mixed; do
             "$hullbook" run "$room/script" --capacity "$calls" >"$room/ours"
             "$room/rival" run "$room/script" --capacity "$calls" | cmp - "$room/ours"
         fi
-        ours=$(seconds "$rounds" "$hullbook" run "$room/script" --capacity "$calls")
-        rival=$(seconds "$rounds" "$room/rival" run "$room/script" --capacity "$calls")
-        idle=$(seconds "$rounds" "$hullbook" run "$room/script" --capacity 1)
-        rival_idle=$(seconds "$rounds" "$room/rival" run "$room/script" --capacity 1)
+        both=$(pair "$hullbook" "$room/rival" "$rounds" run "$room/script" --capacity "$calls")
+        ours=${both% *}
+        rival=${both#* }
+        both=$(pair "$hullbook" "$room/rival" "$rounds" run "$room/script" --capacity 1)
+        idle=${both% *}
+        rival_idle=${both#* }
         memory=$(peak 1 "$hullbook" run "$room/script" --capacity "$calls")
         rival_memory=$(peak 1 "$room/rival" run "$room/script" --capacity "$calls")
         calc "%-7s %7d %9.3f %9.3f %7.2f %11.3f %9.3f %7.2f %9.1f %10.1f\n" \
