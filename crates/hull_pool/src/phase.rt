@@ -1,5 +1,5 @@
 //! One phase: a lock is opened round the book, the workers run, and the lock is closed.
-ghost use Rattle.std.specs.Prelude.{◌≡◌, ◌≤◌, [], OnOk, OnErr, All, box_value, vec_len, vec_capacity};
+ghost use Rattle.std.specs.Prelude.{◌≡◌, ◌≤◌, [], OnOk, OnErr, Err, All, box_value, vec_len, vec_capacity};
 ghost use Rattle.ticket_lock.specs.Tokens.{seat_count, opening_book, IsSeatOf, AreNumbered, seat_seen};
 ghost use Rattle.hull_pool.specs.Answers.{shown_workers};
 ghost use Rattle.hull_pool.specs.Crews.{book_head};
@@ -58,6 +58,19 @@ fn run_locked<R: Threads + Wait + Sync, S: HullSet + Drop + Send + Sync, G: Gate
     lock.close(seats)
 }
 
+/// The end of a phase of which nothing ran.
+fn refused<S: HullSet + Drop>(book: Book<S>, workers: Workers) -> PhaseEnd<S>
+    ensures book { result.book ≡ book }
+    ensures workers { result.workers ≡ workers }
+    ensures ended { result.ended ≡ Err PoolFault.NoMemory }
+{
+    PhaseEnd {
+        book,
+        workers,
+        ended: Err(PoolFault::NoMemory),
+    }
+}
+
 /// Runs the workers over one phase of calls: a lock with a seat for each worker is opened round the book, the workers
 /// run, each in a thread of its own where the system starts that many, and the lock is closed.
 ///
@@ -76,32 +89,20 @@ pub fn run_phase<R: Threads + Wait + Sync, S: HullSet + Drop + Send + Sync, G: G
 {
     let seats = book.workers();
     let Ok(mut crew) = Vec::with_capacity(alloc, usize::from(seats)) else {
-        return PhaseEnd {
-            book,
-            workers,
-            ended: Err(PoolFault::NoMemory),
-        };
+        return refused(book, workers);
     };
     let boxed = match Box::new(alloc, book) {
         Ok(boxed) => boxed,
-        Err(refused) => {
+        Err(back) => {
             crew.destroy_empty();
-            return PhaseEnd {
-                book: refused.value,
-                workers,
-                ended: Err(PoolFault::NoMemory),
-            };
+            return refused(back.value, workers);
         }
     };
     let (lock, mut places) = match TicketLock::open(alloc, boxed, seats) {
         Ok(made) => made,
         Err((_, boxed)) => {
             crew.destroy_empty();
-            return PhaseEnd {
-                book: Box::into_inner(boxed),
-                workers,
-                ended: Err(PoolFault::NoMemory),
-            };
+            return refused(Box::into_inner(boxed), workers);
         }
     };
     let Workers {
