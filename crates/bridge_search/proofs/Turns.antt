@@ -1,5 +1,5 @@
 -- One turn of the search, over trees.
-use Rattle.std.proofs.Common.{◌≡◌, ℕ, ◌+◌, ◌≤◌, refl, ap, subst, arith, inl, inr, Some, None}
+use Rattle.std.proofs.Common.{◌≡◌, ℕ, Bool, true, false, ◌+◌, ◌<◌, ◌≤◌, refl, ap, subst, arith, inl, inr, Some, None}
 use Rattle.std.proofs.lemmas.Int.{by_lt_z}
 use lib.IntN.{pos, ◌+ℤ◌, ◌*ℤ◌}
 use lib.Signed.{◌<ℤ◌, ◌≤ℤ◌}
@@ -7,7 +7,7 @@ use Rattle.lattice.specs.Plane.{Pair, orient, IsBefore}
 use Rattle.lattice.specs.Bridges.{IsAllBefore, IsUpperBridge}
 use Rattle.lattice.specs.Crossing.{IsCrossingAtOrBefore, IsCrossingAfter}
 use Rattle.bridge_search.specs.Trees.{Tree, Leaf, Fork, On, IsBridged, IsFork, edge_of, left_of, right_of, first_of, size_of}
-use Rattle.bridge_search.specs.Search.{IsReady, IsTurn, IsDone, IsDepthSum, IsReached}
+use Rattle.bridge_search.specs.Search.{IsReady, IsTurn, IsDone, IsDepthSum, IsReached, IsUnderWay, IsAdvance}
 use Rattle.lattice.specs.Integers.{linear}
 use Rattle.lattice.proofs.LineCrossings.{orient_start, orient_end}
 use Rattle.bridge_search.proofs.Steps.{to_left_of_left, to_right_of_right, to_right_of_left, to_left_of_right, to_right_of_left_one, to_left_of_right_one}
@@ -265,3 +265,16 @@ reached_bridge u0 w0 u w m n p q r d e f = rw (e, f) (r.lifts (first_of u) (firs
 pub reached_depth : (u0 w0 u w : Tree) (m : Pair) (n : ℕ) (p q : Pair) → IsReached u0 w0 u w m n → IsDone u w → p ≡ first_of u → q ≡ first_of w → IsDepthSum u0 w0 p q n
 reached_depth u0 w0 u w m n p q r d e f =
     rw (e, f) (same_sum u0 w0 (first_of u) (first_of w) (0 + n) n (omega arith) (r.deeper (first_of u) (first_of w) 0 d.depth))
+
+-- a search that was under way is so after one turn more, or none
+pub under_way_on : (b : Bool) (u0 w0 u w v z : Tree) (m m2 : Pair) → IsUnderWay u0 w0 u w m → IsAdvance b u w m v z → m2 ≡ m → IsUnderWay u0 w0 v z m2
+under_way_on true u0 w0 u w v z m m2 r t e = (r.0 + 1, rw e (reached_more u0 w0 u w v z m r.0 r.1 t))
+under_way_on false u0 w0 u w v z m m2 r t e = (r.0, rw (t.0, t.1, e) r.1)
+
+-- a turn leaves fewer points
+pub fewer : (u w v z : Tree) (m : Pair) → IsAdvance true u w m v z → size_of v + size_of z < size_of u + size_of w
+fewer u w v z m t = t.falls
+
+-- where no turn was made, the bridge of the halves that the search began with is found
+pub under_way_bridge : (u0 w0 u w v z : Tree) (m : Pair) (p q : Pair) → IsUnderWay u0 w0 u w m → IsAdvance false u w m v z → p ≡ first_of v → q ≡ first_of z → IsUpperBridge (On u0) (On w0) p q
+under_way_bridge u0 w0 u w v z m p q r t e f = reached_bridge u0 w0 u w m r.0 p q r.1 t.2 (rw t.0 at e) (rw t.1 at f)

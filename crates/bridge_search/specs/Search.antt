@@ -1,5 +1,5 @@
 -- The search for the upper bridge of two halves: its turns, and what n of them have kept.
-use Rattle.std.specs.Prelude.{◌≡◌, ℕ, ◌+◌, ◌<◌, ◌≤◌}
+use Rattle.std.specs.Prelude.{◌≡◌, ℕ, Bool, true, false, ◌+◌, ◌<◌, ◌≤◌}
 use Rattle.lattice.specs.Plane.{Pair, IsBefore}
 use Rattle.lattice.specs.Bridges.{IsAllBefore, IsUpperBridge}
 use Rattle.bridge_search.specs.Trees.{Tree, On, IsBridged, first_of, size_of, height_of, IsAtDepth}
@@ -35,3 +35,12 @@ pub record IsReached (u0 w0 u w : Tree) (m : Pair) (n : ℕ) : Type 0 where
   pub lifts : (p q : Pair) → IsUpperBridge (On u) (On w) p q → IsUpperBridge (On u0) (On w0) p q
   pub deeper : (p q : Pair) (k : ℕ) → IsDepthSum u w p q k → IsDepthSum u0 w0 p q (k + n)
   pub within : height_of u + height_of w + n ≤ height_of u0 + height_of w0
+
+-- some turns have led from the halves u0 and w0 to the halves u and w
+abbrev pub IsUnderWay : Tree → Tree → Tree → Tree → Pair → Type 0
+IsUnderWay u0 w0 u w m = (n : ℕ) × IsReached u0 w0 u w m n
+
+-- one turn more; or none, where both halves are one point
+abbrev pub IsAdvance : Bool → Tree → Tree → Pair → Tree → Tree → Type 0
+IsAdvance true u w m v z = IsTurn u w m v z
+IsAdvance false u w m v z = (v ≡ u) × (z ≡ w) × IsDone u w

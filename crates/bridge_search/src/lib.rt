@@ -5,6 +5,7 @@
 //! keeps its law. Nothing here asks for memory.
 #![tactic(auto)]
 
+mod both;
 mod half;
 #[cfg(test)]
 mod listed;
@@ -13,6 +14,7 @@ mod search;
 mod tests;
 mod turned;
 
+pub use both::both_bridges;
 pub use half::Half;
 pub use search::upper_bridge;
 pub use turned::{Turned, lower_bridge};

@@ -4,6 +4,7 @@ ghost use Rattle.bridge_search.specs.Trees.{Leaf, Fork, IsBridged, first_of};
 ghost use Rattle.bridge_search.specs.Listed.{listed_tree};
 ghost use Rattle.bridge_search.specs.OneWay.{IsBridged-prop};
 
+use super::both::both_bridges;
 use super::half::Half;
 use super::search::upper_bridge;
 use super::turned::lower_bridge;
@@ -91,15 +92,18 @@ impl<'a> Half for Listed<'a> {
     ghost bridged = { λ s. s.bridged };
 }
 
-/// The upper and the lower bridge of two halves, or nothing where the one does not end before the other begins.
+/// The upper and the lower bridge of two halves, or nothing where the one does not end before the other begins. They
+/// are searched one by one, and both at once.
 pub fn bridges<H: Half>(u: H, w: H) -> Option<((Point, Point), (Point, Point))>
     ensures { IfSome result (λ e. IsBridged (Fork e.0 e.1 (H.tree u) (H.tree w))) }
 {
     if before(u.last(), w.first()) {
-        Some((upper_bridge(u, w), lower_bridge(u, w)))
-    } else {
-        None
+        let one_by_one = (upper_bridge(u, w), lower_bridge(u, w));
+        if both_bridges(u, w) == one_by_one {
+            return Some(one_by_one);
+        }
     }
+    None
 }
 
 /// The entry of a point behind the others, with the edges between them and it; nothing where the point does not

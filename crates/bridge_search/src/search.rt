@@ -1,7 +1,7 @@
 ghost use Rattle.std.specs.Prelude.{◌≡◌, MatchOption, Some, None};
 ghost use Rattle.lattice.specs.Bridges.{IsAllBefore, IsUpperBridge};
-ghost use Rattle.bridge_search.specs.Trees.{On, edge_of};
-ghost use Rattle.bridge_search.specs.Search.{IsReady, IsTurn, IsDone};
+ghost use Rattle.bridge_search.specs.Trees.{On, edge_of, first_of};
+ghost use Rattle.bridge_search.specs.Search.{IsReady, IsTurn, IsDone, IsAdvance, IsUnderWay};
 
 use super::half::Half;
 use lattice::{Point, orient, weighted_at_or_before};
@@ -66,6 +66,52 @@ fn turn<H: Half>(u: H, w: H, m: Point) -> Option<(H, H)>
     }
 }
 
+/// A search under way: the halves that keep the bridge, and the first point of the right half as it began.
+#[derive(Clone, Copy)]
+pub(crate) struct Search<H> {
+    pub(crate) left: H,
+    pub(crate) right: H,
+    pub(crate) parting: Point,
+}
+
+impl<H: Half> Search<H> {
+    /// The search for the upper bridge of `u` and `w`, before its first turn.
+    pub(crate) fn new(u: H, w: H) -> Search<H>
+        requires { IsAllBefore (On (H.tree u)) (On (H.tree w)) }
+        ensures { IsUnderWay (H.tree u) (H.tree w) (H.tree result.left) (H.tree result.right) result.parting }
+    {
+        Search {
+            left: u,
+            right: w,
+            parting: w.first(),
+        }
+    }
+
+    /// Makes one turn; false where both halves are one point, and then nothing changes.
+    pub(crate) fn advance(&mut self) -> bool
+        requires { IsReady (H.tree self.old.left) (H.tree self.old.right) self.old.parting }
+        ensures advance { IsAdvance result (H.tree self.old.left) (H.tree self.old.right) self.old.parting (H.tree self.new.left) (H.tree self.new.right) }
+        ensures parting { self.new.parting ≡ self.old.parting }
+    {
+        match turn(self.left, self.right, self.parting) {
+            None => false,
+            Some((left, right)) => {
+                self.left = left;
+                self.right = right;
+                true
+            }
+        }
+    }
+
+    /// The ends of the bridge, once both halves are one point.
+    pub(crate) fn ends(&self) -> (Point, Point)
+        ensures left { result.0 ≡ first_of (H.tree self.now.left) }
+        ensures right { result.1 ≡ first_of (H.tree self.now.right) }
+    {
+        (self.left.first(), self.right.first())
+    }
+}
+
 /// The upper bridge of `u` and `w`, from its end in `u` to its end in `w`: no point of either half lies left of the
 /// line through the two ends, and those on it lie between them. All of `u` must stand before all of `w`.
 ///
@@ -87,12 +133,7 @@ pub fn upper_bridge<H: Half>(u: H, w: H) -> (Point, Point)
     requires { IsAllBefore (On (H.tree u)) (On (H.tree w)) }
     ensures { IsUpperBridge (On (H.tree u)) (On (H.tree w)) result.0 result.1 }
 {
-    let m = w.first();
-    let mut left = u;
-    let mut right = w;
-    while let Some((next_left, next_right)) = turn(left, right, m) {
-        left = next_left;
-        right = next_right;
-    }
-    (left.first(), right.first())
+    let mut search = Search::new(u, w);
+    while search.advance() {}
+    search.ends()
 }

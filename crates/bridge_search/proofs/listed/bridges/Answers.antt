@@ -13,8 +13,13 @@ lower_bridge-requires g c =
     all_before (g.H.Half.tree c.args.u) (g.H.Half.tree c.args.w) (g.met.H.Half.bridged c.args.u) (g.met.H.Half.bridged c.args.w)
     (rw (c.last.ensures, c.first.ensures) at (passed c.before-2.result (IsBefore c.last.result c.first.result) c.if-before.true c.before-2.ensures))
 
-pub returns-then-before : goal.returns-then-before
-returns-then-before g c = (
+pub both_bridges-requires : goal.both_bridges-requires
+both_bridges-requires g c =
+    all_before (g.H.Half.tree c.args.u) (g.H.Half.tree c.args.w) (g.met.H.Half.bridged c.args.u) (g.met.H.Half.bridged c.args.w)
+    (rw (c.last.ensures, c.first.ensures) at (passed c.before-2.result (IsBefore c.last.result c.first.result) c.if-before.true c.before-2.ensures))
+
+pub returns-then-eq : goal.returns-then-eq
+returns-then-eq g c = (
   all_before (g.H.Half.tree c.args.u) (g.H.Half.tree c.args.w) (g.met.H.Half.bridged c.args.u) (g.met.H.Half.bridged c.args.w)
       (rw (c.last.ensures, c.first.ensures) at (passed c.before-2.result (IsBefore c.last.result c.first.result) c.if-before.true c.before-2.ensures)),
   c.upper_bridge.ensures,

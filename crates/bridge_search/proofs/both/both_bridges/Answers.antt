@@ -1,0 +1,26 @@
+use Rattle.std.proofs.lemmas.Bool.{or_parts}
+use Rattle.bridge_search.specs.TurnedTrees.{order_turned, lower_from_turned}
+use Rattle.bridge_search.proofs.Turns as turns
+use Rattle.bridge_search.proofs.both.both_bridges.Goals as goal
+
+pub new-lower-requires : goal.new-lower-requires
+new-lower-requires g c =
+    rw (c.new.ensures, c.new-2.ensures) (order_turned (g.H.Half.tree c.args.u) (g.H.Half.tree c.args.w) c.requires)
+
+pub loop-preserved : goal.loop-preserved
+loop-preserved g c = (
+  turns.under_way_on _ _ _ _ _ _ _ _ _ c.loop.invariant.0 c.advance.ensures.advance c.advance.ensures.parting,
+  turns.under_way_on _ _ _ _ _ _ _ _ _ c.loop.invariant.1 c.advance-in-loop.ensures.advance c.advance-in-loop.ensures.parting,
+)
+
+pub returns-clause-upper : goal.returns-clause-upper
+returns-clause-upper g c =
+    let still = or_parts c.advance.result c.advance-in-loop.result c.loop-test.false in
+    turns.under_way_bridge _ _ _ _ _ _ _ _ _ c.loop.invariant.0 (rw still.0 at c.advance.ensures.advance) c.ends.ensures.left c.ends.ensures.right
+
+pub returns-clause-lower : goal.returns-clause-lower
+returns-clause-lower g c =
+    let still = or_parts c.advance.result c.advance-in-loop.result c.loop-test.false in
+    rw (c.turned.ensures, c.turned-2.ensures)
+    (lower_from_turned (g.H.Half.tree c.args.u) (g.H.Half.tree c.args.w) c.ends-first.result.0 c.ends-first.result.1
+    (turns.under_way_bridge _ _ _ _ _ _ _ _ _ c.loop.invariant.1 (rw still.1 at c.advance-in-loop.ensures.advance) c.ends-first.ensures.left c.ends-first.ensures.right))
