@@ -5,7 +5,7 @@ ghost use Rattle.hull_tree.specs.Changes.{points_below, height_at, AreInRow, IsH
 
 use super::node::{Fork, Node, first_of, height_of, last_of};
 use super::node_ref::NodeRef;
-use bridge_search::{lower_bridge, upper_bridge};
+use bridge_search::both_bridges;
 use lattice::Point;
 use std::mem;
 
@@ -43,8 +43,7 @@ pub(crate) fn joined(mut spare: Box<Fork>, left: Node, right: Node) -> Node
     ensures height { height_at result ≡ max (height_at left) (height_at right) + 1 }
 {
     let (u, w) = (NodeRef::new(&left), NodeRef::new(&right));
-    let upper = upper_bridge(u, w);
-    let lower = lower_bridge(u, w);
+    let (upper, lower) = both_bridges(u, w);
     *spare = Fork {
         upper,
         lower,
