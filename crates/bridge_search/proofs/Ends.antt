@@ -1,43 +1,27 @@
 -- The last point of one half before the first of another: all of the one before all of the other.
-use Rattle.std.proofs.Common.{◌≡◌, refl, arith, ◌⊎◌, inl, inr, ⊎_elim}
-use Rattle.std.proofs.lemmas.Int.{by_lt_z}
+use Rattle.std.proofs.Common.{refl, inl, inr, ⊎_elim}
 use Rattle.lattice.specs.Plane.{Pair, IsBefore}
 use Rattle.lattice.specs.Bridges.{IsAllBefore}
 use Rattle.bridge_search.specs.Trees.{Tree, Leaf, Fork, On, IsBridged, first_of, last_of}
-use Rattle.lattice.specs.Integers.{linear}
-use Rattle.bridge_search.proofs.Steps.{before_asym, before_trans}
+use Rattle.lattice.proofs.Order.{before_trans, before_irrefl, before_total, before_not}
 use Rattle.bridge_search.proofs.Turns.{first_by}
-use Rattle.lattice.proofs.UniqueBridge.{same_point}
 
 -- the last point is a point of the half
 pub on_last : (t : Tree) → On t (last_of t)
 on_last (Leaf x) = refl
 on_last (Fork e f u w) = inr (on_last w)
 
--- no point stands before itself
-irreflexive : (p : Pair) → IsBefore p p → ⊥
-irreflexive p h = omega (arith, linear)
-
 -- no point of a half stands after its last point
 pub last_by : (t : Tree) → IsBridged t → (p : Pair) → On t p → IsBefore (last_of t) p → ⊥
-last_by (Leaf x) h p i b = irreflexive x (rw i at b)
-last_by (Fork e f u w) h p (inl i) b = before_asym p (last_of w) (h.0 p (last_of w) i (on_last w)) b
+last_by (Leaf x) h p i b = before_irrefl x (rw i at b)
+last_by (Fork e f u w) h p (inl i) b = before_not p (last_of w) (h.0 p (last_of w) i (on_last w)) b
 last_by (Fork e f u w) h p (inr i) b = last_by w h.4 p i b
-
--- two points are the same, or one stands before the other
-order : (p q : Pair) → IsBefore p q ⊎ ((p ≡ q) ⊎ IsBefore q p)
-order p q =
-    by_lt_z p.x q.x (λ g. inl (inl g))
-    (λ g. by_lt_z q.x p.x (λ i. inr (inr (inl i)))
-    (λ i. by_lt_z p.y q.y (λ j. inl (inr (omega (arith, linear), j)))
-    (λ j. by_lt_z q.y p.y (λ l. inr (inr (inr (omega (arith, linear), l))))
-    (λ l. inr (inl (same_point p q (λ b. omega (arith, linear)) (λ b. omega (arith, linear))))))))
 
 -- p is not after a, a before b, q is not before b
 between : (p a b q : Pair) → (IsBefore a p → ⊥) → IsBefore a b → (IsBefore q b → ⊥) → IsBefore p q
 between p a b q h k l =
-    let pb : IsBefore p b = ⊎_elim (λ x. before_trans p a b x k) (λ r. ⊎_elim (λ e. rw e k) (λ x. absurd (h x)) r) (order p a) in
-    ⊎_elim (λ x. before_trans p b q pb x) (λ r. ⊎_elim (λ e. rw e at pb) (λ x. absurd (l x)) r) (order b q)
+    let pb : IsBefore p b = ⊎_elim (λ x. before_trans p a b x k) (λ r. ⊎_elim (λ e. rw e k) (λ x. absurd (h x)) r) (before_total p a) in
+    ⊎_elim (λ x. before_trans p b q pb x) (λ r. ⊎_elim (λ e. rw e at pb) (λ x. absurd (l x)) r) (before_total b q)
 
 -- where the last point of u stands before the first of w, all of u stands before all of w
 pub all_before : (u w : Tree) → IsBridged u → IsBridged w → IsBefore (last_of u) (first_of w) → IsAllBefore (On u) (On w)

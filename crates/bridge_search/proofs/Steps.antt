@@ -7,19 +7,9 @@ use Rattle.lattice.specs.Plane.{Pair, orient, IsBefore}
 use Rattle.lattice.specs.Bridges.{IsAllBefore, IsUpperBridge}
 use Rattle.lattice.specs.Crossing.{IsCrossingAtOrBefore, IsCrossingAfter}
 use Rattle.lattice.specs.Integers.{linear}
+use Rattle.lattice.proofs.Order.{before_not}
 use Rattle.lattice.proofs.Lines.{under, over}
 use Rattle.lattice.proofs.LineCrossings.{orient_start, orient_end, orient_cycle, right_of_crossing, left_of_crossing}
-
--- of two points only one stands before the other
-pub before_asym : (p q : Pair) → IsBefore p q → IsBefore q p → ⊥
-before_asym p q h k = omega (arith, linear)
-
--- the order goes from point to point
-pub before_trans : (p q r : Pair) → IsBefore p q → IsBefore q r → IsBefore p r
-before_trans p q r (inl h) (inl k) = inl (omega (arith, linear))
-before_trans p q r (inl h) (inr k) = inl (omega (arith, linear))
-before_trans p q r (inr h) (inl k) = inl (omega (arith, linear))
-before_trans p q r (inr h) (inr k) = inr (omega (arith, linear))
 
 -- both sets together
 abbrev pub Joined : (Pair → Type 0) → (Pair → Type 0) → Pair → Type 0
@@ -32,7 +22,7 @@ grow_left_after u1 u2 w p q o12 o2 low h = record {
   to_right = h.to_right;
   below_left = λ t s. ⊎_elim (h.below_left t) (low t) s;
   below_right = h.below_right;
-  tie_left = λ t s e. ⊎_elim (λ a. h.tie_left t a e) (λ a. (before_asym p t (o12 p t h.from_left a), before_asym t q (o2 t q a h.to_right))) s;
+  tie_left = λ t s e. ⊎_elim (λ a. h.tie_left t a e) (λ a. (before_not p t (o12 p t h.from_left a), before_not t q (o2 t q a h.to_right))) s;
   tie_right = h.tie_right;
 }
 
@@ -55,7 +45,7 @@ grow_right_before u w1 w2 p q o12 o1 low h = record {
   below_left = h.below_left;
   below_right = λ t s. ⊎_elim (low t) (h.below_right t) s;
   tie_left = h.tie_left;
-  tie_right = λ t s e. ⊎_elim (λ a. (before_asym p t (o1 p t h.from_left a), before_asym t q (o12 t q a h.to_right))) (λ a. h.tie_right t a e) s;
+  tie_right = λ t s e. ⊎_elim (λ a. (before_not p t (o1 p t h.from_left a), before_not t q (o12 t q a h.to_right))) (λ a. h.tie_right t a e) s;
 }
 
 -- points behind those of the right half, all under the line

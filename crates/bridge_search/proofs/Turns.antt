@@ -9,6 +9,7 @@ use Rattle.lattice.specs.Crossing.{IsCrossingAtOrBefore, IsCrossingAfter}
 use Rattle.bridge_search.specs.Trees.{Tree, Leaf, Fork, On, IsBridged, IsFork, edge_of, left_of, right_of, first_of, size_of}
 use Rattle.bridge_search.specs.Search.{IsReady, IsTurn, IsDone, IsDepthSum, IsReached, IsUnderWay, IsAdvance}
 use Rattle.lattice.specs.Integers.{linear}
+use Rattle.lattice.proofs.Order.{before_irrefl, before_not}
 use Rattle.lattice.proofs.LineCrossings.{orient_start, orient_end}
 use Rattle.bridge_search.proofs.Steps.{to_left_of_left, to_right_of_right, to_right_of_left, to_left_of_right, to_right_of_left_one, to_left_of_right_one}
 
@@ -164,29 +165,17 @@ done (Leaf x) (Leaf y) m r h k = record {
     to_right = refl;
     below_left = λ t i. rw i (let z : orient x y x ≡ pos 0 = orient_start x y in omega (arith, linear));
     below_right = λ t i. rw i (let z : orient x y y ≡ pos 0 = orient_end x y in omega (arith, linear));
-    tie_left = λ t i z. rw i (λ b. irreflexive x b, λ b. asymmetric y x b (r.ordered x y refl refl));
-    tie_right = λ t i z. rw i (λ b. asymmetric y x b (r.ordered x y refl refl), λ b. irreflexive y b);
+    tie_left = λ t i z. rw i (λ b. before_irrefl x b, λ b. before_not y x b (r.ordered x y refl refl));
+    tie_right = λ t i z. rw i (λ b. before_not y x b (r.ordered x y refl refl), λ b. before_irrefl y b);
   };
   depth = (0, 0, (refl, refl), (refl, refl), refl);
 }
-  where
-    irreflexive : (p : Pair) → IsBefore p p → ⊥
-    irreflexive p h = omega (arith, linear)
-
-    asymmetric : (p q : Pair) → IsBefore p q → IsBefore q p → ⊥
-    asymmetric p q h k = omega (arith, linear)
 
 -- at the start m is the first point of w
 pub first_by : (t : Tree) → IsBridged t → (p : Pair) → On t p → IsBefore p (first_of t) → ⊥
-first_by (Leaf x) h p i b = irreflexive x (rw i at b)
-  where
-    irreflexive : (p : Pair) → IsBefore p p → ⊥
-    irreflexive p h = omega (arith, linear)
+first_by (Leaf x) h p i b = before_irrefl x (rw i at b)
 first_by (Fork e f u w) h p (inl i) b = first_by u h.3 p i b
-first_by (Fork e f u w) h p (inr i) b = asymmetric p (first_of u) b (h.0 (first_of u) p (on_first u) i)
-  where
-    asymmetric : (p q : Pair) → IsBefore p q → IsBefore q p → ⊥
-    asymmetric p q h k = omega (arith, linear)
+first_by (Fork e f u w) h p (inr i) b = before_not p (first_of u) b (h.0 (first_of u) p (on_first u) i)
 
 -- the search begins at two halves in order
 pub start : (u w : Tree) → IsBridged u → IsBridged w → IsAllBefore (On u) (On w) → IsReady u w (first_of w)

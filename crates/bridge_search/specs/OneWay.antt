@@ -6,6 +6,7 @@ use lib.Dec.{T_prop}
 use Rattle.lattice.specs.Plane.{Pair, IsBefore}
 use Rattle.lattice.specs.Bridges.{IsAllBefore, IsUpperBridge, IsLowerBridge}
 use Rattle.bridge_search.specs.Trees.{Tree, Leaf, Fork, On, IsBridged}
+use Rattle.lattice.proofs.Order.{before_irrefl}
 use Rattle.lattice.specs.Integers.{linear}
 
 -- a choice of two facts that exclude each other has one proof, where each has one
@@ -47,14 +48,10 @@ upper_prop l r p q pl pr = hlevel (pl, pr, le_prop)
 lower_prop : (l r : Pair → Type 0) (p q : Pair) → ((t : Pair) → IsProp (l t)) → ((t : Pair) → IsProp (r t)) → IsProp (IsLowerBridge l r p q)
 lower_prop l r p q pl pr = hlevel (pl, pr, le_prop)
 
--- no point stands before itself
-irreflexive : (p : Pair) → IsBefore p p → ⊥
-irreflexive p h = omega (arith, linear)
-
 -- a point stands in one place of a half that keeps the law
 pub on_prop : (t : Tree) → IsBridged t → (p : Pair) → IsProp (On t p)
 on_prop (Leaf x) h p = point_set p x
-on_prop (Fork e f u w) h p = either_prop (on_prop u h.3 p) (on_prop w h.4 p) (λ i j. irreflexive p (h.0 p p i j))
+on_prop (Fork e f u w) h p = either_prop (on_prop u h.3 p) (on_prop w h.4 p) (λ i j. before_irrefl p (h.0 p p i j))
 
 -- that a half keeps the law has one proof
 pub IsBridged-prop : (t : Tree) → IsProp (IsBridged t)

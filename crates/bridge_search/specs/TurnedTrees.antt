@@ -1,11 +1,11 @@
 -- A turn by 180 degrees.
-use Rattle.std.specs.Prelude.{◌≡◌, ℤ, pos, neg_ℤ, ◌≤ℤ◌, Option, Some, None}
+use Rattle.std.specs.Prelude.{◌≡◌, pos, neg_ℤ, ◌≤ℤ◌, Option, Some, None}
 use Rattle.std.proofs.Common.{refl, ap, ◌∙◌, arith, inl, inr}
 use Rattle.lattice.specs.Plane.{Pair, orient, IsBefore, turned_point}
 use Rattle.lattice.specs.Bridges.{IsAllBefore, IsUpperBridge, IsLowerBridge, IsNotBeyond}
 use Rattle.bridge_search.specs.Trees.{Tree, Leaf, Fork, On, IsBridged, IsFork, edge_of, lower_of, left_of, right_of, first_of, last_of, height_of}
-use Rattle.lattice.specs.Integers.{linear, ring_laws}
-use lib.IntN.{neg_ℤ-neg_ℤ}
+use Rattle.lattice.specs.Integers.{linear}
+use Rattle.lattice.proofs.TurnedBridges.{turned_twice, orient_turned, before_turned, before_turned_back}
 
 -- an edge turned: its ends turned, in the other order
 abbrev pub turned_pair : Pair × Pair → Pair × Pair
@@ -15,25 +15,6 @@ turned_pair e = (turned_point e.1, turned_point e.0)
 abbrev pub turned_tree : Tree → Tree
 turned_tree (Leaf x) = Leaf (turned_point x)
 turned_tree (Fork e f u w) = Fork (turned_pair f) (turned_pair e) (turned_tree w) (turned_tree u)
-
--- two turns are none
-turned_twice : (p : Pair) → turned_point (turned_point p) ≡ p
-turned_twice p = ap (λ (z : ℤ). let q : Pair = record { x = z; y = neg_ℤ (neg_ℤ p.y) } in q) (neg_ℤ-neg_ℤ p.x) ∙ ap (λ (z : ℤ). let q : Pair = record { x = p.x; y = z } in q) (neg_ℤ-neg_ℤ p.y)
-
--- a turn that takes the ends of a line along keeps the side in size and changes its sign
-pub orient_turned : (p q t : Pair) → orient (turned_point q) (turned_point p) t ≡ neg_ℤ (orient p q (turned_point t))
-unfolding orient
-orient_turned p q t = simp ring_laws (omega (arith, linear))
-
--- a turn reverses the order
-pub before_turned : (p q : Pair) → IsBefore (turned_point q) p → IsBefore (turned_point p) q
-before_turned p q (inl h) = inl (omega (arith, linear))
-before_turned p q (inr h) = inr (omega (arith, linear))
-
--- and so it does from the other side
-pub before_turned_back : (p q : Pair) → IsBefore p (turned_point q) → IsBefore q (turned_point p)
-before_turned_back p q (inl h) = inl (omega (arith, linear))
-before_turned_back p q (inr h) = inr (omega (arith, linear))
 
 -- a point is in the turned half where it is, turned, in the half
 pub on_turned : (t : Tree) (p : Pair) → On (turned_tree t) p → On t (turned_point p)

@@ -8,7 +8,7 @@ use Rattle.lattice.specs.Plane.{Pair, product, IsBefore}
 use Rattle.lattice.specs.Signs.{le_or_lt}
 use Rattle.hull_plain.specs.Farthest.{IsBetter, IsBestOf}
 use Rattle.hull_plain.specs.Tangents.{IsFirstFarthest}
-use Rattle.hull_plain.proofs.Order.{before_trans, before_irrefl}
+use Rattle.lattice.proofs.Order.{before_trans, before_irrefl}
 use Rattle.hull_plain.proofs.PointLists.{get_or_free}
 
 -- in a tie the test is the order

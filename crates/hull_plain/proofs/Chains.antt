@@ -12,7 +12,7 @@ use Rattle.hull_plain.proofs.ChangedSets.{all_without, in_without}
 use Rattle.hull_plain.proofs.CoveredByEdges.{covered_by_edges}
 use Rattle.hull_plain.proofs.NotCovered.{not_covered}
 use Rattle.hull_plain.proofs.OneSided.{ahead_separated, behind_separated}
-use Rattle.hull_plain.proofs.Order.{before_total, before_not, equal_by, before_apart, after_apart}
+use Rattle.lattice.proofs.Order.{before_total, before_not, equal_by, before_apart, after_apart}
 use Rattle.hull_plain.proofs.Orientation.{orient_swap, orient-cycle, at_least}
 use Rattle.hull_plain.proofs.PointLists.{later}
 use Rattle.hull_plain.proofs.Separators.{across, corner_apart}

@@ -4,7 +4,7 @@ use Rattle.std.specs.List.{All, Contains}
 use Rattle.std.proofs.lemmas.List.Elements.{All-contains, All-weaker, All-cons, All-head, All-tail}
 use Rattle.lattice.specs.Covers.{IsPointSet, with_point, without_point}
 use Rattle.lattice.specs.Plane.{Pair, IsBefore}
-use Rattle.hull_plain.proofs.Order.{before_trans, before_irrefl, before_total, is_before-true, is_before-false, before_not}
+use Rattle.lattice.proofs.Order.{before_trans, before_irrefl, before_total, is_before-true, is_before-false, before_not}
 use Rattle.hull_plain.proofs.PointLists.{AllPairs-cons, AllPairs-head, AllPairs-tail, all_append_right, left_part, right_part, get_or_free}
 
 -- p between the points before it and those after it

@@ -9,8 +9,9 @@ use Rattle.lattice.specs.Signs.{product_nn, product_pp}
 use Rattle.lattice.proofs.Vectors.{minus, opp, cross, Ahead, cross-opp_left, cross-opp_right, cross-opp, ahead_nn, turn_trans}
 use Rattle.hull_plain.specs.Edges.{IsLowerEdge, IsUpperEdge}
 use Rattle.hull_plain.specs.Tangents.{IsRightTangent}
-use Rattle.hull_plain.proofs.Order.{before_trans, before_not}
-use Rattle.hull_plain.proofs.Orientation.{orient_back, orient_at_end, at_least, above, zero_nn, ahead_of, behind_of, along}
+use Rattle.lattice.proofs.Order.{before_trans, before_not}
+use Rattle.hull_plain.proofs.Orientation.{orient_at_end, at_least, above, zero_nn, ahead_of, behind_of, along}
+use Rattle.lattice.proofs.LineCrossings.{orient_start}
 use Rattle.hull_plain.proofs.PointLists.{get_or_free}
 
 -- the square of a number above 0
@@ -96,7 +97,7 @@ lower_step L R u v hl hr r prior =
       from = Contains-append_right L (u ∷ R) u (0, omega arith, refl);
       to = Contains-append_right L (u ∷ R) v (suc r.0.0, omega (arith, r.0.1), r.0.2);
       forward = forward;
-      left = All-append P L (u ∷ R) (λ k d l. before_it forward (get_or L k d) (k, l, get_or_free L k _ d l) (hl k d l)) (All-cons P u R (zero_nn _ (orient_back u v)) (λ k d l. (r.1 k d l).0));
+      left = All-append P L (u ∷ R) (λ k d l. before_it forward (get_or L k d) (k, l, get_or_free L k _ d l) (hl k d l)) (All-cons P u R (zero_nn _ (orient_start u v)) (λ k d l. (r.1 k d l).0));
       last = All-append Q L (u ∷ R) (λ k d l e b. before_not u v forward (before_trans v _ u b (hl k d l))) (All-cons Q u R (λ e b. before_not u v forward b) (λ k d l e b. beyond forward _ b e ((r.1 k d l).1 e)));
     }
   where
@@ -120,7 +121,7 @@ upper_step L R u v hl hr r prior =
       from = Contains-append_right L (u ∷ R) u (0, omega arith, refl);
       to = Contains-append_left L (u ∷ R) v r.0;
       backward = backward;
-      left = All-append P L (u ∷ R) (λ k d l. (r.1 k d l).0) (All-cons P u R (zero_nn _ (orient_back u v)) (λ k d l. after_it backward (get_or R k d) (k, l, get_or_free R k _ d l) (hr k d l)));
+      left = All-append P L (u ∷ R) (λ k d l. (r.1 k d l).0) (All-cons P u R (zero_nn _ (orient_start u v)) (λ k d l. after_it backward (get_or R k d) (k, l, get_or_free R k _ d l) (hr k d l)));
       last = All-append Q L (u ∷ R) (λ k d l e b. beyond backward _ b e ((r.1 k d l).1 e)) (All-cons Q u R (λ e b. before_not v u backward b) (λ k d l e b. before_not v u backward (before_trans u _ v (hr k d l) b)));
     }
   where

@@ -9,7 +9,7 @@ use Rattle.lattice.specs.Covers.{IsPointSet, is_before, with_point, without_poin
 use Rattle.lattice.specs.Plane.{Pair, IsBefore}
 use Rattle.hull_plain.specs.Positions.{IsPositionOf}
 use Rattle.hull_plain.proofs.ChangedSets.{set-insert, with_point-at, without_point-at, absent_between}
-use Rattle.hull_plain.proofs.Order.{before_trans, before_irrefl, before_total, is_before-true, is_before-holds, is_before-fails}
+use Rattle.lattice.proofs.Order.{before_trans, before_irrefl, before_total, is_before-true, is_before-holds, is_before-fails}
 use Rattle.hull_plain.proofs.PointLists.{AllPairs-head, AllPairs-tail, get_or_free, cut, cut_at}
 
 -- where the first of a set is not before p, none is

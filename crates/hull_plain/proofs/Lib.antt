@@ -1,4 +1,3 @@
-pub mod Order
 pub mod PointLists
 pub mod ChangedSets
 pub mod FoundPositions

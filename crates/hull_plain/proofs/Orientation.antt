@@ -2,7 +2,7 @@
 use Rattle.std.proofs.Common.{◌≡◌, ℤ, pos, ◌+ℤ◌, ◌-ℤ◌, ◌*ℤ◌, ◌≤ℤ◌, ◌<ℤ◌, neg_ℤ, ◌⊎◌, inl, inr, refl, ap, ◌∙◌, arith}
 use Rattle.std.proofs.lemmas.Int.{ints}
 use Rattle.lattice.specs.Plane.{Pair, orient, product, IsBefore}
-use Rattle.lattice.specs.Polynomials.{difference-eq, as_difference, difference-add, difference-neg, difference-mul, difference-pos}
+use Rattle.lattice.specs.Polynomials.{difference-eq, as_difference, difference-add, difference-neg, difference-mul}
 use Rattle.lattice.specs.Signs.{le_or_lt, product_nn, product_pp, product_np, product_pn}
 use Rattle.lattice.proofs.Vectors.{minus, opp, cross, Ahead, cross_swap, ahead_nn}
 
@@ -16,6 +16,10 @@ pub orient_swap : (q u v : Pair) → orient q u v ≡ neg_ℤ (orient q v u)
 unfolding orient
 orient_swap q u v = cross_swap (minus u q) (minus v q)
 
+-- a point on a line through q: so is the other one on the line through it
+pub orient_swap_zero : (q u v : Pair) → orient q u v ≡ pos 0 → orient q v u ≡ pos 0
+orient_swap_zero q u v e = orient_swap q v u ∙ ap neg_ℤ e
+
 -- the three points turned round keep the side
 pub orient-cycle : (a b q : Pair) → orient a b q ≡ orient q a b
 unfolding orient
@@ -25,11 +29,6 @@ orient-cycle a b q = rw (as_difference a.x, as_difference a.y, as_difference b.x
 pub orient-sum : (a b c q : Pair) → orient a b c ≡ orient q b c +ℤ orient q c a +ℤ orient q a b
 unfolding orient
 orient-sum a b c q = rw (as_difference a.x, as_difference a.y, as_difference b.x, as_difference b.y, as_difference c.x, as_difference c.y, as_difference q.x, as_difference q.y) (simp (difference-add, difference-neg, difference-mul) (difference-eq _ _ _ _ (omega arith)))
-
--- a line passes through its own start
-pub orient_back : (u v : Pair) → orient u v u ≡ pos 0
-unfolding orient
-orient_back u v = rw (as_difference u.x, as_difference u.y, as_difference v.x, as_difference v.y) (simp (difference-add, difference-neg, difference-mul) (difference-pos _ _ 0 (omega arith)))
 
 -- the cross product of the steps from u to v and from v to t
 pub orient_at_end : (u v t : Pair) → cross (minus v u) (minus t v) ≡ orient u v t

@@ -12,7 +12,7 @@ use Rattle.hull_plain.specs.Seen.{IsRound, joined, IsPlaceBy}
 use Rattle.hull_plain.specs.Tangents.{IsLeftTangent, IsRightTangent}
 use Rattle.hull_plain.proofs.NotCovered.{not_covered}
 use Rattle.hull_plain.proofs.OneSided.{ahead_separated, behind_separated}
-use Rattle.hull_plain.proofs.Order.{before_irrefl, before_not}
+use Rattle.lattice.proofs.Order.{before_irrefl, before_not}
 use Rattle.hull_plain.proofs.PointLists.{append_none}
 use Rattle.hull_plain.proofs.Rounds.{round_covered, round_inside, round_above, round_below, round_on_low, round_on_high, tangents_above, tangents_below}
 use Rattle.hull_plain.specs.declared.set.Place.{Place}

@@ -12,8 +12,9 @@ use Rattle.hull_plain.specs.Positions.{origin, point_at}
 use Rattle.hull_plain.specs.Walks.{IsLowerWalk, IsUpperWalk, IsLowerOutline, IsLowerFan, IsUpperFan}
 use Rattle.hull_plain.proofs.ChainWalks.{same_point}
 use Rattle.hull_plain.proofs.Chains.{first_extreme}
-use Rattle.hull_plain.proofs.Order.{before_irrefl, before_not, after_apart}
-use Rattle.hull_plain.proofs.Orientation.{orient-cycle, orient_back, at_least, zero_nn}
+use Rattle.lattice.proofs.Order.{before_irrefl, before_not, after_apart}
+use Rattle.hull_plain.proofs.Orientation.{orient-cycle, at_least, zero_nn}
+use Rattle.lattice.proofs.LineCrossings.{orient_start}
 use Rattle.hull_plain.proofs.PointLists.{AllPairs-cons, AllPairs-none, get_or_free, append_none, append_twice}
 use Rattle.hull_plain.proofs.VertexLists.{chain_push, end_push, vertex_list}
 
@@ -85,7 +86,7 @@ fan-append f u (x ∷ xs) ys = let e = fan-append f x xs ys in omega (arith, int
 fan-back : (f u : Pair) (xs : List Pair) → fan f u (xs ++ f ∷ []) ≡ fan f u xs
 fan-back f u xs =
     let e = fan-append f u xs (f ∷ []) in
-    let z : orient f (end_of u xs) f ≡ pos 0 = orient_back f (end_of u xs) in
+    let z : orient f (end_of u xs) f ≡ pos 0 = orient_start f (end_of u xs) in
     omega (arith, ints)
 
 -- one more point of a walk
@@ -181,7 +182,7 @@ small_list [] l = record {
 small_list (v ∷ []) l = record {
   distinct = λ i j d h k. absurd (omega (arith, h, k));
   members = λ p. ((λ m. alone_extreme v p m), λ x. x.0);
-  order = (All-cons (λ t. pos 0 ≤ℤ orient v v t) v [] (zero_nn _ (orient_back v v)) (λ k d h. absurd (omega (arith, h))), λ k d h. absurd (omega (arith, h)));
+  order = (All-cons (λ t. pos 0 ≤ℤ orient v v t) v [] (zero_nn _ (orient_start v v)) (λ k d h. absurd (omega (arith, h))), λ k d h. absurd (omega (arith, h)));
 }
 small_list (v ∷ w ∷ vs) l = absurd (omega (arith, l))
 

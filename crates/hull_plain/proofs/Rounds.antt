@@ -10,7 +10,8 @@ use Rattle.hull_plain.specs.Seen.{IsRound}
 use Rattle.hull_plain.specs.Tangents.{IsLeftTangent, IsRightTangent}
 use Rattle.hull_plain.proofs.CoveredByEdges.{covered_by_edges}
 use Rattle.hull_plain.proofs.NotCovered.{Separated}
-use Rattle.hull_plain.proofs.Orientation.{orient_swap, orient_back, zero_nn}
+use Rattle.hull_plain.proofs.Orientation.{orient_swap, zero_nn}
+use Rattle.lattice.proofs.LineCrossings.{orient_start}
 use Rattle.hull_plain.proofs.Separators.{separated_by_wedge, above_ahead, above_behind, below_ahead, below_behind, above_ahead_left, above_behind_right, below_ahead_right, below_behind_left, upper_side, lower_side, on_by_side}
 use Rattle.hull_plain.proofs.Surrounded.{not_on}
 
@@ -53,7 +54,7 @@ module _ {q : Pair} {L R : List Pair} {a b c d : Pair} (r : IsRound q L R a b c 
       (λ k e l. below_ahead q c d _ c_after d_before (r.all_ahead k e l) (flip_below c d h) (flip c _ (r.highest_ahead.1 k e l).0)))
 
   self : (u : Pair) → pos 0 ≤ℤ orient q u q
-  self u = zero_nn _ (orient_back q u)
+  self u = zero_nn _ (orient_start q u)
 
   pub round_on_low : (M : List Pair) → All (λ t. t ≡ q) M → orient q a b ≤ℤ pos 0 → IsOuter (L ++ (M ++ R)) q
   round_on_low M m h =

@@ -1,11 +1,11 @@
 -- Points on one side of q are in order by the angle at which q sees them.
-use Rattle.std.proofs.Common.{◌≡◌, ℤ, pos, ◌≤ℤ◌, ◌<ℤ◌, neg_ℤ, ◌⊎◌, inl, inr, sym, ap, ◌∙◌, arith}
+use Rattle.std.proofs.Common.{◌≡◌, ℤ, pos, ◌≤ℤ◌, ◌<ℤ◌, neg_ℤ, ◌⊎◌, inl, inr, sym, arith}
 use Rattle.std.proofs.lemmas.Int.{ints}
 use Rattle.lattice.specs.Plane.{Pair, orient, IsBefore}
 use Rattle.lattice.specs.Signs.{le_or_lt}
 use Rattle.lattice.proofs.Vectors.{minus, opp, cross-opp, turn_trans}
 use Rattle.hull_plain.specs.Seen.{IsMoreRight, IsMoreLeft}
-use Rattle.hull_plain.proofs.Orientation.{orient_swap, at_least, zero_nn, ahead_of, behind_of}
+use Rattle.hull_plain.proofs.Orientation.{orient_swap, orient_swap_zero, at_least, zero_nn, ahead_of, behind_of}
 
 -- three points stand after q, or all of them before
 abbrev pub OneSide : Pair → Pair → Pair → Pair → Type 0
@@ -38,10 +38,6 @@ nn : (q u v : Pair) → IsMoreRight q u v → pos 0 ≤ℤ orient q u v
 nn q u v (inl h) = omega (arith, ints)
 nn q u v (inr h) = omega (arith, ints, h.0)
 
--- three points in line
-flip_zero : (q u v : Pair) → orient q u v ≡ pos 0 → orient q v u ≡ pos 0
-flip_zero q u v e = orient_swap q v u ∙ ap neg_ℤ e
-
 -- a number not below 0 whose negative is not
 squeeze_zero : (x : ℤ) → pos 0 ≤ℤ x → pos 0 ≤ℤ neg_ℤ x → x ≡ pos 0
 squeeze_zero x h k = omega (arith, ints)
@@ -50,7 +46,7 @@ squeeze_zero x h k = omega (arith, ints)
 pub right_trans : (q u v w : Pair) → OneSide q u v w → IsMoreRight q u v → IsMoreRight q v w → IsMoreRight q u w
 right_trans q u v w o (inr h) (inr k) =
     let a : pos 0 ≤ℤ orient q u w = side_trans q u v w o (zero_nn _ h.0) (zero_nn _ k.0) in
-    let b : pos 0 ≤ℤ orient q w u = side_trans q w v u (side_reverse q u v w o) (zero_nn _ (flip_zero q v w k.0)) (zero_nn _ (flip_zero q u v h.0)) in
+    let b : pos 0 ≤ℤ orient q w u = side_trans q w v u (side_reverse q u v w o) (zero_nn _ (orient_swap_zero q v w k.0)) (zero_nn _ (orient_swap_zero q u v h.0)) in
     inr (squeeze_zero _ a (at_least _ _ (orient_swap q w u) b), omega (arith, ints, h.1, k.1))
 right_trans q u v w o (inl h) k =
     -- else w is left of ... u, and v left of u by way of w
@@ -67,7 +63,7 @@ nn_left q u v (inr h) = omega (arith, ints, h.0)
 pub left_trans : (q u v w : Pair) → OneSide q u v w → IsMoreLeft q u v → IsMoreLeft q v w → IsMoreLeft q u w
 left_trans q u v w o (inr h) (inr k) =
     let a : pos 0 ≤ℤ orient q w u = side_trans q w v u (side_reverse q u v w o) (zero_nn _ k.0) (zero_nn _ h.0) in
-    let b : pos 0 ≤ℤ orient q u w = side_trans q u v w o (zero_nn _ (flip_zero q v u h.0)) (zero_nn _ (flip_zero q w v k.0)) in
+    let b : pos 0 ≤ℤ orient q u w = side_trans q u v w o (zero_nn _ (orient_swap_zero q v u h.0)) (zero_nn _ (orient_swap_zero q w v k.0)) in
     inr (squeeze_zero _ a (at_least _ _ (orient_swap q u w) b), omega (arith, ints, h.1, k.1))
 left_trans q u v w o (inl h) k =
     inl (strict q w u (λ m. let z : pos 0 ≤ℤ orient q u v = side_trans q u w v (side_reverse q v w u (side_rotate q u v w o)) m (nn_left q v w k) in let e = orient_swap q v u in omega (arith, ints)))

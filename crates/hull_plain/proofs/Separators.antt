@@ -10,7 +10,7 @@ use Rattle.lattice.specs.Signs.{le_or_lt, cancel_zero}
 use Rattle.lattice.specs.Vertices.{IsLeftOf}
 use Rattle.lattice.proofs.Vectors.{minus, opp, cross-opp_left, cross-opp_right, cross-opp, turn_trans, turn_trans_strict, turn_trans_strict_right}
 use Rattle.hull_plain.proofs.NotCovered.{Separated}
-use Rattle.hull_plain.proofs.Order.{couple}
+use Rattle.lattice.proofs.Order.{couple}
 use Rattle.hull_plain.proofs.Orientation.{product-minus, at_least, above, ahead_of, behind_of}
 
 -- a difference above 0

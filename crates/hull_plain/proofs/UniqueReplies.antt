@@ -11,7 +11,7 @@ use Rattle.hull_plain.specs.Replies.{AnswersAdd, AnswersRemove, AnswersExtreme, 
 use Rattle.hull_plain.specs.Tangents.{IsFirstFarthest, IsLeftTangent, IsRightTangent}
 use Rattle.hull_plain.proofs.CoveredByEdges.{on_segment}
 use Rattle.hull_plain.proofs.EdgeSteps.{past_farther, past_farther_back}
-use Rattle.hull_plain.proofs.Order.{before_total, equal_by}
+use Rattle.lattice.proofs.Order.{before_total, equal_by}
 use Rattle.hull_plain.proofs.Orientation.{orient_swap}
 use Rattle.hull_plain.proofs.UniqueVertices.{vertex_list_unique, doubled_area_unique}
 use Rattle.hull_plain.specs.declared.call.Call.{Call}
@@ -147,7 +147,7 @@ remove_unique S p Absent s a b = absent S p s a b
 remove_unique S p _ s a b = absurd a
 
 -- the empty list has no member
-no_member : (S : List Pair) (t : Pair) → S ≡ [] → Contains S t → ⊥
+pub no_member : (S : List Pair) (t : Pair) → S ≡ [] → Contains S t → ⊥
 no_member S t e m = let n : length S ≡ 0 = ap (λ (z : List Pair). length z) e in absurd (omega (arith, m.1))
 
 -- `extreme d` of a set with points

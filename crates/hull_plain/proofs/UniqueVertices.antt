@@ -5,7 +5,7 @@ use Rattle.std.proofs.lemmas.List.Elements.{All-tail}
 use Rattle.lattice.specs.Covers.{IsExtreme}
 use Rattle.lattice.specs.Plane.{Pair, IsBefore}
 use Rattle.lattice.specs.Vertices.{IsVertexList, doubled_area, IsDoubledArea}
-use Rattle.hull_plain.proofs.Order.{before_irrefl, before_not, equal_by}
+use Rattle.lattice.proofs.Order.{before_irrefl, before_not, equal_by}
 use Rattle.hull_plain.proofs.PointLists.{get_or_free}
 use Rattle.hull_plain.proofs.VertexOrder.{next_same, IsArc, same_arc}
 

@@ -7,7 +7,7 @@ use Rattle.lattice.specs.Plane.{Pair, IsBefore}
 use Rattle.lattice.specs.Vertices.{GoesRound, IsVertexList}
 use Rattle.hull_plain.specs.Edges.{IsLowerEdge, IsUpperEdge, IsChain, end_of, IsFirst, IsLast}
 use Rattle.hull_plain.proofs.Chains.{extreme_on_chain, lower_extreme, upper_extreme, no_common_corner}
-use Rattle.hull_plain.proofs.Order.{before_trans, before_apart, after_apart}
+use Rattle.lattice.proofs.Order.{before_trans, before_apart, after_apart}
 use Rattle.hull_plain.proofs.PointLists.{all_append_right, left_part}
 
 -- one more edge at the end of a chain

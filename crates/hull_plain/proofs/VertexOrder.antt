@@ -8,17 +8,13 @@ use Rattle.lattice.specs.Plane.{Pair, orient, IsBefore}
 use Rattle.lattice.specs.Vertices.{IsLeftOf, GoesRound}
 use Rattle.hull_plain.proofs.ChangedSets.{in_without}
 use Rattle.hull_plain.proofs.CoveredByEdges.{on_segment}
-use Rattle.hull_plain.proofs.Order.{before_irrefl, before_total}
-use Rattle.hull_plain.proofs.Orientation.{orient_swap, orient-cycle}
+use Rattle.lattice.proofs.Order.{before_irrefl, before_total}
+use Rattle.hull_plain.proofs.Orientation.{orient_swap, orient_swap_zero, orient-cycle}
 
 -- no extreme point stands between two others on their line
 not_between : (S : List Pair) (a x b : Pair) → IsExtreme S a → IsExtreme S x → IsExtreme S b → orient x a b ≡ pos 0 → IsBefore a x → IsBefore x b → ⊥
 not_between S a x b ea ex eb z h k =
     ex.1 (OnSegment a b (in_without x a S (λ e. before_irrefl x (subst (λ (y : Pair). IsBefore y x) e h)) ea.0) (in_without x b S (λ e. before_irrefl x (subst (IsBefore x) e k)) eb.0) (on_segment a b x h k z))
-
--- three points in line
-swap_zero : (q u v : Pair) → orient q u v ≡ pos 0 → orient q v u ≡ pos 0
-swap_zero q u v e = orient_swap q v u ∙ ap neg_ℤ e
 
 -- three extreme points do not stand in one line
 pub not_in_line : (S : List Pair) (u v w : Pair) → IsExtreme S u → IsExtreme S v → IsExtreme S w → u ≢ v → u ≢ w → v ≢ w → orient u v w ≡ pos 0 → ⊥
@@ -29,11 +25,11 @@ not_in_line S u v w eu ev ew uv uw vw z =
       | inr (inl e) ↦ uv e
       | inl a ↦ elim (before_total v w) [
         | inr (inl e) ↦ vw e
-        | inl b ↦ not_between S u v w eu ev ew (swap_zero v w u zv) a b
+        | inl b ↦ not_between S u v w eu ev ew (orient_swap_zero v w u zv) a b
         | inr (inr b) ↦ elim (before_total u w) [
           | inr (inl e) ↦ uw e
           | inl c ↦ not_between S u w v eu ew ev zw c b
-          | inr (inr c) ↦ not_between S w u v ew eu ev (swap_zero u v w z) c a
+          | inr (inr c) ↦ not_between S w u v ew eu ev (orient_swap_zero u v w z) c a
         ]
       ]
       | inr (inr a) ↦ elim (before_total u w) [
@@ -41,7 +37,7 @@ not_in_line S u v w eu ev ew uv uw vw z =
         | inl b ↦ not_between S v u w ev eu ew z a b
         | inr (inr b) ↦ elim (before_total v w) [
           | inr (inl e) ↦ vw e
-          | inl c ↦ not_between S v w u ev ew eu (swap_zero w u v zw) c b
+          | inl c ↦ not_between S v w u ev ew eu (orient_swap_zero w u v zw) c b
           | inr (inr c) ↦ not_between S w v u ew ev eu zv c a
         ]
       ]

@@ -12,9 +12,9 @@ use Rattle.bridge_search.proofs.Ends.{last_by}
 use Rattle.bridge_search.proofs.Leaves.{all_of, on_of_contains, contains_of_on}
 use Rattle.bridge_search.proofs.Turns.{first_by}
 use Rattle.hull_plain.specs.Edges.{IsLowerEdge, IsUpperEdge}
-use Rattle.hull_plain.proofs.Order.{before_trans, before_total}
-use Rattle.hull_plain.proofs.Orientation.{orient_swap, at_least, above, ahead_of}
-use Rattle.hull_questions.proofs.Sides.{side_by_start, side_by_end, side_before, side_after, side_to_end, side_from_start, side_back, side_beyond, sum_above, weak}
+use Rattle.lattice.proofs.Order.{before_trans, before_total}
+use Rattle.hull_plain.proofs.Orientation.{orient-cross, orient_swap, at_least, above, ahead_of}
+use Rattle.hull_questions.proofs.Sides.{side_by_start, side_by_end, side_before, side_after, side_to_end, side_back, side_beyond, sum_above, weak}
 use Rattle.hull_questions.proofs.StoredEdges.{same_ends}
 use Rattle.hull_questions.specs.Parts.{IsPartFor}
 use Rattle.hull_questions.specs.Chains.{IsBeforeEnd, IsLowerEdgeAt, IsUpperEdgeAt, IsLowerCorner, IsUpperCorner}
@@ -24,8 +24,8 @@ over_from_left : (a b c d t : Pair) → IsBefore a b → IsBefore c d → IsBefo
 over_from_left a b c d t ab cd ca at da bc bt =
     let hA : Ahead (minus a c) = ahead_of c a ca in
     let hT : Ahead (minus t a) = ahead_of a t at in
-    let low : pos 0 ≤ℤ cross (minus d c) (minus a c) = at_least _ _ (side_from_start c d a) da in
-    let mid : pos 0 <ℤ cross (minus a c) (minus t a) = turn_trans_strict (minus a c) (minus b a) (minus t a) hA (ahead_of a b ab) hT (above _ _ (side_before a b c) bc) (at_least _ _ (side_from_start a b t) bt) in
+    let low : pos 0 ≤ℤ cross (minus d c) (minus a c) = at_least _ _ (orient-cross c d a) da in
+    let mid : pos 0 <ℤ cross (minus a c) (minus t a) = turn_trans_strict (minus a c) (minus b a) (minus t a) hA (ahead_of a b ab) hT (above _ _ (side_before a b c) bc) (at_least _ _ (orient-cross a b t) bt) in
     sum_above _ _ _ (side_by_start c d a t) low (turn_trans_strict_right (minus d c) (minus a c) (minus t a) (ahead_of c d cd) hA hT low mid)
 
 -- an edge cd that ends after b, where the edge ab is less steep: what lies over ab, before b, lies over cd

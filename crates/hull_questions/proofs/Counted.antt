@@ -5,7 +5,7 @@ use Rattle.std.proofs.lemmas.Bool.{false≢true}
 use Rattle.lattice.specs.Covers.{is_before}
 use Rattle.lattice.specs.Plane.{Pair}
 use Rattle.hull_plain.specs.Edges.{IsLowerEdge, IsUpperEdge}
-use Rattle.hull_plain.proofs.Order.{before_trans, before_irrefl, is_before-true, is_before-false, is_before-holds}
+use Rattle.lattice.proofs.Order.{before_trans, before_irrefl, is_before-true, is_before-false, is_before-holds}
 
 -- how many points of a list pass a test
 abbrev pub count_of : (Pair → Bool) → List Pair → ℕ

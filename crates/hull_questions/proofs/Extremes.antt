@@ -13,7 +13,7 @@ use Rattle.bridge_search.specs.Trees.{Tree, Leaf, Fork, On, IsBridged, IsFork, e
 use Rattle.bridge_search.specs.Leaves.{points_of}
 use Rattle.bridge_search.proofs.Leaves.{all_of, on_of_contains, contains_of_on}
 use Rattle.hull_plain.specs.Tangents.{IsFirstFarthest}
-use Rattle.hull_plain.proofs.Order.{before_not, before_irrefl}
+use Rattle.lattice.proofs.Order.{before_not, before_irrefl}
 use Rattle.hull_plain.proofs.Orientation.{ahead_of}
 use Rattle.hull_questions.proofs.StoredEdges.{same_ends}
 use Rattle.hull_questions.specs.Parts.{IsFacing, IsFartherPart}

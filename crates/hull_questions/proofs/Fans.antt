@@ -6,8 +6,8 @@ use Rattle.lattice.specs.Vertices.{fan, IsDoubledArea}
 use Rattle.bridge_search.specs.Trees.{Tree, IsBridged, first_of, last_of}
 use Rattle.bridge_search.specs.Leaves.{points_of}
 use Rattle.hull_plain.specs.Edges.{IsLowerEdge, IsUpperEdge, IsChain, end_of}
-use Rattle.hull_plain.proofs.Order.{before_irrefl}
-use Rattle.hull_plain.proofs.Orientation.{orient_back}
+use Rattle.lattice.proofs.Order.{before_irrefl}
+use Rattle.lattice.proofs.LineCrossings.{orient_start}
 use Rattle.hull_plain.proofs.Rounding.{fan-push}
 use Rattle.hull_questions.specs.Walks.{IsLowerFan, IsUpperFan}
 use Rattle.hull_questions.proofs.Walked.{walk_none, walk_more, vertices_alone, round}
@@ -50,7 +50,7 @@ fans_in_row f u (x ∷ xs) ys = let e = fans_in_row f x xs ys in omega (arith, i
 
 -- a step back to the corner of the fan adds nothing
 fan_back : (f u : Pair) (xs : List Pair) → fan f u (xs ++ f ∷ []) ≡ fan f u xs
-fan_back f u xs = let e = fan-push f u f xs in let z : orient f (end_of u xs) f ≡ pos 0 = orient_back f (end_of u xs) in omega (arith, ints)
+fan_back f u xs = let e = fan-push f u f xs in let z : orient f (end_of u xs) f ≡ pos 0 = orient_start f (end_of u xs) in omega (arith, ints)
 
 -- the doubled area is the sum of the two fans
 pub fans_sum : (t : Tree) (m n : ℕ) → IsBridged t → IsBefore (first_of t) (last_of t) → IsLowerFan t (last_of t) m → IsUpperFan t (first_of t) n → IsDoubledArea (points_of t) (pos (m + n))

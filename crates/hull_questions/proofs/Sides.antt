@@ -1,5 +1,5 @@
 -- The side of a point as seen along a line, by the steps between the points.
-use Rattle.std.proofs.Common.{◌≡◌, ℤ, pos, ◌+ℤ◌, ◌-ℤ◌, ◌≤ℤ◌, ◌<ℤ◌, refl, arith}
+use Rattle.std.proofs.Common.{◌≡◌, ℤ, pos, ◌+ℤ◌, ◌-ℤ◌, ◌≤ℤ◌, ◌<ℤ◌, arith}
 use Rattle.std.proofs.lemmas.Int.{ints}
 use Rattle.lattice.specs.Plane.{Pair, orient}
 use Rattle.lattice.specs.Polynomials.{difference-eq, as_difference, difference-add, difference-neg, difference-mul}
@@ -29,11 +29,6 @@ side_after a b d = rw (as_difference a.x, as_difference a.y, as_difference b.x, 
 pub side_to_end : (a b t : Pair) → orient a b t ≡ cross (minus b t) (minus b a)
 unfolding orient
 side_to_end a b t = rw (as_difference a.x, as_difference a.y, as_difference b.x, as_difference b.y, as_difference t.x, as_difference t.y) (simp (difference-add, difference-neg, difference-mul) (difference-eq _ _ _ _ (omega arith)))
-
--- the side of a point, by the step from the start
-pub side_from_start : (a b t : Pair) → orient a b t ≡ cross (minus b a) (minus t a)
-unfolding orient
-side_from_start a b t = refl
 
 -- the side of a point after the start of a line that goes back, by the step to its end
 pub side_back : (u v c : Pair) → orient u v c ≡ cross (minus c v) (minus u v)

@@ -14,8 +14,8 @@ use Rattle.bridge_search.proofs.Turns.{first_by, on_first}
 use Rattle.hull_plain.proofs.EdgePlaces.{right_outside, on_line_outer, between_covered, between_inside}
 use Rattle.hull_plain.proofs.NotCovered.{not_covered}
 use Rattle.hull_plain.proofs.OneSided.{ahead_separated, behind_separated}
-use Rattle.hull_plain.proofs.Order.{before_total, before_trans, equal_by}
-use Rattle.hull_plain.proofs.Orientation.{orient_back}
+use Rattle.lattice.proofs.Order.{before_total, before_trans, equal_by}
+use Rattle.lattice.proofs.LineCrossings.{orient_start}
 use Rattle.hull_plain.proofs.Placings.{outer_first, outer_last}
 use Rattle.hull_questions.specs.Chains.{IsLowerEdgeAt, IsUpperEdgeAt}
 use Rattle.hull_questions.specs.Sights.{IsBetweenEnds, IsBelowEdge, IsAboveEdge, IsSeen, IsSightBy}
@@ -78,7 +78,7 @@ zero_of x h k = omega (arith, ints)
 
 -- a line has its own start on it
 not_start : (c d q : Pair) → c ≡ q → pos 0 <ℤ orient c d q → ⊥
-not_start c d q e h = let z : orient c d q ≡ pos 0 = ap (orient c d) (sym e) ∙ orient_back c d in omega (arith, ints)
+not_start c d q e h = let z : orient c d q ≡ pos 0 = ap (orient c d) (sym e) ∙ orient_start c d in omega (arith, ints)
 
 -- on the inner side of both edges at q, or on them: covered
 covered_at : (S : List Pair) (q : Pair) (e f : Pair × Pair) → IsLowerEdgeAt S q e → IsUpperEdgeAt S q f → pos 0 ≤ℤ orient e.0 e.1 q → pos 0 ≤ℤ orient f.0 f.1 q → Covers S q

@@ -5,7 +5,7 @@ use Rattle.lattice.specs.Plane.{Pair, orient, IsBefore}
 use Rattle.lattice.specs.Bridges.{IsNotBeyond}
 use Rattle.lattice.proofs.LineCrossings.{orient_start, orient_end}
 use Rattle.bridge_search.specs.Trees.{IsBridged}
-use Rattle.hull_plain.proofs.Order.{before_irrefl, before_not}
+use Rattle.lattice.proofs.Order.{before_irrefl, before_not}
 use Rattle.hull_questions.specs.Shapes.{small_tree}
 
 -- two points in order are a half that keeps the law

@@ -15,14 +15,14 @@ use Rattle.bridge_search.proofs.Turns.{first_by, on_first}
 use Rattle.hull_plain.specs.Seen.{IsMoreRight, IsMoreLeft}
 use Rattle.hull_plain.specs.Tangents.{IsLeftTangent, IsRightTangent}
 use Rattle.hull_plain.proofs.EdgeSteps.{past_farther, past_farther_back}
-use Rattle.hull_plain.proofs.Order.{before_total, before_trans}
-use Rattle.hull_plain.proofs.Orientation.{orient_swap, orient-cycle, at_least, above, ahead_of}
+use Rattle.lattice.proofs.Order.{before_total, before_trans}
+use Rattle.hull_plain.proofs.Orientation.{orient-cross, orient_swap, orient-cycle, at_least, above, ahead_of}
 use Rattle.hull_plain.proofs.SameSide.{left_trans, right_trans}
 use Rattle.hull_plain.proofs.Sightings.{left_tangent, right_tangent, left_irrefl, right_irrefl}
 use Rattle.hull_questions.proofs.StoredEdges.{same_ends}
 use Rattle.hull_questions.specs.Parts.{IsLeftPart, IsRightPart}
 use Rattle.hull_questions.specs.Sights.{IsBelow}
-use Rattle.hull_questions.proofs.Sides.{side_before, side_after, side_to_end, side_from_start}
+use Rattle.hull_questions.proofs.Sides.{side_before, side_after, side_to_end}
 
 -- ---- the order in which q sees the points that lie above it
 
@@ -129,9 +129,9 @@ start_left S q a b t h ma mt ab at aq over under =
     elim (side_of S q t h mt) [
       | inr k ↦ more_left S q a t h ma mt aq k
       | inl k ↦
-          let x : pos 0 ≤ℤ cross (minus q a) (minus b a) = flip_nn _ _ (cross_swap (minus q a) (minus b a)) (subst (λ (z : ℤ). z ≤ℤ pos 0) (side_from_start a b q) under) in
-          let y : pos 0 ≤ℤ cross (minus q a) (minus t a) = turn_trans (minus q a) (minus b a) (minus t a) (ahead_of a q aq) (ahead_of a b ab) (ahead_of a t at) x (at_least _ _ (side_from_start a b t) over) in
-          let z : pos 0 ≤ℤ orient q t a = at_least _ _ (sym (side_from_start a q t) ∙ orient-cycle a q t ∙ orient-cycle t a q) y in
+          let x : pos 0 ≤ℤ cross (minus q a) (minus b a) = flip_nn _ _ (cross_swap (minus q a) (minus b a)) (subst (λ (z : ℤ). z ≤ℤ pos 0) (orient-cross a b q) under) in
+          let y : pos 0 ≤ℤ cross (minus q a) (minus t a) = turn_trans (minus q a) (minus b a) (minus t a) (ahead_of a q aq) (ahead_of a b ab) (ahead_of a t at) x (at_least _ _ (orient-cross a b t) over) in
+          let z : pos 0 ≤ℤ orient q t a = at_least _ _ (sym (orient-cross a q t) ∙ orient-cycle a q t ∙ orient-cycle t a q) y in
           elim (above_or_zero _ z) [ inl g ↦ inl g | inr e ↦ inr (e, past_farther_back q t a k at e) ]
     ]
 
@@ -157,7 +157,7 @@ end_right S q a b t h mb mt ab tb qb over under =
 start_right : (S : List Pair) (q a b t : Pair) → IsBefore a b → IsBefore a t → IsBefore q a → pos 0 ≤ℤ orient a b t → pos 0 <ℤ orient a b q → IsMoreRight q a t
 start_right S q a b t ab at qa over left =
     inl (above _ _ (sym (side_after q a t))
-    (turn_trans_strict (minus a q) (minus b a) (minus t a) (ahead_of q a qa) (ahead_of a b ab) (ahead_of a t at) (above _ _ (side_before a b q) left) (at_least _ _ (side_from_start a b t) over)))
+    (turn_trans_strict (minus a q) (minus b a) (minus t a) (ahead_of q a qa) (ahead_of a b ab) (ahead_of a t at) (above _ _ (side_before a b q) left) (at_least _ _ (orient-cross a b t) over)))
 
 -- ---- one step down
 

@@ -6,7 +6,8 @@ use Rattle.std.proofs.lemmas.List.Elements.{All-contains, All-weaker}
 use Rattle.lattice.specs.Plane.{Pair, orient, IsBefore, turned_point}
 use Rattle.lattice.specs.Polynomials.{difference-eq, as_difference, difference-add, difference-neg, difference-mul}
 use Rattle.bridge_search.specs.Trees.{Tree, first_of, last_of}
-use Rattle.bridge_search.specs.TurnedTrees.{turned_tree, turned_on, on_turned, before_turned_back, first_turned, last_turned}
+use Rattle.lattice.proofs.TurnedBridges.{before_turned_back}
+use Rattle.bridge_search.specs.TurnedTrees.{turned_tree, turned_on, on_turned, first_turned, last_turned}
 use Rattle.bridge_search.specs.Leaves.{points_of}
 use Rattle.bridge_search.proofs.Leaves.{all_of, on_of_contains, contains_of_on}
 use Rattle.hull_plain.proofs.Orientation.{at_least}

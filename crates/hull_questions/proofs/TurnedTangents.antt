@@ -6,10 +6,10 @@ use Rattle.std.proofs.lemmas.List.Elements.{All-weaker}
 use Rattle.lattice.specs.Plane.{Pair, orient, distance_squared, IsBefore, turned_point}
 use Rattle.lattice.specs.Polynomials.{difference-eq, as_difference, difference-add, difference-neg, difference-mul}
 use Rattle.bridge_search.specs.Trees.{Tree, first_of, last_of}
-use Rattle.bridge_search.specs.TurnedTrees.{turned_tree, before_turned_back, first_turned, last_turned}
+use Rattle.lattice.proofs.TurnedBridges.{turned_twice, before_turned_back}
+use Rattle.bridge_search.specs.TurnedTrees.{turned_tree, first_turned, last_turned}
 use Rattle.bridge_search.specs.Leaves.{points_of}
 use Rattle.hull_plain.specs.Tangents.{IsLeftTangent, IsRightTangent}
-use Rattle.hull_plain.proofs.Order.{same_pair}
 use Rattle.hull_questions.specs.Sights.{IsBelow, IsAbove}
 use Rattle.hull_questions.proofs.TurnedEdges.{turned_side, turned_all, turned_member, turned_order, turned_before}
 
@@ -28,10 +28,6 @@ far_turned_back : (q l : Pair) → distance_squared (turned_point q) l ≡ dista
 unfolding distance_squared
 far_turned_back q l = rw (as_difference q.x, as_difference q.y, as_difference l.x, as_difference l.y) (simp (difference-add, difference-neg, difference-mul) (difference-eq _ _ _ _ (omega arith)))
 
--- two turns are none
-twice : (p : Pair) → turned_point (turned_point p) ≡ p
-twice p = same_pair (turned_point (turned_point p)) p (omega (arith, ints)) (omega (arith, ints))
-
 -- a line from its other end: the other side
 other_end : (s r t : Pair) → orient s r t ≡ neg_ℤ (orient r s t)
 unfolding orient
@@ -40,7 +36,7 @@ other_end s r t = rw (as_difference s.x, as_difference s.y, as_difference r.x, a
 -- above the half is, turned, below the turned half
 pub below_turned : (t : Tree) (q : Pair) → IsAbove (points_of t) q → IsBelow (points_of (turned_tree t)) (turned_point q)
 below_turned t q h = record {
-  absent = λ m. h.absent (subst (Contains (points_of t)) (twice q) (turned_member t (turned_point q) m));
+  absent = λ m. h.absent (subst (Contains (points_of t)) (turned_twice q) (turned_member t (turned_point q) m));
   under = λ s r m n b k.
       let a : pos 0 <ℤ orient (turned_point r) (turned_point s) q = h.over (turned_point r) (turned_point s) (turned_member t r n) (turned_member t s m) (turned_before q r k) (before_turned_back s q b) in
       negative _ _ _ (other_end s r (turned_point q)) (turned_side r s q) a;

@@ -6,7 +6,7 @@ use Rattle.std.proofs.lemmas.List.Elements.{All-contains}
 use Rattle.lattice.specs.Plane.{Pair, orient, IsBefore}
 use Rattle.lattice.specs.Polynomials.{difference-eq, as_difference, difference-add, difference-neg, difference-mul}
 use Rattle.lattice.proofs.Vectors.{minus, cross, cross_swap, turn_trans_strict}
-use Rattle.hull_plain.proofs.Order.{before_irrefl, before_not}
+use Rattle.lattice.proofs.Order.{before_irrefl, before_not}
 use Rattle.hull_plain.proofs.Orientation.{orient_swap, ahead_of}
 use Rattle.hull_questions.specs.Sights.{IsBelow, IsAbove, IsBelowEdge, IsAboveEdge}
 use Rattle.hull_questions.proofs.Sides.{side_more, side_less, side_after, weak}

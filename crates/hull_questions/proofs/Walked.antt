@@ -9,7 +9,7 @@ use Rattle.bridge_search.proofs.Ends.{last_by, on_last}
 use Rattle.bridge_search.proofs.Leaves.{on_of_contains, contains_of_on, points_in_order}
 use Rattle.bridge_search.proofs.Turns.{first_by, on_first}
 use Rattle.hull_plain.specs.Edges.{IsLowerEdge, IsUpperEdge, IsChain, IsFirst, IsLast}
-use Rattle.hull_plain.proofs.Order.{before_irrefl, equal_by}
+use Rattle.lattice.proofs.Order.{before_irrefl, equal_by}
 use Rattle.hull_plain.proofs.PointLists.{append_none, append_twice}
 use Rattle.hull_plain.proofs.Rounding.{small_list}
 use Rattle.hull_plain.proofs.VertexLists.{chain_push, end_push, vertex_list}

@@ -1,13 +1,13 @@
 -- Two nodes in a row: the parts of a fork, and where a point goes that is added or taken.
-use Rattle.std.proofs.Common.{◌≡◌, ◌+◌, max, refl, sym, ap, subst, List, ◌++◌, inl, inr, append_assoc, Some}
+use Rattle.std.proofs.Common.{◌≡◌, ◌+◌, max, refl, sym, ap, subst, ◌++◌, inl, inr, append_assoc, Some}
 use Rattle.std.specs.List.{All, Contains}
-use Rattle.std.proofs.lemmas.List.Elements.{All-contains, All-contains_itself, All-weaker, Contains-append_cases}
+use Rattle.std.proofs.lemmas.List.Elements.{All-contains, Contains-append_cases}
 use Rattle.lattice.specs.Covers.{IsPointSet, with_point, without_point}
 use Rattle.lattice.specs.Plane.{Pair, IsBefore}
 use Rattle.bridge_search.specs.Trees.{first_of}
-use Rattle.bridge_search.proofs.Leaves.{on_of_contains, points_in_order}
+use Rattle.bridge_search.proofs.Leaves.{all_of, on_of_contains, points_in_order}
 use Rattle.bridge_search.proofs.Turns.{on_first, first_by}
-use Rattle.hull_plain.proofs.Order.{before_trans, before_irrefl, before_total}
+use Rattle.lattice.proofs.Order.{before_trans, before_irrefl, before_total}
 use Rattle.hull_tree.specs.declared.node.Node as node
 use Rattle.hull_tree.specs.Nodes.{tree_of, halves_of, IsWellBuilt, DifferByAtMost}
 use Rattle.hull_tree.specs.Changes.{points_below, height_at, AreInRow}
@@ -70,10 +70,6 @@ regrouped l r s t k a b e = record {
   right_built = b;
   in_order = subst IsPointSet e k.in_order;
 }
-
--- what holds of each member
-all_of : (P : Pair → Type 0) (xs : List Pair) → ((t : Pair) → Contains xs t → P t) → All P xs
-all_of P xs f = All-weaker (Contains xs) P f xs (All-contains_itself xs)
 
 -- p before the first point of r: it stands before all of r
 before_first : (l r : node.Node) (p : Pair) → AreInRow l r → IsBefore p (first_of (tree_of r)) → All (IsBefore p) (points_below r)

@@ -5,3 +5,4 @@ pub mod TurnedBridges
 pub mod UniqueBridge
 pub mod Casts
 pub mod Weights
+pub mod Order

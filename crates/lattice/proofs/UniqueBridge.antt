@@ -1,25 +1,15 @@
 -- Two sets have one upper bridge at most, and two halves have one.
 use Rattle.std.proofs.Common.{◌≡◌, ap, ◌∙◌, sym, arith, ◌⊎◌, inl, inr, ⊎_elim}
 use Rattle.std.proofs.lemmas.Int.{by_lt_z}
-use lib.IntN.{ℤ, pos, ◌-ℤ◌, ◌*ℤ◌}
+use lib.IntN.{pos, ◌-ℤ◌, ◌*ℤ◌}
 use lib.Signed.{◌<ℤ◌, ◌≤ℤ◌}
 use Rattle.lattice.specs.Plane.{Pair, orient, IsBefore, turned_point}
+use Rattle.lattice.proofs.Order.{equal_by}
 use Rattle.lattice.proofs.TurnedBridges.{Turned, order_turned, upper_from_lower, turned_twice}
 use Rattle.lattice.specs.Bridges.{IsAllBefore, IsUpperBridge, IsLowerBridge}
 use Rattle.lattice.specs.Integers.{linear}
 use Rattle.lattice.proofs.Lines.{IsPositive, no_sum, bend, bend_step, bend_strict, slope_x, slope_y, step_positive}
 use Rattle.lattice.proofs.LineCrossings.{orient_start, orient_end}
-
--- points of which neither stands before the other are one
-pub same_point : (p q : Pair) → (IsBefore p q → ⊥) → (IsBefore q p → ⊥) → p ≡ q
-same_point p q h k =
-    by_lt_z p.x q.x (λ g. absurd (h (inl g)))
-    (λ g. by_lt_z q.x p.x (λ i. absurd (k (inl i)))
-    (λ i. let e : p.x ≡ q.x = omega (arith, linear) in let e' : q.x ≡ p.x = omega (arith, linear) in
-    by_lt_z p.y q.y (λ j. absurd (h (inr (e, j))))
-    (λ j. by_lt_z q.y p.y (λ l. absurd (k (inr (e', l))))
-    (λ l. let f : p.y ≡ q.y = omega (arith, linear) in
-    ap (λ (z : ℤ). let r : Pair = record { x = z; y = p.y } in r) e ∙ ap (λ (z : ℤ). let r : Pair = record { x = q.x; y = z } in r) f))))
 
 -- where t is on pq, z on ab, and the step from t to z has the bend's sign or the bend is 0: z is not under pq, nor t under ab
 level : (p q a b t z : Pair) → IsBefore p q → IsBefore a b → orient p q t ≡ pos 0 → orient a b z ≡ pos 0 → orient p q z ≤ℤ pos 0 → orient a b t ≤ℤ pos 0 → ((pos 0 ≤ℤ bend p q a b) × IsBefore t z) ⊎ ((bend p q a b ≤ℤ pos 0) × IsBefore z t) → (orient p q z ≡ pos 0) × (orient a b t ≡ pos 0)
@@ -54,8 +44,8 @@ one_bridge l r p q a b o h k =
     (λ not_down.
     let one : (orient p q b ≡ pos 0) × (orient a b p ≡ pos 0) = level p q a b p b hpq hab (orient_start p q) (orient_end a b) (h.below_right b k.to_right) (k.below_left p h.from_left) (inl (not_down, hpb)) in
     let two : (orient p q a ≡ pos 0) × (orient a b q ≡ pos 0) = level p q a b q a hpq hab (orient_end p q) (orient_start a b) (h.below_left a k.from_left) (k.below_right q h.to_right) (inr (not_up, haq)) in (
-      same_point p a (k.tie_left p h.from_left one.1).0 (h.tie_left a k.from_left two.0).0,
-      same_point q b (h.tie_right b k.to_right one.0).1 (k.tie_right q h.to_right two.1).1,
+      equal_by p a (k.tie_left p h.from_left one.1).0 (h.tie_left a k.from_left two.0).0,
+      equal_by q b (h.tie_right b k.to_right one.0).1 (k.tie_right q h.to_right two.1).1,
     )))
 
 -- two sets have one lower bridge at most, since the turned sets have one upper bridge at most

@@ -3,7 +3,7 @@ use Rattle.std.proofs.lemmas.List.Sorted.{IsPartitionPoint-from_clause}
 use Rattle.lattice.specs.Covers.{is_before}
 use Rattle.lattice.specs.Plane.{Pair}
 use Rattle.hull_plain.proofs.FoundPositions.{parted, parted_below, parted_rest}
-use Rattle.hull_plain.proofs.Order.{answer_is}
+use Rattle.lattice.proofs.Order.{answer_is}
 use Rattle.hull_plain.proofs.positions.count_before.Goals as goal
 
 pub returns-clause-below : goal.returns-clause-below
