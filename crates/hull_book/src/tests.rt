@@ -101,6 +101,19 @@ fn capacity_out_of_range(rt: HostRuntime) -> Result<(), Fail> {
     Ok(())
 }
 
+// A book of so many lines for so many workers is opened where there is memory.
+#[test]
+fn opens_for_all_seats(rt: HostRuntime) -> Result<(), Fail> {
+    for (capacity, workers) in [(1, 64), (65536, 1)] {
+        let set = PlainSet::new(rt.alloc(), 4);
+        let (book, ledgers) = opened(&rt, set, rt.alloc(), 0, capacity, workers);
+        assert_eq!(rt; (book.capacity(), book.workers()), (capacity, workers));
+        assert_eq!(rt; ledgers.len(), usize::from(workers));
+        assert_eq!(rt; gather(&book, ledgers), 0);
+    }
+    Ok(())
+}
+
 // The journal of these values, which are within the limits.
 fn journal_of<const N: usize>(
     alloc: Global,

@@ -44,6 +44,6 @@ pub record HasRunAll (b : BookValue) (w : WorkersValue) (phases : List PhaseValu
 abbrev pub Runs : BookValue → WorkersValue → List PhaseValue → BookValue → WorkersValue → Type 0
 Runs b w phases c v = HasRunPhases b w phases c v × HasRunAll b w phases c v
 
--- the phases before one that was refused were run, and nothing of it
+-- the phases before one that was refused were run, and nothing of it and of those behind it
 abbrev pub RunsFront : BookValue → WorkersValue → List PhaseValue → BookValue → WorkersValue → Type 0
-RunsFront b w phases c v = (front : List PhaseValue) × (back : List PhaseValue) × (phases ≡ front ++ back) × Runs b w front c v
+RunsFront b w phases c v = (front : List PhaseValue) × (refused : PhaseValue) × (back : List PhaseValue) × (phases ≡ front ++ refused ∷ back) × Runs b w front c v

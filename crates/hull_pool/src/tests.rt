@@ -191,6 +191,25 @@ fn three_workers(rt: HostRuntime) -> Result<(), Fail> {
     Ok(())
 }
 
+// The last of three workers counts, and then none has a call.
+fn one_of_three(alloc: Global) -> Result<Script, AllocError> {
+    let count = Vec::from_array(alloc, [Call::Count])?;
+    let once = phase_of(alloc, Vec::new(alloc), Vec::new(alloc), count)?;
+    let none = phase_of(alloc, Vec::new(alloc), Vec::new(alloc), Vec::new(alloc))?;
+    two_phases(alloc, once, none)
+}
+
+/// Workers with no calls, and phases with none, are run like others.
+#[test]
+fn workers_without_calls(rt: HostRuntime) -> Result<(), Fail> {
+    let script = one_of_three(rt.alloc())?;
+    let end = run_script(&rt, rt.alloc(), 0, 8, &script, &NoGate);
+    let lines = end.journal.lines();
+    assert_eq!(rt; (end.sum, lines.len(), end.answers.len()), (1, 1, 3));
+    assert_eq!(rt; lines[0].seat, 2);
+    Ok(())
+}
+
 // A worker puts a point in, counts, and takes the point out.
 fn in_and_out(alloc: Global, p: Point) -> Result<Vec<Call>, AllocError>
     ensures { IfOk result (λ v. length v.items ≡ 3) }

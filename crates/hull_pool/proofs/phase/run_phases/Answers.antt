@@ -1,4 +1,4 @@
-use Rattle.std.proofs.Common.{◌≡◌, ◌++◌, ◌∙◌, List, sym, subst, take, drop}
+use Rattle.std.proofs.Common.{◌≡◌, ◌++◌, ◌∷◌, ◌∙◌, List, suc, sym, ap, subst, take, drop, drop-cons}
 use Rattle.std.specs.Prelude.{slice_index_or}
 use Rattle.std.proofs.lemmas.List.{take_more, take-append-drop}
 use Rattle.hull_book.specs.Books.{BookValue}
@@ -20,13 +20,18 @@ pub returns-in-Err-clause-refused : goal.returns-in-Err-clause-refused
 returns-in-Err-clause-refused g c =
     let items : List PhaseValue = c.phases-phase-items.result.now in
     let same = rw c.in-Err.is at c.run_phase-end.ensures.refused in
-    let split : c.args.script.now.phases ≡ take c.loop-phase.phase-index items ++ drop c.loop-phase.phase-index items = sym c.phases-phase-items.ensures.phases ∙ sym (take-append-drop c.loop-phase.phase-index items) in
+    let refused : PhaseValue = slice_index_or items c.loop-phase.phase-index c.phase-item.result in
+    let back : List PhaseValue = drop (suc c.loop-phase.phase-index) items in
+    let behind : drop c.loop-phase.phase-index items ≡ refused ∷ back = drop-cons items c.loop-phase.phase-index c.phase-item.result c.loop-phase-test.true in
+    let split : c.args.script.now.phases ≡ take c.loop-phase.phase-index items ++ refused ∷ back =
+    sym c.phases-phase-items.ensures.phases ∙ sym (take-append-drop c.loop-phase.phase-index items) ∙ ap (λ (xs : List PhaseValue). take c.loop-phase.phase-index items ++ xs) behind in
     let chain : HasRunPhases c.args.book c.args.workers (take c.loop-phase.phase-index items) c.run_phase-end.result.book c.run_phase-end.result.workers =
     subst (λ (v : WorkersValue). HasRunPhases c.args.book c.args.workers (take c.loop-phase.phase-index items) c.run_phase-end.result.book v) (sym same.1)
     (subst (λ (d : BookValue). HasRunPhases c.args.book c.args.workers (take c.loop-phase.phase-index items) d c.loop-phase.workers) (sym same.0) c.loop-phase.invariant)
     in (
       take c.loop-phase.phase-index items,
-      drop c.loop-phase.phase-index items,
+      refused,
+      back,
       split,
       (chain, run_all c.args.book c.args.workers _ _ _ (may_front c.args.book c.args.workers _ _ c.args.script.now.phases split c.requires) chain),
     )
