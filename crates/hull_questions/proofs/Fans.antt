@@ -1,5 +1,5 @@
 -- The triangles between the first point of a half and the edges of its chains: their doubled areas add up to that of the hull.
-use Rattle.std.proofs.Common.{◌≡◌, ℕ, pos, ◌+ℤ◌, refl, sym, ap, ◌∙◌, subst, List, arith, ◌+◌, [], ◌∷◌, ◌++◌}
+use Rattle.std.proofs.Common.{◌≡◌, ℕ, pos, ◌+ℤ◌, refl, sym, ap, ◌∙◌, subst, arith, ◌+◌, [], ◌∷◌, ◌++◌}
 use Rattle.std.proofs.lemmas.Int.{ints}
 use Rattle.lattice.specs.Plane.{Pair, orient, IsBefore}
 use Rattle.lattice.specs.Vertices.{fan, IsDoubledArea}
