@@ -1,12 +1,12 @@
 -- What the program's casts and sums of 64 and 128 bits are, at numbers of a known size.
-use Rattle.std.proofs.Common.{◌≡◌, ℕ, ◌+◌, ◌*◌, ◌^◌, ◌∙◌, arith, lit≤, FitsSigned}
+use Rattle.std.proofs.Common.{◌≡◌, ◌+◌, ◌*◌, ◌^◌, ◌∙◌, arith, lit≤, FitsSigned}
 use Rattle.std.proofs.lemmas.Int.{to_z-of_z}
 use lib.IntN.{ℤ, ◌+ℤ◌, ◌-ℤ◌, ◌*ℤ◌}
 use mir.Val.{to_z, of_z}
 use mir.Syntax.{w128, w64}
 use borrow.Author.Differences.{ints}
 use Rattle.lattice.specs.Plane.{IsWithin, widest, widest_side, IsCoordinate}
-use Rattle.lattice.specs.Integers.{within_add, within_sub, within_mul, within_more}
+use Rattle.lattice.specs.Integers.{within_sub, within_mul, within_more}
 
 -- a number of 64 bits that is no larger than a coordinate
 pub cast64 : (z : ℤ) → IsWithin widest z → to_z w64 (of_z w64 z) ≡ z

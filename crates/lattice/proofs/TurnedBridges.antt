@@ -1,7 +1,7 @@
 -- A lower bridge is an upper one after a turn by 180 degrees.
 use Rattle.std.proofs.Common.{◌≡◌, ap, ◌∙◌, sym, arith, inl, inr, subst}
 use lib.IntN.{ℤ, pos, neg_ℤ, neg_ℤ-neg_ℤ}
-use lib.Signed.{◌<ℤ◌, ◌≤ℤ◌}
+use lib.Signed.{◌≤ℤ◌}
 use Rattle.lattice.specs.Plane.{Pair, orient, IsBefore, turned_point}
 use Rattle.lattice.specs.Bridges.{IsAllBefore, IsUpperBridge, IsLowerBridge, IsNotBeyond}
 use Rattle.lattice.specs.Integers.{linear, ring_laws}

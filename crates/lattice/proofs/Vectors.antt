@@ -1,9 +1,9 @@
 -- Vectors of the plane.
-use Rattle.std.proofs.Common.{◌≡◌, ℕ, ℤ, pos, negsuc, ◌+ℤ◌, ◌-ℤ◌, ◌*ℤ◌, ◌≤ℤ◌, ◌<ℤ◌, neg_ℤ, ◌⊎◌, inl, inr, refl, sym, ap, ◌∙◌, subst, arith}
+use Rattle.std.proofs.Common.{◌≡◌, ℤ, pos, ◌+ℤ◌, ◌-ℤ◌, ◌*ℤ◌, ◌≤ℤ◌, ◌<ℤ◌, neg_ℤ, ◌⊎◌, inl, inr, sym, subst, arith}
 use Rattle.std.proofs.lemmas.Int.{ints}
-use Rattle.lattice.specs.Plane.{Pair, orient, IsBefore}
-use Rattle.lattice.specs.Polynomials.{as_difference, difference-add, difference-neg, difference-mul, difference-eq, difference-pos}
-use Rattle.lattice.specs.Signs.{le_or_lt, product_nn, product_pp, cancel_nn, cancel_zero, cancel_pp}
+use Rattle.lattice.specs.Plane.{Pair}
+use Rattle.lattice.specs.Polynomials.{as_difference, difference-add, difference-neg, difference-mul, difference-eq}
+use Rattle.lattice.specs.Signs.{le_or_lt, product_nn, product_pp, cancel_nn}
 
 -- the step from q to p
 abbrev pub minus : Pair → Pair → Pair

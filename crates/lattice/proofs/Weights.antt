@@ -1,5 +1,5 @@
 -- The sign of u*(d - m) + v*(c - m): on which side of m the point (u*d + v*c) / (u + v) stands.
-use Rattle.std.proofs.Common.{◌≡◌, ◌∙◌, ◌⊎◌, inl, inr, arith, refl, FitsSigned, Bool, true, false}
+use Rattle.std.proofs.Common.{◌≡◌, ◌∙◌, inl, inr, arith, refl, FitsSigned, true, false}
 use Rattle.std.specs.Prelude.{◌↔◌}
 use Rattle.std.specs.Bool.{IsTrue}
 use lib.IntN.{ℤ, pos, ◌+ℤ◌, ◌-ℤ◌, ◌*ℤ◌}
@@ -7,7 +7,6 @@ use lib.Signed.{◌<ℤ◌, ◌≤ℤ◌, lt_z, le_z}
 use mir.Val.{to_z, of_z}
 use mir.Syntax.{w128, w64}
 use borrow.Author.Differences.{ints}
-use Rattle.lattice.specs.Plane.{Pair}
 use Rattle.lattice.specs.Crossing.{IsAtOrBefore}
 use Rattle.lattice.specs.Integers.{linear, ring_laws}
 use Rattle.lattice.proofs.Casts.{cast128}

@@ -1,7 +1,6 @@
 -- The bridges of two sets of points, all of the one before all of the other (Overmars and van Leeuwen, 1981).
 -- A set is given by what it means to be one of its points.
-use Rattle.std.specs.Prelude.{◌≡◌, ℤ, pos, ◌≤ℤ◌, List}
-use Rattle.std.specs.List.{Contains}
+use Rattle.std.specs.Prelude.{◌≡◌, pos, ◌≤ℤ◌}
 use Rattle.lattice.specs.Plane.{Pair, orient, IsBefore}
 
 -- each point of l stands before each point of r

@@ -1,9 +1,8 @@
 -- The laws of a commutative ring for the integers, that std does not have.
-use Rattle.std.proofs.Common.{◌≡◌, ℕ, zero, suc, ◌+◌, ◌*◌, ◌≤◌, sym, ap, ◌∙◌, arith}
+use Rattle.std.proofs.Common.{◌≡◌, ℕ, suc, ◌+◌, ◌*◌, ◌≤◌, sym, ap, ◌∙◌, arith}
 use lib.IntN.{ℤ, pos, negsuc, ◌+ℤ◌, ◌-ℤ◌, ◌*ℤ◌, neg_ℤ, *ℤ_comm, +ℤ_comm, +ℤ_assoc}
 use Rattle.std.proofs.lemmas.Nat.{mul-le}
 use Rattle.lattice.specs.Plane.{IsWithin}
-use lib.Signed.{◌<ℤ◌, ◌≤ℤ◌}
 use borrow.Author.Differences.{ints, up, down, sum_is_lem, product_is, neg_is, same_in, same_out, Apart-out, lt_out, le_out, below_in, at_most_in}
 
 -- a product with a sum on the right

@@ -1,6 +1,6 @@
-use Rattle.std.proofs.Common.{◌≡◌, ◌∙◌, ◌*◌, rules, arith}
+use Rattle.std.proofs.Common.{◌∙◌, ◌*◌, arith}
 use borrow.Author.Differences.{ints}
-use Rattle.lattice.specs.Plane.{IsWithin, widest, distance_squared}
+use Rattle.lattice.specs.Plane.{widest, distance_squared}
 use Rattle.lattice.specs.Integers.{within_add}
 use Rattle.lattice.proofs.Casts.{cast_add, minor_small, cast_told}
 use Rattle.lattice.proofs.compare.distance_squared.Goals as goal

@@ -1,8 +1,8 @@
-use Rattle.std.proofs.Common.{◌≡◌, ◌∙◌, ◌*◌, rules, arith}
+use Rattle.std.proofs.Common.{◌∙◌, ◌*◌, arith}
 use borrow.Author.Differences.{ints}
-use Rattle.lattice.specs.Plane.{IsWithin, widest, orient}
+use Rattle.lattice.specs.Plane.{widest, orient}
 use Rattle.lattice.specs.Integers.{within_sub}
-use Rattle.lattice.proofs.Casts.{cast64, cast_sub, minor_small, cast_told}
+use Rattle.lattice.proofs.Casts.{cast_sub, minor_small, cast_told}
 use Rattle.lattice.proofs.compare.orient.Goals as goal
 
 pub overflow_sub-result : goal.overflow_sub-result

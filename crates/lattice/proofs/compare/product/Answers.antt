@@ -1,5 +1,5 @@
-use Rattle.std.proofs.Common.{◌*◌, ◌^◌, rules, lit≤, arith}
-use Rattle.lattice.specs.Plane.{IsWithin, widest, widest_side}
+use Rattle.std.proofs.Common.{◌*◌, ◌^◌, lit≤}
+use Rattle.lattice.specs.Plane.{widest, widest_side}
 use Rattle.lattice.specs.Integers.{within_more}
 use Rattle.lattice.proofs.Casts.{cast_product}
 use Rattle.lattice.proofs.compare.product.Goals as goal

@@ -1,9 +1,3 @@
-use Rattle.std.proofs.Common.{◌≡◌, ◌*◌, rules, lit≤}
-use Rattle.std.specs.Prelude.{◌↔◌}
-use Rattle.std.specs.Bool.{IsTrue}
-use lib.IntN.{ℤ}
-use Rattle.lattice.specs.Plane.{IsWithin, widest_side}
-use Rattle.lattice.specs.Crossing.{IsWeightedAtOrBefore}
 use Rattle.lattice.proofs.Casts.{cast_side}
 use Rattle.lattice.proofs.crossing.crossing_at_or_before.Goals as goal
 

@@ -1,6 +1,5 @@
-use Rattle.std.proofs.Common.{◌≡◌, ◌∙◌, ◌*◌, rules, arith}
+use Rattle.std.proofs.Common.{◌∙◌, arith}
 use borrow.Author.Differences.{ints}
-use Rattle.lattice.specs.Plane.{IsWithin, widest, widest_side}
 use Rattle.lattice.proofs.Casts.{cast128, cast_difference, cast_add, weight_within, sum_fits}
 use Rattle.lattice.proofs.crossing.weighted.Goals as goal
 

@@ -1,5 +1,4 @@
-use Rattle.std.proofs.Common.{◌≡◌, ◌∙◌, rules}
-use lib.IntN.{◌-ℤ◌, ◌*ℤ◌}
+use Rattle.std.proofs.Common.{◌∙◌, rules}
 use Rattle.lattice.proofs.Casts.{cast128, cast_difference, minor_within, minor_small}
 use Rattle.lattice.proofs.wide.product_of_differences.Goals as goal
 

@@ -1,7 +1,7 @@
-use Rattle.std.proofs.Common.{◌≡◌, ◌∙◌, ◌*◌, rules, arith}
-use lib.IntN.{◌+ℤ◌, ◌*ℤ◌}
+use Rattle.std.proofs.Common.{◌∙◌, ◌*◌, arith}
+use lib.IntN.{◌*ℤ◌}
 use borrow.Author.Differences.{ints}
-use Rattle.lattice.specs.Plane.{IsWithin, widest}
+use Rattle.lattice.specs.Plane.{widest}
 use Rattle.lattice.specs.Integers.{within_add}
 use Rattle.lattice.proofs.Casts.{cast_wide, cast_add, pair_within, pair_small}
 use Rattle.lattice.proofs.wide.sum_of_products.Goals as goal
