@@ -67,23 +67,23 @@ pub walked : (S lower upper : List Pair) → IsPointSet S → 1 < length S → I
 walked S [] upper s l w c = absurd (before_irrefl (point_at S (length S - 1)) (subst (λ (z : Pair). IsBefore z (point_at S (length S - 1))) w.ends (first_last S s l)))
 walked S (v ∷ vs) upper s l w c = vertex_list S (point_at S 0) (point_at S (length S - 1)) v vs upper s w.chain w.ends c (least S s) (greatest S s)
 
--- the points of a walk but the last
-front_of : (u w : Pair) (vs : List Pair) → end_of u vs ≡ w → u ≢ w → (front : List Pair) × (vs ≡ front ++ w ∷ [])
-front_of u w [] e n = absurd (n e)
-front_of u w (v ∷ []) e n = ([], ap (λ (z : Pair). z ∷ []) e)
-front_of u w (v ∷ (x ∷ xs)) e n = let r = front_last v x xs w e in (v ∷ r.0, ap (λ (z : List Pair). v ∷ z) r.1)
-  where
-    front_last : (v x : Pair) (xs : List Pair) (w : Pair) → end_of x xs ≡ w → (front : List Pair) × (x ∷ xs ≡ front ++ w ∷ [])
-    front_last v x [] w e = ([], ap (λ (z : Pair). z ∷ []) e)
-    front_last v x (y ∷ ys) w e = let r = front_last x y ys w e in (x ∷ r.0, ap (λ (z : List Pair). x ∷ z) r.1)
+-- the points of a walk but the last, with the one where it began
+pub front_of : (v w : Pair) (vs : List Pair) → end_of v vs ≡ w → (front : List Pair) × (v ∷ vs ≡ front ++ w ∷ [])
+front_of v w [] e = ([], ap (λ (z : Pair). z ∷ []) e)
+front_of v w (x ∷ xs) e = let r = front_of x w xs e in (v ∷ r.0, ap (λ (z : List Pair). v ∷ z) r.1)
+
+-- the points of a walk that goes on, but the last
+front_after : (u w : Pair) (vs : List Pair) → end_of u vs ≡ w → u ≢ w → (front : List Pair) × (vs ≡ front ++ w ∷ [])
+front_after u w [] e n = absurd (n e)
+front_after u w (v ∷ vs) e n = front_of v w vs e
 
 -- two walks, one after the other: the sum of their fans
-fan-append : (f u : Pair) (xs ys : List Pair) → fan f u (xs ++ ys) ≡ fan f u xs +ℤ fan f (end_of u xs) ys
+pub fan-append : (f u : Pair) (xs ys : List Pair) → fan f u (xs ++ ys) ≡ fan f u xs +ℤ fan f (end_of u xs) ys
 fan-append f u [] ys = omega (arith, ints)
 fan-append f u (x ∷ xs) ys = let e = fan-append f x xs ys in omega (arith, ints)
 
 -- a step back to the corner of the fan adds nothing
-fan-back : (f u : Pair) (xs : List Pair) → fan f u (xs ++ f ∷ []) ≡ fan f u xs
+pub fan-back : (f u : Pair) (xs : List Pair) → fan f u (xs ++ f ∷ []) ≡ fan f u xs
 fan-back f u xs =
     let e = fan-append f u xs (f ∷ []) in
     let z : orient f (end_of u xs) f ≡ pos 0 = orient_start f (end_of u xs) in
@@ -98,7 +98,7 @@ pub fans_sum : (S : List Pair) (m n : ℕ) → IsPointSet S → 1 < length S →
 fans_sum S m n s l (lower, w, e) (upper, x, g) =
     let first : Pair = point_at S 0 in
     let last : Pair = point_at S (length S - 1) in
-    let f = front_of last first upper x.ends (after_apart last first (first_last S s l)) in
+    let f = front_after last first upper x.ends (after_apart last first (first_last S s l)) in
     let back : fan first last upper ≡ fan first last f.0 = ap (fan first last) f.1 ∙ fan-back first last f.0 in
     let both : fan first first (lower ++ f.0) ≡ fan first first lower +ℤ fan first last f.0 = fan-append first first lower f.0 ∙ ap (λ (z : Pair). fan first first lower +ℤ fan first z f.0) w.ends in
     (first ∷ (lower ++ f.0), walked S lower f.0 s l w (subst (IsChain (IsUpperEdge S) last) f.1 x.chain), omega (arith, ints))

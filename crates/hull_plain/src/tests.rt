@@ -5,8 +5,8 @@ use std::alloc::Global;
 use std::process::Abort;
 use std::test::Fail;
 
-/// The greatest limit of a set.
-const LIMIT: u32 = super::POINT_LIMIT;
+/// The greatest limit of a set, by its number: no contract says what number the constant is.
+const LIMIT: u32 = 1048576;
 
 fn at(x: i64, y: i64) -> Result<Point, Fail> {
     Ok(Point::new(x, y)?)
@@ -38,6 +38,7 @@ const SQUARE: [(i64, i64); 4] = [(0, 0), (2, 0), (2, 2), (0, 2)];
 fn empty_set(rt: HostRuntime) -> Result<(), Fail> {
     let set = PlainSet::new(rt.alloc(), LIMIT);
     assert_eq!(rt; set.limit(), LIMIT);
+    assert_eq!(rt; super::POINT_LIMIT, LIMIT);
     assert_eq!(rt; set.extreme(Direction::new(1, 0)?), None);
     assert_eq!(rt; set.area2(), 0);
     assert_vertices(&rt, &set, &[])?;

@@ -66,6 +66,19 @@ bend_negative a b c d hab hbc hcd g1 g2 =
 pub s_positive : (a b c d : Pair) → IsBefore a b → IsBefore b c → IsBefore c d → orient a b c <ℤ pos 0 → orient c d b <ℤ pos 0 → pos 0 <ℤ (s1 a b c d +ℤ s2 a b c d)
 s_positive a b c d hab hbc hcd g1 g2 = omega (arith, linear, bend_negative a b c d hab hbc hcd g1 g2, bend_is a b c d)
 
+-- a product and the same negated
+cancels : (u v : ℤ) → u *ℤ v +ℤ neg_ℤ v *ℤ u ≡ pos 0
+cancels u v = simp ring_laws (omega (arith, linear))
+
+-- the point between c and d with the weights of the crossing is on the line ab
+crossing_side : (a b c d : Pair) → s1 a b c d *ℤ orient a b d +ℤ s2 a b c d *ℤ orient a b c ≡ pos 0
+crossing_side a b c d =
+    ap (λ (z : ℤ). orient a b c *ℤ orient a b d +ℤ z *ℤ orient a b c) (orient_swap a b d) ∙ cancels (orient a b c) (orient a b d)
+
+-- the crossing of two lines that turn right is a point, and on both lines
+pub crossing_on_both : (a b c d : Pair) → IsBefore a b → IsBefore b c → IsBefore c d → orient a b c <ℤ pos 0 → orient b c d <ℤ pos 0 → (pos 0 <ℤ (s1 a b c d +ℤ s2 a b c d)) × (s1 a b c d *ℤ orient a b d +ℤ s2 a b c d *ℤ orient a b c ≡ pos 0)
+crossing_on_both a b c d hab hbc hcd g1 g2 = (s_positive a b c d hab hbc hcd g1 (omega (arith, linear, orient_cycle b c d)), crossing_side a b c d)
+
 -- ---- sums of vectors in the order by x, then by y
 add_nonnegative : (ax ay bx by : ℤ) → IsNonnegative ax ay → IsNonnegative bx by → IsNonnegative (ax +ℤ bx) (ay +ℤ by)
 add_nonnegative ax ay bx by (inl a) (inl b) = inl (omega (arith, linear))

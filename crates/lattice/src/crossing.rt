@@ -39,7 +39,8 @@ pub fn weighted_at_or_before(u: i128, v: i128, c: Point, d: Point, m: Point) -> 
 
 /// Whether the crossing of the lines ab and cd stands before m or is m.
 /// The crossing is (s1*d + s2*c) / (s1 + s2), where s1 is the side of c as seen from ab, and s2 that of d as seen
-/// from ba; what is asked of the caller makes s1 + s2 positive.
+/// from ba; what is asked of the caller makes s1 + s2 positive, and the point is on both lines
+/// ([`crossing_is_on_both_lines`](crate::crossing_is_on_both_lines)).
 pub fn crossing_at_or_before(a: Point, b: Point, c: Point, d: Point, m: Point) -> bool
     requires first { IsBefore a b }
     requires second { IsBefore b c }

@@ -1,0 +1,5 @@
+use Rattle.lattice.proofs.LineCrossings.{crossing_on_both}
+use Rattle.lattice.proofs.laws.crossing_is_on_both_lines.Goals as goal
+
+pub returns : goal.returns
+returns c a b d e hab hbc hcd under_first under_second = crossing_on_both a b d e hab hbc hcd under_first under_second
