@@ -1,6 +1,7 @@
 -- The grammar of scripts, and their first fault.
 use Rattle.std.specs.Prelude.{◌≡◌, ◌⊎◌, ◌<◌, ◌≤◌, ◌+◌, ◌^◌, ℕ, List, [], ◌∷◌, ◌++◌, length, codes, decimal, Option, Some, None, Result, Ok, Err}
 use Rattle.std.specs.List.{join_with_byte}
+use Rattle.hull_book.specs.declared.limits.TheConstants.{TEXT_LINE_LIMIT}
 use Rattle.hull_book.specs.Scripts.{ScriptValue}
 use Rattle.hull_text.specs.declared.fault.FaultKind.{FaultKind}
 use Rattle.hull_text.specs.declared.fault.TextFault.{TextFault}
@@ -42,13 +43,13 @@ script_lines bytes = without_last_empty (pieces bytes)
 pub record IsScriptText (bytes : List ℕ) (script : ScriptValue) : Type 0 where
   pub items : List Item
   pub lines : AreScriptLines (script_lines bytes) items
-  pub count : length (script_lines bytes) ≤ 33554432
+  pub count : length (script_lines bytes) ≤ TEXT_LINE_LIMIT
   pub value : script ≡ script_of items
 
 -- A line behind so many others has this fault: its own first one from the left, or that it is one line too many.
 abbrev pub HasLineFault : ℕ → List ℕ → ℕ → Type 0
 HasLineFault before line number =
-    ((before ≡ 33554432) × (number ≡ 1)) ⊎ ((before < 33554432) × ((kind : FaultKind) × (script_line_of line ≡ Err kind) × (number ≡ fault_number kind)))
+    ((before ≡ TEXT_LINE_LIMIT) × (number ≡ 1)) ⊎ ((before < TEXT_LINE_LIMIT) × ((kind : FaultKind) × (script_line_of line ≡ Err kind) × (number ≡ fault_number kind)))
 
 -- The first fault of the bytes: all lines before it are right.
 pub record IsScriptFault (bytes : List ℕ) (f : TextFault) : Type 0 where

@@ -1,5 +1,6 @@
 -- How the reading of a script goes on from what was read so far.
-use Rattle.std.specs.Prelude.{◌≡◌, ◌⊎◌, ◌≤◌, ◌<◌, ℕ, List, Result, Ok, Err, length}
+use Rattle.std.specs.Prelude.{◌≡◌, ◌⊎◌, ◌≤◌, ◌<◌, ◌+◌, ℕ, List, Result, Ok, Err, length}
+use Rattle.hull_book.specs.declared.limits.TheConstants.{TEXT_LINE_LIMIT}
 use Rattle.hull_book.specs.Scripts.{ScriptValue}
 use Rattle.hull_text.specs.declared.fault.TextFault.{TextFault}
 use Rattle.hull_text.specs.Item.{Item}
@@ -23,6 +24,6 @@ AnswersScript items n text answer = AnswersItems answer (reading items n text)
 -- what a reader of scripts keeps
 pub record IsDraft (items : List Item) (line : ℕ) : Type 0 where
   pub low : 1 ≤ line
-  pub high : line ≤ 33554433
+  pub high : line ≤ TEXT_LINE_LIMIT + 1
   pub few : length items < line
   pub workers : workers_in items ≤ 64

@@ -1,6 +1,7 @@
 -- What a whole script says, or its first fault.
 use Rattle.std.specs.Prelude.{ℕ, suc, ◌==◌, List, [], ◌∷◌, ◌++◌, Option, Some, None, Result, Ok, Err, nat_le, if◌then◌else◌}
 use Rattle.std.specs.List.{slice_split}
+use Rattle.hull_book.specs.declared.limits.TheConstants.{TEXT_LINE_LIMIT}
 use Rattle.hull_text.specs.declared.fault.FaultKind.{FaultKind}
 use Rattle.hull_text.specs.declared.fault.FaultKind.TheVariants.{Form}
 use Rattle.hull_text.specs.declared.fault.TextFault.{TextFault}
@@ -19,9 +20,9 @@ abbrev pub at_line : {A : Type 0} → ℕ → Result A FaultKind → Result A Te
 at_line n (Ok x) = Ok x
 at_line n (Err kind) = Err (fault_at n kind)
 
--- line n of a text, which has at most 33554432
+-- line n of a text; a line behind the last that a text may have is a fault
 unfoldable pub numbered : {A : Type 0} → ℕ → Result A FaultKind → Result A TextFault
-numbered n read = if nat_le n 33554432 then at_line n read else Err (fault_at n Form)
+numbered n read = if nat_le n TEXT_LINE_LIMIT then at_line n read else Err (fault_at n Form)
 
 -- what a line says, in front of what the lines behind it say
 abbrev pub kept : Option Item → List Item → List Item

@@ -3,6 +3,7 @@ use Rattle.std.specs.Prelude.{◌≡◌, ◌<◌, ◌≤◌, ◌^◌, ℕ, ℤ, 
 use Rattle.std.specs.List.{join_with_byte}
 use Rattle.std.specs.Fmt.{signed_decimal}
 use Rattle.lattice.specs.Plane.{Pair}
+use Rattle.hull_plain.specs.declared.TheConstants.{POINT_LIMIT}
 use Rattle.hull_plain.specs.declared.call.Call.{Call}
 use Rattle.hull_plain.specs.declared.call.Call.TheVariants.{Add, Remove, Extreme, Place, Tangents, Vertices, Area, Count}
 use Rattle.hull_plain.specs.declared.reply.Reply.{Reply}
@@ -65,7 +66,7 @@ ArePairs v (p ∷ ps) = IsPair v p × ArePairs v ps
 abbrev pub IsReply : Version → Reply → Type 0
 IsReply v (Farthest p) = IsPair v p
 IsReply v (TangentPoints l r) = IsPair v l × IsPair v r
-IsReply v (VertexList ps) = (length ps ≤ 1048576) × ArePairs v ps
+IsReply v (VertexList ps) = (length ps ≤ POINT_LIMIT) × ArePairs v ps
 IsReply v (DoubledArea n) = n < 2 ^ 128
 IsReply v (PointCount n) = n ≤ 4294967295
 IsReply v _ = Unit {0}

@@ -1,5 +1,6 @@
 ghost use Rattle.std.specs.Prelude.{◌≡◌, ◌≤◌, ◌<◌, ◌+◌, ◌++◌, [], ◌∷◌, ℕ, List, IfOk, length, map, MatchOption, Option, Some};
 ghost use Rattle.hull_book.specs.Scripts.{IsScript, lists_of};
+ghost use Rattle.hull_book.specs.declared.limits.TheConstants.{TEXT_LINE_LIMIT};
 ghost use Rattle.hull_text.specs.ScriptValue.{calls_by, jobs_below, parts, parts_left, script_of, workers_from, workers_in};
 
 use super::item::Item;
@@ -86,7 +87,7 @@ fn phases_of(alloc: Global, items: &[Item], workers: u8) -> Result<Vec<Phase>, A
 #[tactic(auto, using(crate::proofs::Parts::items_make_script))]
 pub(crate) fn script_from(alloc: Global, items: &[Item]) -> Result<Script, AllocError>
     requires workers { workers_in items.now ≤ 64 }
-    requires few { length items.now ≤ 33554432 }
+    requires few { length items.now ≤ TEXT_LINE_LIMIT }
     ensures { IfOk result (λ script. script ≡ script_of items.now) }
 {
     let workers = count_workers(items);

@@ -29,7 +29,7 @@ fn item_at(number: u32, line: &[u8]) -> Result<Option<Item>, TextFault>
     ensures value { result ≡ numbered number (script_line_of line.now) }
     ensures worker { IfOk result SaysWorker }
     ensures inside { IfErr result (λ f. f.number ≢ 8) }
-    ensures low { IfOk result (λ _. number ≤ 33554432) }
+    ensures low { IfOk result (λ _. number ≤ TEXT_LINE_LIMIT) }
 {
     if number > TEXT_LINE_LIMIT {
         return Err(TextFault::new(FaultKind::Form, number));
@@ -65,7 +65,7 @@ fn add_line(items: &mut Vec<Item>, number: u32, line: &[u8]) -> Result<(), TextF
 /// The script of the items, at the end of a text.
 fn finished(alloc: Global, items: &[Item], number: u32) -> Result<Script, TextFault>
     requires workers { workers_in items.now ≤ 64 }
-    requires few { length items.now ≤ 33554432 }
+    requires few { length items.now ≤ TEXT_LINE_LIMIT }
     ensures { MatchResult result (λ script. script ≡ script_of items.now) (λ f. f.number ≡ 10) }
 {
     match script_from(alloc, items) {

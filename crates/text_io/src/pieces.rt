@@ -1,5 +1,6 @@
-ghost use Rattle.std.specs.Prelude.{◌≡◌, ◌↔◌, ℕ, ◌+◌, ◌%◌, ◌^◌, [], length, take, drop, max, min, Some, OnOk, IsErr, IfOk};
+ghost use Rattle.std.specs.Prelude.{◌≡◌, ◌↔◌, ℕ, ◌+◌, ◌%◌, ◌^◌, [], length, take, drop, max, min, Some, OnOk, IsErr, IfErr, IfOk};
 ghost use Rattle.std.specs.Io.{ReadsAtMost};
+ghost use Rattle.std.specs.IoError.{error_kind};
 ghost use Rattle.std.specs.Io.KnownBytes.{ReadConsumes};
 
 use std::io;
@@ -67,6 +68,7 @@ impl Read for Pieces<'_> {
         ensures bytes { ReadConsumes (Some self.old.rest) (Some self.new.rest) result buf.new }
         ensures calls { self.new.calls ≡ (self.old.calls + 1) % (2 ^ 64) }
         ensures fails { IsErr result ↔ (self.new.calls ≡ self.old.failing) }
+        ensures kind { IfErr result (λ e. error_kind e ≡ ErrorKind.Other) }
         ensures count { IfOk result (λ n. n ≡ min (min (max self.old.size 1) (length buf.old)) (length self.old.rest)) }
         ensures kept { (self.new.size ≡ self.old.size) × (self.new.failing ≡ self.old.failing) }
     {

@@ -1,5 +1,6 @@
-ghost use Rattle.std.specs.Prelude.{◌≡◌, ◌≢◌, ◌+◌, ◌-◌, ◌%◌, ◌^◌, [], length, max, min, Some, true, false, IsTrue, IsOk, IsOkAnd, IfOk, MatchResult};
+ghost use Rattle.std.specs.Prelude.{◌≡◌, ◌≢◌, ◌+◌, ◌-◌, ◌%◌, ◌^◌, [], length, max, min, Some, true, false, IsTrue, IsOk, IsOkAnd, IfErr, IfOk, MatchResult};
 ghost use Rattle.std.specs.Io.{WritesAtMost};
+ghost use Rattle.std.specs.IoError.{error_kind};
 ghost use Rattle.std.specs.Io.KnownBytes.{WriteAppends};
 
 use std::alloc::{AllocError, Global};
@@ -101,6 +102,7 @@ impl Write for Spout {
         ensures bytes { WriteAppends (Some self.old.bytes) (Some self.new.bytes) result buf.now }
         ensures calls { self.new.calls ≡ (self.old.calls + 1) % (2 ^ 64) }
         ensures chosen { self.new.calls ≡ self.old.failing → MatchResult result (λ n. IsTrue self.old.refusing × (n ≡ 0)) (λ _. self.old.refusing ≡ false) }
+        ensures kind { IfErr result (λ e. error_kind e ≡ ErrorKind.Other) }
         ensures other { self.new.calls ≢ self.old.failing → IsOkAnd result (λ n. n ≡ min (min (max self.old.size 1) (length buf.now)) (self.old.room - length self.old.bytes)) }
         ensures kept { self.new ≡ record self.old { bytes = self.new.bytes; calls = self.new.calls } }
     {

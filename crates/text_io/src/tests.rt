@@ -74,6 +74,15 @@ fn an_empty_piece_taken_by_no_byte_is_no_failure(rt: HostRuntime) -> Result<(), 
     Ok(())
 }
 
+// A count that hands on a part of each piece meets its contract; here the device takes a piece at once.
+#[test]
+fn a_piece_is_handed_on_in_one_call(rt: HostRuntime) -> Result<(), Fail> {
+    let mut out = Counted::new(Spout::new(rt.alloc(), 64, 4096)?);
+    assert_eq!(rt; out.write(SAID)?, SAID.len());
+    assert_eq!(rt; out.get_ref().calls(), 1);
+    Ok(())
+}
+
 #[test]
 fn blocks_reach_the_device_by_the_last_flush(rt: HostRuntime) -> Result<(), Fail> {
     let blocks = BufWriter::with_capacity(rt.alloc(), 4096, Spout::new(rt.alloc(), 64, 4096)?)?;

@@ -1,7 +1,10 @@
 ghost use Rattle.std.specs.Prelude.{◌<◌, ◌-◌, ◌^◌};
 
+use super::line_in_hand;
 use crate::{Counted, Pieces, Spout, TextFault, WriteFault, read_journal, write_journal};
+use hull_book::Journal;
 use std::alloc::Global;
+use std::io::BufWriter;
 use std::test::Fail;
 
 /// The journal of a removal that uncovers an inner point.
@@ -24,9 +27,9 @@ fn read(alloc: Global, text: &[u8], size: usize, failing: u64) -> Outcome {
 }
 
 // The example with line `number` replaced, or left out.
-fn changed(alloc: Global, number: usize, line: Option<&[u8]>) -> Result<Vec<u8>, Fail> {
+fn changed(alloc: Global, number: u32, line: Option<&[u8]>) -> Result<Vec<u8>, Fail> {
     let mut text = Vec::new(alloc);
-    let mut at = 1usize;
+    let mut at = 1u32;
     let mut rest = EXAMPLE;
     for _ in 0..9 {
         let mut length = 0usize;
@@ -52,6 +55,13 @@ fn changed(alloc: Global, number: usize, line: Option<&[u8]>) -> Result<Vec<u8>,
     Ok(text)
 }
 
+fn example(alloc: Global) -> Result<Journal, Fail> {
+    match read_journal(alloc, &mut Counted::new(Pieces::new(EXAMPLE, 4096))) {
+        Ok(journal) => Ok(journal),
+        Err(fault) => Err(fault.into()),
+    }
+}
+
 #[test]
 fn the_example_journal_is_read_and_written_back(rt: HostRuntime) -> Result<(), Fail> {
     assert_eq!(rt; EXAMPLE.len(), 209);
@@ -72,110 +82,102 @@ fn the_example_journal_is_read_and_written_back(rt: HostRuntime) -> Result<(), F
     Ok(())
 }
 
-#[test]
-fn each_change_of_the_example_journal_is_its_fault(rt: HostRuntime) -> Result<(), Fail> {
-    let changes = [
-        (
-            1,
-            Some("hullbook journal 9 first 0 limit 8 capacity 8"),
-            Outcome::Fault(7, 1),
-        ),
-        (
-            1,
-            Some("hullbook journal 1 first 0 limit 0 capacity 8"),
-            Outcome::Fault(7, 1),
-        ),
-        (
-            1,
-            Some("hullbook journal 1 first 0 limit 8 capacity 16777217"),
-            Outcome::Fault(7, 1),
-        ),
-        (
-            1,
-            Some("hullbook  journal 1 first 0 limit 8 capacity 8"),
-            Outcome::Fault(7, 1),
-        ),
-        (
-            1,
-            Some("hullbook journal 1 first 00 limit 8 capacity 8"),
-            Outcome::Fault(7, 1),
-        ),
-        (3, Some("1 64 add 4 0 = added"), Outcome::Fault(4, 3)),
-        (3, Some("1 0 add 4 0 : added"), Outcome::Fault(1, 3)),
-        (3, Some("1 0 add 4 0 = ok"), Outcome::Fault(5, 3)),
-        (3, Some("01 0 add 4 0 = added"), Outcome::Fault(2, 3)),
-        (
-            3,
-            Some("18446744073709551616 0 add 4 0 = added"),
-            Outcome::Fault(2, 3),
-        ),
-        (
-            3,
-            Some("18446744073709551615 0 add 4 0 = added"),
-            Outcome::Lines(7),
-        ),
-        (3, Some("1 0 extreme 0 0 = empty"), Outcome::Fault(3, 3)),
-        (
-            3,
-            Some("1 0 add 4 0 = point 1048577 0"),
-            Outcome::Fault(3, 3),
-        ),
-        (
-            3,
-            Some("1 0 add 4 0 = tangents -1 0 0 -1048576"),
-            Outcome::Lines(7),
-        ),
-        (
-            3,
-            Some("1 0 add 4 0 = area 340282366920938463463374607431768211455"),
-            Outcome::Lines(7),
-        ),
-        (
-            3,
-            Some("1 0 add 4 0 = area 340282366920938463463374607431768211456"),
-            Outcome::Fault(2, 3),
-        ),
-        (
-            3,
-            Some("1 0 add 4 0 = count 4294967296"),
-            Outcome::Fault(2, 3),
-        ),
-        (3, Some("1 0 add 4 0 = inside"), Outcome::Lines(7)),
-        (3, Some(""), Outcome::Fault(1, 3)),
-        (3, Some("end"), Outcome::Fault(1, 3)),
-        (3, Some("end x"), Outcome::Fault(2, 3)),
-        (
-            7,
-            Some("5 0 vertices = list 3 0 0 4 0 2"),
-            Outcome::Fault(1, 7),
-        ),
-        (
-            7,
-            Some("5 0 vertices = list 3 4 0 2 1 0 0"),
-            Outcome::Lines(7),
-        ),
-        (7, Some("5 0 vertices = list 0"), Outcome::Lines(7)),
-        (2, Some("0 0 vertices = list 1048577"), Outcome::Fault(2, 2)),
-        (6, Some("4 0 remove 2 3 = absent"), Outcome::Lines(7)),
-        (9, Some("end 8"), Outcome::Fault(1, 9)),
-        (9, Some("end 33554433"), Outcome::Fault(2, 9)),
-        (9, Some("end 7 7"), Outcome::Fault(1, 9)),
-        (9, None, Outcome::Fault(6, 9)),
-        (10, None, Outcome::Lines(7)),
-    ];
-    for (number, line, want) in changes {
-        let text = changed(rt.alloc(), number, line.map(str::as_bytes))?;
-        for size in [1, 2, 3, 4096] {
-            assert_eq!(rt;
-                read(rt.alloc(), &text, size, 0),
-                want,
-                "line {number} by {size}"
-            );
+// Whether a text reads so in pieces of any size.
+fn is_read_so(alloc: Global, text: &[u8], want: Outcome) -> bool {
+    for size in [1, 2, 3, 4096] {
+        if read(alloc, text, size, 0) != want {
+            return false;
         }
     }
-    let mut longer = EXAMPLE.to_vec(rt.alloc())?;
-    longer.extend_from_slice(b"x\n")?;
-    assert_eq!(rt; read(rt.alloc(), &longer, 3, 0), Outcome::Fault(1, 10));
+    true
+}
+
+/// Lines that have a fault in the place of one of the example: the line's number, its text, and the fault.
+const FAULTY_LINES: [(u32, &str, u8); 29] = [
+    (1, "hullbook journal 9 first 0 limit 8 capacity 8", 7),
+    (1, "hullbook journal 1 first 0 limit 0 capacity 8", 7),
+    (1, "hullbook journal 1 first 0 limit 8 capacity 0", 7),
+    (1, "hullbook journal 1 first 0 limit 8 capacity 16777217", 7),
+    (1, "hullbook  journal 1 first 0 limit 8 capacity 8", 7),
+    (1, "hullbook journal 1 first 00 limit 8 capacity 8", 7),
+    (2, "0 0 vertices = list 1048577", 2),
+    (3, "", 1),
+    (3, "# a remark", 2),
+    (3, "1 64 add 4 0 = added", 4),
+    (3, "1 0 add 4 0 : added", 1),
+    (3, "1 0 add 4 0 = ok", 5),
+    (3, "1 0 add 4 0 = full", 5),
+    (3, "01 0 add 4 0 = added", 2),
+    (3, "18446744073709551616 0 add 4 0 = added", 2),
+    (3, "1 0 extreme 0 0 = empty", 3),
+    (3, "1 0 add 4 0 = point 1048577 0", 3),
+    (3, "1 0 add 4 0 = tangents 0 0 0", 1),
+    (
+        3,
+        "1 0 add 4 0 = area 340282366920938463463374607431768211456",
+        2,
+    ),
+    (3, "1 0 add 4 0 = count 4294967296", 2),
+    (3, "1 0 add 4 0 = added 4", 1),
+    (3, "end", 1),
+    (3, "end x", 2),
+    (3, "end 2", 1),
+    (7, "5 0 vertices = list 3 0 0 4 0 2", 1),
+    (7, "5 0 vertices = list 3 0 0 4 0 2 1 0", 1),
+    (9, "end 8", 1),
+    (9, "end 33554433", 2),
+    (9, "end 7 7", 1),
+];
+
+#[test]
+fn each_change_of_the_example_journal_is_its_fault(rt: HostRuntime) -> Result<(), Fail> {
+    for (number, line, fault) in FAULTY_LINES {
+        let text = changed(rt.alloc(), number, Some(line.as_bytes()))?;
+        let want = Outcome::Fault(fault, number);
+        assert!(rt;
+            is_read_so(rt.alloc(), &text, want),
+            "line {number}: {line}"
+        );
+    }
+    Ok(())
+}
+
+#[test]
+fn other_changes_of_the_example_journal_are_read(rt: HostRuntime) -> Result<(), Fail> {
+    let rows = [
+        (3, "18446744073709551615 0 add 4 0 = added"),
+        (3, "1 63 add 4 0 = added"),
+        (3, "1 0 add 4 0 = inside"),
+        (3, "1 0 add 4 0 = tangents -1 0 0 -1048576"),
+        (
+            3,
+            "1 0 add 4 0 = area 340282366920938463463374607431768211455",
+        ),
+        (3, "1 0 add 4 0 = count 4294967295"),
+        (6, "4 0 remove 2 3 = absent"),
+        (7, "5 0 vertices = list 3 4 0 2 1 0 0"),
+        (7, "5 0 vertices = list 0"),
+    ];
+    for (number, line) in rows {
+        let text = changed(rt.alloc(), number, Some(line.as_bytes()))?;
+        assert!(rt;
+            is_read_so(rt.alloc(), &text, Outcome::Lines(7)),
+            "line {number}: {line}"
+        );
+    }
+    assert!(rt; is_read_so(rt.alloc(), EXAMPLE, Outcome::Lines(7)));
+    Ok(())
+}
+
+#[test]
+fn the_example_journal_ends_with_its_end_line(rt: HostRuntime) -> Result<(), Fail> {
+    let shorter = changed(rt.alloc(), 9, None)?;
+    assert!(rt; is_read_so(rt.alloc(), &shorter, Outcome::Fault(6, 9)));
+    for more in ["x\n", "x", "\n", "end 7\n"] {
+        let mut longer = EXAMPLE.to_vec(rt.alloc())?;
+        longer.extend_from_slice(more.as_bytes())?;
+        assert!(rt; is_read_so(rt.alloc(), &longer, Outcome::Fault(1, 10)));
+    }
     Ok(())
 }
 
@@ -214,11 +216,7 @@ fn each_failing_read_of_the_example_journal_is_fault_8(rt: HostRuntime) -> Resul
 fn each_failing_write_of_the_example_journal_leaves_a_beginning(
     rt: HostRuntime,
 ) -> Result<(), Fail> {
-    let mut source = Counted::new(Pieces::new(EXAMPLE, 4096));
-    let journal = match read_journal(rt.alloc(), &mut source) {
-        Ok(journal) => journal,
-        Err(fault) => return Err(fault.into()),
-    };
+    let journal = example(rt.alloc())?;
     for call in 1..210 {
         for refuses in [false, true] {
             let spout = Spout::new(rt.alloc(), 256, 1)?;
@@ -240,6 +238,17 @@ fn each_failing_write_of_the_example_journal_leaves_a_beginning(
     Ok(())
 }
 
+// No contract sees a flush: a writer of blocks would hold back what it was not told to hand on.
+#[test]
+fn a_written_journal_reaches_the_device_behind_a_block(rt: HostRuntime) -> Result<(), Fail> {
+    let journal = example(rt.alloc())?;
+    let device = Spout::new(rt.alloc(), 256, 4096)?;
+    let mut out = Counted::new(BufWriter::with_capacity(rt.alloc(), 4096, device)?);
+    assert_eq!(rt; write_journal(&journal, &mut out), Ok(()));
+    assert_eq!(rt; out.get_ref().get_ref().bytes(), EXAMPLE);
+    Ok(())
+}
+
 #[test]
 fn a_header_takes_the_greatest_numbers(rt: HostRuntime) -> Result<(), Fail> {
     let text =
@@ -255,10 +264,16 @@ fn a_header_takes_the_greatest_numbers(rt: HostRuntime) -> Result<(), Fail> {
 
 #[test]
 fn whichever_request_is_refused_the_journal_is_read_or_fault_10(rt: HostRuntime) {
-    match read(rt.alloc(), EXAMPLE, 3, 0) {
-        Outcome::Fault(10, line) => assert!(rt; line <= 10),
-        other => assert_eq!(rt; other, Outcome::Lines(7)),
+    let mut source = Counted::new(Pieces::new(EXAMPLE, 1));
+    match read_journal(rt.alloc(), &mut source) {
+        Ok(journal) => assert_eq!(rt; journal.lines().len(), 7),
+        Err(fault) => {
+            let line = line_in_hand(EXAMPLE, source.get_ref().calls());
+            assert_eq!(rt; fault, TextFault { number: 10, line });
+            assert_eq!(rt; source.failures(), 0);
+        }
     }
+    assert_eq!(rt; read(rt.alloc(), EXAMPLE, 3, 0), Outcome::Lines(7));
 }
 
 // A reader that always answers want of memory meets its contract; here memory is ample.

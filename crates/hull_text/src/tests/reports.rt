@@ -1,10 +1,11 @@
 use crate::{
     Counted, Pieces, Spout, WriteFault, read_journal, read_script, report_fits, write_report,
 };
-use hull_book::{Answer, JournalFull, Report};
+use hull_book::{Answer, Journal, JournalFull, Report, Script};
 use hull_plain::{Place, PointList, Reply};
 use lattice::Point;
 use std::alloc::Global;
+use std::io::BufWriter;
 use std::test::Fail;
 
 const SCRIPT: &[u8] = b"1 place 0 0\n0 add 0 0\njoin\n0 vertices\n1 tangents 3 0\n0 area\n";
@@ -37,16 +38,20 @@ fn answers(alloc: Global) -> Result<Vec<Vec<Answer>>, Fail> {
     Ok(all)
 }
 
-#[test]
-fn a_report_tells_answers_ledgers_and_their_sum(rt: HostRuntime) -> Result<(), Fail> {
-    let script = match read_script(rt.alloc(), &mut Counted::new(Pieces::new(SCRIPT, 3))) {
+fn texts(alloc: Global) -> Result<(Script, Journal), Fail> {
+    let script = match read_script(alloc, &mut Counted::new(Pieces::new(SCRIPT, 3))) {
         Ok(script) => script,
         Err(fault) => return Err(fault.into()),
     };
-    let journal = match read_journal(rt.alloc(), &mut Counted::new(Pieces::new(JOURNAL, 3))) {
-        Ok(journal) => journal,
-        Err(fault) => return Err(fault.into()),
-    };
+    match read_journal(alloc, &mut Counted::new(Pieces::new(JOURNAL, 3))) {
+        Ok(journal) => Ok((script, journal)),
+        Err(fault) => Err(fault.into()),
+    }
+}
+
+#[test]
+fn a_report_tells_answers_ledgers_and_their_sum(rt: HostRuntime) -> Result<(), Fail> {
+    let (script, journal) = texts(rt.alloc())?;
     let answers = answers(rt.alloc())?;
     let report = Report {
         script: &script,
@@ -67,13 +72,40 @@ fn a_report_tells_answers_ledgers_and_their_sum(rt: HostRuntime) -> Result<(), F
         assert_eq!(rt; write_report(&report, &mut out), Err(WriteFault));
         assert!(rt; TEXT.starts_with(out.get_ref().bytes()));
     }
-    let short = Report {
+    Ok(())
+}
+
+// No contract sees a flush: a writer of blocks would hold back what it was not told to hand on.
+#[test]
+fn a_written_report_reaches_the_device_behind_a_block(rt: HostRuntime) -> Result<(), Fail> {
+    let (script, journal) = texts(rt.alloc())?;
+    let answers = answers(rt.alloc())?;
+    let report = Report {
+        script: &script,
+        answers: &answers,
+        ledgers: &[2, 2],
+        journal: &journal,
+    };
+    let fits = report_fits(&report);
+    assert!(rt; fits);
+    let device = Spout::new(rt.alloc(), 512, 4096)?;
+    let mut out = Counted::new(BufWriter::with_capacity(rt.alloc(), 4096, device)?);
+    assert_eq!(rt; write_report(&report, &mut out), Ok(()));
+    assert_eq!(rt; out.get_ref().get_ref().bytes(), TEXT);
+    Ok(())
+}
+
+#[test]
+fn a_report_without_a_ledger_for_each_worker_does_not_fit(rt: HostRuntime) -> Result<(), Fail> {
+    let (script, journal) = texts(rt.alloc())?;
+    let answers = answers(rt.alloc())?;
+    let report = Report {
         script: &script,
         answers: &answers,
         ledgers: &[2],
         journal: &journal,
     };
-    let fits = report_fits(&short);
+    let fits = report_fits(&report);
     assert!(rt; !fits);
     Ok(())
 }

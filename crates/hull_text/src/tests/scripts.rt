@@ -1,3 +1,4 @@
+use super::line_in_hand;
 use crate::{Counted, Pieces, TextFault, read_script};
 use hull_plain::Call;
 use std::alloc::Global;
@@ -28,67 +29,72 @@ fn read(alloc: Global, text: &[u8], size: usize, failing: u64) -> Outcome {
     }
 }
 
-#[test]
-fn each_row_of_the_script_table_reads_so_in_pieces_of_any_size(
-    rt: HostRuntime,
-) -> Result<(), Fail> {
-    let rows = [
-        ("0 add 5\n", Outcome::Fault(1, 1)),
-        ("0  count\n", Outcome::Fault(1, 1)),
-        ("0 count 1\n", Outcome::Fault(1, 1)),
-        ("0 add 01 1\n", Outcome::Fault(2, 1)),
-        ("0 add -0 1\n", Outcome::Fault(2, 1)),
-        ("join 3\n", Outcome::Fault(2, 1)),
-        ("0 add 1048577 0\n", Outcome::Fault(3, 1)),
-        ("0 extreme 0 0\n", Outcome::Fault(3, 1)),
-        ("64 count\n", Outcome::Fault(4, 1)),
-        ("0 hull\n", Outcome::Fault(5, 1)),
-        ("64 hull\n", Outcome::Fault(4, 1)),
-        ("0 add x\n", Outcome::Fault(2, 1)),
-        ("0 count\r\n", Outcome::Fault(1, 1)),
-        (" 0 count\n", Outcome::Fault(1, 1)),
-        ("0 count \n", Outcome::Fault(1, 1)),
-        ("0\n", Outcome::Fault(1, 1)),
-        ("+0 count\n", Outcome::Fault(2, 1)),
-        ("0 add +1 1\n", Outcome::Fault(2, 1)),
-        ("0 add 1 -1048577\n", Outcome::Fault(3, 1)),
-        ("0 Count\n", Outcome::Fault(5, 1)),
-        ("\n\n# a\n0 counts", Outcome::Fault(5, 4)),
-        ("0 count\n0 count\n64 x\n1 y\n", Outcome::Fault(4, 3)),
-        (
-            "99999999999999999999999999999999999999999999 count",
-            Outcome::Fault(4, 1),
-        ),
-        (
-            "0 add 99999999999999999999999999999999999999999999 1",
-            Outcome::Fault(3, 1),
-        ),
-        ("0 add 18446744073709551616 01", Outcome::Fault(3, 1)),
-        ("", Outcome::Script(1, 1, 0)),
-        ("join\njoin", Outcome::Script(1, 3, 0)),
-        (
-            "1 count\n0 add 0 0\njoin\n0 count\n",
-            Outcome::Script(2, 2, 3),
-        ),
-        (
-            "\n# a\n63 add -1048576 1048576\n0 remove 1 1\n0 extreme 0 -1\n0 place 0 0",
-            Outcome::Script(64, 1, 4),
-        ),
-        (
-            "0 tangents 0 0\n0 vertices\n0 area\n0 count\n",
-            Outcome::Script(1, 1, 4),
-        ),
-    ];
-    for (text, want) in &rows {
-        for size in [1, 2, 3, 4096] {
-            assert_eq!(rt;
-                &read(rt.alloc(), text.as_bytes(), size, 0),
-                want,
-                "{text} by {size}"
-            );
+// Whether a text reads so in pieces of any size.
+fn is_read_so(alloc: Global, text: &[u8], want: Outcome) -> bool {
+    for size in [1, 2, 3, 4096] {
+        if read(alloc, text, size, 0) != want {
+            return false;
         }
     }
-    Ok(())
+    true
+}
+
+/// Texts that are no script: the number of their first fault, and its line.
+const FAULTY_SCRIPTS: [(&str, u8, u32); 29] = [
+    ("0 add 5\n", 1, 1),
+    ("0  count\n", 1, 1),
+    (" 0 count\n", 1, 1),
+    ("0 count \n", 1, 1),
+    ("0 count\r\n", 1, 1),
+    (" \n", 1, 1),
+    ("0 count 1\n", 1, 1),
+    ("0\n", 1, 1),
+    ("0 add 01 1\n", 2, 1),
+    ("0 add -0 1\n", 2, 1),
+    ("0 add +1 1\n", 2, 1),
+    ("0 add x\n", 2, 1),
+    ("+0 count\n", 2, 1),
+    ("join 3\n", 2, 1),
+    ("0 add 1048577 0\n", 3, 1),
+    ("0 add 1 -1048577\n", 3, 1),
+    ("0 add 18446744073709551616 01", 3, 1),
+    ("0 add 99999999999999999999999999999999999999999999 1", 3, 1),
+    ("0 extreme 0 0\n", 3, 1),
+    ("0 extreme 0 0 0\n", 3, 1),
+    ("64 count\n", 4, 1),
+    ("64 hull\n", 4, 1),
+    ("99999999999999999999999999999999999999999999 count", 4, 1),
+    ("0 hull\n", 5, 1),
+    ("0 Count\n", 5, 1),
+    ("0 counts", 5, 1),
+    ("\n\n# a\n0 counts", 5, 4),
+    ("0 count\n0 count\n64 x\n1 y\n", 4, 3),
+    ("0 count\n0 add 1", 1, 2),
+];
+
+#[test]
+fn each_row_of_the_script_table_is_its_fault(rt: HostRuntime) {
+    for (text, number, line) in FAULTY_SCRIPTS {
+        let want = Outcome::Fault(number, line);
+        assert!(rt; is_read_so(rt.alloc(), text.as_bytes(), want), "{text}");
+    }
+}
+
+#[test]
+fn scripts_are_read_with_their_workers_phases_and_calls(rt: HostRuntime) {
+    let rows = [
+        ("", 1, 1, 0),
+        ("\n", 1, 1, 0),
+        ("join\njoin", 1, 3, 0),
+        ("1 count\n0 add 0 0\njoin\n0 count\n", 2, 2, 3),
+        ("\n# a\n63 add -1048576 1048576\n0 remove 1 1\n", 64, 1, 2),
+        ("0 extreme 0 -1\n0 place 0 0\n0 tangents 0 0", 1, 1, 3),
+        ("0 vertices\n0 area\n0 count\n", 1, 1, 3),
+    ];
+    for (text, workers, phases, calls) in rows {
+        let want = Outcome::Script(workers, phases, calls);
+        assert!(rt; is_read_so(rt.alloc(), text.as_bytes(), want), "{text}");
+    }
 }
 
 #[test]
@@ -160,10 +166,15 @@ fn whichever_request_is_refused_the_script_is_read_or_fault_10(
     rt: HostRuntime,
 ) -> Result<(), Fail> {
     let text = b"1 count\n0 add 0 0\njoin\n0 vertices\n";
-    match read(rt.alloc(), text, 3, 0) {
-        Outcome::Script(2, 2, 3) => {}
-        Outcome::Fault(10, line) => assert!(rt; line <= 5),
-        other => assert_eq!(rt; other, Outcome::Script(2, 2, 3)),
+    let mut source = Counted::new(Pieces::new(text, 1));
+    match read_script(rt.alloc(), &mut source) {
+        Ok(script) => assert_eq!(rt; script.phases().len(), 2),
+        Err(fault) => {
+            let line = line_in_hand(text, source.get_ref().calls());
+            assert_eq!(rt; fault, TextFault { number: 10, line });
+            assert_eq!(rt; source.failures(), 0);
+        }
     }
+    assert_eq!(rt; read(rt.alloc(), text, 3, 0), Outcome::Script(2, 2, 3));
     Ok(())
 }
