@@ -5,3 +5,4 @@ pub mod Books
 pub mod Ledgers
 pub mod Copies
 pub mod Verdicts
+pub mod Answers

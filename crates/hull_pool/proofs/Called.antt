@@ -9,7 +9,7 @@ use Rattle.hull_book.specs.declared.line.Line.{Line}
 use Rattle.hull_book.specs.declared.head.BookHead.{BookHead}
 use Rattle.hull_book.specs.Books.{BookValue, Serves, passed, line_for}
 use Rattle.hull_book.specs.Ledgers.{LedgerValue, IsLedger, IsLedgerOf, count_of}
-use Rattle.hull_pool.specs.Answers.{Answer}
+use Rattle.hull_book.specs.Answers.{Answer}
 use Rattle.hull_pool.specs.Work.{lines_of, capacity_of, workers_of, HasCalled}
 
 -- a seat's lines are as many as its ledger counts

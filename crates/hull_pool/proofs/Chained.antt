@@ -10,7 +10,8 @@ use Rattle.hull_book.specs.declared.line.Line.{Line}
 use Rattle.hull_book.specs.declared.head.BookHead.{BookHead}
 use Rattle.hull_book.specs.Books.{BookValue}
 use Rattle.hull_book.specs.Scripts.{PhaseValue, calls_in, calls_in_all, calls_of}
-use Rattle.hull_pool.specs.Answers.{Answer, WorkersValue}
+use Rattle.hull_book.specs.Answers.{Answer}
+use Rattle.hull_pool.specs.Answers.{WorkersValue}
 use Rattle.hull_pool.specs.Runs.{job, answers_of, HasRunPhase}
 use Rattle.hull_pool.specs.Scripts.{MayRunAll, HasRunPhases, HasRunAll}
 use Rattle.hull_pool.specs.Work.{HasWorked, lines_of, capacity_of, workers_of, replies_of, fulls}

@@ -8,7 +8,8 @@ use Rattle.std.proofs.Math.Seq.{get_or-append_seam}
 use Rattle.hull_plain.specs.declared.call.Call.{Call}
 use Rattle.hull_book.specs.Books.{BookValue}
 use Rattle.hull_book.specs.Scripts.{PhaseValue, calls_in, calls_in_all, calls_of}
-use Rattle.hull_pool.specs.Answers.{Answer, AnswersValue, WorkersValue, shown, no_answers}
+use Rattle.hull_book.specs.Answers.{Answer}
+use Rattle.hull_pool.specs.Answers.{AnswersValue, WorkersValue, shown, no_answers}
 use Rattle.hull_pool.specs.Runs.{job, MayRun}
 use Rattle.hull_pool.specs.Scripts.{MayRunAll, HasRunPhases}
 use Rattle.hull_pool.specs.Work.{workers_of}

@@ -12,7 +12,7 @@ use Rattle.hull_book.specs.Ledgers.{count_of}
 use Rattle.hull_book.specs.Scripts.{PhaseValue, calls_in}
 use Rattle.hull_book.proofs.Counts.{below, below_more, below_none, below_all}
 use Rattle.hull_pool.specs.Runs.{job}
-use Rattle.hull_pool.specs.Answers.{Answer}
+use Rattle.hull_book.specs.Answers.{Answer}
 use Rattle.hull_pool.specs.Work.{HasWorked, lines_of, capacity_of, workers_of}
 use Rattle.hull_pool.proofs.Called.{count-lines_of}
 

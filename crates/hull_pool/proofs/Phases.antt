@@ -18,7 +18,8 @@ use Rattle.ticket_lock.specs.declared.lock.TicketLock.{TicketLock}
 use Rattle.ticket_lock.specs.declared.seat.Seat.{Seat}
 use Rattle.ticket_lock.specs.Tokens.{IsSeatOf, seat_number, seat_seen}
 use Rattle.hull_pool.specs.declared.worker.Worker.{Worker}
-use Rattle.hull_pool.specs.Answers.{Answer, AnswersValue, shown, shown_workers, no_answers}
+use Rattle.hull_book.specs.Answers.{Answer}
+use Rattle.hull_pool.specs.Answers.{AnswersValue, shown, shown_workers, no_answers}
 use Rattle.hull_pool.specs.Crews.{Boxed, book_head, team, worker_of, IsReady, HasRun}
 use Rattle.hull_pool.specs.Runs.{job, answers_of, MayRun, HasRunPhase}
 use Rattle.hull_pool.proofs.Growth.{grown_to}

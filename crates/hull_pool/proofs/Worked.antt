@@ -7,7 +7,7 @@ use Rattle.hull_plain.specs.declared.call.Call.{Call}
 use Rattle.hull_plain.specs.declared.reply.Reply.{Reply}
 use Rattle.hull_book.specs.declared.line.Line.{Line}
 use Rattle.hull_book.specs.declared.report.JournalFull.{JournalFull}
-use Rattle.hull_pool.specs.Answers.{Answer}
+use Rattle.hull_book.specs.Answers.{Answer}
 use Rattle.hull_pool.specs.Work.{lines_of, HasCalled, HasWorked, replies_of, fulls}
 
 -- nothing more behind a list

@@ -1,14 +1,8 @@
 -- The answers of workers as contracts see them.
 use Rattle.std.specs.Prelude.{◌≡◌, ◌<◌, ◌≤◌, slice_index_or, ℕ, ◌-◌, List, [], map, Vec, vec_capacity, length}
+use Rattle.hull_book.specs.Answers.{Answer}
 use Rattle.hull_book.specs.Ledgers.{LedgerValue}
 use Rattle.hull_book.specs.Scripts.{PhaseValue, calls_of}
-use Rattle.hull_plain.specs.declared.reply.Reply.{Reply}
-use Rattle.hull_book.specs.declared.report.JournalFull.{JournalFull}
-use Rattle.std.specs.Prelude.{Result}
-
--- a reply, or that the journal is full
-abbrev pub Answer : Type 0
-Answer = Result Reply JournalFull
 
 -- the answers of one worker so far, and the room that is reserved for more
 pub record AnswersValue : Type 0 where
@@ -31,10 +25,6 @@ no_answers = record { answers = []; room = 0 }
 -- what the workers show whose answers and ledgers these are
 abbrev pub shown_workers : {A : Type 0} → List (Vec Answer A) → List LedgerValue → WorkersValue
 shown_workers answers ledgers = record { answers = map (λ v. shown v) answers; ledgers = ledgers }
-
--- the lists in these vectors
-abbrev pub lists_in : {A : Type 0} → List (Vec Answer A) → List (List Answer)
-lists_in vectors = map (λ v. v.items) vectors
 
 -- no answer was given yet, and each worker has room for an answer to each of its calls
 pub record HasRoomFor (workers : ℕ) (phases : List PhaseValue) (answers : List AnswersValue) : Type 0 where

@@ -11,7 +11,7 @@ use Rattle.hull_book.specs.declared.limits.TheConstants.{TEXT_LINE_LIMIT}
 use Rattle.ticket_lock.specs.declared.lock.TicketLock.{TicketLock}
 use Rattle.ticket_lock.specs.declared.seat.Seat.{Seat}
 use Rattle.ticket_lock.specs.Tokens.{IsSeatOf, seat_number, seat_seen}
-use Rattle.hull_pool.specs.Answers.{Answer}
+use Rattle.hull_book.specs.Answers.{Answer}
 use Rattle.hull_pool.specs.Work.{HasWorked, capacity_of, workers_of}
 use Rattle.hull_pool.specs.declared.worker.Worker.{Worker}
 

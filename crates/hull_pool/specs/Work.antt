@@ -3,7 +3,7 @@ use Rattle.std.specs.Prelude.{◌≡◌, ◌==◌, ◌-◌, ◌<◌, ◌≤◌, 
 use Rattle.hull_plain.specs.declared.call.Call.{Call}
 use Rattle.hull_book.specs.declared.line.Line.{Line}
 use Rattle.hull_book.specs.Books.{BookValue}
-use Rattle.hull_pool.specs.Answers.{Answer}
+use Rattle.hull_book.specs.Answers.{Answer}
 
 -- the lines of a seat
 abbrev pub lines_of : ℕ → List Line → List Line

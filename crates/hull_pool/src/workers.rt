@@ -1,7 +1,8 @@
 ghost use Rattle.std.specs.Prelude.{◌≡◌, ◌≤◌, ◌<◌, All, IfOk, IfErr, length, map, vec_len};
 ghost use Rattle.hull_book.specs.Scripts.{calls_of, calls_in_all};
 ghost use Rattle.hull_book.specs.declared.limits.TheConstants.{TEXT_LINE_LIMIT};
-ghost use Rattle.hull_pool.specs.Answers.{HasRoomFor, lists_in, shown};
+ghost use Rattle.hull_book.specs.Answers.{answers_in};
+ghost use Rattle.hull_pool.specs.Answers.{HasRoomFor, shown};
 
 use hull_book::{Answer, Ledger, Phase, Script};
 use hull_plain::NoMemory;
@@ -71,7 +72,7 @@ impl Workers {
 
     /// Each worker's answers in their order, and the ledgers. It takes no memory.
     pub fn into_parts(self) -> (Vec<Vec<Answer>>, Vec<Ledger>)
-        ensures answers { lists_in result.0.items ≡ map (λ a. a.answers) self.answers }
+        ensures answers { answers_in result.0.items ≡ map (λ a. a.answers) self.answers }
         ensures ledgers { result.1.items ≡ self.ledgers }
     {
         let Workers { answers, ledgers } = self;

@@ -5,8 +5,9 @@ use Rattle.std.proofs.lemmas.List.{append-nil, drop_all, length-append}
 use Rattle.hull_plain.specs.declared.call.Call.{Call}
 use Rattle.hull_book.specs.Scripts.{PhaseValue, calls_of}
 use Rattle.hull_text.specs.Spelling.{call_fields, line_text}
-use Rattle.hull_text.specs.Answers.{Answer, answer_fields, answer_line, answers_text}
-use Rattle.hull_text.specs.ReportText.{answers_in, ledgers_text, workers_text}
+use Rattle.hull_book.specs.Answers.{Answer, answers_in}
+use Rattle.hull_text.specs.Answers.{answer_fields, answer_line, answers_text}
+use Rattle.hull_text.specs.ReportText.{ledgers_text, workers_text}
 use Rattle.hull_text.specs.Spaced.{spaced, answer_pieces, ledger_pieces, sum_pieces}
 use Rattle.hull_text.proofs.Chains.{spaced_append}
 use Rattle.hull_text.proofs.Spaces.{line_is_spaced}

@@ -1,13 +1,8 @@
 -- Answers in a report: a reply, or that the journal was full.
-use Rattle.std.specs.Prelude.{ℕ, List, [], ◌∷◌, ◌++◌, codes, decimal, Result, Ok, Err}
+use Rattle.std.specs.Prelude.{ℕ, List, [], ◌∷◌, ◌++◌, codes, decimal, Ok, Err}
 use Rattle.hull_plain.specs.declared.call.Call.{Call}
-use Rattle.hull_plain.specs.declared.reply.Reply.{Reply}
-use Rattle.hull_book.specs.declared.report.JournalFull.{JournalFull}
+use Rattle.hull_book.specs.Answers.{Answer}
 use Rattle.hull_text.specs.Spelling.{call_fields, reply_fields, line_text}
-
--- what a call was answered
-abbrev pub Answer : Type 0
-Answer = Result Reply JournalFull
 
 -- an answer is spelled as its reply, or by a word
 abbrev pub answer_fields : Answer → List (List ℕ)

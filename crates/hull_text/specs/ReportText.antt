@@ -3,11 +3,8 @@ use Rattle.std.specs.Prelude.{◌≡◌, ◌<◌, ℕ, suc, List, [], ◌∷◌,
 use Rattle.hull_book.specs.Journals.{JournalValue}
 use Rattle.hull_book.specs.Scripts.{PhaseValue, ScriptValue, calls_of}
 use Rattle.hull_text.specs.Spelling.{line_text}
-use Rattle.hull_text.specs.Answers.{Answer, answers_text}
-
--- the answers in these vectors
-abbrev pub answers_in : {A : Type 0} → List (Vec Answer A) → List (List Answer)
-answers_in vectors = map (λ v. v.items) vectors
+use Rattle.hull_book.specs.Answers.{Answer}
+use Rattle.hull_text.specs.Answers.{answers_text}
 
 -- for each worker from k on, a line for each of its calls
 unfoldable pub workers_text : ℕ → List PhaseValue → List (List Answer) → List ℕ

@@ -1,7 +1,8 @@
 ghost use Rattle.std.specs.Prelude.{◌≡◌, ◌≤◌, ◌<◌, ◌↔◌, ℕ, IsTrue, length, slice_index_or, []};
 ghost use Rattle.std.specs.List.{All};
 ghost use Rattle.hull_book.specs.Scripts.{calls_of};
-ghost use Rattle.hull_text.specs.ReportText.{AreAnswered, IsReport, answers_in};
+ghost use Rattle.hull_book.specs.Answers.{answers_in};
+ghost use Rattle.hull_text.specs.ReportText.{AreAnswered, IsReport};
 
 use hull_book::{Answer, Phase, Report};
 

@@ -4,7 +4,8 @@ use Rattle.std.specs.Io.KnownBytes.{Appends}
 use Rattle.hull_book.specs.Books.{BookValue}
 use Rattle.hull_book.specs.Journals.{JournalValue}
 use Rattle.hull_book.specs.Scripts.{ScriptValue}
-use Rattle.hull_pool.specs.Answers.{Answer, WorkersValue}
+use Rattle.hull_book.specs.Answers.{Answer}
+use Rattle.hull_pool.specs.Answers.{WorkersValue}
 use Rattle.hull_pool.specs.Runs.{answers_of}
 use Rattle.hull_pool.specs.Scripts.{Runs}
 use Rattle.hull_text.specs.ReportText.{report_text}

@@ -1,4 +1,5 @@
-use Rattle.hull_text.specs.ReportText.{AreAnswered, answers_in}
+use Rattle.hull_book.specs.Answers.{answers_in}
+use Rattle.hull_text.specs.ReportText.{AreAnswered}
 use Rattle.hull_text.proofs.fitting.are_answered.Given as goal
 
 abbrev pub invariant-loop-worker : goal.invariant-loop-worker

@@ -1,7 +1,7 @@
 use Rattle.std.proofs.Common.{arith, ap, ◌∙◌, length}
 use Rattle.hull_text.proofs.Chains.{chained_end, chained_more}
 use Rattle.hull_text.proofs.Reports.{answers_at, answers_each, workers_more, workers_none}
-use Rattle.hull_text.specs.ReportText.{answers_in}
+use Rattle.hull_book.specs.Answers.{answers_in}
 use Rattle.hull_text.proofs.report.workers_after.Goals as goal
 
 pub worker_after-done-requires-clause-answered : goal.worker_after-done-requires-clause-answered

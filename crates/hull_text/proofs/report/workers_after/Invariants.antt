@@ -1,5 +1,6 @@
 use Rattle.std.proofs.Common.{drop}
-use Rattle.hull_text.specs.ReportText.{answers_in, workers_text}
+use Rattle.hull_book.specs.Answers.{answers_in}
+use Rattle.hull_text.specs.ReportText.{workers_text}
 use Rattle.hull_text.proofs.Chains.{Chained}
 use Rattle.hull_text.proofs.report.workers_after.Given as goal
 

@@ -1,7 +1,8 @@
 use Rattle.std.proofs.Common.{subst, refl, sum, length, List, ℕ, []}
 use Rattle.std.proofs.KnownBytes.{Appends-nil}
 use Rattle.text_io.specs.Write.{WritesText}
-use Rattle.hull_text.specs.ReportText.{answers_in, ledgers_text, workers_text}
+use Rattle.hull_book.specs.Answers.{answers_in}
+use Rattle.hull_text.specs.ReportText.{ledgers_text, workers_text}
 use Rattle.hull_text.proofs.Reports.{report_is}
 use Rattle.hull_text.proofs.report.write_report.Goals as goal
 
