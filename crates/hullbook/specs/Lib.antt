@@ -2,3 +2,4 @@ pub mod Tasks
 pub mod Outcomes
 pub mod Reads
 pub mod Checks
+pub mod Faults

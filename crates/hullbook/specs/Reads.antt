@@ -1,5 +1,7 @@
--- The faults that a run or a check ends with.
-use Rattle.std.specs.Prelude.{List, ℕ, Option, Err}
+-- What a run or a check may have read: a text of its kind, or the fault that it ends with.
+use Rattle.std.specs.Prelude.{List, ℕ, Option, Ok, Err}
+use Rattle.hull_book.specs.Journals.{JournalValue}
+use Rattle.hull_book.specs.Scripts.{ScriptValue}
 use Rattle.hull_text.specs.declared.fault.TextFault.{TextFault}
 use Rattle.hull_text.specs.ScriptGrammar.{ReadsKnownScript}
 use Rattle.hull_text.specs.JournalGrammar.{ReadsKnownJournal}
@@ -11,3 +13,11 @@ IsScriptFaultOf bytes f = ReadsKnownScript bytes (Err f)
 -- the same of a reader of journals
 abbrev pub IsJournalFaultOf : Option (List ℕ) → TextFault → Type 0
 IsJournalFaultOf bytes f = ReadsKnownJournal bytes (Err f)
+
+-- the bytes, where they are known, are a text of some script
+abbrev pub IsSomeScript : Option (List ℕ) → Type 0
+IsSomeScript bytes = (script : ScriptValue) × ReadsKnownScript bytes (Ok script)
+
+-- the same of a journal
+abbrev pub IsSomeJournal : Option (List ℕ) → Type 0
+IsSomeJournal bytes = (journal : JournalValue) × ReadsKnownJournal bytes (Ok journal)

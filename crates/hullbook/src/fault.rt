@@ -1,3 +1,7 @@
+ghost use Rattle.std.specs.Prelude.{◌≡◌, ◌≢◌};
+ghost use Rattle.std.specs.IoError.{error_kind};
+ghost use Rattle.hullbook.specs.Faults.{fault_of_engine, fault_of_words, status_of};
+
 use crate::options::OptionFault;
 use crate::run::RunFault;
 use hull_text::TextFault;
@@ -27,7 +31,10 @@ pub enum Fault {
 
 impl Fault {
     /// The fault of a call on the system that failed: `Memory` where memory was refused to it, and else `other`.
-    pub fn of_system(error: &io::Error, other: Fault) -> Fault {
+    pub fn of_system(error: &io::Error, other: Fault) -> Fault
+        ensures memory { error_kind error.now ≡ ErrorKind.OutOfMemory → result ≡ Fault.Memory }
+        ensures other { error_kind error.now ≢ ErrorKind.OutOfMemory → result ≡ other }
+    {
         if error.kind() == ErrorKind::OutOfMemory {
             Fault::Memory
         } else {
@@ -36,7 +43,9 @@ impl Fault {
     }
 
     /// The exit status of a program that ends with this.
-    pub fn status(&self) -> u8 {
+    pub fn status(&self) -> u8
+        ensures { result ≡ status_of self.now }
+    {
         match self {
             Fault::Usage => 2,
             Fault::Open | Fault::Write => 3,
@@ -51,6 +60,8 @@ impl Fault {
 }
 
 impl From<OptionFault> for Fault {
+    ghost from_gives = { λ x y. y ≡ fault_of_words x };
+
     fn from(fault: OptionFault) -> Fault {
         match fault {
             OptionFault::Usage => Fault::Usage,
@@ -60,6 +71,8 @@ impl From<OptionFault> for Fault {
 }
 
 impl From<RunFault> for Fault {
+    ghost from_gives = { λ x y. y ≡ fault_of_engine x };
+
     fn from(fault: RunFault) -> Fault {
         match fault {
             RunFault::Text(fault) => Fault::Text(fault),

@@ -2,6 +2,7 @@
 ghost use Rattle.hullbook.specs.Tasks.{AreWithinLimits};
 
 mod answers;
+mod checks;
 mod refused;
 
 use crate::check::check_text;

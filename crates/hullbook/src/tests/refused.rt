@@ -24,11 +24,24 @@ fn spout(rt: &impl Abort, alloc: Global) -> Spout {
     }
 }
 
-// Whether the fault tells that memory was refused.
-fn is_memory(fault: RunFault) -> bool {
+// The line of a text that its reader has in hand after so many calls that gave a byte each, or found the end.
+fn line_in_hand(text: &str, calls: u64) -> u32 {
+    let mut line = 1u32;
+    for (i, b) in text.as_bytes().iter().enumerate() {
+        if *b == b'\n' && (i as u64).saturating_add(1) < calls {
+            line = line.saturating_add(1);
+        }
+    }
+    line
+}
+
+// Whether the fault tells that memory was refused: to the reader, in the line that it had in hand, or elsewhere.
+fn is_memory(fault: RunFault, text: &str, calls: u64) -> bool {
     match fault {
         RunFault::Memory => true,
-        RunFault::Text(TextFault { number, line: _ }) => number == 10,
+        RunFault::Text(TextFault { number, line }) => {
+            number == 10 && line == line_in_hand(text, calls)
+        }
         RunFault::Write => false,
     }
 }
@@ -37,7 +50,7 @@ fn is_memory(fault: RunFault) -> bool {
 /// is refused to, the run goes on with that reply.
 #[test]
 fn refused_memory_run(rt: HostRuntime) -> Result<(), Fail> {
-    let mut input = Counted::new(Pieces::new(FIVE.as_bytes(), 7));
+    let mut input = Counted::new(Pieces::new(FIVE.as_bytes(), 1));
     let mut output = Counted::new(spout(&rt, rt.alloc()));
     let ended = run(&rt, rt.alloc(), &mut input, &mut output, &PLAIN);
     let written = output.get_ref().bytes();
@@ -46,7 +59,7 @@ fn refused_memory_run(rt: HostRuntime) -> Result<(), Fail> {
             assert!(rt; written == FIVE_REPORT.as_bytes() || written == FIRST_REFUSED.as_bytes());
         }
         Err(fault) => {
-            assert!(rt; is_memory(fault));
+            assert!(rt; is_memory(fault, FIVE, input.get_ref().calls()));
             assert_eq!(rt; written.len(), 0);
             assert!(rt; runs_to(&rt, rt.alloc(), FIVE, &PLAIN, FIVE_REPORT)?);
         }
@@ -57,7 +70,7 @@ fn refused_memory_run(rt: HostRuntime) -> Result<(), Fail> {
 /// A check that is refused memory writes nothing and says so, and the next check ends well.
 #[test]
 fn refused_memory_check(rt: HostRuntime) -> Result<(), Fail> {
-    let mut input = Counted::new(Pieces::new(JOURNAL.as_bytes(), 7));
+    let mut input = Counted::new(Pieces::new(JOURNAL.as_bytes(), 1));
     let mut output = Counted::new(spout(&rt, rt.alloc()));
     let ended = check_text(rt.alloc(), &mut input, &mut output);
     let written = output.get_ref().bytes();
@@ -67,7 +80,7 @@ fn refused_memory_check(rt: HostRuntime) -> Result<(), Fail> {
             assert!(rt; written == "legal\n".as_bytes());
         }
         Err(fault) => {
-            assert!(rt; is_memory(fault));
+            assert!(rt; is_memory(fault, JOURNAL, input.get_ref().calls()));
             assert_eq!(rt; written.len(), 0);
             assert_eq!(rt; judges(rt.alloc(), JOURNAL, "legal\n")?, Some(true));
         }

@@ -1,0 +1,84 @@
+//! How a check ends where its input or its output is at fault.
+use super::JOURNAL;
+use crate::check::check_text;
+use crate::run::RunFault;
+use hull_text::TextFault;
+use std::alloc::Global;
+use std::io::BufWriter;
+use std::test::Fail;
+use text_io::{Counted, Pieces, Spout};
+
+// How a check of the journal ends, and how many bytes it wrote.
+fn ends(
+    alloc: Global,
+    journal: &str,
+    reads: u64,
+    writes: u64,
+) -> Result<(Result<bool, RunFault>, usize), Fail> {
+    let mut input = Counted::new(Pieces::new(journal.as_bytes(), 7).failing_at(reads));
+    let mut output = Counted::new(Spout::new(alloc, 64, 5)?.failing_at(writes));
+    let ended = check_text(alloc, &mut input, &mut output);
+    Ok((ended, output.get_ref().bytes().len()))
+}
+
+/// A text that is no journal is told with its fault, and not as an illegal journal or want of memory.
+#[test]
+fn faults_of_a_journal_are_told(rt: HostRuntime) -> Result<(), Fail> {
+    let rows = [
+        ("", 6, 1),
+        (
+            "hullbook journal 2 first 0 limit 4 capacity 4\nend 0\n",
+            7,
+            1,
+        ),
+        (
+            "hullbook journal 1 first 0 limit 4 capacity 4\n0 0 hull = empty\n",
+            5,
+            2,
+        ),
+        (
+            "hullbook journal 1 first 0 limit 4 capacity 4\nend 1\n",
+            1,
+            2,
+        ),
+    ];
+    for (journal, number, line) in rows {
+        let fault = TextFault { number, line };
+        assert_eq!(rt;
+            ends(rt.alloc(), journal, 0, 0)?,
+            (Err(RunFault::Text(fault)), 0)
+        );
+    }
+    Ok(())
+}
+
+#[test]
+fn input_of_a_check_fails_midway(rt: HostRuntime) -> Result<(), Fail> {
+    let fault = TextFault { number: 8, line: 2 };
+    assert_eq!(rt;
+        ends(rt.alloc(), JOURNAL, 12, 0)?,
+        (Err(RunFault::Text(fault)), 0)
+    );
+    Ok(())
+}
+
+#[test]
+fn output_of_a_check_fails_midway(rt: HostRuntime) -> Result<(), Fail> {
+    assert_eq!(rt; ends(rt.alloc(), JOURNAL, 0, 1)?, (Err(RunFault::Write), 0));
+    assert_eq!(rt; ends(rt.alloc(), JOURNAL, 0, 2)?, (Err(RunFault::Write), 5));
+    Ok(())
+}
+
+/// No contract sees a flush: a writer of blocks would hold back what it was not told to hand on.
+#[test]
+fn a_verdict_reaches_the_device_behind_a_block(rt: HostRuntime) -> Result<(), Fail> {
+    let wrong = "hullbook journal 1 first 0 limit 4 capacity 4\n0 0 add 5 5 = absent\nend 1\n";
+    for (journal, wanted) in [(JOURNAL, "legal\n"), (wrong, "illegal 2\n")] {
+        let mut input = Counted::new(Pieces::new(journal.as_bytes(), 7));
+        let device = Spout::new(rt.alloc(), 64, 64)?;
+        let mut output = Counted::new(BufWriter::with_capacity(rt.alloc(), 64, device)?);
+        assert!(rt; check_text(rt.alloc(), &mut input, &mut output).is_ok());
+        assert_eq!(rt; output.get_ref().get_ref().bytes(), wanted.as_bytes());
+    }
+    Ok(())
+}
