@@ -1,5 +1,6 @@
 -- What a run or a check may have read: a text of its kind, or the fault that it ends with.
 use Rattle.std.specs.Prelude.{List, ℕ, Option, Ok, Err}
+use Rattle.hull_book.specs.History.{AsksInReplay}
 use Rattle.hull_book.specs.Journals.{JournalValue}
 use Rattle.hull_book.specs.Scripts.{ScriptValue}
 use Rattle.hull_text.specs.declared.fault.TextFault.{TextFault}
@@ -18,6 +19,6 @@ IsJournalFaultOf bytes f = ReadsKnownJournal bytes (Err f)
 abbrev pub IsSomeScript : Option (List ℕ) → Type 0
 IsSomeScript bytes = (script : ScriptValue) × ReadsKnownScript bytes (Ok script)
 
--- the same of a journal
-abbrev pub IsSomeJournal : Option (List ℕ) → Type 0
-IsSomeJournal bytes = (journal : JournalValue) × ReadsKnownJournal bytes (Ok journal)
+-- the bytes, where they are known, are a text of some journal, whose replay comes to a call that may take memory
+abbrev pub IsJournalThatAsks : Option (List ℕ) → Type 0
+IsJournalThatAsks bytes = (journal : JournalValue) × ReadsKnownJournal bytes (Ok journal) × AsksInReplay journal.head journal.lines
