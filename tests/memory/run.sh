@@ -1,0 +1,99 @@
+#!/bin/sh
+# Runs the built program again and again, each time with another of its requests for memory refused, until there is none
+# left to refuse. What comes has to go through these stages, none of them left out and none after a later one:
+#
+#   words      memory was refused while the words were read:    `hullbook: memory`, status 4
+#   text       .. to the reader, in a line not above the last:  `hullbook: line L: fault 10`, status 4, L never falling
+#   engine     .. behind the text:                              `hullbook: memory`, status 4
+#   answers    .. to one call of the script, or to its list:    status 0, and one reply is `nomemory`
+#   whole      to nothing that the run needs:                   what comes with ample memory
+#
+# Where the status is 4 nothing is written to standard output. A journal with a refused call is legal. The last line
+# counts, and the status is not 0 where something else came.
+set -u
+here=$(cd "$(dirname "$0")" && pwd)
+top=$(cd "$here/../.." && pwd)
+room=$(mktemp -d)
+trap 'rm -rf "$room"' EXIT
+kit=$(dirname "$(rt doc)")
+"$kit/toolchain/bin/clang" --target=x86_64-unknown-linux-gnu -O1 -fPIC -shared -nostdlib -fuse-ld=lld \
+    -o "$room/refuse.so" "$here/refuse.c" || exit 1
+"$top/bin/hullbook" >/dev/null 2>&1 # builds the program where it is not built for this commit
+program="$top/crates/hullbook/out/hullbook"
+
+# how many runs in a row have to come out whole: then no request is left
+enough=20
+
+# the stage of a run that has ended with this status
+stage_of() {
+    if [ "$1" = 4 ] && [ ! -s "$room/output" ]; then
+        sed -n 's/^hullbook: memory$/memory/p; s/^hullbook: line \([0-9]*\): fault 10$/text \1/p' "$room/error"
+    elif [ "$1" = 0 ] && [ ! -s "$room/error" ]; then
+        if cmp -s "$room/output" "$room/whole"; then
+            echo whole
+        elif [ "$(grep -c ' = nomemory$' "$room/output")" = 1 ] && is_legal; then
+            echo answers
+        fi
+    fi
+}
+
+# whether what was written is no journal, or a legal one
+is_legal() {
+    ! grep -q '^hullbook journal' "$room/output" || [ "$("$program" check "$room/output")" = legal ]
+}
+
+# the stages of a run with its first request refused, its second, and so on
+stages() {
+    number=0
+    row=0
+    while [ "$row" -lt "$enough" ] && [ "$number" -lt 2000 ]; do
+        number=$((number + 1))
+        REFUSED_REQUEST=$number LD_PRELOAD="$room/refuse.so" "$program" "$@" >"$room/output" 2>"$room/error"
+        stage=$(stage_of $?)
+        [ "$stage" = whole ] && row=$((row + 1)) || row=0
+        echo "$number ${stage:-else}"
+    done
+}
+
+# counts the runs that came in their stage: LINES is how many lines the text has, ALL the last stage, from 0
+judge() {
+    awk -v lines="$1" -v wanted="$2" -v name="$3" '
+        function told(what) { print name ", request " $1 " refused: " what; failed++ }
+        $2 == "memory" { stage = at == 0 ? 0 : 2 }
+        $2 == "text" { stage = 1 }
+        $2 == "answers" { stage = 3 }
+        $2 == "whole" { stage = 4 }
+        $2 == "else" { told("no stage"); next }
+        stage < at { told("a stage again: " $2); next }
+        $2 == "text" && ($3 < line || $3 < 1 || $3 > lines + 1) { told("line " $3 " after line " line); next }
+        { at = stage; line = $2 == "text" ? $3 : line; seen[stage] = 1; passed++ }
+        END {
+            for (s = 0; s <= 4; s++) if (index(wanted, s) && !(s in seen)) { print name ": stage " s " never came"; failed++ }
+            print passed + 0, failed + 0
+        }'
+}
+
+passed=0
+failed=0
+# tries the words behind NAME, LINES and WANTED on the program
+try() {
+    name=$1
+    lines=$2
+    wanted=$3
+    shift 3
+    "$program" "$@" >"$room/whole"
+    told=$(stages "$@" | judge "$lines" "$wanted" "$name")
+    echo "$told" | sed '$d'
+    counts=$(echo "$told" | tail -n 1)
+    echo "$name: $counts"
+    passed=$((passed + ${counts% *}))
+    failed=$((failed + ${counts#* }))
+}
+
+printf '0 add 0 0\n0 add 4 0\n0 add 2 3\n0 add 2 1\n0 remove 2 3\n0 vertices\n0 area\n' >"$room/script"
+"$program" run "$room/script" --journal >"$room/journal"
+try report 7 01234 run "$room/script"
+try journal 7 01234 run "$room/script" --journal
+try check 9 0124 check "$room/journal"
+echo "$passed passed, $failed failed"
+[ "$failed" -eq 0 ]
