@@ -3,7 +3,7 @@
 # left to refuse. What comes has to go through these stages, none of them left out and none after a later one:
 #
 #   words      memory was refused while the words were read:    `hullbook: memory`, status 4
-#   text       .. to the reader, in a line not above the last:  `hullbook: line L: fault 10`, status 4, L never falling
+#   text       .. to the reader:                                `hullbook: line L: fault 10`, status 4, L never falling
 #   engine     .. behind the text:                              `hullbook: memory`, status 4
 #   answers    .. to one call of the script, or to its list:    status 0, and one reply is `nomemory`
 #   whole      to nothing that the run needs:                   what comes with ample memory
@@ -55,9 +55,10 @@ stages() {
     done
 }
 
-# counts the runs that came in their stage: LINES is how many lines the text has, ALL the last stage, from 0
+# counts the runs that came in their stage: LAST is the last line for which the reader asks for memory, WANTED has the
+# stages that have to come, counted from 0
 judge() {
-    awk -v lines="$1" -v wanted="$2" -v name="$3" '
+    awk -v last="$1" -v wanted="$2" -v name="$3" '
         function told(what) { print name ", request " $1 " refused: " what; failed++ }
         $2 == "memory" { stage = at == 0 ? 0 : 2 }
         $2 == "text" { stage = 1 }
@@ -65,9 +66,10 @@ judge() {
         $2 == "whole" { stage = 4 }
         $2 == "else" { told("no stage"); next }
         stage < at { told("a stage again: " $2); next }
-        $2 == "text" && ($3 < line || $3 < 1 || $3 > lines + 1) { told("line " $3 " after line " line); next }
+        $2 == "text" && ($3 < line || $3 < 1 || $3 > last) { told("line " $3 " after line " line); next }
         { at = stage; line = $2 == "text" ? $3 : line; seen[stage] = 1; passed++ }
         END {
+            if (line != last) { print name ": line " last " never came"; failed++ }
             for (s = 0; s <= 4; s++) if (index(wanted, s) && !(s in seen)) { print name ": stage " s " never came"; failed++ }
             print passed + 0, failed + 0
         }'
@@ -75,14 +77,14 @@ judge() {
 
 passed=0
 failed=0
-# tries the words behind NAME, LINES and WANTED on the program
+# tries the words behind NAME, LAST and WANTED on the program
 try() {
     name=$1
-    lines=$2
+    last=$2
     wanted=$3
     shift 3
     "$program" "$@" >"$room/whole"
-    told=$(stages "$@" | judge "$lines" "$wanted" "$name")
+    told=$(stages "$@" | judge "$last" "$wanted" "$name")
     echo "$told" | sed '$d'
     counts=$(echo "$told" | tail -n 1)
     echo "$name: $counts"
@@ -92,8 +94,9 @@ try() {
 
 printf '0 add 0 0\n0 add 4 0\n0 add 2 3\n0 add 2 1\n0 remove 2 3\n0 vertices\n0 area\n' >"$room/script"
 "$program" run "$room/script" --journal >"$room/journal"
-try report 7 01234 run "$room/script"
-try journal 7 01234 run "$room/script" --journal
-try check 9 0124 check "$room/journal"
+# A script is put together behind its last line; the list in line 7 is the last thing of the journal that takes memory.
+try report 8 01234 run "$room/script"
+try journal 8 01234 run "$room/script" --journal
+try check 7 0124 check "$room/journal"
 echo "$passed passed, $failed failed"
 [ "$failed" -eq 0 ]
