@@ -291,6 +291,46 @@ fn wrapping_numbers(rt: HostRuntime) -> Result<(), Fail> {
     Ok(())
 }
 
+// A worker counts twice.
+fn two_counts(alloc: Global) -> Result<Vec<Call>, AllocError>
+    ensures { IfOk result (λ v. length v.items ≡ 2) }
+{
+    Ok(Vec::from_array(alloc, [Call::Count, Call::Count])?)
+}
+
+// Three workers do so at once, and then none has a call.
+fn six_counts(alloc: Global) -> Result<Script, AllocError> {
+    let (zero, one, two) = (two_counts(alloc)?, two_counts(alloc)?, two_counts(alloc)?);
+    let counts = phase_of(alloc, zero, one, two)?;
+    let none = phase_of(alloc, Vec::new(alloc), Vec::new(alloc), Vec::new(alloc))?;
+    two_phases(alloc, counts, none)
+}
+
+/// Three workers race for four lines whose numbers pass the greatest one, 50 times: six calls have four lines, the
+/// numbers run on behind 2^64 - 1, two answers are that the journal is full, and no worker has a reply behind one.
+#[test]
+fn six_calls_for_four_lines_across_the_wrap(rt: HostRuntime) -> Result<(), Fail> {
+    let script = six_counts(rt.alloc())?;
+    let first = u64::MAX - 1;
+    for _ in 0..50u8 {
+        let end = run_script(&rt, rt.alloc(), first, 4, &script, &NoGate);
+        assert_eq!(rt; (end.sum, end.journal.lines().len()), (4, 4));
+        assert_eq!(rt; check(rt.alloc(), &end.journal), CheckResult::Legal);
+        for (k, line) in end.journal.lines().iter().enumerate() {
+            assert_eq!(rt; line.number, first.wrapping_add(k as u64));
+        }
+        for answers in &end.answers {
+            assert_eq!(rt; answers.len(), 2);
+            let nothing = Ok(Reply::PointCount(0));
+            assert!(rt; answers[0] == nothing || answers[0] == Err(JournalFull));
+            assert!(rt;
+                answers[1] == Err(JournalFull) || answers[0] == nothing && answers[1] == nothing
+            );
+        }
+    }
+    Ok(())
+}
+
 /// With memory there, workers are made, a phase runs, and so do the phases of a script. A body that always refuses
 /// keeps its contract; here it fails.
 #[test]
