@@ -1,0 +1,111 @@
+#!/bin/sh
+# Runs the built program on long scripts whose reports are known beforehand, and has their journals checked. What short
+# texts cannot show: that memory is not said to be refused where many lines, points or calls ask for it, and that the
+# tree is right where it is high. The last line counts, and the status is not 0 where something else came.
+#
+# grid       four workers put 20,000 points of a grid in at once, and take all but its frame out again
+# parabola   four workers put the 2,049 points (k, k * k) in, and all of them are vertices
+set -u
+here=$(cd "$(dirname "$0")" && pwd)
+top=$(cd "$here/../.." && pwd)
+room=$(mktemp -d)
+trap 'rm -rf "$room"' EXIT
+"$top/bin/hullbook" >/dev/null 2>&1 # builds the program where it is not built for this commit
+
+# Writes the script `grid`, and with answers=1 its report without the ledgers: the calls worker by worker, phase by phase.
+grid() {
+    awk -v answers="$1" -v workers=4 -v width=200 -v height=100 '
+        function say(call, answer) { print answers ? worker " " call " = " answer : worker " " call }
+        function is_frame(x, y) { return x == 0 || x == width - 1 || y == 0 || y == height - 1 }
+        # each worker has every fourth point
+        function each(word, frame_too, answer,    n, x, y) {
+            for (n = worker; n < width * height; n += workers) {
+                x = int(n / height); y = n % height
+                if (frame_too || !is_frame(x, y)) say(word " " x " " y, answer)
+            }
+        }
+        function corners() {
+            return "list 4 0 0 " width - 1 " 0 " width - 1 " " height - 1 " 0 " height - 1
+        }
+        function ask(count) {
+            say("count", "count " count)
+            say("area", "area " 2 * (width - 1) * (height - 1))
+            say("vertices", corners())
+            say("extreme 1 -1", "point " width - 1 " 0")
+            say("place 50 50", "inside")
+            say("place 0 50", "on")
+            say("place -1 50", "outside")
+            say("tangents -1 0", "tangents 0 " height - 1 " " width - 1 " 0")
+        }
+        function phase(number) {
+            if (number == 0) each("add", 1, "added")
+            if (number == 1 && worker == 0) ask(width * height)
+            if (number == 2) each("remove", 0, "removed")
+            if (number == 3 && worker == 0) ask(2 * (width + height) - 4)
+        }
+        BEGIN {
+            if (answers)
+                for (worker = 0; worker < workers; worker++) for (p = 0; p < 4; p++) phase(p)
+            else
+                for (p = 0; p < 4; p++) { if (p) print "join"; for (worker = 0; worker < workers; worker++) phase(p) }
+        }'
+}
+
+# The same of `parabola`.
+parabola() {
+    awk -v answers="$1" -v workers=4 -v most=1024 '
+        function say(call, answer) { print answers ? worker " " call " = " answer : worker " " call }
+        function all(    k, list) {
+            for (k = -most; k <= most; k++) list = list " " k " " k * k
+            return "list " 2 * most + 1 list
+        }
+        function phase(number,    k, n) {
+            n = 2 * most + 1
+            if (number == 0) for (k = worker - most; k <= most; k += workers) say("add " k " " k * k, "added")
+            if (number == 1 && worker == 0) {
+                say("vertices", all())
+                say("area", "area " sprintf("%.0f", (n - 2) * (n - 1) * n / 3))
+                say("count", "count " n)
+            }
+        }
+        BEGIN {
+            if (answers)
+                for (worker = 0; worker < workers; worker++) for (p = 0; p < 2; p++) phase(p)
+            else
+                for (p = 0; p < 2; p++) { if (p) print "join"; for (worker = 0; worker < workers; worker++) phase(p) }
+        }'
+}
+
+passed=0
+failed=0
+said() {
+    echo "$1: $2"
+    if [ "$2" = ok ]; then
+        passed=$((passed + 1))
+    else
+        failed=$((failed + 1))
+    fi
+}
+
+# tries NAME: the answers of its report, its ledgers' sum, and that its journal is legal
+try() {
+    "$1" 0 >"$room/script"
+    "$1" 1 >"$room/answers"
+    calls=$(wc -l <"$room/answers")
+    "$top/bin/hullbook" run "$room/script" >"$room/report"
+    if grep -v '^ledger\|^sum' "$room/report" | cmp -s - "$room/answers"; then
+        said "$1, answers" ok
+    else
+        said "$1, answers" "$(grep -v '^ledger\|^sum' "$room/report" | diff - "$room/answers" | head -n 4)"
+    fi
+    sum=$(tail -n 1 "$room/report")
+    [ "$sum" = "sum $calls journal $calls capacity 65536" ] && said "$1, sum" ok || said "$1, sum" "$sum"
+    "$top/bin/hullbook" run "$room/script" --journal >"$room/journal"
+    verdict=$("$top/bin/hullbook" check "$room/journal" 2>&1)
+    [ "$verdict" = legal ] && said "$1, journal" ok || said "$1, journal" "$verdict"
+}
+
+try grid
+try parabola
+echo "$passed passed, $failed failed"
+[ "$failed" -eq 0 ]
