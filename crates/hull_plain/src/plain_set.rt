@@ -50,9 +50,14 @@ impl PlainSet {
 }
 
 impl HullSet for PlainSet {
+    ghost use Rattle.lattice.specs.Covers.{IsPointSet};
+
     ghost points = { λ s. s.members };
 
     ghost bound = { λ s. s.limit };
+
+    // the points stand in order
+    ghost sound = { λ s. IsPointSet s.members };
 
     fn limit(&self) -> u32 {
         self.limit

@@ -70,18 +70,22 @@ impl From<AllocError> for NoMemory {
 
 /// A finite set of points with a limit on their number, which answers questions about its convex hull.
 ///
-/// Contracts see its live points as a list in the order "before", and its limit. Each call answers by the
-/// allowed-reply relation, and changes the set by the effect of its reply.
+/// Contracts see its live points as a list in the order "before", its limit, and whether what it keeps is sound: what
+/// that asks is told by each set. Each call answers by the allowed-reply relation, changes the set by the effect of its
+/// reply, and leaves it sound.
 pub trait HullSet {
     ghost points: { Self → List Pair };
 
     ghost bound: { Self → ℕ };
 
+    ghost sound: { Self → Type 0 };
+
     /// The greatest number of points that the set takes.
     fn limit(&self) -> u32
         ensures value { result ≡ bound self.now }
         ensures low { 1 ≤ result }
-        ensures high { result ≤ POINT_LIMIT };
+        ensures high { result ≤ POINT_LIMIT }
+        ensures sound { sound self.now };
 
     /// The number of points.
     fn count(&self) -> u32
@@ -93,13 +97,15 @@ pub trait HullSet {
     fn add(&mut self, p: Point) -> AddReply
         ensures reply { Answers (points self.old) (bound self.old) (Call.Add p) (reply_to_add result) }
         ensures effect { points self.new ≡ after (points self.old) (Call.Add p) (reply_to_add result) }
-        ensures same_limit { bound self.new ≡ bound self.old };
+        ensures same_limit { bound self.new ≡ bound self.old }
+        ensures sound { sound self.new };
 
     /// Takes `p` out of the set. Takes no memory.
     fn remove(&mut self, p: Point) -> RemoveReply
         ensures reply { Answers (points self.old) (bound self.old) (Call.Remove p) (reply_to_remove result) }
         ensures effect { points self.new ≡ after (points self.old) (Call.Remove p) (reply_to_remove result) }
-        ensures same_limit { bound self.new ≡ bound self.old };
+        ensures same_limit { bound self.new ≡ bound self.old }
+        ensures sound { sound self.new };
 
     /// The first, by x and then y, of the points with the greatest product with `d`; `None` for the empty set.
     fn extreme(&self, d: Direction) -> Option<Point>

@@ -83,6 +83,9 @@ impl HullSet for HullTree {
 
     ghost bound = { λ t. t.limit };
 
+    // well built: each stored bridge is that of the points below it; the points in order; at most 28 high
+    ghost sound = { λ t. IsSound t.root };
+
     fn limit(&self) -> u32 {
         self.limit
     }

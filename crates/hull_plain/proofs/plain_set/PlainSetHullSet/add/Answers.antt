@@ -52,3 +52,10 @@ invariant_of-self-2 c =
     let e : c.insert.new.self.items ≡ insert c.self.inside.points.items c.in-Err.i c.args.p = c.insert.ensures.items ∙ ap (λ (b : Bool). if b then insert c.self.inside.points.items c.in-Err.i c.args.p else c.self.inside.points.items) c.if-is_err.ensures.negation in
     let f : length c.insert.new.self.items ≡ length c.self.inside.points.items + 1 = ap (λ (z : List Pair). length z) e ∙ length-insert c.self.inside.points.items c.in-Err.i c.args.p at.0 in
     (c.self.invariant.0, c.self.invariant.1, omega (arith, f, m, c.deref.ensures.len, c.len.ensures, c.if-len-self.false), subst IsPointSet (sym e) (inserted_set _ _ _ at c.self.invariant.3))
+
+-- the point went where it belongs
+pub returns-clause-sound : goal.returns-clause-sound
+returns-clause-sound c =
+    let at : IsPositionOf c.self.inside.points.items c.args.p (Err c.in-Err.i) = subst (λ (z : List Pair). IsPositionOf z c.args.p (Err c.in-Err.i)) c.deref.ensures.value c.in-Err.ensures in
+    let e : c.insert.new.self.items ≡ insert c.self.inside.points.items c.in-Err.i c.args.p = c.insert.ensures.items ∙ ap (λ (b : Bool). if b then insert c.self.inside.points.items c.in-Err.i c.args.p else c.self.inside.points.items) c.if-is_err.ensures.negation in
+    subst IsPointSet (sym e) (inserted_set _ _ _ at c.self.invariant.3)
