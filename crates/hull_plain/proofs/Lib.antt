@@ -1,5 +1,6 @@
 pub mod PointLists
 pub mod ChangedSets
+pub mod SetLaws
 pub mod FoundPositions
 pub mod Orientation
 pub mod NotCovered

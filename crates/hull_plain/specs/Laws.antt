@@ -1,5 +1,7 @@
 -- Laws of the definitions. Each is the contract of a public function with an empty body.
-use Rattle.std.specs.Prelude.{◌≡◌, ◌⊎◌, ℕ, ℤ, List}
+use Rattle.std.specs.List.{Contains}
+use Rattle.std.specs.Prelude.{◌≡◌, ◌⊎◌, ◌↔◌, ℕ, ℤ, List}
+use Rattle.lattice.specs.Covers.{IsPointSet, with_point, without_point}
 use Rattle.lattice.specs.Plane.{Pair}
 use Rattle.lattice.specs.Vertices.{IsVertexList, IsDoubledArea}
 use Rattle.hull_plain.specs.Replies.{Answers}
@@ -23,3 +25,15 @@ AgreesWith reply other = (reply ≡ other) ⊎ ((reply ≡ NoMemory) ⊎ (other 
 abbrev pub RepliesAreUnique : Type 0
 RepliesAreUnique =
     (S : List Pair) (limit : ℕ) (call : Call) (reply other : Reply) → Answers S limit call reply → Answers S limit call other → AgreesWith reply other
+
+-- a list in the order "before" with a point is in that order, and its members are that point and those of the list
+abbrev pub WithPointAddsThePoint : Type 0
+WithPointAddsThePoint =
+    (S : List Pair) (p : Pair) → IsPointSet S
+    → IsPointSet (with_point p S) × ((t : Pair) → (Contains (with_point p S) t ↔ ((t ≡ p) ⊎ Contains S t)))
+
+-- without a point it is in that order, and its members are those of the list but for that point
+abbrev pub WithoutPointTakesThePoint : Type 0
+WithoutPointTakesThePoint =
+    (S : List Pair) (p : Pair) → IsPointSet S
+    → IsPointSet (without_point p S) × ((t : Pair) → (Contains (without_point p S) t ↔ (Contains S t × ¬ (t ≡ p))))

@@ -1,5 +1,5 @@
 //! Laws of the definitions: each function has an empty body, and its contract is the law.
-ghost use Rattle.hull_plain.specs.Laws.{VertexListIsUnique, DoubledAreaIsUnique, RepliesAreUnique};
+ghost use Rattle.hull_plain.specs.Laws.{VertexListIsUnique, DoubledAreaIsUnique, RepliesAreUnique, WithPointAddsThePoint, WithoutPointTakesThePoint};
 
 /// A list of points has one list of vertices at most.
 pub fn vertex_list_is_unique()
@@ -14,4 +14,16 @@ pub fn doubled_area_is_unique()
 /// A call has one reply, but for want of memory.
 pub fn replies_are_unique()
     ensures { RepliesAreUnique }
+{}
+
+/// A list of points in the order "before", with a point: that point is in it, and else the same points as before, and it
+/// is in that order. This is what an answered `add` makes of the live points.
+pub fn with_point_adds_the_point()
+    ensures { WithPointAddsThePoint }
+{}
+
+/// A list of points in the order "before", without a point: that point is not in it, and else the same points as before,
+/// and it is in that order. This is what an answered `remove` makes of the live points.
+pub fn without_point_takes_the_point()
+    ensures { WithoutPointTakesThePoint }
 {}

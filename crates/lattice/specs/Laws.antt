@@ -1,21 +1,18 @@
 -- Laws that show that the definitions mean what they should. Each is the contract of a public function with an empty body.
-use Rattle.std.specs.Prelude.{◌≡◌, pos, ◌+ℤ◌, ◌*ℤ◌, ◌<ℤ◌, List}
-use Rattle.std.specs.List.{Contains}
+use Rattle.std.specs.Prelude.{◌≡◌, pos, ◌+ℤ◌, ◌*ℤ◌, ◌<ℤ◌}
 use Rattle.lattice.specs.Plane.{Pair, orient, IsBefore}
 use Rattle.lattice.specs.Bridges.{IsAllBefore, IsUpperBridge, IsLowerBridge}
 use Rattle.lattice.specs.Crossing.{s1, s2}
 
--- two sets, all of the one before all of the other, have one upper bridge at most
-abbrev pub UpperBridgeIsUnique : Type 0
-UpperBridgeIsUnique =
-    (l r : List Pair) (p q a b : Pair) → IsAllBefore (Contains l) (Contains r)
-    → IsUpperBridge (Contains l) (Contains r) p q → IsUpperBridge (Contains l) (Contains r) a b → (p ≡ a) × (q ≡ b)
+-- two sets l and r, all of l before all of r, have one upper bridge at most
+abbrev pub UpperBridgeIsUnique : (Pair → Type 0) → (Pair → Type 0) → Type 0
+UpperBridgeIsUnique l r =
+    (p q a b : Pair) → IsAllBefore l r → IsUpperBridge l r p q → IsUpperBridge l r a b → (p ≡ a) × (q ≡ b)
 
 -- and one lower bridge at most
-abbrev pub LowerBridgeIsUnique : Type 0
-LowerBridgeIsUnique =
-    (l r : List Pair) (p q a b : Pair) → IsAllBefore (Contains l) (Contains r)
-    → IsLowerBridge (Contains l) (Contains r) p q → IsLowerBridge (Contains l) (Contains r) a b → (p ≡ a) × (q ≡ b)
+abbrev pub LowerBridgeIsUnique : (Pair → Type 0) → (Pair → Type 0) → Type 0
+LowerBridgeIsUnique l r =
+    (p q a b : Pair) → IsAllBefore l r → IsLowerBridge l r p q → IsLowerBridge l r a b → (p ≡ a) × (q ≡ b)
 
 -- where a, b, c, d stand in their order and turn right at b and at c, the weights of their crossing have a positive sum,
 -- and the point between c and d that has these weights has neither side of the line ab, so it lies on both lines

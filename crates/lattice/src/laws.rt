@@ -1,17 +1,37 @@
 //! Laws of the definitions: each function has an empty body, and its contract is the law.
+ghost use Rattle.std.specs.Prelude.{◌≡◌, pos};
+ghost use Rattle.lattice.specs.Plane.{Pair};
 ghost use Rattle.lattice.specs.Laws.{UpperBridgeIsUnique, LowerBridgeIsUnique, CrossingIsOnBothLines};
 
+use super::COORDINATE_LIMIT;
+use std::marker::Brand;
+
+/// Any set of points, finite or not, for the laws of bridges: what it means to be one of its points. No value has it.
+pub trait PointSet {
+    ghost has: { Pair → Type 0 };
+}
+
+/// The marker by which a caller of a law picks the set that it is about.
+impl PointSet for Brand {
+    ghost has = { λ _. ⊥ };
+}
+
 /// Two sets of points, all of the one before all of the other, have one upper bridge at most.
-pub fn upper_bridge_is_unique()
-    ensures { UpperBridgeIsUnique }
+pub fn upper_bridge_is_unique<L: PointSet, R: PointSet>()
+    ensures { UpperBridgeIsUnique L.has R.has }
 {}
 
 /// Two sets of points, all of the one before all of the other, have one lower bridge at most.
-pub fn lower_bridge_is_unique()
-    ensures { LowerBridgeIsUnique }
+pub fn lower_bridge_is_unique<L: PointSet, R: PointSet>()
+    ensures { LowerBridgeIsUnique L.has R.has }
 {}
 
 /// What [`crossing_at_or_before`](crate::crossing_at_or_before) compares is a point, and it lies on both lines.
 pub fn crossing_is_on_both_lines()
     ensures { CrossingIsOnBothLines }
+{}
+
+/// The number that [`COORDINATE_LIMIT`] is.
+pub fn coordinate_limit_is_stated()
+    ensures { COORDINATE_LIMIT ≡ pos 1048576 }
 {}

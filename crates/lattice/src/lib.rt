@@ -19,7 +19,10 @@ pub use compare::{before, distance_squared, orient, product};
 pub use crossing::{crossing_at_or_before, weighted_at_or_before};
 pub use direction::Direction;
 pub use fault::LatticeFault;
-pub use laws::{crossing_is_on_both_lines, lower_bridge_is_unique, upper_bridge_is_unique};
+pub use laws::{
+    PointSet, coordinate_limit_is_stated, crossing_is_on_both_lines, lower_bridge_is_unique,
+    upper_bridge_is_unique,
+};
 pub use point::Point;
 
 /// The greatest size of a coordinate of a point, and of a component of a direction.

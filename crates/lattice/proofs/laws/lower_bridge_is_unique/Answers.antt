@@ -1,6 +1,5 @@
-use Rattle.std.specs.List.{Contains}
 use Rattle.lattice.proofs.UniqueBridge.{one_lower_bridge}
 use Rattle.lattice.proofs.laws.lower_bridge_is_unique.Goals as goal
 
 pub returns : goal.returns
-returns c l r p q a b ordered h k = one_lower_bridge (Contains l) (Contains r) p q a b ordered h k
+returns g c p q a b ordered h k = one_lower_bridge g.L.PointSet.has g.R.PointSet.has p q a b ordered h k

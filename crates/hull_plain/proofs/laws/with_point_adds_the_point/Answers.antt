@@ -1,0 +1,5 @@
+use Rattle.hull_plain.proofs.SetLaws.{with_point_law}
+use Rattle.hull_plain.proofs.laws.with_point_adds_the_point.Goals as goal
+
+pub returns : goal.returns
+returns c = with_point_law
