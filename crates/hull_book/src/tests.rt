@@ -1,5 +1,6 @@
 //! Books and journals by values, and memory that is refused.
 ghost use Rattle.std.specs.Prelude.{◌≡◌, ◌≤◌, ◌<◌, []};
+ghost use Rattle.hull_plain.specs.Sets.{plain_set};
 ghost use Rattle.hull_book.specs.Books.{IsLawful};
 ghost use Rattle.hull_book.specs.Ledgers.{AreLedgers};
 
@@ -28,7 +29,7 @@ fn opened(
 ) -> (Book<PlainSet>, Vec<Ledger>)
     requires empty { ⟦<PlainSet as HullSet>⟧.points set ≡ [] }
     requires workers { (1 ≤ workers) × (workers ≤ 64) }
-    ensures lawful { IsLawful result.0 }
+    ensures lawful { IsLawful plain_set result.0 }
     ensures ledgers { AreLedgers result.0 result.1.items }
     ensures workers { result.0.head.workers ≡ workers }
 {
@@ -51,10 +52,10 @@ fn serve_at(
     seat: u8,
     call: Call,
 ) -> Result<Reply, JournalFull>
-    requires lawful { IsLawful book.old }
+    requires lawful { IsLawful plain_set book.old }
     requires ledgers { AreLedgers book.old ledgers.old.items }
     requires seat { seat < book.old.head.workers }
-    ensures lawful { IsLawful book.new }
+    ensures lawful { IsLawful plain_set book.new }
     ensures ledgers { AreLedgers book.new ledgers.new.items }
     ensures workers { book.new.head.workers ≡ book.old.head.workers }
 {
@@ -159,9 +160,9 @@ fn serve_lines(
     ledgers: &mut Vec<Ledger>,
     lines: &[Line],
 )
-    requires lawful { IsLawful book.old }
+    requires lawful { IsLawful plain_set book.old }
     requires ledgers { AreLedgers book.old ledgers.old.items }
-    ensures lawful { IsLawful book.new }
+    ensures lawful { IsLawful plain_set book.new }
     ensures ledgers { AreLedgers book.new ledgers.new.items }
 {
     for line in lines {
@@ -268,10 +269,10 @@ fn every_call_once(rt: HostRuntime) -> Result<(), Fail> {
 // Puts the point in and asks for the vertices. Where memory is refused, the reply says so, the set is as it was,
 // and the second attempt is answered.
 fn serve_again(rt: &impl Abort, book: &mut Book<PlainSet>, ledgers: &mut Vec<Ledger>, p: Point)
-    requires lawful { IsLawful book.old }
+    requires lawful { IsLawful plain_set book.old }
     requires ledgers { AreLedgers book.old ledgers.old.items }
     requires workers { book.old.head.workers ≡ 1 }
-    ensures lawful { IsLawful book.new }
+    ensures lawful { IsLawful plain_set book.new }
     ensures ledgers { AreLedgers book.new ledgers.new.items }
 {
     let mut added = serve_at(book, ledgers, 0, Call::Add(p));

@@ -4,6 +4,7 @@ use Rattle.lattice.specs.Covers.{IsPointSet}
 use Rattle.bridge_search.specs.Trees.{Tree, size_of}
 use Rattle.bridge_search.specs.Leaves.{points_of}
 use Rattle.hull_plain.specs.declared.TheConstants.{POINT_LIMIT}
+use Rattle.hull_plain.specs.declared.set.HullSet.{Ghosts}
 use Rattle.hull_tree.specs.declared.node.Node.{Node}
 use Rattle.hull_tree.specs.Roots.{points_of_root, IsWellBuiltRoot, height_of_root}
 
@@ -25,6 +26,11 @@ pub record IsSound (root : Option Node) : Type 0 where
   pub built : IsWellBuiltRoot root
   pub in_order : IsPointSet (points_of_root root)
   pub low : height_of_root root ≤ 28
+
+-- what the trait `HullSet` says of a tree: its points, its bound, and that it is well built, which says that each stored
+-- bridge is that of the points below it
+abbrev pub hull_tree : Ghosts LimitedTree
+hull_tree = record { points = λ t. points_of_root t.root; bound = λ t. t.limit; sound = λ t. IsSound t.root }
 
 -- the half has the points of the tree, and no more than its limit
 pub record IsWhole (t : LimitedTree) (u : Tree) : Type 0 where

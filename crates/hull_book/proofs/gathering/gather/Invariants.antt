@@ -1,13 +1,12 @@
-use Rattle.std.proofs.Common.{◌≡◌, ◌<◌, ◌+◌, ℕ, length, vec_len}
-use Rattle.std.specs.List.{slice_index_or}
-use Rattle.hull_book.specs.Ledgers.{LedgerValue, IsLedger}
-use Rattle.hull_book.proofs.Counts.{below}
+-- the sum so far and the counts that are left make the sum of all, which is the journal's length
+use Rattle.std.proofs.Common.{◌≡◌, ◌+◌, length, vec_len}
+use Rattle.hull_book.specs.Ledgers.{sum_of_counts}
 use Rattle.hull_book.proofs.gathering.gather.Given as goal
 
 abbrev pub invariant-loop-ledger : goal.invariant-loop-ledger
 invariant-loop-ledger g l = record {
-  sum_is : l.sum + below (length l.ledgers.items) l.book.lines ≡ length l.book.lines;
-  each : (k : ℕ) (d : LedgerValue) → k < length l.ledgers.items → IsLedger l.book k (slice_index_or l.ledgers.items k d);
+  sum_is : l.sum + sum_of_counts l.ledgers.items ≡ sum_of_counts l.initial.ledgers.items;
+  whole : sum_of_counts l.initial.ledgers.items ≡ length l.book.lines;
 }
 
 abbrev pub decreases-loop-ledger : goal.decreases-loop-ledger
