@@ -17,6 +17,7 @@ use Rattle.hull_pool.specs.Scripts.{MayRunAll, HasRunPhases, HasRunAll}
 use Rattle.hull_pool.specs.Work.{HasWorked, lines_of, capacity_of, workers_of, replies_of, fulls}
 use Rattle.hull_pool.proofs.Called.{begins_longer}
 use Rattle.hull_pool.proofs.Worked.{append_none, not_begun}
+use Rattle.hull_plain.specs.declared.set.HullSet.{Ghosts}
 
 -- lines that begin with as many lines are those lines
 same_lines : (before lines : List Line) → IsPrefix before lines → length lines ≤ length before → lines ≡ before
@@ -100,57 +101,58 @@ works_on k room one two before between lines old mid new begins within h g =
 calls_both : (phase : PhaseValue) (phases : List PhaseValue) → calls_in_all (phase ∷ phases) ≡ calls_in phase + calls_in_all phases
 calls_both phase phases = sum_by-cons (λ (p : PhaseValue). calls_in p) phase phases
 
--- no phase was run
-run_none : (b : BookValue) (w : WorkersValue) → MayRunAll b w [] → HasRunAll b w [] b w
-run_none b w may = record {
-  lawful = may.lawful;
-  head = refl;
-  begins = ([], sym (append_none b.lines));
-  as_many = omega (arith, (may.lawful).within);
-  each = λ k below. not_begun k (capacity_of b) [] b.lines (answers_of w k).answers;
-  ledgers = may.ledgers;
-  answers = may.answers;
-  room = λ k below. omega arith;
-}
+module _ {S : Type 0} {K : Ghosts S} where
+  -- no phase was run
+  run_none : (b : BookValue S) (w : WorkersValue) → MayRunAll K b w [] → HasRunAll K b w [] b w
+  run_none b w may = record {
+    lawful = may.lawful;
+    head = refl;
+    begins = ([], sym (append_none b.lines));
+    as_many = omega (arith, (may.lawful).within);
+    each = λ k below. not_begun k (capacity_of b) [] b.lines (answers_of w k).answers;
+    ledgers = may.ledgers;
+    answers = may.answers;
+    room = λ k below. omega arith;
+  }
 
--- what a phase and the phases behind it come to
-run_more : (b m c : BookValue) (w x v : WorkersValue) (phase : PhaseValue) (phases : List PhaseValue) → HasRunPhase b w phase m x → HasRunAll m x phases c v → HasRunAll b w (phase ∷ phases) c v
-run_more b m c w x v phase phases one rest =
-    let heads : capacity_of m ≡ capacity_of b = ap (λ (h : BookHead). h.journal.capacity) one.head in
-    let crew : workers_of m ≡ workers_of b = ap (λ (h : BookHead). h.workers) one.head in
-    let calls = calls_both phase phases in
-    let within : length c.lines ≤ capacity_of b = rw (ap (λ (h : BookHead). h.journal.capacity) (rest.head ∙ one.head)) at (rest.lawful).within in record {
-      lawful = rest.lawful;
-      head = rest.head ∙ one.head;
-      begins = begins_longer b.lines m.lines c.lines one.begins rest.begins;
-      as_many = omega (arith, one.as_many, rest.as_many, calls, heads);
-      each = λ k below. works_on k (capacity_of b) (job phase k) (calls_of k phases) b.lines m.lines c.lines (answers_of w k).answers (answers_of x k).answers (answers_of v k).answers rest.begins within (one.each k below)
-          (subst (λ (n : ℕ). HasWorked k n (length (calls_of k phases)) (calls_of k phases) m.lines c.lines (answers_of x k).answers (answers_of v k).answers) heads (rest.each k (omega (arith, crew))));
-      ledgers = rest.ledgers;
-      answers = rest.answers ∙ crew;
-      room = λ k below. let a = one.room k below in let d = rest.room k (omega (arith, crew)) in omega (arith, a, d, length-append (job phase k) (calls_of k phases));
-    }
+  -- what a phase and the phases behind it come to
+  run_more : (b m c : BookValue S) (w x v : WorkersValue) (phase : PhaseValue) (phases : List PhaseValue) → HasRunPhase K b w phase m x → HasRunAll K m x phases c v → HasRunAll K b w (phase ∷ phases) c v
+  run_more b m c w x v phase phases one rest =
+      let heads : capacity_of m ≡ capacity_of b = ap (λ (h : BookHead). h.journal.capacity) one.head in
+      let crew : workers_of m ≡ workers_of b = ap (λ (h : BookHead). h.workers) one.head in
+      let calls = calls_both phase phases in
+      let within : length c.lines ≤ capacity_of b = rw (ap (λ (h : BookHead). h.journal.capacity) (rest.head ∙ one.head)) at (rest.lawful).within in record {
+        lawful = rest.lawful;
+        head = rest.head ∙ one.head;
+        begins = begins_longer b.lines m.lines c.lines one.begins rest.begins;
+        as_many = omega (arith, one.as_many, rest.as_many, calls, heads);
+        each = λ k below. works_on k (capacity_of b) (job phase k) (calls_of k phases) b.lines m.lines c.lines (answers_of w k).answers (answers_of x k).answers (answers_of v k).answers rest.begins within (one.each k below)
+            (subst (λ (n : ℕ). HasWorked k n (length (calls_of k phases)) (calls_of k phases) m.lines c.lines (answers_of x k).answers (answers_of v k).answers) heads (rest.each k (omega (arith, crew))));
+        ledgers = rest.ledgers;
+        answers = rest.answers ∙ crew;
+        room = λ k below. let a = one.room k below in let d = rest.room k (omega (arith, crew)) in omega (arith, a, d, length-append (job phase k) (calls_of k phases));
+      }
 
--- the phases behind one may be run after it
-pub may_more : (b m : BookValue) (w x : WorkersValue) (phase : PhaseValue) (phases : List PhaseValue) → MayRunAll b w (phase ∷ phases) → HasRunPhase b w phase m x → MayRunAll m x phases
-may_more b m w x phase phases may one =
-    let crew : workers_of m ≡ workers_of b = ap (λ (h : BookHead). h.workers) one.head in record {
-      lawful = one.lawful;
-      some = omega (arith, crew, may.some);
-      ledgers = one.ledgers;
-      answers = one.answers ∙ sym crew;
-      jobs = subst (λ (n : ℕ). All (λ p. length p ≡ n) phases) (sym crew) (All-tail (λ p. length p ≡ workers_of b) phase phases may.jobs);
-      few = omega (arith, may.few, calls_both phase phases);
-      room = λ k below. let a = one.room k (omega (arith, crew)) in let d = may.room k (omega (arith, crew)) in omega (arith, a, d, length-append (job phase k) (calls_of k phases));
-    }
+  -- the phases behind one may be run after it
+  pub may_more : (b m : BookValue S) (w x : WorkersValue) (phase : PhaseValue) (phases : List PhaseValue) → MayRunAll K b w (phase ∷ phases) → HasRunPhase K b w phase m x → MayRunAll K m x phases
+  may_more b m w x phase phases may one =
+      let crew : workers_of m ≡ workers_of b = ap (λ (h : BookHead). h.workers) one.head in record {
+        lawful = one.lawful;
+        some = omega (arith, crew, may.some);
+        ledgers = one.ledgers;
+        answers = one.answers ∙ sym crew;
+        jobs = subst (λ (n : ℕ). All (λ p. length p ≡ n) phases) (sym crew) (All-tail (λ p. length p ≡ workers_of b) phase phases may.jobs);
+        few = omega (arith, may.few, calls_both phase phases);
+        room = λ k below. let a = one.room k (omega (arith, crew)) in let d = may.room k (omega (arith, crew)) in omega (arith, a, d, length-append (job phase k) (calls_of k phases));
+      }
 
--- what phases come to that were run one after the other
-pub run_all : (b : BookValue) (w : WorkersValue) (phases : List PhaseValue) (c : BookValue) (v : WorkersValue) → MayRunAll b w phases → HasRunPhases b w phases c v → HasRunAll b w phases c v
-run_all b w [] c v may chain = subst (λ (z : WorkersValue). HasRunAll b w [] c z) (sym chain.1) (subst (λ (d : BookValue). HasRunAll b w [] d w) (sym chain.0) (run_none b w may))
-run_all b w (phase ∷ phases) c v may chain =
-    run_more b chain.0 c w chain.1 v phase phases chain.2 (run_all chain.0 chain.1 phases c v (may_more b chain.0 w chain.1 phase phases may chain.2) chain.3)
+  -- what phases come to that were run one after the other
+  pub run_all : (b : BookValue S) (w : WorkersValue) (phases : List PhaseValue) (c : BookValue S) (v : WorkersValue) → MayRunAll K b w phases → HasRunPhases K b w phases c v → HasRunAll K b w phases c v
+  run_all b w [] c v may chain = subst (λ (z : WorkersValue). HasRunAll K b w [] c z) (sym chain.1) (subst (λ (d : BookValue S). HasRunAll K b w [] d w) (sym chain.0) (run_none b w may))
+  run_all b w (phase ∷ phases) c v may chain =
+      run_more b chain.0 c w chain.1 v phase phases chain.2 (run_all chain.0 chain.1 phases c v (may_more b chain.0 w chain.1 phase phases may chain.2) chain.3)
 
--- one phase more at the end
-pub run_one_more : (b : BookValue) (w : WorkersValue) (phases : List PhaseValue) (m : BookValue) (x : WorkersValue) (phase : PhaseValue) (c : BookValue) (v : WorkersValue) → HasRunPhases b w phases m x → HasRunPhase m x phase c v → HasRunPhases b w (phases ++ phase ∷ []) c v
-run_one_more b w [] m x phase c v chain one = (c, v, subst (λ (y : WorkersValue). HasRunPhase b y phase c v) chain.1 (subst (λ (d : BookValue). HasRunPhase d x phase c v) chain.0 one), (refl, refl))
-run_one_more b w (p ∷ phases) m x phase c v chain one = (chain.0, chain.1, chain.2, run_one_more chain.0 chain.1 phases m x phase c v chain.3 one)
+  -- one phase more at the end
+  pub run_one_more : (b : BookValue S) (w : WorkersValue) (phases : List PhaseValue) (m : BookValue S) (x : WorkersValue) (phase : PhaseValue) (c : BookValue S) (v : WorkersValue) → HasRunPhases K b w phases m x → HasRunPhase K m x phase c v → HasRunPhases K b w (phases ++ phase ∷ []) c v
+  run_one_more b w [] m x phase c v chain one = (c, v, subst (λ (y : WorkersValue). HasRunPhase K b y phase c v) chain.1 (subst (λ (d : BookValue S). HasRunPhase K d x phase c v) chain.0 one), (refl, refl))
+  run_one_more b w (p ∷ phases) m x phase c v chain one = (chain.0, chain.1, chain.2, run_one_more chain.0 chain.1 phases m x phase c v chain.3 one)

@@ -15,6 +15,7 @@ use Rattle.hull_pool.specs.Scripts.{MayRunAll, HasRunPhases}
 use Rattle.hull_pool.specs.Work.{workers_of}
 use Rattle.hull_pool.proofs.Phases.{AnswerVec}
 use Rattle.hull_pool.proofs.Chained.{may_more}
+use Rattle.hull_plain.specs.declared.set.HullSet.{Ghosts}
 
 -- a worker has no more calls in a phase than all have
 job_le : (phase : PhaseValue) (k : ℕ) → length (job phase k) ≤ calls_in phase
@@ -27,25 +28,26 @@ pub calls_le : (phases : List PhaseValue) (k : ℕ) → length (calls_of k phase
 calls_le [] k = omega arith
 calls_le (phase ∷ phases) k = omega (arith, sum_by-cons (λ (p : PhaseValue). calls_in p) phase phases, job_le phase k, calls_le phases k, length-append (job phase k) (calls_of k phases))
 
--- the first phase may be run
-may_first : (b : BookValue) (w : WorkersValue) (phase : PhaseValue) (phases : List PhaseValue) → MayRunAll b w (phase ∷ phases) → MayRun b w phase
-may_first b w phase phases may = record {
-  lawful = may.lawful;
-  some = may.some;
-  ledgers = may.ledgers;
-  answers = may.answers;
-  jobs = All-head (λ p. length p ≡ workers_of b) phase phases may.jobs;
-  few = λ k below. omega (arith, job_le phase k, may.few, sum_by-cons (λ (p : PhaseValue). calls_in p) phase phases);
-  room = λ k below. let r = may.room k below in omega (arith, r, length-append (job phase k) (calls_of k phases));
-}
+module _ {S : Type 0} {K : Ghosts S} where
+  -- the first phase may be run
+  may_first : (b : BookValue S) (w : WorkersValue) (phase : PhaseValue) (phases : List PhaseValue) → MayRunAll K b w (phase ∷ phases) → MayRun K b w phase
+  may_first b w phase phases may = record {
+    lawful = may.lawful;
+    some = may.some;
+    ledgers = may.ledgers;
+    answers = may.answers;
+    jobs = All-head (λ p. length p ≡ workers_of b) phase phases may.jobs;
+    few = λ k below. omega (arith, job_le phase k, may.few, sum_by-cons (λ (p : PhaseValue). calls_in p) phase phases);
+    room = λ k below. let r = may.room k below in omega (arith, r, length-append (job phase k) (calls_of k phases));
+  }
 
--- after the phases before it, the next may be run
-pub may_next : (b : BookValue) (w : WorkersValue) (phases : List PhaseValue) (i : ℕ) (d : PhaseValue) (m : BookValue) (x : WorkersValue) → MayRunAll b w phases → i < length phases → HasRunPhases b w (take i phases) m x → MayRun m x (slice_index_or phases i d)
-may_next b w [] i d m x may lt chain = absurd (omega arith)
-may_next b w (phase ∷ phases) zero d m x may lt chain =
-    subst (λ (y : WorkersValue). MayRun m y phase) (sym chain.1) (subst (λ (c : BookValue). MayRun c w phase) (sym chain.0) (may_first b w phase phases may))
-may_next b w (phase ∷ phases) (suc i) d m x may lt chain =
-    may_next chain.0 chain.1 phases i d m x (may_more b chain.0 w chain.1 phase phases may chain.2) (omega arith) chain.3
+  -- after the phases before it, the next may be run
+  pub may_next : (b : BookValue S) (w : WorkersValue) (phases : List PhaseValue) (i : ℕ) (d : PhaseValue) (m : BookValue S) (x : WorkersValue) → MayRunAll K b w phases → i < length phases → HasRunPhases K b w (take i phases) m x → MayRun K m x (slice_index_or phases i d)
+  may_next b w [] i d m x may lt chain = absurd (omega arith)
+  may_next b w (phase ∷ phases) zero d m x may lt chain =
+      subst (λ (y : WorkersValue). MayRun K m y phase) (sym chain.1) (subst (λ (c : BookValue S). MayRun K c w phase) (sym chain.0) (may_first b w phase phases may))
+  may_next b w (phase ∷ phases) (suc i) d m x may lt chain =
+      may_next chain.0 chain.1 phases i d m x (may_more b chain.0 w chain.1 phase phases may chain.2) (omega arith) chain.3
 
 -- a worker's calls in two runs of phases are those in the first and then those in the second
 calls_of-append : (k : ℕ) (front back : List PhaseValue) → calls_of k (front ++ back) ≡ calls_of k front ++ calls_of k back
@@ -57,17 +59,18 @@ all_front : (P : PhaseValue → Type 0) (front back : List PhaseValue) → All P
 all_front P [] back all = λ k d lt. absurd (omega arith)
 all_front P (phase ∷ front) back all = All-cons P phase front (All-head P phase (front ++ back) all) (all_front P front back (All-tail P phase (front ++ back) all))
 
--- the phases of a front may be run
-pub may_front : (b : BookValue) (w : WorkersValue) (front back phases : List PhaseValue) → phases ≡ front ++ back → MayRunAll b w phases → MayRunAll b w front
-may_front b w front back phases split may = record {
-  lawful = may.lawful;
-  some = may.some;
-  ledgers = may.ledgers;
-  answers = may.answers;
-  jobs = all_front (λ p. length p ≡ workers_of b) front back (subst (All (λ p. length p ≡ workers_of b)) split may.jobs);
-  few = omega (arith, may.few, ap (λ (xs : List PhaseValue). calls_in_all xs) split, sum_by-append (λ (p : PhaseValue). calls_in p) front back);
-  room = λ k below. let r = may.room k below in omega (arith, r, ap (λ (xs : List PhaseValue). length (calls_of k xs)) split, ap length (calls_of-append k front back), length-append (calls_of k front) (calls_of k back));
-}
+module _ {S : Type 0} {K : Ghosts S} where
+  -- the phases of a front may be run
+  pub may_front : (b : BookValue S) (w : WorkersValue) (front back phases : List PhaseValue) → phases ≡ front ++ back → MayRunAll K b w phases → MayRunAll K b w front
+  may_front b w front back phases split may = record {
+    lawful = may.lawful;
+    some = may.some;
+    ledgers = may.ledgers;
+    answers = may.answers;
+    jobs = all_front (λ p. length p ≡ workers_of b) front back (subst (All (λ p. length p ≡ workers_of b)) split may.jobs);
+    few = omega (arith, may.few, ap (λ (xs : List PhaseValue). calls_in_all xs) split, sum_by-append (λ (p : PhaseValue). calls_in p) front back);
+    room = λ k below. let r = may.room k below in omega (arith, r, ap (λ (xs : List PhaseValue). length (calls_of k xs)) split, ap length (calls_of-append k front back), length-append (calls_of k front) (calls_of k back));
+  }
 
 -- all that is taken
 pub take_whole : (phases : List PhaseValue) (i : ℕ) → length phases ≤ i → take i phases ≡ phases

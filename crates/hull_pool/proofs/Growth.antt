@@ -15,6 +15,7 @@ use Rattle.hull_pool.specs.Runs.{job}
 use Rattle.hull_book.specs.Answers.{Answer}
 use Rattle.hull_pool.specs.Work.{HasWorked, lines_of, capacity_of, workers_of}
 use Rattle.hull_pool.proofs.Called.{count-lines_of}
+use Rattle.hull_plain.specs.declared.set.HullSet.{Ghosts}
 
 -- a worker's lines are as many more as it was served
 count_grown : (k cap done : ℕ) (calls : List Call) (before lines : List Line) (old new : List Answer) (h : HasWorked k cap done calls before lines old new) → count_of k lines ≡ count_of k before + length h.served
@@ -67,15 +68,16 @@ grows cap phase before lines olds news (suc w) le each =
     add-one' : {w : ℕ} → w + 1 ≡ suc w
     add-one' {w} = omega arith
 
--- the journal has grown by the calls of the phase, or to its capacity
-pub grown_to : (b c : BookValue) (phase : PhaseValue) (olds news : ℕ → List Answer) → IsLawful b → IsLawful c → c.head ≡ b.head → length phase ≡ workers_of b → ((k : ℕ) → k < workers_of b → HasWorked k (capacity_of b) (length (job phase k)) (job phase k) b.lines c.lines (olds k) (news k)) → length c.lines ≡ min (length b.lines + calls_in phase) (capacity_of b)
-grown_to b c phase olds news law still same long each =
-    let g = grows (capacity_of b) phase b.lines c.lines olds news (length phase) (omega arith) (λ k lt. each k (omega arith)) in
-    let all_b : below (length phase) b.lines ≡ length b.lines = rw long (below_all (workers_of b) b.lines law.seats) in
-    let all_c : below (length phase) c.lines ≡ length c.lines = rw (long, ← ap (λ (h : BookHead). h.workers) same) (below_all (workers_of c) c.lines still.seats) in
-    let jobs = all_jobs phase in
-    let within : length c.lines ≤ capacity_of b = rw (ap (λ (h : BookHead). h.journal.capacity) same) at still.within in
-    elim g.all [
-      | inl full ↦ omega (arith, g.most, all_b, all_c, jobs, within, full)
-      | inr equal ↦ omega (arith, equal, all_b, all_c, jobs, within)
-    ]
+module _ {S : Type 0} {K : Ghosts S} where
+  -- the journal has grown by the calls of the phase, or to its capacity
+  pub grown_to : (b c : BookValue S) (phase : PhaseValue) (olds news : ℕ → List Answer) → IsLawful K b → IsLawful K c → c.head ≡ b.head → length phase ≡ workers_of b → ((k : ℕ) → k < workers_of b → HasWorked k (capacity_of b) (length (job phase k)) (job phase k) b.lines c.lines (olds k) (news k)) → length c.lines ≡ min (length b.lines + calls_in phase) (capacity_of b)
+  grown_to b c phase olds news law still same long each =
+      let g = grows (capacity_of b) phase b.lines c.lines olds news (length phase) (omega arith) (λ k lt. each k (omega arith)) in
+      let all_b : below (length phase) b.lines ≡ length b.lines = rw long (below_all (workers_of b) b.lines law.seats) in
+      let all_c : below (length phase) c.lines ≡ length c.lines = rw (long, ← ap (λ (h : BookHead). h.workers) same) (below_all (workers_of c) c.lines still.seats) in
+      let jobs = all_jobs phase in
+      let within : length c.lines ≤ capacity_of b = rw (ap (λ (h : BookHead). h.journal.capacity) same) at still.within in
+      elim g.all [
+        | inl full ↦ omega (arith, g.most, all_b, all_c, jobs, within, full)
+        | inr equal ↦ omega (arith, equal, all_b, all_c, jobs, within)
+      ]

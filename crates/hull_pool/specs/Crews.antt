@@ -25,17 +25,17 @@ module _ {B H L : Type 0} where
   abbrev pub worker_of : Seat B H L → Vec Answer Global → LedgerValue → Worker B H L
   worker_of s a l = record { number = seat_number s; seat = Some s; ledger = l; answers = a }
 
--- a book on the heap, as contracts see it
-abbrev pub Boxed : Type 0
-Boxed = Box BookValue Global
+-- a book over such a set on the heap, as contracts see it
+abbrev pub Boxed : Type 0 → Type 0
+Boxed S = Box (BookValue S) Global
 
 -- the head of a book on the heap
-abbrev pub book_head : Boxed → BookHead
+abbrev pub book_head : {S : Type 0} → Boxed S → BookHead
 book_head b = (box_value b).head
 
 -- The worker may work on the phase: its seat is there, is of the lock, and has seen the lines of the book b; its ledger
 -- counts its lines among them; it has a list of calls, and room for an answer to each.
-pub record IsReady (lock : TicketLock Boxed BookHead Line) (b : BookValue) (phase : PhaseValue) (w : Worker Boxed BookHead Line) : Type 0 where
+pub record IsReady {S : Type 0} (lock : TicketLock (Boxed S) BookHead Line) (b : BookValue S) (phase : PhaseValue) (w : Worker (Boxed S) BookHead Line) : Type 0 where
   pub seated : IsSome w.seat
   pub own : IfSome w.seat (λ s. IsSeatOf book_head lock s × (seat_number s ≡ w.number) × (seat_seen s ≡ b.lines) × IsLedgerOf w.number (seat_seen s) w.ledger)
   pub below : w.number < workers_of b
@@ -45,7 +45,7 @@ pub record IsReady (lock : TicketLock Boxed BookHead Line) (b : BookValue) (phas
 
 -- The worker has worked on the phase: its seat is there, is of the lock, and has seen what it did since the lines of the
 -- book b; its ledger counts its lines among those.
-pub record HasRun (lock : TicketLock Boxed BookHead Line) (b : BookValue) (phase : PhaseValue) (old new : Worker Boxed BookHead Line) : Type 0 where
+pub record HasRun {S : Type 0} (lock : TicketLock (Boxed S) BookHead Line) (b : BookValue S) (phase : PhaseValue) (old new : Worker (Boxed S) BookHead Line) : Type 0 where
   pub seated : IsSome new.seat
   pub number : new.number ≡ old.number
   pub own : IfSome new.seat (λ s. IsSeatOf book_head lock s × (seat_number s ≡ new.number) × IsPrefix b.lines (seat_seen s) × IsLedgerOf new.number (seat_seen s) new.ledger

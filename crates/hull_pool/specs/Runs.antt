@@ -8,6 +8,7 @@ use Rattle.hull_plain.specs.declared.call.Call.{Call}
 use Rattle.hull_book.specs.declared.limits.TheConstants.{TEXT_LINE_LIMIT}
 use Rattle.hull_pool.specs.Answers.{AnswersValue, WorkersValue, no_answers}
 use Rattle.hull_pool.specs.Work.{HasWorked, capacity_of, workers_of}
+use Rattle.hull_plain.specs.declared.set.HullSet.{Ghosts}
 
 -- the calls of a worker in a phase
 abbrev pub job : PhaseValue → ℕ → List Call
@@ -19,8 +20,8 @@ answers_of w k = slice_index_or w.answers k no_answers
 
 -- The workers may run the phase on the book: it is lawful, the ledgers are its own, there is a list of calls for each
 -- worker, none longer than a text, and room for an answer to each call.
-pub record MayRun (b : BookValue) (w : WorkersValue) (phase : PhaseValue) : Type 0 where
-  pub lawful : IsLawful b
+pub record MayRun {S : Type 0} (K : Ghosts S) (b : BookValue S) (w : WorkersValue) (phase : PhaseValue) : Type 0 where
+  pub lawful : IsLawful K b
   pub some : 1 ≤ workers_of b
   pub ledgers : AreLedgers b w.ledgers
   pub answers : length w.answers ≡ workers_of b
@@ -32,8 +33,8 @@ pub record MayRun (b : BookValue) (w : WorkersValue) (phase : PhaseValue) : Type
 -- as the phase has calls or, where that is less, as the journal had room; the new lines of each worker are a front of its
 -- calls in their order, and its new answers are their replies and then that the journal is full; the ledgers are the
 -- book's own.
-pub record HasRunPhase (b : BookValue) (w : WorkersValue) (phase : PhaseValue) (c : BookValue) (v : WorkersValue) : Type 0 where
-  pub lawful : IsLawful c
+pub record HasRunPhase {S : Type 0} (K : Ghosts S) (b : BookValue S) (w : WorkersValue) (phase : PhaseValue) (c : BookValue S) (v : WorkersValue) : Type 0 where
+  pub lawful : IsLawful K c
   pub head : c.head ≡ b.head
   pub begins : IsPrefix b.lines c.lines
   pub as_many : length c.lines ≡ min (length b.lines + calls_in phase) (capacity_of b)

@@ -29,11 +29,11 @@ pub record HasWorked (seat capacity done : ℕ) (calls : List Call) (before line
   pub full : length served < done → capacity ≤ length lines
 
 -- how many lines a book's journal may have
-abbrev pub capacity_of : BookValue → ℕ
+abbrev pub capacity_of : {S : Type 0} → BookValue S → ℕ
 capacity_of b = b.head.journal.capacity
 
 -- how many workers a book was opened for
-abbrev pub workers_of : BookValue → ℕ
+abbrev pub workers_of : {S : Type 0} → BookValue S → ℕ
 workers_of b = b.head.workers
 
 -- One call was made while the journal grew from `before` to `lines`: it has one line more in the seat's name, with that

@@ -48,8 +48,8 @@ fn run_locked<R: Threads + Wait + Sync, S: HullSet + Drop + Send + Sync, G: Gate
 ) -> Box<Book<S>>
     requires crew { (crew.items ≡ []) × (vec_len seats ≤ vec_capacity crew) }
     requires seats { (seat_count lock ≡ workers_of (box_value (opening_book lock))) × (vec_len seats ≡ seat_count lock) × (vec_len seats ≤ vec_capacity seats) × All (IsSeatOf book_head lock) seats.items × AreNumbered seats.items × All (λ s. seat_seen s ≡ (box_value (opening_book lock)).lines) seats.items }
-    requires may { MayRun (box_value (opening_book lock)) (shown_workers answers.old.items ledgers.old.items) phase.now }
-    ensures { HasRunPhase (box_value (opening_book lock)) (shown_workers answers.old.items ledgers.old.items) phase.now (box_value result) (shown_workers answers.new.items ledgers.new.items) }
+    requires may { MayRun S.HullSet (box_value (opening_book lock)) (shown_workers answers.old.items ledgers.old.items) phase.now }
+    ensures { HasRunPhase S.HullSet (box_value (opening_book lock)) (shown_workers answers.old.items ledgers.old.items) phase.now (box_value result) (shown_workers answers.new.items ledgers.new.items) }
 {
     hire(&mut seats, answers, ledgers, &mut crew);
     work_all(rt, &lock, phase, gate, &mut crew);
@@ -83,8 +83,8 @@ pub fn run_phase<R: Threads + Wait + Sync, S: HullSet + Drop + Send + Sync, G: G
     phase: &Phase,
     gate: &G,
 ) -> PhaseEnd<S>
-    requires { MayRun book workers phase.now }
-    ensures ran { OnOk result.ended (HasRunPhase book workers phase.now result.book result.workers) }
+    requires { MayRun S.HullSet book workers phase.now }
+    ensures ran { OnOk result.ended (HasRunPhase S.HullSet book workers phase.now result.book result.workers) }
     ensures refused { OnErr result.ended ((result.book ≡ book) × (result.workers ≡ workers)) }
 {
     let seats = book.workers();
@@ -137,9 +137,9 @@ pub fn run_phases<R: Threads + Wait + Sync, S: HullSet + Drop + Send + Sync, G: 
     script: &Script,
     gate: &G,
 ) -> PhaseEnd<S>
-    requires { MayRunAll book workers script.now.phases }
-    ensures ran { OnOk result.ended (Runs book workers script.now.phases result.book result.workers) }
-    ensures refused { OnErr result.ended (RunsFront book workers script.now.phases result.book result.workers) }
+    requires { MayRunAll S.HullSet book workers script.now.phases }
+    ensures ran { OnOk result.ended (Runs S.HullSet book workers script.now.phases result.book result.workers) }
+    ensures refused { OnErr result.ended (RunsFront S.HullSet book workers script.now.phases result.book result.workers) }
 {
     let mut book = book;
     let mut workers = workers;

@@ -1,5 +1,6 @@
 //! Scripts that are run over a plain set, by values.
 ghost use Rattle.std.specs.Prelude.{◌≡◌, ◌+◌, ◌≤◌, [], ◌∷◌, IfOk, length};
+ghost use Rattle.hull_plain.specs.Sets.{plain_set};
 ghost use Rattle.hull_book.specs.Books.{IsLawful};
 ghost use Rattle.hull_book.specs.Ledgers.{AreLedgers};
 ghost use Rattle.hull_book.specs.Scripts.{calls_in};
@@ -45,7 +46,7 @@ fn opened(
     workers: u8,
 ) -> (Book<PlainSet>, Vec<Ledger>)
     requires workers { (1 ≤ workers) × (workers ≤ 64) }
-    ensures lawful { IsLawful result.0 }
+    ensures lawful { IsLawful plain_set result.0 }
     ensures ledgers { AreLedgers result.0 result.1.items }
     ensures workers { result.0.head.workers ≡ workers }
 {
@@ -68,7 +69,7 @@ fn ready(
     capacity: u32,
     script: &Script,
 ) -> (Book<PlainSet>, Workers)
-    ensures { MayRunAll result.0 result.1 script.now.phases }
+    ensures { MayRunAll plain_set result.0 result.1 script.now.phases }
 {
     let (book, ledgers) = opened(rt, alloc, first, capacity, script.workers());
     let ledgers = match Workers::new(alloc, ledgers, script) {
@@ -83,7 +84,7 @@ fn ready(
 
 // What came of the run that ended with this book and these workers.
 fn outcome_of(book: Book<PlainSet>, workers: Workers) -> Outcome
-    requires lawful { IsLawful book }
+    requires lawful { IsLawful plain_set book }
     requires ledgers { AreLedgers book workers.ledgers }
 {
     let (answers, ledgers) = workers.into_parts();

@@ -1,5 +1,6 @@
 //! Phases that are refused memory. `rt try --test --fail-alloc N` refuses the Nth allocation of each test.
 ghost use Rattle.std.specs.Prelude.{◌≡◌, ◌≤◌, OnOk, length};
+ghost use Rattle.hull_plain.specs.Sets.{plain_set};
 ghost use Rattle.hull_book.specs.Books.{IsLawful};
 ghost use Rattle.hull_book.specs.Ledgers.{AreLedgers};
 ghost use Rattle.hull_pool.specs.Runs.{MayRun, HasRunPhase};
@@ -65,8 +66,8 @@ fn runs_again<R: Threads + Wait + Abort + Sync>(
     phase: &Phase,
     calls: &Calls,
 ) -> PhaseEnd<PlainSet>
-    requires { MayRun book workers phase.now }
-    ensures { OnOk result.ended (HasRunPhase book workers phase.now result.book result.workers) }
+    requires { MayRun plain_set book workers phase.now }
+    ensures { OnOk result.ended (HasRunPhase plain_set book workers phase.now result.book result.workers) }
 {
     let before = (book.turn(), book.lines().len());
     let end = run_phase(rt, alloc, book, workers, phase, calls);
@@ -133,10 +134,10 @@ fn refused_phase(rt: HostRuntime) -> Result<(), Fail> {
 
 // The seat counts the points once more. How many lines the journal has then.
 fn count_on(rt: &impl Abort, book: &mut Book<PlainSet>, ledgers: &mut Vec<Ledger>) -> u64
-    requires lawful { IsLawful book.old }
+    requires lawful { IsLawful plain_set book.old }
     requires ledgers { AreLedgers book.old ledgers.old.items }
     requires some { 1 ≤ book.old.head.workers }
-    ensures lawful { IsLawful book.new }
+    ensures lawful { IsLawful plain_set book.new }
     ensures ledgers { AreLedgers book.new ledgers.new.items }
 {
     match book.serve(0, Call::Count, &mut ledgers[0]) {

@@ -11,21 +11,21 @@ serve-answer-requires-clause-ledger g c =
     let finds = c.enter-guard.ensures.finds in
     let same : c.deref_mut.result.now ≡ box_value (guard_book c.enter-guard.result) = cc in
     found_ledger c.deref_mut.result.now (box_value (opening_book c.args.lock.now)) c.args.number (seat_seen c.args.seat) c.args.ledger.now
-    (ap (λ (b : BookValue). b.head) same ∙ finds.same_head) c.requires.below
+    (ap (λ (b : BookValue _). b.head) same ∙ finds.same_head) c.requires.below
     (found_own c.args.number _ _ _ _ same c.requires.number finds.own_lines) c.requires.ledger
 
 pub returns-clause-begins : goal.returns-clause-begins
 returns-clause-begins g c =
     let finds = c.enter-guard.ensures.finds in
     let same : c.deref_mut.result.now ≡ box_value (guard_book c.enter-guard.result) = cc in
-    call_begins c.serve-answer.result c.deref_mut.result.now c.serve-answer.new.self c.args.number c.args.call _ (seat_seen c.args.seat) _
-    (subst (λ (b : BookValue). IsPrefix (seat_seen c.args.seat) b.lines) (sym same) finds.begins) c.hand_on-seat.ensures.seen c.serve-answer.ensures.ok c.serve-answer.ensures.err
+    call_begins g.S.HullSet c.serve-answer.result c.deref_mut.result.now c.serve-answer.new.self c.args.number c.args.call _ (seat_seen c.args.seat) _
+    (subst (λ (b : BookValue _). IsPrefix (seat_seen c.args.seat) b.lines) (sym same) finds.begins) c.hand_on-seat.ensures.seen c.serve-answer.ensures.ok c.serve-answer.ensures.err
 
 pub returns-clause-called : goal.returns-clause-called
 returns-clause-called g c =
     let finds = c.enter-guard.ensures.finds in
     let same : c.deref_mut.result.now ≡ box_value (guard_book c.enter-guard.result) = cc in
-    call_made c.serve-answer.result c.deref_mut.result.now c.serve-answer.new.self c.args.number _ c.args.call _ (seat_seen c.args.seat) _
+    call_made g.S.HullSet c.serve-answer.result c.deref_mut.result.now c.serve-answer.new.self c.args.number _ c.args.call _ (seat_seen c.args.seat) _
     (found_own c.args.number _ _ _ _ same c.requires.number finds.own_lines)
-    (sym (ap (λ (h : BookHead). h.journal.capacity) (ap (λ (b : BookValue). b.head) same ∙ finds.same_head)))
+    (sym (ap (λ (h : BookHead). h.journal.capacity) (ap (λ (b : BookValue _). b.head) same ∙ finds.same_head)))
     c.hand_on-seat.ensures.seen c.serve-answer.ensures.full c.serve-answer.ensures.ok c.serve-answer.ensures.err

@@ -9,7 +9,7 @@ use Rattle.hull_pool.proofs.phase.run_locked.Goals as goal
 
 pub work_all-requires-clause-some : goal.work_all-requires-clause-some
 work_all-requires-clause-some g c κs within =
-    let b : BookValue = box_value (opening_book c.args.lock) in
+    let b : BookValue _ = box_value (opening_book c.args.lock) in
     let n : length c.args.seats.items ≡ workers_of b = omega (arith, c.requires.seats.0, c.requires.seats.1, c.args.seats.ok.0) in
     let long : AreLong b c.args.seats.items c.args.answers.now.items c.args.ledgers.now.items = are_long b c.args.phase.now _ _ _ n c.requires.may in
     let crew : length c.hire.new.crew.items ≡ workers_of b = crew_long b _ _ _ _ long c.hire.ensures.crew in
@@ -17,7 +17,7 @@ work_all-requires-clause-some g c κs within =
 
 pub work_all-requires-clause-ready : goal.work_all-requires-clause-ready
 work_all-requires-clause-ready g c κs within =
-    let b : BookValue = box_value (opening_book c.args.lock) in
+    let b : BookValue _ = box_value (opening_book c.args.lock) in
     let n : length c.args.seats.items ≡ workers_of b = omega (arith, c.requires.seats.0, c.requires.seats.1, c.args.seats.ok.0) in
     let long : AreLong b c.args.seats.items c.args.answers.now.items c.args.ledgers.now.items = are_long b c.args.phase.now _ _ _ n c.requires.may in
     let crew : length c.hire.new.crew.items ≡ workers_of b = crew_long b _ _ _ _ long c.hire.ensures.crew in
@@ -33,7 +33,7 @@ dismiss-requires-clause-numbered g c = all_unreverse (λ w. IfSome w.seat (λ s.
 
 pub dismiss-requires-clause-room : goal.dismiss-requires-clause-room
 dismiss-requires-clause-room g c =
-    let b : BookValue = box_value (opening_book c.args.lock) in
+    let b : BookValue _ = box_value (opening_book c.args.lock) in
     let n : length c.args.seats.items ≡ workers_of b = omega (arith, c.requires.seats.0, c.requires.seats.1, c.args.seats.ok.0) in
     let long : AreLong b c.args.seats.items c.args.answers.now.items c.args.ledgers.now.items = are_long b c.args.phase.now _ _ _ n c.requires.may in
     let crew : length c.hire.new.crew.items ≡ workers_of b = crew_long b _ _ _ _ long c.hire.ensures.crew in
@@ -46,7 +46,7 @@ dismiss-requires-clause-room g c =
 
 pub close-requires-clause-all : goal.close-requires-clause-all
 close-requires-clause-all g c =
-    let b : BookValue = box_value (opening_book c.args.lock) in
+    let b : BookValue _ = box_value (opening_book c.args.lock) in
     let n : length c.args.seats.items ≡ workers_of b = omega (arith, c.requires.seats.0, c.requires.seats.1, c.args.seats.ok.0) in
     let long : AreLong b c.args.seats.items c.args.answers.now.items c.args.ledgers.now.items = are_long b c.args.phase.now _ _ _ n c.requires.may in
     let crew : length c.hire.new.crew.items ≡ workers_of b = crew_long b _ _ _ _ long c.hire.ensures.crew in
@@ -54,7 +54,7 @@ close-requires-clause-all g c =
 
 pub close-requires-clause-own : goal.close-requires-clause-own
 close-requires-clause-own g c =
-    let b : BookValue = box_value (opening_book c.args.lock) in
+    let b : BookValue _ = box_value (opening_book c.args.lock) in
     let n : length c.args.seats.items ≡ workers_of b = omega (arith, c.requires.seats.0, c.requires.seats.1, c.args.seats.ok.0) in
     let long : AreLong b c.args.seats.items c.args.answers.now.items c.args.ledgers.now.items = are_long b c.args.phase.now _ _ _ n c.requires.may in
     let crew : length c.hire.new.crew.items ≡ workers_of b = crew_long b _ _ _ _ long c.hire.ensures.crew in
@@ -66,7 +66,7 @@ close-requires-clause-own g c =
 
 pub returns : goal.returns
 returns g c =
-    let b : BookValue = box_value (opening_book c.args.lock) in
+    let b : BookValue _ = box_value (opening_book c.args.lock) in
     let n : length c.args.seats.items ≡ workers_of b = omega (arith, c.requires.seats.0, c.requires.seats.1, c.args.seats.ok.0) in
     let long : AreLong b c.args.seats.items c.args.answers.now.items c.args.ledgers.now.items = are_long b c.args.phase.now _ _ _ n c.requires.may in
     let crew : length c.hire.new.crew.items ≡ workers_of b = crew_long b _ _ _ _ long c.hire.ensures.crew in
