@@ -1,7 +1,8 @@
 -- What a run of a script comes to, and the text that is written of it.
 use Rattle.std.specs.Prelude.{◌≡◌, ◌<◌, ℕ, ◌^◌, cond, List, [], ◌++◌, length, map, Option, Some, None, Ok}
 use Rattle.std.specs.Io.KnownBytes.{Appends}
-use Rattle.hull_book.specs.Books.{BookValue}
+use Rattle.hull_book.specs.Books.{BookValue, opened_book}
+use Rattle.hull_tree.specs.Sets.{LimitedTree, hull_tree}
 use Rattle.hull_book.specs.Journals.{JournalValue}
 use Rattle.hull_book.specs.Scripts.{ScriptValue}
 use Rattle.hull_book.specs.Answers.{Answer}
@@ -14,18 +15,12 @@ use Rattle.hull_text.specs.Version.{written}
 use Rattle.hull_text.specs.ScriptGrammar.{IsScriptText, ReadsKnownScript}
 use Rattle.hullbook.specs.declared.options.Options.{Options}
 
--- the book over an empty set that a run begins with
-abbrev pub opening : Options → ℕ → BookValue
-opening o workers = record {
-  points = [];
-  bound = o.limit;
-  head = record { journal = record { first = o.first; limit = o.limit; capacity = o.capacity }; workers = workers };
-  turn = o.first;
-  lines = [];
-}
+-- the book over an empty tree that a run begins with
+abbrev pub opening : Options → ℕ → BookValue LimitedTree
+opening o workers = opened_book (record { limit = o.limit; root = None }) o.first o.limit o.capacity workers
 
 -- the journal of a book
-abbrev pub journal_of : BookValue → JournalValue
+abbrev pub journal_of : BookValue LimitedTree → JournalValue
 journal_of b = record { head = b.head.journal; lines = b.lines }
 
 -- The workers of the script ran all its phases on a book that was opened so: these are their answers, the counts of the
@@ -33,9 +28,9 @@ journal_of b = record { head = b.head.journal; lines = b.lines }
 pub record IsRun (script : ScriptValue) (o : Options) (answers : List (List Answer)) (counts : List ℕ) (journal : JournalValue) : Type 0 where
   pub before : WorkersValue
   pub after : WorkersValue
-  pub closed : BookValue
+  pub closed : BookValue LimitedTree
   pub none : (k : ℕ) → k < script.workers → (answers_of before k).answers ≡ []
-  pub ran : Runs (opening o script.workers) before script.phases closed after
+  pub ran : Runs hull_tree (opening o script.workers) before script.phases closed after
   pub answers_are : answers ≡ map (λ a. a.answers) after.answers
   pub counts_are : counts ≡ map (λ l. l.count) after.ledgers
   pub journal_is : journal ≡ journal_of closed

@@ -8,7 +8,6 @@ mod check;
 mod fault;
 mod options;
 mod run;
-mod stored_bridges;
 #[cfg(test)]
 mod tests;
 
