@@ -4,6 +4,7 @@ pub mod FormsKept
 pub mod Seats
 pub mod Worlds
 pub mod Schedules
+pub mod Linear
 pub mod Steps
 pub mod Guards
 pub mod Gather

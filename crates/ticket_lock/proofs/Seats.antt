@@ -13,8 +13,8 @@ use Rattle.ticket_lock.specs.declared.sight.Sight.{Sight}
 use Rattle.ticket_lock.specs.declared.sight.Sight.TheVariants.{Keeper, Idle, Waiting, Holding}
 use Rattle.ticket_lock.specs.World.{Form, World, wrap, memo, memos, out, HasNumber, total, weigh, span, Remembers, Knows, Good}
 use Rattle.ticket_lock.specs.Schedule.{idle_from}
-use Rattle.ticket_lock.specs.Standing.{stage_of, seat_of, left_of, right_of, joined, nobody, memos_of, memos_from, keeper_of, shelf, world_of, Standing}
-use Rattle.ticket_lock.proofs.Sums.{snoc_at, wrap_small, total_set, total_two, span_all}
+use Rattle.ticket_lock.specs.Standing.{stage_of, seat_of, left_of, right_of, joined, nobody, memos_of, memos_from, idles, keeper_of, shelf, world_of, Standing}
+use Rattle.ticket_lock.proofs.Sums.{snoc_at, wrap_small, total_set, total_at, total_two, span_all}
 use Rattle.ticket_lock.proofs.Machine.{true_false, same_there, seats_stay, is_true}
 
 module _ {H L : Type 0} where
@@ -89,9 +89,50 @@ module _ {H L : Type 0} where
   keeper_step h xs k c less = let e : c - k ≡ suc (c - (k + 1)) = omega arith in let d : suc k ≡ k + 1 = omega arith in
       ap (keeper_of h xs k) e ∙ ap (λ (z : ℕ). let v : Sight H L = Keeper (memo k h xs ∷ memos_from h xs z (c - (k + 1))) in v) d
 
--- the working form of a lock's end
-abbrev pub Ended : {B H L : Type 0} → Ghosts B H L → Form → ℕ → B → B → Type 0
-Ended {B} {H} {L} K F n opening b = (w : World B H L) × Good K F n opening w [] × (w.home ≡ true) × (w.current ≡ b) × (w.next ≡ K.turn b)
+-- the working form of a lock's end, with the seats that came back
+abbrev pub Ended : {B H L : Type 0} → Ghosts B H L → Form → ℕ → B → List (Sight H L) → B → Type 0
+Ended {B} {H} {L} K F n opening given b = (w : World B H L) × Good K F n opening w [] × (w.home ≡ true) × (w.current ≡ b) × (w.next ≡ K.turn b) × (w.seats ≡ given)
+
+module _ {H L : Type 0} where
+  -- idle seats have no number
+  idles_out : (ms : List (Memo H L)) → total out (idles ms) ≡ 0
+  idles_out [] = refl
+  idles_out (m ∷ ms) = let p = idles_out ms in omega arith
+
+  -- they weigh what their memos do
+  idles_weigh : (h : ℕ → ℕ) (ms : List (Memo H L)) → total (λ v. weigh h (memos v)) (idles ms) ≡ weigh h ms
+  idles_weigh h [] = refl
+  idles_weigh h (m ∷ ms) = let p = idles_weigh h ms in omega arith
+
+  -- each of them has its memo
+  idle_there : (ms : List (Memo H L)) (j : ℕ) (v : Sight H L) → get_elem? (idles ms) j ≡ some v → (m : Memo H L) × (get_elem? ms j ≡ some m) × (Idle m ≡ v)
+  idle_there [] j v e = absurd (some-ne-none v (sym e))
+  idle_there (m ∷ ms) zero v e = (m, refl, some-injective (Idle m) v e)
+  idle_there (m ∷ ms) (suc j) v e = idle_there ms j v e
+
+  -- no memos weigh nothing
+  weigh_none : (h : ℕ → ℕ) (ms : List (Memo H L)) → weigh (λ _. 1) ms ≡ 0 → weigh h ms ≡ 0
+  weigh_none h [] e = refl
+  weigh_none h (m ∷ ms) e = absurd (omega arith)
+
+  -- nor do views without memos
+  total_none : (h : ℕ → ℕ) (vs : List (Sight H L)) → total (λ v. weigh (λ _. 1) (memos v)) vs ≡ 0 → total (λ v. weigh h (memos v)) vs ≡ 0
+  total_none h [] e = refl
+  total_none h (v ∷ vs) e = let p = weigh_none h (memos v) (omega arith) in let q = total_none h vs (omega arith) in omega arith
+
+  -- where one view has all memos, it weighs what all do
+  has_all : (h : ℕ → ℕ) (vs : List (Sight H L)) (id : ℕ) (v : Sight H L) → get_elem? vs id ≡ some v → total (λ v. weigh (λ _. 1) (memos v)) vs ≡ weigh (λ _. 1) (memos v)
+      → total (λ v. weigh h (memos v)) vs ≡ weigh h (memos v)
+  has_all h [] id v at e = absurd (some-ne-none v (sym at))
+  has_all h (x ∷ vs) zero v at e =
+      let same : x ≡ v = some-injective x v at in
+      let one = ap (λ (z : Sight H L). weigh (λ _. 1) (memos z)) same in
+      let mine = ap (λ (z : Sight H L). weigh h (memos z)) same in
+      let others = total_none h vs (omega arith) in omega arith
+  has_all h (x ∷ vs) (suc id) v at e =
+      let one = total_at (λ v. weigh (λ _. 1) (memos v)) vs id v at in
+      let none = weigh_none h (memos x) (omega arith) in
+      let rest = has_all h vs id v at (omega arith) in omega arith
 
 module _ {B H L : Type 0} (K : Ghosts B H L) (F : Form) (n : ℕ) (opened : B) where
   -- the rule of the table
@@ -265,12 +306,13 @@ module _ {B H L : Type 0} (K : Ghosts B H L) (F : Form) (n : ℕ) (opened : B) w
 
   -- a keeper of all seats at the end: the book is at home, and its turn is the next number
   pub closes_ok : (id : ℕ) (ms : List (Memo H L)) (ws : List ℕ) (xs : List (std.Option B)) → length ms ≡ n → Final (Seen Rule id (Keeper ms)) ws xs
-      → (b : B) × (get_elem? xs 0 ≡ some (std.Some b)) × K.lawful b × (K.head b ≡ K.head opened) × Ended K F n opened b × ((a : ℕ) (m : Memo H L) → get_elem? ms a ≡ some m → Remembers K opened b m)
+      → (b : B) × (get_elem? xs 0 ≡ some (std.Some b)) × K.lawful b × (K.head b ≡ K.head opened) × Ended K F n opened (idles ms) b × ((a : ℕ) (m : Memo H L) → get_elem? ms a ≡ some m → Remembers K opened b m)
   closes_ok id ms ws xs long f =
       let s = f.0 in
       let r = f.1.0 in
       let g = r.good in
       let at = f.1.1 in
+      let mine = g.each_seat id (Keeper ms) at in
       let all : (λ (v : Sight H L). weigh (λ _. 1) (memos v)) (Keeper ms) ≡ n = ones ms ∙ long in
       let sum : total (λ v. weigh (λ _. 1) (memos v)) s.views ≡ n = g.parts (λ _. 1) ∙ span_all 0 n in
       let nobody_else : (j : ℕ) (v : Sight H L) (u : ℕ) → get_elem? s.views j ≡ some v → HasNumber v u → ⊥ = λ j v u e has.
@@ -284,13 +326,33 @@ module _ {B H L : Type 0} (K : Ghosts B H L) (F : Form) (n : ℕ) (opened : B) w
         f.4 0 (std.Some r.current) (ap (λ (z : List (Option (std.Option B))). get_elem? z 0) homes),
         g.lawful,
         g.head,
-        (world_of s r.next r.serving r.home r.current, subst (Good K F n opened (world_of s r.next r.serving r.home r.current)) none_out g, home, refl, next ∙ sym g.turn),
-        g.each_seat id (Keeper ms) at,
+        (
+          record { words = s.words; next = r.next; serving = r.serving; seats = idles ms; home = true; current = r.current },
+          record {
+            size = g.size;
+            shows = g.shows;
+            small = g.small;
+            next_is = g.next_is ∙ ap (λ (q : List ℕ). wrap (r.serving + length q)) none_out;
+            queued = λ i k e. absurd (some-ne-none k (sym e));
+            counted = idles_out ms;
+            parts = λ h. idles_weigh h ms ∙ (sym (has_all h s.views id (Keeper ms) at (sum ∙ sym all)) ∙ g.parts h);
+            each_seat = λ j v e. let m = idle_there ms j v e in subst (Knows K opened r.current true r.serving [] j) m.2 (mine j m.0 m.1);
+            away = λ out. absurd (true_false out);
+            lawful = g.lawful;
+            head = g.head;
+            turn = g.turn;
+          },
+          refl,
+          refl,
+          next ∙ sym g.turn,
+          refl,
+        ),
+        mine,
       )
 
   -- the same of any keeper, and of what came out of the slot
   pub closes_from : (id seats : ℕ) (v : Sight H L) (ws : List ℕ) (xs : List (std.Option B)) (r : std.Option B) → stage_of v ≡ 0 → length (memos_of v) ≡ n → Final (Seen Rule id v) ws xs → get_elem? xs 0 ≡ some r
-      → (b : B) × (r ≡ std.Some b) × K.lawful b × (K.head b ≡ K.head opened) × Ended K F n opened b × ((a : ℕ) (m : Memo H L) → get_elem? (memos_of v) a ≡ some m → Remembers K opened b m)
+      → (b : B) × (r ≡ std.Some b) × K.lawful b × (K.head b ≡ K.head opened) × Ended K F n opened (idles (memos_of v)) b × ((a : ℕ) (m : Memo H L) → get_elem? (memos_of v) a ≡ some m → Remembers K opened b m)
   closes_from id seats (Keeper ms) ws xs r is long f at = let c = closes_ok id ms ws xs long f in (c.0, some-injective r (std.Some c.0) (sym at ∙ c.1), c.2, c.3, c.4, c.5)
   closes_from id seats (Idle m) ws xs r is long f at = absurd (omega arith)
   closes_from id seats (Waiting m t k) ws xs r is long f at = absurd (omega arith)
@@ -298,10 +360,10 @@ module _ {B H L : Type 0} (K : Ghosts B H L) (F : Form) (n : ℕ) (opened : B) w
 
   -- the same of the book that is taken out
   pub closed_book : (id seats : ℕ) (v : Sight H L) (ws : List ℕ) (xs : List (std.Option B)) (r : std.Option B) (b : B) → stage_of v ≡ 0 → length (memos_of v) ≡ n → Final (Seen Rule id v) ws xs → get_elem? xs 0 ≡ some r → r ≡ std.Some b
-      → K.lawful b × (K.head b ≡ K.head opened) × Ended K F n opened b × ((a : ℕ) (m : Memo H L) → get_elem? (memos_of v) a ≡ some m → Remembers K opened b m)
+      → K.lawful b × (K.head b ≡ K.head opened) × Ended K F n opened (idles (memos_of v)) b × ((a : ℕ) (m : Memo H L) → get_elem? (memos_of v) a ≡ some m → Remembers K opened b m)
   closed_book id seats v ws xs r b is long f at found = let c = closes_from id seats v ws xs r is long f at in
       let same : c.0 ≡ b = unwrapped c.0 b (sym c.1 ∙ found) in
-      subst (λ (z : B). K.lawful z × (K.head z ≡ K.head opened) × Ended K F n opened z × ((a : ℕ) (m : Memo H L) → get_elem? (memos_of v) a ≡ some m → Remembers K opened z m)) same (c.2, c.3, c.4, c.5)
+      subst (λ (z : B). K.lawful z × (K.head z ≡ K.head opened) × Ended K F n opened (idles (memos_of v)) z × ((a : ℕ) (m : Memo H L) → get_elem? (memos_of v) a ≡ some m → Remembers K opened z m)) same (c.2, c.3, c.4, c.5)
 
   -- the table as `open` lays it meets the rule
   pub opens_from : (turn seats : ℕ) (ws : List ℕ) (value : B) (items : List (std.Option B)) → F.Shows turn turn ws → n ≤ 64 → K.lawful opened → turn < 2 ^ 64 → turn ≡ K.turn opened → seats ≡ n → value ≡ opened → items ≡ std.Some opened ∷ []

@@ -1,5 +1,5 @@
 -- A world that stands under the invariant is good.
-use Rattle.std.proofs.Common.{◌≡◌, ℕ, zero, suc, ◌+◌, ◌<◌, List, [], ◌∷◌, length, sym, refl, ap, ◌∙◌, subst, arith}
+use Rattle.std.proofs.Common.{◌≡◌, ℕ, zero, suc, ◌+◌, ◌^◌, ◌<◌, ◌≤◌, true, List, [], ◌∷◌, length, sym, refl, ap, ◌∙◌, subst, arith}
 use mathlib.Core.Logic.{dite}
 use mathlib.Core.Option.{some, some-injective, some-ne-none}
 use native.Mathlib.Decide.{ℕ_discrete}
@@ -10,13 +10,14 @@ use Rattle.ticket_lock.specs.declared.sight.Sight.{Sight}
 use Rattle.ticket_lock.specs.declared.sight.Sight.TheVariants.{Keeper, Idle, Waiting, Holding}
 use Rattle.ticket_lock.specs.World.{Form, World, wrap, memos, HasNumber, Remembers, Knows, Good}
 use Rattle.ticket_lock.specs.GoodWorld.{Owns, GoodWorld, Shut}
+use Rattle.ticket_lock.specs.Schedule.{idle_from, Begins}
 use Rattle.ticket_lock.specs.Standing.{RestingTablesAreGood, world_of}
 use Rattle.ticket_lock.proofs.Seats.{Ended}
 use Rattle.ticket_lock.proofs.Sums.{wrap_small, one_place, at_below}
 use Rattle.ticket_lock.proofs.Machine.{FormLaws, true_false, few, strangers}
 
 -- below the length of the queue stands a seat
-at_of : (q : List ℕ) (i : ℕ) → i < length q → (j : ℕ) × (get_elem? q i ≡ some j)
+pub at_of : (q : List ℕ) (i : ℕ) → i < length q → (j : ℕ) × (get_elem? q i ≡ some j)
 at_of [] i h = absurd (omega arith)
 at_of (x ∷ xs) zero h = (x, refl)
 at_of (x ∷ xs) (suc i) h = at_of xs i (omega arith)
@@ -30,7 +31,7 @@ module _ {B H L : Type 0} (K : Ghosts B H L) (F : Form) (laws : FormLaws F) (n :
   place_of k t (Holding m u) know has = (0, know.1, sym has ∙ (know.2 ∙ (sym (wrap_small w.serving g.small) ∙ ap wrap (omega arith))))
 
   -- the same of the owner of a number
-  owner : (k t : ℕ) → Owns w k t → (i : ℕ) × (get_elem? q i ≡ some k) × (t ≡ wrap (w.serving + i))
+  pub owner : (k t : ℕ) → Owns w k t → (i : ℕ) × (get_elem? q i ≡ some k) × (t ≡ wrap (w.serving + i))
   owner k t o = place_of k t o.0 (g.each_seat k o.0 o.1) o.2
 
   -- a seat has one memo
@@ -74,10 +75,12 @@ module _ {B H L : Type 0} (K : Ghosts B H L) (F : Form) (laws : FormLaws F) (n :
 
 module _ {B H L : Type 0} (K : Ghosts B H L) (F : Form) (laws : FormLaws F) where
   -- a lock that ends in the working form has ended well
-  pub shut : (n : ℕ) (opening b : B) → Ended K F n opening b → Shut K F opening b
-  shut n opening b e = record {
+  pub shut : (n : ℕ) (opening : B) (given back : List (Sight H L)) (b : B) → Ended K F n opening given b → back ≡ given
+      → Shut K F opening back b
+  shut n opening given back b e same = record {
     world = e.0;
     good = good_world K F laws n opening e.0 [] e.1;
+    seats = e.5 ∙ sym same;
     none_out = λ j t o. let p = owner K F laws n opening e.0 [] e.1 j t o in some-ne-none j (sym p.1);
     home = e.2;
     current = e.3;
@@ -87,3 +90,24 @@ module _ {B H L : Type 0} (K : Ghosts B H L) (F : Form) (laws : FormLaws F) wher
   -- whatever stands in the table under the rule shows a good world
   pub resting : RestingTablesAreGood K F
   resting n opening s r = (good_world K F laws n opening (world_of s r.next r.serving r.home r.current) r.queue r.good, r.shelved)
+
+-- the seats that were cut off are those of an opened world
+pub begins : {B H L : Type 0} (K : Ghosts B H L) (F : Form) (n : ℕ) (b value : B) (ws : List ℕ) (seats : List (Sight H L))
+    → 0 < n → n ≤ 64 → K.lawful b → K.turn b < 2 ^ 64 → F.Shows (K.turn b) (K.turn b) ws → value ≡ b
+    → seats ≡ idle_from (K.head value) (K.lines value) 0 n → Begins K F n b seats
+begins K F n b value ws seats some_seats few lawful first shows same is = record {
+  world = record { words = ws; next = K.turn b; serving = K.turn b; seats = seats; home = true; current = b };
+  opened = record {
+    some_seats = some_seats;
+    few = few;
+    lawful = lawful;
+    first = first;
+    words = shows;
+    next = refl;
+    serving = refl;
+    seats = is ∙ ap (λ (z : _). idle_from (K.head z) (K.lines z) 0 n) same;
+    home = refl;
+    current = refl;
+  };
+  handed_out = refl;
+}

@@ -1,5 +1,5 @@
 -- The good world, in sentences over all seats.
-use Rattle.std.specs.Prelude.{◌≡◌, ℕ, ◌+◌, ◌<◌, ◌≤◌, true, false}
+use Rattle.std.specs.Prelude.{◌≡◌, ℕ, ◌+◌, ◌<◌, ◌≤◌, true, false, List}
 use mathlib.Core.Option.{some}
 use mathlib.Core.List.{IsPrefix}
 use lib.ListN.{get_elem?}
@@ -46,10 +46,12 @@ module _ {B H L : Type 0} where
     pub begins : (j : ℕ) (m : Memo H L) → HasSeen w j m → IsPrefix m.seen (K.lines w.current)
     pub own_lines : (j : ℕ) (m : Memo H L) → HasSeen w j m → own K m.seat (K.lines w.current) ≡ own K m.seat m.seen
 
-  -- how a lock ends: in a good world in which no seat has a number, with the book b at home, whose turn is the next number
-  pub record Shut (K : Ghosts B H L) (F : Form) (opening b : B) : Type 0 where
+  -- how a lock ends: in a good world whose seats are just those given back, none of which has a number, with the
+  -- book b at home, whose turn is the next number
+  pub record Shut (K : Ghosts B H L) (F : Form) (opening : B) (given : List (Sight H L)) (b : B) : Type 0 where
     pub world : World B H L
     pub good : GoodWorld K F opening world
+    pub seats : world.seats ≡ given
     pub none_out : (j t : ℕ) → Owns world j t → ⊥
     pub home : world.home ≡ true
     pub current : world.current ≡ b

@@ -22,7 +22,7 @@ mod ticket;
 
 pub use chronicle::Chronicle;
 pub use guard::Guard;
-pub use law::{partitioned_schedules_hold, resting_tables_are_good, schedules_hold};
+pub use law::{partitioned_schedules_are_linearizable, partitioned_schedules_are_never_stuck, partitioned_schedules_hold, resting_tables_are_good, schedules_hold};
 pub use lock::TicketLock;
 pub use open::OpenFault;
 pub use seat::Seat;

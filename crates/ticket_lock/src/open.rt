@@ -1,8 +1,9 @@
 //! A lock is opened round a book.
-ghost use Rattle.std.specs.Prelude.{◌≡◌, ◌<◌, ◌≤◌, ◌⊎◌, [], ◌∷◌, length, vec_len, vec_capacity, All, IfOk, IfErr, IsErrAnd, map};
+ghost use Rattle.std.specs.Prelude.{◌≡◌, ◌^◌, ◌<◌, ◌≤◌, ◌⊎◌, [], ◌∷◌, length, vec_len, vec_capacity, All, IfOk, IfErr, IsErrAnd, map};
 ghost use Rattle.ticket_lock.specs.Standing.{keeper_of, heads_of, seen_of, IsIdle};
-ghost use Rattle.ticket_lock.specs.Schedule.{idle_from};
-ghost use Rattle.ticket_lock.specs.Tokens.{seat_count, opening_book, IsSeatOf, AreNumbered, seat_seen};
+ghost use Rattle.ticket_lock.specs.Schedule.{idle_from, Begins};
+ghost use Rattle.ticket_lock.specs.Forms.{partitioned_form};
+ghost use Rattle.ticket_lock.specs.Tokens.{seat_count, opening_book, IsSeatOf, AreNumbered, seat_sight, seat_seen};
 ghost use Rattle.ticket_lock.specs.declared.open.OpenFault.TheVariants.{SeatCount, NoMemory};
 
 use crate::chronicle::Chronicle;
@@ -39,6 +40,7 @@ fn lay<B: Chronicle>(alloc: Global, book: B, seats: u8) -> Result<(Board<B>, Pla
     requires few { seats ≤ 64 }
     ensures sized { IfOk result (λ r. (r.0.shared.table_id.words ≡ 9) × (r.0.shared.table_id.slots ≡ 1) × (r.0.shared.key.seats ≡ seats) × (r.0.shared.key.book.value ≡ book)) }
     ensures keeper { IfOk result (λ r. (r.1.table_id ≡ r.0.shared.table_id) × (r.1.me ≡ (keeper_of (B.head book) (B.lines book) 0 seats, []))) }
+    ensures first { IfOk result (λ _. B.turn book < 2 ^ 64) }
     ensures back { IfErr result (λ b. b ≡ book) }
 {
     let turn = book.turn();
@@ -64,6 +66,7 @@ fn cut<B: Chronicle>(board: &Board<B>, keeper: &mut Place<B>, all: &mut Vec<Seat
     ensures keeper { (keeper.new.table_id ≡ keeper.old.table_id) × (keeper.new.me ≡ (keeper_of (B.head board.now.shared.key.book.value) (B.lines board.now.shared.key.book.value) seats 0, [])) }
     ensures own { All (λ s. (s.place.table_id ≡ board.now.shared.table_id) × (heads_of s.place.me.0 ≡ B.head board.now.shared.key.book.value ∷ []) × IsIdle s.number s.place.me) all.new.items }
     ensures seen { All (λ s. seen_of s.place.me.0 ≡ B.lines board.now.shared.key.book.value) all.new.items }
+    ensures views { map (λ s. s.place.me.0) all.new.items ≡ idle_from (B.head board.now.shared.key.book.value) (B.lines board.now.shared.key.book.value) 0 seats }
     ensures numbers { AreNumbered all.new.items }
     ensures room { (vec_len all.new ≡ seats) × (seats ≤ vec_capacity all.new) }
 {
@@ -92,6 +95,7 @@ impl<B: Chronicle> TicketLock<B> {
         ensures own { IfOk result (λ r. All (IsSeatOf B.head r.0) r.1.items) }
         ensures numbers { IfOk result (λ r. AreNumbered r.1.items) }
         ensures seen { IfOk result (λ r. All (λ s. seat_seen s ≡ B.lines book) r.1.items) }
+        ensures begins { IfOk result (λ r. Begins B.Chronicle partitioned_form seats book (map (λ s. seat_sight s) r.1.items)) }
         ensures seat_count { (seats ≡ 0) ⊎ (64 < seats) → IsErrAnd result (λ e. e.0 ≡ SeatCount) }
         ensures no_memory { IfErr result (λ e. 1 ≤ seats → seats ≤ 64 → e.0 ≡ NoMemory) }
         ensures back { IfErr result (λ e. e.1 ≡ book) }

@@ -30,6 +30,6 @@ returns g c =
     let book = closed_book g.B.Chronicle partitioned_form _ _ _ c.args.self.seats _ _ _ c.take.result c.unwrap-book.result c.gather.ensures.keeper.1 long c.close_with-closed.ensures.values.2 c.take.ensures.value c.unwrap-book.ensures in record {
       lawful = book.0;
       head = book.1;
-      next = shut g.B.Chronicle partitioned_form partitioned_laws _ _ _ book.2;
+      next = shut g.B.Chronicle partitioned_form partitioned_laws _ _ _ _ _ book.2 c.gather.ensures.memos;
       seen = λ k d l. let own = c.requires.own k d l in subst (λ (z : ℕ). Stands g.B.Chronicle z (seat_seen (slice_index_or c.args.seats.items k d)) c.unwrap-book.result) own.2.1 (all_stand g.B.Chronicle _ _ _ c.args.seats.items _ c.gather.ensures.memos book.3 k d l);
     }

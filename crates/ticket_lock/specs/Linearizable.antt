@@ -1,0 +1,50 @@
+-- Linearizability (Herlihy and Wing, 1990) of the calls that seats make on the book.
+use Rattle.std.specs.Prelude.{◌≡◌, ℕ, zero, suc, ◌<◌, ◌≤◌, ◌⊎◌, List, [], ◌∷◌, ◌++◌, length}
+use mathlib.Core.Option.{some}
+use lib.ListN.{get_elem?}
+use Rattle.ticket_lock.specs.declared.chronicle.Chronicle.{Ghosts}
+use Rattle.ticket_lock.specs.World.{Form, World, Event, takes, hands_on}
+use Rattle.ticket_lock.specs.Schedule.{Opened, Runs}
+
+-- the book after the event, where it was b before
+abbrev pub book_after : {B : Type 0} → Event B → B → B
+book_after (hands_on j c) b = c
+book_after _ b = b
+
+module _ {B H L : Type 0} (K : Ghosts B H L) where
+  -- the journal after the first r of the events es, where the book was b before them
+  abbrev pub journal_after : B → List (Event B) → ℕ → List L
+  journal_after b es zero = K.lines b
+  journal_after b [] (suc r) = K.lines b
+  journal_after b (e ∷ es) (suc r) = journal_after (book_after e b) es r
+
+  -- A call of the seat k in the events es: it begins with the event at i, a take, and ends with the event at r,
+  -- the seat's next hand on, by which the line l comes to stand at place p of the journal
+  pub record Call (b : B) (es : List (Event B)) (k i r p : ℕ) (l : L) : Type 0 where
+    pub begins : get_elem? es i ≡ some (takes k)
+    pub later : i < r
+    pub ends : (c : B) × (get_elem? es r ≡ some (hands_on k c))
+    pub next_end : (a : ℕ) (c : B) → i < a → a < r → get_elem? es a ≡ some (hands_on k c) → ⊥
+    pub adds : journal_after b es (suc r) ≡ journal_after b es r ++ l ∷ []
+    pub place : length (journal_after b es r) ≡ p
+
+  -- the hand on of the seat k at r left the journal as it was, which had no room
+  pub record FoundFull (b : B) (es : List (Event B)) (k r : ℕ) : Type 0 where
+    pub same : journal_after b es (suc r) ≡ journal_after b es r
+    pub full : (c : B) × (get_elem? es r ≡ some (hands_on k c)) × (K.capacity c ≤ length (journal_after b es r))
+
+  -- The journal xs is a sequential history of the calls in the events es: each has its line, each line is that of a
+  -- call, and where one call ended before another began, the line of the first stands before that of the second
+  pub record IsSequentialHistory (b : B) (es : List (Event B)) (xs : List L) : Type 0 where
+    pub each_call : (k i r p : ℕ) (l : L) → Call b es k i r p l → (get_elem? xs p ≡ some l) × (K.line_seat l ≡ k)
+    pub each_line : (p : ℕ) (l : L) → length (K.lines b) ≤ p → get_elem? xs p ≡ some l
+        → (k : ℕ) × (i : ℕ) × (r : ℕ) × Call b es k i r p l
+    pub each_end : (k r : ℕ) (c : B) → get_elem? es r ≡ some (hands_on k c)
+        → ((i : ℕ) × (p : ℕ) × (l : L) × Call b es k i r p l) ⊎ FoundFull b es k r
+    pub in_order : (k i r p : ℕ) (l : L) (j a s q : ℕ) (m : L) → Call b es k i r p l → Call b es j a s q m → r < a → p < q
+
+  -- Every list of events from every opened world is linearizable: the journal that it leaves is lawful, and is a
+  -- sequential history of its calls in an order that keeps the order of calls that do not overlap
+  abbrev pub Linearizable : Form → Type 0
+  Linearizable F = (n : ℕ) (b : B) (w u : World B H L) (es : List (Event B)) → Opened K F n b w → Runs K F es w u
+      → K.lawful u.current × IsSequentialHistory b es (K.lines u.current)
