@@ -8,5 +8,4 @@ pub mod Linear
 pub mod Steps
 pub mod Guards
 pub mod Gather
-pub mod Own
 pub mod Tallies

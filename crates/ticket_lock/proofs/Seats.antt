@@ -1,5 +1,5 @@
 -- A keeper's seats are cut off, and joined again.
-use Rattle.std.proofs.Common.{◌≡◌, ◌≢◌, ℕ, zero, suc, ◌+◌, ◌-◌, ◌^◌, ◌<◌, ◌≤◌, Bool, true, List, [], ◌∷◌, ◌++◌, map, length, set, sym, refl, ap, ◌∙◌, subst, ⊎_elim, arith}
+use Rattle.std.proofs.Common.{◌≡◌, ℕ, zero, suc, ◌+◌, ◌-◌, ◌^◌, ◌<◌, ◌≤◌, Bool, true, List, [], ◌∷◌, ◌++◌, map, length, set, sym, refl, ap, ◌∙◌, subst, ⊎_elim, arith}
 use Rattle.std.specs.Prelude as std
 use mathlib.Core.Option.{Option, some, some-injective, some-ne-none}
 use mathlib.Core.List.{map-append}
@@ -8,37 +8,20 @@ use base.Growing.{prefix_refl}
 use Rattle.atomic_table.proofs.Lists.{set_else, at_longer}
 use Rattle.atomic_table.specs.Table.{State, Me, opening, Enters, Splits, Joins, Final, Seen}
 use Rattle.ticket_lock.specs.declared.chronicle.Chronicle.{Ghosts}
-use Rattle.ticket_lock.specs.declared.sight.Memo.{Memo}
-use Rattle.ticket_lock.specs.declared.sight.Sight.{Sight}
-use Rattle.ticket_lock.specs.declared.sight.Sight.TheVariants.{Keeper, Idle, Waiting, Holding}
+use Rattle.ticket_lock.specs.declared.seat_state.Memo.{Memo}
+use Rattle.ticket_lock.specs.declared.seat_state.SeatState.{SeatState}
+use Rattle.ticket_lock.specs.declared.seat_state.SeatState.TheVariants.{Keeper, Idle, Waiting, Holding}
 use Rattle.ticket_lock.specs.World.{Form, World, wrap, memo, memos, out, HasNumber, total, weigh, span, Remembers, Knows, Good}
 use Rattle.ticket_lock.specs.Schedule.{idle_from}
-use Rattle.ticket_lock.specs.Standing.{stage_of, seat_of, left_of, right_of, joined, nobody, memos_of, memos_from, idles, keeper_of, shelf, world_of, Standing}
+use Rattle.ticket_lock.specs.Standing.{stage_of, seat_of, left_of, right_of, joined, nobody, memos_of, memos_from, idles, keeper_of, shelf, Standing}
 use Rattle.ticket_lock.proofs.Sums.{snoc_at, wrap_small, total_set, total_at, total_two, span_all}
-use Rattle.ticket_lock.proofs.Machine.{true_false, same_there, seats_stay, is_true}
+use Rattle.ticket_lock.proofs.Machine.{true_false, apart_from, queue_beside, holder_beside, seats_stay, is_true}
 
 module _ {H L : Type 0} where
   -- the sum over two lists of views
-  total_append : (f : Sight H L → ℕ) (vs ws : List (Sight H L)) → total f (vs ++ ws) ≡ total f vs + total f ws
+  total_append : (f : SeatState H L → ℕ) (vs ws : List (SeatState H L)) → total f (vs ++ ws) ≡ total f vs + total f ws
   total_append f [] ws = omega arith
   total_append f (v ∷ vs) ws = let p = total_append f vs ws in omega arith
-
-  -- a keeper or an idle seat
-  abbrev IsBare : Sight H L → Type 0
-  IsBare (Keeper ms) = Unit {0}
-  IsBare (Idle m) = Unit {0}
-  IsBare _ = ⊥
-
-  -- such a view has no number
-  bare_has_none : (v : Sight H L) (u : ℕ) → IsBare v → HasNumber v u → ⊥
-  bare_has_none (Keeper ms) u b h = h
-  bare_has_none (Idle m) u b h = h
-  bare_has_none (Waiting m t k) u b h = b
-  bare_has_none (Holding m t) u b h = b
-
-  -- a seat with a number is not where a bare one is
-  apart_from : (vs : List (Sight H L)) (j k : ℕ) (v w : Sight H L) (u : ℕ) → IsBare v → get_elem? vs j ≡ some v → get_elem? vs k ≡ some w → HasNumber w u → k ≢ j
-  apart_from vs j k v w u bare at there has same = bare_has_none v u bare (subst (λ (x : Sight H L). HasNumber x u) (sym (same_there vs j v w at (subst (λ (z : ℕ). get_elem? vs z ≡ some w) same there))) has)
 
   -- each memo counts one
   pub ones : (ms : List (Memo H L)) → weigh (λ _. 1) ms ≡ length ms
@@ -46,7 +29,7 @@ module _ {H L : Type 0} where
   ones (m ∷ ms) = let p = ones ms in omega arith
 
   -- a seat with a number has a memo
-  numbered_weighs : (v : Sight H L) (u : ℕ) → HasNumber v u → 1 ≤ weigh (λ _. 1) (memos v)
+  numbered_weighs : (v : SeatState H L) (u : ℕ) → HasNumber v u → 1 ≤ weigh (λ _. 1) (memos v)
   numbered_weighs (Keeper ms) u h = absurd h
   numbered_weighs (Idle m) u h = absurd h
   numbered_weighs (Waiting m t k) u h = omega arith
@@ -65,9 +48,9 @@ module _ {H L : Type 0} where
 
   -- one idle seat more, at the end
   pub idle_snoc : (h : H) (xs : List L) (k c : ℕ) → idle_from h xs k (suc c) ≡ idle_from h xs k c ++ Idle (memo (k + c) h xs) ∷ []
-  idle_snoc h xs k zero = let e : k ≡ k + 0 = omega arith in ap (λ (z : ℕ). let v : Sight H L = Idle (memo z h xs) in v ∷ []) e
+  idle_snoc h xs k zero = let e : k ≡ k + 0 = omega arith in ap (λ (z : ℕ). let v : SeatState H L = Idle (memo z h xs) in v ∷ []) e
   idle_snoc h xs k (suc c) = let e : suc k + c ≡ k + suc c = omega arith in
-      ap (λ (vs : List (Sight H L)). Idle (memo k h xs) ∷ vs) (idle_snoc h xs (suc k) c ∙ ap (λ (z : ℕ). idle_from h xs (suc k) c ++ Idle (memo z h xs) ∷ []) e)
+      ap (λ (vs : List (SeatState H L)). Idle (memo k h xs) ∷ vs) (idle_snoc h xs (suc k) c ∙ ap (λ (z : ℕ). idle_from h xs (suc k) c ++ Idle (memo z h xs) ∷ []) e)
 
 -- the value, or d
 abbrev held_or : {B : Type 0} → B → std.Option B → B
@@ -87,10 +70,10 @@ module _ {H L : Type 0} where
   -- a keeper of the seats from k to c has the seat k first
   pub keeper_step : (h : H) (xs : List L) (k c : ℕ) → k < c → keeper_of h xs k (c - k) ≡ Keeper (memo k h xs ∷ memos_from h xs (k + 1) (c - (k + 1)))
   keeper_step h xs k c less = let e : c - k ≡ suc (c - (k + 1)) = omega arith in let d : suc k ≡ k + 1 = omega arith in
-      ap (keeper_of h xs k) e ∙ ap (λ (z : ℕ). let v : Sight H L = Keeper (memo k h xs ∷ memos_from h xs z (c - (k + 1))) in v) d
+      ap (keeper_of h xs k) e ∙ ap (λ (z : ℕ). let v : SeatState H L = Keeper (memo k h xs ∷ memos_from h xs z (c - (k + 1))) in v) d
 
 -- the working form of a lock's end, with the seats that came back
-abbrev pub Ended : {B H L : Type 0} → Ghosts B H L → Form → ℕ → B → List (Sight H L) → B → Type 0
+abbrev pub Ended : {B H L : Type 0} → Ghosts B H L → Form → ℕ → B → List (SeatState H L) → B → Type 0
 Ended {B} {H} {L} K F n opening given b = (w : World B H L) × Good K F n opening w [] × (w.home ≡ true) × (w.current ≡ b) × (w.next ≡ K.turn b) × (w.seats ≡ given)
 
 module _ {H L : Type 0} where
@@ -105,7 +88,7 @@ module _ {H L : Type 0} where
   idles_weigh h (m ∷ ms) = let p = idles_weigh h ms in omega arith
 
   -- each of them has its memo
-  idle_there : (ms : List (Memo H L)) (j : ℕ) (v : Sight H L) → get_elem? (idles ms) j ≡ some v → (m : Memo H L) × (get_elem? ms j ≡ some m) × (Idle m ≡ v)
+  idle_there : (ms : List (Memo H L)) (j : ℕ) (v : SeatState H L) → get_elem? (idles ms) j ≡ some v → (m : Memo H L) × (get_elem? ms j ≡ some m) × (Idle m ≡ v)
   idle_there [] j v e = absurd (some-ne-none v (sym e))
   idle_there (m ∷ ms) zero v e = (m, refl, some-injective (Idle m) v e)
   idle_there (m ∷ ms) (suc j) v e = idle_there ms j v e
@@ -116,18 +99,18 @@ module _ {H L : Type 0} where
   weigh_none h (m ∷ ms) e = absurd (omega arith)
 
   -- nor do views without memos
-  total_none : (h : ℕ → ℕ) (vs : List (Sight H L)) → total (λ v. weigh (λ _. 1) (memos v)) vs ≡ 0 → total (λ v. weigh h (memos v)) vs ≡ 0
+  total_none : (h : ℕ → ℕ) (vs : List (SeatState H L)) → total (λ v. weigh (λ _. 1) (memos v)) vs ≡ 0 → total (λ v. weigh h (memos v)) vs ≡ 0
   total_none h [] e = refl
   total_none h (v ∷ vs) e = let p = weigh_none h (memos v) (omega arith) in let q = total_none h vs (omega arith) in omega arith
 
   -- where one view has all memos, it weighs what all do
-  has_all : (h : ℕ → ℕ) (vs : List (Sight H L)) (id : ℕ) (v : Sight H L) → get_elem? vs id ≡ some v → total (λ v. weigh (λ _. 1) (memos v)) vs ≡ weigh (λ _. 1) (memos v)
+  has_all : (h : ℕ → ℕ) (vs : List (SeatState H L)) (id : ℕ) (v : SeatState H L) → get_elem? vs id ≡ some v → total (λ v. weigh (λ _. 1) (memos v)) vs ≡ weigh (λ _. 1) (memos v)
       → total (λ v. weigh h (memos v)) vs ≡ weigh h (memos v)
   has_all h [] id v at e = absurd (some-ne-none v (sym at))
   has_all h (x ∷ vs) zero v at e =
       let same : x ≡ v = some-injective x v at in
-      let one = ap (λ (z : Sight H L). weigh (λ _. 1) (memos z)) same in
-      let mine = ap (λ (z : Sight H L). weigh h (memos z)) same in
+      let one = ap (λ (z : SeatState H L). weigh (λ _. 1) (memos z)) same in
+      let mine = ap (λ (z : SeatState H L). weigh h (memos z)) same in
       let others = total_none h vs (omega arith) in omega arith
   has_all h (x ∷ vs) (suc id) v at e =
       let one = total_at (λ v. weigh (λ _. 1) (memos v)) vs id v at in
@@ -136,17 +119,17 @@ module _ {H L : Type 0} where
 
 module _ {B H L : Type 0} (K : Ghosts B H L) (F : Form) (n : ℕ) (opened : B) where
   -- the rule of the table
-  abbrev Rule : State (std.Option B) (Sight H L) → Type 0
+  abbrev Rule : State (std.Option B) (SeatState H L) → Type 0
   Rule = Standing K F n opened
 
   -- a keeper that gives its first seat away keeps the rule
   pub splits_ok : (id : ℕ) (m : Memo H L) (ms : List (Memo H L)) → Splits Rule id (Keeper (m ∷ ms)) (Keeper ms) (Idle m)
   splits_ok id m ms s r at =
-      let old : Sight H L = Keeper (m ∷ ms) in
-      let new : Sight H L = Keeper ms in
+      let old : SeatState H L = Keeper (m ∷ ms) in
+      let new : SeatState H L = Keeper ms in
       let g = r.good in
       let mine = g.each_seat id old at in
-      let right : List (Sight H L) = Idle m ∷ [] in record {
+      let right : List (SeatState H L) = Idle m ∷ [] in record {
         next = r.next;
         serving = r.serving;
         home = r.home;
@@ -157,16 +140,16 @@ module _ {B H L : Type 0} (K : Ghosts B H L) (F : Form) (n : ℕ) (opened : B) w
           shows = g.shows;
           small = g.small;
           next_is = g.next_is;
-          queued = λ i k e. let v = g.queued i k e in
-              (v.0, at_longer (set s.views id new) right k v.0 (set_else s.views id k new (apart_from s.views id k old v.0 (wrap (r.serving + i)) tt at v.1 v.2) ∙ v.1), v.2);
+          queued = λ i k e. let v = queue_beside s.views r.serving r.queue id old new tt at g.queued i k e in
+              (v.0, at_longer (set s.views id new) right k v.0 v.1, v.2);
           counted = let p = total_set out s.views id old new at in let q = total_append out (set s.views id new) right in let c = g.counted in omega arith;
           parts = λ h. let p = total_set (λ v. weigh h (memos v)) s.views id old new at in let q = total_append (λ v. weigh h (memos v)) (set s.views id new) right in let c = g.parts h in omega arith;
           each_seat = λ j v e. ⊎_elim
               (λ (t : get_elem? (set s.views id new) j ≡ some v). seats_stay (Knows K opened r.current r.home r.serving r.queue) (Knows K opened r.current r.home r.serving r.queue) s.views id new (λ a x e. mine (suc a) x e) (λ k u _ _ same. same) g.each_seat j v t)
               (λ (t : (j ≡ length (set s.views id new)) × (Idle m ≡ v)). subst (Knows K opened r.current r.home r.serving r.queue j) t.1 (mine 0 m refl))
               (snoc_at (set s.views id new) (Idle m) v j e);
-          away = λ out. let a = g.away out in
-              (a.0, a.1, a.2, at_longer (set s.views id new) right a.0 (Holding a.1 a.2) (set_else s.views id a.0 new (apart_from s.views id a.0 old (Holding a.1 a.2) a.2 tt at a.3 refl) ∙ a.3));
+          away = λ out. let a = holder_beside s.views id old new tt at (g.away out) in
+              (a.0, a.1, a.2, at_longer (set s.views id new) right a.0 (Holding a.1 a.2) a.3);
           lawful = g.lawful;
           head = g.head;
           turn = g.turn;
@@ -175,10 +158,10 @@ module _ {B H L : Type 0} (K : Ghosts B H L) (F : Form) (n : ℕ) (opened : B) w
       }
 
   -- a seat of nobody arrives
-  pub arrives_ok : (slots i : ℕ) → Enters Rule slots i (λ found v. ◌≡◌ {A = Me (std.Option B) (Sight H L)} (v, []) (nobody, []))
+  pub arrives_ok : (slots i : ℕ) → Enters Rule slots i (λ found v. ◌≡◌ {A = Me (std.Option B) (SeatState H L)} (v, []) (nobody, []))
   arrives_ok slots i s r _ _ =
       let g = r.good in
-      let new : List (Sight H L) = nobody ∷ [] in (
+      let new : List (SeatState H L) = nobody ∷ [] in (
         nobody,
         record {
           next = r.next;
@@ -207,8 +190,8 @@ module _ {B H L : Type 0} (K : Ghosts B H L) (F : Form) (n : ℕ) (opened : B) w
       )
 
   -- the next seat of the keeper of those from k to c
-  pub splits_from : (id k c : ℕ) (h : H) (xs : List L) (v : Sight H L) → v ≡ keeper_of h xs k (c - k) → k < c → Splits Rule id v (left_of v) (right_of v)
-  splits_from id k c h xs v is less = let P : Sight H L → Type 0 = λ z. Splits Rule id z (left_of z) (right_of z) in
+  pub splits_from : (id k c : ℕ) (h : H) (xs : List L) (v : SeatState H L) → v ≡ keeper_of h xs k (c - k) → k < c → Splits Rule id v (left_of v) (right_of v)
+  splits_from id k c h xs v is less = let P : SeatState H L → Type 0 = λ z. Splits Rule id z (left_of z) (right_of z) in
       subst P (sym (is ∙ keeper_step h xs k c less)) (splits_ok id (memo k h xs) (memos_from h xs (k + 1) (c - (k + 1))))
 
   -- one memo more is remembered
@@ -220,12 +203,12 @@ module _ {B H L : Type 0} (K : Ghosts B H L) (F : Form) (n : ℕ) (opened : B) w
   -- a keeper that takes in an idle seat keeps the rule
   pub joins_ok : (id other : ℕ) (m : Memo H L) (ms : List (Memo H L)) → Joins Rule id (Keeper ms) other (Idle m) (Keeper (m ∷ ms)) (Keeper [])
   joins_ok id other m ms s r at apart there =
-      let both : Sight H L = Keeper (m ∷ ms) in
-      let spent : Sight H L = Keeper [] in
-      let first : List (Sight H L) = set s.views id both in
+      let both : SeatState H L = Keeper (m ∷ ms) in
+      let spent : SeatState H L = Keeper [] in
+      let first : List (SeatState H L) = set s.views id both in
       let g = r.good in
       let beside : get_elem? s.views other ≡ some (Idle m) = sym (set_else s.views id other both apart) ∙ there in
-      let K' : ℕ → Sight H L → Type 0 = Knows K opened r.current r.home r.serving r.queue in
+      let K' : ℕ → SeatState H L → Type 0 = Knows K opened r.current r.home r.serving r.queue in
       let mine = g.each_seat id (Keeper ms) at in
       let its = g.each_seat other (Idle m) beside in
       let go : (a : ℕ) (x : Memo H L) → get_elem? (m ∷ ms) a ≡ some x → Remembers K opened r.current x = λ a. more m ms r.current its mine a in record {
@@ -239,22 +222,11 @@ module _ {B H L : Type 0} (K : Ghosts B H L) (F : Form) (n : ℕ) (opened : B) w
           shows = g.shows;
           small = g.small;
           next_is = g.next_is;
-          queued = λ i k e. let v = g.queued i k e in (
-            v.0,
-            set_else first other k spent (apart_from s.views other k (Idle m) v.0 (wrap (r.serving + i)) tt beside v.1 v.2)
-                ∙ (set_else s.views id k both (apart_from s.views id k (Keeper ms) v.0 (wrap (r.serving + i)) tt at v.1 v.2) ∙ v.1),
-            v.2,
-          );
+          queued = queue_beside first r.serving r.queue other (Idle m) spent tt there (queue_beside s.views r.serving r.queue id (Keeper ms) both tt at g.queued);
           counted = let p = total_set out s.views id (Keeper ms) both at in let q = total_set out first other (Idle m) spent there in let c = g.counted in omega arith;
           parts = λ h. let p = total_set (λ v. weigh h (memos v)) s.views id (Keeper ms) both at in let q = total_set (λ v. weigh h (memos v)) first other (Idle m) spent there in let c = g.parts h in omega arith;
           each_seat = seats_stay K' K' first other spent (λ a x e. absurd (some-ne-none x (sym e))) (λ k u _ _ same. same) (seats_stay K' K' s.views id both go (λ k u _ _ same. same) g.each_seat);
-          away = λ out. let a = g.away out in (
-            a.0,
-            a.1,
-            a.2,
-            set_else first other a.0 spent (apart_from s.views other a.0 (Idle m) (Holding a.1 a.2) a.2 tt beside a.3 refl)
-                ∙ (set_else s.views id a.0 both (apart_from s.views id a.0 (Keeper ms) (Holding a.1 a.2) a.2 tt at a.3 refl) ∙ a.3),
-          );
+          away = λ out. holder_beside first other (Idle m) spent tt there (holder_beside s.views id (Keeper ms) both tt at (g.away out));
           lawful = g.lawful;
           head = g.head;
           turn = g.turn;
@@ -263,7 +235,7 @@ module _ {B H L : Type 0} (K : Ghosts B H L) (F : Form) (n : ℕ) (opened : B) w
       }
 
   -- the same of any two views of these kinds
-  pub joins_from : (id other : ℕ) (v w : Sight H L) → stage_of v ≡ 0 → stage_of w ≡ 1 → Joins Rule id v other w (joined v w) nobody
+  pub joins_from : (id other : ℕ) (v w : SeatState H L) → stage_of v ≡ 0 → stage_of w ≡ 1 → Joins Rule id v other w (joined v w) nobody
   joins_from id other (Keeper ms) (Idle m) is there = joins_ok id other m ms
   joins_from id other (Keeper ms) (Keeper ns) is there = absurd (omega arith)
   joins_from id other (Keeper ms) (Waiting m t k) is there = absurd (omega arith)
@@ -273,7 +245,7 @@ module _ {B H L : Type 0} (K : Ghosts B H L) (F : Form) (n : ℕ) (opened : B) w
   joins_from id other (Holding m t) w is there = absurd (omega arith)
 
   -- the first view of the table is the keeper of all seats
-  one_keeper : (j : ℕ) (v : Sight H L) → get_elem? (keeper_of (K.head opened) (K.lines opened) 0 n ∷ []) j ≡ some v → Knows K opened opened true (K.turn opened) [] j v
+  one_keeper : (j : ℕ) (v : SeatState H L) → get_elem? (keeper_of (K.head opened) (K.lines opened) 0 n ∷ []) j ≡ some v → Knows K opened opened true (K.turn opened) [] j v
   one_keeper zero v e = subst (Knows K opened opened true (K.turn opened) [] 0) (some-injective (keeper_of (K.head opened) (K.lines opened) 0 n) v e)
       (λ a m e. let i = memo_from (K.head opened) (K.lines opened) 0 n a m e in subst (Remembers K opened opened) i.1 record { head = refl; begins = prefix_refl (K.lines opened); own_lines = refl })
   one_keeper (suc j) v e = absurd (some-ne-none v (sym e))
@@ -313,9 +285,9 @@ module _ {B H L : Type 0} (K : Ghosts B H L) (F : Form) (n : ℕ) (opened : B) w
       let g = r.good in
       let at = f.1.1 in
       let mine = g.each_seat id (Keeper ms) at in
-      let all : (λ (v : Sight H L). weigh (λ _. 1) (memos v)) (Keeper ms) ≡ n = ones ms ∙ long in
+      let all : (λ (v : SeatState H L). weigh (λ _. 1) (memos v)) (Keeper ms) ≡ n = ones ms ∙ long in
       let sum : total (λ v. weigh (λ _. 1) (memos v)) s.views ≡ n = g.parts (λ _. 1) ∙ span_all 0 n in
-      let nobody_else : (j : ℕ) (v : Sight H L) (u : ℕ) → get_elem? s.views j ≡ some v → HasNumber v u → ⊥ = λ j v u e has.
+      let nobody_else : (j : ℕ) (v : SeatState H L) (u : ℕ) → get_elem? s.views j ≡ some v → HasNumber v u → ⊥ = λ j v u e has.
       let two = total_two (λ v. weigh (λ _. 1) (memos v)) s.views id j (Keeper ms) v (λ same. apart_from s.views id j (Keeper ms) v u tt at e has (sym same)) at e in
       let one = numbered_weighs v u has in omega arith in
       let home : r.home ≡ true = is_true r.home (λ out. let a = g.away out in nobody_else a.0 (Holding a.1 a.2) a.2 a.3 refl) in
@@ -351,7 +323,7 @@ module _ {B H L : Type 0} (K : Ghosts B H L) (F : Form) (n : ℕ) (opened : B) w
       )
 
   -- the same of any keeper, and of what came out of the slot
-  pub closes_from : (id seats : ℕ) (v : Sight H L) (ws : List ℕ) (xs : List (std.Option B)) (r : std.Option B) → stage_of v ≡ 0 → length (memos_of v) ≡ n → Final (Seen Rule id v) ws xs → get_elem? xs 0 ≡ some r
+  pub closes_from : (id seats : ℕ) (v : SeatState H L) (ws : List ℕ) (xs : List (std.Option B)) (r : std.Option B) → stage_of v ≡ 0 → length (memos_of v) ≡ n → Final (Seen Rule id v) ws xs → get_elem? xs 0 ≡ some r
       → (b : B) × (r ≡ std.Some b) × K.lawful b × (K.head b ≡ K.head opened) × Ended K F n opened (idles (memos_of v)) b × ((a : ℕ) (m : Memo H L) → get_elem? (memos_of v) a ≡ some m → Remembers K opened b m)
   closes_from id seats (Keeper ms) ws xs r is long f at = let c = closes_ok id ms ws xs long f in (c.0, some-injective r (std.Some c.0) (sym at ∙ c.1), c.2, c.3, c.4, c.5)
   closes_from id seats (Idle m) ws xs r is long f at = absurd (omega arith)
@@ -359,7 +331,7 @@ module _ {B H L : Type 0} (K : Ghosts B H L) (F : Form) (n : ℕ) (opened : B) w
   closes_from id seats (Holding m t) ws xs r is long f at = absurd (omega arith)
 
   -- the same of the book that is taken out
-  pub closed_book : (id seats : ℕ) (v : Sight H L) (ws : List ℕ) (xs : List (std.Option B)) (r : std.Option B) (b : B) → stage_of v ≡ 0 → length (memos_of v) ≡ n → Final (Seen Rule id v) ws xs → get_elem? xs 0 ≡ some r → r ≡ std.Some b
+  pub closed_book : (id seats : ℕ) (v : SeatState H L) (ws : List ℕ) (xs : List (std.Option B)) (r : std.Option B) (b : B) → stage_of v ≡ 0 → length (memos_of v) ≡ n → Final (Seen Rule id v) ws xs → get_elem? xs 0 ≡ some r → r ≡ std.Some b
       → K.lawful b × (K.head b ≡ K.head opened) × Ended K F n opened (idles (memos_of v)) b × ((a : ℕ) (m : Memo H L) → get_elem? (memos_of v) a ≡ some m → Remembers K opened b m)
   closed_book id seats v ws xs r b is long f at found = let c = closes_from id seats v ws xs r is long f at in
       let same : c.0 ≡ b = unwrapped c.0 b (sym c.1 ∙ found) in
@@ -374,18 +346,18 @@ module _ {B H L : Type 0} (K : Ghosts B H L) (F : Form) (n : ℕ) (opened : B) w
 
 module _ {S H L : Type 0} where
   -- the keeper after a seat was cut off it
-  pub cut_keeper : (h : H) (xs : List L) (k c : ℕ) (old new : Me S (Sight H L)) → old ≡ (keeper_of h xs k (c - k), []) → k < c → new ≡ (left_of old.0, old.1) → new ≡ (keeper_of h xs (k + 1) (c - (k + 1)), [])
-  cut_keeper h xs k c old new is less told = told ∙ (ap (λ (z : Me S (Sight H L)). (left_of z.0, z.1)) is ∙ ap (λ (v : Sight H L). (left_of v, [])) (keeper_step h xs k c less))
+  pub cut_keeper : (h : H) (xs : List L) (k c : ℕ) (old new : Me S (SeatState H L)) → old ≡ (keeper_of h xs k (c - k), []) → k < c → new ≡ (left_of old.0, old.1) → new ≡ (keeper_of h xs (k + 1) (c - (k + 1)), [])
+  cut_keeper h xs k c old new is less told = told ∙ (ap (λ (z : Me S (SeatState H L)). (left_of z.0, z.1)) is ∙ ap (λ (v : SeatState H L). (left_of v, [])) (keeper_step h xs k c less))
 
   -- the seat that was cut off
-  pub cut_seat : (h : H) (xs : List L) (k c : ℕ) (old new : Me S (Sight H L)) → old ≡ (keeper_of h xs k (c - k), []) → k < c → new ≡ (right_of old.0, []) → new ≡ (Idle (memo k h xs), [])
-  cut_seat h xs k c old new is less told = told ∙ (ap (λ (z : Me S (Sight H L)). (right_of z.0, [])) is ∙ ap (λ (v : Sight H L). (right_of v, [])) (keeper_step h xs k c less))
+  pub cut_seat : (h : H) (xs : List L) (k c : ℕ) (old new : Me S (SeatState H L)) → old ≡ (keeper_of h xs k (c - k), []) → k < c → new ≡ (right_of old.0, []) → new ≡ (Idle (memo k h xs), [])
+  cut_seat h xs k c old new is less told = told ∙ (ap (λ (z : Me S (SeatState H L)). (right_of z.0, [])) is ∙ ap (λ (v : SeatState H L). (right_of v, [])) (keeper_step h xs k c less))
 
   -- a view that is an idle seat of number k
-  pub is_idle : (m : Memo H L) (k : ℕ) (me : Me S (Sight H L)) → me ≡ (Idle m, []) → m.seat ≡ k → (stage_of me.0 ≡ 1) × (seat_of me.0 ≡ k) × (me.1 ≡ [])
-  is_idle m k me e seat = let P : Me S (Sight H L) → Type 0 = λ z. (stage_of z.0 ≡ 1) × (seat_of z.0 ≡ k) × (z.1 ≡ []) in subst P (sym e) (refl, seat, refl)
+  pub is_idle : (m : Memo H L) (k : ℕ) (me : Me S (SeatState H L)) → me ≡ (Idle m, []) → m.seat ≡ k → (stage_of me.0 ≡ 1) × (seat_of me.0 ≡ k) × (me.1 ≡ [])
+  is_idle m k me e seat = let P : Me S (SeatState H L) → Type 0 = λ z. (stage_of z.0 ≡ 1) × (seat_of z.0 ≡ k) × (z.1 ≡ []) in subst P (sym e) (refl, seat, refl)
 
 -- the seats cut off so far and one more
-pub seats_snoc : {A H L : Type 0} (f : A → Sight H L) (all new : List A) (a : A) (h : H) (xs : List L) (k : ℕ) → new ≡ all ++ a ∷ [] → map f all ≡ idle_from h xs 0 k → f a ≡ Idle (memo k h xs) → map f new ≡ idle_from h xs 0 (k + 1)
+pub seats_snoc : {A H L : Type 0} (f : A → SeatState H L) (all new : List A) (a : A) (h : H) (xs : List L) (k : ℕ) → new ≡ all ++ a ∷ [] → map f all ≡ idle_from h xs 0 k → f a ≡ Idle (memo k h xs) → map f new ≡ idle_from h xs 0 (k + 1)
 seats_snoc f all new a h xs k is before last = let e : k + 1 ≡ suc k = omega arith in let z : 0 + k ≡ k = omega arith in
     ap (map f) is ∙ (map-append f all (a ∷ []) ∙ ((λ i. before i ++ last i ∷ []) ∙ (ap (λ (n : ℕ). idle_from h xs 0 k ++ Idle (memo n h xs) ∷ []) (sym z) ∙ (sym (idle_snoc h xs 0 k) ∙ ap (idle_from h xs 0) (sym e)))))

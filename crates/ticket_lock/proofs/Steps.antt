@@ -7,34 +7,27 @@ use native.Mathlib.Decide.{ℕ_discrete}
 use lib.ListN.{get_elem?}
 use lib.Seq.{set-get_or}
 use Rattle.atomic_table.specs.Table.{State, Me, step, keeps, takes, gives, rest, Allows}
-use Rattle.ticket_lock.specs.declared.sight.Memo.{Memo}
+use Rattle.ticket_lock.specs.declared.seat_state.Memo.{Memo}
 use Rattle.ticket_lock.specs.declared.chronicle.Chronicle.{Ghosts}
-use Rattle.ticket_lock.specs.declared.sight.Sight.{Sight}
-use Rattle.ticket_lock.specs.declared.sight.Sight.TheVariants.{Keeper, Idle, Waiting, Holding}
+use Rattle.ticket_lock.specs.declared.seat_state.SeatState.{SeatState}
+use Rattle.ticket_lock.specs.declared.seat_state.SeatState.TheVariants.{Keeper, Idle, Waiting, Holding}
 use Rattle.ticket_lock.specs.World.{Form, wrap, World, memo, shown, HandsOn, Good}
-use Rattle.ticket_lock.specs.Standing.{stage_of, seat_of, number_of, looks_of, seen_of, heads_of, after_take, after_miss, after_enter, after_hand, shelf, world_of, Standing, took, looked, gave}
+use Rattle.ticket_lock.specs.Standing.{stage_of, seat_of, number_of, looks_of, seen_of, heads_of, after_take, after_hand, shelf, world_of, Standing, took, looked, gave}
 use Rattle.ticket_lock.proofs.Machine.{FormLaws, served, good_take, good_miss, good_enter, good_hand}
 
 module _ {H L : Type 0} where
   -- the same seat
-  abbrev pub Stays : Sight H L → Sight H L → Type 0
+  abbrev pub Stays : SeatState H L → SeatState H L → Type 0
   Stays v w = (seat_of w ≡ seat_of v) × (heads_of w ≡ heads_of v)
 
   -- a view before and after a take
-  pub record Took (v w : Sight H L) : Type 0 where
+  pub record Took (v w : SeatState H L) : Type 0 where
     pub same : Stays v w
     pub seen : seen_of w ≡ seen_of v
     pub looks : looks_of w ≡ 0
 
-  -- a view before and after a miss
-  pub record Missed (v w : Sight H L) : Type 0 where
-    pub same : Stays v w
-    pub seen : seen_of w ≡ seen_of v
-    pub number : number_of w ≡ number_of v
-    pub looks : looks_of w ≡ looks_of v + 1
-
-  -- a view before and after an entry or a hand on, after which the seat has seen xs
-  pub record Sees (xs : List L) (v w : Sight H L) : Type 0 where
+  -- a view before and after a hand on, after which the seat has seen xs
+  pub record Sees (xs : List L) (v w : SeatState H L) : Type 0 where
     pub same : Stays v w
     pub seen : seen_of w ≡ xs
 
@@ -55,19 +48,19 @@ module _ {B : Type 0} where
 
 module _ {B H L : Type 0} (K : Ghosts B H L) (F : Form) (laws : FormLaws F) (n : ℕ) (opening : B) where
   -- the rule of the table
-  abbrev Rule : State (std.Option B) (Sight H L) → Type 0
+  abbrev Rule : State (std.Option B) (SeatState H L) → Type 0
   Rule = Standing K F n opening
 
   -- what the table is
   abbrev St : Type 0
-  St = State (std.Option B) (Sight H L)
+  St = State (std.Option B) (SeatState H L)
 
   -- the table shows a good world
   abbrev Good' : St → (next serving : ℕ) → Bool → B → List ℕ → Type 0
   Good' s next serving home current q = Good K F n opening (world_of s next serving home current) q
 
   -- a fetch-and-add on word 0 by an idle seat is an event take
-  pub takes_ok : (slots id : ℕ) (v : Sight H L) (cs : List (ℕ × std.Option B)) → stage_of v ≡ 1 → Allows Rule slots id (v, cs) 0 (λ x. (x + 1) % 2 ^ 64) (took (step slots 0 1 0 none) (v, cs))
+  pub takes_ok : (slots id : ℕ) (v : SeatState H L) (cs : List (ℕ × std.Option B)) → stage_of v ≡ 1 → Allows Rule slots id (v, cs) 0 (λ x. (x + 1) % 2 ^ 64) (took (step slots 0 1 0 none) (v, cs))
   takes_ok slots id (Keeper ms) cs is = absurd (omega arith)
   takes_ok slots id (Waiting m t looks) cs is = absurd (omega arith)
   takes_ok slots id (Holding m t) cs is = absurd (omega arith)
@@ -88,7 +81,7 @@ module _ {B H L : Type 0} (K : Ghosts B H L) (F : Form) (laws : FormLaws F) (n :
   )
 
   -- a step that changes no word
-  unmoved : (s : St) (next serving : ℕ) (home : Bool) (current : B) (q : List ℕ) (homes : List (Option (std.Option B))) (views : List (Sight H L)) (i : ℕ)
+  unmoved : (s : St) (next serving : ℕ) (home : Bool) (current : B) (q : List ℕ) (homes : List (Option (std.Option B))) (views : List (SeatState H L)) (i : ℕ)
       → Good K F n opening (record { words = s.words; next = next; serving = serving; seats = views; home = home; current = current }) q → homes ≡ shelf home current
       → Rule record { words = set s.words i (get_or s.words i 0); homes = homes; views = views }
   unmoved s next serving home current q homes views i good shelved = subst (λ (ws : List ℕ). Rule record { words = ws; homes = homes; views = views }) (sym (set-get_or s.words i 0)) record {
@@ -102,7 +95,7 @@ module _ {B H L : Type 0} (K : Ghosts B H L) (F : Form) (laws : FormLaws F) (n :
   }
 
   -- a load of its serving word by a seat that waits is an event enter where it finds its number, and an event miss where it does not
-  pub looks_ok : (slots id : ℕ) (v : Sight H L) (cs : List (ℕ × std.Option B)) → stage_of v ≡ 2 → Allows Rule slots id (v, cs) (F.serving_word (number_of v)) (λ x. x) (looked K (step slots (F.serving_word (number_of v)) 0 0 none) (v, cs))
+  pub looks_ok : (slots id : ℕ) (v : SeatState H L) (cs : List (ℕ × std.Option B)) → stage_of v ≡ 2 → Allows Rule slots id (v, cs) (F.serving_word (number_of v)) (λ x. x) (looked K (step slots (F.serving_word (number_of v)) 0 0 none) (v, cs))
   looks_ok slots id (Keeper ms) cs is = absurd (omega arith)
   looks_ok slots id (Idle m) cs is = absurd (omega arith)
   looks_ok slots id (Holding m t) cs is = absurd (omega arith)
@@ -142,7 +135,7 @@ module _ {B H L : Type 0} (K : Ghosts B H L) (F : Form) (laws : FormLaws F) (n :
       ))
 
   -- the same of a number that is known by an equation
-  pub looks_from : (slots id t : ℕ) (v : Sight H L) (cs : List (ℕ × std.Option B)) → stage_of v ≡ 2 → number_of v ≡ t → Allows Rule slots id (v, cs) (F.serving_word t) (λ x. x) (looked K (step slots (F.serving_word t) 0 0 none) (v, cs))
+  pub looks_from : (slots id t : ℕ) (v : SeatState H L) (cs : List (ℕ × std.Option B)) → stage_of v ≡ 2 → number_of v ≡ t → Allows Rule slots id (v, cs) (F.serving_word t) (λ x. x) (looked K (step slots (F.serving_word t) 0 0 none) (v, cs))
   looks_from slots id t v cs is number = subst (λ (z : ℕ). Allows Rule slots id (v, cs) (F.serving_word z) (λ x. x) (looked K (step slots (F.serving_word z) 0 0 none) (v, cs))) number (looks_ok slots id v cs is)
 
   -- a store of the number after its own by the seat that holds the book is an event hand on
@@ -170,7 +163,7 @@ module _ {B H L : Type 0} (K : Ghosts B H L) (F : Form) (laws : FormLaws F) (n :
       )
 
   -- the same of any view of that kind
-  pub gives_ok : (slots id : ℕ) (v : Sight H L) (cs : List (ℕ × std.Option B)) (b : B) (new : ℕ) → stage_of v ≡ 3 → cs ≡ (0, std.Some b) ∷ [] → heads_of v ≡ K.head opening ∷ []
+  pub gives_ok : (slots id : ℕ) (v : SeatState H L) (cs : List (ℕ × std.Option B)) (b : B) (new : ℕ) → stage_of v ≡ 3 → cs ≡ (0, std.Some b) ∷ [] → heads_of v ≡ K.head opening ∷ []
       → new ≡ wrap (number_of v + 1) → HandsOn K (memo (seat_of v) (K.head opening) (seen_of v)) (number_of v) b
       → Allows Rule slots id (v, cs) (F.serving_word new) (λ _. new) (λ _. gave K (step slots (F.serving_word new) new 0 none) (v, cs) new)
   gives_ok slots id (Keeper ms) cs b new is has head to hands = absurd (omega arith)
@@ -183,14 +176,14 @@ module _ {B H L : Type 0} (K : Ghosts B H L) (F : Form) (laws : FormLaws F) (n :
 
 module _ {H L : Type 0} where
   -- the seat is idle after it handed on
-  pub handed_stage : (xs : List L) (v : Sight H L) → stage_of v ≡ 3 → stage_of (after_hand xs v) ≡ 1
+  pub handed_stage : (xs : List L) (v : SeatState H L) → stage_of v ≡ 3 → stage_of (after_hand xs v) ≡ 1
   handed_stage xs (Keeper ms) is = absurd (omega arith)
   handed_stage xs (Idle m) is = refl
   handed_stage xs (Waiting m t looks) is = absurd (omega arith)
   handed_stage xs (Holding m t) is = refl
 
   -- it is the same seat
-  pub handed_seat : (xs : List L) (v : Sight H L) → seat_of (after_hand xs v) ≡ seat_of v
+  pub handed_seat : (xs : List L) (v : SeatState H L) → seat_of (after_hand xs v) ≡ seat_of v
   handed_seat xs (Keeper ms) = refl
   handed_seat xs (Idle m) = refl
   handed_seat xs (Waiting m t looks) = refl
@@ -198,73 +191,51 @@ module _ {H L : Type 0} where
 
 module _ {B H L : Type 0} (K : Ghosts B H L) (F : Form) (laws : FormLaws F) where
   -- the seat with the book back in its slot
-  abbrev Back : Me (std.Option B) (Sight H L) → Me (std.Option B) (Sight H L) → B → Type 0
+  abbrev Back : Me (std.Option B) (SeatState H L) → Me (std.Option B) (SeatState H L) → B → Type 0
   Back old new b = new ≡ (old.0, (0, std.Some b) ∷ rest old.1)
 
   -- the store keeps the rule, after the book was laid back
-  pub gives_from : (n : ℕ) (opening : B) (slots id k t word : ℕ) (old new : Me (std.Option B) (Sight H L)) (b : B) → Back old new b
+  pub gives_from : (n : ℕ) (opening : B) (slots id k t word : ℕ) (old new : Me (std.Option B) (SeatState H L)) (b : B) → Back old new b
       → (stage_of old.0 ≡ 3) × (seat_of old.0 ≡ k) × (number_of old.0 ≡ t) × (old.1 ≡ (0, std.None) ∷ []) → heads_of old.0 ≡ K.head opening ∷ []
       → HandsOn K (memo k (K.head opening) (seen_of old.0)) t b → word ≡ wrap (t + 1) → Allows (Rule K F laws n opening) slots id new (F.serving_word word) (λ _. word) (λ _. gave K (step slots (F.serving_word word) word 0 none) new word)
   gives_from n opening slots id k t word old new b back is head hands to =
-      let P : Me (std.Option B) (Sight H L) → Type 0 = λ z. Allows (Rule K F laws n opening) slots id z (F.serving_word word) (λ _. word) (λ _. gave K (step slots (F.serving_word word) word 0 none) z word) in
+      let P : Me (std.Option B) (SeatState H L) → Type 0 = λ z. Allows (Rule K F laws n opening) slots id z (F.serving_word word) (λ _. word) (λ _. gave K (step slots (F.serving_word word) word 0 none) z word) in
       let carried : (0, std.Some b) ∷ rest old.1 ≡ (0, std.Some b) ∷ [] = ap (λ (z : List (ℕ × std.Option B)). (0, std.Some b) ∷ rest z) is.3 in
       let Q : ℕ × ℕ → Type 0 = λ z. HandsOn K (memo z.0 (K.head opening) (seen_of old.0)) z.1 b in
       subst P (sym back) (gives_ok K F laws n opening slots id old.0 ((0, std.Some b) ∷ rest old.1) b word is.0 carried head (to ∙ ap (λ (z : ℕ). wrap (z + 1)) (sym is.2))
       (subst Q (λ i. (sym is.1 i, sym is.2 i)) hands))
 
   -- what the store tells of the seat, after the book was laid back
-  pub gave_from : (old new after : Me (std.Option B) (Sight H L)) (b : B) → Back old new b → old.1 ≡ (0, std.None) ∷ [] → ((c : B) → new.1 ≡ (0, std.Some c) ∷ [] → after ≡ (after_hand (K.lines c) new.0, []))
+  pub gave_from : (old new after : Me (std.Option B) (SeatState H L)) (b : B) → Back old new b → old.1 ≡ (0, std.None) ∷ [] → ((c : B) → new.1 ≡ (0, std.Some c) ∷ [] → after ≡ (after_hand (K.lines c) new.0, []))
       → after ≡ (after_hand (K.lines b) old.0, [])
   gave_from old new after b back is told =
-      let carried : new.1 ≡ (0, std.Some b) ∷ [] = ap (λ (z : Me (std.Option B) (Sight H L)). z.1) back ∙ ap (λ (z : List (ℕ × std.Option B)). (0, std.Some b) ∷ rest z) is in
-      told b carried ∙ ap (λ (z : Me (std.Option B) (Sight H L)). (after_hand (K.lines b) z.0, [])) back
+      let carried : new.1 ≡ (0, std.Some b) ∷ [] = ap (λ (z : Me (std.Option B) (SeatState H L)). z.1) back ∙ ap (λ (z : List (ℕ × std.Option B)). (0, std.Some b) ∷ rest z) is in
+      told b carried ∙ ap (λ (z : Me (std.Option B) (SeatState H L)). (after_hand (K.lines b) z.0, [])) back
 
   -- the seat that comes back is idle and has taken no slot
-  pub handed_is : (old after : Me (std.Option B) (Sight H L)) (xs : List L) (k : ℕ) → stage_of old.0 ≡ 3 → seat_of old.0 ≡ k → after ≡ (after_hand xs old.0, []) → (stage_of after.0 ≡ 1) × (seat_of after.0 ≡ k) × (after.1 ≡ [])
-  handed_is old after xs k is seat e = let P : Me (std.Option B) (Sight H L) → Type 0 = λ z. (stage_of z.0 ≡ 1) × (seat_of z.0 ≡ k) × (z.1 ≡ []) in
+  pub handed_is : (old after : Me (std.Option B) (SeatState H L)) (xs : List L) (k : ℕ) → stage_of old.0 ≡ 3 → seat_of old.0 ≡ k → after ≡ (after_hand xs old.0, []) → (stage_of after.0 ≡ 1) × (seat_of after.0 ≡ k) × (after.1 ≡ [])
+  handed_is old after xs k is seat e = let P : Me (std.Option B) (SeatState H L) → Type 0 = λ z. (stage_of z.0 ≡ 1) × (seat_of z.0 ≡ k) × (z.1 ≡ []) in
       subst P (sym e) (handed_stage xs old.0 is, handed_seat xs old.0 ∙ seat, refl)
 
 module _ {H L : Type 0} where
   -- what a take changes in a view
-  took_at : (t : ℕ) (v : Sight H L) → stage_of v ≡ 1 → Took v (after_take t v)
+  took_at : (t : ℕ) (v : SeatState H L) → stage_of v ≡ 1 → Took v (after_take t v)
   took_at t (Keeper ms) is = absurd (omega arith)
   took_at t (Idle m) is = record { same = (refl, refl); seen = refl; looks = refl }
   took_at t (Waiting m u k) is = absurd (omega arith)
   took_at t (Holding m u) is = absurd (omega arith)
 
-  -- what a miss changes in a view
-  missed_at : (v : Sight H L) → stage_of v ≡ 2 → Missed v (after_miss v)
-  missed_at (Keeper ms) is = absurd (omega arith)
-  missed_at (Idle m) is = absurd (omega arith)
-  missed_at (Waiting m u k) is = record { same = (refl, refl); seen = refl; number = refl; looks = refl }
-  missed_at (Holding m u) is = absurd (omega arith)
-
-  -- what an entry changes in a view
-  entered_at : (xs : List L) (v : Sight H L) → stage_of v ≡ 2 → Sees xs v (after_enter xs v)
-  entered_at xs (Keeper ms) is = absurd (omega arith)
-  entered_at xs (Idle m) is = absurd (omega arith)
-  entered_at xs (Waiting m u k) is = record { same = (refl, refl); seen = refl }
-  entered_at xs (Holding m u) is = absurd (omega arith)
-
   -- what a hand on changes in a view
-  given_at : (xs : List L) (v : Sight H L) → stage_of v ≡ 3 → Sees xs v (after_hand xs v)
+  given_at : (xs : List L) (v : SeatState H L) → stage_of v ≡ 3 → Sees xs v (after_hand xs v)
   given_at xs (Keeper ms) is = absurd (omega arith)
   given_at xs (Idle m) is = absurd (omega arith)
   given_at xs (Waiting m u k) is = absurd (omega arith)
   given_at xs (Holding m u) is = record { same = (refl, refl); seen = refl }
 
   -- the same of a view that is known by an equation
-  pub took_is : (t : ℕ) (v w : Sight H L) → stage_of v ≡ 1 → w ≡ after_take t v → Took v w
+  pub took_is : (t : ℕ) (v w : SeatState H L) → stage_of v ≡ 1 → w ≡ after_take t v → Took v w
   took_is t v w is e = subst (Took v) (sym e) (took_at t v is)
 
   -- the same of a view that is known by an equation
-  pub missed_is : (v w : Sight H L) → stage_of v ≡ 2 → w ≡ after_miss v → Missed v w
-  missed_is v w is e = subst (Missed v) (sym e) (missed_at v is)
-
-  -- the same of a view that is known by an equation
-  pub entered_is : (xs : List L) (v w : Sight H L) → stage_of v ≡ 2 → w ≡ after_enter xs v → Sees xs v w
-  entered_is xs v w is e = subst (Sees xs v) (sym e) (entered_at xs v is)
-
-  -- the same of a view that is known by an equation
-  pub given_is : (xs : List L) (v w : Sight H L) → stage_of v ≡ 3 → w ≡ after_hand xs v → Sees xs v w
+  pub given_is : (xs : List L) (v w : SeatState H L) → stage_of v ≡ 3 → w ≡ after_hand xs v → Sees xs v w
   given_is xs v w is e = subst (Sees xs v) (sym e) (given_at xs v is)

@@ -5,9 +5,9 @@ use mathlib.Core.Option.{some, some-injective, some-ne-none}
 use native.Mathlib.Decide.{ℕ_discrete}
 use lib.ListN.{get_elem?}
 use Rattle.ticket_lock.specs.declared.chronicle.Chronicle.{Ghosts}
-use Rattle.ticket_lock.specs.declared.sight.Memo.{Memo}
-use Rattle.ticket_lock.specs.declared.sight.Sight.{Sight}
-use Rattle.ticket_lock.specs.declared.sight.Sight.TheVariants.{Keeper, Idle, Waiting, Holding}
+use Rattle.ticket_lock.specs.declared.seat_state.Memo.{Memo}
+use Rattle.ticket_lock.specs.declared.seat_state.SeatState.{SeatState}
+use Rattle.ticket_lock.specs.declared.seat_state.SeatState.TheVariants.{Keeper, Idle, Waiting, Holding}
 use Rattle.ticket_lock.specs.World.{Form, World, wrap, memos, HasNumber, Remembers, Knows, Good}
 use Rattle.ticket_lock.specs.GoodWorld.{Owns, GoodWorld, Shut}
 use Rattle.ticket_lock.specs.Schedule.{idle_from, Begins}
@@ -24,7 +24,7 @@ at_of (x ∷ xs) (suc i) h = at_of xs i (omega arith)
 
 module _ {B H L : Type 0} (K : Ghosts B H L) (F : Form) (laws : FormLaws F) (n : ℕ) (opening : B) (w : World B H L) (q : List ℕ) (g : Good K F n opening w q) where
   -- a seat with a number stands in the queue at the place of that number
-  place_of : (k t : ℕ) (v : Sight H L) → Knows K opening w.current w.home w.serving q k v → HasNumber v t → (i : ℕ) × (get_elem? q i ≡ some k) × (t ≡ wrap (w.serving + i))
+  place_of : (k t : ℕ) (v : SeatState H L) → Knows K opening w.current w.home w.serving q k v → HasNumber v t → (i : ℕ) × (get_elem? q i ≡ some k) × (t ≡ wrap (w.serving + i))
   place_of k t (Keeper ms) know has = absurd has
   place_of k t (Idle m) know has = absurd has
   place_of k t (Waiting m u looks) know has = (know.1.0, know.1.1, sym has ∙ know.1.2)
@@ -40,7 +40,7 @@ module _ {B H L : Type 0} (K : Ghosts B H L) (F : Form) (laws : FormLaws F) (n :
   only_one x m (suc a) r e = absurd (some-ne-none m (sym e))
 
   -- each memo of a seat is remembered
-  remembered : (j a : ℕ) (m : Memo H L) (v : Sight H L) → Knows K opening w.current w.home w.serving q j v → get_elem? (memos v) a ≡ some m → Remembers K opening w.current m
+  remembered : (j a : ℕ) (m : Memo H L) (v : SeatState H L) → Knows K opening w.current w.home w.serving q j v → get_elem? (memos v) a ≡ some m → Remembers K opening w.current m
   remembered j a m (Keeper ms) know e = know a m e
   remembered j a m (Idle x) know e = only_one x m a know e
   remembered j a m (Waiting x t looks) know e = only_one x m a know.0 e
@@ -75,7 +75,7 @@ module _ {B H L : Type 0} (K : Ghosts B H L) (F : Form) (laws : FormLaws F) (n :
 
 module _ {B H L : Type 0} (K : Ghosts B H L) (F : Form) (laws : FormLaws F) where
   -- a lock that ends in the working form has ended well
-  pub shut : (n : ℕ) (opening : B) (given back : List (Sight H L)) (b : B) → Ended K F n opening given b → back ≡ given
+  pub shut : (n : ℕ) (opening : B) (given back : List (SeatState H L)) (b : B) → Ended K F n opening given b → back ≡ given
       → Shut K F opening back b
   shut n opening given back b e same = record {
     world = e.0;
@@ -92,7 +92,7 @@ module _ {B H L : Type 0} (K : Ghosts B H L) (F : Form) (laws : FormLaws F) wher
   resting n opening s r = (good_world K F laws n opening (world_of s r.next r.serving r.home r.current) r.queue r.good, r.shelved)
 
 -- the seats that were cut off are those of an opened world
-pub begins : {B H L : Type 0} (K : Ghosts B H L) (F : Form) (n : ℕ) (b value : B) (ws : List ℕ) (seats : List (Sight H L))
+pub begins : {B H L : Type 0} (K : Ghosts B H L) (F : Form) (n : ℕ) (b value : B) (ws : List ℕ) (seats : List (SeatState H L))
     → 0 < n → n ≤ 64 → K.lawful b → K.turn b < 2 ^ 64 → F.Shows (K.turn b) (K.turn b) ws → value ≡ b
     → seats ≡ idle_from (K.head value) (K.lines value) 0 n → Begins K F n b seats
 begins K F n b value ws seats some_seats few lawful first shows same is = record {

@@ -4,15 +4,15 @@ use mathlib.Core.Option.{some}
 use mathlib.Core.List.{IsPrefix}
 use lib.ListN.{get_elem?}
 use Rattle.ticket_lock.specs.declared.chronicle.Chronicle.{Ghosts}
-use Rattle.ticket_lock.specs.declared.sight.Memo.{Memo}
-use Rattle.ticket_lock.specs.declared.sight.Sight.{Sight}
-use Rattle.ticket_lock.specs.declared.sight.Sight.TheVariants.{Holding}
+use Rattle.ticket_lock.specs.declared.seat_state.Memo.{Memo}
+use Rattle.ticket_lock.specs.declared.seat_state.SeatState.{SeatState}
+use Rattle.ticket_lock.specs.declared.seat_state.SeatState.TheVariants.{Holding}
 use Rattle.ticket_lock.specs.World.{Form, World, wrap, memos, own, HasNumber}
 
 module _ {B H L : Type 0} where
   -- seat j waits or holds with the number t
   abbrev pub Owns : World B H L → ℕ → ℕ → Type 0
-  Owns w j t = (v : Sight H L) × (get_elem? w.seats j ≡ some v) × HasNumber v t
+  Owns w j t = (v : SeatState H L) × (get_elem? w.seats j ≡ some v) × HasNumber v t
 
   -- seat j holds the book with the number t
   abbrev pub Holds : World B H L → ℕ → ℕ → Type 0
@@ -20,7 +20,7 @@ module _ {B H L : Type 0} where
 
   -- the memo m is one of seat j's
   abbrev pub HasSeen : World B H L → ℕ → Memo H L → Type 0
-  HasSeen w j m = (v : Sight H L) × (a : ℕ) × (get_elem? w.seats j ≡ some v) × (get_elem? (memos v) a ≡ some m)
+  HasSeen w j m = (v : SeatState H L) × (a : ℕ) × (get_elem? w.seats j ≡ some v) × (get_elem? (memos v) a ≡ some m)
 
   -- the good world, of a lock that was opened round the book `opening`
   pub record GoodWorld (K : Ghosts B H L) (F : Form) (opening : B) (w : World B H L) : Type 0 where
@@ -48,7 +48,7 @@ module _ {B H L : Type 0} where
 
   -- how a lock ends: in a good world whose seats are just those given back, none of which has a number, with the
   -- book b at home, whose turn is the next number
-  pub record Shut (K : Ghosts B H L) (F : Form) (opening : B) (given : List (Sight H L)) (b : B) : Type 0 where
+  pub record Shut (K : Ghosts B H L) (F : Form) (opening : B) (given : List (SeatState H L)) (b : B) : Type 0 where
     pub world : World B H L
     pub good : GoodWorld K F opening world
     pub seats : world.seats ≡ given

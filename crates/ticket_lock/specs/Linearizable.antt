@@ -33,15 +33,17 @@ module _ {B H L : Type 0} (K : Ghosts B H L) where
     pub same : journal_after b es (suc r) ≡ journal_after b es r
     pub full : (c : B) × (get_elem? es r ≡ some (hands_on k c)) × (K.capacity c ≤ length (journal_after b es r))
 
-  -- The journal xs is a sequential history of the calls in the events es: each has its line, each line is that of a
-  -- call, and where one call ended before another began, the line of the first stands before that of the second
+  -- The journal xs is a sequential history of the calls in the events es: each has its line, each line is that of just
+  -- one call, and where one call ended before another began, the line of the first stands before that of the second
   pub record IsSequentialHistory (b : B) (es : List (Event B)) (xs : List L) : Type 0 where
     pub each_call : (k i r p : ℕ) (l : L) → Call b es k i r p l → (get_elem? xs p ≡ some l) × (K.line_seat l ≡ k)
     pub each_line : (p : ℕ) (l : L) → length (K.lines b) ≤ p → get_elem? xs p ≡ some l
         → (k : ℕ) × (i : ℕ) × (r : ℕ) × Call b es k i r p l
+    pub one_call : (k i r p : ℕ) (l : L) (j a s : ℕ) (m : L) → Call b es k i r p l → Call b es j a s p m → r ≡ s
     pub each_end : (k r : ℕ) (c : B) → get_elem? es r ≡ some (hands_on k c)
         → ((i : ℕ) × (p : ℕ) × (l : L) × Call b es k i r p l) ⊎ FoundFull b es k r
-    pub in_order : (k i r p : ℕ) (l : L) (j a s q : ℕ) (m : L) → Call b es k i r p l → Call b es j a s q m → r < a → p < q
+    pub in_order : (k i r p : ℕ) (l : L) (j a s q : ℕ) (m : L) → Call b es k i r p l → Call b es j a s q m → r < a
+        → p < q
 
   -- Every list of events from every opened world is linearizable: the journal that it leaves is lawful, and is a
   -- sequential history of its calls in an order that keeps the order of calls that do not overlap

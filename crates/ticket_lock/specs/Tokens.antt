@@ -4,7 +4,7 @@ use mathlib.Core.List.{IsPrefix}
 use Rattle.ticket_lock.specs.declared.chronicle.Chronicle.{Ghosts}
 use Rattle.ticket_lock.specs.declared.lock.TicketLock.{TicketLock}
 use Rattle.ticket_lock.specs.declared.seat.Seat.{Seat}
-use Rattle.ticket_lock.specs.declared.sight.Sight.{Sight}
+use Rattle.ticket_lock.specs.declared.seat_state.SeatState.{SeatState}
 use Rattle.ticket_lock.specs.declared.ticket.Ticket.{Ticket}
 use Rattle.ticket_lock.specs.declared.ticket.Look.{Look}
 use Rattle.ticket_lock.specs.declared.ticket.Look.TheVariants.{Entered, NotYet}
@@ -26,8 +26,8 @@ module _ {B H L : Type 0} where
   IsSeatOf head lock s = (s.place.table_id ≡ lock.board.shared.table_id) × (heads_of s.place.me.0 ≡ head (opening_book lock) ∷ []) × IsIdle s.number s.place.me
 
   -- the seat as the lock's world shows it
-  abbrev pub seat_sight : Seat B H L → Sight H L
-  seat_sight s = s.place.me.0
+  abbrev pub seat_state : Seat B H L → SeatState H L
+  seat_state s = s.place.me.0
 
   -- which seat it is, counted from 0
   abbrev pub seat_number : Seat B H L → ℕ

@@ -3,7 +3,7 @@ ghost use Rattle.std.specs.Prelude.{◌≡◌, ◌+◌, ◌<◌, [], length, All
 ghost use Rattle.ticket_lock.specs.Standing.{stage_of, memos_of, idles, IsIdle};
 ghost use Rattle.ticket_lock.specs.Forms.{partitioned_form};
 ghost use Rattle.ticket_lock.specs.GoodWorld.{Shut};
-ghost use Rattle.ticket_lock.specs.Tokens.{seat_count, opening_book, IsSeatOf, seat_sight, seat_number, seat_seen, Stands};
+ghost use Rattle.ticket_lock.specs.Tokens.{seat_count, opening_book, IsSeatOf, seat_state, seat_number, seat_seen, Stands};
 
 use crate::chronicle::Chronicle;
 use crate::lock::TicketLock;
@@ -29,15 +29,15 @@ fn gather<B: Chronicle>(board: &Board<B>, keeper: &mut Place<B>, mut seats: Vec<
 impl<B: Chronicle> TicketLock<B> {
     /// Ends the lock, and gives its book back. It asks for all seats of this lock, idle.
     ///
-    /// The lock ends in a good world whose seats are those given back, all idle. The book is lawful, its head is that at opening, and its turn is the number
-    /// that the next take would have had. Its journal begins with what each seat has seen, and holds in each seat's name just the lines that the seat has seen
-    /// in its name.
+    /// The lock ends in a good world whose seats are those given back, all idle. The book is lawful, its head is that
+    /// at opening, and its turn is the number that the next take would have had. Its journal begins with what each
+    /// seat has seen, and holds in each seat's name just the lines that the seat has seen in its name.
     pub fn close(self, seats: Vec<Seat<B>>) -> B
         requires all { vec_len seats ≡ seat_count self }
         requires own { All (IsSeatOf B.head self) seats.items }
         ensures lawful { B.lawful result }
         ensures head { B.head result ≡ B.head (opening_book self) }
-        ensures next { Shut B.Chronicle partitioned_form (opening_book self) (map (λ s. seat_sight s) seats.items) result }
+        ensures next { Shut B.Chronicle partitioned_form (opening_book self) (map (λ s. seat_state s) seats.items) result }
         ensures seen { All (λ s. Stands B.Chronicle (seat_number s) (seat_seen s) result) seats.items }
     {
         let TicketLock { board, seats: _ } = self;

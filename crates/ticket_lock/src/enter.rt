@@ -11,7 +11,8 @@ use crossbeam_utils::Backoff;
 use std::sync::Wait;
 
 impl<B: Chronicle> TicketLock<B> {
-    /// Takes a number, and looks until it is served. It pauses between two looks, for longer each time, and then yields the processor.
+    /// Takes a number, and looks until it is served. It pauses between two looks, for longer each time, and then
+    /// yields the processor.
     pub fn enter<R: Wait>(&self, rt: &R, seat: Seat<B>) -> Guard<'_, B>
         requires own { IsSeatOf B.head self.now seat }
         ensures entered { (guard_lock result ≡ self.now) × (guard_seat result ≡ seat_number seat) × KeepsHead B.head result }

@@ -25,8 +25,9 @@ impl<'a, B: Chronicle> Guard<'a, B> {
 
     /// Gives the book back, and the next number is served. The seat that comes back has seen the lines handed on.
     ///
-    /// It asks that the book is lawful, that its head is that at opening, that its turn is one more than the number served, and that its lines are those
-    /// at entry and one line of this seat with this number, or those at entry alone where they filled the capacity.
+    /// It asks that the book is lawful, that its head is that at opening, that its turn is one more than the number
+    /// served, and that its lines are those at entry and one line of this seat with this number, or those at entry
+    /// alone where they filled the capacity.
     pub fn hand_on(self) -> Seat<B>
         requires head { KeepsHead B.head self }
         requires hands { HandsOn B.Chronicle (memo (guard_seat self) (B.head (opening_book (guard_lock self))) (guard_seen self)) (guard_number self) (guard_book self) }

@@ -15,15 +15,18 @@ mod plays;
 pub mod roll;
 mod rule;
 mod seat;
-mod sight;
+mod seat_state;
 #[cfg(test)]
 mod tests;
 mod ticket;
 
 pub use chronicle::Chronicle;
 pub use guard::Guard;
-pub use law::{partitioned_schedules_are_linearizable, partitioned_schedules_are_never_stuck, partitioned_schedules_hold, resting_tables_are_good, schedules_hold};
+pub use law::{
+    partitioned_schedules_are_linearizable, partitioned_schedules_are_never_stuck,
+    partitioned_schedules_hold, resting_tables_are_good, schedules_hold,
+};
 pub use lock::TicketLock;
-pub use open::OpenFault;
+pub use open::{OpenFault, SEAT_LIMIT};
 pub use seat::Seat;
 pub use ticket::{Look, Ticket};

@@ -35,7 +35,8 @@ impl<B: Chronicle> TicketLock<B> {
         }
     }
 
-    /// Looks once whether the ticket's number is served: one load of the grant word that its number names. It never waits.
+    /// Looks once whether the ticket's number is served: one load of the grant word that its number names. It never
+    /// waits.
     pub fn look(&self, ticket: Ticket<B>) -> Look<'_, B>
         requires own { IsTicketOf self.now ticket }
         ensures entered { IfEntered result (λ g. (guard_lock g ≡ self.now) × (guard_seat g ≡ ticket_seat ticket) × (guard_number g ≡ ticket_number ticket) × KeepsHead B.head g) }

@@ -3,7 +3,7 @@ ghost use Rattle.std.specs.Prelude.{◌≡◌, ◌^◌, ◌<◌, ◌≤◌, ◌�
 ghost use Rattle.ticket_lock.specs.Standing.{keeper_of, heads_of, seen_of, IsIdle};
 ghost use Rattle.ticket_lock.specs.Schedule.{idle_from, Begins};
 ghost use Rattle.ticket_lock.specs.Forms.{partitioned_form};
-ghost use Rattle.ticket_lock.specs.Tokens.{seat_count, opening_book, IsSeatOf, AreNumbered, seat_sight, seat_seen};
+ghost use Rattle.ticket_lock.specs.Tokens.{seat_count, opening_book, IsSeatOf, AreNumbered, seat_state, seat_seen};
 ghost use Rattle.ticket_lock.specs.declared.open.OpenFault.TheVariants.{SeatCount, NoMemory};
 
 use crate::chronicle::Chronicle;
@@ -14,6 +14,9 @@ use crate::seat::Seat;
 use atomic_table::{Refused, Table};
 use std::alloc::Global;
 use std::snapshot::Snapshot;
+
+/// The most seats that a lock can have.
+pub const SEAT_LIMIT: u8 = 64;
 
 /// Why a lock was not opened.
 #[derive(Drop, Debug, Clone, Copy, PartialEq, Eq)]
@@ -77,12 +80,15 @@ fn cut<B: Chronicle>(board: &Board<B>, keeper: &mut Place<B>, all: &mut Vec<Seat
 }
 
 impl<B: Chronicle> TicketLock<B> {
-    /// A lock round a lawful book, and its seats, numbered from 0. There can be 1 to 64 seats. Each seat has seen the book's journal, and the first number
-    /// handed out is the book's turn. The memory of all later calls is asked for here.
+    /// A lock round a lawful book, and its seats, numbered from 0. There can be 1 to 64 seats. Each seat has seen the
+    /// book's journal, and the first number handed out is the book's turn. The memory of all later calls is asked for
+    /// here.
     ///
-    /// Refusals, of which the first is tried first: `SeatCount` where `seats` is 0 or above 64, and `NoMemory`. The book comes back unchanged.
+    /// Refusals, of which the first is tried first: `SeatCount` where `seats` is 0 or above 64, and `NoMemory`. The
+    /// book comes back unchanged.
     ///
-    /// The book is moved at each entry and each hand-over, so a large one is better passed as a `Box` of it, which is a `Chronicle` too.
+    /// The book is moved at each entry and each hand-over, so a large one is better passed as a `Box` of it, which is
+    /// a `Chronicle` too.
     pub fn open(
         alloc: Global,
         book: B,
@@ -95,12 +101,12 @@ impl<B: Chronicle> TicketLock<B> {
         ensures own { IfOk result (λ r. All (IsSeatOf B.head r.0) r.1.items) }
         ensures numbers { IfOk result (λ r. AreNumbered r.1.items) }
         ensures seen { IfOk result (λ r. All (λ s. seat_seen s ≡ B.lines book) r.1.items) }
-        ensures begins { IfOk result (λ r. Begins B.Chronicle partitioned_form seats book (map (λ s. seat_sight s) r.1.items)) }
+        ensures begins { IfOk result (λ r. Begins B.Chronicle partitioned_form seats book (map (λ s. seat_state s) r.1.items)) }
         ensures seat_count { (seats ≡ 0) ⊎ (64 < seats) → IsErrAnd result (λ e. e.0 ≡ SeatCount) }
         ensures no_memory { IfErr result (λ e. 1 ≤ seats → seats ≤ 64 → e.0 ≡ NoMemory) }
         ensures back { IfErr result (λ e. e.1 ≡ book) }
     {
-        if seats == 0 || seats > 64 {
+        if seats == 0 || seats > SEAT_LIMIT {
             return Err((OpenFault::SeatCount, book));
         }
         let Ok(mut all) = Vec::with_capacity(alloc, usize::from(seats)) else {

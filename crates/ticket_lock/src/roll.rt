@@ -64,7 +64,8 @@ impl Roll {
     }
 }
 
-/// Signs the roll in the name of the seat that holds it, unless the roll is full, and hands it on. It asks for a guard as it was found at entry.
+/// Signs the roll in the name of the seat that holds it, unless the roll is full, and hands it on. It asks for a
+/// guard as it was found at entry.
 pub fn sign(guard: Guard<Roll>, seat: u8) -> Seat<Roll>
     requires seat { guard_seat guard ≡ seat }
     requires lawful { (guard_book guard).capacity ≤ vec_capacity (guard_book guard).lines }

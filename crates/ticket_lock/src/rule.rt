@@ -1,6 +1,6 @@
 //! The table under the lock: the words, a slot for the book, and a view for each seat.
 use crate::chronicle::Chronicle;
-use crate::sight::Sight;
+use crate::seat_state::SeatState;
 use atomic_table::{Seat as TableSeat, Table, TableRule};
 use std::alloc::Global;
 use std::snapshot::Snapshot;
@@ -21,7 +21,7 @@ impl<B> Drop for Origin<B> {
 /// The rule of the lock.
 pub struct Queue;
 
-impl<B: Chronicle> TableRule<Option<B>, Sight<B::Head, B::Line>, Origin<B>> for Queue {
+impl<B: Chronicle> TableRule<Option<B>, SeatState<B::Head, B::Line>, Origin<B>> for Queue {
     ghost use Rattle.ticket_lock.specs.Forms.{partitioned_form};
     ghost use Rattle.ticket_lock.specs.Standing.{Standing, keeper_of};
 
@@ -32,10 +32,10 @@ impl<B: Chronicle> TableRule<Option<B>, Sight<B::Head, B::Line>, Origin<B>> for 
 
 pub type Board<B> = Table<
     Option<B>,
-    Sight<<B as Chronicle>::Head, <B as Chronicle>::Line>,
+    SeatState<<B as Chronicle>::Head, <B as Chronicle>::Line>,
     Origin<B>,
     Queue,
     Global,
 >;
 
-pub type Place<B> = TableSeat<Option<B>, Sight<<B as Chronicle>::Head, <B as Chronicle>::Line>>;
+pub type Place<B> = TableSeat<Option<B>, SeatState<<B as Chronicle>::Head, <B as Chronicle>::Line>>;

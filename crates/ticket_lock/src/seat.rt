@@ -5,7 +5,8 @@ ghost use Rattle.ticket_lock.specs.Tokens.{seat_number};
 use crate::chronicle::Chronicle;
 use crate::rule::Place;
 
-/// A seat of one lock, with no number. It is made by `TicketLock::open` alone, and can't be dropped: `TicketLock::close` takes it back.
+/// A seat of one lock, with no number. It is made by `TicketLock::open` alone, and can't be dropped:
+/// `TicketLock::close` takes it back.
 pub struct Seat<B: Chronicle> {
     pub(crate) place: Place<B>,
     pub(crate) number: u8,

@@ -1,4 +1,4 @@
-//! A ticket: a seat that has taken a number and waits for its turn.
+//! A ticket: a seat that has taken a number and waits until that number is served.
 ghost use Rattle.std.specs.Prelude.{◌≡◌, []};
 ghost use Rattle.ticket_lock.specs.Standing.{stage_of, seat_of, number_of};
 
@@ -25,7 +25,8 @@ pub enum Look<'a, B: Chronicle> {
 impl<B: Chronicle> Ticket<B> {
     ghost use Rattle.ticket_lock.specs.Tokens.{ticket_number};
 
-    /// The number that was taken. Numbers go up by one with each take, and begin again at 0 after 18446744073709551615.
+    /// The number that was taken. Numbers go up by one with each take, and begin again at 0 after
+    /// 18446744073709551615. At most 64 are out at one time, and no two of those are the same.
     pub fn number(&self) -> u64
         ensures { result ≡ ticket_number self.now }
     {

@@ -1,3 +1,4 @@
+-- the last seat's memo goes to the keeper, which stays a keeper, and no seat is lost
 use Rattle.ticket_lock.specs.Forms.{partitioned_form}
 use Rattle.std.proofs.Common.{rules, ◌≡◌, ap}
 use Rattle.ticket_lock.specs.declared.seat.Seat.{Seat}

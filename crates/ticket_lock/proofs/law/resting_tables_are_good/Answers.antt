@@ -1,3 +1,4 @@
+-- the law of every form, at the laws of the partitioned form
 use Rattle.ticket_lock.proofs.FormsKept.{partitioned_laws}
 use Rattle.ticket_lock.proofs.Worlds.{resting}
 use Rattle.ticket_lock.specs.Forms.{partitioned_form}

@@ -1,3 +1,4 @@
+-- the first seat of the keeper is cut off, and what holds of the idle seats so far is read seat by seat
 use Rattle.ticket_lock.specs.Forms.{partitioned_form}
 use Rattle.ticket_lock.specs.Standing.{IsIdle}
 use Rattle.std.proofs.Common.{rules, ◌≡◌, refl, sym, ap, ◌∙◌}

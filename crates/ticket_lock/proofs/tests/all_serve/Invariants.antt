@@ -1,3 +1,4 @@
+-- each seat is left, or has served
 use Rattle.std.proofs.Common.{◌≡◌, ◌+◌, ◌≤◌, All, vec_len, vec_capacity}
 use Rattle.ticket_lock.specs.Tokens.{IsSeatOf}
 use Rattle.ticket_lock.specs.contracts.roll.RollChronicle.TheImpl.{ghosts}

@@ -1,3 +1,4 @@
+-- the store of the next number is an event hand on, after which the seat is idle
 use Rattle.ticket_lock.specs.Forms.{partitioned_form}
 use Rattle.ticket_lock.proofs.FormsKept.{partitioned_laws}
 use Rattle.std.proofs.Common.{rules, ℕ, ◌+◌, refl, sym, ap, ◌∙◌}

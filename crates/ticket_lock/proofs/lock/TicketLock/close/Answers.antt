@@ -1,3 +1,4 @@
+-- the keeper has taken in every seat, so no number is out: the book is in its slot, and the world of those seats is good
 use Rattle.std.proofs.Common.{rules, ◌≡◌, length, sym, ◌∙◌, subst, refl}
 use Rattle.std.specs.Option.{IsSome}
 use Rattle.std.proofs.Common.{slice_index_or, ℕ}

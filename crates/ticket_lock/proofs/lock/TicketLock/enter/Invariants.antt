@@ -1,3 +1,4 @@
+-- the ticket is that of the seat, however often it has looked
 use Rattle.std.proofs.Common.{◌≡◌}
 use Rattle.ticket_lock.specs.Tokens.{IsTicketOf, seat_number, seat_seen, ticket_seat, ticket_seen}
 use Rattle.ticket_lock.proofs.lock.TicketLock.enter.Given as goal

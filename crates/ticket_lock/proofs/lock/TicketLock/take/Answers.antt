@@ -1,3 +1,4 @@
+-- a fetch-and-add on word 0 by an idle seat is an event take, after which the seat waits with the number found
 use Rattle.ticket_lock.specs.Forms.{partitioned_form}
 use Rattle.ticket_lock.proofs.FormsKept.{partitioned_laws}
 use Rattle.std.proofs.Common.{rules, ap, ◌∙◌}

@@ -1,3 +1,4 @@
+-- the journal holds in a seat's name what the seat has seen in its name, which its tally counts
 use Rattle.ticket_lock.specs.Tokens.{seat_number, seat_seen}
 use Rattle.ticket_lock.specs.contracts.roll.RollChronicle.TheImpl.{ghosts}
 use Rattle.ticket_lock.proofs.Tallies.{tallied}

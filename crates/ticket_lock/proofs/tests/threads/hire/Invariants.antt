@@ -1,3 +1,4 @@
+-- each seat is left, or has a worker that has signed nothing
 use Rattle.std.proofs.Common.{◌≡◌, ◌+◌, ◌≤◌, ◌<◌, ◌^◌, [], length, All, vec_len, vec_capacity}
 use Rattle.std.specs.Prelude.{IfSome, IsSome}
 use Rattle.ticket_lock.specs.World.{own}

@@ -1,3 +1,4 @@
+-- the last worker's seat and tally have one number and one count
 use Rattle.std.proofs.Common.{rules, ◌≡◌, length, ap, ◌∙◌, ℕ, subst}
 use Rattle.std.proofs.lemmas.Grind.{common_steps}
 use Rattle.ticket_lock.specs.World.{own}
