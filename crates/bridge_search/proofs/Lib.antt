@@ -4,3 +4,4 @@ pub mod Signs
 pub mod Ends
 pub mod ListedTrees
 pub mod Leaves
+pub mod Depths

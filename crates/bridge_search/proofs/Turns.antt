@@ -7,7 +7,7 @@ use Rattle.lattice.specs.Plane.{Pair, orient, IsBefore}
 use Rattle.lattice.specs.Bridges.{IsAllBefore, IsUpperBridge}
 use Rattle.lattice.specs.Crossing.{IsCrossingAtOrBefore, IsCrossingAfter}
 use Rattle.bridge_search.specs.Trees.{Tree, Leaf, Fork, On, IsBridged, IsFork, edge_of, left_of, right_of, first_of, size_of}
-use Rattle.bridge_search.specs.Search.{IsReady, IsTurn, IsDone, IsDepthSum, IsReached, IsUnderWay, IsAdvance}
+use Rattle.bridge_search.specs.Search.{IsReady, IsTurn, IsDone, IsDepthSum, IsReached, IsAdvance}
 use Rattle.lattice.specs.Integers.{linear}
 use Rattle.lattice.proofs.Order.{before_irrefl, before_not}
 use Rattle.lattice.proofs.LineCrossings.{orient_start, orient_end}
@@ -256,14 +256,18 @@ reached_depth u0 w0 u w m n p q r d e f =
     rw (e, f) (same_sum u0 w0 (first_of u) (first_of w) (0 + n) n (omega arith) (r.deeper (first_of u) (first_of w) 0 d.depth))
 
 -- a search that was under way is so after one turn more, or none
-pub under_way_on : (b : Bool) (u0 w0 u w v z : Tree) (m m2 : Pair) → IsUnderWay u0 w0 u w m → IsAdvance b u w m v z → m2 ≡ m → IsUnderWay u0 w0 v z m2
-under_way_on true u0 w0 u w v z m m2 r t e = (r.0 + 1, rw e (reached_more u0 w0 u w v z m r.0 r.1 t))
-under_way_on false u0 w0 u w v z m m2 r t e = (r.0, rw (t.0, t.1, e) r.1)
+pub under_way_on : (b : Bool) (u0 w0 u w v z : Tree) (m m2 : Pair) (n k : ℕ) → IsReached u0 w0 u w m n → IsAdvance b u w m n v z k → m2 ≡ m → IsReached u0 w0 v z m2 k
+under_way_on true u0 w0 u w v z m m2 n k r t e = rw (e, t.1) (reached_more u0 w0 u w v z m n r t.0)
+under_way_on false u0 w0 u w v z m m2 n k r t e = rw (t.0, t.1, t.2, e) r
 
 -- a turn leaves fewer points
-pub fewer : (u w v z : Tree) (m : Pair) → IsAdvance true u w m v z → size_of v + size_of z < size_of u + size_of w
-fewer u w v z m t = t.falls
+pub fewer : (u w v z : Tree) (m : Pair) (n k : ℕ) → IsAdvance true u w m n v z k → size_of v + size_of z < size_of u + size_of w
+fewer u w v z m n k t = t.0.falls
 
 -- where no turn was made, the bridge of the halves that the search began with is found
-pub under_way_bridge : (u0 w0 u w v z : Tree) (m : Pair) (p q : Pair) → IsUnderWay u0 w0 u w m → IsAdvance false u w m v z → p ≡ first_of v → q ≡ first_of z → IsUpperBridge (On u0) (On w0) p q
-under_way_bridge u0 w0 u w v z m p q r t e f = reached_bridge u0 w0 u w m r.0 p q r.1 t.2 (rw t.0 at e) (rw t.1 at f)
+pub under_way_bridge : (u0 w0 u w v z : Tree) (m : Pair) (n k : ℕ) (p q : Pair) → IsReached u0 w0 u w m n → IsAdvance false u w m n v z k → p ≡ first_of v → q ≡ first_of z → IsUpperBridge (On u0) (On w0) p q
+under_way_bridge u0 w0 u w v z m n k p q r t e f = reached_bridge u0 w0 u w m n p q r t.3 (rw t.0 at e) (rw t.1 at f)
+
+-- and the turns so far are as many as its ends are deep
+pub under_way_depth : (u0 w0 u w v z : Tree) (m : Pair) (n k : ℕ) (p q : Pair) → IsReached u0 w0 u w m n → IsAdvance false u w m n v z k → p ≡ first_of v → q ≡ first_of z → IsDepthSum u0 w0 p q k
+under_way_depth u0 w0 u w v z m n k p q r t e f = rw t.2 (reached_depth u0 w0 u w m n p q r t.3 (rw t.0 at e) (rw t.1 at f))

@@ -4,3 +4,4 @@ pub mod TurnedTrees
 pub mod OneWay
 pub mod Listed
 pub mod Leaves
+pub mod Laws

@@ -36,11 +36,7 @@ pub record IsReached (u0 w0 u w : Tree) (m : Pair) (n : ℕ) : Type 0 where
   pub deeper : (p q : Pair) (k : ℕ) → IsDepthSum u w p q k → IsDepthSum u0 w0 p q (k + n)
   pub within : height_of u + height_of w + n ≤ height_of u0 + height_of w0
 
--- some turns have led from the halves u0 and w0 to the halves u and w
-abbrev pub IsUnderWay : Tree → Tree → Tree → Tree → Pair → Type 0
-IsUnderWay u0 w0 u w m = (n : ℕ) × IsReached u0 w0 u w m n
-
--- one turn more; or none, where both halves are one point
-abbrev pub IsAdvance : Bool → Tree → Tree → Pair → Tree → Tree → Type 0
-IsAdvance true u w m v z = IsTurn u w m v z
-IsAdvance false u w m v z = (v ≡ u) × (z ≡ w) × IsDone u w
+-- after n turns one more, so k in all; or none, where both halves are one point
+abbrev pub IsAdvance : Bool → Tree → Tree → Pair → ℕ → Tree → Tree → ℕ → Type 0
+IsAdvance true u w m n v z k = IsTurn u w m v z × (k ≡ n + 1)
+IsAdvance false u w m n v z k = (v ≡ u) × (z ≡ w) × (k ≡ n) × IsDone u w

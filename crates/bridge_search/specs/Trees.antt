@@ -67,3 +67,7 @@ height_of (Fork e f u w) = max (height_of u) (height_of w) + 1
 abbrev pub IsAtDepth : Tree → Pair → ℕ → Type 0
 IsAtDepth (Leaf x) t n = (t ≡ x) × (n ≡ 0)
 IsAtDepth (Fork e f u w) t n = (k : ℕ) × (n ≡ k + 1) × (IsAtDepth u t k ⊎ IsAtDepth w t k)
+
+-- the greatest height that a half may have: two heights together are a number of 32 bits
+abbrev pub highest : ℕ
+highest = 2147483647

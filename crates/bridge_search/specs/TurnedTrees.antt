@@ -1,9 +1,9 @@
 -- A turn by 180 degrees.
-use Rattle.std.specs.Prelude.{◌≡◌, pos, neg_ℤ, ◌≤ℤ◌, Option, Some, None}
+use Rattle.std.specs.Prelude.{◌≡◌, ℕ, ◌≤◌, pos, neg_ℤ, ◌≤ℤ◌, Option, Some, None}
 use Rattle.std.proofs.Common.{refl, ap, ◌∙◌, arith, inl, inr}
 use Rattle.lattice.specs.Plane.{Pair, orient, IsBefore, turned_point}
 use Rattle.lattice.specs.Bridges.{IsAllBefore, IsUpperBridge, IsLowerBridge, IsNotBeyond}
-use Rattle.bridge_search.specs.Trees.{Tree, Leaf, Fork, On, IsBridged, IsFork, edge_of, lower_of, left_of, right_of, first_of, last_of, height_of}
+use Rattle.bridge_search.specs.Trees.{Tree, Leaf, Fork, On, IsBridged, IsFork, edge_of, lower_of, left_of, right_of, first_of, last_of, height_of, IsAtDepth, highest}
 use Rattle.lattice.specs.Integers.{linear}
 use Rattle.lattice.proofs.TurnedBridges.{turned_twice, orient_turned, before_turned, before_turned_back}
 
@@ -146,3 +146,13 @@ fork_turned (Fork e f u w) h = h
 pub height_turned : (t : Tree) → height_of (turned_tree t) ≡ height_of t
 height_turned (Leaf x) = refl
 height_turned (Fork e f u w) = omega (arith, height_turned u, height_turned w)
+
+-- a half that is not too high is not after a turn
+pub low_turned : (t : Tree) → height_of t ≤ highest → height_of (turned_tree t) ≤ highest
+low_turned t h = rw (height_turned t) h
+
+-- a turn keeps depths
+pub depth_turned : (t : Tree) (p : Pair) (n : ℕ) → IsAtDepth (turned_tree t) p n → IsAtDepth t (turned_point p) n
+depth_turned (Leaf x) p n h = (ap turned_point h.0 ∙ turned_twice x, h.1)
+depth_turned (Fork e f u w) p n (k, h, inl i) = (k, h, inr (depth_turned w p k i))
+depth_turned (Fork e f u w) p n (k, h, inr i) = (k, h, inl (depth_turned u p k i))

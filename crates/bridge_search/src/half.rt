@@ -1,12 +1,13 @@
-ghost use Rattle.std.specs.Prelude.{◌≡◌};
-ghost use Rattle.bridge_search.specs.Trees.{Tree, IsBridged, IsFork, edge_of, lower_of, left_of, right_of, first_of, last_of};
+ghost use Rattle.std.specs.Prelude.{◌≡◌, ◌≤◌};
+ghost use Rattle.bridge_search.specs.Trees.{Tree, IsBridged, IsFork, edge_of, lower_of, left_of, right_of, first_of, last_of, height_of, highest};
 
 use lattice::Point;
 
 /// A half of a hull: one point, or two stored edges and two halves of its own.
 ///
 /// Contracts see it as a finite tree. Its law: at each fork all points of the left half stand before all points of
-/// the right one, the upper edge is the upper bridge of these two halves, and the lower edge their lower bridge.
+/// the right one, the upper edge is the upper bridge of these two halves, and the lower edge their lower bridge. Its height is at most
+/// 2147483647, so that the turns of a search are a number of 32 bits.
 pub trait Half: Copy {
     ghost tree: { Self → Tree };
 
@@ -36,5 +37,12 @@ pub trait Half: Copy {
     fn last(self) -> Point
         ensures { result ≡ last_of (tree self) };
 
+    /// How many forks stand above the deepest point: 0 where the half is one point, else one more than the height of
+    /// the higher of its two halves.
+    fn height(self) -> u32
+        ensures { result ≡ height_of (tree self) };
+
     ghost bridged: { (x : Self) → IsBridged (tree x) };
+
+    ghost low: { (x : Self) → height_of (tree x) ≤ highest };
 }

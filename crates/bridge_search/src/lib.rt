@@ -7,6 +7,7 @@
 
 mod both;
 mod half;
+mod laws;
 #[cfg(test)]
 mod listed;
 mod search;
@@ -14,7 +15,8 @@ mod search;
 mod tests;
 mod turned;
 
-pub use both::both_bridges;
+pub use both::{Counted, both_bridges};
 pub use half::Half;
-pub use search::upper_bridge;
+pub use laws::depth_is_unique;
+pub use search::{upper_bridge, upper_bridge_counted};
 pub use turned::{Turned, lower_bridge};

@@ -1,6 +1,6 @@
 //! A small half for the tests, over a lent list of points.
-ghost use Rattle.std.specs.Prelude.{◌≡◌, ◌≤◌, ◌∷◌, [], Option, None, IfOk, IfSome, MatchOption, length};
-ghost use Rattle.bridge_search.specs.Trees.{Leaf, Fork, IsBridged, first_of};
+ghost use Rattle.std.specs.Prelude.{◌≡◌, ◌≤◌, ◌<◌, ◌⊎◌, ◌∷◌, [], Option, None, IfOk, IfSome, MatchOption, length};
+ghost use Rattle.bridge_search.specs.Trees.{Leaf, Fork, IsBridged, first_of, highest};
 ghost use Rattle.bridge_search.specs.Listed.{listed_tree};
 ghost use Rattle.bridge_search.specs.OneWay.{IsBridged-prop};
 
@@ -20,6 +20,7 @@ pub struct Listed<'a> {
     entries: &'a [Entry],
     ghost bridged: { IsBridged (listed_tree entries.now) } by { IsBridged-prop (listed_tree entries.now) },
     ghost filled: { 1 ≤ length entries.now },
+    ghost short: { length entries.now ≤ highest },
 }
 
 /// The first of the points of a list that is not empty.
@@ -35,12 +36,12 @@ fn first_point(entries: &[Entry]) -> Point
 }
 
 impl<'a> Listed<'a> {
-    /// The half of a list, or nothing where it is empty.
+    /// The half of a list, or nothing where it is empty or longer than a half may be high.
     pub fn new(entries: &'a [Entry]) -> Option<Listed<'a>>
         requires { IsBridged (listed_tree entries.now) }
-        ensures { MatchOption result (entries.now ≡ []) (λ h. h.entries.now ≡ entries.now) }
+        ensures { MatchOption result ((entries.now ≡ []) ⊎ (highest < length entries.now)) (λ h. h.entries.now ≡ entries.now) }
     {
-        if entries.is_empty() {
+        if entries.is_empty() || entries.len() > 2147483647 {
             None
         } else {
             Some(Listed { entries })
@@ -49,6 +50,8 @@ impl<'a> Listed<'a> {
 }
 
 impl<'a> Half for Listed<'a> {
+    ghost use Rattle.bridge_search.specs.Listed.{low_listed};
+
     ghost tree = { λ s. listed_tree s.entries.now };
 
     fn edge(self) -> Option<(Point, Point)> {
@@ -89,7 +92,14 @@ impl<'a> Half for Listed<'a> {
         self.entries[0].0
     }
 
+    #[tactic(auto, using(crate::specs::Listed::height_listed))]
+    fn height(self) -> u32 {
+        (self.entries.len() - 1) as u32
+    }
+
     ghost bridged = { λ s. s.bridged };
+
+    ghost low = { λ s. low_listed s.entries.now s.filled s.short };
 }
 
 /// The upper and the lower bridge of two halves, or nothing where the one does not end before the other begins. They
@@ -99,7 +109,8 @@ pub fn bridges<H: Half>(u: H, w: H) -> Option<((Point, Point), (Point, Point))>
 {
     if before(u.last(), w.first()) {
         let one_by_one = (upper_bridge(u, w), lower_bridge(u, w));
-        if both_bridges(u, w) == one_by_one {
+        let ((upper, _), (lower, _)) = both_bridges(u, w);
+        if (upper, lower) == one_by_one {
             return Some(one_by_one);
         }
     }
@@ -114,9 +125,10 @@ fn entry_behind(entries: &[Entry], point: Point) -> Option<Entry>
     ensures { IfSome result (λ e. IsBridged (listed_tree (e ∷ entries.now))) }
 {
     let alone = [(point, (point, point), (point, point))];
-    let Some(half) = Listed::new(entries) else {
+    if entries.is_empty() {
         return Some(alone[0]);
-    };
+    }
+    let half = Listed::new(entries)?;
     let single = Listed { entries: &alone };
     let (upper, lower) = bridges(half, single)?;
     Some((point, upper, lower))

@@ -1,7 +1,7 @@
-ghost use Rattle.std.specs.Prelude.{◌≡◌, MatchOption, Some, None};
+ghost use Rattle.std.specs.Prelude.{◌≡◌, ◌≤◌, ◌+◌, MatchOption, Some, None};
 ghost use Rattle.lattice.specs.Bridges.{IsAllBefore, IsUpperBridge};
-ghost use Rattle.bridge_search.specs.Trees.{On, edge_of, first_of};
-ghost use Rattle.bridge_search.specs.Search.{IsReady, IsTurn, IsDone, IsAdvance, IsUnderWay};
+ghost use Rattle.bridge_search.specs.Trees.{On, edge_of, first_of, height_of, highest};
+ghost use Rattle.bridge_search.specs.Search.{IsReady, IsTurn, IsDone, IsAdvance, IsReached, IsDepthSum};
 
 use super::half::Half;
 use lattice::{Point, orient, weighted_at_or_before};
@@ -66,31 +66,35 @@ fn turn<H: Half>(u: H, w: H, m: Point) -> Option<(H, H)>
     }
 }
 
-/// A search under way: the halves that keep the bridge, and the first point of the right half as it began.
+/// A search under way: the halves that keep the bridge, the first point of the right half as it began, and how many
+/// turns it took so far.
 #[derive(Clone, Copy)]
 pub(crate) struct Search<H> {
     pub(crate) left: H,
     pub(crate) right: H,
     pub(crate) parting: Point,
+    pub(crate) turns: u32,
 }
 
 impl<H: Half> Search<H> {
     /// The search for the upper bridge of `u` and `w`, before its first turn.
     pub(crate) fn new(u: H, w: H) -> Search<H>
         requires { IsAllBefore (On (H.tree u)) (On (H.tree w)) }
-        ensures { IsUnderWay (H.tree u) (H.tree w) (H.tree result.left) (H.tree result.right) result.parting }
+        ensures { IsReached (H.tree u) (H.tree w) (H.tree result.left) (H.tree result.right) result.parting result.turns }
     {
         Search {
             left: u,
             right: w,
             parting: w.first(),
+            turns: 0,
         }
     }
 
     /// Makes one turn; false where both halves are one point, and then nothing changes.
     pub(crate) fn advance(&mut self) -> bool
-        requires { IsReady (H.tree self.old.left) (H.tree self.old.right) self.old.parting }
-        ensures advance { IsAdvance result (H.tree self.old.left) (H.tree self.old.right) self.old.parting (H.tree self.new.left) (H.tree self.new.right) }
+        requires ready { IsReady (H.tree self.old.left) (H.tree self.old.right) self.old.parting }
+        requires room { height_of (H.tree self.old.left) + height_of (H.tree self.old.right) + self.old.turns ≤ highest + highest }
+        ensures advance { IsAdvance result (H.tree self.old.left) (H.tree self.old.right) self.old.parting self.old.turns (H.tree self.new.left) (H.tree self.new.right) self.new.turns }
         ensures parting { self.new.parting ≡ self.old.parting }
     {
         match turn(self.left, self.right, self.parting) {
@@ -98,6 +102,7 @@ impl<H: Half> Search<H> {
             Some((left, right)) => {
                 self.left = left;
                 self.right = right;
+                self.turns += 1;
                 true
             }
         }
@@ -114,6 +119,8 @@ impl<H: Half> Search<H> {
 
 /// The upper bridge of `u` and `w`, from its end in `u` to its end in `w`: no point of either half lies left of the
 /// line through the two ends, and those on it lie between them. All of `u` must stand before all of `w`.
+/// Beside it how many turns the search took: as many as the first end lies deep in `u` and the second one in `w`, so at
+/// most the two heights together. A depth is one number ([`depth_is_unique`](crate::depth_is_unique)).
 ///
 /// With ab the upper edge of `u`, cd that of `w`, and m the first point of `w` as the search began, each turn goes
 /// into a half that keeps the bridge (Overmars and van Leeuwen, 1981):
@@ -129,11 +136,22 @@ impl<H: Half> Search<H> {
 /// | else d on or left of bc | to the right half of `w` |
 /// | else the lines ab and cd cross before m or at m | to the right half of `u` |
 /// | else | to the left half of `w` |
+pub fn upper_bridge_counted<H: Half>(u: H, w: H) -> ((Point, Point), u32)
+    requires { IsAllBefore (On (H.tree u)) (On (H.tree w)) }
+    ensures bridge { IsUpperBridge (On (H.tree u)) (On (H.tree w)) result.0.0 result.0.1 }
+    ensures depths { IsDepthSum (H.tree u) (H.tree w) result.0.0 result.0.1 result.1 }
+    ensures few { result.1 ≤ height_of (H.tree u) + height_of (H.tree w) }
+{
+    let mut search = Search::new(u, w);
+    while search.advance() {}
+    (search.ends(), search.turns)
+}
+
+/// The upper bridge of `u` and `w`, as [`upper_bridge_counted`] finds it, without the number of turns. All of `u` must
+/// stand before all of `w`.
 pub fn upper_bridge<H: Half>(u: H, w: H) -> (Point, Point)
     requires { IsAllBefore (On (H.tree u)) (On (H.tree w)) }
     ensures { IsUpperBridge (On (H.tree u)) (On (H.tree w)) result.0 result.1 }
 {
-    let mut search = Search::new(u, w);
-    while search.advance() {}
-    search.ends()
+    upper_bridge_counted(u, w).0
 }

@@ -24,7 +24,7 @@ impl<H: Half> Turned<H> {
 }
 
 impl<H: Half> Half for Turned<H> {
-    ghost use Rattle.bridge_search.specs.TurnedTrees.{turned_tree, bridged_turned};
+    ghost use Rattle.bridge_search.specs.TurnedTrees.{turned_tree, bridged_turned, low_turned};
 
     ghost tree = { λ t. turned_tree (H.tree t.half) };
 
@@ -62,7 +62,13 @@ impl<H: Half> Half for Turned<H> {
         self.half.first().turned()
     }
 
+    fn height(self) -> u32 {
+        self.half.height()
+    }
+
     ghost bridged = { λ t. bridged_turned (H.tree t.half) (H.bridged t.half) };
+
+    ghost low = { λ t. low_turned (H.tree t.half) (H.low t.half) };
 }
 
 /// The lower bridge of `u` and `w`, from its end in `u` to its end in `w`: no point of either half lies right of the

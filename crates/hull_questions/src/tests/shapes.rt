@@ -1,6 +1,6 @@
 //! Halves of up to sixteen points for the tests, put together from smaller ones.
 ghost use Rattle.std.specs.Prelude.{◌≡◌, ◌≤◌, ◌+◌, option_map, IfSome};
-ghost use Rattle.bridge_search.specs.Trees.{IsBridged, size_of};
+ghost use Rattle.bridge_search.specs.Trees.{IsBridged, size_of, height_of, highest};
 ghost use Rattle.bridge_search.specs.OneWay.{IsBridged-prop};
 ghost use Rattle.hull_questions.specs.Shapes.{small_tree, joined_tree};
 
@@ -17,6 +17,8 @@ pub struct Small {
 }
 
 impl Half for Small {
+    ghost use Rattle.hull_questions.specs.Shapes.{small_low};
+
     ghost tree = { λ s. small_tree s.left s.right };
 
     fn edge(self) -> Option<(Point, Point)> {
@@ -61,7 +63,16 @@ impl Half for Small {
         }
     }
 
+    fn height(self) -> u32 {
+        match self.right {
+            None => 0,
+            Some(_) => 1,
+        }
+    }
+
     ghost bridged = { λ s. s.bridged };
+
+    ghost low = { λ s. small_low s.left s.right };
 }
 
 /// One half alone, or two with the bridges between them.
@@ -72,6 +83,7 @@ pub struct Joined<A: Half> {
     upper: (Point, Point),
     lower: (Point, Point),
     ghost bridged: { IsBridged (joined_tree (A.tree left) (option_map A.tree right) upper lower) } by { IsBridged-prop (joined_tree (A.tree left) (option_map A.tree right) upper lower) },
+    ghost low: { height_of (joined_tree (A.tree left) (option_map A.tree right) upper lower) ≤ highest },
 }
 
 impl<A: Half> Clone for Joined<A> {
@@ -93,11 +105,12 @@ fn alone<A: Half>(left: A) -> Joined<A>
     }
 }
 
-/// Small halves, or nothing where the left one does not end before the right one begins.
+/// Two halves with the bridges between them, or nothing where the left one does not end before the right one begins, or
+/// one is as high as a half may be.
 fn join<A: Half>(left: A, right: A) -> Option<Joined<A>>
     ensures { IfSome result (λ h. size_of (⟦<Joined<A> as Half>⟧.tree h) ≡ size_of (A.tree left) + size_of (A.tree right)) }
 {
-    if !before(left.last(), right.first()) {
+    if !before(left.last(), right.first()) || left.height().max(right.height()) >= 2147483647 {
         return None;
     }
     Some(Joined {
@@ -150,7 +163,16 @@ impl<A: Half> Half for Joined<A> {
         }
     }
 
+    fn height(self) -> u32 {
+        match self.right {
+            None => self.left.height(),
+            Some(right) => self.left.height().max(right.height()) + 1,
+        }
+    }
+
     ghost bridged = { λ s. s.bridged };
+
+    ghost low = { λ s. s.low };
 }
 
 /// Up to four points.

@@ -1,13 +1,13 @@
 use Rattle.std.proofs.Common.{◌+◌}
 use Rattle.bridge_search.specs.Trees.{size_of}
 use Rattle.bridge_search.specs.TurnedTrees.{turned_tree}
-use Rattle.bridge_search.specs.Search.{IsUnderWay}
+use Rattle.bridge_search.specs.Search.{IsReached}
 use Rattle.bridge_search.proofs.both.both_bridges.Given as goal
 
 abbrev pub invariant-loop : goal.invariant-loop
 invariant-loop g l =
-    IsUnderWay (g.H.Half.tree l.fn.u) (g.H.Half.tree l.fn.w) (g.H.Half.tree l.upper.left) (g.H.Half.tree l.upper.right) l.upper.parting
-    × IsUnderWay (turned_tree (g.H.Half.tree l.fn.w)) (turned_tree (g.H.Half.tree l.fn.u)) (turned_tree (g.H.Half.tree l.lower.left.half)) (turned_tree (g.H.Half.tree l.lower.right.half)) l.lower.parting
+    IsReached (g.H.Half.tree l.fn.u) (g.H.Half.tree l.fn.w) (g.H.Half.tree l.upper.left) (g.H.Half.tree l.upper.right) l.upper.parting l.upper.turns
+    × IsReached (turned_tree (g.H.Half.tree l.fn.w)) (turned_tree (g.H.Half.tree l.fn.u)) (turned_tree (g.H.Half.tree l.lower.left.half)) (turned_tree (g.H.Half.tree l.lower.right.half)) l.lower.parting l.lower.turns
 
 abbrev pub decreases-loop : goal.decreases-loop
 decreases-loop g l =

@@ -13,8 +13,8 @@ lower_bridge-requires g c =
     all_before (g.H.Half.tree c.args.u) (g.H.Half.tree c.args.w) (g.met.H.Half.bridged c.args.u) (g.met.H.Half.bridged c.args.w)
     (rw (c.last.ensures, c.first.ensures) at (passed c.before-2.result (IsBefore c.last.result c.first.result) c.if-before.true c.before-2.ensures))
 
-pub both_bridges-requires : goal.both_bridges-requires
-both_bridges-requires g c =
+pub both_bridges-upper-requires : goal.both_bridges-upper-requires
+both_bridges-upper-requires g c =
     all_before (g.H.Half.tree c.args.u) (g.H.Half.tree c.args.w) (g.met.H.Half.bridged c.args.u) (g.met.H.Half.bridged c.args.w)
     (rw (c.last.ensures, c.first.ensures) at (passed c.before-2.result (IsBefore c.last.result c.first.result) c.if-before.true c.before-2.ensures))
 

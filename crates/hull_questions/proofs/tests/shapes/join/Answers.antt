@@ -13,14 +13,12 @@ lower_bridge-requires g c =
     all_before (g.A.Half.tree c.args.left) (g.A.Half.tree c.args.right) (g.met.A.Half.bridged c.args.left) (g.met.A.Half.bridged c.args.right)
     (rw (c.last.ensures, c.first.ensures) at (passed c.before-2.result (IsBefore c.last.result c.first.result) c.if-not-before.false c.before-2.ensures))
 
-pub invariant_of-result : goal.invariant_of-result
-invariant_of-result g c = record {
-  bridged = (
-    all_before (g.A.Half.tree c.args.left) (g.A.Half.tree c.args.right) (g.met.A.Half.bridged c.args.left) (g.met.A.Half.bridged c.args.right)
-        (rw (c.last.ensures, c.first.ensures) at (passed c.before-2.result (IsBefore c.last.result c.first.result) c.if-not-before.false c.before-2.ensures)),
-    c.upper_bridge.ensures,
-    c.lower_bridge.ensures,
-    g.met.A.Half.bridged c.args.left,
-    g.met.A.Half.bridged c.args.right,
-  );
-}
+pub invariant_of-result-clause-bridged : goal.invariant_of-result-clause-bridged
+invariant_of-result-clause-bridged g c = (
+  all_before (g.A.Half.tree c.args.left) (g.A.Half.tree c.args.right) (g.met.A.Half.bridged c.args.left) (g.met.A.Half.bridged c.args.right)
+      (rw (c.last.ensures, c.first.ensures) at (passed c.before-2.result (IsBefore c.last.result c.first.result) c.if-not-before.false c.before-2.ensures)),
+  c.upper_bridge.ensures,
+  c.lower_bridge.ensures,
+  g.met.A.Half.bridged c.args.left,
+  g.met.A.Half.bridged c.args.right,
+)
