@@ -1,5 +1,5 @@
 -- Which half has the first of the farthest points.
-use Rattle.std.proofs.Common.{◌≡◌, ℤ, pos, ◌+ℤ◌, ◌-ℤ◌, ◌*ℤ◌, ◌≤ℤ◌, ◌<ℤ◌, neg_ℤ, inl, inr, refl, ap, ◌∙◌, arith, ◌++◌, [], ◌∷◌, Some, None}
+use Rattle.std.proofs.Common.{◌≡◌, ℕ, ◌+◌, subst, ℤ, pos, ◌+ℤ◌, ◌-ℤ◌, ◌*ℤ◌, ◌≤ℤ◌, ◌<ℤ◌, neg_ℤ, inl, inr, refl, ap, ◌∙◌, arith, ◌++◌, [], ◌∷◌, Some, None}
 use Rattle.std.specs.List.{All, Contains}
 use Rattle.std.specs.Prelude.{◌≢◌}
 use Rattle.std.proofs.lemmas.Int.{ints}
@@ -9,14 +9,14 @@ use Rattle.lattice.specs.Bridges.{IsAllBefore}
 use Rattle.lattice.specs.Polynomials.{difference-eq, as_difference, difference-add, difference-neg, difference-mul}
 use Rattle.lattice.specs.Signs.{le_or_lt, product_nn, product_pp, product_np}
 use Rattle.lattice.proofs.Vectors.{minus, cross, cross_swap, Ahead, ahead_nn}
-use Rattle.bridge_search.specs.Trees.{Tree, Leaf, Fork, On, IsBridged, IsFork, edge_of, left_of, right_of, first_of}
+use Rattle.bridge_search.specs.Trees.{Tree, Leaf, Fork, On, IsBridged, IsFork, edge_of, left_of, right_of, first_of, IsAtDepth}
 use Rattle.bridge_search.specs.Leaves.{points_of}
 use Rattle.bridge_search.proofs.Leaves.{all_of, on_of_contains, contains_of_on}
 use Rattle.hull_plain.specs.Tangents.{IsFirstFarthest}
 use Rattle.lattice.proofs.Order.{before_not, before_irrefl}
 use Rattle.hull_plain.proofs.Orientation.{ahead_of}
 use Rattle.hull_questions.proofs.StoredEdges.{same_ends}
-use Rattle.hull_questions.specs.Parts.{IsFacing, IsFartherPart}
+use Rattle.hull_questions.specs.Parts.{IsFacing, IsFartherPart, IsOneDown}
 
 -- how far two vectors go in a direction, weighed by how far they go to the right and by their sides
 weigh_right : (d w t : Pair) → product d t *ℤ w.x +ℤ d.y *ℤ cross t w ≡ product d w *ℤ t.x
@@ -207,3 +207,22 @@ farthest_alone (Fork e f u w) d p n k = absurd (cc)
 farthest_alone (Leaf x) d p n k =
     let one : (P : Pair → Type 0) → P p → All P (x ∷ []) = λ P y. all_of P (x ∷ []) (λ t m. rw (on_of_contains (Leaf x) t m, ← k) y) in
     (contains_of_on (Leaf x) p k, one (λ s. product d s ≤ℤ product d p) (omega (arith, ints)), one (λ s. IsBefore s p → product d s ≢ product d p) (λ b e. before_irrefl p b))
+
+-- one point lies no fork deep
+pub depth_alone : (t : Tree) (p : Pair) → edge_of t ≡ None → p ≡ first_of t → IsAtDepth t p 0
+depth_alone (Leaf x) p h e = (e, refl)
+depth_alone (Fork e f u w) p h k = absurd (cc)
+
+-- the left half is one fork down
+pub down_left : (t : Tree) → IsFork t → IsOneDown t (left_of t)
+down_left (Leaf x) h p n i = absurd h
+down_left (Fork e f u w) h p n i = (n, refl, inl i)
+
+-- so is the right half
+pub down_right : (t : Tree) → IsFork t → IsOneDown t (right_of t)
+down_right (Leaf x) h p n i = absurd h
+down_right (Fork e f u w) h p n i = (n, refl, inr i)
+
+-- a depth under another name
+pub deeper_on : (t : Tree) (p : Pair) (m n : ℕ) → m ≡ n → IsAtDepth t p m → IsAtDepth t p n
+deeper_on t p m n e h = subst (λ (k : ℕ). IsAtDepth t p k) e h

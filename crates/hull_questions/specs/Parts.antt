@@ -1,7 +1,7 @@
 -- One step down a half: into a part of it that has the answer to a question.
-use Rattle.std.specs.Prelude.{◌≡◌, ◌⊎◌, ◌<◌, pos, ◌<ℤ◌, ◌≤ℤ◌, List, Option}
+use Rattle.std.specs.Prelude.{◌≡◌, ◌⊎◌, ℕ, ◌+◌, ◌<◌, pos, ◌<ℤ◌, ◌≤ℤ◌, List, Option}
 use Rattle.lattice.specs.Plane.{Pair, IsBefore}
-use Rattle.bridge_search.specs.Trees.{Tree, edge_of, lower_of, height_of, first_of, last_of}
+use Rattle.bridge_search.specs.Trees.{Tree, edge_of, lower_of, height_of, first_of, last_of, IsAtDepth}
 use Rattle.bridge_search.specs.Leaves.{points_of}
 use Rattle.hull_plain.specs.Tangents.{IsFirstFarthest, IsLeftTangent, IsRightTangent}
 use Rattle.hull_questions.specs.Sights.{IsBelow}
@@ -10,6 +10,10 @@ use Rattle.hull_questions.specs.Sights.{IsBelow}
 pub record IsPartFor (A : Type 0) (IsAnswer : List Pair → A → Type 0) (whole part : Tree) : Type 0 where
   pub lifts : (a : A) → IsAnswer (points_of part) a → IsAnswer (points_of whole) a
   pub lower : height_of part < height_of whole
+
+-- a point of the part lies one fork deeper in the whole
+abbrev pub IsOneDown : Tree → Tree → Type 0
+IsOneDown whole part = (p : Pair) (n : ℕ) → IsAtDepth part p n → IsAtDepth whole p (n + 1)
 
 -- the stored edge on the side that d faces: the upper one where d goes up, else the lower one
 abbrev pub IsFacing : Pair → Tree → Option (Pair × Pair) → Type 0

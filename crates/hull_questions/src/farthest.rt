@@ -1,10 +1,10 @@
 //! The first of the points that lie farthest in a direction.
-ghost use Rattle.std.specs.Prelude.{◌≡◌, ◌↔◌, IsTrue, MatchOption, None, pos, ◌<ℤ◌};
+ghost use Rattle.std.specs.Prelude.{◌≡◌, ◌↔◌, IsTrue, IfSome, MatchOption, None, pos, ◌<ℤ◌};
 ghost use Rattle.lattice.specs.Plane as plane;
-ghost use Rattle.bridge_search.specs.Trees.{edge_of};
+ghost use Rattle.bridge_search.specs.Trees.{edge_of, IsAtDepth};
 ghost use Rattle.bridge_search.specs.Leaves.{points_of};
 ghost use Rattle.hull_plain.specs.Tangents.{IsFirstFarthest};
-ghost use Rattle.hull_questions.specs.Parts.{IsFacing, IsFartherPart};
+ghost use Rattle.hull_questions.specs.Parts.{IsFacing, IsFartherPart, IsOneDown};
 
 use bridge_search::Half;
 use lattice::{Direction, Point, product};
@@ -36,7 +36,8 @@ fn facing<H: Half>(half: H, d: Direction) -> Option<(Point, Point)>
 
 /// The half of `half` that has the first of its farthest points, or nothing where it is one point.
 fn farther_part<H: Half>(half: H, d: Direction) -> Option<H>
-    ensures { MatchOption result (edge_of (H.tree half) ≡ None) (λ part. IsFartherPart d (H.tree half) (H.tree part)) }
+    ensures part { MatchOption result (edge_of (H.tree half) ≡ None) (λ part. IsFartherPart d (H.tree half) (H.tree part)) }
+    ensures down { IfSome result (λ part. IsOneDown (H.tree half) (H.tree part)) }
 {
     let (p, q) = facing(half, d)?;
     if is_nearer(d, p, q) {
@@ -50,12 +51,25 @@ fn farther_part<H: Half>(half: H, d: Direction) -> Option<H>
 ///
 /// Of the two halves at a fork, the left one has it where the left end of the bridge on the side that `d` faces lies as
 /// far as the right end (Overmars and van Leeuwen, 1981).
+///
+/// Beside it how many forks it went through: as many as the point lies deep in the half.
+pub fn extreme_counted<H: Half>(half: H, d: Direction) -> (Point, u32)
+    ensures farthest { IsFirstFarthest (points_of (H.tree half)) d result.0 }
+    ensures depth { IsAtDepth (H.tree half) result.0 result.1 }
+{
+    let mut part = half;
+    let mut depth = 0;
+    while let Some(next) = farther_part(part, d) {
+        part = next;
+        depth += 1;
+    }
+    (part.first(), depth)
+}
+
+/// The first, by x and then y, of the points of a half that lie farthest in the direction `d`, as [`extreme_counted`]
+/// finds it, without the number of forks.
 pub fn extreme<H: Half>(half: H, d: Direction) -> Point
     ensures { IsFirstFarthest (points_of (H.tree half)) d result }
 {
-    let mut part = half;
-    while let Some(next) = farther_part(part, d) {
-        part = next;
-    }
-    part.first()
+    extreme_counted(half, d).0
 }

@@ -17,7 +17,7 @@ mod tests;
 mod touching;
 
 pub use area::area2;
-pub use farthest::extreme;
+pub use farthest::{extreme, extreme_counted};
 pub use outline::vertices;
 pub use placing::place;
 pub use touching::tangents;

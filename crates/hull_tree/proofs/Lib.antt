@@ -3,3 +3,4 @@ pub mod ChangedRows
 pub mod HalfRows
 pub mod Heights
 pub mod LimitedTrees
+pub mod Costs

@@ -1,5 +1,5 @@
 -- What a tree with a limit keeps, and that a change keeps it.
-use Rattle.std.proofs.Common.{◌≡◌, ℕ, ◌+◌, ◌-◌, ◌<◌, ap, sym, ◌∙◌, List, length, arith, Some, None}
+use Rattle.std.proofs.Common.{◌≡◌, ℕ, ◌+◌, ◌-◌, ◌<◌, ap, refl, sym, ◌∙◌, List, length, arith, Some, None}
 use Rattle.std.specs.Prelude.{Option}
 use Rattle.std.specs.List.{Contains}
 use Rattle.lattice.specs.Plane.{Pair}
@@ -55,6 +55,7 @@ pub whole : (root : Option Node) (n : Node) (u : Tree) (count limit : ℕ) → I
 whole root n u count limit h r e =
     let p : points_of_root root ≡ points_of u = ap points_of_root r ∙ ap points_of (sym e) in
     record {
+      own = rw (r, e) refl;
       points = p;
       few = omega (arith, size_is_length u, ap (λ (z : List Pair). length z) p, h.counted, h.room);
       high = h.high;

@@ -1,11 +1,12 @@
 -- What a tree with a limit on the number of its points is seen as, and what it keeps.
-use Rattle.std.specs.Prelude.{◌≡◌, ℕ, ◌≤◌, Option, length}
+use Rattle.std.specs.Prelude.{◌≡◌, ℕ, ◌≤◌, Option, Some, length, option_map}
 use Rattle.lattice.specs.Covers.{IsPointSet}
 use Rattle.bridge_search.specs.Trees.{Tree, size_of}
 use Rattle.bridge_search.specs.Leaves.{points_of}
 use Rattle.hull_plain.specs.declared.TheConstants.{POINT_LIMIT}
 use Rattle.hull_plain.specs.declared.set.HullSet.{Ghosts}
 use Rattle.hull_tree.specs.declared.node.Node.{Node}
+use Rattle.hull_tree.specs.Nodes.{tree_of}
 use Rattle.hull_tree.specs.Roots.{points_of_root, IsWellBuiltRoot, height_of_root}
 
 -- the greatest number of points, and the tree
@@ -32,8 +33,9 @@ pub record IsSound (root : Option Node) : Type 0 where
 abbrev pub hull_tree : Ghosts LimitedTree
 hull_tree = record { points = λ t. points_of_root t.root; bound = λ t. t.limit; sound = λ t. IsSound t.root }
 
--- the half has the points of the tree, and no more than its limit
+-- the half is the tree, with its points, and no more than its limit
 pub record IsWhole (t : LimitedTree) (u : Tree) : Type 0 where
+  pub own : option_map tree_of t.root ≡ Some u
   pub points : points_of_root t.root ≡ points_of u
   pub few : size_of u ≤ t.limit
   pub high : t.limit ≤ POINT_LIMIT

@@ -1,10 +1,11 @@
-ghost use Rattle.std.specs.Prelude.{◌≡◌, ◌≤◌, ◌<◌, ◌+◌, ◌^◌, ◌↔◌, IsTrue};
+ghost use Rattle.std.specs.Prelude.{◌≡◌, ◌≤◌, ◌+◌, ◌*◌, ◌↔◌, IsTrue};
 ghost use Rattle.std.specs.List.{Contains};
 ghost use Rattle.lattice.specs.Covers.{with_point, without_point};
 ghost use Rattle.bridge_search.specs.Trees.{IsFork};
 ghost use Rattle.hull_tree.specs.Nodes.{tree_of, IsWellBuilt};
 ghost use Rattle.hull_tree.specs.Changes.{points_below, height_at, IsHeightWithout};
 ghost use Rattle.hull_tree.specs.Roots.{points_of_root, IsWellBuiltRoot};
+ghost use Rattle.hull_tree.specs.Turns.{IsCostAtMost, node_left, turns_taken};
 
 use super::build::{joined, rebalanced, take_halves};
 use super::node::{Fork, Node, first_of};
@@ -28,14 +29,17 @@ pub(crate) fn contains(node: &Node, p: Point) -> bool
 }
 
 /// A node with one more point, whose fork lies in a box that is there. Each fork on the way to the point is built anew.
-pub(crate) fn insert(node: Node, p: Point, spare: Box<Fork>) -> Node
+/// Beside it how many turns the searches took: at most 336 a level, and at least the cost of the forks above the point.
+pub(crate) fn insert(node: Node, p: Point, spare: Box<Fork>) -> (Node, u32)
     requires built { IsWellBuilt node }
     requires absent { ¬ Contains (points_below node) p }
-    requires fits { height_at node + 3 < 2 ^ 32 }
-    ensures built { IsWellBuilt result }
-    ensures points { points_below result ≡ with_point p (points_below node) }
-    ensures not_lower { height_at node ≤ height_at result }
-    ensures at_most_one_higher { height_at result ≤ height_at node + 1 }
+    requires low { height_at node ≤ 28 }
+    ensures built { IsWellBuilt result.0 }
+    ensures points { points_below result.0 ≡ with_point p (points_below node) }
+    ensures not_lower { height_at node ≤ height_at result.0 }
+    ensures at_most_one_higher { height_at result.0 ≤ height_at node + 1 }
+    ensures few { result.1 ≤ 336 * height_at node }
+    ensures cost { IsCostAtMost (tree_of result.0) p result.1 }
 {
     match node {
         Node::Leaf(point) => {
@@ -48,25 +52,29 @@ pub(crate) fn insert(node: Node, p: Point, spare: Box<Fork>) -> Node
         Node::Fork(mut fork) => {
             let (left, right) = take_halves(&mut fork);
             if before(p, first_of(&right)) {
-                let more = insert(left, p, spare);
-                rebalanced(fork, more, right)
+                let (more, below) = insert(left, p, spare);
+                let (whole, turns) = rebalanced(fork, more, right);
+                (whole, turns + below)
             } else {
-                let more = insert(right, p, spare);
-                rebalanced(fork, left, more)
+                let (more, below) = insert(right, p, spare);
+                let (whole, turns) = rebalanced(fork, left, more);
+                (whole, turns + below)
             }
         }
     }
 }
 
 /// A node without one of its points, or nothing where that was its only one. Each fork on the way to the point is built
-/// anew, but for the last one: its other half takes its place.
-pub(crate) fn remove(node: Node, p: Point) -> Option<Node>
+/// anew, but for the last one: its other half takes its place. Beside it how many turns the searches took: at most 336 a
+/// level.
+pub(crate) fn remove(node: Node, p: Point) -> Option<(Node, u32)>
     requires built { IsWellBuilt node }
     requires there { Contains (points_below node) p }
-    requires fits { height_at node + 2 < 2 ^ 32 }
-    ensures built { IsWellBuiltRoot result }
-    ensures points { points_of_root result ≡ without_point p (points_below node) }
-    ensures height { IsHeightWithout (height_at node) result }
+    requires low { height_at node ≤ 28 }
+    ensures built { IsWellBuiltRoot (node_left result) }
+    ensures points { points_of_root (node_left result) ≡ without_point p (points_below node) }
+    ensures height { IsHeightWithout (height_at node) (node_left result) }
+    ensures few { turns_taken result ≤ 336 * height_at node }
 {
     let Node::Fork(mut fork) = node else {
         return None;
@@ -74,13 +82,19 @@ pub(crate) fn remove(node: Node, p: Point) -> Option<Node>
     let (left, right) = take_halves(&mut fork);
     if before(p, first_of(&right)) {
         match remove(left, p) {
-            None => Some(right),
-            Some(less) => Some(rebalanced(fork, less, right)),
+            None => Some((right, 0)),
+            Some((less, below)) => {
+                let (whole, turns) = rebalanced(fork, less, right);
+                Some((whole, turns + below))
+            }
         }
     } else {
         match remove(right, p) {
-            None => Some(left),
-            Some(less) => Some(rebalanced(fork, left, less)),
+            None => Some((left, 0)),
+            Some((less, below)) => {
+                let (whole, turns) = rebalanced(fork, left, less);
+                Some((whole, turns + below))
+            }
         }
     }
 }

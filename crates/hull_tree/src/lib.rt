@@ -8,12 +8,14 @@
 
 mod build;
 mod change;
+mod laws;
 mod node;
 mod node_ref;
 #[cfg(test)]
 mod tests;
 mod tree;
 
+pub use laws::path_cost_is_unique;
 pub use node::Node;
 pub use node_ref::NodeRef;
 pub use tree::{HullTree, trees_are_sound};

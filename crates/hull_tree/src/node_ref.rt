@@ -1,10 +1,11 @@
-ghost use Rattle.std.specs.Prelude.{◌≡◌};
-ghost use Rattle.bridge_search.specs.Trees.{IsBridged};
+ghost use Rattle.std.specs.Prelude.{◌≡◌, ◌≤◌};
+ghost use Rattle.bridge_search.specs.Trees.{IsBridged, highest};
 ghost use Rattle.bridge_search.specs.OneWay.{IsBridged-prop};
 ghost use Rattle.hull_tree.specs.Nodes.{tree_of, IsLabelled, IsWellBuilt};
+ghost use Rattle.hull_tree.specs.Changes.{height_at};
 ghost use Rattle.hull_tree.specs.OneWay.{IsLabelled-prop};
 
-use super::node::{Node, first_of, last_of};
+use super::node::{Node, first_of, height_of, last_of};
 use bridge_search::Half;
 use lattice::Point;
 
@@ -14,12 +15,14 @@ pub struct NodeRef<'a> {
     node: &'a Node,
     ghost bridged: { IsBridged (tree_of node.now) } by { IsBridged-prop (tree_of node.now) },
     ghost labelled: { IsLabelled node.now } by { IsLabelled-prop node.now },
+    ghost low: { height_at node.now ≤ highest },
 }
 
 impl<'a> NodeRef<'a> {
-    /// The half that a well-built node is.
+    /// The half that a well-built node is. (The nodes of a [`HullTree`](crate::HullTree) are at most 28 high.)
     pub fn new(node: &'a Node) -> NodeRef<'a>
-        requires { IsWellBuilt node.now }
+        requires built { IsWellBuilt node.now }
+        requires low { height_at node.now ≤ highest }
         ensures { ⟦<NodeRef<'a> as Half>⟧.tree result ≡ tree_of node.now }
     {
         NodeRef { node }
@@ -65,5 +68,11 @@ impl<'a> Half for NodeRef<'a> {
         last_of(self.node)
     }
 
+    fn height(self) -> u32 {
+        height_of(self.node)
+    }
+
     ghost bridged = { λ s. s.bridged };
+
+    ghost low = { λ s. s.low };
 }

@@ -1,5 +1,6 @@
 //! Worked examples, and memory that is refused. The tree beside the plain set is in `tests/beside_plain.rt`.
 mod beside_plain;
+mod turns;
 
 use super::{HullTree, trees_are_sound};
 use hull_plain::{AddReply, HullSet, NoMemory, POINT_LIMIT, Place, RemoveReply};

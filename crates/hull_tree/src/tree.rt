@@ -1,16 +1,18 @@
 ghost use Rattle.std.specs.Prelude.{◌≡◌, ◌≤◌, Option, None, option_map, MatchOption};
+ghost use Rattle.hull_plain.specs.Replies.{Answers, after, reply_to_add, reply_to_remove, reply_to_extreme};
 ghost use Rattle.std.specs.Borrow.{Bor};
 ghost use Rattle.hull_tree.specs.declared.node.Node.{Node};
 ghost use Rattle.hull_tree.specs.Roots.{points_of_root, IsWellBuiltRoot};
 ghost use Rattle.hull_tree.specs.Sets.{LimitedTree, IsSound, IsWhole};
+ghost use Rattle.hull_tree.specs.Turns.{IsLeastCount, IsLeafDepth};
 
 use super::build::blank;
 use super::change::{contains, insert, remove};
 use super::node::Node;
 use super::node_ref::NodeRef;
 use bridge_search::Half;
-use hull_plain::{AddReply, HullSet, NoMemory, POINT_LIMIT, Place, RemoveReply};
-use hull_questions::{area2, extreme, place, tangents, vertices};
+use hull_plain::{AddReply, Call, HullSet, NoMemory, POINT_LIMIT, Place, RemoveReply};
+use hull_questions::{area2, extreme_counted, place, tangents, vertices};
 use lattice::{Direction, Point};
 use std::alloc::Global;
 use std::marker::Model;
@@ -68,12 +70,91 @@ impl HullTree {
     }
 
     /// The half that the whole tree is; `None` for the empty set.
-    fn half<'a>(&'a self) -> Option<NodeRef<'a>>
+    pub(crate) fn half<'a>(&'a self) -> Option<NodeRef<'a>>
         ensures { MatchOption result (self.now.root ≡ None) (λ half. IsWhole self.now (⟦<NodeRef<'a> as Half>⟧.tree half)) }
     {
         match &self.root {
             None => None,
             Some(node) => Some(NodeRef::new(node)),
+        }
+    }
+
+    /// Puts `p` into the set, as [`add`](HullSet::add), and tells how many turns the searches of bridges took.
+    ///
+    /// They are at most 10,000: a tree is at most 28 high, a change builds at most three forks a level and searches two
+    /// bridges for each, and a search of two halves below it takes at most 56 turns. An added point takes at least the
+    /// sum, over the forks that stand above it afterwards, of the depths of both bridges' ends in that fork's halves:
+    /// each of these bridges was searched for. Every other answer takes none.
+    pub fn add_counted(&mut self, p: Point) -> (AddReply, u32)
+        ensures reply { Answers (points_of_root self.old.root) self.old.limit (Call.Add p) (reply_to_add result.0) }
+        ensures effect { points_of_root self.new.root ≡ after (points_of_root self.old.root) (Call.Add p) (reply_to_add result.0) }
+        ensures same_limit { self.new.limit ≡ self.old.limit }
+        ensures sound { IsSound self.new.root }
+        ensures few { result.1 ≤ 10000 }
+        ensures least { IsLeastCount result.0 self.new.root p result.1 }
+    {
+        let Some(root) = &self.root else {
+            self.root = Some(Node::Leaf(p));
+            self.count = 1;
+            return (AddReply::Added, 0);
+        };
+        if contains(root, p) {
+            return (AddReply::Already, 0);
+        }
+        if self.count >= self.limit {
+            return (AddReply::TooMany, 0);
+        }
+        let Ok(spare) = Box::new(self.alloc, blank(p)) else {
+            return (AddReply::NoMemory, 0);
+        };
+        let Some(root) = self.root.take() else {
+            unreachable!()
+        };
+        let (whole, turns) = insert(root, p, spare);
+        self.root = Some(whole);
+        self.count += 1;
+        (AddReply::Added, turns)
+    }
+
+    /// Takes `p` out of the set, as [`remove`](HullSet::remove), and tells how many turns the searches of bridges took: at
+    /// most 10,000, for the reason told at [`add_counted`](HullTree::add_counted), and none for an absent point.
+    pub fn remove_counted(&mut self, p: Point) -> (RemoveReply, u32)
+        ensures reply { Answers (points_of_root self.old.root) self.old.limit (Call.Remove p) (reply_to_remove result.0) }
+        ensures effect { points_of_root self.new.root ≡ after (points_of_root self.old.root) (Call.Remove p) (reply_to_remove result.0) }
+        ensures same_limit { self.new.limit ≡ self.old.limit }
+        ensures sound { IsSound self.new.root }
+        ensures few { result.1 ≤ 10000 }
+        ensures absent { result.0 ≡ RemoveReply.Absent → result.1 ≡ 0 }
+    {
+        let Some(root) = &self.root else {
+            return (RemoveReply::Absent, 0);
+        };
+        if !contains(root, p) {
+            return (RemoveReply::Absent, 0);
+        }
+        let Some(root) = self.root.take() else {
+            unreachable!()
+        };
+        self.count -= 1;
+        let Some((less, turns)) = remove(root, p) else {
+            return (RemoveReply::Removed, 0);
+        };
+        self.root = Some(less);
+        (RemoveReply::Removed, turns)
+    }
+
+    /// The first of the farthest points in the direction `d`, as [`extreme`](HullSet::extreme), and how many forks lie
+    /// above its leaf; none for the empty set.
+    pub fn extreme_counted(&self, d: Direction) -> (Option<Point>, u32)
+        ensures reply { Answers (points_of_root self.now.root) self.now.limit (Call.Extreme d) (reply_to_extreme result.0) }
+        ensures depth { IsLeafDepth self.now.root result.0 result.1 }
+    {
+        match self.half() {
+            None => (None, 0),
+            Some(half) => {
+                let (point, depth) = extreme_counted(half, d);
+                (Some(point), depth)
+            }
         }
     }
 }
@@ -95,45 +176,15 @@ impl HullSet for HullTree {
     }
 
     fn add(&mut self, p: Point) -> AddReply {
-        let Some(root) = &self.root else {
-            self.root = Some(Node::Leaf(p));
-            self.count = 1;
-            return AddReply::Added;
-        };
-        if contains(root, p) {
-            return AddReply::Already;
-        }
-        if self.count >= self.limit {
-            return AddReply::TooMany;
-        }
-        let Ok(spare) = Box::new(self.alloc, blank(p)) else {
-            return AddReply::NoMemory;
-        };
-        let Some(root) = self.root.take() else {
-            unreachable!()
-        };
-        self.root = Some(insert(root, p, spare));
-        self.count += 1;
-        AddReply::Added
+        self.add_counted(p).0
     }
 
     fn remove(&mut self, p: Point) -> RemoveReply {
-        let Some(root) = &self.root else {
-            return RemoveReply::Absent;
-        };
-        if !contains(root, p) {
-            return RemoveReply::Absent;
-        }
-        let Some(root) = self.root.take() else {
-            unreachable!()
-        };
-        self.root = remove(root, p);
-        self.count -= 1;
-        RemoveReply::Removed
+        self.remove_counted(p).0
     }
 
     fn extreme(&self, d: Direction) -> Option<Point> {
-        Some(extreme(self.half()?, d))
+        self.extreme_counted(d).0
     }
 
     fn place(&self, q: Point) -> Place {

@@ -13,10 +13,10 @@ remove-requires t c =
     let o : IsOver c.args.node c.take_halves-left.result.0 c.take_halves-left.result.1 = over_halves _ _ _ c.requires.built (search rules) in
     let b : IsBefore c.args.p (first_of (tree_of c.take_halves-left.result.1)) = search rules in
     let a : Contains (points_below c.take_halves-left.result.0) c.args.p = in_left _ _ _ o.row b (subst (λ (z : List Pair). Contains z c.args.p) o.points c.requires.there) in
-    (omega (arith, o.height), (o.row.left_built, (a, omega (arith, o.height, c.requires.fits))))
+    (omega (arith, o.height), (o.row.left_built, (a, omega (arith, o.height, c.requires.low))))
 
-pub rebalanced-requires-clause-row : goal.rebalanced-requires-clause-row
-rebalanced-requires-clause-row t c =
+pub rebalanced-whole-requires-clause-row : goal.rebalanced-whole-requires-clause-row
+rebalanced-whole-requires-clause-row t c =
     let o : IsOver c.args.node c.take_halves-left.result.0 c.take_halves-left.result.1 = over_halves _ _ _ c.requires.built (search rules) in
     let b : IsBefore c.args.p (first_of (tree_of c.take_halves-left.result.1)) = search rules in
     row_drop_left _ _ _ _ o.row b c.in-Some.ensures.built c.in-Some.ensures.points
@@ -26,10 +26,10 @@ remove-requires-else-before t c =
     let o : IsOver c.args.node c.take_halves-left.result.0 c.take_halves-left.result.1 = over_halves _ _ _ c.requires.built (search rules) in
     let b : ¬ (IsBefore c.args.p (first_of (tree_of c.take_halves-left.result.1))) = search rules in
     let a : Contains (points_below c.take_halves-left.result.1) c.args.p = in_right _ _ _ o.row b (subst (λ (z : List Pair). Contains z c.args.p) o.points c.requires.there) in
-    (omega (arith, o.height), (o.row.right_built, (a, omega (arith, o.height, c.requires.fits))))
+    (omega (arith, o.height), (o.row.right_built, (a, omega (arith, o.height, c.requires.low))))
 
-pub rebalanced-requires-in-Some-remove-clause-row : goal.rebalanced-requires-in-Some-remove-clause-row
-rebalanced-requires-in-Some-remove-clause-row t c =
+pub rebalanced-whole-requires-in-Some-remove-clause-row : goal.rebalanced-whole-requires-in-Some-remove-clause-row
+rebalanced-whole-requires-in-Some-remove-clause-row t c =
     let o : IsOver c.args.node c.take_halves-left.result.0 c.take_halves-left.result.1 = over_halves _ _ _ c.requires.built (search rules) in
     let b : ¬ (IsBefore c.args.p (first_of (tree_of c.take_halves-left.result.1))) = search rules in
     row_drop_right _ _ _ _ o.row b c.in-Some-remove.ensures.built c.in-Some-remove.ensures.points
@@ -38,7 +38,7 @@ pub returns-in-Some-clause-points : goal.returns-in-Some-clause-points
 returns-in-Some-clause-points t c =
     let o : IsOver c.args.node c.take_halves-left.result.0 c.take_halves-left.result.1 = over_halves _ _ _ c.requires.built (search rules) in
     let b : IsBefore c.args.p (first_of (tree_of c.take_halves-left.result.1)) = search rules in
-    rw (c.rebalanced.ensures.points, c.in-Some.ensures.points, o.points) (sym (drop_left _ _ _ o.row b))
+    rw (c.rebalanced-whole.ensures.points, c.in-Some.ensures.points, o.points) (sym (drop_left _ _ _ o.row b))
 
 pub returns-in-None-remove-clause-points : goal.returns-in-None-remove-clause-points
 returns-in-None-remove-clause-points t c =
@@ -51,4 +51,4 @@ pub returns-in-Some-remove-clause-points : goal.returns-in-Some-remove-clause-po
 returns-in-Some-remove-clause-points t c =
     let o : IsOver c.args.node c.take_halves-left.result.0 c.take_halves-left.result.1 = over_halves _ _ _ c.requires.built (search rules) in
     let b : ¬ (IsBefore c.args.p (first_of (tree_of c.take_halves-left.result.1))) = search rules in
-    rw (c.rebalanced-in-Some-remove.ensures.points, c.in-Some-remove.ensures.points, o.points) (sym (drop_right _ _ _ o.row b))
+    rw (c.rebalanced-whole-in-Some-remove.ensures.points, c.in-Some-remove.ensures.points, o.points) (sym (drop_right _ _ _ o.row b))
