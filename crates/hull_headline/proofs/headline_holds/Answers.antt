@@ -1,0 +1,18 @@
+-- the law of the lock leads to a good world, which says each sentence
+use Rattle.hull_headline.proofs.Good.{one_holder, bridges, legal, in_order, ledgers}
+use Rattle.hull_headline.proofs.headline_holds.Goals as goal
+
+pub returns-clause-one_holder : goal.returns-clause-one_holder
+returns-clause-one_holder c = one_holder c.partitioned_schedules_hold.ensures
+
+pub returns-clause-bridges : goal.returns-clause-bridges
+returns-clause-bridges c = bridges c.partitioned_schedules_hold.ensures
+
+pub returns-clause-legal : goal.returns-clause-legal
+returns-clause-legal c = legal c.partitioned_schedules_hold.ensures
+
+pub returns-clause-in_order : goal.returns-clause-in_order
+returns-clause-in_order c = in_order c.partitioned_schedules_hold.ensures
+
+pub returns-clause-ledgers : goal.returns-clause-ledgers
+returns-clause-ledgers c = ledgers c.partitioned_schedules_hold.ensures

@@ -1,0 +1,26 @@
+//! The headline: what a hull that many threads share promises, as one contract.
+//!
+//! > In whatever order the threads' single steps fall, at most one thread holds the book. Whenever the lock is free, every
+//! > stored bridge is that of the live points below it, and the journal is a legal history from the empty set, its calls
+//! > in the order of their numbers. Once all ledgers are gathered, they sum to the journal's length.
+//!
+//! It is said of a lock (`ticket_lock`, in the form that runs) round a book (`hull_book`) over a tree (`hull_tree`), and
+//! over every list of single steps of its seats; `specs/Headline.antt` has each of its words.
+#![tactic(auto)]
+
+ghost use Rattle.hull_headline.specs.Headline.{Always, WheneverFree, AtMostOneHolds, StoresBridgesOfLivePoints, HasLegalJournal, IsInOrderOfNumbers, LedgersSumToLength};
+
+use hull_book::Book;
+use hull_tree::HullTree;
+use ticket_lock::partitioned_schedules_hold;
+
+/// The headline, a clause for each of its sentences. The law asks for nothing and does nothing.
+pub fn headline_holds()
+    ensures one_holder { Always AtMostOneHolds }
+    ensures bridges { WheneverFree StoresBridgesOfLivePoints }
+    ensures legal { WheneverFree HasLegalJournal }
+    ensures in_order { WheneverFree IsInOrderOfNumbers }
+    ensures ledgers { WheneverFree LedgersSumToLength }
+{
+    partitioned_schedules_hold::<Book<HullTree>>();
+}
