@@ -1,13 +1,15 @@
-/* Refuses one request for memory, the one whose number, counted from 1, is in REFUSED_REQUEST; the C library serves the
- * others. To be loaded before the C library (LD_PRELOAD). */
+/* Refuses one request for memory, the one whose number, counted from 1, is in REFUSED_REQUEST, and tells so by a byte to
+ * the file descriptor MET, if that is open; the C library serves the others. To be loaded before the C library
+ * (LD_PRELOAD). */
 extern void *__libc_malloc(unsigned long);
 extern void *__libc_calloc(unsigned long, unsigned long);
 extern void *__libc_realloc(void *, unsigned long);
 extern void *__libc_memalign(unsigned long, unsigned long);
 extern char *getenv(const char *);
 extern long atol(const char *);
+extern long write(int, const void *, unsigned long);
 
-enum { NO_MEMORY = 12 };
+enum { NO_MEMORY = 12, MET = 9 };
 
 static long requests, chosen;
 
@@ -16,7 +18,10 @@ static int is_refused(void) {
         const char *word = getenv("REFUSED_REQUEST");
         chosen = word ? atol(word) : -1;
     }
-    return __atomic_add_fetch(&requests, 1, __ATOMIC_SEQ_CST) == chosen;
+    if (__atomic_add_fetch(&requests, 1, __ATOMIC_SEQ_CST) != chosen)
+        return 0;
+    (void)!write(MET, "!", 1);
+    return 1;
 }
 
 void *malloc(unsigned long size) {

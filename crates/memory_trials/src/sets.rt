@@ -1,0 +1,97 @@
+//! Points are put into a set, and its vertices are asked for.
+use crate::findings::Findings;
+use crate::stage::Stage;
+use hull_plain::{AddReply, HullSet, NoMemory};
+use lattice::Point;
+
+/// How many points are put in: lists grow several times on the way.
+const POINTS: u32 = 12;
+
+/// The point (k, k * k). All such points are vertices, in the order of their numbers.
+fn corner(k: u32) -> Option<Point> {
+    let square = k.checked_mul(k)?;
+    Point::new(i64::from(k), i64::from(square)).ok()
+}
+
+/// Whether these are the first `count` such points.
+fn are_corners(points: &[Point], count: u32) -> bool {
+    if points.len() != count as usize {
+        return false;
+    }
+    for (k, p) in (0u32..).zip(points) {
+        if corner(k) != Some(*p) {
+            return false;
+        }
+    }
+    true
+}
+
+/// Whether the set has just the first `count` such points: it tells their number, and its vertices are these. Where
+/// memory for the list is refused, the second attempt has it.
+fn has_corners<S: HullSet>(set: &S, count: u32) -> bool {
+    let vertices = match set.vertices() {
+        Ok(vertices) => Ok(vertices),
+        Err(NoMemory) => set.vertices(),
+    };
+    match vertices {
+        Ok(points) => set.count() == count && are_corners(&points, count),
+        Err(NoMemory) => false,
+    }
+}
+
+/// Puts a point in. Where memory is refused, the set has the points that it had, and the next attempt puts it in.
+fn put<S: HullSet>(set: &mut S, k: u32, p: Point, findings: &mut Findings) -> Stage {
+    match set.add(p) {
+        AddReply::Added => Stage::Whole,
+        AddReply::NoMemory => {
+            findings.expect(has_corners(set, k), "the set is as it was");
+            findings.expect(set.add(p) == AddReply::Added, "the next add has its memory");
+            Stage::Refused
+        }
+        AddReply::Already | AddReply::TooMany => {
+            findings.expect(false, "the point is new and below the limit");
+            Stage::Whole
+        }
+    }
+}
+
+/// Puts the points into the set, one after the other.
+pub fn try_add<S: HullSet>(mut set: S) -> (S, Result<Stage, &'static str>) {
+    let mut findings = Findings::new();
+    let mut stage = Stage::Whole;
+    for k in 0..POINTS {
+        let Some(p) = corner(k) else {
+            findings.expect(false, "the point is in range");
+            break;
+        };
+        if put(&mut set, k, p, &mut findings) == Stage::Refused {
+            stage = Stage::Refused;
+        }
+        findings.expect(set.count() == k + 1, "the point is in the set");
+    }
+    findings.expect(has_corners(&set, POINTS), "all points are in the set");
+    (set, findings.told(stage))
+}
+
+/// Asks a set of all points for its vertices.
+pub fn try_vertices<S: HullSet>(mut set: S) -> (S, Result<Stage, &'static str>) {
+    let mut findings = Findings::new();
+    for k in 0..POINTS {
+        let Some(p) = corner(k) else { break };
+        if put(&mut set, k, p, &mut findings) == Stage::Refused {
+            return (set, findings.told(Stage::SetUp));
+        }
+    }
+    let stage = match set.vertices() {
+        Ok(points) => {
+            findings.expect(are_corners(&points, POINTS), "the vertices are the points");
+            Stage::Whole
+        }
+        Err(NoMemory) => {
+            findings.expect(set.count() == POINTS, "the set is as it was");
+            Stage::Refused
+        }
+    };
+    findings.expect(has_corners(&set, POINTS), "the next list has its memory");
+    (set, findings.told(stage))
+}

@@ -1,0 +1,31 @@
+use std::fmt;
+
+/// Where in a trial memory was refused.
+#[derive(Clone, Copy, PartialEq, Eq, Debug)]
+pub enum Stage {
+    /// Before what is tried began.
+    SetUp,
+    /// In what is tried.
+    Refused,
+    /// In the first call of a run of phases.
+    FirstAdd,
+    /// In the second.
+    SecondAdd,
+    /// In the third, to either list.
+    Vertices,
+    /// Nowhere that the trial needs.
+    Whole,
+}
+
+impl fmt::Display for Stage {
+    fn fmt<W: fmt::Write>(&self, f: &mut fmt::Formatter<W>) -> fmt::Result {
+        f.write_str(match self {
+            Stage::SetUp => "set-up",
+            Stage::Refused => "refused",
+            Stage::FirstAdd => "first add",
+            Stage::SecondAdd => "second add",
+            Stage::Vertices => "vertices",
+            Stage::Whole => "whole",
+        })
+    }
+}
