@@ -1,5 +1,5 @@
-ghost use Rattle.std.specs.Prelude.{IfOk, IfSome};
-ghost use Rattle.hullbook.specs.Tasks.{AreWithinLimits, IsWithinLimits};
+ghost use Rattle.std.specs.Prelude.{IfOk, IfSome, string_bytes};
+ghost use Rattle.hullbook.specs.Tasks.{AreWithinLimits, IsWithinLimits, IsOneOf, path_in, texts_of};
 
 use super::{OptionFault, Options, Task};
 use clap::error::ErrorKind;
@@ -89,19 +89,33 @@ fn options_of(matches: &ArgMatches<'_>) -> Option<Options>
     })
 }
 
-fn path_of(alloc: Global, matches: &ArgMatches<'_>, id: &str) -> Result<String, OptionFault> {
+/// The path that was given under this id, as it was written: it is found among the words, so that the contract can say so.
+fn path_of(
+    alloc: Global,
+    matches: &ArgMatches<'_>,
+    id: &str,
+    words: &[&str],
+) -> Result<String, OptionFault>
+    ensures { IfOk result (λ path. IsOneOf (texts_of words.now) (string_bytes path)) }
+{
     let Some(path) = matches.get_str(id) else {
         return Err(OptionFault::Usage);
     };
-    String::from_str(alloc, path).map_err(|_| OptionFault::Memory)
+    for word in words {
+        if *word == path {
+            return String::from_str(alloc, word).map_err(|_| OptionFault::Memory);
+        }
+    }
+    Err(OptionFault::Usage)
 }
 
 /// What the words after the program's name ask for: `run SCRIPT` with its options, or `check JOURNAL`.
 ///
-/// `Usage` for any other words and for a number outside its limits; a question for help counts as one.
+/// The path is one of the words, as it was written. `Usage` for any other words and for a number outside its limits; a question for help counts as one.
 /// `Memory` where memory was refused.
 pub fn options(alloc: Global, words: &[&str]) -> Result<Task, OptionFault>
-    ensures { IfOk result IsWithinLimits }
+    ensures limits { IfOk result IsWithinLimits }
+    ensures path { IfOk result (λ task. IsOneOf (texts_of words.now) (path_in task)) }
 {
     let Ok(command) = command(alloc) else {
         return Err(OptionFault::Memory);
@@ -115,9 +129,9 @@ pub fn options(alloc: Global, words: &[&str]) -> Result<Task, OptionFault>
             let Some(numbers) = options_of(given) else {
                 return Err(OptionFault::Usage);
             };
-            Ok(Task::Run(path_of(alloc, given, "script")?, numbers))
+            Ok(Task::Run(path_of(alloc, given, "script", words)?, numbers))
         }
-        Some(("check", given)) => Ok(Task::Check(path_of(alloc, given, "journal")?)),
+        Some(("check", given)) => Ok(Task::Check(path_of(alloc, given, "journal", words)?)),
         _ => Err(OptionFault::Usage),
     }
 }
