@@ -1,13 +1,14 @@
 -- The bytes are read as items just where their lines say these, and else have a first fault.
 use Rattle.std.proofs.Common.{◌≡◌, ◌≤◌, ◌+◌, ℕ, suc, List, [], ◌∷◌, ◌++◌, length, Option, Some, None, Bool, true, false, cond, Result, Ok, Err, refl, sym, ap, subst, ◌∙◌, add-zero, arith, ◌⊎◌, inl, inr}
 use Rattle.std.specs.Prelude.{nat_le}
+use Rattle.std.proofs.lemmas.List.{length-append}
 use Rattle.std.proofs.lemmas.Bool.{leb-true}
 use Rattle.std.proofs.lemmas.Bool.Decides.{nat_tests}
 use Rattle.hull_book.specs.Scripts.{ScriptValue}
 use Rattle.hull_text.specs.declared.fault.FaultKind.{FaultKind}
 use Rattle.hull_text.specs.declared.fault.FaultKind.TheVariants.{Form}
 use Rattle.hull_text.specs.declared.fault.TextFault.{TextFault}
-use Rattle.hull_text.specs.Fault.{fault_at}
+use Rattle.hull_text.specs.Fault.{fault_at, fault_number}
 use Rattle.hull_text.specs.Item.{Item}
 use Rattle.hull_text.specs.ScriptLine.{script_line_of}
 use Rattle.hull_text.specs.ScriptText.{◌>>>◌, at_line, numbered, kept, items_of, pieces, script_items}
@@ -216,6 +217,56 @@ script_fault_is bytes f e =
       place = omega (arith, t.fault.place);
       fault = subst (λ (n : ℕ). HasLineFault n t.line f.number) same t.fault.fault;
     }
+
+-- ---- the first fault of the bytes is read
+
+-- the kind and the line of a fault make it
+pub fault_made : (n : ℕ) (kind : FaultKind) (f : TextFault) → f.line ≡ n → f.number ≡ fault_number kind → fault_at n kind ≡ f
+fault_made n kind f place number = rw (← place, ← number) refl
+
+-- the fault of a line is the one that is read
+numbered_stop : (m : ℕ) (line : List ℕ) (f : TextFault) → f.line ≡ suc m → HasLineFault m line f.number → numbered (suc m) (script_line_of line) ≡ Err f
+unfolding numbered
+numbered_stop m line f place (inl h) = rw (h.0) (ap (λ (g : TextFault). Err g) (fault_made 33554433 Form f (omega (arith, place, h.0)) h.1))
+numbered_stop m line f place (inr h) = rw (low (suc m) (omega (arith, h.0)), h.1.1) (ap (λ (g : TextFault). Err g) (fault_made (suc m) h.1.0 f place h.1.2))
+
+-- the fault of the first line is the one that is read
+here : (m : ℕ) (p line : List ℕ) (f : TextFault) → p ≡ line → f.line ≡ suc (m + 0) → HasLineFault (m + 0) line f.number → numbered (suc m) (script_line_of p) ≡ Err f
+here m p line f e place h = rw e (numbered_stop m line f (rw (add-zero m) at place) (rw (add-zero m) at h))
+
+-- the first of equal lists
+first_is : {A : Type 0} (x y : A) (xs ys : List A) → x ∷ xs ≡ y ∷ ys → x ≡ y
+first_is x y xs ys e = cc
+
+-- the others of equal lists
+others_are : {A : Type 0} (x y : A) (xs ys : List A) → x ∷ xs ≡ y ∷ ys → xs ≡ ys
+others_are x y xs ys e = cc
+
+-- A piece behind right lines has the fault.
+items_stop : (m : ℕ) (ps before : List (List ℕ)) (line : List ℕ) (after : List (List ℕ)) (items : List Item) (f : TextFault) → without_last_empty ps ≡ before ++ line ∷ after → AreScriptLines before items
+    → f.line ≡ suc (m + length before) → HasLineFault (m + length before) line f.number → items_of (suc m) ps ≡ Err f
+unfolding items_of
+items_stop m [] before line after items f whole right place h = absurd (omega (arith, ap length whole, length-append before (line ∷ after)))
+items_stop m ([] ∷ []) before line after items f whole right place h = absurd (omega (arith, ap length whole, length-append before (line ∷ after)))
+items_stop m ((b ∷ bs) ∷ []) [] line after items f whole right place h = rw (here m (b ∷ bs) line f (first_is (b ∷ bs) line [] after whole) place h) refl
+items_stop m ((b ∷ bs) ∷ []) (l ∷ before) line after items f whole right place h = absurd (omega (arith, ap length whole, length-append before (line ∷ after)))
+items_stop m (p ∷ next ∷ ps) [] line after items f whole right place h = rw (here m p line f (first_is p line (without_last_empty (next ∷ ps)) after whole) place h) refl
+items_stop m (p ∷ next ∷ ps) (l ∷ before) line after items f whole right place h =
+    let same : m + length (l ∷ before) ≡ suc m + length before = omega arith in
+    let said : script_line_of p ≡ Ok right.0 = ap script_line_of (first_is p l (without_last_empty (next ∷ ps)) (before ++ line ∷ after) whole) ∙ line_again l right.0 right.2 in
+    let more = items_stop (suc m) (next ∷ ps) before line after right.1 f (others_are p l (without_last_empty (next ∷ ps)) (before ++ line ∷ after) whole) right.3 (omega (arith, place))
+    (subst (λ (k : ℕ). HasLineFault k line f.number) same h) in
+    rw (numbered_again (suc m) (script_line_of p) right.0 said (omega (arith, few (m + length (l ∷ before)) h)), more) refl
+  where
+    few : (k : ℕ) → HasLineFault k line f.number → k ≤ 33554432
+    few k (inl h) = omega (arith, h.0)
+    few k (inr h) = omega (arith, h.0)
+
+-- The first fault of the bytes is the one that is read.
+pub script_fault_again : (bytes : List ℕ) (f : TextFault) → IsScriptFault bytes f → script_items bytes ≡ Err f
+script_fault_again bytes f s =
+    let none : length s.before ≡ 0 + length s.before = omega arith in
+    items_stop 0 (pieces bytes) s.before s.line s.after s.items f s.whole s.right (omega (arith, s.place)) (subst (λ (n : ℕ). HasLineFault n s.line f.number) none s.fault)
 
 -- What a reader of items answers is right for the bytes.
 pub reads_known : (known : Option (List ℕ)) (items : List Item) (n : ℕ) (answer : Result ScriptValue TextFault) → items ≡ [] → n ≡ 1 → AnswersAll (AnswersScript items n) known answer → ReadsKnownScript known answer

@@ -1,5 +1,5 @@
 -- The numbers of the faults.
-use Rattle.std.specs.Prelude.{◌≡◌, ℕ, ◌≤◌, ◌⊎◌}
+use Rattle.std.specs.Prelude.{◌≡◌, ℕ, ◌≤◌, ◌⊎◌, Result, Ok, Err}
 use Rattle.hull_text.specs.declared.fault.FaultKind.{FaultKind}
 use Rattle.hull_text.specs.declared.fault.FaultKind.TheVariants.{Form, Number, Coordinate, Worker, Word, Truncated, Header, Read, NoMemory}
 use Rattle.hull_text.specs.declared.fault.TextFault.{TextFault}
@@ -27,3 +27,8 @@ IsLineFault kind = fault_number kind ≤ 5
 -- a fault that is not the text's own: of the reader, or of memory
 abbrev pub IsOutside : TextFault → Type 0
 IsOutside f = (f.number ≡ 8) ⊎ (f.number ≡ 10)
+
+-- an answer of a reader to which its device and memory served: a value, or a fault of the text's own
+abbrev pub IsServed : {V : Type 0} → Result V TextFault → Type 0
+IsServed (Ok v) = Unit {0}
+IsServed (Err f) = ¬ IsOutside f

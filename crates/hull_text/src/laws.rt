@@ -1,8 +1,10 @@
-ghost use Rattle.std.specs.Prelude.{◌≡◌, ◌<◌, ◌↔◌, ◌^◌, ℕ, List, [], Ok, Some, decimal};
+ghost use Rattle.std.specs.Prelude.{◌≡◌, ◌<◌, ◌↔◌, ◌^◌, ◌⊎◌, ℕ, List, [], Ok, Some, Result, decimal};
 ghost use Rattle.hull_plain.specs.declared.call.Call.{Call};
 ghost use Rattle.hull_text.specs.declared.version.Version.{Version};
 ghost use Rattle.hull_book.specs.Scripts.{ScriptValue};
-ghost use Rattle.hull_text.specs.ScriptGrammar.{IsScriptText};
+ghost use Rattle.hull_text.specs.ScriptGrammar.{IsScriptFault, IsScriptText, ReadsScript};
+ghost use Rattle.hull_text.specs.declared.fault.TextFault.{TextFault};
+ghost use Rattle.hull_text.specs.Fault.{IsServed};
 ghost use Rattle.hull_text.specs.Number.{number_of};
 ghost use Rattle.hull_plain.specs.declared.reply.Reply.{Reply};
 ghost use Rattle.hull_text.specs.Call.{call_at};
@@ -10,7 +12,7 @@ ghost use Rattle.hull_text.specs.Reply.{reply_at};
 ghost use Rattle.hull_book.specs.Journals.{JournalValue};
 ghost use Rattle.hull_text.specs.JournalText.{journal_text};
 ghost use Rattle.hull_text.specs.JournalReading.{journal_of};
-ghost use Rattle.hull_text.specs.JournalGrammar.{IsJournalSaid, IsJournalText};
+ghost use Rattle.hull_text.specs.JournalGrammar.{IsJournalFault, IsJournalSaid, IsJournalText, ReadsJournal};
 ghost use Rattle.hull_text.specs.Spelling.{IsCall, IsReply, call_fields, reply_fields};
 
 /// A field spells a number just where it is its decimal text.
@@ -36,4 +38,17 @@ pub fn texts_hold()
     ensures one { (v : Version) (journal : JournalValue) → IsJournalSaid v journal → IsJournalText (journal_text v journal) journal }
     ensures again { (v : Version) (journal : JournalValue) → IsJournalSaid v journal → journal_of (journal_text v journal) ≡ Ok journal }
     ensures reading { (bytes : List ℕ) (journal : JournalValue) → (journal_of bytes ≡ Ok journal) ↔ IsJournalText bytes journal }
+{}
+
+/// The first fault of a text is a function of its bytes: a text of the grammar has none, and every other text has exactly
+/// one. So two readers to whom device and memory served answer the same for the same bytes, whatever pieces these came in.
+pub fn faults_hold()
+    ensures script_one { (bytes : List ℕ) (f other : TextFault) → IsScriptFault bytes f → IsScriptFault bytes other → f ≡ other }
+    ensures script_none { (bytes : List ℕ) (script : ScriptValue) (f : TextFault) → IsScriptText bytes script → IsScriptFault bytes f → ⊥ }
+    ensures script_else { (bytes : List ℕ) → ((script : ScriptValue) × IsScriptText bytes script) ⊎ ((f : TextFault) × IsScriptFault bytes f) }
+    ensures journal_one { (bytes : List ℕ) (f other : TextFault) → IsJournalFault bytes f → IsJournalFault bytes other → f ≡ other }
+    ensures journal_none { (bytes : List ℕ) (journal : JournalValue) (f : TextFault) → IsJournalText bytes journal → IsJournalFault bytes f → ⊥ }
+    ensures journal_else { (bytes : List ℕ) → ((journal : JournalValue) × IsJournalText bytes journal) ⊎ ((f : TextFault) × IsJournalFault bytes f) }
+    ensures script_answers { (bytes : List ℕ) (answer other : Result ScriptValue TextFault) → ReadsScript bytes answer → ReadsScript bytes other → IsServed answer → IsServed other → answer ≡ other }
+    ensures journal_answers { (bytes : List ℕ) (answer other : Result JournalValue TextFault) → ReadsJournal bytes answer → ReadsJournal bytes other → IsServed answer → IsServed other → answer ≡ other }
 {}

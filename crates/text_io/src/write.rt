@@ -1,4 +1,4 @@
-ghost use Rattle.std.specs.Prelude.{◌≡◌, ◌<◌, ◌-◌, ◌^◌, [], OnOk, IsOk, decimal};
+ghost use Rattle.std.specs.Prelude.{◌≡◌, ◌<◌, ◌-◌, ◌^◌, [], OnErr, OnOk, IsOk, decimal};
 ghost use Rattle.text_io.specs.Write.{WritesOn, WritesText};
 
 use super::device::Sink;
@@ -43,6 +43,7 @@ pub fn put_after<W: Sink>(
     ensures wrote { WritesOn done result (W.contents out.old) (W.contents out.new) (W.failed out.old) (W.failed out.new) piece.now }
     ensures kept { OnOk result (W.failed out.new ≡ W.failed out.old) }
     ensures was { OnOk result (IsOk done) }
+    ensures alone { OnErr done (out.new ≡ out.old) }
 {
     match done {
         Ok(()) => put(out, piece),
@@ -61,6 +62,7 @@ pub fn number_after<W: Sink, N: Integer>(
     ensures wrote { WritesOn done result (W.contents out.old) (W.contents out.new) (W.failed out.old) (W.failed out.new) (N.text number) }
     ensures kept { OnOk result (W.failed out.new ≡ W.failed out.old) }
     ensures was { OnOk result (IsOk done) }
+    ensures alone { OnErr done (out.new ≡ out.old) }
 {
     let mut buffer = Buffer::new();
     put_after(done, out, buffer.format(number).as_bytes())
@@ -76,6 +78,7 @@ pub fn flush_after<W: Sink>(done: Result<(), WriteFault>, out: &mut W) -> Result
     ensures wrote { WritesOn done result (W.contents out.old) (W.contents out.new) (W.failed out.old) (W.failed out.new) [] }
     ensures kept { OnOk result (W.failed out.new ≡ W.failed out.old) }
     ensures was { OnOk result (IsOk done) }
+    ensures alone { OnErr done (out.new ≡ out.old) }
 {
     match done {
         Ok(()) => match out.flush_counted() {
