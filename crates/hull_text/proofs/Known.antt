@@ -1,10 +1,14 @@
 -- The blocks of a known text.
-use Rattle.std.proofs.Common.{◌≡◌, ◌<◌, ◌≤◌, ◌+◌, ◌^◌, ℕ, List, [], ◌∷◌, ◌++◌, length, Option, Some, None, Bool, true, false, cond, Result, Err, refl, sym, ap, subst, ◌∙◌, arith, append_assoc}
+use Rattle.std.proofs.Common.{◌≡◌, ◌<◌, ◌≤◌, ◌+◌, ◌^◌, ℕ, List, [], ◌∷◌, ◌++◌, length, Option, Some, None, Bool, true, false, cond, Result, Ok, Err, IfErr, refl, sym, ap, subst, ◌∙◌, arith, append_assoc, inl, inr}
 use Rattle.std.specs.Io.KnownBytes.{Consumes, IsAtEnd, Keeps}
+use Rattle.std.specs.List.{onto_first}
 use Rattle.std.proofs.lemmas.List.{append-nil, length-append}
+use Rattle.std.proofs.lemmas.List.Splits.{slice_split_none}
 use Rattle.std.specs.Prelude.{◌==◌}
 use Rattle.hull_text.specs.declared.fault.TextFault.{TextFault}
-use Rattle.hull_text.specs.Reading.{Outlook, ReadsOn, FailsIn, AnswersAll, IsLineBeingRead, newlines}
+use Rattle.hull_text.specs.ScriptText.{pieces, text_lines, without_last_empty}
+use Rattle.hull_text.specs.Reading.{Outlook, ReadsOn, FailsIn, AnswersAll, HasNoNewline, IsLineAtEnd, IsLineBeingRead, IsLineTaken, newlines}
+use Rattle.hull_text.proofs.Lines.{newlines_none}
 
 -- what a reader that keeps a part of a line knows of the bytes that it took
 pub record Taken {V : Type 0} (start now : Outlook V) (bytes rest kept : List ℕ) (line n : ℕ) : Type 0 where
@@ -12,6 +16,7 @@ pub record Taken {V : Type 0} (start now : Outlook V) (bytes rest kept : List �
   pub whole : bytes ≡ text ++ rest
   pub on : ReadsOn start now text kept
   pub lines : line ≡ 1 + newlines text
+  pub ends : (front : List ℕ) × (text ≡ front ++ kept)
   pub long : n ≤ length text
 
 -- Of the text a, which is b from here on, n bytes or more were taken.
@@ -37,22 +42,27 @@ known_start start (Some bytes) kept line none first = record {
   whole = refl;
   on = λ rest answer h. subst (λ (t : List ℕ). start (t ++ rest) answer) none h;
   lines = omega (arith, first);
+  ends = ([], sym none);
   long = omega arith;
 }
 
 -- A block was taken.
 pub known_feed : {V : Type 0} (start now next : Outlook V) (a b c : Option (List ℕ)) (kept left piece : List ℕ) (line after n : ℕ) → Known start now a b kept line n → Consumes b c piece → 0 < length piece
-    → ReadsOn now next (kept ++ piece) left → after ≡ line + newlines piece → Known start next a c left after (n + 1)
-known_feed start now next None b c kept left piece line after n k p some on lines = tt
-known_feed start now next (Some bytes) None c kept left piece line after n k p some on lines = absurd k
-known_feed start now next (Some bytes) (Some rest) None kept left piece line after n k p some on lines = absurd p
-known_feed start now next (Some bytes) (Some rest) (Some more) kept left piece line after n k p some on lines = record {
+    → ReadsOn now next (kept ++ piece) left → after ≡ line + newlines piece → (front : List ℕ) × (kept ++ piece ≡ front ++ left) → Known start next a c left after (n + 1)
+known_feed start now next None b c kept left piece line after n k p some on lines tail = tt
+known_feed start now next (Some bytes) None c kept left piece line after n k p some on lines tail = absurd k
+known_feed start now next (Some bytes) (Some rest) None kept left piece line after n k p some on lines tail = absurd p
+known_feed start now next (Some bytes) (Some rest) (Some more) kept left piece line after n k p some on lines tail = record {
   text = k.text ++ piece;
   whole = k.whole ∙ ap (λ (t : List ℕ). k.text ++ t) p ∙ sym (append_assoc k.text piece more);
   on = λ tail answer h.
       subst (λ (t : List ℕ). start t answer) (sym (append_assoc k.text piece tail))
       (k.on (piece ++ tail) answer (subst (λ (t : List ℕ). now t answer) (append_assoc kept piece tail) (on tail answer h)));
   lines = omega (arith, newlines_append k.text piece, k.lines, lines);
+  ends = (
+    k.ends.0 ++ tail.0,
+    ap (λ (t : List ℕ). t ++ piece) k.ends.1 ∙ append_assoc k.ends.0 kept piece ∙ ap (λ (t : List ℕ). k.ends.0 ++ t) tail.1 ∙ sym (append_assoc k.ends.0 tail.0 left),
+  );
   long = omega (arith, k.long, length-append k.text piece);
 }
 
@@ -90,7 +100,83 @@ known_place start now (Some bytes) None c kept line n k same = absurd k
 known_place start now (Some bytes) (Some rest) None kept line n k same = absurd same
 known_place start now (Some bytes) (Some rest) (Some left) kept line n k same = (k.text, k.whole ∙ ap (λ (t : List ℕ). k.text ++ t) (sym same), k.lines)
 
--- A fault that is not the text's own may always be answered.
-pub known_outside : {V : Type 0} (start : Outlook V) (a : Option (List ℕ)) (f : TextFault) → ((bytes : List ℕ) → start bytes (Err f)) → AnswersAll start a (Err f)
-known_outside start None f h = tt
-known_outside start (Some bytes) f h = λ small. h bytes
+-- A fault that is not the text's own may be answered where the reading stands.
+pub known_outside : {V : Type 0} (start now : Outlook V) (a b : Option (List ℕ)) (kept : List ℕ) (line n : ℕ) (f : TextFault) → Known start now a b kept line n → ((text : List ℕ) → now text (Err f)) → AnswersAll start a (Err f)
+known_outside start now None b kept line n f k h = tt
+known_outside start now (Some bytes) None kept line n f k h = absurd k
+known_outside start now (Some bytes) (Some rest) kept line n f k h = λ small. subst (λ (t : List ℕ). start t (Err f)) (sym k.whole) (k.on rest (Err f) (h (kept ++ rest)))
+
+-- ---- the line of a fault
+
+-- The first line is one of any bytes.
+pub line_first : (a : Option (List ℕ)) (line : ℕ) → line ≡ 1 → IsLineTaken a a line
+line_first None line first = tt
+line_first (Some bytes) line first = ([], refl, omega (arith, first), inl (omega (arith, first)))
+
+-- A line that was being read was one of those bytes.
+pub line_read : (a b : Option (List ℕ)) (line : ℕ) → IsLineBeingRead a b line → IsLineTaken a b line
+line_read None b line h = tt
+line_read (Some bytes) None line h = absurd h
+line_read (Some bytes) (Some left) line h = (h.0, h.1, omega (arith, h.2), inl (omega (arith, h.2)))
+
+-- A line of a block that was taken.
+pub line_fed : {V : Type 0} (start now : Outlook V) (a b c : Option (List ℕ)) (kept piece : List ℕ) (line at n : ℕ) → Known start now a b kept line n → Consumes b c piece → line ≤ at → at ≤ line + newlines piece → IsLineTaken a c at
+line_fed start now None b c kept piece line at n k p low high = tt
+line_fed start now (Some bytes) None c kept piece line at n k p low high = absurd k
+line_fed start now (Some bytes) (Some rest) None kept piece line at n k p low high = absurd p
+line_fed start now (Some bytes) (Some rest) (Some more) kept piece line at n k p low high = (
+  k.text ++ piece,
+  k.whole ∙ ap (λ (t : List ℕ). k.text ++ t) p ∙ sym (append_assoc k.text piece more),
+  omega (arith, k.lines, low),
+  inl (omega (arith, newlines_append k.text piece, k.lines, high)),
+)
+
+-- The line at which the reading stands.
+pub line_here : {V : Type 0} (start now : Outlook V) (a b : Option (List ℕ)) (kept : List ℕ) (line n : ℕ) → Known start now a b kept line n → IsLineTaken a b line
+line_here start now None b kept line n k = tt
+line_here start now (Some bytes) None kept line n k = absurd k
+line_here start now (Some bytes) (Some rest) kept line n k = (k.text, k.whole, omega (arith, k.lines), inl (omega (arith, k.lines)))
+
+-- So many lines has a text that ends within one.
+lines_within : (front part : List ℕ) → HasNoNewline part → 0 < length part → length (text_lines (front ++ part)) ≡ newlines front + 1
+lines_within [] part whole some = rw (slice_split_none (λ (b : ℕ). b == 10) part whole) (one part some)
+  where
+    one : (part : List ℕ) → 0 < length part → length (without_last_empty (part ∷ [])) ≡ 0 + 1
+    one [] some = absurd (omega arith)
+    one (b ∷ bs) some = refl
+lines_within (b ∷ bs) part whole some = step (b == 10) (pieces (bs ++ part)) (newlines bs) (lines_within bs part whole some)
+  where
+    step : (c : Bool) (ps : List (List ℕ)) (n : ℕ) → length (without_last_empty ps) ≡ n + 1 → length (without_last_empty (cond c ([] ∷ ps) (onto_first b ps))) ≡ cond c (n + 1) n + 1
+    step true [] n e = absurd (omega (arith, e))
+    step true (p ∷ ps) n e = omega (arith, e)
+    step false [] n e = absurd (omega (arith, e))
+    step false ([] ∷ []) n e = absurd (omega (arith, e))
+    step false ((x ∷ xs) ∷ []) n e = e
+    step false (p ∷ next ∷ ps) n e = e
+
+-- A line at the end of the text.
+pub line_at_end : {V : Type 0} (start now : Outlook V) (a b c : Option (List ℕ)) (kept none : List ℕ) (line at n : ℕ) → Known start now a b kept line n → Consumes b c none → none ≡ [] → IsAtEnd c → HasNoNewline kept
+    → IsLineAtEnd line kept at → IsLineTaken a c at
+line_at_end start now None b c kept none line at n k p empty end whole h = tt
+line_at_end start now (Some bytes) None c kept none line at n k p empty end whole h = absurd k
+line_at_end start now (Some bytes) (Some rest) None kept none line at n k p empty end whole h = absurd p
+line_at_end start now (Some bytes) (Some rest) (Some more) kept none line at n k p empty end whole h =
+    let same : rest ≡ more = p ∙ ap (λ (t : List ℕ). t ++ more) empty in
+    let all : bytes ≡ k.text = k.whole ∙ ap (λ (t : List ℕ). k.text ++ t) (same ∙ end) ∙ append-nil k.text in
+    (
+      k.text,
+      k.whole ∙ ap (λ (t : List ℕ). k.text ++ t) same,
+      elim h [ inl e ↦ omega (arith, k.lines, e) | inr e ↦ omega (arith, k.lines, e.1) ],
+      elim h [
+        | inl e ↦ inl (omega (arith, k.lines, e))
+        | inr e ↦
+            let lines = ap (λ (t : List ℕ). length (text_lines t)) (all ∙ k.ends.1) ∙ lines_within k.ends.0 kept whole e.0 in
+            inr (end, omega (arith, k.lines, e.1, lines, ap newlines k.ends.1, newlines_append k.ends.0 kept, newlines_none kept whole))
+      ],
+    )
+
+-- A line that is told at the end of the text.
+pub lines_at_end : {V : Type 0} (start now : Outlook V) (a b c : Option (List ℕ)) (kept none : List ℕ) (line n : ℕ) (answer : Result V TextFault) → Known start now a b kept line n → Consumes b c none → none ≡ [] → IsAtEnd c → HasNoNewline kept
+    → IfErr answer (λ f. IsLineAtEnd line kept f.line) → IfErr answer (λ f. IsLineTaken a c f.line)
+lines_at_end start now a b c kept none line n (Ok v) k p empty end whole h = tt
+lines_at_end start now a b c kept none line n (Err f) k p empty end whole h = line_at_end start now a b c kept none line f.line n k p empty end whole h

@@ -3,6 +3,7 @@ pub mod Lines
 pub mod Known
 pub mod Workers
 pub mod Parts
+pub mod FaultPlaces
 pub mod ScriptLines
 pub mod Drafts
 pub mod Numbers

@@ -34,6 +34,16 @@ reads_on_line start mid new text kept line after left empty on e none more = λ 
     on rest answer (subst (λ (t : List ℕ). mid t answer) (around kept line after left rest e)
     (more (after ++ rest) answer (subst (λ (t : List ℕ). new (t ++ after ++ rest) answer) none h)))
 
+-- What is left is still the end of the text.
+pub tail_on_line : (all kept line after left empty : List ℕ) → (front : List ℕ) × (all ≡ front ++ (kept ++ left)) → left ≡ line ++ 10 ∷ after → empty ≡ [] → (front : List ℕ) × (all ≡ front ++ (empty ++ after))
+tail_on_line all kept line after left empty h e none = (
+  h.0 ++ kept ++ line ++ 10 ∷ [],
+  h.1 ∙ ap (λ (t : List ℕ). h.0 ++ (kept ++ t)) e ∙ regroup h.0 kept line after ∙ ap (λ (t : List ℕ). (h.0 ++ kept ++ line ++ 10 ∷ []) ++ (t ++ after)) (sym none),
+)
+  where
+    regroup : (front kept line after : List ℕ) → front ++ (kept ++ (line ++ 10 ∷ after)) ≡ (front ++ kept ++ line ++ 10 ∷ []) ++ after
+    regroup front kept line after = simp append_assoc
+
 -- A line that was taken has a fault.
 pub fails_on_line : {V : Type 0} (start mid : Outlook V) (text kept line after left : List ℕ) (f : TextFault) → ReadsOn start mid text (kept ++ left) → left ≡ line ++ 10 ∷ after
     → FailsIn mid (kept ++ line ++ 10 ∷ []) f → FailsIn start text f

@@ -5,12 +5,15 @@ use Rattle.std.proofs.lemmas.List.{append-nil}
 use Rattle.std.proofs.lemmas.List.Splits.{slice_split_at, slice_split_none, length-slice_split}
 use Rattle.hull_book.specs.Scripts.{ScriptValue}
 use Rattle.hull_text.specs.declared.fault.TextFault.{TextFault}
+use Rattle.hull_text.specs.declared.fault.FaultKind.TheVariants.{NoMemory}
+use Rattle.hull_text.specs.Fault.{fault_at}
 use Rattle.hull_text.specs.Item.{Item}
 use Rattle.hull_text.specs.ScriptLine.{script_line_of}
 use Rattle.hull_text.specs.ScriptText.{◌>>>◌, numbered, kept, last_items, items_of, pieces, with_front, script_items}
 use Rattle.hull_text.specs.ScriptValue.{script_of}
 use Rattle.hull_text.specs.Reading.{HasNoNewline, ReadsOn, FailsIn}
 use Rattle.hull_text.specs.ScriptReading.{reading, AnswersItems, AnswersScript}
+use Rattle.hull_text.proofs.FaultPlaces.{reading_goes_on}
 
 -- What a line says stands before what the lines behind it say.
 kept_front : (s : Option Item) (js : List Item) → kept s js ≡ kept s [] ++ js
@@ -54,8 +57,12 @@ script_fault items n line f whole e = λ rest.
     subst (λ (t : List ℕ). AnswersItems (Err f) (reading items n t)) (sym (append_assoc line (10 ∷ []) rest)) (inr same)
 
 -- Refused memory.
-pub script_refused : (items : List Item) (n : ℕ) (text : List ℕ) (f : TextFault) → f.number ≡ 10 → FailsIn (AnswersScript items n) text f
-script_refused items n text f e = λ rest. inl (inr e)
+pub script_refused : (items : List Item) (n : ℕ) (text : List ℕ) (f : TextFault) → f.number ≡ 10 → f.line ≡ n → FailsIn (AnswersScript items n) text f
+script_refused items n text f e place = λ rest. inl (inr e, reading_goes_on items f.line n (text ++ rest) (omega (arith, place)))
+
+-- Refused memory for the last line.
+pub refused_at_end : (items : List Item) (n : ℕ) (text : List ℕ) → AnswersScript items n text (Err (fault_at n NoMemory))
+refused_at_end items n text = inl (inr refl, reading_goes_on items n n text (omega arith))
 
 -- what came out well passed the guard
 guard_true : {A : Type 0} (b : Bool) (x : A) (y : Result A TextFault) (e : TextFault) → Ok x ≡ cond b y (Err e) → b ≡ true
@@ -101,4 +108,4 @@ at_start bytes = front_none (script_items bytes)
 -- What a reader answers at a text's end is right where it makes the script of all items.
 pub answers_end : (items all : List Item) (n : ℕ) (line : List ℕ) (answer : Result ScriptValue TextFault) → reading items n line ≡ Ok all → MatchResult answer (λ script. script ≡ script_of all) (λ f. f.number ≡ 10) → AnswersScript items n line answer
 answers_end items all n line (Ok v) e h = (all, e, h)
-answers_end items all n line (Err f) e h = inl (inr h)
+answers_end items all n line (Err f) e h = inl (inr h, rw e tt)

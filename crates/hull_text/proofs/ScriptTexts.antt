@@ -8,14 +8,14 @@ use Rattle.hull_book.specs.Scripts.{ScriptValue}
 use Rattle.hull_text.specs.declared.fault.FaultKind.{FaultKind}
 use Rattle.hull_text.specs.declared.fault.FaultKind.TheVariants.{Form}
 use Rattle.hull_text.specs.declared.fault.TextFault.{TextFault}
-use Rattle.hull_text.specs.Fault.{fault_at, fault_number}
+use Rattle.hull_text.specs.Fault.{NoFaultBefore, fault_at, fault_number}
 use Rattle.hull_text.specs.Item.{Item}
 use Rattle.hull_text.specs.ScriptLine.{script_line_of}
-use Rattle.hull_text.specs.ScriptText.{◌>>>◌, at_line, numbered, kept, items_of, pieces, script_items}
+use Rattle.hull_text.specs.ScriptText.{◌>>>◌, at_line, numbered, kept, items_of, pieces, script_items, without_last_empty}
 use Rattle.hull_text.specs.ScriptValue.{script_of}
 use Rattle.hull_text.specs.Reading.{AnswersAll}
-use Rattle.hull_text.specs.ScriptReading.{AnswersScript}
-use Rattle.hull_text.specs.ScriptGrammar.{ReadsScript, ReadsKnownScript, IsScriptLine, AreScriptLines, without_last_empty, IsScriptText, HasLineFault, IsScriptFault}
+use Rattle.hull_text.specs.ScriptReading.{AnswersScript, reading}
+use Rattle.hull_text.specs.ScriptGrammar.{ReadsScript, ReadsKnownScript, IsScriptLine, AreScriptLines, IsScriptText, HasLineFault, IsScriptFault}
 use Rattle.hull_text.proofs.ScriptLines.{at_start}
 use Rattle.hull_text.proofs.ScriptSpelled.{line_takes, line_again}
 
@@ -268,6 +268,10 @@ script_fault_again bytes f s =
     let none : length s.before ≡ 0 + length s.before = omega arith in
     items_stop 0 (pieces bytes) s.before s.line s.after s.items f s.whole s.right (omega (arith, s.place)) (subst (λ (n : ℕ). HasLineFault n s.line f.number) none s.fault)
 
+-- what has a fault has it no earlier than where it has none
+pub not_before : {V : Type 0} (m : ℕ) (g : TextFault) (r : Result V TextFault) → NoFaultBefore m r → r ≡ Err g → m ≤ g.line
+not_before m g r h e = rw e at h
+
 -- What a reader of items answers is right for the bytes.
 pub reads_known : (known : Option (List ℕ)) (items : List Item) (n : ℕ) (answer : Result ScriptValue TextFault) → items ≡ [] → n ≡ 1 → AnswersAll (AnswersScript items n) known answer → ReadsKnownScript known answer
 reads_known None items n answer none first h = tt
@@ -275,4 +279,7 @@ reads_known (Some bytes) items n answer none first h = λ small. step answer (su
   where
     step : (answer : Result ScriptValue TextFault) → AnswersScript [] 1 bytes answer → ReadsScript bytes answer
     step (Ok v) h = subst (λ (script : ScriptValue). IsScriptText bytes script) (sym h.2) (script_taken bytes h.0 (sym (at_start bytes) ∙ h.1))
-    step (Err f) h = elim h [ inl o ↦ inl o | inr e ↦ inr (script_fault_is bytes f (sym (at_start bytes) ∙ e)) ]
+    step (Err f) h = elim h [
+      | inl o ↦ inl (o.0, λ g s. not_before f.line g (reading [] 1 bytes) o.1 (at_start bytes ∙ script_fault_again bytes g s))
+      | inr e ↦ inr (script_fault_is bytes f (sym (at_start bytes) ∙ e))
+    ]

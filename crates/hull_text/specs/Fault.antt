@@ -28,6 +28,11 @@ IsLineFault kind = fault_number kind ≤ 5
 abbrev pub IsOutside : TextFault → Type 0
 IsOutside f = (f.number ≡ 8) ⊎ (f.number ≡ 10)
 
+-- What reading gives has no fault before this line.
+abbrev pub NoFaultBefore : {V : Type 0} → ℕ → Result V TextFault → Type 0
+NoFaultBefore line (Ok v) = Unit {0}
+NoFaultBefore line (Err f) = line ≤ f.line
+
 -- an answer of a reader to which its device and memory served: a value, or a fault of the text's own
 abbrev pub IsServed : {V : Type 0} → Result V TextFault → Type 0
 IsServed (Ok v) = Unit {0}

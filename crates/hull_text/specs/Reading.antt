@@ -1,7 +1,8 @@
 -- How the reading of a text goes on, line by line, whatever pieces it comes in.
-use Rattle.std.specs.Prelude.{◌≡◌, ◌<◌, ◌+◌, ◌^◌, ◌==◌, ℕ, List, [], ◌∷◌, ◌++◌, length, Option, Some, None, Result, Err, false, if◌then◌else◌}
+use Rattle.std.specs.Prelude.{◌≡◌, ◌⊎◌, ◌<◌, ◌≤◌, ◌+◌, ◌^◌, ◌==◌, ℕ, List, [], ◌∷◌, ◌++◌, length, Option, Some, None, Result, Err, false, if◌then◌else◌}
 use Rattle.std.specs.List.{All}
 use Rattle.hull_text.specs.declared.fault.TextFault.{TextFault}
+use Rattle.hull_text.specs.ScriptText.{text_lines}
 
 -- a line, or a part of one
 abbrev pub HasNoNewline : List ℕ → Type 0
@@ -34,3 +35,16 @@ abbrev pub IsLineBeingRead : Option (List ℕ) → Option (List ℕ) → ℕ →
 IsLineBeingRead None left line = Unit {0}
 IsLineBeingRead (Some bytes) None line = ⊥
 IsLineBeingRead (Some bytes) (Some left) line = (taken : List ℕ) × (bytes ≡ taken ++ left) × (line ≡ 1 + newlines taken)
+
+-- A line of the bytes that were taken, where the bytes are known: one that begins in them, or, where they are the whole
+-- text, the line after its last.
+abbrev pub IsLineTaken : Option (List ℕ) → Option (List ℕ) → ℕ → Type 0
+IsLineTaken None left line = Unit {0}
+IsLineTaken (Some bytes) None line = ⊥
+IsLineTaken (Some bytes) (Some left) line =
+    (taken : List ℕ) × (bytes ≡ taken ++ left) × (1 ≤ line) × ((line ≤ 1 + newlines taken) ⊎ ((left ≡ []) × (line ≡ 1 + length (text_lines bytes))))
+
+-- A line at the end of a text of which this part is left behind the newline before line n: this line, or the one after it
+-- where it has any byte.
+abbrev pub IsLineAtEnd : ℕ → List ℕ → ℕ → Type 0
+IsLineAtEnd n part line = (line ≡ n) ⊎ ((0 < length part) × (line ≡ n + 1))

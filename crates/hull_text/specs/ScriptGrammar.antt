@@ -10,7 +10,7 @@ use Rattle.hull_text.specs.Version.{written}
 use Rattle.hull_text.specs.Item.{Item}
 use Rattle.hull_text.specs.Spelling.{IsCall, call_fields}
 use Rattle.hull_text.specs.ScriptLine.{script_line_of}
-use Rattle.hull_text.specs.ScriptText.{kept, pieces}
+use Rattle.hull_text.specs.ScriptText.{kept, text_lines}
 use Rattle.hull_text.specs.ScriptValue.{script_of}
 
 -- The line says this, or nothing.
@@ -24,26 +24,11 @@ abbrev pub AreScriptLines : List (List ℕ) → List Item → Type 0
 AreScriptLines [] items = items ≡ []
 AreScriptLines (line ∷ lines) items = (said : Option Item) × (rest : List Item) × IsScriptLine line said × AreScriptLines lines rest × (items ≡ kept said rest)
 
--- an empty last piece is no line
-abbrev pub last_line : List ℕ → List (List ℕ)
-last_line [] = []
-last_line (b ∷ bs) = (b ∷ bs) ∷ []
-
--- the pieces without an empty last one
-abbrev pub without_last_empty : List (List ℕ) → List (List ℕ)
-without_last_empty [] = []
-without_last_empty (piece ∷ []) = last_line piece
-without_last_empty (piece ∷ next ∷ pieces) = piece ∷ without_last_empty (next ∷ pieces)
-
--- the lines of a script; the last may end without a newline
-abbrev pub script_lines : List ℕ → List (List ℕ)
-script_lines bytes = without_last_empty (pieces bytes)
-
 -- The bytes are a text of the script.
 pub record IsScriptText (bytes : List ℕ) (script : ScriptValue) : Type 0 where
   pub items : List Item
-  pub lines : AreScriptLines (script_lines bytes) items
-  pub count : length (script_lines bytes) ≤ TEXT_LINE_LIMIT
+  pub lines : AreScriptLines (text_lines bytes) items
+  pub count : length (text_lines bytes) ≤ TEXT_LINE_LIMIT
   pub value : script ≡ script_of items
 
 -- A line behind so many others has this fault: its own first one from the left, or that it is one line too many.
@@ -56,16 +41,21 @@ pub record IsScriptFault (bytes : List ℕ) (f : TextFault) : Type 0 where
   pub before : List (List ℕ)
   pub line : List ℕ
   pub after : List (List ℕ)
-  pub whole : script_lines bytes ≡ before ++ line ∷ after
+  pub whole : text_lines bytes ≡ before ++ line ∷ after
   pub items : List Item
   pub right : AreScriptLines before items
   pub place : f.line ≡ length before + 1
   pub fault : HasLineFault (length before) line f.number
 
--- What a reader of scripts may answer for the bytes: a script whose text they are, their first fault, or a fault from outside.
+-- The bytes have no fault before this line.
+abbrev pub HasNoScriptFaultBefore : List ℕ → ℕ → Type 0
+HasNoScriptFaultBefore bytes line = (f : TextFault) → IsScriptFault bytes f → line ≤ f.line
+
+-- What a reader of scripts may answer for the bytes: a script whose text they are, their first fault, or a fault from
+-- outside in a line before which they have none.
 abbrev pub ReadsScript : List ℕ → Result ScriptValue TextFault → Type 0
 ReadsScript bytes (Ok script) = IsScriptText bytes script
-ReadsScript bytes (Err f) = IsOutside f ⊎ IsScriptFault bytes f
+ReadsScript bytes (Err f) = (IsOutside f × HasNoScriptFaultBefore bytes f.line) ⊎ IsScriptFault bytes f
 
 -- The same for bytes that may be unknown. They have to be fewer than 2^63.
 abbrev pub ReadsKnownScript : Option (List ℕ) → Result ScriptValue TextFault → Type 0

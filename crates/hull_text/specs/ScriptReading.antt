@@ -4,7 +4,7 @@ use Rattle.hull_book.specs.declared.limits.TheConstants.{TEXT_LINE_LIMIT}
 use Rattle.hull_book.specs.Scripts.{ScriptValue}
 use Rattle.hull_text.specs.declared.fault.TextFault.{TextFault}
 use Rattle.hull_text.specs.Item.{Item}
-use Rattle.hull_text.specs.Fault.{IsOutside}
+use Rattle.hull_text.specs.Fault.{IsOutside, NoFaultBefore}
 use Rattle.hull_text.specs.ScriptText.{items_of, pieces, with_front}
 use Rattle.hull_text.specs.ScriptValue.{script_of, workers_in}
 
@@ -12,10 +12,11 @@ use Rattle.hull_text.specs.ScriptValue.{script_of, workers_in}
 unfoldable pub reading : List Item → ℕ → List ℕ → Result (List Item) TextFault
 reading items n rest = with_front items (items_of n (pieces rest))
 
--- The answer of a reader for a script with these items or this fault; it may answer a fault from outside as well.
+-- The answer of a reader for a script with these items or this fault; it may answer a fault from outside as well, in a
+-- line before which there is no fault.
 abbrev pub AnswersItems : Result ScriptValue TextFault → Result (List Item) TextFault → Type 0
 AnswersItems (Ok v) read = (items : List Item) × (read ≡ Ok items) × (v ≡ script_of items)
-AnswersItems (Err f) read = IsOutside f ⊎ (read ≡ Err f)
+AnswersItems (Err f) read = (IsOutside f × NoFaultBefore f.line read) ⊎ (read ≡ Err f)
 
 -- the answer of a reader that has these items and goes on at line n
 abbrev pub AnswersScript : List Item → ℕ → List ℕ → Result ScriptValue TextFault → Type 0

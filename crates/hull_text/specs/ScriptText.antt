@@ -44,6 +44,21 @@ items_of n (line ∷ next ∷ lines) = numbered n (script_line_of line) >>> λ i
 abbrev pub pieces : List ℕ → List (List ℕ)
 pieces bytes = slice_split (λ b. b == 10) bytes
 
+-- an empty last piece is no line
+abbrev pub last_line : List ℕ → List (List ℕ)
+last_line [] = []
+last_line (b ∷ bs) = (b ∷ bs) ∷ []
+
+-- the pieces without an empty last one
+abbrev pub without_last_empty : List (List ℕ) → List (List ℕ)
+without_last_empty [] = []
+without_last_empty (piece ∷ []) = last_line piece
+without_last_empty (piece ∷ next ∷ pieces) = piece ∷ without_last_empty (next ∷ pieces)
+
+-- the lines of a text; the last may end without a newline
+abbrev pub text_lines : List ℕ → List (List ℕ)
+text_lines bytes = without_last_empty (pieces bytes)
+
 -- the items of a whole script, or its first fault
 abbrev pub script_items : List ℕ → Result (List Item) TextFault
 script_items bytes = items_of 1 (pieces bytes)

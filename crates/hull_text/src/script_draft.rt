@@ -1,5 +1,4 @@
 ghost use Rattle.std.specs.Prelude.{◌≡◌, ◌≢◌, ◌++◌, ◌∷◌, [], ◌+◌, ◌≤◌, ◌<◌, IfErr, IfOk, MatchResult, OnErr, OnOk, Ok, Err, length};
-ghost use Rattle.std.proofs.Common.{inl};
 ghost use Rattle.hull_text.specs.ScriptText.{numbered};
 ghost use Rattle.hull_text.specs.ScriptLine.{script_line_of};
 ghost use Rattle.hull_text.specs.ScriptValue.{SaysWorker, script_of, workers_in};
@@ -29,6 +28,7 @@ fn item_at(number: u32, line: &[u8]) -> Result<Option<Item>, TextFault>
     ensures value { result ≡ numbered number (script_line_of line.now) }
     ensures worker { IfOk result SaysWorker }
     ensures inside { IfErr result (λ f. f.number ≢ 8) }
+    ensures place { IfErr result (λ f. f.line ≡ number) }
     ensures low { IfOk result (λ _. number ≤ TEXT_LINE_LIMIT) }
 {
     if number > TEXT_LINE_LIMIT {
@@ -51,6 +51,7 @@ fn add_line(items: &mut Vec<Item>, number: u32, line: &[u8]) -> Result<(), TextF
     ensures last_fault { 0 < length line.now → IfErr result (λ f. AnswersScript items.old.items number line.now (Err f)) }
     ensures kept { OnErr result (items.new.items ≡ items.old.items) }
     ensures inside { IfErr result (λ f. f.number ≢ 8) }
+    ensures place { IfErr result (λ f. f.line ≡ number) }
 {
     match item_at(number, line) {
         Ok(None) => Ok(()),
@@ -62,11 +63,12 @@ fn add_line(items: &mut Vec<Item>, number: u32, line: &[u8]) -> Result<(), TextF
     }
 }
 
-/// The script of the items, at the end of a text.
+/// The script of the items, at the end of a text; the number is that of the line after its last.
 fn finished(alloc: Global, items: &[Item], number: u32) -> Result<Script, TextFault>
     requires workers { workers_in items.now ≤ 64 }
     requires few { length items.now ≤ TEXT_LINE_LIMIT }
-    ensures { MatchResult result (λ script. script ≡ script_of items.now) (λ f. f.number ≡ 10) }
+    ensures made { MatchResult result (λ script. script ≡ script_of items.now) (λ f. f.number ≡ 10) }
+    ensures place { IfErr result (λ f. f.line ≡ number) }
 {
     match script_from(alloc, items) {
         Ok(script) => Ok(script),
@@ -116,8 +118,6 @@ impl LineReader for ScriptDraft {
         }
         let mut items = items;
         add_line(&mut items, number, text)?;
-        finished(alloc, &items, number)
+        finished(alloc, &items, number + 1)
     }
-
-    ghost outside = { λ s text f o. inl o };
 }

@@ -50,12 +50,12 @@ returns-clause-script_answers c = λ bytes a b s t own other. step bytes a b s t
   where
     step : (bytes : List ℕ) (a b : Result ScriptValue TextFault) → ReadsScript bytes a → ReadsScript bytes b → IsServed a → IsServed b → a ≡ b
     step bytes (Ok x) (Ok y) s t own other = ap (λ (v : ScriptValue). Ok v) (s.value ∙ ap script_of (text_ok_is s.items t.items (sym (script_again bytes x s) ∙ script_again bytes y t)) ∙ sym t.value)
-    step bytes (Ok x) (Err g) s (inl t) own other = absurd (other t)
+    step bytes (Ok x) (Err g) s (inl t) own other = absurd (other t.0)
     step bytes (Ok x) (Err g) s (inr t) own other = absurd (no_value s.items g (sym (script_again bytes x s) ∙ script_fault_again bytes g t))
-    step bytes (Err f) (Ok y) (inl s) t own other = absurd (own s)
+    step bytes (Err f) (Ok y) (inl s) t own other = absurd (own s.0)
     step bytes (Err f) (Ok y) (inr s) t own other = absurd (no_value t.items f (sym (script_again bytes y t) ∙ script_fault_again bytes f s))
-    step bytes (Err f) (Err g) (inl s) t own other = absurd (own s)
-    step bytes (Err f) (Err g) (inr s) (inl t) own other = absurd (other t)
+    step bytes (Err f) (Err g) (inl s) t own other = absurd (own s.0)
+    step bytes (Err f) (Err g) (inr s) (inl t) own other = absurd (other t.0)
     step bytes (Err f) (Err g) (inr s) (inr t) own other = ap (λ (h : TextFault). Err h) (text_err_is {A = List Item} f g (sym (script_fault_again bytes f s) ∙ script_fault_again bytes g t))
 
 pub returns-clause-journal_answers : goal.returns-clause-journal_answers
@@ -66,10 +66,10 @@ returns-clause-journal_answers c = λ bytes a b s t own other. step bytes a b s 
 
     step : (bytes : List ℕ) (a b : Result JournalValue TextFault) → ReadsJournal bytes a → ReadsJournal bytes b → IsServed a → IsServed b → a ≡ b
     step bytes (Ok x) (Ok y) s t own other = ap (λ (v : JournalValue). Ok v) (text_ok_is x y (sym (said bytes x s) ∙ said bytes y t))
-    step bytes (Ok x) (Err g) s (inl t) own other = absurd (other t)
+    step bytes (Ok x) (Err g) s (inl t) own other = absurd (other t.0)
     step bytes (Ok x) (Err g) s (inr t) own other = absurd (no_value x g (sym (said bytes x s) ∙ journal_fault_again bytes g t))
-    step bytes (Err f) (Ok y) (inl s) t own other = absurd (own s)
+    step bytes (Err f) (Ok y) (inl s) t own other = absurd (own s.0)
     step bytes (Err f) (Ok y) (inr s) t own other = absurd (no_value y f (sym (said bytes y t) ∙ journal_fault_again bytes f s))
-    step bytes (Err f) (Err g) (inl s) t own other = absurd (own s)
-    step bytes (Err f) (Err g) (inr s) (inl t) own other = absurd (other t)
+    step bytes (Err f) (Err g) (inl s) t own other = absurd (own s.0)
+    step bytes (Err f) (Err g) (inr s) (inl t) own other = absurd (other t.0)
     step bytes (Err f) (Err g) (inr s) (inr t) own other = ap (λ (h : TextFault). Err h) (text_err_is {A = JournalValue} f g (sym (journal_fault_again bytes f s) ∙ journal_fault_again bytes g t))

@@ -1,6 +1,8 @@
-use Rattle.std.proofs.Common.{arith, inr, sym, ap, ◌∙◌, Ok, None, Some}
+use Rattle.std.proofs.Common.{arith, inr, sym, ap, refl, ◌∙◌, ◌++◌, ◌∷◌, [], Ok, None, Some}
 use Rattle.std.proofs.lemmas.List.{append-nil}
-use Rattle.hull_text.proofs.ScriptLines.{script_on, script_fault, end_line, end_fault}
+use Rattle.hull_text.specs.declared.fault.FaultKind.TheVariants.{NoMemory}
+use Rattle.hull_text.specs.Fault.{fault_at}
+use Rattle.hull_text.proofs.ScriptLines.{script_on, script_fault, script_refused, refused_at_end, end_line, end_fault}
 use Rattle.hull_text.proofs.Drafts.{draft_more}
 use Rattle.hull_text.proofs.script_draft.add_line.Goals as goal
 
@@ -24,3 +26,9 @@ returns-in-Err-clause-fault c = script_fault _ _ c.args.line.now c.in-Err.fault 
 
 pub returns-in-Err-clause-last_fault : goal.returns-in-Err-clause-last_fault
 returns-in-Err-clause-last_fault c = λ some. inr (end_fault _ _ c.args.line.now c.in-Err.fault c.requires.whole some c.in-Err.ensures.value)
+
+pub returns-in-Err-push-clause-fault : goal.returns-in-Err-push-clause-fault
+returns-in-Err-push-clause-fault c = rw c.new.ensures (script_refused c.args.items.now.items c.args.number (c.args.line.now ++ 10 ∷ []) (fault_at c.args.number NoMemory) refl refl)
+
+pub returns-in-Err-push-clause-last_fault : goal.returns-in-Err-push-clause-last_fault
+returns-in-Err-push-clause-last_fault c = λ some. rw c.new.ensures (refused_at_end c.args.items.now.items c.args.number c.args.line.now)
