@@ -1,8 +1,9 @@
 -- What a reader of scripts keeps.
-use Rattle.std.proofs.Common.{◌≡◌, ◌≤◌, ◌+◌, ℕ, List, [], ◌∷◌, ◌++◌, Some, None, arith}
-use Rattle.std.proofs.lemmas.List.{length-append}
+use Rattle.std.proofs.Common.{◌≡◌, ◌≤◌, ◌+◌, ℕ, List, [], ◌∷◌, ◌++◌, length, Option, Some, None, sym, subst, arith}
+use Rattle.std.proofs.lemmas.List.{append-nil, length-append}
 use Rattle.hull_text.specs.Item.{Item}
-use Rattle.hull_text.specs.ScriptValue.{HasWorker, workers_from}
+use Rattle.hull_text.specs.ScriptText.{kept}
+use Rattle.hull_text.specs.ScriptValue.{HasWorker, SaysWorker, workers_from, workers_in}
 use Rattle.hull_text.specs.ScriptReading.{IsDraft}
 use Rattle.hull_text.proofs.Workers.{workers_append, workers_append_join}
 
@@ -12,11 +13,11 @@ unfolding workers_from
 draft_empty items none = rw none (record { low = omega arith; high = omega arith; few = omega arith; workers = omega arith })
 
 -- A line that says nothing.
-pub draft_nothing : (items : List Item) (n : ℕ) → IsDraft items n → n ≤ 33554432 → IsDraft items (n + 1)
+draft_nothing : (items : List Item) (n : ℕ) → IsDraft items n → n ≤ 33554432 → IsDraft items (n + 1)
 draft_nothing items n d low = record { low = omega arith; high = omega arith; few = omega (arith, d.few); workers = d.workers }
 
 -- A line that says something.
-pub draft_more : (items : List Item) (n : ℕ) (item : Item) → IsDraft items n → n ≤ 33554432 → HasWorker item → IsDraft (items ++ item ∷ []) (n + 1)
+draft_more : (items : List Item) (n : ℕ) (item : Item) → IsDraft items n → n ≤ 33554432 → HasWorker item → IsDraft (items ++ item ∷ []) (n + 1)
 draft_more items n None d low has = record {
   low = omega arith;
   high = omega arith;
@@ -29,3 +30,14 @@ draft_more items n (Some order) d low has = record {
   few = omega (arith, d.few, length-append items (Some order ∷ []));
   workers = omega (arith, d.workers, workers_append 1 items order, has);
 }
+
+-- A line, whatever it says.
+pub draft_said : (items : List Item) (n : ℕ) (s : Option Item) → IsDraft items n → n ≤ 33554432 → SaysWorker s → IsDraft (items ++ kept s []) (n + 1)
+draft_said items n None d low has = subst (λ (is : List Item). IsDraft is (n + 1)) (sym (append-nil items)) (draft_nothing items n d low)
+draft_said items n (Some item) d low has = draft_more items n item d low has
+
+-- What is read of a text that ends within a line makes a script.
+pub draft_ended : (items all : List Item) (n : ℕ) (s : Option Item) → IsDraft items n → n ≤ 33554432 → SaysWorker s → all ≡ items ++ kept s [] → (workers_in all ≤ 64) × (length all ≤ 33554432)
+draft_ended items all n s d low has e =
+    let more = draft_said items n s d low has in
+    rw e (more.workers, omega (arith, more.few, low))

@@ -1,13 +1,13 @@
 -- The blocks of a known text.
-use Rattle.std.proofs.Common.{◌≡◌, ◌<◌, ◌≤◌, ◌+◌, ◌^◌, ℕ, List, [], ◌∷◌, ◌++◌, length, Option, Some, None, Bool, true, false, cond, Result, Ok, Err, IfErr, refl, sym, ap, subst, ◌∙◌, arith, append_assoc, inl, inr}
+use Rattle.std.proofs.Common.{◌≡◌, ◌⊎◌, ◌<◌, ◌≤◌, ◌+◌, ◌^◌, ℕ, List, [], ◌∷◌, ◌++◌, length, Option, Some, None, Bool, true, false, cond, Result, Ok, Err, IfErr, refl, sym, ap, subst, ◌∙◌, arith, append_assoc, inl, inr}
 use Rattle.std.specs.Io.KnownBytes.{Consumes, IsAtEnd, Keeps}
 use Rattle.std.specs.List.{onto_first}
 use Rattle.std.proofs.lemmas.List.{append-nil, length-append}
 use Rattle.std.proofs.lemmas.List.Splits.{slice_split_none}
 use Rattle.std.specs.Prelude.{◌==◌}
 use Rattle.hull_text.specs.declared.fault.TextFault.{TextFault}
-use Rattle.hull_text.specs.ScriptText.{pieces, text_lines, without_last_empty}
-use Rattle.hull_text.specs.Reading.{Outlook, ReadsOn, FailsIn, AnswersAll, HasNoNewline, IsLineAtEnd, IsLineBeingRead, IsLineTaken, newlines}
+use Rattle.hull_text.specs.ScriptText.{last_line, pieces, text_lines, without_last_empty}
+use Rattle.hull_text.specs.Reading.{Outlook, ReadsOn, FailsIn, AnswersAll, HasNoNewline, IsLineBeingRead, IsLineTaken, line_at_end, newlines}
 use Rattle.hull_text.proofs.Lines.{newlines_none}
 
 -- what a reader that keeps a part of a line knows of the bytes that it took
@@ -154,29 +154,38 @@ lines_within (b ∷ bs) part whole some = step (b == 10) (pieces (bs ++ part)) (
     step false ((x ∷ xs) ∷ []) n e = e
     step false (p ∷ next ∷ ps) n e = e
 
--- A line at the end of the text.
-pub line_at_end : {V : Type 0} (start now : Outlook V) (a b c : Option (List ℕ)) (kept none : List ℕ) (line at n : ℕ) → Known start now a b kept line n → Consumes b c none → none ≡ [] → IsAtEnd c → HasNoNewline kept
-    → IsLineAtEnd line kept at → IsLineTaken a c at
-line_at_end start now None b c kept none line at n k p empty end whole h = tt
-line_at_end start now (Some bytes) None c kept none line at n k p empty end whole h = absurd k
-line_at_end start now (Some bytes) (Some rest) None kept none line at n k p empty end whole h = absurd p
-line_at_end start now (Some bytes) (Some rest) (Some more) kept none line at n k p empty end whole h =
-    let same : rest ≡ more = p ∙ ap (λ (t : List ℕ). t ++ more) empty in
+-- The line of a fault that is told at the end of the text.
+line_ended : {V : Type 0} (start now : Outlook V) (a b c : Option (List ℕ)) (kept none : List ℕ) (line more at n : ℕ) → Known start now a b kept line n → Consumes b c none → none ≡ [] → IsAtEnd c → HasNoNewline kept
+    → (more ≡ 0) ⊎ ((0 < length kept) × (more ≡ 1)) → at ≡ line + more → IsLineTaken a c at
+line_ended start now None b c kept none line more at n k p empty end whole h is = tt
+line_ended start now (Some bytes) None c kept none line more at n k p empty end whole h is = absurd k
+line_ended start now (Some bytes) (Some rest) None kept none line more at n k p empty end whole h is = absurd p
+line_ended start now (Some bytes) (Some rest) (Some left) kept none line more at n k p empty end whole h is =
+    let same : rest ≡ left = p ∙ ap (λ (t : List ℕ). t ++ left) empty in
     let all : bytes ≡ k.text = k.whole ∙ ap (λ (t : List ℕ). k.text ++ t) (same ∙ end) ∙ append-nil k.text in
     (
       k.text,
       k.whole ∙ ap (λ (t : List ℕ). k.text ++ t) same,
-      elim h [ inl e ↦ omega (arith, k.lines, e) | inr e ↦ omega (arith, k.lines, e.1) ],
+      omega (arith, k.lines, is),
       elim h [
-        | inl e ↦ inl (omega (arith, k.lines, e))
+        | inl e ↦ inl (omega (arith, k.lines, is, e))
         | inr e ↦
             let lines = ap (λ (t : List ℕ). length (text_lines t)) (all ∙ k.ends.1) ∙ lines_within k.ends.0 kept whole e.0 in
-            inr (end, omega (arith, k.lines, e.1, lines, ap newlines k.ends.1, newlines_append k.ends.0 kept, newlines_none kept whole))
+            inr (end, omega (arith, k.lines, is, e.1, lines, ap newlines k.ends.1, newlines_append k.ends.0 kept, newlines_none kept whole))
       ],
     )
 
--- A line that is told at the end of the text.
+-- an empty part is no line, another is one
+one_or_none : (part : List ℕ) → (length (last_line part) ≡ 0) ⊎ ((0 < length part) × (length (last_line part) ≡ 1))
+one_or_none [] = inl refl
+one_or_none (b ∷ bs) = inr (omega arith, refl)
+
+-- What is told at the end of the text is told in a line of it, or behind it.
 pub lines_at_end : {V : Type 0} (start now : Outlook V) (a b c : Option (List ℕ)) (kept none : List ℕ) (line n : ℕ) (answer : Result V TextFault) → Known start now a b kept line n → Consumes b c none → none ≡ [] → IsAtEnd c → HasNoNewline kept
-    → IfErr answer (λ f. IsLineAtEnd line kept f.line) → IfErr answer (λ f. IsLineTaken a c f.line)
+    → IfErr answer (λ f. f.line ≡ line_at_end line kept f) → IfErr answer (λ f. IsLineTaken a c f.line)
 lines_at_end start now a b c kept none line n (Ok v) k p empty end whole h = tt
-lines_at_end start now a b c kept none line n (Err f) k p empty end whole h = line_at_end start now a b c kept none line f.line n k p empty end whole h
+lines_at_end start now a b c kept none line n (Err f) k p empty end whole h = step (f.number == 10) h
+  where
+    step : (t : Bool) → f.line ≡ cond t (line + length (last_line kept)) line → IsLineTaken a c f.line
+    step true h = line_ended start now a b c kept none line (length (last_line kept)) f.line n k p empty end whole (one_or_none kept) h
+    step false h = line_ended start now a b c kept none line 0 f.line n k p empty end whole (inl refl) (omega (arith, h))

@@ -4,6 +4,7 @@ pub mod Known
 pub mod Workers
 pub mod Parts
 pub mod FaultPlaces
+pub mod Results
 pub mod ScriptLines
 pub mod Drafts
 pub mod Numbers

@@ -5,8 +5,6 @@ use Rattle.std.proofs.lemmas.List.{append-nil}
 use Rattle.std.proofs.lemmas.List.Splits.{slice_split_at, slice_split_none, length-slice_split}
 use Rattle.hull_book.specs.Scripts.{ScriptValue}
 use Rattle.hull_text.specs.declared.fault.TextFault.{TextFault}
-use Rattle.hull_text.specs.declared.fault.FaultKind.TheVariants.{NoMemory}
-use Rattle.hull_text.specs.Fault.{fault_at}
 use Rattle.hull_text.specs.Item.{Item}
 use Rattle.hull_text.specs.ScriptLine.{script_line_of}
 use Rattle.hull_text.specs.ScriptText.{◌>>>◌, numbered, kept, last_items, items_of, pieces, with_front, script_items}
@@ -60,9 +58,9 @@ script_fault items n line f whole e = λ rest.
 pub script_refused : (items : List Item) (n : ℕ) (text : List ℕ) (f : TextFault) → f.number ≡ 10 → f.line ≡ n → FailsIn (AnswersScript items n) text f
 script_refused items n text f e place = λ rest. inl (inr e, reading_goes_on items f.line n (text ++ rest) (omega (arith, place)))
 
--- Refused memory for the last line.
-pub refused_at_end : (items : List Item) (n : ℕ) (text : List ℕ) → AnswersScript items n text (Err (fault_at n NoMemory))
-refused_at_end items n text = inl (inr refl, reading_goes_on items n n text (omega arith))
+-- Refused memory behind a text that has no fault.
+pub refused_at_end : (items all : List Item) (n : ℕ) (text : List ℕ) (f : TextFault) → reading items n text ≡ Ok all → f.number ≡ 10 → AnswersScript items n text (Err f)
+refused_at_end items all n text f e h = inl (inr h, rw e tt)
 
 -- what came out well passed the guard
 guard_true : {A : Type 0} (b : Bool) (x : A) (y : Result A TextFault) (e : TextFault) → Ok x ≡ cond b y (Err e) → b ≡ true

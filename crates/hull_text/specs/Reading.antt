@@ -2,7 +2,7 @@
 use Rattle.std.specs.Prelude.{◌≡◌, ◌⊎◌, ◌<◌, ◌≤◌, ◌+◌, ◌^◌, ◌==◌, ℕ, List, [], ◌∷◌, ◌++◌, length, Option, Some, None, Result, Err, false, if◌then◌else◌}
 use Rattle.std.specs.List.{All}
 use Rattle.hull_text.specs.declared.fault.TextFault.{TextFault}
-use Rattle.hull_text.specs.ScriptText.{text_lines}
+use Rattle.hull_text.specs.ScriptText.{last_line, text_lines}
 
 -- a line, or a part of one
 abbrev pub HasNoNewline : List ℕ → Type 0
@@ -44,7 +44,7 @@ IsLineTaken (Some bytes) None line = ⊥
 IsLineTaken (Some bytes) (Some left) line =
     (taken : List ℕ) × (bytes ≡ taken ++ left) × (1 ≤ line) × ((line ≤ 1 + newlines taken) ⊎ ((left ≡ []) × (line ≡ 1 + length (text_lines bytes))))
 
--- A line at the end of a text of which this part is left behind the newline before line n: this line, or the one after it
--- where it has any byte.
-abbrev pub IsLineAtEnd : ℕ → List ℕ → ℕ → Type 0
-IsLineAtEnd n part line = (line ≡ n) ⊎ ((0 < length part) × (line ≡ n + 1))
+-- The line of a fault that is told at the end of a text, of which this part is left from the beginning of line n on: the line
+-- after the last where memory was refused, and else line n.
+abbrev pub line_at_end : ℕ → List ℕ → TextFault → ℕ
+line_at_end n part f = if f.number == 10 then n + length (last_line part) else n

@@ -1,9 +1,10 @@
 ghost use Rattle.std.specs.Prelude.{◌≡◌, ◌≢◌, ◌++◌, ◌∷◌, [], ◌+◌, ◌≤◌, ◌<◌, IfErr, IfOk, MatchResult, OnErr, OnOk, Ok, Err, length};
-ghost use Rattle.hull_text.specs.ScriptText.{numbered};
+ghost use Rattle.hull_text.specs.Fault.{fault_at};
+ghost use Rattle.hull_text.specs.ScriptText.{kept, numbered};
 ghost use Rattle.hull_text.specs.ScriptLine.{script_line_of};
 ghost use Rattle.hull_text.specs.ScriptValue.{SaysWorker, script_of, workers_in};
 ghost use Rattle.hull_text.specs.Reading.{FailsIn, HasNoNewline, ReadsOn};
-ghost use Rattle.hull_text.specs.ScriptReading.{AnswersScript, IsDraft, reading};
+ghost use Rattle.hull_text.specs.ScriptReading.{AnswersScript, IsDraft};
 
 use super::assemble::script_from;
 use super::fault::{FaultKind, TextFault};
@@ -27,7 +28,7 @@ pub(crate) struct ScriptDraft {
 fn item_at(number: u32, line: &[u8]) -> Result<Option<Item>, TextFault>
     ensures value { result ≡ numbered number (script_line_of line.now) }
     ensures worker { IfOk result SaysWorker }
-    ensures inside { IfErr result (λ f. f.number ≢ 8) }
+    ensures inside { IfErr result (λ f. (f.number ≢ 8) × (f.number ≢ 10)) }
     ensures place { IfErr result (λ f. f.line ≡ number) }
     ensures low { IfOk result (λ _. number ≤ TEXT_LINE_LIMIT) }
 {
@@ -40,6 +41,21 @@ fn item_at(number: u32, line: &[u8]) -> Result<Option<Item>, TextFault>
     }
 }
 
+/// Keeps what a line says. Where memory is refused for it, the fault stands in the line that is given.
+fn keep_item(items: &mut Vec<Item>, item: Option<Item>, line: u32) -> Result<(), TextFault>
+    ensures ok { OnOk result (items.new.items ≡ items.old.items ++ kept item []) }
+    ensures err { IfErr result (λ f. f ≡ fault_at line FaultKind.NoMemory) }
+    ensures kept { OnErr result (items.new.items ≡ items.old.items) }
+{
+    let Some(item) = item else {
+        return Ok(());
+    };
+    match items.push(item) {
+        Ok(()) => Ok(()),
+        Err(_) => Err(TextFault::new(FaultKind::NoMemory, line)),
+    }
+}
+
 /// Reads line `number`, and keeps what it says.
 fn add_line(items: &mut Vec<Item>, number: u32, line: &[u8]) -> Result<(), TextFault>
     requires draft { IsDraft items.old.items number }
@@ -47,18 +63,12 @@ fn add_line(items: &mut Vec<Item>, number: u32, line: &[u8]) -> Result<(), TextF
     ensures draft { OnOk result (IsDraft items.new.items (number + 1)) }
     ensures on { OnOk result (ReadsOn (AnswersScript items.old.items number) (AnswersScript items.new.items (number + 1)) (line.now ++ 10 ∷ []) []) }
     ensures fault { IfErr result (FailsIn (AnswersScript items.old.items number) (line.now ++ 10 ∷ [])) }
-    ensures last { 0 < length line.now → OnOk result (reading items.old.items number line.now ≡ Ok items.new.items) }
-    ensures last_fault { 0 < length line.now → IfErr result (λ f. AnswersScript items.old.items number line.now (Err f)) }
     ensures kept { OnErr result (items.new.items ≡ items.old.items) }
     ensures inside { IfErr result (λ f. f.number ≢ 8) }
     ensures place { IfErr result (λ f. f.line ≡ number) }
 {
     match item_at(number, line) {
-        Ok(None) => Ok(()),
-        Ok(Some(item)) => match items.push(item) {
-            Ok(()) => Ok(()),
-            Err(_) => Err(TextFault::new(FaultKind::NoMemory, number)),
-        },
+        Ok(item) => keep_item(items, item, number),
         Err(fault) => Err(fault),
     }
 }
@@ -117,7 +127,8 @@ impl LineReader for ScriptDraft {
             return finished(alloc, &items, number);
         }
         let mut items = items;
-        add_line(&mut items, number, text)?;
+        let item = item_at(number, text)?;
+        keep_item(&mut items, item, number + 1)?;
         finished(alloc, &items, number + 1)
     }
 }
