@@ -162,8 +162,7 @@ line_ended start now (Some bytes) None c kept none line more at n k p empty end 
 line_ended start now (Some bytes) (Some rest) None kept none line more at n k p empty end whole h is = absurd p
 line_ended start now (Some bytes) (Some rest) (Some left) kept none line more at n k p empty end whole h is =
     let same : rest ≡ left = p ∙ ap (λ (t : List ℕ). t ++ left) empty in
-    let all : bytes ≡ k.text = k.whole ∙ ap (λ (t : List ℕ). k.text ++ t) (same ∙ end) ∙ append-nil k.text in
-    (
+    let all : bytes ≡ k.text = k.whole ∙ ap (λ (t : List ℕ). k.text ++ t) (same ∙ end) ∙ append-nil k.text in (
       k.text,
       k.whole ∙ ap (λ (t : List ℕ). k.text ++ t) same,
       omega (arith, k.lines, is),

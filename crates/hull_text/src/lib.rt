@@ -29,7 +29,8 @@ pub use fitting::report_fits;
 pub use journal::read_journal;
 pub use journal_text::write_journal;
 pub use laws::{
-    calls_are_read_again, faults_hold, numbers_have_one_spelling, replies_are_read_again, texts_hold,
+    calls_are_read_again, faults_hold, numbers_have_one_spelling, replies_are_read_again,
+    texts_hold,
 };
 pub use report::write_report;
 pub use script::read_script;

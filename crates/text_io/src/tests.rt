@@ -74,6 +74,16 @@ fn an_empty_piece_taken_by_no_byte_is_no_failure(rt: HostRuntime) -> Result<(), 
     Ok(())
 }
 
+// A writer that hands on a byte at a call meets its contract; here the device takes each piece at once.
+#[test]
+fn a_wide_device_is_called_once_a_piece(rt: HostRuntime) -> Result<(), Fail> {
+    let mut out = Counted::new(Spout::new(rt.alloc(), 64, 4096)?);
+    assert_eq!(rt; say(&mut out), Ok(()));
+    assert_eq!(rt; out.get_ref().calls(), 5);
+    assert_eq!(rt; out.get_ref().bytes(), SAID);
+    Ok(())
+}
+
 // A count that hands on a part of each piece meets its contract; here the device takes a piece at once.
 #[test]
 fn a_piece_is_handed_on_in_one_call(rt: HostRuntime) -> Result<(), Fail> {

@@ -196,20 +196,75 @@ fn each_proper_beginning_of_the_example_journal_is_truncated(rt: HostRuntime) ->
     Ok(())
 }
 
-#[test]
-fn each_failing_read_of_the_example_journal_is_fault_8(rt: HostRuntime) -> Result<(), Fail> {
+// How many lines of the text end in its first bytes, and one more.
+fn line_behind(text: &[u8], bytes: usize) -> u32 {
     let mut line = 1u32;
-    for (i, b) in EXAMPLE.iter().enumerate() {
-        assert_eq!(rt;
-            read(rt.alloc(), EXAMPLE, 1, (i as u64).saturating_add(1)),
-            Outcome::Fault(8, line)
-        );
-        if *b == b'\n' {
+    for (i, b) in text.iter().enumerate() {
+        if i < bytes && *b == b'\n' {
             line = line.saturating_add(1);
         }
     }
-    assert_eq!(rt; read(rt.alloc(), EXAMPLE, 1, 210), Outcome::Fault(8, 10));
+    line
+}
+
+#[test]
+fn each_failing_read_of_the_example_journal_is_fault_8(rt: HostRuntime) -> Result<(), Fail> {
+    for size in [1usize, 2, 3, 4096] {
+        let mut taken = 0usize;
+        let mut last = 0u64;
+        for call in 1u64..210 {
+            if taken < EXAMPLE.len() {
+                let line = line_behind(EXAMPLE, taken);
+                assert_eq!(rt;
+                    read(rt.alloc(), EXAMPLE, size, call),
+                    Outcome::Fault(8, line)
+                );
+                taken = taken.saturating_add(size);
+                last = call;
+            }
+        }
+        // the call that finds the end, and one that never comes
+        let ending = last.saturating_add(1);
+        assert_eq!(rt;
+            read(rt.alloc(), EXAMPLE, size, ending),
+            Outcome::Fault(8, 10)
+        );
+        let never = last.saturating_add(2);
+        assert_eq!(rt; read(rt.alloc(), EXAMPLE, size, never), Outcome::Lines(7));
+    }
     Ok(())
+}
+
+// A journal that is written to a device which takes pieces of this size and fails at each call in turn: whether the
+// write fault came each time, and a beginning of the text had gone out.
+fn is_cut_short_at_each_call(
+    alloc: Global,
+    journal: &Journal,
+    size: usize,
+    refuses: bool,
+) -> Result<bool, Fail> {
+    let mut sound = Counted::new(Spout::new(alloc, 256, size)?);
+    if write_journal(journal, &mut sound) != Ok(()) {
+        return Ok(false);
+    }
+    let calls = sound.get_ref().calls();
+    for call in 1..=calls {
+        let spout = Spout::new(alloc, 256, size)?;
+        let spout = if refuses {
+            spout.refusing_at(call)
+        } else {
+            spout.failing_at(call)
+        };
+        let mut out = Counted::new(spout);
+        if write_journal(journal, &mut out) != Err(WriteFault) || out.failures() != 1 {
+            return Ok(false);
+        }
+        let spout = out.into_inner();
+        if spout.calls() != call || !EXAMPLE.starts_with(spout.bytes()) {
+            return Ok(false);
+        }
+    }
+    Ok(calls > 0)
 }
 
 #[test]
@@ -217,24 +272,15 @@ fn each_failing_write_of_the_example_journal_leaves_a_beginning(
     rt: HostRuntime,
 ) -> Result<(), Fail> {
     let journal = example(rt.alloc())?;
-    for call in 1..210 {
+    for size in [1, 2, 3, 4096] {
         for refuses in [false, true] {
-            let spout = Spout::new(rt.alloc(), 256, 1)?;
-            let spout = if refuses {
-                spout.refusing_at(call)
-            } else {
-                spout.failing_at(call)
-            };
-            let mut out = Counted::new(spout);
-            let fresh = out.failures() == 0;
-            assert!(rt; fresh);
-            assert_eq!(rt; write_journal(&journal, &mut out), Err(WriteFault));
-            assert_eq!(rt; out.failures(), 1);
-            let spout = out.into_inner();
-            assert_eq!(rt; spout.bytes().len() as u64, call - 1);
-            assert!(rt; EXAMPLE.starts_with(spout.bytes()));
+            assert!(rt; is_cut_short_at_each_call(rt.alloc(), &journal, size, refuses)?);
         }
     }
+    // a device that takes a byte at a call is asked 209 times
+    let mut out = Counted::new(Spout::new(rt.alloc(), 256, 1)?);
+    assert_eq!(rt; write_journal(&journal, &mut out), Ok(()));
+    assert_eq!(rt; out.get_ref().calls(), 209);
     Ok(())
 }
 

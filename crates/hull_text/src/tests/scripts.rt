@@ -140,24 +140,13 @@ fn each_failing_read_is_fault_8_in_the_line_being_read(rt: HostRuntime) -> Resul
         }
     }
     assert_eq!(rt; read(rt.alloc(), text, 1, 24), Outcome::Fault(8, 4));
+    // by twos: the third byte of the first line comes with the second read, and the second line's newline with the fifth
+    for (call, line) in [(1, 1), (2, 1), (5, 2), (6, 3), (9, 4), (13, 4)] {
+        assert_eq!(rt; read(rt.alloc(), text, 2, call), Outcome::Fault(8, line));
+    }
+    assert_eq!(rt; read(rt.alloc(), text, 4096, 1), Outcome::Fault(8, 1));
+    assert_eq!(rt; read(rt.alloc(), text, 4096, 2), Outcome::Fault(8, 4));
     assert_eq!(rt; read(rt.alloc(), b"0 hull\n0", 1, 8), Outcome::Fault(5, 1));
-    Ok(())
-}
-
-#[test]
-fn a_script_has_at_most_33554432_lines(rt: HostRuntime) -> Result<(), Fail> {
-    let mut text = vec![in rt.alloc(); 10u8; 33554432]?;
-    assert_eq!(rt; read(rt.alloc(), &text, 65536, 0), Outcome::Script(1, 1, 0));
-    text.push(35)?;
-    assert_eq!(rt;
-        read(rt.alloc(), &text, 65536, 0),
-        Outcome::Fault(1, 33554433)
-    );
-    text.push(10)?;
-    assert_eq!(rt;
-        read(rt.alloc(), &text, 65536, 0),
-        Outcome::Fault(1, 33554433)
-    );
     Ok(())
 }
 
@@ -165,16 +154,20 @@ fn a_script_has_at_most_33554432_lines(rt: HostRuntime) -> Result<(), Fail> {
 fn whichever_request_is_refused_the_script_is_read_or_fault_10(
     rt: HostRuntime,
 ) -> Result<(), Fail> {
-    let text = b"1 count\n0 add 0 0\njoin\n0 vertices\n";
-    let mut source = Counted::new(Pieces::new(text, 1));
-    match read_script(rt.alloc(), &mut source) {
-        Ok(script) => assert_eq!(rt; script.phases().len(), 2),
-        Err(fault) => {
-            let line = line_in_hand(text, source.get_ref().calls());
-            assert_eq!(rt; fault, TextFault { number: 10, line });
-            assert_eq!(rt; source.failures(), 0);
+    for text in [
+        b"1 count\n0 add 0 0\njoin\n0 vertices\n".as_slice(),
+        b"1 count\n0 add 0 0\njoin\n0 vertices".as_slice(),
+    ] {
+        let mut source = Counted::new(Pieces::new(text, 1));
+        match read_script(rt.alloc(), &mut source) {
+            Ok(script) => assert_eq!(rt; script.phases().len(), 2),
+            Err(fault) => {
+                let line = line_in_hand(text, source.get_ref().calls());
+                assert_eq!(rt; fault, TextFault { number: 10, line });
+                assert_eq!(rt; source.failures(), 0);
+            }
         }
+        assert_eq!(rt; read(rt.alloc(), text, 3, 0), Outcome::Script(2, 2, 3));
     }
-    assert_eq!(rt; read(rt.alloc(), text, 3, 0), Outcome::Script(2, 2, 3));
     Ok(())
 }
