@@ -1,14 +1,9 @@
 -- Writing one text after another.
-use Rattle.std.proofs.Common.{◌≡◌, ◌<◌, ◌++◌, ◌∙◌, ℕ, zero, suc, List, [], take, drop, Option, Err, refl, sym, ap, arith, append_assoc}
+use Rattle.std.proofs.Common.{◌≡◌, ◌<◌, ◌++◌, ◌∙◌, ℕ, zero, suc, List, [], take, drop, Option, refl, sym, ap, arith, append_assoc}
 use Rattle.std.proofs.lemmas.List.{take-append-drop}
 use Rattle.std.specs.Io.KnownBytes.{Appends}
 use Rattle.std.proofs.KnownBytes.{Appends-trans, Appends-nil}
-use Rattle.text_io.specs.Write.{WritesText}
 use Rattle.text_io.specs.Count.{CountsTaken, raised}
-
--- A failed writing fails a longer text the same way.
-pub text_stopped : {E : Type 0} (a b : Option (List ℕ)) (l m : ℕ) (e : E) (t u : List ℕ) → WritesText a b l m (Err e) t → WritesText a b l m (Err e) (t ++ u)
-text_stopped a b l m e t u p = ((p.0.0, p.0.1 ++ u, ap (λ (w : List ℕ). w ++ u) p.0.2 ∙ append_assoc p.0.0 p.0.1 u, p.0.3), p.1, p.2)
 
 -- What a loop over pieces has written so far.
 pub record Written (a b : Option (List ℕ)) (piece rest : List ℕ) : Type 0 where

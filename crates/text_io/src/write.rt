@@ -45,10 +45,8 @@ pub fn put_after<W: Sink>(
     ensures was { OnOk result (IsOk done) }
     ensures alone { OnErr done (out.new ≡ out.old) }
 {
-    match done {
-        Ok(()) => put(out, piece),
-        Err(fault) => Err(fault),
-    }
+    done?;
+    put(out, piece)
 }
 
 /// Writes a number behind what was written so far, as `put_after` does: its digits without leading zeros,
