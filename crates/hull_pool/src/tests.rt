@@ -7,6 +7,7 @@ ghost use Rattle.hull_book.specs.Scripts.{calls_in};
 ghost use Rattle.hull_pool.specs.Scripts.{MayRunAll};
 
 mod gates;
+mod hostile;
 mod refused;
 
 use super::{Gate, NoGate, PhaseEnd, Workers, run_phase, run_phases};
@@ -50,7 +51,7 @@ fn opened(
     ensures ledgers { AreLedgers result.0 result.1.items }
     ensures workers { result.0.head.workers ≡ workers }
 {
-    let set = PlainSet::new(alloc, 8);
+    let set = PlainSet::new(alloc, 64);
     let set = match Book::open(alloc, set, first, capacity, workers) {
         Ok(made) => return made,
         Err((_, set)) => set,
@@ -307,27 +308,33 @@ fn six_counts(alloc: Global) -> Result<Script, AllocError> {
     two_phases(alloc, counts, none)
 }
 
-/// Three workers race for four lines whose numbers pass the greatest one, 50 times: six calls have four lines, the
-/// numbers run on behind 2^64 - 1, two answers are that the journal is full, and no worker has a reply behind one.
+/// Three workers race for four lines whose numbers pass the greatest one, 100 times: the numbers are the two greatest and
+/// then 0 and 1, four answers are that no point is there and two that the journal is full, and no worker has a reply
+/// behind one of those.
 #[test]
 fn six_calls_for_four_lines_across_the_wrap(rt: HostRuntime) -> Result<(), Fail> {
     let script = six_counts(rt.alloc())?;
-    let first = u64::MAX - 1;
-    for _ in 0..50u8 {
-        let end = run_script(&rt, rt.alloc(), first, 4, &script, &NoGate);
+    for _ in 0..100u8 {
+        let end = run_script(&rt, rt.alloc(), 18446744073709551614, 4, &script, &NoGate);
         assert_eq!(rt; (end.sum, end.journal.lines().len()), (4, 4));
         assert_eq!(rt; check(rt.alloc(), &end.journal), CheckResult::Legal);
-        for (k, line) in end.journal.lines().iter().enumerate() {
-            assert_eq!(rt; line.number, first.wrapping_add(k as u64));
-        }
+        let lines = end.journal.lines();
+        let numbers = [lines[0].number, lines[1].number, lines[2].number, lines[3].number];
+        assert_eq!(rt; numbers, [18446744073709551614, 18446744073709551615, 0, 1]);
+        let (mut counted, mut full) = (0u32, 0u32);
+        assert_eq!(rt; end.answers.len(), 3);
         for answers in &end.answers {
             assert_eq!(rt; answers.len(), 2);
-            let nothing = Ok(Reply::PointCount(0));
-            assert!(rt; answers[0] == nothing || answers[0] == Err(JournalFull));
-            assert!(rt;
-                answers[1] == Err(JournalFull) || answers[0] == nothing && answers[1] == nothing
-            );
+            for answer in answers {
+                if *answer == Ok(Reply::PointCount(0)) {
+                    counted = counted.wrapping_add(1);
+                } else if *answer == Err(JournalFull) {
+                    full = full.wrapping_add(1);
+                }
+            }
+            assert!(rt; answers[0] == Ok(Reply::PointCount(0)) || answers[1] == Err(JournalFull));
         }
+        assert_eq!(rt; (counted, full), (4, 2));
     }
     Ok(())
 }
