@@ -1,4 +1,5 @@
 pub mod Called
+pub mod Closed
 pub mod Worked
 pub mod Teams
 pub mod Phases

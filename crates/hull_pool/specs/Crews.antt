@@ -1,5 +1,5 @@
 -- The workers of a phase: a seat, answers and a ledger each.
-use Rattle.std.specs.Prelude.{◌≡◌, ◌<◌, ◌≤◌, ◌+◌, List, [], ◌∷◌, length, slice_index_or, Some, IsSome, IfSome, Vec, vec_len, vec_capacity, Box, box_value}
+use Rattle.std.specs.Prelude.{◌≡◌, ◌<◌, ◌≤◌, ◌+◌, ℕ, Option, List, [], ◌∷◌, length, slice_index_or, Some, IsSome, IfSome, Vec, vec_len, vec_capacity, Box, box_value}
 use mathlib.Core.List.{IsPrefix}
 use Rattle.std.specs.Global.{Global}
 use Rattle.hull_book.specs.Ledgers.{LedgerValue, IsLedgerOf}
@@ -32,6 +32,11 @@ Boxed S = Box (BookValue S) Global
 -- the head of a book on the heap
 abbrev pub book_head : {S : Type 0} → Boxed S → BookHead
 book_head b = (box_value b).head
+
+-- the seat is there, is the one of this number of the lock, and the ledger counts its lines among those that it has seen
+pub record IsSeated {S : Type 0} (lock : TicketLock (Boxed S) BookHead Line) (number : ℕ) (ledger : LedgerValue) (seat : Option (Seat (Boxed S) BookHead Line)) : Type 0 where
+  pub there : IsSome seat
+  pub own : IfSome seat (λ s. IsSeatOf book_head lock s × (seat_number s ≡ number) × IsLedgerOf number (seat_seen s) ledger)
 
 -- The worker may work on the phase: its seat is there, is of the lock, and has seen the lines of the book b; its ledger
 -- counts its lines among them; it has a list of calls, and room for an answer to each.

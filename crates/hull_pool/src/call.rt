@@ -12,20 +12,24 @@ use std::sync::Wait;
 use ticket_lock::{Seat, TicketLock};
 
 /// The lock round a book on the heap, which is cheap to hand on.
-pub(crate) type Lock<S> = TicketLock<Box<Book<S>>>;
+pub type BookLock<S> = TicketLock<Box<Book<S>>>;
 
 /// A seat of that lock.
-pub(crate) type BookSeat<S> = Seat<Box<Book<S>>>;
+pub type BookSeat<S> = Seat<Box<Book<S>>>;
 
-/// Has one call served. The seat that comes back has seen the journal as it handed it on.
-pub(crate) fn make_call<R: Wait, S: HullSet + Drop>(
+/// Makes one call: it waits until the seat holds the book, has the call served, and hands the book on. `number` is the
+/// seat's number, and `ledger` the ledger of that seat.
+///
+/// The answer is the reply, which has its line in the journal, in this seat's name; or that the journal is full. The
+/// seat that comes back has seen the journal as it handed it on, which begins with what it had seen before.
+pub fn make_call<R: Wait, S: HullSet + Drop>(
     rt: &R,
-    lock: &TicketLock<Box<Book<S>>>,
-    seat: Seat<Box<Book<S>>>,
+    lock: &BookLock<S>,
+    seat: BookSeat<S>,
     number: u8,
     call: Call,
     ledger: &mut Ledger,
-) -> (Seat<Box<Book<S>>>, Answer)
+) -> (BookSeat<S>, Answer)
     requires own { IsSeatOf book_head lock.now seat }
     requires number { seat_number seat ≡ number }
     requires below { number < workers_of (box_value (opening_book lock.now)) }

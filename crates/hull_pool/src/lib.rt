@@ -1,10 +1,26 @@
-//! Workers that run a script at once over one book under a ticket lock.
+//! Workers that share one book under a ticket lock: each makes its calls one by one, in a thread of its own, and what
+//! came of it is said over every order in which the threads' steps fall.
 //!
-//! Each worker makes its calls one by one: it enters the lock, has its call served, and hands the book on. What came of
-//! it is said over every order in which the workers' steps fall: `specs/Runs.antt`.
+//! # A book shared by threads of one's own
+//!
+//! 1. `Book::open` (crate `hull_book`) makes a book round an empty set, and a ledger for each worker.
+//! 2. `TicketLock::open` (crate `ticket_lock`) makes a lock round the book, boxed, and a seat for each worker.
+//! 3. Each thread has the seat and the ledger of one worker. [`make_call`] waits for the book, has a call served and
+//!    hands the book on: `let (seat, answer) = make_call(rt, &lock, seat, number, call, &mut ledger);`.
+//! 4. When all threads are joined, [`close_book`] closes the lock with all seats and gathers the ledgers: it gives back
+//!    the book, whose `into_journal` gives the journal, and how many calls have their line.
+//!
+//! The test `two_threads_share_a_book` does so from the opening to the end.
+//!
+//! # A whole script
+//!
+//! [`run_phases`] does all of it for a script: [`Workers`] holds the ledgers and the answers, and each phase has a lock
+//! and threads of its own. [`run_phase`] runs one phase. What a run comes to is said in `specs/Runs.antt`, of a phase, and
+//! in `specs/Scripts.antt`, of a script.
 #![tactic(auto)]
 
 mod call;
+mod close;
 mod crew;
 mod gate;
 mod phase;
@@ -13,6 +29,8 @@ mod tests;
 mod worker;
 mod workers;
 
+pub use call::{BookLock, BookSeat, make_call};
+pub use close::close_book;
 pub use gate::{Gate, NoGate};
 pub use phase::{PhaseEnd, PoolFault, run_phase, run_phases};
 pub use workers::Workers;

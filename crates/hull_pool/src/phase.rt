@@ -7,6 +7,7 @@ ghost use Rattle.hull_pool.specs.Work.{workers_of};
 ghost use Rattle.hull_pool.specs.Runs.{MayRun, HasRunPhase};
 ghost use Rattle.hull_pool.specs.Scripts.{MayRunAll, Runs, RunsFront};
 
+use super::call::{BookLock, BookSeat};
 use super::crew::{dismiss, hire};
 use super::gate::Gate;
 use super::worker::{Worker, work_all};
@@ -16,7 +17,7 @@ use hull_plain::HullSet;
 use std::alloc::Global;
 use std::sync::Wait;
 use std::thread::Threads;
-use ticket_lock::{Seat, TicketLock};
+use ticket_lock::TicketLock;
 
 /// Why a phase was not run.
 #[derive(Clone, Copy, PartialEq, Eq, Debug)]
@@ -38,8 +39,8 @@ pub struct PhaseEnd<S: HullSet + Drop> {
 /// Runs the workers over the phase under a lock that was opened for them, and closes it.
 fn run_locked<R: Threads + Wait + Sync, S: HullSet + Drop + Send + Sync, G: Gate>(
     rt: &R,
-    lock: TicketLock<Box<Book<S>>>,
-    mut seats: Vec<Seat<Box<Book<S>>>>,
+    lock: BookLock<S>,
+    mut seats: Vec<BookSeat<S>>,
     answers: &mut Vec<Vec<Answer>>,
     ledgers: &mut Vec<Ledger>,
     mut crew: Vec<Worker<Box<Book<S>>>>,

@@ -9,6 +9,7 @@ ghost use Rattle.hull_pool.specs.Scripts.{MayRunAll};
 mod gates;
 mod hostile;
 mod refused;
+mod sharing;
 
 use super::{Gate, NoGate, PhaseEnd, Workers, run_phase, run_phases};
 use hull_book::{
@@ -50,6 +51,7 @@ fn opened(
     ensures lawful { IsLawful plain_set result.0 }
     ensures ledgers { AreLedgers result.0 result.1.items }
     ensures workers { result.0.head.workers ≡ workers }
+    ensures empty { result.0.lines ≡ [] }
 {
     let set = PlainSet::new(alloc, 64);
     let set = match Book::open(alloc, set, first, capacity, workers) {
@@ -319,7 +321,12 @@ fn six_calls_for_four_lines_across_the_wrap(rt: HostRuntime) -> Result<(), Fail>
         assert_eq!(rt; (end.sum, end.journal.lines().len()), (4, 4));
         assert_eq!(rt; check(rt.alloc(), &end.journal), CheckResult::Legal);
         let lines = end.journal.lines();
-        let numbers = [lines[0].number, lines[1].number, lines[2].number, lines[3].number];
+        let numbers = [
+            lines[0].number,
+            lines[1].number,
+            lines[2].number,
+            lines[3].number,
+        ];
         assert_eq!(rt; numbers, [18446744073709551614, 18446744073709551615, 0, 1]);
         let (mut counted, mut full) = (0u32, 0u32);
         assert_eq!(rt; end.answers.len(), 3);

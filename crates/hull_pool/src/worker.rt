@@ -4,14 +4,14 @@ ghost use Rattle.std.specs.List.{AllZip};
 ghost use Rattle.ticket_lock.specs.Tokens.{opening_book};
 ghost use Rattle.hull_pool.specs.Crews.{IsReady, HasRun};
 
-use super::call::make_call;
+use super::call::{BookLock, make_call};
 use super::gate::Gate;
 use hull_book::{Answer, Book, Ledger, Phase};
 use hull_plain::HullSet;
 use std::sync::Wait;
 use std::thread;
 use std::thread::Threads;
-use ticket_lock::{Chronicle, Seat, TicketLock};
+use ticket_lock::{Chronicle, Seat};
 
 /// A worker of a phase. Its seat is there whenever it does not work.
 pub(crate) struct Worker<B: Chronicle> {
@@ -24,7 +24,7 @@ pub(crate) struct Worker<B: Chronicle> {
 /// Makes the worker's calls of the phase in their order, with the gate round each.
 pub(crate) fn work<R: Wait, S: HullSet + Drop, G: Gate>(
     rt: &R,
-    lock: &TicketLock<Box<Book<S>>>,
+    lock: &BookLock<S>,
     phase: &Phase,
     gate: &G,
     worker: &mut Worker<Box<Book<S>>>,
@@ -50,7 +50,7 @@ pub(crate) fn work<R: Wait, S: HullSet + Drop, G: Gate>(
 /// Each worker works on the phase, in a thread of its own where the system starts that many.
 fn work_each<R: Threads + Wait + Sync, S: HullSet + Drop + Send + Sync, G: Gate>(
     rt: &R,
-    lock: &TicketLock<Box<Book<S>>>,
+    lock: &BookLock<S>,
     phase: &Phase,
     gate: &G,
     crew: &mut [Worker<Box<Book<S>>>],
@@ -70,7 +70,7 @@ fn work_each<R: Threads + Wait + Sync, S: HullSet + Drop + Send + Sync, G: Gate>
 /// All workers of a crew work on the phase at once.
 pub(crate) fn work_all<R: Threads + Wait + Sync, S: HullSet + Drop + Send + Sync, G: Gate>(
     rt: &R,
-    lock: &TicketLock<Box<Book<S>>>,
+    lock: &BookLock<S>,
     phase: &Phase,
     gate: &G,
     crew: &mut Vec<Worker<Box<Book<S>>>>,

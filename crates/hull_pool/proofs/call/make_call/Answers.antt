@@ -1,3 +1,4 @@
+-- the book that the seat found has its own lines as it had seen them, and one call adds one of them at most
 use Rattle.std.proofs.Common.{◌≡◌, ◌∙◌, ap, sym, subst, box_value}
 use mathlib.Core.List.{IsPrefix}
 use Rattle.hull_book.specs.declared.head.BookHead.{BookHead}

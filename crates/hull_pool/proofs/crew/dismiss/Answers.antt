@@ -1,3 +1,4 @@
+-- the last worker's parts go behind those of the workers after it
 use Rattle.std.proofs.Common.{rules, ◌≡◌, reverse}
 use Rattle.std.specs.Prelude.{IsSome, IfSome}
 use Rattle.std.proofs.lemmas.Grind.{common_steps}

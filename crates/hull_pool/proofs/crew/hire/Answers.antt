@@ -1,3 +1,4 @@
+-- the last seat, answers and ledger make the next worker
 use Rattle.std.proofs.Common.{rules}
 use Rattle.std.proofs.lemmas.Grind.{common_steps}
 use Rattle.hull_pool.specs.Crews.{worker_of}

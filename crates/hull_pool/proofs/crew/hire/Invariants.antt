@@ -1,3 +1,4 @@
+-- the seats that are left and the workers that were made are all seats with their answers and ledgers
 use Rattle.std.proofs.Common.{◌≡◌, ◌+◌, ◌≤◌, ◌++◌, length, reverse, vec_len, vec_capacity}
 use Rattle.hull_pool.specs.Crews.{team, worker_of}
 use Rattle.hull_pool.proofs.crew.hire.Given as goal

@@ -1,3 +1,4 @@
+-- every worker that was hired has run, came back with its parts, and stands in the closed journal
 use Rattle.std.proofs.Common.{arith, ◌≡◌, ◌∙◌, sym, length}
 use Rattle.std.specs.Prelude.{box_value, IsSome, IfSome}
 use Rattle.hull_book.specs.Books.{BookValue}

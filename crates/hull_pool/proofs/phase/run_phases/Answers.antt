@@ -1,3 +1,4 @@
+-- one phase more was run, or it was refused and those before it were run
 use Rattle.std.proofs.Common.{◌≡◌, ◌++◌, ◌∷◌, ◌∙◌, List, suc, sym, ap, subst, take, drop, drop-cons}
 use Rattle.std.specs.Prelude.{slice_index_or}
 use Rattle.std.proofs.lemmas.List.{take_more, take-append-drop}

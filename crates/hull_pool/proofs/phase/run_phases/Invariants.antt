@@ -1,3 +1,4 @@
+-- the phases so far were run, and the workers may run those that are left
 use Rattle.std.proofs.Common.{take}
 use Rattle.hull_pool.specs.Scripts.{HasRunPhases}
 use Rattle.hull_pool.proofs.phase.run_phases.Given as goal

@@ -1,3 +1,4 @@
+-- one call more is one more of the worker's calls, and at the end all are made
 use Rattle.std.proofs.Common.{rules, arith, ◌∙◌, ◌+◌, sym, ap, subst, refl, ℕ, length}
 use Rattle.std.proofs.lemmas.Grind.{common_steps}
 use Rattle.hull_book.specs.Ledgers.{IsLedgerOf}

@@ -1,3 +1,4 @@
+-- the worker has made the calls before this one, and its ledger counts their lines
 use Rattle.std.proofs.Common.{◌≡◌, ◌+◌, ◌-◌, ◌≤◌, length, box_value, vec_len, vec_capacity}
 use Rattle.std.specs.Prelude.{IsNone}
 use mathlib.Core.List.{IsPrefix}

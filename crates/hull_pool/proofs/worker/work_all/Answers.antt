@@ -1,3 +1,4 @@
+-- what the threads leave at each place of the crew stands so in the crew read from its end
 use Rattle.std.proofs.Common.{arith, ◌≡◌, ◌∙◌, ap, length}
 use Rattle.std.specs.Prelude.{box_value}
 use Rattle.ticket_lock.specs.Tokens.{opening_book}

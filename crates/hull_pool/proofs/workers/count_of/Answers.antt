@@ -1,3 +1,4 @@
+-- the first phase's calls are counted, and there are no more calls than a text has lines
 use Rattle.std.proofs.Common.{◌<◌, arith, subst, All, length}
 use Rattle.std.proofs.lemmas.List.Elements.{All-tail}
 use Rattle.hull_pool.proofs.Fronts.{calls_le, counted_more}

@@ -1,3 +1,4 @@
+-- the calls counted and those of the phases that are left are all calls
 use Rattle.std.proofs.Common.{◌≡◌, ◌+◌, ◌<◌, ◌≤◌, length, All}
 use Rattle.hull_book.specs.Scripts.{calls_of}
 use Rattle.hull_book.specs.declared.limits.TheConstants.{TEXT_LINE_LIMIT}

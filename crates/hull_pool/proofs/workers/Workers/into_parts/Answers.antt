@@ -1,3 +1,4 @@
+-- the answers shown are those in the vectors
 use Rattle.std.proofs.Common.{◌∙◌, ap, map}
 use Rattle.hull_pool.specs.Answers.{WorkersValue}
 use Rattle.hull_pool.proofs.Fronts.{shown_answers}

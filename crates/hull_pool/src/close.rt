@@ -1,0 +1,32 @@
+//! The end of a shared book: its lock is closed, and its ledgers are gathered.
+ghost use Rattle.std.specs.Prelude.{◌≡◌, length, box_value, vec_len, All};
+ghost use Rattle.std.specs.List.{AllZip};
+ghost use Rattle.ticket_lock.specs.Tokens.{seat_count, opening_book, IsSeatOf, AreNumbered, seat_number, seat_seen};
+ghost use Rattle.hull_book.specs.Books.{IsLawful};
+ghost use Rattle.hull_book.specs.Ledgers.{IsLedgerOf};
+ghost use Rattle.hull_pool.specs.Crews.{book_head};
+ghost use Rattle.hull_pool.specs.Work.{workers_of};
+
+use super::call::{BookLock, BookSeat};
+use hull_book::{Book, Ledger, gather};
+use hull_plain::HullSet;
+
+/// Closes the lock and gathers the ledgers: the book, and how many calls have their line in its journal. It asks for all
+/// seats of the lock in the order of their numbers, and for the ledger of each, in the same order.
+pub fn close_book<S: HullSet + Drop>(
+    lock: BookLock<S>,
+    seats: Vec<BookSeat<S>>,
+    ledgers: Vec<Ledger>,
+) -> (Book<S>, u64)
+    requires all { (vec_len seats ≡ seat_count lock) × (seat_count lock ≡ workers_of (box_value (opening_book lock))) }
+    requires own { All (IsSeatOf book_head lock) seats.items }
+    requires numbered { AreNumbered seats.items }
+    requires ledgers { AllZip (λ s l. IsLedgerOf (seat_number s) (seat_seen s) l) seats.items ledgers.items }
+    ensures lawful { IsLawful S.HullSet result.0 }
+    ensures head { result.0.head ≡ book_head (opening_book lock) }
+    ensures sum { result.1 ≡ length result.0.lines }
+{
+    let book = Box::into_inner(lock.close(seats));
+    let sum = gather(&book, ledgers);
+    (book, sum)
+}
