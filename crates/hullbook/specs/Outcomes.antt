@@ -1,5 +1,5 @@
 -- What a run of a script comes to, and the text that is written of it.
-use Rattle.std.specs.Prelude.{◌≡◌, ◌<◌, ℕ, ◌^◌, cond, List, [], ◌++◌, length, map, Option, Some, None, Ok}
+use Rattle.std.specs.Prelude.{◌≡◌, ◌<◌, ℕ, ◌^◌, true, cond, List, [], ◌++◌, length, map, Option, Some, None, Ok}
 use Rattle.std.specs.Io.KnownBytes.{Appends}
 use Rattle.hull_book.specs.Books.{BookValue, opened_book}
 use Rattle.hull_tree.specs.Sets.{LimitedTree, hull_tree}
@@ -11,6 +11,7 @@ use Rattle.hull_pool.specs.Runs.{answers_of}
 use Rattle.hull_pool.specs.Scripts.{Runs}
 use Rattle.hull_text.specs.ReportText.{report_text}
 use Rattle.hull_text.specs.JournalText.{journal_text}
+use Rattle.hull_text.specs.JournalGrammar.{IsJournalText}
 use Rattle.hull_text.specs.Version.{written}
 use Rattle.hull_text.specs.ScriptGrammar.{IsScriptText, ReadsKnownScript}
 use Rattle.hullbook.specs.declared.options.Options.{Options}
@@ -39,6 +40,10 @@ pub record IsRun (script : ScriptValue) (o : Options) (answers : List (List Answ
 abbrev pub output_text : Options → ScriptValue → List (List Answer) → List ℕ → JournalValue → List ℕ
 output_text o script answers counts journal = cond o.journal (journal_text written journal) (report_text script answers counts journal)
 
+-- where the journal is asked for, the text is one of this journal
+abbrev pub IsJournalWhereAsked : Options → List ℕ → JournalValue → Type 0
+IsJournalWhereAsked o text journal = o.journal ≡ true → IsJournalText text journal
+
 -- The bytes were read as a script, it was run, and the bytes written have grown by the text of the run.
 pub record HasRunText (o : Options) (bytes : List ℕ) (old new : Option (List ℕ)) : Type 0 where
   pub script : ScriptValue
@@ -48,6 +53,7 @@ pub record HasRunText (o : Options) (bytes : List ℕ) (old new : Option (List �
   pub reads : IsScriptText bytes script
   pub runs : IsRun script o answers counts journal
   pub writes : Appends old new (output_text o script answers counts journal)
+  pub said : IsJournalWhereAsked o (output_text o script answers counts journal) journal
 
 -- the same for bytes that may be unknown; they have to be fewer than 2^63
 abbrev pub HasRunKnownText : Options → Option (List ℕ) → Option (List ℕ) → Option (List ℕ) → Type 0
