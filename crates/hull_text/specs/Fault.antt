@@ -24,9 +24,17 @@ fault_at n kind = record { number = fault_number kind; line = n }
 abbrev pub IsLineFault : FaultKind → Type 0
 IsLineFault kind = fault_number kind ≤ 5
 
+-- the reader failed
+abbrev pub IsReadFault : TextFault → Type 0
+IsReadFault f = f.number ≡ fault_number Read
+
+-- memory was refused
+abbrev pub IsMemoryFault : TextFault → Type 0
+IsMemoryFault f = f.number ≡ fault_number NoMemory
+
 -- a fault that is not the text's own: of the reader, or of memory
 abbrev pub IsOutside : TextFault → Type 0
-IsOutside f = (f.number ≡ 8) ⊎ (f.number ≡ 10)
+IsOutside f = IsReadFault f ⊎ IsMemoryFault f
 
 -- What reading gives has no fault before this line.
 abbrev pub NoFaultBefore : {V : Type 0} → ℕ → Result V TextFault → Type 0

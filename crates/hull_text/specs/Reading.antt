@@ -2,6 +2,8 @@
 use Rattle.std.specs.Prelude.{◌≡◌, ◌⊎◌, ◌<◌, ◌≤◌, ◌+◌, ◌^◌, ◌==◌, ℕ, List, [], ◌∷◌, ◌++◌, length, Option, Some, None, Result, Err, false, if◌then◌else◌}
 use Rattle.std.specs.List.{All}
 use Rattle.hull_text.specs.declared.fault.TextFault.{TextFault}
+use Rattle.hull_text.specs.declared.fault.FaultKind.TheVariants.{NoMemory}
+use Rattle.hull_text.specs.Fault.{fault_number}
 use Rattle.hull_text.specs.ScriptText.{last_line, text_lines}
 
 -- a line, or a part of one
@@ -47,4 +49,4 @@ IsLineTaken (Some bytes) (Some left) line =
 -- The line of a fault that is told at the end of a text, of which this part is left from the beginning of line n on: the line
 -- after the last where memory was refused, and else line n.
 abbrev pub line_at_end : ℕ → List ℕ → TextFault → ℕ
-line_at_end n part f = if f.number == 10 then n + length (last_line part) else n
+line_at_end n part f = if f.number == fault_number NoMemory then n + length (last_line part) else n

@@ -1,7 +1,7 @@
 -- What the program knows of a field that should be a number.
 use Rattle.std.specs.Prelude.{◌≡◌, ℕ, ◌≤◌, Option, Some, None}
-use Rattle.hull_text.specs.declared.number.Number.{Number}
-use Rattle.hull_text.specs.declared.number.Number.TheVariants.{Unspelled, Value, Huge}
+use Rattle.hull_text.specs.declared.read.number.Number.{Number}
+use Rattle.hull_text.specs.declared.read.number.Number.TheVariants.{Unspelled, Value, Huge}
 
 -- what a number of the program says of the number that a field spells
 abbrev pub TellsNumber : ℕ → Number ℕ → Option ℕ → Type 0

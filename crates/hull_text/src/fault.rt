@@ -1,4 +1,5 @@
-ghost use Rattle.std.specs.Prelude.{◌≡◌, ◌≤◌};
+ghost use Rattle.std.specs.Prelude.{◌≡◌, ◌≢◌, ◌≤◌, IfSome, None};
+ghost use Rattle.hull_text.specs.declared.fault.FaultKind.{FaultKind};
 ghost use Rattle.hull_text.specs.Fault.{fault_number, fault_at};
 
 /// What is wrong with a text, or kept it from being read.
@@ -25,6 +26,25 @@ pub enum FaultKind {
 }
 
 impl FaultKind {
+    /// The kind of fault that is reported by a number; `None` where no fault has it.
+    pub fn of(number: u8) -> Option<FaultKind>
+        ensures some { IfSome result (λ kind. fault_number kind ≡ number) }
+        ensures none { result ≡ None → (kind : FaultKind) → fault_number kind ≢ number }
+    {
+        match number {
+            1 => Some(FaultKind::Form),
+            2 => Some(FaultKind::Number),
+            3 => Some(FaultKind::Coordinate),
+            4 => Some(FaultKind::Worker),
+            5 => Some(FaultKind::Word),
+            6 => Some(FaultKind::Truncated),
+            7 => Some(FaultKind::Header),
+            8 => Some(FaultKind::Read),
+            10 => Some(FaultKind::NoMemory),
+            _ => None,
+        }
+    }
+
     /// The number by which the fault is reported.
     pub fn number(self) -> u8
         ensures value { result ≡ fault_number self }
@@ -53,6 +73,14 @@ pub struct TextFault {
 }
 
 impl TextFault {
+    /// What is wrong; `None` where no fault has the number.
+    pub fn kind(self) -> Option<FaultKind>
+        ensures some { IfSome result (λ kind. fault_number kind ≡ self.number) }
+        ensures none { result ≡ None → (kind : FaultKind) → fault_number kind ≢ self.number }
+    {
+        FaultKind::of(self.number)
+    }
+
     /// The fault of this kind in this line.
     pub(crate) fn new(kind: FaultKind, line: u32) -> TextFault
         ensures { result ≡ fault_at line kind }

@@ -1,41 +1,31 @@
 //! Scripts, journals and reports as texts.
+//!
+//! A script is read by `read_script`, a journal by `read_journal`, from a counted reader; `write_journal` and
+//! `write_report` write to a counted writer. A text that is no script or journal has a `TextFault`: what is wrong with it,
+//! and in which line.
 #![tactic(auto)]
 
-mod assemble;
-mod call;
 mod fault;
-mod field;
-mod fitting;
-mod item;
-mod journal;
-mod journal_draft;
-mod journal_line;
-mod journal_text;
 mod laws;
-mod number;
-mod reading;
-mod reply;
-mod report;
-mod script;
-mod script_draft;
-mod script_line;
-mod stage;
+mod read;
 mod version;
 mod words;
-mod writing;
+mod write;
 
 pub use fault::{FaultKind, TextFault};
-pub use fitting::report_fits;
-pub use journal::read_journal;
-pub use journal_text::write_journal;
 pub use laws::{
     calls_are_read_again, faults_hold, numbers_have_one_spelling, replies_are_read_again,
     texts_hold,
 };
-pub use report::write_report;
-pub use script::read_script;
-pub use text_io::{Counted, Pieces, Sink, Source, Spout, WriteFault};
+pub use read::{read_journal, read_script};
+pub use text_io::{Counted, Sink, Source, WriteFault};
 pub use version::{Version, WRITTEN};
+pub use write::{report_fits, write_journal, write_report};
+
+/// Devices for tests of what reads or writes texts.
+pub mod testing {
+    pub use text_io::testing::{Pieces, Spout};
+}
 
 #[cfg(test)]
 mod tests;

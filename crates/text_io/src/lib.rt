@@ -1,16 +1,14 @@
-//! Readers and writers that count their failures, writing a text piece by piece, and devices for tests.
+//! Readers and writers that count their failures, and writing a text piece by piece. `testing` has devices for tests.
 #![tactic(auto)]
 
 mod counted;
 mod device;
-mod pieces;
-mod spout;
+pub mod testing;
 mod write;
 
 pub use counted::Counted;
 pub use device::{Sink, Source};
-pub use pieces::Pieces;
-pub use spout::Spout;
+pub use testing::{Pieces, Spout};
 pub use write::{WriteFault, flush_after, number_after, put, put_after};
 
 #[cfg(test)]

@@ -1,7 +1,8 @@
 ghost use Rattle.std.specs.Prelude.{◌<◌, ◌-◌, ◌^◌};
 
 use super::line_in_hand;
-use crate::{Counted, Pieces, Spout, TextFault, WriteFault, read_journal, write_journal};
+use crate::testing::{Pieces, Spout};
+use crate::{Counted, TextFault, WriteFault, read_journal, write_journal};
 use hull_book::Journal;
 use std::alloc::Global;
 use std::io::BufWriter;

@@ -1,4 +1,5 @@
-use crate::{Counted, Pieces, Spout, read_journal, write_journal};
+use crate::testing::{Pieces, Spout};
+use crate::{Counted, read_journal, write_journal};
 use hull_book::Journal;
 use hull_plain::Reply;
 use std::alloc::Global;

@@ -1,6 +1,5 @@
-use crate::{
-    Counted, Pieces, Spout, WriteFault, read_journal, read_script, report_fits, write_report,
-};
+use crate::testing::{Pieces, Spout};
+use crate::{Counted, WriteFault, read_journal, read_script, report_fits, write_report};
 use hull_book::{Answer, Journal, JournalFull, Report, Script};
 use hull_plain::{Place, PointList, Reply};
 use lattice::Point;

@@ -1,5 +1,6 @@
 use super::line_in_hand;
-use crate::{Counted, Pieces, TextFault, read_script};
+use crate::testing::Pieces;
+use crate::{Counted, TextFault, read_script};
 use hull_plain::Call;
 use std::alloc::Global;
 use std::test::Fail;

@@ -1,6 +1,0 @@
-use Rattle.hull_book.specs.Answers.{answers_in}
-use Rattle.hull_text.specs.ReportText.{AreAnswered}
-use Rattle.hull_text.proofs.fitting.are_answered.Given as goal
-
-abbrev pub invariant-loop-worker : goal.invariant-loop-worker
-invariant-loop-worker l = AreAnswered l.worker l.phases (answers_in l.answers)

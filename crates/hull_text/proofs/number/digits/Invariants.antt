@@ -1,9 +1,0 @@
-use Rattle.std.proofs.Common.{◌≡◌, ◌^◌, ℕ, length}
-use Rattle.hull_text.specs.Number.{Tells, digits_after}
-use Rattle.hull_text.proofs.number.digits.Given as goal
-
-abbrev pub invariant-loop-rest : goal.invariant-loop-rest
-invariant-loop-rest l = (n : ℕ) × Tells (2 ^ 64) l.value n × (digits_after 0 l.field ≡ digits_after n l.rest)
-
-abbrev pub decreases-loop-rest : goal.decreases-loop-rest
-decreases-loop-rest l = length l.rest

@@ -1,0 +1,157 @@
+ghost use Rattle.std.specs.Prelude.{◌≡◌, ◌≤◌, ◌∷◌, [], ℕ, List, Option, Some, None, MatchOption, IfErr, IfOk, Ok};
+ghost use Rattle.lattice.specs.Plane.{IsCoordinate};
+ghost use Rattle.hull_text.specs.Fault.{IsLineFault};
+ghost use Rattle.hull_text.specs.Version.{coordinate_limit};
+ghost use Rattle.hull_text.specs.Number.{signed_of, number_of, negated, positive};
+ghost use Rattle.hull_text.specs.Field.{Gives, fields_left, coordinate_in, coordinate_at, point_at, direction_at, number_in as number_within, number_at, seat_in, seat_at};
+
+use super::number::{Number, number_in};
+use crate::fault::FaultKind;
+use crate::version::Version;
+use lattice::{Direction, Point};
+
+/// What is left of a line; `None` at its end.
+pub(crate) type Rest<'a> = Option<&'a [u8]>;
+
+/// The next field, and what is left behind it.
+#[tactic(auto, using(crate::proofs::Cut::cut_at, crate::proofs::Cut::cut_none))]
+pub(crate) fn next_field(rest: Rest<'_>) -> Option<(&[u8], Rest<'_>)>
+    ensures { MatchOption result (fields_left rest.entry ≡ []) (λ x. fields_left rest.entry ≡ x.0.now ∷ fields_left x.1) }
+{
+    let text = rest?;
+    for (i, b) in text.iter().enumerate() {
+        if *b == b' ' {
+            let (front, back) = text.split_at(i);
+            let (_, after) = back.split_at(1);
+            return Some((front, Some(after)));
+        }
+    }
+    Some((text, None))
+}
+
+fn negative(version: Version, digits: &[u8]) -> Result<i64, FaultKind>
+    ensures value { result ≡ coordinate_in (coordinate_limit version) (negated (number_of digits.now)) }
+    ensures line { IfErr result IsLineFault }
+    ensures small { IfOk result IsCoordinate }
+{
+    match number_in(digits) {
+        Number::Unspelled | Number::Value(0) => Err(FaultKind::Number),
+        Number::Value(n) if n <= version.coordinate_limit() => Ok(-(n as i64)),
+        _ => Err(FaultKind::Coordinate),
+    }
+}
+
+fn plain(version: Version, field: &[u8]) -> Result<i64, FaultKind>
+    ensures value { result ≡ coordinate_in (coordinate_limit version) (positive (number_of field.now)) }
+    ensures line { IfErr result IsLineFault }
+    ensures small { IfOk result IsCoordinate }
+{
+    match number_in(field) {
+        Number::Unspelled => Err(FaultKind::Number),
+        Number::Value(n) if n <= version.coordinate_limit() => Ok(n as i64),
+        _ => Err(FaultKind::Coordinate),
+    }
+}
+
+#[tactic(auto, unfolding(crate::specs::Number::signed_of))]
+fn coordinate(version: Version, field: &[u8]) -> Result<i64, FaultKind>
+    ensures value { result ≡ coordinate_in (coordinate_limit version) (signed_of field.now) }
+    ensures line { IfErr result IsLineFault }
+    ensures small { IfOk result IsCoordinate }
+{
+    match field {
+        [] => Err(FaultKind::Number),
+        [b'-', digits @ ..] => negative(version, digits),
+        [_, ..] => plain(version, field),
+    }
+}
+
+#[tactic(auto, unfolding(crate::specs::Field::coordinate_at))]
+fn coordinate_of(version: Version, rest: Rest<'_>) -> Result<(i64, Rest<'_>), FaultKind>
+    ensures value { Gives (λ x. (x.0, fields_left x.1)) result (coordinate_at version (fields_left rest.entry)) }
+    ensures small { IfOk result (λ x. IsCoordinate x.0) }
+{
+    let Some((field, rest)) = next_field(rest) else {
+        return Err(FaultKind::Form);
+    };
+    Ok((coordinate(version, field)?, rest))
+}
+
+/// The point of the next two fields.
+#[tactic(auto, unfolding(crate::specs::Field::point_at))]
+pub(crate) fn point_of(version: Version, rest: Rest<'_>) -> Result<(Point, Rest<'_>), FaultKind>
+    ensures { Gives (λ x. (x.0, fields_left x.1)) result (point_at version (fields_left rest.entry)) }
+{
+    let (x, rest) = coordinate_of(version, rest)?;
+    let (y, rest) = coordinate_of(version, rest)?;
+    let Ok(point) = Point::new(x, y) else {
+        unreachable!()
+    };
+    Ok((point, rest))
+}
+
+/// The direction of the next two fields.
+#[tactic(auto, unfolding(crate::specs::Field::direction_at, crate::specs::Field::point_at))]
+pub(crate) fn direction_of(
+    version: Version,
+    rest: Rest<'_>,
+) -> Result<(Direction, Rest<'_>), FaultKind>
+    ensures { Gives (λ x. (x.0, fields_left x.1)) result (direction_at version (fields_left rest.entry)) }
+{
+    let (x, rest) = coordinate_of(version, rest)?;
+    let (y, rest) = coordinate_of(version, rest)?;
+    if x == 0 && y == 0 {
+        return Err(FaultKind::Coordinate);
+    }
+    let Ok(direction) = Direction::new(x, y) else {
+        unreachable!()
+    };
+    Ok((direction, rest))
+}
+
+fn number_up_to(limit: u64, field: &[u8]) -> Result<u64, FaultKind>
+    ensures value { result ≡ number_within limit (number_of field.now) }
+    ensures line { IfErr result IsLineFault }
+    ensures small { IfOk result (λ n. n ≤ limit) }
+{
+    match number_in(field) {
+        Number::Value(n) if n <= limit => Ok(n),
+        _ => Err(FaultKind::Number),
+    }
+}
+
+/// The number up to a limit in the next field.
+#[tactic(auto, unfolding(crate::specs::Field::number_at))]
+pub(crate) fn number_of_field(limit: u64, rest: Rest<'_>) -> Result<(u64, Rest<'_>), FaultKind>
+    ensures value { Gives (λ x. (x.0, fields_left x.1)) result (number_at limit (fields_left rest.entry)) }
+    ensures small { IfOk result (λ x. x.0 ≤ limit) }
+{
+    let Some((field, rest)) = next_field(rest) else {
+        return Err(FaultKind::Form);
+    };
+    Ok((number_up_to(limit, field)?, rest))
+}
+
+fn seat(field: &[u8]) -> Result<u8, FaultKind>
+    ensures value { result ≡ seat_in (number_of field.now) }
+    ensures line { IfErr result IsLineFault }
+    ensures low { IfOk result (λ n. n ≤ 63) }
+{
+    match number_in(field) {
+        Number::Unspelled => Err(FaultKind::Number),
+        Number::Value(n) if n <= 63 => Ok(n as u8),
+        _ => Err(FaultKind::Worker),
+    }
+}
+
+/// The worker or seat in the next field.
+#[tactic(auto, unfolding(crate::specs::Field::seat_at))]
+pub(crate) fn seat_of(rest: Rest<'_>) -> Result<(u8, Rest<'_>), FaultKind>
+    ensures value { Gives (λ x. (x.0, fields_left x.1)) result (seat_at (fields_left rest.entry)) }
+    ensures low { IfOk result (λ x. x.0 ≤ 63) }
+{
+    let Some((field, rest)) = next_field(rest) else {
+        return Err(FaultKind::Form);
+    };
+    Ok((seat(field)?, rest))
+}

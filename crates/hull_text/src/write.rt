@@ -1,0 +1,9 @@
+//! Writing: a text goes out piece by piece, and behind a fault nothing goes out any more.
+mod fitting;
+mod journal_text;
+mod report;
+mod writing;
+
+pub use fitting::report_fits;
+pub use journal_text::write_journal;
+pub use report::write_report;
