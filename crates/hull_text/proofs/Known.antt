@@ -113,12 +113,6 @@ pub line_first : (a : Option (List ℕ)) (line : ℕ) → line ≡ 1 → IsLineT
 line_first None line first = tt
 line_first (Some bytes) line first = ([], refl, omega (arith, first), inl (omega (arith, first)))
 
--- A line that was being read was one of those bytes.
-pub line_read : (a b : Option (List ℕ)) (line : ℕ) → IsLineBeingRead a b line → IsLineTaken a b line
-line_read None b line h = tt
-line_read (Some bytes) None line h = absurd h
-line_read (Some bytes) (Some left) line h = (h.0, h.1, omega (arith, h.2), inl (omega (arith, h.2)))
-
 -- A line of a block that was taken.
 pub line_fed : {V : Type 0} (start now : Outlook V) (a b c : Option (List ℕ)) (kept piece : List ℕ) (line at n : ℕ) → Known start now a b kept line n → Consumes b c piece → line ≤ at → at ≤ line + newlines piece → IsLineTaken a c at
 line_fed start now None b c kept piece line at n k p low high = tt

@@ -1,5 +1,5 @@
 -- Reading a script line by line.
-use Rattle.std.proofs.Common.{◌≡◌, ◌<◌, ◌+◌, ℕ, suc, List, [], ◌∷◌, ◌++◌, length, Option, Some, None, Bool, true, false, cond, Result, Ok, Err, refl, sym, ap, subst, ◌∙◌, arith, add-one, append_assoc, inl, inr}
+use Rattle.std.proofs.Common.{◌≡◌, ◌<◌, ◌+◌, ℕ, suc, List, [], ◌∷◌, ◌++◌, length, Option, Some, None, Result, Ok, Err, refl, sym, ap, subst, ◌∙◌, arith, add-one, append_assoc, inl, inr}
 use Rattle.std.specs.Prelude.{◌==◌, MatchResult}
 use Rattle.std.proofs.lemmas.List.{append-nil}
 use Rattle.std.proofs.lemmas.List.Splits.{slice_split_at, slice_split_none, length-slice_split}
@@ -61,11 +61,6 @@ script_refused items n text f e place = λ rest. inl (inr e, reading_goes_on ite
 -- Refused memory behind a text that has no fault.
 pub refused_at_end : (items all : List Item) (n : ℕ) (text : List ℕ) (f : TextFault) → reading items n text ≡ Ok all → f.number ≡ 10 → AnswersScript items n text (Err f)
 refused_at_end items all n text f e h = inl (inr h, rw e tt)
-
--- what came out well passed the guard
-guard_true : {A : Type 0} (b : Bool) (x : A) (y : Result A TextFault) (e : TextFault) → Ok x ≡ cond b y (Err e) → b ≡ true
-guard_true true x y e h = refl
-guard_true false x y e h = absurd cc
 
 -- The last piece of a text.
 last_piece : (items : List Item) (n : ℕ) (line : List ℕ) → HasNoNewline line → reading items n line ≡ with_front items (last_items n line)

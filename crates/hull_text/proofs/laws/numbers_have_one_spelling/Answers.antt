@@ -1,3 +1,4 @@
+-- A number's digits are read as the number, and a field that is read as a number has its digits.
 use Rattle.std.proofs.Common.{arith, ap, ◌∙◌}
 use Rattle.hull_text.specs.Number.{number_of}
 use Rattle.hull_text.proofs.Numbers.{number_text, text_number}

@@ -1,3 +1,4 @@
+-- Each word is read as its reply, and each number as itself; nothing is left behind them.
 use Rattle.std.proofs.Common.{ap, ◌∙◌, sym, []}
 use Rattle.std.proofs.lemmas.List.{append-nil}
 use Rattle.hull_text.specs.Reply.{reply_at}

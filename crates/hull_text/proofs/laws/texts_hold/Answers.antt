@@ -1,3 +1,4 @@
+-- What the grammar says of a text is what reading gives, and reading gives one thing.
 use Rattle.std.proofs.Common.{refl, sym, ap, ◌∙◌}
 use Rattle.hull_text.specs.ScriptValue.{script_of}
 use Rattle.hull_text.specs.JournalReading.{journal_of}

@@ -1,3 +1,4 @@
+-- The calls so far, before those of the rest, are all the worker's calls.
 use Rattle.std.proofs.Common.{◌≡◌, ◌++◌, length}
 use Rattle.hull_text.specs.ScriptValue.{calls_by}
 use Rattle.hull_text.proofs.read.assemble.calls_of_worker.Given as goal

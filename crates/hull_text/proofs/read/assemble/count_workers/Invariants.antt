@@ -1,3 +1,4 @@
+-- Counting on from the workers so far gives the count of all items.
 use Rattle.std.proofs.Common.{◌≡◌, length}
 use Rattle.hull_text.specs.ScriptValue.{workers_from, workers_in}
 use Rattle.hull_text.proofs.read.assemble.count_workers.Given as goal

@@ -1,3 +1,4 @@
+-- No item so far ends the phase.
 use Rattle.std.proofs.Common.{◌≡◌, ℕ, ◌<◌, None}
 use Rattle.std.specs.List.{slice_index_or}
 use Rattle.hull_text.proofs.read.assemble.cut_phase.Given as goal

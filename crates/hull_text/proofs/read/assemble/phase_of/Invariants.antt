@@ -1,3 +1,4 @@
+-- The lists so far are those of the workers below the next one.
 use Rattle.std.proofs.Common.{◌≡◌}
 use Rattle.hull_book.specs.Scripts.{lists_of}
 use Rattle.hull_text.specs.ScriptValue.{jobs_below}

@@ -1,3 +1,4 @@
+-- The phases so far, before those of the items left, are all phases.
 use Rattle.std.proofs.Common.{◌≡◌, ◌++◌, map, length}
 use Rattle.hull_text.specs.ScriptValue.{jobs_below, parts, parts_left}
 use Rattle.hull_text.proofs.read.assemble.phases_of.Given as goal

@@ -1,3 +1,4 @@
+-- No byte so far is a space.
 use Rattle.std.proofs.Common.{◌≡◌, ℕ, ◌<◌, get_or}
 use Rattle.hull_text.proofs.read.field.next_field.Given as goal
 

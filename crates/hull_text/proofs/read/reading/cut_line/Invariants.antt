@@ -1,3 +1,4 @@
+-- No byte so far is a newline.
 use Rattle.std.proofs.Common.{◌≡◌, ℕ, ◌<◌, get_or}
 use Rattle.hull_text.proofs.read.reading.cut_line.Given as goal
 

@@ -1,3 +1,5 @@
+-- A block goes on with the reading by its bytes; so a fault's line, like the text itself, is told by the blocks that
+-- were taken.
 use Rattle.std.proofs.Common.{arith, refl, ◌∙◌, take}
 use Rattle.std.proofs.lemmas.List.{length-take}
 use Rattle.std.proofs.lemmas.Result.{err_from_is_err_and}

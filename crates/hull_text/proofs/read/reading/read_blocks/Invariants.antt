@@ -1,3 +1,4 @@
+-- The blocks so far were read as far as the kept part of a line, and no read has failed.
 use Rattle.std.proofs.Common.{◌≡◌}
 use Rattle.hull_text.specs.Reading.{HasNoNewline}
 use Rattle.hull_text.proofs.Known.{Known}

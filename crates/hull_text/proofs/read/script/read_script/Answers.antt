@@ -1,3 +1,4 @@
+-- At the start nothing was read, so what the reader of lines answers is an answer for the whole text.
 use Rattle.hull_text.proofs.ScriptTexts.{reads_known}
 use Rattle.hull_text.proofs.read.script.read_script.Goals as goal
 

@@ -1,3 +1,4 @@
+-- The count is the calls of the phases so far and what is left of it.
 use Rattle.std.proofs.Common.{◌≡◌, ◌+◌, length, All}
 use Rattle.hull_book.specs.Scripts.{calls_of}
 use Rattle.hull_text.proofs.write.fitting.has_calls.Given as goal

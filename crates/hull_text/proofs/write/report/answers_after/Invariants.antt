@@ -1,3 +1,4 @@
+-- The lines so far went out; those of the calls and answers left are still to come.
 use Rattle.std.proofs.Common.{length}
 use Rattle.hull_text.specs.Answers.{answers_text}
 use Rattle.hull_text.proofs.Chains.{Chained}

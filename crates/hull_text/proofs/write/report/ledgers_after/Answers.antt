@@ -1,3 +1,4 @@
+-- The line of a ledger stands before those of the ledgers behind it.
 use Rattle.hull_text.proofs.Chains.{chained_end, chained_more}
 use Rattle.hull_text.proofs.Reports.{ledgers_more, ledgers_none}
 use Rattle.hull_text.proofs.write.report.ledgers_after.Goals as goal

@@ -1,3 +1,4 @@
+-- The lines of the ledgers so far went out.
 use Rattle.std.proofs.Common.{drop}
 use Rattle.hull_text.specs.ReportText.{ledgers_text}
 use Rattle.hull_text.proofs.Chains.{Chained}

@@ -1,3 +1,4 @@
+-- The total is the sum of the ledgers so far, each below 2^32.
 use Rattle.std.proofs.Common.{◌≡◌, ◌≤◌, ◌*◌, ◌^◌, sum, take}
 use Rattle.hull_text.proofs.write.report.sum_of.Given as goal
 

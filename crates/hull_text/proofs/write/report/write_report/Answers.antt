@@ -1,3 +1,4 @@
+-- The workers' lines, the ledgers' and the sum's in a row are the report.
 use Rattle.std.proofs.Common.{subst, refl, sum, length, List, ℕ, []}
 use Rattle.std.proofs.KnownBytes.{Appends-nil}
 use Rattle.text_io.specs.Write.{WritesText}

@@ -1,3 +1,4 @@
+-- Nothing was read: no item, and one worker.
 use Rattle.hull_text.proofs.Drafts.{draft_empty}
 use Rattle.hull_text.proofs.read.script_draft.ScriptDraft.new.Goals as goal
 
