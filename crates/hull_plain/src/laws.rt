@@ -1,5 +1,8 @@
 //! Laws of the definitions: each function has an empty body, and its contract is the law.
+ghost use Rattle.std.specs.Prelude.{◌≡◌};
 ghost use Rattle.hull_plain.specs.Laws.{VertexListIsUnique, DoubledAreaIsUnique, RepliesAreUnique, WithPointAddsThePoint, WithoutPointTakesThePoint};
+
+use super::POINT_LIMIT;
 
 /// A list of points has one list of vertices at most.
 pub fn vertex_list_is_unique()
@@ -26,4 +29,9 @@ pub fn with_point_adds_the_point()
 /// and it is in that order. This is what an answered `remove` makes of the live points.
 pub fn without_point_takes_the_point()
     ensures { WithoutPointTakesThePoint }
+{}
+
+/// The number that [`POINT_LIMIT`] is.
+pub fn point_limit_is_stated()
+    ensures { POINT_LIMIT ≡ 1048576 }
 {}

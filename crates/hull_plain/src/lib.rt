@@ -21,8 +21,8 @@ mod wrapping;
 
 pub use call::Call;
 pub use laws::{
-    doubled_area_is_unique, replies_are_unique, vertex_list_is_unique, with_point_adds_the_point,
-    without_point_takes_the_point,
+    doubled_area_is_unique, point_limit_is_stated, replies_are_unique, vertex_list_is_unique,
+    with_point_adds_the_point, without_point_takes_the_point,
 };
 pub use plain_set::PlainSet;
 pub use point_list::PointList;
