@@ -1,6 +1,7 @@
 //! Schedules over a book of the leaf tree, all of them for small scripts, and many by chance for larger ones.
 ghost use Rattle.std.specs.Prelude.{◌≤◌};
 
+mod by_hand;
 mod choice;
 mod judge;
 mod player;
@@ -67,6 +68,7 @@ fn three_players(
     Ok(Game {
         calls: Vec::from_array(alloc, [zero, one, two])?,
         first,
+        capacity: 64,
         misses,
     })
 }
@@ -99,6 +101,7 @@ fn every_way_of_two_players_with_misses(rt: HostRuntime) -> Result<(), Fail> {
     let game = Game {
         calls: Vec::from_array(rt.alloc(), [zero, one])?,
         first: 5,
+        capacity: 64,
         misses: 2,
     };
     assert_eq!(rt; try_each_way(&rt, rt.alloc(), &game, 2), 18944);
@@ -118,6 +121,7 @@ fn every_way_of_four_players(rt: HostRuntime) -> Result<(), Fail> {
     let game = Game {
         calls: Vec::from_array(alloc, calls)?,
         first: 18446744073709551615,
+        capacity: 64,
         misses: 1,
     };
     assert_eq!(rt; try_each_way(&rt, alloc, &game, 4), 9096);
@@ -144,6 +148,7 @@ fn four_players(rt: &impl Abort, alloc: Global, first: u64) -> Result<Game, Allo
     Ok(Game {
         calls: Vec::from_array(alloc, [zero, one, two, three])?,
         first,
+        capacity: 64,
         misses: 200,
     })
 }

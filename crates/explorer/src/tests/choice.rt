@@ -45,6 +45,30 @@ impl Choice for EachWay {
     }
 }
 
+/// Makes the choices that are listed, and then the first one.
+#[derive(Drop)]
+pub(super) struct Listed {
+    choices: Vec<u8>,
+    at: usize,
+}
+
+impl Listed {
+    pub(super) fn new(choices: Vec<u8>) -> Listed {
+        Listed { choices, at: 0 }
+    }
+}
+
+impl Choice for Listed {
+    fn next(&mut self, _width: u8) -> u8 {
+        let chosen = match self.choices.get(self.at) {
+            Some(chosen) => *chosen,
+            None => 0,
+        };
+        self.at = self.at.saturating_add(1);
+        chosen
+    }
+}
+
 /// Chooses by a linear congruential generator (Lehmer, 1949), with the constants of Knuth's MMIX.
 #[derive(Clone, Copy, Debug)]
 pub(super) struct Chance {

@@ -42,7 +42,8 @@ fn replays_on_the_plain_set(
     requires { (1 ≤ workers) × (workers ≤ 64) }
 {
     let set = PlainSet::new(alloc, 16);
-    let Ok((mut book, mut ledgers)) = Book::open(alloc, set, game.first, 64, workers) else {
+    let Ok((mut book, mut ledgers)) = Book::open(alloc, set, game.first, game.capacity, workers)
+    else {
         panic!(rt; "there is memory for the book")
     };
     serve_lines(rt, &mut book, &mut ledgers, journal.lines());

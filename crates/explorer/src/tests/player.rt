@@ -4,7 +4,7 @@ ghost use Rattle.ticket_lock.specs.Tokens.{opening_book, guard_lock};
 ghost use Rattle.hull_pool.specs.Work.{workers_of};
 ghost use Rattle.explorer.specs.Places.{IsSeatAt, IsGuardAt, IsPlaced};
 
-use hull_book::{Answer, Book, Call, Ledger};
+use hull_book::{Answer, Book, Call, Ledger, Line};
 use hull_plain::HullSet;
 use hull_pool::{BookLock, BookSeat};
 use hull_tree::HullTree;
@@ -18,8 +18,8 @@ pub(super) enum Step {
     Took(u64),
     /// The number was not served.
     Missed,
-    /// The number was served.
-    Entered,
+    /// The number was served: the book's turn, and the number and the seat of its last line.
+    Entered(u64, Option<(u64, u8)>),
     /// The call was served, and the book handed on.
     HandedOn,
 }
@@ -63,6 +63,27 @@ fn serve<'a>(
     (guard.hand_on(), answer)
 }
 
+// The number and the seat of the last line.
+fn last_of(lines: &[Line]) -> Option<(u64, u8)> {
+    match lines.last() {
+        Some(line) => Some((line.number, line.seat)),
+        None => None,
+    }
+}
+
+// The book's turn, and the number and the seat of its last line. The guard comes back as it was.
+fn look_in<'a>(
+    guard: Guard<'a, Box<Book<HullTree>>>,
+) -> (Guard<'a, Box<Book<HullTree>>>, u64, Option<(u64, u8)>)
+    ensures { result.0 ≡ guard.entry }
+{
+    let mut guard = guard;
+    let book: &Book<HullTree> = guard.book();
+    let turn = book.turn();
+    let last = last_of(book.lines());
+    (guard, turn, last)
+}
+
 /// Makes the player's next step.
 pub(super) fn make_step<'a>(
     rt: &impl Abort,
@@ -82,8 +103,9 @@ pub(super) fn make_step<'a>(
     if let Some(ticket) = player.ticket.take() {
         return match lock.look(ticket) {
             Look::Entered(guard) => {
+                let (guard, turn, last) = look_in(guard);
                 put(rt, &mut player.guard, guard);
-                Step::Entered
+                Step::Entered(turn, last)
             }
             Look::NotYet(ticket) => {
                 put(rt, &mut player.ticket, ticket);

@@ -21,11 +21,13 @@ use ticket_lock::TicketLock;
 /// How many steps a schedule has at most.
 const STEPS: u32 = 4096;
 
-/// What is tried: the calls of each player, the first number, and how often looks may miss.
+/// What is tried: the calls of each player, the first number, the journal's capacity, and how often looks may
+/// miss.
 #[derive(Drop)]
 pub(super) struct Game {
     pub(super) calls: Vec<Vec<Call>>,
     pub(super) first: u64,
+    pub(super) capacity: u32,
     pub(super) misses: u32,
 }
 
@@ -36,6 +38,7 @@ pub(super) struct Seen {
     pub(super) enterers: Vec<u8>,
     pub(super) handed: usize,
     pub(super) misses: u32,
+    pub(super) steps: Vec<(u8, Step)>,
 }
 
 /// What came of it: each player's answers, the last player's first, the sum of the ledgers, and the journal.
@@ -117,7 +120,11 @@ fn expected_step<'a>(
     };
     let served = is_served(player, seen);
     let number = player.number;
-    match make_step(rt, lock, player, call) {
+    let step = make_step(rt, lock, player, call);
+    let Ok(()) = seen.steps.push((number, step)) else {
+        panic!(rt; "there is memory for the notes")
+    };
+    match step {
         Step::Took(taken) => {
             let taken_before = seen.takers.len();
             assert_eq!(rt; taken, game.first.wrapping_add(taken_before as u64));
@@ -128,7 +135,7 @@ fn expected_step<'a>(
             assert!(rt; !served);
             seen.misses = seen.misses.saturating_add(1);
         }
-        Step::Entered => {
+        Step::Entered(_turn, _last) => {
             assert!(rt; served);
             note(rt, &mut seen.enterers, number);
         }
@@ -257,7 +264,7 @@ pub(super) fn play_once<C: Choice>(
     requires { (1 ≤ workers) × (workers ≤ 64) }
 {
     let set = HullTree::new(alloc, 16);
-    let Ok((book, mut ledgers)) = Book::open(alloc, set, game.first, 64, workers) else {
+    let Ok((book, mut ledgers)) = Book::open(alloc, set, game.first, game.capacity, workers) else {
         panic!(rt; "there is memory for the book")
     };
     let Ok(book) = Box::new(alloc, book) else {
@@ -274,6 +281,7 @@ pub(super) fn play_once<C: Choice>(
         enterers: Vec::new(alloc),
         handed: 0,
         misses: 0,
+        steps: Vec::new(alloc),
     };
     let mut answers = Vec::new(alloc);
     hire(rt, alloc, &lock, &mut seats, &mut ledgers, &mut players);
