@@ -14,7 +14,8 @@ chosen true x y z e = inl (refl, e)
 chosen false x y z e = inr (refl, e)
 
 -- Both steps went well.
-pub bind_ok : {A B : Type 0} (r : Result A FaultKind) (f : A → Result B FaultKind) (y : B) → (r >>= f) ≡ Ok y → (x : A) × (r ≡ Ok x) × (f x ≡ Ok y)
+pub bind_ok : {A B : Type 0} (r : Result A FaultKind) (f : A → Result B FaultKind) (y : B) → (r >>= f) ≡ Ok y
+    → (x : A) × (r ≡ Ok x) × (f x ≡ Ok y)
 bind_ok (Ok x) f y e = (x, refl, e)
 bind_ok (Err d) f y e = absurd cc
 
@@ -27,12 +28,14 @@ pub ok_is : {A : Type 0} (x y : A) → done x ≡ done y → x ≡ y
 ok_is x y e = cc
 
 -- A test was met.
-pub guard_ok : {A : Type 0} (b : Bool) (x : Result A FaultKind) (f : FaultKind) (y : A) → cond b x (Err f) ≡ Ok y → (b ≡ true) × (x ≡ Ok y)
+pub guard_ok : {A : Type 0} (b : Bool) (x : Result A FaultKind) (f : FaultKind) (y : A) → cond b x (Err f) ≡ Ok y
+    → (b ≡ true) × (x ≡ Ok y)
 guard_ok true x f y e = (refl, e)
 guard_ok false x f y e = absurd cc
 
 -- A test was not met.
-pub guard_err : {A : Type 0} (b : Bool) (x : Result A FaultKind) (f : FaultKind) (y : A) → cond b (Err f) x ≡ Ok y → (b ≡ false) × (x ≡ Ok y)
+pub guard_err : {A : Type 0} (b : Bool) (x : Result A FaultKind) (f : FaultKind) (y : A) → cond b (Err f) x ≡ Ok y
+    → (b ≡ false) × (x ≡ Ok y)
 guard_err true x f y e = absurd cc
 guard_err false x f y e = (refl, e)
 
@@ -57,6 +60,7 @@ pub word_is : (w text : List ℕ) → bytes_eq w text ≡ true → w ≡ text
 word_is w text e = (bytes_eq-Decides w text).0 e
 
 -- What follows from both steps having gone well.
-pub with_ok : {A B : Type 0} (r : Result A FaultKind) (f : A → Result B FaultKind) (y : B) (P : Type 0) → (r >>= f) ≡ Ok y → ((x : A) → r ≡ Ok x → f x ≡ Ok y → P) → P
+pub with_ok : {A B : Type 0} (r : Result A FaultKind) (f : A → Result B FaultKind) (y : B) (P : Type 0)
+    → (r >>= f) ≡ Ok y → ((x : A) → r ≡ Ok x → f x ≡ Ok y → P) → P
 with_ok (Ok x) f y P e k = k x refl e
 with_ok (Err d) f y P e k = absurd cc

@@ -18,7 +18,8 @@ pub some_is : {A : Type 0} (x y : A) → Some x ≡ Some y → x ≡ y
 some_is x y e = cc
 
 -- A look-up found its first entry, or went on.
-pub pick : {A : Type 0} (b : Bool) (w x : A) (rest : Option A) (P : A → Type 0) → (b ≡ true → P w) → (rest ≡ Some x → P x) → cond b (Some w) rest ≡ Some x → P x
+pub pick : {A : Type 0} (b : Bool) (w x : A) (rest : Option A) (P : A → Type 0) → (b ≡ true → P w)
+    → (rest ≡ Some x → P x) → cond b (Some w) rest ≡ Some x → P x
 pick true w x rest P here there e = subst P (some_is w x e) (here refl)
 pick false w x rest P here there e = there e
 
@@ -53,7 +54,8 @@ abbrev Takes : Version → List Field → Call × List Field → Type 0
 Takes v fs c = (fs ≡ call_fields c.0 ++ c.1) × IsCall v c.0
 
 -- a call that was read is the word and the fields that spell it
-after_takes : (v : Version) (w : CallWord) (fs : List Field) (c : Call × List Field) → call_after v (Some w) fs ≡ Ok c → Takes v (call_word_text w ∷ fs) c
+after_takes : (v : Version) (w : CallWord) (fs : List Field) (c : Call × List Field) → call_after v (Some w) fs ≡ Ok c
+    → Takes v (call_word_text w ∷ fs) c
 unfolding call_after
 after_takes v word.Add fs c e =
     let b = bind_ok (point_at v fs) (λ p. Ok (Add p.0, p.1)) c e in
@@ -85,7 +87,8 @@ unfolding call_after
 none_read v fs c e = cc
 
 -- A call that is read is spelled there.
-pub call_takes : (v : Version) (fs : List Field) (c : Call × List Field) → call_at v fs ≡ Ok c → (fs ≡ call_fields c.0 ++ c.1) × IsCall v c.0
+pub call_takes : (v : Version) (fs : List Field) (c : Call × List Field) → call_at v fs ≡ Ok c
+    → (fs ≡ call_fields c.0 ++ c.1) × IsCall v c.0
 unfolding call_at
 call_takes v [] c e = absurd cc
 call_takes v (f ∷ fs) c e = found (call_word_of f) refl
@@ -95,7 +98,8 @@ call_takes v (f ∷ fs) c e = found (call_word_of f) refl
     found (Some w) same = subst (λ (t : Field). Takes v (t ∷ fs) c) (sym (call_word_takes f w same)) (after_takes v w fs c (rw same at e))
 
 -- A call that is spelled is read.
-pub call_again : (v : Version) (c : Call) (rest : List Field) → IsCall v c → call_at v (call_fields c ++ rest) ≡ Ok (c, rest)
+pub call_again : (v : Version) (c : Call) (rest : List Field) → IsCall v c
+    → call_at v (call_fields c ++ rest) ≡ Ok (c, rest)
 unfolding call_at call_after
 call_again v (Add p) rest fits = rw (call_word_again word.Add, point_again v p rest fits) refl
 call_again v (Remove p) rest fits = rw (call_word_again word.Remove, point_again v p rest fits) refl

@@ -25,7 +25,8 @@ pub record Chained {E : Type 0} (first now : Result Unit E) (a b : Option (List 
   pub was : OnOk now (IsOk first)
 
 -- Nothing was written.
-pub chained_start : {E : Type 0} (first : Result Unit E) (a : Option (List ℕ)) (l : ℕ) (all left : List ℕ) → left ≡ all → Chained first first a a l l all left
+pub chained_start : {E : Type 0} (first : Result Unit E) (a : Option (List ℕ)) (l : ℕ) (all left : List ℕ) → left ≡ all
+    → Chained first first a a l l all left
 chained_start first a l all left e = record {
   text = [];
   whole = e;
@@ -43,7 +44,8 @@ chained_start first a l all left e = record {
     itself (Err e) = tt
 
 -- A piece more was written.
-pub chained_more : {E : Type 0} (first now next : Result Unit E) (a b c : Option (List ℕ)) (l m n : ℕ) (all left piece rest : List ℕ) → Chained first now a b l m all left → left ≡ piece ++ rest
+pub chained_more : {E : Type 0} (first now next : Result Unit E) (a b c : Option (List ℕ)) (l m n : ℕ)
+    (all left piece rest : List ℕ) → Chained first now a b l m all left → left ≡ piece ++ rest
     → WritesOn now next b c m n piece → OnOk next (n ≡ m) → OnOk next (IsOk now) → Chained first next a c l n all rest
 chained_more first now next a b c l m n all left piece rest h e wrote kept was = record {
   text = h.text ++ piece;
@@ -53,7 +55,8 @@ chained_more first now next a b c l m n all left piece rest h e wrote kept was =
   was = was_then first now next h.was was;
 }
   where
-    kept_then : {E : Type 0} (d e : Result Unit E) (l m n : ℕ) → OnOk d (m ≡ l) → OnOk e (n ≡ m) → OnOk e (IsOk d) → OnOk e (n ≡ l)
+    kept_then : {E : Type 0} (d e : Result Unit E) (l m n : ℕ) → OnOk d (m ≡ l) → OnOk e (n ≡ m) → OnOk e (IsOk d)
+        → OnOk e (n ≡ l)
     kept_then (Ok x) (Ok y) l m n p q w = q ∙ p
     kept_then (Err x) (Ok y) l m n p q w = absurd (cc w)
     kept_then d (Err y) l m n p q w = tt
@@ -64,12 +67,14 @@ chained_more first now next a b c l m n all left piece rest h e wrote kept was =
     was_then f d (Err y) p w = tt
 
 -- All was written.
-pub chained_end : {E : Type 0} (first now : Result Unit E) (a b : Option (List ℕ)) (l m : ℕ) (all left : List ℕ) → Chained first now a b l m all left → left ≡ [] → WritesOn first now a b l m all
+pub chained_end : {E : Type 0} (first now : Result Unit E) (a b : Option (List ℕ)) (l m : ℕ) (all left : List ℕ)
+    → Chained first now a b l m all left → left ≡ [] → WritesOn first now a b l m all
 chained_end first now a b l m all left h e = λ start count text p.
     subst (λ (w : List ℕ). WritesText start b count m now (text ++ w)) (sym (append-nil h.text) ∙ ap (λ (w : List ℕ). h.text ++ w) (sym e) ∙ h.whole) (h.wrote start count text p)
 
 -- A point stands before the others.
-pub points_cons : (p : Pair) (after rest : List Pair) → rest ≡ p ∷ after → spaced (points_fields rest) ≡ spaced (pair_fields p) ++ spaced (points_fields after)
+pub points_cons : (p : Pair) (after rest : List Pair) → rest ≡ p ∷ after
+    → spaced (points_fields rest) ≡ spaced (pair_fields p) ++ spaced (points_fields after)
 points_cons p after rest e = ap (λ (r : List Pair). spaced (points_fields r)) e ∙ spaced_append (pair_fields p) (points_fields after)
 
 -- Six pieces behind a text are one piece behind it.
@@ -77,5 +82,6 @@ pub six_pieces : (text a b c d e f : List ℕ) → text ++ a ++ b ++ c ++ d ++ e
 six_pieces text a b c d e f = simp append_assoc
 
 -- Seven pieces behind a text are one piece behind it.
-pub seven_pieces : (text a b c d e f g : List ℕ) → text ++ a ++ b ++ c ++ d ++ e ++ f ++ g ≡ text ++ (a ++ b ++ c ++ d ++ e ++ f ++ g)
+pub seven_pieces : (text a b c d e f g : List ℕ)
+    → text ++ a ++ b ++ c ++ d ++ e ++ f ++ g ≡ text ++ (a ++ b ++ c ++ d ++ e ++ f ++ g)
 seven_pieces text a b c d e f g = simp append_assoc

@@ -9,7 +9,8 @@ abbrev pub cut : List ℕ → List (List ℕ)
 cut text = slice_split (λ b. b == 32) text
 
 -- Where the first space stands behind some bytes, these are the first field.
-pub cut_at : (text : List ℕ) (i : ℕ) → i < length text → get_or text i 0 ≡ 32 → ((k : ℕ) → k < i → get_or text k 0 ≡ 32 → ⊥) → cut text ≡ take i text ∷ cut (drop 1 (drop i text))
+pub cut_at : (text : List ℕ) (i : ℕ) → i < length text → get_or text i 0 ≡ 32
+    → ((k : ℕ) → k < i → get_or text k 0 ≡ 32 → ⊥) → cut text ≡ take i text ∷ cut (drop 1 (drop i text))
 cut_at [] i lt here before = absurd (omega arith)
 cut_at (b ∷ bs) zero lt here before = rw here refl
 cut_at (b ∷ bs) (suc i) lt here before =

@@ -17,7 +17,8 @@ draft_nothing : (items : List Item) (n : ℕ) → IsDraft items n → n ≤ 3355
 draft_nothing items n d low = record { low = omega arith; high = omega arith; few = omega (arith, d.few); workers = d.workers }
 
 -- A line that says something.
-draft_more : (items : List Item) (n : ℕ) (item : Item) → IsDraft items n → n ≤ 33554432 → HasWorker item → IsDraft (items ++ item ∷ []) (n + 1)
+draft_more : (items : List Item) (n : ℕ) (item : Item) → IsDraft items n → n ≤ 33554432 → HasWorker item
+    → IsDraft (items ++ item ∷ []) (n + 1)
 draft_more items n None d low has = record {
   low = omega arith;
   high = omega arith;
@@ -32,12 +33,14 @@ draft_more items n (Some order) d low has = record {
 }
 
 -- A line, whatever it says.
-pub draft_said : (items : List Item) (n : ℕ) (s : Option Item) → IsDraft items n → n ≤ 33554432 → SaysWorker s → IsDraft (items ++ kept s []) (n + 1)
+pub draft_said : (items : List Item) (n : ℕ) (s : Option Item) → IsDraft items n → n ≤ 33554432 → SaysWorker s
+    → IsDraft (items ++ kept s []) (n + 1)
 draft_said items n None d low has = subst (λ (is : List Item). IsDraft is (n + 1)) (sym (append-nil items)) (draft_nothing items n d low)
 draft_said items n (Some item) d low has = draft_more items n item d low has
 
 -- What is read of a text that ends within a line makes a script.
-pub draft_ended : (items all : List Item) (n : ℕ) (s : Option Item) → IsDraft items n → n ≤ 33554432 → SaysWorker s → all ≡ items ++ kept s [] → (workers_in all ≤ 64) × (length all ≤ 33554432)
+pub draft_ended : (items all : List Item) (n : ℕ) (s : Option Item) → IsDraft items n → n ≤ 33554432 → SaysWorker s
+    → all ≡ items ++ kept s [] → (workers_in all ≤ 64) × (length all ≤ 33554432)
 draft_ended items all n s d low has e =
     let more = draft_said items n s d low has in
     rw e (more.workers, omega (arith, more.few, low))

@@ -41,7 +41,8 @@ first_digit b (c ∷ bs) n e =
     digit_low b (guard_some (is_digit b) (digits_after (0 * 10 + (b - 48)) (c ∷ bs)) n h.1).0
 
 -- A field that spells a signed number is its decimal text.
-signed_text : (limit : ℕ) (f : List ℕ) (z : ℤ) → limit ≤ 2 ^ 40 → IsSized limit z → signed_of f ≡ Some z → f ≡ signed_decimal z
+signed_text : (limit : ℕ) (f : List ℕ) (z : ℤ) → limit ≤ 2 ^ 40 → IsSized limit z → signed_of f ≡ Some z
+    → f ≡ signed_decimal z
 unfolding signed_of
 signed_text limit [] z small fits e = absurd cc
 signed_text limit (b ∷ bs) z small fits e = elim (chosen (b == 45) (negated (number_of bs)) (positive (number_of (b ∷ bs))) (Some z) e) [
@@ -92,7 +93,8 @@ in_coordinate limit (pos n) fits = rw (le_test n limit fits) refl
 in_coordinate limit (negsuc n) fits = rw (lt_test n limit fits) refl
 
 -- a coordinate that was read is the spelling of its field
-coordinate_takes : (v : Version) (fs : List Field) (x : ℤ × List Field) → coordinate_at v fs ≡ Ok x → (fs ≡ signed_decimal x.0 ∷ x.1) × IsSized (coordinate_limit v) x.0
+coordinate_takes : (v : Version) (fs : List Field) (x : ℤ × List Field) → coordinate_at v fs ≡ Ok x
+    → (fs ≡ signed_decimal x.0 ∷ x.1) × IsSized (coordinate_limit v) x.0
 unfolding coordinate_at
 coordinate_takes v [] x e = absurd cc
 coordinate_takes v (f ∷ fs) x e =
@@ -102,14 +104,16 @@ coordinate_takes v (f ∷ fs) x e =
     (ap (λ (t : List ℕ). t ∷ fs) (signed_text (coordinate_limit v) f b.0 (limit_small v) s.1 s.0), s.1)
 
 -- the spelling of a coordinate is read as that coordinate
-coordinate_again : (v : Version) (z : ℤ) (rest : List Field) → IsSized (coordinate_limit v) z → coordinate_at v (signed_decimal z ∷ rest) ≡ Ok (z, rest)
+coordinate_again : (v : Version) (z : ℤ) (rest : List Field) → IsSized (coordinate_limit v) z
+    → coordinate_at v (signed_decimal z ∷ rest) ≡ Ok (z, rest)
 unfolding coordinate_at
 coordinate_again v z rest fits = rw (text_signed (coordinate_limit v) z (limit_small v) fits, in_coordinate (coordinate_limit v) z fits) refl
 
 -- ---- points and directions
 
 -- A point that is read is spelled there.
-pub point_takes : (v : Version) (fs : List Field) (p : Pair × List Field) → point_at v fs ≡ Ok p → (fs ≡ pair_fields p.0 ++ p.1) × IsPair v p.0
+pub point_takes : (v : Version) (fs : List Field) (p : Pair × List Field) → point_at v fs ≡ Ok p
+    → (fs ≡ pair_fields p.0 ++ p.1) × IsPair v p.0
 unfolding point_at
 point_takes v fs p e =
     let a = bind_ok (coordinate_at v fs) (λ x. coordinate_at v x.1 >>= λ y. Ok (record { x = x.0; y = y.0 }, y.1)) p e in
@@ -121,7 +125,8 @@ point_takes v fs p e =
     (s.0 ∙ ap (λ (r : List Field). signed_decimal a.0.0 ∷ r) t.0, (s.1, t.1))
 
 -- A point that is spelled is read.
-pub point_again : (v : Version) (p : Pair) (rest : List Field) → IsPair v p → point_at v (pair_fields p ++ rest) ≡ Ok (p, rest)
+pub point_again : (v : Version) (p : Pair) (rest : List Field) → IsPair v p
+    → point_at v (pair_fields p ++ rest) ≡ Ok (p, rest)
 unfolding point_at
 point_again v p rest fits = rw (coordinate_again v p.x (signed_decimal p.y ∷ rest) fits.0, coordinate_again v p.y rest fits.1) refl
 
@@ -137,7 +142,8 @@ both_false true false h = refl
 both_false false b h = refl
 
 -- A direction that is read is spelled there.
-pub direction_takes : (v : Version) (fs : List Field) (p : Pair × List Field) → direction_at v fs ≡ Ok p → (fs ≡ pair_fields p.0 ++ p.1) × IsSomeDirection v p.0
+pub direction_takes : (v : Version) (fs : List Field) (p : Pair × List Field) → direction_at v fs ≡ Ok p
+    → (fs ≡ pair_fields p.0 ++ p.1) × IsSomeDirection v p.0
 unfolding direction_at
 direction_takes v fs p e =
     let a = bind_ok (point_at v fs) (λ q. cond (is_zero q.0.x && is_zero q.0.y) (Err Coordinate) (Ok q)) p e in
@@ -152,7 +158,8 @@ direction_takes v fs p e =
         cc
 
 -- A direction that is spelled is read.
-pub direction_again : (v : Version) (p : Pair) (rest : List Field) → IsSomeDirection v p → direction_at v (pair_fields p ++ rest) ≡ Ok (p, rest)
+pub direction_again : (v : Version) (p : Pair) (rest : List Field) → IsSomeDirection v p
+    → direction_at v (pair_fields p ++ rest) ≡ Ok (p, rest)
 unfolding direction_at
 direction_again v p rest fits =
     let some : (is_zero p.x && is_zero p.y) ≡ false = both_false _ _ (λ ex ey. fits.1 (zero_is p.x ex) (zero_is p.y ey)) in
@@ -168,7 +175,8 @@ number_some limit (Some m) n e =
     subst (λ (y : ℕ). (Some m ≡ Some y) × (y ≤ limit)) (ok_is m n g.1) (refl, low_le m limit g.0)
 
 -- A number that is read is spelled there.
-pub number_takes : (limit : ℕ) (fs : List Field) (x : ℕ × List Field) → limit < 10 ^ 64 → number_at limit fs ≡ Ok x → (fs ≡ decimal x.0 ∷ x.1) × (x.0 ≤ limit)
+pub number_takes : (limit : ℕ) (fs : List Field) (x : ℕ × List Field) → limit < 10 ^ 64 → number_at limit fs ≡ Ok x
+    → (fs ≡ decimal x.0 ∷ x.1) × (x.0 ≤ limit)
 unfolding number_at
 number_takes limit [] x small e = absurd cc
 number_takes limit (f ∷ fs) x small e =
@@ -178,7 +186,8 @@ number_takes limit (f ∷ fs) x small e =
     (ap (λ (t : List ℕ). t ∷ fs) (number_text f b.0 (omega (arith, s.1)) s.0), s.1)
 
 -- A number that is spelled is read.
-pub number_again : (limit n : ℕ) (rest : List Field) → limit < 10 ^ 64 → n ≤ limit → number_at limit (decimal n ∷ rest) ≡ Ok (n, rest)
+pub number_again : (limit n : ℕ) (rest : List Field) → limit < 10 ^ 64 → n ≤ limit
+    → number_at limit (decimal n ∷ rest) ≡ Ok (n, rest)
 unfolding number_at
 number_again limit n rest small fits = rw (text_number n (omega arith), le_test n limit fits) refl
 

@@ -97,7 +97,8 @@ no_space : (b : ℕ) → (nat_le 33 b && nat_le b 126) ≡ true → (b == 32) �
 no_space b e = grind (arith, nat_tests)
 
 -- the test for the form passes over a field
-form_skip : (s : Bool) (f rest : List ℕ) → is_plain f ≡ true → 0 < length f → has_form_after s (f ++ rest) ≡ has_form_after false rest
+form_skip : (s : Bool) (f rest : List ℕ) → is_plain f ≡ true → 0 < length f
+    → has_form_after s (f ++ rest) ≡ has_form_after false rest
 form_skip s [] rest plain some = absurd (omega arith)
 form_skip s (b ∷ []) rest plain some =
     let p = both (nat_le 33 b && nat_le b 126) true plain in
@@ -107,7 +108,8 @@ form_skip s (b ∷ c ∷ bs) rest plain some =
     rw (no_space b p.0, p.0) (form_skip false (c ∷ bs) rest p.1 (omega arith))
 
 -- Fields that are joined by spaces have the form of a line.
-pub joined_form : (f : List ℕ) (fs : List (List ℕ)) → IsField f → AreFields fs → has_form_after true (join_with_byte 32 (f ∷ fs)) ≡ true
+pub joined_form : (f : List ℕ) (fs : List (List ℕ)) → IsField f → AreFields fs
+    → has_form_after true (join_with_byte 32 (f ∷ fs)) ≡ true
 joined_form f [] h hs = ap (has_form_after true) (sym (append-nil f)) ∙ form_skip true f [] h.plain h.some
 joined_form f (g ∷ gs) h hs = form_skip true f (32 ∷ join_with_byte 32 (g ∷ gs)) h.plain h.some ∙ joined_form g gs hs.0 hs.1
 
@@ -130,7 +132,8 @@ split_last (b ∷ bs) plain =
     rw (no_space b p.0, split_last bs p.1) refl
 
 -- Fields that were joined are cut apart again.
-pub split_joined : (f : List ℕ) (fs : List (List ℕ)) → IsField f → AreFields fs → cut (join_with_byte 32 (f ∷ fs)) ≡ f ∷ fs
+pub split_joined : (f : List ℕ) (fs : List (List ℕ)) → IsField f → AreFields fs
+    → cut (join_with_byte 32 (f ∷ fs)) ≡ f ∷ fs
 split_joined f [] h hs = split_last f h.plain
 split_joined f (g ∷ gs) h hs = split_skip f (join_with_byte 32 (g ∷ gs)) h.plain ∙ ap (λ (r : List (List ℕ)). f ∷ r) (split_joined g gs hs.0 hs.1)
 
@@ -171,7 +174,9 @@ formed_whole s (b ∷ bs) e = step (b == 32) refl e (λ t h. formed_whole t bs h
     above : (b : ℕ) → (nat_le 33 b && nat_le b 126) ≡ true → (b == 10) ≡ false
     above b e = grind (arith, nat_tests)
 
-    step : (t : Bool) → (b == 32) ≡ t → cond t (not s && has_form_after true bs) (nat_le 33 b && nat_le b 126 && has_form_after false bs) ≡ true → ((t : Bool) → has_form_after t bs ≡ true → HasNoNewline bs) → HasNoNewline (b ∷ bs)
+    step : (t : Bool) → (b == 32) ≡ t
+        → cond t (not s && has_form_after true bs) (nat_le 33 b && nat_le b 126 && has_form_after false bs) ≡ true
+        → ((t : Bool) → has_form_after t bs ≡ true → HasNoNewline bs) → HasNoNewline (b ∷ bs)
     step true t h rest =
         let p = both (not s) (has_form_after true bs) h in
         All-cons (λ b. (b == 10) ≡ false) b bs (ne_eqb b 10 (λ same. omega (arith, same, eqb-true b 32 t))) (rest true p.1)

@@ -30,12 +30,14 @@ newlines_append : (a b : List ℕ) → newlines (a ++ b) ≡ newlines a + newlin
 newlines_append [] b = omega arith
 newlines_append (x ∷ xs) b = step (x == 10) (newlines (xs ++ b)) (newlines xs) (newlines b) (newlines_append xs b)
   where
-    step : (c : Bool) (whole front back : ℕ) → whole ≡ front + back → cond c (whole + 1) whole ≡ cond c (front + 1) front + back
+    step : (c : Bool) (whole front back : ℕ) → whole ≡ front + back
+        → cond c (whole + 1) whole ≡ cond c (front + 1) front + back
     step true whole front back e = omega (arith, e)
     step false whole front back e = omega (arith, e)
 
 -- Before the first block.
-pub known_start : {V : Type 0} (start : Outlook V) (a : Option (List ℕ)) (kept : List ℕ) (line : ℕ) → kept ≡ [] → line ≡ 1 → Known start start a a kept line 0
+pub known_start : {V : Type 0} (start : Outlook V) (a : Option (List ℕ)) (kept : List ℕ) (line : ℕ) → kept ≡ []
+    → line ≡ 1 → Known start start a a kept line 0
 known_start start None kept line none first = tt
 known_start start (Some bytes) kept line none first = record {
   text = [];
@@ -47,8 +49,10 @@ known_start start (Some bytes) kept line none first = record {
 }
 
 -- A block was taken.
-pub known_feed : {V : Type 0} (start now next : Outlook V) (a b c : Option (List ℕ)) (kept left piece : List ℕ) (line after n : ℕ) → Known start now a b kept line n → Consumes b c piece → 0 < length piece
-    → ReadsOn now next (kept ++ piece) left → after ≡ line + newlines piece → (front : List ℕ) × (kept ++ piece ≡ front ++ left) → Known start next a c left after (n + 1)
+pub known_feed : {V : Type 0} (start now next : Outlook V) (a b c : Option (List ℕ)) (kept left piece : List ℕ)
+    (line after n : ℕ) → Known start now a b kept line n → Consumes b c piece → 0 < length piece
+    → ReadsOn now next (kept ++ piece) left → after ≡ line + newlines piece
+    → (front : List ℕ) × (kept ++ piece ≡ front ++ left) → Known start next a c left after (n + 1)
 known_feed start now next None b c kept left piece line after n k p some on lines tail = tt
 known_feed start now next (Some bytes) None c kept left piece line after n k p some on lines tail = absurd k
 known_feed start now next (Some bytes) (Some rest) None kept left piece line after n k p some on lines tail = absurd p
@@ -67,7 +71,8 @@ known_feed start now next (Some bytes) (Some rest) (Some more) kept left piece l
 }
 
 -- A block has a fault.
-pub known_fault : {V : Type 0} (start now : Outlook V) (a b c : Option (List ℕ)) (kept piece : List ℕ) (line n : ℕ) (f : TextFault) → Known start now a b kept line n → Consumes b c piece
+pub known_fault : {V : Type 0} (start now : Outlook V) (a b c : Option (List ℕ)) (kept piece : List ℕ) (line n : ℕ)
+    (f : TextFault) → Known start now a b kept line n → Consumes b c piece
     → FailsIn now (kept ++ piece) f → AnswersAll start a (Err f)
 known_fault start now None b c kept piece line n f k p h = tt
 known_fault start now (Some bytes) None c kept piece line n f k p h = absurd k
@@ -77,7 +82,8 @@ known_fault start now (Some bytes) (Some rest) (Some more) kept piece line n f k
     (k.on (piece ++ more) (Err f) (subst (λ (t : List ℕ). now t (Err f)) (append_assoc kept piece more) (h more)))
 
 -- The text is at its end.
-pub known_end : {V : Type 0} (start now : Outlook V) (a b c : Option (List ℕ)) (kept none : List ℕ) (line n : ℕ) (answer : Result V TextFault) → Known start now a b kept line n → Consumes b c none → none ≡ [] → IsAtEnd c
+pub known_end : {V : Type 0} (start now : Outlook V) (a b c : Option (List ℕ)) (kept none : List ℕ) (line n : ℕ)
+    (answer : Result V TextFault) → Known start now a b kept line n → Consumes b c none → none ≡ [] → IsAtEnd c
     → now kept answer → AnswersAll start a answer
 known_end start now None b c kept none line n answer k p empty end h = tt
 known_end start now (Some bytes) None c kept none line n answer k p empty end h = absurd k
@@ -88,20 +94,24 @@ known_end start now (Some bytes) (Some rest) (Some more) kept none line n answer
     (k.on [] answer (subst (λ (t : List ℕ). now t answer) (sym (append-nil kept)) h))
 
 -- No text that is short enough has so many blocks.
-pub known_over : {V : Type 0} (start now : Outlook V) (a b : Option (List ℕ)) (kept : List ℕ) (line n : ℕ) (answer : Result V TextFault) → Known start now a b kept line n → 2 ^ 63 ≤ n → AnswersAll start a answer
+pub known_over : {V : Type 0} (start now : Outlook V) (a b : Option (List ℕ)) (kept : List ℕ) (line n : ℕ)
+    (answer : Result V TextFault) → Known start now a b kept line n → 2 ^ 63 ≤ n → AnswersAll start a answer
 known_over start now None b kept line n answer k over = tt
 known_over start now (Some bytes) None kept line n answer k over = absurd k
 known_over start now (Some bytes) (Some rest) kept line n answer k over = λ small. absurd (omega (arith, k.long, ap length k.whole, length-append k.text rest))
 
 -- A read that failed failed in this line.
-pub known_place : {V : Type 0} (start now : Outlook V) (a b c : Option (List ℕ)) (kept : List ℕ) (line n : ℕ) → Known start now a b kept line n → Keeps b c → IsLineBeingRead a c line
+pub known_place : {V : Type 0} (start now : Outlook V) (a b c : Option (List ℕ)) (kept : List ℕ) (line n : ℕ)
+    → Known start now a b kept line n → Keeps b c → IsLineBeingRead a c line
 known_place start now None b c kept line n k same = tt
 known_place start now (Some bytes) None c kept line n k same = absurd k
 known_place start now (Some bytes) (Some rest) None kept line n k same = absurd same
 known_place start now (Some bytes) (Some rest) (Some left) kept line n k same = (k.text, k.whole ∙ ap (λ (t : List ℕ). k.text ++ t) (sym same), k.lines)
 
 -- A fault that is not the text's own may be answered where the reading stands.
-pub known_outside : {V : Type 0} (start now : Outlook V) (a b : Option (List ℕ)) (kept : List ℕ) (line n : ℕ) (f : TextFault) → Known start now a b kept line n → ((text : List ℕ) → now text (Err f)) → AnswersAll start a (Err f)
+pub known_outside : {V : Type 0} (start now : Outlook V) (a b : Option (List ℕ)) (kept : List ℕ) (line n : ℕ)
+    (f : TextFault) → Known start now a b kept line n → ((text : List ℕ) → now text (Err f))
+    → AnswersAll start a (Err f)
 known_outside start now None b kept line n f k h = tt
 known_outside start now (Some bytes) None kept line n f k h = absurd k
 known_outside start now (Some bytes) (Some rest) kept line n f k h = λ small. subst (λ (t : List ℕ). start t (Err f)) (sym k.whole) (k.on rest (Err f) (h (kept ++ rest)))
@@ -114,7 +124,9 @@ line_first None line first = tt
 line_first (Some bytes) line first = ([], refl, omega (arith, first), inl (omega (arith, first)))
 
 -- A line of a block that was taken.
-pub line_fed : {V : Type 0} (start now : Outlook V) (a b c : Option (List ℕ)) (kept piece : List ℕ) (line at n : ℕ) → Known start now a b kept line n → Consumes b c piece → line ≤ at → at ≤ line + newlines piece → IsLineTaken a c at
+pub line_fed : {V : Type 0} (start now : Outlook V) (a b c : Option (List ℕ)) (kept piece : List ℕ) (line at n : ℕ)
+    → Known start now a b kept line n → Consumes b c piece → line ≤ at → at ≤ line + newlines piece
+    → IsLineTaken a c at
 line_fed start now None b c kept piece line at n k p low high = tt
 line_fed start now (Some bytes) None c kept piece line at n k p low high = absurd k
 line_fed start now (Some bytes) (Some rest) None kept piece line at n k p low high = absurd p
@@ -126,13 +138,15 @@ line_fed start now (Some bytes) (Some rest) (Some more) kept piece line at n k p
 )
 
 -- The line at which the reading stands.
-pub line_here : {V : Type 0} (start now : Outlook V) (a b : Option (List ℕ)) (kept : List ℕ) (line n : ℕ) → Known start now a b kept line n → IsLineTaken a b line
+pub line_here : {V : Type 0} (start now : Outlook V) (a b : Option (List ℕ)) (kept : List ℕ) (line n : ℕ)
+    → Known start now a b kept line n → IsLineTaken a b line
 line_here start now None b kept line n k = tt
 line_here start now (Some bytes) None kept line n k = absurd k
 line_here start now (Some bytes) (Some rest) kept line n k = (k.text, k.whole, omega (arith, k.lines), inl (omega (arith, k.lines)))
 
 -- So many lines has a text that ends within one.
-lines_within : (front part : List ℕ) → HasNoNewline part → 0 < length part → length (text_lines (front ++ part)) ≡ newlines front + 1
+lines_within : (front part : List ℕ) → HasNoNewline part → 0 < length part
+    → length (text_lines (front ++ part)) ≡ newlines front + 1
 lines_within [] part whole some = rw (slice_split_none (λ (b : ℕ). b == 10) part whole) (one part some)
   where
     one : (part : List ℕ) → 0 < length part → length (without_last_empty (part ∷ [])) ≡ 0 + 1
@@ -140,7 +154,8 @@ lines_within [] part whole some = rw (slice_split_none (λ (b : ℕ). b == 10) p
     one (b ∷ bs) some = refl
 lines_within (b ∷ bs) part whole some = step (b == 10) (pieces (bs ++ part)) (newlines bs) (lines_within bs part whole some)
   where
-    step : (c : Bool) (ps : List (List ℕ)) (n : ℕ) → length (without_last_empty ps) ≡ n + 1 → length (without_last_empty (cond c ([] ∷ ps) (onto_first b ps))) ≡ cond c (n + 1) n + 1
+    step : (c : Bool) (ps : List (List ℕ)) (n : ℕ) → length (without_last_empty ps) ≡ n + 1
+        → length (without_last_empty (cond c ([] ∷ ps) (onto_first b ps))) ≡ cond c (n + 1) n + 1
     step true [] n e = absurd (omega (arith, e))
     step true (p ∷ ps) n e = omega (arith, e)
     step false [] n e = absurd (omega (arith, e))
@@ -149,7 +164,8 @@ lines_within (b ∷ bs) part whole some = step (b == 10) (pieces (bs ++ part)) (
     step false (p ∷ next ∷ ps) n e = e
 
 -- The line of a fault that is told at the end of the text.
-line_ended : {V : Type 0} (start now : Outlook V) (a b c : Option (List ℕ)) (kept none : List ℕ) (line more at n : ℕ) → Known start now a b kept line n → Consumes b c none → none ≡ [] → IsAtEnd c → HasNoNewline kept
+line_ended : {V : Type 0} (start now : Outlook V) (a b c : Option (List ℕ)) (kept none : List ℕ) (line more at n : ℕ)
+    → Known start now a b kept line n → Consumes b c none → none ≡ [] → IsAtEnd c → HasNoNewline kept
     → (more ≡ 0) ⊎ ((0 < length kept) × (more ≡ 1)) → at ≡ line + more → IsLineTaken a c at
 line_ended start now None b c kept none line more at n k p empty end whole h is = tt
 line_ended start now (Some bytes) None c kept none line more at n k p empty end whole h is = absurd k
@@ -174,7 +190,9 @@ one_or_none [] = inl refl
 one_or_none (b ∷ bs) = inr (omega arith, refl)
 
 -- What is told at the end of the text is told in a line of it, or behind it.
-pub lines_at_end : {V : Type 0} (start now : Outlook V) (a b c : Option (List ℕ)) (kept none : List ℕ) (line n : ℕ) (answer : Result V TextFault) → Known start now a b kept line n → Consumes b c none → none ≡ [] → IsAtEnd c → HasNoNewline kept
+pub lines_at_end : {V : Type 0} (start now : Outlook V) (a b c : Option (List ℕ)) (kept none : List ℕ) (line n : ℕ)
+    (answer : Result V TextFault) → Known start now a b kept line n → Consumes b c none → none ≡ [] → IsAtEnd c
+    → HasNoNewline kept
     → IfErr answer (λ f. f.line ≡ line_at_end line kept f) → IfErr answer (λ f. IsLineTaken a c f.line)
 lines_at_end start now a b c kept none line n (Ok v) k p empty end whole h = tt
 lines_at_end start now a b c kept none line n (Err f) k p empty end whole h = step (f.number == 10) h

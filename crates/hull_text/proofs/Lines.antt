@@ -7,7 +7,9 @@ use Rattle.hull_text.specs.declared.fault.TextFault.{TextFault}
 use Rattle.hull_text.specs.Reading.{HasNoNewline, Outlook, ReadsOn, FailsIn, newlines}
 
 -- Where the first newline stands behind some bytes, these are the first line.
-pub newline_at : (text : List ℕ) (i : ℕ) → i < length text → get_or text i 0 ≡ 10 → ((k : ℕ) → k < i → get_or text k 0 ≡ 10 → ⊥) → HasNoNewline (take i text) × (text ≡ take i text ++ 10 ∷ drop 1 (drop i text))
+pub newline_at : (text : List ℕ) (i : ℕ) → i < length text → get_or text i 0 ≡ 10
+    → ((k : ℕ) → k < i → get_or text k 0 ≡ 10 → ⊥)
+    → HasNoNewline (take i text) × (text ≡ take i text ++ 10 ∷ drop 1 (drop i text))
 newline_at [] i lt here before = absurd (omega arith)
 newline_at (b ∷ bs) zero lt here before = (All-nil (λ b. (b == 10) ≡ false), ap (λ (x : ℕ). x ∷ bs) here)
 newline_at (b ∷ bs) (suc i) lt here before =
@@ -22,30 +24,35 @@ newline_none (b ∷ bs) none =
     All-cons (λ b. (b == 10) ≡ false) b bs (ne_eqb b 10 (none 0 (omega arith))) (newline_none bs (λ k h. none (suc k) (omega arith)))
 
 -- A text that begins with a line: the parts of the line, its newline, and what stands behind it.
-around : (kept line after left rest : List ℕ) → left ≡ line ++ 10 ∷ after → (kept ++ line ++ 10 ∷ []) ++ (after ++ rest) ≡ kept ++ left ++ rest
+around : (kept line after left rest : List ℕ) → left ≡ line ++ 10 ∷ after
+    → (kept ++ line ++ 10 ∷ []) ++ (after ++ rest) ≡ kept ++ left ++ rest
 around kept line after left rest e =
     append_assoc (kept ++ line) (10 ∷ []) (after ++ rest) ∙ sym (append_assoc (kept ++ line) (10 ∷ after) rest)
     ∙ ap (λ (t : List ℕ). t ++ rest) (append_assoc kept line (10 ∷ after) ∙ ap (λ (t : List ℕ). kept ++ t) (sym e))
 
 -- One more line was taken.
-pub reads_on_line : {V : Type 0} (start mid new : Outlook V) (text kept line after left empty : List ℕ) → ReadsOn start mid text (kept ++ left) → left ≡ line ++ 10 ∷ after → empty ≡ []
+pub reads_on_line : {V : Type 0} (start mid new : Outlook V) (text kept line after left empty : List ℕ)
+    → ReadsOn start mid text (kept ++ left) → left ≡ line ++ 10 ∷ after → empty ≡ []
     → ReadsOn mid new (kept ++ line ++ 10 ∷ []) [] → ReadsOn start new text (empty ++ after)
 reads_on_line start mid new text kept line after left empty on e none more = λ rest answer h.
     on rest answer (subst (λ (t : List ℕ). mid t answer) (around kept line after left rest e)
     (more (after ++ rest) answer (subst (λ (t : List ℕ). new (t ++ after ++ rest) answer) none h)))
 
 -- What is left is still the end of the text.
-pub tail_on_line : (all kept line after left empty : List ℕ) → (front : List ℕ) × (all ≡ front ++ (kept ++ left)) → left ≡ line ++ 10 ∷ after → empty ≡ [] → (front : List ℕ) × (all ≡ front ++ (empty ++ after))
+pub tail_on_line : (all kept line after left empty : List ℕ) → (front : List ℕ) × (all ≡ front ++ (kept ++ left))
+    → left ≡ line ++ 10 ∷ after → empty ≡ [] → (front : List ℕ) × (all ≡ front ++ (empty ++ after))
 tail_on_line all kept line after left empty h e none = (
   h.0 ++ kept ++ line ++ 10 ∷ [],
   h.1 ∙ ap (λ (t : List ℕ). h.0 ++ (kept ++ t)) e ∙ regroup h.0 kept line after ∙ ap (λ (t : List ℕ). (h.0 ++ kept ++ line ++ 10 ∷ []) ++ (t ++ after)) (sym none),
 )
   where
-    regroup : (front kept line after : List ℕ) → front ++ (kept ++ (line ++ 10 ∷ after)) ≡ (front ++ kept ++ line ++ 10 ∷ []) ++ after
+    regroup : (front kept line after : List ℕ)
+        → front ++ (kept ++ (line ++ 10 ∷ after)) ≡ (front ++ kept ++ line ++ 10 ∷ []) ++ after
     regroup front kept line after = simp append_assoc
 
 -- A line that was taken has a fault.
-pub fails_on_line : {V : Type 0} (start mid : Outlook V) (text kept line after left : List ℕ) (f : TextFault) → ReadsOn start mid text (kept ++ left) → left ≡ line ++ 10 ∷ after
+pub fails_on_line : {V : Type 0} (start mid : Outlook V) (text kept line after left : List ℕ) (f : TextFault)
+    → ReadsOn start mid text (kept ++ left) → left ≡ line ++ 10 ∷ after
     → FailsIn mid (kept ++ line ++ 10 ∷ []) f → FailsIn start text f
 fails_on_line start mid text kept line after left f on e more = λ rest.
     on rest (Err f) (subst (λ (t : List ℕ). mid t (Err f)) (around kept line after left rest e) (more (after ++ rest)))

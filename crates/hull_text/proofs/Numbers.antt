@@ -36,7 +36,8 @@ digits_grow (c ∷ cs) m n e =
     omega (arith, digits_grow cs (m * 10 + (c - 48)) n g.1)
 
 -- one more digit at the end of a decimal spelling
-next_decimal : (m c : ℕ) → 1 ≤ m → 48 ≤ c → c ≤ 57 → m * 10 + (c - 48) < 10 ^ 64 → decimal (m * 10 + (c - 48)) ≡ decimal m ++ (c ∷ [])
+next_decimal : (m c : ℕ) → 1 ≤ m → 48 ≤ c → c ≤ 57 → m * 10 + (c - 48) < 10 ^ 64
+    → decimal (m * 10 + (c - 48)) ≡ decimal m ++ (c ∷ [])
 next_decimal m c some low high small =
     let step = decimal_step_wide (m * 10 + (c - 48)) (omega arith) small in
     let front : (m * 10 + (c - 48)) / 10 ≡ m = omega arith in
@@ -94,7 +95,8 @@ record IsSpelled (n : ℕ) (ds : List ℕ) : Type 0 where
   short : n < 10 → rest ≡ []
 
 -- one more digit is read
-digits_more : (ds : List ℕ) (m k x : ℕ) → is_digit x ≡ true → digits_after m ds ≡ Some k → digits_after m (ds ++ x ∷ []) ≡ Some (k * 10 + (x - 48))
+digits_more : (ds : List ℕ) (m k x : ℕ) → is_digit x ≡ true → digits_after m ds ≡ Some k
+    → digits_after m (ds ++ x ∷ []) ≡ Some (k * 10 + (x - 48))
 unfolding digits_after
 digits_more [] m k x d e =
     let same : m ≡ k = cc in
@@ -133,7 +135,8 @@ spelled_more n ds le s =
     }
 
 -- digits without a leading zero are a number
-is_number : (n first : ℕ) (rest : List ℕ) → digits_after 0 (first ∷ rest) ≡ Some n → (1 ≤ n → (first == 48) ≡ false) → (n < 10 → rest ≡ []) → number_of (first ∷ rest) ≡ Some n
+is_number : (n first : ℕ) (rest : List ℕ) → digits_after 0 (first ∷ rest) ≡ Some n → (1 ≤ n → (first == 48) ≡ false)
+    → (n < 10 → rest ≡ []) → number_of (first ∷ rest) ≡ Some n
 unfolding number_of
 is_number n first [] e head short = e
 is_number n first (c ∷ cs) e head short = elim (small_or_not n) [

@@ -13,7 +13,8 @@ use Rattle.hull_text.proofs.Chains.{spaced_append}
 use Rattle.hull_text.proofs.Spaces.{line_is_spaced}
 
 -- The line of a call and its answer is written in its pieces.
-answer_is : (worker : ℕ) (call : Call) (answer : Answer) → answer_line worker call answer ≡ answer_pieces worker call answer
+answer_is : (worker : ℕ) (call : Call) (answer : Answer)
+    → answer_line worker call answer ≡ answer_pieces worker call answer
 answer_is worker call answer =
     line_is_spaced (decimal worker) (call_fields call ++ codes "=" ∷ answer_fields answer)
     ∙ ap (λ (t : List ℕ). decimal worker ++ t ++ 10 ∷ []) (spaced_append (call_fields call) (codes "=" ∷ answer_fields answer))
@@ -23,26 +24,30 @@ answer_is worker call answer =
     regroup n c e r l = simp append_assoc
 
 -- A line stands before the others.
-pub answers_cons : (worker : ℕ) (call : Call) (answer : Answer) (calls more_calls : List Call) (answers more_answers : List Answer) → calls ≡ call ∷ more_calls → answers ≡ answer ∷ more_answers
+pub answers_cons : (worker : ℕ) (call : Call) (answer : Answer) (calls more_calls : List Call)
+    (answers more_answers : List Answer) → calls ≡ call ∷ more_calls → answers ≡ answer ∷ more_answers
     → answers_text worker calls answers ≡ answer_pieces worker call answer ++ answers_text worker more_calls more_answers
 unfolding answers_text
 answers_cons worker call answer calls more_calls answers more_answers e f = rw (e, f) (ap (λ (t : List ℕ). t ++ answers_text worker more_calls more_answers) (answer_is worker call answer))
 
 -- No call, no line.
-pub answers_no_call : (worker : ℕ) (calls : List Call) (answers : List Answer) → length calls ≡ 0 → answers_text worker calls answers ≡ []
+pub answers_no_call : (worker : ℕ) (calls : List Call) (answers : List Answer) → length calls ≡ 0
+    → answers_text worker calls answers ≡ []
 unfolding answers_text
 answers_no_call worker [] answers e = refl
 answers_no_call worker (call ∷ calls) answers e = absurd (omega (arith, e))
 
 -- No answer, no line.
-pub answers_no_answer : (worker : ℕ) (calls : List Call) (answers : List Answer) → length answers ≡ 0 → answers_text worker calls answers ≡ []
+pub answers_no_answer : (worker : ℕ) (calls : List Call) (answers : List Answer) → length answers ≡ 0
+    → answers_text worker calls answers ≡ []
 unfolding answers_text
 answers_no_answer worker [] answers e = refl
 answers_no_answer worker (call ∷ calls) [] e = refl
 answers_no_answer worker (call ∷ calls) (answer ∷ answers) e = absurd (omega (arith, e))
 
 -- The lines of some calls, and those of the calls behind them.
-pub answers_split : (worker : ℕ) (calls more : List Call) (answers : List Answer) → answers_text worker (calls ++ more) answers ≡ answers_text worker calls (take (length calls) answers) ++ answers_text worker more (drop (length calls) answers)
+pub answers_split : (worker : ℕ) (calls more : List Call) (answers : List Answer)
+    → answers_text worker (calls ++ more) answers ≡ answers_text worker calls (take (length calls) answers) ++ answers_text worker more (drop (length calls) answers)
 unfolding answers_text
 answers_split worker [] more answers = refl
 answers_split worker (call ∷ calls) more [] = sym (nothing worker more)
@@ -55,8 +60,10 @@ answers_split worker (call ∷ calls) more (answer ∷ answers) =
     ∙ sym (append_assoc (answer_line worker call answer) (answers_text worker calls (take (length calls) answers)) (answers_text worker more (drop (length calls) answers)))
 
 -- The calls of a worker in the first phase stand before the others.
-pub phases_cons : (worker : ℕ) (phase : PhaseValue) (rest after : List PhaseValue) (answers : List Answer) (calls : List Call) → rest ≡ phase ∷ after → calls ≡ slice_index_or phase worker []
-    → answers_text worker (calls_of worker rest) answers ≡ answers_text worker calls (take (length calls) answers) ++ answers_text worker (calls_of worker after) (drop (length calls) answers)
+pub phases_cons : (worker : ℕ) (phase : PhaseValue) (rest after : List PhaseValue) (answers : List Answer)
+    (calls : List Call) → rest ≡ phase ∷ after → calls ≡ slice_index_or phase worker []
+    → answers_text worker (calls_of worker rest) answers ≡ answers_text worker calls (take (length calls) answers) ++ answers_text worker (calls_of worker after)
+    (drop (length calls) answers)
 phases_cons worker phase rest after answers calls e f =
     ap (λ (r : List PhaseValue). answers_text worker (calls_of worker r) answers) e
     ∙ ap (λ (cs : List Call). answers_text worker (cs ++ calls_of worker after) answers) (sym f)
@@ -64,17 +71,20 @@ phases_cons worker phase rest after answers calls e f =
 
 -- The lines of a worker stand before those of the workers behind it.
 pub workers_more : (k : ℕ) (phases : List PhaseValue) (all : List (List Answer)) → k < length all
-    → workers_text k phases (drop k all) ≡ answers_text k (calls_of k phases) (slice_index_or all k []) ++ workers_text (k + 1) phases (drop (k + 1) all)
+    → workers_text k phases (drop k all) ≡ answers_text k (calls_of k phases)
+    (slice_index_or all k []) ++ workers_text (k + 1) phases (drop (k + 1) all)
 unfolding workers_text
 workers_more k phases all lt = rw (drop-cons all k [] lt) (ap (λ (n : ℕ). answers_text k (calls_of k phases) (slice_index_or all k []) ++ workers_text n phases (drop n all)) (sym (add-one k)))
 
 -- No worker is left.
-pub workers_none : (k : ℕ) (phases : List PhaseValue) (all : List (List Answer)) → length all ≤ k → workers_text k phases (drop k all) ≡ []
+pub workers_none : (k : ℕ) (phases : List PhaseValue) (all : List (List Answer)) → length all ≤ k
+    → workers_text k phases (drop k all) ≡ []
 unfolding workers_text
 workers_none k phases all le = rw (drop_all k all le) refl
 
 -- The line of a ledger is written in its pieces.
-ledger_is : (worker count : ℕ) → line_text (codes "ledger" ∷ decimal worker ∷ decimal count ∷ []) ≡ ledger_pieces worker count
+ledger_is : (worker count : ℕ)
+    → line_text (codes "ledger" ∷ decimal worker ∷ decimal count ∷ []) ≡ ledger_pieces worker count
 ledger_is worker count = go (codes "ledger") (decimal worker) (decimal count) (10 ∷ [])
   where
     go : (w k c l : List ℕ) → w ++ 32 ∷ (k ++ 32 ∷ c) ++ l ≡ w ++ 32 ∷ k ++ 32 ∷ c ++ l
@@ -85,14 +95,17 @@ six_flat : (a b c d e f : List ℕ) → a ++ (b ++ (c ++ (d ++ (e ++ f)))) ≡ a
 six_flat a b c d e f = simp append_assoc
 
 -- The line of the sum is written in its pieces.
-pub sum_is : (sum lines capacity : ℕ) → line_text (codes "sum" ∷ decimal sum ∷ codes "journal" ∷ decimal lines ∷ codes "capacity" ∷ decimal capacity ∷ []) ≡ sum_pieces sum lines capacity
+pub sum_is : (sum lines capacity : ℕ)
+    → line_text (codes "sum" ∷ decimal sum ∷ codes "journal" ∷ decimal lines ∷ codes "capacity" ∷ decimal capacity ∷ []) ≡ sum_pieces sum lines capacity
 sum_is sum lines capacity = go (codes "sum") (decimal sum) (decimal lines) (decimal capacity) (codes " journal") (codes " capacity") (10 ∷ [])
   where
-    go : (w s l c x y e : List ℕ) → w ++ 32 ∷ (s ++ (x ++ 32 ∷ (l ++ (y ++ 32 ∷ c)))) ++ e ≡ w ++ 32 ∷ s ++ x ++ 32 ∷ l ++ y ++ 32 ∷ c ++ e
+    go : (w s l c x y e : List ℕ)
+        → w ++ 32 ∷ (s ++ (x ++ 32 ∷ (l ++ (y ++ 32 ∷ c)))) ++ e ≡ w ++ 32 ∷ s ++ x ++ 32 ∷ l ++ y ++ 32 ∷ c ++ e
     go w s l c x y e = ap (λ (t : List ℕ). t ++ e) (six_flat w (32 ∷ s) x (32 ∷ l) y (32 ∷ c))
 
 -- The line of a ledger stands before those behind it.
-pub ledgers_more : (k : ℕ) (all : List ℕ) → k < length all → ledgers_text k (drop k all) ≡ ledger_pieces k (slice_index all k) ++ ledgers_text (k + 1) (drop (k + 1) all)
+pub ledgers_more : (k : ℕ) (all : List ℕ) → k < length all
+    → ledgers_text k (drop k all) ≡ ledger_pieces k (slice_index all k) ++ ledgers_text (k + 1) (drop (k + 1) all)
 unfolding ledgers_text
 ledgers_more k all lt =
     rw (drop-cons all k 0 lt)
@@ -105,17 +118,20 @@ unfolding ledgers_text
 ledgers_none k all le = rw (drop_all k all le) refl
 
 -- The text of a report is written in its pieces.
-pub report_is : (workers ledgers : List ℕ) (sum lines capacity : ℕ) → [] ++ workers ++ ledgers ++ sum_pieces sum lines capacity ++ [] ≡ workers ++ ledgers ++ line_text (codes "sum" ∷ decimal sum ∷ codes "journal" ∷ decimal lines ∷ codes "capacity" ∷ decimal capacity ∷ [])
+pub report_is : (workers ledgers : List ℕ) (sum lines capacity : ℕ)
+    → [] ++ workers ++ ledgers ++ sum_pieces sum lines capacity ++ [] ≡ workers ++ ledgers ++ line_text (codes "sum" ∷ decimal sum ∷ codes "journal" ∷ decimal lines ∷ codes "capacity" ∷ decimal capacity ∷ [])
 report_is workers ledgers sum lines capacity = append-nil (workers ++ ledgers ++ sum_pieces sum lines capacity) ∙ ap (λ (t : List ℕ). workers ++ ledgers ++ t) (sym (sum_is sum lines capacity))
 
 -- What holds of all holds of the rest.
-pub all_after : {X : Type 0} (P : X → Type 0) (x : X) (after rest : List X) → rest ≡ x ∷ after → All P rest → All P after
+pub all_after : {X : Type 0} (P : X → Type 0) (x : X) (after rest : List X) → rest ≡ x ∷ after → All P rest
+    → All P after
 all_after P x after rest e all = λ k d lt.
     let whole : All P (x ∷ after) = subst (All P) e all in
     whole (suc k) d (omega (arith, lt))
 
 -- The calls of a worker are those of the first phase and of the others.
-pub calls_long : (worker : ℕ) (phase : PhaseValue) (rest after : List PhaseValue) (calls : List Call) → rest ≡ phase ∷ after → calls ≡ slice_index_or phase worker []
+pub calls_long : (worker : ℕ) (phase : PhaseValue) (rest after : List PhaseValue) (calls : List Call)
+    → rest ≡ phase ∷ after → calls ≡ slice_index_or phase worker []
     → length (calls_of worker rest) ≡ length calls + length (calls_of worker after)
 calls_long worker phase rest after calls e f = rw e (length-append (slice_index_or phase worker []) (calls_of worker after) ∙ rw (← f) refl)
 
@@ -125,7 +141,9 @@ calls_none worker [] e = refl
 calls_none worker (phase ∷ rest) e = absurd (omega (arith, e))
 
 -- The answers of a worker among all.
-pub answers_at : {A : Type 0} (vectors : List (Vec Answer A)) (k : ℕ) (v : Vec Answer A) (answers : List Answer) → k < length vectors → v ≡ get_or vectors k v → answers ≡ v.items → answers ≡ slice_index_or (answers_in vectors) k []
+pub answers_at : {A : Type 0} (vectors : List (Vec Answer A)) (k : ℕ) (v : Vec Answer A) (answers : List Answer)
+    → k < length vectors → v ≡ get_or vectors k v → answers ≡ v.items
+    → answers ≡ slice_index_or (answers_in vectors) k []
 answers_at [] k v answers lt is same = absurd (omega (arith, lt))
 answers_at (w ∷ ws) zero v answers lt is same = same ∙ ap (λ (x : Vec Answer _). x.items) is
 answers_at (w ∷ ws) (suc k) v answers lt is same = answers_at ws k v answers (omega (arith, lt)) is same

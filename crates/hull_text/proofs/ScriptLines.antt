@@ -26,7 +26,8 @@ regroup items (Ok s) (Err e) = refl
 regroup items (Ok s) (Ok js) = ap (λ (l : List Item). Ok l) (ap (λ (l : List Item). items ++ l) (kept_front s js) ∙ sym (append_assoc items (kept s []) js))
 
 -- A line that is not the last.
-items_cons : (n : ℕ) (line : List ℕ) (lines : List (List ℕ)) → 0 < length lines → items_of n (line ∷ lines) ≡ (numbered n (script_line_of line) >>> λ s. items_of (suc n) lines >>> λ js. Ok (kept s js))
+items_cons : (n : ℕ) (line : List ℕ) (lines : List (List ℕ)) → 0 < length lines
+    → items_of n (line ∷ lines) ≡ (numbered n (script_line_of line) >>> λ s. items_of (suc n) lines >>> λ js. Ok (kept s js))
 unfolding items_of
 items_cons n line [] some = absurd (omega arith)
 items_cons n line (next ∷ lines) some = refl
@@ -42,37 +43,44 @@ newline items n line rest whole =
     ∙ regroup items (numbered n (script_line_of line)) (items_of (suc n) (pieces rest))
 
 -- A line that says something, or nothing.
-pub script_on : (items more : List Item) (n next : ℕ) (line : List ℕ) (s : Option Item) → HasNoNewline line → Ok s ≡ numbered n (script_line_of line) → more ≡ items ++ kept s [] → next ≡ n + 1
+pub script_on : (items more : List Item) (n next : ℕ) (line : List ℕ) (s : Option Item) → HasNoNewline line
+    → Ok s ≡ numbered n (script_line_of line) → more ≡ items ++ kept s [] → next ≡ n + 1
     → ReadsOn (AnswersScript items n) (AnswersScript more next) (line ++ 10 ∷ []) []
 script_on items more n next line s whole e kept_is next_is = λ rest answer h.
     let same : reading items n (line ++ 10 ∷ rest) ≡ reading more next rest = newline items n line rest whole ∙ rw (← e, kept_is, next_is, add-one) refl in
     subst (λ (t : List ℕ). AnswersItems answer (reading items n t)) (sym (append_assoc line (10 ∷ []) rest)) (rw same h)
 
 -- A line with a fault.
-pub script_fault : (items : List Item) (n : ℕ) (line : List ℕ) (f : TextFault) → HasNoNewline line → Err f ≡ numbered n (script_line_of line) → FailsIn (AnswersScript items n) (line ++ 10 ∷ []) f
+pub script_fault : (items : List Item) (n : ℕ) (line : List ℕ) (f : TextFault) → HasNoNewline line
+    → Err f ≡ numbered n (script_line_of line) → FailsIn (AnswersScript items n) (line ++ 10 ∷ []) f
 script_fault items n line f whole e = λ rest.
     let same : reading items n (line ++ 10 ∷ rest) ≡ Err f = newline items n line rest whole ∙ rw (← e) refl in
     subst (λ (t : List ℕ). AnswersItems (Err f) (reading items n t)) (sym (append_assoc line (10 ∷ []) rest)) (inr same)
 
 -- Refused memory.
-pub script_refused : (items : List Item) (n : ℕ) (text : List ℕ) (f : TextFault) → f.number ≡ 10 → f.line ≡ n → FailsIn (AnswersScript items n) text f
+pub script_refused : (items : List Item) (n : ℕ) (text : List ℕ) (f : TextFault) → f.number ≡ 10 → f.line ≡ n
+    → FailsIn (AnswersScript items n) text f
 script_refused items n text f e place = λ rest. inl (inr e, reading_goes_on items f.line n (text ++ rest) (omega (arith, place)))
 
 -- Refused memory behind a text that has no fault.
-pub refused_at_end : (items all : List Item) (n : ℕ) (text : List ℕ) (f : TextFault) → reading items n text ≡ Ok all → f.number ≡ 10 → AnswersScript items n text (Err f)
+pub refused_at_end : (items all : List Item) (n : ℕ) (text : List ℕ) (f : TextFault) → reading items n text ≡ Ok all
+    → f.number ≡ 10 → AnswersScript items n text (Err f)
 refused_at_end items all n text f e h = inl (inr h, rw e tt)
 
 -- The last piece of a text.
-last_piece : (items : List Item) (n : ℕ) (line : List ℕ) → HasNoNewline line → reading items n line ≡ with_front items (last_items n line)
+last_piece : (items : List Item) (n : ℕ) (line : List ℕ) → HasNoNewline line
+    → reading items n line ≡ with_front items (last_items n line)
 unfolding reading items_of
 last_piece items n line whole = ap (λ (ps : List (List ℕ)). with_front items (items_of n ps)) (slice_split_none (λ (b : ℕ). b == 10) line whole)
 
 -- It is a line where it is not empty.
-last_line : (items : List Item) (n : ℕ) (line : List ℕ) → 0 < length line → with_front items (last_items n line) ≡ (numbered n (script_line_of line) >>> λ s. Ok (items ++ kept s []))
+last_line : (items : List Item) (n : ℕ) (line : List ℕ) → 0 < length line
+    → with_front items (last_items n line) ≡ (numbered n (script_line_of line) >>> λ s. Ok (items ++ kept s []))
 last_line items n [] some = absurd (omega arith)
 last_line items n (b ∷ bs) some = step (numbered n (script_line_of (b ∷ bs)))
   where
-    step : (r : Result (Option Item) TextFault) → with_front items (r >>> λ s. Ok (kept s [])) ≡ (r >>> λ s. Ok (items ++ kept s []))
+    step : (r : Result (Option Item) TextFault)
+        → with_front items (r >>> λ s. Ok (kept s [])) ≡ (r >>> λ s. Ok (items ++ kept s []))
     step (Ok s) = refl
     step (Err e) = refl
 
@@ -82,11 +90,13 @@ end_empty items n [] none = last_piece items n [] (λ k d lt. absurd (omega arit
 end_empty items n (b ∷ bs) none = absurd (omega (arith, none))
 
 -- A text ends within a line that says something, or nothing.
-pub end_line : (items : List Item) (n : ℕ) (line : List ℕ) (s : Option Item) → HasNoNewline line → 0 < length line → Ok s ≡ numbered n (script_line_of line) → reading items n line ≡ Ok (items ++ kept s [])
+pub end_line : (items : List Item) (n : ℕ) (line : List ℕ) (s : Option Item) → HasNoNewline line → 0 < length line
+    → Ok s ≡ numbered n (script_line_of line) → reading items n line ≡ Ok (items ++ kept s [])
 end_line items n line s whole some e = last_piece items n line whole ∙ last_line items n line some ∙ rw (← e) refl
 
 -- A text ends within a line with a fault.
-pub end_fault : (items : List Item) (n : ℕ) (line : List ℕ) (f : TextFault) → HasNoNewline line → 0 < length line → Err f ≡ numbered n (script_line_of line) → reading items n line ≡ Err f
+pub end_fault : (items : List Item) (n : ℕ) (line : List ℕ) (f : TextFault) → HasNoNewline line → 0 < length line
+    → Err f ≡ numbered n (script_line_of line) → reading items n line ≡ Err f
 end_fault items n line f whole some e = last_piece items n line whole ∙ last_line items n line some ∙ rw (← e) refl
 
 -- At the start nothing was read.
@@ -99,6 +109,8 @@ at_start bytes = front_none (script_items bytes)
     front_none (Err e) = refl
 
 -- What a reader answers at a text's end is right where it makes the script of all items.
-pub answers_end : (items all : List Item) (n : ℕ) (line : List ℕ) (answer : Result ScriptValue TextFault) → reading items n line ≡ Ok all → MatchResult answer (λ script. script ≡ script_of all) (λ f. f.number ≡ 10) → AnswersScript items n line answer
+pub answers_end : (items all : List Item) (n : ℕ) (line : List ℕ) (answer : Result ScriptValue TextFault)
+    → reading items n line ≡ Ok all → MatchResult answer (λ script. script ≡ script_of all) (λ f. f.number ≡ 10)
+    → AnswersScript items n line answer
 answers_end items all n line (Ok v) e h = (all, e, h)
 answers_end items all n line (Err f) e h = inl (inr h, rw e tt)

@@ -30,7 +30,8 @@ ended_ok x y [] e = (refl, ok_is x y e)
 ended_ok x y (f ∷ fs) e = absurd cc
 
 -- A served call that is read is spelled there.
-served_takes : (fs : List Field) (s : Option Item) → served_at fs ≡ Ok s → (order : ℕ × Call) × (s ≡ Some (Some order)) × (fs ≡ decimal order.0 ∷ call_fields order.1) × (order.0 ≤ 63) × IsCall written order.1
+served_takes : (fs : List Field) (s : Option Item) → served_at fs ≡ Ok s
+    → (order : ℕ × Call) × (s ≡ Some (Some order)) × (fs ≡ decimal order.0 ∷ call_fields order.1) × (order.0 ≤ 63) × IsCall written order.1
 unfolding served_at
 served_takes fs s e =
     let a = bind_ok (seat_at fs) (λ w. call_at written w.1 >>= λ c. ended (Some (Some (w.0, c.0))) c.1) s e in
@@ -41,7 +42,8 @@ served_takes fs s e =
     ((a.0.0, b.0.0), sym d.1, p.0 ∙ ap (λ (r : List Field). decimal a.0.0 ∷ r) (t.0 ∙ ap (λ (r : List Field). call_fields b.0.0 ++ r) d.0 ∙ append-nil (call_fields b.0.0)), p.1, t.1)
 
 -- A served call that is spelled is read.
-served_again : (w : ℕ) (c : Call) → w ≤ 63 → IsCall written c → served_at (decimal w ∷ call_fields c) ≡ Ok (Some (Some (w, c)))
+served_again : (w : ℕ) (c : Call) → w ≤ 63 → IsCall written c
+    → served_at (decimal w ∷ call_fields c) ≡ Ok (Some (Some (w, c)))
 unfolding served_at
 served_again w c low fits =
     let call : call_at written (call_fields c) ≡ Ok (c, []) = ap (call_at written) (sym (append-nil (call_fields c))) ∙ call_again written c [] fits in
@@ -64,7 +66,8 @@ line_takes (b ∷ bs) s e = elim (chosen (b == 35) (Ok None) _ (Ok s) e) [
 ]
 
 -- A line that begins with a digit and has the form is a call
-digit_line : (line : List ℕ) (b : ℕ) (bs : List ℕ) → line ≡ b ∷ bs → 48 ≤ b → b ≤ 57 → has_form_after true line ≡ true → script_line_of line ≡ served_at (cut line)
+digit_line : (line : List ℕ) (b : ℕ) (bs : List ℕ) → line ≡ b ∷ bs → 48 ≤ b → b ≤ 57 → has_form_after true line ≡ true
+    → script_line_of line ≡ served_at (cut line)
 unfolding script_line_of has_form
 digit_line line b bs is low high form =
     let f : has_form_after true (b ∷ bs) ≡ true = rw is at form in
@@ -79,7 +82,8 @@ digit_line line b bs is low high form =
     not_106 b high = grind (arith, nat_tests)
 
 -- A number's text begins with a digit.
-pub first_of : (f : List ℕ) (n : ℕ) → number_of f ≡ Some n → (b : ℕ) × (bs : List ℕ) × (f ≡ b ∷ bs) × (48 ≤ b) × (b ≤ 57)
+pub first_of : (f : List ℕ) (n : ℕ) → number_of f ≡ Some n
+    → (b : ℕ) × (bs : List ℕ) × (f ≡ b ∷ bs) × (48 ≤ b) × (b ≤ 57)
 unfolding number_of
 first_of [] n e = absurd cc
 first_of (b ∷ bs) n e =
@@ -87,12 +91,14 @@ first_of (b ∷ bs) n e =
     (b, bs, refl, d.0, d.1)
 
 -- Joined fields begin as the first does.
-pub joined_first : (f : List ℕ) (fs : List (List ℕ)) (b : ℕ) (bs : List ℕ) → f ≡ b ∷ bs → (rest : List ℕ) × (join_with_byte 32 (f ∷ fs) ≡ b ∷ rest)
+pub joined_first : (f : List ℕ) (fs : List (List ℕ)) (b : ℕ) (bs : List ℕ) → f ≡ b ∷ bs
+    → (rest : List ℕ) × (join_with_byte 32 (f ∷ fs) ≡ b ∷ rest)
 joined_first f [] b bs e = (bs, e)
 joined_first f (g ∷ gs) b bs e = (bs ++ 32 ∷ join_with_byte 32 (g ∷ gs), ap (λ (t : List ℕ). t ++ 32 ∷ join_with_byte 32 (g ∷ gs)) e)
 
 -- A call that is spelled is read.
-call_line : (w : ℕ) (c : Call) → w ≤ 63 → IsCall written c → script_line_of (join_with_byte 32 (decimal w ∷ call_fields c)) ≡ Ok (Some (Some (w, c)))
+call_line : (w : ℕ) (c : Call) → w ≤ 63 → IsCall written c
+    → script_line_of (join_with_byte 32 (decimal w ∷ call_fields c)) ≡ Ok (Some (Some (w, c)))
 call_line w c low fits =
     let line = join_with_byte 32 (decimal w ∷ call_fields c) in
     let field = decimal_field w (omega arith) in

@@ -20,7 +20,8 @@ use Rattle.hull_text.proofs.ScriptLines.{at_start}
 use Rattle.hull_text.proofs.ScriptSpelled.{line_takes, line_again}
 
 -- Both steps went well.
-pub text_bind : {A B : Type 0} (r : Result A TextFault) (f : A → Result B TextFault) (y : B) → (r >>> f) ≡ Ok y → (x : A) × (r ≡ Ok x) × (f x ≡ Ok y)
+pub text_bind : {A B : Type 0} (r : Result A TextFault) (f : A → Result B TextFault) (y : B) → (r >>> f) ≡ Ok y
+    → (x : A) × (r ≡ Ok x) × (f x ≡ Ok y)
 text_bind (Ok x) f y e = (x, refl, e)
 text_bind (Err d) f y e = absurd cc
 
@@ -46,7 +47,8 @@ at_line_ok n (Ok y) x e = ap (λ z. Ok z) (text_ok_is y x e)
 at_line_ok n (Err f) x e = absurd cc
 
 -- what came out well passed the guard
-text_guard : {A : Type 0} (b : Bool) (x : Result A TextFault) (f : TextFault) (y : A) → cond b x (Err f) ≡ Ok y → (b ≡ true) × (x ≡ Ok y)
+text_guard : {A : Type 0} (b : Bool) (x : Result A TextFault) (f : TextFault) (y : A) → cond b x (Err f) ≡ Ok y
+    → (b ≡ true) × (x ≡ Ok y)
 text_guard true x f y e = (refl, e)
 text_guard false x f y e = absurd cc
 
@@ -55,14 +57,16 @@ low : (n : ℕ) → n ≤ 33554432 → nat_le n 33554432 ≡ true
 low n le = grind (arith, nat_tests)
 
 -- A line that is read is no line too many.
-pub numbered_ok : {A : Type 0} (n : ℕ) (r : Result A FaultKind) (x : A) → numbered n r ≡ Ok x → (r ≡ Ok x) × (n ≤ 33554432)
+pub numbered_ok : {A : Type 0} (n : ℕ) (r : Result A FaultKind) (x : A) → numbered n r ≡ Ok x
+    → (r ≡ Ok x) × (n ≤ 33554432)
 unfolding numbered
 numbered_ok n r x e =
     let g = text_guard (nat_le n 33554432) (at_line n r) _ x e in
     (at_line_ok n r x g.1, leb-true n 33554432 g.0)
 
 -- A line that is no line too many is read.
-pub numbered_again : {A : Type 0} (n : ℕ) (r : Result A FaultKind) (x : A) → r ≡ Ok x → n ≤ 33554432 → numbered n r ≡ Ok x
+pub numbered_again : {A : Type 0} (n : ℕ) (r : Result A FaultKind) (x : A) → r ≡ Ok x → n ≤ 33554432
+    → numbered n r ≡ Ok x
 unfolding numbered
 numbered_again n r x e le = rw (low n le, e) refl
 
@@ -84,7 +88,8 @@ items_take n (line ∷ next ∷ lines) items le e =
     ((a.0, b.0, line_takes line a.0 t.0, rest.0, sym (text_ok_is (kept a.0 b.0) items b.2)), omega (arith, rest.1))
 
 -- What the lines say is read.
-items_again : (n : ℕ) (ps : List (List ℕ)) (items : List Item) → AreScriptLines (without_last_empty ps) items → n + length (without_last_empty ps) ≤ 33554433
+items_again : (n : ℕ) (ps : List (List ℕ)) (items : List Item) → AreScriptLines (without_last_empty ps) items
+    → n + length (without_last_empty ps) ≤ 33554433
     → items_of n ps ≡ Ok items
 unfolding items_of
 items_again n [] items h le = ap (λ (x : List Item). Ok x) (sym h)
@@ -96,24 +101,28 @@ items_again n (line ∷ next ∷ lines) items h le =
     rw (numbered_again n (script_line_of line) h.0 (line_again line h.0 h.2) (omega arith), rest) (ap (λ (x : List Item). Ok x) (sym h.4))
 
 -- The items that are read make the script whose text the bytes are.
-pub script_taken : (bytes : List ℕ) (items : List Item) → script_items bytes ≡ Ok items → IsScriptText bytes (script_of items)
+pub script_taken : (bytes : List ℕ) (items : List Item) → script_items bytes ≡ Ok items
+    → IsScriptText bytes (script_of items)
 script_taken bytes items e =
     let t = items_take 1 (pieces bytes) items (omega arith) e in
     record { items = items; lines = t.0; count = omega (arith, t.1); value = refl }
 
 -- A text of a script is read.
-pub script_again : (bytes : List ℕ) (script : ScriptValue) (s : IsScriptText bytes script) → script_items bytes ≡ Ok s.items
+pub script_again : (bytes : List ℕ) (script : ScriptValue) (s : IsScriptText bytes script)
+    → script_items bytes ≡ Ok s.items
 script_again bytes script s = items_again 1 (pieces bytes) s.items s.lines (omega (arith, s.count))
 
 -- ---- faults
 
 -- how a reading that went wrong did so
-pub text_bind_err : {A B : Type 0} (r : Result A TextFault) (f : A → Result B TextFault) (g : TextFault) → (r >>> f) ≡ Err g → (r ≡ Err g) ⊎ ((x : A) × (r ≡ Ok x) × (f x ≡ Err g))
+pub text_bind_err : {A B : Type 0} (r : Result A TextFault) (f : A → Result B TextFault) (g : TextFault)
+    → (r >>> f) ≡ Err g → (r ≡ Err g) ⊎ ((x : A) × (r ≡ Ok x) × (f x ≡ Err g))
 text_bind_err (Ok x) f g e = inr (x, refl, e)
 text_bind_err (Err d) f g e = inl (ap (λ (t : TextFault). Err t) (text_err_is d g e))
 
 -- a fault of a line tells its kind and its number
-pub at_line_err : {A : Type 0} (n : ℕ) (r : Result A FaultKind) (f : TextFault) → at_line n r ≡ Err f → (kind : FaultKind) × (r ≡ Err kind) × (fault_at n kind ≡ f)
+pub at_line_err : {A : Type 0} (n : ℕ) (r : Result A FaultKind) (f : TextFault) → at_line n r ≡ Err f
+    → (kind : FaultKind) × (r ≡ Err kind) × (fault_at n kind ≡ f)
 at_line_err n (Ok x) f e = absurd cc
 at_line_err {A = A} n (Err kind) f e = (kind, refl, text_err_is {A = A} (fault_at n kind) f e)
 
@@ -127,11 +136,13 @@ record IsFaultOf (m : ℕ) (line : List ℕ) (f : TextFault) : Type 0 where
   fault : HasLineFault m line f.number
 
 -- a fault of a script line is that of its bytes
-numbered_err : (m : ℕ) (line : List ℕ) (f : TextFault) → m ≤ 33554432 → numbered (suc m) (script_line_of line) ≡ Err f → IsFaultOf m line f
+numbered_err : (m : ℕ) (line : List ℕ) (f : TextFault) → m ≤ 33554432 → numbered (suc m) (script_line_of line) ≡ Err f
+    → IsFaultOf m line f
 unfolding numbered
 numbered_err m line f le e = step (nat_le (suc m) 33554432) refl e
   where
-    step : (b : Bool) → nat_le (suc m) 33554432 ≡ b → cond b (at_line (suc m) (script_line_of line)) (Err (fault_at (suc m) Form)) ≡ Err f → IsFaultOf m line f
+    step : (b : Bool) → nat_le (suc m) 33554432 ≡ b
+        → cond b (at_line (suc m) (script_line_of line)) (Err (fault_at (suc m) Form)) ≡ Err f → IsFaultOf m line f
     step true t e =
         let a = at_line_err (suc m) (script_line_of line) f e in
         subst (λ (g : TextFault). IsFaultOf m line g) a.2 (record { place = refl; fault = inr (omega (arith, leb-true (suc m) 33554432 t), (a.0, a.1, refl)) })
@@ -150,7 +161,8 @@ record FaultFrom (m : ℕ) (lines : List (List ℕ)) (f : TextFault) : Type 0 wh
   fault : IsFaultOf (m + length before) line f
 
 -- The first line has the fault.
-fault_here : (m : ℕ) (line : List ℕ) (lines : List (List ℕ)) (f : TextFault) → IsFaultOf m line f → FaultFrom m (line ∷ lines) f
+fault_here : (m : ℕ) (line : List ℕ) (lines : List (List ℕ)) (f : TextFault) → IsFaultOf m line f
+    → FaultFrom m (line ∷ lines) f
 fault_here m line lines f h = record {
   before = [];
   line = line;
@@ -162,7 +174,8 @@ fault_here m line lines f h = record {
 }
 
 -- A later line has it.
-fault_later : (m : ℕ) (line : List ℕ) (lines : List (List ℕ)) (s : Option Item) (f : TextFault) → IsScriptLine line s → FaultFrom (suc m) lines f → FaultFrom m (line ∷ lines) f
+fault_later : (m : ℕ) (line : List ℕ) (lines : List (List ℕ)) (s : Option Item) (f : TextFault) → IsScriptLine line s
+    → FaultFrom (suc m) lines f → FaultFrom m (line ∷ lines) f
 fault_later m line lines s f h t =
     let same : suc m + length t.before ≡ m + length (line ∷ t.before) = omega arith in
     record {
@@ -176,7 +189,8 @@ fault_later m line lines s f h t =
     }
 
 -- The fault that is read is that of the first line with one.
-items_fault : (m : ℕ) (ps : List (List ℕ)) (f : TextFault) → m ≤ 33554432 → items_of (suc m) ps ≡ Err f → FaultFrom m (without_last_empty ps) f
+items_fault : (m : ℕ) (ps : List (List ℕ)) (f : TextFault) → m ≤ 33554432 → items_of (suc m) ps ≡ Err f
+    → FaultFrom m (without_last_empty ps) f
 unfolding items_of
 items_fault m [] f le e = absurd cc
 items_fault m ([] ∷ []) f le e = absurd cc
@@ -198,7 +212,8 @@ items_fault m (line ∷ next ∷ lines) f le e = elim (text_bind_err (numbered (
     no_err : (items : List Item) (f : TextFault) → text_done items ≡ text_failed f → ⊥
     no_err items f e = cc
 
-    rest_err : (r : Result (List Item) TextFault) (s : Option Item) (f : TextFault) → (r >>> λ is. Ok (kept s is)) ≡ Err f → r ≡ Err f
+    rest_err : (r : Result (List Item) TextFault) (s : Option Item) (f : TextFault)
+        → (r >>> λ is. Ok (kept s is)) ≡ Err f → r ≡ Err f
     rest_err (Ok is) s f e = absurd (no_err (kept s is) f e)
     rest_err (Err d) s f e = e
 
@@ -221,17 +236,20 @@ script_fault_is bytes f e =
 -- ---- the first fault of the bytes is read
 
 -- the kind and the line of a fault make it
-pub fault_made : (n : ℕ) (kind : FaultKind) (f : TextFault) → f.line ≡ n → f.number ≡ fault_number kind → fault_at n kind ≡ f
+pub fault_made : (n : ℕ) (kind : FaultKind) (f : TextFault) → f.line ≡ n → f.number ≡ fault_number kind
+    → fault_at n kind ≡ f
 fault_made n kind f place number = rw (← place, ← number) refl
 
 -- the fault of a line is the one that is read
-numbered_stop : (m : ℕ) (line : List ℕ) (f : TextFault) → f.line ≡ suc m → HasLineFault m line f.number → numbered (suc m) (script_line_of line) ≡ Err f
+numbered_stop : (m : ℕ) (line : List ℕ) (f : TextFault) → f.line ≡ suc m → HasLineFault m line f.number
+    → numbered (suc m) (script_line_of line) ≡ Err f
 unfolding numbered
 numbered_stop m line f place (inl h) = rw (h.0) (ap (λ (g : TextFault). Err g) (fault_made 33554433 Form f (omega (arith, place, h.0)) h.1))
 numbered_stop m line f place (inr h) = rw (low (suc m) (omega (arith, h.0)), h.1.1) (ap (λ (g : TextFault). Err g) (fault_made (suc m) h.1.0 f place h.1.2))
 
 -- the fault of the first line is the one that is read
-here : (m : ℕ) (p line : List ℕ) (f : TextFault) → p ≡ line → f.line ≡ suc (m + 0) → HasLineFault (m + 0) line f.number → numbered (suc m) (script_line_of p) ≡ Err f
+here : (m : ℕ) (p line : List ℕ) (f : TextFault) → p ≡ line → f.line ≡ suc (m + 0) → HasLineFault (m + 0) line f.number
+    → numbered (suc m) (script_line_of p) ≡ Err f
 here m p line f e place h = rw e (numbered_stop m line f (rw (add-zero m) at place) (rw (add-zero m) at h))
 
 -- the first of equal lists
@@ -243,7 +261,8 @@ others_are : {A : Type 0} (x y : A) (xs ys : List A) → x ∷ xs ≡ y ∷ ys �
 others_are x y xs ys e = cc
 
 -- A piece behind right lines has the fault.
-items_stop : (m : ℕ) (ps before : List (List ℕ)) (line : List ℕ) (after : List (List ℕ)) (items : List Item) (f : TextFault) → without_last_empty ps ≡ before ++ line ∷ after → AreScriptLines before items
+items_stop : (m : ℕ) (ps before : List (List ℕ)) (line : List ℕ) (after : List (List ℕ)) (items : List Item)
+    (f : TextFault) → without_last_empty ps ≡ before ++ line ∷ after → AreScriptLines before items
     → f.line ≡ suc (m + length before) → HasLineFault (m + length before) line f.number → items_of (suc m) ps ≡ Err f
 unfolding items_of
 items_stop m [] before line after items f whole right place h = absurd (omega (arith, ap length whole, length-append before (line ∷ after)))
@@ -269,11 +288,13 @@ script_fault_again bytes f s =
     items_stop 0 (pieces bytes) s.before s.line s.after s.items f s.whole s.right (omega (arith, s.place)) (subst (λ (n : ℕ). HasLineFault n s.line f.number) none s.fault)
 
 -- what has a fault has it no earlier than where it has none
-pub not_before : {V : Type 0} (m : ℕ) (g : TextFault) (r : Result V TextFault) → NoFaultBefore m r → r ≡ Err g → m ≤ g.line
+pub not_before : {V : Type 0} (m : ℕ) (g : TextFault) (r : Result V TextFault) → NoFaultBefore m r → r ≡ Err g
+    → m ≤ g.line
 not_before m g r h e = rw e at h
 
 -- What a reader of items answers is right for the bytes.
-pub reads_known : (known : Option (List ℕ)) (items : List Item) (n : ℕ) (answer : Result ScriptValue TextFault) → items ≡ [] → n ≡ 1 → AnswersAll (AnswersScript items n) known answer → ReadsKnownScript known answer
+pub reads_known : (known : Option (List ℕ)) (items : List Item) (n : ℕ) (answer : Result ScriptValue TextFault)
+    → items ≡ [] → n ≡ 1 → AnswersAll (AnswersScript items n) known answer → ReadsKnownScript known answer
 reads_known None items n answer none first h = tt
 reads_known (Some bytes) items n answer none first h = λ small. step answer (subst (λ (k : ℕ). AnswersScript [] k bytes answer) first (subst (λ (is : List Item). AnswersScript is n bytes answer) none (h small)))
   where

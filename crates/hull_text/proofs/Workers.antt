@@ -12,7 +12,8 @@ workers_least n (None ∷ is) = workers_least n is
 workers_least n (Some order ∷ is) = omega (arith, workers_least (max n (order.0 + 1)) is)
 
 -- A call more at the end.
-pub workers_append : (n : ℕ) (items : List Item) (order : ℕ × Call) → workers_from n (items ++ Some order ∷ []) ≡ max (workers_from n items) (order.0 + 1)
+pub workers_append : (n : ℕ) (items : List Item) (order : ℕ × Call)
+    → workers_from n (items ++ Some order ∷ []) ≡ max (workers_from n items) (order.0 + 1)
 unfolding workers_from
 workers_append n [] order = refl
 workers_append n (None ∷ is) order = workers_append n is order

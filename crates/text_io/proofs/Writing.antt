@@ -12,7 +12,8 @@ pub record Written (a b : Option (List ℕ)) (piece rest : List ℕ) : Type 0 wh
   pub grown : Appends a b front
 
 -- One more write of a part of the rest.
-pub written_more : (a b c : Option (List ℕ)) (piece rest : List ℕ) (n : ℕ) → Written a b piece rest → Appends b c (take n rest) → Written a c piece (drop n rest)
+pub written_more : (a b c : Option (List ℕ)) (piece rest : List ℕ) (n : ℕ) → Written a b piece rest
+    → Appends b c (take n rest) → Written a c piece (drop n rest)
 written_more a b c piece rest n w p = record {
   front = w.front ++ take n rest;
   whole = w.whole ∙ ap (λ (t : List ℕ). w.front ++ t) (sym (take-append-drop n rest)) ∙ sym (append_assoc w.front (take n rest) (drop n rest));
