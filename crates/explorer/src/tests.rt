@@ -5,6 +5,7 @@ mod by_hand;
 mod choice;
 mod judge;
 mod player;
+mod refused;
 mod schedule;
 
 use choice::{Chance, EachWay};
