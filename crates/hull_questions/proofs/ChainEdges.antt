@@ -124,11 +124,6 @@ pub record IsEdgePart (v : Pair) (whole part : Tree) : Type 0 where
   pub part_for : IsPartFor (Pair × Pair) (λ S e. IsLowerEdgeAt S v e) whole part
   pub inside : IsBeforeEnd part v
 
--- a half with a lower edge has two halves
-pub lower_fork : (t : Tree) (e : Pair × Pair) → Some e ≡ lower_of t → IsFork t
-lower_fork (Leaf x) e h = absurd (cc)
-lower_fork (Fork e f u w) g h = tt
-
 -- before the bridge: to the left half
 pub edge_left : (t : Tree) (v a b : Pair) → IsBridged t → Some (a, b) ≡ lower_of t → IsBefore v a → IsBeforeEnd t v → IsEdgePart v t (left_of t)
 edge_left (Leaf x) v a b h g va i = absurd (cc)
@@ -165,11 +160,6 @@ edge_here (Fork e f u w) v a b h g n m =
       starts = n;
       onward = m;
     }
-
--- no point is one that stands before the end of one point and not before its start
-pub no_edge_alone : (t : Tree) (v : Pair) → lower_of t ≡ None → IsBeforeEnd t v → ⊥
-no_edge_alone (Leaf x) v n i = i.0 i.1
-no_edge_alone (Fork e f u w) v n i = absurd (cc)
 
 -- ---- the edge at a corner begins there
 

@@ -169,12 +169,6 @@ facing_fork d (Leaf x) e (inl h) = absurd (cc)
 facing_fork d (Leaf x) e (inr h) = absurd (cc)
 facing_fork d (Fork e f u w) g h = tt
 
--- a half with no edge on that side has none
-pub facing_none : (d : Pair) (t : Tree) → IsFacing d t None → edge_of t ≡ None
-facing_none d (Leaf x) h = refl
-facing_none d (Fork e f u w) (inl h) = absurd (cc)
-facing_none d (Fork e f u w) (inr h) = absurd (cc)
-
 -- the left end is not less far than the right one: to the left half
 pub farther_left : (d : Pair) (t : Tree) (p q : Pair) → IsBridged t → IsFacing d t (Some (p, q)) → ¬ (product d p <ℤ product d q) → IsFartherPart d t (left_of t)
 farther_left d (Leaf x) p q h (inl g) k = absurd (cc)

@@ -5,19 +5,15 @@
 //! at each fork, and ask for no memory; [`vertices`] and [`area2`] go down once for each corner.
 #![tactic(auto)]
 
-mod area;
 mod corners;
 mod edges;
-mod farthest;
-mod outline;
-mod placing;
+mod questions;
 mod sights;
 #[cfg(test)]
 mod tests;
-mod touching;
 
-pub use area::area2;
-pub use farthest::{extreme, extreme_counted};
-pub use outline::vertices;
-pub use placing::place;
-pub use touching::tangents;
+pub use questions::area::area2;
+pub use questions::extreme::{extreme, extreme_counted};
+pub use questions::place::place;
+pub use questions::tangents::tangents;
+pub use questions::vertices::vertices;

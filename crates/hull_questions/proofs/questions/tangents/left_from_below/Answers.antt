@@ -1,0 +1,12 @@
+use Rattle.hull_questions.proofs.TangentParts.{left_alone}
+use Rattle.hull_questions.proofs.questions.tangents.left_from_below.Goals as goal
+
+pub loop-next-preserved : goal.loop-next-preserved
+loop-next-preserved g c = record {
+  below = c.in-Some.ensures.below;
+  after = c.in-Some.ensures.after;
+  lifts = λ p a. c.loop-next.invariant.lifts p (c.in-Some.ensures.part_for.lifts p a);
+}
+
+pub returns : goal.returns
+returns g c = c.loop-next.invariant.lifts c.first.result (left_alone (g.H.Half.tree c.loop-next.part) c.args.q c.first.result c.in_default.ensures c.first.ensures)

@@ -1,0 +1,12 @@
+use Rattle.hull_questions.proofs.TangentParts.{right_alone}
+use Rattle.hull_questions.proofs.questions.tangents.right_from_below.Goals as goal
+
+pub loop-next-preserved : goal.loop-next-preserved
+loop-next-preserved g c = record {
+  below = c.in-Some.ensures.below;
+  before = c.in-Some.ensures.before;
+  lifts = λ p a. c.loop-next.invariant.lifts p (c.in-Some.ensures.part_for.lifts p a);
+}
+
+pub returns : goal.returns
+returns g c = c.loop-next.invariant.lifts c.first.result (right_alone (g.H.Half.tree c.loop-next.part) c.args.q c.first.result c.in_default.ensures c.first.ensures)

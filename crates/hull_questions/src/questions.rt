@@ -1,0 +1,6 @@
+//! One file for each question.
+pub(crate) mod area;
+pub(crate) mod extreme;
+pub(crate) mod place;
+pub(crate) mod tangents;
+pub(crate) mod vertices;

@@ -1,0 +1,23 @@
+//! Where a point lies.
+ghost use Rattle.bridge_search.specs.Leaves.{points_of};
+ghost use Rattle.hull_plain.specs.Replies.{LiesAt};
+
+use crate::sights::{Sight, look};
+use bridge_search::Half;
+use hull_plain::Place;
+use lattice::Point;
+
+/// Where `q` lies, seen from the points of a half: by its sides of the lower and the upper edge between whose ends it
+/// stands, each found by one way down the bridges (Overmars and van Leeuwen, 1981).
+pub fn place<H: Half>(half: H, q: Point) -> Place
+    ensures { LiesAt (points_of (H.tree half)) q result }
+{
+    match look(half, q) {
+        Sight::Before => Place::Outside,
+        Sight::After => Place::Outside,
+        Sight::Below => Place::Outside,
+        Sight::Above => Place::Outside,
+        Sight::Touching => Place::On,
+        Sight::Within => Place::Inside,
+    }
+}
