@@ -3,13 +3,11 @@ use Rattle.std.proofs.Common.{◌≡◌, ◌<◌, ◌≤◌, ◌+◌, ℕ, zero,
 use Rattle.std.specs.Prelude.{slice_index_or, Result, Ok, Err, OnOk}
 use Rattle.std.proofs.lemmas.List.Sums.{sum_by-cons, sum_by-append}
 use Rattle.std.proofs.lemmas.List.Elements.{All-cons, All-head, All-tail}
-use Rattle.std.proofs.lemmas.List.{get_or_append_left, map-append, length-map}
-use Rattle.std.proofs.Math.Seq.{get_or-append_seam}
 use Rattle.hull_plain.specs.declared.call.Call.{Call}
 use Rattle.hull_book.specs.Books.{BookValue}
 use Rattle.hull_book.specs.Scripts.{PhaseValue, calls_in, calls_in_all, calls_of}
 use Rattle.hull_book.specs.Answers.{Answer}
-use Rattle.hull_pool.specs.Answers.{AnswersValue, WorkersValue, shown, no_answers}
+use Rattle.hull_pool.specs.Answers.{WorkersValue, shown}
 use Rattle.hull_pool.specs.Runs.{job, MayRun}
 use Rattle.hull_pool.specs.Scripts.{MayRunAll, HasRunPhases}
 use Rattle.hull_pool.specs.Work.{workers_of}
@@ -78,17 +76,6 @@ take_whole [] zero le = refl
 take_whole [] (suc i) le = refl
 take_whole (phase ∷ phases) zero le = absurd (omega arith)
 take_whole (phase ∷ phases) (suc i) le = ap (λ (xs : List PhaseValue). phase ∷ xs) (take_whole phases i (omega arith))
-
--- what a list shows that was put behind the others
-pub shown_front : (vs : List AnswerVec) (v : AnswerVec) (k : ℕ) → k < length vs → slice_index_or (map (λ v. shown v) (vs ++ v ∷ [])) k no_answers ≡ slice_index_or (map (λ v. shown v) vs) k no_answers
-shown_front vs v k lt = ap (λ (xs : List AnswersValue). slice_index_or xs k no_answers) (map-append (λ (v : AnswerVec). shown v) vs (v ∷ [])) ∙ get_or_append_left (map (λ v. shown v) vs) (shown v ∷ []) no_answers k (omega (arith, length-map vs (λ (v : AnswerVec). shown v)))
-
--- and what that last one shows
-pub shown_last : (vs : List AnswerVec) (v : AnswerVec) (k : ℕ) → k ≡ length vs → slice_index_or (map (λ v. shown v) (vs ++ v ∷ [])) k no_answers ≡ shown v
-shown_last vs v k e =
-    ap (λ (xs : List AnswersValue). slice_index_or xs k no_answers) (map-append (λ (v : AnswerVec). shown v) vs (v ∷ []))
-    ∙ ap (λ (n : ℕ). slice_index_or (map (λ v. shown v) vs ++ shown v ∷ []) n no_answers) (e ∙ sym (length-map vs (λ (v : AnswerVec). shown v)))
-    ∙ get_or-append_seam (map (λ v. shown v) vs) (shown v) [] no_answers
 
 -- one phase more was counted
 pub counted_more : (k count total : ℕ) (rest after : List PhaseValue) (phase : PhaseValue) (calls : List Call) → rest ≡ phase ∷ after → calls ≡ slice_index_or phase k [] → count + length (calls_of k rest) ≡ total → count + length calls + length (calls_of k after) ≡ total
