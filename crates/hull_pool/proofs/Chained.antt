@@ -138,7 +138,6 @@ module _ {S : Type 0} {K : Ghosts S} where
   may_more b m w x phase phases may one =
       let crew : workers_of m ≡ workers_of b = ap (λ (h : BookHead). h.workers) one.head in record {
         lawful = one.lawful;
-        some = omega (arith, crew, may.some);
         ledgers = one.ledgers;
         answers = one.answers ∙ sym crew;
         jobs = subst (λ (n : ℕ). All (λ p. length p ≡ n) phases) (sym crew) (All-tail (λ p. length p ≡ workers_of b) phase phases may.jobs);

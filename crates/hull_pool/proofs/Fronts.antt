@@ -31,7 +31,6 @@ module _ {S : Type 0} {K : Ghosts S} where
   may_first : (b : BookValue S) (w : WorkersValue) (phase : PhaseValue) (phases : List PhaseValue) → MayRunAll K b w (phase ∷ phases) → MayRun K b w phase
   may_first b w phase phases may = record {
     lawful = may.lawful;
-    some = may.some;
     ledgers = may.ledgers;
     answers = may.answers;
     jobs = All-head (λ p. length p ≡ workers_of b) phase phases may.jobs;
@@ -62,7 +61,6 @@ module _ {S : Type 0} {K : Ghosts S} where
   pub may_front : (b : BookValue S) (w : WorkersValue) (front back phases : List PhaseValue) → phases ≡ front ++ back → MayRunAll K b w phases → MayRunAll K b w front
   may_front b w front back phases split may = record {
     lawful = may.lawful;
-    some = may.some;
     ledgers = may.ledgers;
     answers = may.answers;
     jobs = all_front (λ p. length p ≡ workers_of b) front back (subst (All (λ p. length p ≡ workers_of b)) split may.jobs);

@@ -239,11 +239,11 @@ module _ {S : Type 0} where
 
 module _ {S : Type 0} {K : Ghosts S} where
   -- the phase was run
-  pub phase_ran : (lock : TicketLock (Boxed S) BookHead Line) (b c : BookValue S) (phase : PhaseValue) (ss ts : List (BookSeat S)) (vs ws : List AnswerVec) (ls ms : List LedgerValue) → length ss ≡ workers_of b → length vs ≡ length ss → length ls ≡ length ss → length ts ≡ length ss → length ws ≡ length ss → length ms ≡ length ss → MayRun K b (shown_workers vs ls) phase → Numbered 0 ss → IsLawful K c → c.head ≡ b.head → All (IsSeenIn c) ts → AllZip (HasRun lock b phase) (team worker_of ss vs ls) (team worker_of ts ws ms) → HasRunPhase K b (shown_workers vs ls) phase c (shown_workers ws ms)
-  phase_ran lock b c phase ss ts vs ws ls ms n lv ll lt lw lm may num law head seen runs = record {
+  pub phase_ran : (lock : TicketLock (Boxed S) BookHead Line) (b c : BookValue S) (phase : PhaseValue) (ss ts : List (BookSeat S)) (vs ws : List AnswerVec) (ls ms : List LedgerValue) → 1 ≤ length ss → length ss ≡ workers_of b → length vs ≡ length ss → length ls ≡ length ss → length ts ≡ length ss → length ws ≡ length ss → length ms ≡ length ss → MayRun K b (shown_workers vs ls) phase → Numbered 0 ss → IsLawful K c → c.head ≡ b.head → All (IsSeenIn c) ts → AllZip (HasRun lock b phase) (team worker_of ss vs ls) (team worker_of ts ws ms) → HasRunPhase K b (shown_workers vs ls) phase c (shown_workers ws ms)
+  phase_ran lock b c phase ss ts vs ws ls ms some n lv ll lt lw lm may num law head seen runs = record {
     lawful = law;
     head = head;
-    begins = ((out 0 (omega (arith, may.some))).outcome_is none).begins;
+    begins = ((out 0 (omega arith)).outcome_is none).begins;
     as_many = grown_to b c phase (λ k. (answers_of (shown_workers vs ls) k).answers) (λ k. (answers_of (shown_workers ws ms) k).answers) may.lawful law head may.jobs (λ k below. came_worked b c phase vs ws ls ms k none (out k below));
     each = λ k below. came_worked b c phase vs ws ls ms k none (out k below);
     ledgers = record {

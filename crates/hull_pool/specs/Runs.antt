@@ -22,7 +22,6 @@ answers_of w k = slice_index_or w.answers k no_answers
 -- worker, none longer than a text, and room for an answer to each call.
 pub record MayRun {S : Type 0} (K : Ghosts S) (b : BookValue S) (w : WorkersValue) (phase : PhaseValue) : Type 0 where
   pub lawful : IsLawful K b
-  pub some : 1 ≤ workers_of b
   pub ledgers : AreLedgers b w.ledgers
   pub answers : length w.answers ≡ workers_of b
   pub jobs : length phase ≡ workers_of b

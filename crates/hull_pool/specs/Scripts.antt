@@ -15,7 +15,6 @@ use Rattle.hull_plain.specs.declared.set.HullSet.{Ghosts}
 -- each worker, there are no more calls than a text has lines, and there is room for an answer to each.
 pub record MayRunAll {S : Type 0} (K : Ghosts S) (b : BookValue S) (w : WorkersValue) (phases : List PhaseValue) : Type 0 where
   pub lawful : IsLawful K b
-  pub some : 1 ≤ workers_of b
   pub ledgers : AreLedgers b w.ledgers
   pub answers : length w.answers ≡ workers_of b
   pub jobs : All (λ phase. length phase ≡ workers_of b) phases

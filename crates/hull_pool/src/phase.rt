@@ -48,6 +48,7 @@ fn run_locked<R: Threads + Wait + Sync, S: HullSet + Drop + Send + Sync, G: Gate
     gate: &G,
 ) -> Box<Book<S>>
     requires crew { (crew.items ≡ []) × (vec_len seats ≤ vec_capacity crew) }
+    requires some { 1 ≤ vec_len seats }
     requires seats { (seat_count lock ≡ workers_of (box_value (opening_book lock))) × (vec_len seats ≡ seat_count lock) × (vec_len seats ≤ vec_capacity seats) × All (IsSeatOf book_head lock) seats.items × AreNumbered seats.items × All (λ s. seat_seen s ≡ (box_value (opening_book lock)).lines) seats.items }
     requires may { MayRun S.HullSet (box_value (opening_book lock)) (shown_workers answers.old.items ledgers.old.items) phase.now }
     ensures { HasRunPhase S.HullSet (box_value (opening_book lock)) (shown_workers answers.old.items ledgers.old.items) phase.now (box_value result) (shown_workers answers.new.items ledgers.new.items) }

@@ -14,7 +14,7 @@ work_all-requires-clause-some g c κs within =
     let n : length c.args.seats.items ≡ workers_of b = omega (arith, c.requires.seats.0, c.requires.seats.1, c.args.seats.ok.0) in
     let long : AreLong b c.args.seats.items c.args.answers.now.items c.args.ledgers.now.items = are_long b c.args.phase.now _ _ _ n c.requires.may in
     let crew : length c.hire.new.crew.items ≡ workers_of b = crew_long b _ _ _ _ long c.hire.ensures.crew in
-    omega (arith, crew, c.requires.may.some, c.hire.new.crew.ok.0)
+    omega (arith, crew, n, c.requires.some, c.args.seats.ok.0, c.hire.new.crew.ok.0)
 
 pub work_all-requires-clause-ready : goal.work_all-requires-clause-ready
 work_all-requires-clause-ready g c κs within =
@@ -75,5 +75,5 @@ returns g c =
     let ws : length c.dismiss.new.answers.items ≡ length c.args.seats.items = omega (arith, crew, n, c.dismiss.ensures.long.1, c.work_all.ensures.many, c.hire.new.crew.ok.0, c.dismiss.new.answers.ok.0) in
     let ms : length c.dismiss.new.ledgers.items ≡ length c.args.seats.items = omega (arith, crew, n, c.dismiss.ensures.long.2, c.work_all.ensures.many, c.hire.new.crew.ok.0, c.dismiss.new.ledgers.ok.0) in
     let runs = rw (c.hire.ensures.crew, ← c.dismiss.ensures.team) at c.work_all.ensures.ran in
-    phase_ran c.args.lock b (box_value c.close.result) c.args.phase.now _ _ _ _ _ _ n long.answers long.ledgers ts ws ms c.requires.may (numbered_from 0 _ (λ i s e. c.requires.seats.4 i s e ∙ omega arith)) c.close.ensures.lawful c.close.ensures.head
+    phase_ran c.args.lock b (box_value c.close.result) c.args.phase.now _ _ _ _ _ _ (omega (arith, c.requires.some, c.args.seats.ok.0)) n long.answers long.ledgers ts ws ms c.requires.may (numbered_from 0 _ (λ i s e. c.requires.seats.4 i s e ∙ omega arith)) c.close.ensures.lawful c.close.ensures.head
     (λ k d lt. let stands = c.close.ensures.seen k d lt in (stands.begins, stands.own_lines)) runs
