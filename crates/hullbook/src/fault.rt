@@ -4,7 +4,7 @@ ghost use Rattle.hullbook.specs.Faults.{fault_of_engine, fault_of_words, status_
 
 use crate::options::OptionFault;
 use crate::run::RunFault;
-use hull_text::{FaultKind, TextFault};
+use hull_text::TextFault;
 use std::io;
 use std::io::ErrorKind;
 use thiserror::Error;
@@ -50,9 +50,9 @@ impl Fault {
             Fault::Usage => 2,
             Fault::Open | Fault::Write => 3,
             Fault::Memory => 4,
-            Fault::Text(fault) => match fault.kind() {
-                Some(FaultKind::Read) => 3,
-                Some(FaultKind::NoMemory) => 4,
+            Fault::Text(TextFault { number, line: _ }) => match *number {
+                8 => 3,
+                10 => 4,
                 _ => 2,
             },
         }
