@@ -55,10 +55,17 @@ fn two_seats_across_the_wrap(rt: HostRuntime) -> Result<(), Fail> {
 }
 
 /// A book of capacity 1 that is full: the second seat enters and is told so, its hand on is accepted, and the next number
-/// enters.
+/// enters. A hundred times.
 #[test]
 fn a_full_book_hands_on(rt: HostRuntime) -> Result<(), Fail> {
-    let alloc = rt.alloc();
+    for _ in 0..100 {
+        full_book(&rt, rt.alloc())?;
+    }
+    Ok(())
+}
+
+// Once.
+fn full_book(rt: &impl Abort, alloc: Global) -> Result<(), AllocError> {
     let zero = Vec::from_array(alloc, [Call::Count, Call::Count])?;
     let one = Vec::from_array(alloc, [Call::Count])?;
     let game = Game {
@@ -68,7 +75,7 @@ fn a_full_book_hands_on(rt: HostRuntime) -> Result<(), Fail> {
         misses: 0,
     };
     let mut listed = Listed::new(Vec::from_array(alloc, [1, 0, 0, 0, 1, 0, 0, 0, 0])?);
-    let end = play_once(&rt, alloc, &game, 2, &mut listed);
+    let end = play_once(rt, alloc, &game, 2, &mut listed);
     let steps = [
         (0, Step::Took(7)),
         (1, Step::Took(8)),
@@ -80,15 +87,15 @@ fn a_full_book_hands_on(rt: HostRuntime) -> Result<(), Fail> {
         (0, Step::Entered(9, Some((7, 0)))),
         (0, Step::HandedOn),
     ];
-    assert_eq!(&rt; end.seen.steps.as_slice(), steps.as_slice());
-    assert_eq!(&rt; (end.sum, end.journal.lines().len()), (1, 1));
+    assert_eq!(rt; end.seen.steps.as_slice(), steps.as_slice());
+    assert_eq!(rt; (end.sum, end.journal.lines().len()), (1, 1));
     for (player, answers) in &end.answers {
         if *player == 0 {
-            assert_eq!(&rt; answers.len(), 2);
-            assert!(&rt; answers[0] == Ok(Reply::PointCount(0)) && answers[1] == Err(JournalFull));
+            assert_eq!(rt; answers.len(), 2);
+            assert!(rt; answers[0] == Ok(Reply::PointCount(0)) && answers[1] == Err(JournalFull));
         } else {
-            assert_eq!(&rt; answers.len(), 1);
-            assert!(&rt; answers[0] == Err(JournalFull));
+            assert_eq!(rt; answers.len(), 1);
+            assert!(rt; answers[0] == Err(JournalFull));
         }
     }
     Ok(())
