@@ -1,6 +1,5 @@
 -- What is promised of a book over a tree that many seats share, sentence by sentence, whatever order their single steps fall in.
-use Rattle.std.specs.Prelude.{◌≡◌, ◌+◌, ◌<◌, ◌%◌, ◌^◌, ℕ, true, List, length, slice_get, Some}
-use Rattle.hull_plain.specs.declared.call.Call.{Call}
+use Rattle.std.specs.Prelude.{◌≡◌, ◌+◌, ◌%◌, ◌^◌, ℕ, true, List, length, slice_get, Some}
 use Rattle.hull_book.specs.declared.head.BookHead.{BookHead}
 use Rattle.hull_book.specs.declared.line.Line.{Line}
 use Rattle.hull_book.specs.Books.{BookValue, says_book}

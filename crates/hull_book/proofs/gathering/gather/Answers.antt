@@ -1,5 +1,5 @@
 -- what is left of the ledgers sums to what is left of the sum
-use Rattle.std.proofs.Common.{◌≡◌, ◌∙◌, ap, arith, length, refl}
+use Rattle.std.proofs.Common.{◌≡◌, ◌∙◌, ap, arith, length}
 use Rattle.hull_book.specs.Ledgers.{LedgerValue}
 use Rattle.hull_book.proofs.Counts.{all_counts, gather_step, none_left, sum_of_none}
 use Rattle.hull_book.proofs.gathering.gather.Goals as goal
