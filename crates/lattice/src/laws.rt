@@ -33,5 +33,5 @@ pub fn crossing_is_on_both_lines()
 
 /// The number that [`COORDINATE_LIMIT`] is.
 pub fn coordinate_limit_is_stated()
-    ensures { COORDINATE_LIMIT ≡ pos 1048576 }
+    ensures { COORDINATE_LIMIT ≡ pos 1099511627776 }
 {}

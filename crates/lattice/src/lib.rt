@@ -26,4 +26,4 @@ pub use laws::{
 pub use point::Point;
 
 /// The greatest size of a coordinate of a point, and of a component of a direction.
-pub const COORDINATE_LIMIT: i64 = 1048576;
+pub const COORDINATE_LIMIT: i64 = 1099511627776;

@@ -6,25 +6,31 @@ use std::test::Fail;
 
 #[test]
 fn coordinates_at_the_limit(rt: HostRuntime) -> Result<(), Fail> {
-    let corner = Point::new(-1048576, 1048576)?;
-    assert_eq!(rt; corner.x(), -1048576);
-    assert_eq!(rt; corner.y(), 1048576);
-    assert_eq!(rt; Point::new(1048577, 0), Err(LatticeFault::OutOfRange));
-    assert_eq!(rt; Point::new(0, -1048577), Err(LatticeFault::OutOfRange));
+    let corner = Point::new(-1099511627776, 1099511627776)?;
+    assert_eq!(rt; corner.x(), -1099511627776);
+    assert_eq!(rt; corner.y(), 1099511627776);
+    assert_eq!(rt; Point::new(1099511627777, 0), Err(LatticeFault::OutOfRange));
+    assert_eq!(rt;
+        Point::new(0, -1099511627777),
+        Err(LatticeFault::OutOfRange)
+    );
     assert_eq!(rt; Direction::new(0, 0), Err(LatticeFault::ZeroDirection));
-    assert_eq!(rt; Direction::new(0, 1048577), Err(LatticeFault::OutOfRange));
+    assert_eq!(rt;
+        Direction::new(0, 1099511627777),
+        Err(LatticeFault::OutOfRange)
+    );
     Ok(())
 }
 
 #[test]
 fn range_corners(rt: HostRuntime) -> Result<(), Fail> {
-    let a = Point::new(-1048576, -1048576)?;
-    let b = Point::new(1048576, -1048576)?;
-    let c = Point::new(1048576, 1048576)?;
-    assert_eq!(rt; orient(a, b, c), 4398046511104);
-    assert_eq!(rt; orient(a, c, b), -4398046511104);
-    assert_eq!(rt; distance_squared(a, c), 8796093022208);
-    assert_eq!(rt; product(Direction::new(1, 1)?, c), 2097152);
+    let a = Point::new(-1099511627776, -1099511627776)?;
+    let b = Point::new(1099511627776, -1099511627776)?;
+    let c = Point::new(1099511627776, 1099511627776)?;
+    assert_eq!(rt; orient(a, b, c), 4835703278458516698824704);
+    assert_eq!(rt; orient(a, c, b), -4835703278458516698824704);
+    assert_eq!(rt; distance_squared(a, c), 9671406556917033397649408);
+    assert_eq!(rt; product(Direction::new(1, 1)?, c), 2199023255552);
     Ok(())
 }
 
