@@ -6,7 +6,7 @@ use super::fault::LatticeFault;
 use std::marker::Model;
 
 /// A point with two coordinates, each at most [`COORDINATE_LIMIT`] in size.
-#[derive(Clone, Copy, PartialEq, Eq, Debug)]
+#[derive(Clone, Copy, PartialEq, Eq, PartialOrd, Ord, Debug)]
 pub struct Point {
     x: i64,
     y: i64,
