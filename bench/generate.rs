@@ -1,13 +1,12 @@
 //! Scripts from a seed, for the benchmarks.
 //!
-//!     generate KIND CALLS WORKERS SEED
+//!     generate KIND CALLS WORKERS SEED [BITS]
 //!
 //! Kinds: `count` (counts alone), `small` (all calls on a grid of 8 by 8 points), `build` (adds alone), `churn` (adds,
 //! removes, extreme and place), `ask` (few adds, many questions), `mixed` (all calls but vertices). The last four take
-//! their coordinates from the whole range. The calls are dealt out to the workers in turn.
+//! coordinates of at most 2^BITS in size (20 where none is given; the program takes 40). The calls are dealt out to the
+//! workers in turn.
 use std::io::Write;
-
-const LIMIT: i64 = 1 << 20;
 
 /// A xorshift generator (Marsaglia, 2003).
 struct Random(u64);
@@ -61,29 +60,29 @@ fn question(random: &mut Random, word: &str, limit: i64) -> String {
     format!("{word} {x} {y}")
 }
 
-fn call(kind: &str, i: u64, random: &mut Random, live: &mut Live) -> String {
+fn call(kind: &str, i: u64, random: &mut Random, live: &mut Live, limit: i64) -> String {
     let roll = random.below(100);
     match kind {
         "count" => "count".to_string(),
-        "build" => live.add(random, LIMIT),
+        "build" => live.add(random, limit),
         "churn" => match roll {
-            0..=39 => live.add(random, LIMIT),
-            40..=69 => live.remove(random, LIMIT),
-            70..=84 => question(random, "extreme", LIMIT),
-            _ => question(random, "place", LIMIT),
+            0..=39 => live.add(random, limit),
+            40..=69 => live.remove(random, limit),
+            70..=84 => question(random, "extreme", limit),
+            _ => question(random, "place", limit),
         },
-        "ask" if i < 2000 => live.add(random, LIMIT),
+        "ask" if i < 2000 => live.add(random, limit),
         "ask" => match roll {
-            0 => live.add(random, LIMIT),
-            1..=50 => question(random, "extreme", LIMIT),
-            _ => question(random, "place", LIMIT),
+            0 => live.add(random, limit),
+            1..=50 => question(random, "extreme", limit),
+            _ => question(random, "place", limit),
         },
         "mixed" => match roll {
-            0..=34 => live.add(random, LIMIT),
-            35..=54 => live.remove(random, LIMIT),
-            55..=69 => question(random, "extreme", LIMIT),
-            70..=84 => question(random, "place", LIMIT),
-            85..=94 => question(random, "tangents", LIMIT),
+            0..=34 => live.add(random, limit),
+            35..=54 => live.remove(random, limit),
+            55..=69 => question(random, "extreme", limit),
+            70..=84 => question(random, "place", limit),
+            85..=94 => question(random, "tangents", limit),
             95..=97 => "area".to_string(),
             _ => "count".to_string(),
         },
@@ -102,12 +101,14 @@ fn call(kind: &str, i: u64, random: &mut Random, live: &mut Live) -> String {
 
 fn main() {
     let words: Vec<String> = std::env::args().skip(1).collect();
-    let [kind, calls, workers, seed] = words.as_slice() else { panic!("generate KIND CALLS WORKERS SEED") };
-    let [calls, workers, seed] = [calls, workers, seed].map(|n| n.parse::<u64>().unwrap());
+    let (kind, numbers) = words.split_first().expect("generate KIND CALLS WORKERS SEED [BITS]");
+    let numbers: Vec<u64> = numbers.iter().map(|n| n.parse().unwrap()).collect();
+    let (calls, workers, seed) = (numbers[0], numbers[1], numbers[2]);
+    let limit = 1i64 << numbers.get(3).unwrap_or(&20);
     let mut random = Random(seed.wrapping_mul(0x9e37_79b9_7f4a_7c15) | 1);
     let mut live = Live(Vec::new());
     let mut out = std::io::BufWriter::new(std::io::stdout().lock());
     for i in 0..calls {
-        writeln!(out, "{} {}", i % workers, call(kind, i, &mut random, &mut live)).unwrap();
+        writeln!(out, "{} {}", i % workers, call(kind, i, &mut random, &mut live, limit)).unwrap();
     }
 }

@@ -15,7 +15,7 @@ for kind in small count; do
             made=$((calls / 20))
         fi
         "$room/generate" "$kind" "$made" "$workers" 7 >"$room/script"
-        both=$(pair "$hullbook" "$room/rival" "$rounds" run "$room/script" --capacity "$made")
+        both=$(race "$rounds" 'hullbook rival' run "$room/script" --capacity "$made")
         ours=${both% *}
         rival=${both#* }
         rate=$(calc %.0f "$made / $ours")

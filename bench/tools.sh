@@ -10,6 +10,7 @@ done
 hullbook="$top/bin/hullbook"
 "$hullbook" >/dev/null 2>&1 || true # the first call builds the program
 hullbook="$top/crates/hullbook/out/hullbook"
+ln -s "$hullbook" "$room/hullbook"
 
 # the least wall seconds, and the peak kilobytes, of some rounds of a command
 seconds() {
@@ -19,16 +20,21 @@ peak() {
     "$room/measure" "$@" | cut -d ' ' -f 2
 }
 
-# the least wall seconds of some rounds of each of two programs on the same words, taken in turn: PROGRAM RIVAL ROUNDS WORDS..
-pair() {
-    first=$1
-    second=$2
-    left=$3
-    shift 3
+# the least wall seconds of some rounds of each of the programs in `room` with these names, taken in turn on the same
+# words: ROUNDS NAMES WORDS..
+race() {
+    left=$1
+    names=$2
+    shift 2
     while [ "$left" -gt 0 ]; do
-        echo "$("$room/measure" 1 "$first" "$@") $("$room/measure" 1 "$second" "$@")"
+        for name in $names; do
+            seconds 1 "$room/$name" "$@"
+        done | tr '\n' ' '
+        echo
         left=$((left - 1))
-    done | awk 'NR == 1 || $1 < a { a = $1 } NR == 1 || $3 < b { b = $3 } END { print a, b }'
+    done | awk '
+        { for (k = 1; k <= NF; k++) if (NR == 1 || $k < least[k]) least[k] = $k }
+        END { for (k = 1; k <= NF; k++) printf "%s%s", least[k], k < NF ? " " : "\n" }'
 }
 
 # a formula over numbers

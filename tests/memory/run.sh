@@ -98,6 +98,7 @@ printf '0 add 0 0\n0 add 4 0\n0 add 2 3\n0 add 2 1\n0 remove 2 3\n0 vertices\n0 
 try report 8 01234 run "$room/script"
 try journal 8 01234 run "$room/script" --journal
 try check 7 0124 check "$room/journal"
+try upgrade 7 014 upgrade "$room/journal"
 # What is put together behind a last line without a newline stands in the line after it.
 printf '0 count' >"$room/short"
 try unfinished 2 0124 run "$room/short"

@@ -99,5 +99,6 @@ try plain_phases set-up refused 'first add' vertices whole
 try tree_phases set-up refused 'second add' vertices whole
 try script refused
 try journal refused
+try upgrade set-up refused
 echo "$passed passed, $failed failed"
 [ "$failed" -eq 0 ]

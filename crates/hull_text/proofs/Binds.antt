@@ -1,5 +1,5 @@
 -- What a reading that went well tells of its steps.
-use Rattle.std.proofs.Common.{◌≡◌, ◌<◌, ◌≤◌, ℕ, Bool, true, false, cond, Result, Ok, Err, refl, arith, ◌⊎◌, inl, inr}
+use Rattle.std.proofs.Common.{◌≡◌, ◌<◌, ◌≤◌, ℕ, Bool, true, false, cond, Option, Some, Result, Ok, Err, refl, subst, arith, ◌⊎◌, inl, inr}
 use Rattle.std.specs.Prelude.{nat_le, nat_lt}
 use Rattle.std.specs.Str.{bytes_eq}
 use Rattle.std.proofs.Common.{List}
@@ -12,6 +12,16 @@ use Rattle.hull_text.specs.Field.{◌>>=◌}
 pub chosen : {A : Type 0} (b : Bool) (x y z : A) → cond b x y ≡ z → ((b ≡ true) × (x ≡ z)) ⊎ ((b ≡ false) × (y ≡ z))
 chosen true x y z e = inl (refl, e)
 chosen false x y z e = inr (refl, e)
+
+-- what two equal options hold is equal
+pub some_is : {A : Type 0} (x y : A) → Some x ≡ Some y → x ≡ y
+some_is x y e = cc
+
+-- A look-up found its first entry, or went on.
+pub pick : {A : Type 0} (b : Bool) (w x : A) (rest : Option A) (P : A → Type 0) → (b ≡ true → P w)
+    → (rest ≡ Some x → P x) → cond b (Some w) rest ≡ Some x → P x
+pick true w x rest P here there e = subst P (some_is w x e) (here refl)
+pick false w x rest P here there e = there e
 
 -- Both steps went well.
 pub bind_ok : {A B : Type 0} (r : Result A FaultKind) (f : A → Result B FaultKind) (y : B) → (r >>= f) ≡ Ok y

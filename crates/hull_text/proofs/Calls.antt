@@ -10,18 +10,8 @@ use Rattle.hull_text.specs.Words.{call_word_of, call_word_text}
 use Rattle.hull_text.specs.Field.{Field, point_at, direction_at}
 use Rattle.hull_text.specs.Call.{call_after, call_at}
 use Rattle.hull_text.specs.Spelling.{IsCall, call_fields}
-use Rattle.hull_text.proofs.Binds.{bind_ok, ok_is, word_is}
+use Rattle.hull_text.proofs.Binds.{bind_ok, ok_is, pick, word_is}
 use Rattle.hull_text.proofs.Fields.{point_takes, point_again, direction_takes, direction_again}
-
--- what two equal options hold is equal
-pub some_is : {A : Type 0} (x y : A) → Some x ≡ Some y → x ≡ y
-some_is x y e = cc
-
--- A look-up found its first entry, or went on.
-pub pick : {A : Type 0} (b : Bool) (w x : A) (rest : Option A) (P : A → Type 0) → (b ≡ true → P w)
-    → (rest ≡ Some x → P x) → cond b (Some w) rest ≡ Some x → P x
-pick true w x rest P here there e = subst P (some_is w x e) (here refl)
-pick false w x rest P here there e = there e
 
 -- A word that is found is spelled there.
 call_word_takes : (f : Field) (x : CallWord) → call_word_of f ≡ Some x → f ≡ call_word_text x

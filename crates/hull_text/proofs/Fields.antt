@@ -7,17 +7,13 @@ use Rattle.std.proofs.lemmas.Bool.Decides.{nat_tests}
 use Rattle.lattice.specs.Plane.{Pair}
 use Rattle.hull_text.specs.declared.fault.FaultKind.TheVariants.{Number, Coordinate, Worker}
 use Rattle.hull_text.specs.declared.version.Version.{Version}
-use Rattle.hull_text.specs.declared.version.Version.TheVariants.{First}
 use Rattle.hull_text.specs.Version.{coordinate_limit}
 use Rattle.hull_text.specs.Number.{is_digit, digits_after, number_of, negated, positive, signed_of}
 use Rattle.hull_text.specs.Field.{◌>>=◌, Field, coordinate_in, coordinate_at, point_at, direction_at, is_zero, number_in, number_at, seat_in, seat_at}
 use Rattle.hull_text.specs.Spelling.{IsSized, IsPair, pair_fields, IsSomeDirection}
 use Rattle.hull_text.proofs.Numbers.{guard_some, guard_not, digit_low, number_text, text_number}
+use Rattle.hull_text.proofs.Versions.{limit_small}
 use Rattle.hull_text.proofs.Binds.{chosen, bind_ok, ok_is, guard_ok, guard_err, low_le, low_lt, le_test, lt_test}
-
--- No version has coordinates of more than 40 bits.
-pub limit_small : (v : Version) → coordinate_limit v ≤ 2 ^ 40
-limit_small First = omega arith
 
 -- ---- signed numbers
 

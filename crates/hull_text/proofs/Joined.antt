@@ -20,7 +20,7 @@ use Rattle.hull_plain.specs.declared.set.Place.TheVariants.{Inside, On, Outside}
 use Rattle.std.proofs.lemmas.Bool.{eqb-true, ne_eqb}
 use Rattle.std.proofs.lemmas.List.Elements.{All-cons, All-nil}
 use Rattle.hull_text.proofs.Numbers.{guard_some, guard_not, digit_low, text_number}
-use Rattle.hull_text.proofs.Fields.{limit_small}
+use Rattle.hull_text.proofs.Versions.{limit_small}
 
 -- bytes from 33 to 126
 abbrev pub is_plain : List ℕ → Bool

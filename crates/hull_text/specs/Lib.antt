@@ -22,3 +22,4 @@ pub mod Reply
 pub mod JournalLine
 pub mod JournalReading
 pub mod JournalGrammar
+pub mod Upgrade

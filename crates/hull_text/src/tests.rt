@@ -2,6 +2,7 @@ mod journals;
 mod long;
 mod reports;
 mod scripts;
+mod upgrades;
 
 // The line of a text that its reader has in hand after so many calls that gave a byte each, or found the end: behind the
 // end it is the line after the last, whether or not a newline ends that one.

@@ -1,6 +1,8 @@
 -- What a program that was refused ends with, and its exit status.
 use Rattle.std.specs.Prelude.{ℕ, ◌==◌, if◌then◌else◌}
 use Rattle.hull_text.specs.declared.fault.TextFault.{TextFault}
+use Rattle.hull_text.specs.declared.upgrading.UpgradeFault.{UpgradeFault}
+use Rattle.hull_text.specs.declared.upgrading.UpgradeFault.TheVariants as upgrade
 use Rattle.hullbook.specs.declared.fault.Fault.{Fault}
 use Rattle.hullbook.specs.declared.fault.Fault.TheVariants.{Usage, Open, Memory, Write, Text}
 use Rattle.hullbook.specs.declared.options.OptionFault.{OptionFault}
@@ -30,3 +32,8 @@ abbrev pub fault_of_engine : RunFault → Fault
 fault_of_engine (engine.Text f) = Text f
 fault_of_engine engine.Memory = Memory
 fault_of_engine engine.Write = Write
+
+-- a program that could not upgrade a journal ends so
+abbrev pub fault_of_upgrade : UpgradeFault → Fault
+fault_of_upgrade (upgrade.Text f) = Text f
+fault_of_upgrade (upgrade.Write f) = Write

@@ -5,7 +5,7 @@ use Rattle.hull_plain.specs.declared.TheConstants.{POINT_LIMIT}
 use Rattle.hull_book.specs.declared.limits.TheConstants.{CAPACITY_LIMIT}
 use Rattle.hullbook.specs.declared.options.Options.{Options}
 use Rattle.hullbook.specs.declared.options.Task.{Task}
-use Rattle.hullbook.specs.declared.options.Task.TheVariants.{Run, Check}
+use Rattle.hullbook.specs.declared.options.Task.TheVariants.{Run, Check, Upgrade}
 
 -- the numbers of a run are within their limits
 pub record AreWithinLimits (o : Options) : Type 0 where
@@ -18,6 +18,7 @@ pub record AreWithinLimits (o : Options) : Type 0 where
 abbrev pub IsWithinLimits : Task → Type 0
 IsWithinLimits (Run path o) = AreWithinLimits o
 IsWithinLimits (Check path) = Unit {0}
+IsWithinLimits (Upgrade path) = Unit {0}
 
 -- the words as texts
 abbrev pub texts_of : List (Bor (List ℕ)) → List (List ℕ)
@@ -31,3 +32,4 @@ IsOneOf texts text = (k : ℕ) × (slice_get texts k ≡ Some text)
 abbrev pub path_in : Task → List ℕ
 path_in (Run path o) = string_bytes path
 path_in (Check path) = string_bytes path
+path_in (Upgrade path) = string_bytes path

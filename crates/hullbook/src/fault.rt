@@ -1,10 +1,10 @@
 ghost use Rattle.std.specs.Prelude.{◌≡◌, ◌≢◌};
 ghost use Rattle.std.specs.IoError.{error_kind};
-ghost use Rattle.hullbook.specs.Faults.{fault_of_engine, fault_of_words, status_of};
+ghost use Rattle.hullbook.specs.Faults.{fault_of_engine, fault_of_upgrade, fault_of_words, status_of};
 
 use crate::options::OptionFault;
 use crate::run::RunFault;
-use hull_text::TextFault;
+use hull_text::{TextFault, UpgradeFault};
 use std::io;
 use std::io::ErrorKind;
 use thiserror::Error;
@@ -78,6 +78,17 @@ impl From<RunFault> for Fault {
             RunFault::Text(fault) => Fault::Text(fault),
             RunFault::Memory => Fault::Memory,
             RunFault::Write => Fault::Write,
+        }
+    }
+}
+
+impl From<UpgradeFault> for Fault {
+    ghost from_gives = { λ x y. y ≡ fault_of_upgrade x };
+
+    fn from(fault: UpgradeFault) -> Fault {
+        match fault {
+            UpgradeFault::Text(fault) => Fault::Text(fault),
+            UpgradeFault::Write(_) => Fault::Write,
         }
     }
 }

@@ -1,4 +1,4 @@
-//! `hullbook`: runs a script of calls on a shared convex hull, and checks a journal of such a run.
+//! `hullbook`: runs a script of calls on a shared convex hull, checks a journal of such a run, and upgrades old journals.
 #![tactic(auto)]
 
 ghost use Rattle.std.specs.Prelude.{IfOk};
@@ -13,10 +13,11 @@ mod tests;
 
 use check::check_text;
 use fault::Fault;
+use hull_text::upgrade;
 use options::{OptionFault, Options, Task, options};
 use run::run;
 use std::alloc::Global;
-use std::io::BufWriter;
+use std::io::{BufWriter, Printer};
 use std::process::ExitCode;
 use std::rt::{Env, Files};
 use std::sync::Wait;
@@ -43,6 +44,11 @@ fn task_of<R: Env + AllocGlobal>(rt: &R) -> Result<Task, Fault>
     options(rt.alloc(), &texts).map_err(Fault::from)
 }
 
+/// Standard output behind a block.
+fn block_writer<R: Print + AllocGlobal>(rt: &R) -> Result<BufWriter<Printer<'_, R>>, Fault> {
+    BufWriter::with_capacity(rt.alloc(), WRITE_BLOCK, io::writer(rt)).map_err(|_| Fault::Memory)
+}
+
 /// Runs the script at the path and writes to standard output.
 fn run_file<R: Threads + Wait + Sync + Files + Print + AllocGlobal>(
     rt: &R,
@@ -52,11 +58,8 @@ fn run_file<R: Threads + Wait + Sync + Files + Print + AllocGlobal>(
     requires { AreWithinLimits options.now }
 {
     let file = fs::open(rt, path).map_err(|error| Fault::of_system(&error, Fault::Open))?;
-    let Ok(block) = BufWriter::with_capacity(rt.alloc(), WRITE_BLOCK, io::writer(rt)) else {
-        return Err(Fault::Memory);
-    };
     let mut input = Counted::new(file);
-    let mut output = Counted::new(block);
+    let mut output = Counted::new(block_writer(rt)?);
     run(rt, rt.alloc(), &mut input, &mut output, options).map_err(Fault::from)
 }
 
@@ -66,6 +69,14 @@ fn check_file<R: Files + Print + AllocGlobal>(rt: &R, path: &str) -> Result<bool
     let mut input = Counted::new(file);
     let mut output = Counted::new(io::writer(rt));
     check_text(rt.alloc(), &mut input, &mut output).map_err(Fault::from)
+}
+
+/// Writes the journal at the path to standard output, in the newest version.
+fn upgrade_file<R: Files + Print + AllocGlobal>(rt: &R, path: &str) -> Result<(), Fault> {
+    let file = fs::open(rt, path).map_err(|error| Fault::of_system(&error, Fault::Open))?;
+    let mut input = Counted::new(file);
+    let mut output = Counted::new(block_writer(rt)?);
+    upgrade(rt.alloc(), &mut input, &mut output).map_err(Fault::from)
 }
 
 /// Does what the words after the program's name ask for. `false` for an illegal journal.
@@ -78,6 +89,10 @@ fn work<R: Threads + Wait + Sync + Env + Files + Print + AllocGlobal>(
             Ok(true)
         }
         Task::Check(path) => check_file(rt, &path),
+        Task::Upgrade(path) => {
+            upgrade_file(rt, &path)?;
+            Ok(true)
+        }
     }
 }
 

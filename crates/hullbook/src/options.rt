@@ -24,6 +24,8 @@ pub enum Task {
     Run(String, Options),
     /// To check the journal at this path.
     Check(String),
+    /// To write the journal at this path in the newest version.
+    Upgrade(String),
 }
 
 /// Why the words were refused.

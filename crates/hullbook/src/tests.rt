@@ -9,14 +9,15 @@ use crate::check::check_text;
 use crate::fault::Fault;
 use crate::options::{OptionFault, Options, Task, options};
 use crate::run::{RunFault, run};
-use hull_text::TextFault;
+use hull_text::{TextFault, UpgradeFault, WriteFault};
 use std::alloc::Global;
 use std::io;
 use std::io::ErrorKind;
 use std::sync::Wait;
 use std::test::Fail;
 use std::thread::Threads;
-use text_io::{Counted, Pieces, Spout};
+use text_io::Counted;
+use text_io::testing::{Pieces, Spout};
 
 const PLAIN: Options = Options {
     capacity: 65536,
@@ -31,7 +32,7 @@ const FIVE_REPORT: &str =
     "0 add 0 2 = added\n0 add 2 2 = added\n0 extreme 0 1 = point 0 2\n0 remove 0 2 = removed\n0 extreme 0 1 = point 2 2\nledger 0 5\nsum 5 journal 5 capacity 65536\n";
 
 const JOURNAL: &str =
-    "hullbook journal 1 first 18446744073709551615 limit 4 capacity 4\n18446744073709551615 0 add 5 5 = added\n0 0 count = count 1\n1 0 remove 5 5 = removed\nend 3\n";
+    "hullbook journal 2 first 18446744073709551615 limit 4 capacity 4\n18446744073709551615 0 add 5 5 = added\n0 0 count = count 1\n1 0 remove 5 5 = removed\nend 3\n";
 
 // Whether a run of the script, read and written in small pieces, ends well with this text.
 fn runs_to<R: Threads + Wait + Sync>(
@@ -120,7 +121,7 @@ fn second_worker_first(rt: HostRuntime) -> Result<(), Fail> {
         journal: true,
     };
     let journal =
-        "hullbook journal 1 first 7 limit 4 capacity 4\n7 1 count = count 0\n8 0 add 5 5 = added\nend 2\n";
+        "hullbook journal 2 first 7 limit 4 capacity 4\n7 1 count = count 0\n8 0 add 5 5 = added\nend 2\n";
     assert!(rt; runs_to(&rt, rt.alloc(), script, &options, journal)?);
     Ok(())
 }
@@ -171,7 +172,7 @@ fn wrapping_journal(rt: HostRuntime) -> Result<(), Fail> {
 fn coordinate_out_of_range(rt: HostRuntime) -> Result<(), Fail> {
     let fault = TextFault { number: 3, line: 1 };
     assert_eq!(rt;
-        ends(&rt, rt.alloc(), "0 add 1048577 0\n", 0, 0)?,
+        ends(&rt, rt.alloc(), "0 add 1099511627777 0\n", 0, 0)?,
         (Err(RunFault::Text(fault)), 0)
     );
     Ok(())
@@ -200,7 +201,7 @@ fn output_fails_midway(rt: HostRuntime) -> Result<(), Fail> {
 #[test]
 fn journals_are_judged(rt: HostRuntime) -> Result<(), Fail> {
     let wrong =
-        "hullbook journal 1 first 0 limit 4 capacity 4\n0 0 add 5 5 = added\n1 0 count = count 2\nend 2\n";
+        "hullbook journal 2 first 0 limit 4 capacity 4\n0 0 add 5 5 = added\n1 0 count = count 2\nend 2\n";
     assert_eq!(rt; judges(rt.alloc(), JOURNAL, "legal\n")?, Some(true));
     assert_eq!(rt; judges(rt.alloc(), wrong, "illegal 3\n")?, Some(false));
     Ok(())
@@ -246,6 +247,10 @@ fn words_that_are_taken(rt: HostRuntime) -> Result<(), Fail> {
         return Err(Fail::new("other words"));
     };
     assert_eq!(rt; path.as_str(), "x");
+    let Ok(Task::Upgrade(path)) = options(rt.alloc(), &["upgrade", "a b"]) else {
+        return Err(Fail::new("other words"));
+    };
+    assert_eq!(rt; path.as_str(), "a b");
     Ok(())
 }
 
@@ -260,7 +265,9 @@ fn words_that_are_refused(rt: HostRuntime) -> Result<(), Fail> {
     assert!(rt; is_refused(rt.alloc(), &["run", "x", "--limit", "1048577"]));
     assert!(rt; is_refused(rt.alloc(), &["run", "x", "--first", "18446744073709551616"]));
     assert!(rt; is_refused(rt.alloc(), &["check", "x", "--journal"]));
-    assert!(rt; is_refused(rt.alloc(), &["upgrade", "x"]));
+    assert!(rt; is_refused(rt.alloc(), &["upgrade"]));
+    assert!(rt; is_refused(rt.alloc(), &["upgrade", "x", "--journal"]));
+    assert!(rt; is_refused(rt.alloc(), &["downgrade", "x"]));
     Ok(())
 }
 
@@ -287,6 +294,25 @@ fn refused_memory_of_the_system(rt: HostRuntime) -> Result<(), Fail> {
     let absent = io::Error::from(ErrorKind::NotFound);
     assert_eq!(rt; Fault::of_system(&absent, Fault::Usage).status(), 2);
     assert_eq!(rt; Fault::of_system(&absent, Fault::Open).status(), 3);
+    Ok(())
+}
+
+/// A journal that was not upgraded ends the program as a journal that was not checked.
+#[test]
+fn faults_of_an_upgrade_are_those_of_a_check(rt: HostRuntime) -> Result<(), Fail> {
+    let text = TextFault { number: 8, line: 2 };
+    for (upgrade, check) in [
+        (UpgradeFault::Text(text), RunFault::Text(text)),
+        (UpgradeFault::Write(WriteFault), RunFault::Write),
+    ] {
+        let (told, wanted) = (Fault::from(upgrade), Fault::from(check));
+        assert_eq!(rt; told.status(), wanted.status());
+        let (told, wanted) = (
+            format!(in rt.alloc(); "{told}")?,
+            format!(in rt.alloc(); "{wanted}")?,
+        );
+        assert_eq!(rt; told.as_str(), wanted.as_str());
+    }
     Ok(())
 }
 

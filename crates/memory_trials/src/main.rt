@@ -30,7 +30,7 @@ use std::sync::Wait;
 use std::thread::Threads;
 
 /// The names of the trials, in the order in which they are made without a name.
-const NAMES: [&str; 18] = [
+const NAMES: [&str; 19] = [
     "plain_add",
     "tree_add",
     "plain_vertices",
@@ -49,6 +49,7 @@ const NAMES: [&str; 18] = [
     "tree_phases",
     "script",
     "journal",
+    "upgrade",
 ];
 
 /// Makes the trial of that name; `None` where there is no such trial.
@@ -77,6 +78,7 @@ fn trial<R: Threads + Wait + Sync>(
         "tree_phases" => phases::try_phases(rt, alloc, HullTree::new(alloc, 12)),
         "script" => texts::try_script(alloc, 1),
         "journal" => texts::try_journal(alloc, 1),
+        "upgrade" => texts::try_upgrade(alloc, 1),
         _ => return None,
     })
 }

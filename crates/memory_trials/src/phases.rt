@@ -16,7 +16,8 @@ use lattice::Point;
 use std::alloc::Global;
 use std::sync::Wait;
 use std::thread::Threads;
-use text_io::{Counted, Pieces};
+use text_io::Counted;
+use text_io::testing::Pieces;
 
 /// What the worker does.
 const SCRIPT: &[u8] = b"0 add 0 0\n0 add 1 1\n0 vertices\n0 count\n";

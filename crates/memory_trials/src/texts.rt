@@ -1,9 +1,10 @@
-//! A script and a journal are read.
+//! A script and a journal are read, and a journal is upgraded.
 use crate::findings::Findings;
 use crate::stage::Stage;
-use hull_text::{TextFault, read_journal, read_script};
+use hull_text::{TextFault, UpgradeFault, read_journal, read_script, upgrade};
 use std::alloc::Global;
-use text_io::{Counted, Pieces};
+use text_io::Counted;
+use text_io::testing::{Pieces, Spout};
 
 /// A script of three lines, the last of which ends without a newline.
 const SCRIPT: &[u8] = b"0 add 0 0\n1 count\n0 vertices";
@@ -62,5 +63,36 @@ pub fn try_journal(alloc: Global, size: usize) -> Result<Stage, &'static str> {
         ),
         Err(_) => findings.expect(false, "the next attempt has its memory"),
     }
+    findings.told(stage)
+}
+
+/// Upgrades the journal in pieces of that size.
+pub fn try_upgrade(alloc: Global, size: usize) -> Result<Stage, &'static str> {
+    let mut findings = Findings::new();
+    let Ok(device) = Spout::new(alloc, JOURNAL.len(), size) else {
+        return findings.told(Stage::SetUp);
+    };
+    let mut out = Counted::new(device);
+    let mut source = Counted::new(Pieces::new(JOURNAL, size));
+    let (stage, done) = match upgrade(alloc, &mut source, &mut out) {
+        Ok(()) => (Stage::Whole, Ok(())),
+        Err(fault) => {
+            let UpgradeFault::Text(fault) = fault else {
+                return Err("the device serves");
+            };
+            findings.expect(
+                is_memory(fault, 4),
+                "the fault is want of memory, in its line",
+            );
+            findings.expect(out.get_ref().bytes().is_empty(), "nothing is written");
+            let mut source = Counted::new(Pieces::new(JOURNAL, size));
+            (Stage::Refused, upgrade(alloc, &mut source, &mut out))
+        }
+    };
+    findings.expect(done.is_ok(), "the next attempt has its memory");
+    findings.expect(
+        out.get_ref().bytes().len() == JOURNAL.len(),
+        "the journal is whole",
+    );
     findings.told(stage)
 }

@@ -8,7 +8,6 @@ mod write;
 
 pub use counted::Counted;
 pub use device::{Sink, Source};
-pub use testing::{Pieces, Spout};
 pub use write::{WriteFault, flush_after, number_after, put, put_after};
 
 #[cfg(test)]

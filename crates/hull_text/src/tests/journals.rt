@@ -1,16 +1,16 @@
 ghost use Rattle.std.specs.Prelude.{◌<◌, ◌-◌, ◌^◌};
 
 use super::line_in_hand;
-use crate::testing::{Pieces, Spout};
 use crate::{Counted, TextFault, WriteFault, read_journal, write_journal};
 use hull_book::Journal;
 use std::alloc::Global;
 use std::io::BufWriter;
 use std::test::Fail;
+use text_io::testing::{Pieces, Spout};
 
 /// The journal of a removal that uncovers an inner point.
-const EXAMPLE: &[u8] =
-    b"hullbook journal 1 first 0 limit 8 capacity 8\n0 0 add 0 0 = added\n1 0 add 4 0 = added\n2 0 add 2 3 = added\n3 0 add 2 1 = added\n4 0 remove 2 3 = removed\n5 0 vertices = list 3 0 0 4 0 2 1\n6 0 area = area 4\nend 7\n";
+pub const EXAMPLE: &[u8] =
+    b"hullbook journal 2 first 0 limit 8 capacity 8\n0 0 add 0 0 = added\n1 0 add 4 0 = added\n2 0 add 2 3 = added\n3 0 add 2 1 = added\n4 0 remove 2 3 = removed\n5 0 vertices = list 3 0 0 4 0 2 1\n6 0 area = area 4\nend 7\n";
 
 // What a journal reads as: how many lines, or its fault.
 #[derive(Clone, Copy, Debug, PartialEq)]
@@ -94,13 +94,14 @@ fn is_read_so(alloc: Global, text: &[u8], want: Outcome) -> bool {
 }
 
 /// Lines that have a fault in the place of one of the example: the line's number, its text, and the fault.
-const FAULTY_LINES: [(u32, &str, u8); 29] = [
-    (1, "hullbook journal 9 first 0 limit 8 capacity 8", 7),
-    (1, "hullbook journal 1 first 0 limit 0 capacity 8", 7),
-    (1, "hullbook journal 1 first 0 limit 8 capacity 0", 7),
-    (1, "hullbook journal 1 first 0 limit 8 capacity 16777217", 7),
-    (1, "hullbook  journal 1 first 0 limit 8 capacity 8", 7),
-    (1, "hullbook journal 1 first 00 limit 8 capacity 8", 7),
+const FAULTY_LINES: [(u32, &str, u8); 30] = [
+    (1, "hullbook journal 0 first 0 limit 8 capacity 8", 7),
+    (1, "hullbook journal 3 first 0 limit 8 capacity 8", 7),
+    (1, "hullbook journal 2 first 0 limit 0 capacity 8", 7),
+    (1, "hullbook journal 2 first 0 limit 8 capacity 0", 7),
+    (1, "hullbook journal 2 first 0 limit 8 capacity 16777217", 7),
+    (1, "hullbook  journal 2 first 0 limit 8 capacity 8", 7),
+    (1, "hullbook journal 2 first 00 limit 8 capacity 8", 7),
     (2, "0 0 vertices = list 1048577", 2),
     (3, "", 1),
     (3, "# a remark", 2),
@@ -111,7 +112,7 @@ const FAULTY_LINES: [(u32, &str, u8); 29] = [
     (3, "01 0 add 4 0 = added", 2),
     (3, "18446744073709551616 0 add 4 0 = added", 2),
     (3, "1 0 extreme 0 0 = empty", 3),
-    (3, "1 0 add 4 0 = point 1048577 0", 3),
+    (3, "1 0 add 4 0 = point 1099511627777 0", 3),
     (3, "1 0 add 4 0 = tangents 0 0 0", 1),
     (
         3,
@@ -149,7 +150,7 @@ fn other_changes_of_the_example_journal_are_read(rt: HostRuntime) -> Result<(), 
         (3, "18446744073709551615 0 add 4 0 = added"),
         (3, "1 63 add 4 0 = added"),
         (3, "1 0 add 4 0 = inside"),
-        (3, "1 0 add 4 0 = tangents -1 0 0 -1048576"),
+        (3, "1 0 add 4 0 = tangents -1 0 0 -1099511627776"),
         (
             3,
             "1 0 add 4 0 = area 340282366920938463463374607431768211455",
@@ -299,12 +300,12 @@ fn a_written_journal_reaches_the_device_behind_a_block(rt: HostRuntime) -> Resul
 #[test]
 fn a_header_takes_the_greatest_numbers(rt: HostRuntime) -> Result<(), Fail> {
     let text =
-        b"hullbook journal 1 first 18446744073709551615 limit 1048576 capacity 16777216\nend 0\n";
+        b"hullbook journal 2 first 18446744073709551615 limit 1048576 capacity 16777216\nend 0\n";
     assert_eq!(rt; read(rt.alloc(), text, 3, 0), Outcome::Lines(0));
     let beyond =
-        b"hullbook journal 1 first 18446744073709551616 limit 1048576 capacity 16777216\nend 0\n";
+        b"hullbook journal 2 first 18446744073709551616 limit 1048576 capacity 16777216\nend 0\n";
     assert_eq!(rt; read(rt.alloc(), beyond, 3, 0), Outcome::Fault(7, 1));
-    let wide = b"hullbook journal 1 first 0 limit 1048577 capacity 1\nend 0\n";
+    let wide = b"hullbook journal 2 first 0 limit 1048577 capacity 1\nend 0\n";
     assert_eq!(rt; read(rt.alloc(), wide, 3, 0), Outcome::Fault(7, 1));
     Ok(())
 }
@@ -328,7 +329,7 @@ fn whichever_request_is_refused_the_journal_is_read_or_fault_10(rt: HostRuntime)
 fn reader_always_refuses(rt: HostRuntime) {
     assert_eq!(rt; read(rt.alloc(), EXAMPLE, 4096, 0), Outcome::Lines(7));
     let wrapping =
-        b"hullbook journal 1 first 18446744073709551615 limit 4 capacity 4\n18446744073709551615 0 add 5 5 = added\n0 0 count = count 1\n1 0 remove 5 5 = removed\nend 3\n";
+        b"hullbook journal 2 first 18446744073709551615 limit 4 capacity 4\n18446744073709551615 0 add 5 5 = added\n0 0 count = count 1\n1 0 remove 5 5 = removed\nend 3\n";
     assert_eq!(rt; read(rt.alloc(), wrapping, 4096, 0), Outcome::Lines(3));
     let mut source = Counted::new(Pieces::new(b"0 count\n", 4096));
     let is_read = crate::read_script(rt.alloc(), &mut source).is_ok();

@@ -1,10 +1,10 @@
-use crate::testing::{Pieces, Spout};
 use crate::{Counted, read_journal, write_journal};
 use hull_book::Journal;
 use hull_plain::Reply;
 use std::alloc::Global;
 use std::io::BufWriter;
 use std::test::Fail;
+use text_io::testing::{Pieces, Spout};
 
 /// How many points the list has: more than any reader would hold by chance, and no power of two.
 const COUNT: u32 = 5000;
@@ -12,7 +12,7 @@ const COUNT: u32 = 5000;
 // The text of a journal with one list of points (k, -k).
 fn long_text(alloc: Global) -> Result<Vec<u8>, Fail> {
     let mut text =
-        b"hullbook journal 1 first 0 limit 8 capacity 8\n0 0 vertices = list 5000".to_vec(alloc)?;
+        b"hullbook journal 2 first 0 limit 8 capacity 8\n0 0 vertices = list 5000".to_vec(alloc)?;
     for k in 0..COUNT {
         text.extend_from_slice(format!(in alloc; " {k} {}", 0i64 - i64::from(k))?.as_bytes())?;
     }

@@ -1,4 +1,3 @@
-use crate::testing::{Pieces, Spout};
 use crate::{Counted, WriteFault, read_journal, read_script, report_fits, write_report};
 use hull_book::{Answer, Journal, JournalFull, Report, Script};
 use hull_plain::{Place, PointList, Reply};
@@ -6,6 +5,7 @@ use lattice::Point;
 use std::alloc::Global;
 use std::io::BufWriter;
 use std::test::Fail;
+use text_io::testing::{Pieces, Spout};
 
 const SCRIPT: &[u8] = b"1 place 0 0\n0 add 0 0\njoin\n0 vertices\n1 tangents 3 0\n0 area\n";
 

@@ -1,9 +1,9 @@
 use super::line_in_hand;
-use crate::testing::Pieces;
 use crate::{Counted, TextFault, read_script};
 use hull_plain::Call;
 use std::alloc::Global;
 use std::test::Fail;
+use text_io::testing::Pieces;
 
 // What a script reads as: its workers, phases and calls, or its fault.
 #[derive(Clone, Copy, Debug, PartialEq)]
@@ -56,8 +56,8 @@ const FAULTY_SCRIPTS: [(&str, u8, u32); 29] = [
     ("0 add x\n", 2, 1),
     ("+0 count\n", 2, 1),
     ("join 3\n", 2, 1),
-    ("0 add 1048577 0\n", 3, 1),
-    ("0 add 1 -1048577\n", 3, 1),
+    ("0 add 1099511627777 0\n", 3, 1),
+    ("0 add 1 -1099511627777\n", 3, 1),
     ("0 add 18446744073709551616 01", 3, 1),
     ("0 add 99999999999999999999999999999999999999999999 1", 3, 1),
     ("0 extreme 0 0\n", 3, 1),
@@ -88,7 +88,12 @@ fn scripts_are_read_with_their_workers_phases_and_calls(rt: HostRuntime) {
         ("\n", 1, 1, 0),
         ("join\njoin", 1, 3, 0),
         ("1 count\n0 add 0 0\njoin\n0 count\n", 2, 2, 3),
-        ("\n# a\n63 add -1048576 1048576\n0 remove 1 1\n", 64, 1, 2),
+        (
+            "\n# a\n63 add -1099511627776 1099511627776\n0 remove 1 1\n",
+            64,
+            1,
+            2,
+        ),
         ("0 extreme 0 -1\n0 place 0 0\n0 tangents 0 0", 1, 1, 3),
         ("0 vertices\n0 area\n0 count\n", 1, 1, 3),
     ];

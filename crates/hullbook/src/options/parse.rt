@@ -46,16 +46,21 @@ fn run_command<'a>(alloc: Global) -> Result<Command<'a>, AllocError> {
         .arg(journal)
 }
 
-fn command<'a>(alloc: Global) -> Result<Command<'a>, AllocError> {
+/// A command that has a journal as its one word.
+fn journal_command<'a>(alloc: Global, name: &'a str) -> Result<Command<'a>, AllocError> {
     let journal = Arg::new(alloc, "journal")
         .required(true)
         .action(ArgAction::Set);
-    let check = Command::new(alloc, "check").arg(journal)?;
+    Command::new(alloc, name).arg(journal)
+}
+
+fn command<'a>(alloc: Global) -> Result<Command<'a>, AllocError> {
     Command::new(alloc, "hullbook")
         .no_binary_name(true)
         .subcommand_required(true)
         .subcommand(run_command(alloc)?)?
-        .subcommand(check)
+        .subcommand(journal_command(alloc, "check")?)?
+        .subcommand(journal_command(alloc, "upgrade")?)
 }
 
 /// The numbers that were given; `None` where one could not be read or lies outside the limits.
@@ -109,10 +114,10 @@ fn path_of(
     Err(OptionFault::Usage)
 }
 
-/// What the words after the program's name ask for: `run SCRIPT` with its options, or `check JOURNAL`.
+/// What the words after the program's name ask for: `run SCRIPT` with its options, `check JOURNAL`, or `upgrade JOURNAL`.
 ///
-/// The path is one of the words, as it was written. `Usage` for any other words and for a number outside its limits; a question for help counts as one.
-/// `Memory` where memory was refused.
+/// The path is one of the words, as it was written. `Usage` for any other words and for a number outside its limits; a
+/// question for help counts as one. `Memory` where memory was refused.
 pub fn options(alloc: Global, words: &[&str]) -> Result<Task, OptionFault>
     ensures limits { IfOk result IsWithinLimits }
     ensures path { IfOk result (λ task. IsOneOf (texts_of words.now) (path_in task)) }
@@ -132,6 +137,7 @@ pub fn options(alloc: Global, words: &[&str]) -> Result<Task, OptionFault>
             Ok(Task::Run(path_of(alloc, given, "script", words)?, numbers))
         }
         Some(("check", given)) => Ok(Task::Check(path_of(alloc, given, "journal", words)?)),
+        Some(("upgrade", given)) => Ok(Task::Upgrade(path_of(alloc, given, "journal", words)?)),
         _ => Err(OptionFault::Usage),
     }
 }

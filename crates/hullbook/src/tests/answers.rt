@@ -111,24 +111,44 @@ fn left_wall(rt: HostRuntime) -> Result<(), Fail> {
     Ok(())
 }
 
-/// The four corners of the range: the doubled area is 2^43.
+/// The four corners of the range: the doubled area is 2^83.
 #[test]
 fn range_corners(rt: HostRuntime) -> Result<(), Fail> {
     let rows = [
-        ("add -1048576 -1048576", "added"),
-        ("add 1048576 -1048576", "added"),
-        ("add 1048576 1048576", "added"),
-        ("add -1048576 1048576", "added"),
-        ("area", "area 8796093022208"),
-        ("extreme 1 1", "point 1048576 1048576"),
-        ("extreme 1048576 -1048576", "point 1048576 -1048576"),
+        ("add -1099511627776 -1099511627776", "added"),
+        ("add 1099511627776 -1099511627776", "added"),
+        ("add 1099511627776 1099511627776", "added"),
+        ("add -1099511627776 1099511627776", "added"),
+        ("area", "area 9671406556917033397649408"),
+        ("extreme 1 1", "point 1099511627776 1099511627776"),
+        (
+            "extreme 1099511627776 -1099511627776",
+            "point 1099511627776 -1099511627776",
+        ),
         ("place 0 0", "inside"),
-        ("place 1048576 0", "on"),
-        ("tangents 1048576 0", "notangent"),
+        ("place 1099511627776 0", "on"),
+        ("tangents 1099511627776 0", "notangent"),
         (
             "vertices",
-            "list 4 -1048576 -1048576 1048576 -1048576 1048576 1048576 -1048576 1048576",
+            "list 4 -1099511627776 -1099511627776 1099511627776 -1099511627776 1099511627776 1099511627776 -1099511627776 1099511627776",
         ),
+    ];
+    assert!(rt; answers(&rt, rt.alloc(), &PLAIN, &rows)?);
+    Ok(())
+}
+
+/// A point one beside the diagonal of the range: the doubled area is 2^40, and no vertex is lost to a rounded side.
+#[test]
+fn range_diagonal(rt: HostRuntime) -> Result<(), Fail> {
+    let rows = [
+        ("add -1099511627776 -1099511627776", "added"),
+        ("add 0 0", "added"),
+        ("add 1099511627776 1099511627775", "added"),
+        (
+            "vertices",
+            "list 3 -1099511627776 -1099511627776 1099511627776 1099511627775 0 0",
+        ),
+        ("area", "area 1099511627776"),
     ];
     assert!(rt; answers(&rt, rt.alloc(), &PLAIN, &rows)?);
     Ok(())

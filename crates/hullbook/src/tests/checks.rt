@@ -6,7 +6,8 @@ use hull_text::TextFault;
 use std::alloc::Global;
 use std::io::BufWriter;
 use std::test::Fail;
-use text_io::{Counted, Pieces, Spout};
+use text_io::Counted;
+use text_io::testing::{Pieces, Spout};
 
 // How a check of the journal ends, and how many bytes it wrote.
 fn ends(
@@ -27,9 +28,14 @@ fn faults_of_a_journal_are_told(rt: HostRuntime) -> Result<(), Fail> {
     let rows = [
         ("", 6, 1),
         (
-            "hullbook journal 2 first 0 limit 4 capacity 4\nend 0\n",
+            "hullbook journal 3 first 0 limit 4 capacity 4\nend 0\n",
             7,
             1,
+        ),
+        (
+            "hullbook journal 1 first 0 limit 4 capacity 4\n0 0 add 1048577 0 = added\nend 1\n",
+            3,
+            2,
         ),
         (
             "hullbook journal 1 first 0 limit 4 capacity 4\n0 0 hull = empty\n",

@@ -7,7 +7,8 @@ use hull_text::TextFault;
 use std::alloc::Global;
 use std::process::Abort;
 use std::test::Fail;
-use text_io::{Counted, Pieces, Spout};
+use text_io::Counted;
+use text_io::testing::{Pieces, Spout};
 
 /// The report of the five calls where memory for the first point was refused.
 const FIRST_REFUSED: &str =
