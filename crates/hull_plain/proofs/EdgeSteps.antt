@@ -19,12 +19,12 @@ square_above : (x : ℤ) → pos 0 <ℤ x → pos 0 <ℤ (x *ℤ x)
 square_above x h = product_pp x x h h
 
 -- the square of any number
-square_nn : (x : ℤ) → pos 0 ≤ℤ (x *ℤ x)
+pub square_nn : (x : ℤ) → pos 0 ≤ℤ (x *ℤ x)
 square_nn (pos n) = product_nn (pos n) (pos n) (omega (arith, ints)) (omega (arith, ints))
 square_nn (negsuc n) = omega (arith, ints)
 
 -- the length of a vector ahead
-length_above : (w : Pair) → Ahead w → pos 0 <ℤ (w.x *ℤ w.x +ℤ w.y *ℤ w.y)
+pub length_above : (w : Pair) → Ahead w → pos 0 <ℤ (w.x *ℤ w.x +ℤ w.y *ℤ w.y)
 length_above w (inl h) = let a = square_above w.x h in let b = square_nn w.y in omega (arith, ints)
 length_above w (inr h) = let a = square_above w.y h.1 in let b = square_nn w.x in omega (arith, ints)
 

@@ -24,3 +24,8 @@ pub mod FewVertices
 pub mod UniqueVertices
 pub mod UniqueReplies
 pub mod EdgePlaces
+pub mod Decided
+pub mod Spanning
+pub mod ChainPasses
+pub mod Ends
+pub mod OrderedSets

@@ -38,7 +38,7 @@ times_more (pos m) (negsuc n) h k = absurd (omega (arith, ints))
 times_more (negsuc m) x h k = absurd (omega (arith, ints))
 
 -- k lifts the vector of a point above 0
-abbrev Lifts : (Pair → Pair) → ℤ → Pair → Type 0
+abbrev pub Lifts : (Pair → Pair) → ℤ → Pair → Type 0
 Lifts f k t = pos 0 <ℤ (k *ℤ (f t).x +ℤ (f t).y)
 
 -- one more vector is lifted
@@ -58,7 +58,7 @@ lifted_more : (k w x y : ℤ) → pos 0 ≤ℤ w → pos 0 ≤ℤ x → pos 0 <�
 lifted_more k w x y hw hx h = rw (distribute k w x y) (sum_above_left _ _ h (product_nn w x hw hx))
 
 -- vectors that are all ahead can be lifted by one number
-lifts_all : (f : Pair → Pair) (S : List Pair) → All (λ t. Ahead (f t)) S → (k : ℤ) × (pos 0 ≤ℤ k) × All (Lifts f k) S
+pub lifts_all : (f : Pair → Pair) (S : List Pair) → All (λ t. Ahead (f t)) S → (k : ℤ) × (pos 0 ≤ℤ k) × All (Lifts f k) S
 lifts_all f [] h = (pos 0, omega (arith, ints), λ k d l. absurd (omega arith))
 lifts_all f (t ∷ ts) h =
     let r = lifts_all f ts (All-tail (λ t. Ahead (f t)) t ts h) in

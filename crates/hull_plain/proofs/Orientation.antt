@@ -20,6 +20,11 @@ orient_swap q u v = cross_swap (minus u q) (minus v q)
 pub orient_swap_zero : (q u v : Pair) → orient q u v ≡ pos 0 → orient q v u ≡ pos 0
 orient_swap_zero q u v e = orient_swap q v u ∙ ap neg_ℤ e
 
+-- the line from the other end
+pub orient_other : (q l t : Pair) → orient l q t ≡ neg_ℤ (orient q l t)
+unfolding orient
+orient_other q l t = rw (as_difference q.x, as_difference q.y, as_difference l.x, as_difference l.y, as_difference t.x, as_difference t.y) (simp (difference-add, difference-neg, difference-mul) (difference-eq _ _ _ _ (omega arith)))
+
 -- the three points turned round keep the side
 pub orient-cycle : (a b q : Pair) → orient a b q ≡ orient q a b
 unfolding orient

@@ -52,7 +52,7 @@ kept p t (x ∷ xs) m =
     first again (suc k, l, e) = later x t (with_point p xs) (again (k, omega (arith, l), e))
 
 -- S with p is in order
-ordered_with : (p : Pair) (S : List Pair) → IsPointSet S → IsPointSet (with_point p S)
+pub ordered_with : (p : Pair) (S : List Pair) → IsPointSet S → IsPointSet (with_point p S)
 ordered_with p [] s = AllPairs-cons p [] (λ k d l. absurd (omega (arith, l))) s
 ordered_with p (x ∷ xs) s =
     let ahead : All (IsBefore x) xs = AllPairs-head x xs s in
@@ -64,7 +64,7 @@ ordered_with p (x ∷ xs) s =
     ]
 
 -- S without p is in order
-ordered_without : (p : Pair) (S : List Pair) → IsPointSet S → IsPointSet (without_point p S)
+pub ordered_without : (p : Pair) (S : List Pair) → IsPointSet S → IsPointSet (without_point p S)
 ordered_without p [] s = s
 ordered_without p (x ∷ xs) s =
     let ahead : All (IsBefore x) xs = AllPairs-head x xs s in

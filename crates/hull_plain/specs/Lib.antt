@@ -6,5 +6,8 @@ pub mod Farthest
 pub mod Seen
 pub mod Walks
 pub mod Sets
+pub mod Outlines
+pub mod Monotone
+pub mod Spans
 pub mod Laws
 pub mod PointLists

@@ -9,6 +9,8 @@ mod around;
 mod call;
 mod farthest;
 mod laws;
+mod monotone;
+mod outline;
 mod plain_set;
 mod point_list;
 mod positions;

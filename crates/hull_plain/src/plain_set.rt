@@ -4,35 +4,40 @@ ghost use Rattle.hull_plain.specs.Sets.{LimitedSet};
 use super::POINT_LIMIT;
 use super::around::{place_of, tangents_from};
 use super::farthest::farthest;
-use super::positions::position_of;
+use super::outline::Outline;
 use super::set::{AddReply, HullSet, NoMemory, Place, RemoveReply};
 use super::wrapping::{doubled_area_of, vertices_of};
 use lattice::{Direction, Point};
 use std::alloc::Global;
+use std::collections::BTreeSet;
 use std::marker::Model;
 
-/// A set of points as a sorted list.
+/// A set of points in order, with an outline: points of the set whose hull is that of the whole set.
 ///
-/// `add` and `remove` find their place by a binary search and move the points after it. `extreme`, `place` and
-/// `tangents` are passes over the points; `vertices` and `area2` are a pass for each vertex (gift wrapping: Jarvis,
-/// 1973). Only `add` and `vertices` ask for memory.
+/// `add` and `remove` go by an ordered set of std. `add` keeps the outline where it covers the new point, and else puts
+/// the point there; `remove` makes it anew, in one pass over all points (Andrew, 1979), where the point was one of it.
+/// `extreme`, `place` and `tangents` are passes over the outline; `vertices` and `area2` are a pass for each vertex (gift
+/// wrapping: Jarvis, 1973). Only `add` and `vertices` ask for memory.
 #[derive(Drop)]
 pub struct PlainSet {
     limit: u32,
-    points: Vec<Point>,
+    points: BTreeSet<Point>,
+    pub(crate) outline: Outline,
 }
 
 impl Model for PlainSet {
     ghost use Rattle.std.specs.Prelude.{length, ◌≤◌};
     ghost use Rattle.lattice.specs.Covers.{IsPointSet};
+    ghost use Rattle.hull_plain.specs.Outlines.{HasRoom};
     ghost use Rattle.hull_plain.specs.Sets.{LimitedSet};
+    ghost use Rattle.hull_plain.specs.Spans.{IsSpannedBy};
     ghost use Rattle.hull_plain.specs.declared.TheConstants.{POINT_LIMIT};
 
     ghost Value = { LimitedSet };
 
-    ghost view = { λ s. record { limit = s.limit; members = s.points.items } };
+    ghost view = { λ s. record { limit = s.limit; members = s.points.keys } };
 
-    ghost invariant = { λ s. (1 ≤ s.limit) × (s.limit ≤ POINT_LIMIT) × (length s.points.items ≤ s.limit) × IsPointSet s.points.items };
+    ghost invariant = { λ s. (1 ≤ s.limit) × (s.limit ≤ POINT_LIMIT) × (length s.points.keys ≤ s.limit) × IsPointSet s.points.keys × IsSpannedBy s.points.keys s.outline.corners.items × HasRoom s.outline (length s.points.keys) };
 }
 
 impl PlainSet {
@@ -44,7 +49,8 @@ impl PlainSet {
     {
         PlainSet {
             limit,
-            points: Vec::new(alloc),
+            points: BTreeSet::new(alloc),
+            outline: Outline::new(alloc),
         }
     }
 }
@@ -68,47 +74,53 @@ impl HullSet for PlainSet {
     }
 
     fn add(&mut self, p: Point) -> AddReply {
-        let Err(i) = position_of(&self.points, p) else {
+        if self.points.contains(&p) {
             return AddReply::Already;
-        };
-        if self.points.len() >= self.limit as usize {
+        }
+        let count = self.points.len();
+        if count >= self.limit as usize {
             return AddReply::TooMany;
         }
-        if self.points.insert(i, p).is_err() {
+        if self.outline.reserve(count + 1).is_err() {
             return AddReply::NoMemory;
         }
+        if self.points.insert(p).is_err() {
+            return AddReply::NoMemory;
+        }
+        self.outline.add(p);
         AddReply::Added
     }
 
     fn remove(&mut self, p: Point) -> RemoveReply {
-        let Ok(i) = position_of(&self.points, p) else {
+        if !self.points.remove(&p) {
             return RemoveReply::Absent;
-        };
-        let _removed = self.points.remove(i);
+        }
+        self.outline.remove(p, &self.points);
         RemoveReply::Removed
     }
 
     fn extreme(&self, d: Direction) -> Option<Point> {
-        if self.points.is_empty() {
+        let outline = self.outline.points();
+        if outline.is_empty() {
             None
         } else {
-            Some(self.points[farthest(&self.points, d)])
+            Some(outline[farthest(outline, d)])
         }
     }
 
     fn place(&self, q: Point) -> Place {
-        place_of(&self.points, q)
+        place_of(self.outline.points(), q)
     }
 
     fn tangents(&self, q: Point) -> Option<(Point, Point)> {
-        tangents_from(&self.points, q)
+        tangents_from(self.outline.points(), q)
     }
 
     fn vertices(&self) -> Result<Vec<Point>, NoMemory> {
-        Ok(vertices_of(*self.points.allocator(), &self.points)?)
+        Ok(vertices_of(self.outline.allocator(), self.outline.points())?)
     }
 
     fn area2(&self) -> u128 {
-        doubled_area_of(&self.points)
+        doubled_area_of(self.outline.points())
     }
 }

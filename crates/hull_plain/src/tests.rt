@@ -180,7 +180,8 @@ fn add_again(rt: &impl Abort, set: &mut PlainSet, p: Point) {
     assert_eq!(rt; set.add(p), AddReply::Already);
 }
 
-// `rt try --test --fail-alloc N` at N = 1, 2, 3 refuses each of its requests for memory.
+// `rt try --test --fail-alloc N` at N = 1, 2, .. refuses each of its requests for memory: those of the first `add`, of
+// the outline as it grows, and of the ordered set.
 #[test]
 fn refused_add(rt: HostRuntime) -> Result<(), Fail> {
     let mut set = PlainSet::new(rt.alloc(), LIMIT);
@@ -192,7 +193,7 @@ fn refused_add(rt: HostRuntime) -> Result<(), Fail> {
     Ok(())
 }
 
-// The same at N = 1 to 6, of which the last three are those of `vertices`.
+// The same, where the last requests are those of `vertices`.
 #[test]
 fn refused_vertices(rt: HostRuntime) -> Result<(), Fail> {
     let mut set = PlainSet::new(rt.alloc(), LIMIT);
@@ -204,6 +205,25 @@ fn refused_vertices(rt: HostRuntime) -> Result<(), Fail> {
     }
     // The vertices: the lower chain is the whole bowl.
     assert_vertices(&rt, &set, &BOWL)
+}
+
+/// The points of a grid come row by row, so that many of them are corners when they come; then corners leave.
+#[test]
+fn outline_stays_small(rt: HostRuntime) -> Result<(), Fail> {
+    let mut set = PlainSet::new(rt.alloc(), LIMIT);
+    for k in 0i64..1024 {
+        assert_eq!(rt; set.add(at(k % 32, k / 32)?), AddReply::Added);
+        assert!(rt; set.outline.points().len() <= 65, "after {k}");
+    }
+    assert_vertices(&rt, &set, &[(0, 0), (31, 0), (31, 31), (0, 31)])?;
+    for k in 0i64..32 {
+        assert_eq!(rt; set.remove(at(k, k)?), RemoveReply::Removed);
+        assert!(rt; set.outline.points().len() <= 65, "without {k}");
+    }
+    assert_eq!(rt; set.place(at(0, 0)?), Place::Outside);
+    assert_eq!(rt; set.place(at(15, 15)?), Place::Inside);
+    assert_eq!(rt; set.area2(), 2 * 31 * 31 - 2);
+    Ok(())
 }
 
 #[test]

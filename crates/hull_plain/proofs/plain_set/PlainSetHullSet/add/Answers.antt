@@ -1,61 +1,58 @@
-use Rattle.std.proofs.Common.{◌≡◌, sym, ap, ◌∙◌, subst, List, arith, ◌+◌, length, Bool, Err}
-use Rattle.std.specs.List.{insert}
-use Rattle.std.specs.Prelude.{if◌then◌else◌}
-use Rattle.std.proofs.lemmas.List.Edits.{length-insert}
-use Rattle.lattice.specs.Covers.{IsPointSet}
+use Rattle.std.proofs.Common.{◌≡◌, sym, ap, ◌∙◌, subst, List, arith, rules, ◌+◌, ◌≤◌, length}
+use Rattle.std.specs.List.{Contains}
+use Rattle.lattice.specs.Covers.{IsPointSet, with_point}
 use Rattle.lattice.specs.Plane.{Pair}
-use Rattle.hull_plain.specs.Positions.{IsPositionOf}
+use Rattle.hull_plain.specs.Outlines.{HasRoom}
 use Rattle.hull_plain.specs.Sets.{LimitedSet}
-use Rattle.hull_plain.proofs.FoundPositions.{found_absent, inserted_set, inserted_is}
+use Rattle.hull_plain.specs.Spans.{IsSpannedBy}
+use Rattle.hull_plain.proofs.OrderedSets.{contained, insert_is}
+use Rattle.hull_plain.proofs.SetLaws.{ordered_with}
+use Rattle.hull_plain.proofs.Spanning.{spans_few, has_less}
 use Rattle.hull_plain.proofs.plain_set.PlainSetHullSet.add.Goals as goal
 
-pub returns-then-len-self-clause-reply : goal.returns-then-len-self-clause-reply
-returns-then-len-self-clause-reply c =
-    let v : c.self.inside.points.items ≡ c.args.self.now.members = ap (λ (z : LimitedSet). z.members) c.self.view_is in
-    let n : c.self.inside.limit ≡ c.args.self.now.limit = ap (λ (z : LimitedSet). z.limit) c.self.view_is in
-    let at : IsPositionOf c.args.self.now.members c.args.p (Err c.in-Err.i) = subst (λ (z : List Pair). IsPositionOf z c.args.p (Err c.in-Err.i)) (c.deref.ensures.value ∙ v) c.in-Err.ensures in
-    let l : length c.self.inside.points.items ≡ length c.args.self.now.members = ap (λ (z : List Pair). length z) v in
-    let m : length c.deref.result.now ≡ length c.self.inside.points.items = ap (λ (z : List Pair). length z) c.deref.ensures.value in
-    (found_absent _ _ _ at, omega (arith, l, m, n, c.deref.ensures.len, c.len.ensures, c.self.invariant.2, c.if-len-self.true))
+pub returns-then-contains-clause-reply : goal.returns-then-contains-clause-reply
+returns-then-contains-clause-reply c =
+    let v : c.self.inside.points.keys ≡ c.args.self.now.members = ap (λ (z : LimitedSet). z.members) c.self.view_is in
+    subst (λ (z : List Pair). Contains z c.args.p) v (contained c.self.inside.points.keys c.args.p (sym c.contains.ensures ∙ c.if-contains.true))
 
-pub returns-then-is_err-clause-reply : goal.returns-then-is_err-clause-reply
-returns-then-is_err-clause-reply c =
-    let v : c.self.inside.points.items ≡ c.args.self.now.members = ap (λ (z : LimitedSet). z.members) c.self.view_is in
-    let n : c.self.inside.limit ≡ c.args.self.now.limit = ap (λ (z : LimitedSet). z.limit) c.self.view_is in
-    let at : IsPositionOf c.args.self.now.members c.args.p (Err c.in-Err.i) = subst (λ (z : List Pair). IsPositionOf z c.args.p (Err c.in-Err.i)) (c.deref.ensures.value ∙ v) c.in-Err.ensures in
-    let l : length c.self.inside.points.items ≡ length c.args.self.now.members = ap (λ (z : List Pair). length z) v in
-    let m : length c.deref.result.now ≡ length c.self.inside.points.items = ap (λ (z : List Pair). length z) c.deref.ensures.value in
-    (found_absent _ _ _ at, omega (arith, l, m, n, c.deref.ensures.len, c.len.ensures, c.self.invariant.2, c.if-len-self.false))
+pub invariant_of-self : goal.invariant_of-self
+invariant_of-self c = (
+  c.self.invariant.0,
+  c.self.invariant.1,
+  c.self.invariant.2,
+  c.self.invariant.3,
+  subst (IsSpannedBy c.self.inside.points.keys) (sym c.reserve.ensures.same) c.self.invariant.4,
+  c.reserve.ensures.kept _ c.self.invariant.5,
+)
 
-pub returns-clause-reply : goal.returns-clause-reply
-returns-clause-reply c =
-    let v : c.self.inside.points.items ≡ c.args.self.now.members = ap (λ (z : LimitedSet). z.members) c.self.view_is in
-    let n : c.self.inside.limit ≡ c.args.self.now.limit = ap (λ (z : LimitedSet). z.limit) c.self.view_is in
-    let at : IsPositionOf c.args.self.now.members c.args.p (Err c.in-Err.i) = subst (λ (z : List Pair). IsPositionOf z c.args.p (Err c.in-Err.i)) (c.deref.ensures.value ∙ v) c.in-Err.ensures in
-    let l : length c.self.inside.points.items ≡ length c.args.self.now.members = ap (λ (z : List Pair). length z) v in
-    let m : length c.deref.result.now ≡ length c.self.inside.points.items = ap (λ (z : List Pair). length z) c.deref.ensures.value in
-    (found_absent _ _ _ at, omega (arith, l, m, n, c.deref.ensures.len, c.len.ensures, c.self.invariant.2, c.if-len-self.false))
-
-pub returns-clause-effect : goal.returns-clause-effect
-returns-clause-effect c =
-    let v : c.self.inside.points.items ≡ c.args.self.now.members = ap (λ (z : LimitedSet). z.members) c.self.view_is in
-    let n : c.self.inside.limit ≡ c.args.self.now.limit = ap (λ (z : LimitedSet). z.limit) c.self.view_is in
-    let at : IsPositionOf c.args.self.now.members c.args.p (Err c.in-Err.i) = subst (λ (z : List Pair). IsPositionOf z c.args.p (Err c.in-Err.i)) (c.deref.ensures.value ∙ v) c.in-Err.ensures in
-    let e : c.insert.new.self.items ≡ insert c.self.inside.points.items c.in-Err.i c.args.p = c.insert.ensures.items ∙ ap (λ (b : Bool). if b then insert c.self.inside.points.items c.in-Err.i c.args.p else c.self.inside.points.items) c.if-is_err.ensures.negation in
-    e ∙ ap (λ (z : List Pair). insert z c.in-Err.i c.args.p) v ∙ inserted_is _ _ _ at
+pub add-requires-clause-room : goal.add-requires-clause-room
+add-requires-clause-room c =
+    let room : HasRoom c.reserve.new.self (c.len-count.result + 1) = search (rules, c.reserve.ensures.room, c.is_err.ensures, c.if-is_err.false) in
+    let few : length c.self.inside.outline.corners.items ≤ length c.self.inside.points.keys = spans_few c.self.invariant.4 in
+    let same : length c.reserve.new.self.corners.items ≡ length c.self.inside.outline.corners.items = ap (λ (z : List Pair). length z) c.reserve.ensures.same in
+    has_less room (omega (arith, c.len-count.ensures.len))
 
 pub invariant_of-self-2 : goal.invariant_of-self-2
 invariant_of-self-2 c =
-    let v : c.self.inside.points.items ≡ c.args.self.now.members = ap (λ (z : LimitedSet). z.members) c.self.view_is in
-    let at : IsPositionOf c.self.inside.points.items c.args.p (Err c.in-Err.i) = subst (λ (z : List Pair). IsPositionOf z c.args.p (Err c.in-Err.i)) c.deref.ensures.value c.in-Err.ensures in
-    let m : length c.deref.result.now ≡ length c.self.inside.points.items = ap (λ (z : List Pair). length z) c.deref.ensures.value in
-    let e : c.insert.new.self.items ≡ insert c.self.inside.points.items c.in-Err.i c.args.p = c.insert.ensures.items ∙ ap (λ (b : Bool). if b then insert c.self.inside.points.items c.in-Err.i c.args.p else c.self.inside.points.items) c.if-is_err.ensures.negation in
-    let f : length c.insert.new.self.items ≡ length c.self.inside.points.items + 1 = ap (λ (z : List Pair). length z) e ∙ length-insert c.self.inside.points.items c.in-Err.i c.args.p at.0 in
-    (c.self.invariant.0, c.self.invariant.1, omega (arith, f, m, c.deref.ensures.len, c.len.ensures, c.if-len-self.false), subst IsPointSet (sym e) (inserted_set _ _ _ at c.self.invariant.3))
+    let room : HasRoom c.reserve.new.self (c.len-count.result + 1) = search (rules, c.reserve.ensures.room, c.is_err.ensures, c.if-is_err.false) in
+    let e : c.insert.new.self.keys ≡ with_point c.args.p c.self.inside.points.keys = search (rules, c.insert.ensures.keys, c.is_err-2.ensures, c.if-is_err-2.false, insert_is) in
+    let n : length c.insert.new.self.keys ≡ length c.self.inside.points.keys + 1 = search (rules, c.insert.ensures.len) in (
+      c.self.invariant.0,
+      c.self.invariant.1,
+      omega (arith, c.len-count.ensures.len, c.if-count-self.false),
+      subst IsPointSet (sym e) (ordered_with c.args.p _ c.self.invariant.3),
+      subst (λ (z : List Pair). IsSpannedBy z c.add.new.self.corners.items) (sym e) (c.add.ensures.spans _ c.self.invariant.3 (subst (IsSpannedBy c.self.inside.points.keys) (sym c.reserve.ensures.same) c.self.invariant.4)),
+      c.add.ensures.kept _ (has_less room (omega (arith, c.len-count.ensures.len))),
+    )
+
+pub returns-clause-effect : goal.returns-clause-effect
+returns-clause-effect c =
+    let v : c.self.inside.points.keys ≡ c.args.self.now.members = ap (λ (z : LimitedSet). z.members) c.self.view_is in
+    let e : c.insert.new.self.keys ≡ with_point c.args.p c.self.inside.points.keys = search (rules, c.insert.ensures.keys, c.is_err-2.ensures, c.if-is_err-2.false, insert_is) in
+    e ∙ ap (with_point c.args.p) v
 
 -- the point went where it belongs
 pub returns-clause-sound : goal.returns-clause-sound
 returns-clause-sound c =
-    let at : IsPositionOf c.self.inside.points.items c.args.p (Err c.in-Err.i) = subst (λ (z : List Pair). IsPositionOf z c.args.p (Err c.in-Err.i)) c.deref.ensures.value c.in-Err.ensures in
-    let e : c.insert.new.self.items ≡ insert c.self.inside.points.items c.in-Err.i c.args.p = c.insert.ensures.items ∙ ap (λ (b : Bool). if b then insert c.self.inside.points.items c.in-Err.i c.args.p else c.self.inside.points.items) c.if-is_err.ensures.negation in
-    subst IsPointSet (sym e) (inserted_set _ _ _ at c.self.invariant.3)
+    let e : c.insert.new.self.keys ≡ with_point c.args.p c.self.inside.points.keys = search (rules, c.insert.ensures.keys, c.is_err-2.ensures, c.if-is_err-2.false, insert_is) in
+    subst IsPointSet (sym e) (ordered_with c.args.p _ c.self.invariant.3)

@@ -1,15 +1,23 @@
-use Rattle.std.proofs.Common.{◌≡◌, sym, ap, ◌∙◌, subst, List, ◌<◌, length, get_or}
+use Rattle.std.proofs.Common.{◌≡◌, sym, ap, ◌∙◌, subst, List, rules, length}
+use Rattle.std.specs.Prelude.{None}
 use Rattle.lattice.specs.Plane.{Pair}
 use Rattle.hull_plain.specs.Farthest.{IsBestOf}
+use Rattle.hull_plain.specs.Tangents.{IsFirstFarthest}
 use Rattle.hull_plain.specs.Sets.{LimitedSet}
 use Rattle.hull_plain.proofs.BestOf.{first_farthest}
+use Rattle.hull_plain.proofs.Spanning.{extreme_answer, first_farthest_on, none_of}
 use Rattle.hull_plain.proofs.plain_set.PlainSetHullSet.extreme.Goals as goal
+
+pub returns-then-is_empty : goal.returns-then-is_empty
+returns-then-is_empty c =
+    let v : c.self.inside.points.keys ≡ c.args.self.now.members = ap (λ (z : LimitedSet). z.members) c.self.view_is in
+    let n : length c.points-outline.result.now ≡ 0 = search (rules, c.is_empty.ensures, c.if-is_empty.true) in
+    sym v ∙ extreme_answer c.self.invariant.4 c.args.d None (sym c.points-outline.ensures ∙ none_of _ n)
 
 pub returns-else-is_empty : goal.returns-else-is_empty
 returns-else-is_empty c =
-    let v : c.self.inside.points.items ≡ c.args.self.now.members = ap (λ (z : LimitedSet). z.members) c.self.view_is in
-    let w : c.deref.result.now ≡ c.args.self.now.members = c.deref.ensures.value ∙ v in
-    first_farthest c.args.self.now.members c.args.d c.index.result.now
-    (c.farthest.result, subst (λ (z : List Pair). c.farthest.result < length z) w c.farthest.ensures.within, sym (c.index.ensures ∙ ap (λ (z : List Pair). get_or z c.farthest.result c.index.result.now) v))
-    (subst (IsBestOf c.args.self.now.members c.args.d) (sym (c.index.ensures ∙ ap (λ (z : List Pair). get_or z c.farthest.result c.index.result.now) v))
-    (subst (λ (z : List Pair). IsBestOf z c.args.d (get_or z c.farthest.result c.index.result.now)) w (c.farthest.ensures.first_farthest c.index.result.now)))
+    let v : c.self.inside.points.keys ≡ c.args.self.now.members = ap (λ (z : LimitedSet). z.members) c.self.view_is in
+    let t : Pair = c.index-outline-farthest.result in
+    let best : IsFirstFarthest c.points-outline.result.now c.args.d t =
+    first_farthest c.points-outline.result.now c.args.d t (c.farthest.result, c.farthest.ensures.within, sym c.index-outline-farthest.is) (subst (IsBestOf c.points-outline.result.now c.args.d) (sym c.index-outline-farthest.is) (c.farthest.ensures.first_farthest t)) in
+    subst (λ (z : List Pair). IsFirstFarthest z c.args.d t) v (first_farthest_on c.self.invariant.4 c.args.d t (subst (λ (z : List Pair). IsFirstFarthest z c.args.d t) c.points-outline.ensures best))

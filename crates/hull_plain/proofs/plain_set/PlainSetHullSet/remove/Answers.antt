@@ -1,19 +1,42 @@
-use Rattle.std.proofs.Common.{◌≡◌, ap, ◌∙◌, subst, List, Ok, Err}
-use Rattle.std.specs.List.{remove}
+use Rattle.std.proofs.Common.{◌≡◌, sym, ap, ◌∙◌, subst, List, arith, ◌≤◌, length}
+use Rattle.std.specs.List.{Contains}
+use Rattle.lattice.specs.Covers.{IsPointSet, without_point}
 use Rattle.lattice.specs.Plane.{Pair}
-use Rattle.hull_plain.specs.Positions.{IsPositionOf}
 use Rattle.hull_plain.specs.Sets.{LimitedSet}
-use Rattle.hull_plain.proofs.FoundPositions.{found_absent, removed_is}
+use Rattle.hull_plain.proofs.OrderedSets.{contained, remove_is}
+use Rattle.hull_plain.proofs.SetLaws.{ordered_without}
+use Rattle.hull_plain.proofs.Spanning.{has_less}
 use Rattle.hull_plain.proofs.plain_set.PlainSetHullSet.remove.Goals as goal
+
+pub remove-requires-2-clause-left : goal.remove-requires-2-clause-left
+remove-requires-2-clause-left c =
+    let e : c.remove.new.self.keys ≡ without_point c.args.p c.self.inside.points.keys = c.remove.ensures.keys ∙ remove_is _ _ c.self.invariant.3 in
+    subst IsPointSet (sym e) (ordered_without c.args.p _ c.self.invariant.3)
+
+pub invariant_of-self-2 : goal.invariant_of-self-2
+invariant_of-self-2 c =
+    let e : c.remove.new.self.keys ≡ without_point c.args.p c.self.inside.points.keys = c.remove.ensures.keys ∙ remove_is _ _ c.self.invariant.3 in
+    let n : length c.remove.new.self.keys ≤ length c.self.inside.points.keys = omega (arith, c.remove.ensures.len) in (
+      c.self.invariant.0,
+      c.self.invariant.1,
+      omega (arith, c.self.invariant.2),
+      subst IsPointSet (sym e) (ordered_without c.args.p _ c.self.invariant.3),
+      c.remove-2.ensures.spans _ c.self.invariant.3 c.self.invariant.4 e,
+      c.remove-2.ensures.kept _ (has_less c.self.invariant.5 n),
+    )
+
+pub returns-clause-reply : goal.returns-clause-reply
+returns-clause-reply c =
+    let v : c.self.inside.points.keys ≡ c.args.self.now.members = ap (λ (z : LimitedSet). z.members) c.self.view_is in
+    subst (λ (z : List Pair). Contains z c.args.p) v (contained c.self.inside.points.keys c.args.p (sym c.remove.ensures.test ∙ c.if-not-remove.false))
 
 pub returns-clause-effect : goal.returns-clause-effect
 returns-clause-effect c =
-    let v : c.self.inside.points.items ≡ c.args.self.now.members = ap (λ (z : LimitedSet). z.members) c.self.view_is in
-    let at : IsPositionOf c.args.self.now.members c.args.p (Ok c.in-Ok.i) = subst (λ (z : List Pair). IsPositionOf z c.args.p (Ok c.in-Ok.i)) (c.deref.ensures.value ∙ v) c.in-Ok.ensures in
-    c.remove-removed.ensures.items ∙ ap (λ (z : List Pair). remove z c.in-Ok.i) v ∙ removed_is _ _ _ at
+    let v : c.self.inside.points.keys ≡ c.args.self.now.members = ap (λ (z : LimitedSet). z.members) c.self.view_is in
+    c.remove.ensures.keys ∙ remove_is _ _ c.self.invariant.3 ∙ ap (without_point c.args.p) v
 
-pub returns-in_default-clause-reply : goal.returns-in_default-clause-reply
-returns-in_default-clause-reply c =
-    let v : c.self.inside.points.items ≡ c.args.self.now.members = ap (λ (z : LimitedSet). z.members) c.self.view_is in
-    let at : IsPositionOf c.args.self.now.members c.args.p (Err c.in_default.field-0) = subst (λ (z : List Pair). IsPositionOf z c.args.p (Err c.in_default.field-0)) (c.deref.ensures.value ∙ v) c.in_default.ensures in
-    found_absent _ _ _ at
+-- the other points stay where they were
+pub returns-clause-sound : goal.returns-clause-sound
+returns-clause-sound c =
+    let e : c.remove.new.self.keys ≡ without_point c.args.p c.self.inside.points.keys = c.remove.ensures.keys ∙ remove_is _ _ c.self.invariant.3 in
+    subst IsPointSet (sym e) (ordered_without c.args.p _ c.self.invariant.3)
