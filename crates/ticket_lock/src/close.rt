@@ -40,7 +40,12 @@ impl<B: Chronicle> TicketLock<B> {
         ensures next { Shut B.Chronicle partitioned_form (opening_book self) (map (λ s. seat_state s) seats.items) result }
         ensures seen { All (λ s. Stands B.Chronicle (seat_number s) (seat_seen s) result) seats.items }
     {
-        let TicketLock { board, seats: _ } = self;
+        let TicketLock {
+            board,
+            seats: _,
+            sleepers,
+        } = self;
+        drop(sleepers);
         let mut keeper = board.shared.load_new_seat::<Sit>(0).1;
         gather(&board, &mut keeper, seats);
         let mut closed = board.close_with(keeper);

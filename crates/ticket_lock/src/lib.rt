@@ -16,6 +16,7 @@ pub mod roll;
 mod rule;
 mod seat;
 mod seat_state;
+mod sleepers;
 #[cfg(test)]
 mod tests;
 mod ticket;

@@ -6,12 +6,14 @@ use crate::guard::Guard;
 use crate::plays;
 use crate::rule::Board;
 use crate::seat::Seat;
+use crate::sleepers::Sleepers;
 use crate::ticket::{Look, Ticket};
 
 /// A ticket lock round a book. It is made by `open` and ended by `close`, and can't be dropped.
 pub struct TicketLock<B: Chronicle> {
     pub(crate) board: Board<B>,
     pub(crate) seats: u8,
+    pub(crate) sleepers: Sleepers,
     ghost sized: { (board.shared.table_id.words ≡ 9) × (board.shared.table_id.slots ≡ 1) × (board.shared.key.seats ≡ seats) },
 }
 

@@ -11,6 +11,7 @@ use crate::lock::TicketLock;
 use crate::plays::Cut;
 use crate::rule::{Board, Origin, Place};
 use crate::seat::Seat;
+use crate::sleepers::Sleepers;
 use atomic_table::{Refused, Table};
 use std::alloc::Global;
 use std::snapshot::Snapshot;
@@ -121,6 +122,12 @@ impl<B: Chronicle> TicketLock<B> {
         };
         cut(&board, &mut keeper, &mut all, seats);
         drop(keeper);
-        Ok((TicketLock { board, seats }, all))
+        let sleepers = Sleepers::new(seats);
+        let lock = TicketLock {
+            board,
+            seats,
+            sleepers,
+        };
+        Ok((lock, all))
     }
 }

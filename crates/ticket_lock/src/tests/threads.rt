@@ -20,8 +20,18 @@ struct Worker {
     signed: u64,
 }
 
-// Waits for the roll, signs it, and hands it on.
-fn work<R: Wait>(rt: &R, lock: &TicketLock<Roll>, worker: &mut Worker)
+// Waits until so many numbers are taken, this one among them.
+fn wait_for_crowd<R: Wait>(rt: &R, lock: &TicketLock<Roll>, number: u64, crowd: u64) {
+    for _ in rt.forever() {
+        if lock.board.shared.peek(0).wrapping_sub(number) >= crowd {
+            return;
+        }
+        thread::yield_now();
+    }
+}
+
+// Waits for the roll, signs it, and hands it on. Who has a number that 64 divides first waits for a crowd behind it.
+fn work<R: Wait>(rt: &R, lock: &TicketLock<Roll>, worker: &mut Worker, crowd: u64)
     requires some { IsSome worker.old.seat × (worker.old.signed < 2 ^ 32) }
     requires own { IfSome worker.old.seat (λ s. IsSeatOf ⟦<Roll as Chronicle>⟧.head lock.now s × (seat_number s ≡ worker.old.number) × (length (own ⟦<Roll as Chronicle>⟧ worker.old.number (seat_seen s)) ≡ worker.old.signed)) }
     ensures some { IsSome worker.new.seat × (worker.new.number ≡ worker.old.number) × (worker.new.signed ≤ worker.old.signed + 1) }
@@ -29,6 +39,9 @@ fn work<R: Wait>(rt: &R, lock: &TicketLock<Roll>, worker: &mut Worker)
 {
     let seat = worker.seat.take().unwrap();
     let mut guard = lock.enter(rt, seat);
+    if guard.number % 64 == 0 {
+        wait_for_crowd(rt, lock, guard.number, crowd);
+    }
     let is_full = guard.book().full();
     let back = sign(guard, worker.number);
     if !is_full {
@@ -38,12 +51,26 @@ fn work<R: Wait>(rt: &R, lock: &TicketLock<Roll>, worker: &mut Worker)
     let None = none else { unreachable!() };
 }
 
-// Each worker works once, in threads.
-fn all_work<R: Threads + Wait + Sync>(rt: &R, lock: &TicketLock<Roll>, workers: &mut [Worker])
-    requires ready { All (λ w. IsSome w.seat × (w.signed < 2 ^ 31) × IfSome w.seat (λ s. IsSeatOf ⟦<Roll as Chronicle>⟧.head lock.now s × (seat_number s ≡ w.number) × (length (own ⟦<Roll as Chronicle>⟧ w.number (seat_seen s)) ≡ w.signed))) workers.old }
-    ensures ready { All (λ w. IsSome w.seat × (w.signed < 2 ^ 32) × IfSome w.seat (λ s. IsSeatOf ⟦<Roll as Chronicle>⟧.head lock.now s × (seat_number s ≡ w.number) × (length (own ⟦<Roll as Chronicle>⟧ w.number (seat_seen s)) ≡ w.signed))) workers.new }
+// Each worker works once, in so many threads. In each round before it has signed once at most.
+fn all_work<R: Threads + Wait + Sync>(
+    rt: &R,
+    lock: &TicketLock<Roll>,
+    workers: &mut [Worker],
+    round: u32,
+    crowd: u64,
+)
+    requires ready { All (λ w. IsSome w.seat × (w.signed ≤ round) × IfSome w.seat (λ s. IsSeatOf ⟦<Roll as Chronicle>⟧.head lock.now s × (seat_number s ≡ w.number) × (length (own ⟦<Roll as Chronicle>⟧ w.number (seat_seen s)) ≡ w.signed))) workers.old }
+    requires some { (1 ≤ length workers.old) × (round < 2 ^ 31) }
+    ensures ready { All (λ w. IsSome w.seat × (w.signed ≤ round + 1) × IfSome w.seat (λ s. IsSeatOf ⟦<Roll as Chronicle>⟧.head lock.now s × (seat_number s ≡ w.number) × (length (own ⟦<Roll as Chronicle>⟧ w.number (seat_seen s)) ≡ w.signed))) workers.new }
+    ensures many { length workers.new ≡ length workers.old }
 {
-    thread::for_each_mut(rt, workers, 4, &|_, worker| work(rt, lock, worker));
+    let threads = workers.len();
+    thread::for_each_mut(
+        rt,
+        workers,
+        threads,
+        &|_, worker| { work(rt, lock, worker, crowd) },
+    );
 }
 
 /// What is left of a worker whose seat went back.
@@ -92,7 +119,7 @@ fn finish(lock: TicketLock<Roll>, seats: Vec<Seat<Roll>>, tallies: &[Tally]) -> 
 fn hire(lock: &TicketLock<Roll>, mut seats: Vec<Seat<Roll>>, workers: &mut Vec<Worker>)
     requires own { All (λ s. IsSeatOf ⟦<Roll as Chronicle>⟧.head lock.now s × (seat_seen s ≡ [])) seats.items }
     requires room { (vec_len seats ≤ vec_capacity workers.old) × (workers.old.items ≡ []) }
-    ensures ready { All (λ w. IsSome w.seat × (w.signed < 2 ^ 31) × IfSome w.seat (λ s. IsSeatOf ⟦<Roll as Chronicle>⟧.head lock.now s × (seat_number s ≡ w.number) × (length (own ⟦<Roll as Chronicle>⟧ w.number (seat_seen s)) ≡ w.signed))) workers.new.items }
+    ensures ready { All (λ w. IsSome w.seat × (w.signed ≤ 0) × IfSome w.seat (λ s. IsSeatOf ⟦<Roll as Chronicle>⟧.head lock.now s × (seat_number s ≡ w.number) × (length (own ⟦<Roll as Chronicle>⟧ w.number (seat_seen s)) ≡ w.signed))) workers.new.items }
     ensures many { vec_len workers.new ≡ vec_len seats }
 {
     while let Some(seat) = seats.pop() {
@@ -106,16 +133,24 @@ fn hire(lock: &TicketLock<Roll>, mut seats: Vec<Seat<Roll>>, workers: &mut Vec<W
     seats.destroy_empty();
 }
 
-// A lock with eight seats, whose workers sign once each. The roll, after what each has signed was compared with it.
-fn eight_sign<R: Threads + Wait + Abort + Sync>(
+// A lock with so many seats, whose workers sign once in each round. The roll, after what each has signed was compared
+// with it.
+fn all_sign<R: Threads + Wait + Abort + Sync>(
     rt: &R,
     alloc: Global,
     turn: u64,
-) -> Result<Roll, AllocError> {
-    let roll = Roll::blank(alloc, 64, turn)?;
-    let mut tallies = Vec::with_capacity(alloc, 8)?;
-    let mut workers = Vec::with_capacity(alloc, 8)?;
-    let (lock, seats) = match opened(rt, alloc, roll, 8) {
+    count: u8,
+    rounds: u32,
+    crowd: u64,
+) -> Result<Roll, AllocError>
+    requires seats { (1 ≤ count) × (count ≤ 64) }
+    requires rounds { rounds < 2 ^ 16 }
+{
+    let each = usize::from(count);
+    let roll = Roll::blank(alloc, each * rounds as usize, turn)?;
+    let mut tallies = Vec::with_capacity(alloc, each)?;
+    let mut workers = Vec::with_capacity(alloc, each)?;
+    let (lock, seats) = match opened(rt, alloc, roll, count) {
         Ok(made) => made,
         Err(refused) => {
             workers.destroy_empty();
@@ -123,15 +158,21 @@ fn eight_sign<R: Threads + Wait + Abort + Sync>(
         }
     };
     hire(&lock, seats, &mut workers);
-    all_work(rt, &lock, workers.as_mut_slice());
-    let mut seats = match Vec::with_capacity(alloc, 8) {
+    for round in 0..rounds {
+        all_work(rt, &lock, workers.as_mut_slice(), round, crowd);
+    }
+    let mut seats = match Vec::with_capacity(alloc, each) {
         Ok(seats) => seats,
         Err(_) => panic!(rt; "there is memory for the seats"),
     };
     part(&lock, workers, &mut seats, &mut tallies);
     let roll = finish(lock, seats, tallies.as_slice());
     for tally in &tallies {
-        assert!(rt; tally.signed == 1, "worker {}", tally.number);
+        assert!(rt;
+            tally.signed == u64::from(rounds),
+            "worker {}",
+            tally.number
+        );
     }
     Ok(roll)
 }
@@ -140,7 +181,7 @@ fn eight_sign<R: Threads + Wait + Abort + Sync>(
 fn workers_sign_in_threads(rt: HostRuntime) -> Result<(), Fail> {
     for _ in 0..20 {
         let first = u64::MAX - 2;
-        let roll = eight_sign(&rt, rt.alloc(), first)?;
+        let roll = all_sign(&rt, rt.alloc(), first, 8, 1, 0)?;
         assert!(rt; roll.turn == 5 && roll.lines.len() == 8);
         let mut signed = [false; 8];
         for (k, line) in roll.lines.iter().enumerate() {
@@ -150,6 +191,16 @@ fn workers_sign_in_threads(rt: HostRuntime) -> Result<(), Fail> {
         }
         assert_eq!(rt; signed, [true; 8]);
     }
+    Ok(())
+}
+
+// In each round the first to enter waits until all 64 numbers are out: all but a few of the others go to sleep, and each is
+// woken by who hands on before it. A wake-up that is lost leaves its worker asleep, and the test never ends.
+#[test]
+fn sixty_four_workers_sleep_and_wake(rt: HostRuntime) -> Result<(), Fail> {
+    let first = u64::MAX - 63;
+    let roll = all_sign(&rt, rt.alloc(), first, 64, 40, 64)?;
+    assert!(rt; roll.turn == 39 * 64 && roll.lines.len() == 40 * 64);
     Ok(())
 }
 
