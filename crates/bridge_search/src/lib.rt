@@ -15,7 +15,7 @@ mod search;
 mod tests;
 mod turned;
 
-pub use both::{Counted, both_bridges};
+pub use both::{Counted, both_bridges, both_bridges_between};
 pub use half::Half;
 pub use laws::depth_is_unique;
 pub use search::{upper_bridge, upper_bridge_counted};

@@ -77,15 +77,16 @@ pub(crate) struct Search<H> {
 }
 
 impl<H: Half> Search<H> {
-    /// The search for the upper bridge of `u` and `w`, before its first turn.
-    pub(crate) fn new(u: H, w: H) -> Search<H>
-        requires { IsAllBefore (On (H.tree u)) (On (H.tree w)) }
+    /// The search for the upper bridge of `u` and `w`, whose first point is `parting`, before its first turn.
+    pub(crate) fn new(u: H, w: H, parting: Point) -> Search<H>
+        requires in_order { IsAllBefore (On (H.tree u)) (On (H.tree w)) }
+        requires parting { parting ≡ first_of (H.tree w) }
         ensures { IsReached (H.tree u) (H.tree w) (H.tree result.left) (H.tree result.right) result.parting result.turns }
     {
         Search {
             left: u,
             right: w,
-            parting: w.first(),
+            parting,
             turns: 0,
         }
     }
@@ -142,7 +143,7 @@ pub fn upper_bridge_counted<H: Half>(u: H, w: H) -> ((Point, Point), u32)
     ensures depths { IsDepthSum (H.tree u) (H.tree w) result.0.0 result.0.1 result.1 }
     ensures few { result.1 ≤ height_of (H.tree u) + height_of (H.tree w) }
 {
-    let mut search = Search::new(u, w);
+    let mut search = Search::new(u, w, w.first());
     while search.advance() {}
     (search.ends(), search.turns)
 }

@@ -6,6 +6,7 @@ use Rattle.bridge_search.specs.Trees.{Tree, Leaf, Fork, On, IsBridged}
 use Rattle.bridge_search.specs.Search.{IsDepthSum}
 use Rattle.bridge_search.proofs.Depths.{one_depth}
 use Rattle.hull_tree.specs.declared.node.Node as node
+use Rattle.hull_tree.specs.declared.node.Halves as halves
 use Rattle.hull_tree.specs.Nodes.{tree_of, halves_of}
 use Rattle.hull_tree.specs.Turns.{IsForkCost, IsPathCost, IsCostAtMost, IsDearerByAtMost}
 
@@ -32,12 +33,12 @@ one_cost (Fork e f u w) p m n b (a, k, c, h, inl i) (a2, k2, c2, h2, inr j) = ab
 one_cost (Fork e f u w) p m n b (a, k, c, h, inr i) (a2, k2, c2, h2, inl j) = absurd (before_irrefl p (b.0 p p (on_path u p k2 j) (on_path w p k i)))
 
 -- a new fork costs the points of its left half its own cost more
-pub dearer_left : (e f : Pair × Pair) (u w : Tree) (a b : ℕ) → IsDepthSum u w e.0 e.1 a → IsDepthSum u w f.0 f.1 b → IsDearerByAtMost u (Fork e f u w) (a + b)
-dearer_left e f u w a b x y p k h = (a + b + k, (a + b, k, (a, b, x, y, refl), refl, inl h), omega arith)
+pub by_fork_left : (e f : Pair × Pair) (u w : Tree) (n : ℕ) → IsForkCost e f u w n → IsDearerByAtMost u (Fork e f u w) n
+by_fork_left e f u w n c p k h = (n + k, (n, k, c, refl, inl h), omega arith)
 
 -- and those of its right half
-pub dearer_right : (e f : Pair × Pair) (u w : Tree) (a b : ℕ) → IsDepthSum u w e.0 e.1 a → IsDepthSum u w f.0 f.1 b → IsDearerByAtMost w (Fork e f u w) (a + b)
-dearer_right e f u w a b x y p k h = (a + b + k, (a + b, k, (a, b, x, y, refl), refl, inr h), omega arith)
+pub by_fork_right : (e f : Pair × Pair) (u w : Tree) (n : ℕ) → IsForkCost e f u w n → IsDearerByAtMost w (Fork e f u w) n
+by_fork_right e f u w n c p k h = (n + k, (n, k, c, refl, inr h), omega arith)
 
 -- from one tree into a second and on into a third
 pub through : (t v z : Tree) (a b n : ℕ) → IsDearerByAtMost t v a → IsDearerByAtMost v z b → a + b ≤ n → IsDearerByAtMost t z n
@@ -56,8 +57,8 @@ same_halves h = cc
 
 -- what holds of both halves of a fork holds of the fork
 pub by_halves : (n l r : node.Node) (v : Tree) (a : ℕ) → halves_of n ≡ Some (l, r) → IsDearerByAtMost (tree_of l) v a → IsDearerByAtMost (tree_of r) v a → IsDearerByAtMost (tree_of n) v a
-by_halves (node.Leaf p) l r v a e h g = absurd (cc)
-by_halves (node.Fork' i upper lower first last height left right) l r v a e h g = parts
+by_halves (node.Node' upper lower height node.None') l r v a e h g = absurd (cc)
+by_halves (node.Node' upper lower height (node.Some' i (halves.Halves' left right last_left first_right))) l r v a e h g = parts
   where
     from_left : IsDearerByAtMost (tree_of left) v a
     from_left = subst (λ (z : node.Node). IsDearerByAtMost (tree_of z) v a) (sym (ap (λ (z : node.Node × node.Node). z.0) (same_halves e))) h

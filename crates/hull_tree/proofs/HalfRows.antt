@@ -1,64 +1,73 @@
 -- Two nodes in a row: the parts of a fork, and where a point goes that is added or taken.
-use Rattle.std.proofs.Common.{◌≡◌, ◌+◌, max, refl, sym, ap, subst, ◌++◌, inl, inr, append_assoc, Some}
+use Rattle.std.proofs.Common.{◌≡◌, ◌+◌, max, refl, sym, subst, ◌++◌, inl, inr, append_assoc, Some}
 use Rattle.std.specs.List.{All, Contains}
 use Rattle.std.proofs.lemmas.List.Elements.{All-contains, Contains-append_cases}
 use Rattle.lattice.specs.Covers.{IsPointSet, with_point, without_point}
 use Rattle.lattice.specs.Plane.{Pair, IsBefore}
-use Rattle.bridge_search.specs.Trees.{first_of}
+use Rattle.bridge_search.specs.Trees.{first_of, last_of}
 use Rattle.bridge_search.proofs.Leaves.{all_of, on_of_contains, points_in_order}
 use Rattle.bridge_search.proofs.Turns.{on_first, first_by}
 use Rattle.lattice.proofs.Order.{before_trans, before_irrefl, before_total}
 use Rattle.hull_tree.specs.declared.node.Node as node
-use Rattle.hull_tree.specs.Nodes.{tree_of, halves_of, IsWellBuilt, DifferByAtMost}
-use Rattle.hull_tree.specs.Changes.{points_below, height_at, AreInRow}
+use Rattle.hull_tree.specs.declared.node.Halves as halves
+use Rattle.hull_tree.specs.Nodes.{tree_of, halves_of, below_of, left_half, right_half, IsWellBuilt, DifferByAtMost}
+use Rattle.hull_tree.specs.Changes.{points_below, height_at, AreInRow, AreParted}
 use Rattle.hull_tree.proofs.PointRows.{set_left, set_right, all_before_of_set}
 use Rattle.hull_tree.proofs.ChangedRows.{with_left, with_right, without_left, without_right, with_set, without_set}
 
--- what is known of the halves l and r of the well-built fork n
-pub record IsOver (n l r : node.Node) : Type 0 where
-  pub row : AreInRow l r
-  pub points : points_below n ≡ points_below l ++ points_below r
-  pub height : height_at n ≡ max (height_at l) (height_at r) + 1
-  pub near : DifferByAtMost 1 (height_at l) (height_at r)
+-- what is known of the halves h of the well-built fork n
+pub record IsOver (n : node.Node) (h : halves.Halves) : Type 0 where
+  pub parted : AreParted h
+  pub halves : halves_of n ≡ Some (left_half h, right_half h)
+  pub points : points_below n ≡ points_below (left_half h) ++ points_below (right_half h)
+  pub first : first_of (tree_of n) ≡ first_of (tree_of (left_half h))
+  pub last : last_of (tree_of n) ≡ last_of (tree_of (right_half h))
+  pub height : height_at n ≡ max (height_at (left_half h)) (height_at (right_half h)) + 1
+  pub near : DifferByAtMost 1 (height_at (left_half h)) (height_at (right_half h))
 
--- two pairs that are the answer are the same
-same_halves : {e d : node.Node × node.Node} → Some e ≡ Some d → e ≡ d
-same_halves h = cc
+-- two halves that are the answer are the same
+pub same_below : {g h : halves.Halves} → Some g ≡ Some h → g ≡ h
+same_below e = cc
 
 -- a well-built fork is over its halves
-pub over_halves : (n l r : node.Node) → IsWellBuilt n → halves_of n ≡ Some (l, r) → IsOver n l r
-over_halves (node.Leaf p) l r h e = absurd (cc)
-over_halves (node.Fork' i upper lower first last height left right) l r h e =
-    let a : left ≡ l = ap (λ (z : node.Node × node.Node). z.0) (same_halves e) in
-    let b : right ≡ r = ap (λ (z : node.Node × node.Node). z.1) (same_halves e) in
-    subst (λ (z : node.Node). IsOver (node.Fork' i upper lower first last height left right) z r) a
-    (subst (λ (z : node.Node). IsOver (node.Fork' i upper lower first last height left right) left z) b record {
-      row = record {
-        left_built = record { bridged = h.bridged.3; balanced = h.balanced.1; labelled = h.labelled.3 };
-        right_built = record { bridged = h.bridged.4; balanced = h.balanced.2; labelled = h.labelled.4 };
-        in_order = points_in_order (tree_of (node.Fork' i upper lower first last height left right)) h.bridged;
+pub over_halves : (n : node.Node) (h : halves.Halves) → IsWellBuilt n → below_of n ≡ Some h → IsOver n h
+unfolding node.out-Node halves.out-Halves denote.Hole.Carrier.out
+over_halves (node.Node' upper lower height node.None') h b e = absurd (cc)
+over_halves (node.Node' upper lower height (node.Some' i (halves.Halves' left right last_left first_right))) h b e =
+    subst (λ (z : halves.Halves). IsOver (node.Node' upper lower height (node.Some' i (halves.Halves' left right last_left first_right))) z) (same_below e) record {
+      parted = record {
+        row = record {
+          left_built = record { bridged = b.bridged.3; balanced = b.balanced.1; labelled = b.labelled.3 };
+          right_built = record { bridged = b.bridged.4; balanced = b.balanced.2; labelled = b.labelled.4 };
+          in_order = points_in_order (tree_of (node.Node' upper lower height (node.Some' i (halves.Halves' left right last_left first_right)))) b.bridged;
+        };
+        ends_left = b.labelled.0;
+        starts_right = b.labelled.1;
       };
+      halves = refl;
       points = refl;
+      first = refl;
+      last = refl;
       height = refl;
-      near = h.balanced.0;
-    })
+      near = b.balanced.0;
+    }
 
--- a node that stands in a row with a fork stands in a row with the fork's left half
-pub row_with_left : (l n a b : node.Node) → IsOver n a b → AreInRow l n → AreInRow l a
-row_with_left l n a b o k =
-    let e : points_below l ++ points_below n ≡ (points_below l ++ points_below a) ++ points_below b = rw o.points (simp append_assoc) in
+-- a node that stands in a row with n stands in a row with a, where n has the points of a and then those of b
+pub row_with_left : (l n a b : node.Node) → AreInRow a b → points_below n ≡ points_below a ++ points_below b → AreInRow l n → AreInRow l a
+row_with_left l n a b o i k =
+    let e : points_below l ++ points_below n ≡ (points_below l ++ points_below a) ++ points_below b = rw i (simp append_assoc) in
     record {
       left_built = k.left_built;
-      right_built = o.row.left_built;
+      right_built = o.left_built;
       in_order = set_left (points_below l ++ points_below a) (points_below b) (subst IsPointSet e k.in_order);
     }
 
--- and a fork's right half with the node after the fork
-pub row_with_right : (n a b r : node.Node) → IsOver n a b → AreInRow n r → AreInRow b r
-row_with_right n a b r o k =
-    let e : points_below n ++ points_below r ≡ points_below a ++ (points_below b ++ points_below r) = rw o.points (simp append_assoc) in
+-- and b with the node after n
+pub row_with_right : (n a b r : node.Node) → AreInRow a b → points_below n ≡ points_below a ++ points_below b → AreInRow n r → AreInRow b r
+row_with_right n a b r o i k =
+    let e : points_below n ++ points_below r ≡ points_below a ++ (points_below b ++ points_below r) = rw i (simp append_assoc) in
     record {
-      left_built = o.row.right_built;
+      left_built = o.right_built;
       right_built = k.right_built;
       in_order = set_right (points_below a) (points_below b ++ points_below r) (subst IsPointSet e k.in_order);
     }

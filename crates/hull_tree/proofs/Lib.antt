@@ -4,3 +4,5 @@ pub mod HalfRows
 pub mod Heights
 pub mod LimitedTrees
 pub mod Costs
+pub mod Renewed
+pub mod PartingPoints

@@ -1,11 +1,14 @@
 -- What a change below a node asks for and keeps.
-use Rattle.std.specs.Prelude.{◌≡◌, ℕ, ◌+◌, ◌≤◌, max, List, ◌++◌, Option, Some, None}
+use Rattle.std.specs.Prelude.{◌≡◌, ℕ, ◌+◌, ◌≤◌, max, List, ◌++◌}
 use Rattle.lattice.specs.Covers.{IsPointSet}
 use Rattle.lattice.specs.Plane.{Pair}
-use Rattle.bridge_search.specs.Trees.{height_of}
+use Rattle.bridge_search.specs.Trees.{left_of, right_of, first_of, last_of, height_of}
 use Rattle.bridge_search.specs.Leaves.{points_of}
 use Rattle.hull_tree.specs.declared.node.Node.{Node}
-use Rattle.hull_tree.specs.Nodes.{tree_of, IsWellBuilt, DifferByAtMost}
+use Rattle.hull_tree.specs.declared.node.Node as node
+use Rattle.hull_tree.specs.declared.node.Halves.{Halves}
+use Rattle.hull_tree.specs.declared.node.Halves as halves
+use Rattle.hull_tree.specs.Nodes.{tree_of, left_half, right_half, before_parting, after_parting, IsWellBuilt, DifferByAtMost}
 
 -- the points below a node, in order
 abbrev pub points_below : Node → List Pair
@@ -21,11 +24,29 @@ pub record AreInRow (l r : Node) : Type 0 where
   pub right_built : IsWellBuilt r
   pub in_order : IsPointSet (points_below l ++ points_below r)
 
+-- two nodes in a row, with the last point of the one and the first one of the other
+pub record IsPartedAt (l r : Node) (last first : Pair) : Type 0 where
+  pub row : AreInRow l r
+  pub ends_left : last ≡ last_of (tree_of l)
+  pub starts_right : first ≡ first_of (tree_of r)
+
+-- two halves that stand in a row and keep the points at their parting
+abbrev pub AreParted : Halves → Type 0
+AreParted h = IsPartedAt (left_half h) (right_half h) (before_parting h) (after_parting h)
+
+-- a fork over two such halves, whose edges and height may be yet to be renewed
+abbrev pub IsParted : Node → Type 0
+IsParted (node.Node' upper lower height node.None') = ⊥
+IsParted (node.Node' upper lower height (node.Some' i (halves.Halves' left right last_left first_right))) = IsPartedAt left right last_left first_right
+
+-- the height of a node's left half; of a leaf its own
+abbrev pub left_height : Node → ℕ
+left_height n = height_of (left_of (tree_of n))
+
+-- the height of a node's right half; of a leaf its own
+abbrev pub right_height : Node → ℕ
+right_height n = height_of (right_of (tree_of n))
+
 -- the height h of a node that is made of two of heights l and r: that of the fork over them, or one less where they differ by two
 abbrev pub IsHeightOver : ℕ → ℕ → ℕ → Type 0
 IsHeightOver l r h = (max l r ≤ h) × (h ≤ max l r + 1) × (DifferByAtMost 1 l r → h ≡ max l r + 1)
-
--- a node of height h has lost a point: nothing is left of one point, else the height is h, or one less
-abbrev pub IsHeightWithout : ℕ → Option Node → Type 0
-IsHeightWithout h None = h ≡ 0
-IsHeightWithout h (Some n) = (height_at n ≤ h) × (h ≤ height_at n + 1)

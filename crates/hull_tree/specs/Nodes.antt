@@ -1,24 +1,50 @@
 -- The finite tree that a node is, and what makes it well built (Overmars and van Leeuwen, 1981; Adelson-Velsky and Landis, 1962).
-use Rattle.std.specs.Prelude.{◌≡◌, ℕ, ◌+◌, ◌≤◌, Option, Some, None}
+use Rattle.std.specs.Prelude.{◌≡◌, ℕ, ◌+◌, ◌≤◌, Option, Some, None, option_map}
 use Rattle.lattice.specs.Plane.{Pair}
 use Rattle.bridge_search.specs.Trees.{Tree, Leaf, Fork, IsBridged, first_of, last_of, height_of}
-use Rattle.hull_tree.specs.declared.node.Node.{Node, Fork'}
+use Rattle.hull_tree.specs.declared.node.Node.{Node, out-Node}
 use Rattle.hull_tree.specs.declared.node.Node as node
+use Rattle.hull_tree.specs.declared.node.Halves.{Halves, out-Halves}
+use Rattle.hull_tree.specs.declared.node.Halves as halves
 
--- the tree of a node
+-- the tree of a node: a node with nothing below it is one point, both ends of the edges that it keeps
 abbrev pub tree_of : Node → Tree
-tree_of (node.Leaf p) = Leaf p
-tree_of (node.Fork' i upper lower first last height left right) = Fork upper lower (tree_of left) (tree_of right)
+tree_of (node.Node' upper lower height node.None') = Leaf upper.0
+tree_of (node.Node' upper lower height (node.Some' i (halves.Halves' left right last_left first_right))) = Fork upper lower (tree_of left) (tree_of right)
+
+-- the left one of two halves
+abbrev pub left_half : Halves → Node
+left_half h = (out-Halves h).left
+
+-- the right one
+abbrev pub right_half : Halves → Node
+right_half h = (out-Halves h).right
+
+-- the point before the parting that two halves keep
+abbrev pub before_parting : Halves → Pair
+before_parting h = (out-Halves h).last_left
+
+-- the point after it
+abbrev pub after_parting : Halves → Pair
+after_parting h = (out-Halves h).first_right
+
+-- the node with other edges and another height over what is below it
+abbrev pub keeping : Node → Pair × Pair → Pair × Pair → ℕ → Node
+keeping (node.Node' upper lower height below) e f h = node.Node' e f h below
+
+-- the halves below a fork; below a leaf nothing
+abbrev pub below_of : Node → Option Halves
+below_of n = option_map (λ b. b.value) (out-Node n).below
 
 -- the left and the right half of a fork; of a leaf nothing
 abbrev pub halves_of : Node → Option (Node × Node)
-halves_of (node.Leaf p) = None
-halves_of (node.Fork' i upper lower first last height left right) = Some (left, right)
+halves_of (node.Node' upper lower height node.None') = None
+halves_of (node.Node' upper lower height (node.Some' i (halves.Halves' left right last_left first_right))) = Some (left, right)
 
 -- the point of a leaf; of a fork nothing
 abbrev pub point_of : Node → Option Pair
-point_of (node.Leaf p) = Some p
-point_of (node.Fork' i upper lower first last height left right) = None
+point_of (node.Node' upper lower height node.None') = Some upper.0
+point_of (node.Node' upper lower height (node.Some' i (halves.Halves' left right last_left first_right))) = None
 
 -- neither number is more than this above the other
 abbrev pub DifferByAtMost : ℕ → ℕ → ℕ → Type 0
@@ -29,13 +55,13 @@ abbrev pub IsBalanced : Tree → Type 0
 IsBalanced (Leaf x) = Unit {0}
 IsBalanced (Fork e f u w) = DifferByAtMost 1 (height_of u) (height_of w) × IsBalanced u × IsBalanced w
 
--- each fork keeps the first and the last point below it and its height
+-- each node keeps its height, and each fork the last point of its left half and the first one of its right half
 abbrev pub IsLabelled : Node → Type 0
-IsLabelled (node.Leaf p) = Unit {0}
-IsLabelled (node.Fork' i upper lower first last height left right) =
-    (first ≡ first_of (tree_of left)) × (last ≡ last_of (tree_of right)) × (height ≡ height_of (Fork upper lower (tree_of left) (tree_of right))) × IsLabelled left × IsLabelled right
+IsLabelled (node.Node' upper lower height node.None') = height ≡ 0
+IsLabelled (node.Node' upper lower height (node.Some' i (halves.Halves' left right last_left first_right))) =
+    (last_left ≡ last_of (tree_of left)) × (first_right ≡ first_of (tree_of right)) × (height ≡ height_of (Fork upper lower (tree_of left) (tree_of right))) × IsLabelled left × IsLabelled right
 
--- all is as it should be: each fork's left half stands before its right one and its stored edges are the bridges of the two, it is balanced, and it keeps its ends and its height
+-- all is as it should be: each fork's left half stands before its right one and its stored edges are the bridges of the two, it is balanced, and it keeps its height and the points at its parting
 pub record IsWellBuilt (n : Node) : Type 0 where
   pub bridged : IsBridged (tree_of n)
   pub balanced : IsBalanced (tree_of n)

@@ -5,6 +5,7 @@ use Rattle.lattice.specs.Plane.{Pair}
 use Rattle.bridge_search.specs.Trees.{Fork, first_of, last_of, height_of}
 use Rattle.bridge_search.specs.OneWay.{point_set}
 use Rattle.hull_tree.specs.declared.node.Node as node
+use Rattle.hull_tree.specs.declared.node.Halves as halves
 use Rattle.hull_tree.specs.Nodes.{tree_of, IsLabelled}
 
 -- that two points are the same has one proof
@@ -17,10 +18,10 @@ same_number m n = ℕ_set m n
 
 -- that a node is labelled has one proof
 pub IsLabelled-prop : (n : node.Node) → IsProp (IsLabelled n)
-IsLabelled-prop (node.Leaf p) = hlevel
-IsLabelled-prop (node.Fork' i upper lower first last height left right) =
-    let a : IsProp (first ≡ first_of (tree_of left)) = same_point first (first_of (tree_of left)) in
-    let b : IsProp (last ≡ last_of (tree_of right)) = same_point last (last_of (tree_of right)) in
+IsLabelled-prop (node.Node' upper lower height node.None') = same_number height 0
+IsLabelled-prop (node.Node' upper lower height (node.Some' i (halves.Halves' left right last_left first_right))) =
+    let a : IsProp (last_left ≡ last_of (tree_of left)) = same_point last_left (last_of (tree_of left)) in
+    let b : IsProp (first_right ≡ first_of (tree_of right)) = same_point first_right (first_of (tree_of right)) in
     let c : IsProp (height ≡ height_of (Fork upper lower (tree_of left) (tree_of right))) = same_number height (height_of (Fork upper lower (tree_of left) (tree_of right))) in
     let k : IsProp (IsLabelled left) = IsLabelled-prop left in
     let l : IsProp (IsLabelled right) = IsLabelled-prop right in

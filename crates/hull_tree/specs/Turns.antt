@@ -43,13 +43,3 @@ IsLeafDepth None None n = n ≡ 0
 IsLeafDepth None (Some t) n = ⊥
 IsLeafDepth (Some root) None n = ⊥
 IsLeafDepth (Some root) (Some t) n = IsAtDepth (tree_of root) t n
-
--- what is left of a node, without the number of turns
-abbrev pub node_left : Option (Node × ℕ) → Option Node
-node_left None = None
-node_left (Some left) = Some left.0
-
--- the number of turns; none where nothing is left
-abbrev pub turns_taken : Option (Node × ℕ) → ℕ
-turns_taken None = 0
-turns_taken (Some left) = left.1

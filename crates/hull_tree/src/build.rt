@@ -1,70 +1,180 @@
-ghost use Rattle.std.specs.Prelude.{◌≡◌, ◌≤◌, ◌+◌, ◌*◌, ◌++◌, max};
-ghost use Rattle.hull_tree.specs.declared.node.Fork.{out-Fork};
-ghost use Rattle.hull_tree.specs.Nodes.{tree_of, IsWellBuilt, DifferByAtMost};
-ghost use Rattle.hull_tree.specs.Changes.{points_below, height_at, AreInRow, IsHeightOver};
-ghost use Rattle.hull_tree.specs.Turns.{IsDearerByAtMost};
+ghost use Rattle.std.specs.Prelude.{◌≡◌, Some, ◌≤◌, ◌+◌, ◌*◌, ◌++◌, max};
+ghost use Rattle.lattice.specs.Bridges.{IsUpperBridge, IsLowerBridge};
+ghost use Rattle.bridge_search.specs.Trees.{On, IsFork, left_of, right_of, first_of as first_in, last_of as last_in};
+ghost use Rattle.hull_tree.specs.Nodes.{tree_of, keeping, halves_of, left_half, right_half, before_parting, after_parting, IsWellBuilt, DifferByAtMost};
+ghost use Rattle.hull_tree.specs.Changes.{points_below, height_at, left_height, right_height, IsParted, IsPartedAt, AreParted, IsHeightOver};
+ghost use Rattle.hull_tree.specs.Turns.{IsForkCost, IsDearerByAtMost};
 
-use super::node::{Fork, Node, first_of, height_of, last_of};
+use super::node::{Halves, Node, height_of};
 use super::node_ref::NodeRef;
-use bridge_search::both_bridges;
+use bridge_search::both_bridges_between;
 use lattice::Point;
 use std::mem;
 
-/// A fork that stands for nothing yet.
-pub(crate) fn blank(point: Point) -> Fork {
-    Fork {
-        upper: (point, point),
-        lower: (point, point),
-        first: point,
-        last: point,
-        height: 0,
-        left: Node::Leaf(point),
-        right: Node::Leaf(point),
+/// Two halves that stand for nothing yet.
+pub(crate) fn blank(point: Point) -> Halves {
+    Halves {
+        left: Node::leaf(point),
+        right: Node::leaf(point),
+        last_left: point,
+        first_right: point,
     }
 }
 
-/// The left and the right half of a fork, which has its first point in their places.
-pub(crate) fn take_halves(fork: &mut Fork) -> (Node, Node)
-    ensures left { result.0 ≡ fork.old.left }
-    ensures right { result.1 ≡ fork.old.right }
+/// The left and the right half, which have a point in their places from then on.
+pub(crate) fn take_halves(halves: &mut Halves) -> (Node, Node)
+    ensures left { result.0 ≡ left_half halves.old }
+    ensures right { result.1 ≡ right_half halves.old }
+    ensures last { before_parting halves.new ≡ before_parting halves.old }
+    ensures first { after_parting halves.new ≡ after_parting halves.old }
 {
-    let point = fork.first;
-    let left = mem::replace(&mut fork.left, Node::Leaf(point));
-    let right = mem::replace(&mut fork.right, Node::Leaf(point));
+    let point = halves.last_left;
+    let left = mem::replace(&mut halves.left, Node::leaf(point));
+    let right = mem::replace(&mut halves.right, Node::leaf(point));
     (left, right)
 }
 
-/// The fork over two halves, in a box that is there, with the bridges between them, and how many turns the two searches
-/// took. Each fork is built here.
-pub(crate) fn joined(mut spare: Box<Fork>, left: Node, right: Node) -> (Node, u32)
-    requires row { AreInRow left right }
+/// A fork taken apart: its left and its right half, and their box, which keeps the points at their parting.
+fn taken_apart(node: Node) -> (Node, Node, Box<Halves>)
+    requires built { IsWellBuilt node }
+    requires fork { IsFork (tree_of node) }
+    ensures halves { halves_of node ≡ Some (result.0, result.1) }
+    ensures parted { IsPartedAt result.0 result.1 (before_parting result.2.value) (after_parting result.2.value) }
+    ensures points { points_below node ≡ points_below result.0 ++ points_below result.1 }
+    ensures first { first_in (tree_of node) ≡ first_in (tree_of result.0) }
+    ensures last { last_in (tree_of node) ≡ last_in (tree_of result.1) }
+    ensures height { height_at node ≡ max (height_at result.0) (height_at result.1) + 1 }
+    ensures near { DifferByAtMost 1 (height_at result.0) (height_at result.1) }
+{
+    let Node { below, .. } = node;
+    let Some(mut halves) = below else {
+        unreachable!()
+    };
+    let (left, right) = take_halves(&mut halves);
+    (left, right, halves)
+}
+
+/// What a fork keeps of its two halves, and how many turns the searches for its bridges took.
+#[derive(Clone, Copy)]
+struct Found {
+    upper: (Point, Point),
+    lower: (Point, Point),
+    height: u32,
+    turns: u32,
+}
+
+/// Searches both bridges between two halves.
+fn searched(halves: &Halves) -> Found
+    requires parted { AreParted halves.now }
+    requires low { max (height_at (left_half halves.now)) (height_at (right_half halves.now)) ≤ 28 }
+    ensures upper { IsUpperBridge (On (tree_of (left_half halves.now))) (On (tree_of (right_half halves.now))) result.upper.0 result.upper.1 }
+    ensures lower { IsLowerBridge (On (tree_of (left_half halves.now))) (On (tree_of (right_half halves.now))) result.lower.0 result.lower.1 }
+    ensures height { result.height ≡ max (height_at (left_half halves.now)) (height_at (right_half halves.now)) + 1 }
+    ensures cost { IsForkCost result.upper result.lower (tree_of (left_half halves.now)) (tree_of (right_half halves.now)) result.turns }
+    ensures within { result.turns ≤ 2 * (height_at (left_half halves.now) + height_at (right_half halves.now)) }
+{
+    let (u, w) = (NodeRef::new(&halves.left), NodeRef::new(&halves.right));
+    let ((upper, upper_turns), (lower, lower_turns)) = both_bridges_between(
+        u,
+        w,
+        halves.last_left,
+        halves.first_right,
+    );
+    Found {
+        upper,
+        lower,
+        height: height_of(&halves.left).max(height_of(&halves.right)) + 1,
+        turns: upper_turns + lower_turns,
+    }
+}
+
+/// Stores a point where it is another than the one that is kept.
+fn keep_point(kept: &mut Point, found: Point)
+    ensures { kept.new ≡ found }
+{
+    if *kept != found {
+        *kept = found;
+    }
+}
+
+/// Stores a height where it is another than the one that is kept.
+fn keep_height(kept: &mut u32, found: u32)
+    ensures { kept.new ≡ found }
+{
+    if *kept != found {
+        *kept = found;
+    }
+}
+
+/// Stores what was found of a fork where it is another than what is kept: most searches find the bridge that is there.
+fn keep(node: &mut Node, found: Found)
+    ensures { node.new ≡ keeping node.old found.upper found.lower found.height }
+{
+    keep_point(&mut node.upper.0, found.upper.0);
+    keep_point(&mut node.upper.1, found.upper.1);
+    keep_point(&mut node.lower.0, found.lower.0);
+    keep_point(&mut node.lower.1, found.lower.1);
+    keep_height(&mut node.height, found.height);
+}
+
+/// Searches both bridges of a fork, keeps them and its height, and tells how many turns the two searches took. Each
+/// bridge of the tree is stored here.
+pub(crate) fn renew(node: &mut Node) -> u32
+    requires parted { IsParted node.old }
+    requires balanced { DifferByAtMost 1 (left_height node.old) (right_height node.old) }
+    requires low { max (left_height node.old) (right_height node.old) ≤ 28 }
+    ensures built { IsWellBuilt node.new }
+    ensures points { points_below node.new ≡ points_below node.old }
+    ensures first { first_in (tree_of node.new) ≡ first_in (left_of (tree_of node.old)) }
+    ensures last { last_in (tree_of node.new) ≡ last_in (right_of (tree_of node.old)) }
+    ensures height { height_at node.new ≡ height_at node.old }
+    ensures within { result ≤ 2 * (left_height node.old + right_height node.old) }
+    ensures few { result ≤ 112 }
+    ensures cost_left { IsDearerByAtMost (left_of (tree_of node.old)) (tree_of node.new) result }
+    ensures cost_right { IsDearerByAtMost (right_of (tree_of node.old)) (tree_of node.new) result }
+{
+    let Some(halves) = &node.below else {
+        unreachable!()
+    };
+    let found = searched(halves);
+    let turns = found.turns;
+    keep(node, found);
+    turns
+}
+
+/// The fork over two halves, in a box that keeps the points at their parting, and how many turns the searches for its
+/// bridges took.
+pub(crate) fn joined(mut spare: Box<Halves>, left: Node, right: Node) -> (Node, u32)
+    requires parted { IsPartedAt left right (before_parting spare.value) (after_parting spare.value) }
     requires balanced { DifferByAtMost 1 (height_at left) (height_at right) }
     requires low { max (height_at left) (height_at right) ≤ 28 }
     ensures built { IsWellBuilt result.0 }
     ensures points { points_below result.0 ≡ points_below left ++ points_below right }
+    ensures first { first_in (tree_of result.0) ≡ first_in (tree_of left) }
+    ensures last { last_in (tree_of result.0) ≡ last_in (tree_of right) }
     ensures height { height_at result.0 ≡ max (height_at left) (height_at right) + 1 }
     ensures within { result.1 ≤ 2 * (height_at left + height_at right) }
     ensures few { result.1 ≤ 112 }
     ensures cost_left { IsDearerByAtMost (tree_of left) (tree_of result.0) result.1 }
     ensures cost_right { IsDearerByAtMost (tree_of right) (tree_of result.0) result.1 }
 {
-    let (u, w) = (NodeRef::new(&left), NodeRef::new(&right));
-    let ((upper, upper_turns), (lower, lower_turns)) = both_bridges(u, w);
-    *spare = Fork {
-        upper,
-        lower,
-        first: first_of(&left),
-        last: last_of(&right),
-        height: height_of(&left).max(height_of(&right)) + 1,
-        left,
-        right,
+    let point = spare.last_left;
+    spare.left = left;
+    spare.right = right;
+    let mut node = Node {
+        upper: (point, point),
+        lower: (point, point),
+        height: 0,
+        below: Some(spare),
     };
-    (Node::Fork(spare), upper_turns + lower_turns)
+    let turns = renew(&mut node);
+    (node, turns)
 }
 
-/// The same where the left half is two higher: a rotation to the right, double where the left half leans to the right.
-fn rotated_right(spare: Box<Fork>, left: Node, right: Node) -> (Node, u32)
-    requires row { AreInRow left right }
+/// The fork over two halves of which the left one is two higher, after a rotation to the right, double where the left
+/// half leans to the right.
+fn rotated_right(spare: Box<Halves>, left: Node, right: Node) -> (Node, u32)
+    requires parted { IsPartedAt left right (before_parting spare.value) (after_parting spare.value) }
     requires two_higher { height_at left ≡ height_at right + 2 }
     requires low { height_at left ≤ 28 }
     ensures built { IsWellBuilt result.0 }
@@ -75,28 +185,23 @@ fn rotated_right(spare: Box<Fork>, left: Node, right: Node) -> (Node, u32)
     ensures cost_left { IsDearerByAtMost (tree_of left) (tree_of result.0) result.1 }
     ensures cost_right { IsDearerByAtMost (tree_of right) (tree_of result.0) result.1 }
 {
-    let Node::Fork(mut below) = left else {
-        unreachable!()
-    };
-    let (outer, inner) = take_halves(&mut below);
+    let (outer, inner, below) = taken_apart(left);
     if height_of(&outer) >= height_of(&inner) {
         let (second, second_turns) = joined(spare, inner, right);
         let (whole, turns) = joined(below, outer, second);
         return (whole, turns + second_turns);
     }
-    let Node::Fork(mut middle) = inner else {
-        unreachable!()
-    };
-    let (middle_left, middle_right) = take_halves(&mut middle);
+    let (middle_left, middle_right, middle) = taken_apart(inner);
     let (first, first_turns) = joined(below, outer, middle_left);
     let (second, second_turns) = joined(spare, middle_right, right);
     let (whole, turns) = joined(middle, first, second);
     (whole, turns + first_turns + second_turns)
 }
 
-/// The same where the right half is two higher: a rotation to the left, double where the right half leans to the left.
-fn rotated_left(spare: Box<Fork>, left: Node, right: Node) -> (Node, u32)
-    requires row { AreInRow left right }
+/// The fork over two halves of which the right one is two higher, after a rotation to the left, double where the right
+/// half leans to the left.
+fn rotated_left(spare: Box<Halves>, left: Node, right: Node) -> (Node, u32)
+    requires parted { IsPartedAt left right (before_parting spare.value) (after_parting spare.value) }
     requires two_higher { height_at right ≡ height_at left + 2 }
     requires low { height_at right ≤ 28 }
     ensures built { IsWellBuilt result.0 }
@@ -107,45 +212,49 @@ fn rotated_left(spare: Box<Fork>, left: Node, right: Node) -> (Node, u32)
     ensures cost_left { IsDearerByAtMost (tree_of left) (tree_of result.0) result.1 }
     ensures cost_right { IsDearerByAtMost (tree_of right) (tree_of result.0) result.1 }
 {
-    let Node::Fork(mut below) = right else {
-        unreachable!()
-    };
-    let (inner, outer) = take_halves(&mut below);
+    let (inner, outer, below) = taken_apart(right);
     if height_of(&outer) >= height_of(&inner) {
         let (first, first_turns) = joined(spare, left, inner);
         let (whole, turns) = joined(below, first, outer);
         return (whole, turns + first_turns);
     }
-    let Node::Fork(mut middle) = inner else {
-        unreachable!()
-    };
-    let (middle_left, middle_right) = take_halves(&mut middle);
+    let (middle_left, middle_right, middle) = taken_apart(inner);
     let (first, first_turns) = joined(spare, left, middle_left);
     let (second, second_turns) = joined(below, middle_right, outer);
     let (whole, turns) = joined(middle, first, second);
     (whole, turns + first_turns + second_turns)
 }
 
-/// The node over two halves whose heights differ by two at most: rotated where they differ by two, else their fork.
-/// Beside it how many turns its searches took: three forks at most are built, with two bridges each, and a bridge
-/// between halves of at most 28 forks each takes at most 56 turns.
-pub(crate) fn rebalanced(spare: Box<Fork>, left: Node, right: Node) -> (Node, u32)
-    requires row { AreInRow left right }
-    requires near { DifferByAtMost 2 (height_at left) (height_at right) }
-    requires low { max (height_at left) (height_at right) ≤ 28 }
-    ensures built { IsWellBuilt result.0 }
-    ensures points { points_below result.0 ≡ points_below left ++ points_below right }
-    ensures height { IsHeightOver (height_at left) (height_at right) (height_at result.0) }
-    ensures few { result.1 ≤ 336 }
-    ensures cost_left { IsDearerByAtMost (tree_of left) (tree_of result.0) result.1 }
-    ensures cost_right { IsDearerByAtMost (tree_of right) (tree_of result.0) result.1 }
+/// Renews a fork whose halves' heights differ by two at most: rotates it where they differ by two. Tells how many turns
+/// its searches took: three forks at most are renewed, with two bridges each, and a bridge between halves of at most 28
+/// forks each takes at most 56 turns.
+pub(crate) fn rebalance(node: &mut Node) -> u32
+    requires parted { IsParted node.old }
+    requires near { DifferByAtMost 2 (left_height node.old) (right_height node.old) }
+    requires low { max (left_height node.old) (right_height node.old) ≤ 28 }
+    ensures built { IsWellBuilt node.new }
+    ensures points { points_below node.new ≡ points_below node.old }
+    ensures height { IsHeightOver (left_height node.old) (right_height node.old) (height_at node.new) }
+    ensures few { result ≤ 336 }
+    ensures cost_left { IsDearerByAtMost (left_of (tree_of node.old)) (tree_of node.new) result }
+    ensures cost_right { IsDearerByAtMost (right_of (tree_of node.old)) (tree_of node.new) result }
 {
-    let (on_left, on_right) = (height_of(&left), height_of(&right));
-    if on_left > on_right + 1 {
-        rotated_right(spare, left, right)
-    } else if on_right > on_left + 1 {
-        rotated_left(spare, left, right)
-    } else {
-        joined(spare, left, right)
+    let Some(halves) = &node.below else {
+        unreachable!()
+    };
+    let (on_left, on_right) = (height_of(&halves.left), height_of(&halves.right));
+    if on_left <= on_right + 1 && on_right <= on_left + 1 {
+        return renew(node);
     }
+    let Some(mut spare) = node.below.take() else {
+        unreachable!()
+    };
+    let (left, right) = take_halves(&mut spare);
+    let (whole, turns) = if on_left > on_right {
+        rotated_right(spare, left, right)
+    } else {
+        rotated_left(spare, left, right)
+    };
+    *node = whole;
+    turns
 }

@@ -1,45 +1,57 @@
 ghost use Rattle.std.specs.Prelude.{◌≡◌, option_map};
 ghost use Rattle.std.specs.Borrow.{Bor};
 ghost use Rattle.lattice.specs.Plane.{Pair};
-ghost use Rattle.bridge_search.specs.Trees.{edge_of, lower_of, first_of as first_in, last_of as last_in, height_of as height_in};
+ghost use Rattle.bridge_search.specs.Trees.{Leaf, edge_of, lower_of, first_of as first_in, last_of as last_in, height_of as height_in};
 ghost use Rattle.hull_tree.specs.declared.node.Node.{Node};
 ghost use Rattle.hull_tree.specs.Nodes.{tree_of, halves_of, point_of, IsLabelled};
 
 use lattice::Point;
 
-/// A part of the tree: one point, or a fork over two parts. Leaves lie inside the fork above them.
+/// A part of the tree: one point, or a fork over two parts.
+///
+/// It keeps its two bridges and its height itself, beside the pointer to its halves: so a search that goes down a half
+/// reads the edges that it compares from where it is. Of a point both ends of both edges are that point.
 #[cycle(node)]
 #[derive(Drop)]
-pub enum Node {
-    /// One point.
-    Leaf(Point),
-    /// Two halves, and what is kept of them.
-    Fork(Box<Fork>),
-}
-
-/// Two halves, all of the left one before all of the right one, with the bridges between them, the first and the last
-/// point below, and how many forks stand above the deepest point.
-#[cycle(node)]
-#[derive(Drop)]
-pub struct Fork {
+pub struct Node {
     pub(crate) upper: (Point, Point),
     pub(crate) lower: (Point, Point),
-    pub(crate) first: Point,
-    pub(crate) last: Point,
     pub(crate) height: u32,
+    pub(crate) below: Option<Box<Halves>>,
+}
+
+/// The two halves of a fork, all of the left one before all of the right one, and the two points at their parting.
+#[cycle(node)]
+#[derive(Drop)]
+pub struct Halves {
     pub(crate) left: Node,
     pub(crate) right: Node,
+    pub(crate) last_left: Point,
+    pub(crate) first_right: Point,
 }
 
 impl Node {
+    /// The node of one point.
+    pub(crate) fn leaf(point: Point) -> Node
+        ensures tree { tree_of result ≡ Leaf point }
+        ensures labelled { IsLabelled result }
+    {
+        Node {
+            upper: (point, point),
+            lower: (point, point),
+            height: 0,
+            below: None,
+        }
+    }
+
     /// The upper bridge that a fork keeps, from its end in the left half to its end in the right one; `None` for a
     /// leaf.
     pub fn upper(&self) -> Option<&(Point, Point)>
         ensures { option_map (λ (e : Bor (Pair × Pair)). e.now) result ≡ edge_of (tree_of self.now) }
     {
-        match self {
-            Node::Leaf(_) => None,
-            Node::Fork(fork) => Some(&fork.upper),
+        match &self.below {
+            None => None,
+            Some(_) => Some(&self.upper),
         }
     }
 
@@ -48,9 +60,9 @@ impl Node {
     pub fn lower(&self) -> Option<&(Point, Point)>
         ensures { option_map (λ (e : Bor (Pair × Pair)). e.now) result ≡ lower_of (tree_of self.now) }
     {
-        match self {
-            Node::Leaf(_) => None,
-            Node::Fork(fork) => Some(&fork.lower),
+        match &self.below {
+            None => None,
+            Some(_) => Some(&self.lower),
         }
     }
 
@@ -58,9 +70,9 @@ impl Node {
     pub fn halves(&self) -> Option<(&Node, &Node)>
         ensures { option_map (λ (e : Bor Node × Bor Node). (e.0.now, e.1.now)) result ≡ halves_of self.now }
     {
-        match self {
-            Node::Leaf(_) => None,
-            Node::Fork(fork) => Some((&fork.left, &fork.right)),
+        match &self.below {
+            None => None,
+            Some(halves) => Some((&halves.left, &halves.right)),
         }
     }
 
@@ -68,32 +80,30 @@ impl Node {
     pub fn point(&self) -> Option<Point>
         ensures { result ≡ point_of self.now }
     {
-        match self {
-            Node::Leaf(point) => Some(*point),
-            Node::Fork(_) => None,
+        match &self.below {
+            None => Some(self.upper.0),
+            Some(_) => None,
         }
     }
 }
 
-/// The first point below a node.
+/// The first point below a node: one step a level.
 pub(crate) fn first_of(node: &Node) -> Point
-    requires { IsLabelled node.now }
     ensures { result ≡ first_in (tree_of node.now) }
 {
-    match node {
-        Node::Leaf(point) => *point,
-        Node::Fork(fork) => fork.first,
+    match &node.below {
+        None => node.upper.0,
+        Some(halves) => first_of(&halves.left),
     }
 }
 
-/// The last point below a node.
+/// The last point below a node: one step a level.
 pub(crate) fn last_of(node: &Node) -> Point
-    requires { IsLabelled node.now }
     ensures { result ≡ last_in (tree_of node.now) }
 {
-    match node {
-        Node::Leaf(point) => *point,
-        Node::Fork(fork) => fork.last,
+    match &node.below {
+        None => node.upper.0,
+        Some(halves) => last_of(&halves.right),
     }
 }
 
@@ -102,8 +112,5 @@ pub(crate) fn height_of(node: &Node) -> u32
     requires { IsLabelled node.now }
     ensures { result ≡ height_in (tree_of node.now) }
 {
-    match node {
-        Node::Leaf(_) => 0,
-        Node::Fork(fork) => fork.height,
-    }
+    node.height
 }

@@ -33,30 +33,32 @@ impl<'a> Half for NodeRef<'a> {
     ghost tree = { λ s. tree_of s.node.now };
 
     fn edge(self) -> Option<(Point, Point)> {
-        match self.node {
-            Node::Leaf(_) => None,
-            Node::Fork(fork) => Some(fork.upper),
+        match &self.node.below {
+            None => None,
+            Some(_) => Some(self.node.upper),
         }
     }
 
     fn lower(self) -> Option<(Point, Point)> {
-        match self.node {
-            Node::Leaf(_) => None,
-            Node::Fork(fork) => Some(fork.lower),
+        match &self.node.below {
+            None => None,
+            Some(_) => Some(self.node.lower),
         }
     }
 
     fn left(self) -> Self {
-        match self.node {
-            Node::Leaf(_) => self,
-            Node::Fork(fork) => NodeRef { node: &fork.left },
+        match &self.node.below {
+            None => self,
+            Some(halves) => NodeRef { node: &halves.left },
         }
     }
 
     fn right(self) -> Self {
-        match self.node {
-            Node::Leaf(_) => self,
-            Node::Fork(fork) => NodeRef { node: &fork.right },
+        match &self.node.below {
+            None => self,
+            Some(halves) => NodeRef {
+                node: &halves.right,
+            },
         }
     }
 

@@ -7,7 +7,7 @@ ghost use Rattle.hull_tree.specs.Sets.{LimitedTree, IsSound, IsWhole};
 ghost use Rattle.hull_tree.specs.Turns.{IsLeastCount, IsLeafDepth};
 
 use super::build::blank;
-use super::change::{contains, insert, remove};
+use super::change::{contains, insert, is_leaf, remove};
 use super::node::Node;
 use super::node_ref::NodeRef;
 use bridge_search::Half;
@@ -94,7 +94,7 @@ impl HullTree {
         ensures least { IsLeastCount result.0 self.new.root p result.1 }
     {
         let Some(root) = &self.root else {
-            self.root = Some(Node::Leaf(p));
+            self.root = Some(Node::leaf(p));
             self.count = 1;
             return (AddReply::Added, 0);
         };
@@ -107,11 +107,11 @@ impl HullTree {
         let Ok(spare) = Box::new(self.alloc, blank(p)) else {
             return (AddReply::NoMemory, 0);
         };
-        let Some(root) = self.root.take() else {
+        let Some(mut root) = self.root.take() else {
             unreachable!()
         };
-        let (whole, turns) = insert(root, p, spare);
-        self.root = Some(whole);
+        let turns = insert(&mut root, p, spare);
+        self.root = Some(root);
         self.count += 1;
         (AddReply::Added, turns)
     }
@@ -132,14 +132,15 @@ impl HullTree {
         if !contains(root, p) {
             return (RemoveReply::Absent, 0);
         }
-        let Some(root) = self.root.take() else {
+        let Some(mut root) = self.root.take() else {
             unreachable!()
         };
         self.count -= 1;
-        let Some((less, turns)) = remove(root, p) else {
+        if is_leaf(&root, p) {
             return (RemoveReply::Removed, 0);
-        };
-        self.root = Some(less);
+        }
+        let turns = remove(&mut root, p);
+        self.root = Some(root);
         (RemoveReply::Removed, turns)
     }
 

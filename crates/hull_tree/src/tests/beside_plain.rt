@@ -27,12 +27,12 @@ fn centred(number: u32, half: u32) -> i64 {
 
 /// Puts the points below a node behind others, from left to right.
 fn push_points(points: &mut Vec<Point>, node: &Node) -> Result<(), AllocError> {
-    match node {
-        Node::Leaf(point) => points.push(*point)?,
-        Node::Fork(fork) => {
-            push_points(points, &fork.left)?;
-            push_points(points, &fork.right)?;
-        }
+    if let Some((left, right)) = node.halves() {
+        push_points(points, left)?;
+        push_points(points, right)?;
+    }
+    if let Some(point) = node.point() {
+        points.push(point)?;
     }
     Ok(())
 }

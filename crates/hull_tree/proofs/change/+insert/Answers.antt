@@ -1,66 +1,57 @@
-use Rattle.std.proofs.Common.{rules, arith, [], ◌∷◌, ◌≡◌, List, refl, sym, ap, subst}
+use Rattle.std.proofs.Common.{arith, refl, sym, ap, ◌∙◌, subst, inl, inr, ◌≡◌, Some, ◌++◌}
 use Rattle.std.specs.List.{Contains}
 use Rattle.std.proofs.lemmas.List.Elements.{Contains-append_right}
-use Rattle.lattice.specs.Plane.{Pair, IsBefore}
+use Rattle.lattice.specs.Plane.{IsBefore}
 use Rattle.bridge_search.specs.Trees.{first_of}
-use Rattle.hull_tree.specs.Nodes.{tree_of}
+use Rattle.bridge_search.proofs.Signs.{passed, failed}
+use Rattle.hull_tree.specs.Nodes.{tree_of, below_of, left_half, right_half}
 use Rattle.hull_tree.specs.Changes.{points_below}
-use Rattle.hull_tree.proofs.ChangedRows.{with_before, with_after, after_only}
-use Rattle.hull_tree.proofs.HalfRows.{IsOver, over_halves, add_left, add_right, row_add_left, row_add_right}
-use Rattle.bridge_search.specs.Trees.{Leaf}
-use Rattle.hull_tree.proofs.Costs.{costs_more}
+use Rattle.hull_tree.specs.declared.node.Halves as halves
+use Rattle.hull_tree.proofs.HalfRows.{IsOver, over_halves, add_left, add_right}
+use Rattle.hull_tree.proofs.PartingPoints.{parted_add_left, parted_add_right}
+use Rattle.hull_tree.proofs.Renewed.{cost_through, rolled_below}
 use Rattle.hull_tree.proofs.change.+insert.Goals as goal
 
-pub rebalanced-whole-requires-clause-row : goal.rebalanced-whole-requires-clause-row
-rebalanced-whole-requires-clause-row t c =
-    let o : IsOver c.args.node c.take_halves-left.result.0 c.take_halves-left.result.1 = over_halves _ _ _ c.requires.built (search rules) in
-    let b : IsBefore c.args.p (first_of (tree_of c.take_halves-left.result.1)) = search rules in
-    row_add_left _ _ _ _ o.row b c.insert-more.ensures.built c.insert-more.ensures.points
+pub insert-insert_below-below-requires : goal.insert-insert_below-below-requires
+insert-insert_below-below-requires t c =
+    let i : below_of c.args.node.now ≡ Some c.deref_mut.result.now = rw (c.in-Some.is, c.deref_mut.ensures.value) refl in
+    let o : IsOver c.args.node.now c.deref_mut.result.now = over_halves _ _ c.requires.built i in
+    (omega (arith, o.height), (o.parted, (subst (λ z. ¬ (Contains z c.args.p)) o.points c.requires.absent, (omega (arith, o.height, c.requires.low), omega (arith, o.height, c.requires.low)))))
 
-pub insert-more-requires-else-before-2 : goal.insert-more-requires-else-before-2
-insert-more-requires-else-before-2 t c =
-    let o : IsOver c.args.node c.take_halves-left.result.0 c.take_halves-left.result.1 = over_halves _ _ _ c.requires.built (search rules) in
-    let a : ¬ (Contains (points_below c.take_halves-left.result.1) c.args.p) = λ h. c.requires.absent (rw o.points (Contains-append_right _ _ _ h)) in
-    (omega (arith, o.height), (o.row.right_built, (a, omega (arith, o.height, c.requires.low))))
+pub insert-returns-in-Some-clause-cost : goal.insert-returns-in-Some-clause-cost
+insert-returns-in-Some-clause-cost t c =
+    cost_through _ c.insert_below-below.new.halves _ _ _ _ _ (rolled_below _ _ _ _) c.insert_below-below.ensures.parted c.insert_below-below.ensures.cost c.rebalance.ensures.cost_left c.rebalance.ensures.cost_right (omega arith)
 
-pub rebalanced-whole-requires-else-before-2-clause-row : goal.rebalanced-whole-requires-else-before-2-clause-row
-rebalanced-whole-requires-else-before-2-clause-row t c =
-    let o : IsOver c.args.node c.take_halves-left.result.0 c.take_halves-left.result.1 = over_halves _ _ _ c.requires.built (search rules) in
-    let b : ¬ (IsBefore c.args.p (first_of (tree_of c.take_halves-left.result.1))) = search rules in
-    row_add_right _ _ _ _ o.row b c.insert-more-else-before-2.ensures.built c.insert-more-else-before-2.ensures.points
+pub insert_below-insert-requires-else-before : goal.insert_below-insert-requires-else-before
+insert_below-insert-requires-else-before t c =
+    (omega arith, (c.requires.parted.row.right_built, (λ h. c.requires.absent (Contains-append_right _ _ _ h), c.requires.low_right)))
 
-pub returns-then-before-clause-points : goal.returns-then-before-clause-points
-returns-then-before-clause-points t c =
-    let b : IsBefore c.args.p c.in-Leaf.point = search rules in
-    rw (c.joined.ensures.points, c.in-Leaf.is) (sym (with_before c.args.p c.in-Leaf.point b))
+pub insert_below-returns-then-before-clause-parted : goal.insert_below-returns-then-before-clause-parted
+unfolding halves.roll-Halves halves.out-Halves denote.Hole.Carrier.out denote.Hole.Carrier.roll
+insert_below-returns-then-before-clause-parted t c =
+    parted_add_left _ _ _ _ _ _ _ c.requires.parted (passed _ _ c.if-before.true c.before-2.ensures) c.insert.ensures.built c.insert.ensures.points c.reach.ensures.moved c.reach.ensures.kept
 
-pub returns-else-before-clause-points : goal.returns-else-before-clause-points
-returns-else-before-clause-points t c =
-    let n : ¬ (IsBefore c.args.p c.in-Leaf.point) = search rules in
-    let e : points_below c.args.node ≡ c.in-Leaf.point ∷ [] = ap points_below c.in-Leaf.is in
-    let b : IsBefore c.in-Leaf.point c.args.p = after_only c.args.p c.in-Leaf.point n (subst (λ (z : List Pair). ¬ (Contains z c.args.p)) e c.requires.absent) in
-    rw (c.joined-else-before.ensures.points, c.in-Leaf.is) (sym (with_after c.args.p c.in-Leaf.point b))
+pub insert_below-returns-then-before-clause-points : goal.insert_below-returns-then-before-clause-points
+unfolding halves.roll-Halves halves.out-Halves denote.Hole.Carrier.out denote.Hole.Carrier.roll
+insert_below-returns-then-before-clause-points t c =
+    let b = subst (IsBefore c.args.p) c.requires.parted.starts_right (passed _ _ c.if-before.true c.before-2.ensures) in
+    ap (λ z. z ++ points_below (right_half c.args.halves.now)) c.insert.ensures.points ∙ sym (add_left _ _ _ c.requires.parted.row b)
 
-pub returns-then-before-2-clause-points : goal.returns-then-before-2-clause-points
-returns-then-before-2-clause-points t c =
-    let o : IsOver c.args.node c.take_halves-left.result.0 c.take_halves-left.result.1 = over_halves _ _ _ c.requires.built (search rules) in
-    let b : IsBefore c.args.p (first_of (tree_of c.take_halves-left.result.1)) = search rules in
-    rw (c.rebalanced-whole.ensures.points, c.insert-more.ensures.points, o.points) (sym (add_left _ _ _ o.row b))
+pub insert_below-returns-then-before-clause-cost : goal.insert_below-returns-then-before-clause-cost
+unfolding halves.roll-Halves halves.out-Halves denote.Hole.Carrier.out denote.Hole.Carrier.roll
+insert_below-returns-then-before-clause-cost t c = inl c.insert.ensures.cost
 
-pub returns-else-before-2-clause-points : goal.returns-else-before-2-clause-points
-returns-else-before-2-clause-points t c =
-    let o : IsOver c.args.node c.take_halves-left.result.0 c.take_halves-left.result.1 = over_halves _ _ _ c.requires.built (search rules) in
-    let b : ¬ (IsBefore c.args.p (first_of (tree_of c.take_halves-left.result.1))) = search rules in
-    rw (c.rebalanced-whole-else-before-2.ensures.points, c.insert-more-else-before-2.ensures.points, o.points) (sym (add_right _ _ _ o.row b))
+pub insert_below-returns-else-before-clause-parted : goal.insert_below-returns-else-before-clause-parted
+unfolding halves.roll-Halves halves.out-Halves denote.Hole.Carrier.out denote.Hole.Carrier.roll
+insert_below-returns-else-before-clause-parted t c =
+    parted_add_right _ _ _ _ _ _ c.requires.parted (failed _ _ c.if-before.false c.before-2.ensures) c.insert-else-before.ensures.built c.insert-else-before.ensures.points
 
-pub returns-then-before-clause-few : goal.returns-then-before-clause-few
-returns-then-before-clause-few t c = omega (arith, c.joined.ensures.within)
+pub insert_below-returns-else-before-clause-points : goal.insert_below-returns-else-before-clause-points
+unfolding halves.roll-Halves halves.out-Halves denote.Hole.Carrier.out denote.Hole.Carrier.roll
+insert_below-returns-else-before-clause-points t c =
+    let b : ¬ IsBefore c.args.p (first_of (tree_of (right_half c.args.halves.now))) = λ i. failed _ _ c.if-before.false c.before-2.ensures (subst (IsBefore c.args.p) (sym c.requires.parted.starts_right) i) in
+    ap (λ z. points_below (left_half c.args.halves.now) ++ z) c.insert-else-before.ensures.points ∙ sym (add_right _ _ _ c.requires.parted.row b)
 
-pub returns-else-before-clause-few : goal.returns-else-before-clause-few
-returns-else-before-clause-few t c = omega (arith, c.joined-else-before.ensures.within)
-
-pub returns-then-before-clause-cost : goal.returns-then-before-clause-cost
-returns-then-before-clause-cost t c = costs_more (Leaf c.args.p) _ c.args.p 0 _ _ (0, (refl, refl), omega arith) c.joined.ensures.cost_left (omega arith)
-
-pub returns-else-before-clause-cost : goal.returns-else-before-clause-cost
-returns-else-before-clause-cost t c = costs_more (Leaf c.args.p) _ c.args.p 0 _ _ (0, (refl, refl), omega arith) c.joined-else-before.ensures.cost_right (omega arith)
+pub insert_below-returns-else-before-clause-cost : goal.insert_below-returns-else-before-clause-cost
+unfolding halves.roll-Halves halves.out-Halves denote.Hole.Carrier.out denote.Hole.Carrier.roll
+insert_below-returns-else-before-clause-cost t c = inr c.insert-else-before.ensures.cost

@@ -7,8 +7,8 @@ use Rattle.hull_tree.specs.Sets.{LimitedTree, IsLimited, IsSound}
 use Rattle.hull_tree.proofs.LimitedTrees.{sound, limited_with}
 use Rattle.hull_tree.proofs.tree.HullTree.add_counted.Goals as goal
 
-pub insert-whole-requires-clause-low : goal.insert-whole-requires-clause-low
-insert-whole-requires-clause-low c =
+pub insert-turns-requires-clause-low : goal.insert-turns-requires-clause-low
+insert-turns-requires-clause-low c =
     let r : c.self.inside.root ≡ Some c.in-Some-take.root = sym c.take.ensures.value ∙ c.in-Some-take.is in
     let h : height_at c.in-Some-take.root ≤ 28 = (sound _ _ _ (subst (λ (z : Option Node). IsLimited z c.self.inside.count c.self.inside.limit) r c.self.invariant)).low in
     omega (arith, h)
@@ -17,7 +17,7 @@ pub invariant_of-self-2 : goal.invariant_of-self-2
 invariant_of-self-2 c =
     let r : c.self.inside.root ≡ Some c.in-Some-take.root = sym c.take.ensures.value ∙ c.in-Some-take.is in
     let a : ¬ (Contains (points_below c.in-Some-take.root) c.args.p) = search rules in
-    limited_with _ _ _ _ _ (subst (λ (z : Option Node). IsLimited z c.self.inside.count c.self.inside.limit) r c.self.invariant) c.insert-whole.ensures.built c.insert-whole.ensures.points a c.if-self.false
+    limited_with _ _ _ _ _ (subst (λ (z : Option Node). IsLimited z c.self.inside.count c.self.inside.limit) r c.self.invariant) c.insert-turns.ensures.built c.insert-turns.ensures.points a c.if-self.false
 
 pub returns-then-contains-clause-sound : goal.returns-then-contains-clause-sound
 returns-then-contains-clause-sound c = subst IsSound (ap (λ (z : LimitedTree). z.root) c.self.view_is) (sound _ _ _ c.self.invariant)
@@ -32,10 +32,10 @@ pub returns-clause-sound : goal.returns-clause-sound
 returns-clause-sound c =
     let r : c.self.inside.root ≡ Some c.in-Some-take.root = sym c.take.ensures.value ∙ c.in-Some-take.is in
     let a : ¬ (Contains (points_below c.in-Some-take.root) c.args.p) = search rules in
-    sound _ _ _ (limited_with _ _ _ _ _ (subst (λ (z : Option Node). IsLimited z c.self.inside.count c.self.inside.limit) r c.self.invariant) c.insert-whole.ensures.built c.insert-whole.ensures.points a c.if-self.false)
+    sound _ _ _ (limited_with _ _ _ _ _ (subst (λ (z : Option Node). IsLimited z c.self.inside.count c.self.inside.limit) r c.self.invariant) c.insert-turns.ensures.built c.insert-turns.ensures.points a c.if-self.false)
 
 pub returns-clause-few : goal.returns-clause-few
 returns-clause-few c =
     let r : c.self.inside.root ≡ Some c.in-Some-take.root = sym c.take.ensures.value ∙ c.in-Some-take.is in
     let h : height_at c.in-Some-take.root ≤ 28 = (sound _ _ _ (subst (λ (z : Option Node). IsLimited z c.self.inside.count c.self.inside.limit) r c.self.invariant)).low in
-    omega (arith, h, c.insert-whole.ensures.few)
+    omega (arith, h, c.insert-turns.ensures.few)

@@ -2,7 +2,7 @@ use Rattle.std.proofs.Common.{◌+◌}
 use Rattle.bridge_search.specs.Trees.{size_of}
 use Rattle.bridge_search.specs.TurnedTrees.{turned_tree}
 use Rattle.bridge_search.specs.Search.{IsReached}
-use Rattle.bridge_search.proofs.both.both_bridges.Given as goal
+use Rattle.bridge_search.proofs.both.both_bridges_between.Given as goal
 
 abbrev pub invariant-loop : goal.invariant-loop
 invariant-loop g l =

@@ -1,14 +1,19 @@
 use Rattle.std.proofs.lemmas.Bool.{or_parts}
 use Rattle.std.proofs.Common.{◌≤◌, arith}
 use Rattle.bridge_search.specs.Trees.{height_of, highest}
-use Rattle.bridge_search.specs.TurnedTrees.{order_turned, lower_from_turned, height_turned}
+use Rattle.std.proofs.Common.{sym}
+use Rattle.bridge_search.specs.TurnedTrees.{first_turned, order_turned, lower_from_turned, height_turned}
 use Rattle.bridge_search.proofs.Turns as turns
 use Rattle.bridge_search.proofs.Depths.{sum_within, sum_turned}
-use Rattle.bridge_search.proofs.both.both_bridges.Goals as goal
+use Rattle.bridge_search.proofs.both.both_bridges_between.Goals as goal
 
-pub new-lower-requires : goal.new-lower-requires
-new-lower-requires g c =
-    rw (c.new.ensures, c.new-2.ensures) (order_turned (g.H.Half.tree c.args.u) (g.H.Half.tree c.args.w) c.requires)
+pub new-lower-requires-clause-in_order : goal.new-lower-requires-clause-in_order
+new-lower-requires-clause-in_order g c =
+    rw (c.new.ensures, c.new-2.ensures) (order_turned (g.H.Half.tree c.args.u) (g.H.Half.tree c.args.w) c.requires.in_order)
+
+pub new-lower-requires-clause-parting : goal.new-lower-requires-clause-parting
+new-lower-requires-clause-parting g c =
+    rw (c.new-2.ensures, c.turned.ensures, c.requires.last) (sym (first_turned (g.H.Half.tree c.args.u)))
 
 pub loop-preserved : goal.loop-preserved
 loop-preserved g c = (
@@ -24,9 +29,9 @@ returns-clause-upper g c =
 pub returns-clause-lower : goal.returns-clause-lower
 returns-clause-lower g c =
     let still = or_parts c.advance.result c.advance-in-loop.result c.loop-test.false in
-    rw (c.turned.ensures, c.turned-2.ensures)
-    (lower_from_turned (g.H.Half.tree c.args.u) (g.H.Half.tree c.args.w) c.ends-first.result.0 c.ends-first.result.1
-    (turns.under_way_bridge _ _ _ _ _ _ _ _ _ _ _ c.loop.invariant.1 (rw still.1 at c.advance-in-loop.ensures.advance) c.ends-first.ensures.left c.ends-first.ensures.right))
+    rw (c.turned-2.ensures, c.turned-3.ensures)
+    (lower_from_turned (g.H.Half.tree c.args.u) (g.H.Half.tree c.args.w) c.ends-first_end.result.0 c.ends-first_end.result.1
+    (turns.under_way_bridge _ _ _ _ _ _ _ _ _ _ _ c.loop.invariant.1 (rw still.1 at c.advance-in-loop.ensures.advance) c.ends-first_end.ensures.left c.ends-first_end.ensures.right))
 
 -- the turned halves are as high as the halves, which are not too high
 pub advance-requires-in-loop-clause-room : goal.advance-requires-in-loop-clause-room
@@ -43,13 +48,13 @@ returns-clause-upper_depths g c =
 pub returns-clause-lower_depths : goal.returns-clause-lower_depths
 returns-clause-lower_depths g c =
     let still = or_parts c.advance.result c.advance-in-loop.result c.loop-test.false in
-    rw (c.turned.ensures, c.turned-2.ensures)
-    (sum_turned (g.H.Half.tree c.args.u) (g.H.Half.tree c.args.w) c.ends-first.result.0 c.ends-first.result.1 _
-    (turns.under_way_depth _ _ _ _ _ _ _ _ _ _ _ c.loop.invariant.1 (rw still.1 at c.advance-in-loop.ensures.advance) c.ends-first.ensures.left c.ends-first.ensures.right))
+    rw (c.turned-2.ensures, c.turned-3.ensures)
+    (sum_turned (g.H.Half.tree c.args.u) (g.H.Half.tree c.args.w) c.ends-first_end.result.0 c.ends-first_end.result.1 _
+    (turns.under_way_depth _ _ _ _ _ _ _ _ _ _ _ c.loop.invariant.1 (rw still.1 at c.advance-in-loop.ensures.advance) c.ends-first_end.ensures.left c.ends-first_end.ensures.right))
 
 pub returns-clause-lower_few : goal.returns-clause-lower_few
 returns-clause-lower_few g c =
     let still = or_parts c.advance.result c.advance-in-loop.result c.loop-test.false in
-    let sum = turns.under_way_depth _ _ _ _ _ _ _ _ _ _ _ c.loop.invariant.1 (rw still.1 at c.advance-in-loop.ensures.advance) c.ends-first.ensures.left c.ends-first.ensures.right in
+    let sum = turns.under_way_depth _ _ _ _ _ _ _ _ _ _ _ c.loop.invariant.1 (rw still.1 at c.advance-in-loop.ensures.advance) c.ends-first_end.ensures.left c.ends-first_end.ensures.right in
     sum_within (g.H.Half.tree c.args.u) (g.H.Half.tree c.args.w) _ _ _
-    (sum_turned (g.H.Half.tree c.args.u) (g.H.Half.tree c.args.w) c.ends-first.result.0 c.ends-first.result.1 _ sum)
+    (sum_turned (g.H.Half.tree c.args.u) (g.H.Half.tree c.args.w) c.ends-first_end.result.0 c.ends-first_end.result.1 _ sum)
