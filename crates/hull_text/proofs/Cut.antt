@@ -23,3 +23,12 @@ cut_none [] none = refl
 cut_none (b ∷ bs) none =
     let ne : (b == 32) ≡ false = ne_eqb b 32 (none 0 (omega arith)) in
     rw (ne, cut_none bs (λ k h. none (suc k) (omega arith))) refl
+
+-- A byte that is no space stands before the first field of what follows it.
+pub cut_cons : (b : ℕ) (bs f : List ℕ) (fs : List (List ℕ)) → (b == 32) ≡ false → cut bs ≡ f ∷ fs
+    → cut (b ∷ bs) ≡ (b ∷ f) ∷ fs
+cut_cons b bs f fs ne e = rw (ne, e) refl
+
+-- A minus stands before the first field of what follows it.
+pub cut_minus : (bs f : List ℕ) (fs : List (List ℕ)) → cut bs ≡ f ∷ fs → cut (45 ∷ bs) ≡ (45 ∷ f) ∷ fs
+cut_minus bs f fs e = cut_cons 45 bs f fs refl e

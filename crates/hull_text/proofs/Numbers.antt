@@ -1,5 +1,5 @@
 -- A field spells a number just where it is the number's decimal text.
-use Rattle.std.proofs.Common.{◌≡◌, ◌<◌, ◌≤◌, ◌+◌, ◌-◌, ◌*◌, ◌/◌, ◌%◌, ◌^◌, ℕ, List, [], ◌∷◌, ◌++◌, Option, Some, None, Bool, true, false, cond, decimal, refl, sym, ap, subst, ◌∙◌, arith, ◌⊎◌, inl, inr}
+use Rattle.std.proofs.Common.{◌≡◌, ◌<◌, ◌≤◌, ◌+◌, ◌-◌, ◌*◌, ◌/◌, ◌%◌, ◌^◌, ℕ, zero, suc, List, [], ◌∷◌, length, get_or, take, ◌++◌, Option, Some, None, Bool, true, false, cond, decimal, refl, sym, ap, subst, ◌∙◌, arith, ◌⊎◌, inl, inr}
 use Rattle.std.specs.Prelude.{◌==◌}
 use Rattle.std.proofs.lemmas.List.{append-nil, append_assoc}
 use Rattle.std.proofs.lemmas.Bool.{ne_eqb, cases_lt}
@@ -104,6 +104,18 @@ digits_more [] m k x d e =
 digits_more (c ∷ cs) m k x d e =
     let g = guard_some (is_digit c) (digits_after (m * 10 + (c - 48)) cs) k e in
     rw g.0 (digits_more cs (m * 10 + (c - 48)) k x d g.1)
+
+-- One byte more of a text is read as a digit.
+pub digits_next : (text : List ℕ) (i m v : ℕ) → i < length text → 48 ≤ get_or text i 0 → get_or text i 0 ≤ 57
+    → digits_after m (take i text) ≡ Some v → digits_after m (take (suc i) text) ≡ Some (v * 10 + (get_or text i 0 - 48))
+unfolding digits_after
+digits_next [] i m v lt low high e = absurd (omega arith)
+digits_next (b ∷ bs) zero m v lt low high e =
+    let same : m ≡ v = cc in
+    rw (digit_is b low high, same) refl
+digits_next (b ∷ bs) (suc i) m v lt low high e =
+    let g = guard_some (is_digit b) (digits_after (m * 10 + (b - 48)) (take i bs)) v e in
+    rw g.0 (digits_next bs i (m * 10 + (b - 48)) v (omega arith) low high g.1)
 
 -- one digit spells a number below ten
 spelled_one : (n : ℕ) → n < 10 → IsSpelled n ((48 + n) ∷ [])

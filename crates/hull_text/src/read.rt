@@ -6,6 +6,7 @@ mod item;
 mod journal;
 mod journal_draft;
 mod journal_line;
+mod next_number;
 mod number;
 mod reading;
 mod reply;

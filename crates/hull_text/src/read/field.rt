@@ -1,11 +1,13 @@
-ghost use Rattle.std.specs.Prelude.{◌≡◌, ◌≤◌, ◌∷◌, [], ℕ, List, Option, Some, None, MatchOption, IfErr, IfOk, Ok};
+ghost use Rattle.std.specs.Prelude.{◌≡◌, ◌≤◌, ◌^◌, ◌∷◌, [], ℕ, List, Option, Some, None, MatchOption, IfErr, IfOk, Ok};
 ghost use Rattle.lattice.specs.Plane.{IsCoordinate};
 ghost use Rattle.hull_text.specs.Fault.{IsLineFault};
 ghost use Rattle.hull_text.specs.Version.{coordinate_limit};
-ghost use Rattle.hull_text.specs.Number.{signed_of, number_of, negated, positive};
+ghost use Rattle.hull_text.specs.Number.{negated, positive};
+ghost use Rattle.hull_text.specs.Told.{TellsNumber};
 ghost use Rattle.hull_text.specs.Field.{Gives, fields_left, coordinate_in, coordinate_at, point_at, direction_at, number_in as number_within, number_at, seat_in, seat_at};
 
-use super::number::{Number, number_in};
+use super::next_number::next_number;
+use super::number::Number;
 use crate::fault::FaultKind;
 use crate::version::Version;
 use lattice::{Direction, Point};
@@ -29,52 +31,47 @@ pub(crate) fn next_field(rest: Rest<'_>) -> Option<(&[u8], Rest<'_>)>
     Some((text, None))
 }
 
-fn negative(version: Version, digits: &[u8]) -> Result<i64, FaultKind>
-    ensures value { result ≡ coordinate_in (coordinate_limit version) (negated (number_of digits.now)) }
+/// A number behind a minus, as a coordinate.
+fn negative(version: Version, number: Number<u64>) -> Result<i64, FaultKind>
+    ensures value { (spelled : Option ℕ) → TellsNumber (2 ^ 64) number spelled → result ≡ coordinate_in (coordinate_limit version) (negated spelled) }
     ensures line { IfErr result IsLineFault }
     ensures small { IfOk result IsCoordinate }
 {
-    match number_in(digits) {
+    match number {
         Number::Unspelled | Number::Value(0) => Err(FaultKind::Number),
         Number::Value(n) if n <= version.coordinate_limit() => Ok(-(n as i64)),
         _ => Err(FaultKind::Coordinate),
     }
 }
 
-fn plain(version: Version, field: &[u8]) -> Result<i64, FaultKind>
-    ensures value { result ≡ coordinate_in (coordinate_limit version) (positive (number_of field.now)) }
+/// A number without a sign, as a coordinate.
+fn plain(version: Version, number: Number<u64>) -> Result<i64, FaultKind>
+    ensures value { (spelled : Option ℕ) → TellsNumber (2 ^ 64) number spelled → result ≡ coordinate_in (coordinate_limit version) (positive spelled) }
     ensures line { IfErr result IsLineFault }
     ensures small { IfOk result IsCoordinate }
 {
-    match number_in(field) {
+    match number {
         Number::Unspelled => Err(FaultKind::Number),
         Number::Value(n) if n <= version.coordinate_limit() => Ok(n as i64),
         _ => Err(FaultKind::Coordinate),
     }
 }
 
-#[tactic(auto, unfolding(crate::specs::Number::signed_of))]
-fn coordinate(version: Version, field: &[u8]) -> Result<i64, FaultKind>
-    ensures value { result ≡ coordinate_in (coordinate_limit version) (signed_of field.now) }
-    ensures line { IfErr result IsLineFault }
-    ensures small { IfOk result IsCoordinate }
-{
-    match field {
-        [] => Err(FaultKind::Number),
-        [b'-', digits @ ..] => negative(version, digits),
-        [_, ..] => plain(version, field),
-    }
-}
-
-#[tactic(auto, unfolding(crate::specs::Field::coordinate_at))]
+#[tactic(auto, unfolding(crate::specs::Field::coordinate_at, crate::specs::Number::signed_of, crate::specs::Number::number_of), using(crate::proofs::Cut::cut_minus))]
 fn coordinate_of(version: Version, rest: Rest<'_>) -> Result<(i64, Rest<'_>), FaultKind>
     ensures value { Gives (λ x. (x.0, fields_left x.1)) result (coordinate_at version (fields_left rest.entry)) }
     ensures small { IfOk result (λ x. IsCoordinate x.0) }
 {
-    let Some((field, rest)) = next_field(rest) else {
+    if let Some([b'-', digits @ ..]) = rest {
+        let Some((_, number, rest)) = next_number(Some(digits)) else {
+            return Err(FaultKind::Form);
+        };
+        return Ok((negative(version, number)?, rest));
+    }
+    let Some((_, number, rest)) = next_number(rest) else {
         return Err(FaultKind::Form);
     };
-    Ok((coordinate(version, field)?, rest))
+    Ok((plain(version, number)?, rest))
 }
 
 /// The point of the next two fields.
@@ -109,12 +106,12 @@ pub(crate) fn direction_of(
     Ok((direction, rest))
 }
 
-fn number_up_to(limit: u64, field: &[u8]) -> Result<u64, FaultKind>
-    ensures value { result ≡ number_within limit (number_of field.now) }
+fn number_up_to(limit: u64, number: Number<u64>) -> Result<u64, FaultKind>
+    ensures value { (spelled : Option ℕ) → TellsNumber (2 ^ 64) number spelled → result ≡ number_within limit spelled }
     ensures line { IfErr result IsLineFault }
     ensures small { IfOk result (λ n. n ≤ limit) }
 {
-    match number_in(field) {
+    match number {
         Number::Value(n) if n <= limit => Ok(n),
         _ => Err(FaultKind::Number),
     }
@@ -126,18 +123,18 @@ pub(crate) fn number_of_field(limit: u64, rest: Rest<'_>) -> Result<(u64, Rest<'
     ensures value { Gives (λ x. (x.0, fields_left x.1)) result (number_at limit (fields_left rest.entry)) }
     ensures small { IfOk result (λ x. x.0 ≤ limit) }
 {
-    let Some((field, rest)) = next_field(rest) else {
+    let Some((_, number, rest)) = next_number(rest) else {
         return Err(FaultKind::Form);
     };
-    Ok((number_up_to(limit, field)?, rest))
+    Ok((number_up_to(limit, number)?, rest))
 }
 
-fn seat(field: &[u8]) -> Result<u8, FaultKind>
-    ensures value { result ≡ seat_in (number_of field.now) }
+fn seat(number: Number<u64>) -> Result<u8, FaultKind>
+    ensures value { (spelled : Option ℕ) → TellsNumber (2 ^ 64) number spelled → result ≡ seat_in spelled }
     ensures line { IfErr result IsLineFault }
     ensures low { IfOk result (λ n. n ≤ 63) }
 {
-    match number_in(field) {
+    match number {
         Number::Unspelled => Err(FaultKind::Number),
         Number::Value(n) if n <= 63 => Ok(n as u8),
         _ => Err(FaultKind::Worker),
@@ -150,8 +147,8 @@ pub(crate) fn seat_of(rest: Rest<'_>) -> Result<(u8, Rest<'_>), FaultKind>
     ensures value { Gives (λ x. (x.0, fields_left x.1)) result (seat_at (fields_left rest.entry)) }
     ensures low { IfOk result (λ x. x.0 ≤ 63) }
 {
-    let Some((field, rest)) = next_field(rest) else {
+    let Some((_, number, rest)) = next_number(rest) else {
         return Err(FaultKind::Form);
     };
-    Ok((seat(field)?, rest))
+    Ok((seat(number)?, rest))
 }
