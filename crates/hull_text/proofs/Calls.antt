@@ -1,5 +1,5 @@
 -- A call that is read is spelled there, and a call that is spelled is read.
-use Rattle.std.proofs.Common.{◌≡◌, List, [], ◌∷◌, ◌++◌, Option, Some, None, Bool, true, false, cond, Ok, codes, refl, sym, ap, subst}
+use Rattle.std.proofs.Common.{◌≡◌, List, [], ◌∷◌, ◌++◌, Option, Some, None, Ok, codes, refl, sym, ap, subst}
 use Rattle.std.specs.Str.{bytes_eq}
 use Rattle.hull_plain.specs.declared.call.Call.{Call}
 use Rattle.hull_plain.specs.declared.call.Call.TheVariants.{Add, Remove, Extreme, Place, Tangents, Vertices, Area, Count}

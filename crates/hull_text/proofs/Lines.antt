@@ -1,8 +1,9 @@
 -- Lines of a text.
-use Rattle.std.proofs.Common.{◌≡◌, ◌<◌, ◌+◌, ℕ, zero, suc, List, [], ◌∷◌, ◌++◌, length, get_or, take, drop, false, refl, sym, ap, subst, ◌∙◌, arith, append_assoc, Err}
+use Rattle.std.proofs.Common.{◌≡◌, ◌<◌, ◌+◌, ℕ, zero, suc, List, [], ◌∷◌, ◌++◌, length, get_or, take, drop, false, refl, sym, ap, subst, ◌∙◌, arith, append_assoc, Some, None, Err}
 use Rattle.std.specs.Prelude.{◌==◌}
-use Rattle.std.proofs.lemmas.Bool.{ne_eqb}
+use Rattle.std.proofs.lemmas.Bool.{eqb-true, ne_eqb}
 use Rattle.std.proofs.lemmas.List.Elements.{All-cons, All-nil}
+use Rattle.memchr.specs.Find.{IsFirstByte, is_byte}
 use Rattle.hull_text.specs.declared.fault.TextFault.{TextFault}
 use Rattle.hull_text.specs.Reading.{HasNoNewline, Outlook, ReadsOn, FailsIn, newlines}
 
@@ -22,6 +23,16 @@ pub newline_none : (text : List ℕ) → ((k : ℕ) → k < length text → get_
 newline_none [] none = All-nil (λ b. (b == 10) ≡ false)
 newline_none (b ∷ bs) none =
     All-cons (λ b. (b == 10) ≡ false) b bs (ne_eqb b 10 (none 0 (omega arith))) (newline_none bs (λ k h. none (suc k) (omega arith)))
+
+-- Where the search for a newline found one, the first line stands before it.
+pub first_newline : (text : List ℕ) (i : ℕ) → IsFirstByte (is_byte 10) text (Some i)
+    → HasNoNewline (take i text) × (text ≡ take i text ++ 10 ∷ drop 1 (drop i text))
+first_newline text i found =
+    newline_at text i found.0.high (eqb-true (get_or text i 0) 10 found.1) (λ k lt e. found.0.before k (omega arith) lt (rw e refl))
+
+-- Where it found none, the text is a part of a line.
+pub no_newline : (text : List ℕ) → IsFirstByte (is_byte 10) text None → HasNoNewline text
+no_newline text none = newline_none text (λ k lt e. none k (omega arith) lt (rw e refl))
 
 -- A text that begins with a line: the parts of the line, its newline, and what stands behind it.
 around : (kept line after left rest : List ℕ) → left ≡ line ++ 10 ∷ after

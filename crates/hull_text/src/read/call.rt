@@ -10,6 +10,7 @@ use crate::words::CallWord;
 use hull_plain::Call;
 
 /// The call with this word.
+#[inline(always)]
 #[tactic(auto, unfolding(crate::specs::Call::call_after))]
 fn call_behind(
     version: Version,
@@ -46,6 +47,7 @@ fn call_behind(
 }
 
 /// The call that the next fields spell.
+#[inline(always)]
 #[tactic(auto, unfolding(crate::specs::Call::call_at, crate::specs::Call::call_after))]
 pub(crate) fn call_of(version: Version, rest: Rest<'_>) -> Result<(Call, Rest<'_>), FaultKind>
     ensures { Gives (λ x. (x.0, fields_left x.1)) result (call_at version (fields_left rest.entry)) }

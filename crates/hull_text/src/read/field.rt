@@ -16,6 +16,7 @@ use lattice::{Direction, Point};
 pub(crate) type Rest<'a> = Option<&'a [u8]>;
 
 /// The next field, and what is left behind it.
+#[inline(always)]
 #[tactic(auto, using(crate::proofs::Cut::cut_at, crate::proofs::Cut::cut_none))]
 pub(crate) fn next_field(rest: Rest<'_>) -> Option<(&[u8], Rest<'_>)>
     ensures { MatchOption result (fields_left rest.entry ≡ []) (λ x. fields_left rest.entry ≡ x.0.now ∷ fields_left x.1) }
@@ -32,6 +33,7 @@ pub(crate) fn next_field(rest: Rest<'_>) -> Option<(&[u8], Rest<'_>)>
 }
 
 /// A number behind a minus, as a coordinate.
+#[inline(always)]
 fn negative(version: Version, number: Number<u64>) -> Result<i64, FaultKind>
     ensures value { (spelled : Option ℕ) → TellsNumber (2 ^ 64) number spelled → result ≡ coordinate_in (coordinate_limit version) (negated spelled) }
     ensures line { IfErr result IsLineFault }
@@ -45,6 +47,7 @@ fn negative(version: Version, number: Number<u64>) -> Result<i64, FaultKind>
 }
 
 /// A number without a sign, as a coordinate.
+#[inline(always)]
 fn plain(version: Version, number: Number<u64>) -> Result<i64, FaultKind>
     ensures value { (spelled : Option ℕ) → TellsNumber (2 ^ 64) number spelled → result ≡ coordinate_in (coordinate_limit version) (positive spelled) }
     ensures line { IfErr result IsLineFault }
@@ -57,6 +60,7 @@ fn plain(version: Version, number: Number<u64>) -> Result<i64, FaultKind>
     }
 }
 
+#[inline(always)]
 #[tactic(auto, unfolding(crate::specs::Field::coordinate_at, crate::specs::Number::signed_of, crate::specs::Number::number_of), using(crate::proofs::Cut::cut_minus))]
 fn coordinate_of(version: Version, rest: Rest<'_>) -> Result<(i64, Rest<'_>), FaultKind>
     ensures value { Gives (λ x. (x.0, fields_left x.1)) result (coordinate_at version (fields_left rest.entry)) }
@@ -106,6 +110,7 @@ pub(crate) fn direction_of(
     Ok((direction, rest))
 }
 
+#[inline(always)]
 fn number_up_to(limit: u64, number: Number<u64>) -> Result<u64, FaultKind>
     ensures value { (spelled : Option ℕ) → TellsNumber (2 ^ 64) number spelled → result ≡ number_within limit spelled }
     ensures line { IfErr result IsLineFault }
@@ -118,6 +123,7 @@ fn number_up_to(limit: u64, number: Number<u64>) -> Result<u64, FaultKind>
 }
 
 /// The number up to a limit in the next field.
+#[inline(always)]
 #[tactic(auto, unfolding(crate::specs::Field::number_at))]
 pub(crate) fn number_of_field(limit: u64, rest: Rest<'_>) -> Result<(u64, Rest<'_>), FaultKind>
     ensures value { Gives (λ x. (x.0, fields_left x.1)) result (number_at limit (fields_left rest.entry)) }
@@ -129,6 +135,7 @@ pub(crate) fn number_of_field(limit: u64, rest: Rest<'_>) -> Result<(u64, Rest<'
     Ok((number_up_to(limit, number)?, rest))
 }
 
+#[inline(always)]
 fn seat(number: Number<u64>) -> Result<u8, FaultKind>
     ensures value { (spelled : Option ℕ) → TellsNumber (2 ^ 64) number spelled → result ≡ seat_in spelled }
     ensures line { IfErr result IsLineFault }
@@ -142,6 +149,7 @@ fn seat(number: Number<u64>) -> Result<u8, FaultKind>
 }
 
 /// The worker or seat in the next field.
+#[inline(always)]
 #[tactic(auto, unfolding(crate::specs::Field::seat_at))]
 pub(crate) fn seat_of(rest: Rest<'_>) -> Result<(u8, Rest<'_>), FaultKind>
     ensures value { Gives (λ x. (x.0, fields_left x.1)) result (seat_at (fields_left rest.entry)) }

@@ -10,6 +10,7 @@ use super::number::{Number, number_in};
 const SHORT: u64 = 100_000_000_000_000_000;
 
 /// Whether digits are the one spelling of their number.
+#[inline(always)]
 #[tactic(auto, unfolding(crate::specs::Number::number_of))]
 fn are_spelling(digits: &[u8]) -> bool
     ensures { (n : ℕ) → result ≡ true → digits_after 0 digits.now ≡ Some n → number_of digits.now ≡ Some n }
@@ -19,6 +20,7 @@ fn are_spelling(digits: &[u8]) -> bool
 
 /// The first field of a text as a number, and what is left behind it, by one pass over the field. `None` says nothing: the
 /// field may spell no number, or one of more digits.
+#[inline(always)]
 #[tactic(auto, using(crate::proofs::Cut::cut_at, crate::proofs::Cut::cut_none))]
 fn short_number(text: &[u8]) -> Option<(&[u8], u64, Rest<'_>)>
     ensures field { IfSome result (λ x. fields_of text.now ≡ x.0.now ∷ fields_left x.2) }
@@ -46,13 +48,23 @@ fn short_number(text: &[u8]) -> Option<(&[u8], u64, Rest<'_>)>
     }
 }
 
+/// The same of any field, by a pass for the field and one for its digits.
+#[cold]
+#[inline(never)]
+fn long_number(rest: Rest<'_>) -> Option<(&[u8], Number<u64>, Rest<'_>)>
+    ensures { MatchOption result (fields_left rest.entry ≡ []) (λ x. (fields_left rest.entry ≡ x.0.now ∷ fields_left x.2) × TellsNumber (2 ^ 64) x.1 (number_of x.0.now)) }
+{
+    let (field, after) = next_field(rest)?;
+    Some((field, number_in(field), after))
+}
+
 /// The next field, the number that it should be, and what is left behind it.
+#[inline(always)]
 pub(crate) fn next_number(rest: Rest<'_>) -> Option<(&[u8], Number<u64>, Rest<'_>)>
     ensures { MatchOption result (fields_left rest.entry ≡ []) (λ x. (fields_left rest.entry ≡ x.0.now ∷ fields_left x.2) × TellsNumber (2 ^ 64) x.1 (number_of x.0.now)) }
 {
     if let Some((field, number, after)) = short_number(rest?) {
         return Some((field, Number::Value(number), after));
     }
-    let (field, after) = next_field(rest)?;
-    Some((field, number_in(field), after))
+    long_number(rest)
 }
