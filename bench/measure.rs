@@ -1,11 +1,12 @@
-//! Runs a command with its standard output thrown away, and prints its wall seconds and its peak resident memory in
-//! kilobytes: the least seconds of a number of rounds.
+//! Runs a command with its standard output thrown away, and prints its wall seconds, its peak resident memory in kilobytes
+//! and its processor seconds: of a number of rounds the one with the least wall seconds, and the greatest memory.
 //!
 //!     measure ROUNDS COMMAND WORDS..
 use std::process::{Command, Stdio};
 use std::time::Instant;
 
-/// What `wait4` tells of a child that ended: two times, then the peak resident memory, then what isn't read here.
+/// What `wait4` tells of a child that ended: its own time and the system's for it, each in seconds and microseconds, then the
+/// peak resident memory, then what isn't read here.
 #[repr(C)]
 struct Usage {
     times: [i64; 4],
@@ -20,7 +21,7 @@ extern "C" {
 fn main() {
     let words: Vec<String> = std::env::args().skip(1).collect();
     let rounds: u32 = words[0].parse().unwrap();
-    let (mut seconds, mut peak) = (f64::INFINITY, 0);
+    let (mut seconds, mut peak, mut processor) = (f64::INFINITY, 0, 0.0);
     for _ in 0..rounds {
         let start = Instant::now();
         let child = Command::new(&words[1]).args(&words[2..]).stdout(Stdio::null()).stderr(Stdio::null()).spawn().unwrap();
@@ -28,8 +29,13 @@ fn main() {
         // SAFETY: the layout is that of `struct rusage` on 64-bit Linux, and the child is waited for once.
         let waited = unsafe { wait4(child.id() as i32, std::ptr::null_mut(), 0, &mut usage) };
         assert!(waited > 0, "the child was not waited for");
-        seconds = seconds.min(start.elapsed().as_secs_f64());
+        let took = start.elapsed().as_secs_f64();
+        if took < seconds {
+            let [own, own_micros, system, system_micros] = usage.times;
+            seconds = took;
+            processor = (own + system) as f64 + (own_micros + system_micros) as f64 / 1e6;
+        }
         peak = peak.max(usage.peak);
     }
-    println!("{seconds:.3} {peak}");
+    println!("{seconds:.3} {peak} {processor:.3}");
 }

@@ -2,11 +2,16 @@
 //! it in an afternoon, nodes in an arena, the tree under `std::sync::Mutex`, one thread a worker. It reads the same
 //! scripts and writes the same reports as `hullbook run`, and proves nothing.
 //!
+//! A call waits by that mutex, or by a fair lock of the rival's own, which serves first come, first served as the program does.
+//!
 //!     rival run SCRIPT [--capacity N]      the report of a script
+//!     rival fair SCRIPT [--capacity N]     the same under the fair lock
 //!     rival read SCRIPT                    reads a script, and no more
 //!     rival parse JOURNAL                  splits each line of a journal and parses its numbers
+use std::cell::UnsafeCell;
 use std::fmt::Write as _;
 use std::io::Write as _;
+use std::sync::atomic::{AtomicU64, Ordering};
 use std::sync::Mutex;
 
 #[derive(Clone, Copy, PartialEq, Eq, PartialOrd, Ord)]
@@ -445,6 +450,56 @@ struct Book {
     capacity: usize,
 }
 
+impl Book {
+    fn serve(&mut self, call: Call) -> Reply {
+        if self.served == self.capacity {
+            return Reply::Full;
+        }
+        self.served += 1;
+        serve(&mut self.tree, call)
+    }
+}
+
+/// A lock that calls a function on the book, for one caller at a time.
+trait Lock: Sync {
+    fn with<T>(&self, work: impl FnOnce(&mut Book) -> T) -> T;
+}
+
+impl Lock for Mutex<Book> {
+    fn with<T>(&self, work: impl FnOnce(&mut Book) -> T) -> T {
+        work(&mut self.lock().unwrap())
+    }
+}
+
+/// A ticket lock (Mellor-Crummey and Scott, 1991): who waits looks a hundred times, and then yields between two looks.
+struct TicketLock {
+    next: AtomicU64,
+    served: AtomicU64,
+    book: UnsafeCell<Book>,
+}
+
+// SAFETY: the book is reached by `with` alone, from the turn of the caller's number to the store that ends it.
+unsafe impl Sync for TicketLock {}
+
+impl Lock for TicketLock {
+    fn with<T>(&self, work: impl FnOnce(&mut Book) -> T) -> T {
+        let number = self.next.fetch_add(1, Ordering::Relaxed);
+        let mut looks = 0;
+        while self.served.load(Ordering::Acquire) != number {
+            if looks < 100 {
+                looks += 1;
+                std::hint::spin_loop();
+            } else {
+                std::thread::yield_now();
+            }
+        }
+        // SAFETY: this number is served, and no other is before the store below.
+        let result = work(unsafe { &mut *self.book.get() });
+        self.served.store(number + 1, Ordering::Release);
+        result
+    }
+}
+
 fn read(text: &str) -> Vec<Vec<Vec<Call>>> {
     let mut phases = vec![vec![Vec::new()]];
     for line in text.lines() {
@@ -516,29 +571,16 @@ fn show(out: &mut String, worker: usize, call: Call, reply: &Reply) {
     };
 }
 
-fn run(text: &str, capacity: usize) {
-    let phases = read(text);
-    let workers = phases.iter().map(Vec::len).max().unwrap();
-    let book = Mutex::new(Book {
-        tree: Tree { nodes: Vec::new(), free: Vec::new(), root: None, count: 0, limit: 1 << 20 },
-        served: 0,
-        capacity,
-    });
+/// Has each worker make its calls of each phase in a thread of its own.
+fn perform(phases: &[Vec<Vec<Call>>], workers: usize, lock: &impl Lock) -> Vec<Vec<Reply>> {
     let mut answers: Vec<Vec<Reply>> = (0..workers).map(|_| Vec::new()).collect();
-    for phase in &phases {
+    for phase in phases {
         std::thread::scope(|scope| {
             for (calls, kept) in phase.iter().zip(answers.iter_mut()) {
-                let book = &book;
                 kept.reserve(calls.len());
                 let mut work = move || {
                     for call in calls {
-                        let mut held = book.lock().unwrap();
-                        if held.served == held.capacity {
-                            kept.push(Reply::Full);
-                        } else {
-                            held.served += 1;
-                            kept.push(serve(&mut held.tree, *call));
-                        }
+                        kept.push(lock.with(|book| book.serve(*call)));
                     }
                 };
                 if workers == 1 {
@@ -549,6 +591,20 @@ fn run(text: &str, capacity: usize) {
             }
         });
     }
+    answers
+}
+
+fn run(text: &str, capacity: usize, is_fair: bool) {
+    let phases = read(text);
+    let workers = phases.iter().map(Vec::len).max().unwrap();
+    let tree = Tree { nodes: Vec::new(), free: Vec::new(), root: None, count: 0, limit: 1 << 20 };
+    let book = Book { tree, served: 0, capacity };
+    let answers = if is_fair {
+        let lock = TicketLock { next: AtomicU64::new(0), served: AtomicU64::new(0), book: UnsafeCell::new(book) };
+        perform(&phases, workers, &lock)
+    } else {
+        perform(&phases, workers, &Mutex::new(book))
+    };
     let mut out = String::new();
     for (worker, kept) in answers.iter().enumerate() {
         let calls = phases.iter().flat_map(|phase| phase.get(worker).into_iter().flatten());
@@ -581,8 +637,10 @@ fn parse(text: &str) {
 fn main() {
     let words: Vec<String> = std::env::args().skip(1).collect();
     let text = std::fs::read_to_string(&words[1]).unwrap();
+    let capacity = || words.get(3).map_or(65536, |n| n.parse().unwrap());
     match words[0].as_str() {
-        "run" => run(&text, words.get(3).map_or(65536, |n| n.parse().unwrap())),
+        "run" => run(&text, capacity(), false),
+        "fair" => run(&text, capacity(), true),
         "read" => println!("{} phases", read(&text).len()),
         _ => parse(&text),
     }

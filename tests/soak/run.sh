@@ -1,25 +1,34 @@
 #!/bin/sh
-# A soak: runs the built program on scripts drawn by chance, of 2, 4, 16 and 64 workers over all calls and many phases,
+# A soak: runs the built program on scripts drawn by chance, of 2, 5, 16 and 64 workers over all calls, short and long ones,
 # and has their journals checked. `run.sh ROUNDS [SEED]` draws so many scripts of each kind, from that seed on; without
 # words it is one round, which the gate runs. The last line but one says how many calls were made; the last line counts,
-# and the status is not 0 where something else came.
+# and the status is not 0 where something else came. A run that has not ended after LIMIT seconds hangs, and is said so.
 #
-# Of each script it runs both forms. Of the report: each worker's calls stand in the order of the script, each ledger
-# counts its worker's calls, and the sum is that of all. Of the journal: `check` finds it legal, it has a line for each
-# call, and each worker's lines are its calls in the order of the script.
+# Of each number of workers there are two scripts: one of some long phases, and one of a thousand short ones. Of each script it
+# runs the report. Of the report: each worker's calls stand in the order of the script, each ledger counts its worker's
+# calls, and the sum is that of all. Of the first script the journal too: `check` finds it legal, it has a line for each call,
+# and each worker's lines are its calls in the order of the script.
+#
+# Then each script runs once more under a shim that holds threads up at random round their sleeps and wake-ups (delay.c), and
+# its report is judged the same way. There at least half of 64 workers have to go to sleep a hundred times each.
 set -u
 here=$(cd "$(dirname "$0")" && pwd)
 top=$(cd "$here/../.." && pwd)
 rounds=${1:-1}
 seed=${2:-1}
 program=${HULLBOOK:-$top/bin/hullbook}
+limit=${LIMIT:-120}
 room=$(mktemp -d)
 trap 'rm -rf "$room"' EXIT
 "$program" >/dev/null 2>&1 # builds the program where it is not built for this commit
+[ -n "${HULLBOOK:-}" ] || program=$top/crates/hullbook/out/hullbook
+kit=$(dirname "$(rt doc)")
+"$kit/toolchain/bin/clang" --target=x86_64-unknown-linux-gnu -O1 -fPIC -shared -nostdlib -fuse-ld=lld \
+    -Wno-incompatible-library-redeclaration -o "$room/delay.so" "$here/delay.c" || exit 1
 
-# A script of so many workers, drawn by Park and Miller's generator (1988) from the seed.
+# A script of so many workers, phases and calls, drawn by Park and Miller's generator (1988) from the seed.
 script() {
-    awk -v workers="$1" -v seed="$2" -v phases=20 -v calls=4000 '
+    awk -v workers="$1" -v seed="$2" -v phases="$3" -v calls="$4" '
         function draw(n) { seed = (seed * 16807) % 2147483647; return seed % n }
         function near() { return draw(41) - 20 }
         function far() { return draw(2000001) - 1000000 }
@@ -59,34 +68,73 @@ same() {
     cmp -s "$1" "$2" && echo ok || diff "$1" "$2" | head -n 2 | tr '\n' ' '
 }
 
+# runs the program on words, and says where it hangs or fails: NAME WORDS..
+run() {
+    name=$1
+    shift
+    timeout -k 1 "$limit" "$@" >"$room/output" 2>"$room/error"
+    status=$?
+    case $status in
+    0) ;;
+    124 | 137) said "$name" "HANGS: it has not ended after $limit seconds" ;;
+    *) said "$name" "status $status: $(cat "$room/error")" ;;
+    esac
+}
+
+# judges the report of a script: NAME WORKERS
+judge() {
+    grep -v '^ledger\|^sum' "$room/output" | sed 's/ = .*//' >"$room/told"
+    said "$1, answers" "$(same "$room/told" "$room/calls")"
+    grep '^ledger' "$room/output" >"$room/told"
+    awk -v workers="$2" '{ count[$1]++ } END { for (k = 0; k < workers; k++) print "ledger " k " " count[k] + 0 }' \
+        "$room/calls" >"$room/wanted"
+    said "$1, ledgers" "$(same "$room/told" "$room/wanted")"
+    sum=$(tail -n 1 "$room/output")
+    [ "$sum" = "sum $calls journal $calls capacity 65536" ] && said "$1, sum" ok || said "$1, sum" "$sum"
+    made=$((made + calls))
+}
+
+# judges the journal of a script: NAME
+judge_journal() {
+    mv "$room/output" "$room/journal"
+    verdict=$("$program" check "$room/journal" 2>&1)
+    [ "$verdict" = legal ] && said "$1, check" ok || said "$1, check" "$verdict"
+    grep ' = ' "$room/journal" | sed 's/^[0-9]* //; s/ = .*//' | sort -s -n -k 1,1 >"$room/told"
+    said "$1, journal" "$(same "$room/told" "$room/calls")"
+    made=$((made + calls))
+}
+
+# whether at least half of 64 workers went to sleep a hundred times each, by what the shim told
+slept_enough() {
+    sleepers=$(od -An -tu1 -w1 -v "$room/sleeps" | sort -n | uniq -c | awk '$1 >= 100' | wc -l)
+    [ "$sleepers" -ge 32 ] && echo ok || echo "only $sleepers workers went to sleep a hundred times"
+}
+
 made=0
-# tries WORKERS SEED
+# tries WORKERS SEED PHASES CALLS
 try() {
-    name="seed $2, $1 workers"
-    script "$1" "$2" >"$room/script"
+    name="seed $2, $1 workers, $3 phases"
+    script "$1" "$2" "$3" "$4" >"$room/script"
     grep -v '^join' "$room/script" | sort -s -n -k 1,1 >"$room/calls"
     calls=$(($(wc -l <"$room/calls")))
-    "$program" run "$room/script" >"$room/report" 2>"$room/told" || said "$name, report" "$(cat "$room/told")"
-    grep -v '^ledger\|^sum' "$room/report" | sed 's/ = .*//' >"$room/told"
-    said "$name, answers" "$(same "$room/told" "$room/calls")"
-    grep '^ledger' "$room/report" >"$room/told"
-    awk -v workers="$1" '{ count[$1]++ } END { for (k = 0; k < workers; k++) print "ledger " k " " count[k] + 0 }' \
-        "$room/calls" >"$room/wanted"
-    said "$name, ledgers" "$(same "$room/told" "$room/wanted")"
-    sum=$(tail -n 1 "$room/report")
-    [ "$sum" = "sum $calls journal $calls capacity 65536" ] && said "$name, sum" ok || said "$name, sum" "$sum"
-    "$program" run "$room/script" --journal >"$room/journal" 2>"$room/told" || said "$name, journal" "$(cat "$room/told")"
-    verdict=$("$program" check "$room/journal" 2>&1)
-    [ "$verdict" = legal ] && said "$name, check" ok || said "$name, check" "$verdict"
-    grep ' = ' "$room/journal" | sed 's/^[0-9]* //; s/ = .*//' | sort -s -n -k 1,1 >"$room/told"
-    said "$name, journal" "$(same "$room/told" "$room/calls")"
-    made=$((made + 2 * calls))
+    run "$name, report" "$program" run "$room/script"
+    judge "$name" "$1"
+    if [ "$3" -lt 100 ]; then
+        run "$name, journal" "$program" run "$room/script" --journal
+        judge_journal "$name"
+    fi
+    run "$name, delayed" env LD_PRELOAD="$room/delay.so" "$program" run "$room/script" 9>"$room/sleeps"
+    judge "$name, delayed" "$1"
+    if [ "$1" = 64 ] && [ "$3" -lt 100 ]; then
+        said "$name, sleeps" "$(slept_enough)"
+    fi
 }
 
 round=0
 while [ "$round" -lt "$rounds" ]; do
-    for workers in 2 4 16 64; do
-        try "$workers" $((seed + round))
+    for workers in 2 5 16 64; do
+        try "$workers" $((seed + round)) 4 16000
+        try "$workers" $((seed + round)) 1000 12000
     done
     round=$((round + 1))
 done

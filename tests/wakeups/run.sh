@@ -1,0 +1,81 @@
+#!/bin/sh
+# Shows that no wake-up of the lock is lost, and that a lock that loses one is found: the tests of `ticket_lock` run, unproved,
+# on copies of the crate in which each step of going to sleep and of waking is held up for some twenty microseconds, so
+# that steps of other threads fall between. The right order has to end; each wrong one has to hang, and is killed after
+# LIMIT seconds (30 where none is given). No contract can say what is tried here: every one of these bodies keeps them all.
+# It stands beside the gate, which has no time for the hangs; the last line counts, and the status is not 0 where
+# something else came.
+set -u
+here=$(cd "$(dirname "$0")" && pwd)
+top=$(cd "$here/../.." && pwd)
+limit=${1:-30}
+room=$(mktemp -d)
+trap 'rm -rf "$room"' EXIT
+crate=$room/crates/ticket_lock
+mkdir -p "$crate"
+cp "$top/HANDLES" "$room/"
+grep '^ticket_lock[ :]' "$top/crates.txt" >"$room/crates.txt"
+
+passed=0
+failed=0
+# the nap, and the lines round which the copies are built
+nap='for _ in 0..4000 { std::hint::spin_loop(); }'
+announces='^ *let announced = self.sleepers.announce(number);$'
+waits='^ *announced.wait(rt);$'
+wakes='^ *lock.sleepers.wake_at(next);$'
+stores='^ *shared.store::<plays::HandOn>'
+
+# a copy of the crate as it stands, with naps before the last look and before the sleep, and between the store and the wake-up
+copy() {
+    rm -rf "$crate/src" "$crate/out"
+    cp -r "$top/crates/ticket_lock/src" "$crate/"
+    for line in "$announces" "$waits"; do
+        grep -q "$line" "$crate/src/enter.rt" || echo "enter.rt has no line $line"
+    done
+    for line in "$wakes" "$stores"; do
+        grep -q "$line" "$crate/src/guard.rt" || echo "guard.rt has no line $line"
+    done
+    sed -i "s/$announces/& $nap/; s/$waits/$nap &/" "$crate/src/enter.rt"
+    sed -i "s/$wakes/$nap &/" "$crate/src/guard.rt"
+}
+
+# runs the tests of the copy: NAME, and whether they have to end or to hang
+try() {
+    (cd "$crate" && timeout -k 1 300 rt try --test --seconds "$limit") >"$room/told" 2>&1
+    if grep -q '^test result: ok' "$room/told"; then
+        came=end
+    elif grep -q '^run=no-answer' "$room/told"; then
+        came=hang
+    else
+        came="neither: $(grep -m 1 'error\|FAILED' "$room/told")"
+    fi
+    if [ "$came" = "$2" ]; then
+        echo "$1: ok, they $came"
+        passed=$((passed + 1))
+    else
+        echo "$1: they have to $2, and $came"
+        failed=$((failed + 1))
+    fi
+}
+
+copy
+try 'the lock as it stands' end
+
+# the wait is announced after the last look
+copy
+sed -i "/$announces/d; s/^ *\(for .*\) \(announced.wait(rt);\)$/\1 let announced = self.sleepers.announce(number); \2/" "$crate/src/enter.rt"
+sed -i "/let announced = self.sleepers.announce(number); for/d" "$crate/src/enter.rt"
+try 'announced after the last look' hang
+
+# who hands on wakes before it stores
+copy
+sed -i "/lock.sleepers.wake_at(next);/d; s/$stores/lock.sleepers.wake_at(next); $nap &/" "$crate/src/guard.rt"
+try 'woken before the store' hang
+
+# nobody is woken
+copy
+sed -i "/lock.sleepers.wake_at(next);/d" "$crate/src/guard.rt"
+try 'nobody is woken' hang
+
+echo "$passed passed, $failed failed"
+[ "$failed" -eq 0 ]
