@@ -22,7 +22,7 @@ failed=0
 nap='for _ in 0..4000 { std::hint::spin_loop(); }'
 announces='^ *let announced = self.sleepers.announce(number);$'
 waits='^ *announced.wait(rt);$'
-wakes='^ *lock.sleepers.wake_at(next);$'
+wakes='^ *lock.sleepers.wake(next);$'
 stores='^ *shared.store::<plays::HandOn>'
 
 # a copy of the crate as it stands, with naps before the last look and before the sleep, and between the store and the wake-up
@@ -69,12 +69,12 @@ try 'announced after the last look' hang
 
 # who hands on wakes before it stores
 copy
-sed -i "/lock.sleepers.wake_at(next);/d; s/$stores/lock.sleepers.wake_at(next); $nap &/" "$crate/src/guard.rt"
+sed -i "/lock.sleepers.wake(next);/d; s/$stores/lock.sleepers.wake(next); $nap &/" "$crate/src/guard.rt"
 try 'woken before the store' hang
 
 # nobody is woken
 copy
-sed -i "/lock.sleepers.wake_at(next);/d" "$crate/src/guard.rt"
+sed -i "/lock.sleepers.wake(next);/d" "$crate/src/guard.rt"
 try 'nobody is woken' hang
 
 echo "$passed passed, $failed failed"

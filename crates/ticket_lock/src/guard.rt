@@ -23,8 +23,7 @@ impl<'a, B: Chronicle> Guard<'a, B> {
     ghost use Rattle.ticket_lock.specs.World.{memo, HandsOn};
     ghost use Rattle.ticket_lock.specs.Tokens.{guard_lock, guard_seat, guard_number, guard_seen, guard_book, opening_book, KeepsHead, IsSeatOf, seat_number, seat_seen};
 
-    /// Gives the book back, and the next number is served; then the seats that wait for it, or for the number two behind it,
-    /// are woken where they sleep. The seat that comes back has seen the lines handed on.
+    /// Gives the book back, and the next number is served; then the seat that waits for it is woken, if it sleeps. The seat that comes back has seen the lines handed on.
     ///
     /// It asks that the book is lawful, that its head is that at opening, that its turn is one more than the number
     /// served, and that its lines are those at entry and one line of this seat with this number, or those at entry
@@ -48,7 +47,7 @@ impl<'a, B: Chronicle> Guard<'a, B> {
         let None = left else { unreachable!() };
         let next = number.wrapping_add(1);
         shared.store::<plays::HandOn>(&mut place, (next % 8) as usize + 1, next);
-        lock.sleepers.wake_at(next);
+        lock.sleepers.wake(next);
         Seat {
             place,
             number: seat,
