@@ -1,6 +1,27 @@
 //! A ticket lock round a book that keeps a chronicle (Mellor-Crummey and Scott, 1991), in a form with eight grant words.
 //!
 //! Each call of a seat is one atomic step on one word. What the lock promises is said over every order of such steps.
+//!
+//! # A worked example
+//!
+//! Two seats sign a roll, the example of a book in `roll.rt`:
+//!
+//! ```
+//! let roll = Roll::blank(alloc, 64, 0)?;
+//! let Ok((lock, mut seats)) = TicketLock::open(alloc, roll, 2) else { return refused };
+//! let seat = seats.pop().unwrap();
+//! let number = seat.number();
+//! let mut guard = lock.enter(rt, seat); // takes a number, and waits until it is served
+//! let roll = guard.book(); // the book, lent
+//! roll.lines.push_reserved(Signature { seat: number, number: roll.turn });
+//! roll.turn = roll.turn.wrapping_add(1);
+//! seats.push_reserved(guard.hand_on()); // the next number is served
+//! let roll = lock.close(seats); // with all seats, at the end
+//! ```
+//!
+//! What `hand_on` asks of the book, and what `enter` tells of it, are their contracts: one line more, in this seat's name and
+//! with its number. A thread that may not wait has the same in two steps, `take` and `look`. `Chronicle` is what a type has
+//! to be to stand under the lock.
 #![tactic(auto)]
 
 mod book;
