@@ -1,6 +1,7 @@
 //! One phase: a lock is opened round the book, the workers run, and the lock is closed.
-ghost use Rattle.std.specs.Prelude.{◌≡◌, ◌≤◌, [], OnOk, OnErr, Err, All, box_value, vec_len, vec_capacity};
+ghost use Rattle.std.specs.Prelude.{◌≡◌, ◌≤◌, [], IfOk, IfErr, OnOk, OnErr, Err, All, box_value, vec_len, vec_capacity};
 ghost use Rattle.ticket_lock.specs.Tokens.{seat_count, opening_book, IsSeatOf, AreNumbered, seat_seen};
+ghost use Rattle.hull_book.specs.Books.{IsLawful};
 ghost use Rattle.hull_pool.specs.Answers.{shown_workers};
 ghost use Rattle.hull_pool.specs.Crews.{book_head};
 ghost use Rattle.hull_pool.specs.Work.{workers_of};
@@ -34,6 +35,13 @@ pub struct PhaseEnd<S: HullSet + Drop> {
     pub workers: Workers,
     /// Whether all was run; else the phase that was refused was not run at all.
     pub ended: Result<(), PoolFault>,
+}
+
+/// What a phase needs beside its workers: a lock round the book, its seats, and room for a crew.
+struct SetUp<S: HullSet + Drop> {
+    lock: BookLock<S>,
+    seats: Vec<BookSeat<S>>,
+    crew: Vec<Worker<Box<Book<S>>>>,
 }
 
 /// Runs the workers over the phase under a lock that was opened for them, and closes it.
@@ -73,6 +81,34 @@ fn refused<S: HullSet + Drop>(book: Book<S>, workers: Workers) -> PhaseEnd<S>
     }
 }
 
+/// A lock round the book, its seats, and room for a crew. The book comes back where memory was refused.
+fn set_up<S: HullSet + Drop>(alloc: Global, book: Book<S>) -> Result<SetUp<S>, Book<S>>
+    requires lawful { IsLawful S.HullSet book }
+    ensures lock { IfOk result (λ r. (box_value (opening_book r.lock) ≡ book) × (seat_count r.lock ≡ workers_of book)) }
+    ensures crew { IfOk result (λ r. (r.crew.items ≡ []) × (vec_len r.seats ≤ vec_capacity r.crew)) }
+    ensures seats { IfOk result (λ r. (1 ≤ vec_len r.seats) × (vec_len r.seats ≡ seat_count r.lock) × (vec_len r.seats ≤ vec_capacity r.seats) × All (IsSeatOf book_head r.lock) r.seats.items × AreNumbered r.seats.items × All (λ s. seat_seen s ≡ book.lines) r.seats.items) }
+    ensures back { IfErr result (λ b. b ≡ book) }
+{
+    let workers = book.workers();
+    let Ok(crew) = Vec::with_capacity(alloc, usize::from(workers)) else {
+        return Err(book);
+    };
+    let boxed = match Box::new(alloc, book) {
+        Ok(boxed) => boxed,
+        Err(back) => {
+            crew.destroy_empty();
+            return Err(back.value);
+        }
+    };
+    match TicketLock::open(alloc, boxed, workers) {
+        Ok((lock, seats)) => Ok(SetUp { lock, seats, crew }),
+        Err((_, boxed)) => {
+            crew.destroy_empty();
+            Err(Box::into_inner(boxed))
+        }
+    }
+}
+
 /// Runs the workers over one phase of calls: a lock with a seat for each worker is opened round the book, the workers
 /// run, each in a thread of its own where the system starts that many, and the lock is closed.
 ///
@@ -89,23 +125,9 @@ pub fn run_phase<R: Threads + Wait + Sync, S: HullSet + Drop + Send + Sync, G: G
     ensures ran { OnOk result.ended (HasRunPhase S.HullSet book workers phase.now result.book result.workers) }
     ensures refused { OnErr result.ended ((result.book ≡ book) × (result.workers ≡ workers)) }
 {
-    let seats = book.workers();
-    let Ok(mut crew) = Vec::with_capacity(alloc, usize::from(seats)) else {
-        return refused(book, workers);
-    };
-    let boxed = match Box::new(alloc, book) {
-        Ok(boxed) => boxed,
-        Err(back) => {
-            crew.destroy_empty();
-            return refused(back.value, workers);
-        }
-    };
-    let (lock, mut places) = match TicketLock::open(alloc, boxed, seats) {
+    let SetUp { lock, seats, crew } = match set_up(alloc, book) {
         Ok(made) => made,
-        Err((_, boxed)) => {
-            crew.destroy_empty();
-            return refused(Box::into_inner(boxed), workers);
-        }
+        Err(book) => return refused(book, workers),
     };
     let Workers {
         mut answers,
@@ -114,7 +136,7 @@ pub fn run_phase<R: Threads + Wait + Sync, S: HullSet + Drop + Send + Sync, G: G
     let boxed = run_locked(
         rt,
         lock,
-        places,
+        seats,
         &mut answers,
         &mut ledgers,
         crew,
