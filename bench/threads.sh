@@ -1,17 +1,19 @@
 #!/bin/sh
 # Threads: the built program beside the rival under std's mutex, which serves whoever runs, and under a fair lock of the
 # rival's own, which serves first come, first served as the program's does. For 1, 2, 4, 8, 16 and 64 workers it prints wall
-# and processor seconds of each, the ratios of wall times, and the program's processor time over that of one worker.
+# and processor seconds of each, the ratios of wall times, and the program's processor time over that of the fewest workers.
 #
-#     threads.sh [CALLS [ROUNDS [BUSY [KINDS]]]]
+#     threads.sh [CALLS [ROUNDS [BUSY [KINDS [WORKERS]]]]]
 #
 # CALLS calls in all (60000), made from a seed; the least of ROUNDS rounds taken in turn (3), beside BUSY processes that spin
-# (none); scripts of KINDS ("small churn mixed"; see generate.rs). A run is stopped after 20 s, and stands as 20.
+# (none); scripts of KINDS ("small churn mixed"; see generate.rs) for each of WORKERS. A run is stopped after 20 s, and stands
+# as 20.
 . "$(dirname "$0")/tools.sh"
 calls=${1:-60000}
 rounds=${2:-3}
 busy=${3:-0}
 kinds=${4:-small churn mixed}
+counts=${5:-1 2 4 8 16 64}
 
 spinning=
 trap 'rm -rf "$room"; [ -z "$spinning" ] || kill $spinning' EXIT
@@ -29,7 +31,7 @@ least() {
 echo "kind    workers   program (processor)   mutex (processor)    fair (processor)   of mutex   of fair   processor of one"
 for kind in $kinds; do
     one=
-    for workers in 1 2 4 8 16 64; do
+    for workers in $counts; do
         "$room/generate" "$kind" "$calls" "$workers" 7 >"$room/script"
         rm -f "$room"/*.times
         left=$rounds

@@ -3,14 +3,20 @@
 //!
 //! # A book shared by threads of one's own
 //!
-//! 1. `Book::open` (crate `hull_book`) makes a book round an empty set, and a ledger for each worker.
-//! 2. `TicketLock::open` (crate `ticket_lock`) makes a lock round the book, boxed, and a seat for each worker.
-//! 3. Each thread has the seat and the ledger of one worker. [`make_call`] waits for the book, has a call served and
-//!    hands the book on: `let (seat, answer) = make_call(rt, &lock, seat, number, call, &mut ledger);`.
-//! 4. When all threads are joined, [`close_book`] closes the lock with all seats and gathers the ledgers: it gives back
-//!    the book, whose `into_journal` gives the journal, and how many calls have their line.
+//! ```
+//! let Ok((book, ledgers)) = Book::open(alloc, HullTree::new(alloc, 1000), 0, 64, 2) else { return refused };
+//! let Ok((lock, seats)) = TicketLock::open(alloc, Box::new(alloc, book)?, 2) else { return refused };
+//! // in the thread of worker 0, with seat 0 and ledger 0; the other thread does so with number 1
+//! let (seat, answer) = make_call(rt, &lock, seat, 0, Call::Add(point), &mut ledger);
+//! // when both are joined, with the seats and the ledgers in the order of their numbers
+//! let (book, count) = close_book(lock, seats, ledgers);
+//! let journal = book.into_journal();
+//! ```
 //!
-//! The test `two_threads_share_a_book` does so from the opening to the end.
+//! `Book::open` (crate `hull_book`) makes a book round an empty set, and a ledger for each worker. `TicketLock::open` (crate
+//! `ticket_lock`) makes a lock round the book, boxed, and a seat for each worker. [`make_call`] waits for the book, has a
+//! call served and hands the book on. [`close_book`] closes the lock and gathers the ledgers: it gives back the book, and how
+//! many calls have their line. The test `two_threads_share_a_book` does all of it.
 //!
 //! # A whole script
 //!
