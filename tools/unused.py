@@ -34,7 +34,7 @@ def main(crates):
         own = Counter(WORD.findall(text))
         for name in dict.fromkeys(DECLARED.findall(text)):
             is_answer = path.name in ("Answers.antt", "Invariants.antt", "Proof.antt")
-            lines = len(re.findall(rf"^ *(?:pub |abbrev |unfoldable )*{re.escape(name)}(?= )", text, re.M))
+            lines = len(re.findall(rf"^ *(?:pub |abbrev |unfoldable )*{re.escape(name)}(?= .*(?: = | =$| : ))", text, re.M))
             if not is_answer and everywhere[name] == own[name] and own[name] <= lines:
                 print(f"{'/'.join(parts)}: nothing names {name}")
         body = IMPORT.sub("", text)

@@ -31,10 +31,6 @@ better_irrefl : (d p : Pair) → ¬ (IsBetter d p p)
 better_irrefl d p (inl h) = omega (arith, ints)
 better_irrefl d p (inr h) = before_irrefl p h.1
 
--- the first point is the best of the first alone
-pub best_first : (S : List Pair) (d : Pair) → 0 < length S → (e : Pair) → IsBestOf (take 1 S) d (get_or S 0 e)
-best_first S d l e = All-more (λ u. ¬ (IsBetter d u (get_or S 0 e))) S 0 e l (λ k f lt. absurd (omega arith)) (better_irrefl d _)
-
 -- a point that is not better leaves the best as it is
 pub best_stays : (S : List Pair) (d b : Pair) (i : ℕ) (x : Pair) → i < length S → IsBestOf (take i S) d b → x ≡ get_or S i x → ¬ (IsBetter d x b) → IsBestOf (take (i + 1) S) d b
 best_stays S d b i x l h e n = All-more (λ u. ¬ (IsBetter d u b)) S i x l h (λ k. n (subst (λ (z : Pair). IsBetter d z b) (sym e) k))

@@ -5,10 +5,10 @@ use Rattle.std.specs.List.Sorted.{IsPartitionPoint, IsPartitionedBy}
 use Rattle.std.proofs.lemmas.Bool.{cases_lt}
 use Rattle.std.proofs.lemmas.List.{get_or-drop, get_or-take}
 use Rattle.std.proofs.lemmas.List.Elements.{All-weaker, All-cons, All-head}
-use Rattle.lattice.specs.Covers.{IsPointSet, is_before, with_point, without_point}
+use Rattle.lattice.specs.Covers.{IsPointSet, is_before, with_point}
 use Rattle.lattice.specs.Plane.{Pair, IsBefore}
 use Rattle.hull_plain.specs.Positions.{IsPositionOf}
-use Rattle.hull_plain.proofs.ChangedSets.{set-insert, with_point-at, without_point-at, absent_between}
+use Rattle.hull_plain.proofs.ChangedSets.{with_point-at, absent_between}
 use Rattle.lattice.proofs.Order.{before_trans, before_irrefl, before_total, is_before-true, is_before-holds, is_before-fails}
 use Rattle.hull_plain.proofs.PointLists.{AllPairs-head, AllPairs-tail, get_or_free, cut, cut_at}
 
@@ -42,22 +42,9 @@ found_contains S p i h = (i, h.0, h.1 p)
 pub found_absent : (S : List Pair) (p : Pair) (i : ℕ) → IsPositionOf S p (Err i) → ¬ (Contains S p)
 found_absent S p i h m = absent_between p (take i S) (drop i S) h.1 h.2 (subst (λ (z : List Pair). Contains z p) (cut S i h.0) m)
 
--- with p put in its position the list is still in order
-pub inserted_set : (S : List Pair) (p : Pair) (i : ℕ) → IsPositionOf S p (Err i) → IsPointSet S → IsPointSet (take i S ++ p ∷ drop i S)
-inserted_set S p i h s = set-insert p (take i S) (drop i S) (subst IsPointSet (cut S i h.0) s) h.1 h.2
-
 -- and it is S with p
 pub inserted_is : (S : List Pair) (p : Pair) (i : ℕ) → IsPositionOf S p (Err i) → take i S ++ p ∷ drop i S ≡ with_point p S
 inserted_is S p i h = sym (ap (with_point p) (cut S i h.0) ∙ with_point-at p (take i S) (drop i S) h.1 h.2)
-
--- with the point at its position taken out the list is S without it
-pub removed_is : (S : List Pair) (p : Pair) (i : ℕ) → IsPositionOf S p (Ok i) → take i S ++ drop (suc i) S ≡ without_point p S
-removed_is S p i h =
-    sym (ap (without_point p) (cut_at S i p h.0 ∙ ap (λ (z : Pair). take i S ++ z ∷ drop (suc i) S) (h.1 p)) ∙ without_point-at p (take i S) (drop (suc i) S) h.2)
-
--- all points stand before p: its position is the end
-pub place_at_end : (S : List Pair) (p : Pair) (i : ℕ) → i ≡ length S → All (λ t. IsBefore t p) (take i S) → IsPositionOf S p (Err i)
-place_at_end S p i e h = (omega arith, h, λ k d l. absurd (omega (arith, length-drop i S)))
 
 -- the first point that is not before p stands after it: p is not there
 pub place_before : (S : List Pair) (p : Pair) (i : ℕ) (x : Pair) → IsPointSet S → i < length S → All (λ t. IsBefore t p) (take i S) → All (λ t. ¬ (IsBefore t p)) (drop i S) → x ≡ get_or S i x → IsBefore p x → IsPositionOf S p (Err i)

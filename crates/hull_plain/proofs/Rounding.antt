@@ -18,10 +18,6 @@ use Rattle.lattice.proofs.LineCrossings.{orient_start}
 use Rattle.hull_plain.proofs.PointLists.{AllPairs-cons, AllPairs-none, get_or_free, append_none, append_twice}
 use Rattle.hull_plain.proofs.VertexLists.{chain_push, end_push, vertex_list}
 
--- the walk along the lower chain begins
-pub lower_start : (S : List Pair) → IsLowerWalk S [] 0
-lower_start S = record { chain = tt; ends = refl; reached = λ t m. absurd (omega (arith, m.1)) }
-
 -- one more lower edge
 pub lower_more : (S passed : List Pair) (i j : ℕ) → IsLowerWalk S passed i → IsLowerEdge S (point_at S i) (point_at S j) → IsLowerWalk S (passed ++ point_at S j ∷ []) j
 lower_more S passed i j w e =

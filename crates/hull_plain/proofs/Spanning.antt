@@ -446,10 +446,6 @@ pub none_of : (xs : List Pair) → length xs ≡ 0 → xs ≡ []
 none_of [] e = refl
 none_of (x ∷ xs) e = absurd (omega arith)
 
--- a set in order spans itself
-pub spans_itself : (S : List Pair) → IsPointSet S → IsSpannedBy S S
-spans_itself S o = record { ordered = o; among = λ t m. m; covered = λ t m. Member m }
-
 -- what spans a part that spans a set spans the set
 pub spans_through : {S K C : List Pair} → IsSpannedBy S K → IsSpannedBy K C → IsSpannedBy S C
 spans_through a b = record { ordered = b.ordered; among = λ t m. a.among t (b.among t m); covered = λ t m. covers_back b t (a.covered t m) }
