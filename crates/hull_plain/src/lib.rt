@@ -1,8 +1,22 @@
 //! Sets of lattice points that answer questions about their convex hull: what such a set promises, and a plain one.
 //!
 //! [`HullSet`] is the promise: each call answers by the allowed-reply relation of `specs/Replies.antt`, which speaks of
-//! the set of live points alone. [`PlainSet`] keeps it with a sorted list and slow questions: it is what faster sets are
-//! compared with, and what a checker replays on.
+//! the set of live points alone. [`PlainSet`] keeps it with an ordered set of std and plain questions, which pass over the
+//! few points that span the set: it is what faster sets are compared with, and what a checker replays on.
+//!
+//! # A worked example
+//!
+//! ```
+//! let mut set = PlainSet::new(alloc, 1000); // at most 1000 points
+//! for (x, y) in [(0, 0), (4, 0), (2, 3), (2, 1)] {
+//!     assert!(set.add(Point::new(x, y)?) == AddReply::Added);
+//! }
+//! assert!(set.extreme(Direction::new(0, 1)?) == Some(Point::new(2, 3)?));
+//! assert!(set.place(Point::new(2, 1)?) == Place::Inside);
+//! assert!(set.area2() == 12); // the doubled area
+//! assert!(set.vertices()?.len() == 3); // counterclockwise from the first: (0, 0), (4, 0), (2, 3)
+//! assert!(set.remove(Point::new(2, 3)?) == RemoveReply::Removed);
+//! ```
 #![tactic(auto)]
 
 mod around;

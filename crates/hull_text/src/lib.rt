@@ -1,8 +1,17 @@
 //! Scripts, journals and reports as texts.
 //!
 //! A script is read by `read_script`, a journal by `read_journal`, from a counted reader; `write_journal` and
-//! `write_report` write to a counted writer; `upgrade` writes a journal of an older version in the newest. A text that is no script or journal has a `TextFault`: what is wrong with it,
-//! and in which line.
+//! `write_report` write to a counted writer; `upgrade` writes a journal of an older version in the newest. A text that is no
+//! script or journal has a `TextFault`: what is wrong with it, and in which line.
+//!
+//! # A worked example
+//!
+//! ```
+//! let mut input = Counted::new(file); // any `Read`
+//! let journal = read_journal(alloc, &mut input)?; // `fault.line` and `fault.kind()` where it is none
+//! let mut output = Counted::new(device); // any `Write`
+//! write_journal(&journal, &mut output)?; // in the newest version, whatever the version read
+//! ```
 #![tactic(auto)]
 
 mod fault;

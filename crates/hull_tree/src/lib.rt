@@ -4,6 +4,21 @@
 //! A [`Node`] is one point, or a fork: two halves with all points of the one before all points of the other, and the
 //! upper and the lower bridge between them. A change renews the bridges of the forks above its place and of those that
 //! a rotation makes, and of no others.
+//!
+//! # A worked example, for one thread
+//!
+//! ```
+//! let mut tree = HullTree::new(alloc, 1000); // at most 1000 points
+//! for (x, y) in [(0, 0), (4, 0), (2, 3), (2, 1)] {
+//!     assert!(tree.add(Point::new(x, y)?) == AddReply::Added); // `NoMemory` leaves the tree as it was
+//! }
+//! assert!(tree.tangents(Point::new(6, 0)?) == Some((Point::new(0, 0)?, Point::new(2, 3)?))); // left, and right
+//! assert!(tree.place(Point::new(2, 0)?) == Place::On);
+//! assert!(tree.vertices()?.len() == 3 && tree.area2() == 12);
+//! ```
+//!
+//! The questions are those of the trait `HullSet` (crate `hull_plain`), each O(log n) but for `vertices` and `area2`. Many
+//! threads share a tree by the crate `hull_pool`.
 #![tactic(auto)]
 
 mod build;

@@ -3,6 +3,15 @@
 //! A coordinate is a whole number of at most [`COORDINATE_LIMIT`] in size. Nothing here rounds, wraps or asks for
 //! memory: each comparison is its formula over whole numbers of any size (`specs/Plane.antt`).
 //! `specs/` also has the definitions of a convex hull that all crates above stand on.
+//!
+//! # A worked example
+//!
+//! ```
+//! let (a, b, c) = (Point::new(0, 0)?, Point::new(4, 0)?, Point::new(2, 3)?); // an error where a coordinate is too large
+//! assert!(before(a, c) && before(c, b)); // by x, and then by y
+//! assert!(orient(a, b, c) == 12); // c lies left of the line from a to b; twice the area of the triangle
+//! assert!(product(Direction::new(0, 1)?, c) == 3); // how far c lies up
+//! ```
 #![tactic(auto)]
 
 mod compare;

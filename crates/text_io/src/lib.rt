@@ -1,4 +1,13 @@
 //! Readers and writers that count their failures, and writing a text piece by piece. `testing` has devices for tests.
+//!
+//! # A worked example
+//!
+//! ```
+//! let mut out = Counted::new(device); // any `Write`
+//! put(&mut out, b"count = ")?; // all of the piece went out, or a beginning of it with one failure more
+//! let done = number_after(Ok(()), &mut out, 17);
+//! flush_after(done, &mut out)?;
+//! ```
 #![tactic(auto)]
 
 mod counted;
