@@ -1,5 +1,6 @@
 ghost use Rattle.std.specs.Prelude.{◌<◌, ◌-◌, ◌^◌};
 
+use super::testing::{Pieces, Spout};
 use super::*;
 use std::io::{BufWriter, Read, Write};
 use std::test::Fail;
