@@ -1,5 +1,5 @@
 -- A set of points covers a point, or a line has the whole set strictly on one side and the point on the other.
-use Rattle.std.proofs.Common.{◌≡◌, pos, ◌≤ℤ◌, ◌<ℤ◌, ◌⊎◌, inl, inr, refl, sym, ap, subst, List, arith, suc, [], ◌∷◌, ◌++◌}
+use Rattle.std.proofs.Common.{◌≡◌, ℤ, pos, ◌≤ℤ◌, ◌<ℤ◌, ◌⊎◌, inl, inr, refl, sym, ap, subst, List, arith, suc, [], ◌∷◌, ◌++◌}
 use Rattle.std.proofs.lemmas.Int.{ints}
 use Rattle.std.specs.List.{All, Contains}
 use Rattle.std.proofs.lemmas.List.Elements.{All-contains, All-weaker, All-cons, All-head, All-tail, Contains-append_left, Contains-append_right}
@@ -42,49 +42,35 @@ module _ (B : Pair → Pair → Type 0) (irreflexive : (x : Pair) → ¬ (B x x)
         | inr n ↦ (r.0, there t r.0 (x ∷ xs) r.1, All-cons (λ u. ¬ (B u r.0)) t (x ∷ xs) n r.2)
       ]
 
--- whether a point is more to the right can be told
-right_told : (q t r : Pair) → IsMoreRight q t r ⊎ ¬ (IsMoreRight q t r)
-right_told q t r =
-    elim (le_or_lt (orient q t r) (pos 0)) [
+-- whether a turn is above 0, or is 0 and a number below another, can be told
+turn_told : (turn near far : ℤ) → ((pos 0 <ℤ turn) ⊎ ((turn ≡ pos 0) × (near <ℤ far))) ⊎ ¬ ((pos 0 <ℤ turn) ⊎ ((turn ≡ pos 0) × (near <ℤ far)))
+turn_told turn near far =
+    elim (le_or_lt turn (pos 0)) [
       | inr h ↦ inl (inl h)
-      | inl h ↦ elim (le_or_lt (distance_squared q t) (distance_squared q r)) [
-        | inl k ↦ inr (no_more h k)
-        | inr k ↦ elim (le_or_lt (pos 0) (orient q t r)) [
+      | inl h ↦ elim (le_or_lt far near) [
+        | inl k ↦ inr (no_less h k)
+        | inr k ↦ elim (le_or_lt (pos 0) turn) [
           | inl m ↦ inl (inr (omega (arith, ints), k))
           | inr m ↦ inr (turns_away m)
         ]
       ]
     ]
   where
-    no_more : orient q t r ≤ℤ pos 0 → distance_squared q t ≤ℤ distance_squared q r → ¬ (IsMoreRight q t r)
-    no_more h k (inl b) = omega (arith, ints)
-    no_more h k (inr b) = omega (arith, ints, b.1)
+    no_less : turn ≤ℤ pos 0 → far ≤ℤ near → ¬ ((pos 0 <ℤ turn) ⊎ ((turn ≡ pos 0) × (near <ℤ far)))
+    no_less h k (inl b) = omega (arith, ints)
+    no_less h k (inr b) = omega (arith, ints, b.1)
 
-    turns_away : orient q t r <ℤ pos 0 → ¬ (IsMoreRight q t r)
+    turns_away : turn <ℤ pos 0 → ¬ ((pos 0 <ℤ turn) ⊎ ((turn ≡ pos 0) × (near <ℤ far)))
     turns_away h (inl b) = omega (arith, ints)
     turns_away h (inr b) = omega (arith, ints, b.0)
+
+-- whether a point is more to the right can be told
+right_told : (q t r : Pair) → IsMoreRight q t r ⊎ ¬ (IsMoreRight q t r)
+right_told q t r = turn_told (orient q t r) (distance_squared q r) (distance_squared q t)
 
 -- whether a point is more to the left can be told
 left_told : (q t l : Pair) → IsMoreLeft q t l ⊎ ¬ (IsMoreLeft q t l)
-left_told q t l =
-    elim (le_or_lt (orient q l t) (pos 0)) [
-      | inr h ↦ inl (inl h)
-      | inl h ↦ elim (le_or_lt (distance_squared q t) (distance_squared q l)) [
-        | inl k ↦ inr (no_more h k)
-        | inr k ↦ elim (le_or_lt (pos 0) (orient q l t)) [
-          | inl m ↦ inl (inr (omega (arith, ints), k))
-          | inr m ↦ inr (turns_away m)
-        ]
-      ]
-    ]
-  where
-    no_more : orient q l t ≤ℤ pos 0 → distance_squared q t ≤ℤ distance_squared q l → ¬ (IsMoreLeft q t l)
-    no_more h k (inl b) = omega (arith, ints)
-    no_more h k (inr b) = omega (arith, ints, b.1)
-
-    turns_away : orient q l t <ℤ pos 0 → ¬ (IsMoreLeft q t l)
-    turns_away h (inl b) = omega (arith, ints)
-    turns_away h (inr b) = omega (arith, ints, b.0)
+left_told q t l = turn_told (orient q l t) (distance_squared q l) (distance_squared q t)
 
 -- the points before q, q where it is there, and the points after it
 pub record Parted (S : List Pair) (q : Pair) : Type 0 where
