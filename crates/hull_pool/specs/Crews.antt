@@ -23,7 +23,7 @@ team make _ _ _ = []
 module _ {B H L : Type 0} where
   -- the worker with this seat, these answers and this ledger
   abbrev pub worker_of : Seat B H L → Vec Answer Global → LedgerValue → Worker B H L
-  worker_of s a l = record { number = seat_number s; seat = Some s; ledger = l; answers = a }
+  worker_of s a l = record { number = seat_number s; seat = Some s; ledger = l; answers = a; apart = tt }
 
 -- a book over such a set on the heap, as contracts see it
 abbrev pub Boxed : Type 0 → Type 0

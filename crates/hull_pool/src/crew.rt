@@ -3,6 +3,7 @@ ghost use Rattle.std.specs.Prelude.{◌≡◌, ◌+◌, ◌<◌, ◌≤◌, ℕ,
 ghost use Rattle.ticket_lock.specs.Tokens.{seat_number};
 ghost use Rattle.hull_pool.specs.Crews.{team, worker_of};
 
+use super::apart::Apart;
 use super::worker::Worker;
 use hull_book::{Answer, Ledger};
 use ticket_lock::{Chronicle, Seat};
@@ -29,6 +30,7 @@ pub(crate) fn hire<B: Chronicle>(
             seat: Some(seat),
             ledger: ledgers.pop().unwrap(),
             answers: answers.pop().unwrap(),
+            apart: Apart::new(),
         });
     }
 }
@@ -54,6 +56,7 @@ pub(crate) fn dismiss<B: Chronicle>(
             seat,
             ledger,
             answers: given,
+            apart: _,
         } = worker;
         seats.push_reserved(seat.unwrap());
         answers.push_reserved(given);

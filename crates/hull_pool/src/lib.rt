@@ -25,6 +25,7 @@
 //! in `specs/Scripts.antt`, of a script.
 #![tactic(auto)]
 
+mod apart;
 mod call;
 mod close;
 mod crew;

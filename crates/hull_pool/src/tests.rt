@@ -246,6 +246,9 @@ fn three_workers_fifty_times(rt: HostRuntime) -> Result<(), Fail> {
         for answers in &end.answers {
             assert_eq!(rt; answers.len(), 6);
             assert!(rt; answers[0] == Ok(Reply::Added) && answers[2] == Ok(Reply::Removed));
+            // All three put the same point in and take it out: each of them is counted.
+            assert!(rt; matches!(answers[3], Ok(Reply::Added | Reply::Again(2 | 3))));
+            assert!(rt; matches!(answers[5], Ok(Reply::Removed | Reply::Left(1 | 2))));
         }
         for (k, line) in end.journal.lines().iter().enumerate() {
             assert_eq!(rt; line.number, round + k as u64);

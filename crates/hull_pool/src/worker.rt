@@ -4,6 +4,7 @@ ghost use Rattle.std.specs.List.{AllZip};
 ghost use Rattle.ticket_lock.specs.Tokens.{opening_book};
 ghost use Rattle.hull_pool.specs.Crews.{IsReady, HasRun};
 
+use super::apart::Apart;
 use super::call::{BookLock, make_call};
 use super::gate::Gate;
 use hull_book::{Answer, Book, Ledger, Phase};
@@ -13,12 +14,14 @@ use std::thread;
 use std::thread::Threads;
 use ticket_lock::{Chronicle, Seat};
 
-/// A worker of a phase. Its seat is there whenever it does not work.
+/// A worker of a phase. Its seat is there whenever it does not work. The workers of a crew lie in one list, and each writes
+/// its ledger while it holds the book and its answers after: none of that is on a line of another's.
 pub(crate) struct Worker<B: Chronicle> {
     pub(crate) number: u8,
     pub(crate) seat: Option<Seat<B>>,
     pub(crate) ledger: Ledger,
     pub(crate) answers: Vec<Answer>,
+    pub(crate) apart: Apart,
 }
 
 /// Makes the worker's calls of the phase in their order, with the gate round each.
