@@ -37,7 +37,8 @@ type Edge = (Point, Point);
 
 #[derive(Clone, Copy)]
 enum Node {
-    Leaf(Point),
+    /// A point, and how often it is held.
+    Leaf(Point, u32),
     Fork { upper: Edge, lower: Edge, first: Point, last: Point, height: u32, left: u32, right: u32 },
 }
 
@@ -51,6 +52,9 @@ fn crosses_at_or_before(s1: i128, a: Point, b: Point, c: Point, d: Point, m: Poi
     if s > 0 { (x, y) <= (0, 0) } else { (x, y) >= (0, 0) }
 }
 
+/// How often a point is held at most.
+const MULTIPLICITY_LIMIT: u32 = 65535;
+
 struct Tree {
     nodes: Vec<Node>,
     free: Vec<u32>,
@@ -62,28 +66,28 @@ struct Tree {
 impl Tree {
     fn first(&self, n: u32) -> Point {
         match &self.nodes[n as usize] {
-            Node::Leaf(p) => *p,
+            Node::Leaf(p, _) => *p,
             Node::Fork { first, .. } => *first,
         }
     }
 
     fn last(&self, n: u32) -> Point {
         match &self.nodes[n as usize] {
-            Node::Leaf(p) => *p,
+            Node::Leaf(p, _) => *p,
             Node::Fork { last, .. } => *last,
         }
     }
 
     fn height(&self, n: u32) -> u32 {
         match &self.nodes[n as usize] {
-            Node::Leaf(_) => 0,
+            Node::Leaf(..) => 0,
             Node::Fork { height, .. } => *height,
         }
     }
 
     fn halves(&self, n: u32) -> (u32, u32) {
         match &self.nodes[n as usize] {
-            Node::Leaf(_) => unreachable!(),
+            Node::Leaf(..) => unreachable!(),
             Node::Fork { left, right, .. } => (*left, *right),
         }
     }
@@ -92,11 +96,11 @@ impl Tree {
         let m = self.first(w);
         loop {
             match (&self.nodes[u as usize], &self.nodes[w as usize]) {
-                (Node::Leaf(p), Node::Leaf(q)) => return (*p, *q),
-                (Node::Leaf(p), Node::Fork { upper: (c, d), left, right, .. }) => {
+                (Node::Leaf(p, _), Node::Leaf(q, _)) => return (*p, *q),
+                (Node::Leaf(p, _), Node::Fork { upper: (c, d), left, right, .. }) => {
                     w = if orient(*p, *c, *d) >= 0 { *right } else { *left };
                 }
-                (Node::Fork { upper: (a, b), left, right, .. }, Node::Leaf(q)) => {
+                (Node::Fork { upper: (a, b), left, right, .. }, Node::Leaf(q, _)) => {
                     u = if orient(*a, *b, *q) >= 0 { *left } else { *right };
                 }
                 (Node::Fork { upper: (a, b), left: ul, right: ur, .. }, Node::Fork { upper: (c, d), left: wl, right: wr, .. }) => {
@@ -120,11 +124,11 @@ impl Tree {
         let m = self.last(u);
         loop {
             match (&self.nodes[u as usize], &self.nodes[w as usize]) {
-                (Node::Leaf(p), Node::Leaf(q)) => return (*p, *q),
-                (Node::Fork { lower: (a, b), left, right, .. }, Node::Leaf(q)) => {
+                (Node::Leaf(p, _), Node::Leaf(q, _)) => return (*p, *q),
+                (Node::Fork { lower: (a, b), left, right, .. }, Node::Leaf(q, _)) => {
                     u = if orient(*q, *b, *a) >= 0 { *left } else { *right };
                 }
-                (Node::Leaf(p), Node::Fork { lower: (c, d), left, right, .. }) => {
+                (Node::Leaf(p, _), Node::Fork { lower: (c, d), left, right, .. }) => {
                     w = if orient(*d, *c, *p) >= 0 { *right } else { *left };
                 }
                 (Node::Fork { lower: (a, b), left: ul, right: ur, .. }, Node::Fork { lower: (c, d), left: wl, right: wr, .. }) => {
@@ -192,10 +196,12 @@ impl Tree {
         self.join(n, left, right)
     }
 
-    fn has(&self, mut n: u32, p: Point) -> bool {
+    /// The leaf of a point.
+    fn leaf_of(&self, p: Point) -> Option<u32> {
+        let mut n = self.root?;
         loop {
             match &self.nodes[n as usize] {
-                Node::Leaf(q) => return *q == p,
+                Node::Leaf(q, _) => return if *q == p { Some(n) } else { None },
                 Node::Fork { left, right, .. } => n = if p < self.first(*right) { *left } else { *right },
             }
         }
@@ -203,9 +209,9 @@ impl Tree {
 
     fn insert(&mut self, n: u32, p: Point) -> u32 {
         match self.nodes[n as usize] {
-            Node::Leaf(q) => {
-                let leaf = self.put(Node::Leaf(p));
-                let fork = self.put(Node::Leaf(p));
+            Node::Leaf(q, _) => {
+                let leaf = self.put(Node::Leaf(p, 1));
+                let fork = self.put(Node::Leaf(p, 1));
                 if p < q { self.join(fork, leaf, n) } else { self.join(fork, n, leaf) }
             }
             Node::Fork { left, right, .. } => {
@@ -222,7 +228,7 @@ impl Tree {
 
     fn take(&mut self, n: u32, p: Point) -> Option<u32> {
         match self.nodes[n as usize] {
-            Node::Leaf(_) => {
+            Node::Leaf(..) => {
                 self.free.push(n);
                 None
             }
@@ -242,12 +248,19 @@ impl Tree {
     }
 
     fn add(&mut self, p: Point) -> Reply {
+        if let Some(leaf) = self.leaf_of(p) {
+            let Node::Leaf(_, times) = &mut self.nodes[leaf as usize] else { unreachable!() };
+            if *times == MULTIPLICITY_LIMIT {
+                return Reply::TooMany;
+            }
+            *times += 1;
+            return Reply::Again(*times);
+        }
         match self.root {
-            Some(root) if self.has(root, p) => return Reply::Already,
             _ if self.count == self.limit => return Reply::TooMany,
             Some(root) => self.root = Some(self.insert(root, p)),
             None => {
-                let leaf = self.put(Node::Leaf(p));
+                let leaf = self.put(Node::Leaf(p, 1));
                 self.root = Some(leaf);
             }
         }
@@ -256,21 +269,23 @@ impl Tree {
     }
 
     fn remove(&mut self, p: Point) -> Reply {
-        match self.root {
-            Some(root) if self.has(root, p) => {
-                self.root = self.take(root, p);
-                self.count -= 1;
-                Reply::Removed
-            }
-            _ => Reply::Absent,
+        let Some(leaf) = self.leaf_of(p) else { return Reply::Absent };
+        let Node::Leaf(_, times) = &mut self.nodes[leaf as usize] else { unreachable!() };
+        if *times > 1 {
+            *times -= 1;
+            return Reply::Left(*times);
         }
+        let root = self.root.expect("a leaf stands below the root");
+        self.root = self.take(root, p);
+        self.count -= 1;
+        Reply::Removed
     }
 
     fn extreme(&self, d: Point) -> Option<Point> {
         let mut n = self.root?;
         loop {
             match &self.nodes[n as usize] {
-                Node::Leaf(p) => return Some(*p),
+                Node::Leaf(p, _) => return Some(*p),
                 Node::Fork { upper, lower, left, right, .. } => {
                     let (p, q) = if d.y > 0 { *upper } else { *lower };
                     n = if product(d, q) <= product(d, p) { *left } else { *right };
@@ -415,9 +430,10 @@ enum Call {
 
 enum Reply {
     Added,
-    Already,
+    Again(u32),
     TooMany,
     Removed,
+    Left(u32),
     Absent,
     Farthest(Point),
     Empty,
@@ -547,9 +563,10 @@ fn show(out: &mut String, worker: usize, call: Call, reply: &Reply) {
     };
     let _ = match reply {
         Reply::Added => writeln!(out, "added"),
-        Reply::Already => writeln!(out, "already"),
+        Reply::Again(times) => writeln!(out, "again {times}"),
         Reply::TooMany => writeln!(out, "toomany"),
         Reply::Removed => writeln!(out, "removed"),
+        Reply::Left(times) => writeln!(out, "left {times}"),
         Reply::Absent => writeln!(out, "absent"),
         Reply::Farthest(p) => writeln!(out, "point {} {}", p.x, p.y),
         Reply::Empty => writeln!(out, "empty"),

@@ -5,6 +5,7 @@
 #
 # grid       four workers put 20,000 points of a grid in at once, and take all but its frame out again
 # parabola   four workers put the 2,049 points (k, k * k) in, and all of them are vertices
+# origin     one worker puts a point in once more than it can be held
 set -u
 here=$(cd "$(dirname "$0")" && pwd)
 top=$(cd "$here/../.." && pwd)
@@ -76,6 +77,18 @@ parabola() {
         }'
 }
 
+# The same of `origin`.
+origin() {
+    awk -v answers="$1" -v most=65535 '
+        function say(call, answer) { print answers ? "0 " call " = " answer : "0 " call }
+        BEGIN {
+            say("add 0 0", "added")
+            for (n = 2; n <= most; n++) say("add 0 0", "again " n)
+            say("add 0 0", "toomany")
+            say("count", "count 1")
+        }'
+}
+
 passed=0
 failed=0
 said() {
@@ -87,25 +100,26 @@ said() {
     fi
 }
 
-# tries NAME: the answers of its report, its ledgers' sum, and that its journal is legal
+# tries NAME with a journal of this CAPACITY: the answers of its report, its ledgers' sum, and that its journal is legal
 try() {
     "$1" 0 >"$room/script"
     "$1" 1 >"$room/answers"
     calls=$(wc -l <"$room/answers")
-    "$top/bin/hullbook" run "$room/script" >"$room/report"
+    "$top/bin/hullbook" run "$room/script" --capacity "$2" >"$room/report"
     if grep -v '^ledger\|^sum' "$room/report" | cmp -s - "$room/answers"; then
         said "$1, answers" ok
     else
         said "$1, answers" "$(grep -v '^ledger\|^sum' "$room/report" | diff - "$room/answers" | head -n 4)"
     fi
     sum=$(tail -n 1 "$room/report")
-    [ "$sum" = "sum $calls journal $calls capacity 65536" ] && said "$1, sum" ok || said "$1, sum" "$sum"
-    "$top/bin/hullbook" run "$room/script" --journal >"$room/journal"
+    [ "$sum" = "sum $calls journal $calls capacity $2" ] && said "$1, sum" ok || said "$1, sum" "$sum"
+    "$top/bin/hullbook" run "$room/script" --capacity "$2" --journal >"$room/journal"
     verdict=$("$top/bin/hullbook" check "$room/journal" 2>&1)
     [ "$verdict" = legal ] && said "$1, journal" ok || said "$1, journal" "$verdict"
 }
 
-try grid
-try parabola
+try grid 65536
+try parabola 65536
+try origin 65537
 echo "$passed passed, $failed failed"
 [ "$failed" -eq 0 ]

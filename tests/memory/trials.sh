@@ -12,7 +12,7 @@
 #   whole        to nothing that is tried: to the list by which the trial looks at its set, or to the start of a thread
 #
 # A plain set grows by several points at once: its second add asks for nothing. A tree keeps its first point without a
-# box: its first add asks for nothing. The last line counts the refusals that were met and came in their stage, and the
+# box: its first add asks for nothing. An add of a live point asks for nothing in either. The last line counts the refusals that were met and came in their stage, and the
 # status is not 0 where something else came.
 #
 # To try another function, give it a trial (crates/memory_trials/src) and a line below.
@@ -83,6 +83,8 @@ try() {
 
 try plain_add refused whole
 try tree_add refused whole
+try plain_again set-up whole
+try tree_again set-up whole
 try plain_vertices set-up refused whole
 try tree_vertices set-up refused whole
 try plain_open refused

@@ -109,14 +109,14 @@ fn every_way_of_two_players_with_misses(rt: HostRuntime) -> Result<(), Fail> {
     Ok(())
 }
 
-/// All 9096 ways in which four players can make a call each with one miss at most.
+/// All 9096 ways in which four players can make a call each with one miss at most, where two put the same point in.
 #[test]
 fn every_way_of_four_players(rt: HostRuntime) -> Result<(), Fail> {
     let alloc = rt.alloc();
     let calls = [
-        Vec::from_array(alloc, [Call::Add(at(&rt, 0, 0))])?,
-        Vec::from_array(alloc, [Call::Add(at(&rt, 9, 0))])?,
         Vec::from_array(alloc, [Call::Add(at(&rt, 0, 9))])?,
+        Vec::from_array(alloc, [Call::Add(at(&rt, 0, 9))])?,
+        Vec::from_array(alloc, [Call::Remove(at(&rt, 0, 9))])?,
         Vec::from_array(alloc, [Call::Vertices])?,
     ];
     let game = Game {

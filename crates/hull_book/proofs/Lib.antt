@@ -1,4 +1,5 @@
 pub mod OneMore
 pub mod Counts
 pub mod Vertices
+pub mod Proper
 pub mod Disagreement

@@ -6,3 +6,4 @@ pub mod Ledgers
 pub mod Copies
 pub mod Verdicts
 pub mod Answers
+pub mod Laws

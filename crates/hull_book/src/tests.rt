@@ -1,5 +1,6 @@
 //! Books and journals by values, and memory that is refused.
-ghost use Rattle.std.specs.Prelude.{◌≡◌, ◌≤◌, ◌<◌, []};
+ghost use Rattle.std.specs.Prelude.{◌≡◌, ◌≤◌, ◌<◌};
+ghost use Rattle.hull_plain.specs.Held.{nothing_held};
 ghost use Rattle.hull_plain.specs.Sets.{plain_set};
 ghost use Rattle.hull_book.specs.Books.{IsLawful};
 ghost use Rattle.hull_book.specs.Ledgers.{AreLedgers};
@@ -8,7 +9,7 @@ use super::{
     Book, BookFault, CAPACITY_LIMIT, Call, CheckResult, Journal, JournalFull, Ledger, Line,
     PointList, Reply, check, gather,
 };
-use hull_plain::{AddReply, HullSet, POINT_LIMIT, Place, PlainSet};
+use hull_plain::{AddReply, HullSet, MULTIPLICITY_LIMIT, POINT_LIMIT, Place, PlainSet, Rules};
 use lattice::{Direction, Point};
 use std::alloc::Global;
 use std::process::Abort;
@@ -27,7 +28,7 @@ fn opened(
     capacity: u32,
     workers: u8,
 ) -> (Book<PlainSet>, Vec<Ledger>)
-    requires empty { ⟦<PlainSet as HullSet>⟧.points set ≡ [] }
+    requires empty { ⟦<PlainSet as HullSet>⟧.held set ≡ nothing_held }
     requires workers { (1 ≤ workers) × (workers ≤ 64) }
     ensures lawful { IsLawful plain_set result.0 }
     ensures ledgers { AreLedgers result.0 result.1.items }
@@ -83,6 +84,7 @@ fn capacity_two_by_values(rt: HostRuntime) -> Result<(), Fail> {
     assert_eq!(rt; lines.len(), 2);
     assert!(rt; lines[0].number == 7 && lines[0].seat == 1);
     assert!(rt; lines[1].number == 8 && lines[1].seat == 0);
+    assert_eq!(rt; journal.rules(), Rules::Counted);
     assert_eq!(rt; check(rt.alloc(), &journal), CheckResult::Legal);
     Ok(())
 }
@@ -115,16 +117,16 @@ fn opens_for_all_seats(rt: HostRuntime) -> Result<(), Fail> {
     Ok(())
 }
 
-// The journal of these values, which are within the limits.
+// The journal of these lines with the first number 0, which goes by the rules.
 fn journal_of<const N: usize>(
     alloc: Global,
-    first: u64,
     limit: u32,
     capacity: u32,
     lines: [Line; N],
+    rules: Rules,
 ) -> Result<Journal, Fail> {
     let lines = Vec::from_array(alloc, lines)?;
-    Ok(Journal::new(first, limit, capacity, lines).ok_or("beyond a limit")?)
+    Ok(Journal::new(0, limit, capacity, lines, rules).ok_or("beyond a limit")?)
 }
 
 #[test]
@@ -139,8 +141,101 @@ fn stored_refusal(rt: HostRuntime) -> Result<(), Fail> {
             Line::new(1, 0, add, Reply::Added),
             Line::new(2, 0, add, last),
         ];
-        let journal = journal_of(rt.alloc(), 0, 1, 4, lines)?;
+        let journal = journal_of(rt.alloc(), 1, 4, lines, Rules::Set)?;
         assert_eq!(rt; check(rt.alloc(), &journal), expected);
+    }
+    Ok(())
+}
+
+// A journal of a set is judged by the rules of a set: a point that was added twice is gone when it was removed once.
+#[test]
+fn each_journal_by_its_own_rules(rt: HostRuntime) -> Result<(), Fail> {
+    let p = at(5, 5)?;
+    for (rules, second, third, count, expected) in [
+        (
+            Rules::Set,
+            Reply::Already,
+            Reply::Removed,
+            0,
+            CheckResult::Legal,
+        ),
+        (
+            Rules::Set,
+            Reply::Already,
+            Reply::Removed,
+            1,
+            CheckResult::Illegal(3),
+        ),
+        (
+            Rules::Counted,
+            Reply::Again(2),
+            Reply::Left(1),
+            1,
+            CheckResult::Legal,
+        ),
+        (
+            Rules::Counted,
+            Reply::Again(2),
+            Reply::Left(1),
+            0,
+            CheckResult::Illegal(3),
+        ),
+    ] {
+        let lines = [
+            Line::new(0, 0, Call::Add(p), Reply::Added),
+            Line::new(1, 0, Call::Add(p), second),
+            Line::new(2, 0, Call::Remove(p), third),
+            Line::new(3, 0, Call::Count, Reply::PointCount(count)),
+        ];
+        let journal = journal_of(rt.alloc(), 1, 4, lines, rules)?;
+        assert_eq!(rt; check(rt.alloc(), &journal), expected);
+    }
+    Ok(())
+}
+
+#[test]
+fn a_wrong_multiplicity(rt: HostRuntime) -> Result<(), Fail> {
+    let p = at(5, 5)?;
+    for (second, third, expected) in [
+        (Reply::Again(3), Reply::Left(1), CheckResult::Illegal(1)),
+        (Reply::Added, Reply::Left(1), CheckResult::Illegal(1)),
+        (Reply::TooMany, Reply::Left(1), CheckResult::Illegal(1)),
+        (Reply::NoMemory, Reply::Left(1), CheckResult::Illegal(1)),
+        (Reply::Again(2), Reply::Left(2), CheckResult::Illegal(2)),
+        (Reply::Again(2), Reply::Removed, CheckResult::Illegal(2)),
+        (Reply::Again(2), Reply::Absent, CheckResult::Illegal(2)),
+        (Reply::Again(2), Reply::Left(1), CheckResult::Legal),
+    ] {
+        let lines = [
+            Line::new(0, 0, Call::Add(p), Reply::Added),
+            Line::new(1, 0, Call::Add(p), second),
+            Line::new(2, 0, Call::Remove(p), third),
+        ];
+        let journal = journal_of(rt.alloc(), 1, 4, lines, Rules::Counted)?;
+        assert_eq!(rt; check(rt.alloc(), &journal), expected);
+    }
+    Ok(())
+}
+
+// A journal takes the replies of its rules alone, with numbers that a multiplicity may be.
+#[test]
+fn replies_of_the_rules(rt: HostRuntime) -> Result<(), Fail> {
+    let add = Call::Add(at(1, 2)?);
+    for (rules, reply, expected) in [
+        (Rules::Set, Reply::Added, true),
+        (Rules::Set, Reply::Already, true),
+        (Rules::Set, Reply::Again(2), false),
+        (Rules::Set, Reply::Left(1), false),
+        (Rules::Counted, Reply::Added, true),
+        (Rules::Counted, Reply::Already, false),
+        (Rules::Counted, Reply::Again(MULTIPLICITY_LIMIT), true),
+        (Rules::Counted, Reply::Again(MULTIPLICITY_LIMIT + 1), false),
+        (Rules::Counted, Reply::Left(MULTIPLICITY_LIMIT), true),
+        (Rules::Counted, Reply::Left(MULTIPLICITY_LIMIT + 1), false),
+    ] {
+        let lines = Vec::from_array(rt.alloc(), [Line::new(0, 0, add, reply)])?;
+        let journal = Journal::new(0, 1, 1, lines, rules);
+        assert_eq!(rt; journal.is_some(), expected);
     }
     Ok(())
 }
@@ -148,7 +243,7 @@ fn stored_refusal(rt: HostRuntime) -> Result<(), Fail> {
 #[test]
 fn wrong_first_number(rt: HostRuntime) -> Result<(), Fail> {
     let lines = [Line::new(1, 0, Call::Count, Reply::PointCount(0))];
-    let journal = journal_of(rt.alloc(), 0, 1, 4, lines)?;
+    let journal = journal_of(rt.alloc(), 1, 4, lines, Rules::Counted)?;
     assert_eq!(rt; check(rt.alloc(), &journal), CheckResult::Illegal(0));
     Ok(())
 }
@@ -218,41 +313,54 @@ fn journal_limits(rt: HostRuntime) -> Result<(), Fail> {
     ] {
         let lines = [Line::new(9, seat, Call::Count, Reply::PointCount(0))];
         let lines = Vec::from_array(rt.alloc(), lines)?;
-        let journal = Journal::new(9, limit, capacity, lines);
+        let journal = Journal::new(9, limit, capacity, lines, Rules::Counted);
         assert_eq!(rt; journal.is_some(), expected, "{limit} {capacity} {seat}");
     }
     Ok(())
 }
 
+// The corners of a small square, one of them twice for a while.
+fn square_changes() -> Result<[(Call, Reply); 7], Fail> {
+    let last = at(2, 0)?;
+    Ok([
+        (Call::Add(at(0, 0)?), Reply::Added),
+        (Call::Add(at(2, 2)?), Reply::Added),
+        (Call::Add(at(0, 2)?), Reply::Added),
+        (Call::Remove(last), Reply::Absent),
+        (Call::Add(last), Reply::Added),
+        (Call::Add(last), Reply::Again(2)),
+        (Call::Remove(last), Reply::Left(1)),
+    ])
+}
+
+// Each of the questions about it.
+fn square_questions(alloc: Global, count: u32) -> Result<[(Call, Reply); 7], Fail> {
+    let (low, high) = (at(2, 0)?, at(2, 2)?);
+    let corners = [at(0, 0)?, low, high, at(0, 2)?];
+    let vertices = PointList::new(Vec::from_array(alloc, corners)?);
+    let right = Direction::new(1, 0)?;
+    let (middle, side, away) = (at(1, 1)?, at(2, 1)?, at(4, 1)?);
+    Ok([
+        (Call::Extreme(right), Reply::Farthest(low)),
+        (Call::Place(middle), Reply::Lies(Place::Inside)),
+        (Call::Place(side), Reply::Lies(Place::On)),
+        (Call::Tangents(away), Reply::TangentPoints(low, high)),
+        (Call::Vertices, Reply::VertexList(vertices)),
+        (Call::Area, Reply::DoubledArea(8)),
+        (Call::Count, Reply::PointCount(count)),
+    ])
+}
+
 // Each of the eight calls on a small square, as lines with the numbers from 0.
 fn square_lines(alloc: Global, count: u32) -> Result<Vec<Line>, Fail> {
-    let corners = [at(0, 0)?, at(2, 0)?, at(2, 2)?, at(0, 2)?];
-    let vertices = PointList::new(Vec::from_array(alloc, corners)?);
-    let lines = [
-        Line::new(0, 0, Call::Add(at(0, 0)?), Reply::Added),
-        Line::new(1, 0, Call::Add(at(2, 2)?), Reply::Added),
-        Line::new(2, 0, Call::Add(at(0, 2)?), Reply::Added),
-        Line::new(3, 0, Call::Remove(at(2, 0)?), Reply::Absent),
-        Line::new(4, 0, Call::Add(at(2, 0)?), Reply::Added),
-        Line::new(
-            5,
-            0,
-            Call::Extreme(Direction::new(1, 0)?),
-            Reply::Farthest(at(2, 0)?),
-        ),
-        Line::new(6, 0, Call::Place(at(1, 1)?), Reply::Lies(Place::Inside)),
-        Line::new(7, 0, Call::Place(at(2, 1)?), Reply::Lies(Place::On)),
-        Line::new(
-            8,
-            0,
-            Call::Tangents(at(4, 1)?),
-            Reply::TangentPoints(at(2, 0)?, at(2, 2)?),
-        ),
-        Line::new(9, 0, Call::Vertices, Reply::VertexList(vertices)),
-        Line::new(10, 0, Call::Area, Reply::DoubledArea(8)),
-        Line::new(11, 0, Call::Count, Reply::PointCount(count)),
-    ];
-    Ok(Vec::from_array(alloc, lines)?)
+    let mut lines = Vec::new(alloc);
+    for (call, reply) in square_changes()? {
+        lines.push(Line::new(lines.len() as u64, 0, call, reply))?;
+    }
+    for (call, reply) in square_questions(alloc, count)? {
+        lines.push(Line::new(lines.len() as u64, 0, call, reply))?;
+    }
+    Ok(lines)
 }
 
 #[test]
@@ -261,8 +369,8 @@ fn every_call_once(rt: HostRuntime) -> Result<(), Fail> {
     let journal = played(&rt, rt.alloc(), 0, 4, &lines);
     assert_eq!(rt; check(rt.alloc(), &journal), CheckResult::Legal);
     let altered = square_lines(rt.alloc(), 5)?;
-    let journal = Journal::new(0, 4, 16, altered).ok_or("beyond a limit")?;
-    assert_eq!(rt; check(rt.alloc(), &journal), CheckResult::Illegal(11));
+    let journal = Journal::new(0, 4, 16, altered, Rules::Counted).ok_or("beyond a limit")?;
+    assert_eq!(rt; check(rt.alloc(), &journal), CheckResult::Illegal(13));
     Ok(())
 }
 

@@ -1,7 +1,7 @@
 -- Each sentence of the headline, from the good world that every schedule leads to.
-use Rattle.std.proofs.Common.{◌≡◌, ◌+◌, ◌%◌, ◌^◌, ℕ, zero, suc, List, [], ◌∷◌, Some, subst, arith, length}
+use Rattle.std.proofs.Common.{◌≡◌, ◌+◌, ◌%◌, ◌^◌, ℕ, zero, suc, List, [], ◌∷◌, Some, ap, subst, arith, length}
 use Rattle.std.specs.Prelude.{slice_get}
-use Rattle.lattice.specs.Plane.{Pair}
+use Rattle.hull_plain.specs.Held.{Held, nothing_held}
 use Rattle.hull_plain.specs.Replies.{after}
 use Rattle.hull_book.specs.declared.head.Head.{Head}
 use Rattle.hull_book.specs.declared.line.Line.{Line}
@@ -11,14 +11,14 @@ use Rattle.hull_book.proofs.Counts.{all_counts}
 use Rattle.hull_tree.specs.Sets.{hull_tree}
 use Rattle.ticket_lock.specs.Forms.{partitioned_form}
 use Rattle.ticket_lock.specs.Schedule.{SchedulesHold}
-use Rattle.hull_headline.specs.Headline.{Always, WheneverFree, AtMostOneHolds, StoresBridgesOfLivePoints, HasLegalJournal, IsInOrderOfNumbers, LedgersSumToLength}
+use Rattle.hull_headline.specs.Headline.{Always, WheneverFree, AtMostOneHolds, StoresBridgesOfLivePoints, HoldsEachPointAsOften, HasLegalJournal, IsInOrderOfNumbers, LedgersSumToLength}
 
 -- the law of the lock, at a book over a tree
 abbrev pub Law : Type 0
 Law = SchedulesHold (says_book hull_tree) partitioned_form
 
 -- a right line has its number: of the lines that begin with line k, line i has the first number and k and i
-numbered : (head : Head) (k : ℕ) (S : List Pair) (lines : List Line) → AreRight head k S lines → (i : ℕ) (line : Line) → slice_get lines i ≡ Some line → line.number ≡ (head.first + (k + i)) % (2 ^ 64)
+numbered : (head : Head) (k : ℕ) (S : Held) (lines : List Line) → AreRight head k S lines → (i : ℕ) (line : Line) → slice_get lines i ≡ Some line → line.number ≡ (head.first + (k + i)) % (2 ^ 64)
 unfolding AreRight
 numbered head k S [] right i line e = cc
 numbered head k S (m ∷ lines) right zero line e = let same : m ≡ line = cc in subst (λ (l : Line). l.number ≡ (head.first + (k + 0)) % (2 ^ 64)) same (subst (λ (n : ℕ). m.number ≡ (head.first + n) % (2 ^ 64)) (omega arith) right.0.number)
@@ -30,7 +30,11 @@ one_holder law seats book opening now steps opened runs = (law seats book openin
 
 -- the stored bridges are those of the live points
 pub bridges : Law → WheneverFree StoresBridgesOfLivePoints
-bridges law seats book opening now steps opened runs free = let lawful = (law seats book opening now steps opened runs).0.lawful in (lawful.sound.built, lawful.set)
+bridges law seats book opening now steps opened runs free = let lawful = (law seats book opening now steps opened runs).0.lawful in (lawful.sound.built, ap (λ (h : Held). h.points) lawful.set)
+
+-- each point is held as often as the journal's calls left it
+pub multiplicities : Law → WheneverFree HoldsEachPointAsOften
+multiplicities law seats book opening now steps opened runs free = (law seats book opening now steps opened runs).0.lawful.set
 
 -- the journal is legal
 pub legal : Law → WheneverFree HasLegalJournal
@@ -40,7 +44,7 @@ legal law seats book opening now steps opened runs free = (law seats book openin
 pub in_order : Law → WheneverFree IsInOrderOfNumbers
 in_order law seats book opening now steps opened runs free k line at =
     subst (λ (n : ℕ). line.number ≡ (now.current.head.journal.first + n) % (2 ^ 64)) (omega arith)
-    (numbered now.current.head.journal 0 [] now.current.lines (law seats book opening now steps opened runs).0.lawful.legal k line at)
+    (numbered now.current.head.journal 0 nothing_held now.current.lines (law seats book opening now steps opened runs).0.lawful.legal k line at)
 
 -- the ledgers sum to its length
 pub ledgers : Law → WheneverFree LedgersSumToLength

@@ -3,7 +3,7 @@ use Rattle.std.specs.Prelude.{◌≡◌, ◌+◌, ◌%◌, ◌^◌, ℕ, true, L
 use Rattle.hull_book.specs.declared.head.BookHead.{BookHead}
 use Rattle.hull_book.specs.declared.line.Line.{Line}
 use Rattle.hull_book.specs.Books.{BookValue, says_book}
-use Rattle.hull_book.specs.History.{IsLegal, live}
+use Rattle.hull_book.specs.History.{IsLegal, held_after, live}
 use Rattle.hull_book.specs.Ledgers.{LedgerValue, AreAllLedgers, sum_of_counts}
 use Rattle.hull_tree.specs.Roots.{points_of_root, IsWellBuiltRoot}
 use Rattle.hull_tree.specs.Sets.{LimitedTree, hull_tree}
@@ -37,6 +37,10 @@ AtMostOneHolds now = (one other t u : ℕ) → Holds now one t → Holds now oth
 -- Each stored bridge is that of the points below it, and these are the live points: those that the journal's calls left.
 abbrev pub StoresBridgesOfLivePoints : TreeBook → Type 0
 StoresBridgesOfLivePoints book = IsWellBuiltRoot book.set.root × (points_of_root book.set.root ≡ live book.lines)
+
+-- Each point is held as often as the journal's calls left it.
+abbrev pub HoldsEachPointAsOften : TreeBook → Type 0
+HoldsEachPointAsOften book = hull_tree.held book.set ≡ held_after book.lines
 
 -- The journal is a legal history from the empty set.
 abbrev pub HasLegalJournal : TreeBook → Type 0

@@ -4,11 +4,12 @@
 //! > stored bridge is that of the live points below it, and the journal is a legal history from the empty set, its calls
 //! > in the order of their numbers. Once all ledgers are gathered, they sum to the journal's length.
 //!
-//! It is said of a lock (`ticket_lock`, in the form that runs) round a book (`hull_book`) over a tree (`hull_tree`), and
-//! over every list of single steps of its seats; `specs/Headline.antt` has each of its words.
+//! Beside that, whenever the lock is free each point is held as often as the journal's calls left it. It is said of a
+//! lock (`ticket_lock`, in the form that runs) round a book (`hull_book`) over a tree (`hull_tree`), and over every list
+//! of single steps of its seats; `specs/Headline.antt` has each of its words.
 #![tactic(auto)]
 
-ghost use Rattle.hull_headline.specs.Headline.{Always, WheneverFree, AtMostOneHolds, StoresBridgesOfLivePoints, HasLegalJournal, IsInOrderOfNumbers, LedgersSumToLength};
+ghost use Rattle.hull_headline.specs.Headline.{Always, WheneverFree, AtMostOneHolds, StoresBridgesOfLivePoints, HoldsEachPointAsOften, HasLegalJournal, IsInOrderOfNumbers, LedgersSumToLength};
 
 use hull_book::Book;
 use hull_tree::HullTree;
@@ -18,6 +19,7 @@ use ticket_lock::partitioned_schedules_hold;
 pub fn headline_holds()
     ensures one_holder { Always AtMostOneHolds }
     ensures bridges { WheneverFree StoresBridgesOfLivePoints }
+    ensures multiplicities { WheneverFree HoldsEachPointAsOften }
     ensures legal { WheneverFree HasLegalJournal }
     ensures in_order { WheneverFree IsInOrderOfNumbers }
     ensures ledgers { WheneverFree LedgersSumToLength }

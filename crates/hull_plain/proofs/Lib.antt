@@ -28,4 +28,7 @@ pub mod Decided
 pub mod Spanning
 pub mod ChainPasses
 pub mod Ends
-pub mod OrderedSets
+pub mod OrderedMaps
+pub mod Times
+pub mod Multiplicities
+pub mod PlainSets

@@ -1,12 +1,16 @@
 -- A call has one reply, but for want of memory.
-use Rattle.std.proofs.Common.{◌≡◌, ℕ, ℤ, pos, ◌≤ℤ◌, ◌<ℤ◌, neg_ℤ, ◌⊎◌, inl, inr, refl, sym, ap, ◌∙◌, subst, List, arith, ◌<◌, [], length, ◌≢◌}
+use Rattle.std.proofs.Common.{◌≡◌, ◌+◌, ◌≤◌, ℕ, ℤ, pos, ◌≤ℤ◌, ◌<ℤ◌, neg_ℤ, ◌⊎◌, inl, inr, refl, sym, ap, ◌∙◌, subst, List, arith, ◌<◌, [], length, ◌≢◌}
 use Rattle.std.specs.List.{Contains}
 use Rattle.std.proofs.lemmas.Int.{ints}
 use Rattle.std.proofs.lemmas.List.Elements.{All-contains}
 use Rattle.lattice.specs.Covers.{Covers, Member, OnSegment}
 use Rattle.lattice.specs.Plane.{Pair, orient, product, distance_squared, IsBefore}
 use Rattle.lattice.specs.Vertices.{IsVertexList, IsDoubledArea}
+use Rattle.hull_plain.specs.Held.{Held}
 use Rattle.hull_plain.specs.Laws.{AgreesWith}
+use Rattle.hull_plain.specs.declared.TheConstants.{MULTIPLICITY_LIMIT}
+use Rattle.hull_plain.specs.declared.rules.Rules.{Rules}
+use Rattle.hull_plain.specs.declared.rules.Rules.TheVariants.{Set, Counted}
 use Rattle.hull_plain.specs.Replies.{AnswersAdd, AnswersRemove, AnswersExtreme, LiesAt, AnswersPlace, AnswersTangents, AnswersVertices, AnswersArea, AnswersCount, Answers}
 use Rattle.hull_plain.specs.Tangents.{IsFirstFarthest, IsLeftTangent, IsRightTangent}
 use Rattle.hull_plain.proofs.CoveredByEdges.{on_segment}
@@ -19,7 +23,7 @@ use Rattle.hull_plain.specs.declared.call.Call.TheVariants.{Add, Remove, Extreme
 use Rattle.hull_plain.specs.declared.set.Place.{Place as WherePlaced}
 use Rattle.hull_plain.specs.declared.set.Place.TheVariants.{Inside, On, Outside}
 use Rattle.hull_plain.specs.declared.reply.Reply.{Reply}
-use Rattle.hull_plain.specs.declared.reply.Reply.TheVariants.{Added, Already, TooMany, NoMemory, Removed, Absent, Farthest, Empty, Lies, TangentPoints, NoTangent, VertexList, DoubledArea, PointCount}
+use Rattle.hull_plain.specs.declared.reply.Reply.TheVariants.{Added, Already, Again, TooMany, NoMemory, Removed, Left, Absent, Farthest, Empty, Lies, TangentPoints, NoTangent, VertexList, DoubledArea, PointCount}
 
 -- the first of the farthest points is one
 pub first_farthest_unique : (S : List Pair) (d t u : Pair) → IsFirstFarthest S d t → IsFirstFarthest S d u → t ≡ u
@@ -96,55 +100,109 @@ place_unique S q Outside Inside a b = absurd (a b.0)
 place_unique S q Outside On a b = absurd (a b.0)
 place_unique S q Outside Outside a b = refl
 
--- `add p` where p is there
-already : (S : List Pair) (limit : ℕ) (p : Pair) (r : Reply) → Contains S p → AnswersAdd S limit p r → AgreesWith Already r
-already S limit p Already a b = inl refl
-already S limit p TooMany a b = absurd (b.0 a)
-already S limit p Added a b = absurd (b.0 a)
-already S limit p NoMemory a b = absurd (b.0 a)
-already S limit p _ a b = absurd b
+-- true of the rules of a set alone
+IsOfSets : Rules → Type 0
+IsOfSets Set = Unit {0}
+IsOfSets Counted = ⊥
 
--- `add p` at the limit
-too_many : (S : List Pair) (limit : ℕ) (p : Pair) (r : Reply) → ¬ Contains S p → length S ≡ limit → AnswersAdd S limit p r → AgreesWith TooMany r
-too_many S limit p Already n e b = absurd (n b)
-too_many S limit p TooMany n e b = inl refl
-too_many S limit p Added n e b = absurd (omega (arith, b.1))
-too_many S limit p NoMemory n e b = inr (inr refl)
-too_many S limit p _ n e b = absurd b
+-- the two rules are two
+set_is_not_counted : Set ≡ Counted → ⊥
+unfolding IsOfSets
+set_is_not_counted e = subst IsOfSets e tt
 
--- `add p` below the limit
-added : (S : List Pair) (limit : ℕ) (p : Pair) (r : Reply) → ¬ Contains S p → length S < limit → AnswersAdd S limit p r → AgreesWith Added r
-added S limit p Already n e b = absurd (n b)
-added S limit p TooMany n e b = absurd (omega (arith, b.1))
-added S limit p Added n e b = inl refl
-added S limit p NoMemory n e b = inr (inr refl)
-added S limit p _ n e b = absurd b
+-- the rules are not both
+one_rule : (rules : Rules) → rules ≡ Set → rules ≡ Counted → ⊥
+one_rule Set a b = set_is_not_counted b
+one_rule Counted a b = set_is_not_counted (sym a)
+
+-- `add p` where points are not counted and p is there
+already : (held : Held) (limit : ℕ) (rules : Rules) (p : Pair) (r : Reply) → rules ≡ Set → Contains held.points p → AnswersAdd rules held limit p r → AgreesWith Already r
+already held limit rules p Added e a b = absurd (b.0 a)
+already held limit rules p NoMemory e a b = absurd (b.0 a)
+already held limit rules p Already e a b = inl refl
+already held limit rules p (Again n) e a b = absurd (one_rule rules e b.0)
+already held limit rules p TooMany e a (inl b) = absurd (b.0 a)
+already held limit rules p TooMany e a (inr b) = absurd (one_rule rules e b.0)
+already held limit rules p _ e a b = absurd b
+
+-- `add p` where points are counted and p is held less often than a point may be
+again : (held : Held) (limit : ℕ) (rules : Rules) (p : Pair) (n : ℕ) (r : Reply) → rules ≡ Counted → Contains held.points p → n ≡ held.times p + 1 → n ≤ MULTIPLICITY_LIMIT → AnswersAdd rules held limit p r → AgreesWith (Again n) r
+again held limit rules p n Added e a h l b = absurd (b.0 a)
+again held limit rules p n NoMemory e a h l b = absurd (b.0 a)
+again held limit rules p n Already e a h l b = absurd (one_rule rules b.0 e)
+again held limit rules p n (Again m) e a h l b = inl (ap Again (h ∙ sym b.2))
+again held limit rules p n TooMany e a h l (inl b) = absurd (b.0 a)
+again held limit rules p n TooMany e a h l (inr b) = absurd (omega (arith, h, l, b.2))
+again held limit rules p n _ e a h l b = absurd b
+
+-- `add p` of a new point at the limit
+full : (held : Held) (limit : ℕ) (rules : Rules) (p : Pair) (r : Reply) → ¬ Contains held.points p → length held.points ≡ limit → AnswersAdd rules held limit p r → AgreesWith TooMany r
+full held limit rules p Added n e b = absurd (omega (arith, e, b.1))
+full held limit rules p NoMemory n e b = inr (inr refl)
+full held limit rules p Already n e b = absurd (n b.1)
+full held limit rules p (Again m) n e b = absurd (n b.1)
+full held limit rules p TooMany n e b = inl refl
+full held limit rules p _ n e b = absurd b
+
+-- `add p` where points are counted and p is held as often as a point may be
+most : (held : Held) (limit : ℕ) (rules : Rules) (p : Pair) (r : Reply) → rules ≡ Counted → Contains held.points p → held.times p ≡ MULTIPLICITY_LIMIT → AnswersAdd rules held limit p r → AgreesWith TooMany r
+most held limit rules p Added e a h b = absurd (b.0 a)
+most held limit rules p NoMemory e a h b = absurd (b.0 a)
+most held limit rules p Already e a h b = absurd (one_rule rules b.0 e)
+most held limit rules p (Again n) e a h b = absurd (omega (arith, h, b.2, b.4))
+most held limit rules p TooMany e a h b = inl refl
+most held limit rules p _ e a h b = absurd b
+
+-- `add p` of a new point below the limit
+added : (held : Held) (limit : ℕ) (rules : Rules) (p : Pair) (r : Reply) → ¬ Contains held.points p → length held.points < limit → AnswersAdd rules held limit p r → AgreesWith Added r
+added held limit rules p Added n e b = inl refl
+added held limit rules p NoMemory n e b = inr (inr refl)
+added held limit rules p Already n e b = absurd (n b.1)
+added held limit rules p (Again m) n e b = absurd (n b.1)
+added held limit rules p TooMany n e (inl b) = absurd (omega (arith, e, b.1))
+added held limit rules p TooMany n e (inr b) = absurd (n b.1)
+added held limit rules p _ n e b = absurd b
 
 -- `add p`
-add_unique : (S : List Pair) (limit : ℕ) (p : Pair) (r s : Reply) → AnswersAdd S limit p r → AnswersAdd S limit p s → AgreesWith r s
-add_unique S limit p Already s a b = already S limit p s a b
-add_unique S limit p TooMany s a b = too_many S limit p s a.0 a.1 b
-add_unique S limit p Added s a b = added S limit p s a.0 a.1 b
-add_unique S limit p NoMemory s a b = inr (inl refl)
-add_unique S limit p _ s a b = absurd a
+add_unique : (held : Held) (limit : ℕ) (rules : Rules) (p : Pair) (r s : Reply) → AnswersAdd rules held limit p r → AnswersAdd rules held limit p s → AgreesWith r s
+add_unique held limit rules p Added s a b = added held limit rules p s a.0 a.1 b
+add_unique held limit rules p NoMemory s a b = inr (inl refl)
+add_unique held limit rules p Already s a b = already held limit rules p s a.0 a.1 b
+add_unique held limit rules p (Again n) s a b = again held limit rules p n s a.0 a.1 a.2 a.4 b
+add_unique held limit rules p TooMany s (inl a) b = full held limit rules p s a.0 a.1 b
+add_unique held limit rules p TooMany s (inr a) b = most held limit rules p s a.0 a.1 a.2 b
+add_unique held limit rules p _ s a b = absurd a
 
--- `remove p` where p is there
-removed : (S : List Pair) (p : Pair) (r : Reply) → Contains S p → AnswersRemove S p r → AgreesWith Removed r
-removed S p Removed a b = inl refl
-removed S p Absent a b = absurd (b a)
-removed S p _ a b = absurd b
+-- `remove p` of a point that is held once, or is not counted
+removed : (held : Held) (rules : Rules) (p : Pair) (r : Reply) → Contains held.points p → (rules ≡ Counted → held.times p ≡ 1) → AnswersRemove rules held p r → AgreesWith Removed r
+removed held rules p Removed a h b = inl refl
+removed held rules p (Left n) a h b = let e : held.times p ≡ 1 = h b.0 in absurd (omega (arith, e, b.2, b.3))
+removed held rules p Absent a h b = absurd (b a)
+removed held rules p _ a h b = absurd b
 
--- `remove p` where it is not
-absent : (S : List Pair) (p : Pair) (r : Reply) → ¬ Contains S p → AnswersRemove S p r → AgreesWith Absent r
-absent S p Removed a b = absurd (a b)
-absent S p Absent a b = inl refl
-absent S p _ a b = absurd b
+-- `remove p` where points are counted and p is held more than once
+left : (held : Held) (rules : Rules) (p : Pair) (n : ℕ) (r : Reply) → rules ≡ Counted → Contains held.points p → held.times p ≡ n + 1 → 1 ≤ n → AnswersRemove rules held p r → AgreesWith (Left n) r
+left held rules p n Removed e a h l b = let f : held.times p ≡ 1 = b.1 e in absurd (omega (arith, f, h, l))
+left held rules p n (Left m) e a h l b = inl (ap Left (same m b.2))
+  where
+    same : (m : ℕ) → held.times p ≡ m + 1 → n ≡ m
+    same m g = omega (arith, h, g)
+left held rules p n Absent e a h l b = absurd (b a)
+left held rules p n _ e a h l b = absurd b
+
+-- `remove p` where p is not there
+absent : (held : Held) (rules : Rules) (p : Pair) (r : Reply) → ¬ Contains held.points p → AnswersRemove rules held p r → AgreesWith Absent r
+absent held rules p Removed a b = absurd (a b.0)
+absent held rules p (Left n) a b = absurd (a b.1)
+absent held rules p Absent a b = inl refl
+absent held rules p _ a b = absurd b
 
 -- `remove p`
-remove_unique : (S : List Pair) (p : Pair) (r s : Reply) → AnswersRemove S p r → AnswersRemove S p s → AgreesWith r s
-remove_unique S p Removed s a b = removed S p s a b
-remove_unique S p Absent s a b = absent S p s a b
-remove_unique S p _ s a b = absurd a
+remove_unique : (held : Held) (rules : Rules) (p : Pair) (r s : Reply) → AnswersRemove rules held p r → AnswersRemove rules held p s → AgreesWith r s
+remove_unique held rules p Removed s a b = removed held rules p s a.0 a.1 b
+remove_unique held rules p (Left n) s a b = left held rules p n s a.0 a.1 a.2 a.3 b
+remove_unique held rules p Absent s a b = absent held rules p s a b
+remove_unique held rules p _ s a b = absurd a
 
 -- the empty list has no member
 pub no_member : (S : List Pair) (t : Pair) → S ≡ [] → Contains S t → ⊥
@@ -238,12 +296,12 @@ count_unique S (PointCount n) s a b = counted S n s a b
 count_unique S _ s a b = absurd a
 
 -- a call has one reply, but for want of memory
-pub replies_unique : (S : List Pair) (limit : ℕ) (call : Call) (reply other : Reply) → Answers S limit call reply → Answers S limit call other → AgreesWith reply other
-replies_unique S limit (Add p) r s a b = add_unique S limit p r s a b
-replies_unique S limit (Remove p) r s a b = remove_unique S p r s a b
-replies_unique S limit (Extreme d) r s a b = extreme_unique S d r s a b
-replies_unique S limit (Place q) r s a b = placed_unique S q r s a b
-replies_unique S limit (Tangents q) r s a b = tangents_unique S q r s a b
-replies_unique S limit Vertices r s a b = vertices_unique S r s a b
-replies_unique S limit Area r s a b = area_unique S r s a b
-replies_unique S limit Count r s a b = count_unique S r s a b
+pub replies_unique : (rules : Rules) (held : Held) (limit : ℕ) (call : Call) (reply other : Reply) → Answers rules held limit call reply → Answers rules held limit call other → AgreesWith reply other
+replies_unique rules held limit (Add p) r s a b = add_unique held limit rules p r s a b
+replies_unique rules held limit (Remove p) r s a b = remove_unique held rules p r s a b
+replies_unique rules held limit (Extreme d) r s a b = extreme_unique held.points d r s a b
+replies_unique rules held limit (Place q) r s a b = placed_unique held.points q r s a b
+replies_unique rules held limit (Tangents q) r s a b = tangents_unique held.points q r s a b
+replies_unique rules held limit Vertices r s a b = vertices_unique held.points r s a b
+replies_unique rules held limit Area r s a b = area_unique held.points r s a b
+replies_unique rules held limit Count r s a b = count_unique held.points r s a b

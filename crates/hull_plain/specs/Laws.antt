@@ -4,7 +4,9 @@ use Rattle.std.specs.Prelude.{◌≡◌, ◌⊎◌, ◌↔◌, ℕ, ℤ, List}
 use Rattle.lattice.specs.Covers.{IsPointSet, with_point, without_point}
 use Rattle.lattice.specs.Plane.{Pair}
 use Rattle.lattice.specs.Vertices.{IsVertexList, IsDoubledArea}
+use Rattle.hull_plain.specs.Held.{Held}
 use Rattle.hull_plain.specs.Replies.{Answers}
+use Rattle.hull_plain.specs.declared.rules.Rules.{Rules}
 use Rattle.hull_plain.specs.declared.call.Call.{Call}
 use Rattle.hull_plain.specs.declared.reply.Reply.{Reply}
 use Rattle.hull_plain.specs.declared.reply.Reply.TheVariants.{NoMemory}
@@ -21,10 +23,11 @@ DoubledAreaIsUnique = (S : List Pair) (m n : ℤ) → IsDoubledArea S m → IsDo
 abbrev pub AgreesWith : Reply → Reply → Type 0
 AgreesWith reply other = (reply ≡ other) ⊎ ((reply ≡ NoMemory) ⊎ (other ≡ NoMemory))
 
--- a call has one reply, but for want of memory
+-- by either rules a call has one reply, but for want of memory
 abbrev pub RepliesAreUnique : Type 0
 RepliesAreUnique =
-    (S : List Pair) (limit : ℕ) (call : Call) (reply other : Reply) → Answers S limit call reply → Answers S limit call other → AgreesWith reply other
+    (rules : Rules) (held : Held) (limit : ℕ) (call : Call) (reply other : Reply)
+    → Answers rules held limit call reply → Answers rules held limit call other → AgreesWith reply other
 
 -- a list in the order "before" with a point is in that order, and its members are that point and those of the list
 abbrev pub WithPointAddsThePoint : Type 0

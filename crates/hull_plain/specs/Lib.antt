@@ -1,4 +1,5 @@
 pub mod Tangents
+pub mod Held
 pub mod Replies
 pub mod Edges
 pub mod Positions

@@ -1,14 +1,26 @@
 -- What a set of points with a limit on their number is seen as.
-use Rattle.std.specs.Prelude.{ℕ, List}
+use Rattle.std.specs.Prelude.{ℕ, if◌then◌else◌, List, [], ◌∷◌}
+use Rattle.std.specs.Map.{keys_of}
 use Rattle.lattice.specs.Plane.{Pair}
 use Rattle.lattice.specs.Covers.{IsPointSet}
+use Rattle.hull_plain.specs.Held.{Held}
+use Rattle.hull_plain.specs.PointLists.{is_same_pair}
 use Rattle.hull_plain.specs.declared.set.HullSet.{Ghosts}
 
--- the greatest number of points, and the points in the order "before"
+-- the greatest number of points, and the points in the order "before", each with how often it is held
 pub record LimitedSet : Type 0 where
   pub limit : ℕ
-  pub members : List Pair
+  pub entries : List (Pair × ℕ)
 
--- what the trait `HullSet` says of a plain set: its points, its bound, and that its points stand in order
+-- how often a point is held: the number beside it, and 0 where it is not there
+abbrev pub times_in : List (Pair × ℕ) → Pair → ℕ
+times_in [] q = 0
+times_in (e ∷ es) q = if is_same_pair e.0 q then e.1 else times_in es q
+
+-- what the entries hold
+abbrev pub held_in : List (Pair × ℕ) → Held
+held_in entries = record { points = keys_of entries; times = times_in entries }
+
+-- what the trait `HullSet` says of a plain set: what it holds, its bound, and that its points stand in order
 abbrev pub plain_set : Ghosts LimitedSet
-plain_set = record { points = λ s. s.members; bound = λ s. s.limit; sound = λ s. IsPointSet s.members }
+plain_set = record { held = λ s. held_in s.entries; bound = λ s. s.limit; sound = λ s. IsPointSet (keys_of s.entries) }

@@ -2,7 +2,7 @@
 ghost use Rattle.std.specs.Prelude.{◌≡◌};
 ghost use Rattle.hull_plain.specs.Laws.{VertexListIsUnique, DoubledAreaIsUnique, RepliesAreUnique, WithPointAddsThePoint, WithoutPointTakesThePoint};
 
-use super::POINT_LIMIT;
+use super::{MULTIPLICITY_LIMIT, POINT_LIMIT};
 
 /// A list of points has one list of vertices at most.
 pub fn vertex_list_is_unique()
@@ -34,4 +34,9 @@ pub fn without_point_takes_the_point()
 /// The number that [`POINT_LIMIT`] is.
 pub fn point_limit_is_stated()
     ensures { POINT_LIMIT ≡ 1048576 }
+{}
+
+/// The number that [`MULTIPLICITY_LIMIT`] is.
+pub fn multiplicity_limit_is_stated()
+    ensures { MULTIPLICITY_LIMIT ≡ 65535 }
 {}

@@ -1,13 +1,14 @@
 //! Sets of lattice points that answer questions about their convex hull: what such a set promises, and a plain one.
 //!
 //! [`HullSet`] is the promise: each call answers by the allowed-reply relation of `specs/Replies.antt`, which speaks of
-//! the set of live points alone. [`PlainSet`] keeps it with an ordered set of std and plain questions, which pass over the
-//! few points that span the set: it is what faster sets are compared with, and what a checker replays on.
+//! the live points, and of how often each is held, alone. [`PlainSet`] keeps it with an ordered map of std and plain
+//! questions, which pass over the few points that span the set: it is what faster sets are compared with, and what a
+//! checker replays on.
 //!
 //! # A worked example
 //!
 //! ```
-//! let mut set = PlainSet::new(alloc, 1000); // at most 1000 points
+//! let mut set = PlainSet::new(alloc, 1000); // at most 1000 live points
 //! for (x, y) in [(0, 0), (4, 0), (2, 3), (2, 1)] {
 //!     assert!(set.add(Point::new(x, y)?) == AddReply::Added);
 //! }
@@ -15,6 +16,8 @@
 //! assert!(set.place(Point::new(2, 1)?) == Place::Inside);
 //! assert!(set.area2() == 12); // the doubled area
 //! assert!(set.vertices()?.len() == 3); // counterclockwise from the first: (0, 0), (4, 0), (2, 3)
+//! assert!(set.add(Point::new(2, 3)?) == AddReply::Again(2)); // held twice: the hull is as it was
+//! assert!(set.remove(Point::new(2, 3)?) == RemoveReply::Left(1));
 //! assert!(set.remove(Point::new(2, 3)?) == RemoveReply::Removed);
 //! ```
 #![tactic(auto)]
@@ -29,6 +32,7 @@ mod plain_set;
 mod point_list;
 mod positions;
 mod reply;
+mod rules;
 mod seen;
 mod set;
 #[cfg(test)]
@@ -37,13 +41,18 @@ mod wrapping;
 
 pub use call::Call;
 pub use laws::{
-    doubled_area_is_unique, point_limit_is_stated, replies_are_unique, vertex_list_is_unique,
-    with_point_adds_the_point, without_point_takes_the_point,
+    doubled_area_is_unique, multiplicity_limit_is_stated, point_limit_is_stated,
+    replies_are_unique, vertex_list_is_unique, with_point_adds_the_point,
+    without_point_takes_the_point,
 };
 pub use plain_set::PlainSet;
 pub use point_list::PointList;
 pub use reply::Reply;
+pub use rules::Rules;
 pub use set::{AddReply, HullSet, NoMemory, Place, RemoveReply};
 
-/// The greatest limit of a set, and so the greatest number of its points.
+/// The greatest limit of a set, and so the greatest number of its live points.
 pub const POINT_LIMIT: u32 = 1048576;
+
+/// How often a set holds a point at most.
+pub const MULTIPLICITY_LIMIT: u32 = 65535;

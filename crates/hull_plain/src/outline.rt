@@ -1,6 +1,7 @@
 //! Points of a set whose hull is that of the whole set.
 ghost use Rattle.std.specs.Prelude.{◌≡◌, ◌+◌, ◌≤◌, ◌<◌, [], ℕ, length, List, OnOk, ◌↔◌, ◌⊎◌, IsTrue, vec_capacity, vec_len, false};
 ghost use Rattle.std.specs.List.{Contains};
+ghost use Rattle.std.specs.Map.{keys_of};
 ghost use Rattle.lattice.specs.Plane.{Pair};
 ghost use Rattle.lattice.specs.Covers.{Covers, IsPointSet, with_point, without_point};
 ghost use Rattle.hull_plain.specs.Spans.{IsSpannedBy};
@@ -13,7 +14,7 @@ use super::positions::position_of;
 use super::set::Place;
 use lattice::Point;
 use std::alloc::{AllocError, Global};
-use std::collections::BTreeSet;
+use std::collections::BTreeMap;
 use std::mem;
 
 /// More points than this, and than twice those that were left the last time, are worth a new pass over them.
@@ -99,13 +100,13 @@ fn put_in_order(points: &mut Vec<Point>, p: Point)
 }
 
 /// The points of a set in order, in a list that has room for them.
-fn copy_into(points: &BTreeSet<Point>, out: &mut Vec<Point>)
-    requires { length points.now.keys ≤ vec_capacity out.old }
-    ensures points { out.new.items ≡ points.now.keys }
+fn copy_into(points: &BTreeMap<Point, u16>, out: &mut Vec<Point>)
+    requires { length (keys_of points.now.entries) ≤ vec_capacity out.old }
+    ensures points { out.new.items ≡ keys_of points.now.entries }
     ensures capacity { vec_capacity out.new ≡ vec_capacity out.old }
 {
     out.clear();
-    for point in points {
+    for point in points.keys() {
         out.push_reserved(*point);
     }
 }
@@ -189,11 +190,11 @@ impl Outline {
     }
 
     /// The outline after `p` left the set, of which `points` are left.
-    pub(crate) fn remove(&mut self, p: Point, points: &BTreeSet<Point>)
+    pub(crate) fn remove(&mut self, p: Point, points: &BTreeMap<Point, u16>)
         requires set { IsPointSet self.old.corners.items }
-        requires left { IsPointSet points.now.keys }
-        requires room { HasRoom self.old (length points.now.keys) }
-        ensures spans { (S : List Pair) → IsPointSet S → IsSpannedBy S self.old.corners.items → points.now.keys ≡ without_point p S → IsSpannedBy points.now.keys self.new.corners.items }
+        requires left { IsPointSet (keys_of points.now.entries) }
+        requires room { HasRoom self.old (length (keys_of points.now.entries)) }
+        ensures spans { (S : List Pair) → IsPointSet S → IsSpannedBy S self.old.corners.items → keys_of points.now.entries ≡ without_point p S → IsSpannedBy (keys_of points.now.entries) self.new.corners.items }
         ensures kept { (n : ℕ) → HasRoom self.old n → HasRoom self.new n }
     {
         if is_on(&self.corners, p) {

@@ -1,43 +1,40 @@
 ghost use Rattle.std.specs.Prelude.{◌≡◌, ◌≤◌, []};
 ghost use Rattle.hull_plain.specs.Sets.{LimitedSet};
 
-use super::POINT_LIMIT;
 use super::around::{place_of, tangents_from};
 use super::farthest::farthest;
 use super::outline::Outline;
 use super::set::{AddReply, HullSet, NoMemory, Place, RemoveReply};
 use super::wrapping::{doubled_area_of, vertices_of};
+use super::{MULTIPLICITY_LIMIT, POINT_LIMIT};
 use lattice::{Direction, Point};
 use std::alloc::Global;
-use std::collections::BTreeSet;
+use std::collections::BTreeMap;
 use std::marker::Model;
 
 /// A set of points in order, with an outline: points of the set whose hull is that of the whole set.
 ///
-/// `add` and `remove` go by an ordered set of std. `add` keeps the outline where it covers the new point, and else puts
-/// the point there; `remove` makes it anew, in one pass over all points (Andrew, 1979), where the point was one of it.
-/// `extreme`, `place` and `tangents` are passes over the outline; `vertices` and `area2` are a pass for each vertex (gift
-/// wrapping: Jarvis, 1973). Only `add` and `vertices` ask for memory.
+/// `add` and `remove` go by an ordered map of std, from each live point to how often it is held: of a point that was live
+/// and stays so they change that number in place, and nothing else. `add` keeps the outline where it covers the new point,
+/// and else puts the point there; `remove` makes it anew, in one pass over all points (Andrew, 1979), where the point was
+/// one of it. `extreme`, `place` and `tangents` are passes over the outline; `vertices` and `area2` are a pass for each
+/// vertex (gift wrapping: Jarvis, 1973). Only `add` of a new point and `vertices` ask for memory.
 #[derive(Drop)]
 pub struct PlainSet {
     limit: u32,
-    points: BTreeSet<Point>,
+    points: BTreeMap<Point, u16>,
     pub(crate) outline: Outline,
 }
 
 impl Model for PlainSet {
-    ghost use Rattle.std.specs.Prelude.{length, ◌≤◌};
-    ghost use Rattle.lattice.specs.Covers.{IsPointSet};
-    ghost use Rattle.hull_plain.specs.Outlines.{HasRoom};
+    ghost use Rattle.hull_plain.specs.Outlines.{IsPlainSet};
     ghost use Rattle.hull_plain.specs.Sets.{LimitedSet};
-    ghost use Rattle.hull_plain.specs.Spans.{IsSpannedBy};
-    ghost use Rattle.hull_plain.specs.declared.TheConstants.{POINT_LIMIT};
 
     ghost Value = { LimitedSet };
 
-    ghost view = { λ s. record { limit = s.limit; members = s.points.keys } };
+    ghost view = { λ s. record { limit = s.limit; entries = s.points.entries } };
 
-    ghost invariant = { λ s. (1 ≤ s.limit) × (s.limit ≤ POINT_LIMIT) × (length s.points.keys ≤ s.limit) × IsPointSet s.points.keys × IsSpannedBy s.points.keys s.outline.corners.items × HasRoom s.outline (length s.points.keys) };
+    ghost invariant = { λ s. IsPlainSet s.limit s.points.entries s.outline };
 }
 
 impl PlainSet {
@@ -45,25 +42,27 @@ impl PlainSet {
     pub fn new(alloc: Global, limit: u32) -> PlainSet
         requires low { 1 ≤ limit }
         requires high { limit ≤ POINT_LIMIT }
-        ensures { result ≡ record { limit = limit; members = [] } }
+        ensures { result ≡ record { limit = limit; entries = [] } }
     {
         PlainSet {
             limit,
-            points: BTreeSet::new(alloc),
+            points: BTreeMap::new(alloc),
             outline: Outline::new(alloc),
         }
     }
 }
 
 impl HullSet for PlainSet {
+    ghost use Rattle.std.specs.Map.{keys_of};
     ghost use Rattle.lattice.specs.Covers.{IsPointSet};
+    ghost use Rattle.hull_plain.specs.Sets.{held_in};
 
-    ghost points = { λ s. s.members };
+    ghost held = { λ s. held_in s.entries };
 
     ghost bound = { λ s. s.limit };
 
     // the points stand in order
-    ghost sound = { λ s. IsPointSet s.members };
+    ghost sound = { λ s. IsPointSet (keys_of s.entries) };
 
     fn limit(&self) -> u32 {
         self.limit
@@ -73,9 +72,20 @@ impl HullSet for PlainSet {
         self.points.len() as u32
     }
 
+    fn multiplicity(&self, p: Point) -> u32 {
+        match self.points.get(&p) {
+            Some(times) => u32::from(*times),
+            None => 0,
+        }
+    }
+
     fn add(&mut self, p: Point) -> AddReply {
-        if self.points.contains(&p) {
-            return AddReply::Already;
+        if let Some(times) = self.points.get_mut(&p) {
+            if u32::from(*times) == MULTIPLICITY_LIMIT {
+                return AddReply::TooMany;
+            }
+            *times += 1;
+            return AddReply::Again(u32::from(*times));
         }
         let count = self.points.len();
         if count >= self.limit as usize {
@@ -84,7 +94,7 @@ impl HullSet for PlainSet {
         if self.outline.reserve(count + 1).is_err() {
             return AddReply::NoMemory;
         }
-        if self.points.insert(p).is_err() {
+        if self.points.insert(p, 1).is_err() {
             return AddReply::NoMemory;
         }
         self.outline.add(p);
@@ -92,9 +102,14 @@ impl HullSet for PlainSet {
     }
 
     fn remove(&mut self, p: Point) -> RemoveReply {
-        if !self.points.remove(&p) {
+        let Some(times) = self.points.get_mut(&p) else {
             return RemoveReply::Absent;
+        };
+        if *times > 1 {
+            *times -= 1;
+            return RemoveReply::Left(u32::from(*times));
         }
+        self.points.remove(&p);
         self.outline.remove(p, &self.points);
         RemoveReply::Removed
     }

@@ -1,11 +1,13 @@
-ghost use Rattle.std.specs.Prelude.{◌≡◌, ℕ, ◌≤◌, List, vec_len, IfOk};
-ghost use Rattle.lattice.specs.Plane.{Pair};
+ghost use Rattle.std.specs.Prelude.{◌≡◌, ◌↔◌, ℕ, ◌≤◌, vec_len, IfOk};
+ghost use Rattle.std.specs.List.{Contains};
 ghost use Rattle.lattice.specs.Covers.{IsPointSet};
+ghost use Rattle.hull_plain.specs.Held.{Held};
 ghost use Rattle.hull_plain.specs.Replies.{Answers, after, reply_to_add, reply_to_remove, reply_to_extreme, reply_to_tangents, reply_to_vertices};
 
-use super::POINT_LIMIT;
 use super::call::Call;
 use super::reply::Reply;
+use super::rules::Rules;
+use super::{MULTIPLICITY_LIMIT, POINT_LIMIT};
 use lattice::{Direction, Point};
 use std::alloc::AllocError;
 use std::error::Error;
@@ -16,9 +18,10 @@ use std::fmt;
 pub enum AddReply {
     /// The point was not there, and is now.
     Added,
-    /// The point was there.
-    Already,
-    /// The point was not there, and the set has as many points as its limit.
+    /// The point was there, and is now held this many times, from 2 to [`MULTIPLICITY_LIMIT`].
+    Again(u32),
+    /// The point was not there and the set has as many points as its limit, or the point is held
+    /// [`MULTIPLICITY_LIMIT`] times. The set is as it was.
     TooMany,
     /// Memory was refused; the set is as it was.
     NoMemory,
@@ -27,8 +30,10 @@ pub enum AddReply {
 /// What `remove` did.
 #[derive(Clone, Copy, PartialEq, Eq, Debug)]
 pub enum RemoveReply {
-    /// The point was there, and is no more.
+    /// The point was held once, and is no more.
     Removed,
+    /// The point was held more than once, and still is this many times, at least once.
+    Left(u32),
     /// The point was not there.
     Absent,
 }
@@ -68,63 +73,70 @@ impl From<AllocError> for NoMemory {
     }
 }
 
-/// A finite set of points with a limit on their number, which answers questions about its convex hull.
+/// A finite set of points with a limit on their number, which answers questions about its convex hull. It holds each of
+/// its live points 1 to [`MULTIPLICITY_LIMIT`] times; the limit, the count and all questions are over the live points.
 ///
-/// Contracts see its live points as a list in the order "before", its limit, and whether what it keeps is sound: what
-/// that asks is told by each set. Each call answers by the allowed-reply relation, changes the set by the effect of its
-/// reply, and leaves it sound.
+/// Contracts see what it holds, its limit, and whether what it keeps is sound: what that asks is told by each set. Each
+/// call answers by the allowed-reply relation, changes what is held by the effect of its reply, and leaves the set sound.
 pub trait HullSet {
-    ghost points: { Self → List Pair };
+    ghost held: { Self → Held };
 
     ghost bound: { Self → ℕ };
 
     ghost sound: { Self → Type 0 };
 
-    /// The greatest number of points that the set takes.
+    /// The greatest number of live points that the set takes.
     fn limit(&self) -> u32
         ensures value { result ≡ bound self.now }
         ensures low { 1 ≤ result }
         ensures high { result ≤ POINT_LIMIT }
         ensures sound { sound self.now };
 
-    /// The number of points.
+    /// The number of live points.
     fn count(&self) -> u32
-        ensures reply { Answers (points self.now) (bound self.now) Call.Count (Reply.PointCount result) }
+        ensures reply { Answers Rules.Counted (held self.now) (bound self.now) Call.Count (Reply.PointCount result) }
         ensures room { result ≤ bound self.now }
-        ensures in_order { IsPointSet (points self.now) };
+        ensures in_order { IsPointSet (held self.now).points };
 
-    /// Puts `p` into the set. `NoMemory` comes only for a new point below the limit, and leaves the set as it was.
+    /// How often `p` is held: 0 where it is not live.
+    fn multiplicity(&self, p: Point) -> u32
+        ensures times { result ≡ (held self.now).times p }
+        ensures few { result ≤ MULTIPLICITY_LIMIT }
+        ensures live { Contains (held self.now).points p ↔ (1 ≤ result) };
+
+    /// Holds `p` once more. `NoMemory` comes only for a new point below the limit, and leaves the set as it was; for a
+    /// live point no memory is asked for.
     fn add(&mut self, p: Point) -> AddReply
-        ensures reply { Answers (points self.old) (bound self.old) (Call.Add p) (reply_to_add result) }
-        ensures effect { points self.new ≡ after (points self.old) (Call.Add p) (reply_to_add result) }
+        ensures reply { Answers Rules.Counted (held self.old) (bound self.old) (Call.Add p) (reply_to_add result) }
+        ensures effect { held self.new ≡ after (held self.old) (Call.Add p) (reply_to_add result) }
         ensures same_limit { bound self.new ≡ bound self.old }
         ensures sound { sound self.new };
 
-    /// Takes `p` out of the set. Takes no memory.
+    /// Holds `p` once less; a point that was held once leaves the set. Asks for no memory.
     fn remove(&mut self, p: Point) -> RemoveReply
-        ensures reply { Answers (points self.old) (bound self.old) (Call.Remove p) (reply_to_remove result) }
-        ensures effect { points self.new ≡ after (points self.old) (Call.Remove p) (reply_to_remove result) }
+        ensures reply { Answers Rules.Counted (held self.old) (bound self.old) (Call.Remove p) (reply_to_remove result) }
+        ensures effect { held self.new ≡ after (held self.old) (Call.Remove p) (reply_to_remove result) }
         ensures same_limit { bound self.new ≡ bound self.old }
         ensures sound { sound self.new };
 
     /// The first, by x and then y, of the points with the greatest product with `d`; `None` for the empty set.
     fn extreme(&self, d: Direction) -> Option<Point>
-        ensures { Answers (points self.now) (bound self.now) (Call.Extreme d) (reply_to_extreme result) };
+        ensures { Answers Rules.Counted (held self.now) (bound self.now) (Call.Extreme d) (reply_to_extreme result) };
 
     /// Where `q` lies.
     fn place(&self, q: Point) -> Place
-        ensures { Answers (points self.now) (bound self.now) (Call.Place q) (Reply.Lies result) };
+        ensures { Answers Rules.Counted (held self.now) (bound self.now) (Call.Place q) (Reply.Lies result) };
 
     /// The left and the right tangent point seen from `q`; `None` where the set is empty or covers `q`.
     fn tangents(&self, q: Point) -> Option<(Point, Point)>
-        ensures { Answers (points self.now) (bound self.now) (Call.Tangents q) (reply_to_tangents result) };
+        ensures { Answers Rules.Counted (held self.now) (bound self.now) (Call.Tangents q) (reply_to_tangents result) };
 
     /// The vertices, counterclockwise from the first in the order "before". `NoMemory` comes only for a nonempty set.
     fn vertices(&self) -> Result<Vec<Point>, NoMemory>
-        ensures reply { Answers (points self.now) (bound self.now) Call.Vertices (reply_to_vertices result) }
+        ensures reply { Answers Rules.Counted (held self.now) (bound self.now) Call.Vertices (reply_to_vertices result) }
         ensures few { IfOk result (λ v. vec_len v ≤ bound self.now) };
 
     /// The doubled area of the hull.
     fn area2(&self) -> u128
-        ensures { Answers (points self.now) (bound self.now) Call.Area (Reply.DoubledArea result) };
+        ensures { Answers Rules.Counted (held self.now) (bound self.now) Call.Area (Reply.DoubledArea result) };
 }

@@ -8,6 +8,9 @@ use std::test::Fail;
 /// The greatest limit of a set, by its number: no contract says what number the constant is.
 const LIMIT: u32 = 1048576;
 
+/// How often a point is held at most, by its number.
+const MOST: u32 = 65535;
+
 fn at(x: i64, y: i64) -> Result<Point, Fail> {
     Ok(Point::new(x, y)?)
 }
@@ -52,7 +55,7 @@ fn empty_set(rt: HostRuntime) -> Result<(), Fail> {
 fn one_point(rt: HostRuntime) -> Result<(), Fail> {
     let mut set = PlainSet::new(rt.alloc(), LIMIT);
     assert_eq!(rt; set.add(at(3, 4)?), AddReply::Added);
-    assert_eq!(rt; set.add(at(3, 4)?), AddReply::Already);
+    assert_eq!(rt; set.add(at(3, 4)?), AddReply::Again(2));
     assert_vertices(&rt, &set, &[(3, 4)])?;
     assert_eq!(rt; set.place(at(3, 4)?), Place::On);
     assert_eq!(rt; set.area2(), 0);
@@ -149,9 +152,49 @@ fn limit_two(rt: HostRuntime) -> Result<(), Fail> {
     assert_eq!(rt; set.add(at(0, 0)?), AddReply::Added);
     assert_eq!(rt; set.add(at(1, 1)?), AddReply::Added);
     assert_eq!(rt; set.add(at(2, 2)?), AddReply::TooMany);
-    assert_eq!(rt; set.add(at(1, 1)?), AddReply::Already);
+    assert_eq!(rt; set.add(at(1, 1)?), AddReply::Again(2));
     assert_eq!(rt; set.count(), 2);
+    // The limit is over the live points: a point that is held twice still leaves no room.
+    assert_eq!(rt; set.remove(at(1, 1)?), RemoveReply::Left(1));
+    assert_eq!(rt; set.add(at(2, 2)?), AddReply::TooMany);
+    assert_eq!(rt; set.remove(at(1, 1)?), RemoveReply::Removed);
+    assert_eq!(rt; set.add(at(2, 2)?), AddReply::Added);
     Ok(())
+}
+
+#[test]
+fn held_twice(rt: HostRuntime) -> Result<(), Fail> {
+    let mut set = set_of(&rt, rt.alloc(), &[(0, 0), (4, 0), (2, 3)])?;
+    let p = at(2, 3)?;
+    assert_eq!(rt; set.multiplicity(p), 1);
+    assert_eq!(rt; set.add(p), AddReply::Again(2));
+    assert_eq!(rt; set.multiplicity(p), 2);
+    assert_eq!(rt; set.count(), 3);
+    assert_eq!(rt; set.remove(p), RemoveReply::Left(1));
+    assert_vertices(&rt, &set, &[(0, 0), (4, 0), (2, 3)])?;
+    assert_eq!(rt; set.area2(), 12);
+    assert_eq!(rt; set.remove(p), RemoveReply::Removed);
+    assert_eq!(rt; set.multiplicity(p), 0);
+    assert_vertices(&rt, &set, &[(0, 0), (4, 0)])?;
+    assert_eq!(rt; set.remove(p), RemoveReply::Absent);
+    assert_eq!(rt; set.multiplicity(at(4, 0)?), 1);
+    Ok(())
+}
+
+#[test]
+fn held_most(rt: HostRuntime) -> Result<(), Fail> {
+    let mut set = set_of(&rt, rt.alloc(), &[(5, 5)])?;
+    let p = at(5, 5)?;
+    for times in 2u32..=MOST {
+        assert_eq!(rt; set.add(p), AddReply::Again(times));
+    }
+    assert_eq!(rt; super::MULTIPLICITY_LIMIT, MOST);
+    assert_eq!(rt; set.add(p), AddReply::TooMany);
+    assert_eq!(rt; set.multiplicity(p), MOST);
+    assert_eq!(rt; set.remove(p), RemoveReply::Left(MOST - 1));
+    assert_eq!(rt; set.add(p), AddReply::Again(MOST));
+    assert_eq!(rt; set.count(), 1);
+    assert_vertices(&rt, &set, &[(5, 5)])
 }
 
 /// Points of which each is a vertex: as many as take three requests for memory, in `add` and in `vertices`.
@@ -177,11 +220,12 @@ fn add_again(rt: &impl Abort, set: &mut PlainSet, p: Point) {
         reply = set.add(p);
     }
     assert_eq!(rt; reply, AddReply::Added);
-    assert_eq!(rt; set.add(p), AddReply::Already);
+    assert_eq!(rt; set.add(p), AddReply::Again(2));
+    assert_eq!(rt; set.remove(p), RemoveReply::Left(1));
 }
 
 // `rt try --test --fail-alloc N` at N = 1, 2, .. refuses each of its requests for memory: those of the first `add`, of
-// the outline as it grows, and of the ordered set.
+// the outline as it grows, and of the ordered map.
 #[test]
 fn refused_add(rt: HostRuntime) -> Result<(), Fail> {
     let mut set = PlainSet::new(rt.alloc(), LIMIT);
@@ -235,6 +279,10 @@ fn replies_compare(rt: HostRuntime) -> Result<(), Fail> {
     assert!(rt; one != Reply::VertexList(PointList::new(Vec::new(rt.alloc()))));
     assert!(rt; Reply::from(AddReply::NoMemory) == Reply::NoMemory);
     assert!(rt; Reply::from(RemoveReply::Absent) == Reply::Absent);
+    assert!(rt; Reply::from(AddReply::Again(2)) == Reply::Again(2));
+    assert!(rt; Reply::from(AddReply::Again(2)) != Reply::Again(3));
+    assert!(rt; Reply::from(RemoveReply::Left(2)) == Reply::Left(2));
+    assert!(rt; Reply::from(RemoveReply::Left(2)) != Reply::Again(2));
     let list = PointList::new(set.vertices()?);
     assert_eq!(rt; list.as_slice().len(), 4);
     assert_eq!(rt; list.into_vec().get(2).copied(), Some(at(2, 2)?));

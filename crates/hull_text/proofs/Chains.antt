@@ -7,14 +7,16 @@ use Rattle.hull_text.specs.Spelling.{pair_fields, points_fields}
 use Rattle.hull_text.specs.Spaced.{spaced}
 
 -- One piece behind another is both.
-pub writes_then : {E : Type 0} (d e f : Result Unit E) (a b c : Option (List ℕ)) (l m n : ℕ) (t u : List ℕ) → WritesOn {E = E} d e a b l m t → WritesOn {E = E} e f b c m n u → WritesOn {E = E} d f a c l n (t ++ u)
+pub writes_then : {E : Type 0} (d e f : Result Unit E) (a b c : Option (List ℕ)) (l m n : ℕ) (t u : List ℕ)
+    → WritesOn {E = E} d e a b l m t → WritesOn {E = E} e f b c m n u → WritesOn {E = E} d f a c l n (t ++ u)
 writes_then d e f a b c l m n t u first second = λ start count text h.
     subst (λ (w : List ℕ). WritesText start c count n f w) (append_assoc text t u) (second start count (text ++ t) (first start count text h))
 
 -- The fields of two lists, each behind a space.
 pub spaced_append : (fs gs : List (List ℕ)) → spaced (fs ++ gs) ≡ spaced fs ++ spaced gs
 spaced_append [] gs = refl
-spaced_append (f ∷ fs) gs = ap (λ (t : List ℕ). 32 ∷ t) (ap (λ (t : List ℕ). f ++ t) (spaced_append fs gs) ∙ sym (append_assoc f (spaced fs) (spaced gs)))
+spaced_append (f ∷ fs) gs = ap (λ (t : List ℕ). 32 ∷ t) (ap (λ (t : List ℕ). f ++ t) (spaced_append fs gs)
+    ∙ sym (append_assoc f (spaced fs) (spaced gs)))
 
 -- What a loop over pieces has written so far of a text, of which this is left.
 pub record Chained {E : Type 0} (first now : Result Unit E) (a b : Option (List ℕ)) (l m : ℕ) (all left : List ℕ) : Type 0 where
@@ -70,7 +72,8 @@ chained_more first now next a b c l m n all left piece rest h e wrote kept was =
 pub chained_end : {E : Type 0} (first now : Result Unit E) (a b : Option (List ℕ)) (l m : ℕ) (all left : List ℕ)
     → Chained first now a b l m all left → left ≡ [] → WritesOn first now a b l m all
 chained_end first now a b l m all left h e = λ start count text p.
-    subst (λ (w : List ℕ). WritesText start b count m now (text ++ w)) (sym (append-nil h.text) ∙ ap (λ (w : List ℕ). h.text ++ w) (sym e) ∙ h.whole) (h.wrote start count text p)
+    subst (λ (w : List ℕ). WritesText start b count m now (text ++ w)) (sym (append-nil h.text)
+    ∙ ap (λ (w : List ℕ). h.text ++ w) (sym e) ∙ h.whole) (h.wrote start count text p)
 
 -- A point stands before the others.
 pub points_cons : (p : Pair) (after rest : List Pair) → rest ≡ p ∷ after

@@ -15,7 +15,7 @@ use Rattle.hull_text.specs.Form.{has_form_after}
 use Rattle.hull_text.specs.Spelling.{ArePairs, IsSized, IsPair, IsReply, pair_fields, points_fields, IsCall, call_fields, reply_fields}
 use Rattle.hull_text.specs.Reading.{HasNoNewline}
 use Rattle.hull_plain.specs.declared.reply.Reply.{Reply}
-use Rattle.hull_plain.specs.declared.reply.Reply.TheVariants.{Added, Already, TooMany, NoMemory, Removed, Absent, Farthest, Empty, Lies, TangentPoints, NoTangent, VertexList, DoubledArea, PointCount}
+use Rattle.hull_plain.specs.declared.reply.Reply.TheVariants.{Added, Already, Again, TooMany, NoMemory, Removed, Left, Absent, Farthest, Empty, Lies, TangentPoints, NoTangent, VertexList, DoubledArea, PointCount}
 use Rattle.hull_plain.specs.declared.set.Place.TheVariants.{Inside, On, Outside}
 use Rattle.std.proofs.lemmas.Bool.{eqb-true, ne_eqb}
 use Rattle.std.proofs.lemmas.List.Elements.{All-cons, All-nil}
@@ -151,20 +151,29 @@ points_are_fields v (p ∷ ps) fits = fields_append (pair_fields p) (points_fiel
 pub reply_are_fields : (v : Version) (r : Reply) → IsReply v r → AreFields (reply_fields r)
 reply_are_fields v Added fits = (word_field (codes "added") refl (omega arith), tt)
 reply_are_fields v Already fits = (word_field (codes "already") refl (omega arith), tt)
+reply_are_fields v (Again n) fits = (word_field (codes "again") refl (omega arith), (decimal_field n (omega (arith, fits.0.1)), tt))
 reply_are_fields v TooMany fits = (word_field (codes "toomany") refl (omega arith), tt)
 reply_are_fields v NoMemory fits = (word_field (codes "nomemory") refl (omega arith), tt)
 reply_are_fields v Removed fits = (word_field (codes "removed") refl (omega arith), tt)
+reply_are_fields v (Left n) fits = (word_field (codes "left") refl (omega arith), (decimal_field n (omega (arith, fits.0.1)), tt))
 reply_are_fields v Absent fits = (word_field (codes "absent") refl (omega arith), tt)
-reply_are_fields v (Farthest p) fits = (word_field (codes "point") refl (omega arith), pair_are_fields v p fits)
+reply_are_fields v (Farthest p) fits = (word_field (codes "point") refl (omega arith), pair_are_fields v p fits.1)
 reply_are_fields v Empty fits = (word_field (codes "empty") refl (omega arith), tt)
 reply_are_fields v (Lies Inside) fits = (word_field (codes "inside") refl (omega arith), tt)
 reply_are_fields v (Lies On) fits = (word_field (codes "on") refl (omega arith), tt)
 reply_are_fields v (Lies Outside) fits = (word_field (codes "outside") refl (omega arith), tt)
-reply_are_fields v (TangentPoints l r) fits = (word_field (codes "tangents") refl (omega arith), fields_append (pair_fields l) (pair_fields r) (pair_are_fields v l fits.0) (pair_are_fields v r fits.1))
+reply_are_fields v (TangentPoints l r) fits = (
+  word_field (codes "tangents") refl (omega arith),
+  fields_append (pair_fields l) (pair_fields r)
+      (pair_are_fields v l fits.1.0) (pair_are_fields v r fits.1.1),
+)
 reply_are_fields v NoTangent fits = (word_field (codes "notangent") refl (omega arith), tt)
-reply_are_fields v (VertexList ps) fits = (word_field (codes "list") refl (omega arith), (decimal_field (length ps) (omega (arith, fits.0)), points_are_fields v ps fits.1))
-reply_are_fields v (DoubledArea n) fits = (word_field (codes "area") refl (omega arith), (decimal_field n (omega (arith, fits)), tt))
-reply_are_fields v (PointCount n) fits = (word_field (codes "count") refl (omega arith), (decimal_field n (omega (arith, fits)), tt))
+reply_are_fields v (VertexList ps) fits = (
+  word_field (codes "list") refl (omega arith),
+  (decimal_field (length ps) (omega (arith, fits.1.0)), points_are_fields v ps fits.1.1),
+)
+reply_are_fields v (DoubledArea n) fits = (word_field (codes "area") refl (omega arith), (decimal_field n (omega (arith, fits.1)), tt))
+reply_are_fields v (PointCount n) fits = (word_field (codes "count") refl (omega arith), (decimal_field n (omega (arith, fits.1)), tt))
 
 -- What has the form of a line has no newline.
 pub formed_whole : (s : Bool) (line : List ℕ) → has_form_after s line ≡ true → HasNoNewline line

@@ -65,7 +65,8 @@ known_feed start now next (Some bytes) (Some rest) (Some more) kept left piece l
   lines = omega (arith, newlines_append k.text piece, k.lines, lines);
   ends = (
     k.ends.0 ++ tail.0,
-    ap (λ (t : List ℕ). t ++ piece) k.ends.1 ∙ append_assoc k.ends.0 kept piece ∙ ap (λ (t : List ℕ). k.ends.0 ++ t) tail.1 ∙ sym (append_assoc k.ends.0 tail.0 left),
+    ap (λ (t : List ℕ). t ++ piece) k.ends.1 ∙ append_assoc k.ends.0 kept piece
+        ∙ ap (λ (t : List ℕ). k.ends.0 ++ t) tail.1 ∙ sym (append_assoc k.ends.0 tail.0 left),
   );
   long = omega (arith, k.long, length-append k.text piece);
 }
@@ -98,7 +99,8 @@ pub known_over : {V : Type 0} (start now : Outlook V) (a b : Option (List ℕ)) 
     (answer : Result V TextFault) → Known start now a b kept line n → 2 ^ 63 ≤ n → AnswersAll start a answer
 known_over start now None b kept line n answer k over = tt
 known_over start now (Some bytes) None kept line n answer k over = absurd k
-known_over start now (Some bytes) (Some rest) kept line n answer k over = λ small. absurd (omega (arith, k.long, ap length k.whole, length-append k.text rest))
+known_over start now (Some bytes) (Some rest) kept line n answer k over =
+    λ small. absurd (omega (arith, k.long, ap length k.whole, length-append k.text rest))
 
 -- A read that failed failed in this line.
 pub known_place : {V : Type 0} (start now : Outlook V) (a b c : Option (List ℕ)) (kept : List ℕ) (line n : ℕ)
@@ -106,7 +108,8 @@ pub known_place : {V : Type 0} (start now : Outlook V) (a b c : Option (List ℕ
 known_place start now None b c kept line n k same = tt
 known_place start now (Some bytes) None c kept line n k same = absurd k
 known_place start now (Some bytes) (Some rest) None kept line n k same = absurd same
-known_place start now (Some bytes) (Some rest) (Some left) kept line n k same = (k.text, k.whole ∙ ap (λ (t : List ℕ). k.text ++ t) (sym same), k.lines)
+known_place start now (Some bytes) (Some rest) (Some left) kept line n k same =
+    (k.text, k.whole ∙ ap (λ (t : List ℕ). k.text ++ t) (sym same), k.lines)
 
 -- A fault that is not the text's own may be answered where the reading stands.
 pub known_outside : {V : Type 0} (start now : Outlook V) (a b : Option (List ℕ)) (kept : List ℕ) (line n : ℕ)
@@ -114,7 +117,8 @@ pub known_outside : {V : Type 0} (start now : Outlook V) (a b : Option (List ℕ
     → AnswersAll start a (Err f)
 known_outside start now None b kept line n f k h = tt
 known_outside start now (Some bytes) None kept line n f k h = absurd k
-known_outside start now (Some bytes) (Some rest) kept line n f k h = λ small. subst (λ (t : List ℕ). start t (Err f)) (sym k.whole) (k.on rest (Err f) (h (kept ++ rest)))
+known_outside start now (Some bytes) (Some rest) kept line n f k h =
+    λ small. subst (λ (t : List ℕ). start t (Err f)) (sym k.whole) (k.on rest (Err f) (h (kept ++ rest)))
 
 -- ---- the line of a fault
 

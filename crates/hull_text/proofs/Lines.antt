@@ -54,7 +54,8 @@ pub tail_on_line : (all kept line after left empty : List ℕ) → (front : List
     → left ≡ line ++ 10 ∷ after → empty ≡ [] → (front : List ℕ) × (all ≡ front ++ (empty ++ after))
 tail_on_line all kept line after left empty h e none = (
   h.0 ++ kept ++ line ++ 10 ∷ [],
-  h.1 ∙ ap (λ (t : List ℕ). h.0 ++ (kept ++ t)) e ∙ regroup h.0 kept line after ∙ ap (λ (t : List ℕ). (h.0 ++ kept ++ line ++ 10 ∷ []) ++ (t ++ after)) (sym none),
+  h.1 ∙ ap (λ (t : List ℕ). h.0 ++ (kept ++ t)) e ∙ regroup h.0 kept line after
+      ∙ ap (λ (t : List ℕ). (h.0 ++ kept ++ line ++ 10 ∷ []) ++ (t ++ after)) (sym none),
 )
   where
     regroup : (front kept line after : List ℕ)

@@ -54,7 +54,8 @@ digits_text (c ∷ cs) m n some small e =
     let g = guard_some (is_digit c) (digits_after (m * 10 + (c - 48)) cs) n e in
     let d = digit_low c g.0 in
     let le = digits_grow cs (m * 10 + (c - 48)) n g.1 in
-    digits_text cs (m * 10 + (c - 48)) n (omega arith) small g.1 ∙ rw (next_decimal m c some d.0 d.1 (omega arith)) (append_assoc (decimal m) (c ∷ []) cs)
+    digits_text cs (m * 10 + (c - 48)) n (omega arith) small g.1
+    ∙ rw (next_decimal m c some d.0 d.1 (omega arith)) (append_assoc (decimal m) (c ∷ []) cs)
 
 -- a number of one digit
 one_digit : (b : ℕ) → 48 ≤ b → b ≤ 57 → decimal (b - 48) ≡ b ∷ []

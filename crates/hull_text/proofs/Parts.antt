@@ -80,14 +80,26 @@ jobs_call (suc n) o items = step (o.0 == n) refl (jobs_call n o items)
   where
     step : (b : Bool) → (o.0 == n) ≡ b → calls_in (jobs_below n (Some o ∷ items)) ≤ calls_in (jobs_below n items) + 1
         → calls_in (jobs_below (suc n) (Some o ∷ items)) ≤ calls_in (jobs_below (suc n) items) + 1
-    step true e less = omega (arith, jobs_more n (Some o ∷ items), jobs_more n items, jobs_beyond n o items (omega (arith, eqb-true o.0 n e)), calls_own n o items e)
+    step true e less = omega (
+      arith,
+      jobs_more n (Some o ∷ items),
+      jobs_more n items,
+      jobs_beyond n o items
+          (omega (arith, eqb-true o.0 n e)),
+      calls_own n o items e,
+    )
     step false e less = omega (arith, jobs_more n (Some o ∷ items), jobs_more n items, less, calls_other n o items e)
 
 -- So it is in all phases.
 parts_call : (n : ℕ) (o : ℕ × Call) (ps : List (List Item))
     → calls_in_all (map (jobs_below n) (onto_first (Some o) ps)) ≤ calls_in_all (map (jobs_below n) ps) + 1
 parts_call n o [] = omega (arith, sum_by-cons calls_in (jobs_below n (Some o ∷ [])) [], jobs_call n o [], jobs_none n)
-parts_call n o (p ∷ ps) = omega (arith, sum_by-cons calls_in (jobs_below n (Some o ∷ p)) (map (jobs_below n) ps), sum_by-cons calls_in (jobs_below n p) (map (jobs_below n) ps), jobs_call n o p)
+parts_call n o (p ∷ ps) = omega (
+  arith,
+  sum_by-cons calls_in (jobs_below n (Some o ∷ p)) (map (jobs_below n) ps),
+  sum_by-cons calls_in (jobs_below n p) (map (jobs_below n) ps),
+  jobs_call n o p,
+)
 
 -- There are no more calls than items.
 calls_few : (n : ℕ) (items : List Item) → calls_in_all (map (jobs_below n) (parts items)) ≤ length items

@@ -28,7 +28,8 @@ pub answers_cons : (worker : ℕ) (call : Call) (answer : Answer) (calls more_ca
     (answers more_answers : List Answer) → calls ≡ call ∷ more_calls → answers ≡ answer ∷ more_answers
     → answers_text worker calls answers ≡ answer_pieces worker call answer ++ answers_text worker more_calls more_answers
 unfolding answers_text
-answers_cons worker call answer calls more_calls answers more_answers e f = rw (e, f) (ap (λ (t : List ℕ). t ++ answers_text worker more_calls more_answers) (answer_is worker call answer))
+answers_cons worker call answer calls more_calls answers more_answers e f =
+    rw (e, f) (ap (λ (t : List ℕ). t ++ answers_text worker more_calls more_answers) (answer_is worker call answer))
 
 -- No call, no line.
 pub answers_no_call : (worker : ℕ) (calls : List Call) (answers : List Answer) → length calls ≡ 0
@@ -47,7 +48,8 @@ answers_no_answer worker (call ∷ calls) (answer ∷ answers) e = absurd (omega
 
 -- The lines of some calls, and those of the calls behind them.
 pub answers_split : (worker : ℕ) (calls more : List Call) (answers : List Answer)
-    → answers_text worker (calls ++ more) answers ≡ answers_text worker calls (take (length calls) answers) ++ answers_text worker more (drop (length calls) answers)
+    → answers_text worker (calls ++ more) answers ≡ answers_text worker calls (take (length calls) answers)
+    ++ answers_text worker more (drop (length calls) answers)
 unfolding answers_text
 answers_split worker [] more answers = refl
 answers_split worker (call ∷ calls) more [] = sym (nothing worker more)
@@ -57,12 +59,14 @@ answers_split worker (call ∷ calls) more [] = sym (nothing worker more)
     nothing worker (call ∷ calls) = refl
 answers_split worker (call ∷ calls) more (answer ∷ answers) =
     ap (λ (t : List ℕ). answer_line worker call answer ++ t) (answers_split worker calls more answers)
-    ∙ sym (append_assoc (answer_line worker call answer) (answers_text worker calls (take (length calls) answers)) (answers_text worker more (drop (length calls) answers)))
+    ∙ sym (append_assoc (answer_line worker call answer) (answers_text worker calls (take (length calls) answers))
+    (answers_text worker more (drop (length calls) answers)))
 
 -- The calls of a worker in the first phase stand before the others.
 pub phases_cons : (worker : ℕ) (phase : PhaseValue) (rest after : List PhaseValue) (answers : List Answer)
     (calls : List Call) → rest ≡ phase ∷ after → calls ≡ slice_index_or phase worker []
-    → answers_text worker (calls_of worker rest) answers ≡ answers_text worker calls (take (length calls) answers) ++ answers_text worker (calls_of worker after)
+    → answers_text worker (calls_of worker rest) answers ≡ answers_text worker calls (take (length calls) answers)
+    ++ answers_text worker (calls_of worker after)
     (drop (length calls) answers)
 phases_cons worker phase rest after answers calls e f =
     ap (λ (r : List PhaseValue). answers_text worker (calls_of worker r) answers) e
@@ -74,7 +78,10 @@ pub workers_more : (k : ℕ) (phases : List PhaseValue) (all : List (List Answer
     → workers_text k phases (drop k all) ≡ answers_text k (calls_of k phases)
     (slice_index_or all k []) ++ workers_text (k + 1) phases (drop (k + 1) all)
 unfolding workers_text
-workers_more k phases all lt = rw (drop-cons all k [] lt) (ap (λ (n : ℕ). answers_text k (calls_of k phases) (slice_index_or all k []) ++ workers_text n phases (drop n all)) (sym (add-one k)))
+workers_more k phases all lt =
+    rw (drop-cons all k [] lt) (ap
+    (λ (n : ℕ). answers_text k (calls_of k phases) (slice_index_or all k []) ++ workers_text n phases (drop n all))
+    (sym (add-one k)))
 
 -- No worker is left.
 pub workers_none : (k : ℕ) (phases : List PhaseValue) (all : List (List Answer)) → length all ≤ k
@@ -96,7 +103,8 @@ six_flat a b c d e f = simp append_assoc
 
 -- The line of the sum is written in its pieces.
 pub sum_is : (sum lines capacity : ℕ)
-    → line_text (codes "sum" ∷ decimal sum ∷ codes "journal" ∷ decimal lines ∷ codes "capacity" ∷ decimal capacity ∷ []) ≡ sum_pieces sum lines capacity
+    → line_text (codes "sum" ∷ decimal sum ∷ codes "journal" ∷ decimal lines ∷ codes "capacity" ∷ decimal capacity ∷ [])
+    ≡ sum_pieces sum lines capacity
 sum_is sum lines capacity = go (codes "sum") (decimal sum) (decimal lines) (decimal capacity) (codes " journal") (codes " capacity") (10 ∷ [])
   where
     go : (w s l c x y e : List ℕ)
@@ -119,8 +127,11 @@ ledgers_none k all le = rw (drop_all k all le) refl
 
 -- The text of a report is written in its pieces.
 pub report_is : (workers ledgers : List ℕ) (sum lines capacity : ℕ)
-    → [] ++ workers ++ ledgers ++ sum_pieces sum lines capacity ++ [] ≡ workers ++ ledgers ++ line_text (codes "sum" ∷ decimal sum ∷ codes "journal" ∷ decimal lines ∷ codes "capacity" ∷ decimal capacity ∷ [])
-report_is workers ledgers sum lines capacity = append-nil (workers ++ ledgers ++ sum_pieces sum lines capacity) ∙ ap (λ (t : List ℕ). workers ++ ledgers ++ t) (sym (sum_is sum lines capacity))
+    → [] ++ workers ++ ledgers ++ sum_pieces sum lines capacity
+    ++ [] ≡ workers ++ ledgers ++ line_text
+    (codes "sum" ∷ decimal sum ∷ codes "journal" ∷ decimal lines ∷ codes "capacity" ∷ decimal capacity ∷ [])
+report_is workers ledgers sum lines capacity = append-nil (workers ++ ledgers ++ sum_pieces sum lines capacity)
+    ∙ ap (λ (t : List ℕ). workers ++ ledgers ++ t) (sym (sum_is sum lines capacity))
 
 -- What holds of all holds of the rest.
 pub all_after : {X : Type 0} (P : X → Type 0) (x : X) (after rest : List X) → rest ≡ x ∷ after → All P rest

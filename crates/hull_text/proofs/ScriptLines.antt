@@ -23,7 +23,9 @@ regroup : (items : List Item) (r : Result (Option Item) TextFault) (q : Result (
     → with_front items (r >>> λ s. q >>> λ js. Ok (kept s js)) ≡ (r >>> λ s. with_front (items ++ kept s []) q)
 regroup items (Err e) q = refl
 regroup items (Ok s) (Err e) = refl
-regroup items (Ok s) (Ok js) = ap (λ (l : List Item). Ok l) (ap (λ (l : List Item). items ++ l) (kept_front s js) ∙ sym (append_assoc items (kept s []) js))
+regroup items (Ok s) (Ok js) =
+    ap (λ (l : List Item). Ok l) (ap (λ (l : List Item). items ++ l) (kept_front s js)
+    ∙ sym (append_assoc items (kept s []) js))
 
 -- A line that is not the last.
 items_cons : (n : ℕ) (line : List ℕ) (lines : List (List ℕ)) → 0 < length lines
@@ -39,7 +41,8 @@ unfolding reading
 newline items n line rest whole =
     let cut : pieces (line ++ 10 ∷ rest) ≡ line ∷ pieces rest = slice_split_at (λ (b : ℕ). b == 10) line 10 rest whole refl in
     let some : 0 < length (pieces rest) = omega (arith, length-slice_split (λ (b : ℕ). b == 10) rest) in
-    ap (λ (ps : List (List ℕ)). with_front items (items_of n ps)) cut ∙ ap (λ (r : Result (List Item) TextFault). with_front items r) (items_cons n line (pieces rest) some)
+    ap (λ (ps : List (List ℕ)). with_front items (items_of n ps)) cut
+    ∙ ap (λ (r : Result (List Item) TextFault). with_front items r) (items_cons n line (pieces rest) some)
     ∙ regroup items (numbered n (script_line_of line)) (items_of (suc n) (pieces rest))
 
 -- A line that says something, or nothing.
@@ -47,7 +50,8 @@ pub script_on : (items more : List Item) (n next : ℕ) (line : List ℕ) (s : O
     → Ok s ≡ numbered n (script_line_of line) → more ≡ items ++ kept s [] → next ≡ n + 1
     → ReadsOn (AnswersScript items n) (AnswersScript more next) (line ++ 10 ∷ []) []
 script_on items more n next line s whole e kept_is next_is = λ rest answer h.
-    let same : reading items n (line ++ 10 ∷ rest) ≡ reading more next rest = newline items n line rest whole ∙ rw (← e, kept_is, next_is, add-one) refl in
+    let same : reading items n (line ++ 10 ∷ rest) ≡ reading more next rest =
+    newline items n line rest whole ∙ rw (← e, kept_is, next_is, add-one) refl in
     subst (λ (t : List ℕ). AnswersItems answer (reading items n t)) (sym (append_assoc line (10 ∷ []) rest)) (rw same h)
 
 -- A line with a fault.

@@ -9,7 +9,7 @@ use Rattle.std.proofs.lemmas.List.Splits.{join_with_byte-slice_split}
 use Rattle.std.proofs.lemmas.Bool.Decides.{nat_tests}
 use Rattle.hull_plain.specs.declared.call.Call.{Call}
 use Rattle.hull_text.specs.declared.fault.FaultKind.TheVariants.{Form}
-use Rattle.hull_text.specs.Version.{written}
+use Rattle.hull_text.specs.Version.{newest}
 use Rattle.hull_text.specs.Item.{Item}
 use Rattle.hull_text.specs.Number.{number_of}
 use Rattle.hull_text.specs.Form.{has_form, has_form_after}
@@ -31,22 +31,28 @@ ended_ok x y (f ∷ fs) e = absurd cc
 
 -- A served call that is read is spelled there.
 served_takes : (fs : List Field) (s : Option Item) → served_at fs ≡ Ok s
-    → (order : ℕ × Call) × (s ≡ Some (Some order)) × (fs ≡ decimal order.0 ∷ call_fields order.1) × (order.0 ≤ 63) × IsCall written order.1
+    → (order : ℕ × Call) × (s ≡ Some (Some order)) × (fs ≡ decimal order.0 ∷ call_fields order.1) × (order.0 ≤ 63) × IsCall newest order.1
 unfolding served_at
 served_takes fs s e =
-    let a = bind_ok (seat_at fs) (λ w. call_at written w.1 >>= λ c. ended (Some (Some (w.0, c.0))) c.1) s e in
-    let b = bind_ok (call_at written a.0.1) (λ c. ended (Some (Some (a.0.0, c.0))) c.1) s a.2 in
+    let a = bind_ok (seat_at fs) (λ w. call_at newest w.1 >>= λ c. ended (Some (Some (w.0, c.0))) c.1) s e in
+    let b = bind_ok (call_at newest a.0.1) (λ c. ended (Some (Some (a.0.0, c.0))) c.1) s a.2 in
     let d = ended_ok (Some (Some (a.0.0, b.0.0))) s b.0.1 b.2 in
     let p = seat_takes fs a.0 a.1 in
-    let t = call_takes written a.0.1 b.0 b.1 in
-    ((a.0.0, b.0.0), sym d.1, p.0 ∙ ap (λ (r : List Field). decimal a.0.0 ∷ r) (t.0 ∙ ap (λ (r : List Field). call_fields b.0.0 ++ r) d.0 ∙ append-nil (call_fields b.0.0)), p.1, t.1)
+    let t = call_takes newest a.0.1 b.0 b.1 in (
+      (a.0.0, b.0.0),
+      sym d.1,
+      p.0 ∙ ap (λ (r : List Field). decimal a.0.0 ∷ r)
+          (t.0 ∙ ap (λ (r : List Field). call_fields b.0.0 ++ r) d.0 ∙ append-nil (call_fields b.0.0)),
+      p.1,
+      t.1,
+    )
 
 -- A served call that is spelled is read.
-served_again : (w : ℕ) (c : Call) → w ≤ 63 → IsCall written c
+served_again : (w : ℕ) (c : Call) → w ≤ 63 → IsCall newest c
     → served_at (decimal w ∷ call_fields c) ≡ Ok (Some (Some (w, c)))
 unfolding served_at
 served_again w c low fits =
-    let call : call_at written (call_fields c) ≡ Ok (c, []) = ap (call_at written) (sym (append-nil (call_fields c))) ∙ call_again written c [] fits in
+    let call : call_at newest (call_fields c) ≡ Ok (c, []) = ap (call_at newest) (sym (append-nil (call_fields c))) ∙ call_again newest c [] fits in
     rw (seat_again w (call_fields c) low, call) refl
 
 -- What a line says is spelled there.
@@ -97,12 +103,12 @@ joined_first f [] b bs e = (bs, e)
 joined_first f (g ∷ gs) b bs e = (bs ++ 32 ∷ join_with_byte 32 (g ∷ gs), ap (λ (t : List ℕ). t ++ 32 ∷ join_with_byte 32 (g ∷ gs)) e)
 
 -- A call that is spelled is read.
-call_line : (w : ℕ) (c : Call) → w ≤ 63 → IsCall written c
+call_line : (w : ℕ) (c : Call) → w ≤ 63 → IsCall newest c
     → script_line_of (join_with_byte 32 (decimal w ∷ call_fields c)) ≡ Ok (Some (Some (w, c)))
 call_line w c low fits =
     let line = join_with_byte 32 (decimal w ∷ call_fields c) in
     let field = decimal_field w (omega arith) in
-    let fields = call_are_fields written c fits in
+    let fields = call_are_fields newest c fits in
     let first = first_of (decimal w) w (text_number w (omega arith)) in
     let begins = joined_first (decimal w) (call_fields c) first.0 first.1 first.2 in
     digit_line line first.0 begins.0 begins.1 first.3 first.4 (joined_form (decimal w) (call_fields c) field fields)

@@ -95,7 +95,8 @@ unfolding items_of
 items_again n [] items h le = ap (λ (x : List Item). Ok x) (sym h)
 items_again n ([] ∷ []) items h le = ap (λ (x : List Item). Ok x) (sym h)
 items_again n ((b ∷ bs) ∷ []) items h le =
-    rw (numbered_again n (script_line_of (b ∷ bs)) h.0 (line_again (b ∷ bs) h.0 h.2) (omega arith)) (ap (λ (x : List Item). Ok x) (ap (kept h.0) (sym h.3) ∙ sym h.4))
+    rw (numbered_again n (script_line_of (b ∷ bs)) h.0 (line_again (b ∷ bs) h.0 h.2) (omega arith))
+    (ap (λ (x : List Item). Ok x) (ap (kept h.0) (sym h.3) ∙ sym h.4))
 items_again n (line ∷ next ∷ lines) items h le =
     let rest : items_of (suc n) (next ∷ lines) ≡ Ok h.1 = items_again (suc n) (next ∷ lines) h.1 h.3 (omega arith) in
     rw (numbered_again n (script_line_of line) h.0 (line_again line h.0 h.2) (omega arith), rest) (ap (λ (x : List Item). Ok x) (sym h.4))
@@ -145,10 +146,12 @@ numbered_err m line f le e = step (nat_le (suc m) 33554432) refl e
         → cond b (at_line (suc m) (script_line_of line)) (Err (fault_at (suc m) Form)) ≡ Err f → IsFaultOf m line f
     step true t e =
         let a = at_line_err (suc m) (script_line_of line) f e in
-        subst (λ (g : TextFault). IsFaultOf m line g) a.2 (record { place = refl; fault = inr (omega (arith, leb-true (suc m) 33554432 t), (a.0, a.1, refl)) })
+        subst (λ (g : TextFault). IsFaultOf m line g) a.2
+        (record { place = refl; fault = inr (omega (arith, leb-true (suc m) 33554432 t), (a.0, a.1, refl)) })
     step false t e =
         let many : m ≡ 33554432 = omega (arith, over m t) in
-        subst (λ (g : TextFault). IsFaultOf m line g) (text_err_is {A = Option Item} (fault_at (suc m) Form) f e) (record { place = refl; fault = inl (many, refl) })
+        subst (λ (g : TextFault). IsFaultOf m line g) (text_err_is {A = Option Item} (fault_at (suc m) Form) f e)
+        (record { place = refl; fault = inl (many, refl) })
 
 -- a fault of one of these lines, the first of which stands behind m others
 record FaultFrom (m : ℕ) (lines : List (List ℕ)) (f : TextFault) : Type 0 where
@@ -201,13 +204,16 @@ items_fault m ((b ∷ bs) ∷ []) f le e = elim (text_bind_err (numbered (suc m)
   where
     no_err : (items : List Item) (f : TextFault) → text_done items ≡ text_failed f → ⊥
     no_err items f e = cc
-items_fault m (line ∷ next ∷ lines) f le e = elim (text_bind_err (numbered (suc m) (script_line_of line)) (λ s. items_of (suc (suc m)) (next ∷ lines) >>> λ is. Ok (kept s is)) f e) [
-  | inl h ↦ fault_here m line (without_last_empty (next ∷ lines)) f (numbered_err m line f le h)
-  | inr h ↦
-      let t = numbered_ok (suc m) (script_line_of line) h.0 h.1 in
-      let more = rest_err (items_of (suc (suc m)) (next ∷ lines)) h.0 f h.2 in
-      fault_later m line (without_last_empty (next ∷ lines)) h.0 f (line_takes line h.0 t.0) (items_fault (suc m) (next ∷ lines) f (omega (arith, t.1)) more)
-]
+items_fault m (line ∷ next ∷ lines) f le e =
+    elim (text_bind_err (numbered (suc m) (script_line_of line))
+    (λ s. items_of (suc (suc m)) (next ∷ lines) >>> λ is. Ok (kept s is)) f e) [
+      | inl h ↦ fault_here m line (without_last_empty (next ∷ lines)) f (numbered_err m line f le h)
+      | inr h ↦
+          let t = numbered_ok (suc m) (script_line_of line) h.0 h.1 in
+          let more = rest_err (items_of (suc (suc m)) (next ∷ lines)) h.0 f h.2 in
+          fault_later m line (without_last_empty (next ∷ lines)) h.0 f (line_takes line h.0 t.0)
+          (items_fault (suc m) (next ∷ lines) f (omega (arith, t.1)) more)
+    ]
   where
     no_err : (items : List Item) (f : TextFault) → text_done items ≡ text_failed f → ⊥
     no_err items f e = cc
@@ -245,7 +251,9 @@ numbered_stop : (m : ℕ) (line : List ℕ) (f : TextFault) → f.line ≡ suc m
     → numbered (suc m) (script_line_of line) ≡ Err f
 unfolding numbered
 numbered_stop m line f place (inl h) = rw (h.0) (ap (λ (g : TextFault). Err g) (fault_made 33554433 Form f (omega (arith, place, h.0)) h.1))
-numbered_stop m line f place (inr h) = rw (low (suc m) (omega (arith, h.0)), h.1.1) (ap (λ (g : TextFault). Err g) (fault_made (suc m) h.1.0 f place h.1.2))
+numbered_stop m line f place (inr h) =
+    rw (low (suc m) (omega (arith, h.0)), h.1.1)
+    (ap (λ (g : TextFault). Err g) (fault_made (suc m) h.1.0 f place h.1.2))
 
 -- the fault of the first line is the one that is read
 here : (m : ℕ) (p line : List ℕ) (f : TextFault) → p ≡ line → f.line ≡ suc (m + 0) → HasLineFault (m + 0) line f.number
@@ -267,13 +275,19 @@ items_stop : (m : ℕ) (ps before : List (List ℕ)) (line : List ℕ) (after : 
 unfolding items_of
 items_stop m [] before line after items f whole right place h = absurd (omega (arith, ap length whole, length-append before (line ∷ after)))
 items_stop m ([] ∷ []) before line after items f whole right place h = absurd (omega (arith, ap length whole, length-append before (line ∷ after)))
-items_stop m ((b ∷ bs) ∷ []) [] line after items f whole right place h = rw (here m (b ∷ bs) line f (first_is (b ∷ bs) line [] after whole) place h) refl
-items_stop m ((b ∷ bs) ∷ []) (l ∷ before) line after items f whole right place h = absurd (omega (arith, ap length whole, length-append before (line ∷ after)))
-items_stop m (p ∷ next ∷ ps) [] line after items f whole right place h = rw (here m p line f (first_is p line (without_last_empty (next ∷ ps)) after whole) place h) refl
+items_stop m ((b ∷ bs) ∷ []) [] line after items f whole right place h =
+    rw (here m (b ∷ bs) line f (first_is (b ∷ bs) line [] after whole) place h) refl
+items_stop m ((b ∷ bs) ∷ []) (l ∷ before) line after items f whole right place h =
+    absurd (omega (arith, ap length whole, length-append before (line ∷ after)))
+items_stop m (p ∷ next ∷ ps) [] line after items f whole right place h =
+    rw (here m p line f (first_is p line (without_last_empty (next ∷ ps)) after whole) place h) refl
 items_stop m (p ∷ next ∷ ps) (l ∷ before) line after items f whole right place h =
     let same : m + length (l ∷ before) ≡ suc m + length before = omega arith in
-    let said : script_line_of p ≡ Ok right.0 = ap script_line_of (first_is p l (without_last_empty (next ∷ ps)) (before ++ line ∷ after) whole) ∙ line_again l right.0 right.2 in
-    let more = items_stop (suc m) (next ∷ ps) before line after right.1 f (others_are p l (without_last_empty (next ∷ ps)) (before ++ line ∷ after) whole) right.3 (omega (arith, place))
+    let said : script_line_of p ≡ Ok right.0 =
+    ap script_line_of (first_is p l (without_last_empty (next ∷ ps)) (before ++ line ∷ after) whole)
+    ∙ line_again l right.0 right.2 in
+    let more = items_stop (suc m) (next ∷ ps) before line after right.1 f
+    (others_are p l (without_last_empty (next ∷ ps)) (before ++ line ∷ after) whole) right.3 (omega (arith, place))
     (subst (λ (k : ℕ). HasLineFault k line f.number) same h) in
     rw (numbered_again (suc m) (script_line_of p) right.0 said (omega (arith, few (m + length (l ∷ before)) h)), more) refl
   where
@@ -285,7 +299,8 @@ items_stop m (p ∷ next ∷ ps) (l ∷ before) line after items f whole right p
 pub script_fault_again : (bytes : List ℕ) (f : TextFault) → IsScriptFault bytes f → script_items bytes ≡ Err f
 script_fault_again bytes f s =
     let none : length s.before ≡ 0 + length s.before = omega arith in
-    items_stop 0 (pieces bytes) s.before s.line s.after s.items f s.whole s.right (omega (arith, s.place)) (subst (λ (n : ℕ). HasLineFault n s.line f.number) none s.fault)
+    items_stop 0 (pieces bytes) s.before s.line s.after s.items f s.whole s.right
+    (omega (arith, s.place)) (subst (λ (n : ℕ). HasLineFault n s.line f.number) none s.fault)
 
 -- what has a fault has it no earlier than where it has none
 pub not_before : {V : Type 0} (m : ℕ) (g : TextFault) (r : Result V TextFault) → NoFaultBefore m r → r ≡ Err g
@@ -296,7 +311,9 @@ not_before m g r h e = rw e at h
 pub reads_known : (known : Option (List ℕ)) (items : List Item) (n : ℕ) (answer : Result ScriptValue TextFault)
     → items ≡ [] → n ≡ 1 → AnswersAll (AnswersScript items n) known answer → ReadsKnownScript known answer
 reads_known None items n answer none first h = tt
-reads_known (Some bytes) items n answer none first h = λ small. step answer (subst (λ (k : ℕ). AnswersScript [] k bytes answer) first (subst (λ (is : List Item). AnswersScript is n bytes answer) none (h small)))
+reads_known (Some bytes) items n answer none first h =
+    λ small. step answer (subst (λ (k : ℕ). AnswersScript [] k bytes answer) first
+    (subst (λ (is : List Item). AnswersScript is n bytes answer) none (h small)))
   where
     step : (answer : Result ScriptValue TextFault) → AnswersScript [] 1 bytes answer → ReadsScript bytes answer
     step (Ok v) h = subst (λ (script : ScriptValue). IsScriptText bytes script) (sym h.2) (script_taken bytes h.0 (sym (at_start bytes) ∙ h.1))

@@ -21,5 +21,6 @@ pub mod JournalText
 pub mod Reply
 pub mod JournalLine
 pub mod JournalReading
+pub mod OneProof
 pub mod JournalGrammar
 pub mod Upgrade

@@ -6,7 +6,7 @@ use Rattle.hull_book.specs.Scripts.{ScriptValue}
 use Rattle.hull_text.specs.declared.fault.FaultKind.{FaultKind}
 use Rattle.hull_text.specs.declared.fault.TextFault.{TextFault}
 use Rattle.hull_text.specs.Fault.{IsOutside, fault_number}
-use Rattle.hull_text.specs.Version.{written}
+use Rattle.hull_text.specs.Version.{newest}
 use Rattle.hull_text.specs.Item.{Item}
 use Rattle.hull_text.specs.Spelling.{IsCall, call_fields}
 use Rattle.hull_text.specs.ScriptLine.{script_line_of}
@@ -17,7 +17,7 @@ use Rattle.hull_text.specs.ScriptValue.{script_of}
 abbrev pub IsScriptLine : List ℕ → Option Item → Type 0
 IsScriptLine line None = (line ≡ []) ⊎ ((rest : List ℕ) × (line ≡ 35 ∷ rest))
 IsScriptLine line (Some None) = line ≡ codes "join"
-IsScriptLine line (Some (Some order)) = (line ≡ join_with_byte 32 (decimal order.0 ∷ call_fields order.1)) × (order.0 ≤ 63) × IsCall written order.1
+IsScriptLine line (Some (Some order)) = (line ≡ join_with_byte 32 (decimal order.0 ∷ call_fields order.1)) × (order.0 ≤ 63) × IsCall newest order.1
 
 -- The lines say these items.
 abbrev pub AreScriptLines : List (List ℕ) → List Item → Type 0

@@ -4,7 +4,7 @@ use Rattle.std.specs.Str.{bytes_eq}
 use Rattle.hull_text.specs.declared.fault.FaultKind.{FaultKind}
 use Rattle.hull_text.specs.declared.fault.FaultKind.TheVariants.{Form}
 use Rattle.hull_text.specs.Item.{Item}
-use Rattle.hull_text.specs.Version.{written}
+use Rattle.hull_text.specs.Version.{newest}
 use Rattle.hull_text.specs.Form.{has_form}
 use Rattle.hull_text.specs.Field.{Field, ◌>>=◌, fields_of, seat_at, ended}
 use Rattle.hull_text.specs.Call.{call_at}
@@ -13,7 +13,7 @@ use Rattle.hull_text.specs.Call.{call_at}
 unfoldable pub served_at : List Field → Result (Option Item) FaultKind
 served_at fs = do
   w ← seat_at fs
-  c ← call_at written w.1
+  c ← call_at newest w.1
   ended (Some (Some (w.0, c.0))) c.1
 
 -- a line of a script; an empty line and a comment say nothing

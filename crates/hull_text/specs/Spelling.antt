@@ -7,11 +7,12 @@ use Rattle.hull_plain.specs.declared.TheConstants.{POINT_LIMIT}
 use Rattle.hull_plain.specs.declared.call.Call.{Call}
 use Rattle.hull_plain.specs.declared.call.Call.TheVariants.{Add, Remove, Extreme, Place, Tangents, Vertices, Area, Count}
 use Rattle.hull_plain.specs.declared.reply.Reply.{Reply}
-use Rattle.hull_plain.specs.declared.reply.Reply.TheVariants.{Added, Already, TooMany, NoMemory, Removed, Absent, Farthest, Empty, Lies, TangentPoints, NoTangent, VertexList, DoubledArea, PointCount}
+use Rattle.hull_plain.specs.declared.reply.Reply.TheVariants.{Added, Already, Again, TooMany, NoMemory, Removed, Left, Absent, Farthest, Empty, Lies, TangentPoints, NoTangent, VertexList, DoubledArea, PointCount}
+use Rattle.hull_plain.specs.Replies.{IsReplyOf}
 use Rattle.hull_plain.specs.declared.set.Place.{Place as Where}
 use Rattle.hull_plain.specs.declared.set.Place.TheVariants.{Inside, On, Outside}
 use Rattle.hull_text.specs.declared.version.Version.{Version}
-use Rattle.hull_text.specs.Version.{coordinate_limit}
+use Rattle.hull_text.specs.Version.{coordinate_limit, version_rules}
 
 -- at most the limit in size
 abbrev pub IsSized : ℕ → ℤ → Type 0
@@ -62,14 +63,18 @@ abbrev pub ArePairs : Version → List Pair → Type 0
 ArePairs v [] = Unit {0}
 ArePairs v (p ∷ ps) = IsPair v p × ArePairs v ps
 
--- a reply that the journals of a version can say
+-- the points of a reply are ones of the version, and its numbers are within the limits of their places
+abbrev pub IsReplyInRange : Version → Reply → Type 0
+IsReplyInRange v (Farthest p) = IsPair v p
+IsReplyInRange v (TangentPoints l r) = IsPair v l × IsPair v r
+IsReplyInRange v (VertexList ps) = (length ps ≤ POINT_LIMIT) × ArePairs v ps
+IsReplyInRange v (DoubledArea n) = n < 2 ^ 128
+IsReplyInRange v (PointCount n) = n ≤ 4294967295
+IsReplyInRange v _ = Unit {0}
+
+-- a reply that the journals of a version can say: one of its rules, with such points and numbers
 abbrev pub IsReply : Version → Reply → Type 0
-IsReply v (Farthest p) = IsPair v p
-IsReply v (TangentPoints l r) = IsPair v l × IsPair v r
-IsReply v (VertexList ps) = (length ps ≤ POINT_LIMIT) × ArePairs v ps
-IsReply v (DoubledArea n) = n < 2 ^ 128
-IsReply v (PointCount n) = n ≤ 4294967295
-IsReply v _ = Unit {0}
+IsReply v reply = IsReplyOf (version_rules v) reply × IsReplyInRange v reply
 
 -- how it is spelled where a point lies
 abbrev pub place_fields : Where → List (List ℕ)
@@ -81,9 +86,11 @@ place_fields Outside = codes "outside" ∷ []
 abbrev pub reply_fields : Reply → List (List ℕ)
 reply_fields Added = codes "added" ∷ []
 reply_fields Already = codes "already" ∷ []
+reply_fields (Again n) = codes "again" ∷ decimal n ∷ []
 reply_fields TooMany = codes "toomany" ∷ []
 reply_fields NoMemory = codes "nomemory" ∷ []
 reply_fields Removed = codes "removed" ∷ []
+reply_fields (Left n) = codes "left" ∷ decimal n ∷ []
 reply_fields Absent = codes "absent" ∷ []
 reply_fields (Farthest p) = codes "point" ∷ pair_fields p
 reply_fields Empty = codes "empty" ∷ []

@@ -34,9 +34,11 @@ call_word_of field =
 abbrev pub reply_word_text : ReplyWord → List ℕ
 reply_word_text reply.Added = codes "added"
 reply_word_text reply.Already = codes "already"
+reply_word_text reply.Again = codes "again"
 reply_word_text reply.TooMany = codes "toomany"
 reply_word_text reply.NoMemory = codes "nomemory"
 reply_word_text reply.Removed = codes "removed"
+reply_word_text reply.Left = codes "left"
 reply_word_text reply.Absent = codes "absent"
 reply_word_text reply.Point = codes "point"
 reply_word_text reply.Empty = codes "empty"
@@ -54,9 +56,11 @@ abbrev pub change_word_of : List ℕ → Option ReplyWord → Option ReplyWord
 change_word_of field other =
     if bytes_eq field (codes "added") then Some reply.Added
     else if bytes_eq field (codes "already") then Some reply.Already
+    else if bytes_eq field (codes "again") then Some reply.Again
     else if bytes_eq field (codes "toomany") then Some reply.TooMany
     else if bytes_eq field (codes "nomemory") then Some reply.NoMemory
     else if bytes_eq field (codes "removed") then Some reply.Removed
+    else if bytes_eq field (codes "left") then Some reply.Left
     else if bytes_eq field (codes "absent") then Some reply.Absent
     else other
 

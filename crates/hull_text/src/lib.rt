@@ -1,8 +1,8 @@
 //! Scripts, journals and reports as texts.
 //!
 //! A script is read by `read_script`, a journal by `read_journal`, from a counted reader; `write_journal` and
-//! `write_report` write to a counted writer; `upgrade` writes a journal of an older version in the newest. A text that is no
-//! script or journal has a `TextFault`: what is wrong with it, and in which line.
+//! `write_report` write to a counted writer; `upgrade` writes a journal in the newest version that has its rules. A text
+//! that is no script or journal has a `TextFault`: what is wrong with it, and in which line.
 //!
 //! # A worked example
 //!
@@ -10,7 +10,7 @@
 //! let mut input = Counted::new(file); // any `Read`
 //! let journal = read_journal(alloc, &mut input)?; // `fault.line` and `fault.kind()` where it is none
 //! let mut output = Counted::new(device); // any `Write`
-//! write_journal(&journal, &mut output)?; // in the newest version, whatever the version read
+//! write_journal(&journal, &mut output)?; // in the version for its rules
 //! ```
 #![tactic(auto)]
 
@@ -30,7 +30,7 @@ pub use laws::{
 pub use read::{read_journal, read_script};
 pub use text_io::{Counted, Sink, Source, WriteFault};
 pub use upgrading::{UpgradeFault, upgrade};
-pub use version::{Version, WRITTEN};
+pub use version::{NEWEST, Version};
 pub use write::{report_fits, write_journal, write_report};
 
 #[cfg(test)]

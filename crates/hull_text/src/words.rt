@@ -14,14 +14,16 @@ pub(crate) enum CallWord {
     Count,
 }
 
-/// The word of a reply.
+/// The word of a reply. Which of them a journal can say, the rules of its version tell.
 #[derive(Clone, Copy, Debug, PartialEq, Eq)]
 pub(crate) enum ReplyWord {
     Added,
     Already,
+    Again,
     TooMany,
     NoMemory,
     Removed,
+    Left,
     Absent,
     Point,
     Empty,
@@ -116,9 +118,11 @@ impl ReplyWord {
         match self {
             ReplyWord::Added => b"added",
             ReplyWord::Already => b"already",
+            ReplyWord::Again => b"again",
             ReplyWord::TooMany => b"toomany",
             ReplyWord::NoMemory => b"nomemory",
             ReplyWord::Removed => b"removed",
+            ReplyWord::Left => b"left",
             ReplyWord::Absent => b"absent",
             ReplyWord::Point => b"point",
             ReplyWord::Empty => b"empty",
@@ -142,12 +146,16 @@ impl ReplyWord {
             Some(ReplyWord::Added)
         } else if field == b"already".as_slice() {
             Some(ReplyWord::Already)
+        } else if field == b"again".as_slice() {
+            Some(ReplyWord::Again)
         } else if field == b"toomany".as_slice() {
             Some(ReplyWord::TooMany)
         } else if field == b"nomemory".as_slice() {
             Some(ReplyWord::NoMemory)
         } else if field == b"removed".as_slice() {
             Some(ReplyWord::Removed)
+        } else if field == b"left".as_slice() {
+            Some(ReplyWord::Left)
         } else if field == b"absent".as_slice() {
             Some(ReplyWord::Absent)
         } else {

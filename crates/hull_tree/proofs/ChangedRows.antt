@@ -91,23 +91,6 @@ without_set p (x ∷ xs) s =
       | inr (inr k) ↦ rw (is_before-false x p (before_not p x k), is_before-true p x k) s
     ]
 
--- a new point before the point of a list of one
-pub with_before : (p q : Pair) → IsBefore p q → with_point p (q ∷ []) ≡ p ∷ q ∷ []
-with_before p q h = rw (is_before-false q p (before_not p q h), is_before-true p q h) refl
-
--- a new point after the point of a list of one
-pub with_after : (p q : Pair) → IsBefore q p → with_point p (q ∷ []) ≡ q ∷ p ∷ []
-with_after p q h = rw (is_before-true q p h) refl
-
--- a new point that does not stand before the one point stands after it
-pub after_only : (p q : Pair) → ¬ (IsBefore p q) → ¬ (Contains (q ∷ []) p) → IsBefore q p
-after_only p q n a =
-    elim (before_total p q) [
-      | inl h ↦ absurd (n h)
-      | inr (inl e) ↦ absurd (a (0, omega arith, sym e))
-      | inr (inr h) ↦ h
-    ]
-
 -- a list of one without its point
 pub without_only : (p q : Pair) → Contains (q ∷ []) p → without_point p (q ∷ []) ≡ []
 without_only p q h = let e : p ≡ q = only_member q p h in rw (e, is_before-false q q (before_irrefl q)) refl

@@ -1,17 +1,16 @@
 -- Two nodes in a row: the parts of a fork, and where a point goes that is added or taken.
-use Rattle.std.proofs.Common.{◌≡◌, ◌+◌, max, refl, sym, subst, ◌++◌, inl, inr, append_assoc, Some}
-use Rattle.std.specs.List.{All, Contains}
-use Rattle.std.proofs.lemmas.List.Elements.{All-contains, Contains-append_cases}
+use Rattle.std.proofs.Common.{◌≡◌, ◌+◌, refl, sym, subst, ◌++◌, inl, inr, append_assoc, Some}
+use Rattle.std.specs.List.{All}
 use Rattle.lattice.specs.Covers.{IsPointSet, with_point, without_point}
 use Rattle.lattice.specs.Plane.{Pair, IsBefore}
 use Rattle.bridge_search.specs.Trees.{first_of, last_of}
 use Rattle.bridge_search.proofs.Leaves.{all_of, on_of_contains, points_in_order}
 use Rattle.bridge_search.proofs.Turns.{on_first, first_by}
-use Rattle.lattice.proofs.Order.{before_trans, before_irrefl, before_total}
+use Rattle.lattice.proofs.Order.{before_trans, before_total}
 use Rattle.hull_tree.specs.declared.node.Node as node
 use Rattle.hull_tree.specs.declared.node.Halves as halves
-use Rattle.hull_tree.specs.Nodes.{tree_of, halves_of, below_of, left_half, right_half, IsWellBuilt, DifferByAtMost}
-use Rattle.hull_tree.specs.Changes.{points_below, height_at, AreInRow, AreParted}
+use Rattle.hull_tree.specs.Nodes.{tree_of, halves_of, below_of, left_half, right_half, times_below, IsWellBuilt, DifferByAtMost}
+use Rattle.hull_tree.specs.Changes.{points_below, height_at, points_within, times_within, height_within, AreInRow, AreParted}
 use Rattle.hull_tree.proofs.PointRows.{set_left, set_right, all_before_of_set}
 use Rattle.hull_tree.proofs.ChangedRows.{with_left, with_right, without_left, without_right, with_set, without_set}
 
@@ -19,10 +18,11 @@ use Rattle.hull_tree.proofs.ChangedRows.{with_left, with_right, without_left, wi
 pub record IsOver (n : node.Node) (h : halves.Halves) : Type 0 where
   pub parted : AreParted h
   pub halves : halves_of n ≡ Some (left_half h, right_half h)
-  pub points : points_below n ≡ points_below (left_half h) ++ points_below (right_half h)
+  pub points : points_below n ≡ points_within h
+  pub times : (q : Pair) → times_below n q ≡ times_within h q
   pub first : first_of (tree_of n) ≡ first_of (tree_of (left_half h))
   pub last : last_of (tree_of n) ≡ last_of (tree_of (right_half h))
-  pub height : height_at n ≡ max (height_at (left_half h)) (height_at (right_half h)) + 1
+  pub height : height_at n ≡ height_within h + 1
   pub near : DifferByAtMost 1 (height_at (left_half h)) (height_at (right_half h))
 
 -- two halves that are the answer are the same
@@ -32,20 +32,21 @@ same_below e = cc
 -- a well-built fork is over its halves
 pub over_halves : (n : node.Node) (h : halves.Halves) → IsWellBuilt n → below_of n ≡ Some h → IsOver n h
 unfolding node.out-Node halves.out-Halves denote.Hole.Carrier.out
-over_halves (node.Node' upper lower height node.None') h b e = absurd (cc)
-over_halves (node.Node' upper lower height (node.Some' i (halves.Halves' left right last_left first_right))) h b e =
-    subst (λ (z : halves.Halves). IsOver (node.Node' upper lower height (node.Some' i (halves.Halves' left right last_left first_right))) z) (same_below e) record {
+over_halves (node.Node' upper lower height times node.None') h b e = absurd (cc)
+over_halves (node.Node' upper lower height times (node.Some' i (halves.Halves' left right last_left first_right))) h b e =
+    subst (λ (z : halves.Halves). IsOver (node.Node' upper lower height times (node.Some' i (halves.Halves' left right last_left first_right))) z) (same_below e) record {
       parted = record {
         row = record {
           left_built = record { bridged = b.bridged.3; balanced = b.balanced.1; labelled = b.labelled.3 };
           right_built = record { bridged = b.bridged.4; balanced = b.balanced.2; labelled = b.labelled.4 };
-          in_order = points_in_order (tree_of (node.Node' upper lower height (node.Some' i (halves.Halves' left right last_left first_right)))) b.bridged;
+          in_order = points_in_order (tree_of (node.Node' upper lower height times (node.Some' i (halves.Halves' left right last_left first_right)))) b.bridged;
         };
         ends_left = b.labelled.0;
         starts_right = b.labelled.1;
       };
       halves = refl;
       points = refl;
+      times = λ q. refl;
       first = refl;
       last = refl;
       height = refl;
@@ -81,7 +82,7 @@ regrouped l r s t k a b e = record {
 }
 
 -- p before the first point of r: it stands before all of r
-before_first : (l r : node.Node) (p : Pair) → AreInRow l r → IsBefore p (first_of (tree_of r)) → All (IsBefore p) (points_below r)
+pub before_first : (l r : node.Node) (p : Pair) → AreInRow l r → IsBefore p (first_of (tree_of r)) → All (IsBefore p) (points_below r)
 before_first l r p k b = all_of (IsBefore p) (points_below r) (λ t i. elim (before_total (first_of (tree_of r)) t) [
   | inl h ↦ before_trans p (first_of (tree_of r)) t b h
   | inr (inl e) ↦ subst (IsBefore p) e b
@@ -89,7 +90,7 @@ before_first l r p k b = all_of (IsBefore p) (points_below r) (λ t i. elim (bef
 ])
 
 -- else all of l stands before p
-after_first : (l r : node.Node) (p : Pair) → AreInRow l r → ¬ (IsBefore p (first_of (tree_of r))) → All (λ t. IsBefore t p) (points_below l)
+pub after_first : (l r : node.Node) (p : Pair) → AreInRow l r → ¬ (IsBefore p (first_of (tree_of r))) → All (λ t. IsBefore t p) (points_below l)
 after_first l r p k n = all_of (λ t. IsBefore t p) (points_below l) (λ t i.
     let h : IsBefore t (first_of (tree_of r)) = all_before_of_set (tree_of l) (tree_of r) k.in_order t (first_of (tree_of r)) (on_of_contains (tree_of l) t i) (on_first (tree_of r)) in
     elim (before_total p (first_of (tree_of r))) [
@@ -145,19 +146,3 @@ row_drop_right l r m p k n h e = record {
   right_built = h;
   in_order = rw e (subst IsPointSet (drop_right l r p k n) (without_set p (points_below l ++ points_below r) k.in_order));
 }
-
--- a point of both that stands before the first one of r is in l
-pub in_left : (l r : node.Node) (p : Pair) → AreInRow l r → IsBefore p (first_of (tree_of r)) → Contains (points_below l ++ points_below r) p → Contains (points_below l) p
-in_left l r p k b h =
-    elim (Contains-append_cases (points_below l) (points_below r) p h) [
-      | inl i ↦ i
-      | inr i ↦ absurd (before_irrefl p (All-contains (IsBefore p) (points_below r) p (before_first l r p k b) i))
-    ]
-
--- any other is in r
-pub in_right : (l r : node.Node) (p : Pair) → AreInRow l r → ¬ (IsBefore p (first_of (tree_of r))) → Contains (points_below l ++ points_below r) p → Contains (points_below r) p
-in_right l r p k n h =
-    elim (Contains-append_cases (points_below l) (points_below r) p h) [
-      | inl i ↦ absurd (before_irrefl p (All-contains (λ t. IsBefore t p) (points_below l) p (after_first l r p k n) i))
-      | inr i ↦ i
-    ]

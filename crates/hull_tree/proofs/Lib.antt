@@ -6,3 +6,5 @@ pub mod LimitedTrees
 pub mod Costs
 pub mod Renewed
 pub mod PartingPoints
+pub mod Multiplicities
+pub mod CountedTrees

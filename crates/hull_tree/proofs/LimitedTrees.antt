@@ -1,5 +1,5 @@
 -- What a tree with a limit keeps, and that a change keeps it.
-use Rattle.std.proofs.Common.{◌≡◌, ℕ, ◌+◌, ◌-◌, ◌<◌, ap, refl, sym, ◌∙◌, List, length, arith, Some, None}
+use Rattle.std.proofs.Common.{◌≡◌, ℕ, ◌+◌, ◌-◌, ◌<◌, ap, refl, sym, ◌∙◌, List, length, arith, Some, None, subst}
 use Rattle.std.specs.Prelude.{Option}
 use Rattle.std.specs.List.{Contains}
 use Rattle.lattice.specs.Plane.{Pair}
@@ -60,3 +60,7 @@ whole root n u count limit h r e =
       few = omega (arith, size_is_length u, ap (λ (z : List Pair). length z) p, h.counted, h.room);
       high = h.high;
     }
+
+-- a tree that is not nothing is well built
+pub built_root : (root : Option Node) (n : Node) (count limit : ℕ) → IsLimited root count limit → root ≡ Some n → IsWellBuilt n
+built_root root n count limit h r = subst IsWellBuiltRoot r h.built

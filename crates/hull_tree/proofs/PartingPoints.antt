@@ -1,5 +1,5 @@
 -- The points at the parting of two halves, when a point is added to one of them or taken from it.
-use Rattle.std.proofs.Common.{◌≡◌, sym, ap, ◌∙◌, subst, ◌⊎◌, inl, inr, refl, [], ◌++◌, append-nil, arith}
+use Rattle.std.proofs.Common.{◌≡◌, sym, ap, ◌∙◌, subst, ◌⊎◌, inl, inr, refl, [], ◌++◌, append-nil, arith, ◌+◌, Some}
 use Rattle.std.specs.List.{Contains}
 use Rattle.lattice.specs.Covers.{with_point, without_point}
 use Rattle.lattice.specs.Plane.{Pair, IsBefore}
@@ -11,11 +11,14 @@ use Rattle.bridge_search.proofs.Turns.{on_first, first_by}
 use Rattle.bridge_search.proofs.Ends.{on_last, last_by}
 use Rattle.hull_plain.proofs.SetLaws.{with_point_law, without_point_law}
 use Rattle.hull_tree.specs.declared.node.Node.{Node}
-use Rattle.hull_tree.specs.Nodes.{tree_of, IsWellBuilt}
-use Rattle.hull_tree.specs.Changes.{points_below, AreInRow, IsPartedAt}
+use Rattle.hull_tree.specs.declared.node.Halves.{Halves}
+use Rattle.hull_plain.specs.Held.{once}
+use Rattle.hull_tree.proofs.Multiplicities.{leaf_once, none_left, none_right}
+use Rattle.hull_tree.specs.Nodes.{tree_of, below_of, left_half, right_half, times_below, IsWellBuilt}
+use Rattle.hull_tree.specs.Changes.{points_below, IsPartedAt}
 use Rattle.hull_tree.proofs.PointRows.{all_before_of_set}
 use Rattle.hull_tree.proofs.ChangedRows.{without_only}
-use Rattle.hull_tree.proofs.HalfRows.{row_add_left, row_add_right, row_drop_left, row_drop_right, drop_left, drop_right}
+use Rattle.hull_tree.proofs.HalfRows.{IsOver, over_halves, row_add_left, row_add_right, row_drop_left, row_drop_right, drop_left, drop_right}
 
 -- the last point of a half is its point that none stands after
 last_is : (t : Tree) (x : Pair) → IsBridged t → On t x → ((s : Pair) → On t s → ¬ IsBefore x s) → last_of t ≡ x
@@ -34,18 +37,6 @@ first_is t x b i h =
       | inr (inl e) ↦ e
       | inr (inr k) ↦ absurd (first_by t b x i k)
     ]
-
--- a half with the points of another one has its last point
-pub same_last : (t v : Tree) → IsBridged t → IsBridged v → points_of v ≡ points_of t → last_of v ≡ last_of t
-same_last t v b d e =
-    last_is v (last_of t) d (on_of_contains v (last_of t) (rw e (contains_of_on t (last_of t) (on_last t))))
-    (λ s i. last_by t b s (on_of_contains t s (subst (λ z. Contains z s) e (contains_of_on v s i))))
-
--- and its first point
-pub same_first : (t v : Tree) → IsBridged t → IsBridged v → points_of v ≡ points_of t → first_of v ≡ first_of t
-same_first t v b d e =
-    first_is v (first_of t) d (on_of_contains v (first_of t) (rw e (contains_of_on t (first_of t) (on_first t))))
-    (λ s i. first_by t b s (on_of_contains t s (subst (λ z. Contains z s) e (contains_of_on v s i))))
 
 -- a point of t with p is p, or a point of t
 one_more : (t v : Tree) (p s : Pair) → IsBridged t → points_of v ≡ with_point p (points_of t) → On v s → (s ≡ p) ⊎ On t s
@@ -162,19 +153,44 @@ points_drop_right l r m s t p last first k b e es et =
     rw (es, et, e) (sym (drop_right l r p k.row (λ n. b (subst (IsBefore p) (sym k.starts_right) n))))
 
 -- nothing is left of the leaf of p without p
-pub none_left : (t : Tree) (p : Pair) → t ≡ Leaf p → without_point p (points_of t) ≡ []
-none_left t p e = ap (λ z. without_point p (points_of z)) e ∙ without_only p p (0, omega arith, refl)
+without_leaf : (t : Tree) (p : Pair) → t ≡ Leaf p → without_point p (points_of t) ≡ []
+without_leaf t p e = ap (λ z. without_point p (points_of z)) e ∙ without_only p p (0, omega arith, refl)
 
--- p is all of one of two halves: the other one has all other points
-pub rest_of : (l r s : Node) (p : Pair) → AreInRow l r → (tree_of l ≡ Leaf p) ⊎ (tree_of r ≡ Leaf p) → (tree_of l ≡ Leaf p → s ≡ r) → (¬ (tree_of l ≡ Leaf p) → s ≡ l) → IsWellBuilt s × (points_below s ≡ without_point p (points_below l ++ points_below r))
-rest_of l r s p k (inl e) f g =
-    let b : IsBefore p (first_of (tree_of r)) = all_before_of_set (tree_of l) (tree_of r) k.in_order p (first_of (tree_of r)) (subst (λ t. On t p) (sym e) refl) (on_first (tree_of r)) in
-    let d : without_point p (points_below l) ≡ [] = none_left (tree_of l) p e in
-    subst (λ z. IsWellBuilt z × (points_below z ≡ without_point p (points_below l ++ points_below r))) (sym (f e))
-    (k.right_built, sym (drop_left l r p k b ∙ ap (λ z. z ++ points_below r) d))
-rest_of l r s p k (inr e) f g =
-    let b : ¬ IsBefore p (first_of (tree_of r)) = λ i. before_irrefl p (subst (λ t. IsBefore p (first_of t)) e i) in
-    let m : ¬ (tree_of l ≡ Leaf p) = λ d. before_irrefl p (all_before_of_set (tree_of l) (tree_of r) k.in_order p p (subst (λ t. On t p) (sym d) refl) (subst (λ t. On t p) (sym e) refl)) in
-    let d : without_point p (points_below r) ≡ [] = none_left (tree_of r) p e in
-    subst (λ z. IsWellBuilt z × (points_below z ≡ without_point p (points_below l ++ points_below r))) (sym (g m))
-    (k.left_built, sym (drop_right l r p k b ∙ ap (λ z. points_below l ++ z) d ∙ append-nil (points_below l)))
+-- what s is to the node n: n without p, which was held once
+pub record IsRest (n s : Node) (p : Pair) : Type 0 where
+  pub built : IsWellBuilt s
+  pub points : points_below s ≡ without_point p (points_below n)
+  pub times : (q : Pair) → times_below s q + once p q ≡ times_below n q
+
+-- p, held once, is all of the left half: the right one is the rest
+rest_right : (n s : Node) (h : Halves) (p : Pair) → IsOver n h → tree_of (left_half h) ≡ Leaf p → times_below n p ≡ 1 → s ≡ right_half h → IsRest n s p
+rest_right n s h p o e c d =
+    let b : IsBefore p (first_of (tree_of (right_half h))) = all_before_of_set (tree_of (left_half h)) (tree_of (right_half h)) o.parted.row.in_order p (first_of (tree_of (right_half h))) (subst (λ t. On t p) (sym e) refl) (on_first (tree_of (right_half h))) in
+    let a : times_below (left_half h) p ≡ 1 = omega (arith, c, o.times p, none_right (left_half h) (right_half h) p o.parted.row b) in
+    let m : without_point p (points_below (left_half h)) ≡ [] = without_leaf (tree_of (left_half h)) p e in
+    rw d record {
+      built = o.parted.row.right_built;
+      points = sym (ap (without_point p) o.points ∙ drop_left (left_half h) (right_half h) p o.parted.row b ∙ ap (λ z. z ++ points_below (right_half h)) m);
+      times = λ q. omega (arith, o.times q, leaf_once (left_half h) p e a q);
+    }
+
+-- else p is all of the right half, and the left one is the rest
+rest_left : (n s : Node) (h : Halves) (p : Pair) → IsOver n h → tree_of (right_half h) ≡ Leaf p → times_below n p ≡ 1 → s ≡ left_half h → IsRest n s p
+rest_left n s h p o e c d =
+    let b : ¬ IsBefore p (first_of (tree_of (right_half h))) = λ i. before_irrefl p (subst (λ t. IsBefore p (first_of t)) e i) in
+    let a : times_below (right_half h) p ≡ 1 = omega (arith, c, o.times p, none_left (left_half h) (right_half h) p o.parted.row b) in
+    let m : without_point p (points_below (right_half h)) ≡ [] = without_leaf (tree_of (right_half h)) p e in
+    rw d record {
+      built = o.parted.row.left_built;
+      points = sym (ap (without_point p) o.points ∙ drop_right (left_half h) (right_half h) p o.parted.row b ∙ ap (λ z. points_below (left_half h) ++ z) m ∙ append-nil (points_below (left_half h)));
+      times = λ q. omega (arith, o.times q, leaf_once (right_half h) p e a q);
+    }
+
+-- where p, held once, is all of one half, the other one is the rest
+pub rest_below : (n s : Node) (g h : Halves) (p : Pair) → IsWellBuilt n → below_of n ≡ Some h → g ≡ h → (tree_of (left_half g) ≡ Leaf p) ⊎ (tree_of (right_half g) ≡ Leaf p) → (tree_of (left_half h) ≡ Leaf p → s ≡ right_half h) → (¬ (tree_of (left_half h) ≡ Leaf p) → s ≡ left_half h) → times_below n p ≡ 1 → IsRest n s p
+rest_below n s g h p b i e d f k c =
+    let o : IsOver n h = over_halves n h b i in
+    elim (subst (λ (z : Halves). (tree_of (left_half z) ≡ Leaf p) ⊎ (tree_of (right_half z) ≡ Leaf p)) e d) [
+      | inl l ↦ rest_right n s h p o l c (f l)
+      | inr r ↦ rest_left n s h p o r c (k (λ l. before_irrefl p (all_before_of_set (tree_of (left_half h)) (tree_of (right_half h)) o.parted.row.in_order p p (subst (λ t. On t p) (sym l) refl) (subst (λ t. On t p) (sym r) refl))))
+    ]

@@ -8,7 +8,7 @@ use Rattle.hull_tree.specs.declared.node.Node.{Node}
 use Rattle.hull_tree.specs.declared.node.Node as node
 use Rattle.hull_tree.specs.declared.node.Halves.{Halves}
 use Rattle.hull_tree.specs.declared.node.Halves as halves
-use Rattle.hull_tree.specs.Nodes.{tree_of, left_half, right_half, before_parting, after_parting, IsWellBuilt, DifferByAtMost}
+use Rattle.hull_tree.specs.Nodes.{tree_of, left_half, right_half, before_parting, after_parting, times_below, IsWellBuilt, DifferByAtMost}
 
 -- the points below a node, in order
 abbrev pub points_below : Node → List Pair
@@ -30,14 +30,30 @@ pub record IsPartedAt (l r : Node) (last first : Pair) : Type 0 where
   pub ends_left : last ≡ last_of (tree_of l)
   pub starts_right : first ≡ first_of (tree_of r)
 
+-- the points of two halves, in order
+abbrev pub points_within : Halves → List Pair
+points_within h = points_below (left_half h) ++ points_below (right_half h)
+
+-- how often each point is held in them
+abbrev pub times_within : Halves → Pair → ℕ
+times_within h q = times_below (left_half h) q + times_below (right_half h) q
+
+-- the height of the higher one of them
+abbrev pub height_within : Halves → ℕ
+height_within h = max (height_at (left_half h)) (height_at (right_half h))
+
+-- n is m, or one more
+abbrev pub IsAtMostOneMore : ℕ → ℕ → Type 0
+IsAtMostOneMore m n = (m ≤ n) × (n ≤ m + 1)
+
 -- two halves that stand in a row and keep the points at their parting
 abbrev pub AreParted : Halves → Type 0
 AreParted h = IsPartedAt (left_half h) (right_half h) (before_parting h) (after_parting h)
 
 -- a fork over two such halves, whose edges and height may be yet to be renewed
 abbrev pub IsParted : Node → Type 0
-IsParted (node.Node' upper lower height node.None') = ⊥
-IsParted (node.Node' upper lower height (node.Some' i (halves.Halves' left right last_left first_right))) = IsPartedAt left right last_left first_right
+IsParted (node.Node' upper lower height times node.None') = ⊥
+IsParted (node.Node' upper lower height times (node.Some' i (halves.Halves' left right last_left first_right))) = IsPartedAt left right last_left first_right
 
 -- the height of a node's left half; of a leaf its own
 abbrev pub left_height : Node → ℕ
@@ -49,4 +65,4 @@ right_height n = height_of (right_of (tree_of n))
 
 -- the height h of a node that is made of two of heights l and r: that of the fork over them, or one less where they differ by two
 abbrev pub IsHeightOver : ℕ → ℕ → ℕ → Type 0
-IsHeightOver l r h = (max l r ≤ h) × (h ≤ max l r + 1) × (DifferByAtMost 1 l r → h ≡ max l r + 1)
+IsHeightOver l r h = IsAtMostOneMore (max l r) h × (DifferByAtMost 1 l r → h ≡ max l r + 1)

@@ -1,9 +1,11 @@
 -- A node is labelled in one way: what a ghost field asks.
-use Rattle.std.specs.Prelude.{◌≡◌, ℕ}
+use Rattle.std.specs.Prelude.{◌≡◌, ◌≤◌, ℕ}
 use Rattle.std.proofs.Math.Nat.{ℕ_set}
+use native.Mathlib.Bridge.{le_prop}
 use Rattle.lattice.specs.Plane.{Pair}
 use Rattle.bridge_search.specs.Trees.{Fork, first_of, last_of, height_of}
 use Rattle.bridge_search.specs.OneWay.{point_set}
+use Rattle.hull_plain.specs.declared.TheConstants.{MULTIPLICITY_LIMIT}
 use Rattle.hull_tree.specs.declared.node.Node as node
 use Rattle.hull_tree.specs.declared.node.Halves as halves
 use Rattle.hull_tree.specs.Nodes.{tree_of, IsLabelled}
@@ -16,10 +18,18 @@ same_point p q = point_set p q
 same_number : (m n : ℕ) → IsProp (m ≡ n)
 same_number m n = ℕ_set m n
 
+-- that a number is at most another has one proof
+at_most_prop : (m n : ℕ) → IsProp (m ≤ n)
+at_most_prop m n = le_prop
+
 -- that a node is labelled has one proof
 pub IsLabelled-prop : (n : node.Node) → IsProp (IsLabelled n)
-IsLabelled-prop (node.Node' upper lower height node.None') = same_number height 0
-IsLabelled-prop (node.Node' upper lower height (node.Some' i (halves.Halves' left right last_left first_right))) =
+IsLabelled-prop (node.Node' upper lower height times node.None') =
+    let h : IsProp (height ≡ 0) = same_number height 0 in
+    let a : IsProp (1 ≤ times) = at_most_prop 1 times in
+    let b : IsProp (times ≤ MULTIPLICITY_LIMIT) = at_most_prop times MULTIPLICITY_LIMIT in
+    hlevel (h, a, b)
+IsLabelled-prop (node.Node' upper lower height times (node.Some' i (halves.Halves' left right last_left first_right))) =
     let a : IsProp (last_left ≡ last_of (tree_of left)) = same_point last_left (last_of (tree_of left)) in
     let b : IsProp (first_right ≡ first_of (tree_of right)) = same_point first_right (first_of (tree_of right)) in
     let c : IsProp (height ≡ height_of (Fork upper lower (tree_of left) (tree_of right))) = same_number height (height_of (Fork upper lower (tree_of left) (tree_of right))) in

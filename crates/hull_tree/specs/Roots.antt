@@ -1,14 +1,24 @@
 -- A whole tree: a node, or nothing.
 use Rattle.std.specs.Prelude.{ℕ, List, [], Option, Some, None}
 use Rattle.lattice.specs.Plane.{Pair}
+use Rattle.hull_plain.specs.Held.{Held}
 use Rattle.hull_tree.specs.declared.node.Node.{Node}
-use Rattle.hull_tree.specs.Nodes.{IsWellBuilt}
+use Rattle.hull_tree.specs.Nodes.{IsWellBuilt, times_below}
 use Rattle.hull_tree.specs.Changes.{points_below, height_at}
 
 -- its points, in order
 abbrev pub points_of_root : Option Node → List Pair
 points_of_root None = []
 points_of_root (Some n) = points_below n
+
+-- how often each point is held
+abbrev pub times_of_root : Option Node → Pair → ℕ
+times_of_root None = λ q. 0
+times_of_root (Some n) = times_below n
+
+-- what it holds
+abbrev pub held_by : Option Node → Held
+held_by root = record { points = points_of_root root; times = times_of_root root }
 
 -- it is nothing, or a well-built node
 abbrev pub IsWellBuiltRoot : Option Node → Type 0

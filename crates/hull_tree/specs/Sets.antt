@@ -7,7 +7,7 @@ use Rattle.hull_plain.specs.declared.TheConstants.{POINT_LIMIT}
 use Rattle.hull_plain.specs.declared.set.HullSet.{Ghosts}
 use Rattle.hull_tree.specs.declared.node.Node.{Node}
 use Rattle.hull_tree.specs.Nodes.{tree_of}
-use Rattle.hull_tree.specs.Roots.{points_of_root, IsWellBuiltRoot, height_of_root}
+use Rattle.hull_tree.specs.Roots.{points_of_root, held_by, IsWellBuiltRoot, height_of_root}
 
 -- the greatest number of points, and the tree
 pub record LimitedTree : Type 0 where
@@ -28,10 +28,10 @@ pub record IsSound (root : Option Node) : Type 0 where
   pub in_order : IsPointSet (points_of_root root)
   pub low : height_of_root root ≤ 28
 
--- what the trait `HullSet` says of a tree: its points, its bound, and that it is well built, which says that each stored
+-- what the trait `HullSet` says of a tree: what it holds, its bound, and that it is well built, which says that each stored
 -- bridge is that of the points below it
 abbrev pub hull_tree : Ghosts LimitedTree
-hull_tree = record { points = λ t. points_of_root t.root; bound = λ t. t.limit; sound = λ t. IsSound t.root }
+hull_tree = record { held = λ t. held_by t.root; bound = λ t. t.limit; sound = λ t. IsSound t.root }
 
 -- the half is the tree, with its points, and no more than its limit
 pub record IsWhole (t : LimitedTree) (u : Tree) : Type 0 where

@@ -4,7 +4,7 @@ use Rattle.lattice.specs.Plane.{Pair}
 use Rattle.bridge_search.specs.Trees.{Tree, Leaf, Fork, IsAtDepth}
 use Rattle.bridge_search.specs.Search.{IsDepthSum}
 use Rattle.hull_plain.specs.declared.set.AddReply.{AddReply}
-use Rattle.hull_plain.specs.declared.set.AddReply.TheVariants.{Added, Already, TooMany, NoMemory}
+use Rattle.hull_plain.specs.declared.set.AddReply.TheVariants.{Added, Again, TooMany, NoMemory}
 use Rattle.hull_tree.specs.declared.node.Node.{Node}
 use Rattle.hull_tree.specs.Nodes.{tree_of}
 
@@ -33,7 +33,7 @@ IsRootCostAtMost (Some root) p n = IsCostAtMost (tree_of root) p n
 -- p was added to the tree that is now `root`: the turns are at least the cost of the forks above p; any other answer took none
 abbrev pub IsLeastCount : AddReply → Option Node → Pair → ℕ → Type 0
 IsLeastCount Added root p n = IsRootCostAtMost root p n
-IsLeastCount Already root p n = n ≡ 0
+IsLeastCount (Again times) root p n = n ≡ 0
 IsLeastCount TooMany root p n = n ≡ 0
 IsLeastCount NoMemory root p n = n ≡ 0
 

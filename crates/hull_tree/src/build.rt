@@ -1,8 +1,9 @@
 ghost use Rattle.std.specs.Prelude.{◌≡◌, Some, ◌≤◌, ◌+◌, ◌*◌, ◌++◌, max};
+ghost use Rattle.lattice.specs.Plane.{Pair};
 ghost use Rattle.lattice.specs.Bridges.{IsUpperBridge, IsLowerBridge};
 ghost use Rattle.bridge_search.specs.Trees.{On, IsFork, left_of, right_of, first_of as first_in, last_of as last_in};
-ghost use Rattle.hull_tree.specs.Nodes.{tree_of, keeping, halves_of, left_half, right_half, before_parting, after_parting, IsWellBuilt, DifferByAtMost};
-ghost use Rattle.hull_tree.specs.Changes.{points_below, height_at, left_height, right_height, IsParted, IsPartedAt, AreParted, IsHeightOver};
+ghost use Rattle.hull_tree.specs.Nodes.{tree_of, keeping, halves_of, left_half, right_half, before_parting, after_parting, times_below, IsWellBuilt, DifferByAtMost};
+ghost use Rattle.hull_tree.specs.Changes.{points_below, height_at, height_within, left_height, right_height, IsParted, IsPartedAt, AreParted, IsAtMostOneMore, IsHeightOver};
 ghost use Rattle.hull_tree.specs.Turns.{IsForkCost, IsDearerByAtMost};
 
 use super::node::{Halves, Node, height_of};
@@ -14,8 +15,8 @@ use std::mem;
 /// Two halves that stand for nothing yet.
 pub(crate) fn blank(point: Point) -> Halves {
     Halves {
-        left: Node::leaf(point),
-        right: Node::leaf(point),
+        left: Node::leaf(point, 1),
+        right: Node::leaf(point, 1),
         last_left: point,
         first_right: point,
     }
@@ -29,8 +30,8 @@ pub(crate) fn take_halves(halves: &mut Halves) -> (Node, Node)
     ensures first { after_parting halves.new ≡ after_parting halves.old }
 {
     let point = halves.last_left;
-    let left = mem::replace(&mut halves.left, Node::leaf(point));
-    let right = mem::replace(&mut halves.right, Node::leaf(point));
+    let left = mem::replace(&mut halves.left, Node::leaf(point, 1));
+    let right = mem::replace(&mut halves.right, Node::leaf(point, 1));
     (left, right)
 }
 
@@ -41,6 +42,7 @@ fn taken_apart(node: Node) -> (Node, Node, Box<Halves>)
     ensures halves { halves_of node ≡ Some (result.0, result.1) }
     ensures parted { IsPartedAt result.0 result.1 (before_parting result.2.value) (after_parting result.2.value) }
     ensures points { points_below node ≡ points_below result.0 ++ points_below result.1 }
+    ensures times { (q : Pair) → times_below node q ≡ times_below result.0 q + times_below result.1 q }
     ensures first { first_in (tree_of node) ≡ first_in (tree_of result.0) }
     ensures last { last_in (tree_of node) ≡ last_in (tree_of result.1) }
     ensures height { height_at node ≡ max (height_at result.0) (height_at result.1) + 1 }
@@ -66,10 +68,10 @@ struct Found {
 /// Searches both bridges between two halves.
 fn searched(halves: &Halves) -> Found
     requires parted { AreParted halves.now }
-    requires low { max (height_at (left_half halves.now)) (height_at (right_half halves.now)) ≤ 28 }
+    requires low { height_within halves.now ≤ 28 }
     ensures upper { IsUpperBridge (On (tree_of (left_half halves.now))) (On (tree_of (right_half halves.now))) result.upper.0 result.upper.1 }
     ensures lower { IsLowerBridge (On (tree_of (left_half halves.now))) (On (tree_of (right_half halves.now))) result.lower.0 result.lower.1 }
-    ensures height { result.height ≡ max (height_at (left_half halves.now)) (height_at (right_half halves.now)) + 1 }
+    ensures height { result.height ≡ height_within halves.now + 1 }
     ensures cost { IsForkCost result.upper result.lower (tree_of (left_half halves.now)) (tree_of (right_half halves.now)) result.turns }
     ensures within { result.turns ≤ 2 * (height_at (left_half halves.now) + height_at (right_half halves.now)) }
 {
@@ -125,6 +127,7 @@ pub(crate) fn renew(node: &mut Node) -> u32
     requires low { max (left_height node.old) (right_height node.old) ≤ 28 }
     ensures built { IsWellBuilt node.new }
     ensures points { points_below node.new ≡ points_below node.old }
+    ensures times { (q : Pair) → times_below node.new q ≡ times_below node.old q }
     ensures first { first_in (tree_of node.new) ≡ first_in (left_of (tree_of node.old)) }
     ensures last { last_in (tree_of node.new) ≡ last_in (right_of (tree_of node.old)) }
     ensures height { height_at node.new ≡ height_at node.old }
@@ -150,6 +153,7 @@ pub(crate) fn joined(mut spare: Box<Halves>, left: Node, right: Node) -> (Node, 
     requires low { max (height_at left) (height_at right) ≤ 28 }
     ensures built { IsWellBuilt result.0 }
     ensures points { points_below result.0 ≡ points_below left ++ points_below right }
+    ensures times { (q : Pair) → times_below result.0 q ≡ times_below left q + times_below right q }
     ensures first { first_in (tree_of result.0) ≡ first_in (tree_of left) }
     ensures last { last_in (tree_of result.0) ≡ last_in (tree_of right) }
     ensures height { height_at result.0 ≡ max (height_at left) (height_at right) + 1 }
@@ -165,6 +169,7 @@ pub(crate) fn joined(mut spare: Box<Halves>, left: Node, right: Node) -> (Node, 
         upper: (point, point),
         lower: (point, point),
         height: 0,
+        times: 0,
         below: Some(spare),
     };
     let turns = renew(&mut node);
@@ -179,8 +184,8 @@ fn rotated_right(spare: Box<Halves>, left: Node, right: Node) -> (Node, u32)
     requires low { height_at left ≤ 28 }
     ensures built { IsWellBuilt result.0 }
     ensures points { points_below result.0 ≡ points_below left ++ points_below right }
-    ensures not_lower { height_at left ≤ height_at result.0 }
-    ensures at_most_one_higher { height_at result.0 ≤ height_at left + 1 }
+    ensures times { (q : Pair) → times_below result.0 q ≡ times_below left q + times_below right q }
+    ensures height { IsAtMostOneMore (height_at left) (height_at result.0) }
     ensures few { result.1 ≤ 336 }
     ensures cost_left { IsDearerByAtMost (tree_of left) (tree_of result.0) result.1 }
     ensures cost_right { IsDearerByAtMost (tree_of right) (tree_of result.0) result.1 }
@@ -206,8 +211,8 @@ fn rotated_left(spare: Box<Halves>, left: Node, right: Node) -> (Node, u32)
     requires low { height_at right ≤ 28 }
     ensures built { IsWellBuilt result.0 }
     ensures points { points_below result.0 ≡ points_below left ++ points_below right }
-    ensures not_lower { height_at right ≤ height_at result.0 }
-    ensures at_most_one_higher { height_at result.0 ≤ height_at right + 1 }
+    ensures times { (q : Pair) → times_below result.0 q ≡ times_below left q + times_below right q }
+    ensures height { IsAtMostOneMore (height_at right) (height_at result.0) }
     ensures few { result.1 ≤ 336 }
     ensures cost_left { IsDearerByAtMost (tree_of left) (tree_of result.0) result.1 }
     ensures cost_right { IsDearerByAtMost (tree_of right) (tree_of result.0) result.1 }
@@ -234,6 +239,7 @@ pub(crate) fn rebalance(node: &mut Node) -> u32
     requires low { max (left_height node.old) (right_height node.old) ≤ 28 }
     ensures built { IsWellBuilt node.new }
     ensures points { points_below node.new ≡ points_below node.old }
+    ensures times { (q : Pair) → times_below node.new q ≡ times_below node.old q }
     ensures height { IsHeightOver (left_height node.old) (right_height node.old) (height_at node.new) }
     ensures few { result ≤ 336 }
     ensures cost_left { IsDearerByAtMost (left_of (tree_of node.old)) (tree_of node.new) result }

@@ -1,59 +1,134 @@
-ghost use Rattle.std.specs.Prelude.{◌≡◌, ◌≤◌, ◌+◌, ◌*◌, ◌↔◌, ◌⊎◌, ◌∷◌, ◌++◌, [], max, IsTrue};
+ghost use Rattle.std.specs.Prelude.{◌≡◌, ◌≤◌, ◌<◌, ◌+◌, ◌*◌, ◌↔◌, ◌⊎◌, ◌∷◌, [], IsTrue};
 ghost use Rattle.std.specs.List.{Contains};
-ghost use Rattle.lattice.specs.Plane.{IsBefore};
+ghost use Rattle.lattice.specs.Plane.{Pair, IsBefore};
 ghost use Rattle.lattice.specs.Covers.{with_point, without_point};
+ghost use Rattle.hull_plain.specs.Held.{once};
 ghost use Rattle.bridge_search.specs.Trees.{Leaf, IsFork, first_of as first_in, last_of as last_in};
-ghost use Rattle.hull_tree.specs.Nodes.{tree_of, left_half, right_half, before_parting, after_parting, IsWellBuilt};
-ghost use Rattle.hull_tree.specs.Changes.{points_below, height_at, AreParted};
+ghost use Rattle.hull_tree.specs.Nodes.{tree_of, left_half, right_half, before_parting, after_parting, several, times_below, IsMultiplicity, IsWellBuilt};
+ghost use Rattle.hull_tree.specs.Changes.{points_below, height_at, points_within, times_within, height_within, AreParted, IsAtMostOneMore};
 ghost use Rattle.hull_tree.specs.Turns.{IsCostAtMost};
 
-use super::build::{joined, rebalance};
+use super::build::{joined, rebalance, take_halves};
 use super::node::{Halves, Node, first_of, last_of};
+use hull_plain::MULTIPLICITY_LIMIT;
 use lattice::{Point, before};
 
-/// Whether a point is below a node: one comparison a fork.
-pub(crate) fn contains(node: &Node, p: Point) -> bool
+/// How often a point is held below a node: one comparison a fork.
+pub(crate) fn times_of(node: &Node, p: Point) -> u32
     requires { IsWellBuilt node.now }
-    ensures { IsTrue result ↔ Contains (points_below node.now) p }
+    ensures { result ≡ times_below node.now p }
 {
     match &node.below {
-        None => p == node.upper.0,
+        None => { if p == node.upper.0 { node.times } else { 0 } }
         Some(halves) => {
             if before(p, halves.first_right) {
-                contains(&halves.left, p)
+                times_of(&halves.left, p)
             } else {
-                contains(&halves.right, p)
+                times_of(&halves.right, p)
             }
         }
     }
 }
 
-/// The fork over two points, whose halves lie in a box that is there.
-fn parted(mut spare: Box<Halves>, first: Point, last: Point) -> Node
-    requires { IsBefore first last }
-    ensures built { IsWellBuilt result }
-    ensures points { points_below result ≡ first ∷ last ∷ [] }
-    ensures height { height_at result ≡ 1 }
-    ensures cost_first { IsCostAtMost (tree_of result) first 0 }
-    ensures cost_last { IsCostAtMost (tree_of result) last 0 }
+/// Holds a point that is below a node once more, where a point may be held so often: its number rises where it is, and
+/// nothing else changes. Tells how often it was held before.
+pub(crate) fn raise(node: &mut Node, p: Point) -> u32
+    requires { IsWellBuilt node.old }
+    ensures was { result ≡ times_below node.old p }
+    ensures built { IsWellBuilt node.new }
+    ensures same_tree { tree_of node.new ≡ tree_of node.old }
+    ensures absent { result ≡ 0 → node.new ≡ node.old }
+    ensures full { result ≡ MULTIPLICITY_LIMIT → node.new ≡ node.old }
+    ensures raised { 1 ≤ result → result < MULTIPLICITY_LIMIT → (q : Pair) → times_below node.new q ≡ times_below node.old q + once p q }
 {
-    spare.last_left = first;
-    spare.first_right = last;
-    joined(spare, Node::leaf(first), Node::leaf(last)).0
+    match &mut node.below {
+        None => {
+            if p != node.upper.0 {
+                return 0;
+            }
+            let times = node.times;
+            if times < MULTIPLICITY_LIMIT {
+                node.times = times + 1;
+            }
+            times
+        }
+        Some(halves) => {
+            if before(p, halves.first_right) {
+                raise(&mut halves.left, p)
+            } else {
+                raise(&mut halves.right, p)
+            }
+        }
+    }
 }
 
-/// The fork over a point and a new one, whose halves lie in a box that is there.
-fn beside(point: Point, p: Point, spare: Box<Halves>) -> Node
-    requires { ¬ (p ≡ point) }
+/// Holds a point once less that is held more than once below a node: its number falls where it is, and nothing else
+/// changes. Tells how often it was held before.
+pub(crate) fn lower(node: &mut Node, p: Point) -> u32
+    requires { IsWellBuilt node.old }
+    ensures was { result ≡ times_below node.old p }
+    ensures built { IsWellBuilt node.new }
+    ensures same_tree { tree_of node.new ≡ tree_of node.old }
+    ensures few { result ≤ 1 → node.new ≡ node.old }
+    ensures lowered { 1 < result → (q : Pair) → times_below node.new q + once p q ≡ times_below node.old q }
+{
+    match &mut node.below {
+        None => {
+            if p != node.upper.0 {
+                return 0;
+            }
+            let times = node.times;
+            if times > 1 {
+                node.times = times - 1;
+            }
+            times
+        }
+        Some(halves) => {
+            if before(p, halves.first_right) {
+                lower(&mut halves.left, p)
+            } else {
+                lower(&mut halves.right, p)
+            }
+        }
+    }
+}
+
+/// The fork over two points, each of them held so many times, whose halves lie in a box that is there.
+fn parted(mut spare: Box<Halves>, first: (Point, u32), last: (Point, u32)) -> Node
+    requires in_order { IsBefore first.0 last.0 }
+    requires times_first { IsMultiplicity first.1 }
+    requires times_last { IsMultiplicity last.1 }
+    ensures built { IsWellBuilt result }
+    ensures points { points_below result ≡ first.0 ∷ last.0 ∷ [] }
+    ensures times { (q : Pair) → times_below result q ≡ several first.1 first.0 q + several last.1 last.0 q }
+    ensures height { height_at result ≡ 1 }
+    ensures cost_first { IsCostAtMost (tree_of result) first.0 0 }
+    ensures cost_last { IsCostAtMost (tree_of result) last.0 0 }
+{
+    spare.last_left = first.0;
+    spare.first_right = last.0;
+    joined(
+        spare,
+        Node::leaf(first.0, first.1),
+        Node::leaf(last.0, last.1),
+    )
+    .0
+}
+
+/// The fork over a point that is held so many times and a new one, whose halves lie in a box that is there.
+fn beside(point: Point, times: u32, p: Point, spare: Box<Halves>) -> Node
+    requires new { ¬ (p ≡ point) }
+    requires times { IsMultiplicity times }
     ensures built { IsWellBuilt result }
     ensures points { points_below result ≡ with_point p (point ∷ []) }
+    ensures times { (q : Pair) → times_below result q ≡ several times point q + once p q }
     ensures height { height_at result ≡ 1 }
     ensures cost { IsCostAtMost (tree_of result) p 0 }
 {
     if before(p, point) {
-        parted(spare, p, point)
+        parted(spare, (p, 1), (point, times))
     } else {
-        parted(spare, point, p)
+        parted(spare, (point, times), (p, 1))
     }
 }
 
@@ -77,14 +152,14 @@ pub(crate) fn insert(node: &mut Node, p: Point, spare: Box<Halves>) -> u32
     requires low { height_at node.old ≤ 28 }
     ensures built { IsWellBuilt node.new }
     ensures points { points_below node.new ≡ with_point p (points_below node.old) }
-    ensures not_lower { height_at node.old ≤ height_at node.new }
-    ensures at_most_one_higher { height_at node.new ≤ height_at node.old + 1 }
+    ensures times { (q : Pair) → times_below node.new q ≡ times_below node.old q + once p q }
+    ensures height { IsAtMostOneMore (height_at node.old) (height_at node.new) }
     ensures few { result ≤ 336 * height_at node.old }
     ensures cost { IsCostAtMost (tree_of node.new) p result }
 {
     match &mut node.below {
         None => {
-            *node = beside(node.upper.0, p, spare);
+            *node = beside(node.upper.0, node.times, p, spare);
             0
         }
         Some(halves) => {
@@ -98,16 +173,14 @@ pub(crate) fn insert(node: &mut Node, p: Point, spare: Box<Halves>) -> u32
 #[cycle(insert)]
 fn insert_below(halves: &mut Halves, p: Point, spare: Box<Halves>) -> u32
     requires parted { AreParted halves.old }
-    requires absent { ¬ Contains (points_below (left_half halves.old) ++ points_below (right_half halves.old)) p }
-    requires low_left { height_at (left_half halves.old) ≤ 28 }
-    requires low_right { height_at (right_half halves.old) ≤ 28 }
+    requires absent { ¬ Contains (points_within halves.old) p }
+    requires low { height_within halves.old ≤ 28 }
     ensures parted { AreParted halves.new }
-    ensures points { points_below (left_half halves.new) ++ points_below (right_half halves.new) ≡ with_point p (points_below (left_half halves.old) ++ points_below (right_half halves.old)) }
-    ensures left_not_lower { height_at (left_half halves.old) ≤ height_at (left_half halves.new) }
-    ensures right_not_lower { height_at (right_half halves.old) ≤ height_at (right_half halves.new) }
-    ensures left_at_most_one_higher { height_at (left_half halves.new) ≤ height_at (left_half halves.old) + 1 }
-    ensures right_at_most_one_higher { height_at (right_half halves.new) ≤ height_at (right_half halves.old) + 1 }
-    ensures few { result ≤ 336 * max (height_at (left_half halves.old)) (height_at (right_half halves.old)) }
+    ensures points { points_within halves.new ≡ with_point p (points_within halves.old) }
+    ensures times { (q : Pair) → times_within halves.new q ≡ times_within halves.old q + once p q }
+    ensures left { IsAtMostOneMore (height_at (left_half halves.old)) (height_at (left_half halves.new)) }
+    ensures right { IsAtMostOneMore (height_at (right_half halves.old)) (height_at (right_half halves.new)) }
+    ensures few { result ≤ 336 * height_within halves.old }
     ensures cost { IsCostAtMost (tree_of (left_half halves.new)) p result ⊎ IsCostAtMost (tree_of (right_half halves.new)) p result }
 {
     if before(p, halves.first_right) {
@@ -135,36 +208,33 @@ pub(crate) fn is_leaf(node: &Node, p: Point) -> bool
     }
 }
 
-/// The half that is left where the other one is a point alone.
-fn other_half(halves: Box<Halves>, p: Point) -> Node
-    ensures right { tree_of (left_half halves.value) ≡ Leaf p → result ≡ right_half halves.value }
-    ensures left { ¬ (tree_of (left_half halves.value) ≡ Leaf p) → result ≡ left_half halves.value }
+/// The half that is left where the other one is a point alone, taken from its place.
+fn other_half(halves: &mut Halves, p: Point) -> Node
+    ensures right { tree_of (left_half halves.old) ≡ Leaf p → result ≡ right_half halves.old }
+    ensures left { ¬ (tree_of (left_half halves.old) ≡ Leaf p) → result ≡ left_half halves.old }
 {
-    let Halves { left, right, .. } = Box::into_inner(halves);
+    let (left, right) = take_halves(halves);
     if is_leaf(&left, p) { right } else { left }
 }
 
-/// Takes one of its points from below a fork. Both bridges of each fork on the way to the point are searched, but for
+/// Takes a point that is held once from below a fork. Both bridges of each fork on the way to the point are searched, but for
 /// the last one: its other half takes its place. Tells how many turns the searches took: at most 336 a level.
 #[cycle(remove)]
 pub(crate) fn remove(node: &mut Node, p: Point) -> u32
     requires built { IsWellBuilt node.old }
     requires fork { IsFork (tree_of node.old) }
-    requires there { Contains (points_below node.old) p }
+    requires once { times_below node.old p ≡ 1 }
     requires low { height_at node.old ≤ 28 }
     ensures built { IsWellBuilt node.new }
     ensures points { points_below node.new ≡ without_point p (points_below node.old) }
-    ensures not_higher { height_at node.new ≤ height_at node.old }
-    ensures at_most_one_lower { height_at node.old ≤ height_at node.new + 1 }
+    ensures times { (q : Pair) → times_below node.new q + once p q ≡ times_below node.old q }
+    ensures height { IsAtMostOneMore (height_at node.new) (height_at node.old) }
     ensures few { result ≤ 336 * height_at node.old }
 {
     let Some(halves) = &mut node.below else {
         unreachable!()
     };
     if is_half(halves, p) {
-        let Some(halves) = node.below.take() else {
-            unreachable!()
-        };
         *node = other_half(halves, p);
         return 0;
     }
@@ -176,18 +246,16 @@ pub(crate) fn remove(node: &mut Node, p: Point) -> u32
 #[cycle(remove)]
 fn remove_below(halves: &mut Halves, p: Point) -> u32
     requires parted { AreParted halves.old }
-    requires there { Contains (points_below (left_half halves.old) ++ points_below (right_half halves.old)) p }
+    requires once { times_within halves.old p ≡ 1 }
     requires more_left { ¬ (tree_of (left_half halves.old) ≡ Leaf p) }
     requires more_right { ¬ (tree_of (right_half halves.old) ≡ Leaf p) }
-    requires low_left { height_at (left_half halves.old) ≤ 28 }
-    requires low_right { height_at (right_half halves.old) ≤ 28 }
+    requires low { height_within halves.old ≤ 28 }
     ensures parted { AreParted halves.new }
-    ensures points { points_below (left_half halves.new) ++ points_below (right_half halves.new) ≡ without_point p (points_below (left_half halves.old) ++ points_below (right_half halves.old)) }
-    ensures left_not_higher { height_at (left_half halves.new) ≤ height_at (left_half halves.old) }
-    ensures right_not_higher { height_at (right_half halves.new) ≤ height_at (right_half halves.old) }
-    ensures left_at_most_one_lower { height_at (left_half halves.old) ≤ height_at (left_half halves.new) + 1 }
-    ensures right_at_most_one_lower { height_at (right_half halves.old) ≤ height_at (right_half halves.new) + 1 }
-    ensures few { result ≤ 336 * max (height_at (left_half halves.old)) (height_at (right_half halves.old)) }
+    ensures points { points_within halves.new ≡ without_point p (points_within halves.old) }
+    ensures times { (q : Pair) → times_within halves.new q + once p q ≡ times_within halves.old q }
+    ensures left { IsAtMostOneMore (height_at (left_half halves.new)) (height_at (left_half halves.old)) }
+    ensures right { IsAtMostOneMore (height_at (right_half halves.new)) (height_at (right_half halves.old)) }
+    ensures few { result ≤ 336 * height_within halves.old }
 {
     if before(p, halves.first_right) {
         let turns = remove(&mut halves.left, p);

@@ -3,20 +3,22 @@ ghost use Rattle.std.specs.Borrow.{Bor};
 ghost use Rattle.lattice.specs.Plane.{Pair};
 ghost use Rattle.bridge_search.specs.Trees.{Leaf, edge_of, lower_of, first_of as first_in, last_of as last_in, height_of as height_in};
 ghost use Rattle.hull_tree.specs.declared.node.Node.{Node};
-ghost use Rattle.hull_tree.specs.Nodes.{tree_of, halves_of, point_of, IsLabelled};
+ghost use Rattle.hull_tree.specs.Nodes.{tree_of, halves_of, point_of, multiplicity_of, several, times_below, IsMultiplicity, IsLabelled};
 
 use lattice::Point;
 
 /// A part of the tree: one point, or a fork over two parts.
 ///
 /// It keeps its two bridges and its height itself, beside the pointer to its halves: so a search that goes down a half
-/// reads the edges that it compares from where it is. Of a point both ends of both edges are that point.
+/// reads the edges that it compares from where it is. Of a point both ends of both edges are that point, and `times` is
+/// how often it is held; of a fork `times` says nothing.
 #[cycle(node)]
 #[derive(Drop)]
 pub struct Node {
     pub(crate) upper: (Point, Point),
     pub(crate) lower: (Point, Point),
     pub(crate) height: u32,
+    pub(crate) times: u32,
     pub(crate) below: Option<Box<Halves>>,
 }
 
@@ -31,15 +33,18 @@ pub struct Halves {
 }
 
 impl Node {
-    /// The node of one point.
-    pub(crate) fn leaf(point: Point) -> Node
+    /// The node of one point, which is held so many times.
+    pub(crate) fn leaf(point: Point, times: u32) -> Node
+        requires { IsMultiplicity times }
         ensures tree { tree_of result ≡ Leaf point }
+        ensures times { (q : Pair) → times_below result q ≡ several times point q }
         ensures labelled { IsLabelled result }
     {
         Node {
             upper: (point, point),
             lower: (point, point),
             height: 0,
+            times,
             below: None,
         }
     }
@@ -82,6 +87,16 @@ impl Node {
     {
         match &self.below {
             None => Some(self.upper.0),
+            Some(_) => None,
+        }
+    }
+
+    /// How often the point of a leaf is held; `None` for a fork.
+    pub fn multiplicity(&self) -> Option<u32>
+        ensures { result ≡ multiplicity_of self.now }
+    {
+        match &self.below {
+            None => Some(self.times),
             Some(_) => None,
         }
     }

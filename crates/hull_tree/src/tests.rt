@@ -3,7 +3,9 @@ mod beside_plain;
 mod turns;
 
 use super::{HullTree, trees_are_sound};
-use hull_plain::{AddReply, HullSet, NoMemory, POINT_LIMIT, Place, RemoveReply};
+use hull_plain::{
+    AddReply, HullSet, MULTIPLICITY_LIMIT, NoMemory, POINT_LIMIT, Place, RemoveReply,
+};
 use lattice::{Direction, Point};
 use std::alloc::Global;
 use std::process::Abort;
@@ -30,6 +32,7 @@ fn empty_tree(rt: HostRuntime) -> Result<(), Fail> {
     assert_eq!(rt; tree.count(), 0);
     assert_eq!(rt; tree.remove(at(7, 7)?), RemoveReply::Absent);
     assert_eq!(rt; tree.count(), 0);
+    assert_eq!(rt; tree.multiplicity(at(7, 7)?), 0);
     assert_eq!(rt; tree.extreme(Direction::new(1, 0)?), None);
     assert_eq!(rt; tree.place(at(0, 0)?), Place::Outside);
     assert_eq!(rt; tree.tangents(at(0, 0)?), None);
@@ -81,12 +84,14 @@ fn leaf_and_fork(rt: HostRuntime) -> Result<(), Fail> {
     let mut tree = tree_of(&rt, rt.alloc(), &[(1, 2)])?;
     let leaf = tree.root().ok_or("empty")?;
     assert_eq!(rt; leaf.point(), Some(at(1, 2)?));
+    assert_eq!(rt; leaf.multiplicity(), Some(1));
     assert!(rt; leaf.upper().is_none());
     assert!(rt; leaf.lower().is_none());
     assert!(rt; leaf.halves().is_none());
     assert_eq!(rt; tree.add(at(1, 1)?), AddReply::Added);
     let fork = tree.root().ok_or("empty")?;
     assert_eq!(rt; fork.point(), None);
+    assert_eq!(rt; fork.multiplicity(), None);
     assert_eq!(rt; fork.upper().copied(), Some((at(1, 1)?, at(1, 2)?)));
     assert_eq!(rt; fork.lower().copied(), Some((at(1, 1)?, at(1, 2)?)));
     assert!(rt; fork.halves().is_some());
@@ -99,8 +104,68 @@ fn limit_two(rt: HostRuntime) -> Result<(), Fail> {
     assert_eq!(rt; tree.add(at(0, 0)?), AddReply::Added);
     assert_eq!(rt; tree.add(at(1, 1)?), AddReply::Added);
     assert_eq!(rt; tree.add(at(2, 2)?), AddReply::TooMany);
-    assert_eq!(rt; tree.add(at(1, 1)?), AddReply::Already);
+    assert_eq!(rt; tree.add(at(1, 1)?), AddReply::Again(2));
     assert_eq!(rt; tree.count(), 2);
+    Ok(())
+}
+
+/// The vertices of a tree are these.
+fn assert_vertices(rt: &impl Abort, tree: &HullTree, expected: &[Point]) -> Result<(), Fail> {
+    assert_eq!(rt; tree.vertices()?.as_slice(), expected);
+    Ok(())
+}
+
+/// A body of `remove` that takes a point away while it is held twice fails here.
+#[test]
+fn apex_held_twice(rt: HostRuntime) -> Result<(), Fail> {
+    let (left, right, apex) = (at(0, 0)?, at(4, 0)?, at(2, 3)?);
+    let mut tree = tree_of(&rt, rt.alloc(), &[(0, 0), (4, 0), (2, 3)])?;
+    assert_eq!(rt; tree.add(apex), AddReply::Again(2));
+    assert_eq!(rt; tree.multiplicity(apex), 2);
+    assert_eq!(rt; tree.count(), 3);
+    assert_eq!(rt; tree.remove(apex), RemoveReply::Left(1));
+    assert_vertices(&rt, &tree, &[left, right, apex])?;
+    assert_eq!(rt; tree.area2(), 12);
+    assert_eq!(rt; tree.remove(apex), RemoveReply::Removed);
+    assert_vertices(&rt, &tree, &[left, right])?;
+    assert_eq!(rt; tree.multiplicity(apex), 0);
+    Ok(())
+}
+
+#[test]
+fn as_often_as_may_be(rt: HostRuntime) -> Result<(), Fail> {
+    let p = at(0, 0)?;
+    let mut tree = tree_of(&rt, rt.alloc(), &[(0, 0), (1, 0)])?;
+    for times in 2u32..65536 {
+        assert_eq!(rt; tree.add(p), AddReply::Again(times));
+    }
+    assert_eq!(rt; MULTIPLICITY_LIMIT, 65535);
+    assert_eq!(rt; tree.add_counted(p), (AddReply::TooMany, 0));
+    assert_eq!(rt; tree.multiplicity(p), 65535);
+    assert_eq!(rt; tree.multiplicity(at(1, 0)?), 1);
+    assert_eq!(rt; tree.count(), 2);
+    assert_eq!(rt; tree.remove(p), RemoveReply::Left(65534));
+    Ok(())
+}
+
+/// A leaf that becomes the half of a fork, and a half that takes its fork's place, keep how often their points are held.
+#[test]
+fn times_among_changes(rt: HostRuntime) -> Result<(), Fail> {
+    let mut tree = tree_of(&rt, rt.alloc(), &[(0, 0)])?;
+    assert_eq!(rt; tree.add(at(0, 0)?), AddReply::Again(2));
+    assert_eq!(rt; tree.add(at(1, 0)?), AddReply::Added);
+    assert_eq!(rt; tree.add(at(2, 0)?), AddReply::Added);
+    assert_eq!(rt; tree.add(at(2, 0)?), AddReply::Again(2));
+    assert_eq!(rt; tree.add(at(3, 0)?), AddReply::Added);
+    assert_eq!(rt; tree.remove(at(1, 0)?), RemoveReply::Removed);
+    assert_eq!(rt; tree.remove(at(3, 0)?), RemoveReply::Removed);
+    assert_eq!(rt;
+        (tree.multiplicity(at(0, 0)?), tree.multiplicity(at(2, 0)?)),
+        (2, 2)
+    );
+    assert_eq!(rt; tree.remove(at(0, 0)?), RemoveReply::Left(1));
+    assert_eq!(rt; tree.remove(at(0, 0)?), RemoveReply::Removed);
+    assert_eq!(rt; tree.root().and_then(|root| root.multiplicity()), Some(2));
     Ok(())
 }
 
@@ -127,7 +192,7 @@ fn add_always_refuses(rt: HostRuntime) -> Result<(), Fail> {
     let mut tree = HullTree::new(rt.alloc(), POINT_LIMIT);
     assert_eq!(rt; tree.add(at(3, 4)?), AddReply::Added);
     assert_eq!(rt; tree.add(at(3, 5)?), AddReply::Added);
-    assert_eq!(rt; tree.add(at(3, 4)?), AddReply::Already);
+    assert_eq!(rt; tree.add(at(3, 4)?), AddReply::Again(2));
     assert_eq!(rt; tree.count(), 2);
     Ok(())
 }

@@ -1,26 +1,30 @@
-ghost use Rattle.std.specs.Prelude.{◌≡◌, ◌≤◌, Option, None, option_map, MatchOption};
+ghost use Rattle.std.specs.Prelude.{◌≡◌, ◌≢◌, ◌≤◌, Option, None, option_map, MatchOption};
 ghost use Rattle.hull_plain.specs.Replies.{Answers, after, reply_to_add, reply_to_remove, reply_to_extreme};
 ghost use Rattle.std.specs.Borrow.{Bor};
 ghost use Rattle.hull_tree.specs.declared.node.Node.{Node};
-ghost use Rattle.hull_tree.specs.Roots.{points_of_root, IsWellBuiltRoot};
+ghost use Rattle.hull_tree.specs.Roots.{held_by, IsWellBuiltRoot};
 ghost use Rattle.hull_tree.specs.Sets.{LimitedTree, IsSound, IsWhole};
 ghost use Rattle.hull_tree.specs.Turns.{IsLeastCount, IsLeafDepth};
 
 use super::build::blank;
-use super::change::{contains, insert, is_leaf, remove};
+use super::change::{insert, is_leaf, lower, raise, remove, times_of};
 use super::node::Node;
 use super::node_ref::NodeRef;
 use bridge_search::Half;
-use hull_plain::{AddReply, Call, HullSet, NoMemory, POINT_LIMIT, Place, RemoveReply};
+use hull_plain::{
+    AddReply, Call, HullSet, MULTIPLICITY_LIMIT, NoMemory, POINT_LIMIT, Place, RemoveReply, Rules,
+};
 use hull_questions::{area2, extreme_counted, place, tangents, vertices};
 use lattice::{Direction, Point};
 use std::alloc::Global;
 use std::marker::Model;
 
-/// A set of points as a balanced leaf tree, whose forks keep the bridges of their two halves.
+/// A set of points as a balanced leaf tree, whose forks keep the bridges of their two halves, and whose leaves keep how
+/// often their points are held.
 ///
-/// `add` and `remove` renew the forks on the way to the point and those that a rotation makes; each question goes down
-/// the stored bridges. Only `add` and `vertices` ask for memory: `add` for one box, and none for the first point.
+/// `add` of a new point and `remove` of one that is held once renew the forks on the way to the point and those that a
+/// rotation makes; every other change is one way down, to the number in the point's leaf. Each question goes down the
+/// stored bridges. Only `add` and `vertices` ask for memory: `add` of a new point for one box, and none for the first.
 #[derive(Drop)]
 pub struct HullTree {
     root: Option<Node>,
@@ -79,27 +83,31 @@ impl HullTree {
         }
     }
 
-    /// Puts `p` into the set, as [`add`](HullSet::add), and tells how many turns the searches of bridges took.
+    /// Holds `p` once more, as [`add`](HullSet::add), and tells how many turns the searches of bridges took.
     ///
     /// They are at most 10,000: a tree is at most 28 high, a change builds at most three forks a level and searches two
     /// bridges for each, and a search of two halves below it takes at most 56 turns. An added point takes at least the
     /// sum, over the forks that stand above it afterwards, of the depths of both bridges' ends in that fork's halves:
     /// each of these bridges was searched for. Every other answer takes none.
     pub fn add_counted(&mut self, p: Point) -> (AddReply, u32)
-        ensures reply { Answers (points_of_root self.old.root) self.old.limit (Call.Add p) (reply_to_add result.0) }
-        ensures effect { points_of_root self.new.root ≡ after (points_of_root self.old.root) (Call.Add p) (reply_to_add result.0) }
+        ensures reply { Answers Rules.Counted (held_by self.old.root) self.old.limit (Call.Add p) (reply_to_add result.0) }
+        ensures effect { held_by self.new.root ≡ after (held_by self.old.root) (Call.Add p) (reply_to_add result.0) }
         ensures same_limit { self.new.limit ≡ self.old.limit }
         ensures sound { IsSound self.new.root }
         ensures few { result.1 ≤ 10000 }
         ensures least { IsLeastCount result.0 self.new.root p result.1 }
     {
-        let Some(root) = &self.root else {
-            self.root = Some(Node::leaf(p));
+        let Some(root) = &mut self.root else {
+            self.root = Some(Node::leaf(p, 1));
             self.count = 1;
             return (AddReply::Added, 0);
         };
-        if contains(root, p) {
-            return (AddReply::Already, 0);
+        let times = raise(root, p);
+        if times == MULTIPLICITY_LIMIT {
+            return (AddReply::TooMany, 0);
+        }
+        if times > 0 {
+            return (AddReply::Again(times + 1), 0);
         }
         if self.count >= self.limit {
             return (AddReply::TooMany, 0);
@@ -107,47 +115,43 @@ impl HullTree {
         let Ok(spare) = Box::new(self.alloc, blank(p)) else {
             return (AddReply::NoMemory, 0);
         };
-        let Some(mut root) = self.root.take() else {
-            unreachable!()
-        };
-        let turns = insert(&mut root, p, spare);
-        self.root = Some(root);
+        let turns = insert(root, p, spare);
         self.count += 1;
         (AddReply::Added, turns)
     }
 
-    /// Takes `p` out of the set, as [`remove`](HullSet::remove), and tells how many turns the searches of bridges took: at
-    /// most 10,000, for the reason told at [`add_counted`](HullTree::add_counted), and none for an absent point.
+    /// Holds `p` once less, as [`remove`](HullSet::remove), and tells how many turns the searches of bridges took: at most
+    /// 10,000, for the reason told at [`add_counted`](HullTree::add_counted), and none unless `p` left the set.
     pub fn remove_counted(&mut self, p: Point) -> (RemoveReply, u32)
-        ensures reply { Answers (points_of_root self.old.root) self.old.limit (Call.Remove p) (reply_to_remove result.0) }
-        ensures effect { points_of_root self.new.root ≡ after (points_of_root self.old.root) (Call.Remove p) (reply_to_remove result.0) }
+        ensures reply { Answers Rules.Counted (held_by self.old.root) self.old.limit (Call.Remove p) (reply_to_remove result.0) }
+        ensures effect { held_by self.new.root ≡ after (held_by self.old.root) (Call.Remove p) (reply_to_remove result.0) }
         ensures same_limit { self.new.limit ≡ self.old.limit }
         ensures sound { IsSound self.new.root }
         ensures few { result.1 ≤ 10000 }
-        ensures absent { result.0 ≡ RemoveReply.Absent → result.1 ≡ 0 }
+        ensures none { result.0 ≢ RemoveReply.Removed → result.1 ≡ 0 }
     {
-        let Some(root) = &self.root else {
+        let Some(root) = &mut self.root else {
             return (RemoveReply::Absent, 0);
         };
-        if !contains(root, p) {
+        let times = lower(root, p);
+        if times == 0 {
             return (RemoveReply::Absent, 0);
         }
-        let Some(mut root) = self.root.take() else {
-            unreachable!()
-        };
+        if times > 1 {
+            return (RemoveReply::Left(times - 1), 0);
+        }
         self.count -= 1;
-        if is_leaf(&root, p) {
+        if is_leaf(root, p) {
+            self.root = None;
             return (RemoveReply::Removed, 0);
         }
-        let turns = remove(&mut root, p);
-        self.root = Some(root);
-        (RemoveReply::Removed, turns)
+        (RemoveReply::Removed, remove(root, p))
     }
 
     /// The first of the farthest points in the direction `d`, as [`extreme`](HullSet::extreme), and how many forks lie
     /// above its leaf; none for the empty set.
     pub fn extreme_counted(&self, d: Direction) -> (Option<Point>, u32)
-        ensures reply { Answers (points_of_root self.now.root) self.now.limit (Call.Extreme d) (reply_to_extreme result.0) }
+        ensures reply { Answers Rules.Counted (held_by self.now.root) self.now.limit (Call.Extreme d) (reply_to_extreme result.0) }
         ensures depth { IsLeafDepth self.now.root result.0 result.1 }
     {
         match self.half() {
@@ -161,7 +165,7 @@ impl HullTree {
 }
 
 impl HullSet for HullTree {
-    ghost points = { λ t. points_of_root t.root };
+    ghost held = { λ t. held_by t.root };
 
     ghost bound = { λ t. t.limit };
 
@@ -174,6 +178,13 @@ impl HullSet for HullTree {
 
     fn count(&self) -> u32 {
         self.count
+    }
+
+    fn multiplicity(&self, p: Point) -> u32 {
+        match &self.root {
+            None => 0,
+            Some(root) => times_of(root, p),
+        }
     }
 
     fn add(&mut self, p: Point) -> AddReply {

@@ -1,6 +1,8 @@
 -- What a program that was refused ends with, and its exit status.
 use Rattle.std.specs.Prelude.{ℕ, ◌==◌, if◌then◌else◌}
+use Rattle.hull_text.specs.declared.fault.FaultKind.TheVariants.{Read, NoMemory}
 use Rattle.hull_text.specs.declared.fault.TextFault.{TextFault}
+use Rattle.hull_text.specs.Fault.{fault_number}
 use Rattle.hull_text.specs.declared.upgrading.UpgradeFault.{UpgradeFault}
 use Rattle.hull_text.specs.declared.upgrading.UpgradeFault.TheVariants as upgrade
 use Rattle.hullbook.specs.declared.fault.Fault.{Fault}
@@ -12,7 +14,7 @@ use Rattle.hullbook.specs.declared.run.RunFault.TheVariants as engine
 
 -- 3 where the input failed, 4 where memory was refused to its reader, 2 where the text itself is at fault
 abbrev pub text_status : TextFault → ℕ
-text_status f = if f.number == 8 then 3 else if f.number == 10 then 4 else 2
+text_status f = if f.number == fault_number Read then 3 else if f.number == fault_number NoMemory then 4 else 2
 
 -- 2 for words and texts that are refused, 3 for a file or a device that failed, 4 where memory was refused
 abbrev pub status_of : Fault → ℕ

@@ -10,9 +10,8 @@ use Rattle.hull_pool.specs.Answers.{WorkersValue}
 use Rattle.hull_pool.specs.Runs.{answers_of}
 use Rattle.hull_pool.specs.Scripts.{Runs}
 use Rattle.hull_text.specs.ReportText.{report_text}
-use Rattle.hull_text.specs.JournalText.{journal_text}
+use Rattle.hull_text.specs.JournalText.{written_text}
 use Rattle.hull_text.specs.JournalGrammar.{IsJournalText}
-use Rattle.hull_text.specs.Version.{written}
 use Rattle.hull_text.specs.ScriptGrammar.{IsScriptText, ReadsKnownScript}
 use Rattle.hullbook.specs.declared.options.Options.{Options}
 
@@ -38,7 +37,7 @@ pub record IsRun (script : ScriptValue) (o : Options) (answers : List (List Answ
 
 -- the journal or the report, as the options ask
 abbrev pub output_text : Options → ScriptValue → List (List Answer) → List ℕ → JournalValue → List ℕ
-output_text o script answers counts journal = cond o.journal (journal_text written journal) (report_text script answers counts journal)
+output_text o script answers counts journal = cond o.journal (written_text journal) (report_text script answers counts journal)
 
 -- where the journal is asked for, the text is one of this journal
 abbrev pub IsJournalWhereAsked : Options → List ℕ → JournalValue → Type 0

@@ -4,7 +4,7 @@ ghost use Rattle.hullbook.specs.Faults.{fault_of_engine, fault_of_upgrade, fault
 
 use crate::options::OptionFault;
 use crate::run::RunFault;
-use hull_text::{TextFault, UpgradeFault};
+use hull_text::{FaultKind, TextFault, UpgradeFault};
 use std::io;
 use std::io::ErrorKind;
 use thiserror::Error;
@@ -50,10 +50,11 @@ impl Fault {
             Fault::Usage => 2,
             Fault::Open | Fault::Write => 3,
             Fault::Memory => 4,
-            Fault::Text(TextFault { number, line: _ }) => match *number {
-                8 => 3,
-                10 => 4,
-                _ => 2,
+            Fault::Text(fault) => match fault.kind() {
+                Some(FaultKind::Read) => 3,
+                Some(FaultKind::NoMemory) => 4,
+                Some(_) => 2,
+                None => 2,
             },
         }
     }

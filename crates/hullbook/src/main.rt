@@ -71,7 +71,7 @@ fn check_file<R: Files + Print + AllocGlobal>(rt: &R, path: &str) -> Result<bool
     check_text(rt.alloc(), &mut input, &mut output).map_err(Fault::from)
 }
 
-/// Writes the journal at the path to standard output, in the newest version.
+/// Writes the journal at the path to standard output, in the newest version that has its rules.
 fn upgrade_file<R: Files + Print + AllocGlobal>(rt: &R, path: &str) -> Result<(), Fault> {
     let file = fs::open(rt, path).map_err(|error| Fault::of_system(&error, Fault::Open))?;
     let mut input = Counted::new(file);

@@ -24,7 +24,7 @@ pub enum Task {
     Run(String, Options),
     /// To check the journal at this path.
     Check(String),
-    /// To write the journal at this path in the newest version.
+    /// To write the journal at this path in the newest version that has its rules.
     Upgrade(String),
 }
 

@@ -32,7 +32,7 @@ const FIVE_REPORT: &str =
     "0 add 0 2 = added\n0 add 2 2 = added\n0 extreme 0 1 = point 0 2\n0 remove 0 2 = removed\n0 extreme 0 1 = point 2 2\nledger 0 5\nsum 5 journal 5 capacity 65536\n";
 
 const JOURNAL: &str =
-    "hullbook journal 2 first 18446744073709551615 limit 4 capacity 4\n18446744073709551615 0 add 5 5 = added\n0 0 count = count 1\n1 0 remove 5 5 = removed\nend 3\n";
+    "hullbook journal 3 first 18446744073709551615 limit 4 capacity 4\n18446744073709551615 0 add 5 5 = added\n0 0 count = count 1\n1 0 remove 5 5 = removed\nend 3\n";
 
 // Whether a run of the script, read and written in small pieces, ends well with this text.
 fn runs_to<R: Threads + Wait + Sync>(
@@ -121,7 +121,7 @@ fn second_worker_first(rt: HostRuntime) -> Result<(), Fail> {
         journal: true,
     };
     let journal =
-        "hullbook journal 2 first 7 limit 4 capacity 4\n7 1 count = count 0\n8 0 add 5 5 = added\nend 2\n";
+        "hullbook journal 3 first 7 limit 4 capacity 4\n7 1 count = count 0\n8 0 add 5 5 = added\nend 2\n";
     assert!(rt; runs_to(&rt, rt.alloc(), script, &options, journal)?);
     Ok(())
 }
@@ -201,9 +201,24 @@ fn output_fails_midway(rt: HostRuntime) -> Result<(), Fail> {
 #[test]
 fn journals_are_judged(rt: HostRuntime) -> Result<(), Fail> {
     let wrong =
-        "hullbook journal 2 first 0 limit 4 capacity 4\n0 0 add 5 5 = added\n1 0 count = count 2\nend 2\n";
+        "hullbook journal 3 first 0 limit 4 capacity 4\n0 0 add 5 5 = added\n1 0 count = count 2\nend 2\n";
     assert_eq!(rt; judges(rt.alloc(), JOURNAL, "legal\n")?, Some(true));
     assert_eq!(rt; judges(rt.alloc(), wrong, "illegal 3\n")?, Some(false));
+    Ok(())
+}
+
+/// A journal goes by the rules of its version: there a second adding is counted, or changes nothing.
+#[test]
+fn journals_are_judged_by_their_rules(rt: HostRuntime) -> Result<(), Fail> {
+    let counted =
+        "hullbook journal 3 first 0 limit 1 capacity 4\n0 0 add 5 5 = added\n1 0 add 5 5 = again 2\n2 0 remove 5 5 = left 1\n3 0 count = count 1\nend 4\n";
+    let miscounted =
+        "hullbook journal 3 first 0 limit 1 capacity 4\n0 0 add 5 5 = added\n1 0 add 5 5 = again 3\nend 2\n";
+    let set =
+        "hullbook journal 2 first 0 limit 1 capacity 4\n0 0 add 5 5 = added\n1 0 add 5 5 = already\n2 0 remove 5 5 = removed\n3 0 count = count 0\nend 4\n";
+    assert_eq!(rt; judges(rt.alloc(), counted, "legal\n")?, Some(true));
+    assert_eq!(rt; judges(rt.alloc(), miscounted, "illegal 3\n")?, Some(false));
+    assert_eq!(rt; judges(rt.alloc(), set, "legal\n")?, Some(true));
     Ok(())
 }
 

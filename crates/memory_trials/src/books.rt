@@ -1,5 +1,6 @@
 //! A book is opened, serves calls, and its journal is checked.
-ghost use Rattle.std.specs.Prelude.{◌≡◌, ◌≤◌, []};
+ghost use Rattle.std.specs.Prelude.{◌≡◌, ◌≤◌};
+ghost use Rattle.hull_plain.specs.Held.{nothing_held};
 ghost use Rattle.hull_book.specs.Books.{IsLawful};
 ghost use Rattle.hull_book.specs.Ledgers.{AreLedgers};
 
@@ -8,7 +9,7 @@ use crate::stage::Stage;
 use hull_book::{
     Answer, Book, BookFault, CheckResult, Journal, JournalFull, Ledger, Line, check, gather,
 };
-use hull_plain::{Call, HullSet, PointList, Reply};
+use hull_plain::{Call, HullSet, PointList, Reply, Rules};
 use lattice::Point;
 use std::alloc::{AllocError, Global};
 
@@ -40,7 +41,7 @@ fn expect_new<S: HullSet + Drop>(book: Book<S>, ledgers: Vec<Ledger>, findings: 
 
 /// Opens a book over the set, at the second attempt.
 fn open_again<S: HullSet + Drop>(alloc: Global, set: S, findings: &mut Findings)
-    requires empty { S.points set ≡ [] }
+    requires empty { S.held set ≡ nothing_held }
 {
     match Book::open(alloc, set, 7, 4, 3) {
         Ok((book, ledgers)) => expect_new(book, ledgers, findings),
@@ -50,7 +51,7 @@ fn open_again<S: HullSet + Drop>(alloc: Global, set: S, findings: &mut Findings)
 
 /// Opens a book over the set. Where memory is refused, the set comes back, and the next attempt opens it.
 pub fn try_open<S: HullSet + Drop>(alloc: Global, set: S) -> Result<Stage, &'static str>
-    requires empty { S.points set ≡ [] }
+    requires empty { S.held set ≡ nothing_held }
 {
     let mut findings = Findings::new();
     let limit = set.limit();
@@ -119,7 +120,7 @@ fn either(one: Stage, other: Stage) -> Stage {
 
 /// Serves an add and the vertices over the set.
 pub fn try_serve<S: HullSet + Drop>(alloc: Global, set: S, p: Point) -> Result<Stage, &'static str>
-    requires empty { S.points set ≡ [] }
+    requires empty { S.held set ≡ nothing_held }
 {
     let mut findings = Findings::new();
     let Ok((mut book, mut ledgers)) = Book::open(alloc, set, 7, 4, 1) else {
@@ -149,7 +150,8 @@ fn journal_of(alloc: Global, p: Point) -> Result<Option<Journal>, AllocError> {
     let list = PointList::new(Vec::from_array(alloc, [p])?);
     let add = Line::new(7, 0, Call::Add(p), Reply::Added);
     let ask = Line::new(8, 0, Call::Vertices, Reply::VertexList(list));
-    Ok(Journal::new(7, 4, 4, Vec::from_array(alloc, [add, ask])?))
+    let lines = Vec::from_array(alloc, [add, ask])?;
+    Ok(Journal::new(7, 4, 4, lines, Rules::Counted))
 }
 
 /// Checks a journal.

@@ -1,5 +1,6 @@
 //! A lock is opened round a book.
-ghost use Rattle.std.specs.Prelude.{◌≡◌, []};
+ghost use Rattle.std.specs.Prelude.{◌≡◌};
+ghost use Rattle.hull_plain.specs.Held.{nothing_held};
 
 use crate::findings::Findings;
 use crate::stage::Stage;
@@ -11,7 +12,7 @@ use ticket_lock::{OpenFault, TicketLock};
 /// Opens a lock with three seats round a book, and closes it. Where memory is refused, the book comes back, and the next
 /// attempt opens the lock.
 pub fn try_lock<S: HullSet + Drop>(alloc: Global, set: S) -> Result<Stage, &'static str>
-    requires empty { S.points set ≡ [] }
+    requires empty { S.held set ≡ nothing_held }
 {
     let mut findings = Findings::new();
     let Ok((book, ledgers)) = Book::open(alloc, set, 7, 4, 3) else {

@@ -30,9 +30,11 @@ use std::sync::Wait;
 use std::thread::Threads;
 
 /// The names of the trials, in the order in which they are made without a name.
-const NAMES: [&str; 19] = [
+const NAMES: [&str; 21] = [
     "plain_add",
     "tree_add",
+    "plain_again",
+    "tree_again",
     "plain_vertices",
     "tree_vertices",
     "plain_open",
@@ -62,6 +64,8 @@ fn trial<R: Threads + Wait + Sync>(
     Some(match name {
         "plain_add" => sets::try_add(PlainSet::new(alloc, 12)).1,
         "tree_add" => sets::try_add(HullTree::new(alloc, 12)).1,
+        "plain_again" => sets::try_again(PlainSet::new(alloc, 12)).1,
+        "tree_again" => sets::try_again(HullTree::new(alloc, 12)).1,
         "plain_vertices" => sets::try_vertices(PlainSet::new(alloc, 12)).1,
         "tree_vertices" => sets::try_vertices(HullTree::new(alloc, 12)).1,
         "plain_open" => books::try_open(alloc, PlainSet::new(alloc, 12)),

@@ -1,5 +1,6 @@
 //! A phase, and a script of one phase, are run by one worker.
-ghost use Rattle.std.specs.Prelude.{◌≡◌, ◌≤◌, [], IfSome, OnErr, OnOk, length};
+ghost use Rattle.std.specs.Prelude.{◌≡◌, ◌≤◌, IfSome, OnErr, OnOk, length};
+ghost use Rattle.hull_plain.specs.Held.{nothing_held};
 ghost use Rattle.hull_book.specs.Books.{IsLawful};
 ghost use Rattle.hull_book.specs.Ledgers.{AreLedgers};
 ghost use Rattle.hull_pool.specs.Runs.{HasRunPhase, MayRun};
@@ -52,7 +53,7 @@ fn stage_of(answers: &[Answer], zero: Point, one: Point) -> Option<Stage> {
 /// Reserves the room for the answers of a script. Where memory is refused, the ledgers come back with their counts, and
 /// the next attempt has the room.
 pub fn try_workers<S: HullSet + Drop>(alloc: Global, set: S) -> Result<Stage, &'static str>
-    requires empty { S.points set ≡ [] }
+    requires empty { S.held set ≡ nothing_held }
 {
     let mut findings = Findings::new();
     let Some(script) = script(alloc) else {
@@ -112,7 +113,7 @@ fn judge<S: HullSet + Drop>(
 
 /// A book over the set, and workers that may run the script; `None` where memory is refused to them.
 fn prepared<S: HullSet + Drop>(alloc: Global, set: S, script: &Script) -> Option<(Book<S>, Workers)>
-    requires empty { S.points set ≡ [] }
+    requires empty { S.held set ≡ nothing_held }
     ensures { IfSome result (λ r. MayRunAll S.HullSet r.0 r.1 script.now.phases) }
 {
     let Ok((book, ledgers)) = Book::open(alloc, set, 7, 4, script.workers()) else {
@@ -133,7 +134,7 @@ pub fn try_phases<R: Threads + Wait + Sync, S: HullSet + Drop + Send + Sync>(
     alloc: Global,
     set: S,
 ) -> Result<Stage, &'static str>
-    requires empty { S.points set ≡ [] }
+    requires empty { S.held set ≡ nothing_held }
 {
     let mut findings = Findings::new();
     let Some(script) = script(alloc) else {
@@ -206,7 +207,7 @@ fn run_first<R: Threads + Wait + Sync, S: HullSet + Drop + Send + Sync>(
     set: S,
     script: &Script,
 ) -> Result<Stage, &'static str>
-    requires empty { S.points set ≡ [] }
+    requires empty { S.held set ≡ nothing_held }
     requires some { 1 ≤ length script.now.phases }
 {
     let mut findings = Findings::new();
@@ -237,7 +238,7 @@ pub fn try_phase<R: Threads + Wait + Sync, S: HullSet + Drop + Send + Sync>(
     alloc: Global,
     set: S,
 ) -> Result<Stage, &'static str>
-    requires empty { S.points set ≡ [] }
+    requires empty { S.held set ≡ nothing_held }
 {
     let Some(script) = script(alloc) else {
         return Ok(Stage::SetUp);

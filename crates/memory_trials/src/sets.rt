@@ -1,7 +1,7 @@
-//! Points are put into a set, and its vertices are asked for.
+//! Points are put into a set, once and once more, and its vertices are asked for.
 use crate::findings::Findings;
 use crate::stage::Stage;
-use hull_plain::{AddReply, HullSet, NoMemory};
+use hull_plain::{AddReply, HullSet, NoMemory, RemoveReply};
 use lattice::Point;
 
 /// How many points are put in: lists grow several times on the way.
@@ -48,7 +48,7 @@ fn put<S: HullSet>(set: &mut S, k: u32, p: Point, findings: &mut Findings) -> St
             findings.expect(set.add(p) == AddReply::Added, "the next add has its memory");
             Stage::Refused
         }
-        AddReply::Already | AddReply::TooMany => {
+        AddReply::Again(_) | AddReply::TooMany => {
             findings.expect(false, "the point is new and below the limit");
             Stage::Whole
         }
@@ -73,14 +73,43 @@ pub fn try_add<S: HullSet>(mut set: S) -> (S, Result<Stage, &'static str>) {
     (set, findings.told(stage))
 }
 
+/// Puts all points in, up to the first for which memory is refused.
+fn fill<S: HullSet>(set: &mut S, findings: &mut Findings) -> Stage {
+    for k in 0..POINTS {
+        let Some(p) = corner(k) else { break };
+        if put(set, k, p, findings) == Stage::Refused {
+            return Stage::Refused;
+        }
+    }
+    Stage::Whole
+}
+
+/// Puts each point of a set in once more, and takes it out once: nothing is asked for, so nothing can be refused.
+pub fn try_again<S: HullSet>(mut set: S) -> (S, Result<Stage, &'static str>) {
+    let mut findings = Findings::new();
+    if fill(&mut set, &mut findings) == Stage::Refused {
+        return (set, findings.told(Stage::SetUp));
+    }
+    for k in 0..POINTS {
+        let Some(p) = corner(k) else { break };
+        findings.expect(
+            set.add(p) == AddReply::Again(2),
+            "a live point is held once more",
+        );
+        findings.expect(
+            set.remove(p) == RemoveReply::Left(1),
+            "it is still held once",
+        );
+    }
+    findings.expect(has_corners(&set, POINTS), "the points are as they were");
+    (set, findings.told(Stage::Whole))
+}
+
 /// Asks a set of all points for its vertices.
 pub fn try_vertices<S: HullSet>(mut set: S) -> (S, Result<Stage, &'static str>) {
     let mut findings = Findings::new();
-    for k in 0..POINTS {
-        let Some(p) = corner(k) else { break };
-        if put(&mut set, k, p, &mut findings) == Stage::Refused {
-            return (set, findings.told(Stage::SetUp));
-        }
+    if fill(&mut set, &mut findings) == Stage::Refused {
+        return (set, findings.told(Stage::SetUp));
     }
     let stage = match set.vertices() {
         Ok(points) => {

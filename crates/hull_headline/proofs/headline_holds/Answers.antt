@@ -1,5 +1,5 @@
 -- the law of the lock leads to a good world, which says each sentence
-use Rattle.hull_headline.proofs.Good.{one_holder, bridges, legal, in_order, ledgers}
+use Rattle.hull_headline.proofs.Good.{one_holder, bridges, multiplicities, legal, in_order, ledgers}
 use Rattle.hull_headline.proofs.headline_holds.Goals as goal
 
 pub returns-clause-one_holder : goal.returns-clause-one_holder
@@ -7,6 +7,9 @@ returns-clause-one_holder c = one_holder c.partitioned_schedules_hold.ensures
 
 pub returns-clause-bridges : goal.returns-clause-bridges
 returns-clause-bridges c = bridges c.partitioned_schedules_hold.ensures
+
+pub returns-clause-multiplicities : goal.returns-clause-multiplicities
+returns-clause-multiplicities c = multiplicities c.partitioned_schedules_hold.ensures
 
 pub returns-clause-legal : goal.returns-clause-legal
 returns-clause-legal c = legal c.partitioned_schedules_hold.ensures

@@ -9,7 +9,7 @@ use super::call::call_of;
 use super::field::{next_field, seat_of};
 use super::item::Item;
 use crate::fault::FaultKind;
-use crate::version::WRITTEN;
+use crate::version::NEWEST;
 
 /// Whether a line has the form of one.
 #[tactic(auto, unfolding(crate::specs::Form::has_form))]
@@ -41,7 +41,7 @@ fn served(line: &[u8]) -> Result<Option<Item>, FaultKind>
     ensures worker { IfOk result SaysWorker }
 {
     let (worker, rest) = seat_of(Some(line))?;
-    match call_of(WRITTEN, rest) {
+    match call_of(NEWEST, rest) {
         Ok((call, rest)) => {
             if next_field(rest).is_some() {
                 return Err(FaultKind::Form);

@@ -3,6 +3,7 @@ ghost use Rattle.std.specs.Prelude.{◌<◌, ◌-◌, ◌^◌};
 use super::line_in_hand;
 use crate::{Counted, TextFault, WriteFault, read_journal, write_journal};
 use hull_book::Journal;
+use hull_plain::Rules;
 use std::alloc::Global;
 use std::io::BufWriter;
 use std::test::Fail;
@@ -10,7 +11,7 @@ use text_io::testing::{Pieces, Spout};
 
 /// The journal of a removal that uncovers an inner point.
 pub const EXAMPLE: &[u8] =
-    b"hullbook journal 2 first 0 limit 8 capacity 8\n0 0 add 0 0 = added\n1 0 add 4 0 = added\n2 0 add 2 3 = added\n3 0 add 2 1 = added\n4 0 remove 2 3 = removed\n5 0 vertices = list 3 0 0 4 0 2 1\n6 0 area = area 4\nend 7\n";
+    b"hullbook journal 3 first 0 limit 8 capacity 8\n0 0 add 0 0 = added\n1 0 add 4 0 = added\n2 0 add 2 3 = added\n3 0 add 2 1 = added\n4 0 remove 2 3 = removed\n5 0 vertices = list 3 0 0 4 0 2 1\n6 0 area = area 4\nend 7\n";
 
 // What a journal reads as: how many lines, or its fault.
 #[derive(Clone, Copy, Debug, PartialEq)]
@@ -76,6 +77,7 @@ fn the_example_journal_is_read_and_written_back(rt: HostRuntime) -> Result<(), F
             (journal.first(), journal.limit(), journal.capacity()),
             (0, 8, 8)
         );
+        assert_eq!(rt; journal.rules(), Rules::Counted);
         let mut out = Counted::new(Spout::new(rt.alloc(), 256, size)?);
         assert_eq!(rt; write_journal(&journal, &mut out), Ok(()));
         assert_eq!(rt; out.get_ref().bytes(), EXAMPLE);
@@ -94,14 +96,14 @@ fn is_read_so(alloc: Global, text: &[u8], want: Outcome) -> bool {
 }
 
 /// Lines that have a fault in the place of one of the example: the line's number, its text, and the fault.
-const FAULTY_LINES: [(u32, &str, u8); 30] = [
+const FAULTY_LINES: [(u32, &str, u8); 37] = [
     (1, "hullbook journal 0 first 0 limit 8 capacity 8", 7),
-    (1, "hullbook journal 3 first 0 limit 8 capacity 8", 7),
-    (1, "hullbook journal 2 first 0 limit 0 capacity 8", 7),
-    (1, "hullbook journal 2 first 0 limit 8 capacity 0", 7),
-    (1, "hullbook journal 2 first 0 limit 8 capacity 16777217", 7),
-    (1, "hullbook  journal 2 first 0 limit 8 capacity 8", 7),
-    (1, "hullbook journal 2 first 00 limit 8 capacity 8", 7),
+    (1, "hullbook journal 4 first 0 limit 8 capacity 8", 7),
+    (1, "hullbook journal 3 first 0 limit 0 capacity 8", 7),
+    (1, "hullbook journal 3 first 0 limit 8 capacity 0", 7),
+    (1, "hullbook journal 3 first 0 limit 8 capacity 16777217", 7),
+    (1, "hullbook  journal 3 first 0 limit 8 capacity 8", 7),
+    (1, "hullbook journal 3 first 00 limit 8 capacity 8", 7),
     (2, "0 0 vertices = list 1048577", 2),
     (3, "", 1),
     (3, "# a remark", 2),
@@ -109,6 +111,13 @@ const FAULTY_LINES: [(u32, &str, u8); 30] = [
     (3, "1 0 add 4 0 : added", 1),
     (3, "1 0 add 4 0 = ok", 5),
     (3, "1 0 add 4 0 = full", 5),
+    (3, "1 0 add 4 0 = already", 5),
+    (3, "1 0 add 4 0 = again", 1),
+    (3, "1 0 add 4 0 = again x", 2),
+    (3, "1 0 add 4 0 = again 02", 2),
+    (3, "1 0 add 4 0 = again 65536", 2),
+    (3, "1 0 add 4 0 = again 2 2", 1),
+    (3, "1 0 remove 0 0 = left 65536", 2),
     (3, "01 0 add 4 0 = added", 2),
     (3, "18446744073709551616 0 add 4 0 = added", 2),
     (3, "1 0 extreme 0 0 = empty", 3),
@@ -150,6 +159,9 @@ fn other_changes_of_the_example_journal_are_read(rt: HostRuntime) -> Result<(), 
         (3, "18446744073709551615 0 add 4 0 = added"),
         (3, "1 63 add 4 0 = added"),
         (3, "1 0 add 4 0 = inside"),
+        (3, "1 0 add 4 0 = again 65535"),
+        (3, "1 0 add 4 0 = left 0"),
+        (3, "1 0 remove 0 0 = left 65535"),
         (3, "1 0 add 4 0 = tangents -1 0 0 -1099511627776"),
         (
             3,
@@ -168,6 +180,59 @@ fn other_changes_of_the_example_journal_are_read(rt: HostRuntime) -> Result<(), 
         );
     }
     assert!(rt; is_read_so(rt.alloc(), EXAMPLE, Outcome::Lines(7)));
+    Ok(())
+}
+
+/// Second lines of a journal, and which of the versions have their replies.
+const RULED_LINES: [(&str, [bool; 3]); 4] = [
+    ("1 0 add 5 5 = already", [true, true, false]),
+    ("1 0 add 5 5 = again 2", [false, false, true]),
+    ("1 0 remove 5 5 = left 1", [false, false, true]),
+    ("1 0 add 5 5 = toomany", [true, true, true]),
+];
+
+// A journal of this version with this line.
+fn with_line(alloc: Global, version: u8, line: &str) -> Result<Vec<u8>, Fail> {
+    let mut text = Vec::new(alloc);
+    text.extend_from_slice(b"hullbook journal ")?;
+    text.push(version)?;
+    text.extend_from_slice(b" first 0 limit 1 capacity 4\n0 0 add 5 5 = added\n")?;
+    text.extend_from_slice(line.as_bytes())?;
+    text.extend_from_slice(b"\nend 2\n")?;
+    Ok(text)
+}
+
+#[test]
+fn a_reply_is_one_of_the_rules_of_its_version(rt: HostRuntime) -> Result<(), Fail> {
+    for (line, known) in RULED_LINES {
+        for (version, known) in [(b'1', known[0]), (b'2', known[1]), (b'3', known[2])] {
+            let text = with_line(rt.alloc(), version, line)?;
+            let want = if known {
+                Outcome::Lines(2)
+            } else {
+                Outcome::Fault(5, 3)
+            };
+            assert!(rt; is_read_so(rt.alloc(), &text, want), "{line}");
+        }
+    }
+    Ok(())
+}
+
+#[test]
+fn the_version_tells_the_rules(rt: HostRuntime) -> Result<(), Fail> {
+    let rows = [
+        (b'1', Rules::Set),
+        (b'2', Rules::Set),
+        (b'3', Rules::Counted),
+    ];
+    for (version, rules) in rows {
+        let text = with_line(rt.alloc(), version, "1 0 count = count 1")?;
+        let mut source = Counted::new(Pieces::new(&text, 4096));
+        match read_journal(rt.alloc(), &mut source) {
+            Ok(journal) => assert_eq!(rt; journal.rules(), rules),
+            Err(fault) => return Err(fault.into()),
+        }
+    }
     Ok(())
 }
 
@@ -300,12 +365,12 @@ fn a_written_journal_reaches_the_device_behind_a_block(rt: HostRuntime) -> Resul
 #[test]
 fn a_header_takes_the_greatest_numbers(rt: HostRuntime) -> Result<(), Fail> {
     let text =
-        b"hullbook journal 2 first 18446744073709551615 limit 1048576 capacity 16777216\nend 0\n";
+        b"hullbook journal 3 first 18446744073709551615 limit 1048576 capacity 16777216\nend 0\n";
     assert_eq!(rt; read(rt.alloc(), text, 3, 0), Outcome::Lines(0));
     let beyond =
-        b"hullbook journal 2 first 18446744073709551616 limit 1048576 capacity 16777216\nend 0\n";
+        b"hullbook journal 3 first 18446744073709551616 limit 1048576 capacity 16777216\nend 0\n";
     assert_eq!(rt; read(rt.alloc(), beyond, 3, 0), Outcome::Fault(7, 1));
-    let wide = b"hullbook journal 2 first 0 limit 1048577 capacity 1\nend 0\n";
+    let wide = b"hullbook journal 3 first 0 limit 1048577 capacity 1\nend 0\n";
     assert_eq!(rt; read(rt.alloc(), wide, 3, 0), Outcome::Fault(7, 1));
     Ok(())
 }

@@ -68,6 +68,42 @@ fn a_report_tells_answers_ledgers_and_their_sum(rt: HostRuntime) -> Result<(), F
     Ok(())
 }
 
+#[test]
+fn a_report_tells_how_often_a_point_is_held(rt: HostRuntime) -> Result<(), Fail> {
+    let lines = b"0 add 3 4\n0 add 3 4\n0 remove 3 4\n";
+    let script = match read_script(rt.alloc(), &mut Counted::new(Pieces::new(lines, 3))) {
+        Ok(script) => script,
+        Err(fault) => return Err(fault.into()),
+    };
+    let text =
+        b"hullbook journal 3 first 0 limit 1 capacity 3\n0 0 add 3 4 = added\n1 0 add 3 4 = again 2\n2 0 remove 3 4 = left 1\nend 3\n";
+    let journal = match read_journal(rt.alloc(), &mut Counted::new(Pieces::new(text, 3))) {
+        Ok(journal) => journal,
+        Err(fault) => return Err(fault.into()),
+    };
+    let mut only = Vec::new(rt.alloc());
+    only.push(Ok(Reply::Added))?;
+    only.push(Ok(Reply::Again(2)))?;
+    only.push(Ok(Reply::Left(1)))?;
+    let mut answers = Vec::new(rt.alloc());
+    answers.push(only)?;
+    let report = Report {
+        script: &script,
+        answers: &answers,
+        ledgers: &[3],
+        journal: &journal,
+    };
+    let fits = report_fits(&report);
+    assert!(rt; fits);
+    let mut out = Counted::new(Spout::new(rt.alloc(), 256, 3)?);
+    assert_eq!(rt; write_report(&report, &mut out), Ok(()));
+    assert_eq!(rt;
+        out.get_ref().bytes(),
+        b"0 add 3 4 = added\n0 add 3 4 = again 2\n0 remove 3 4 = left 1\nledger 0 3\nsum 3 journal 3 capacity 3\n".as_slice()
+    );
+    Ok(())
+}
+
 /// The script of the example journal, which has a removal that uncovers an inner point, and its report.
 const EXAMPLE_SCRIPT: &[u8] =
     b"# a removal uncovers an inner point\n0 add 0 0\n0 add 4 0\n0 add 2 3\n0 add 2 1\n0 remove 2 3\n0 vertices\n0 area\n";

@@ -28,15 +28,26 @@ fn upgraded(
 }
 
 #[test]
-fn the_example_comes_out_in_the_newest_version(rt: HostRuntime) -> Result<(), Fail> {
-    let old = in_version(rt.alloc(), b'1')?;
-    for size in [1, 3, 4096] {
-        for text in [old.as_slice(), EXAMPLE] {
-            let (outcome, written) = upgraded(rt.alloc(), text, size)?;
+fn the_example_comes_out_in_the_newest_version_of_its_rules(rt: HostRuntime) -> Result<(), Fail> {
+    for (version, newest) in [(b'1', b'2'), (b'2', b'2'), (b'3', b'3')] {
+        let text = in_version(rt.alloc(), version)?;
+        let want = in_version(rt.alloc(), newest)?;
+        for size in [1, 3, 4096] {
+            let (outcome, written) = upgraded(rt.alloc(), &text, size)?;
             assert_eq!(rt; outcome, Ok(()));
-            assert!(rt; written.as_slice() == EXAMPLE);
+            assert!(rt; written.as_slice() == want.as_slice());
         }
     }
+    Ok(())
+}
+
+#[test]
+fn the_greatest_multiplicity_comes_out_as_it_was(rt: HostRuntime) -> Result<(), Fail> {
+    let text =
+        b"hullbook journal 3 first 0 limit 1 capacity 4\n0 0 add 5 5 = again 65535\n1 0 remove 5 5 = left 65535\nend 2\n";
+    let (outcome, written) = upgraded(rt.alloc(), text, 3)?;
+    assert_eq!(rt; outcome, Ok(()));
+    assert!(rt; written.as_slice() == text.as_slice());
     Ok(())
 }
 
@@ -56,7 +67,7 @@ fn a_coordinate_has_the_range_of_its_version(rt: HostRuntime) -> Result<(), Fail
 
 #[test]
 fn a_fault_of_the_text_leaves_nothing_written(rt: HostRuntime) -> Result<(), Fail> {
-    let unknown = in_version(rt.alloc(), b'3')?;
+    let unknown = in_version(rt.alloc(), b'4')?;
     let (outcome, written) = upgraded(rt.alloc(), &unknown, 3)?;
     let fault = TextFault { number: 7, line: 1 };
     assert_eq!(rt; outcome, Err(UpgradeFault::Text(fault)));
@@ -81,6 +92,7 @@ fn a_fault_of_the_text_leaves_nothing_written(rt: HostRuntime) -> Result<(), Fai
 #[test]
 fn each_failing_write_of_an_upgrade_leaves_a_beginning(rt: HostRuntime) -> Result<(), Fail> {
     let old = in_version(rt.alloc(), b'1')?;
+    let want = in_version(rt.alloc(), b'2')?;
     for call in 1..=EXAMPLE.len() as u64 {
         let mut source = Counted::new(Pieces::new(&old, 4096));
         let mut out = Counted::new(Spout::new(rt.alloc(), 256, 1)?.failing_at(call));
@@ -91,7 +103,7 @@ fn each_failing_write_of_an_upgrade_leaves_a_beginning(rt: HostRuntime) -> Resul
         assert_eq!(rt; out.failures(), 1);
         let spout = out.into_inner();
         assert_eq!(rt; spout.calls(), call);
-        assert!(rt; EXAMPLE.starts_with(spout.bytes()));
+        assert!(rt; want.starts_with(spout.bytes()));
     }
     Ok(())
 }

@@ -1,7 +1,7 @@
 //! The tree and the plain set under the same changes and questions.
 use super::at;
 use crate::{HullTree, Node};
-use hull_plain::{AddReply, HullSet, POINT_LIMIT, PlainSet, RemoveReply};
+use hull_plain::{HullSet, POINT_LIMIT, PlainSet};
 use lattice::{Direction, Point, before};
 use std::alloc::{AllocError, Global};
 use std::process::Abort;
@@ -25,24 +25,24 @@ fn centred(number: u32, half: u32) -> i64 {
     number as i64 - half as i64
 }
 
-/// Puts the points below a node behind others, from left to right.
-fn push_points(points: &mut Vec<Point>, node: &Node) -> Result<(), AllocError> {
+/// Puts the points below a node, each with how often it is held, behind others, from left to right.
+fn push_points(points: &mut Vec<(Point, u32)>, node: &Node) -> Result<(), AllocError> {
     if let Some((left, right)) = node.halves() {
         push_points(points, left)?;
         push_points(points, right)?;
     }
-    if let Some(point) = node.point() {
-        points.push(point)?;
+    if let (Some(point), Some(times)) = (node.point(), node.multiplicity()) {
+        points.push((point, times))?;
     }
     Ok(())
 }
 
-/// All points of the tree are points of the plain set, in order, and no other is.
+/// All points of the tree are points of the plain set, in order and held as often, and no other is.
 fn assert_same_points(
     rt: &impl Abort,
     alloc: Global,
     tree: &HullTree,
-    plain: &mut PlainSet,
+    plain: &PlainSet,
 ) -> Result<(), Fail> {
     let mut points = Vec::new(alloc);
     if let Some(root) = tree.root() {
@@ -51,9 +51,10 @@ fn assert_same_points(
     assert_eq!(rt; points.len(), tree.count() as usize);
     assert_eq!(rt; plain.count(), tree.count());
     for i in 0..points.len() {
-        assert!(rt; i == 0 || before(points[i - 1], points[i]), "point {i}");
-        assert_eq!(rt; plain.remove(points[i]), RemoveReply::Removed, "point {i}");
-        assert_eq!(rt; plain.add(points[i]), AddReply::Added, "point {i}");
+        let (point, times) = points[i];
+        assert!(rt; i == 0 || before(points[i - 1].0, point), "point {i}");
+        assert_eq!(rt; plain.multiplicity(point), times, "point {i}");
+        assert_eq!(rt; tree.multiplicity(point), times, "point {i}");
     }
     Ok(())
 }
@@ -80,13 +81,18 @@ fn assert_same_sight(rt: &impl Abort, tree: &HullTree, plain: &PlainSet, q: Poin
     assert_eq!(rt; tree.tangents(q), plain.tangents(q), "tangents from {q:?}");
 }
 
-/// Makes a change on both, which must answer alike.
+/// Makes a change on both, which must answer alike, and hold the point as often afterwards.
 fn change(rt: &impl Abort, tree: &mut HullTree, plain: &mut PlainSet, p: Point, adds: bool) {
     if adds {
         assert_eq!(rt; tree.add(p), plain.add(p), "adding {p:?}");
     } else {
         assert_eq!(rt; tree.remove(p), plain.remove(p), "removing {p:?}");
     }
+    assert_eq!(rt;
+        tree.multiplicity(p),
+        plain.multiplicity(p),
+        "times of {p:?}"
+    );
 }
 
 /// Makes one change at a point of a square of 7 by 7.
@@ -108,7 +114,7 @@ fn random_changes(rt: HostRuntime) -> Result<(), Fail> {
     let mut numbers = Numbers { r: 1 };
     for _ in 0..300 {
         change_near(&rt, &mut tree, &mut plain, numbers.next())?;
-        assert_same_points(&rt, rt.alloc(), &tree, &mut plain)?;
+        assert_same_points(&rt, rt.alloc(), &tree, &plain)?;
     }
     Ok(())
 }
@@ -132,13 +138,18 @@ fn same_answers(rt: HostRuntime) -> Result<(), Fail> {
     Ok(())
 }
 
+/// Half of the changes are at the point of the change before.
 #[test]
 fn same_answers_over_20000_changes(rt: HostRuntime) -> Result<(), Fail> {
     let mut tree = HullTree::new(rt.alloc(), POINT_LIMIT);
     let mut plain = PlainSet::new(rt.alloc(), POINT_LIMIT);
     let mut numbers = Numbers { r: 1 };
+    let (mut right, mut up) = (0, 0);
     for step in 0u32..20000 {
-        let (right, up) = (numbers.next() % 201, numbers.next() % 201);
+        if numbers.next() % 2 == 0 {
+            right = numbers.next() % 201;
+            up = numbers.next() % 201;
+        }
         let (x, y) = (centred(right, 100), centred(up, 100));
         let adds = numbers.next() % 3 != 0;
         change(&rt, &mut tree, &mut plain, at(x, y)?, adds);
@@ -148,5 +159,5 @@ fn same_answers_over_20000_changes(rt: HostRuntime) -> Result<(), Fail> {
             assert_same_sight(&rt, &tree, &plain, at(x, centred(up, 150))?);
         }
     }
-    assert_same_points(&rt, rt.alloc(), &tree, &mut plain)
+    assert_same_points(&rt, rt.alloc(), &tree, &plain)
 }

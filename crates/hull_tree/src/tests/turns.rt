@@ -22,7 +22,8 @@ fn tree_of(rt: &impl Abort, alloc: Global, order: &[usize]) -> Result<HullTree, 
     Ok(tree)
 }
 
-/// The turns of taking each of these points from the tree of all of them.
+/// The turns of taking each of these points from the tree of all of them, where it is held once: to hold it twice before
+/// takes none.
 fn assert_removals(
     rt: &impl Abort,
     alloc: Global,
@@ -32,6 +33,8 @@ fn assert_removals(
     for i in order {
         let (x, y) = CORNERS.get(*i).copied().ok_or("no such point")?;
         let mut tree = tree_of(rt, alloc, order)?;
+        assert_eq!(rt; tree.add_counted(at(x, y)?), (AddReply::Again(2), 0));
+        assert_eq!(rt; tree.remove_counted(at(x, y)?), (RemoveReply::Left(1), 0));
         assert_eq!(rt;
             tree.remove_counted(at(x, y)?),
             (RemoveReply::Removed, turns)
@@ -45,8 +48,9 @@ fn turns_of_two_points(rt: HostRuntime) -> Result<(), Fail> {
     let mut tree = HullTree::new(rt.alloc(), POINT_LIMIT);
     assert_eq!(rt; tree.add_counted(at(0, 0)?), (AddReply::Added, 0));
     assert_eq!(rt; tree.add_counted(at(4, 0)?), (AddReply::Added, 0));
-    assert_eq!(rt; tree.add_counted(at(4, 0)?), (AddReply::Already, 0));
+    assert_eq!(rt; tree.add_counted(at(4, 0)?), (AddReply::Again(2), 0));
     assert_eq!(rt; tree.remove_counted(at(2, 0)?), (RemoveReply::Absent, 0));
+    assert_eq!(rt; tree.remove_counted(at(4, 0)?), (RemoveReply::Left(1), 0));
     assert_eq!(rt; tree.remove_counted(at(4, 0)?), (RemoveReply::Removed, 0));
     assert_eq!(rt; tree.remove_counted(at(0, 0)?), (RemoveReply::Removed, 0));
     assert_eq!(rt; tree.remove_counted(at(0, 0)?), (RemoveReply::Absent, 0));

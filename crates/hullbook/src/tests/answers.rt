@@ -50,7 +50,7 @@ fn empty_set(rt: HostRuntime) -> Result<(), Fail> {
 fn one_point(rt: HostRuntime) -> Result<(), Fail> {
     let rows = [
         ("add 3 4", "added"),
-        ("add 3 4", "already"),
+        ("add 3 4", "again 2"),
         ("vertices", "list 1 3 4"),
         ("extreme -1 0", "point 3 4"),
         ("place 3 4", "on"),
@@ -59,6 +59,24 @@ fn one_point(rt: HostRuntime) -> Result<(), Fail> {
         ("tangents 3 4", "notangent"),
         ("area", "area 0"),
         ("count", "count 1"),
+    ];
+    assert!(rt; answers(&rt, rt.alloc(), &PLAIN, &rows)?);
+    Ok(())
+}
+
+/// A point that was added twice is there until it was removed twice.
+#[test]
+fn point_held_twice(rt: HostRuntime) -> Result<(), Fail> {
+    let rows = [
+        ("add 0 0", "added"),
+        ("add 4 0", "added"),
+        ("add 2 3", "added"),
+        ("add 2 3", "again 2"),
+        ("remove 2 3", "left 1"),
+        ("vertices", "list 3 0 0 4 0 2 3"),
+        ("area", "area 12"),
+        ("remove 2 3", "removed"),
+        ("vertices", "list 2 0 0 4 0"),
     ];
     assert!(rt; answers(&rt, rt.alloc(), &PLAIN, &rows)?);
     Ok(())
@@ -167,7 +185,7 @@ fn limit_two(rt: HostRuntime) -> Result<(), Fail> {
         ("add 0 0", "added"),
         ("add 1 1", "added"),
         ("add 2 2", "toomany"),
-        ("add 1 1", "already"),
+        ("add 1 1", "again 2"),
         ("remove 0 0", "removed"),
         ("add 2 2", "added"),
         ("count", "count 2"),

@@ -28,7 +28,7 @@ fn faults_of_a_journal_are_told(rt: HostRuntime) -> Result<(), Fail> {
     let rows = [
         ("", 6, 1),
         (
-            "hullbook journal 3 first 0 limit 4 capacity 4\nend 0\n",
+            "hullbook journal 4 first 0 limit 4 capacity 4\nend 0\n",
             7,
             1,
         ),
@@ -39,6 +39,16 @@ fn faults_of_a_journal_are_told(rt: HostRuntime) -> Result<(), Fail> {
         ),
         (
             "hullbook journal 1 first 0 limit 4 capacity 4\n0 0 hull = empty\n",
+            5,
+            2,
+        ),
+        (
+            "hullbook journal 3 first 0 limit 4 capacity 4\n0 0 add 0 0 = already\n",
+            5,
+            2,
+        ),
+        (
+            "hullbook journal 2 first 0 limit 4 capacity 4\n0 0 add 0 0 = again 2\n",
             5,
             2,
         ),

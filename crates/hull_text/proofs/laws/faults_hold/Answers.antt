@@ -28,12 +28,16 @@ returns-clause-script_none c = λ bytes script f s t. no_value s.items f (sym (s
 pub returns-clause-script_else : goal.returns-clause-script_else
 returns-clause-script_else c = λ bytes. step bytes (script_items bytes) refl
   where
-    step : (bytes : List ℕ) (r : Result (List Item) TextFault) → script_items bytes ≡ r → ((script : ScriptValue) × IsScriptText bytes script) ⊎ ((f : TextFault) × IsScriptFault bytes f)
+    step : (bytes : List ℕ) (r : Result (List Item) TextFault)
+        → script_items bytes ≡ r → ((script : ScriptValue) × IsScriptText bytes script)
+        ⊎ ((f : TextFault) × IsScriptFault bytes f)
     step bytes (Ok items) e = inl (script_of items, script_taken bytes items e)
     step bytes (Err f) e = inr (f, script_fault_is bytes f e)
 
 pub returns-clause-journal_one : goal.returns-clause-journal_one
-returns-clause-journal_one c = λ bytes f g s t. text_err_is {A = JournalValue} f g (sym (journal_fault_again bytes f s) ∙ journal_fault_again bytes g t)
+returns-clause-journal_one c =
+    λ bytes f g s t. text_err_is {A = JournalValue} f g
+    (sym (journal_fault_again bytes f s) ∙ journal_fault_again bytes g t)
 
 pub returns-clause-journal_none : goal.returns-clause-journal_none
 returns-clause-journal_none c = λ bytes j f s t. no_value j f (sym (ap journal_of s.2 ∙ journal_again s.0 j s.1) ∙ journal_fault_again bytes f t)
@@ -41,7 +45,9 @@ returns-clause-journal_none c = λ bytes j f s t. no_value j f (sym (ap journal_
 pub returns-clause-journal_else : goal.returns-clause-journal_else
 returns-clause-journal_else c = λ bytes. step bytes (journal_of bytes) refl
   where
-    step : (bytes : List ℕ) (r : Result JournalValue TextFault) → journal_of bytes ≡ r → ((journal : JournalValue) × IsJournalText bytes journal) ⊎ ((f : TextFault) × IsJournalFault bytes f)
+    step : (bytes : List ℕ) (r : Result JournalValue TextFault)
+        → journal_of bytes ≡ r → ((journal : JournalValue) × IsJournalText bytes journal)
+        ⊎ ((f : TextFault) × IsJournalFault bytes f)
     step bytes (Ok j) e = inl (j, journal_taken bytes j e)
     step bytes (Err f) e = inr (f, journal_fault_is bytes f e)
 
@@ -49,14 +55,19 @@ pub returns-clause-script_answers : goal.returns-clause-script_answers
 returns-clause-script_answers c = λ bytes a b s t own other. step bytes a b s t own other
   where
     step : (bytes : List ℕ) (a b : Result ScriptValue TextFault) → ReadsScript bytes a → ReadsScript bytes b → IsServed a → IsServed b → a ≡ b
-    step bytes (Ok x) (Ok y) s t own other = ap (λ (v : ScriptValue). Ok v) (s.value ∙ ap script_of (text_ok_is s.items t.items (sym (script_again bytes x s) ∙ script_again bytes y t)) ∙ sym t.value)
+    step bytes (Ok x) (Ok y) s t own other =
+        ap (λ (v : ScriptValue). Ok v)
+        (s.value ∙ ap script_of (text_ok_is s.items t.items (sym (script_again bytes x s) ∙ script_again bytes y t))
+        ∙ sym t.value)
     step bytes (Ok x) (Err g) s (inl t) own other = absurd (other t.0)
     step bytes (Ok x) (Err g) s (inr t) own other = absurd (no_value s.items g (sym (script_again bytes x s) ∙ script_fault_again bytes g t))
     step bytes (Err f) (Ok y) (inl s) t own other = absurd (own s.0)
     step bytes (Err f) (Ok y) (inr s) t own other = absurd (no_value t.items f (sym (script_again bytes y t) ∙ script_fault_again bytes f s))
     step bytes (Err f) (Err g) (inl s) t own other = absurd (own s.0)
     step bytes (Err f) (Err g) (inr s) (inl t) own other = absurd (other t.0)
-    step bytes (Err f) (Err g) (inr s) (inr t) own other = ap (λ (h : TextFault). Err h) (text_err_is {A = List Item} f g (sym (script_fault_again bytes f s) ∙ script_fault_again bytes g t))
+    step bytes (Err f) (Err g) (inr s) (inr t) own other =
+        ap (λ (h : TextFault). Err h) (text_err_is {A = List Item} f g
+        (sym (script_fault_again bytes f s) ∙ script_fault_again bytes g t))
 
 pub returns-clause-journal_answers : goal.returns-clause-journal_answers
 returns-clause-journal_answers c = λ bytes a b s t own other. step bytes a b s t own other
@@ -72,4 +83,6 @@ returns-clause-journal_answers c = λ bytes a b s t own other. step bytes a b s 
     step bytes (Err f) (Ok y) (inr s) t own other = absurd (no_value y f (sym (said bytes y t) ∙ journal_fault_again bytes f s))
     step bytes (Err f) (Err g) (inl s) t own other = absurd (own s.0)
     step bytes (Err f) (Err g) (inr s) (inl t) own other = absurd (other t.0)
-    step bytes (Err f) (Err g) (inr s) (inr t) own other = ap (λ (h : TextFault). Err h) (text_err_is {A = JournalValue} f g (sym (journal_fault_again bytes f s) ∙ journal_fault_again bytes g t))
+    step bytes (Err f) (Err g) (inr s) (inr t) own other =
+        ap (λ (h : TextFault). Err h) (text_err_is {A = JournalValue} f g
+        (sym (journal_fault_again bytes f s) ∙ journal_fault_again bytes g t))

@@ -16,15 +16,15 @@ pub insert-insert_below-below-requires : goal.insert-insert_below-below-requires
 insert-insert_below-below-requires t c =
     let i : below_of c.args.node.now ≡ Some c.deref_mut.result.now = rw (c.in-Some.is, c.deref_mut.ensures.value) refl in
     let o : IsOver c.args.node.now c.deref_mut.result.now = over_halves _ _ c.requires.built i in
-    (omega (arith, o.height), (o.parted, (subst (λ z. ¬ (Contains z c.args.p)) o.points c.requires.absent, (omega (arith, o.height, c.requires.low), omega (arith, o.height, c.requires.low)))))
+    (omega (arith, o.height), (o.parted, (subst (λ z. ¬ (Contains z c.args.p)) o.points c.requires.absent, omega (arith, o.height, c.requires.low))))
 
 pub insert-returns-in-Some-clause-cost : goal.insert-returns-in-Some-clause-cost
 insert-returns-in-Some-clause-cost t c =
-    cost_through _ c.insert_below-below.new.halves _ _ _ _ _ (rolled_below _ _ _ _) c.insert_below-below.ensures.parted c.insert_below-below.ensures.cost c.rebalance.ensures.cost_left c.rebalance.ensures.cost_right (omega arith)
+    cost_through _ c.insert_below-below.new.halves _ _ _ _ _ (rolled_below _ _ _ _ _) c.insert_below-below.ensures.parted c.insert_below-below.ensures.cost c.rebalance.ensures.cost_left c.rebalance.ensures.cost_right (omega arith)
 
 pub insert_below-insert-requires-else-before : goal.insert_below-insert-requires-else-before
 insert_below-insert-requires-else-before t c =
-    (omega arith, (c.requires.parted.row.right_built, (λ h. c.requires.absent (Contains-append_right _ _ _ h), c.requires.low_right)))
+    (omega arith, (c.requires.parted.row.right_built, (λ h. c.requires.absent (Contains-append_right _ _ _ h), omega (arith, c.requires.low))))
 
 pub insert_below-returns-then-before-clause-parted : goal.insert_below-returns-then-before-clause-parted
 unfolding halves.roll-Halves halves.out-Halves denote.Hole.Carrier.out denote.Hole.Carrier.roll

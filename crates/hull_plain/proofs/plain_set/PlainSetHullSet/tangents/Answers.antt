@@ -1,4 +1,5 @@
 use Rattle.std.proofs.Common.{◌≡◌, ap, subst, List}
+use Rattle.std.specs.Map.{keys_of}
 use Rattle.lattice.specs.Plane.{Pair}
 use Rattle.hull_plain.specs.Replies.{AnswersTangents, reply_to_tangents}
 use Rattle.hull_plain.specs.Sets.{LimitedSet}
@@ -7,6 +8,9 @@ use Rattle.hull_plain.proofs.plain_set.PlainSetHullSet.tangents.Goals as goal
 
 pub returns : goal.returns
 returns c =
-    let v : c.self.inside.points.keys ≡ c.args.self.now.members = ap (λ (z : LimitedSet). z.members) c.self.view_is in
+    let v : keys_of c.self.inside.points.entries ≡ keys_of c.args.self.now.entries =
+    ap (λ (z : LimitedSet). keys_of z.entries) c.self.view_is in
     subst (λ (z : List Pair). AnswersTangents z c.args.q (reply_to_tangents c.tangents_from.result)) v
-    (tangents_answer c.self.invariant.4 c.args.q c.tangents_from.result (subst (λ (z : List Pair). AnswersTangents z c.args.q (reply_to_tangents c.tangents_from.result)) c.points.ensures c.tangents_from.ensures))
+    (tangents_answer c.self.invariant.spanned c.args.q c.tangents_from.result
+    (subst (λ (z : List Pair). AnswersTangents z c.args.q (reply_to_tangents c.tangents_from.result))
+    c.points.ensures c.tangents_from.ensures))

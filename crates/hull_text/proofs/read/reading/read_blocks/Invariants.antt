@@ -7,6 +7,7 @@ use Rattle.hull_text.proofs.read.reading.read_blocks.Given as goal
 abbrev pub invariant-loop : goal.invariant-loop
 invariant-loop g l = record {
   whole : HasNoNewline l.kept.items;
-  known : Known (g.L.LineReader.answers l.fn.reader) (g.L.LineReader.answers l.reader) (g.R.Read.remaining l.fn.source) (g.R.Read.remaining l.source) l.kept.items (g.L.LineReader.line l.reader) l.counter;
+  known : Known (g.L.LineReader.answers l.fn.reader) (g.L.LineReader.answers l.reader) (g.R.Read.remaining l.fn.source)
+      (g.R.Read.remaining l.source) l.kept.items (g.L.LineReader.line l.reader) l.counter;
   count : g.R.Source.failed l.source ≡ g.R.Source.failed l.fn.source;
 }

@@ -5,7 +5,10 @@ use Rattle.hull_text.proofs.write.report.answers_after.Goals as goal
 
 pub loop-call-preserved : goal.loop-call-preserved
 loop-call-preserved g c =
-    chained_more _ _ _ _ _ _ _ _ _ _ _ _ _ c.loop-call.invariant (answers_cons _ _ _ _ _ _ _ c.in-Some-Some.ensures.cases.0 c.in-Some-Some.ensures'.cases.0) c.answer_line_after-done.ensures.wrote c.answer_line_after-done.ensures.kept c.answer_line_after-done.ensures.was
+    chained_more _ _ _ _ _ _ _ _ _ _ _ _ _ c.loop-call.invariant
+    (answers_cons _ _ _ _ _ _ _ c.in-Some-Some.ensures.cases.0 c.in-Some-Some.ensures'.cases.0)
+    c.answer_line_after-done.ensures.wrote c.answer_line_after-done.ensures.kept
+    c.answer_line_after-done.ensures.was
 
 pub returns-in_default-clause-wrote : goal.returns-in_default-clause-wrote
 returns-in_default-clause-wrote g c = chained_end _ _ _ _ _ _ _ _ c.loop-call.invariant (answers_no_answer _ _ _ c.in_default.ensures'.cases)

@@ -5,7 +5,10 @@ use Rattle.hull_text.proofs.write.report.ledgers_after.Goals as goal
 
 pub loop-worker-preserved : goal.loop-worker-preserved
 loop-worker-preserved g c =
-    chained_more _ _ _ _ _ _ _ _ _ _ _ _ _ c.loop-worker.invariant (ledgers_more c.loop-worker.worker c.args.ledgers.now c.loop-worker-test.true) c.ledger_after-done.ensures.wrote c.ledger_after-done.ensures.kept c.ledger_after-done.ensures.was
+    chained_more _ _ _ _ _ _ _ _ _ _ _ _ _ c.loop-worker.invariant
+    (ledgers_more c.loop-worker.worker c.args.ledgers.now c.loop-worker-test.true) c.ledger_after-done.ensures.wrote
+    c.ledger_after-done.ensures.kept c.ledger_after-done.ensures.was
 
 pub returns-clause-wrote : goal.returns-clause-wrote
-returns-clause-wrote g c = chained_end _ _ _ _ _ _ _ _ c.loop-worker.invariant (ledgers_none c.loop-worker.worker c.args.ledgers.now c.loop-worker-test.false)
+returns-clause-wrote g c = chained_end _ _ _ _ _ _ _ _ c.loop-worker.invariant
+    (ledgers_none c.loop-worker.worker c.args.ledgers.now c.loop-worker-test.false)

@@ -10,11 +10,19 @@ loop-phase-preserved g c =
     let here = c.in-Some.ensures.cases.0 in
     record {
       chained = rw c.split_at.ensures.back (chained_more _ _ _ _ _ _ _ _ _ _ _ _ _ c.loop-phase.invariant.chained
-          (phases_cons c.args.worker c.in-Some.phase.now _ c.in-Some.after.now c.loop-phase.answers.now c.calls-calls.result.now here c.calls-calls.ensures)
+          (phases_cons c.args.worker c.in-Some.phase.now _ c.in-Some.after.now c.loop-phase.answers.now
+          c.calls-calls.result.now here c.calls-calls.ensures)
           (rw c.split_at.ensures.front at c.answers_after-done.ensures.wrote) c.answers_after-done.ensures.kept c.answers_after-done.ensures.was);
-      answered = omega (arith, c.split_at.ensures.back_len, c.loop-phase.invariant.answered, calls_long c.args.worker c.in-Some.phase.now _ c.in-Some.after.now c.calls-calls.result.now here c.calls-calls.ensures);
+      answered = omega (
+        arith,
+        c.split_at.ensures.back_len,
+        c.loop-phase.invariant.answered,
+        calls_long c.args.worker
+            c.in-Some.phase.now _ c.in-Some.after.now c.calls-calls.result.now here c.calls-calls.ensures,
+      );
       jobs = all_after (λ (phase : PhaseValue). length phase ≡ c.args.workers) c.in-Some.phase.now _ _ here c.loop-phase.invariant.jobs;
     }
 
 pub returns-clause-wrote : goal.returns-clause-wrote
-returns-clause-wrote g c = chained_end _ _ _ _ _ _ _ _ c.loop-phase.invariant.chained (answers_no_call _ _ _ (calls_none _ _ c.in_default.ensures.cases))
+returns-clause-wrote g c = chained_end _ _ _ _ _ _ _ _ c.loop-phase.invariant.chained
+    (answers_no_call _ _ _ (calls_none _ _ c.in_default.ensures.cases))

@@ -6,4 +6,6 @@ use Rattle.hull_text.proofs.Chains.{Chained}
 use Rattle.hull_text.proofs.write.report.workers_after.Given as goal
 
 abbrev pub invariant-loop-worker : goal.invariant-loop-worker
-invariant-loop-worker g l = Chained l.fn.done l.done (g.W.Write.contents l.fn.out) (g.W.Write.contents l.out) (g.W.Sink.failed l.fn.out) (g.W.Sink.failed l.out) (workers_text 0 l.phases (answers_in l.answers)) (workers_text l.worker l.phases (drop l.worker (answers_in l.answers)))
+invariant-loop-worker g l = Chained l.fn.done l.done (g.W.Write.contents l.fn.out) (g.W.Write.contents l.out)
+    (g.W.Sink.failed l.fn.out) (g.W.Sink.failed l.out) (workers_text 0 l.phases (answers_in l.answers))
+    (workers_text l.worker l.phases (drop l.worker (answers_in l.answers)))

@@ -1,62 +1,86 @@
-use Rattle.std.proofs.Common.{rules, arith, ◌≡◌, ◌≤◌, sym, ◌∙◌, ap, subst, Some}
-use Rattle.std.specs.Prelude.{Option}
+use Rattle.std.proofs.Common.{arith, ◌≡◌, ◌≤◌, ◌-◌, ap, subst, sym, ◌∙◌, Some}
+use Rattle.std.specs.Prelude.{length}
 use Rattle.std.specs.List.{Contains}
-use Rattle.hull_tree.specs.declared.node.Node.{Node}
+use Rattle.hull_plain.specs.Replies.{AnswersRemove}
+use Rattle.hull_plain.specs.declared.reply.Reply.TheVariants.{Removed, Left, Absent}
+use Rattle.hull_plain.specs.declared.rules.Rules.TheVariants.{Counted}
+use Rattle.bridge_search.proofs.Signs.{failed}
 use Rattle.hull_tree.specs.Changes.{points_below, height_at}
-use Rattle.hull_tree.specs.Roots.{points_of_root}
-use Rattle.hull_tree.specs.Sets.{LimitedTree, IsLimited, IsSound}
+use Rattle.hull_tree.specs.Roots.{held_by}
+use Rattle.hull_tree.specs.Sets.{LimitedTree}
 use Rattle.hull_tree.proofs.LimitedTrees.{sound, limited_without}
+use Rattle.hull_tree.proofs.CountedTrees.{IsCounted, limited_after, sound_after, live_after, some_points, answers_left, answers_removed, dead, held_none}
+use Rattle.hull_tree.proofs.PartingPoints.{fork_of}
 use Rattle.bridge_search.proofs.Leaves.{on_of_contains}
-use Rattle.bridge_search.proofs.Signs.{passed, failed}
-use Rattle.hull_tree.proofs.PartingPoints.{fork_of, none_left}
 use Rattle.hull_tree.proofs.tree.HullTree.remove_counted.Goals as goal
 
-pub remove-turns-requires-clause-low : goal.remove-turns-requires-clause-low
-remove-turns-requires-clause-low c =
-    let r : c.self.inside.root ≡ Some c.in-Some-take.root = sym c.take.ensures.value ∙ c.in-Some-take.is in
-    let h : height_at c.in-Some-take.root ≤ 28 = (sound _ _ _ (subst (λ (z : Option Node). IsLimited z c.self.inside.count c.self.inside.limit) r c.self.invariant)).low in
-    omega (arith, h)
+pub returns-then-times-eq0-clause-reply : goal.returns-then-times-eq0-clause-reply
+returns-then-times-eq0-clause-reply c =
+    let k : IsCounted _ _ _ _ _ _ _ = record { limited = c.self.invariant; own = c.in-Some.is; was = c.lower-times.ensures.was; built = c.lower-times.ensures.built; same = c.lower-times.ensures.same_tree } in
+    subst (λ (z : LimitedTree). AnswersRemove Counted (held_by z.root) c.args.p Absent) c.self.view_is
+    (dead k c.if-times-eq0.true)
 
-pub remove-turns-requires-clause-fork : goal.remove-turns-requires-clause-fork
-remove-turns-requires-clause-fork c =
-    let m : Contains (points_below c.in-Some-take.root) c.args.p = search rules in
+pub returns-then-times-eq0-clause-sound : goal.returns-then-times-eq0-clause-sound
+returns-then-times-eq0-clause-sound c =
+    let k : IsCounted _ _ _ _ _ _ _ = record { limited = c.self.invariant; own = c.in-Some.is; was = c.lower-times.ensures.was; built = c.lower-times.ensures.built; same = c.lower-times.ensures.same_tree } in
+    sound_after k
+
+pub returns-then-times-gt1-clause-reply : goal.returns-then-times-gt1-clause-reply
+returns-then-times-gt1-clause-reply c =
+    let k : IsCounted _ _ _ _ _ _ _ = record { limited = c.self.invariant; own = c.in-Some.is; was = c.lower-times.ensures.was; built = c.lower-times.ensures.built; same = c.lower-times.ensures.same_tree } in
+    subst (λ (z : LimitedTree). AnswersRemove Counted (held_by z.root) c.args.p (Left (c.lower-times.result - 1))) c.self.view_is
+    (answers_left k c.if-times-gt1.true)
+
+pub returns-then-times-gt1-clause-sound : goal.returns-then-times-gt1-clause-sound
+returns-then-times-gt1-clause-sound c =
+    let k : IsCounted _ _ _ _ _ _ _ = record { limited = c.self.invariant; own = c.in-Some.is; was = c.lower-times.ensures.was; built = c.lower-times.ensures.built; same = c.lower-times.ensures.same_tree } in
+    sound_after k
+
+pub overflow_sub-self : goal.overflow_sub-self
+overflow_sub-self c =
+    let k : IsCounted _ _ _ _ _ _ _ = record { limited = c.self.invariant; own = c.in-Some.is; was = c.lower-times.ensures.was; built = c.lower-times.ensures.built; same = c.lower-times.ensures.same_tree } in
+    let m : Contains (points_below c.lower-times.new.node) c.args.p = live_after k (omega (arith, c.if-times-eq0.false)) in
+    let l : 1 ≤ length (points_below c.lower-times.new.node) = some_points _ _ m in
+    omega (arith, l, (limited_after k).counted)
+
+pub remove-requires-clause-fork : goal.remove-requires-clause-fork
+remove-requires-clause-fork c =
+    let k : IsCounted _ _ _ _ _ _ _ = record { limited = c.self.invariant; own = c.in-Some.is; was = c.lower-times.ensures.was; built = c.lower-times.ensures.built; same = c.lower-times.ensures.same_tree } in
+    let m : Contains (points_below c.lower-times.new.node) c.args.p = live_after k (omega (arith, c.if-times-eq0.false)) in
     fork_of _ _ (on_of_contains _ _ m) (failed _ _ c.if-is_leaf.false c.is_leaf.ensures)
 
-pub invariant_of-self : goal.invariant_of-self
-invariant_of-self c =
-    let r : c.self.inside.root ≡ Some c.in-Some-take.root = sym c.take.ensures.value ∙ c.in-Some-take.is in
-    let m : Contains (points_below c.in-Some-take.root) c.args.p = search rules in
-    limited_without _ _ _ _ _ (subst (λ (z : Option Node). IsLimited z c.self.inside.count c.self.inside.limit) r c.self.invariant) (rw c.take.ensures.after tt) (rw c.take.ensures.after (sym (none_left _ _ (passed _ _ c.if-is_leaf.true c.is_leaf.ensures)))) m
+pub remove-requires-clause-low : goal.remove-requires-clause-low
+remove-requires-clause-low c =
+    let k : IsCounted _ _ _ _ _ _ _ = record { limited = c.self.invariant; own = c.in-Some.is; was = c.lower-times.ensures.was; built = c.lower-times.ensures.built; same = c.lower-times.ensures.same_tree } in
+    let h : height_at c.lower-times.new.node ≤ 28 = (sound_after k).low in
+    omega (arith, h)
 
 pub invariant_of-self-2 : goal.invariant_of-self-2
 invariant_of-self-2 c =
-    let r : c.self.inside.root ≡ Some c.in-Some-take.root = sym c.take.ensures.value ∙ c.in-Some-take.is in
-    let m : Contains (points_below c.in-Some-take.root) c.args.p = search rules in
-    limited_without _ _ _ _ _ (subst (λ (z : Option Node). IsLimited z c.self.inside.count c.self.inside.limit) r c.self.invariant) c.remove-turns.ensures.built c.remove-turns.ensures.points m
-
-pub returns-then-not-contains-clause-sound : goal.returns-then-not-contains-clause-sound
-returns-then-not-contains-clause-sound c = subst IsSound (ap (λ (z : LimitedTree). z.root) c.self.view_is) (sound _ _ _ c.self.invariant)
-
-pub returns-then-is_leaf-clause-sound : goal.returns-then-is_leaf-clause-sound
-returns-then-is_leaf-clause-sound c =
-    let r : c.self.inside.root ≡ Some c.in-Some-take.root = sym c.take.ensures.value ∙ c.in-Some-take.is in
-    let m : Contains (points_below c.in-Some-take.root) c.args.p = search rules in
-    sound _ _ _ (limited_without _ _ _ _ _ (subst (λ (z : Option Node). IsLimited z c.self.inside.count c.self.inside.limit) r c.self.invariant) (rw c.take.ensures.after tt) (rw c.take.ensures.after (sym (none_left _ _ (passed _ _ c.if-is_leaf.true c.is_leaf.ensures)))) m)
-
-pub returns-clause-sound : goal.returns-clause-sound
-returns-clause-sound c =
-    let r : c.self.inside.root ≡ Some c.in-Some-take.root = sym c.take.ensures.value ∙ c.in-Some-take.is in
-    let m : Contains (points_below c.in-Some-take.root) c.args.p = search rules in
-    sound _ _ _ (limited_without _ _ _ _ _ (subst (λ (z : Option Node). IsLimited z c.self.inside.count c.self.inside.limit) r c.self.invariant) c.remove-turns.ensures.built c.remove-turns.ensures.points m)
-
-pub returns-clause-few : goal.returns-clause-few
-returns-clause-few c =
-    let r : c.self.inside.root ≡ Some c.in-Some-take.root = sym c.take.ensures.value ∙ c.in-Some-take.is in
-    let h : height_at c.in-Some-take.root ≤ 28 = (sound _ _ _ (subst (λ (z : Option Node). IsLimited z c.self.inside.count c.self.inside.limit) r c.self.invariant)).low in
-    omega (arith, h, c.remove-turns.ensures.few)
+    let k : IsCounted _ _ _ _ _ _ _ = record { limited = c.self.invariant; own = c.in-Some.is; was = c.lower-times.ensures.was; built = c.lower-times.ensures.built; same = c.lower-times.ensures.same_tree } in
+    let m : Contains (points_below c.lower-times.new.node) c.args.p = live_after k (omega (arith, c.if-times-eq0.false)) in
+    limited_without _ _ _ _ _ (limited_after k) c.remove.ensures.built c.remove.ensures.points m
 
 pub returns-clause-reply : goal.returns-clause-reply
 returns-clause-reply c =
-    let m : Contains (points_below c.in-Some-take.root) c.args.p = search rules in
-    let r : c.self.inside.root ≡ Some c.in-Some-take.root = sym c.take.ensures.value ∙ c.in-Some-take.is in
-    subst (λ (z : LimitedTree). Contains (points_of_root z.root) c.args.p) c.self.view_is (rw r m)
+    let k : IsCounted _ _ _ _ _ _ _ = record { limited = c.self.invariant; own = c.in-Some.is; was = c.lower-times.ensures.was; built = c.lower-times.ensures.built; same = c.lower-times.ensures.same_tree } in
+    let o : c.lower-times.result ≡ 1 = omega (arith, c.if-times-eq0.false, c.if-times-gt1.false) in
+    subst (λ (z : LimitedTree). AnswersRemove Counted (held_by z.root) c.args.p Removed) c.self.view_is
+    (answers_removed k o)
+
+pub returns-clause-effect : goal.returns-clause-effect
+returns-clause-effect c =
+    let e = c.lower-times.ensures.few c.if-times-gt1.false in
+    held_none _ (Some c.remove.new.node) _ _ (sym (ap (λ (z : LimitedTree). z.root) c.self.view_is) ∙ c.in-Some.is ∙ ap Some (sym e)) c.remove.ensures.points c.remove.ensures.times
+
+pub returns-clause-sound : goal.returns-clause-sound
+returns-clause-sound c =
+    let k : IsCounted _ _ _ _ _ _ _ = record { limited = c.self.invariant; own = c.in-Some.is; was = c.lower-times.ensures.was; built = c.lower-times.ensures.built; same = c.lower-times.ensures.same_tree } in
+    let m : Contains (points_below c.lower-times.new.node) c.args.p = live_after k (omega (arith, c.if-times-eq0.false)) in
+    sound _ _ _ (limited_without _ _ _ _ _ (limited_after k) c.remove.ensures.built c.remove.ensures.points m)
+
+pub returns-clause-few : goal.returns-clause-few
+returns-clause-few c =
+    let k : IsCounted _ _ _ _ _ _ _ = record { limited = c.self.invariant; own = c.in-Some.is; was = c.lower-times.ensures.was; built = c.lower-times.ensures.built; same = c.lower-times.ensures.same_tree } in
+    let h : height_at c.lower-times.new.node ≤ 28 = (sound_after k).low in
+    omega (arith, h, c.remove.ensures.few)

@@ -1,0 +1,119 @@
+-- What a plain set keeps after a change.
+use Rattle.std.proofs.Common.{◌≡◌, ℕ, sym, ap, ◌∙◌, subst, List, arith, ◌+◌, ◌≤◌, ◌<◌, [], ◌∷◌, inl, inr, length, BTreeMap, Some}
+use Rattle.std.specs.BTreeMap.{is_at, insert_entry}
+use Rattle.std.specs.Map.{keys_of, lookup, remove_entry, set_value}
+use Rattle.std.proofs.lemmas.Map.{keys-set_value}
+use Rattle.std.proofs.lemmas.Map.Entries.{length-keys_of}
+use Rattle.std.proofs.lemmas.Map.Steps.{set_value_same}
+use Rattle.std.proofs.lemmas.Map.Views.{All-values-insert_entry, All-values-set_value, All-map-remove_entry}
+use Rattle.lattice.specs.Covers.{IsPointSet, with_point, without_point}
+use Rattle.lattice.specs.Plane.{Pair}
+use Rattle.lattice.proofs.Order.{before_irrefl, before_total, before_not, is_before-true, is_before-false}
+use Rattle.hull_plain.specs.Outlines.{HasRoom, IsPlainSet}
+use Rattle.hull_plain.specs.Spans.{IsSpannedBy}
+use Rattle.hull_plain.specs.declared.outline.Outline.{Outline}
+use Rattle.hull_plain.proofs.OrderedMaps.{point_cmp, insert_is, remove_is}
+use Rattle.hull_plain.proofs.SetLaws.{ordered_with, ordered_without}
+use Rattle.hull_plain.proofs.Spanning.{has_less}
+
+-- one point more at most
+length_with : (p : Pair) (S : List Pair) → length (with_point p S) ≤ length S + 1
+length_with p [] = omega arith
+length_with p (x ∷ xs) =
+    elim (before_total x p) [
+      | inl b ↦ rw (is_before-true x p b) (omega (arith, length_with p xs))
+      | inr (inl e) ↦ rw (e, is_before-false p p (before_irrefl p)) (omega arith)
+      | inr (inr b) ↦ rw (is_before-false x p (before_not p x b), is_before-true p x b) (omega arith)
+    ]
+
+-- no point more
+length_without : (p : Pair) (S : List Pair) → length (without_point p S) ≤ length S
+length_without p [] = omega arith
+length_without p (x ∷ xs) =
+    elim (before_total x p) [
+      | inl b ↦ rw (is_before-true x p b) (omega (arith, length_without p xs))
+      | inr (inl e) ↦ rw (e, is_before-false p p (before_irrefl p)) (omega arith)
+      | inr (inr b) ↦ rw (is_before-false x p (before_not p x b), is_before-true p x b) (omega arith)
+    ]
+
+-- a plain set stays one where a number of at least 1 is written beside a point
+pub written : {limit : ℕ} {es : List (Pair × ℕ)} {o : Outline} → IsPlainSet limit es o
+    → (p : Pair) (n : ℕ) (fs : List (Pair × ℕ)) → fs ≡ set_value (is_at (point_cmp p)) es n → 1 ≤ n
+    → IsPlainSet limit fs o
+written {limit} {es} {o} k p n fs e above = subst (λ (z : List (Pair × ℕ)). IsPlainSet limit z o) (sym e) (record {
+  low = k.low;
+  high = k.high;
+  few = subst (λ (z : List Pair). length z ≤ limit) same k.few;
+  in_order = subst IsPointSet same k.in_order;
+  each_held = All-values-set_value (is_at (point_cmp p)) (λ m. 1 ≤ m) es n k.each_held above;
+  spanned = subst (λ (z : List Pair). IsSpannedBy z o.corners.items) same k.spanned;
+  room = subst (λ (z : List Pair). HasRoom o (length z)) same k.room;
+})
+  where
+    same : keys_of es ≡ keys_of (set_value (is_at (point_cmp p)) es n)
+    same = sym (keys-set_value (is_at (point_cmp p)) es n)
+
+-- and where its outline has the same points, and room for as many at least
+pub reserved : {limit : ℕ} {es : List (Pair × ℕ)} {o : Outline} → IsPlainSet limit es o → (new : Outline)
+    → new.corners.items ≡ o.corners.items → ((n : ℕ) → HasRoom o n → HasRoom new n) → IsPlainSet limit es new
+reserved {limit} {es} {o} k new e kept = record {
+  low = k.low;
+  high = k.high;
+  few = k.few;
+  in_order = k.in_order;
+  each_held = k.each_held;
+  spanned = subst (IsSpannedBy (keys_of es)) (sym e) k.spanned;
+  room = kept _ k.room;
+}
+
+-- and where a point that was not there is put in, once
+pub put_in : {limit : ℕ} {es : List (Pair × ℕ)} {o : Outline} → IsPlainSet limit es o → (p : Pair) (new : Outline)
+    → length (keys_of es) < limit → IsSpannedBy (with_point p (keys_of es)) new.corners.items
+    → HasRoom new (length (keys_of es) + 1) → IsPlainSet limit (insert_entry point_cmp es p 1) new
+put_in {limit} {es} {o} k p new l spanned room = record {
+  low = k.low;
+  high = k.high;
+  few = omega (arith, few);
+  in_order = subst IsPointSet (sym same) (ordered_with p (keys_of es) k.in_order);
+  each_held = All-values-insert_entry point_cmp p 1 (λ m. 1 ≤ m) es k.each_held (omega arith);
+  spanned = subst (λ (z : List Pair). IsSpannedBy z new.corners.items) (sym same) spanned;
+  room = has_less room few;
+}
+  where
+    same : keys_of (insert_entry point_cmp es p 1) ≡ with_point p (keys_of es)
+    same = insert_is es p 1
+
+    few : length (keys_of (insert_entry point_cmp es p 1)) ≤ length (keys_of es) + 1
+    few = rw same (length_with p (keys_of es))
+
+-- and where a point is taken out
+pub taken_out : {limit : ℕ} {es : List (Pair × ℕ)} {o : Outline} → IsPlainSet limit es o
+    → (p : Pair) (fs : List (Pair × ℕ)) (new : Outline) → fs ≡ remove_entry (is_at (point_cmp p)) es
+    → IsSpannedBy (keys_of fs) new.corners.items → ((n : ℕ) → HasRoom o n → HasRoom new n) → IsPlainSet limit fs new
+taken_out {limit} {es} {o} k p fs new e spanned kept = record {
+  low = k.low;
+  high = k.high;
+  few = omega (arith, few, k.few);
+  in_order = subst IsPointSet (sym same) (ordered_without p (keys_of es) k.in_order);
+  each_held = rw e (All-map-remove_entry (is_at (point_cmp p)) (λ e. e.1) (λ m. 1 ≤ m) es k.each_held);
+  spanned = spanned;
+  room = kept _ (has_less k.room few);
+}
+  where
+    same : keys_of fs ≡ without_point p (keys_of es)
+    same = ap keys_of e ∙ remove_is es p k.in_order
+
+    few : length (keys_of fs) ≤ length (keys_of es)
+    few = rw same (length_without p (keys_of es))
+
+-- the length of a map that is another is the number of its points
+pub count_is : {m n : BTreeMap Pair ℕ} {count : ℕ} → n ≡ m → count ≡ length n.entries
+    → count ≡ length (keys_of m.entries)
+count_is {m} e h = h ∙ ap (λ (z : BTreeMap Pair ℕ). length z.entries) e ∙ sym (length-keys_of m.entries)
+
+-- what is left of a map from which p was taken, once what a look-up found there was written back
+pub left_entries : (es written fs : List (Pair × ℕ)) (p : Pair) (n : ℕ) → Some n ≡ lookup (is_at (point_cmp p)) es
+    → written ≡ set_value (is_at (point_cmp p)) es n → fs ≡ remove_entry (is_at (point_cmp p)) written
+    → fs ≡ remove_entry (is_at (point_cmp p)) es
+left_entries es written fs p n found e h =
+    h ∙ ap (remove_entry (is_at (point_cmp p))) (e ∙ set_value_same (is_at (point_cmp p)) es n (sym found))

@@ -1,0 +1,20 @@
+use Rattle.std.proofs.Common.{refl, ◌≡◌, ◌∙◌, sym, Some}
+use Rattle.bridge_search.proofs.Signs.{passed, failed}
+use Rattle.hull_tree.specs.Nodes.{below_of}
+use Rattle.hull_tree.proofs.HalfRows.{IsOver, over_halves}
+use Rattle.hull_tree.proofs.Multiplicities.{all_left, all_right}
+use Rattle.hull_tree.proofs.change.+lower.Goals as goal
+
+pub returns-then-before-clause-was : goal.returns-then-before-clause-was
+returns-then-before-clause-was t c =
+    let i : below_of c.args.node.now ≡ Some c.in-Some.halves.value = rw c.in-Some.is refl in
+    let o : IsOver c.args.node.now c.in-Some.halves.value = over_halves _ _ c.requires i in
+    let b = rw c.deref.ensures at (passed _ _ c.if-before.true c.before-in-Some.ensures) in
+    rw c.deref_mut.ensures.value at c.lower.ensures.was ∙ sym (o.times _ ∙ all_left _ _ _ _ _ o.parted b)
+
+pub returns-else-before-clause-was : goal.returns-else-before-clause-was
+returns-else-before-clause-was t c =
+    let i : below_of c.args.node.now ≡ Some c.in-Some.halves.value = rw c.in-Some.is refl in
+    let o : IsOver c.args.node.now c.in-Some.halves.value = over_halves _ _ c.requires i in
+    let b = rw c.deref.ensures at (failed _ _ c.if-before.false c.before-in-Some.ensures) in
+    rw c.deref_mut-else-before.ensures.value at c.lower-else-before.ensures.was ∙ sym (o.times _ ∙ all_right _ _ _ _ _ o.parted b)
