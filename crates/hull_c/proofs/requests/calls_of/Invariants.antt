@@ -1,0 +1,14 @@
+use Rattle.std.proofs.Common.{length, ◌-◌, ◌≡◌, drop}
+use Rattle.hull_c.proofs.Served.{GoesOn}
+use Rattle.hull_c.proofs.requests.calls_of.Given as goal
+
+-- the first `made` requests were served, and the array is as it was behind their replies
+abbrev pub invariant-loop-made : goal.invariant-loop-made
+invariant-loop-made l = record {
+  on : GoesOn l.requests l.fn.replies l.fn.hull l.hull l.replies l.made;
+  rest : drop l.made l.replies ≡ drop l.made l.fn.replies;
+  long : length l.replies ≡ length l.fn.replies;
+}
+
+abbrev pub decreases-loop-made : goal.decreases-loop-made
+decreases-loop-made l = length l.requests - l.made

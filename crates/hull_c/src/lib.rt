@@ -1,0 +1,257 @@
+//! A convex hull for C: a static library over [`HullTree`](hull_tree::HullTree), whose header is `include/hull.h`.
+//!
+//! A hull lies in room that the caller gives. Each call of the header is one export, which lends the hull at the pointer
+//! to one plain function (`calls.rt`) and gives back its reply: what it promises is that function's contract, in the words
+//! of the trait `HullSet`.
+#![tactic(auto)]
+
+ghost use Rattle.std.specs.Borrow.{full_share, sem};
+ghost use Rattle.std.specs.Ptr.{lies_at, room_at};
+ghost use Rattle.hull_tree.specs.contracts.tree.HullTree.{the_row};
+ghost use Rattle.hull_c.specs.Left.{leaves};
+ghost use Rattle.hull_c.specs.Requests.{AreServed};
+ghost use Rattle.hull_c.specs.Told.{AreCorners, IsCleared, IsFresh, IsLimitOf, IsMultiplicityAt, IsServed, IsServedAlong, IsServedAt};
+
+mod calls;
+mod code;
+mod corners;
+mod reply;
+mod requests;
+#[cfg(test)]
+mod tests;
+
+pub use code::Code;
+pub use corners::HullPoint;
+use hull_plain::Call;
+use hull_tree::HullTree;
+pub use reply::HullReply;
+pub use requests::{HullRequest, Kind};
+use std::alloc::Global;
+
+/// Holds the point (x, y) once more.
+///
+/// # Safety
+///
+/// A hull lies at `at`, and no other call on it is under way.
+#[unsafe(no_mangle)]
+pub unsafe extern "C" fn hull_add(at: *mut u8, x: i64, y: i64) -> HullReply
+    ghost t: { the_row.Denot }
+    requires* { sem 𝓛 (lies_at the_row full_share at t) }
+    ensures* { sem 𝓛 (leaves the_row at (λ new. IsServedAt Call.Add x y t new result)) }
+{
+    let hull = at as *mut HullTree;
+    calls::add(unsafe { &mut *hull }, x, y)
+}
+
+/// Holds the point (x, y) once less.
+///
+/// # Safety
+///
+/// A hull lies at `at`, and no other call on it is under way.
+#[unsafe(no_mangle)]
+pub unsafe extern "C" fn hull_remove(at: *mut u8, x: i64, y: i64) -> HullReply
+    ghost t: { the_row.Denot }
+    requires* { sem 𝓛 (lies_at the_row full_share at t) }
+    ensures* { sem 𝓛 (leaves the_row at (λ new. IsServedAt Call.Remove x y t new result)) }
+{
+    let hull = at as *mut HullTree;
+    calls::remove(unsafe { &mut *hull }, x, y)
+}
+
+/// Where the point (x, y) lies.
+///
+/// # Safety
+///
+/// A hull lies at `at`, and no other call on it is under way.
+#[unsafe(no_mangle)]
+pub unsafe extern "C" fn hull_place(at: *mut u8, x: i64, y: i64) -> HullReply
+    ghost t: { the_row.Denot }
+    requires* { sem 𝓛 (lies_at the_row full_share at t) }
+    ensures* { sem 𝓛 (leaves the_row at (λ new. IsServedAt Call.Place x y t new result)) }
+{
+    let hull = at as *mut HullTree;
+    calls::place(unsafe { &mut *hull }, x, y)
+}
+
+/// The left and the right tangent point seen from (x, y).
+///
+/// # Safety
+///
+/// A hull lies at `at`, and no other call on it is under way.
+#[unsafe(no_mangle)]
+pub unsafe extern "C" fn hull_tangents(at: *mut u8, x: i64, y: i64) -> HullReply
+    ghost t: { the_row.Denot }
+    requires* { sem 𝓛 (lies_at the_row full_share at t) }
+    ensures* { sem 𝓛 (leaves the_row at (λ new. IsServedAt Call.Tangents x y t new result)) }
+{
+    let hull = at as *mut HullTree;
+    calls::tangents(unsafe { &mut *hull }, x, y)
+}
+
+/// The first of the farthest points in the direction (x, y).
+///
+/// # Safety
+///
+/// A hull lies at `at`, and no other call on it is under way.
+#[unsafe(no_mangle)]
+pub unsafe extern "C" fn hull_extreme(at: *mut u8, x: i64, y: i64) -> HullReply
+    ghost t: { the_row.Denot }
+    requires* { sem 𝓛 (lies_at the_row full_share at t) }
+    ensures* { sem 𝓛 (leaves the_row at (λ new. IsServedAlong x y t new result)) }
+{
+    let hull = at as *mut HullTree;
+    calls::extreme(unsafe { &mut *hull }, x, y)
+}
+
+/// How often the point (x, y) is held.
+///
+/// # Safety
+///
+/// A hull lies at `at`, and no other call on it is under way.
+#[unsafe(no_mangle)]
+pub unsafe extern "C" fn hull_multiplicity(at: *mut u8, x: i64, y: i64) -> HullReply
+    ghost t: { the_row.Denot }
+    requires* { sem 𝓛 (lies_at the_row full_share at t) }
+    ensures* { sem 𝓛 (leaves the_row at (λ new. IsMultiplicityAt x y t new result)) }
+{
+    let hull = at as *mut HullTree;
+    calls::multiplicity(unsafe { &mut *hull }, x, y)
+}
+
+/// The doubled area of the hull.
+///
+/// # Safety
+///
+/// A hull lies at `at`, and no other call on it is under way.
+#[unsafe(no_mangle)]
+pub unsafe extern "C" fn hull_area(at: *mut u8) -> HullReply
+    ghost t: { the_row.Denot }
+    requires* { sem 𝓛 (lies_at the_row full_share at t) }
+    ensures* { sem 𝓛 (leaves the_row at (λ new. IsServed Call.Area t new result)) }
+{
+    let hull = at as *mut HullTree;
+    calls::area(unsafe { &mut *hull })
+}
+
+/// How many points there are.
+///
+/// # Safety
+///
+/// A hull lies at `at`, and no other call on it is under way.
+#[unsafe(no_mangle)]
+pub unsafe extern "C" fn hull_count(at: *mut u8) -> HullReply
+    ghost t: { the_row.Denot }
+    requires* { sem 𝓛 (lies_at the_row full_share at t) }
+    ensures* { sem 𝓛 (leaves the_row at (λ new. IsServed Call.Count t new result)) }
+{
+    let hull = at as *mut HullTree;
+    calls::count(unsafe { &mut *hull })
+}
+
+/// Writes the corners of the hull to the front of the array, counterclockwise from the first by x and then y.
+///
+/// # Safety
+///
+/// A hull lies at `at`, and no other call on it is under way.
+#[unsafe(no_mangle)]
+pub unsafe extern "C" fn hull_vertices(at: *mut u8, out: &mut [HullPoint]) -> HullReply
+    ghost t: { the_row.Denot }
+    requires* { sem 𝓛 (lies_at the_row full_share at t) }
+    ensures* { sem 𝓛 (leaves the_row at (λ new. AreCorners t new out.old out.new result)) }
+{
+    let hull = at as *mut HullTree;
+    corners::vertices(unsafe { &mut *hull }, out)
+}
+
+/// Makes the calls of the requests in their order, up to the end of the shorter array or the first request that can't be served,
+/// and tells how many replies were written.
+///
+/// # Safety
+///
+/// A hull lies at `at`, and no other call on it is under way.
+#[unsafe(no_mangle)]
+pub unsafe extern "C" fn hull_calls(
+    at: *mut u8,
+    requests: &[HullRequest],
+    replies: &mut [HullReply],
+) -> usize
+    ghost t: { the_row.Denot }
+    requires* { sem 𝓛 (lies_at the_row full_share at t) }
+    ensures* { sem 𝓛 (leaves the_row at (λ new. AreServed requests.now replies.old t new replies.new result)) }
+{
+    let hull = at as *mut HullTree;
+    requests::calls_of(unsafe { &mut *hull }, requests, replies)
+}
+
+/// Takes all points out of the hull.
+///
+/// # Safety
+///
+/// A hull lies at `at`, and no other call on it is under way.
+#[unsafe(no_mangle)]
+pub unsafe extern "C" fn hull_clear(alloc: Global, at: *mut u8) -> HullReply
+    ghost t: { the_row.Denot }
+    requires* { sem 𝓛 (lies_at the_row full_share at t) }
+    ensures* { sem 𝓛 (leaves the_row at (λ new. IsCleared t new result)) }
+{
+    let hull = at as *mut HullTree;
+    calls::clear(alloc, unsafe { &mut *hull })
+}
+
+/// How many points the hull takes.
+///
+/// # Safety
+///
+/// A hull lies at `at`, and no other call on it is under way.
+#[unsafe(no_mangle)]
+pub unsafe extern "C" fn hull_limit(at: *mut u8) -> HullReply
+    ghost t: { the_row.Denot }
+    requires* { sem 𝓛 (lies_at the_row full_share at t) }
+    ensures* { sem 𝓛 (leaves the_row at (λ new. IsLimitOf t new result)) }
+{
+    let hull = at as *mut HullTree;
+    calls::limit(unsafe { &mut *hull })
+}
+
+/// How many bytes the room of a hull has.
+#[unsafe(no_mangle)]
+pub extern "C" fn hull_size() -> usize {
+    size_of::<HullTree>()
+}
+
+/// At which multiples of bytes the room of a hull begins.
+#[unsafe(no_mangle)]
+pub extern "C" fn hull_alignment() -> usize {
+    align_of::<HullTree>()
+}
+
+/// Makes an empty hull in a room: one that takes `limit` points, or the greatest number of points where `limit` is 0 or above
+/// that. It owns no memory as long as it is empty.
+///
+/// # Safety
+///
+/// `room` has [`hull_size`] bytes at a multiple of [`hull_alignment`], which nothing else uses.
+#[unsafe(no_mangle)]
+pub unsafe extern "C" fn hull_make(alloc: Global, limit: u32, room: *mut u8)
+    requires* { sem 𝓛 (room_at the_row room) }
+    ensures* { sem 𝓛 (leaves the_row room (IsFresh limit)) }
+{
+    let at = room as *mut HullTree;
+    let hull = calls::fresh(alloc, limit);
+    unsafe { at.write(hull) };
+}
+
+/// Ends a hull: all its memory is freed, and its room comes back. It returns 0.
+///
+/// # Safety
+///
+/// A hull lies at `at`, and no other call on it is under way.
+#[unsafe(no_mangle)]
+pub unsafe extern "C" fn hull_end(at: *mut u8) -> u32
+    ghost t: { the_row.Denot }
+    requires* { sem 𝓛 (lies_at the_row full_share at t) }
+    ensures* { sem 𝓛 (room_at the_row at) }
+{
+    let hull = at as *mut HullTree;
+    calls::finish(unsafe { hull.read() })
+}
