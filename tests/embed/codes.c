@@ -1,0 +1,245 @@
+/* Every code of every function of hull.h, through the archive. Prints what is wrong, and how many checks passed and failed. */
+#include "hull.h"
+#include <stdio.h>
+#include <stdlib.h>
+#include <string.h>
+
+static int passed, failed, refused_from = -1, asked;
+
+/* malloc and realloc, of which those from `refused_from` on are refused (linked in by --wrap) */
+void *__real_malloc(size_t n);
+void *__real_realloc(void *p, size_t n);
+static int is_refused(void) { return refused_from >= 0 && asked++ >= refused_from; }
+void *__wrap_malloc(size_t n) { return is_refused() ? NULL : __real_malloc(n); }
+void *__wrap_realloc(void *p, size_t n) { return is_refused() ? NULL : __real_realloc(p, n); }
+
+#define CHECK(truth) check(truth, #truth, __LINE__)
+static void check(int truth, const char *text, int line) {
+    if (truth) {
+        passed++;
+    } else {
+        failed++;
+        printf("codes.c:%d: %s\n", line, text);
+    }
+}
+
+/* the reply is this code, and nothing beside it */
+static int bare(hull_reply r, uint32_t code) {
+    return r.code == code && !r.x && !r.y && !r.other_x && !r.other_y && !r.number && !r.high;
+}
+
+static int number(hull_reply r, uint32_t code, uint64_t number) {
+    return r.code == code && !r.x && !r.y && !r.other_x && !r.other_y && r.number == number && !r.high;
+}
+
+static int point(hull_reply r, int64_t x, int64_t y) {
+    return r.code == HULL_POINT && r.x == x && r.y == y && !r.other_x && !r.other_y && !r.number && !r.high;
+}
+
+static hull room_of_one(void) {
+    size_t size = (hull_size() + hull_alignment() - 1) / hull_alignment() * hull_alignment();
+    hull room = aligned_alloc(hull_alignment(), size);
+    if (room == NULL) {
+        exit(2);
+    }
+    memset(room, 7, hull_size());
+    return room;
+}
+
+static hull made(uint32_t limit) {
+    hull h = room_of_one();
+    CHECK(hull_init(limit, h) == HULL_OK);
+    return h;
+}
+
+static void ended(hull h) {
+    CHECK(hull_end(h) == HULL_OK);
+    free(h);
+}
+
+static void limits(void) {
+    hull h = room_of_one();
+    unsigned char *before = malloc(hull_size());
+    memcpy(before, h, hull_size());
+    CHECK(hull_init(0, h) == HULL_BAD_LIMIT);
+    CHECK(hull_init(HULL_LIMIT_MAX + 1, h) == HULL_BAD_LIMIT);
+    CHECK(hull_init(UINT32_MAX, h) == HULL_BAD_LIMIT);
+    CHECK(memcmp(before, h, hull_size()) == 0);
+    free(before);
+    static const uint32_t asked_for[] = {1, 2, HULL_LIMIT_MAX, 0, HULL_LIMIT_MAX + 1, UINT32_MAX};
+    for (int i = 0; i < 6; i++) {
+        hull_make(asked_for[i], h);
+        CHECK(number(hull_limit(h), HULL_NUMBER, i < 3 ? asked_for[i] : HULL_LIMIT_MAX));
+        CHECK(number(hull_count(h), HULL_NUMBER, 0));
+        CHECK(hull_end(h) == HULL_OK);
+    }
+    free(h);
+}
+
+static void changes(void) {
+    hull h = made(2);
+    CHECK(bare(hull_add(h, 1, 2), HULL_ADDED));
+    CHECK(number(hull_add(h, 1, 2), HULL_AGAIN, 2));
+    CHECK(bare(hull_add(h, HULL_COORDINATE_MAX + 1, 0), HULL_OUT_OF_RANGE));
+    CHECK(bare(hull_add(h, 0, INT64_MIN), HULL_OUT_OF_RANGE));
+    refused_from = 0, asked = 0;
+    CHECK(bare(hull_add(h, 3, 4), HULL_NO_MEMORY));
+    CHECK(number(hull_add(h, 1, 2), HULL_AGAIN, 3));
+    refused_from = -1;
+    CHECK(number(hull_count(h), HULL_NUMBER, 1));
+    CHECK(bare(hull_add(h, -HULL_COORDINATE_MAX, HULL_COORDINATE_MAX), HULL_ADDED));
+    CHECK(bare(hull_add(h, 5, 6), HULL_TOO_MANY));
+    CHECK(number(hull_multiplicity(h, 1, 2), HULL_NUMBER, 3));
+    CHECK(number(hull_multiplicity(h, 5, 6), HULL_NUMBER, 0));
+    CHECK(bare(hull_multiplicity(h, INT64_MAX, 0), HULL_OUT_OF_RANGE));
+    CHECK(number(hull_remove(h, 1, 2), HULL_LEFT, 2));
+    CHECK(number(hull_remove(h, 1, 2), HULL_LEFT, 1));
+    CHECK(bare(hull_remove(h, 1, 2), HULL_REMOVED));
+    CHECK(bare(hull_remove(h, 1, 2), HULL_ABSENT));
+    CHECK(bare(hull_remove(h, 0, -HULL_COORDINATE_MAX - 1), HULL_OUT_OF_RANGE));
+    int all = 1;
+    for (uint64_t times = 2; times <= HULL_MULTIPLICITY_MAX; times++) {
+        all &= number(hull_add(h, -HULL_COORDINATE_MAX, HULL_COORDINATE_MAX), HULL_AGAIN, times);
+    }
+    CHECK(all);
+    CHECK(bare(hull_add(h, -HULL_COORDINATE_MAX, HULL_COORDINATE_MAX), HULL_TOO_MANY));
+    CHECK(number(hull_count(h), HULL_NUMBER, 1));
+    CHECK(bare(hull_clear(h), HULL_CLEARED));
+    CHECK(number(hull_count(h), HULL_NUMBER, 0));
+    CHECK(number(hull_limit(h), HULL_NUMBER, 2));
+    CHECK(number(hull_multiplicity(h, -HULL_COORDINATE_MAX, HULL_COORDINATE_MAX), HULL_NUMBER, 0));
+    CHECK(bare(hull_add(h, 1, 1), HULL_ADDED));
+    ended(h);
+}
+
+static void questions(void) {
+    hull h = made(10);
+    CHECK(bare(hull_place(h, 0, 0), HULL_OUTSIDE));
+    CHECK(bare(hull_extreme(h, 1, 0), HULL_EMPTY));
+    CHECK(bare(hull_tangents(h, 0, 0), HULL_NO_TANGENT));
+    CHECK(number(hull_area(h), HULL_NUMBER, 0));
+    hull_add(h, 0, 0), hull_add(h, 10, 0), hull_add(h, 10, 10), hull_add(h, 0, 10), hull_add(h, 4, 4);
+    CHECK(bare(hull_place(h, 5, 5), HULL_INSIDE));
+    CHECK(bare(hull_place(h, 10, 5), HULL_ON));
+    CHECK(bare(hull_place(h, 0, 0), HULL_ON));
+    CHECK(bare(hull_place(h, 11, 5), HULL_OUTSIDE));
+    CHECK(bare(hull_place(h, HULL_COORDINATE_MAX + 1, 5), HULL_OUT_OF_RANGE));
+    CHECK(point(hull_extreme(h, 1, 0), 10, 0));
+    CHECK(point(hull_extreme(h, 0, 1), 0, 10));
+    CHECK(point(hull_extreme(h, -3, -2), 0, 0));
+    CHECK(bare(hull_extreme(h, 0, 0), HULL_ZERO_DIRECTION));
+    CHECK(bare(hull_extreme(h, 0, INT64_MIN), HULL_OUT_OF_RANGE));
+    hull_reply r = hull_tangents(h, 20, 5);
+    CHECK(r.code == HULL_TANGENTS && r.x == 10 && r.y == 0 && r.other_x == 10 && r.other_y == 10 && !r.number && !r.high);
+    CHECK(bare(hull_tangents(h, 5, 5), HULL_NO_TANGENT));
+    CHECK(bare(hull_tangents(h, 10, 5), HULL_NO_TANGENT));
+    CHECK(bare(hull_tangents(h, 5, INT64_MAX), HULL_OUT_OF_RANGE));
+    CHECK(number(hull_area(h), HULL_NUMBER, 200));
+    CHECK(number(hull_count(h), HULL_NUMBER, 5));
+    hull_clear(h);
+    int64_t far = HULL_COORDINATE_MAX;
+    hull_add(h, -far, -far), hull_add(h, far, -far), hull_add(h, far, far), hull_add(h, -far, far), hull_add(h, far, far - 1);
+    r = hull_area(h);
+    CHECK(r.code == HULL_NUMBER && r.number == 0 && r.high == (uint64_t)1 << 19);
+    hull_remove(h, far, far);
+    r = hull_area(h);
+    CHECK(r.code == HULL_NUMBER && r.number == UINT64_MAX - ((uint64_t)1 << 41) + 1 && r.high == ((uint64_t)1 << 19) - 1);
+    ended(h);
+}
+
+static void corners(void) {
+    hull h = made(100);
+    hull_point out[6], mark = {-1, -2};
+    for (int i = 0; i < 6; i++) {
+        out[i] = mark;
+    }
+    CHECK(number(hull_vertices(h, out, 0), HULL_CORNERS, 0));
+    hull_add(h, 0, 0), hull_add(h, 10, 0), hull_add(h, 10, 10), hull_add(h, 0, 10), hull_add(h, 4, 4), hull_add(h, 5, 0);
+    for (size_t room = 0; room < 4; room++) {
+        CHECK(number(hull_vertices(h, out, room), HULL_TOO_SMALL, 4));
+    }
+    refused_from = 0, asked = 0;
+    CHECK(bare(hull_vertices(h, out, 6), HULL_NO_MEMORY));
+    refused_from = -1;
+    for (int i = 0; i < 6; i++) {
+        CHECK(memcmp(&out[i], &mark, sizeof mark) == 0);
+    }
+    CHECK(number(hull_vertices(h, out, 5), HULL_CORNERS, 4));
+    static const hull_point wanted[] = {{0, 0}, {10, 0}, {10, 10}, {0, 10}, {-1, -2}, {-1, -2}};
+    CHECK(memcmp(out, wanted, sizeof wanted) == 0);
+    CHECK(number(hull_vertices(h, out, 4), HULL_CORNERS, 4));
+    ended(h);
+}
+
+static void calls(void) {
+    hull h = made(2);
+    static const hull_request asked_for[] = {
+        {HULL_KIND_ADD, 0, 0},      {HULL_KIND_ADD, 4, 0},          {HULL_KIND_ADD, 4, 0},   {HULL_KIND_ADD, 0, 3},
+        {HULL_KIND_PLACE, 2, 0},    {HULL_KIND_TANGENTS, 2, 2},     {HULL_KIND_AREA, -1, 9}, {HULL_KIND_COUNT, 7, 7},
+        {HULL_KIND_EXTREME, 1, 1},  {HULL_KIND_MULTIPLICITY, 4, 0}, {HULL_KIND_REMOVE, 4, 0}, {HULL_KIND_REMOVE, 9, 9},
+        {HULL_KIND_EXTREME, 0, 0},  {HULL_KIND_ADD, 1, 1},
+    };
+    hull_reply told[16], mark;
+    memset(told, 5, sizeof told);
+    memset(&mark, 5, sizeof mark);
+    CHECK(hull_calls(h, asked_for, 14, told, 3) == 3);
+    CHECK(bare(told[0], HULL_ADDED) && bare(told[1], HULL_ADDED) && number(told[2], HULL_AGAIN, 2));
+    CHECK(memcmp(&told[3], &mark, sizeof mark) == 0);
+    CHECK(hull_calls(h, asked_for + 3, 0, told, 16) == 0);
+    CHECK(hull_calls(h, asked_for + 3, 11, told, 16) == 10);
+    CHECK(bare(told[0], HULL_TOO_MANY) && bare(told[1], HULL_ON) && told[2].code == HULL_TANGENTS);
+    CHECK(number(told[3], HULL_NUMBER, 0) && number(told[4], HULL_NUMBER, 2) && point(told[5], 4, 0));
+    CHECK(number(told[6], HULL_NUMBER, 2) && number(told[7], HULL_LEFT, 1) && bare(told[8], HULL_ABSENT));
+    CHECK(bare(told[9], HULL_ZERO_DIRECTION) && memcmp(&told[10], &mark, sizeof mark) == 0);
+    hull_request bad[] = {{HULL_KIND_COUNT, 0, 0}, {0, 0, 0}, {HULL_KIND_REMOVE, 0, 0}};
+    for (uint32_t kind = 0; kind < 30; kind += kind == 0 ? 9 : 1) {
+        bad[1].kind = kind;
+        CHECK(hull_calls(h, bad, 3, told, 16) == 2 && number(told[0], HULL_NUMBER, 2) && bare(told[1], HULL_UNKNOWN_KIND));
+    }
+    bad[1].kind = HULL_KIND_PLACE, bad[1].y = INT64_MIN;
+    CHECK(hull_calls(h, bad, 3, told, 16) == 2 && bare(told[1], HULL_OUT_OF_RANGE));
+    CHECK(number(hull_count(h), HULL_NUMBER, 2));
+    ended(h);
+}
+
+/* many points come and go, with some of the memory refused: no call does more than its code says */
+static void refusals(void) {
+    hull h = made(1000);
+    uint64_t seed = 88172645463325252u, held = 0;
+    int right = 1;
+    for (int i = 0; i < 20000; i++) {
+        seed ^= seed << 13, seed ^= seed >> 7, seed ^= seed << 17;
+        int64_t x = (int64_t)(seed % 41) - 20, y = (int64_t)(seed / 41 % 41) - 20;
+        refused_from = i % 5 == 0 ? 0 : -1, asked = 0;
+        uint64_t before = hull_multiplicity(h, x, y).number;
+        hull_reply r = seed >> 40 & 1 ? hull_add(h, x, y) : hull_remove(h, x, y);
+        refused_from = -1;
+        uint64_t after = hull_multiplicity(h, x, y).number;
+        switch (r.code) {
+        case HULL_ADDED: right &= before == 0 && after == 1, held++; break;
+        case HULL_AGAIN: right &= before > 0 && after == before + 1 && r.number == after; break;
+        case HULL_TOO_MANY: right &= before == 0 && after == 0 && held == 1000; break;
+        case HULL_NO_MEMORY: right &= before == 0 && after == 0 && i % 5 == 0; break;
+        case HULL_REMOVED: right &= before == 1 && after == 0, held--; break;
+        case HULL_LEFT: right &= before > 1 && after == before - 1 && r.number == after; break;
+        case HULL_ABSENT: right &= before == 0 && after == 0; break;
+        default: right = 0;
+        }
+        right &= hull_count(h).number == held;
+    }
+    CHECK(right);
+    ended(h);
+}
+
+int main(void) {
+    CHECK(hull_size() > 0);
+    CHECK(hull_alignment() > 0 && (hull_alignment() & (hull_alignment() - 1)) == 0);
+    limits();
+    changes();
+    questions();
+    corners();
+    calls();
+    refusals();
+    printf("codes: %d passed, %d failed\n", passed, failed);
+    return failed != 0;
+}
