@@ -1,8 +1,11 @@
 //! A convex hull for C: a static library over [`HullTree`](hull_tree::HullTree), whose header is `include/hull.h`.
 //!
-//! A hull lies in room that the caller gives. Each call of the header is one export, which lends the hull at the pointer
-//! to one plain function (`calls.rt`) and gives back its reply: what it promises is that function's contract, in the words
-//! of the trait `HullSet`.
+//! A hull lies in room that the caller gives. Each call of the header is one export, which lends the hull at the
+//! pointer to one plain function (`calls.rt`, `corners.rt`, `requests.rt`) and gives back its reply: what it promises is
+//! that function's contract, in the words of the trait `HullSet`.
+//!
+//! The walk of each export (`proofs/hull_*/Proof.antt`) shows that it lends the hull and takes it back; those of one
+//! shape are written from one pattern by `walks/write.py`, which is to be run after a change of a pattern.
 #![tactic(auto)]
 
 ghost use Rattle.std.specs.Borrow.{full_share, sem};
@@ -163,8 +166,8 @@ pub unsafe extern "C" fn hull_vertices(at: *mut u8, out: &mut [HullPoint]) -> Hu
     corners::vertices(unsafe { &mut *hull }, out)
 }
 
-/// Makes the calls of the requests in their order, up to the end of the shorter array or the first request that can't be served,
-/// and tells how many replies were written.
+/// Makes the calls of the requests in their order, up to the end of the shorter array or the first request that can't be
+/// served, and tells how many replies were written.
 ///
 /// # Safety
 ///
@@ -225,8 +228,8 @@ pub extern "C" fn hull_alignment() -> usize {
     align_of::<HullTree>()
 }
 
-/// Makes an empty hull in a room: one that takes `limit` points, or the greatest number of points where `limit` is 0 or above
-/// that. It owns no memory as long as it is empty.
+/// Makes an empty hull in a room: one that takes `limit` points, or the greatest number of points where `limit` is 0 or
+/// above that. It owns no memory as long as it is empty.
 ///
 /// # Safety
 ///

@@ -94,8 +94,8 @@ fn is_bad(code: u32) -> bool
         || code == Code::UnknownKind.number()
 }
 
-/// Makes the calls in their order, up to the end of the shorter array or the first request that can't be served, and tells how
-/// many replies were written.
+/// Makes the calls in their order, up to the end of the shorter array or the first request that can't be served, and
+/// tells how many replies were written.
 pub(crate) fn calls_of(
     hull: &mut HullTree,
     requests: &[HullRequest],

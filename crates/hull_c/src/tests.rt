@@ -26,6 +26,9 @@ fn is_number(rt: &impl Abort, reply: HullReply, code: u32, number: u64) {
     is_told(rt, reply, code, (0, 0, 0, 0), number);
 }
 
+/// Asks for a type whose values may go to another thread.
+fn goes_to_any_thread<H: Send>(_hull: &H) {}
+
 /// The square of side 10 with a point inside.
 fn square(rt: &impl Abort, hull: &mut HullTree) {
     for (x, y) in [(0, 0), (10, 0), (10, 10), (0, 10), (4, 4)] {
@@ -69,6 +72,7 @@ fn limits(rt: HostRuntime) {
         let mut hull = calls::fresh(rt.alloc(), asked);
         is_number(&rt, calls::limit(&mut hull), 17, u64::from(limit));
         is_number(&rt, calls::count(&mut hull), 17, 0);
+        goes_to_any_thread(&hull);
         assert_eq!(rt; calls::finish(hull), 0);
     }
 }

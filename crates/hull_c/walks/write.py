@@ -32,14 +32,14 @@ def main():
     check = sys.argv[1:] == ["--check"]
     wrong = 0
     for name, pattern, uses, law in WALKS:
-        with open(os.path.join(HERE, pattern + ".antt"), encoding="utf-8") as file:
+        with open(os.path.join(HERE, pattern + ".walk"), encoding="utf-8") as file:
             text = file.read()
         text = text.replace("USES", uses).replace("LAW", law).replace("NAME", name)
         path = os.path.join(HERE, "..", "proofs", "hull_" + name, "Proof.antt")
         if check:
             with open(path, encoding="utf-8") as file:
                 if file.read() != text:
-                    print(f"{path} is not what {pattern}.antt makes")
+                    print(f"{path} is not what {pattern}.walk makes")
                     wrong = 1
         else:
             os.makedirs(os.path.dirname(path), exist_ok=True)

@@ -1,8 +1,8 @@
-/* A convex hull of points with whole coordinates, which takes points in and lets them go: the header of libhull_c.a.
+/* A convex hull of points with whole coordinates, which takes points in and lets them go: the header of libhull.a.
  *
  * A hull holds points (x, y), each at least once; of each it knows how often. All questions are over the points that it
- * holds, each taken once. A coordinate is at least -HULL_COORDINATE_MAX and at most HULL_COORDINATE_MAX; distances are
- * in the same units, and areas are told doubled, so that they are whole numbers.
+ * holds, each taken once. A coordinate is at least -HULL_COORDINATE_MAX and at most HULL_COORDINATE_MAX. Answers are exact:
+ * an area is told doubled, so that it is a whole number.
  *
  * A hull lies in room that the caller gives: hull_size() bytes at a multiple of hull_alignment(). The room stays the
  * caller's. Between hull_init and hull_end a hull lies there, and the caller neither reads nor writes the room, nor moves
@@ -10,15 +10,15 @@
  *
  * What the caller must keep, and nothing checks:
  * - each `hull` that is passed is one that hull_init (or hull_make) made and hull_end did not end;
- * - on one hull there is one call at a time, and all its calls are on one thread; two hulls have nothing in common;
+ * - on one hull there is one call at a time, a question too, in whatever thread: a lock, or a thread's start or join, stands
+ *   between two calls from different threads. Two hulls have nothing in common;
  * - no call is made from a signal handler, nor in the child of a fork of a process with threads;
  * - malloc, realloc and free are of one allocator, whose blocks are aligned as C says.
  *
  * Each call returns a hull_reply: a code, and what belongs to that code (told at each code below); all else is 0. A call
  * that is refused (HULL_OUT_OF_RANGE, HULL_ZERO_DIRECTION, HULL_UNKNOWN_KIND, HULL_TOO_MANY, HULL_NO_MEMORY,
- * HULL_TOO_SMALL) leaves the hull
- * as it was. A call ends after at most some thousands of steps for each level of a tree of at most 28 levels;
- * hull_vertices, hull_clear and hull_end take time in proportion to what there is. */
+ * HULL_TOO_SMALL) leaves the hull as it was. A change takes at most 10,000 steps of its search, since the tree is at most
+ * 28 levels high; hull_vertices, hull_area, hull_clear and hull_end take time in proportion to what there is. */
 #ifndef HULL_H
 #define HULL_H
 
@@ -101,8 +101,7 @@ typedef void *hull;
 
 /* How many bytes the room of a hull has, and at which multiples of bytes it begins; the same at each call.
  *
- *     hull h = malloc(hull_size());            // malloc's blocks are aligned well enough on all usual systems
- *     hull h = aligned_alloc(hull_alignment(), hull_size());     // C11, and safe in any case
+ *     hull h = aligned_alloc(hull_alignment(), hull_size());
  */
 size_t hull_size(void);
 size_t hull_alignment(void);
