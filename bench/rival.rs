@@ -1,6 +1,6 @@
 //! The rival: the same leaf tree with stored bridges (Overmars and van Leeuwen, 1981) as a Rust programmer would write
 //! it in an afternoon, nodes in an arena, the tree under `std::sync::Mutex`, one thread a worker. It reads the same
-//! scripts and writes the same reports as `hullbook run`, and proves nothing.
+//! scripts and writes the same reports as `hullbook run`, and proves nothing. `bench/embed` calls its tree.
 //!
 //! A call waits by that mutex, or by a fair lock of the rival's own, which serves first come, first served as the program does.
 //!
@@ -15,9 +15,9 @@ use std::sync::atomic::{AtomicU64, Ordering};
 use std::sync::Mutex;
 
 #[derive(Clone, Copy, PartialEq, Eq, PartialOrd, Ord)]
-struct Point {
-    x: i64,
-    y: i64,
+pub struct Point {
+    pub x: i64,
+    pub y: i64,
 }
 
 fn orient(a: Point, b: Point, c: Point) -> i128 {
@@ -33,7 +33,7 @@ fn distance_squared(a: Point, b: Point) -> i128 {
     x * x + y * y
 }
 
-type Edge = (Point, Point);
+pub type Edge = (Point, Point);
 
 #[derive(Clone, Copy)]
 enum Node {
@@ -55,7 +55,7 @@ fn crosses_at_or_before(s1: i128, a: Point, b: Point, c: Point, d: Point, m: Poi
 /// How often a point is held at most.
 const MULTIPLICITY_LIMIT: u32 = 65535;
 
-struct Tree {
+pub struct Tree {
     nodes: Vec<Node>,
     free: Vec<u32>,
     root: Option<u32>,
@@ -64,6 +64,10 @@ struct Tree {
 }
 
 impl Tree {
+    pub fn new(limit: usize) -> Tree {
+        Tree { nodes: Vec::new(), free: Vec::new(), root: None, count: 0, limit }
+    }
+
     fn first(&self, n: u32) -> Point {
         match &self.nodes[n as usize] {
             Node::Leaf(p, _) => *p,
@@ -247,7 +251,7 @@ impl Tree {
         }
     }
 
-    fn add(&mut self, p: Point) -> Reply {
+    pub fn add(&mut self, p: Point) -> Reply {
         if let Some(leaf) = self.leaf_of(p) {
             let Node::Leaf(_, times) = &mut self.nodes[leaf as usize] else { unreachable!() };
             if *times == MULTIPLICITY_LIMIT {
@@ -268,7 +272,7 @@ impl Tree {
         Reply::Added
     }
 
-    fn remove(&mut self, p: Point) -> Reply {
+    pub fn remove(&mut self, p: Point) -> Reply {
         let Some(leaf) = self.leaf_of(p) else { return Reply::Absent };
         let Node::Leaf(_, times) = &mut self.nodes[leaf as usize] else { unreachable!() };
         if *times > 1 {
@@ -323,7 +327,7 @@ impl Tree {
         }
     }
 
-    fn place(&self, q: Point) -> Place {
+    pub fn place(&self, q: Point) -> Place {
         let Some(root) = self.root else { return Place::Outside };
         let (first, last) = (self.first(root), self.last(root));
         if q < first || last < q {
@@ -389,7 +393,7 @@ impl Tree {
         list
     }
 
-    fn area2(&self) -> i128 {
+    pub fn area2(&self) -> i128 {
         let Some(root) = self.root else { return 0 };
         let first = self.first(root);
         let (mut sum, mut before) = (0, first);
@@ -410,7 +414,7 @@ fn lower_crosses(s1: i128, a: Point, b: Point, c: Point, d: Point, m: Point) -> 
     if s > 0 { (x, y) <= (0, 0) } else { (x, y) >= (0, 0) }
 }
 
-enum Place {
+pub enum Place {
     Inside,
     On,
     Outside,
@@ -428,7 +432,7 @@ enum Call {
     Count,
 }
 
-enum Reply {
+pub enum Reply {
     Added,
     Again(u32),
     TooMany,
@@ -614,8 +618,7 @@ fn perform(phases: &[Vec<Vec<Call>>], workers: usize, lock: &impl Lock) -> Vec<V
 fn run(text: &str, capacity: usize, is_fair: bool) {
     let phases = read(text);
     let workers = phases.iter().map(Vec::len).max().unwrap();
-    let tree = Tree { nodes: Vec::new(), free: Vec::new(), root: None, count: 0, limit: 1 << 20 };
-    let book = Book { tree, served: 0, capacity };
+    let book = Book { tree: Tree::new(1 << 20), served: 0, capacity };
     let answers = if is_fair {
         let lock = TicketLock { next: AtomicU64::new(0), served: AtomicU64::new(0), book: UnsafeCell::new(book) };
         perform(&phases, workers, &lock)

@@ -1,6 +1,8 @@
-/* A layout grows by rectangles. A new one is taken where none of its corners is covered by the hull of those that were placed,
- * and none of the hull's corners lies in it; then its corners are added. At the end the last one is taken back, and the hull
- * shrinks. (A long rectangle that crosses the hull, with all corners outside on both sides, would want a test of edges.) */
+/* A layout grows by rectangles. A new one is taken where it is apart from the hull of those that were placed; then its corners
+ * are added. At the end the last one is taken back, and the hull shrinks.
+ *
+ * Two convex shapes are apart where an edge of one has the other beyond it (separating axes; Gottschalk, 1996). For the edges
+ * of the rectangle the hull is asked how far it goes each way, for its own edges it is asked for its corners. */
 #include "hull.h"
 #include <stdio.h>
 #include <stdlib.h>
@@ -14,26 +16,37 @@ static hull_point corner(const rectangle *r, int i) {
     return p;
 }
 
-/* whether no corner of the rectangle is covered, and it covers none of the hull's corners */
-static int is_beside(hull placed, const rectangle *r) {
+/* whether the whole rectangle lies strictly to the right of the line from one corner of the hull to the next */
+static int is_beyond(const hull_point *from, const hull_point *to, const rectangle *r) {
     for (int i = 0; i < 4; i++) {
         hull_point p = corner(r, i);
-        if (hull_place(placed, p.x, p.y).code != HULL_OUTSIDE) {
+        if ((to->x - from->x) * (p.y - from->y) - (to->y - from->y) * (p.x - from->x) >= 0) {
             return 0;
         }
     }
+    return 1;
+}
+
+/* whether an edge of the hull has the rectangle beyond it, given room for all corners of the hull */
+static int is_beyond_an_edge(hull placed, const rectangle *r, hull_point *corners, size_t room) {
+    hull_reply told = hull_vertices(placed, corners, room);
+    for (size_t i = 0; told.code == HULL_CORNERS && i < told.number; i++) {
+        if (is_beyond(&corners[i], &corners[(i + 1) % told.number], r)) {
+            return 1;
+        }
+    }
+    return 0;
+}
+
+/* whether the rectangle and the hull have no point in common; not where memory is refused */
+static int is_beside(hull placed, const rectangle *r) {
     size_t room = hull_count(placed).number;
-    hull_point *corners = calloc(room + 1, sizeof *corners);
-    hull_reply told = {0};
-    if (corners == NULL || (told = hull_vertices(placed, corners, room)).code != HULL_CORNERS) {
-        free(corners);
-        return 0;
+    if (room == 0 || hull_extreme(placed, 1, 0).x < r->left || hull_extreme(placed, -1, 0).x > r->right
+        || hull_extreme(placed, 0, 1).y < r->low || hull_extreme(placed, 0, -1).y > r->high) {
+        return 1;
     }
-    int beside = 1;
-    for (size_t i = 0; i < told.number; i++) {
-        hull_point p = corners[i];
-        beside &= p.x < r->left || p.x > r->right || p.y < r->low || p.y > r->high;
-    }
+    hull_point *corners = calloc(room, sizeof *corners);
+    int beside = corners != NULL && is_beyond_an_edge(placed, r, corners, room);
     free(corners);
     return beside;
 }
@@ -63,7 +76,8 @@ static void take_back(hull placed, const rectangle *r) {
 
 int main(void) {
     static const rectangle wanted[] = {
-        {0, 0, 40, 20}, {50, 0, 70, 30}, {30, 10, 60, 40}, {-5, -5, 90, 90}, {10, 40, 45, 60}, {41, 1, 49, 19}, {80, 5, 95, 15},
+        {0, 0, 40, 20},   {50, 0, 70, 30}, {30, 10, 60, 40},  {-5, -5, 90, 90},
+        {10, 40, 45, 60}, {41, 1, 49, 19}, {-20, 5, 120, 8},  {80, 5, 95, 15},
     };
     hull placed = aligned_alloc(hull_alignment(), hull_size());
     if (placed == NULL || hull_init(1000, placed) != HULL_OK) {
@@ -77,7 +91,7 @@ int main(void) {
     }
     hull_reply area = hull_area(placed);
     printf("twice the area of the layout: %llu\n", (unsigned long long)area.number);
-    take_back(placed, &wanted[6]);
+    take_back(placed, &wanted[7]);
     area = hull_area(placed);
     printf("without the last: %llu\n", (unsigned long long)area.number);
     hull_end(placed);

@@ -199,6 +199,11 @@ static void calls(void) {
     bad[1].kind = HULL_KIND_PLACE, bad[1].y = INT64_MIN;
     CHECK(hull_calls(h, bad, 3, told, 16) == 2 && bare(told[1], HULL_OUT_OF_RANGE));
     CHECK(number(hull_count(h), HULL_NUMBER, 2));
+    hull_remove(h, 4, 0);
+    hull_request refused[] = {{HULL_KIND_ADD, 7, 7}, {HULL_KIND_ADD, 0, 0}};
+    refused_from = 0, asked = 0;
+    CHECK(hull_calls(h, refused, 2, told, 2) == 2 && bare(told[0], HULL_NO_MEMORY) && number(told[1], HULL_AGAIN, 2));
+    refused_from = -1;
     ended(h);
 }
 

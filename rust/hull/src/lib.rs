@@ -1,0 +1,272 @@
+//! A convex hull of points with whole coordinates, which takes points in and lets them go: safe Rust over `libhull.a`.
+//!
+//! ```no_run
+//! use hull::{Hull, Place, Point};
+//!
+//! let mut hull = Hull::new(100)?;
+//! for (x, y) in [(0, 0), (10, 0), (10, 10), (0, 10)] {
+//!     hull.add(Point { x, y })?;
+//! }
+//! assert_eq!(hull.place(Point { x: 5, y: 5 })?, Place::Inside);
+//! assert_eq!(hull.doubled_area(), 200);
+//! # Ok::<(), hull::Fault>(())
+//! ```
+//!
+//! A [`Hull`] may go to another thread (`Send`), but be used by one at a time: share it as `Mutex<Hull>`.
+mod raw;
+
+use raw::{code, Reply};
+use std::alloc::{alloc, dealloc, Layout};
+use std::fmt;
+use std::ptr::NonNull;
+
+pub use raw::Point;
+
+/// The greatest size of a coordinate, of a point and of a direction: 2^40.
+pub const COORDINATE_LIMIT: i64 = 1 << 40;
+/// The greatest limit of a hull: how many different points one may hold.
+pub const POINT_LIMIT: u32 = 1 << 20;
+/// How often a point may be held.
+pub const MULTIPLICITY_LIMIT: u32 = 65535;
+
+/// Why a call was refused. The hull is as it was.
+#[derive(Clone, Copy, Debug, PartialEq, Eq)]
+pub enum Fault {
+    /// A coordinate is larger than [`COORDINATE_LIMIT`] in size.
+    OutOfRange,
+    /// Both components of a direction are 0.
+    ZeroDirection,
+    /// The point is new and there are as many as the limit, or it is held [`MULTIPLICITY_LIMIT`] times.
+    TooMany,
+    /// Memory was refused.
+    NoMemory,
+    /// A limit is 0 or above [`POINT_LIMIT`].
+    BadLimit,
+}
+
+impl fmt::Display for Fault {
+    fn fmt(&self, f: &mut fmt::Formatter<'_>) -> fmt::Result {
+        f.write_str(match self {
+            Fault::OutOfRange => "a coordinate is out of range",
+            Fault::ZeroDirection => "a direction is zero",
+            Fault::TooMany => "there are as many points as the limit, or the point is held as often as may be",
+            Fault::NoMemory => "memory was refused",
+            Fault::BadLimit => "the limit of a hull is out of range",
+        })
+    }
+}
+
+impl std::error::Error for Fault {}
+
+/// Where a point lies.
+#[derive(Clone, Copy, Debug, PartialEq, Eq, Hash)]
+pub enum Place {
+    /// The hull covers the point, which is not on its boundary.
+    Inside,
+    /// The point is on the boundary: a corner, on an edge, or on a hull of one point or one line.
+    On,
+    /// The hull does not cover the point.
+    Outside,
+}
+
+/// A hull, which holds each of its points at least once. Questions are over the points, each taken once.
+pub struct Hull {
+    room: NonNull<u8>,
+}
+
+// SAFETY: `HullTree` is `Send`, which the library's sources show by a bound: plain data, and boxes from `malloc`. It is not
+// `Sync`, since a question too lends the library the whole hull.
+unsafe impl Send for Hull {}
+
+impl Hull {
+    /// An empty hull for at most `limit` different points, 1 to [`POINT_LIMIT`].
+    pub fn new(limit: u32) -> Result<Hull, Fault> {
+        if !(1..=POINT_LIMIT).contains(&limit) {
+            return Err(Fault::BadLimit);
+        }
+        // SAFETY: the layout has a size of more than 0.
+        let room = NonNull::new(unsafe { alloc(Self::layout()) }).ok_or(Fault::NoMemory)?;
+        // SAFETY: the room has the size and the alignment that the library asks for, and is nobody else's.
+        unsafe { raw::hull_make(limit, room.as_ptr()) };
+        Ok(Hull { room })
+    }
+
+    fn layout() -> Layout {
+        // SAFETY: these two read nothing.
+        let (size, alignment) = unsafe { (raw::hull_size(), raw::hull_alignment()) };
+        Layout::from_size_align(size, alignment).expect("the room of a hull has a layout")
+    }
+
+    /// Holds a point once more, and tells how often it is held now: 1 where it is new.
+    pub fn add(&mut self, point: Point) -> Result<u32, Fault> {
+        // SAFETY: a hull lies in the room, from `new` to `drop`, and `&mut self` keeps other calls away.
+        let reply = unsafe { raw::hull_add(self.room.as_ptr(), point.x, point.y) };
+        match reply.code {
+            code::ADDED => Ok(1),
+            code::AGAIN => Ok(reply.number as u32),
+            _ => Err(fault_of(reply)),
+        }
+    }
+
+    /// Holds a point once less, and tells how often it is still held: 0 where it is there no more; `None` where it was not
+    /// there.
+    pub fn remove(&mut self, point: Point) -> Result<Option<u32>, Fault> {
+        // SAFETY: as in `add`.
+        let reply = unsafe { raw::hull_remove(self.room.as_ptr(), point.x, point.y) };
+        match reply.code {
+            code::REMOVED => Ok(Some(0)),
+            code::LEFT => Ok(Some(reply.number as u32)),
+            code::ABSENT => Ok(None),
+            _ => Err(fault_of(reply)),
+        }
+    }
+
+    /// Where a point lies.
+    pub fn place(&self, point: Point) -> Result<Place, Fault> {
+        // SAFETY: a hull lies in the room; since `Hull` is not `Sync`, no other call is under way.
+        let reply = unsafe { raw::hull_place(self.room.as_ptr(), point.x, point.y) };
+        match reply.code {
+            code::INSIDE => Ok(Place::Inside),
+            code::ON => Ok(Place::On),
+            code::OUTSIDE => Ok(Place::Outside),
+            _ => Err(fault_of(reply)),
+        }
+    }
+
+    /// The left and the right point that bound the hull as it is seen from `point`, of several on one line the farthest;
+    /// `None` where there is no point, or the hull covers the one asked about.
+    pub fn tangents(&self, point: Point) -> Result<Option<(Point, Point)>, Fault> {
+        // SAFETY: as in `place`.
+        let reply = unsafe { raw::hull_tangents(self.room.as_ptr(), point.x, point.y) };
+        match reply.code {
+            code::TANGENTS => Ok(Some((reply.point(), reply.other_point()))),
+            code::NO_TANGENT => Ok(None),
+            _ => Err(fault_of(reply)),
+        }
+    }
+
+    /// The point that lies farthest in a direction, of several the first by x and then by y; `None` where there is none.
+    pub fn extreme(&self, direction: Point) -> Result<Option<Point>, Fault> {
+        // SAFETY: as in `place`.
+        let reply = unsafe { raw::hull_extreme(self.room.as_ptr(), direction.x, direction.y) };
+        match reply.code {
+            code::POINT => Ok(Some(reply.point())),
+            code::EMPTY => Ok(None),
+            _ => Err(fault_of(reply)),
+        }
+    }
+
+    /// How often a point is held: 0 where it is not there.
+    pub fn multiplicity(&self, point: Point) -> Result<u32, Fault> {
+        // SAFETY: as in `place`.
+        let reply = unsafe { raw::hull_multiplicity(self.room.as_ptr(), point.x, point.y) };
+        match reply.code {
+            code::NUMBER => Ok(reply.number as u32),
+            _ => Err(fault_of(reply)),
+        }
+    }
+
+    /// Twice the area, 0 for a point and a line.
+    pub fn doubled_area(&self) -> u128 {
+        // SAFETY: as in `place`.
+        let reply = unsafe { raw::hull_area(self.room.as_ptr()) };
+        u128::from(reply.high) << 64 | u128::from(reply.number)
+    }
+
+    /// How many different points there are.
+    pub fn len(&self) -> usize {
+        // SAFETY: as in `place`.
+        unsafe { raw::hull_count(self.room.as_ptr()) }.number as usize
+    }
+
+    /// Whether there is no point.
+    pub fn is_empty(&self) -> bool {
+        self.len() == 0
+    }
+
+    /// How many different points the hull takes.
+    pub fn limit(&self) -> u32 {
+        // SAFETY: as in `place`.
+        unsafe { raw::hull_limit(self.room.as_ptr()) }.number as u32
+    }
+
+    /// Lets all points go. The limit stays.
+    pub fn clear(&mut self) {
+        // SAFETY: as in `add`.
+        unsafe { raw::hull_clear(self.room.as_ptr()) };
+    }
+
+    /// The corners, counterclockwise from the first by x and then by y, each once and none inside an edge.
+    pub fn vertices(&self) -> Result<Vertices, Fault> {
+        let mut corners = Vec::new();
+        loop {
+            // SAFETY: as in `place`; the array is the vector's own, and all of it was written.
+            let reply = unsafe { raw::hull_vertices(self.room.as_ptr(), corners.as_mut_ptr(), corners.len()) };
+            let number = reply.number as usize;
+            match reply.code {
+                code::CORNERS => {
+                    corners.truncate(number);
+                    return Ok(Vertices(corners.into_iter()));
+                }
+                code::TOO_SMALL => {
+                    corners.try_reserve_exact(number).map_err(|_| Fault::NoMemory)?;
+                    corners.resize(number, Point { x: 0, y: 0 });
+                }
+                _ => return Err(fault_of(reply)),
+            }
+        }
+    }
+}
+
+impl Drop for Hull {
+    fn drop(&mut self) {
+        // SAFETY: a hull lies in the room, which came from `alloc` with this layout, and nothing uses either any more.
+        unsafe {
+            raw::hull_end(self.room.as_ptr());
+            dealloc(self.room.as_ptr(), Self::layout());
+        }
+    }
+}
+
+impl fmt::Debug for Hull {
+    fn fmt(&self, f: &mut fmt::Formatter<'_>) -> fmt::Result {
+        f.debug_struct("Hull").field("limit", &self.limit()).field("len", &self.len()).finish_non_exhaustive()
+    }
+}
+
+/// The corners of a hull as it was when it was asked.
+#[derive(Clone, Debug)]
+pub struct Vertices(std::vec::IntoIter<Point>);
+
+impl Iterator for Vertices {
+    type Item = Point;
+
+    fn next(&mut self) -> Option<Point> {
+        self.0.next()
+    }
+
+    fn size_hint(&self) -> (usize, Option<usize>) {
+        self.0.size_hint()
+    }
+}
+
+impl DoubleEndedIterator for Vertices {
+    fn next_back(&mut self) -> Option<Point> {
+        self.0.next_back()
+    }
+}
+
+impl ExactSizeIterator for Vertices {}
+
+impl std::iter::FusedIterator for Vertices {}
+
+/// The fault of a reply that is none of a call's answers.
+fn fault_of(reply: Reply) -> Fault {
+    match reply.code {
+        code::OUT_OF_RANGE => Fault::OutOfRange,
+        code::ZERO_DIRECTION => Fault::ZeroDirection,
+        code::TOO_MANY => Fault::TooMany,
+        code::NO_MEMORY => Fault::NoMemory,
+        code => unreachable!("the library answered {code}"),
+    }
+}

@@ -1,0 +1,75 @@
+//! The header `include/hull.h`, declared for Rust: what it says of each call stands there.
+
+/// A point, or a direction, by its coordinates.
+#[repr(C)]
+#[derive(Clone, Copy, Debug, PartialEq, Eq, PartialOrd, Ord, Hash)]
+pub struct Point {
+    /// The first coordinate.
+    pub x: i64,
+    /// The second coordinate.
+    pub y: i64,
+}
+
+#[repr(C)]
+#[derive(Clone, Copy)]
+pub(crate) struct Reply {
+    pub code: u32,
+    x: i64,
+    y: i64,
+    other_x: i64,
+    other_y: i64,
+    pub number: u64,
+    pub high: u64,
+}
+
+impl Reply {
+    pub fn point(self) -> Point {
+        Point { x: self.x, y: self.y }
+    }
+
+    pub fn other_point(self) -> Point {
+        Point { x: self.other_x, y: self.other_y }
+    }
+}
+
+/// The numbers of the codes.
+pub(crate) mod code {
+    pub const OUT_OF_RANGE: u32 = 1;
+    pub const ZERO_DIRECTION: u32 = 2;
+    pub const ADDED: u32 = 3;
+    pub const AGAIN: u32 = 4;
+    pub const TOO_MANY: u32 = 5;
+    pub const NO_MEMORY: u32 = 6;
+    pub const REMOVED: u32 = 7;
+    pub const LEFT: u32 = 8;
+    pub const ABSENT: u32 = 9;
+    pub const POINT: u32 = 10;
+    pub const EMPTY: u32 = 11;
+    pub const INSIDE: u32 = 12;
+    pub const ON: u32 = 13;
+    pub const OUTSIDE: u32 = 14;
+    pub const TANGENTS: u32 = 15;
+    pub const NO_TANGENT: u32 = 16;
+    pub const NUMBER: u32 = 17;
+    pub const CORNERS: u32 = 18;
+    pub const TOO_SMALL: u32 = 19;
+}
+
+#[link(name = "hull", kind = "static")]
+extern "C" {
+    pub(crate) fn hull_size() -> usize;
+    pub(crate) fn hull_alignment() -> usize;
+    pub(crate) fn hull_make(limit: u32, room: *mut u8);
+    pub(crate) fn hull_end(hull: *mut u8) -> u32;
+    pub(crate) fn hull_add(hull: *mut u8, x: i64, y: i64) -> Reply;
+    pub(crate) fn hull_remove(hull: *mut u8, x: i64, y: i64) -> Reply;
+    pub(crate) fn hull_place(hull: *mut u8, x: i64, y: i64) -> Reply;
+    pub(crate) fn hull_tangents(hull: *mut u8, x: i64, y: i64) -> Reply;
+    pub(crate) fn hull_extreme(hull: *mut u8, x: i64, y: i64) -> Reply;
+    pub(crate) fn hull_multiplicity(hull: *mut u8, x: i64, y: i64) -> Reply;
+    pub(crate) fn hull_area(hull: *mut u8) -> Reply;
+    pub(crate) fn hull_count(hull: *mut u8) -> Reply;
+    pub(crate) fn hull_limit(hull: *mut u8) -> Reply;
+    pub(crate) fn hull_clear(hull: *mut u8) -> Reply;
+    pub(crate) fn hull_vertices(hull: *mut u8, out: *mut Point, room: usize) -> Reply;
+}
