@@ -187,7 +187,8 @@ static void calls(void) {
     CHECK(memcmp(&told[3], &mark, sizeof mark) == 0);
     CHECK(hull_calls(h, asked_for + 3, 0, told, 16) == 0);
     CHECK(hull_calls(h, asked_for + 3, 11, told, 16) == 10);
-    CHECK(bare(told[0], HULL_TOO_MANY) && bare(told[1], HULL_ON) && told[2].code == HULL_TANGENTS);
+    CHECK(bare(told[0], HULL_TOO_MANY) && bare(told[1], HULL_ON));
+    CHECK(told[2].code == HULL_TANGENTS && told[2].x == 4 && told[2].other_x == 0);
     CHECK(number(told[3], HULL_NUMBER, 0) && number(told[4], HULL_NUMBER, 2) && point(told[5], 4, 0));
     CHECK(number(told[6], HULL_NUMBER, 2) && number(told[7], HULL_LEFT, 1) && bare(told[8], HULL_ABSENT));
     CHECK(bare(told[9], HULL_ZERO_DIRECTION) && memcmp(&told[10], &mark, sizeof mark) == 0);

@@ -201,7 +201,7 @@ fn many_calls(rt: HostRuntime) {
     is_number(&rt, replies[2], 4, 2);
     is_bare(&rt, replies[3], 5);
     is_bare(&rt, replies[4], 13);
-    is_told(&rt, replies[5], 15, (0, 0, 4, 0), 0);
+    is_told(&rt, replies[5], 15, (4, 0, 0, 0), 0);
     is_number(&rt, replies[6], 17, 0);
     is_number(&rt, replies[7], 17, 2);
     is_told(&rt, replies[8], 10, (4, 0, 0, 0), 0);
