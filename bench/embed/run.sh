@@ -11,7 +11,7 @@ trap 'rm -rf "$room"' EXIT
 "$top/bin/install" --library "$room"
 cc -std=gnu11 -O2 -I"$room/include" "$here/questions.c" -L"$room/lib" -lhull -o "$room/questions"
 rustc --edition 2021 -O --crate-type rlib -L "native=$room/lib" --out-dir "$room" "$top/rust/hull/src/lib.rs" --crate-name hull
-rustc --edition 2021 -O -L "$room" -L "native=$room/lib" --out-dir "$room" "$here/beside_rival.rs"
+rustc --edition 2021 -O --extern hull -L "$room" -L "native=$room/lib" --out-dir "$room" "$here/beside_rival.rs"
 for points in 16 100 1000; do
     "$room/questions" "$points" "${1:-30}"
 done
