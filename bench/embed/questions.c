@@ -2,8 +2,8 @@
  *
  *     questions POINTS ROUNDS
  *
- * The hull has so many corners, on a circle, and the points asked about lie within and round it. Of each question the least time of
- * the rounds, which are taken in turn. */
+ * The hull's points lie on a circle, and those asked about in the square round it, most of them inside. Of each question the
+ * least time of the rounds, which are taken in turn. */
 #include "hull.h"
 #include <stdio.h>
 #include <stdlib.h>

@@ -66,7 +66,8 @@ class Calls(unittest.TestCase):
 
     def test_faults(self):
         far = COORDINATE_LIMIT + 1
-        for call in (self.hull.add, self.hull.remove, self.hull.place, self.hull.tangents, self.hull.extreme, self.hull.multiplicity):
+        hull = self.hull
+        for call in (hull.add, hull.remove, hull.place, hull.tangents, hull.extreme, hull.multiplicity):
             for x, y in ((far, 0), (0, -far), (1 << 64, 0), (0, 5 - (1 << 64))):
                 self.assertRaises(OutOfRange, call, x, y)
             self.assertRaises(TypeError, call, 0.5, 0)

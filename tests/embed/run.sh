@@ -83,7 +83,8 @@ in_c() {
     try "refusals.c compiles" compile refusals -Wl,--wrap=malloc,--wrap=realloc,--wrap=free
     try "each request for memory refused in turn" "$room/refusals"
     for standard in c99 c11; do
-        try "the header is $standard" cc -x c -std=$standard -pedantic -Wall -Wextra -Werror -fsyntax-only "$prefix/include/hull.h"
+        try "the header is $standard" \
+            cc -x c -std=$standard -pedantic -Wall -Wextra -Werror -fsyntax-only "$prefix/include/hull.h"
     done
     if is_there c++; then
         try "the header is C++" c++ -x c++ -Wall -Wextra -Werror -fsyntax-only "$prefix/include/hull.h"
@@ -112,7 +113,8 @@ in_rust() {
     try "examples/embed/collision.rs writes examples/embed/collision.txt" writes "$examples/collision.txt" "$room/collision"
     if is_there cargo; then
         cp -r "$top/rust/hull" "$room/crate"
-        try "cargo builds rust/hull" env HULL_PREFIX="$prefix" cargo build --offline --quiet --manifest-path "$room/crate/Cargo.toml"
+        try "cargo builds rust/hull" \
+            env HULL_PREFIX="$prefix" cargo build --offline --quiet --manifest-path "$room/crate/Cargo.toml"
     else
         skip "rust/hull by cargo" cargo
     fi
@@ -135,7 +137,10 @@ else
     skip "the walks beside their patterns" python3
 fi
 what=
-[ -x "$top/crates/hullbook/out/hullbook" ] || { what=--library && skip "the program's installation" "crates/hullbook/out/hullbook"; }
+if [ ! -x "$top/crates/hullbook/out/hullbook" ]; then
+    what=--library
+    skip "the program's installation" "crates/hullbook/out/hullbook"
+fi
 # shellcheck disable=SC2086 # no word where there is no option
 try "bin/install" "$top/bin/install" $what "$prefix"
 [ "$failed" -eq 0 ] || end
