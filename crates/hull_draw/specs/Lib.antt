@@ -1,0 +1,5 @@
+pub mod Replays
+pub mod Frames
+pub mod Scenes
+pub mod Pictures
+pub mod Drawings

@@ -1,0 +1,63 @@
+ghost use Rattle.std.specs.Prelude.{◌≡◌, IfOk};
+ghost use Rattle.hull_draw.specs.Replays.{asked_lines};
+ghost use Rattle.hull_draw.specs.Scenes.{IsScene};
+
+use super::marks::{Mark, marks};
+use super::replaying::replay_right_lines;
+use hull_book::{Journal, Line};
+use hull_plain::{HullSet, NoMemory};
+use lattice::Point;
+use std::alloc::Global;
+use std::marker::Model;
+
+/// What a picture shows of a set.
+#[derive(Debug, Drop)]
+pub struct Scene {
+    pub(crate) limit: u32,
+    pub(crate) lines: u32,
+    pub(crate) wrong: Option<u32>,
+    pub(crate) marks: Vec<Mark>,
+    pub(crate) corners: Vec<Point>,
+    pub(crate) area: u128,
+}
+
+impl Model for Scene {
+    ghost use Rattle.hull_draw.specs.Scenes.{SceneValue};
+
+    ghost Value = { SceneValue };
+
+    ghost view = { λ s. record { limit = s.limit; lines = s.lines; wrong = s.wrong; marks = s.marks.items; corners = s.corners.items; area = s.area } };
+}
+
+/// The lines that are asked for: the first ones, or all where no number is given.
+fn asked(line: Option<u32>, lines: &[Line]) -> &[Line]
+    ensures { result.now ≡ asked_lines line lines.now }
+{
+    match line {
+        Some(n) if (n as usize) < lines.len() => &lines[..n as usize],
+        _ => lines,
+    }
+}
+
+/// The scene after the first lines of a journal, or after all where no number is given. Behind a line that is not right
+/// no line is replayed.
+///
+/// # Errors
+///
+/// `NoMemory` where memory was refused.
+pub fn scene_of(alloc: Global, journal: &Journal, line: Option<u32>) -> Result<Scene, NoMemory>
+    ensures { IfOk result (IsScene journal.now line) }
+{
+    let done = replay_right_lines(alloc, journal.head(), asked(line, journal.lines()))?;
+    let marks = marks(alloc, &done.set)?;
+    let corners = done.set.vertices()?;
+    let area = done.set.area2();
+    Ok(Scene {
+        limit: journal.limit(),
+        lines: done.lines,
+        wrong: done.wrong,
+        marks,
+        corners,
+        area,
+    })
+}

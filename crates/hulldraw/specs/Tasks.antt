@@ -1,0 +1,18 @@
+-- What an accepted command line asks for: only numbers within their limits, and a path that is one of its words.
+use Rattle.std.specs.Prelude.{◌≡◌, ◌≤◌, ℕ, List, map, slice_get, Some, string_bytes}
+use Rattle.std.specs.Borrow.{Bor}
+use Rattle.hulldraw.specs.declared.options.Task.{Task}
+use Rattle.hulldraw.specs.declared.options.TheConstants.{SIZE_LEAST, SIZE_LIMIT}
+
+-- the side of the picture is within its limits
+pub record IsWithinLimits (task : Task) : Type 0 where
+  pub low : SIZE_LEAST ≤ task.options.size
+  pub high : task.options.size ≤ SIZE_LIMIT
+
+-- the words as texts
+abbrev pub texts_of : List (Bor (List ℕ)) → List (List ℕ)
+texts_of words = map (λ w. w.now) words
+
+-- the text is one of these
+abbrev pub IsOneOf : List (List ℕ) → List ℕ → Type 0
+IsOneOf texts text = (k : ℕ) × (slice_get texts k ≡ Some text)

@@ -1,0 +1,122 @@
+ghost use Rattle.std.specs.Prelude.{◌≤◌, IfOk, IfSome, string_bytes};
+ghost use Rattle.hulldraw.specs.Tasks.{IsWithinLimits, IsOneOf, texts_of};
+
+use clap::error::ErrorKind;
+use clap::{Arg, ArgAction, ArgMatches, Command, Error};
+use hull_draw::DrawOptions;
+use std::alloc::{AllocError, Global};
+
+/// The least side of a picture.
+pub const SIZE_LEAST: u64 = 100;
+
+/// The greatest side of a picture.
+pub const SIZE_LIMIT: u64 = 10000;
+
+/// The side of a picture where none is given.
+const DEFAULT_SIZE: u64 = 640;
+
+/// What is asked for.
+#[derive(Debug, Drop)]
+pub struct Task {
+    /// The journal that is drawn.
+    pub path: String,
+    /// The lines that are replayed, and the size.
+    pub options: DrawOptions,
+}
+
+/// Why the words were refused.
+#[derive(Clone, Copy, Debug, PartialEq, Eq)]
+pub enum OptionFault {
+    /// They ask for nothing that the program does, or for a number outside its limits.
+    Usage,
+    /// Memory was refused.
+    Memory,
+}
+
+fn fault_of(error: &Error) -> OptionFault {
+    if error.kind() == ErrorKind::OutOfMemory {
+        OptionFault::Memory
+    } else {
+        OptionFault::Usage
+    }
+}
+
+fn command<'a>(alloc: Global) -> Result<Command<'a>, AllocError> {
+    let journal = Arg::new(alloc, "journal")
+        .required(true)
+        .action(ArgAction::Set);
+    let line = Arg::new(alloc, "line")
+        .long("line")
+        .action(ArgAction::Set)
+        .value_parser(clap::value_parser!(u32));
+    let size = Arg::new(alloc, "size")
+        .long("size")
+        .action(ArgAction::Set)
+        .value_parser(clap::value_parser!(u64).range(100..=10000));
+    Command::new(alloc, "hulldraw")
+        .no_binary_name(true)
+        .arg(journal)?
+        .arg(line)?
+        .arg(size)
+}
+
+/// The numbers that were given; `None` where one could not be read or lies outside the limits.
+fn options_of(matches: &ArgMatches<'_>) -> Option<DrawOptions>
+    ensures { IfSome result (λ o. (SIZE_LEAST ≤ o.size) × (o.size ≤ SIZE_LIMIT)) }
+{
+    let line = if matches.contains_id("line") {
+        Some(matches.get_one::<u32>("line")?)
+    } else {
+        None
+    };
+    let size = if matches.contains_id("size") {
+        matches.get_one::<u64>("size")?
+    } else {
+        DEFAULT_SIZE
+    };
+    if size < SIZE_LEAST || size > SIZE_LIMIT {
+        return None;
+    }
+    Some(DrawOptions { line, size })
+}
+
+/// The path that was given, as it was written: it is found among the words, so that the contract can say so.
+fn path_of(
+    alloc: Global,
+    matches: &ArgMatches<'_>,
+    words: &[&str],
+) -> Result<String, OptionFault>
+    ensures { IfOk result (λ path. IsOneOf (texts_of words.now) (string_bytes path)) }
+{
+    let Some(path) = matches.get_str("journal") else {
+        return Err(OptionFault::Usage);
+    };
+    for word in words {
+        if *word == path {
+            return String::from_str(alloc, word).map_err(|_| OptionFault::Memory);
+        }
+    }
+    Err(OptionFault::Usage)
+}
+
+/// What the words after the program's name ask for: `JOURNAL` with `--line N` and `--size PIXELS`.
+///
+/// The path is one of the words, as it was written. `Usage` for any other words and for a number outside its limits; a
+/// question for help counts as one. `Memory` where memory was refused.
+pub fn options(alloc: Global, words: &[&str]) -> Result<Task, OptionFault>
+    ensures limits { IfOk result IsWithinLimits }
+    ensures path { IfOk result (λ task. IsOneOf (texts_of words.now) (string_bytes task.path)) }
+{
+    let Ok(command) = command(alloc) else {
+        return Err(OptionFault::Memory);
+    };
+    let matches = match command.try_get_matches_from(words) {
+        Ok(matches) => matches,
+        Err(error) => return Err(fault_of(&error)),
+    };
+    let Some(options) = options_of(&matches) else {
+        return Err(OptionFault::Usage);
+    };
+    let path = path_of(alloc, &matches, words)?;
+    Ok(Task { path, options })
+}
