@@ -24,19 +24,19 @@ const HEAD: &str =
     "<svg xmlns='http://www.w3.org/2000/svg' width='264' height='344'>\n<rect width='100%' height='100%' fill='#fff'/>\n<style>text{font:14px sans-serif;fill:#222}path,polygon{vector-effect:non-scaling-stroke;stroke-linecap:round;stroke-linejoin:round}.h{fill:#dbe9f6;stroke:#1f5f99;stroke-width:2}.p{stroke:#6b7a89;stroke-width:5}.c{stroke:#1f5f99;stroke-width:9}.t{font-size:12px;fill:#a33}.w{fill:#c00}</style>\n";
 
 const TRIANGLE_DRAWN: &str =
-    "<svg x='32' y='32' overflow='visible' preserveAspectRatio='xMinYMin' width='200' height='200' viewBox='0 0 4 4'>\n<polygon class='h' points='0,3 4,3 2,0 '/>\n<path class='p' d='M0 3h0M2 0h0M4 3h0'/>\n<path class='c' d='M0 3h0M4 3h0M2 0h0'/>\n</svg>\n<text class='t' x='138' y='26'>2</text>\n<text x='32' y='272'>points 3 (limit 4), doubled area 12</text>\n<text x='32' y='294'>after 4 calls; one point of 1 is drawn</text>\n</svg>\n";
+    "<svg x='32' y='32' overflow='visible' preserveAspectRatio='xMinYMin' width='200' height='200' viewBox='0 0 4 4'>\n<polygon class='h' points='0,3 4,3 2,0 '/>\n<path class='p' d='M0 3h0M2 0h0M4 3h0'/>\n<path class='c' d='M0 3h0M4 3h0M2 0h0'/>\n</svg>\n<text class='t' x='138' y='26'>2</text>\n<text x='32' y='272'>points 3 (limit 4), doubled area 12</text>\n<text x='32' y='294'>after 4 calls</text>\n</svg>\n";
 
 const SEGMENT_DRAWN: &str =
-    "<svg x='32' y='32' overflow='visible' preserveAspectRatio='xMinYMin' width='200' height='200' viewBox='0 0 4 4'>\n<polygon class='h' points='0,0 4,0 '/>\n<path class='p' d='M0 0h0M4 0h0'/>\n<path class='c' d='M0 0h0M4 0h0'/>\n</svg>\n<text x='32' y='272'>points 2 (limit 4), doubled area 0</text>\n<text x='32' y='294'>after 2 calls; one point of 1 is drawn</text>\n</svg>\n";
+    "<svg x='32' y='32' overflow='visible' preserveAspectRatio='xMinYMin' width='200' height='200' viewBox='0 0 4 4'>\n<polygon class='h' points='0,0 4,0 '/>\n<path class='p' d='M0 0h0M4 0h0'/>\n<path class='c' d='M0 0h0M4 0h0'/>\n</svg>\n<text x='32' y='272'>points 2 (limit 4), doubled area 0</text>\n<text x='32' y='294'>after 2 calls</text>\n</svg>\n";
 
 const EMPTY_DRAWN: &str =
-    "<text x='32' y='272'>points 0 (limit 4), doubled area 0</text>\n<text x='32' y='294'>after 0 calls; one point of 1 is drawn</text>\n</svg>\n";
+    "<text x='32' y='272'>points 0 (limit 4), doubled area 0</text>\n<text x='32' y='294'>after 0 calls</text>\n</svg>\n";
 
 const POINT_DRAWN: &str =
-    "<svg x='32' y='32' overflow='visible' preserveAspectRatio='xMinYMin' width='200' height='200' viewBox='0 0 1 1'>\n<polygon class='h' points='0,0 '/>\n<path class='p' d='M0 0h0'/>\n<path class='c' d='M0 0h0'/>\n</svg>\n<text x='32' y='272'>points 1 (limit 4), doubled area 0</text>\n<text x='32' y='294'>after 1 calls; one point of 1 is drawn</text>\n</svg>\n";
+    "<svg x='32' y='32' overflow='visible' preserveAspectRatio='xMinYMin' width='200' height='200' viewBox='0 0 1 1'>\n<polygon class='h' points='0,0 '/>\n<path class='p' d='M0 0h0'/>\n<path class='c' d='M0 0h0'/>\n</svg>\n<text x='32' y='272'>points 1 (limit 4), doubled area 0</text>\n<text x='32' y='294'>after 1 calls</text>\n</svg>\n";
 
 const WRONG_DRAWN: &str =
-    "<svg x='32' y='32' overflow='visible' preserveAspectRatio='xMinYMin' width='200' height='200' viewBox='0 0 4 4'>\n<polygon class='h' points='0,0 4,0 '/>\n<path class='p' d='M0 0h0M4 0h0'/>\n<path class='c' d='M0 0h0M4 0h0'/>\n</svg>\n<text x='32' y='272'>points 2 (limit 4), doubled area 0</text>\n<text x='32' y='294'>after 2 calls; one point of 1 is drawn</text>\n<text class='w' x='32' y='316'>line 4 is wrong</text>\n</svg>\n";
+    "<svg x='32' y='32' overflow='visible' preserveAspectRatio='xMinYMin' width='200' height='200' viewBox='0 0 4 4'>\n<polygon class='h' points='0,0 4,0 '/>\n<path class='p' d='M0 0h0M4 0h0'/>\n<path class='c' d='M0 0h0M4 0h0'/>\n</svg>\n<text x='32' y='272'>points 2 (limit 4), doubled area 0</text>\n<text x='32' y='294'>after 2 calls</text>\n<text class='w' x='32' y='316'>line 4 is wrong</text>\n</svg>\n";
 
 // Whether the picture of the journal is this behind its head.
 fn draws(alloc: Global, journal: &str, options: &DrawOptions, wanted: &str) -> Result<bool, Fail>
