@@ -1,4 +1,6 @@
-//! Pictures of small journals, byte for byte, and of a large one by the number of its elements.
+//! Pictures of small journals, byte for byte, and how a drawing ends where a device fails.
+ghost use Rattle.std.specs.Prelude.{◌<◌, ◌^◌};
+
 use super::{DrawFault, DrawOptions, draw};
 use hull_text::TextFault;
 use std::alloc::Global;

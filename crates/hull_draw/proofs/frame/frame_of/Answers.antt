@@ -1,5 +1,5 @@
 -- The edges hold one mark more, and all at the end.
-use Rattle.std.proofs.Common.{rules, arith}
+use Rattle.std.proofs.Common.{arith}
 use Rattle.hull_draw.proofs.Edges.{within_more, within_all}
 use Rattle.hull_draw.proofs.frame.frame_of.Goals as goal
 

@@ -1,5 +1,5 @@
 -- Where the step is not one, the two pieces in a row are the text.
-use Rattle.std.proofs.Common.{◌≡◌, ◌++◌, subst, List, ℕ, append_assoc}
+use Rattle.std.proofs.Common.{◌≡◌, subst, List, ℕ, append_assoc}
 use Rattle.std.specs.Prelude.{◌==◌, false}
 use Rattle.std.proofs.lemmas.Bool.{ne_eqb}
 use Rattle.text_io.specs.Write.{WritesText}
