@@ -24,7 +24,7 @@ pub record HasPicture (bytes : Option (List ℕ)) (o : DrawOptions) (old new : O
   pub scene : SceneValue
   pub frame : Option Frame
   pub reads : ReadsKnownJournal bytes (Ok journal)
-  pub shows : IsScene journal o.line scene
+  pub shows : IsScene journal o scene
   pub frames : IsFrameOf scene.marks frame
   pub writes : Appends old new (picture_text o.size frame scene)
 
@@ -36,7 +36,7 @@ pub record HasPictureFront (bytes : Option (List ℕ)) (o : DrawOptions) (old ne
   pub front : List ℕ
   pub back : List ℕ
   pub reads : ReadsKnownJournal bytes (Ok journal)
-  pub shows : IsScene journal o.line scene
+  pub shows : IsScene journal o scene
   pub frames : IsFrameOf scene.marks frame
   pub text : picture_text o.size frame scene ≡ front ++ back
   pub writes : Appends old new front

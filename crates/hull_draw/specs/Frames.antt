@@ -1,24 +1,63 @@
 -- The square of the plane that a picture shows.
-use Rattle.std.specs.Prelude.{◌≡◌, ◌≤◌, ℕ, ◌-ℤ◌, ◌≤ℤ◌, unsigned_abs, List, [], Option, Some, None}
-use Rattle.std.specs.List.{All}
+use Rattle.std.specs.Prelude.{◌≡◌, ◌⊎◌, ◌+◌, ◌-◌, ◌/◌, max, ℕ, ◌-ℤ◌, ◌≤ℤ◌, unsigned_abs, List, [], Option, Some, None}
+use Rattle.std.specs.List.{All, Contains}
 use Rattle.lattice.specs.Plane.{Pair}
 use Rattle.hull_draw.specs.declared.marks.Mark.{Mark}
 use Rattle.hull_draw.specs.declared.frame.Frame.{Frame}
 
--- how far p is drawn from the left edge
-abbrev pub across : Frame → Pair → ℕ
-across frame p = unsigned_abs (p.x -ℤ frame.left.x)
+-- how far apart its points farthest to the left and to the right stand
+abbrev pub width_of : Frame → ℕ
+width_of frame = unsigned_abs (frame.right.x -ℤ frame.left.x)
 
--- how far p is drawn from the upper edge
-abbrev pub down : Frame → Pair → ℕ
-down frame p = unsigned_abs (frame.top.y -ℤ p.y)
+-- how far apart its lowest and its uppermost point stand
+abbrev pub height_of : Frame → ℕ
+height_of frame = unsigned_abs (frame.top.y -ℤ frame.bottom.y)
 
--- p lies in the square: right of its left edge and below its upper one
-pub record IsInside (frame : Frame) (p : Pair) : Type 0 where
+-- the side of the square: the least that holds the points, but 2 at least, so that one point has a middle to stand in
+unfoldable pub extent_of : Frame → ℕ
+extent_of frame = max (max (width_of frame) (height_of frame)) 2
+
+-- how far p is drawn from the left edge of the square, whose middle is that of the points
+unfoldable pub across : Frame → Pair → ℕ
+across frame p = unsigned_abs (p.x -ℤ frame.left.x) + (extent_of frame - width_of frame) / 2
+
+-- how far p is drawn from its upper edge
+unfoldable pub down : Frame → Pair → ℕ
+down frame p = unsigned_abs (frame.top.y -ℤ p.y) + (extent_of frame - height_of frame) / 2
+
+-- p lies between the points at the edges
+pub record IsWithin (frame : Frame) (p : Pair) : Type 0 where
   pub right_of : frame.left.x ≤ℤ p.x
+  pub left_of : p.x ≤ℤ frame.right.x
+  pub above : frame.bottom.y ≤ℤ p.y
   pub below : p.y ≤ℤ frame.top.y
 
--- there is a square where there are marks, and it has a side
+-- p is the point of a mark
+abbrev pub IsMarked : List Mark → Pair → Type 0
+IsMarked marks p = (m : Mark) × Contains marks m × (m.point ≡ p)
+
+-- the points at the edges are points of marks, and all marks lie between them
+pub record IsFrame (marks : List Mark) (frame : Frame) : Type 0 where
+  pub left : IsMarked marks frame.left
+  pub right : IsMarked marks frame.right
+  pub top : IsMarked marks frame.top
+  pub bottom : IsMarked marks frame.bottom
+  pub holds : All (λ m. IsWithin frame m.point) marks
+
+-- there is a square just where there are marks
 abbrev pub IsFrameOf : List Mark → Option Frame → Type 0
 IsFrameOf marks None = marks ≡ []
-IsFrameOf marks (Some frame) = (1 ≤ frame.extent) × All (λ m. IsInside frame m.point) marks
+IsFrameOf marks (Some frame) = IsFrame marks frame
+
+-- one of two points
+abbrev pub IsEither : Pair → Pair → Pair → Type 0
+IsEither a b p = (p ≡ a) ⊎ (p ≡ b)
+
+-- all that lay between the edges still does, and p too; an edge has moved to p or not at all
+pub record Widens (before : Frame) (p : Pair) (after : Frame) : Type 0 where
+  pub holds : (q : Pair) → IsWithin before q → IsWithin after q
+  pub own : IsWithin after p
+  pub left : IsEither before.left p after.left
+  pub right : IsEither before.right p after.right
+  pub top : IsEither before.top p after.top
+  pub bottom : IsEither before.bottom p after.bottom

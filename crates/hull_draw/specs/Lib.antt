@@ -1,5 +1,9 @@
 pub mod Replays
+pub mod Bridges
 pub mod Frames
 pub mod Scenes
+pub mod Texts
+pub mod Shapes
+pub mod Legends
 pub mod Pictures
 pub mod Drawings

@@ -1,14 +1,20 @@
 -- What a picture shows of a set: its marks, its hull, its area, and how far its journal was replayed.
-use Rattle.std.specs.Prelude.{◌≡◌, ◌≤◌, ℕ, List, map, pos, Option}
+use Rattle.std.specs.Prelude.{◌≡◌, ◌≤◌, ℕ, List, map, pos, Option, Bool, true, false, []}
 use Rattle.std.specs.List.{All}
 use Rattle.lattice.specs.Plane.{Pair}
 use Rattle.lattice.specs.Vertices.{IsVertexList, IsDoubledArea}
 use Rattle.hull_plain.specs.Held.{Held}
+use Rattle.hull_tree.specs.declared.node.Node.{Node}
+use Rattle.hull_tree.specs.Roots.{held_by}
+use Rattle.hull_tree.specs.Sets.{IsSound}
 use Rattle.hull_book.specs.Journals.{JournalValue}
+use Rattle.hull_draw.specs.declared.bridges.Bridge.{Bridge}
+use Rattle.hull_draw.specs.declared.drawing.DrawOptions.{DrawOptions}
 use Rattle.hull_draw.specs.declared.marks.Mark.{Mark}
+use Rattle.hull_draw.specs.Bridges.{bridges_of}
 use Rattle.hull_draw.specs.Replays.{IsReplayed, asked_lines}
 
--- the limit of the set, how many lines were replayed, the wrong line if there is one, the points with their multiplicities, the corners of the hull, and its doubled area
+-- the limit of the set, how many lines were replayed, the wrong line if there is one, the points with their multiplicities, the corners of the hull, its doubled area, and bridges of the tree
 pub record SceneValue : Type 0 where
   pub limit : ℕ
   pub lines : ℕ
@@ -16,6 +22,7 @@ pub record SceneValue : Type 0 where
   pub marks : List Mark
   pub corners : List Pair
   pub area : ℕ
+  pub bridges : List Bridge
 
 -- the marks are the live points in their order, each with the number of times that it is held
 pub record AreMarks (held : Held) (marks : List Mark) : Type 0 where
@@ -28,9 +35,17 @@ pub record Shows (held : Held) (scene : SceneValue) : Type 0 where
   pub corners : IsVertexList held.points scene.corners
   pub area : IsDoubledArea held.points (pos scene.area)
 
--- The scene shows what is held after the lines that are asked for, or after those before the first wrong one of them.
-pub record IsScene (journal : JournalValue) (asked : Option ℕ) (scene : SceneValue) : Type 0 where
+-- the bridges that a tree stores, where they are asked for
+abbrev pub asked_bridges : Bool → Option Node → List Bridge
+asked_bridges true root = bridges_of root
+asked_bridges false root = []
+
+-- The scene shows what is held after the lines that are asked for, or after those before the first wrong one of them: a
+-- sound tree holds it, each of whose stored bridges is that of the points below its fork, and these are drawn.
+pub record IsScene (journal : JournalValue) (o : DrawOptions) (scene : SceneValue) : Type 0 where
   pub limit : scene.limit ≡ journal.head.limit
-  pub held : Held
-  pub replayed : IsReplayed journal.head (asked_lines asked journal.lines) held scene.lines scene.wrong
-  pub shows : Shows held scene
+  pub root : Option Node
+  pub sound : IsSound root
+  pub replayed : IsReplayed journal.head (asked_lines o.line journal.lines) (held_by root) scene.lines scene.wrong
+  pub shows : Shows (held_by root) scene
+  pub bridges : scene.bridges ≡ asked_bridges o.bridges root

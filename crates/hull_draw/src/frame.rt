@@ -1,85 +1,137 @@
-ghost use Rattle.std.specs.Prelude.{◌≡◌, ◌≤◌, ◌^◌, ◌≤ℤ◌};
-ghost use Rattle.hull_draw.specs.Frames.{IsFrameOf, across, down};
+ghost use Rattle.std.specs.Prelude.{◌≡◌, ◌⊎◌, ◌≤◌, ◌^◌, ◌≤ℤ◌};
+ghost use Rattle.hull_draw.specs.Frames.{IsFrameOf, IsEither, Widens, across, down, extent_of, width_of, height_of};
 
 use super::marks::Mark;
 use lattice::Point;
 
-/// How many points are drawn at most, and their multiplicities told.
-pub const DRAWN_LIMIT: usize = 4000;
-
-/// The square of the plane that a picture shows.
+/// The least square of the plane that holds some points, with them in its middle. It is told by points at its edges.
 #[derive(Clone, Copy, PartialEq, Eq, Debug)]
 pub struct Frame {
-    /// A point on its left edge.
+    /// A point as far to the left as any.
     pub left: Point,
-    /// A point on its upper edge.
+    /// A point as far to the right as any.
+    pub right: Point,
+    /// A point as far up as any.
     pub top: Point,
-    /// The length of its sides, at least 1.
-    pub extent: u64,
+    /// A point as far down as any.
+    pub bottom: Point,
 }
 
-/// How far a point is drawn from the left edge.
-pub(crate) fn across_of(frame: &Frame, point: Point) -> u64
-    ensures value { result ≡ across frame.now point }
-    ensures small { result ≤ 2 ^ 41 }
-{
-    (point.x() - frame.left.x()).unsigned_abs()
-}
+impl Frame {
+    /// The frame of one point.
+    fn of_point(point: Point) -> Frame
+        ensures { result ≡ record { left = point; right = point; top = point; bottom = point } }
+    {
+        Frame {
+            left: point,
+            right: point,
+            top: point,
+            bottom: point,
+        }
+    }
 
-/// How far a point is drawn from the upper edge.
-pub(crate) fn down_of(frame: &Frame, point: Point) -> u64
-    ensures value { result ≡ down frame.now point }
-    ensures small { result ≤ 2 ^ 41 }
-{
-    (frame.top.y() - point.y()).unsigned_abs()
+    fn width(&self) -> u64
+        ensures value { result ≡ width_of self.now }
+        ensures small { result ≤ 2 ^ 41 }
+    {
+        (self.right.x() - self.left.x()).unsigned_abs()
+    }
+
+    fn height(&self) -> u64
+        ensures value { result ≡ height_of self.now }
+        ensures small { result ≤ 2 ^ 41 }
+    {
+        (self.top.y() - self.bottom.y()).unsigned_abs()
+    }
+
+    /// The length of the square's sides, at least 2.
+    #[tactic(auto, unfolding(crate::specs::Frames::extent_of))]
+    pub(crate) fn extent(&self) -> u64
+        ensures value { result ≡ extent_of self.now }
+        ensures wide { width_of self.now ≤ result }
+        ensures high { height_of self.now ≤ result }
+        ensures side { 2 ≤ result }
+        ensures small { result ≤ 2 ^ 41 }
+    {
+        self.width().max(self.height()).max(2)
+    }
+
+    /// How far a point is drawn from the left edge.
+    #[tactic(auto, unfolding(crate::specs::Frames::across))]
+    pub(crate) fn across(&self, point: Point) -> u64
+        ensures value { result ≡ across self.now point }
+        ensures small { result ≤ 2 ^ 42 }
+    {
+        let margin = (self.extent() - self.width()) / 2;
+        (point.x() - self.left.x()).unsigned_abs() + margin
+    }
+
+    /// How far a point is drawn from the upper edge.
+    #[tactic(auto, unfolding(crate::specs::Frames::down))]
+    pub(crate) fn down(&self, point: Point) -> u64
+        ensures value { result ≡ down self.now point }
+        ensures small { result ≤ 2 ^ 42 }
+    {
+        let margin = (self.extent() - self.height()) / 2;
+        (self.top.y() - point.y()).unsigned_abs() + margin
+    }
+
+    /// The frame of its points and another one.
+    fn widened(&self, point: Point) -> Frame
+        ensures { Widens self.now point result }
+    {
+        Frame {
+            left: leftmost(self.left, point),
+            right: rightmost(self.right, point),
+            top: uppermost(self.top, point),
+            bottom: lowest(self.bottom, point),
+        }
+    }
 }
 
 /// The one of two points that lies farther left.
 fn leftmost(a: Point, b: Point) -> Point
     ensures first { result.x ≤ℤ a.x }
     ensures second { result.x ≤ℤ b.x }
+    ensures either { IsEither a b result }
 {
-    if a.x() < b.x() { a } else { b }
+    if b.x() < a.x() { b } else { a }
 }
 
 /// The one of two points that lies farther right.
 fn rightmost(a: Point, b: Point) -> Point
     ensures first { a.x ≤ℤ result.x }
     ensures second { b.x ≤ℤ result.x }
+    ensures either { IsEither a b result }
 {
-    if b.x() < a.x() { a } else { b }
+    if a.x() < b.x() { b } else { a }
 }
 
 /// The one of two points that lies farther up.
 fn uppermost(a: Point, b: Point) -> Point
     ensures first { a.y ≤ℤ result.y }
     ensures second { b.y ≤ℤ result.y }
+    ensures either { IsEither a b result }
 {
-    if b.y() < a.y() { a } else { b }
+    if a.y() < b.y() { b } else { a }
 }
 
 /// The one of two points that lies farther down.
 fn lowest(a: Point, b: Point) -> Point
     ensures first { result.y ≤ℤ a.y }
     ensures second { result.y ≤ℤ b.y }
+    ensures either { IsEither a b result }
 {
-    if a.y() < b.y() { a } else { b }
+    if b.y() < a.y() { b } else { a }
 }
 
-/// The least square that holds all marks, with its left upper corner at theirs; `None` where there are none.
+/// The frame of all marks; `None` where there are none.
 pub(crate) fn frame_of(marks: &[Mark]) -> Option<Frame>
     ensures { IsFrameOf marks.now result }
 {
-    let first = marks.first()?.point;
-    let (mut left, mut right, mut top, mut bottom) = (first, first, first, first);
+    let mut frame = Frame::of_point(marks.first()?.point);
     for mark in marks {
-        left = leftmost(left, mark.point);
-        right = rightmost(right, mark.point);
-        top = uppermost(top, mark.point);
-        bottom = lowest(bottom, mark.point);
+        frame = frame.widened(mark.point);
     }
-    let width = (right.x() - left.x()).unsigned_abs();
-    let height = (top.y() - bottom.y()).unsigned_abs();
-    let extent = width.max(height).max(1);
-    Some(Frame { left, top, extent })
+    Some(frame)
 }

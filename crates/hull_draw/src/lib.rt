@@ -1,7 +1,8 @@
 //! Pictures of the set that a journal leaves, as SVG.
 //!
 //! [`draw`] reads a journal, replays it, and writes a picture of what is held after the lines that are asked for: the
-//! live points, how often each is held, the hull with its corners, and a legend. The polygon is the vertex list of the
+//! live points, how often each is held, the hull with its corners, the stored bridges of the tree where they are asked
+//! for, and a legend. The polygon is the vertex list of the
 //! replayed set, in order, in whole numbers.
 //!
 //! # A worked example
@@ -9,19 +10,24 @@
 //! ```
 //! let mut input = Counted::new(file); // any `Read`
 //! let mut output = Counted::new(device); // any `Write`
-//! draw(alloc, &mut input, &mut output, DrawOptions { line: Some(3), size: 640 })?; // after the first three lines
+//! draw(alloc, &mut input, &mut output, &options)?; // a `DrawOptions`: which line, which size
 //! ```
 #![tactic(auto)]
 
+mod bridges;
 mod drawing;
 mod frame;
+mod labels;
+mod legend;
 mod marks;
 mod picture;
 mod replaying;
 mod scene;
+mod shapes;
 #[cfg(test)]
 mod tests;
 
+pub use bridges::{Bridge, LEVEL_LIMIT};
 pub use drawing::{DrawFault, DrawOptions, draw};
 pub use marks::Mark;
 pub use scene::{Scene, scene_of};

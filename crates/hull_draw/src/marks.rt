@@ -10,6 +10,12 @@ use hull_tree::{HullTree, Node};
 use lattice::Point;
 use std::alloc::{AllocError, Global};
 
+/// How many points are drawn at most, beside the corners.
+pub const DRAWN_LIMIT: usize = 4000;
+
+/// How many points a set may have for its multiplicities to be told.
+pub const LABEL_LIMIT: usize = 400;
+
 /// A live point, with how often it is held.
 #[derive(Clone, Copy, PartialEq, Eq, Debug)]
 pub struct Mark {

@@ -2,10 +2,13 @@ ghost use Rattle.std.specs.Prelude.{◌≡◌, IfOk};
 ghost use Rattle.hull_draw.specs.Replays.{asked_lines};
 ghost use Rattle.hull_draw.specs.Scenes.{IsScene};
 
+use super::bridges::{Bridge, bridges};
+use super::drawing::DrawOptions;
 use super::marks::{Mark, marks};
 use super::replaying::replay_right_lines;
 use hull_book::{Journal, Line};
 use hull_plain::{HullSet, NoMemory};
+use hull_tree::trees_are_sound;
 use lattice::Point;
 use std::alloc::Global;
 use std::marker::Model;
@@ -19,6 +22,7 @@ pub struct Scene {
     pub(crate) marks: Vec<Mark>,
     pub(crate) corners: Vec<Point>,
     pub(crate) area: u128,
+    pub(crate) bridges: Vec<Bridge>,
 }
 
 impl Model for Scene {
@@ -26,7 +30,7 @@ impl Model for Scene {
 
     ghost Value = { SceneValue };
 
-    ghost view = { λ s. record { limit = s.limit; lines = s.lines; wrong = s.wrong; marks = s.marks.items; corners = s.corners.items; area = s.area } };
+    ghost view = { λ s. record { limit = s.limit; lines = s.lines; wrong = s.wrong; marks = s.marks.items; corners = s.corners.items; area = s.area; bridges = s.bridges.items } };
 }
 
 /// The lines that are asked for: the first ones, or all where no number is given.
@@ -45,13 +49,24 @@ fn asked(line: Option<u32>, lines: &[Line]) -> &[Line]
 /// # Errors
 ///
 /// `NoMemory` where memory was refused.
-pub fn scene_of(alloc: Global, journal: &Journal, line: Option<u32>) -> Result<Scene, NoMemory>
-    ensures { IfOk result (IsScene journal.now line) }
+pub fn scene_of(
+    alloc: Global,
+    journal: &Journal,
+    options: &DrawOptions,
+) -> Result<Scene, NoMemory>
+    ensures { IfOk result (IsScene journal.now options.now) }
 {
-    let done = replay_right_lines(alloc, journal.head(), asked(line, journal.lines()))?;
+    let lines = asked(options.line, journal.lines());
+    let done = replay_right_lines(alloc, journal.head(), lines)?;
+    trees_are_sound(&done.set);
     let marks = marks(alloc, &done.set)?;
     let corners = done.set.vertices()?;
     let area = done.set.area2();
+    let bridges = if options.bridges {
+        bridges(alloc, &done.set)?
+    } else {
+        Vec::new(alloc)
+    };
     Ok(Scene {
         limit: journal.limit(),
         lines: done.lines,
@@ -59,5 +74,6 @@ pub fn scene_of(alloc: Global, journal: &Journal, line: Option<u32>) -> Result<S
         marks,
         corners,
         area,
+        bridges,
     })
 }

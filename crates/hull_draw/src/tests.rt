@@ -18,27 +18,31 @@ const WRONG: &str =
 
 const ALL: DrawOptions = DrawOptions {
     line: None,
+    bridges: false,
     size: 200,
 };
 
-// What a picture begins with, and what stands before its legend.
+// What each picture begins with.
 const HEAD: &str =
-    "<svg xmlns='http://www.w3.org/2000/svg' width='264' height='344'>\n<rect width='100%' height='100%' fill='#fff'/>\n<style>text{font:14px sans-serif;fill:#222}path,polygon{vector-effect:non-scaling-stroke;stroke-linecap:round;stroke-linejoin:round}.h{fill:#dbe9f6;stroke:#1f5f99;stroke-width:2}.p{stroke:#6b7a89;stroke-width:5}.c{stroke:#1f5f99;stroke-width:9}.t{font-size:12px;fill:#a33}.w{fill:#c00}</style>\n";
+    "<svg xmlns='http://www.w3.org/2000/svg' width='264' height='384'>\n<rect width='100%' height='100%' fill='#fff'/>\n<style>text{font:14px sans-serif;fill:#222}path,polygon{fill:none;vector-effect:non-scaling-stroke;stroke-linecap:round;stroke-linejoin:round}.h{fill:#dbe9f6;stroke:#1f5f99;stroke-width:2}.p{stroke:#6b7a89;stroke-width:5}.c{stroke:#1f5f99;stroke-width:9}.u{stroke:#c0392b}.l{stroke:#1e8449}.v0{stroke-width:6}.v1{stroke-width:4.5}.v2{stroke-width:3}.v3{stroke-width:2}.t{font-size:12px;fill:#a33;paint-order:stroke;stroke:#fff;stroke-width:3px}.w{fill:#c00}</style>\n";
 
 const TRIANGLE_DRAWN: &str =
-    "<svg x='32' y='32' overflow='visible' preserveAspectRatio='xMinYMin' width='200' height='200' viewBox='0 0 4 4'>\n<polygon class='h' points='0,3 4,3 2,0 '/>\n<path class='p' d='M0 3h0M2 0h0M4 3h0'/>\n<path class='c' d='M0 3h0M4 3h0M2 0h0'/>\n</svg>\n<text class='t' x='138' y='26'>2</text>\n<text x='32' y='272'>points 3 (limit 4), doubled area 12</text>\n<text x='32' y='294'>after 4 calls</text>\n</svg>\n";
+    "<svg x='32' y='32' overflow='visible' width='200' height='200' viewBox='0 0 4 4'>\n<polygon class='h' points='0,3 4,3 2,0 '/>\n<path class='p' d='M0 3h0M2 0h0M4 3h0'/>\n<path class='c' d='M0 3h0M4 3h0M2 0h0'/>\n</svg>\n<text class='t' x='139' y='26'>2</text>\n<text x='32' y='276'>points 3 (limit 4)</text>\n<text x='32' y='298'>doubled area 12</text>\n<text x='32' y='320'>x 0 to 4, y 0 to 3</text>\n<text x='32' y='342'>calls 4</text>\n</svg>\n";
 
 const SEGMENT_DRAWN: &str =
-    "<svg x='32' y='32' overflow='visible' preserveAspectRatio='xMinYMin' width='200' height='200' viewBox='0 0 4 4'>\n<polygon class='h' points='0,0 4,0 '/>\n<path class='p' d='M0 0h0M4 0h0'/>\n<path class='c' d='M0 0h0M4 0h0'/>\n</svg>\n<text x='32' y='272'>points 2 (limit 4), doubled area 0</text>\n<text x='32' y='294'>after 2 calls</text>\n</svg>\n";
+    "<svg x='32' y='32' overflow='visible' width='200' height='200' viewBox='0 0 4 4'>\n<polygon class='h' points='0,2 4,2 '/>\n<path class='p' d='M0 2h0M4 2h0'/>\n<path class='c' d='M0 2h0M4 2h0'/>\n</svg>\n<text x='32' y='276'>points 2 (limit 4)</text>\n<text x='32' y='298'>doubled area 0</text>\n<text x='32' y='320'>x 0 to 4, y 0 to 0</text>\n<text x='32' y='342'>calls 2</text>\n</svg>\n";
 
 const EMPTY_DRAWN: &str =
-    "<text x='32' y='272'>points 0 (limit 4), doubled area 0</text>\n<text x='32' y='294'>after 0 calls</text>\n</svg>\n";
+    "<text x='32' y='46'>the set is empty</text>\n<text x='32' y='276'>points 0 (limit 4)</text>\n<text x='32' y='298'>doubled area 0</text>\n<text x='32' y='342'>calls 0</text>\n</svg>\n";
 
 const POINT_DRAWN: &str =
-    "<svg x='32' y='32' overflow='visible' preserveAspectRatio='xMinYMin' width='200' height='200' viewBox='0 0 1 1'>\n<polygon class='h' points='0,0 '/>\n<path class='p' d='M0 0h0'/>\n<path class='c' d='M0 0h0'/>\n</svg>\n<text x='32' y='272'>points 1 (limit 4), doubled area 0</text>\n<text x='32' y='294'>after 1 calls</text>\n</svg>\n";
+    "<svg x='32' y='32' overflow='visible' width='200' height='200' viewBox='0 0 2 2'>\n<polygon class='h' points='1,1 '/>\n<path class='p' d='M1 1h0'/>\n<path class='c' d='M1 1h0'/>\n</svg>\n<text x='32' y='276'>points 1 (limit 4)</text>\n<text x='32' y='298'>doubled area 0</text>\n<text x='32' y='320'>x 0 to 0, y 0 to 0</text>\n<text x='32' y='342'>calls 1</text>\n</svg>\n";
 
 const WRONG_DRAWN: &str =
-    "<svg x='32' y='32' overflow='visible' preserveAspectRatio='xMinYMin' width='200' height='200' viewBox='0 0 4 4'>\n<polygon class='h' points='0,0 4,0 '/>\n<path class='p' d='M0 0h0M4 0h0'/>\n<path class='c' d='M0 0h0M4 0h0'/>\n</svg>\n<text x='32' y='272'>points 2 (limit 4), doubled area 0</text>\n<text x='32' y='294'>after 2 calls</text>\n<text class='w' x='32' y='316'>line 4 is wrong</text>\n</svg>\n";
+    "<svg x='32' y='32' overflow='visible' width='200' height='200' viewBox='0 0 4 4'>\n<polygon class='h' points='0,2 4,2 '/>\n<path class='p' d='M0 2h0M4 2h0'/>\n<path class='c' d='M0 2h0M4 2h0'/>\n</svg>\n<text x='32' y='276'>points 2 (limit 4)</text>\n<text x='32' y='298'>doubled area 0</text>\n<text x='32' y='320'>x 0 to 4, y 0 to 0</text>\n<text x='32' y='342'>calls 2<tspan class='w'>; line 4 is wrong</tspan></text>\n</svg>\n";
+
+const BRIDGES_DRAWN: &str =
+    "<svg x='32' y='32' overflow='visible' width='200' height='200' viewBox='0 0 4 4'>\n<polygon class='h' points='0,3 4,3 2,0 '/>\n<path class='u v0' d='M2 0L4 3'/>\n<path class='l v0' d='M0 3L4 3'/>\n<path class='u v1' d='M0 3L2 0'/>\n<path class='l v1' d='M0 3L2 0'/>\n<path class='p' d='M0 3h0M2 0h0M4 3h0'/>\n<path class='c' d='M0 3h0M4 3h0M2 0h0'/>\n</svg>\n<text class='t' x='139' y='26'>2</text>\n<text x='32' y='276'>points 3 (limit 4)</text>\n<text x='32' y='298'>doubled area 12</text>\n<text x='32' y='320'>x 0 to 4, y 0 to 3</text>\n<text x='32' y='342'>calls 4</text>\n<text x='32' y='364'>stored bridges of the first 8 levels: <tspan fill='#c0392b'>upper</tspan>, <tspan fill='#1e8449'>lower</tspan></text>\n</svg>\n";
 
 // Whether the picture of the journal is this behind its head.
 fn draws(alloc: Global, journal: &str, options: &DrawOptions, wanted: &str) -> Result<bool, Fail>
@@ -67,9 +71,19 @@ fn pictures_of_small_sets(rt: HostRuntime) -> Result<(), Fail> {
         (Some(1), POINT_DRAWN),
         (Some(0), EMPTY_DRAWN),
     ] {
-        let options = DrawOptions { line, size: 200 };
+        let options = DrawOptions { line, ..ALL };
         assert!(rt; draws(alloc, TRIANGLE, &options, wanted)?);
     }
+    Ok(())
+}
+
+#[test]
+fn stored_bridges_are_drawn(rt: HostRuntime) -> Result<(), Fail> {
+    let options = DrawOptions {
+        bridges: true,
+        ..ALL
+    };
+    assert!(rt; draws(rt.alloc(), TRIANGLE, &options, BRIDGES_DRAWN)?);
     Ok(())
 }
 
@@ -78,7 +92,7 @@ fn wrong_line_is_told(rt: HostRuntime) -> Result<(), Fail> {
     assert!(rt; draws(rt.alloc(), WRONG, &ALL, WRONG_DRAWN)?);
     let before = DrawOptions {
         line: Some(2),
-        size: 200,
+        ..ALL
     };
     assert!(rt; draws(rt.alloc(), WRONG, &before, SEGMENT_DRAWN)?);
     Ok(())

@@ -7,7 +7,7 @@ use hull_draw::DrawOptions;
 use std::alloc::{AllocError, Global};
 
 /// The least side of a picture.
-pub const SIZE_LEAST: u64 = 100;
+pub const SIZE_LEAST: u64 = 240;
 
 /// The greatest side of a picture.
 pub const SIZE_LIMIT: u64 = 10000;
@@ -20,7 +20,7 @@ const DEFAULT_SIZE: u64 = 640;
 pub struct Task {
     /// The journal that is drawn.
     pub path: String,
-    /// The lines that are replayed, and the size.
+    /// The lines that are replayed, what is drawn, and its size.
     pub options: DrawOptions,
 }
 
@@ -49,14 +49,18 @@ fn command<'a>(alloc: Global) -> Result<Command<'a>, AllocError> {
         .long("line")
         .action(ArgAction::Set)
         .value_parser(clap::value_parser!(u32));
+    let bridges = Arg::new(alloc, "bridges")
+        .long("bridges")
+        .action(ArgAction::SetTrue);
     let size = Arg::new(alloc, "size")
         .long("size")
         .action(ArgAction::Set)
-        .value_parser(clap::value_parser!(u64).range(100..=10000));
+        .value_parser(clap::value_parser!(u64).range(240..=10000));
     Command::new(alloc, "hulldraw")
         .no_binary_name(true)
         .arg(journal)?
         .arg(line)?
+        .arg(bridges)?
         .arg(size)
 }
 
@@ -77,7 +81,11 @@ fn options_of(matches: &ArgMatches<'_>) -> Option<DrawOptions>
     if size < SIZE_LEAST || size > SIZE_LIMIT {
         return None;
     }
-    Some(DrawOptions { line, size })
+    Some(DrawOptions {
+        line,
+        bridges: matches.get_flag("bridges"),
+        size,
+    })
 }
 
 /// The path that was given, as it was written: it is found among the words, so that the contract can say so.
@@ -99,7 +107,7 @@ fn path_of(
     Err(OptionFault::Usage)
 }
 
-/// What the words after the program's name ask for: `JOURNAL` with `--line N` and `--size PIXELS`.
+/// What the words after the program's name ask for: `JOURNAL` with `--line N`, `--bridges` and `--size PIXELS`.
 ///
 /// The path is one of the words, as it was written. `Usage` for any other words and for a number outside its limits; a
 /// question for help counts as one. `Memory` where memory was refused.

@@ -1,0 +1,77 @@
+-- What a picture says in words: beside the points how often they are held, and below them the numbers of the set.
+use Rattle.std.specs.Prelude.{◌==◌, ◌+◌, ◌*◌, ◌/◌, leb, ℕ, ℤ, List, [], ◌∷◌, ◌++◌, length, Option, Some, None, codes, if◌then◌else◌}
+use Rattle.std.specs.Fmt.{signed_decimal}
+use Rattle.hull_draw.specs.declared.bridges.Bridge.{Bridge}
+use Rattle.hull_draw.specs.declared.marks.Mark.{Mark}
+use Rattle.hull_draw.specs.declared.marks.TheConstants.{LABEL_LIMIT}
+use Rattle.hull_draw.specs.declared.frame.Frame.{Frame}
+use Rattle.hull_draw.specs.declared.legend.TheConstants.{BRIDGES_TOLD}
+use Rattle.hull_draw.specs.Frames.{across, down, extent_of}
+use Rattle.hull_draw.specs.Shapes.{step_of}
+use Rattle.hull_draw.specs.Texts.{told, texts}
+
+-- how far from an edge of the screen's square, whose side is `size`, what lies n from that of the plane's
+abbrev pub place_on_screen : ℕ → Frame → ℕ → ℕ
+place_on_screen size frame n = n * size / extent_of frame
+
+-- beside a point that is held more than once, how often it is
+abbrev pub label_text : ℕ → Frame → Mark → List ℕ
+label_text size frame m = if m.times == 1
+    then []
+    else told (codes "<text class='t' x='") (place_on_screen size frame (across frame m.point) + 39)
+    ++ told (codes "' y='") (place_on_screen size frame (down frame m.point) + 26) ++ told (codes "'>") m.times ++ codes "</text>\n"
+
+-- the marks that have labels: none where there are too many to be read
+abbrev pub labelled : List Mark → List Mark
+labelled marks = if leb (length marks) LABEL_LIMIT then marks else []
+
+-- the labels
+abbrev pub labels_text : ℕ → Frame → List Mark → List ℕ
+labels_text size frame marks = texts (label_text size frame) (labelled marks)
+
+-- where a line of the legend begins
+abbrev pub line_start : ℕ → ℕ → List ℕ
+line_start size below = told (codes "<text x='32' y='") (size + below)
+
+-- of how many points one is drawn, where not all are
+abbrev pub thinned_text : ℕ → List ℕ
+thinned_text step = if step == 1 then [] else told (codes "; one of ") step ++ codes " is drawn"
+
+-- how many points there are, and how many there may be
+abbrev pub count_text : ℕ → ℕ → ℕ → List ℕ
+count_text size count limit =
+    line_start size 76 ++ told (codes "'>points ") count ++ told (codes " (limit ") limit ++ codes ")" ++ thinned_text (step_of count) ++ codes "</text>\n"
+
+-- the doubled area
+abbrev pub area_text : ℕ → ℕ → List ℕ
+area_text size area = line_start size 98 ++ told (codes "'>doubled area ") area ++ codes "</text>\n"
+
+-- a signed number behind some words
+abbrev pub told_signed : List ℕ → ℤ → List ℕ
+told_signed words n = words ++ signed_decimal n
+
+-- between which coordinates the points lie
+abbrev pub range_text : ℕ → Option Frame → List ℕ
+range_text size None = []
+range_text size (Some frame) =
+    line_start size 120 ++ told_signed (codes "'>x ") frame.left.x ++ told_signed (codes " to ") frame.right.x
+    ++ told_signed (codes ", y ") frame.bottom.y ++ told_signed (codes " to ") frame.top.y ++ codes "</text>\n"
+
+-- the number of the wrong line in the text: the header is line 1
+abbrev pub wrong_text : Option ℕ → List ℕ
+wrong_text None = []
+wrong_text (Some k) = told (codes "<tspan class='w'>; line ") (k + 2) ++ codes " is wrong</tspan>"
+
+-- how many lines were replayed
+abbrev pub lines_text : ℕ → ℕ → Option ℕ → List ℕ
+lines_text size lines wrong = line_start size 142 ++ told (codes "'>calls ") lines ++ wrong_text wrong ++ codes "</text>\n"
+
+-- which bridges are drawn, where any are
+abbrev pub bridges_told_text : ℕ → List Bridge → List ℕ
+bridges_told_text size [] = []
+bridges_told_text size (b ∷ bs) = line_start size 164 ++ BRIDGES_TOLD.now
+
+-- the lines of the legend
+abbrev pub legend_text : ℕ → Option Frame → List Bridge → ℕ → ℕ → ℕ → ℕ → Option ℕ → List ℕ
+legend_text size frame bridges count limit area lines wrong =
+    count_text size count limit ++ area_text size area ++ range_text size frame ++ lines_text size lines wrong ++ bridges_told_text size bridges

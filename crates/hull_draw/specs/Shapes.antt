@@ -1,0 +1,67 @@
+-- The shapes of a picture, inside a square that the browser scales: its units are those of the plane, so all numbers are whole.
+use Rattle.std.specs.Prelude.{◌-◌, ◌/◌, ◌+◌, ℕ, zero, suc, List, [], ◌∷◌, ◌++◌, length, codes, decimal}
+use Rattle.lattice.specs.Plane.{Pair}
+use Rattle.hull_draw.specs.declared.bridges.Bridge.{Bridge}
+use Rattle.hull_draw.specs.declared.marks.Mark.{Mark}
+use Rattle.hull_draw.specs.declared.marks.TheConstants.{DRAWN_LIMIT}
+use Rattle.hull_draw.specs.declared.frame.Frame.{Frame}
+use Rattle.hull_draw.specs.Frames.{across, down}
+use Rattle.hull_draw.specs.Texts.{told, texts}
+
+-- a corner of the polygon
+abbrev pub corner_text : Frame → Pair → List ℕ
+corner_text frame p = decimal (across frame p) ++ codes "," ++ decimal (down frame p) ++ codes " "
+
+-- the polygon with these corners, in order
+abbrev pub polygon_text : Frame → List Pair → List ℕ
+polygon_text frame ps = codes "<polygon class='h' points='" ++ texts (corner_text frame) ps ++ codes "'/>\n"
+
+-- a dot: a line of no length with round ends
+abbrev pub dot_text : Frame → Pair → List ℕ
+dot_text frame p = codes "M" ++ decimal (across frame p) ++ codes " " ++ decimal (down frame p) ++ codes "h0"
+
+-- the dots at the corners
+abbrev pub corner_dots_text : Frame → List Pair → List ℕ
+corner_dots_text frame ps = codes "<path class='c' d='" ++ texts (dot_text frame) ps ++ codes "'/>\n"
+
+-- behind so many marks that are passed over, every one of so many
+unfoldable pub every : ℕ → ℕ → List Mark → List Mark
+every step skip [] = []
+every step zero (m ∷ ms) = m ∷ every step (step - 1) ms
+every step (suc skip) (m ∷ ms) = every step skip ms
+
+-- of so many points every one of so many is drawn
+abbrev pub step_of : ℕ → ℕ
+step_of count = count / DRAWN_LIMIT + 1
+
+-- the marks that are drawn
+abbrev pub drawn : List Mark → List Mark
+drawn marks = every (step_of (length marks)) 0 marks
+
+-- the dot of a mark
+abbrev pub mark_dot_text : Frame → Mark → List ℕ
+mark_dot_text frame m = dot_text frame m.point
+
+-- the dots of the marks that are drawn
+abbrev pub all_dots_text : Frame → List Mark → List ℕ
+all_dots_text frame marks = codes "<path class='p' d='" ++ texts (mark_dot_text frame) (drawn marks) ++ codes "'/>\n"
+
+-- a line from one end of a bridge to the other; the words before the level tell upper from lower
+abbrev pub bridge_line_text : Frame → List ℕ → ℕ → Pair × Pair → List ℕ
+bridge_line_text frame words level e =
+    told words level ++ told (codes "' d='M") (across frame e.0) ++ told (codes " ") (down frame e.0)
+    ++ told (codes "L") (across frame e.1) ++ told (codes " ") (down frame e.1) ++ codes "'/>\n"
+
+-- both bridges of a fork
+abbrev pub bridge_text : Frame → Bridge → List ℕ
+bridge_text frame b = bridge_line_text frame (codes "<path class='u v") b.level b.upper ++ bridge_line_text frame (codes "<path class='l v") b.level b.lower
+
+-- the square that the browser scales to `size` points of the screen
+abbrev pub square_text : ℕ → ℕ → List ℕ
+square_text size extent = told (codes "<svg x='32' y='32' overflow='visible' width='") size ++ told (codes "' height='") size
+    ++ told (codes "' viewBox='0 0 ") extent ++ told (codes " ") extent ++ codes "'>\n"
+
+-- the hull, the bridges, the points, and the corners above them
+abbrev pub shapes_text : Frame → List Mark → List Pair → List Bridge → List ℕ
+shapes_text frame marks corners bridges =
+    polygon_text frame corners ++ texts (bridge_text frame) bridges ++ all_dots_text frame marks ++ corner_dots_text frame corners

@@ -1,0 +1,187 @@
+ghost use Rattle.std.specs.Prelude.{◌≡◌, ◌<◌, ◌≤◌, ◌+◌, ◌-◌, ◌^◌, OnOk, IsOk};
+ghost use Rattle.text_io.specs.Write.{WritesOn};
+ghost use Rattle.hull_draw.specs.Legends.{line_start, thinned_text, count_text, area_text, told_signed, range_text, wrong_text, lines_text, bridges_told_text, legend_text};
+ghost use Rattle.hull_draw.specs.Shapes.{step_of};
+
+use super::bridges::Bridge;
+use super::frame::Frame;
+use super::marks::DRAWN_LIMIT;
+use super::shapes::{Done, told_after};
+use lattice::Point;
+use text_io::{Sink, number_after, put_after};
+
+/// The words of the legend's line on bridges, in their colours, behind the place where it stands.
+pub const BRIDGES_TOLD: &[u8] =
+    b"'>stored bridges of the first 8 levels: <tspan fill='#c0392b'>upper</tspan>, <tspan fill='#1e8449'>lower</tspan></text>\n";
+
+/// Begins a line of the legend, so far below the square.
+fn line_start_after<W: Sink>(done: Done, out: &mut W, size: u64, below: u64) -> Done
+    requires room { OnOk done (W.failed out.old < 2 ^ 64 - 1) }
+    requires small { size < 2 ^ 20 }
+    requires near { below < 2 ^ 20 }
+    ensures wrote { WritesOn done result (W.contents out.old) (W.contents out.new) (W.failed out.old) (W.failed out.new) (line_start size below) }
+    ensures kept { OnOk result (W.failed out.new ≡ W.failed out.old) }
+    ensures was { OnOk result (IsOk done) }
+{
+    told_after(done, out, b"<text x='32' y='", size + below)
+}
+
+/// Writes of how many points one is drawn, where not all are.
+fn thinned_after<W: Sink>(done: Done, out: &mut W, step: usize) -> Done
+    requires { OnOk done (W.failed out.old < 2 ^ 64 - 1) }
+    ensures wrote { WritesOn done result (W.contents out.old) (W.contents out.new) (W.failed out.old) (W.failed out.new) (thinned_text step) }
+    ensures kept { OnOk result (W.failed out.new ≡ W.failed out.old) }
+    ensures was { OnOk result (IsOk done) }
+{
+    if step == 1 {
+        return done;
+    }
+    let done = told_after(done, out, b"; one of ", step);
+    put_after(done, out, b" is drawn")
+}
+
+/// Writes how many points there are, and how many there may be.
+fn count_after<W: Sink>(done: Done, out: &mut W, size: u64, count: usize, limit: u32) -> Done
+    requires room { OnOk done (W.failed out.old < 2 ^ 64 - 1) }
+    requires small { size < 2 ^ 20 }
+    ensures wrote { WritesOn done result (W.contents out.old) (W.contents out.new) (W.failed out.old) (W.failed out.new) (count_text size count limit) }
+    ensures kept { OnOk result (W.failed out.new ≡ W.failed out.old) }
+    ensures was { OnOk result (IsOk done) }
+{
+    let done = line_start_after(done, out, size, 76);
+    let done = told_after(done, out, b"'>points ", count);
+    let done = told_after(done, out, b" (limit ", limit);
+    let done = put_after(done, out, b")");
+    let done = thinned_after(done, out, count / DRAWN_LIMIT + 1);
+    put_after(done, out, b"</text>\n")
+}
+
+/// Writes the doubled area.
+fn area_after<W: Sink>(done: Done, out: &mut W, size: u64, area: u128) -> Done
+    requires room { OnOk done (W.failed out.old < 2 ^ 64 - 1) }
+    requires small { size < 2 ^ 20 }
+    ensures wrote { WritesOn done result (W.contents out.old) (W.contents out.new) (W.failed out.old) (W.failed out.new) (area_text size area) }
+    ensures kept { OnOk result (W.failed out.new ≡ W.failed out.old) }
+    ensures was { OnOk result (IsOk done) }
+{
+    let done = line_start_after(done, out, size, 98);
+    let done = told_after(done, out, b"'>doubled area ", area);
+    put_after(done, out, b"</text>\n")
+}
+
+/// Writes words, and the first coordinate of a point behind them.
+fn x_after<W: Sink>(done: Done, out: &mut W, words: &[u8], point: Point) -> Done
+    requires { OnOk done (W.failed out.old < 2 ^ 64 - 1) }
+    ensures wrote { WritesOn done result (W.contents out.old) (W.contents out.new) (W.failed out.old) (W.failed out.new) (told_signed words.now point.x) }
+    ensures kept { OnOk result (W.failed out.new ≡ W.failed out.old) }
+    ensures was { OnOk result (IsOk done) }
+{
+    let done = put_after(done, out, words);
+    number_after(done, out, point.x())
+}
+
+/// Writes words, and the second coordinate of a point behind them.
+fn y_after<W: Sink>(done: Done, out: &mut W, words: &[u8], point: Point) -> Done
+    requires { OnOk done (W.failed out.old < 2 ^ 64 - 1) }
+    ensures wrote { WritesOn done result (W.contents out.old) (W.contents out.new) (W.failed out.old) (W.failed out.new) (told_signed words.now point.y) }
+    ensures kept { OnOk result (W.failed out.new ≡ W.failed out.old) }
+    ensures was { OnOk result (IsOk done) }
+{
+    let done = put_after(done, out, words);
+    number_after(done, out, point.y())
+}
+
+/// Writes between which coordinates the points lie.
+fn range_after<W: Sink>(done: Done, out: &mut W, size: u64, frame: &Option<Frame>) -> Done
+    requires room { OnOk done (W.failed out.old < 2 ^ 64 - 1) }
+    requires small { size < 2 ^ 20 }
+    ensures wrote { WritesOn done result (W.contents out.old) (W.contents out.new) (W.failed out.old) (W.failed out.new) (range_text size frame.now) }
+    ensures kept { OnOk result (W.failed out.new ≡ W.failed out.old) }
+    ensures was { OnOk result (IsOk done) }
+{
+    match frame {
+        None => done,
+        Some(frame) => {
+            let done = line_start_after(done, out, size, 120);
+            let done = x_after(done, out, b"'>x ", frame.left);
+            let done = x_after(done, out, b" to ", frame.right);
+            let done = y_after(done, out, b", y ", frame.bottom);
+            let done = y_after(done, out, b" to ", frame.top);
+            put_after(done, out, b"</text>\n")
+        }
+    }
+}
+
+/// Writes which line is wrong, if one is.
+fn wrong_after<W: Sink>(done: Done, out: &mut W, wrong: Option<u32>) -> Done
+    requires { OnOk done (W.failed out.old < 2 ^ 64 - 1) }
+    ensures wrote { WritesOn done result (W.contents out.old) (W.contents out.new) (W.failed out.old) (W.failed out.new) (wrong_text wrong) }
+    ensures kept { OnOk result (W.failed out.new ≡ W.failed out.old) }
+    ensures was { OnOk result (IsOk done) }
+{
+    match wrong {
+        None => done,
+        Some(place) => {
+            let words = b"<tspan class='w'>; line ";
+            let done = told_after(done, out, words, place as u64 + 2);
+            put_after(done, out, b" is wrong</tspan>")
+        }
+    }
+}
+
+/// Writes how far the journal was replayed.
+fn lines_after<W: Sink>(done: Done, out: &mut W, size: u64, lines: u32, wrong: Option<u32>) -> Done
+    requires room { OnOk done (W.failed out.old < 2 ^ 64 - 1) }
+    requires small { size < 2 ^ 20 }
+    ensures wrote { WritesOn done result (W.contents out.old) (W.contents out.new) (W.failed out.old) (W.failed out.new) (lines_text size lines wrong) }
+    ensures kept { OnOk result (W.failed out.new ≡ W.failed out.old) }
+    ensures was { OnOk result (IsOk done) }
+{
+    let done = line_start_after(done, out, size, 142);
+    let done = told_after(done, out, b"'>calls ", lines);
+    let done = wrong_after(done, out, wrong);
+    put_after(done, out, b"</text>\n")
+}
+
+/// Writes which bridges are drawn, where any are.
+fn bridges_told_after<W: Sink>(done: Done, out: &mut W, size: u64, bridges: &[Bridge]) -> Done
+    requires room { OnOk done (W.failed out.old < 2 ^ 64 - 1) }
+    requires small { size < 2 ^ 20 }
+    ensures wrote { WritesOn done result (W.contents out.old) (W.contents out.new) (W.failed out.old) (W.failed out.new) (bridges_told_text size bridges.now) }
+    ensures kept { OnOk result (W.failed out.new ≡ W.failed out.old) }
+    ensures was { OnOk result (IsOk done) }
+{
+    match bridges {
+        [] => done,
+        [_, ..] => {
+            let done = line_start_after(done, out, size, 164);
+            put_after(done, out, BRIDGES_TOLD)
+        }
+    }
+}
+
+/// Writes the legend.
+pub(crate) fn legend_after<W: Sink>(
+    done: Done,
+    out: &mut W,
+    size: u64,
+    frame: &Option<Frame>,
+    bridges: &[Bridge],
+    count: usize,
+    limit: u32,
+    area: u128,
+    lines: u32,
+    wrong: Option<u32>,
+) -> Done
+    requires room { OnOk done (W.failed out.old < 2 ^ 64 - 1) }
+    requires small { size < 2 ^ 20 }
+    ensures wrote { WritesOn done result (W.contents out.old) (W.contents out.new) (W.failed out.old) (W.failed out.new) (legend_text size frame.now bridges.now count limit area lines wrong) }
+    ensures kept { OnOk result (W.failed out.new ≡ W.failed out.old) }
+    ensures was { OnOk result (IsOk done) }
+{
+    let done = count_after(done, out, size, count, limit);
+    let done = area_after(done, out, size, area);
+    let done = range_after(done, out, size, frame);
+    let done = lines_after(done, out, size, lines, wrong);
+    bridges_told_after(done, out, size, bridges)
+}

@@ -1,0 +1,234 @@
+ghost use Rattle.std.specs.Prelude.{◌≡◌, ◌<◌, ◌≤◌, ◌-◌, ◌^◌, ◌++◌, OnOk, IsOk, codes, decimal, length};
+ghost use Rattle.text_io.specs.Write.{WritesOn};
+ghost use Rattle.hull_draw.specs.Texts.{texts};
+ghost use Rattle.hull_draw.specs.Shapes.{corner_text, polygon_text, dot_text, corner_dots_text, every, mark_dot_text, all_dots_text, bridge_line_text, bridge_text, square_text, shapes_text};
+
+use super::bridges::Bridge;
+use super::frame::Frame;
+use super::marks::{DRAWN_LIMIT, Mark};
+use itoa::Integer;
+use lattice::Point;
+use text_io::{Sink, WriteFault, number_after, put_after};
+
+/// What was written so far.
+pub(crate) type Done = Result<(), WriteFault>;
+
+/// Writes words, and a number behind them.
+pub(crate) fn told_after<W: Sink, N: Integer>(done: Done, out: &mut W, words: &[u8], number: N) -> Done
+    requires { OnOk done (W.failed out.old < 2 ^ 64 - 1) }
+    ensures wrote { WritesOn done result (W.contents out.old) (W.contents out.new) (W.failed out.old) (W.failed out.new) (words.now ++ N.text number) }
+    ensures kept { OnOk result (W.failed out.new ≡ W.failed out.old) }
+    ensures was { OnOk result (IsOk done) }
+{
+    let done = put_after(done, out, words);
+    number_after(done, out, number)
+}
+
+/// Writes a corner of the polygon.
+fn corner_after<W: Sink>(done: Done, out: &mut W, frame: &Frame, point: Point) -> Done
+    requires { OnOk done (W.failed out.old < 2 ^ 64 - 1) }
+    ensures wrote { WritesOn done result (W.contents out.old) (W.contents out.new) (W.failed out.old) (W.failed out.new) (corner_text frame.now point) }
+    ensures kept { OnOk result (W.failed out.new ≡ W.failed out.old) }
+    ensures was { OnOk result (IsOk done) }
+{
+    let done = number_after(done, out, frame.across(point));
+    let done = told_after(done, out, b",", frame.down(point));
+    put_after(done, out, b" ")
+}
+
+/// Writes the corners of the polygon.
+#[tactic(auto, using(hull_text::proofs::Chains::chained_start, hull_text::proofs::Chains::chained_end))]
+fn corners_after<W: Sink>(done: Done, out: &mut W, frame: &Frame, points: &[Point]) -> Done
+    requires { OnOk done (W.failed out.old < 2 ^ 64 - 1) }
+    ensures wrote { WritesOn done result (W.contents out.old) (W.contents out.new) (W.failed out.old) (W.failed out.new) (texts (corner_text frame.now) points.now) }
+    ensures kept { OnOk result (W.failed out.new ≡ W.failed out.old) }
+    ensures was { OnOk result (IsOk done) }
+{
+    let mut done = done;
+    let mut rest = points;
+    while let Some((point, after)) = rest.split_first() {
+        done = corner_after(done, out, frame, *point);
+        rest = after;
+    }
+    done
+}
+
+/// Writes the polygon.
+fn polygon_after<W: Sink>(done: Done, out: &mut W, frame: &Frame, points: &[Point]) -> Done
+    requires { OnOk done (W.failed out.old < 2 ^ 64 - 1) }
+    ensures wrote { WritesOn done result (W.contents out.old) (W.contents out.new) (W.failed out.old) (W.failed out.new) (polygon_text frame.now points.now) }
+    ensures kept { OnOk result (W.failed out.new ≡ W.failed out.old) }
+    ensures was { OnOk result (IsOk done) }
+{
+    let done = put_after(done, out, b"<polygon class='h' points='");
+    let done = corners_after(done, out, frame, points);
+    put_after(done, out, b"'/>\n")
+}
+
+/// Writes a dot.
+fn dot_after<W: Sink>(done: Done, out: &mut W, frame: &Frame, point: Point) -> Done
+    requires { OnOk done (W.failed out.old < 2 ^ 64 - 1) }
+    ensures wrote { WritesOn done result (W.contents out.old) (W.contents out.new) (W.failed out.old) (W.failed out.new) (dot_text frame.now point) }
+    ensures kept { OnOk result (W.failed out.new ≡ W.failed out.old) }
+    ensures was { OnOk result (IsOk done) }
+{
+    let done = told_after(done, out, b"M", frame.across(point));
+    let done = told_after(done, out, b" ", frame.down(point));
+    put_after(done, out, b"h0")
+}
+
+/// Writes the dots of points.
+#[tactic(auto, using(hull_text::proofs::Chains::chained_start, hull_text::proofs::Chains::chained_end))]
+fn dots_after<W: Sink>(done: Done, out: &mut W, frame: &Frame, points: &[Point]) -> Done
+    requires { OnOk done (W.failed out.old < 2 ^ 64 - 1) }
+    ensures wrote { WritesOn done result (W.contents out.old) (W.contents out.new) (W.failed out.old) (W.failed out.new) (texts (dot_text frame.now) points.now) }
+    ensures kept { OnOk result (W.failed out.new ≡ W.failed out.old) }
+    ensures was { OnOk result (IsOk done) }
+{
+    let mut done = done;
+    let mut rest = points;
+    while let Some((point, after)) = rest.split_first() {
+        done = dot_after(done, out, frame, *point);
+        rest = after;
+    }
+    done
+}
+
+/// Writes the dots at the corners.
+fn corner_dots_after<W: Sink>(done: Done, out: &mut W, frame: &Frame, points: &[Point]) -> Done
+    requires { OnOk done (W.failed out.old < 2 ^ 64 - 1) }
+    ensures wrote { WritesOn done result (W.contents out.old) (W.contents out.new) (W.failed out.old) (W.failed out.new) (corner_dots_text frame.now points.now) }
+    ensures kept { OnOk result (W.failed out.new ≡ W.failed out.old) }
+    ensures was { OnOk result (IsOk done) }
+{
+    let done = put_after(done, out, b"<path class='c' d='");
+    let done = dots_after(done, out, frame, points);
+    put_after(done, out, b"'/>\n")
+}
+
+/// Writes the dots of every one of so many marks.
+#[tactic(auto, using(hull_text::proofs::Chains::chained_start, hull_text::proofs::Chains::chained_end))]
+fn mark_dots_after<W: Sink>(
+    done: Done,
+    out: &mut W,
+    frame: &Frame,
+    step: usize,
+    marks: &[Mark],
+) -> Done
+    requires room { OnOk done (W.failed out.old < 2 ^ 64 - 1) }
+    requires step { 1 ≤ step }
+    ensures wrote { WritesOn done result (W.contents out.old) (W.contents out.new) (W.failed out.old) (W.failed out.new) (texts (mark_dot_text frame.now) (every step 0 marks.now)) }
+    ensures kept { OnOk result (W.failed out.new ≡ W.failed out.old) }
+    ensures was { OnOk result (IsOk done) }
+{
+    let mut done = done;
+    let mut rest = marks;
+    let mut skip = 0;
+    while let Some((mark, after)) = rest.split_first() {
+        if skip == 0 {
+            done = dot_after(done, out, frame, mark.point);
+            skip = step - 1;
+        } else {
+            skip -= 1;
+        }
+        rest = after;
+    }
+    done
+}
+
+/// Writes the dots of the marks that are drawn.
+fn all_dots_after<W: Sink>(done: Done, out: &mut W, frame: &Frame, marks: &[Mark]) -> Done
+    requires { OnOk done (W.failed out.old < 2 ^ 64 - 1) }
+    ensures wrote { WritesOn done result (W.contents out.old) (W.contents out.new) (W.failed out.old) (W.failed out.new) (all_dots_text frame.now marks.now) }
+    ensures kept { OnOk result (W.failed out.new ≡ W.failed out.old) }
+    ensures was { OnOk result (IsOk done) }
+{
+    let done = put_after(done, out, b"<path class='p' d='");
+    let done = mark_dots_after(done, out, frame, marks.len() / DRAWN_LIMIT + 1, marks);
+    put_after(done, out, b"'/>\n")
+}
+
+/// Writes a line from one end of a bridge to the other.
+fn bridge_line_after<W: Sink>(
+    done: Done,
+    out: &mut W,
+    frame: &Frame,
+    words: &[u8],
+    level: u32,
+    ends: (Point, Point),
+) -> Done
+    requires { OnOk done (W.failed out.old < 2 ^ 64 - 1) }
+    ensures wrote { WritesOn done result (W.contents out.old) (W.contents out.new) (W.failed out.old) (W.failed out.new) (bridge_line_text frame.now words.now level ends) }
+    ensures kept { OnOk result (W.failed out.new ≡ W.failed out.old) }
+    ensures was { OnOk result (IsOk done) }
+{
+    let done = told_after(done, out, words, level);
+    let done = told_after(done, out, b"' d='M", frame.across(ends.0));
+    let done = told_after(done, out, b" ", frame.down(ends.0));
+    let done = told_after(done, out, b"L", frame.across(ends.1));
+    let done = told_after(done, out, b" ", frame.down(ends.1));
+    put_after(done, out, b"'/>\n")
+}
+
+/// Writes both bridges of a fork.
+fn bridge_after<W: Sink>(done: Done, out: &mut W, frame: &Frame, bridge: Bridge) -> Done
+    requires { OnOk done (W.failed out.old < 2 ^ 64 - 1) }
+    ensures wrote { WritesOn done result (W.contents out.old) (W.contents out.new) (W.failed out.old) (W.failed out.new) (bridge_text frame.now bridge) }
+    ensures kept { OnOk result (W.failed out.new ≡ W.failed out.old) }
+    ensures was { OnOk result (IsOk done) }
+{
+    let done = bridge_line_after(done, out, frame, b"<path class='u v", bridge.level, bridge.upper);
+    bridge_line_after(done, out, frame, b"<path class='l v", bridge.level, bridge.lower)
+}
+
+/// Writes the bridges of forks.
+#[tactic(auto, using(hull_text::proofs::Chains::chained_start, hull_text::proofs::Chains::chained_end))]
+fn bridges_after<W: Sink>(done: Done, out: &mut W, frame: &Frame, bridges: &[Bridge]) -> Done
+    requires { OnOk done (W.failed out.old < 2 ^ 64 - 1) }
+    ensures wrote { WritesOn done result (W.contents out.old) (W.contents out.new) (W.failed out.old) (W.failed out.new) (texts (bridge_text frame.now) bridges.now) }
+    ensures kept { OnOk result (W.failed out.new ≡ W.failed out.old) }
+    ensures was { OnOk result (IsOk done) }
+{
+    let mut done = done;
+    let mut rest = bridges;
+    while let Some((bridge, after)) = rest.split_first() {
+        done = bridge_after(done, out, frame, *bridge);
+        rest = after;
+    }
+    done
+}
+
+/// Begins the square that the browser scales.
+pub(crate) fn square_after<W: Sink>(done: Done, out: &mut W, size: u64, extent: u64) -> Done
+    requires { OnOk done (W.failed out.old < 2 ^ 64 - 1) }
+    ensures wrote { WritesOn done result (W.contents out.old) (W.contents out.new) (W.failed out.old) (W.failed out.new) (square_text size extent) }
+    ensures kept { OnOk result (W.failed out.new ≡ W.failed out.old) }
+    ensures was { OnOk result (IsOk done) }
+{
+    let start = b"<svg x='32' y='32' overflow='visible' width='";
+    let done = told_after(done, out, start, size);
+    let done = told_after(done, out, b"' height='", size);
+    let done = told_after(done, out, b"' viewBox='0 0 ", extent);
+    let done = told_after(done, out, b" ", extent);
+    put_after(done, out, b"'>\n")
+}
+
+/// Writes the hull, the bridges, the points, and the corners above them.
+pub(crate) fn shapes_after<W: Sink>(
+    done: Done,
+    out: &mut W,
+    frame: &Frame,
+    marks: &[Mark],
+    corners: &[Point],
+    bridges: &[Bridge],
+) -> Done
+    requires { OnOk done (W.failed out.old < 2 ^ 64 - 1) }
+    ensures wrote { WritesOn done result (W.contents out.old) (W.contents out.new) (W.failed out.old) (W.failed out.new) (shapes_text frame.now marks.now corners.now bridges.now) }
+    ensures kept { OnOk result (W.failed out.new ≡ W.failed out.old) }
+    ensures was { OnOk result (IsOk done) }
+{
+    let done = polygon_after(done, out, frame, corners);
+    let done = bridges_after(done, out, frame, bridges);
+    let done = all_dots_after(done, out, frame, marks);
+    corner_dots_after(done, out, frame, corners)
+}
