@@ -1,18 +1,95 @@
 #!/bin/sh
-# Screenshots of docs/pictures/*.svg, to be looked at: run.sh [FOLDER]. Skips with a word where there is no Chromium.
-set -eu
-cd "$(dirname "$0")/../.."
-browser=$(command -v chromium || command -v chromium-browser || true)
-if [ -z "$browser" ]; then
-    echo "skipped: no Chromium here"
-    exit 0
-fi
-shots=${1:-$(mktemp -d)}
-mkdir -p "$shots"
-for picture in docs/pictures/*.svg; do
-    shot="$shots/$(basename "$picture" .svg).png"
-    "$browser" --headless --no-sandbox --disable-gpu --window-size=760,900 \
-        --screenshot="$shot" "file://$PWD/$picture" > "$shots/browser.txt" 2>&1
-    [ -s "$shot" ] || { echo "no screenshot of $picture"; exit 1; }
-done
-echo "screenshots in $shots"
+# Draws each journal of journals/ with the built program and compares the picture with the one in docs/pictures, byte for
+# byte; then counts what stands in the pictures of a journal of 100,000 points whose hull is known, and tries messages and
+# statuses. With the word `new` it writes the pictures in docs/pictures instead. The last line counts, and the status is
+# not 0 where something else came.
+set -u
+here=$(cd "$(dirname "$0")" && pwd)
+top=$(cd "$here/../.." && pwd)
+room=$(mktemp -d)
+trap 'rm -rf "$room"' EXIT
+"$top/bin/hulldraw" >/dev/null 2>&1 # builds the program where it is not built for this commit
+
+passed=0
+failed=0
+said() {
+    if [ "$2" = "$3" ]; then
+        passed=$((passed + 1))
+    else
+        failed=$((failed + 1))
+        echo "$1: $2, not $3"
+    fi
+}
+
+# a picture, from a journal with some words: NAME JOURNAL WORDS..
+picture() {
+    name=$1
+    journal="$here/journals/$2.txt"
+    shift 2
+    if [ "${new:-}" = new ]; then
+        "$top/bin/hulldraw" "$journal" "$@" >"$top/docs/pictures/$name.svg"
+        return
+    fi
+    "$top/bin/hulldraw" "$journal" "$@" >"$room/$name.svg"
+    said "status of $name" $? 0
+    cmp -s "$room/$name.svg" "$top/docs/pictures/$name.svg"
+    said "picture of $name" $? 0
+}
+
+new=${1:-}
+picture thirty thirty
+picture bridges thirty --bridges
+picture empty empty
+picture point point
+picture segment segment
+picture upright upright
+picture wide wide
+picture near near
+picture wrong-line wrong
+[ "$new" != new ] || exit 0
+
+# 99,996 points inside a square of side 2,000,000, on different verticals, and its four corners
+awk 'BEGIN {
+    n = 100000
+    print "hullbook journal 3 first 0 limit 1048576 capacity 16777216"
+    print "0 0 add -1000000 -1000000 = added\n1 0 add 1000000 -1000000 = added"
+    print "2 0 add 1000000 1000000 = added\n3 0 add -1000000 1000000 = added"
+    for (k = 4; k < n; k++) print k " 0 add " 17 * (k - 50000) " " (k * 7919) % 1999993 - 999996 " = added"
+    print "end " n }' >"$room/large"
+
+# how often a word stands in a picture
+count() {
+    grep -o "$1" "$room/large.svg" | wc -l
+}
+"$top/bin/hulldraw" "$room/large" --bridges >"$room/large.svg"
+said 'status of the large picture' $? 0
+said 'its corners' "$(grep -c "points='0,2000000 2000000,2000000 2000000,0 0,0 '" "$room/large.svg")" 1
+said 'its dots, one of 26 and the corners' "$(count 'h0')" $((3847 + 4))
+said 'its bridges, of eight levels' "$(count "class='[ul] v[0-7]'")" 510
+said 'its labels' "$(count "class='t'")" 0
+said 'its legend' "$(grep -c '>points 100000 (limit 1048576); one of 26 is drawn<' "$room/large.svg")" 1
+said 'its area' "$(grep -c '>doubled area 8000000000000<' "$room/large.svg")" 1
+"$top/bin/hulldraw" "$room/large" --line 2 >"$room/large.svg"
+said 'corners after two lines' "$(grep -c "points='0,1000000 2000000,1000000 '" "$room/large.svg")" 1
+
+# what is refused: MESSAGE STATUS WORDS..
+refused() {
+    message=$1
+    status=$2
+    shift 2
+    "$top/bin/hulldraw" "$@" >"$room/output" 2>"$room/error"
+    said "status of $*" $? "$status"
+    said "message of $*" "$(cat "$room/error")" "$message"
+    said "output of $*" "$(wc -c <"$room/output")" 0
+}
+printf 'hullbook journal 3 first 0 limit 4 capacity 9\n0 0 add 01 0 = added\nend 1\n' >"$room/spelling"
+refused 'hulldraw: usage' 2
+refused 'hulldraw: usage' 2 --help
+refused 'hulldraw: usage' 2 "$room/large" --size 239
+refused 'hulldraw: open' 3 "$room/absent"
+refused 'hulldraw: line 2: fault 2' 2 "$room/spelling"
+"$top/bin/hulldraw" "$room/large" >/dev/full 2>"$room/error"
+said 'status on a full device' $? 3
+said 'message on a full device' "$(cat "$room/error")" 'hulldraw: write'
+echo "$passed passed, $failed failed"
+[ "$failed" -eq 0 ]

@@ -61,7 +61,7 @@ abbrev pub square_text : ℕ → ℕ → List ℕ
 square_text size extent = told (codes "<svg x='32' y='32' overflow='visible' width='") size ++ told (codes "' height='") size
     ++ told (codes "' viewBox='0 0 ") extent ++ told (codes " ") extent ++ codes "'>\n"
 
--- the hull, the bridges, the points, and the corners above them
+-- the hull, the points, above them the bridges, and above these the corners
 abbrev pub shapes_text : Frame → List Mark → List Pair → List Bridge → List ℕ
 shapes_text frame marks corners bridges =
-    polygon_text frame corners ++ texts (bridge_text frame) bridges ++ all_dots_text frame marks ++ corner_dots_text frame corners
+    polygon_text frame corners ++ all_dots_text frame marks ++ texts (bridge_text frame) bridges ++ corner_dots_text frame corners

@@ -62,7 +62,13 @@ fn all_labels_after<W: Sink>(
 }
 
 /// Writes the labels of the marks that have one.
-pub(crate) fn labels_after<W: Sink>(done: Done, out: &mut W, size: u64, frame: &Frame, marks: &[Mark]) -> Done
+pub(crate) fn labels_after<W: Sink>(
+    done: Done,
+    out: &mut W,
+    size: u64,
+    frame: &Frame,
+    marks: &[Mark],
+) -> Done
     requires room { OnOk done (W.failed out.old < 2 ^ 64 - 1) }
     requires small { size < 2 ^ 20 }
     ensures wrote { WritesOn done result (W.contents out.old) (W.contents out.new) (W.failed out.old) (W.failed out.new) (labels_text size frame.now marks.now) }

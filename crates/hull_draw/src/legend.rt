@@ -12,7 +12,7 @@ use text_io::{Sink, number_after, put_after};
 
 /// The words of the legend's line on bridges, in their colours, behind the place where it stands.
 pub const BRIDGES_TOLD: &[u8] =
-    b"'>stored bridges of the first 8 levels: <tspan fill='#c0392b'>upper</tspan>, <tspan fill='#1e8449'>lower</tspan></text>\n";
+    b"'>bridges of 8 levels: <tspan fill='#c0392b'>upper</tspan>, <tspan fill='#1e8449'>lower</tspan></text>\n";
 
 /// Begins a line of the legend, so far below the square.
 fn line_start_after<W: Sink>(done: Done, out: &mut W, size: u64, below: u64) -> Done

@@ -97,7 +97,9 @@ fn write_parts<W: Sink>(
     let done = put_head(out, size);
     let done = shown_after(done, out, size, frame, marks, corners, bridges);
     let count = marks.len();
-    let done = legend_after(done, out, size, frame, bridges, count, limit, area, lines, wrong);
+    let done = legend_after(
+        done, out, size, frame, bridges, count, limit, area, lines, wrong,
+    );
     let done = put_after(done, out, b"</svg>\n");
     flush_after(done, out)
 }

@@ -49,11 +49,7 @@ fn asked(line: Option<u32>, lines: &[Line]) -> &[Line]
 /// # Errors
 ///
 /// `NoMemory` where memory was refused.
-pub fn scene_of(
-    alloc: Global,
-    journal: &Journal,
-    options: &DrawOptions,
-) -> Result<Scene, NoMemory>
+pub fn scene_of(alloc: Global, journal: &Journal, options: &DrawOptions) -> Result<Scene, NoMemory>
     ensures { IfOk result (IsScene journal.now options.now) }
 {
     let lines = asked(options.line, journal.lines());

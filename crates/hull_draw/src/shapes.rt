@@ -14,7 +14,12 @@ use text_io::{Sink, WriteFault, number_after, put_after};
 pub(crate) type Done = Result<(), WriteFault>;
 
 /// Writes words, and a number behind them.
-pub(crate) fn told_after<W: Sink, N: Integer>(done: Done, out: &mut W, words: &[u8], number: N) -> Done
+pub(crate) fn told_after<W: Sink, N: Integer>(
+    done: Done,
+    out: &mut W,
+    words: &[u8],
+    number: N,
+) -> Done
     requires { OnOk done (W.failed out.old < 2 ^ 64 - 1) }
     ensures wrote { WritesOn done result (W.contents out.old) (W.contents out.new) (W.failed out.old) (W.failed out.new) (words.now ++ N.text number) }
     ensures kept { OnOk result (W.failed out.new ≡ W.failed out.old) }
@@ -177,8 +182,22 @@ fn bridge_after<W: Sink>(done: Done, out: &mut W, frame: &Frame, bridge: Bridge)
     ensures kept { OnOk result (W.failed out.new ≡ W.failed out.old) }
     ensures was { OnOk result (IsOk done) }
 {
-    let done = bridge_line_after(done, out, frame, b"<path class='u v", bridge.level, bridge.upper);
-    bridge_line_after(done, out, frame, b"<path class='l v", bridge.level, bridge.lower)
+    let done = bridge_line_after(
+        done,
+        out,
+        frame,
+        b"<path class='u v",
+        bridge.level,
+        bridge.upper,
+    );
+    bridge_line_after(
+        done,
+        out,
+        frame,
+        b"<path class='l v",
+        bridge.level,
+        bridge.lower,
+    )
 }
 
 /// Writes the bridges of forks.
@@ -213,7 +232,7 @@ pub(crate) fn square_after<W: Sink>(done: Done, out: &mut W, size: u64, extent: 
     put_after(done, out, b"'>\n")
 }
 
-/// Writes the hull, the bridges, the points, and the corners above them.
+/// Writes the hull, the points, above them the bridges, and above these the corners.
 pub(crate) fn shapes_after<W: Sink>(
     done: Done,
     out: &mut W,
@@ -228,7 +247,7 @@ pub(crate) fn shapes_after<W: Sink>(
     ensures was { OnOk result (IsOk done) }
 {
     let done = polygon_after(done, out, frame, corners);
-    let done = bridges_after(done, out, frame, bridges);
     let done = all_dots_after(done, out, frame, marks);
+    let done = bridges_after(done, out, frame, bridges);
     corner_dots_after(done, out, frame, corners)
 }

@@ -40,8 +40,9 @@ fn work<R: Env + Files + Print + AllocGlobal>(rt: &R) -> Result<(), Fault> {
     let task = task_of(rt)?;
     let file = fs::open(rt, &task.path).map_err(|error| Fault::of_system(&error, Fault::Open))?;
     let mut input = Counted::new(file);
-    let block = BufWriter::with_capacity(rt.alloc(), WRITE_BLOCK, io::writer(rt))
-        .map_err(|_| Fault::Memory)?;
+    let block = BufWriter::with_capacity(rt.alloc(), WRITE_BLOCK, io::writer(rt)).map_err(
+        |_| Fault::Memory,
+    )?;
     let mut output = Counted::new(block);
     draw(rt.alloc(), &mut input, &mut output, &task.options).map_err(Fault::from)
 }

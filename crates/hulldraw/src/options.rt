@@ -89,11 +89,7 @@ fn options_of(matches: &ArgMatches<'_>) -> Option<DrawOptions>
 }
 
 /// The path that was given, as it was written: it is found among the words, so that the contract can say so.
-fn path_of(
-    alloc: Global,
-    matches: &ArgMatches<'_>,
-    words: &[&str],
-) -> Result<String, OptionFault>
+fn path_of(alloc: Global, matches: &ArgMatches<'_>, words: &[&str]) -> Result<String, OptionFault>
     ensures { IfOk result (λ path. IsOneOf (texts_of words.now) (string_bytes path)) }
 {
     let Some(path) = matches.get_str("journal") else {

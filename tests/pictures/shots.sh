@@ -1,0 +1,18 @@
+#!/bin/sh
+# Screenshots of docs/pictures/*.svg, to be looked at: shots.sh [FOLDER]. Skips with a word where there is no Chromium.
+set -eu
+cd "$(dirname "$0")/../.."
+browser=$(command -v chromium || command -v chromium-browser || true)
+if [ -z "$browser" ]; then
+    echo "skipped: no Chromium here"
+    exit 0
+fi
+shots=${1:-$(mktemp -d)}
+mkdir -p "$shots"
+for picture in docs/pictures/*.svg; do
+    shot="$shots/$(basename "$picture" .svg).png"
+    "$browser" --headless --no-sandbox --disable-gpu --window-size=760,900 \
+        --screenshot="$shot" "file://$PWD/$picture" > "$shots/browser.txt" 2>&1
+    [ -s "$shot" ] || { echo "no screenshot of $picture"; exit 1; }
+done
+echo "screenshots in $shots"
