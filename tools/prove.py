@@ -56,8 +56,9 @@ def prove(name, program):
 def main(program):
     below = crates_below(program)
     left, done, start = dict(below), [], time.time()
-    print(f"{program}: proving {len(below)} crates; about 9 minutes on four cores, somewhat more on two. "
-          f"bin/try runs the program in a minute, with no proof.", file=sys.stderr)
+    quick = " bin/try runs the program in a minute, with no proof." if program == "hullbook" else ""
+    print(f"{program}: proving {len(below)} crates; about 9 minutes on four cores, somewhat more on two.{quick}",
+          file=sys.stderr)
     with ThreadPoolExecutor(at_once()) as pool:
         under_way = {}
         while left or under_way:
