@@ -36,11 +36,14 @@ for kind in build churn ask mixed; do points "$kind" >"$room/points-$kind"; done
 for kind in small churn mixed; do workers "$kind" >"$room/workers-$kind"; done
 cd "$room"
 gnuplot <<'PLOT'
-set terminal svg size 760,420 font 'sans-serif,13' background '#ffffff'
+set terminal svg size 860,380 font 'sans-serif,13' background '#ffffff'
 set grid
-set key left top
+set key outside right top
+set ytics format '%g'
 set logscale xy
 set xlabel 'calls'
+set xrange [20000:250000]
+set xtics (25000, 50000, 100000, 200000)
 set ylabel 'seconds, whole run by one worker'
 set output 'points.svg'
 plot 'points-build' using 1:2 with linespoints lc '#1f5f99' pt 7 title 'build: hullbook', \
@@ -50,8 +53,9 @@ plot 'points-build' using 1:2 with linespoints lc '#1f5f99' pt 7 title 'build: h
      'points-ask' using 1:2 with linespoints lc '#c0392b' pt 7 title 'ask: hullbook', \
      'points-ask' using 1:3 with linespoints lc '#c0392b' dt 2 pt 6 title 'ask: rival'
 set xlabel 'workers'
+set xrange [0.8:80]
+set xtics (1, 2, 4, 8, 16, 64)
 set ylabel 'seconds, whole run'
-set key right top
 set output 'workers.svg'
 plot 'workers-mixed' using 1:2 with linespoints lc '#1f5f99' pt 7 title 'mixed: hullbook', \
      'workers-mixed' using 1:3 with linespoints lc '#1f5f99' dt 2 pt 6 title 'mixed: mutex', \
