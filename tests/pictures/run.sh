@@ -1,8 +1,8 @@
 #!/bin/sh
 # Draws each journal of journals/ with the built program and compares the picture with the one in docs/pictures, byte for
-# byte; then counts what stands in the pictures of a journal of 100,000 points whose hull is known, and tries messages and
-# statuses. With the word `new` it writes the pictures in docs/pictures instead. The last line counts, and the status is
-# not 0 where something else came.
+# byte; then counts what stands in the picture of 100,000 points whose hull is known, tries messages and statuses, and
+# refuses each request for memory in turn. With the word `new` it writes the pictures in docs/pictures instead. The last
+# line counts, and the status is not 0 where something else came.
 set -u
 here=$(cd "$(dirname "$0")" && pwd)
 top=$(cd "$here/../.." && pwd)
@@ -91,5 +91,31 @@ refused 'hulldraw: line 2: fault 2' 2 "$room/spelling"
 "$top/bin/hulldraw" "$room/large" >/dev/full 2>"$room/error"
 said 'status on a full device' $? 3
 said 'message on a full device' "$(cat "$room/error")" 'hulldraw: write'
+# each request for memory refused in turn, until twenty runs in a row come out whole: before that nothing is written, with
+# a word and status 4
+kit=$(dirname "$(rt doc)")
+"$kit/toolchain/bin/clang" --target=x86_64-unknown-linux-gnu -O1 -fPIC -shared -nostdlib -fuse-ld=lld \
+    -o "$room/refuse.so" "$here/../memory/refuse.c" || exit 1
+program="$top/crates/hulldraw/out/hulldraw"
+"$program" "$here/journals/thirty.txt" --bridges >"$room/whole"
+number=0
+row=0
+while [ "$row" -lt 20 ] && [ "$number" -lt 1000 ]; do
+    number=$((number + 1))
+    REFUSED_REQUEST=$number LD_PRELOAD="$room/refuse.so" "$program" "$here/journals/thirty.txt" --bridges \
+        >"$room/output" 2>"$room/error"
+    status=$?
+    if [ "$status" = 0 ] && cmp -s "$room/output" "$room/whole"; then
+        row=$((row + 1))
+        echo whole
+    elif [ "$status" = 4 ] && [ ! -s "$room/output" ]; then
+        row=0
+        sed -n 's/^hulldraw: memory$/memory/p; s/^hulldraw: line [0-9]*: fault 10$/text/p' "$room/error"
+    else
+        row=0
+        echo "status $status"
+    fi
+done >"$room/stages"
+said 'what comes where memory is refused' "$(uniq "$room/stages" | tr '\n' ' ')" 'memory text memory whole '
 echo "$passed passed, $failed failed"
 [ "$failed" -eq 0 ]
