@@ -7,6 +7,7 @@ use Rattle.hull_draw.specs.declared.marks.TheConstants.{LABEL_LIMIT}
 use Rattle.hull_draw.specs.declared.frame.Frame.{Frame}
 use Rattle.hull_draw.specs.declared.legend.TheConstants.{BRIDGES_TOLD}
 use Rattle.hull_draw.specs.Frames.{across, down, extent_of}
+use Rattle.hull_draw.specs.Scenes.{SceneValue}
 use Rattle.hull_draw.specs.Shapes.{step_of}
 use Rattle.hull_draw.specs.Texts.{told, texts}
 
@@ -71,7 +72,14 @@ abbrev pub bridges_told_text : ℕ → List Bridge → List ℕ
 bridges_told_text size [] = []
 bridges_told_text size (b ∷ bs) = line_start size 164 ++ BRIDGES_TOLD.now
 
+-- the numbers of the set: its count, its limit and its doubled area
+abbrev pub numbers_text : ℕ → SceneValue → List ℕ
+numbers_text size scene = count_text size (length scene.marks) scene.limit ++ area_text size scene.area
+
+-- how far the journal was replayed, and which bridges are drawn
+abbrev pub drawn_text : ℕ → SceneValue → List ℕ
+drawn_text size scene = lines_text size scene.lines scene.wrong ++ bridges_told_text size scene.bridges
+
 -- the lines of the legend
-abbrev pub legend_text : ℕ → Option Frame → List Bridge → ℕ → ℕ → ℕ → ℕ → Option ℕ → List ℕ
-legend_text size frame bridges count limit area lines wrong =
-    count_text size count limit ++ area_text size area ++ range_text size frame ++ lines_text size lines wrong ++ bridges_told_text size bridges
+abbrev pub legend_text : ℕ → Option Frame → SceneValue → List ℕ
+legend_text size frame scene = numbers_text size scene ++ range_text size frame ++ drawn_text size scene

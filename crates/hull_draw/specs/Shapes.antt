@@ -6,6 +6,7 @@ use Rattle.hull_draw.specs.declared.marks.Mark.{Mark}
 use Rattle.hull_draw.specs.declared.marks.TheConstants.{DRAWN_LIMIT}
 use Rattle.hull_draw.specs.declared.frame.Frame.{Frame}
 use Rattle.hull_draw.specs.Frames.{across, down}
+use Rattle.hull_draw.specs.Scenes.{SceneValue}
 use Rattle.hull_draw.specs.Texts.{told, texts}
 
 -- a corner of the polygon
@@ -62,6 +63,7 @@ square_text size extent = told (codes "<svg x='32' y='32' overflow='visible' wid
     ++ told (codes "' viewBox='0 0 ") extent ++ told (codes " ") extent ++ codes "'>\n"
 
 -- the hull, the points, above them the bridges, and above these the corners
-abbrev pub shapes_text : Frame → List Mark → List Pair → List Bridge → List ℕ
-shapes_text frame marks corners bridges =
-    polygon_text frame corners ++ all_dots_text frame marks ++ texts (bridge_text frame) bridges ++ corner_dots_text frame corners
+abbrev pub shapes_text : Frame → SceneValue → List ℕ
+shapes_text frame scene =
+    polygon_text frame scene.corners ++ all_dots_text frame scene.marks ++ texts (bridge_text frame) scene.bridges
+    ++ corner_dots_text frame scene.corners

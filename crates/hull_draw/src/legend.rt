@@ -1,11 +1,12 @@
 ghost use Rattle.std.specs.Prelude.{◌≡◌, ◌<◌, ◌≤◌, ◌+◌, ◌-◌, ◌^◌, OnOk, IsOk};
 ghost use Rattle.text_io.specs.Write.{WritesOn};
-ghost use Rattle.hull_draw.specs.Legends.{line_start, thinned_text, count_text, area_text, told_signed, range_text, wrong_text, lines_text, bridges_told_text, legend_text};
+ghost use Rattle.hull_draw.specs.Legends.{line_start, thinned_text, count_text, area_text, told_signed, range_text, wrong_text, lines_text, bridges_told_text, numbers_text, drawn_text, legend_text};
 ghost use Rattle.hull_draw.specs.Shapes.{step_of};
 
 use super::bridges::Bridge;
 use super::frame::Frame;
 use super::marks::DRAWN_LIMIT;
+use super::scene::Scene;
 use super::shapes::{Done, told_after};
 use lattice::Point;
 use text_io::{Sink, number_after, put_after};
@@ -160,28 +161,45 @@ fn bridges_told_after<W: Sink>(done: Done, out: &mut W, size: u64, bridges: &[Br
     }
 }
 
+/// Writes the numbers of the set.
+fn numbers_after<W: Sink>(done: Done, out: &mut W, size: u64, scene: &Scene) -> Done
+    requires room { OnOk done (W.failed out.old < 2 ^ 64 - 1) }
+    requires small { size < 2 ^ 20 }
+    ensures wrote { WritesOn done result (W.contents out.old) (W.contents out.new) (W.failed out.old) (W.failed out.new) (numbers_text size scene.now) }
+    ensures kept { OnOk result (W.failed out.new ≡ W.failed out.old) }
+    ensures was { OnOk result (IsOk done) }
+{
+    let done = count_after(done, out, size, scene.marks.len(), scene.limit);
+    area_after(done, out, size, scene.area)
+}
+
+/// Writes how far the journal was replayed, and which bridges are drawn.
+fn drawn_after<W: Sink>(done: Done, out: &mut W, size: u64, scene: &Scene) -> Done
+    requires room { OnOk done (W.failed out.old < 2 ^ 64 - 1) }
+    requires small { size < 2 ^ 20 }
+    ensures wrote { WritesOn done result (W.contents out.old) (W.contents out.new) (W.failed out.old) (W.failed out.new) (drawn_text size scene.now) }
+    ensures kept { OnOk result (W.failed out.new ≡ W.failed out.old) }
+    ensures was { OnOk result (IsOk done) }
+{
+    let done = lines_after(done, out, size, scene.lines, scene.wrong);
+    bridges_told_after(done, out, size, &scene.bridges)
+}
+
 /// Writes the legend.
 pub(crate) fn legend_after<W: Sink>(
     done: Done,
     out: &mut W,
     size: u64,
     frame: &Option<Frame>,
-    bridges: &[Bridge],
-    count: usize,
-    limit: u32,
-    area: u128,
-    lines: u32,
-    wrong: Option<u32>,
+    scene: &Scene,
 ) -> Done
     requires room { OnOk done (W.failed out.old < 2 ^ 64 - 1) }
     requires small { size < 2 ^ 20 }
-    ensures wrote { WritesOn done result (W.contents out.old) (W.contents out.new) (W.failed out.old) (W.failed out.new) (legend_text size frame.now bridges.now count limit area lines wrong) }
+    ensures wrote { WritesOn done result (W.contents out.old) (W.contents out.new) (W.failed out.old) (W.failed out.new) (legend_text size frame.now scene.now) }
     ensures kept { OnOk result (W.failed out.new ≡ W.failed out.old) }
     ensures was { OnOk result (IsOk done) }
 {
-    let done = count_after(done, out, size, count, limit);
-    let done = area_after(done, out, size, area);
+    let done = numbers_after(done, out, size, scene);
     let done = range_after(done, out, size, frame);
-    let done = lines_after(done, out, size, lines, wrong);
-    bridges_told_after(done, out, size, bridges)
+    drawn_after(done, out, size, scene)
 }

@@ -1,15 +1,12 @@
 ghost use Rattle.std.specs.Prelude.{◌≡◌, ◌<◌, ◌-◌, ◌^◌, OnOk, IsOk};
 ghost use Rattle.text_io.specs.Write.{WritesOn, WritesText};
-ghost use Rattle.hull_draw.specs.Pictures.{set_text, shown_text, head_text, parts_text, picture_text};
+ghost use Rattle.hull_draw.specs.Pictures.{set_text, shown_text, head_text, picture_text};
 
-use super::bridges::Bridge;
 use super::frame::Frame;
 use super::labels::labels_after;
 use super::legend::legend_after;
-use super::marks::Mark;
 use super::scene::Scene;
 use super::shapes::{Done, shapes_after, square_after, told_after};
-use lattice::Point;
 use text_io::{Sink, flush_after, number_after, put, put_after};
 
 /// The background, and how the parts of a picture are coloured: dots and lines keep their width whatever the scale is. Of
@@ -21,25 +18,17 @@ pub const STYLE: &[u8] =
 pub const EMPTY: &[u8] = b"<text x='32' y='46'>the set is empty</text>\n";
 
 /// Writes the shapes in their square, and the labels.
-fn set_after<W: Sink>(
-    done: Done,
-    out: &mut W,
-    size: u64,
-    frame: &Frame,
-    marks: &[Mark],
-    corners: &[Point],
-    bridges: &[Bridge],
-) -> Done
+fn set_after<W: Sink>(done: Done, out: &mut W, size: u64, frame: &Frame, scene: &Scene) -> Done
     requires room { OnOk done (W.failed out.old < 2 ^ 64 - 1) }
     requires small { size < 2 ^ 20 }
-    ensures wrote { WritesOn done result (W.contents out.old) (W.contents out.new) (W.failed out.old) (W.failed out.new) (set_text size frame.now marks.now corners.now bridges.now) }
+    ensures wrote { WritesOn done result (W.contents out.old) (W.contents out.new) (W.failed out.old) (W.failed out.new) (set_text size frame.now scene.now) }
     ensures kept { OnOk result (W.failed out.new ≡ W.failed out.old) }
     ensures was { OnOk result (IsOk done) }
 {
     let done = square_after(done, out, size, frame.extent());
-    let done = shapes_after(done, out, frame, marks, corners, bridges);
+    let done = shapes_after(done, out, frame, scene);
     let done = put_after(done, out, b"</svg>\n");
-    labels_after(done, out, size, frame, marks)
+    labels_after(done, out, size, frame, &scene.marks)
 }
 
 /// Writes the set, or that it is empty.
@@ -48,19 +37,17 @@ fn shown_after<W: Sink>(
     out: &mut W,
     size: u64,
     frame: &Option<Frame>,
-    marks: &[Mark],
-    corners: &[Point],
-    bridges: &[Bridge],
+    scene: &Scene,
 ) -> Done
     requires room { OnOk done (W.failed out.old < 2 ^ 64 - 1) }
     requires small { size < 2 ^ 20 }
-    ensures wrote { WritesOn done result (W.contents out.old) (W.contents out.new) (W.failed out.old) (W.failed out.new) (shown_text size frame.now marks.now corners.now bridges.now) }
+    ensures wrote { WritesOn done result (W.contents out.old) (W.contents out.new) (W.failed out.old) (W.failed out.new) (shown_text size frame.now scene.now) }
     ensures kept { OnOk result (W.failed out.new ≡ W.failed out.old) }
     ensures was { OnOk result (IsOk done) }
 {
     match frame {
         None => put_after(done, out, EMPTY),
-        Some(frame) => set_after(done, out, size, frame, marks, corners, bridges),
+        Some(frame) => set_after(done, out, size, frame, scene),
     }
 }
 
@@ -75,33 +62,6 @@ fn put_head<W: Sink>(out: &mut W, size: u64) -> Done
     let done = told_after(done, out, b"' height='", size + 184);
     let done = put_after(done, out, b"'>\n");
     put_after(done, out, STYLE)
-}
-
-/// Writes a picture of these marks, corners and bridges, with what its legend tells.
-fn write_parts<W: Sink>(
-    out: &mut W,
-    size: u64,
-    frame: &Option<Frame>,
-    marks: &[Mark],
-    corners: &[Point],
-    bridges: &[Bridge],
-    limit: u32,
-    area: u128,
-    lines: u32,
-    wrong: Option<u32>,
-) -> Done
-    requires room { W.failed out.old < 2 ^ 64 - 1 }
-    requires small { size < 2 ^ 20 }
-    ensures { WritesText (W.contents out.old) (W.contents out.new) (W.failed out.old) (W.failed out.new) result (parts_text size frame.now marks.now corners.now bridges.now limit area lines wrong) }
-{
-    let done = put_head(out, size);
-    let done = shown_after(done, out, size, frame, marks, corners, bridges);
-    let count = marks.len();
-    let done = legend_after(
-        done, out, size, frame, bridges, count, limit, area, lines, wrong,
-    );
-    let done = put_after(done, out, b"</svg>\n");
-    flush_after(done, out)
 }
 
 /// Writes a picture of a scene, of this size and of this square of the plane.
@@ -121,16 +81,9 @@ pub(crate) fn write_picture<W: Sink>(
     requires small { size < 2 ^ 20 }
     ensures { WritesText (W.contents out.old) (W.contents out.new) (W.failed out.old) (W.failed out.new) result (picture_text size frame.now scene.now) }
 {
-    write_parts(
-        out,
-        size,
-        frame,
-        &scene.marks,
-        &scene.corners,
-        &scene.bridges,
-        scene.limit,
-        scene.area,
-        scene.lines,
-        scene.wrong,
-    )
+    let done = put_head(out, size);
+    let done = shown_after(done, out, size, frame, scene);
+    let done = legend_after(done, out, size, frame, scene);
+    let done = put_after(done, out, b"</svg>\n");
+    flush_after(done, out)
 }

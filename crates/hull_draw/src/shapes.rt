@@ -6,6 +6,7 @@ ghost use Rattle.hull_draw.specs.Shapes.{corner_text, polygon_text, dot_text, co
 use super::bridges::Bridge;
 use super::frame::Frame;
 use super::marks::{DRAWN_LIMIT, Mark};
+use super::scene::Scene;
 use itoa::Integer;
 use lattice::Point;
 use text_io::{Sink, WriteFault, number_after, put_after};
@@ -233,21 +234,14 @@ pub(crate) fn square_after<W: Sink>(done: Done, out: &mut W, size: u64, extent: 
 }
 
 /// Writes the hull, the points, above them the bridges, and above these the corners.
-pub(crate) fn shapes_after<W: Sink>(
-    done: Done,
-    out: &mut W,
-    frame: &Frame,
-    marks: &[Mark],
-    corners: &[Point],
-    bridges: &[Bridge],
-) -> Done
+pub(crate) fn shapes_after<W: Sink>(done: Done, out: &mut W, frame: &Frame, scene: &Scene) -> Done
     requires { OnOk done (W.failed out.old < 2 ^ 64 - 1) }
-    ensures wrote { WritesOn done result (W.contents out.old) (W.contents out.new) (W.failed out.old) (W.failed out.new) (shapes_text frame.now marks.now corners.now bridges.now) }
+    ensures wrote { WritesOn done result (W.contents out.old) (W.contents out.new) (W.failed out.old) (W.failed out.new) (shapes_text frame.now scene.now) }
     ensures kept { OnOk result (W.failed out.new ≡ W.failed out.old) }
     ensures was { OnOk result (IsOk done) }
 {
-    let done = polygon_after(done, out, frame, corners);
-    let done = all_dots_after(done, out, frame, marks);
-    let done = bridges_after(done, out, frame, bridges);
-    corner_dots_after(done, out, frame, corners)
+    let done = polygon_after(done, out, frame, &scene.corners);
+    let done = all_dots_after(done, out, frame, &scene.marks);
+    let done = bridges_after(done, out, frame, &scene.bridges);
+    corner_dots_after(done, out, frame, &scene.corners)
 }

@@ -1,11 +1,11 @@
 -- The parts in a row are the picture.
 use Rattle.std.proofs.Common.{subst, List, ℕ, append-nil}
 use Rattle.text_io.specs.Write.{WritesText}
-use Rattle.hull_draw.specs.Pictures.{parts_text}
-use Rattle.hull_draw.proofs.picture.write_parts.Goals as goal
+use Rattle.hull_draw.specs.Pictures.{picture_text}
+use Rattle.hull_draw.proofs.picture.write_picture.Goals as goal
 
 pub returns : goal.returns
-unfolding parts_text
+unfolding picture_text
 returns g c =
     let a = g.W.Write.contents c.args.out.now in
     let n = g.W.Sink.failed c.args.out.now in
