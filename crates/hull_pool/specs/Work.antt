@@ -4,6 +4,10 @@ use Rattle.hull_plain.specs.declared.call.Call.{Call}
 use Rattle.hull_book.specs.declared.line.Line.{Line}
 use Rattle.hull_book.specs.Books.{BookValue}
 use Rattle.hull_book.specs.Answers.{Answer}
+use Rattle.hull_book.specs.declared.head.Head.{Head}
+use Rattle.hull_book.specs.History.{IsLegal, held_after}
+use Rattle.hull_plain.specs.Replies.{Answers}
+use Rattle.hull_plain.specs.declared.rules.Rules.TheVariants.{Counted}
 
 -- the lines of a seat
 abbrev pub lines_of : ℕ → List Line → List Line
@@ -41,3 +45,12 @@ workers_of b = b.head.workers
 abbrev pub HasCalled : ℕ → ℕ → Call → List Line → List Line → Answer → Type 0
 HasCalled seat capacity call before lines (Ok reply) = (line : Line) × (lines_of seat lines ≡ lines_of seat before ++ line ∷ []) × (line.call ≡ call) × (line.reply ≡ reply)
 HasCalled seat capacity call before lines (Err full) = (lines_of seat lines ≡ lines_of seat before) × (capacity ≤ length lines)
+
+-- The seat k entered with the number t and found a journal with the lines `found`. There was room, and what was handed on has
+-- one line more: this call under that number, with a reply that is allowed, points being counted, at what the lines found had left. Or there was
+-- none, and the same lines were handed on. Either way they are a legal history.
+abbrev pub HasServed : Head → ℕ → ℕ → Call → List Line → List Line → Answer → Type 0
+HasServed head t k call found after (Ok reply) =
+    (length found < head.capacity) × (after ≡ found ++ record { number = t; seat = k; call = call; reply = reply } ∷ [])
+    × Answers Counted (held_after found) head.limit call reply × IsLegal head after
+HasServed head t k call found after (Err full) = (length found ≡ head.capacity) × (after ≡ found) × IsLegal head after

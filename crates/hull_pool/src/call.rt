@@ -1,21 +1,55 @@
 //! One call of a worker: it enters the lock, has the call served, and hands the book on.
 ghost use Rattle.std.specs.Prelude.{◌≡◌, ◌<◌, ◌≤◌, length, box_value, IsErr};
 ghost use mathlib.Core.List.{IsPrefix};
-ghost use Rattle.ticket_lock.specs.Tokens.{opening_book, IsSeatOf, seat_number, seat_seen};
-ghost use Rattle.hull_book.specs.Ledgers.{IsLedgerOf};
+ghost use Rattle.ticket_lock.specs.Tokens.{opening_book, IsSeatOf, seat_number, seat_seen, guard_lock, guard_seat, guard_number, guard_seen, guard_book, KeepsHead};
+ghost use Rattle.hull_book.specs.Books.{IsLawful};
+ghost use Rattle.hull_book.specs.Ledgers.{IsLedger, IsLedgerOf};
 ghost use Rattle.hull_pool.specs.Crews.{book_head};
-ghost use Rattle.hull_pool.specs.Work.{HasCalled, capacity_of, workers_of};
+ghost use Rattle.hull_pool.specs.Work.{HasCalled, HasServed, capacity_of, workers_of};
 
 use hull_book::{Answer, Book, Ledger};
 use hull_plain::{Call, HullSet};
 use std::sync::Wait;
-use ticket_lock::{Seat, TicketLock};
+use ticket_lock::{Guard, Seat, TicketLock};
 
 /// The lock round a book on the heap, which is cheap to hand on.
 pub type BookLock<S> = TicketLock<Box<Book<S>>>;
 
 /// A seat of that lock.
 pub type BookSeat<S> = Seat<Box<Book<S>>>;
+
+/// A seat that holds the book of that lock.
+pub type BookGuard<'a, S> = Guard<'a, Box<Book<S>>>;
+
+/// Has one call of the seat that holds the book served, and hands the book on. It asks for the book as the seat found it; who
+/// waits for the lock and who looks once both end with it. `number` is the seat's number, and `ledger` the ledger of that seat.
+///
+/// The answer is the reply, which is allowed at what the seat found and has its line behind the lines found, under the number
+/// that was served; or that the journal is full. The journal handed on is legal, and the seat that comes back has seen it.
+pub fn serve_and_hand_on<S: HullSet + Drop>(
+    guard: BookGuard<'_, S>,
+    number: u8,
+    call: Call,
+    ledger: &mut Ledger,
+) -> (BookSeat<S>, Answer)
+    requires seat { guard_seat guard ≡ number }
+    requires head { KeepsHead book_head guard }
+    requires seen { guard_seen guard ≡ (box_value (guard_book guard)).lines }
+    requires lawful { IsLawful S.HullSet (box_value (guard_book guard)) }
+    requires same_head { book_head (guard_book guard) ≡ book_head (opening_book (guard_lock guard)) }
+    requires turn { (box_value (guard_book guard)).turn ≡ guard_number guard }
+    requires ledger { IsLedger (box_value (guard_book guard)) number ledger.old }
+    ensures own { IsSeatOf book_head (guard_lock guard.entry) result.0 }
+    ensures number { seat_number result.0 ≡ number }
+    ensures ledger { IsLedgerOf number (seat_seen result.0) ledger.new }
+    ensures served { let found = box_value (guard_book guard.entry) in HasServed found.head.journal (guard_number guard.entry) number call found.lines (seat_seen result.0) result.1 }
+{
+    let mut guard = guard;
+    let book = guard.book();
+    let answer = book.serve(number, call, ledger);
+    let seat = guard.hand_on();
+    (seat, answer)
+}
 
 /// Makes one call: it waits until the seat holds the book, has the call served, and hands the book on. `number` is the
 /// seat's number, and `ledger` the ledger of that seat.
@@ -41,9 +75,6 @@ pub fn make_call<R: Wait, S: HullSet + Drop>(
     ensures called { HasCalled number (capacity_of (box_value (opening_book lock.now))) call (seat_seen seat) (seat_seen result.0) result.1 }
     ensures stays_full { capacity_of (box_value (opening_book lock.now)) ≤ length (seat_seen seat) → IsErr result.1 }
 {
-    let mut guard = lock.enter(rt, seat);
-    let book = guard.book();
-    let answer = book.serve(number, call, ledger);
-    let seat = guard.hand_on();
-    (seat, answer)
+    let guard = lock.enter(rt, seat);
+    serve_and_hand_on(guard, number, call, ledger)
 }

@@ -1,6 +1,7 @@
 //! The end of a shared book: its lock is closed, and its ledgers are gathered.
 ghost use Rattle.std.specs.Prelude.{◌≡◌, length, box_value, vec_len, All};
 ghost use Rattle.std.specs.List.{AllZip};
+ghost use mathlib.Core.List.{IsPrefix};
 ghost use Rattle.ticket_lock.specs.Tokens.{seat_count, opening_book, IsSeatOf, AreNumbered, seat_number, seat_seen};
 ghost use Rattle.hull_book.specs.Books.{IsLawful};
 ghost use Rattle.hull_book.specs.Ledgers.{IsLedgerOf};
@@ -12,7 +13,8 @@ use hull_book::{Book, Ledger, gather};
 use hull_plain::HullSet;
 
 /// Closes the lock and gathers the ledgers: the book, and how many calls have their line in its journal. It asks for all
-/// seats of the lock in the order of their numbers, and for the ledger of each, in the same order.
+/// seats of the lock in the order of their numbers, and for the ledger of each, in the same order. The journal begins with what
+/// each seat has seen.
 pub fn close_book<S: HullSet + Drop>(
     lock: BookLock<S>,
     seats: Vec<BookSeat<S>>,
@@ -25,6 +27,7 @@ pub fn close_book<S: HullSet + Drop>(
     ensures lawful { IsLawful S.HullSet result.0 }
     ensures head { result.0.head ≡ book_head (opening_book lock) }
     ensures sum { result.1 ≡ length result.0.lines }
+    ensures seen { All (λ s. IsPrefix (seat_seen s) result.0.lines) seats.items }
 {
     let book = Box::into_inner(lock.close(seats));
     let sum = gather(&book, ledgers);

@@ -16,7 +16,8 @@
 //! `Book::open` (crate `hull_book`) makes a book round an empty set, and a ledger for each worker. `TicketLock::open` (crate
 //! `ticket_lock`) makes a lock round the book, boxed, and a seat for each worker. [`make_call`] waits for the book, has a
 //! call served and hands the book on. [`close_book`] closes the lock and gathers the ledgers: it gives back the book, and how
-//! many calls have their line. The test `two_threads_share_a_book` does all of it.
+//! many calls have their line. The test `two_threads_share_a_book` does all of it. Who may not wait looks (`TicketLock::look`), and
+//! ends with [`serve_and_hand_on`], as `make_call` does.
 //!
 //! # A whole script
 //!
@@ -36,7 +37,7 @@ mod tests;
 mod worker;
 mod workers;
 
-pub use call::{BookLock, BookSeat, make_call};
+pub use call::{BookGuard, BookLock, BookSeat, make_call, serve_and_hand_on};
 pub use close::close_book;
 pub use gate::{Gate, NoGate};
 pub use phase::{PhaseEnd, PoolFault, run_phase, run_phases};

@@ -16,3 +16,7 @@ gather-sum-requires-clause-ledgers g c =
     closed_ledgers b c.args.seats.items c.args.ledgers.items (omega (arith, workers, c.requires.all.0, c.requires.all.1, c.args.seats.ok.0))
     (numbered_from 0 _ (λ i s e. c.requires.numbered i s e ∙ omega arith))
     (λ k d lt. rw c.into_inner-book.ensures (c.close.ensures.seen k d lt).own_lines) c.requires.ledgers
+
+-- the book that the lock gives back has what each seat has seen at its beginning
+pub returns-clause-seen : goal.returns-clause-seen
+returns-clause-seen g c = λ k d lt. rw c.into_inner-book.ensures (c.close.ensures.seen k d lt).begins

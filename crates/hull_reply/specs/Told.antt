@@ -1,0 +1,94 @@
+-- What a reply in numbers tells.
+use Rattle.std.specs.Prelude.{◌≡◌, ℕ, pos, ◌+◌, ◌*◌, ◌^◌, length}
+use Rattle.lattice.specs.Plane.{Pair}
+use Rattle.hull_plain.specs.declared.reply.Reply.{Reply}
+use Rattle.hull_plain.specs.declared.reply.Reply.TheVariants as reply
+use Rattle.hull_plain.specs.declared.set.Place.TheVariants as place
+use Rattle.hull_reply.specs.declared.code.Code.{Code}
+use Rattle.hull_reply.specs.declared.code.Code.TheVariants as code
+use Rattle.hull_reply.specs.declared.reply.HullReply.{HullReply}
+
+-- the number of a code in the header
+abbrev pub code_number : Code → ℕ
+code_number code.OutOfRange = 1
+code_number code.ZeroDirection = 2
+code_number code.Added = 3
+code_number code.Again = 4
+code_number code.TooMany = 5
+code_number code.NoMemory = 6
+code_number code.Removed = 7
+code_number code.Left = 8
+code_number code.Absent = 9
+code_number code.Point = 10
+code_number code.Empty = 11
+code_number code.Inside = 12
+code_number code.On = 13
+code_number code.Outside = 14
+code_number code.Tangents = 15
+code_number code.NoTangent = 16
+code_number code.Number = 17
+code_number code.Corners = 18
+code_number code.TooSmall = 19
+code_number code.Cleared = 20
+code_number code.UnknownKind = 22
+code_number code.Open = 32
+code_number code.OutOfLimits = 33
+code_number code.WasOpened = 34
+code_number code.Lent = 35
+code_number code.NoSeat = 36
+code_number code.RoomInUse = 37
+code_number code.NotOpen = 38
+code_number code.Returned = 39
+code_number code.Vacant = 40
+code_number code.Waiting = 41
+code_number code.PlaceInUse = 42
+code_number code.Taken = 43
+code_number code.NotYet = 44
+code_number code.NoNumber = 45
+code_number code.Full = 46
+code_number code.SeatsOut = 47
+code_number code.Closed = 48
+code_number code.NotClosed = 49
+code_number code.Text = 50
+code_number code.Ended = 51
+
+-- a code, and nothing beside it
+abbrev pub IsBare : Code → HullReply → Type 0
+IsBare c r = r ≡ record { code = code_number c; x = pos 0; y = pos 0; other_x = pos 0; other_y = pos 0; number = 0; high = 0 }
+
+-- a code with a number
+abbrev pub IsNumber : Code → ℕ → HullReply → Type 0
+IsNumber c n r = r ≡ record { code = code_number c; x = pos 0; y = pos 0; other_x = pos 0; other_y = pos 0; number = n; high = 0 }
+
+-- a point
+abbrev pub IsPoint : Pair → HullReply → Type 0
+IsPoint p r = r ≡ record { code = code_number code.Point; x = p.x; y = p.y; other_x = pos 0; other_y = pos 0; number = 0; high = 0 }
+
+-- two tangent points
+abbrev pub AreTangents : Pair → Pair → HullReply → Type 0
+AreTangents p q r = r ≡ record { code = code_number code.Tangents; x = p.x; y = p.y; other_x = q.x; other_y = q.y; number = 0; high = 0 }
+
+-- a number of 128 bits in two words
+abbrev pub IsWide : ℕ → HullReply → Type 0
+IsWide n r = (r.code ≡ code_number code.Number) × (n ≡ r.high * 2 ^ 64 + r.number)
+
+-- the numbers tell the reply of a set
+abbrev pub Tells : HullReply → Reply → Type 0
+Tells r reply.Added = IsBare code.Added r
+Tells r (reply.Again n) = IsNumber code.Again n r
+Tells r reply.TooMany = IsBare code.TooMany r
+Tells r reply.NoMemory = IsBare code.NoMemory r
+Tells r reply.Removed = IsBare code.Removed r
+Tells r (reply.Left n) = IsNumber code.Left n r
+Tells r reply.Absent = IsBare code.Absent r
+Tells r (reply.Farthest p) = IsPoint p r
+Tells r reply.Empty = IsBare code.Empty r
+Tells r (reply.Lies place.Inside) = IsBare code.Inside r
+Tells r (reply.Lies place.On) = IsBare code.On r
+Tells r (reply.Lies place.Outside) = IsBare code.Outside r
+Tells r (reply.TangentPoints p q) = AreTangents p q r
+Tells r reply.NoTangent = IsBare code.NoTangent r
+Tells r (reply.VertexList ps) = IsNumber code.Corners (length ps) r
+Tells r (reply.DoubledArea n) = IsWide n r
+Tells r (reply.PointCount n) = IsNumber code.Number n r
+Tells r _ = ⊥

@@ -1,0 +1,121 @@
+//! What a call tells a caller in C: the number of a code, and numbers beside it.
+ghost use Rattle.std.specs.Prelude.{◌≢◌, ◌≡◌};
+ghost use Rattle.lattice.specs.Plane.{Pair};
+ghost use Rattle.hull_reply.specs.Told.{AreTangents, IsBare, IsNumber, IsPoint, IsWide, Tells};
+
+use crate::code::Code;
+use hull_plain::{Place, Reply};
+use lattice::Point;
+
+/// What a call was answered: the number of its code, and what belongs to that code; all else is 0.
+#[repr(C)]
+#[derive(Clone, Copy)]
+pub struct HullReply {
+    /// The number of the code.
+    pub code: u32,
+    /// A point.
+    pub x: i64,
+    /// Its other coordinate.
+    pub y: i64,
+    /// A second point.
+    pub other_x: i64,
+    /// Its other coordinate.
+    pub other_y: i64,
+    /// A number, or the lower 64 bits of one.
+    pub number: u64,
+    /// The upper 64 bits of a number.
+    pub high: u64,
+}
+
+impl HullReply {
+    /// A code alone.
+    pub fn bare(code: Code) -> HullReply
+        ensures { IsBare code result }
+    {
+        HullReply {
+            code: code.number(),
+            x: 0,
+            y: 0,
+            other_x: 0,
+            other_y: 0,
+            number: 0,
+            high: 0,
+        }
+    }
+
+    /// A code with a number.
+    pub fn numbered(code: Code, number: u64) -> HullReply
+        ensures { IsNumber code number result }
+    {
+        let mut reply = HullReply::bare(code);
+        reply.number = number;
+        reply
+    }
+
+    /// A point.
+    pub fn point(point: Point) -> HullReply
+        ensures { IsPoint point result }
+    {
+        let mut reply = HullReply::bare(Code::Point);
+        reply.x = point.x();
+        reply.y = point.y();
+        reply
+    }
+
+    /// Two tangent points.
+    fn tangents(left: Point, right: Point) -> HullReply
+        ensures { AreTangents left right result }
+    {
+        let mut reply = HullReply::bare(Code::Tangents);
+        reply.x = left.x();
+        reply.y = left.y();
+        reply.other_x = right.x();
+        reply.other_y = right.y();
+        reply
+    }
+
+    /// A number in two words.
+    fn wide(number: u128) -> HullReply
+        ensures { IsWide number result }
+    {
+        let mut reply = HullReply::bare(Code::Number);
+        reply.number = (number % (1 << 64)) as u64;
+        reply.high = (number / (1 << 64)) as u64;
+        reply
+    }
+}
+
+fn code_of(place: Place) -> Code
+    ensures { (r : HullReply) → IsBare result r → Tells r (Reply.Lies place) }
+{
+    match place {
+        Place::Inside => Code::Inside,
+        Place::On => Code::On,
+        Place::Outside => Code::Outside,
+    }
+}
+
+/// The reply of a set that counts its points, in numbers.
+pub fn told(reply: Reply) -> HullReply
+    requires { reply ≢ Reply.Already }
+    ensures { Tells result reply }
+{
+    match reply {
+        Reply::Added => HullReply::bare(Code::Added),
+        Reply::Already => unreachable!(),
+        Reply::Again(times) => HullReply::numbered(Code::Again, u64::from(times)),
+        Reply::TooMany => HullReply::bare(Code::TooMany),
+        Reply::NoMemory => HullReply::bare(Code::NoMemory),
+        Reply::Removed => HullReply::bare(Code::Removed),
+        Reply::Left(times) => HullReply::numbered(Code::Left, u64::from(times)),
+        Reply::Absent => HullReply::bare(Code::Absent),
+        Reply::Farthest(point) => HullReply::point(point),
+        Reply::Empty => HullReply::bare(Code::Empty),
+        Reply::Lies(place) => HullReply::bare(code_of(place)),
+        Reply::TangentPoints(left, right) => HullReply::tangents(left, right),
+        Reply::NoTangent => HullReply::bare(Code::NoTangent),
+        Reply::VertexList(list) => HullReply::numbered(Code::Corners, list.as_slice().len() as u64),
+        Reply::DoubledArea(area) => HullReply::wide(area),
+        Reply::PointCount(count) => HullReply::numbered(Code::Number, u64::from(count)),
+    }
+}
