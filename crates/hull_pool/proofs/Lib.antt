@@ -7,3 +7,4 @@ pub mod Growth
 pub mod Reversed
 pub mod Chained
 pub mod Fronts
+pub mod Pushed

@@ -1,1 +1,4 @@
 pub mod Counted
+pub mod Homes
+pub mod Lists
+pub mod Steps

@@ -29,11 +29,15 @@ abbrev pub TakesFor : IdleSeat → SharedSeat → ℕ → Result Call Code → T
 TakesFor i new told (Ok call) = (w : WaitingSeat) × (new ≡ Waiting w) × WaitsFor i w call × (told ≡ code_number code.Taken)
 TakesFor i new told (Err fault) = (new ≡ Idle i) × (told ≡ code_number fault)
 
--- a take: only a seat with no number takes one, for the call that is asked for; else nothing changes
+-- only a seat with no number takes one; else nothing changes
+abbrev pub TakesAsked : Result Call Code → SharedSeat → SharedSeat → ℕ → Type 0
+TakesAsked asked Vacant new told = (new ≡ Vacant) × (told ≡ code_number code.Vacant)
+TakesAsked asked (Idle i) new told = TakesFor i new told asked
+TakesAsked asked (Waiting w) new told = (new ≡ Waiting w) × (told ≡ code_number code.Waiting)
+
+-- a take, for the call that is asked for
 abbrev pub HasTaken : ℕ → ℤ → ℤ → SharedSeat → SharedSeat → ℕ → Type 0
-HasTaken kind x y Vacant new told = (new ≡ Vacant) × (told ≡ code_number code.Vacant)
-HasTaken kind x y (Idle i) new told = (asked : Result Call Code) × IsAsked kind x y asked × TakesFor i new told asked
-HasTaken kind x y (Waiting w) new told = (new ≡ Waiting w) × (told ≡ code_number code.Waiting)
+HasTaken kind x y old new told = (asked : Result Call Code) × IsAsked kind x y asked × TakesAsked asked old new told
 
 -- the seat waits on: the same seat of the same lock, with the same number and call, that has seen the same lines
 abbrev pub WaitsOn : WaitingSeat → WaitingSeat → Type 0

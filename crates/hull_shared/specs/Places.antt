@@ -1,17 +1,33 @@
 -- The places of a desk.
-use Rattle.std.specs.Prelude.{◌≡◌, ◌+◌, ◌<◌, ℕ, List, Option, Some, slice_get}
+use Rattle.std.specs.Prelude.{◌≡◌, ◌+◌, ◌≤◌, ℕ, List, [], Option, Some, slice_get, vec_len, vec_capacity}
 use Rattle.hull_book.specs.Ledgers.{IsLedgerOf}
 use Rattle.hull_pool.specs.Crews.{book_head}
-use Rattle.ticket_lock.specs.Tokens.{IsSeatOf, seat_number, seat_seen}
-use Rattle.hull_shared.specs.Locks.{HullLock}
+use Rattle.hull_pool.specs.Work.{workers_of}
+use Rattle.ticket_lock.specs.Tokens.{IsSeatOf, seat_count, seat_number, seat_seen}
+use Rattle.hull_shared.specs.Locks.{HullLock, book_of}
 use Rattle.hull_shared.specs.declared.place.Place.{Place}
+use Rattle.hull_shared.specs.declared.place.Places.{Places}
 
--- the seat is of the lock, its ledger counts the lines that it has seen in its name, and of n places it is at home in place j, behind which there are as many as its number
+-- The seat is of the lock, its ledger counts the lines that it has seen in its name, and of n places it is at home in place j,
+-- behind which there are as many as its number.
 pub record IsAtHome (lock : HullLock) (n j : ℕ) (p : Place) : Type 0 where
   pub own : IsSeatOf book_head lock p.seat
   pub counts : IsLedgerOf (seat_number p.seat) (seat_seen p.seat) p.ledger
   pub home : seat_number p.seat + j + 1 ≡ n
 
+-- the place j has the seat and the ledger p
+abbrev pub HasAt : List (Option Place) → ℕ → Place → Type 0
+HasAt list j p = slice_get list j ≡ Some (Some p)
+
 -- each seat that is at the desk is at home
-abbrev pub AreAtDesk : HullLock → ℕ → List (Option Place) → Type 0
-AreAtDesk lock n places = (j : ℕ) (p : Place) → slice_get places j ≡ Some (Some p) → IsAtHome lock n j p
+abbrev pub AreAtHome : HullLock → ℕ → List (Option Place) → Type 0
+AreAtHome lock n list = (j : ℕ) (p : Place) → HasAt list j p → IsAtHome lock n j p
+
+-- there are n places for the n seats of the lock, each that is at the desk at home, and room for all of them
+pub record AreLaidOut (lock : HullLock) (n : ℕ) (places : Places) : Type 0 where
+  pub each : vec_len places.list ≡ n
+  pub seats : seat_count lock ≡ n
+  pub workers : workers_of (book_of lock) ≡ n
+  pub at_home : AreAtHome lock n places.list.items
+  pub no_seats : (places.seats.items ≡ []) × (n ≤ vec_capacity places.seats)
+  pub no_ledgers : (places.ledgers.items ≡ []) × (n ≤ vec_capacity places.ledgers)

@@ -1,9 +1,251 @@
-//! One hull for up to 64 threads of a program in C.
+//! One hull for up to 64 threads of a program in C: a static library, whose header is `include/hull_shared.h`.
+//!
+//! A desk keeps a book (`hull_book`) behind a ticket lock (`ticket_lock`), with a seat for each thread. A seat that is out takes
+//! a number for a call and looks whether it is served; the thread that looks pauses between two looks, so nothing here waits. A
+//! desk and a seat lie in rooms that the caller gives. Each call of the header is one export, which lends what lies at a pointer
+//! to one plain function and gives back its answer: what it promises is that function's contract.
+//!
+//! # A desk for two threads
+//!
+//! ```
+//! open(alloc, &mut desk, 1000, 0, 64, 2); // up to 1000 points, numbers from 0, 64 calls, 2 seats
+//! lend(&mut desk, &mut room, 0); // seat 0, for the thread that has the room
+//! take(&mut room, 1, 3, 4); // a number for `add 3 4`
+//! let reply = look(&mut room); // until its code is not that of `NotYet`
+//! give_back(&mut desk, &mut room);
+//! close(&mut desk); // once all seats are back
+//! text(&mut desk, &mut out); // the journal, which `hullbook check` judges
+//! ```
 #![tactic(auto)]
 
+ghost use Rattle.std.specs.Prelude.{◌≡◌};
+ghost use Rattle.std.specs.Borrow.{full_share, sem};
+ghost use Rattle.std.specs.Ptr.{lies_at, room_at};
+ghost use Rattle.hull_shared.specs.contracts.desk.Desk.{the_row as desk_row};
+ghost use Rattle.hull_shared.specs.contracts.seat.SharedSeat.{the_row as seat_row};
+ghost use Rattle.hull_shared.specs.Desks.{HasClosed, HasEnded, HasLent, HasOpened, HasReturned, HasWritten, IsSeatOfDesk};
+ghost use Rattle.hull_shared.specs.Left.{leaves, leaves_both};
+ghost use Rattle.hull_shared.specs.Looks.{HasReplied, HasTaken};
+ghost use Rattle.hull_shared.specs.declared.desk.Desk.TheVariants.{Fresh};
+ghost use Rattle.hull_shared.specs.declared.seat.SharedSeat.TheVariants.{Vacant};
+
 mod calls;
+mod closing;
 mod desk;
+mod lending;
+mod limits;
 mod lock;
 mod looking;
+mod opening;
 mod place;
+mod places;
 mod seat;
+mod serving;
+
+use desk::Desk;
+use hull_reply::HullReply;
+pub use looking::SeatReply;
+use seat::SharedSeat;
+use std::alloc::Global;
+
+/// How many bytes the room of a desk has.
+#[unsafe(no_mangle)]
+pub extern "C" fn hull_shared_desk_size() -> usize {
+    size_of::<Desk>()
+}
+
+/// At which multiples of bytes the room of a desk begins.
+#[unsafe(no_mangle)]
+pub extern "C" fn hull_shared_desk_alignment() -> usize {
+    align_of::<Desk>()
+}
+
+/// How many bytes the room of a seat has.
+#[unsafe(no_mangle)]
+pub extern "C" fn hull_shared_seat_size() -> usize {
+    size_of::<SharedSeat>()
+}
+
+/// At which multiples of bytes the room of a seat begins.
+#[unsafe(no_mangle)]
+pub extern "C" fn hull_shared_seat_alignment() -> usize {
+    align_of::<SharedSeat>()
+}
+
+/// A desk that is not open.
+fn fresh_desk() -> Desk
+    ensures { result ≡ Fresh }
+{
+    Desk::Fresh
+}
+
+/// A room with no seat.
+fn vacant_seat() -> SharedSeat
+    ensures { result ≡ Vacant }
+{
+    SharedSeat::Vacant
+}
+
+/// Makes a desk in a room, which is not open and holds nothing.
+///
+/// # Safety
+///
+/// `room` has [`hull_shared_desk_size`] bytes at a multiple of [`hull_shared_desk_alignment`], which nothing else uses.
+#[unsafe(no_mangle)]
+pub unsafe extern "C" fn hull_shared_make_desk(room: *mut u8)
+    requires* { sem 𝓛 (room_at desk_row room) }
+    ensures* { sem 𝓛 (leaves desk_row room (λ new. new ≡ Fresh)) }
+{
+    let at = room as *mut Desk;
+    let desk = fresh_desk();
+    unsafe { at.write(desk) };
+}
+
+/// Makes a room for a seat, which has none.
+///
+/// # Safety
+///
+/// `room` has [`hull_shared_seat_size`] bytes at a multiple of [`hull_shared_seat_alignment`], which nothing else uses.
+#[unsafe(no_mangle)]
+pub unsafe extern "C" fn hull_shared_make_seat(room: *mut u8)
+    requires* { sem 𝓛 (room_at seat_row room) }
+    ensures* { sem 𝓛 (leaves seat_row room (λ new. new ≡ Vacant)) }
+{
+    let at = room as *mut SharedSeat;
+    let seat = vacant_seat();
+    unsafe { at.write(seat) };
+}
+
+/// Opens a desk round an empty hull: for up to `limit` different points, `capacity` calls whose numbers begin with `first`, and
+/// `seats` seats.
+///
+/// # Safety
+///
+/// A desk lies at `at`, and no other call on it is under way.
+#[unsafe(no_mangle)]
+pub unsafe extern "C" fn hull_shared_open(
+    alloc: Global,
+    at: *mut u8,
+    limit: u32,
+    first: u64,
+    capacity: u32,
+    seats: u32,
+) -> u32
+    ghost t: { desk_row.Denot }
+    requires* { sem 𝓛 (lies_at desk_row full_share at t) }
+    ensures* { sem 𝓛 (leaves desk_row at (λ new. HasOpened (record { limit = limit; first = first; capacity = capacity; seats = seats }) t new result)) }
+{
+    let desk = at as *mut Desk;
+    opening::open(alloc, unsafe { &mut *desk }, limit, first, capacity, seats)
+}
+
+/// Moves the seat of a number out of its desk, into a room.
+///
+/// # Safety
+///
+/// A desk lies at `at` and a room for a seat at `room`, and no other call on either is under way.
+#[unsafe(no_mangle)]
+pub unsafe extern "C" fn hull_shared_lend(at: *mut u8, room: *mut u8, number: u32) -> u32
+    ghost t: { desk_row.Denot × seat_row.Denot }
+    requires* desk { sem 𝓛 (lies_at desk_row full_share at t.0) }
+    requires* room { sem 𝓛 (lies_at seat_row full_share room t.1) }
+    ensures* { sem 𝓛 (leaves_both desk_row seat_row at room (λ new left. HasLent number t.0 new t.1 left result)) }
+{
+    let desk = at as *mut Desk;
+    let seat = room as *mut SharedSeat;
+    lending::lend(unsafe { &mut *desk }, unsafe { &mut *seat }, number)
+}
+
+/// Moves the seat in a room back to its desk.
+///
+/// # Safety
+///
+/// A desk lies at `at` and a room for a seat at `room`; a seat in it went out of that desk; and no other call on either is under
+/// way.
+#[unsafe(no_mangle)]
+pub unsafe extern "C" fn hull_shared_give_back(at: *mut u8, room: *mut u8) -> u32
+    ghost t: { desk_row.Denot × seat_row.Denot }
+    requires own { IsSeatOfDesk t.0 t.1 }
+    requires* desk { sem 𝓛 (lies_at desk_row full_share at t.0) }
+    requires* room { sem 𝓛 (lies_at seat_row full_share room t.1) }
+    ensures* { sem 𝓛 (leaves_both desk_row seat_row at room (λ new left. HasReturned t.0 new t.1 left result)) }
+{
+    let desk = at as *mut Desk;
+    let seat = room as *mut SharedSeat;
+    lending::give_back(unsafe { &mut *desk }, unsafe { &mut *seat })
+}
+
+/// Takes a number for a call, by its kind and a point or a direction.
+///
+/// # Safety
+///
+/// A room for a seat lies at `at`, and no other call on it is under way.
+#[unsafe(no_mangle)]
+pub unsafe extern "C" fn hull_shared_take(at: *mut u8, kind: u32, x: i64, y: i64) -> u32
+    ghost t: { seat_row.Denot }
+    requires* { sem 𝓛 (lies_at seat_row full_share at t) }
+    ensures* { sem 𝓛 (leaves seat_row at (λ new. HasTaken kind x y t new result)) }
+{
+    let seat = at as *mut SharedSeat;
+    looking::take(unsafe { &mut *seat }, kind, x, y)
+}
+
+/// Looks once whether the number is served, and if so, has the call served and hands the book on.
+///
+/// # Safety
+///
+/// A room for a seat lies at `at`, and no other call on it is under way.
+#[unsafe(no_mangle)]
+pub unsafe extern "C" fn hull_shared_look(at: *mut u8) -> SeatReply
+    ghost t: { seat_row.Denot }
+    requires* { sem 𝓛 (lies_at seat_row full_share at t) }
+    ensures* { sem 𝓛 (leaves seat_row at (λ new. HasReplied t new result)) }
+{
+    let seat = at as *mut SharedSeat;
+    looking::look(unsafe { &mut *seat })
+}
+
+/// Closes a desk, all of whose seats are back.
+///
+/// # Safety
+///
+/// A desk lies at `at`, and no other call on it is under way.
+#[unsafe(no_mangle)]
+pub unsafe extern "C" fn hull_shared_close(at: *mut u8) -> u32
+    ghost t: { desk_row.Denot }
+    requires* { sem 𝓛 (lies_at desk_row full_share at t) }
+    ensures* { sem 𝓛 (leaves desk_row at (λ new. HasClosed t new result)) }
+{
+    let desk = at as *mut Desk;
+    closing::close(unsafe { &mut *desk })
+}
+
+/// Writes the text of a closed desk's journal to the front of an array.
+///
+/// # Safety
+///
+/// A desk lies at `at`, and no other call on it is under way.
+#[unsafe(no_mangle)]
+pub unsafe extern "C" fn hull_shared_text(at: *mut u8, out: &mut [u8]) -> HullReply
+    ghost t: { desk_row.Denot }
+    requires* { sem 𝓛 (lies_at desk_row full_share at t) }
+    ensures* { sem 𝓛 (leaves desk_row at (λ new. HasWritten t new out.old out.new result)) }
+{
+    let desk = at as *mut Desk;
+    closing::text(unsafe { &mut *desk }, out)
+}
+
+/// Ends a desk that is not open: it holds nothing then, and its room may be used for anything.
+///
+/// # Safety
+///
+/// A desk lies at `at`, and no other call on it is under way.
+#[unsafe(no_mangle)]
+pub unsafe extern "C" fn hull_shared_end(at: *mut u8) -> u32
+    ghost t: { desk_row.Denot }
+    requires* { sem 𝓛 (lies_at desk_row full_share at t) }
+    ensures* { sem 𝓛 (leaves desk_row at (λ new. HasEnded t new result)) }
+{
+    let desk = at as *mut Desk;
+    closing::end(unsafe { &mut *desk })
+}

@@ -1,4 +1,4 @@
-//! A seat at its desk.
+//! The seats at their desk.
 use hull_book::Ledger;
 use hull_pool::BookSeat;
 use hull_tree::HullTree;
@@ -7,4 +7,12 @@ use hull_tree::HullTree;
 pub(crate) struct Place {
     pub(crate) seat: BookSeat<HullTree>,
     pub(crate) ledger: Ledger,
+}
+
+/// The places of a desk: that of seat k has k places behind it, and is empty while the seat is out. Beside them lies room for
+/// all seats and all ledgers, so that closing asks for no memory.
+pub(crate) struct Places {
+    pub(crate) list: Vec<Option<Place>>,
+    pub(crate) seats: Vec<BookSeat<HullTree>>,
+    pub(crate) ledgers: Vec<Ledger>,
 }

@@ -39,7 +39,7 @@ pub(crate) struct WaitingSeat {
 }
 
 /// A room for a seat.
-pub enum SharedSeat {
+pub(crate) enum SharedSeat {
     /// No seat is there.
     Vacant,
     /// A seat with no number.

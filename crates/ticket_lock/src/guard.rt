@@ -35,6 +35,22 @@ impl<'a, B: Chronicle> Guard<'a, B> {
         ensures seat { seat_number result ≡ guard_seat self.entry }
         ensures seen { seat_seen result ≡ B.lines (guard_book self.entry) }
     {
+        let lock = self.lock;
+        let next = self.number.wrapping_add(1);
+        let seat = self.hand_on_awake();
+        lock.sleepers.wake(next);
+        seat
+    }
+
+    /// The same for a lock whose seats all look for themselves: it wakes nobody. A seat that sleeps in `TicketLock::enter` would
+    /// sleep on, so it is for callers that only `take` and `look`, as in a library that may not wake threads.
+    pub fn hand_on_awake(self) -> Seat<B>
+        requires head { KeepsHead B.head self }
+        requires hands { HandsOn B.Chronicle (memo (guard_seat self) (B.head (opening_book (guard_lock self))) (guard_seen self)) (guard_number self) (guard_book self) }
+        ensures own { IsSeatOf B.head (guard_lock self.entry) result }
+        ensures seat { seat_number result ≡ guard_seat self.entry }
+        ensures seen { seat_seen result ≡ B.lines (guard_book self.entry) }
+    {
         let Guard {
             lock,
             mut place,
@@ -47,7 +63,6 @@ impl<'a, B: Chronicle> Guard<'a, B> {
         let None = left else { unreachable!() };
         let next = number.wrapping_add(1);
         shared.store::<plays::HandOn>(&mut place, (next % 8) as usize + 1, next);
-        lock.sleepers.wake(next);
         Seat {
             place,
             number: seat,

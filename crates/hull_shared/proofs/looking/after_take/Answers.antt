@@ -1,6 +1,6 @@
 -- a seat with no number has taken one for the call that was asked for
-use Rattle.std.proofs.Common.{◌≡◌, refl, Ok}
+use Rattle.std.proofs.Common.{◌≡◌, refl}
 use Rattle.hull_shared.proofs.looking.after_take.Goals as goal
 
 pub returns-in-Ok : goal.returns-in-Ok
-returns-in-Ok c = rw c.in-Idle.is (Ok c.in-Ok.call, c.in-Ok.ensures, c.with_number.result, refl, c.with_number.ensures, c.number-in-Ok.ensures)
+returns-in-Ok c = rw (c.in-Idle.is, c.in-Ok.is) (c.with_number.result, refl, c.with_number.ensures, c.number-in-Ok.ensures)

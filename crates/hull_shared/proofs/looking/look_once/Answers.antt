@@ -8,8 +8,8 @@ use Rattle.ticket_lock.specs.Tokens.{guard_book, guard_number, seat_seen, ticket
 use Rattle.hull_shared.specs.Locks.{HullLock, book_of, head_of, lock_of}
 use Rattle.hull_shared.proofs.looking.look_once.Goals as goal
 
-pub serve_and_hand_on-seat-requires-clause-ledger : goal.serve_and_hand_on-seat-requires-clause-ledger
-serve_and_hand_on-seat-requires-clause-ledger c =
+pub serve_and_hand_on_awake-seat-requires-clause-ledger : goal.serve_and_hand_on_awake-seat-requires-clause-ledger
+serve_and_hand_on_awake-seat-requires-clause-ledger c =
     let w = c.args.waiting in
     let finds = c.in-Entered.ensures.finds in
     let found = box_value (guard_book c.in-Entered.guard) in
@@ -24,12 +24,12 @@ returns-in-Entered c =
     let found = box_value (guard_book c.in-Entered.guard) in
     let is : c.deref-2.result.now ≡ lock_of w.lock = cc in
     let same : found.head ≡ (book_of (lock_of w.lock)).head = finds.same_head ∙ ap (λ (l : HullLock). (book_of l).head) is in
-    let after = c.serve_and_hand_on-seat.result in
+    let after = c.serve_and_hand_on_awake-seat.result in
     record {
       same_lock = refl;
       same_number = refl;
       found = found.lines;
       begins = finds.begins;
       served = subst (λ (h : Head). HasServed h (ticket_number w.ticket) w.number w.call found.lines (seat_seen after.0) after.1) (ap (λ (h : BookHead). h.journal) same)
-          (subst (λ (t : ℕ). HasServed found.head.journal t w.number w.call found.lines (seat_seen after.0) after.1) c.in-Entered.ensures.entered.2 c.serve_and_hand_on-seat.ensures.served);
+          (subst (λ (t : ℕ). HasServed found.head.journal t w.number w.call found.lines (seat_seen after.0) after.1) c.in-Entered.ensures.entered.2 c.serve_and_hand_on_awake-seat.ensures.served);
     }

@@ -6,7 +6,7 @@ use Rattle.ticket_lock.proofs.Gather.{last_of, front_of, all_push}
 use Rattle.hull_pool.specs.Crews.{book_head}
 use Rattle.explorer.specs.declared.tests.player.Player.{Player}
 use Rattle.explorer.specs.Places.{IsPlaced, IsSeatAt}
-use Rattle.explorer.proofs.Dismissed.{zipped_push, numbered_push}
+use Rattle.hull_pool.proofs.Pushed.{zipped_push, numbered_push}
 use Rattle.explorer.proofs.tests.schedule.dismiss.Goals as goal
 
 pub loop-player-preserved : goal.loop-player-preserved

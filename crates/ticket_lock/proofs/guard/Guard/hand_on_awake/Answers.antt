@@ -4,7 +4,7 @@ use Rattle.ticket_lock.proofs.FormsKept.{partitioned_laws}
 use Rattle.std.proofs.Common.{rules, ℕ, ◌+◌, refl, sym, ap, ◌∙◌}
 use Rattle.ticket_lock.specs.World.{wrap}
 use Rattle.ticket_lock.proofs.Steps.{gives_from, gave_from, handed_is, given_is}
-use Rattle.ticket_lock.proofs.guard.Guard.hand_on.Goals as goal
+use Rattle.ticket_lock.proofs.guard.Guard.hand_on_awake.Goals as goal
 
 pub store-requires : goal.store-requires
 store-requires g c = (search rules, search rules, gives_from g.B.Chronicle partitioned_form partitioned_laws _ _ _ _ _ _ _ c.args.self.place.me _ c.args.self.book c.exchange-left.ensures.3 (c.args.self.holding.0, refl, refl, c.args.self.holding.3) c.requires.head c.requires.hands (ap (λ (z : ℕ). wrap (z + 1)) (sym c.args.self.holding.2)))

@@ -1,4 +1,4 @@
--- One seat more, and its ledger, behind those of the players that were taken apart.
+-- One seat more, and its ledger, behind those that are there.
 use Rattle.std.proofs.Common.{◌≡◌, ◌+◌, ℕ, zero, suc, List, [], ◌∷◌, ◌++◌, length, sym, ap, subst, ◌∙◌, arith, Some, slice_get}
 use Rattle.std.specs.Prelude.{Option, None}
 use Rattle.std.specs.List.{AllZip}

@@ -1,0 +1,56 @@
+-- the seat that goes out was at home in its place
+use Rattle.std.proofs.Common.{◌≡◌, ◌<◌, ◌+◌, ℕ, List, Some, slice_get, length, refl, sym, ap, subst, ◌∙◌, arith}
+use Rattle.std.specs.Prelude.{Option, None, slice_set}
+use Rattle.std.specs.Mem.{manually_drop_value}
+use Rattle.std.specs.declared.mem.ManuallyDrop.{ManuallyDrop}
+use Rattle.std.proofs.lemmas.Option.{slice_get_read}
+use Rattle.hull_book.specs.Ledgers.{IsLedgerOf}
+use Rattle.hull_pool.specs.Crews.{book_head}
+use Rattle.hull_pool.specs.Work.{workers_of}
+use Rattle.ticket_lock.specs.Tokens.{IsSeatOf, seat_number, seat_seen}
+use Rattle.hull_shared.specs.Locks.{HullLock, book_of, lock_of}
+use Rattle.hull_shared.specs.Places.{HasAt, IsAtHome}
+use Rattle.hull_shared.specs.declared.place.Place.{Place}
+use Rattle.hull_shared.proofs.Homes.{home_without}
+use Rattle.hull_shared.proofs.lending.lend_from.Goals as goal
+
+pub invariant_of-idle : goal.invariant_of-idle
+invariant_of-idle c =
+    let d = c.args.desk in let j = c.in-Some.j in let p = c.unwrap-seat.result in
+    let stands : slice_get d.places.list.items j ≡ Some c.index_mut.result.now = slice_get_read d.places.list.items (length d.places.list.items) j c.index_mut.result.now refl (omega (arith, d.laid_out.each, d.places.list.ok.0, c.in-Some.ensures)) c.index_mut.ensures.value in
+    let was : HasAt d.places.list.items j p = cc in
+    let is : IsAtHome (lock_of d.lock) d.seats j p = d.laid_out.at_home j p was in
+    let same : lock_of c.in-Ok.lock ≡ lock_of d.lock = ap (λ (m : ManuallyDrop HullLock). manually_drop_value m) c.in-Ok.ensures in
+    let number : seat_number p.seat ≡ c.args.number = omega (arith, is.home, c.in-Some.ensures) in
+    record {
+      own = subst (λ (l : HullLock). IsSeatOf book_head l p.seat) (sym same) is.own;
+      numbered = number;
+      below = subst (λ (l : HullLock). c.args.number < workers_of (book_of l)) (sym same) (omega (arith, d.laid_out.workers, c.in-Some.ensures));
+      counts = subst (λ (k : ℕ). IsLedgerOf k (seat_seen p.seat) p.ledger) number is.counts;
+    }
+
+pub invariant_of-desk : goal.invariant_of-desk
+invariant_of-desk c = let d = c.args.desk in record { laid_out = record {
+  each = d.laid_out.each;
+  seats = d.laid_out.seats;
+  workers = d.laid_out.workers;
+  at_home = home_without (lock_of d.lock) d.seats d.places.list.items c.in-Some.j c.take.new.self c.take.ensures.after d.laid_out.at_home;
+  no_seats = d.laid_out.no_seats;
+  no_ledgers = d.laid_out.no_ledgers;
+} }
+
+pub returns : goal.returns
+returns c =
+    let d = c.args.desk in let j = c.in-Some.j in let p = c.unwrap-seat.result in
+    let stands : slice_get d.places.list.items j ≡ Some c.index_mut.result.now = slice_get_read d.places.list.items (length d.places.list.items) j c.index_mut.result.now refl (omega (arith, d.laid_out.each, d.places.list.ok.0, c.in-Some.ensures)) c.index_mut.ensures.value in
+    record {
+      same = (refl, refl);
+      place = p;
+      j = j;
+      home = c.in-Some.ensures;
+      was_in = cc;
+      out = ap (λ (v : Option Place). slice_set d.places.list.items j v) c.take.ensures.after;
+      own_lock = ap (λ (m : ManuallyDrop HullLock). manually_drop_value m) c.in-Ok.ensures;
+      seat_is = refl;
+      ledger_is = refl;
+    }

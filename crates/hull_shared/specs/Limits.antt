@@ -1,0 +1,14 @@
+-- The numbers that a desk can be opened with.
+use Rattle.std.specs.Prelude.{◌≤◌}
+use Rattle.hull_book.specs.declared.limits.TheConstants.{CAPACITY_LIMIT, SEAT_LIMIT}
+use Rattle.hull_plain.specs.declared.TheConstants.{POINT_LIMIT}
+use Rattle.hull_shared.specs.declared.limits.Limits.{Limits}
+
+-- each of them is in its range; the first number may be any
+pub record AreLimits (l : Limits) : Type 0 where
+  pub limit_low : 1 ≤ l.limit
+  pub limit_high : l.limit ≤ POINT_LIMIT
+  pub capacity_low : 1 ≤ l.capacity
+  pub capacity_high : l.capacity ≤ CAPACITY_LIMIT
+  pub seats_low : 1 ≤ l.seats
+  pub seats_high : l.seats ≤ SEAT_LIMIT

@@ -1,0 +1,30 @@
+//! What a desk is opened with.
+ghost use Rattle.std.specs.Prelude.{◌↔◌, IsTrue};
+ghost use Rattle.hull_shared.specs.Limits.{AreLimits};
+
+use hull_book::{CAPACITY_LIMIT, SEAT_LIMIT};
+use hull_plain::POINT_LIMIT;
+
+/// The numbers that a desk is opened with.
+#[derive(Clone, Copy)]
+pub(crate) struct Limits {
+    /// How many different points may be held.
+    pub(crate) limit: u32,
+    /// The number of the first call.
+    pub(crate) first: u64,
+    /// How many calls have room in the journal.
+    pub(crate) capacity: u32,
+    /// How many seats there are.
+    pub(crate) seats: u32,
+}
+
+impl Limits {
+    /// Whether a desk can be opened with them.
+    pub(crate) fn are_in_range(self) -> bool
+        ensures { IsTrue result ↔ AreLimits self }
+    {
+        (1..=POINT_LIMIT).contains(&self.limit)
+            && (1..=CAPACITY_LIMIT).contains(&self.capacity)
+            && (1..=u32::from(SEAT_LIMIT)).contains(&self.seats)
+    }
+}

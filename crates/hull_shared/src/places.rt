@@ -1,0 +1,71 @@
+//! Seats are laid out at their desk, and gathered there when it closes.
+ghost use Rattle.std.specs.Prelude.{◌≡◌, ◌≤◌, ℕ, [], All, IsSome, vec_len, vec_capacity};
+ghost use mathlib.Core.List.{IsPrefix};
+ghost use Rattle.hull_book.specs.Books.{IsLawful};
+ghost use Rattle.hull_book.specs.Ledgers.{AreLedgers};
+ghost use Rattle.hull_pool.specs.Crews.{book_head};
+ghost use Rattle.hull_pool.specs.Work.{workers_of};
+ghost use Rattle.hull_tree.specs.Sets.{hull_tree};
+ghost use Rattle.hull_shared.specs.Locks.{book_of};
+ghost use Rattle.hull_shared.specs.Places.{AreLaidOut, HasAt};
+ghost use Rattle.hull_shared.specs.declared.place.Place.{Place as PlaceValue};
+ghost use Rattle.ticket_lock.specs.Tokens.{AreNumbered, IsSeatOf, seat_count, seat_seen};
+
+use crate::place::{Place, Places};
+use hull_book::{Book, Ledger};
+use hull_pool::{BookLock, BookSeat, close_book};
+use hull_tree::HullTree;
+
+/// Lays all seats of a lock that was just opened out at a desk, each with its ledger.
+pub(crate) fn lay_out(
+    lock: BookLock<HullTree>,
+    mut seats: Vec<BookSeat<HullTree>>,
+    mut ledgers: Vec<Ledger>,
+    mut list: Vec<Option<Place>>,
+) -> (BookLock<HullTree>, Places)
+    requires all { (vec_len seats ≡ seat_count lock) × (seat_count lock ≡ workers_of (book_of lock)) }
+    requires own { All (IsSeatOf book_head lock) seats.items }
+    requires numbers { AreNumbered seats.items }
+    requires seen { All (λ s. seat_seen s ≡ []) seats.items }
+    requires ledgers { AreLedgers (book_of lock) ledgers.items }
+    requires lines { (book_of lock).lines ≡ [] }
+    requires room { (list.items ≡ []) × (vec_len seats ≤ vec_capacity list) }
+    ensures lock { result.0 ≡ lock }
+    ensures laid_out { AreLaidOut lock (seat_count lock) result.1 }
+    ensures all_in { All IsSome result.1.list.items }
+    ensures none_seen { (j : ℕ) (p : PlaceValue) → HasAt result.1.list.items j p → seat_seen p.seat ≡ [] }
+{
+    while let Some(seat) = seats.pop() {
+        let ledger = ledgers.pop().unwrap();
+        list.push_reserved(Some(Place { seat, ledger }));
+    }
+    let places = Places {
+        list,
+        seats,
+        ledgers,
+    };
+    (lock, places)
+}
+
+/// Closes the lock, all of whose seats are at the desk: its book, whose journal begins with what each seat has seen.
+pub(crate) fn close_lock(lock: BookLock<HullTree>, places: Places) -> Book<HullTree>
+    requires laid_out { AreLaidOut lock (seat_count lock) places }
+    requires all_in { All IsSome places.list.items }
+    ensures lawful { IsLawful hull_tree result }
+    ensures head { result.head ≡ (book_of lock).head }
+    ensures seen { (j : ℕ) (p : PlaceValue) → HasAt places.list.items j p → IsPrefix (seat_seen p.seat) result.lines }
+{
+    let Places {
+        mut list,
+        mut seats,
+        mut ledgers,
+    } = places;
+    while let Some(place) = list.pop() {
+        let Place { seat, ledger } = place.unwrap();
+        seats.push_reserved(seat);
+        ledgers.push_reserved(ledger);
+    }
+    list.destroy_empty();
+    let (book, _sum) = close_book(lock, seats, ledgers);
+    book
+}

@@ -1,0 +1,83 @@
+/* Three threads put points of a growing square in, while a fourth asks whether a place is still free. Then the journal of all calls
+ * is written to standard output: hullbook's `check` judges it. */
+#include "hull_shared.h"
+
+#include <pthread.h>
+#include <stdio.h>
+#include <stdlib.h>
+
+enum { INSERTING = 3, SEATS = INSERTING + 1, ROUNDS = 200 };
+
+static hull_shared_seat rooms[SEATS];
+
+static void *insert(void *seat) {
+    long number = (hull_shared_seat *)seat - rooms;
+    for (long i = 0; i < ROUNDS; i++) {
+        long x = i % 2 ? i : -i;
+        hull_shared_call(rooms[number], HULL_SHARED_KIND_ADD, x, number == 0 ? i : number == 1 ? -i : 0);
+    }
+    return NULL;
+}
+
+static void *ask(void *free_looks) {
+    long *looks = free_looks;
+    while (*looks < ROUNDS) {
+        hull_shared_reply reply = hull_shared_call(rooms[INSERTING], HULL_SHARED_KIND_PLACE, 5, 50);
+        ++*looks;
+        if (reply.told.code == HULL_SHARED_INSIDE) {
+            break;
+        }
+    }
+    return NULL;
+}
+
+/* The text of the closed desk, in an array of its own. */
+static int write_journal(hull_shared_desk desk) {
+    hull_shared_told told = hull_shared_text(desk, NULL, 0);
+    uint8_t *text = malloc(told.number);
+    if (text == NULL) {
+        return 1;
+    }
+    told = hull_shared_text(desk, text, told.number);
+    int wrong = told.code != HULL_SHARED_TEXT || fwrite(text, 1, told.number, stdout) != told.number;
+    free(text);
+    return wrong;
+}
+
+int main(void) {
+    hull_shared_desk desk = malloc(hull_shared_desk_size());
+    pthread_t threads[SEATS];
+    long looks = 0;
+    if (desk == NULL) {
+        return 1;
+    }
+    hull_shared_make_desk(desk);
+    if (hull_shared_open(desk, 100000, 0, SEATS * ROUNDS, SEATS) != HULL_SHARED_OPEN) {
+        return 1;
+    }
+    for (unsigned i = 0; i < SEATS; i++) {
+        rooms[i] = malloc(hull_shared_seat_size());
+        if (rooms[i] == NULL) {
+            return 1;
+        }
+        hull_shared_make_seat(rooms[i]);
+        if (hull_shared_lend(desk, rooms[i], i) != HULL_SHARED_LENT) {
+            return 1;
+        }
+    }
+    for (int i = 0; i < INSERTING; i++) {
+        pthread_create(&threads[i], NULL, insert, &rooms[i]);
+    }
+    pthread_create(&threads[INSERTING], NULL, ask, &looks);
+    for (int i = 0; i < SEATS; i++) {
+        pthread_join(threads[i], NULL);
+        if (hull_shared_give_back(desk, rooms[i]) != HULL_SHARED_RETURNED) {
+            return 1;
+        }
+        free(rooms[i]);
+    }
+    int wrong = hull_shared_close(desk) != HULL_SHARED_CLOSED || write_journal(desk);
+    hull_shared_end(desk);
+    free(desk);
+    return wrong;
+}

@@ -1,0 +1,135 @@
+/* storm THREADS CALLS: so many threads make so many mixed calls each over one hull, and the text of the journal goes to standard
+ * output. The status is 0 only where each call had an answer of its kind, each thread's numbers rose, all numbers together
+ * were each served once, and every code at the end was as it should be. */
+#include "hull_shared.h"
+
+#include <pthread.h>
+#include <stdio.h>
+#include <stdlib.h>
+
+static unsigned long calls;
+static hull_shared_desk desk;
+static hull_shared_seat rooms[HULL_SHARED_SEATS_MAX];
+static uint64_t *turns[HULL_SHARED_SEATS_MAX];
+static int wrong[HULL_SHARED_SEATS_MAX];
+
+/* Random numbers (Marsaglia's xorshift, 2003). */
+static uint64_t next(uint64_t *state) {
+    *state ^= *state << 13;
+    *state ^= *state >> 7;
+    *state ^= *state << 17;
+    return *state;
+}
+
+static int64_t coordinate(uint64_t *state) {
+    return (int64_t)(next(state) % 2001) - 1000;
+}
+
+/* Whether the code is one of the answers to a call of this kind. */
+static int answers(uint32_t kind, uint32_t code) {
+    switch (kind) {
+    case HULL_SHARED_KIND_ADD:
+        return code >= HULL_SHARED_ADDED && code <= HULL_SHARED_NO_MEMORY;
+    case HULL_SHARED_KIND_REMOVE:
+        return code >= HULL_SHARED_REMOVED && code <= HULL_SHARED_ABSENT;
+    case HULL_SHARED_KIND_PLACE:
+        return code >= HULL_SHARED_INSIDE && code <= HULL_SHARED_OUTSIDE;
+    case HULL_SHARED_KIND_TANGENTS:
+        return code == HULL_SHARED_TANGENTS || code == HULL_SHARED_NO_TANGENT;
+    case HULL_SHARED_KIND_EXTREME:
+        return code == HULL_SHARED_POINT || code == HULL_SHARED_EMPTY;
+    default:
+        return code == HULL_SHARED_NUMBER;
+    }
+}
+
+static void *work(void *place) {
+    static const uint32_t kinds[] = {1, 1, 1, 1, 2, 2, 3, 3, 3, 4, 4, 5, 5, 8, 7, 1};
+    unsigned me = (unsigned)((hull_shared_seat *)place - rooms);
+    uint64_t state = 88172645463325252u ^ (me + 1) * UINT64_C(0x9E3779B97F4A7C15);
+    for (unsigned long i = 0; i < calls; i++) {
+        uint32_t kind = kinds[next(&state) % 16];
+        int64_t x = coordinate(&state);
+        int64_t y = coordinate(&state);
+        if (x == 0 && y == 0) {
+            x = 1;
+        }
+        hull_shared_reply reply = hull_shared_call(rooms[me], kind, x, y);
+        turns[me][i] = reply.turn;
+        wrong[me] |= !answers(kind, reply.told.code) || (i > 0 && reply.turn <= turns[me][i - 1]);
+    }
+    return NULL;
+}
+
+/* Whether all numbers from 0 on were served, each once. */
+static int each_once(unsigned threads) {
+    unsigned char *seen = calloc(threads * calls, 1);
+    int once = seen != NULL;
+    for (unsigned k = 0; once && k < threads; k++) {
+        for (unsigned long i = 0; once && i < calls; i++) {
+            uint64_t turn = turns[k][i];
+            once = turn < threads * calls && !seen[turn];
+            if (once) {
+                seen[turn] = 1;
+            }
+        }
+    }
+    free(seen);
+    return once;
+}
+
+static int write_text(void) {
+    hull_shared_told told = hull_shared_text(desk, NULL, 0);
+    uint8_t *text = malloc(told.number);
+    if (told.code != HULL_SHARED_TOO_SMALL || text == NULL) {
+        return 0;
+    }
+    told = hull_shared_text(desk, text, told.number);
+    int written = told.code == HULL_SHARED_TEXT && fwrite(text, 1, told.number, stdout) == told.number;
+    free(text);
+    return written;
+}
+
+static void *room_of(size_t size) {
+    void *room = malloc(size);
+    if (room == NULL) {
+        exit(3);
+    }
+    return room;
+}
+
+int main(int count, char **words) {
+    unsigned threads = count == 3 ? (unsigned)strtoul(words[1], NULL, 10) : 0;
+    pthread_t ids[HULL_SHARED_SEATS_MAX];
+    int bad = 0;
+    calls = count == 3 ? strtoul(words[2], NULL, 10) : 0;
+    desk = room_of(hull_shared_desk_size());
+    hull_shared_make_desk(desk);
+    if (hull_shared_open(desk, HULL_SHARED_LIMIT_MAX, 0, (uint32_t)(threads * calls), threads) != HULL_SHARED_OPEN) {
+        return 2;
+    }
+    for (unsigned k = 0; k < threads; k++) {
+        turns[k] = room_of(calls * sizeof(uint64_t));
+        rooms[k] = room_of(hull_shared_seat_size());
+        hull_shared_make_seat(rooms[k]);
+        bad |= hull_shared_lend(desk, rooms[k], k) != HULL_SHARED_LENT;
+    }
+    for (unsigned k = 0; k < threads; k++) {
+        bad |= pthread_create(&ids[k], NULL, work, &rooms[k]) != 0;
+    }
+    for (unsigned k = 0; k < threads; k++) {
+        bad |= pthread_join(ids[k], NULL) != 0 || wrong[k];
+    }
+    bad |= !each_once(threads);
+    bad |= hull_shared_call(rooms[0], HULL_SHARED_KIND_COUNT, 0, 0).told.code != HULL_SHARED_FULL;
+    for (unsigned k = 0; k < threads; k++) {
+        bad |= hull_shared_close(desk) != HULL_SHARED_SEATS_OUT;
+        bad |= hull_shared_give_back(desk, rooms[k]) != HULL_SHARED_RETURNED;
+        free(rooms[k]);
+        free(turns[k]);
+    }
+    bad |= hull_shared_close(desk) != HULL_SHARED_CLOSED || !write_text();
+    bad |= hull_shared_end(desk) != HULL_SHARED_ENDED;
+    free(desk);
+    return bad;
+}
