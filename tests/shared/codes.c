@@ -61,7 +61,7 @@ static void calls(hull_shared_seat seat) {
     is("on", call(seat, HULL_SHARED_KIND_PLACE, 0, -far), HULL_SHARED_ON);
     reply = hull_shared_call(seat, HULL_SHARED_KIND_AREA, 0, 0);
     is("area", reply.told.code, HULL_SHARED_NUMBER);
-    is("its upper half", reply.told.high, 1 << 19);
+    is("its upper half", reply.told.high, 1 << 18);
     is("its lower half", reply.told.number, 0);
     reply = hull_shared_call(seat, HULL_SHARED_KIND_EXTREME, 0, 1);
     is("point", reply.told.code, HULL_SHARED_POINT);
@@ -75,7 +75,7 @@ static void calls(hull_shared_seat seat) {
     is("removed", call(seat, HULL_SHARED_KIND_REMOVE, -far, -far), HULL_SHARED_REMOVED);
     reply = hull_shared_call(seat, HULL_SHARED_KIND_COUNT, 0, 0);
     is("count", reply.told.number, 2);
-    is("its turn", reply.turn, UINT64_C(17));
+    is("its turn", reply.turn, UINT64_C(16));
     is("out of range", call(seat, HULL_SHARED_KIND_ADD, far + 1, 0), HULL_SHARED_OUT_OF_RANGE);
     is("direction out of range", call(seat, HULL_SHARED_KIND_EXTREME, 0, -far - 1), HULL_SHARED_OUT_OF_RANGE);
     is("zero direction", call(seat, HULL_SHARED_KIND_EXTREME, 0, 0), HULL_SHARED_ZERO_DIRECTION);
@@ -90,14 +90,14 @@ static void codes(hull_shared_desk desk, hull_shared_seat one, hull_shared_seat 
     is("end of a fresh desk", hull_shared_end(desk), HULL_SHARED_ENDED);
     is("text of a fresh desk", hull_shared_text(desk, text, 1).code, HULL_SHARED_NOT_CLOSED);
     is("lend of a fresh desk", hull_shared_lend(desk, one, 0), HULL_SHARED_NOT_OPEN);
-    is("limit 0", hull_shared_open(desk, 0, first, 21, 2), HULL_SHARED_OUT_OF_LIMITS);
-    is("limit", hull_shared_open(desk, HULL_SHARED_LIMIT_MAX + 1, first, 21, 2), HULL_SHARED_OUT_OF_LIMITS);
+    is("limit 0", hull_shared_open(desk, 0, first, 20, 2), HULL_SHARED_OUT_OF_LIMITS);
+    is("limit", hull_shared_open(desk, HULL_SHARED_LIMIT_MAX + 1, first, 20, 2), HULL_SHARED_OUT_OF_LIMITS);
     is("capacity 0", hull_shared_open(desk, 3, first, 0, 2), HULL_SHARED_OUT_OF_LIMITS);
     is("capacity", hull_shared_open(desk, 3, first, HULL_SHARED_CAPACITY_MAX + 1, 2), HULL_SHARED_OUT_OF_LIMITS);
     is("no seats", hull_shared_open(desk, 3, first, 21, 0), HULL_SHARED_OUT_OF_LIMITS);
     is("seats", hull_shared_open(desk, 3, first, 21, HULL_SHARED_SEATS_MAX + 1), HULL_SHARED_OUT_OF_LIMITS);
-    is("open", hull_shared_open(desk, 3, first, 21, 2), HULL_SHARED_OPEN);
-    is("open again", hull_shared_open(desk, 3, first, 21, 2), HULL_SHARED_WAS_OPENED);
+    is("open", hull_shared_open(desk, 3, first, 20, 2), HULL_SHARED_OPEN);
+    is("open again", hull_shared_open(desk, 3, first, 20, 2), HULL_SHARED_WAS_OPENED);
     is("take of none", hull_shared_take(one, 1, 0, 0), HULL_SHARED_VACANT);
     is("look of none", hull_shared_look(one).told.code, HULL_SHARED_VACANT);
     is("return of none", hull_shared_give_back(desk, one), HULL_SHARED_VACANT);
@@ -125,7 +125,7 @@ static void codes(hull_shared_desk desk, hull_shared_seat one, hull_shared_seat 
     is("close", hull_shared_close(desk), HULL_SHARED_CLOSED);
     is("close again", hull_shared_close(desk), HULL_SHARED_NOT_OPEN);
     is("lend of a closed desk", hull_shared_lend(desk, one, 0), HULL_SHARED_NOT_OPEN);
-    is("open of a closed desk", hull_shared_open(desk, 3, 0, 21, 2), HULL_SHARED_WAS_OPENED);
+    is("open of a closed desk", hull_shared_open(desk, 3, 0, 20, 2), HULL_SHARED_WAS_OPENED);
     hull_shared_told told = hull_shared_text(desk, text, 10);
     is("too small", told.code, HULL_SHARED_TOO_SMALL);
     is("text", hull_shared_text(desk, text, sizeof text).code, HULL_SHARED_TEXT);
@@ -149,8 +149,10 @@ static void short_run(hull_shared_desk desk, hull_shared_seat seat) {
     is("return", hull_shared_give_back(desk, seat), HULL_SHARED_RETURNED);
     is("close", hull_shared_close(desk), HULL_SHARED_CLOSED);
     code = hull_shared_text(desk, text, sizeof text).code;
-    is("text or refused", code == HULL_SHARED_TEXT || code == HULL_SHARED_NO_MEMORY, 1);
-    is("text", hull_shared_text(desk, text, sizeof text).code, HULL_SHARED_TEXT);
+    if (code == HULL_SHARED_NO_MEMORY) {
+        code = hull_shared_text(desk, text, sizeof text).code;
+    }
+    is("text", code, HULL_SHARED_TEXT);
     is("end", hull_shared_end(desk), HULL_SHARED_ENDED);
 }
 

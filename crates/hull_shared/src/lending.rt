@@ -77,12 +77,21 @@ fn after_lending(desk: Desk, request: (SharedSeat, u32)) -> (Desk, (SharedSeat, 
         Desk::Fresh => (Desk::Fresh, (room, Code::NotOpen.number())),
         Desk::Closed(closed) => (Desk::Closed(closed), (room, Code::NotOpen.number())),
         Desk::Open(open) => match room {
-            SharedSeat::Idle(idle) => (Desk::Open(open), (SharedSeat::Idle(idle), Code::RoomInUse.number())),
-            SharedSeat::Waiting(waiting) => (Desk::Open(open), (SharedSeat::Waiting(waiting), Code::RoomInUse.number())),
+            SharedSeat::Idle(idle) => (
+                Desk::Open(open),
+                (SharedSeat::Idle(idle), Code::RoomInUse.number()),
+            ),
+            SharedSeat::Waiting(waiting) => (
+                Desk::Open(open),
+                (SharedSeat::Waiting(waiting), Code::RoomInUse.number()),
+            ),
             SharedSeat::Vacant => {
                 let (open, lent) = lend_from(open, number);
                 match lent {
-                    Ok(idle) => (Desk::Open(open), (SharedSeat::Idle(idle), Code::Lent.number())),
+                    Ok(idle) => (
+                        Desk::Open(open),
+                        (SharedSeat::Idle(idle), Code::Lent.number()),
+                    ),
                     Err(fault) => (Desk::Open(open), (SharedSeat::Vacant, fault.number())),
                 }
             }
@@ -99,13 +108,25 @@ fn after_return(desk: Desk, room: SharedSeat) -> (Desk, (SharedSeat, u32))
         Desk::Fresh => (Desk::Fresh, (room, Code::NotOpen.number())),
         Desk::Closed(closed) => (Desk::Closed(closed), (room, Code::NotOpen.number())),
         Desk::Open(open) => match room {
-            SharedSeat::Vacant => (Desk::Open(open), (SharedSeat::Vacant, Code::Vacant.number())),
-            SharedSeat::Waiting(waiting) => (Desk::Open(open), (SharedSeat::Waiting(waiting), Code::Waiting.number())),
+            SharedSeat::Vacant => (
+                Desk::Open(open),
+                (SharedSeat::Vacant, Code::Vacant.number()),
+            ),
+            SharedSeat::Waiting(waiting) => (
+                Desk::Open(open),
+                (SharedSeat::Waiting(waiting), Code::Waiting.number()),
+            ),
             SharedSeat::Idle(idle) => {
                 let (open, left) = return_to(open, idle);
                 match left {
-                    None => (Desk::Open(open), (SharedSeat::Vacant, Code::Returned.number())),
-                    Some(idle) => (Desk::Open(open), (SharedSeat::Idle(idle), Code::PlaceInUse.number())),
+                    None => (
+                        Desk::Open(open),
+                        (SharedSeat::Vacant, Code::Returned.number()),
+                    ),
+                    Some(idle) => (
+                        Desk::Open(open),
+                        (SharedSeat::Idle(idle), Code::PlaceInUse.number()),
+                    ),
                 }
             }
         },
@@ -119,7 +140,9 @@ pub(crate) fn lend(desk: &mut Desk, room: &mut SharedSeat, number: u32) -> u32
     let seat = replace(room, SharedSeat::Vacant);
     let (seat, code) = replace_with(desk, (seat, number), after_lending);
     let vacant = replace(room, seat);
-    let SharedSeat::Vacant = vacant else { unreachable!() };
+    let SharedSeat::Vacant = vacant else {
+        unreachable!()
+    };
     code
 }
 
@@ -131,6 +154,8 @@ pub(crate) fn give_back(desk: &mut Desk, room: &mut SharedSeat) -> u32
     let seat = replace(room, SharedSeat::Vacant);
     let (seat, code) = replace_with(desk, seat, after_return);
     let vacant = replace(room, seat);
-    let SharedSeat::Vacant = vacant else { unreachable!() };
+    let SharedSeat::Vacant = vacant else {
+        unreachable!()
+    };
     code
 }

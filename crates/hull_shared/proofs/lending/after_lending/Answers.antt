@@ -8,9 +8,19 @@ use Rattle.hull_shared.specs.declared.seat.SharedSeat.TheVariants.{Idle, Vacant}
 use Rattle.hull_shared.proofs.lending.after_lending.Goals as goal
 
 pub returns-in-Ok : goal.returns-in-Ok
-returns-in-Ok c = rw (c.in-Open.is, c.in-Vacant.is) (c.lend_from-open.result.0, c.lend_from-open.result.1, c.lend_from-open.ensures, refl,
-    subst (λ (r : Result IdleSeat Code). ComesTo (Idle c.in-Ok.idle) c.number-in-Ok.result r) (sym c.in-Ok.is) (refl, c.number-in-Ok.ensures))
+returns-in-Ok c = rw (c.in-Open.is, c.in-Vacant.is) (
+  c.lend_from-open.result.0,
+  c.lend_from-open.result.1,
+  c.lend_from-open.ensures,
+  refl,
+  subst (λ (r : Result IdleSeat Code). ComesTo (Idle c.in-Ok.idle) c.number-in-Ok.result r) (sym c.in-Ok.is) (refl, c.number-in-Ok.ensures),
+)
 
 pub returns-in-Err : goal.returns-in-Err
-returns-in-Err c = rw (c.in-Open.is, c.in-Vacant.is) (c.lend_from-open.result.0, c.lend_from-open.result.1, c.lend_from-open.ensures, refl,
-    subst (λ (r : Result IdleSeat Code). ComesTo Vacant c.number-in-Err.result r) (sym c.in-Err.is) (refl, c.number-in-Err.ensures))
+returns-in-Err c = rw (c.in-Open.is, c.in-Vacant.is) (
+  c.lend_from-open.result.0,
+  c.lend_from-open.result.1,
+  c.lend_from-open.ensures,
+  refl,
+  subst (λ (r : Result IdleSeat Code). ComesTo Vacant c.number-in-Err.result r) (sym c.in-Err.is) (refl, c.number-in-Err.ensures),
+)

@@ -30,14 +30,16 @@ invariant_of-idle c =
     }
 
 pub invariant_of-desk : goal.invariant_of-desk
-invariant_of-desk c = let d = c.args.desk in record { laid_out = record {
-  each = d.laid_out.each;
-  seats = d.laid_out.seats;
-  workers = d.laid_out.workers;
-  at_home = home_without (lock_of d.lock) d.seats d.places.list.items c.in-Some.j c.take.new.self c.take.ensures.after d.laid_out.at_home;
-  no_seats = d.laid_out.no_seats;
-  no_ledgers = d.laid_out.no_ledgers;
-} }
+invariant_of-desk c = let d = c.args.desk in record {
+  laid_out = record {
+    each = d.laid_out.each;
+    seats = d.laid_out.seats;
+    workers = d.laid_out.workers;
+    at_home = home_without (lock_of d.lock) d.seats d.places.list.items c.in-Some.j c.take.new.self c.take.ensures.after d.laid_out.at_home;
+    no_seats = d.laid_out.no_seats;
+    no_ledgers = d.laid_out.no_ledgers;
+  };
+}
 
 pub returns : goal.returns
 returns c =

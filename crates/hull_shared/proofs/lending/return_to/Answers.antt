@@ -19,14 +19,16 @@ invariant_of-desk c =
       counts = subst (λ (k : ℕ). IsLedgerOf k (seat_seen i.seat) i.ledger) (sym i.numbered) i.counts;
       home = omega (arith, i.numbered, c.from.ensures, c.in-Some.ensures);
     } in
-    record { laid_out = record {
-      each = d.laid_out.each;
-      seats = d.laid_out.seats;
-      workers = d.laid_out.workers;
-      at_home = home_with (lock_of d.lock) d.seats d.places.list.items c.in-Some.j c.replace-none.new.self (record { seat = i.seat; ledger = i.ledger }) c.replace-none.ensures.after is d.laid_out.at_home;
-      no_seats = d.laid_out.no_seats;
-      no_ledgers = d.laid_out.no_ledgers;
-    } }
+    record {
+      laid_out = record {
+        each = d.laid_out.each;
+        seats = d.laid_out.seats;
+        workers = d.laid_out.workers;
+        at_home = home_with (lock_of d.lock) d.seats d.places.list.items c.in-Some.j c.replace-none.new.self (record { seat = i.seat; ledger = i.ledger }) c.replace-none.ensures.after is d.laid_out.at_home;
+        no_seats = d.laid_out.no_seats;
+        no_ledgers = d.laid_out.no_ledgers;
+      };
+    }
 
 pub returns : goal.returns
 returns c =

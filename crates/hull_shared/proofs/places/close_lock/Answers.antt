@@ -40,13 +40,14 @@ loop-place-preserved c =
       counts = zipped_push (λ s k. IsLedgerOf (seat_number s) (seat_seen s) k) seats c.push_reserved.new.self.items c.loop-place.ledgers.items c.push_reserved-in-Some.new.self.items p.seat p.ledger more more2 inv.counts is.counts;
       left = λ j q at lt. get_before list c.in-Some.place j (Some q) (subst (λ (z : List (Option Place)). HasAt z j q) e (inv.left j q at (omega (arith, long)))) lt;
       gathered = λ i j q at le sum. elim (same_or_more (length list) j le) as (λ _. slice_get c.push_reserved.new.self.items i ≡ Some q.seat) [
-        inl here ↦
+        | inl here ↦
             let there : HasAt c.loop-place.list.items (length list) q = subst (λ (k : ℕ). HasAt c.loop-place.list.items k q) here (inv.left j q at (omega (arith, long, here))) in
             let same : p ≡ q = (let o : Some (Some p) ≡ Some (Some q) = sym was ∙ there in cc) in
             let at_end : i ≡ length seats = omega (arith, sum, here, inv.all, long) in
             subst (λ (k : ℕ). slice_get c.push_reserved.new.self.items k ≡ Some q.seat) (sym at_end)
             (subst (λ (z : List _). slice_get z (length seats) ≡ Some q.seat) (sym more) (get_last seats p.seat ∙ ap (λ (x : Place). Some x.seat) same))
-        | inr behind ↦ subst (λ (z : List _). slice_get z i ≡ Some q.seat) (sym more) (get_front seats p.seat i q.seat (inv.gathered i j q at (omega (arith, long, behind)) sum)) ];
+        | inr behind ↦ subst (λ (z : List _). slice_get z i ≡ Some q.seat) (sym more) (get_front seats p.seat i q.seat (inv.gathered i j q at (omega (arith, long, behind)) sum))
+      ];
     }
 
 pub returns-clause-seen : goal.returns-clause-seen

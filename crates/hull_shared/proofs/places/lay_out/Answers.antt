@@ -47,6 +47,7 @@ loop-seat-preserved c =
       at_home = home_more lock n list c.push_reserved.new.self.items (record { seat = s; ledger = l }) more inv.at_home home;
       all_in = all_push IsSome list c.push_reserved.new.self.items (Some (record { seat = s; ledger = l })) more inv.all_in refl;
       none_seen = λ j p at. elim (get_pushed list (Some (record { seat = s; ledger = l })) j (Some p) (subst (λ (z : List (Option Place)). HasAt z j p) more at)) as (λ _. seat_seen p.seat ≡ []) [
-        inl old ↦ inv.none_seen j p old
-        | inr new ↦ let same : p ≡ record { seat = s; ledger = l } = (let o : Some p ≡ Some (record { seat = s; ledger = l }) = new.1 in cc) in ap (λ (q : Place). seat_seen q.seat) same ∙ seen ];
+        | inl old ↦ inv.none_seen j p old
+        | inr new ↦ let same : p ≡ record { seat = s; ledger = l } = (let o : Some p ≡ Some (record { seat = s; ledger = l }) = new.1 in cc) in ap (λ (q : Place). seat_seen q.seat) same ∙ seen
+      ];
     }
