@@ -34,7 +34,7 @@ count() {
 
 # builds a program: its source, and further flags of the linker
 build() {
-    cc -std=c11 -Wall -Wextra -Werror -O2 -g -I"$crate/include" "$1" "$library" "$kit/c/liblibc_c.a" -lpthread ${2:-} \
+    cc -std=c11 -Wall -Wextra -Werror -O2 -g -I"$top/include" "$1" "$library" "$kit/c/liblibc_c.a" -lpthread ${2:-} \
         -o "$room/$(basename "$1" .c)"
 }
 
@@ -79,7 +79,7 @@ fi
 
 if command -v c++ >/dev/null 2>&1; then
     echo '#include "hull_shared.h"' >"$room/header.cc"
-    c++ -Wall -Wextra -Werror -I"$crate/include" -c "$room/header.cc" -o "$room/header.o"
+    c++ -Wall -Wextra -Werror -I"$top/include" -c "$room/header.cc" -o "$room/header.o"
     count "the header is C++, too" $?
 fi
 
