@@ -1,4 +1,5 @@
 pub mod Trees
+pub mod Near
 pub mod Search
 pub mod TurnedTrees
 pub mod OneWay

@@ -6,6 +6,7 @@ use lib.Dec.{T_prop}
 use Rattle.lattice.specs.Plane.{Pair, IsBefore}
 use Rattle.lattice.specs.Bridges.{IsAllBefore, IsUpperBridge, IsLowerBridge}
 use Rattle.bridge_search.specs.Trees.{Tree, Leaf, Fork, On, IsBridged}
+use Rattle.bridge_search.specs.Near.{IsAllNear}
 use Rattle.lattice.proofs.Order.{before_irrefl}
 use Rattle.lattice.specs.Integers.{linear}
 
@@ -63,3 +64,7 @@ IsBridged-prop (Fork e f u w) = given (λ h.
     let d : IsProp (IsBridged u) = IsBridged-prop u in
     let k : IsProp (IsBridged w) = IsBridged-prop w in
     hlevel (a, b, c, d, k))
+
+-- that all points of a half are near has one proof
+pub IsAllNear-prop : (t : Tree) → IsProp (IsAllNear t)
+IsAllNear-prop t = hlevel le_prop

@@ -1,6 +1,6 @@
 -- A turn by 180 degrees.
 use Rattle.std.specs.Prelude.{◌≡◌, ℕ, ◌≤◌, pos, neg_ℤ, ◌≤ℤ◌, Option, Some, None}
-use Rattle.std.proofs.Common.{refl, ap, ◌∙◌, arith, inl, inr}
+use Rattle.std.proofs.Common.{refl, ap, subst, ◌∙◌, arith, inl, inr}
 use Rattle.lattice.specs.Plane.{Pair, orient, IsBefore, turned_point}
 use Rattle.lattice.specs.Bridges.{IsAllBefore, IsUpperBridge, IsLowerBridge, IsNotBeyond}
 use Rattle.bridge_search.specs.Trees.{Tree, Leaf, Fork, On, IsBridged, IsFork, edge_of, lower_of, left_of, right_of, first_of, last_of, height_of, IsAtDepth, highest}
@@ -156,3 +156,7 @@ pub depth_turned : (t : Tree) (p : Pair) (n : ℕ) → IsAtDepth (turned_tree t)
 depth_turned (Leaf x) p n h = (ap turned_point h.0 ∙ turned_twice x, h.1)
 depth_turned (Fork e f u w) p n (k, h, inl i) = (k, h, inr (depth_turned w p k i))
 depth_turned (Fork e f u w) p n (k, h, inr i) = (k, h, inl (depth_turned u p k i))
+
+-- what holds of all points of a half and is kept by a turn holds of all points of the turned half
+pub fits_turned : (P : Pair → Type 0) → ((p : Pair) → P p → P (turned_point p)) → (t : Tree) → ((p : Pair) → On t p → P p) → (p : Pair) → On (turned_tree t) p → P p
+fits_turned P kept t all p i = subst P (turned_twice p) (kept (turned_point p) (all (turned_point p) (on_turned t p i)))

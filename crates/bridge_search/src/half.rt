@@ -1,5 +1,7 @@
 ghost use Rattle.std.specs.Prelude.{◌≡◌, ◌≤◌};
-ghost use Rattle.bridge_search.specs.Trees.{Tree, IsBridged, IsFork, edge_of, lower_of, left_of, right_of, first_of, last_of, height_of, highest};
+ghost use Rattle.lattice.specs.Plane as plane;
+ghost use Rattle.lattice.specs.Plane.{Pair, IsWithin, turned_point, widest_side};
+ghost use Rattle.bridge_search.specs.Trees.{Tree, On, IsBridged, IsFork, edge_of, lower_of, left_of, right_of, first_of, last_of, height_of, highest};
 
 use lattice::Point;
 
@@ -8,8 +10,21 @@ use lattice::Point;
 /// Contracts see it as a finite tree. Its law: at each fork all points of the left half stand before all points of
 /// the right one, the upper edge is the upper bridge of these two halves, and the lower edge their lower bridge. Its height is at most
 /// 2147483647, so that the turns of a search are a number of 32 bits.
+///
+/// It compares in the width that its points need: [`orient`](Half::orient) is asked of points that fit, and all points of
+/// the half do. So one search serves halves whose sides take 128 bits and halves whose sides take 64.
 pub trait Half: Copy {
     ghost tree: { Self → Tree };
+
+    ghost Fits: { Pair → Type 0 };
+
+    /// On which side of the directed line from `a` to `b` the point `c` lies, as [`lattice::orient`] tells.
+    fn orient(a: Point, b: Point, c: Point) -> i128
+        requires first { Fits a }
+        requires second { Fits b }
+        requires third { Fits c }
+        ensures value { result ≡ plane.orient a b c }
+        ensures size { IsWithin widest_side result };
 
     /// The upper edge, from its left to its right end, or nothing where the half is one point.
     fn edge(self) -> Option<(Point, Point)>
@@ -43,6 +58,10 @@ pub trait Half: Copy {
         ensures { result ≡ height_of (tree self) };
 
     ghost bridged: { (x : Self) → IsBridged (tree x) };
+
+    ghost fits: { (x : Self) (p : Pair) → On (tree x) p → Fits p };
+
+    ghost turned_fits: { (p : Pair) → Fits p → Fits (turned_point p) };
 
     ghost low: { (x : Self) → height_of (tree x) ≤ highest };
 }

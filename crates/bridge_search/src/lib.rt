@@ -10,6 +10,7 @@ mod half;
 mod laws;
 #[cfg(test)]
 mod listed;
+mod near;
 mod search;
 #[cfg(test)]
 mod tests;
@@ -18,5 +19,6 @@ mod turned;
 pub use both::{Counted, both_bridges, both_bridges_between};
 pub use half::Half;
 pub use laws::depth_is_unique;
+pub use near::Near;
 pub use search::{upper_bridge, upper_bridge_counted};
 pub use turned::{Turned, lower_bridge};

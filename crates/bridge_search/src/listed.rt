@@ -1,5 +1,7 @@
 //! A small half for the tests, over a lent list of points.
 ghost use Rattle.std.specs.Prelude.{◌≡◌, ◌≤◌, ◌<◌, ◌⊎◌, ◌∷◌, [], Option, None, IfOk, IfSome, MatchOption, length};
+ghost use Rattle.lattice.specs.Plane as plane;
+ghost use Rattle.lattice.specs.Plane.{IsWithin, widest_side};
 ghost use Rattle.bridge_search.specs.Trees.{Leaf, Fork, IsBridged, first_of, highest};
 ghost use Rattle.bridge_search.specs.Listed.{listed_tree};
 ghost use Rattle.bridge_search.specs.OneWay.{IsBridged-prop};
@@ -8,7 +10,7 @@ use super::both::both_bridges;
 use super::half::Half;
 use super::search::upper_bridge;
 use super::turned::lower_bridge;
-use lattice::{Point, before};
+use lattice::{Point, before, orient};
 use std::test::Fail;
 
 /// A point, and the upper and the lower edge between the points before it and itself.
@@ -53,6 +55,15 @@ impl<'a> Half for Listed<'a> {
     ghost use Rattle.bridge_search.specs.Listed.{low_listed};
 
     ghost tree = { λ s. listed_tree s.entries.now };
+
+    ghost Fits = { λ p. Unit {0} };
+
+    fn orient(a: Point, b: Point, c: Point) -> i128
+        ensures value { result ≡ plane.orient a b c }
+        ensures size { IsWithin widest_side result }
+    {
+        orient(a, b, c)
+    }
 
     fn edge(self) -> Option<(Point, Point)> {
         if self.entries.len() < 2 {
@@ -100,6 +111,10 @@ impl<'a> Half for Listed<'a> {
     ghost bridged = { λ s. s.bridged };
 
     ghost low = { λ s. low_listed s.entries.now s.filled s.short };
+
+    ghost fits = { λ s p i. tt };
+
+    ghost turned_fits = { λ p i. tt };
 }
 
 /// The upper and the lower bridge of two halves, or nothing where the one does not end before the other begins. They

@@ -4,7 +4,7 @@ ghost use Rattle.bridge_search.specs.Trees.{On, edge_of, first_of, height_of, hi
 ghost use Rattle.bridge_search.specs.Search.{IsReady, IsTurn, IsDone, IsAdvance, IsReached, IsDepthSum};
 
 use super::half::Half;
-use lattice::{Point, orient, weighted_at_or_before};
+use lattice::{Point, weighted_at_or_before};
 
 /// A turn where `w` is one point: the half of `u`, whose upper edge is ab, that keeps the bridge.
 fn turn_left<H: Half>(u: H, w: H, a: Point, b: Point, m: Point) -> H
@@ -13,7 +13,7 @@ fn turn_left<H: Half>(u: H, w: H, a: Point, b: Point, m: Point) -> H
     requires one { edge_of (H.tree w) ≡ None }
     ensures { IsTurn (H.tree u) (H.tree w) m (H.tree result) (H.tree w) }
 {
-    if orient(a, b, w.first()) >= 0 {
+    if H::orient(a, b, w.first()) >= 0 {
         u.left()
     } else {
         u.right()
@@ -27,7 +27,7 @@ fn turn_right<H: Half>(u: H, w: H, c: Point, d: Point, m: Point) -> H
     requires edge { edge_of (H.tree w) ≡ Some (c, d) }
     ensures { IsTurn (H.tree u) (H.tree w) m (H.tree u) (H.tree result) }
 {
-    if orient(u.first(), c, d) >= 0 {
+    if H::orient(u.first(), c, d) >= 0 {
         w.right()
     } else {
         w.left()
@@ -41,12 +41,12 @@ fn turn_both<H: Half>(u: H, w: H, a: Point, b: Point, c: Point, d: Point, m: Poi
     requires right_edge { edge_of (H.tree w) ≡ Some (c, d) }
     ensures { IsTurn (H.tree u) (H.tree w) m (H.tree result.0) (H.tree result.1) }
 {
-    let side = orient(a, b, c);
+    let side = H::orient(a, b, c);
     if side >= 0 {
         (u.left(), w)
-    } else if orient(b, c, d) >= 0 {
+    } else if H::orient(b, c, d) >= 0 {
         (u, w.right())
-    } else if weighted_at_or_before(side, orient(b, a, d), c, d, m) {
+    } else if weighted_at_or_before(side, H::orient(b, a, d), c, d, m) {
         (u.right(), w)
     } else {
         (u, w.left())

@@ -24,9 +24,15 @@ impl<H: Half> Turned<H> {
 }
 
 impl<H: Half> Half for Turned<H> {
-    ghost use Rattle.bridge_search.specs.TurnedTrees.{turned_tree, bridged_turned, low_turned};
+    ghost use Rattle.bridge_search.specs.TurnedTrees.{turned_tree, bridged_turned, low_turned, fits_turned};
 
     ghost tree = { λ t. turned_tree (H.tree t.half) };
+
+    ghost Fits = { H.Fits };
+
+    fn orient(a: Point, b: Point, c: Point) -> i128 {
+        H::orient(a, b, c)
+    }
 
     fn edge(self) -> Option<(Point, Point)> {
         match self.half.lower() {
@@ -69,6 +75,10 @@ impl<H: Half> Half for Turned<H> {
     ghost bridged = { λ t. bridged_turned (H.tree t.half) (H.bridged t.half) };
 
     ghost low = { λ t. low_turned (H.tree t.half) (H.low t.half) };
+
+    ghost fits = { λ t. fits_turned H.Fits H.turned_fits (H.tree t.half) (H.fits t.half) };
+
+    ghost turned_fits = { H.turned_fits };
 }
 
 /// The lower bridge of `u` and `w`, from its end in `u` to its end in `w`: no point of either half lies right of the

@@ -32,14 +32,14 @@ same_below e = cc
 -- a well-built fork is over its halves
 pub over_halves : (n : node.Node) (h : halves.Halves) → IsWellBuilt n → below_of n ≡ Some h → IsOver n h
 unfolding node.out-Node halves.out-Halves denote.Hole.Carrier.out
-over_halves (node.Node' upper lower height times node.None') h b e = absurd (cc)
-over_halves (node.Node' upper lower height times (node.Some' i (halves.Halves' left right last_left first_right))) h b e =
-    subst (λ (z : halves.Halves). IsOver (node.Node' upper lower height times (node.Some' i (halves.Halves' left right last_left first_right))) z) (same_below e) record {
+over_halves (node.Node' upper lower height near times node.None') h b e = absurd (cc)
+over_halves (node.Node' upper lower height near times (node.Some' i (halves.Halves' left right last_left first_right))) h b e =
+    subst (λ (z : halves.Halves). IsOver (node.Node' upper lower height near times (node.Some' i (halves.Halves' left right last_left first_right))) z) (same_below e) record {
       parted = record {
         row = record {
           left_built = record { bridged = b.bridged.3; balanced = b.balanced.1; labelled = b.labelled.3 };
           right_built = record { bridged = b.bridged.4; balanced = b.balanced.2; labelled = b.labelled.4 };
-          in_order = points_in_order (tree_of (node.Node' upper lower height times (node.Some' i (halves.Halves' left right last_left first_right)))) b.bridged;
+          in_order = points_in_order (tree_of (node.Node' upper lower height near times (node.Some' i (halves.Halves' left right last_left first_right)))) b.bridged;
         };
         ends_left = b.labelled.0;
         starts_right = b.labelled.1;

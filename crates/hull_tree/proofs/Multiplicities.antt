@@ -1,6 +1,6 @@
 -- How often points are held below a node, and below which of its halves.
-use Rattle.std.proofs.Common.{◌≡◌, ℕ, zero, suc, ◌+◌, ◌≤◌, refl, sym, ◌∙◌, subst, arith, ◌⊎◌, inl, inr, true, false, Bool, if◌then◌else◌}
-use Rattle.std.specs.Prelude.{◌↔◌}
+use Rattle.std.proofs.Common.{◌≡◌, None, ℕ, zero, suc, ◌+◌, ◌-◌, ◌<◌, ◌≤◌, refl, sym, ◌∙◌, subst, arith, ◌⊎◌, inl, inr, true, false, Bool, if◌then◌else◌}
+use Rattle.std.specs.Prelude.{◌↔◌, not}
 use Rattle.std.specs.List.{Contains}
 use Rattle.std.proofs.lemmas.List.Elements.{All-contains}
 use Rattle.lattice.specs.Plane.{Pair, IsBefore}
@@ -27,17 +27,17 @@ several_elsewhere n p q d = rw (same_false p q d) refl
 
 -- a point that is not below a node is held 0 times there
 pub times_absent : (n : node.Node) (p : Pair) → ¬ (On (tree_of n) p) → times_below n p ≡ 0
-times_absent (node.Node' upper lower height times node.None') p a = several_elsewhere times upper.0 p (λ e. a (sym e))
-times_absent (node.Node' upper lower height times (node.Some' i (halves.Halves' left right last_left first_right))) p a =
+times_absent (node.Node' upper lower height near times node.None') p a = several_elsewhere times upper.0 p (λ e. a (sym e))
+times_absent (node.Node' upper lower height near times (node.Some' i (halves.Halves' left right last_left first_right))) p a =
     omega (arith, times_absent left p (λ h. a (inl h)), times_absent right p (λ h. a (inr h)))
 
 -- one that is below it is held at least once
 pub times_live : (n : node.Node) (p : Pair) → IsLabelled n → On (tree_of n) p → 1 ≤ times_below n p
-times_live (node.Node' upper lower height times node.None') p l e =
+times_live (node.Node' upper lower height near times node.None') p l e =
     let s : several times upper.0 p ≡ times = subst (λ z. several times upper.0 z ≡ times) (sym e) (several_there times upper.0) in
     omega (arith, s, l.1.0)
-times_live (node.Node' upper lower height times (node.Some' i (halves.Halves' left right last_left first_right))) p l (inl h) = omega (arith, times_live left p l.3 h)
-times_live (node.Node' upper lower height times (node.Some' i (halves.Halves' left right last_left first_right))) p l (inr h) = omega (arith, times_live right p l.4 h)
+times_live (node.Node' upper lower height near times (node.Some' i (halves.Halves' left right last_left first_right))) p l (inl h) = omega (arith, times_live left p l.3 h)
+times_live (node.Node' upper lower height near times (node.Some' i (halves.Halves' left right last_left first_right))) p l (inr h) = omega (arith, times_live right p l.4 h)
 
 -- where two numbers come to one at least, so does one of them
 some_of : (a b : ℕ) → 1 ≤ a + b → (1 ≤ a) ⊎ (1 ≤ b)
@@ -46,12 +46,12 @@ some_of (suc a) b h = inl (omega arith)
 
 -- a point that is held at least once below a node is below it
 pub live_by_times : (n : node.Node) (p : Pair) → 1 ≤ times_below n p → On (tree_of n) p
-live_by_times (node.Node' upper lower height times node.None') p h =
+live_by_times (node.Node' upper lower height near times node.None') p h =
     elim (same_or_other upper.0 p) [
       | inl e ↦ sym e
       | inr d ↦ absurd (let e : several times upper.0 p ≡ 0 = several_elsewhere times upper.0 p d in omega (arith, e, h))
     ]
-live_by_times (node.Node' upper lower height times (node.Some' i (halves.Halves' left right last_left first_right))) p h =
+live_by_times (node.Node' upper lower height near times (node.Some' i (halves.Halves' left right last_left first_right))) p h =
     elim (some_of (times_below left p) (times_below right p) h) [
       | inl k ↦ inl (live_by_times left p k)
       | inr k ↦ inr (live_by_times right p k)
@@ -59,12 +59,12 @@ live_by_times (node.Node' upper lower height times (node.Some' i (halves.Halves'
 
 -- no point is held more often than a point may be
 pub times_few : (n : node.Node) (p : Pair) → IsBridged (tree_of n) → IsLabelled n → times_below n p ≤ MULTIPLICITY_LIMIT
-times_few (node.Node' upper lower height times node.None') p b l = at_most (is_same_pair upper.0 p)
+times_few (node.Node' upper lower height near times node.None') p b l = at_most (is_same_pair upper.0 p)
   where
     at_most : (same : Bool) → (if same then times else 0) ≤ MULTIPLICITY_LIMIT
     at_most true = l.1.1
     at_most false = omega arith
-times_few (node.Node' upper lower height times (node.Some' i (halves.Halves' left right last_left first_right))) p b l =
+times_few (node.Node' upper lower height near times (node.Some' i (halves.Halves' left right last_left first_right))) p b l =
     elim (some_or_none (times_below left p)) [
       | inl e ↦ omega (arith, e, times_few right p b.4 l.4)
       | inr h ↦ omega (arith, times_few left p b.3 l.3, times_absent right p (λ k. before_irrefl p (b.0 p p (live_by_times left p h) k)))
@@ -100,14 +100,14 @@ all_right l r p last first k b = omega (arith, none_left l r p k.row (λ h. b (s
 
 -- the leaf of a point that is held once there
 pub leaf_once : (n : node.Node) (p : Pair) → tree_of n ≡ Leaf p → times_below n p ≡ 1 → (q : Pair) → times_below n q ≡ once p q
-leaf_once (node.Node' upper lower height times node.None') p t e q =
+leaf_once (node.Node' upper lower height near times node.None') p t e q =
     let o : upper.0 ≡ p = same_leaf t in
     let d : times ≡ 1 = sym (several_there times upper.0) ∙ subst (λ z. several times upper.0 z ≡ 1) (sym o) e in
     rw (d, o) refl
   where
     same_leaf : {a b : Pair} → Leaf a ≡ Leaf b → a ≡ b
     same_leaf h = cc
-leaf_once (node.Node' upper lower height times (node.Some' i (halves.Halves' left right last_left first_right))) p t e q = absurd (cc)
+leaf_once (node.Node' upper lower height near times (node.Some' i (halves.Halves' left right last_left first_right))) p t e q = absurd (cc)
 
 -- p before the parting, held once in both halves, is held once in the left one and is one of its points
 pub once_left : (l r : node.Node) (p last first : Pair) → IsPartedAt l r last first → IsBefore p first → times_below l p + times_below r p ≡ 1 → (times_below l p ≡ 1) × Contains (points_below l) p
@@ -120,3 +120,49 @@ pub once_right : (l r : node.Node) (p last first : Pair) → IsPartedAt l r last
 once_right l r p last first k b e =
     let a : times_below r p ≡ 1 = sym (all_right l r p last first k b) ∙ e in
     (a, (live_iff r p k.row.right_built).1 (omega (arith, a)))
+
+-- ---- a leaf whose number changes
+-- n + 1 times is n times and once more
+several_more : (b : Bool) (n : ℕ) → (if b then n + 1 else 0) ≡ (if b then n else 0) + (if b then 1 else 0)
+several_more true n = refl
+several_more false n = refl
+
+-- one time less and once more are n times
+several_less : (b : Bool) (n : ℕ) → 1 < n → (if b then n - 1 else 0) + (if b then 1 else 0) ≡ (if b then n else 0)
+several_less true n h = omega (arith, h)
+several_less false n h = refl
+
+-- the node with another number
+abbrev with_times : node.Node → ℕ → node.Node
+with_times n k =
+    node.roll-Node record {
+      upper = (node.out-Node n).upper;
+      lower = (node.out-Node n).lower;
+      height = (node.out-Node n).height;
+      near = (node.out-Node n).near;
+      times = k;
+      below = (node.out-Node n).below;
+    }
+
+-- the node put together again of its fields
+abbrev again : node.Node → node.Node
+again n = with_times n (node.out-Node n).times
+
+-- a leaf of p whose number rose by one holds p once more
+pub leaf_raised : (n : node.Node) (p q : Pair) → (node.out-Node n).below ≡ None → p ≡ (node.out-Node n).upper.0 → times_below (with_times (again n) ((node.out-Node (again n)).times + 1)) q ≡ times_below n q + once p q
+unfolding node.roll-Node node.out-Node denote.Hole.Carrier.out denote.Hole.Carrier.roll
+leaf_raised (node.Node' upper lower height near times node.None') p q e s = rw s (several_more (is_same_pair upper.0 q) times)
+leaf_raised (node.Node' upper lower height near times (node.Some' i (halves.Halves' left right last_left first_right))) p q e s = absurd (cc)
+
+-- and one whose number fell by one holds it once less
+pub leaf_lowered : (n : node.Node) (p q : Pair) → (node.out-Node n).below ≡ None → p ≡ (node.out-Node n).upper.0 → 1 < (node.out-Node (again n)).times → times_below (with_times (again n) ((node.out-Node (again n)).times - 1)) q + once p q ≡ times_below n q
+unfolding node.roll-Node node.out-Node denote.Hole.Carrier.out denote.Hole.Carrier.roll
+leaf_lowered (node.Node' upper lower height near times node.None') p q e s h = rw s (several_less (is_same_pair upper.0 q) times h)
+leaf_lowered (node.Node' upper lower height near times (node.Some' i (halves.Halves' left right last_left first_right))) p q e s h = absurd (cc)
+
+-- two points of which a test did not tell that they differ are the same
+pub same_point : {r : Bool} (p q : Pair) → r ≡ not (is_same_pair p q) → r ≡ false → p ≡ q
+same_point p q e f = elim (same_or_other p q) [ inl h ↦ h | inr d ↦ absurd (let s : is_same_pair p q ≡ false = same_false p q d in tells (rw s at e) f) ]
+  where
+    tells : {r : Bool} → r ≡ true → r ≡ false → ⊥
+    tells h g = absurd (cc)

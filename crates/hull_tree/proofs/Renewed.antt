@@ -1,5 +1,6 @@
 -- A fork that has its bridges and its height anew.
-use Rattle.std.proofs.Common.{◌≡◌, ℕ, ◌+◌, ◌≤◌, max, refl, sym, subst, Some, ◌⊎◌, inl, inr}
+use Rattle.std.specs.Prelude.{◌&&◌}
+use Rattle.std.proofs.Common.{◌≡◌, ℕ, Bool, ◌+◌, ◌≤◌, max, refl, sym, subst, Some, ◌⊎◌, inl, inr}
 use Rattle.lattice.specs.Plane.{Pair}
 use Rattle.lattice.specs.Bridges.{IsUpperBridge, IsLowerBridge}
 use Rattle.bridge_search.specs.Trees.{Tree, On, left_of, right_of}
@@ -9,13 +10,14 @@ use Rattle.hull_tree.specs.Nodes.{tree_of, keeping, below_of, left_half, right_h
 use Rattle.hull_tree.specs.Changes.{height_at, left_height, right_height, IsParted, AreParted}
 use Rattle.hull_tree.specs.Turns.{IsForkCost, IsCostAtMost, IsDearerByAtMost}
 use Rattle.hull_tree.proofs.Costs.{by_fork_left, by_fork_right, costs_more}
+use Rattle.bridge_search.specs.Near.{are_near}
 use Rattle.hull_tree.proofs.HalfRows.{same_below}
 use Rattle.hull_tree.proofs.PointRows.{all_before_of_set}
 
 -- what a node has in its box is below it
-pub rolled_below : (e f : Pair × Pair) (k n : ℕ) (b : _) → below_of (node.roll-Node record { upper = e; lower = f; height = k; times = n; below = Some b }) ≡ Some b.value
+pub rolled_below : (e f : Pair × Pair) (k : ℕ) (c : Bool) (n : ℕ) (b : _) → below_of (node.roll-Node record { upper = e; lower = f; height = k; near = c; times = n; below = Some b }) ≡ Some b.value
 unfolding node.roll-Node node.out-Node denote.Hole.Carrier.out denote.Hole.Carrier.roll
-rolled_below e f k n b = refl
+rolled_below e f k c n b = refl
 
 -- what is known of the halves h of the fork n that is yet to be renewed
 pub record IsUnder (n : node.Node) (h : halves.Halves) : Type 0 where
@@ -26,43 +28,43 @@ pub record IsUnder (n : node.Node) (h : halves.Halves) : Type 0 where
 -- the halves of a fork that is yet to be renewed
 pub under_fork : (n : node.Node) (h : halves.Halves) → IsParted n → below_of n ≡ Some h → IsUnder n h
 unfolding node.out-Node halves.out-Halves denote.Hole.Carrier.out
-under_fork (node.Node' upper lower height times node.None') h p e = absurd (cc)
-under_fork (node.Node' upper lower height times (node.Some' i (halves.Halves' left right last_left first_right))) h p e =
-    subst (λ (z : halves.Halves). IsUnder (node.Node' upper lower height times (node.Some' i (halves.Halves' left right last_left first_right))) z) (same_below e)
+under_fork (node.Node' upper lower height near times node.None') h p e = absurd (cc)
+under_fork (node.Node' upper lower height near times (node.Some' i (halves.Halves' left right last_left first_right))) h p e =
+    subst (λ (z : halves.Halves). IsUnder (node.Node' upper lower height near times (node.Some' i (halves.Halves' left right last_left first_right))) z) (same_below e)
     record { parted = p; left = refl; right = refl }
 
 -- a fork over two halves that are parted is yet to be renewed
 pub parted_fork : (n : node.Node) (h : halves.Halves) → below_of n ≡ Some h → AreParted h → IsParted n
 unfolding node.out-Node halves.out-Halves denote.Hole.Carrier.out
-parted_fork (node.Node' upper lower height times node.None') h e p = absurd (cc)
-parted_fork (node.Node' upper lower height times (node.Some' i (halves.Halves' left right last_left first_right))) h e p =
+parted_fork (node.Node' upper lower height near times node.None') h e p = absurd (cc)
+parted_fork (node.Node' upper lower height near times (node.Some' i (halves.Halves' left right last_left first_right))) h e p =
     subst AreParted (sym (same_below e)) p
 
 -- with its bridges and its height it is well built
-pub renewed_well : (n : node.Node) (h : halves.Halves) (e f : Pair × Pair) (k : ℕ) → IsParted n → below_of n ≡ Some h → DifferByAtMost 1 (left_height n) (right_height n) → IsUpperBridge (On (tree_of (left_half h))) (On (tree_of (right_half h))) e.0 e.1 → IsLowerBridge (On (tree_of (left_half h))) (On (tree_of (right_half h))) f.0 f.1 → k ≡ max (height_at (left_half h)) (height_at (right_half h)) + 1 → IsWellBuilt (keeping n e f k)
+pub renewed_well : (n : node.Node) (h : halves.Halves) (e f : Pair × Pair) (k : ℕ) (c : Bool) → IsParted n → below_of n ≡ Some h → DifferByAtMost 1 (left_height n) (right_height n) → IsUpperBridge (On (tree_of (left_half h))) (On (tree_of (right_half h))) e.0 e.1 → IsLowerBridge (On (tree_of (left_half h))) (On (tree_of (right_half h))) f.0 f.1 → k ≡ max (height_at (left_half h)) (height_at (right_half h)) + 1 → c ≡ (are_near (tree_of (left_half h)) && are_near (tree_of (right_half h))) → IsWellBuilt (keeping n e f k c)
 unfolding node.out-Node halves.out-Halves denote.Hole.Carrier.out
-renewed_well (node.Node' upper lower height times node.None') h e f k p is d u w a = absurd (cc)
-renewed_well (node.Node' upper lower height times (node.Some' i (halves.Halves' left right last_left first_right))) h e f k p is d u w a =
+renewed_well (node.Node' upper lower height near times node.None') h e f k c p is d u w a t = absurd (cc)
+renewed_well (node.Node' upper lower height near times (node.Some' i (halves.Halves' left right last_left first_right))) h e f k c p is d u w a t =
     let b : halves.Halves' left right last_left first_right ≡ h = same_below is in
     record {
       bridged = (all_before_of_set (tree_of left) (tree_of right) p.row.in_order, subst (λ (z : halves.Halves). IsUpperBridge (On (tree_of (left_half z))) (On (tree_of (right_half z))) e.0 e.1) (sym b) u, subst (λ (z : halves.Halves). IsLowerBridge (On (tree_of (left_half z))) (On (tree_of (right_half z))) f.0 f.1) (sym b) w, p.row.left_built.bridged, p.row.right_built.bridged);
       balanced = (d, p.row.left_built.balanced, p.row.right_built.balanced);
-      labelled = (p.ends_left, p.starts_right, subst (λ (z : halves.Halves). k ≡ max (height_at (left_half z)) (height_at (right_half z)) + 1) (sym b) a, p.row.left_built.labelled, p.row.right_built.labelled);
+      labelled = (p.ends_left, p.starts_right, subst (λ (z : halves.Halves). k ≡ max (height_at (left_half z)) (height_at (right_half z)) + 1) (sym b) a, p.row.left_built.labelled, p.row.right_built.labelled, subst (λ (z : halves.Halves). c ≡ (are_near (tree_of (left_half z)) && are_near (tree_of (right_half z)))) (sym b) t);
     }
 
 -- the points of its left half cost the turns of its two searches more
-pub dearer_on_left : (n : node.Node) (h : halves.Halves) (e f : Pair × Pair) (k a : ℕ) → IsParted n → below_of n ≡ Some h → IsForkCost e f (tree_of (left_half h)) (tree_of (right_half h)) a → IsDearerByAtMost (left_of (tree_of n)) (tree_of (keeping n e f k)) a
+pub dearer_on_left : (n : node.Node) (h : halves.Halves) (e f : Pair × Pair) (k : ℕ) (t : Bool) (a : ℕ) → IsParted n → below_of n ≡ Some h → IsForkCost e f (tree_of (left_half h)) (tree_of (right_half h)) a → IsDearerByAtMost (left_of (tree_of n)) (tree_of (keeping n e f k t)) a
 unfolding node.out-Node halves.out-Halves denote.Hole.Carrier.out
-dearer_on_left (node.Node' upper lower height times node.None') h e f k a p is c = absurd (cc)
-dearer_on_left (node.Node' upper lower height times (node.Some' i (halves.Halves' left right last_left first_right))) h e f k a p is c =
+dearer_on_left (node.Node' upper lower height near times node.None') h e f k t a p is c = absurd (cc)
+dearer_on_left (node.Node' upper lower height near times (node.Some' i (halves.Halves' left right last_left first_right))) h e f k t a p is c =
     let b : halves.Halves' left right last_left first_right ≡ h = same_below is in
     by_fork_left e f (tree_of left) (tree_of right) a (subst (λ (z : halves.Halves). IsForkCost e f (tree_of (left_half z)) (tree_of (right_half z)) a) (sym b) c)
 
 -- and so do those of its right half
-pub dearer_on_right : (n : node.Node) (h : halves.Halves) (e f : Pair × Pair) (k a : ℕ) → IsParted n → below_of n ≡ Some h → IsForkCost e f (tree_of (left_half h)) (tree_of (right_half h)) a → IsDearerByAtMost (right_of (tree_of n)) (tree_of (keeping n e f k)) a
+pub dearer_on_right : (n : node.Node) (h : halves.Halves) (e f : Pair × Pair) (k : ℕ) (t : Bool) (a : ℕ) → IsParted n → below_of n ≡ Some h → IsForkCost e f (tree_of (left_half h)) (tree_of (right_half h)) a → IsDearerByAtMost (right_of (tree_of n)) (tree_of (keeping n e f k t)) a
 unfolding node.out-Node halves.out-Halves denote.Hole.Carrier.out
-dearer_on_right (node.Node' upper lower height times node.None') h e f k a p is c = absurd (cc)
-dearer_on_right (node.Node' upper lower height times (node.Some' i (halves.Halves' left right last_left first_right))) h e f k a p is c =
+dearer_on_right (node.Node' upper lower height near times node.None') h e f k t a p is c = absurd (cc)
+dearer_on_right (node.Node' upper lower height near times (node.Some' i (halves.Halves' left right last_left first_right))) h e f k t a p is c =
     let b : halves.Halves' left right last_left first_right ≡ h = same_below is in
     by_fork_right e f (tree_of left) (tree_of right) a (subst (λ (z : halves.Halves). IsForkCost e f (tree_of (left_half z)) (tree_of (right_half z)) a) (sym b) c)
 

@@ -52,8 +52,8 @@ AreParted h = IsPartedAt (left_half h) (right_half h) (before_parting h) (after_
 
 -- a fork over two such halves, whose edges and height may be yet to be renewed
 abbrev pub IsParted : Node → Type 0
-IsParted (node.Node' upper lower height times node.None') = ⊥
-IsParted (node.Node' upper lower height times (node.Some' i (halves.Halves' left right last_left first_right))) = IsPartedAt left right last_left first_right
+IsParted (node.Node' upper lower height near times node.None') = ⊥
+IsParted (node.Node' upper lower height near times (node.Some' i (halves.Halves' left right last_left first_right))) = IsPartedAt left right last_left first_right
 
 -- the height of a node's left half; of a leaf its own
 abbrev pub left_height : Node → ℕ

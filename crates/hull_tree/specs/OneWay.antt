@@ -2,9 +2,11 @@
 use Rattle.std.specs.Prelude.{◌≡◌, ◌≤◌, ℕ}
 use Rattle.std.proofs.Math.Nat.{ℕ_set}
 use native.Mathlib.Bridge.{le_prop}
+use mathlib.Core.Bool.{Bool-set}
 use Rattle.lattice.specs.Plane.{Pair}
 use Rattle.bridge_search.specs.Trees.{Fork, first_of, last_of, height_of}
 use Rattle.bridge_search.specs.OneWay.{point_set}
+use Rattle.bridge_search.specs.Near.{is_near, are_near}
 use Rattle.hull_plain.specs.declared.TheConstants.{MULTIPLICITY_LIMIT}
 use Rattle.hull_tree.specs.declared.node.Node as node
 use Rattle.hull_tree.specs.declared.node.Halves as halves
@@ -24,15 +26,17 @@ at_most_prop m n = le_prop
 
 -- that a node is labelled has one proof
 pub IsLabelled-prop : (n : node.Node) → IsProp (IsLabelled n)
-IsLabelled-prop (node.Node' upper lower height times node.None') =
+IsLabelled-prop (node.Node' upper lower height near times node.None') =
     let h : IsProp (height ≡ 0) = same_number height 0 in
     let a : IsProp (1 ≤ times) = at_most_prop 1 times in
     let b : IsProp (times ≤ MULTIPLICITY_LIMIT) = at_most_prop times MULTIPLICITY_LIMIT in
-    hlevel (h, a, b)
-IsLabelled-prop (node.Node' upper lower height times (node.Some' i (halves.Halves' left right last_left first_right))) =
+    let n : IsProp (near ≡ is_near upper.0) = Bool-set near (is_near upper.0) in
+    hlevel (h, a, b, n)
+IsLabelled-prop (node.Node' upper lower height near times (node.Some' i (halves.Halves' left right last_left first_right))) =
     let a : IsProp (last_left ≡ last_of (tree_of left)) = same_point last_left (last_of (tree_of left)) in
     let b : IsProp (first_right ≡ first_of (tree_of right)) = same_point first_right (first_of (tree_of right)) in
     let c : IsProp (height ≡ height_of (Fork upper lower (tree_of left) (tree_of right))) = same_number height (height_of (Fork upper lower (tree_of left) (tree_of right))) in
     let k : IsProp (IsLabelled left) = IsLabelled-prop left in
     let l : IsProp (IsLabelled right) = IsLabelled-prop right in
-    hlevel (a, b, c, k, l)
+    let n : IsProp (near ≡ are_near (Fork upper lower (tree_of left) (tree_of right))) = Bool-set near (are_near (Fork upper lower (tree_of left) (tree_of right))) in
+    hlevel (a, b, c, k, l, n)

@@ -1,14 +1,16 @@
-ghost use Rattle.std.specs.Prelude.{◌≡◌, Some, ◌≤◌, ◌+◌, ◌*◌, ◌++◌, max};
+ghost use Rattle.std.specs.Prelude.{◌≡◌, ◌&&◌, Some, ◌≤◌, ◌+◌, ◌*◌, ◌++◌, max};
 ghost use Rattle.lattice.specs.Plane.{Pair};
 ghost use Rattle.lattice.specs.Bridges.{IsUpperBridge, IsLowerBridge};
+ghost use Rattle.bridge_search.specs.Near.{are_near};
+ghost use Rattle.bridge_search.specs.Search.{IsDepthSum};
 ghost use Rattle.bridge_search.specs.Trees.{On, IsFork, left_of, right_of, first_of as first_in, last_of as last_in};
 ghost use Rattle.hull_tree.specs.Nodes.{tree_of, keeping, halves_of, left_half, right_half, before_parting, after_parting, times_below, IsWellBuilt, DifferByAtMost};
 ghost use Rattle.hull_tree.specs.Changes.{points_below, height_at, height_within, left_height, right_height, IsParted, IsPartedAt, AreParted, IsAtMostOneMore, IsHeightOver};
 ghost use Rattle.hull_tree.specs.Turns.{IsForkCost, IsDearerByAtMost};
 
-use super::node::{Halves, Node, height_of};
+use super::node::{Halves, Node, height_of, near_of};
 use super::node_ref::NodeRef;
-use bridge_search::both_bridges_between;
+use bridge_search::{Counted, Near, both_bridges_between};
 use lattice::Point;
 use std::mem;
 
@@ -62,7 +64,29 @@ struct Found {
     upper: (Point, Point),
     lower: (Point, Point),
     height: u32,
+    near: bool,
     turns: u32,
+}
+
+/// Searches both bridges between two halves: in 64 bits where all their points are near, which is asked once for both
+/// searches and not at each of their turns.
+fn both_bridges_of(halves: &Halves) -> (Counted, Counted)
+    requires parted { AreParted halves.now }
+    requires low { height_within halves.now ≤ 28 }
+    ensures upper { IsUpperBridge (On (tree_of (left_half halves.now))) (On (tree_of (right_half halves.now))) result.0.0.0 result.0.0.1 }
+    ensures lower { IsLowerBridge (On (tree_of (left_half halves.now))) (On (tree_of (right_half halves.now))) result.1.0.0 result.1.0.1 }
+    ensures upper_depths { IsDepthSum (tree_of (left_half halves.now)) (tree_of (right_half halves.now)) result.0.0.0 result.0.0.1 result.0.1 }
+    ensures lower_depths { IsDepthSum (tree_of (left_half halves.now)) (tree_of (right_half halves.now)) result.1.0.0 result.1.0.1 result.1.1 }
+    ensures upper_few { result.0.1 ≤ height_at (left_half halves.now) + height_at (right_half halves.now) }
+    ensures lower_few { result.1.1 ≤ height_at (left_half halves.now) + height_at (right_half halves.now) }
+{
+    let (u, w) = (NodeRef::new(&halves.left), NodeRef::new(&halves.right));
+    let (last, first) = (halves.last_left, halves.first_right);
+    if near_of(&halves.left) && near_of(&halves.right) {
+        both_bridges_between(Near::new(u), Near::new(w), last, first)
+    } else {
+        both_bridges_between(u, w, last, first)
+    }
 }
 
 /// Searches both bridges between two halves.
@@ -72,20 +96,16 @@ fn searched(halves: &Halves) -> Found
     ensures upper { IsUpperBridge (On (tree_of (left_half halves.now))) (On (tree_of (right_half halves.now))) result.upper.0 result.upper.1 }
     ensures lower { IsLowerBridge (On (tree_of (left_half halves.now))) (On (tree_of (right_half halves.now))) result.lower.0 result.lower.1 }
     ensures height { result.height ≡ height_within halves.now + 1 }
+    ensures near { result.near ≡ (are_near (tree_of (left_half halves.now)) && are_near (tree_of (right_half halves.now))) }
     ensures cost { IsForkCost result.upper result.lower (tree_of (left_half halves.now)) (tree_of (right_half halves.now)) result.turns }
     ensures within { result.turns ≤ 2 * (height_at (left_half halves.now) + height_at (right_half halves.now)) }
 {
-    let (u, w) = (NodeRef::new(&halves.left), NodeRef::new(&halves.right));
-    let ((upper, upper_turns), (lower, lower_turns)) = both_bridges_between(
-        u,
-        w,
-        halves.last_left,
-        halves.first_right,
-    );
+    let ((upper, upper_turns), (lower, lower_turns)) = both_bridges_of(halves);
     Found {
         upper,
         lower,
         height: height_of(&halves.left).max(height_of(&halves.right)) + 1,
+        near: near_of(&halves.left) && near_of(&halves.right),
         turns: upper_turns + lower_turns,
     }
 }
@@ -100,7 +120,18 @@ fn keep_point(kept: &mut Point, found: Point)
 }
 
 /// Stores a height where it is another than the one that is kept.
-fn keep_height(kept: &mut u32, found: u32)
+fn keep_height(kept: &mut u16, found: u32)
+    requires { found ≤ 65535 }
+    ensures { kept.new ≡ found }
+{
+    let height = found as u16;
+    if *kept != height {
+        *kept = height;
+    }
+}
+
+/// Stores whether all points are near where the other is kept.
+fn keep_near(kept: &mut bool, found: bool)
     ensures { kept.new ≡ found }
 {
     if *kept != found {
@@ -110,13 +141,15 @@ fn keep_height(kept: &mut u32, found: u32)
 
 /// Stores what was found of a fork where it is another than what is kept: most searches find the bridge that is there.
 fn keep(node: &mut Node, found: Found)
-    ensures { node.new ≡ keeping node.old found.upper found.lower found.height }
+    requires { found.height ≤ 65535 }
+    ensures { node.new ≡ keeping node.old found.upper found.lower found.height found.near }
 {
     keep_point(&mut node.upper.0, found.upper.0);
     keep_point(&mut node.upper.1, found.upper.1);
     keep_point(&mut node.lower.0, found.lower.0);
     keep_point(&mut node.lower.1, found.lower.1);
     keep_height(&mut node.height, found.height);
+    keep_near(&mut node.near, found.near);
 }
 
 /// Searches both bridges of a fork, keeps them and its height, and tells how many turns the two searches took. Each
@@ -169,6 +202,7 @@ pub(crate) fn joined(mut spare: Box<Halves>, left: Node, right: Node) -> (Node, 
         upper: (point, point),
         lower: (point, point),
         height: 0,
+        near: false,
         times: 0,
         below: Some(spare),
     };

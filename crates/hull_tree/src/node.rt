@@ -2,22 +2,25 @@ ghost use Rattle.std.specs.Prelude.{◌≡◌, option_map};
 ghost use Rattle.std.specs.Borrow.{Bor};
 ghost use Rattle.lattice.specs.Plane.{Pair};
 ghost use Rattle.bridge_search.specs.Trees.{Leaf, edge_of, lower_of, first_of as first_in, last_of as last_in, height_of as height_in};
+ghost use Rattle.bridge_search.specs.Near.{are_near};
 ghost use Rattle.hull_tree.specs.declared.node.Node.{Node};
 ghost use Rattle.hull_tree.specs.Nodes.{tree_of, halves_of, point_of, multiplicity_of, several, times_below, IsMultiplicity, IsLabelled};
 
-use lattice::Point;
+use lattice::{Point, is_near};
 
 /// A part of the tree: one point, or a fork over two parts.
 ///
 /// It keeps its two bridges and its height itself, beside the pointer to its halves: so a search that goes down a half
 /// reads the edges that it compares from where it is. Of a point both ends of both edges are that point, and `times` is
-/// how often it is held; of a fork `times` says nothing.
+/// how often it is held; of a fork `times` says nothing. `near` is whether all its points are near: such halves are
+/// compared in 64 bits.
 #[cycle(node)]
 #[derive(Drop)]
 pub struct Node {
     pub(crate) upper: (Point, Point),
     pub(crate) lower: (Point, Point),
-    pub(crate) height: u32,
+    pub(crate) height: u16,
+    pub(crate) near: bool,
     pub(crate) times: u32,
     pub(crate) below: Option<Box<Halves>>,
 }
@@ -44,6 +47,7 @@ impl Node {
             upper: (point, point),
             lower: (point, point),
             height: 0,
+            near: is_near(point),
             times,
             below: None,
         }
@@ -127,5 +131,13 @@ pub(crate) fn height_of(node: &Node) -> u32
     requires { IsLabelled node.now }
     ensures { result ≡ height_in (tree_of node.now) }
 {
-    node.height
+    u32::from(node.height)
+}
+
+/// Whether all points below a node are near.
+pub(crate) fn near_of(node: &Node) -> bool
+    requires { IsLabelled node.now }
+    ensures { result ≡ are_near (tree_of node.now) }
+{
+    node.near
 }

@@ -1,4 +1,6 @@
 ghost use Rattle.std.specs.Prelude.{◌≡◌, ◌≤◌};
+ghost use Rattle.lattice.specs.Plane as plane;
+ghost use Rattle.lattice.specs.Plane.{IsWithin, widest_side};
 ghost use Rattle.bridge_search.specs.Trees.{IsBridged, highest};
 ghost use Rattle.bridge_search.specs.OneWay.{IsBridged-prop};
 ghost use Rattle.hull_tree.specs.Nodes.{tree_of, IsLabelled, IsWellBuilt};
@@ -7,7 +9,7 @@ ghost use Rattle.hull_tree.specs.OneWay.{IsLabelled-prop};
 
 use super::node::{Node, first_of, height_of, last_of};
 use bridge_search::Half;
-use lattice::Point;
+use lattice::{Point, orient};
 
 /// A lent node that is well built: the half of a hull that the bridge search and the questions walk down.
 #[derive(Clone, Copy)]
@@ -31,6 +33,15 @@ impl<'a> NodeRef<'a> {
 
 impl<'a> Half for NodeRef<'a> {
     ghost tree = { λ s. tree_of s.node.now };
+
+    ghost Fits = { λ p. Unit {0} };
+
+    fn orient(a: Point, b: Point, c: Point) -> i128
+        ensures value { result ≡ plane.orient a b c }
+        ensures size { IsWithin widest_side result }
+    {
+        orient(a, b, c)
+    }
 
     fn edge(self) -> Option<(Point, Point)> {
         match &self.node.below {
@@ -77,4 +88,8 @@ impl<'a> Half for NodeRef<'a> {
     ghost bridged = { λ s. s.bridged };
 
     ghost low = { λ s. s.low };
+
+    ghost fits = { λ s p i. tt };
+
+    ghost turned_fits = { λ p i. tt };
 }

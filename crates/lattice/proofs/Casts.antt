@@ -5,7 +5,7 @@ use lib.IntN.{ℤ, ◌+ℤ◌, ◌-ℤ◌, ◌*ℤ◌}
 use mir.Val.{to_z, of_z}
 use mir.Syntax.{w128, w64}
 use borrow.Author.Differences.{ints}
-use Rattle.lattice.specs.Plane.{IsWithin, widest, widest_side, IsCoordinate}
+use Rattle.lattice.specs.Plane.{IsWithin, widest, widest_side, nearest, IsCoordinate}
 use Rattle.lattice.specs.Integers.{within_sub, within_mul, within_more}
 
 -- a number of 64 bits that is no larger than a coordinate
@@ -73,3 +73,26 @@ sum_fits m n h k = omega (arith, ints)
 -- a side
 pub cast_side : (z : ℤ) → IsWithin widest_side z → to_z w128 (of_z w128 z) ≡ z
 cast_side z h = omega (arith, ints)
+
+-- ---- near points
+-- u - v of near coordinates
+pub cast_near_difference : (u v : ℤ) → IsWithin nearest u → IsWithin nearest v → to_z w64 (of_z w64 (to_z w64 (of_z w64 u) -ℤ to_z w64 (of_z w64 v))) ≡ u -ℤ v
+cast_near_difference u v hu hv = omega (arith, ints)
+
+-- (u - v) * (p - q), of near coordinates
+pub near_within : (u v p q : ℤ) → IsWithin nearest u → IsWithin nearest v → IsWithin nearest p → IsWithin nearest q → IsWithin (4 * (nearest * nearest)) ((u -ℤ v) *ℤ (p -ℤ q))
+near_within u v p q hu hv hp hq =
+    within_mul (nearest + nearest) (nearest + nearest) (u -ℤ v) (p -ℤ q) (within_sub nearest nearest u v hu hv) (within_sub nearest nearest p q hp hq)
+
+-- a product of differences of near coordinates fits
+pub cast_near_product : (z : ℤ) → IsWithin (4 * (nearest * nearest)) z → to_z w64 (of_z w64 z) ≡ z
+cast_near_product z h = omega (arith, ints)
+
+-- the difference of two such products fits in 64 bits, and cast to 128 it is the same
+pub cast_near_side : (m n : ℤ) → IsWithin (4 * (nearest * nearest)) m → IsWithin (4 * (nearest * nearest)) n → to_z w128 (of_z w128 (to_z w64 (of_z w64 (to_z w64 (of_z w64 m) -ℤ to_z w64 (of_z w64 n))))) ≡ m -ℤ n
+cast_near_side m n h k = omega (arith, ints)
+
+-- and it is a side
+pub near_side_within : (m n : ℤ) → IsWithin (4 * (nearest * nearest)) m → IsWithin (4 * (nearest * nearest)) n → IsWithin widest_side (m -ℤ n)
+near_side_within m n h k =
+    within_more (4 * (nearest * nearest) + 4 * (nearest * nearest)) widest_side (m -ℤ n) (lit≤ tt) (within_sub (4 * (nearest * nearest)) (4 * (nearest * nearest)) m n h k)

@@ -1,6 +1,6 @@
 -- The plane of whole numbers of any size: its points, their order, and the formulas by which they are compared.
 use Rattle.std.specs.Prelude.{◌≡◌, ◌⊎◌, ℕ, ◌*◌, ◌^◌, ℤ, pos, neg_ℤ, ◌+ℤ◌, ◌-ℤ◌, ◌*ℤ◌, ◌<ℤ◌, ◌≤ℤ◌}
-use Rattle.lattice.specs.declared.TheConstants.{COORDINATE_LIMIT}
+use Rattle.lattice.specs.declared.TheConstants.{COORDINATE_LIMIT, NEAR_LIMIT}
 
 -- a pair of whole numbers: a point, or a direction
 pub record Pair : Type 0 where
@@ -50,3 +50,11 @@ widest = 2 ^ 40
 -- the size of `orient`, of `product` and of a squared distance at coordinates that are safe
 abbrev pub widest_side : ℕ
 widest_side = 8 * (widest * widest)
+
+-- both coordinates are so small that a side of such points fits in 64 bits
+abbrev pub IsNear : Pair → Type 0
+IsNear p = (neg_ℤ NEAR_LIMIT ≤ℤ p.x) × (p.x ≤ℤ NEAR_LIMIT) × (neg_ℤ NEAR_LIMIT ≤ℤ p.y) × (p.y ≤ℤ NEAR_LIMIT)
+
+-- the size up to which coordinates are safe in 64 bits
+abbrev pub nearest : ℕ
+nearest = 1073741823

@@ -19,6 +19,7 @@ mod crossing;
 mod direction;
 mod fault;
 mod laws;
+mod near;
 mod point;
 #[cfg(test)]
 mod tests;
@@ -32,7 +33,11 @@ pub use laws::{
     PointSet, coordinate_limit_is_stated, crossing_is_on_both_lines, lower_bridge_is_unique,
     upper_bridge_is_unique,
 };
+pub use near::{is_near, orient_near};
 pub use point::Point;
 
 /// The greatest size of a coordinate of a point, and of a component of a direction.
 pub const COORDINATE_LIMIT: i64 = 1099511627776;
+
+/// The greatest size of a coordinate of a point that is near: sides of such points fit in 64 bits.
+pub const NEAR_LIMIT: i64 = 1073741823;

@@ -1,6 +1,6 @@
 use crate::{
-    Direction, LatticeFault, Point, before, crossing_at_or_before, distance_squared, orient,
-    product,
+    Direction, LatticeFault, NEAR_LIMIT, Point, before, crossing_at_or_before, distance_squared,
+    is_near, orient, orient_near, product,
 };
 use std::test::Fail;
 
@@ -31,6 +31,20 @@ fn range_corners(rt: HostRuntime) -> Result<(), Fail> {
     assert_eq!(rt; orient(a, c, b), -4835703278458516698824704);
     assert_eq!(rt; distance_squared(a, c), 9671406556917033397649408);
     assert_eq!(rt; product(Direction::new(1, 1)?, c), 2199023255552);
+    Ok(())
+}
+
+// The largest sides of near points, and one beside them that is not near.
+#[test]
+fn near_corners(rt: HostRuntime) -> Result<(), Fail> {
+    assert_eq!(rt; NEAR_LIMIT, 1073741823);
+    let a = Point::new(-NEAR_LIMIT, -NEAR_LIMIT)?;
+    let b = Point::new(NEAR_LIMIT, -NEAR_LIMIT)?;
+    let c = Point::new(NEAR_LIMIT, NEAR_LIMIT)?;
+    assert!(rt; is_near(a) && is_near(b) && is_near(c));
+    assert_eq!(rt; orient_near(a, b, c), 4611686009837453316);
+    assert_eq!(rt; orient_near(a, c, b), -4611686009837453316);
+    assert!(rt; !is_near(Point::new(1073741824, 0)?) && !is_near(Point::new(0, -1073741824)?));
     Ok(())
 }
 

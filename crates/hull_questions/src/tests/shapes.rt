@@ -1,11 +1,13 @@
 //! Halves of up to sixteen points for the tests, put together from smaller ones.
 ghost use Rattle.std.specs.Prelude.{◌≡◌, ◌≤◌, ◌+◌, option_map, IfSome};
+ghost use Rattle.lattice.specs.Plane as plane;
+ghost use Rattle.lattice.specs.Plane.{IsWithin, widest_side};
 ghost use Rattle.bridge_search.specs.Trees.{IsBridged, size_of, height_of, highest};
 ghost use Rattle.bridge_search.specs.OneWay.{IsBridged-prop};
 ghost use Rattle.hull_questions.specs.Shapes.{small_tree, joined_tree};
 
 use bridge_search::{Half, lower_bridge, upper_bridge};
-use lattice::{Point, before};
+use lattice::{Point, before, orient};
 use std::alloc::AllocError;
 
 /// One point, or two.
@@ -20,6 +22,15 @@ impl Half for Small {
     ghost use Rattle.hull_questions.specs.Shapes.{small_low};
 
     ghost tree = { λ s. small_tree s.left s.right };
+
+    ghost Fits = { λ p. Unit {0} };
+
+    fn orient(a: Point, b: Point, c: Point) -> i128
+        ensures value { result ≡ plane.orient a b c }
+        ensures size { IsWithin widest_side result }
+    {
+        orient(a, b, c)
+    }
 
     fn edge(self) -> Option<(Point, Point)> {
         match self.right {
@@ -73,6 +84,10 @@ impl Half for Small {
     ghost bridged = { λ s. s.bridged };
 
     ghost low = { λ s. small_low s.left s.right };
+
+    ghost fits = { λ s p i. tt };
+
+    ghost turned_fits = { λ p i. tt };
 }
 
 /// One half alone, or two with the bridges between them.
@@ -122,7 +137,15 @@ fn join<A: Half>(left: A, right: A) -> Option<Joined<A>>
 }
 
 impl<A: Half> Half for Joined<A> {
+    ghost use Rattle.hull_questions.specs.Shapes.{joined_fits};
+
     ghost tree = { λ s. joined_tree (A.tree s.left) (option_map A.tree s.right) s.upper s.lower };
+
+    ghost Fits = { A.Fits };
+
+    fn orient(a: Point, b: Point, c: Point) -> i128 {
+        A::orient(a, b, c)
+    }
 
     fn edge(self) -> Option<(Point, Point)> {
         match self.right {
@@ -173,6 +196,10 @@ impl<A: Half> Half for Joined<A> {
     ghost bridged = { λ s. s.bridged };
 
     ghost low = { λ s. s.low };
+
+    ghost fits = { λ s. joined_fits A.Fits A.tree A.fits s.left s.right s.upper s.lower };
+
+    ghost turned_fits = { A.turned_fits };
 }
 
 /// Up to four points.

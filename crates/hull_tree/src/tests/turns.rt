@@ -122,6 +122,12 @@ struct Watched<'a, H> {
 impl<'a, H: Half> Half for Watched<'a, H> {
     ghost tree = { λ s. H.tree s.half };
 
+    ghost Fits = { H.Fits };
+
+    fn orient(a: Point, b: Point, c: Point) -> i128 {
+        H::orient(a, b, c)
+    }
+
     fn edge(self) -> Option<(Point, Point)> {
         self.half.edge()
     }
@@ -161,6 +167,10 @@ impl<'a, H: Half> Half for Watched<'a, H> {
     ghost bridged = { λ s. H.bridged s.half };
 
     ghost low = { λ s. H.low s.half };
+
+    ghost fits = { λ s. H.fits s.half };
+
+    ghost turned_fits = { H.turned_fits };
 }
 
 /// The upper bridge and its turns, where the one half ends before the other begins.

@@ -4,6 +4,42 @@ use Rattle.lattice.specs.Crossing.{IsCrossingAtOrBefore}
 use Rattle.bridge_search.proofs.Turns as turns
 use Rattle.bridge_search.proofs.search.turn_both.Goals as goal
 
+pub orient-side-requires-clause-first : goal.orient-side-requires-clause-first
+orient-side-requires-clause-first g c =
+    g.met.H.Half.fits c.args.u c.args.a (turns.on_edge (g.H.Half.tree c.args.u) c.args.a c.args.b c.requires.ready.left_bridged c.requires.left_edge).0
+
+pub orient-side-requires-clause-second : goal.orient-side-requires-clause-second
+orient-side-requires-clause-second g c =
+    g.met.H.Half.fits c.args.u c.args.b (turns.on_edge (g.H.Half.tree c.args.u) c.args.a c.args.b c.requires.ready.left_bridged c.requires.left_edge).1
+
+pub orient-side-requires-clause-third : goal.orient-side-requires-clause-third
+orient-side-requires-clause-third g c =
+    g.met.H.Half.fits c.args.w c.args.c (turns.on_edge (g.H.Half.tree c.args.w) c.args.c c.args.d c.requires.ready.right_bridged c.requires.right_edge).0
+
+pub orient-requires-clause-first : goal.orient-requires-clause-first
+orient-requires-clause-first g c =
+    g.met.H.Half.fits c.args.u c.args.b (turns.on_edge (g.H.Half.tree c.args.u) c.args.a c.args.b c.requires.ready.left_bridged c.requires.left_edge).1
+
+pub orient-requires-clause-second : goal.orient-requires-clause-second
+orient-requires-clause-second g c =
+    g.met.H.Half.fits c.args.w c.args.c (turns.on_edge (g.H.Half.tree c.args.w) c.args.c c.args.d c.requires.ready.right_bridged c.requires.right_edge).0
+
+pub orient-requires-clause-third : goal.orient-requires-clause-third
+orient-requires-clause-third g c =
+    g.met.H.Half.fits c.args.w c.args.d (turns.on_edge (g.H.Half.tree c.args.w) c.args.c c.args.d c.requires.ready.right_bridged c.requires.right_edge).1
+
+pub orient-requires-else-orient-ge0-clause-first : goal.orient-requires-else-orient-ge0-clause-first
+orient-requires-else-orient-ge0-clause-first g c =
+    g.met.H.Half.fits c.args.u c.args.b (turns.on_edge (g.H.Half.tree c.args.u) c.args.a c.args.b c.requires.ready.left_bridged c.requires.left_edge).1
+
+pub orient-requires-else-orient-ge0-clause-second : goal.orient-requires-else-orient-ge0-clause-second
+orient-requires-else-orient-ge0-clause-second g c =
+    g.met.H.Half.fits c.args.u c.args.a (turns.on_edge (g.H.Half.tree c.args.u) c.args.a c.args.b c.requires.ready.left_bridged c.requires.left_edge).0
+
+pub orient-requires-else-orient-ge0-clause-third : goal.orient-requires-else-orient-ge0-clause-third
+orient-requires-else-orient-ge0-clause-third g c =
+    g.met.H.Half.fits c.args.w c.args.d (turns.on_edge (g.H.Half.tree c.args.w) c.args.c c.args.d c.requires.ready.right_bridged c.requires.right_edge).1
+
 pub left-requires : goal.left-requires
 left-requires g c = turns.is_fork (g.H.Half.tree c.args.u) (c.args.a, c.args.b) c.requires.left_edge
 

@@ -3,6 +3,17 @@ use Rattle.lattice.specs.Plane.{orient}
 use Rattle.bridge_search.proofs.Turns as turns
 use Rattle.bridge_search.proofs.search.turn_left.Goals as goal
 
+pub orient-requires-clause-first : goal.orient-requires-clause-first
+orient-requires-clause-first g c =
+    g.met.H.Half.fits c.args.u c.args.a (turns.on_edge (g.H.Half.tree c.args.u) c.args.a c.args.b c.requires.ready.left_bridged c.requires.edge).0
+
+pub orient-requires-clause-second : goal.orient-requires-clause-second
+orient-requires-clause-second g c =
+    g.met.H.Half.fits c.args.u c.args.b (turns.on_edge (g.H.Half.tree c.args.u) c.args.a c.args.b c.requires.ready.left_bridged c.requires.edge).1
+
+pub orient-requires-clause-third : goal.orient-requires-clause-third
+orient-requires-clause-third g c = g.met.H.Half.fits c.args.w c.first.result (rw c.first.ensures (turns.on_first (g.H.Half.tree c.args.w)))
+
 pub left-requires : goal.left-requires
 left-requires g c = turns.is_fork (g.H.Half.tree c.args.u) (c.args.a, c.args.b) c.requires.edge
 

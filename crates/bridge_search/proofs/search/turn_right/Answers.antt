@@ -3,6 +3,17 @@ use Rattle.lattice.specs.Plane.{orient}
 use Rattle.bridge_search.proofs.Turns as turns
 use Rattle.bridge_search.proofs.search.turn_right.Goals as goal
 
+pub orient-requires-clause-first : goal.orient-requires-clause-first
+orient-requires-clause-first g c = g.met.H.Half.fits c.args.u c.first.result (rw c.first.ensures (turns.on_first (g.H.Half.tree c.args.u)))
+
+pub orient-requires-clause-second : goal.orient-requires-clause-second
+orient-requires-clause-second g c =
+    g.met.H.Half.fits c.args.w c.args.c (turns.on_edge (g.H.Half.tree c.args.w) c.args.c c.args.d c.requires.ready.right_bridged c.requires.edge).0
+
+pub orient-requires-clause-third : goal.orient-requires-clause-third
+orient-requires-clause-third g c =
+    g.met.H.Half.fits c.args.w c.args.d (turns.on_edge (g.H.Half.tree c.args.w) c.args.c c.args.d c.requires.ready.right_bridged c.requires.edge).1
+
 pub left-requires : goal.left-requires
 left-requires g c = turns.is_fork (g.H.Half.tree c.args.w) (c.args.c, c.args.d) c.requires.edge
 

@@ -7,14 +7,14 @@ pub returns-clause-built : goal.returns-clause-built
 returns-clause-built c =
     let b : below_of c.args.node.now ≡ Some c.deref.result.now = rw (c.in-Some.is, c.deref.ensures) refl in
     rw c.keep.ensures
-    (renewed_well _ _ _ _ _ c.requires.parted b c.requires.balanced c.searched-found.ensures.upper c.searched-found.ensures.lower c.searched-found.ensures.height)
+    (renewed_well _ _ _ _ _ _ c.requires.parted b c.requires.balanced c.searched-found.ensures.upper c.searched-found.ensures.lower c.searched-found.ensures.height c.searched-found.ensures.near)
 
 pub returns-clause-cost_left : goal.returns-clause-cost_left
 returns-clause-cost_left c =
     let b : below_of c.args.node.now ≡ Some c.deref.result.now = rw (c.in-Some.is, c.deref.ensures) refl in
-    rw c.keep.ensures (dearer_on_left _ _ _ _ _ _ c.requires.parted b c.searched-found.ensures.cost)
+    rw c.keep.ensures (dearer_on_left _ _ _ _ _ _ _ c.requires.parted b c.searched-found.ensures.cost)
 
 pub returns-clause-cost_right : goal.returns-clause-cost_right
 returns-clause-cost_right c =
     let b : below_of c.args.node.now ≡ Some c.deref.result.now = rw (c.in-Some.is, c.deref.ensures) refl in
-    rw c.keep.ensures (dearer_on_right _ _ _ _ _ _ c.requires.parted b c.searched-found.ensures.cost)
+    rw c.keep.ensures (dearer_on_right _ _ _ _ _ _ _ c.requires.parted b c.searched-found.ensures.cost)

@@ -20,7 +20,7 @@ insert-insert_below-below-requires t c =
 
 pub insert-returns-in-Some-clause-cost : goal.insert-returns-in-Some-clause-cost
 insert-returns-in-Some-clause-cost t c =
-    cost_through _ c.insert_below-below.new.halves _ _ _ _ _ (rolled_below _ _ _ _ _) c.insert_below-below.ensures.parted c.insert_below-below.ensures.cost c.rebalance.ensures.cost_left c.rebalance.ensures.cost_right (omega arith)
+    cost_through _ c.insert_below-below.new.halves _ _ _ _ _ (rolled_below _ _ _ _ _ _) c.insert_below-below.ensures.parted c.insert_below-below.ensures.cost c.rebalance.ensures.cost_left c.rebalance.ensures.cost_right (omega arith)
 
 pub insert_below-insert-requires-else-before : goal.insert_below-insert-requires-else-before
 insert_below-insert-requires-else-before t c =

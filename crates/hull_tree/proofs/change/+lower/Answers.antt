@@ -1,8 +1,9 @@
 use Rattle.std.proofs.Common.{refl, ◌≡◌, ◌∙◌, sym, Some}
 use Rattle.bridge_search.proofs.Signs.{passed, failed}
+use Rattle.hull_tree.specs.declared.node.Node as node
 use Rattle.hull_tree.specs.Nodes.{below_of}
 use Rattle.hull_tree.proofs.HalfRows.{IsOver, over_halves}
-use Rattle.hull_tree.proofs.Multiplicities.{all_left, all_right}
+use Rattle.hull_tree.proofs.Multiplicities.{all_left, all_right, leaf_lowered, same_point}
 use Rattle.hull_tree.proofs.change.+lower.Goals as goal
 
 pub returns-then-before-clause-was : goal.returns-then-before-clause-was
@@ -18,3 +19,8 @@ returns-else-before-clause-was t c =
     let o : IsOver c.args.node.now c.in-Some.halves.value = over_halves _ _ c.requires i in
     let b = rw c.deref.ensures at (failed _ _ c.if-before.false c.before-in-Some.ensures) in
     rw c.deref_mut-else-before.ensures.value at c.lower-else-before.ensures.was ∙ sym (o.times _ ∙ all_right _ _ _ _ _ o.parted b)
+
+pub returns-then-times-gt1-clause-lowered : goal.returns-then-times-gt1-clause-lowered
+unfolding node.roll-Node node.out-Node denote.Hole.Carrier.out denote.Hole.Carrier.roll
+returns-then-times-gt1-clause-lowered t c =
+    λ h q. leaf_lowered c.args.node.now c.args.p q c.in-None.is (same_point c.args.p (node.out-Node c.args.node.now).upper.0 c.ne.ensures c.if-ne.false) h

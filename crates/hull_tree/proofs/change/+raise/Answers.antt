@@ -1,8 +1,9 @@
 use Rattle.std.proofs.Common.{refl, ◌≡◌, ◌∙◌, sym, Some}
 use Rattle.bridge_search.proofs.Signs.{passed, failed}
+use Rattle.hull_tree.specs.declared.node.Node as node
 use Rattle.hull_tree.specs.Nodes.{below_of}
 use Rattle.hull_tree.proofs.HalfRows.{IsOver, over_halves}
-use Rattle.hull_tree.proofs.Multiplicities.{all_left, all_right}
+use Rattle.hull_tree.proofs.Multiplicities.{all_left, all_right, leaf_raised, same_point}
 use Rattle.hull_tree.proofs.change.+raise.Goals as goal
 
 pub returns-then-before-clause-was : goal.returns-then-before-clause-was
@@ -18,3 +19,8 @@ returns-else-before-clause-was t c =
     let o : IsOver c.args.node.now c.in-Some.halves.value = over_halves _ _ c.requires i in
     let b = rw c.deref.ensures at (failed _ _ c.if-before.false c.before-in-Some.ensures) in
     rw c.deref_mut-else-before.ensures.value at c.raise-else-before.ensures.was ∙ sym (o.times _ ∙ all_right _ _ _ _ _ o.parted b)
+
+pub returns-then-times-lt-MULTIPLICITY_LIMIT-clause-raised : goal.returns-then-times-lt-MULTIPLICITY_LIMIT-clause-raised
+unfolding node.roll-Node node.out-Node denote.Hole.Carrier.out denote.Hole.Carrier.roll
+returns-then-times-lt-MULTIPLICITY_LIMIT-clause-raised t c =
+    λ h g q. leaf_raised c.args.node.now c.args.p q c.in-None.is (same_point c.args.p (node.out-Node c.args.node.now).upper.0 c.ne.ensures c.if-ne.false)

@@ -1,0 +1,66 @@
+-- Trees all of whose points are near.
+use Rattle.std.specs.Prelude.{◌≡◌, ◌↔◌, ◌&&◌, Bool, IsTrue, neg_ℤ, ◌≤ℤ◌, ℤ, T}
+use Rattle.std.proofs.Common.{arith, refl, sym, inl, inr, true, false, subst}
+use Rattle.std.specs.Int.Signed.{le_z, le_z_yes}
+use Rattle.std.proofs.lemmas.Float.{T_from_true}
+use Rattle.std.proofs.lemmas.Bool.{and_parts, and_from}
+use Rattle.lattice.specs.declared.TheConstants.{NEAR_LIMIT}
+use Rattle.lattice.specs.Plane.{Pair, IsNear, turned_point}
+use Rattle.lattice.specs.Integers.{linear}
+use Rattle.bridge_search.specs.Trees.{Tree, Leaf, Fork, On, left_of, right_of}
+
+-- each point of the tree is near
+abbrev pub IsAllNear : Tree → Type 0
+IsAllNear t = (p : Pair) → On t p → IsNear p
+
+-- a near point is near after a turn by 180 degrees
+pub near_turned : (p : Pair) → IsNear p → IsNear (turned_point p)
+near_turned p h = (omega (arith, linear, h), omega (arith, linear, h), omega (arith, linear, h), omega (arith, linear, h))
+
+-- all points of the left half of such a tree are near
+pub near_left : (t : Tree) → IsAllNear t → IsAllNear (left_of t)
+near_left (Leaf x) h = h
+near_left (Fork e f u w) h = λ p i. h p (inl i)
+
+-- and all of its right half
+pub near_right : (t : Tree) → IsAllNear t → IsAllNear (right_of t)
+near_right (Leaf x) h = h
+near_right (Fork e f u w) h = λ p i. h p (inr i)
+
+-- whether a point is near
+abbrev pub is_near : Pair → Bool
+is_near p = le_z (neg_ℤ NEAR_LIMIT) p.x && le_z p.x NEAR_LIMIT && le_z (neg_ℤ NEAR_LIMIT) p.y && le_z p.y NEAR_LIMIT
+
+-- whether all points of the tree are
+abbrev pub are_near : Tree → Bool
+are_near (Leaf x) = is_near x
+are_near (Fork e f u w) = are_near u && are_near w
+
+-- a test that passed
+holds : {a b : ℤ} → le_z a b ≡ true → a ≤ℤ b
+holds {a} {b} h = le_z_yes (T_from_true (le_z a b) h)
+
+-- a test of what holds
+passes : {a b : ℤ} → a ≤ℤ b → le_z a b ≡ true
+passes {a} {b} h = is_true (le_z a b) h.le
+  where
+    is_true : (b : Bool) → T b → b ≡ true
+    is_true true h = refl
+    is_true false h = absurd h
+
+-- a point is near where it is said to be
+pub near_told : (p : Pair) → IsTrue (is_near p) ↔ IsNear p
+near_told p =
+    (λ h.
+    let b = and_parts _ _ h in
+    let c = and_parts _ _ b.0 in
+    let d = and_parts _ _ c.0 in
+    (holds d.0, holds d.1, holds c.1, holds b.1),
+    λ h. and_from _ _ (and_from _ _ (and_from _ _ (passes h.0) (passes h.1)) (passes h.2)) (passes h.3))
+
+-- so are all points of a tree
+pub all_told : (t : Tree) → IsTrue (are_near t) ↔ IsAllNear t
+all_told (Leaf x) = (λ h p i. subst IsNear (sym i) ((near_told x).0 h), λ h. (near_told x).1 (h x refl))
+all_told (Fork e f u w) =
+    (λ h p i. let b = and_parts (are_near u) (are_near w) h in elim i [ inl j ↦ (all_told u).0 b.0 p j | inr j ↦ (all_told w).0 b.1 p j ],
+    λ h. and_from (are_near u) (are_near w) ((all_told u).1 (λ p i. h p (inl i))) ((all_told w).1 (λ p i. h p (inr i))))
