@@ -50,17 +50,19 @@ passes {a} {b} h = is_true (le_z a b) h.le
 
 -- a point is near where it is said to be
 pub near_told : (p : Pair) → IsTrue (is_near p) ↔ IsNear p
-near_told p =
-    (λ h.
-    let b = and_parts _ _ h in
-    let c = and_parts _ _ b.0 in
-    let d = and_parts _ _ c.0 in
-    (holds d.0, holds d.1, holds c.1, holds b.1),
-    λ h. and_from _ _ (and_from _ _ (and_from _ _ (passes h.0) (passes h.1)) (passes h.2)) (passes h.3))
+near_told p = (
+  λ h.
+      let b = and_parts _ _ h in
+      let c = and_parts _ _ b.0 in
+      let d = and_parts _ _ c.0 in
+      (holds d.0, holds d.1, holds c.1, holds b.1),
+  λ h. and_from _ _ (and_from _ _ (and_from _ _ (passes h.0) (passes h.1)) (passes h.2)) (passes h.3),
+)
 
 -- so are all points of a tree
 pub all_told : (t : Tree) → IsTrue (are_near t) ↔ IsAllNear t
 all_told (Leaf x) = (λ h p i. subst IsNear (sym i) ((near_told x).0 h), λ h. (near_told x).1 (h x refl))
-all_told (Fork e f u w) =
-    (λ h p i. let b = and_parts (are_near u) (are_near w) h in elim i [ inl j ↦ (all_told u).0 b.0 p j | inr j ↦ (all_told w).0 b.1 p j ],
-    λ h. and_from (are_near u) (are_near w) ((all_told u).1 (λ p i. h p (inl i))) ((all_told w).1 (λ p i. h p (inr i))))
+all_told (Fork e f u w) = (
+  λ h p i. let b = and_parts (are_near u) (are_near w) h in elim i [ inl j ↦ (all_told u).0 b.0 p j | inr j ↦ (all_told w).0 b.1 p j ],
+  λ h. and_from (are_near u) (are_near w) ((all_told u).1 (λ p i. h p (inl i))) ((all_told w).1 (λ p i. h p (inr i))),
+)

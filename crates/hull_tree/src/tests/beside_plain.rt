@@ -138,26 +138,38 @@ fn same_answers(rt: HostRuntime) -> Result<(), Fail> {
     Ok(())
 }
 
-/// Half of the changes are at the point of the change before.
-#[test]
-fn same_answers_over_20000_changes(rt: HostRuntime) -> Result<(), Fail> {
-    let mut tree = HullTree::new(rt.alloc(), POINT_LIMIT);
-    let mut plain = PlainSet::new(rt.alloc(), POINT_LIMIT);
+/// Makes so many changes at points of a grid of 201 by 201 that lie so far apart, half of them at the point of the change
+/// before.
+fn change_on_grid(rt: &impl Abort, alloc: Global, apart: i64, steps: u32) -> Result<(), Fail> {
+    let mut tree = HullTree::new(alloc, POINT_LIMIT);
+    let mut plain = PlainSet::new(alloc, POINT_LIMIT);
     let mut numbers = Numbers { r: 1 };
     let (mut right, mut up) = (0, 0);
-    for step in 0u32..20000 {
+    for step in 0u32..steps {
         if numbers.next() % 2 == 0 {
             right = numbers.next() % 201;
             up = numbers.next() % 201;
         }
-        let (x, y) = (centred(right, 100), centred(up, 100));
+        let x = centred(right, 100).wrapping_mul(apart);
+        let y = centred(up, 100).wrapping_mul(apart);
         let adds = numbers.next() % 3 != 0;
-        change(&rt, &mut tree, &mut plain, at(x, y)?, adds);
+        change(rt, &mut tree, &mut plain, at(x, y)?, adds);
         if step % 500 == 499 {
-            assert_same_hull(&rt, &tree, &plain)?;
-            assert_same_sight(&rt, &tree, &plain, at(centred(right, 50), y)?);
-            assert_same_sight(&rt, &tree, &plain, at(x, centred(up, 150))?);
+            assert_same_hull(rt, &tree, &plain)?;
+            assert_same_sight(rt, &tree, &plain, at(centred(right, 50), y)?);
+            assert_same_sight(rt, &tree, &plain, at(x, centred(up, 150))?);
         }
     }
-    assert_same_points(&rt, rt.alloc(), &tree, &plain)
+    assert_same_points(rt, alloc, &tree, &plain)
+}
+
+#[test]
+fn same_answers_over_20000_changes(rt: HostRuntime) -> Result<(), Fail> {
+    change_on_grid(&rt, rt.alloc(), 1, 20000)
+}
+
+// Some points are near, and some are not: those of the grid's outermost lines.
+#[test]
+fn same_answers_across_the_near_limit(rt: HostRuntime) -> Result<(), Fail> {
+    change_on_grid(&rt, rt.alloc(), 11000000, 4000)
 }

@@ -1,4 +1,8 @@
 //! How many turns changes take, how deep the farthest point lies, and how many halves a search asks for.
+ghost use Rattle.std.specs.Prelude.{◌≡◌};
+ghost use Rattle.lattice.specs.Plane as plane;
+ghost use Rattle.lattice.specs.Plane.{IsWithin, widest_side};
+
 use super::at;
 use crate::{HullTree, path_cost_is_unique};
 use bridge_search::{Counted, Half, both_bridges, depth_is_unique, upper_bridge_counted};
@@ -124,7 +128,13 @@ impl<'a, H: Half> Half for Watched<'a, H> {
 
     ghost Fits = { H.Fits };
 
-    fn orient(a: Point, b: Point, c: Point) -> i128 {
+    fn orient(a: Point, b: Point, c: Point) -> i128
+        requires first { H.Fits a }
+        requires second { H.Fits b }
+        requires third { H.Fits c }
+        ensures value { result ≡ plane.orient a b c }
+        ensures size { IsWithin widest_side result }
+    {
         H::orient(a, b, c)
     }
 
