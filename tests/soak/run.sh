@@ -10,7 +10,11 @@
 # and each worker's lines are its calls in the order of the script.
 #
 # Then each script runs once more under a shim that holds threads up at random round their sleeps and wake-ups (delay.c), and
-# its report is judged the same way. There at least half of 64 workers have to go to sleep a hundred times each.
+# its report is judged the same way.
+#
+# Last comes a crowd: 64 workers, one phase of calls enough that each worker has many left when the last one has started. Under
+# the shim at least half of the workers have to go to sleep a hundred times each. (In a short phase they need not: a worker may
+# have made all its calls before the next one has started.)
 set -u
 here=$(cd "$(dirname "$0")" && pwd)
 top=$(cd "$here/../.." && pwd)
@@ -123,11 +127,19 @@ try() {
         run "$name, journal" "$program" run "$room/script" --journal
         judge_journal "$name"
     fi
-    run "$name, delayed" env LD_PRELOAD="$room/delay.so" "$program" run "$room/script" 9>"$room/sleeps"
+    run "$name, delayed" env LD_PRELOAD="$room/delay.so" "$program" run "$room/script"
     judge "$name, delayed" "$1"
-    if [ "$1" = 64 ] && [ "$3" -lt 100 ]; then
-        said "$name, sleeps" "$(slept_enough)"
-    fi
+}
+
+# a crowd of 64 workers: SEED
+crowd() {
+    name="seed $1, crowd"
+    script 64 "$1" 1 60000 >"$room/script"
+    sort -s -n -k 1,1 "$room/script" >"$room/calls"
+    calls=60000
+    run "$name" env LD_PRELOAD="$room/delay.so" "$program" run "$room/script" 9>"$room/sleeps"
+    judge "$name" 64
+    said "$name, sleeps" "$(slept_enough)"
 }
 
 round=0
@@ -136,6 +148,7 @@ while [ "$round" -lt "$rounds" ]; do
         try "$workers" $((seed + round)) 4 16000
         try "$workers" $((seed + round)) 1000 12000
     done
+    crowd $((seed + round))
     round=$((round + 1))
 done
 echo "$made calls were made, on scripts drawn from seed $seed on, $rounds of each kind"
