@@ -1,5 +1,5 @@
 -- The levels of a tree, one by one.
-use Rattle.std.proofs.Common.{◌≡◌, ◌++◌, ◌+◌, ℕ, List, [], refl, add-one}
+use Rattle.std.proofs.Common.{◌≡◌, ◌++◌, ◌+◌, ℕ, [], refl, add-one}
 use Rattle.bridge_search.specs.Trees.{Tree}
 use Rattle.hull_draw.specs.Bridges.{level_of, levels_of}
 

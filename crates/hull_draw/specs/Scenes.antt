@@ -1,5 +1,5 @@
 -- What a picture shows of a set: its marks, its hull, its area, and how far its journal was replayed.
-use Rattle.std.specs.Prelude.{◌≡◌, ◌≤◌, ℕ, List, map, pos, Option, Bool, true, false, []}
+use Rattle.std.specs.Prelude.{◌≡◌, ℕ, List, map, pos, Option, Bool, true, false, []}
 use Rattle.std.specs.List.{All}
 use Rattle.lattice.specs.Plane.{Pair}
 use Rattle.lattice.specs.Vertices.{IsVertexList, IsDoubledArea}

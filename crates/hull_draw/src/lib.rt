@@ -2,8 +2,7 @@
 //!
 //! [`draw`] reads a journal, replays it, and writes a picture of what is held after the lines that are asked for: the
 //! live points, how often each is held, the hull with its corners, the stored bridges of the tree where they are asked
-//! for, and a legend. The polygon is the vertex list of the
-//! replayed set, in order, in whole numbers.
+//! for, and a legend. The polygon is the vertex list of the replayed set, in order, in whole numbers.
 //!
 //! # A worked example
 //!
