@@ -60,16 +60,18 @@ fn look_between<H: Half>(half: H, q: Point) -> Sight
 pub(crate) fn look<H: Half>(half: H, q: Point) -> Sight
     ensures { IsSeen (H.tree half) q result }
 {
-    if before(q, half.first()) {
+    let first = half.first();
+    if before(q, first) {
         return Sight::Before;
     }
-    if before(half.last(), q) {
+    let last = half.last();
+    if before(last, q) {
         return Sight::After;
     }
-    if !before(half.first(), q) {
+    if !before(first, q) {
         return Sight::Touching;
     }
-    if !before(q, half.last()) {
+    if !before(q, last) {
         return Sight::Touching;
     }
     look_between(half, q)
