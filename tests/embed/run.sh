@@ -1,8 +1,8 @@
 #!/bin/sh
 # Shows that the library does in C, Rust and Python what it says: installs it into a temporary folder, compiles the programs
-# of this folder and of examples/embed against what is there, and runs them, those in C with valgrind's memory check too. It
-# stands beside the gate, which links no C. What is missing here (a compiler, python3, valgrind) is told and skipped, and
-# counts nothing. The last line counts, and the status is not 0 where something failed.
+# of this folder and of examples/embed against what is there, and runs them, those in C with valgrind's memory check too. The
+# gate runs it. What is missing here (a compiler, python3, valgrind) is told and skipped, and counts nothing. The last line
+# counts, and the status is not 0 where something failed.
 set -u
 here=$(cd "$(dirname "$0")" && pwd)
 top=$(cd "$here/../.." && pwd)

@@ -1,7 +1,7 @@
 #!/bin/sh
 # Shows that libhull_shared.a does in C what its header says: builds the archive, compiles the programs of this folder and of
-# examples/shared against the header, and runs them: threads that make 100000 mixed calls each, whose journal `hullbook check`
-# judges, and every code. It stands beside the gate, which links no C. The last line counts, and the status is not 0 where
+# examples/shared against the header, and runs them: threads that make 100000 mixed calls each (64 of them a tenth), whose
+# journal `bin/hullbook check` judges, and every code. The gate runs it. The last line counts, and the status is not 0 where
 # something failed; where there is no C compiler, it says so and counts nothing. With a number, that many calls a thread.
 set -u
 here=$(cd "$(dirname "$0")" && pwd)
@@ -40,7 +40,7 @@ build() {
 
 # whether hullbook says that the journal is legal
 legal() {
-    "$top/bin/try" check "$1" >"$room/verdict" 2>&1
+    "$top/bin/hullbook" check "$1" >"$room/verdict" 2>&1
 }
 
 (cd "$crate" && rt lib) >"$room/told" 2>&1
