@@ -13,8 +13,8 @@
 # its report is judged the same way.
 #
 # Last comes a crowd: 64 workers, one phase of calls enough that each worker has many left when the last one has started. Under
-# the shim at least half of the workers have to go to sleep a hundred times each. (In a short phase they need not: a worker may
-# have made all its calls before the next one has started.)
+# the shim at least half of the workers have to go to sleep a hundred times each. (In a short phase they need not: on one core a
+# worker makes all its calls before the next one starts.)
 set -u
 here=$(cd "$(dirname "$0")" && pwd)
 top=$(cd "$here/../.." && pwd)
