@@ -24,13 +24,16 @@ pub one_depth : (t : Tree) (p : Pair) (m n : ℕ) → IsBridged t → IsAtDepth 
 one_depth (Leaf x) p m n b h g = omega (arith, h.1, g.1)
 one_depth (Fork e f u w) p m n b (k, h, inl i) (l, g, inl j) = omega (arith, h, g, one_depth u p k l b.3 i j)
 one_depth (Fork e f u w) p m n b (k, h, inr i) (l, g, inr j) = omega (arith, h, g, one_depth w p k l b.4 i j)
-one_depth (Fork e f u w) p m n b (k, h, inl i) (l, g, inr j) = absurd (before_irrefl p (b.0 p p (on_at_depth u p k i) (on_at_depth w p l j)))
-one_depth (Fork e f u w) p m n b (k, h, inr i) (l, g, inl j) = absurd (before_irrefl p (b.0 p p (on_at_depth u p l j) (on_at_depth w p k i)))
+one_depth (Fork e f u w) p m n b (k, h, inl i) (l, g, inr j) =
+    absurd (before_irrefl p (b.0 p p (on_at_depth u p k i) (on_at_depth w p l j)))
+one_depth (Fork e f u w) p m n b (k, h, inr i) (l, g, inl j) =
+    absurd (before_irrefl p (b.0 p p (on_at_depth u p l j) (on_at_depth w p k i)))
 
 -- the depths of two ends are together at most the two heights
 pub sum_within : (u w : Tree) (p q : Pair) (n : ℕ) → IsDepthSum u w p q n → n ≤ height_of u + height_of w
 sum_within u w p q n (i, j, a, b, h) = omega (arith, h, depth_within u p i a, depth_within w q j b)
 
 -- the depths of two ends in turned halves are those of the turned ends
-pub sum_turned : (u w : Tree) (p q : Pair) (n : ℕ) → IsDepthSum (turned_tree w) (turned_tree u) p q n → IsDepthSum u w (turned_point q) (turned_point p) n
+pub sum_turned : (u w : Tree) (p q : Pair) (n : ℕ) → IsDepthSum (turned_tree w) (turned_tree u) p q n
+    → IsDepthSum u w (turned_point q) (turned_point p) n
 sum_turned u w p q n (i, j, a, b, h) = (j, i, depth_turned u q j b, depth_turned w p i a, omega arith)

@@ -20,9 +20,11 @@ last_by (Fork e f u w) h p (inr i) b = last_by w h.4 p i b
 -- p is not after a, a before b, q is not before b
 between : (p a b q : Pair) → (IsBefore a p → ⊥) → IsBefore a b → (IsBefore q b → ⊥) → IsBefore p q
 between p a b q h k l =
-    let pb : IsBefore p b = ⊎_elim (λ x. before_trans p a b x k) (λ r. ⊎_elim (λ e. rw e k) (λ x. absurd (h x)) r) (before_total p a) in
+    let pb : IsBefore p b =
+    ⊎_elim (λ x. before_trans p a b x k) (λ r. ⊎_elim (λ e. rw e k) (λ x. absurd (h x)) r) (before_total p a) in
     ⊎_elim (λ x. before_trans p b q pb x) (λ r. ⊎_elim (λ e. rw e at pb) (λ x. absurd (l x)) r) (before_total b q)
 
 -- where the last point of u stands before the first of w, all of u stands before all of w
-pub all_before : (u w : Tree) → IsBridged u → IsBridged w → IsBefore (last_of u) (first_of w) → IsAllBefore (On u) (On w)
+pub all_before : (u w : Tree) → IsBridged u → IsBridged w → IsBefore (last_of u) (first_of w)
+    → IsAllBefore (On u) (On w)
 all_before u w h k b p q i j = between p (last_of u) (first_of w) q (last_by u h p i) b (first_by w k q j)

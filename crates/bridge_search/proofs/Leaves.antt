@@ -1,9 +1,11 @@
 -- The points of a half as a list: its members, their order and their number.
-use Rattle.std.proofs.Common.{◌≡◌, zero, suc, ◌≤◌, inl, inr, refl, sym, ap, subst, arith, List, [], ◌∷◌, ◌++◌, length, get_or}
+use Rattle.std.proofs.Common.{◌≡◌, zero, suc, ◌≤◌, inl, inr, refl, sym, ap, subst, arith, List, [], ◌∷◌, ◌++◌, length}
+use Rattle.std.proofs.Common.{get_or}
 use Rattle.std.specs.Prelude.{◌≢◌}
 use Rattle.std.specs.List.{All, Contains}
 use Rattle.std.proofs.lemmas.Grind.{common_steps}
-use Rattle.std.proofs.lemmas.List.Elements.{Contains-append_left, Contains-append_right, Contains-append_cases, Contains-get_or}
+use Rattle.std.proofs.lemmas.List.Elements.{Contains-append_left, Contains-append_right, Contains-append_cases}
+use Rattle.std.proofs.lemmas.List.Elements.{Contains-get_or}
 use Rattle.std.proofs.lemmas.List.Kept.{AllPairs-cons}
 use Rattle.lattice.specs.Covers.{IsPointSet}
 use Rattle.lattice.specs.Plane.{Pair, IsBefore}
@@ -14,7 +16,9 @@ use Rattle.bridge_search.specs.Leaves.{points_of}
 pub on_of_contains : (t : Tree) (p : Pair) → Contains (points_of t) p → On t p
 on_of_contains (Leaf x) p (zero, l, e) = sym e
 on_of_contains (Leaf x) p (suc k, l, e) = absurd (omega (arith, l))
-on_of_contains (Fork e f u w) p m = elim (Contains-append_cases (points_of u) (points_of w) p m) [ inl i ↦ inl (on_of_contains u p i) | inr i ↦ inr (on_of_contains w p i) ]
+on_of_contains (Fork e f u w) p m =
+    elim (Contains-append_cases (points_of u) (points_of w) p m)
+    [ inl i ↦ inl (on_of_contains u p i) | inr i ↦ inr (on_of_contains w p i) ]
 
 -- a point of the half is a member of the list
 pub contains_of_on : (t : Tree) (p : Pair) → On t p → Contains (points_of t) p
@@ -27,12 +31,15 @@ pub all_of : (P : Pair → Type 0) (S : List Pair) → ((t : Pair) → Contains 
 all_of P S h = λ k d l. h (get_or S k d) (Contains-get_or S k d l)
 
 -- two sets in a row, the one before the other, are a set
-pub sets_in_row : (xs ys : List Pair) → IsPointSet xs → IsPointSet ys → ((p q : Pair) → Contains xs p → Contains ys q → IsBefore p q) → IsPointSet (xs ++ ys)
+pub sets_in_row : (xs ys : List Pair) → IsPointSet xs → IsPointSet ys
+    → ((p q : Pair) → Contains xs p → Contains ys q → IsBefore p q) → IsPointSet (xs ++ ys)
 sets_in_row [] ys s t o = t
 sets_in_row (x ∷ xs) ys s t o =
     AllPairs-cons IsBefore x (xs ++ ys)
-    (all_of (IsBefore x) (xs ++ ys) (λ q m. elim (Contains-append_cases xs ys q m) [ inl i ↦ ahead q i | inr i ↦ o x q (0, omega arith, refl) i ]))
-    (sets_in_row xs ys (λ i j d lt l. s (suc i) (suc j) d (omega arith) (omega arith)) t (λ p q i. o p q (suc i.0, omega (arith, i.1), i.2)))
+    (all_of (IsBefore x) (xs ++ ys)
+    (λ q m. elim (Contains-append_cases xs ys q m) [ inl i ↦ ahead q i | inr i ↦ o x q (0, omega arith, refl) i ]))
+    (sets_in_row xs ys (λ i j d lt l. s (suc i) (suc j) d (omega arith) (omega arith)) t
+    (λ p q i. o p q (suc i.0, omega (arith, i.1), i.2)))
   where
     ahead : (q : Pair) → Contains xs q → IsBefore x q
     ahead q (k, l, e) = subst (IsBefore x) e (s 0 (suc k) q (omega arith) (omega (arith, l)))

@@ -10,12 +10,14 @@ fork_listed (e ∷ []) h = absurd h
 fork_listed (e ∷ f ∷ es) h = omega arith
 
 -- the part that it keeps
-pub bridged_rest : (e : Entry) (es : List Entry) → 1 ≤ length es → IsBridged (listed_tree (e ∷ es)) → IsBridged (listed_tree es)
+pub bridged_rest : (e : Entry) (es : List Entry) → 1 ≤ length es → IsBridged (listed_tree (e ∷ es))
+    → IsBridged (listed_tree es)
 bridged_rest e [] h k = absurd (omega arith)
 bridged_rest e (f ∷ es) h k = k.3
 
 -- a point behind a list, with the bridges between them, is a list
-pub bridged_more : (e : Entry) (es : List Entry) → 1 ≤ length es → IsBridged (Fork e.1 e.2 (listed_tree es) (Leaf e.0)) → IsBridged (listed_tree (e ∷ es))
+pub bridged_more : (e : Entry) (es : List Entry) → 1 ≤ length es → IsBridged (Fork e.1 e.2 (listed_tree es) (Leaf e.0))
+    → IsBridged (listed_tree (e ∷ es))
 bridged_more e [] h k = absurd (omega arith)
 bridged_more e (f ∷ es) h k = k
 
@@ -26,7 +28,8 @@ edge_one (e ∷ []) h = refl
 edge_one (e ∷ f ∷ es) h = absurd (omega arith)
 
 -- two points and more have the upper edge of the first entry
-pub edge_more : (es : List Entry) (d : Entry) → 2 ≤ length es → Some (slice_index_or es 0 d).1 ≡ edge_of (listed_tree es)
+pub edge_more : (es : List Entry) (d : Entry) → 2 ≤ length es
+    → Some (slice_index_or es 0 d).1 ≡ edge_of (listed_tree es)
 edge_more [] d h = absurd (omega arith)
 edge_more (e ∷ []) d h = absurd (omega arith)
 edge_more (e ∷ f ∷ es) d h = refl
@@ -38,7 +41,8 @@ lower_one (e ∷ []) h = refl
 lower_one (e ∷ f ∷ es) h = absurd (omega arith)
 
 -- two points and more have the lower edge of the first entry
-pub lower_more : (es : List Entry) (d : Entry) → 2 ≤ length es → Some (slice_index_or es 0 d).2 ≡ lower_of (listed_tree es)
+pub lower_more : (es : List Entry) (d : Entry) → 2 ≤ length es
+    → Some (slice_index_or es 0 d).2 ≡ lower_of (listed_tree es)
 lower_more [] d h = absurd (omega arith)
 lower_more (e ∷ []) d h = absurd (omega arith)
 lower_more (e ∷ f ∷ es) d h = refl

@@ -28,5 +28,8 @@ pub failed : (r : Bool) (P : Type 0) → r ≡ false → (IsTrue r ↔ P) → P 
 failed r P e h p = let t : r ≡ true = h.1 p in cc
 
 -- a crossing told by its two sides, which the program cast
-pub crossing_told : (r : Bool) (s t : ℤ) (a b c d m : Pair) → IsWithin widest_side s → IsWithin widest_side t → s ≡ orient a b c → t ≡ orient b a d → (IsTrue r ↔ IsWeightedAtOrBefore (to_z w128 (of_z w128 s)) (to_z w128 (of_z w128 t)) c d m) → IsTrue r ↔ IsCrossingAtOrBefore a b c d m
+pub crossing_told : (r : Bool) (s t : ℤ) (a b c d m : Pair) → IsWithin widest_side s → IsWithin widest_side t
+    → s ≡ orient a b c → t ≡ orient b a d
+    → (IsTrue r ↔ IsWeightedAtOrBefore (to_z w128 (of_z w128 s)) (to_z w128 (of_z w128 t)) c d m)
+    → IsTrue r ↔ IsCrossingAtOrBefore a b c d m
 crossing_told r s t a b c d m fs ft e g h = rw (cast_side s fs ∙ e, cast_side t ft ∙ g) at h

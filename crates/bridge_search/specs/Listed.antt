@@ -18,7 +18,8 @@ listed_tree (e ∷ f ∷ es) = Fork e.1 e.2 (listed_tree (f ∷ es)) (Leaf e.0)
 pub height_listed : (es : List Entry) → 1 ≤ length es → height_of (listed_tree es) + 1 ≡ length es
 height_listed [] h = absurd (omega arith)
 height_listed (e ∷ []) h = omega arith
-height_listed (e ∷ f ∷ es) h = let k : height_of (listed_tree (f ∷ es)) + 1 ≡ length (f ∷ es) = height_listed (f ∷ es) (omega arith) in omega arith
+height_listed (e ∷ f ∷ es) h = let k : height_of (listed_tree (f ∷ es)) + 1 ≡ length (f ∷ es) =
+    height_listed (f ∷ es) (omega arith) in omega arith
 
 -- a half over a list that is not too long is not too high
 pub low_listed : (es : List Entry) → 1 ≤ length es → length es ≤ highest → height_of (listed_tree es) ≤ highest

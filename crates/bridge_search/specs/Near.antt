@@ -15,7 +15,12 @@ IsAllNear t = (p : Pair) → On t p → IsNear p
 
 -- a near point is near after a turn by 180 degrees
 pub near_turned : (p : Pair) → IsNear p → IsNear (turned_point p)
-near_turned p h = (omega (arith, linear, h), omega (arith, linear, h), omega (arith, linear, h), omega (arith, linear, h))
+near_turned p h = (
+  omega (arith, linear, h),
+  omega (arith, linear, h),
+  omega (arith, linear, h),
+  omega (arith, linear, h),
+)
 
 -- all points of the left half of such a tree are near
 pub near_left : (t : Tree) → IsAllNear t → IsAllNear (left_of t)
@@ -63,6 +68,7 @@ near_told p = (
 pub all_told : (t : Tree) → IsTrue (are_near t) ↔ IsAllNear t
 all_told (Leaf x) = (λ h p i. subst IsNear (sym i) ((near_told x).0 h), λ h. (near_told x).1 (h x refl))
 all_told (Fork e f u w) = (
-  λ h p i. let b = and_parts (are_near u) (are_near w) h in elim i [ inl j ↦ (all_told u).0 b.0 p j | inr j ↦ (all_told w).0 b.1 p j ],
+  λ h p i. let b = and_parts (are_near u) (are_near w) h in
+      elim i [ inl j ↦ (all_told u).0 b.0 p j | inr j ↦ (all_told w).0 b.1 p j ],
   λ h. and_from (are_near u) (are_near w) ((all_told u).1 (λ p i. h p (inl i))) ((all_told w).1 (λ p i. h p (inr i))),
 )

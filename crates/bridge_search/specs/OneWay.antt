@@ -35,18 +35,21 @@ point_set = hlevel ℤ_set
 
 -- that a point stands before another has one proof
 before_prop : (p q : Pair) → IsProp (IsBefore p q)
-before_prop p q = either_prop (lt_prop p.x q.x) (let e : IsProp (p.x ≡ q.x) = ℤ_set p.x q.x in hlevel (e, lt_prop)) (λ h k. omega (arith, linear))
+before_prop p q = either_prop (lt_prop p.x q.x) (let e : IsProp (p.x ≡ q.x) = ℤ_set p.x q.x in hlevel (e, lt_prop))
+    (λ h k. omega (arith, linear))
 
 -- that one set stands before another has one proof
 all_before_prop : (l r : Pair → Type 0) → IsProp (IsAllBefore l r)
 all_before_prop l r = hlevel before_prop
 
 -- that an edge is the upper bridge has one proof, where being a point of either set has one
-upper_prop : (l r : Pair → Type 0) (p q : Pair) → ((t : Pair) → IsProp (l t)) → ((t : Pair) → IsProp (r t)) → IsProp (IsUpperBridge l r p q)
+upper_prop : (l r : Pair → Type 0) (p q : Pair) → ((t : Pair) → IsProp (l t)) → ((t : Pair) → IsProp (r t))
+    → IsProp (IsUpperBridge l r p q)
 upper_prop l r p q pl pr = hlevel (pl, pr, le_prop)
 
 -- the same of the lower bridge
-lower_prop : (l r : Pair → Type 0) (p q : Pair) → ((t : Pair) → IsProp (l t)) → ((t : Pair) → IsProp (r t)) → IsProp (IsLowerBridge l r p q)
+lower_prop : (l r : Pair → Type 0) (p q : Pair) → ((t : Pair) → IsProp (l t)) → ((t : Pair) → IsProp (r t))
+    → IsProp (IsLowerBridge l r p q)
 lower_prop l r p q pl pr = hlevel (pl, pr, le_prop)
 
 -- a point stands in one place of a half that keeps the law
@@ -59,8 +62,10 @@ pub IsBridged-prop : (t : Tree) → IsProp (IsBridged t)
 IsBridged-prop (Leaf x) = hlevel
 IsBridged-prop (Fork e f u w) = given (λ h.
     let a : IsProp (IsAllBefore (On u) (On w)) = all_before_prop (On u) (On w) in
-    let b : IsProp (IsUpperBridge (On u) (On w) e.0 e.1) = upper_prop (On u) (On w) e.0 e.1 (on_prop u h.3) (on_prop w h.4) in
-    let c : IsProp (IsLowerBridge (On u) (On w) f.0 f.1) = lower_prop (On u) (On w) f.0 f.1 (on_prop u h.3) (on_prop w h.4) in
+    let b : IsProp (IsUpperBridge (On u) (On w) e.0 e.1) =
+    upper_prop (On u) (On w) e.0 e.1 (on_prop u h.3) (on_prop w h.4) in
+    let c : IsProp (IsLowerBridge (On u) (On w) f.0 f.1) =
+    lower_prop (On u) (On w) f.0 f.1 (on_prop u h.3) (on_prop w h.4) in
     let d : IsProp (IsBridged u) = IsBridged-prop u in
     let k : IsProp (IsBridged w) = IsBridged-prop w in
     hlevel (a, b, c, d, k))

@@ -4,7 +4,8 @@ use Rattle.lattice.specs.Plane.{Pair, IsBefore}
 use Rattle.lattice.specs.Bridges.{IsAllBefore, IsUpperBridge}
 use Rattle.bridge_search.specs.Trees.{Tree, On, IsBridged, first_of, size_of, height_of, IsAtDepth}
 
--- the halves u and w of a turn keep the law, and the point m parts them: each point of u stands before m, and none of w does
+-- the halves u and w of a turn keep the law, and the point m parts them: each point of u stands before m, and none of
+-- w does
 pub record IsReady (u w : Tree) (m : Pair) : Type 0 where
   pub left_bridged : IsBridged u
   pub right_bridged : IsBridged w

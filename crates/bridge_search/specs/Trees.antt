@@ -48,10 +48,13 @@ abbrev pub IsFork : Tree → Type 0
 IsFork (Leaf x) = ⊥
 IsFork (Fork e f u w) = Unit {0}
 
--- the law of a half: at each fork all of the left half stands before all of the right one, and the stored edges are the two bridges of these halves
+-- the law of a half: at each fork all of the left half stands before all of the right one, and the stored edges are
+-- the two bridges of these halves
 abbrev pub IsBridged : Tree → Type 0
 IsBridged (Leaf x) = Unit {0}
-IsBridged (Fork e f u w) = IsAllBefore (On u) (On w) × IsUpperBridge (On u) (On w) e.0 e.1 × IsLowerBridge (On u) (On w) f.0 f.1 × IsBridged u × IsBridged w
+IsBridged (Fork e f u w) =
+    IsAllBefore (On u) (On w) × IsUpperBridge (On u) (On w) e.0 e.1 × IsLowerBridge (On u) (On w) f.0 f.1 × IsBridged u
+    × IsBridged w
 
 -- how many points the tree has
 abbrev pub size_of : Tree → ℕ

@@ -3,7 +3,8 @@ use Rattle.std.specs.Prelude.{◌≡◌, ℕ, ◌≤◌, pos, neg_ℤ, ◌≤ℤ
 use Rattle.std.proofs.Common.{refl, ap, subst, ◌∙◌, arith, inl, inr}
 use Rattle.lattice.specs.Plane.{Pair, orient, IsBefore, turned_point}
 use Rattle.lattice.specs.Bridges.{IsAllBefore, IsUpperBridge, IsLowerBridge, IsNotBeyond}
-use Rattle.bridge_search.specs.Trees.{Tree, Leaf, Fork, On, IsBridged, IsFork, edge_of, lower_of, left_of, right_of, first_of, last_of, height_of, IsAtDepth, highest}
+use Rattle.bridge_search.specs.Trees.{Tree, Leaf, Fork, On, IsBridged, IsFork, edge_of, lower_of, left_of, right_of}
+use Rattle.bridge_search.specs.Trees.{first_of, last_of, height_of, IsAtDepth, highest}
 use Rattle.lattice.specs.Integers.{linear}
 use Rattle.lattice.proofs.TurnedBridges.{turned_twice, orient_turned, before_turned, before_turned_back}
 
@@ -47,7 +48,8 @@ order_turned u w o p q i j = before_swap p q (o (turned_point q) (turned_point p
     before_swap p q (inr h) = inr (omega (arith, linear))
 
 -- the lower bridge, turned, is the upper one of the turned halves
-pub upper_turned : (u w : Tree) (p q : Pair) → IsLowerBridge (On u) (On w) p q → IsUpperBridge (On (turned_tree w)) (On (turned_tree u)) (turned_point q) (turned_point p)
+pub upper_turned : (u w : Tree) (p q : Pair) → IsLowerBridge (On u) (On w) p q
+    → IsUpperBridge (On (turned_tree w)) (On (turned_tree u)) (turned_point q) (turned_point p)
 upper_turned u w p q h = record {
   from_left = turned_on w q h.to_right;
   to_right = turned_on u p h.from_left;
@@ -58,16 +60,19 @@ upper_turned u w p q h = record {
 }
   where
     below : (t : Pair) → pos 0 ≤ℤ orient p q (turned_point t) → orient (turned_point q) (turned_point p) t ≤ℤ pos 0
-    below t g = let e : orient (turned_point q) (turned_point p) t ≡ neg_ℤ (orient p q (turned_point t)) = orient_turned p q t in omega (arith, linear)
+    below t g = let e : orient (turned_point q) (turned_point p) t ≡ neg_ℤ (orient p q (turned_point t)) =
+        orient_turned p q t in omega (arith, linear)
 
     zero : (t : Pair) → orient (turned_point q) (turned_point p) t ≡ pos 0 → orient p q (turned_point t) ≡ pos 0
-    zero t g = let e : orient (turned_point q) (turned_point p) t ≡ neg_ℤ (orient p q (turned_point t)) = orient_turned p q t in omega (arith, linear)
+    zero t g = let e : orient (turned_point q) (turned_point p) t ≡ neg_ℤ (orient p q (turned_point t)) =
+        orient_turned p q t in omega (arith, linear)
 
     tie : (t : Pair) → IsNotBeyond p q (turned_point t) → IsNotBeyond (turned_point q) (turned_point p) t
     tie t k = (λ b. k.1 (before_turned_back t q b), λ b. k.0 (before_turned t p b))
 
 -- the upper bridge, turned, is the lower one of the turned halves
-pub lower_turned : (u w : Tree) (p q : Pair) → IsUpperBridge (On u) (On w) p q → IsLowerBridge (On (turned_tree w)) (On (turned_tree u)) (turned_point q) (turned_point p)
+pub lower_turned : (u w : Tree) (p q : Pair) → IsUpperBridge (On u) (On w) p q
+    → IsLowerBridge (On (turned_tree w)) (On (turned_tree u)) (turned_point q) (turned_point p)
 lower_turned u w p q h = record {
   from_left = turned_on w q h.to_right;
   to_right = turned_on u p h.from_left;
@@ -78,16 +83,19 @@ lower_turned u w p q h = record {
 }
   where
     above : (t : Pair) → orient p q (turned_point t) ≤ℤ pos 0 → pos 0 ≤ℤ orient (turned_point q) (turned_point p) t
-    above t g = let e : orient (turned_point q) (turned_point p) t ≡ neg_ℤ (orient p q (turned_point t)) = orient_turned p q t in omega (arith, linear)
+    above t g = let e : orient (turned_point q) (turned_point p) t ≡ neg_ℤ (orient p q (turned_point t)) =
+        orient_turned p q t in omega (arith, linear)
 
     zero : (t : Pair) → orient (turned_point q) (turned_point p) t ≡ pos 0 → orient p q (turned_point t) ≡ pos 0
-    zero t g = let e : orient (turned_point q) (turned_point p) t ≡ neg_ℤ (orient p q (turned_point t)) = orient_turned p q t in omega (arith, linear)
+    zero t g = let e : orient (turned_point q) (turned_point p) t ≡ neg_ℤ (orient p q (turned_point t)) =
+        orient_turned p q t in omega (arith, linear)
 
     tie : (t : Pair) → IsNotBeyond p q (turned_point t) → IsNotBeyond (turned_point q) (turned_point p) t
     tie t k = (λ b. k.1 (before_turned_back t q b), λ b. k.0 (before_turned t p b))
 
 -- and back: the upper bridge of the turned halves gives the lower one
-pub lower_from_turned : (u w : Tree) (p q : Pair) → IsUpperBridge (On (turned_tree w)) (On (turned_tree u)) p q → IsLowerBridge (On u) (On w) (turned_point q) (turned_point p)
+pub lower_from_turned : (u w : Tree) (p q : Pair) → IsUpperBridge (On (turned_tree w)) (On (turned_tree u)) p q
+    → IsLowerBridge (On u) (On w) (turned_point q) (turned_point p)
 lower_from_turned u w p q h = record {
   from_left = on_turned u q h.to_right;
   to_right = on_turned w p h.from_left;
@@ -98,10 +106,12 @@ lower_from_turned u w p q h = record {
 }
   where
     above : (t : Pair) → orient p q (turned_point t) ≤ℤ pos 0 → pos 0 ≤ℤ orient (turned_point q) (turned_point p) t
-    above t g = let e : orient (turned_point q) (turned_point p) t ≡ neg_ℤ (orient p q (turned_point t)) = orient_turned p q t in omega (arith, linear)
+    above t g = let e : orient (turned_point q) (turned_point p) t ≡ neg_ℤ (orient p q (turned_point t)) =
+        orient_turned p q t in omega (arith, linear)
 
     zero : (t : Pair) → orient (turned_point q) (turned_point p) t ≡ pos 0 → orient p q (turned_point t) ≡ pos 0
-    zero t g = let e : orient (turned_point q) (turned_point p) t ≡ neg_ℤ (orient p q (turned_point t)) = orient_turned p q t in omega (arith, linear)
+    zero t g = let e : orient (turned_point q) (turned_point p) t ≡ neg_ℤ (orient p q (turned_point t)) =
+        orient_turned p q t in omega (arith, linear)
 
     tie : (t : Pair) → IsNotBeyond p q (turned_point t) → IsNotBeyond (turned_point q) (turned_point p) t
     tie t k = (λ b. k.1 (before_turned_back t q b), λ b. k.0 (before_turned t p b))
@@ -109,8 +119,13 @@ lower_from_turned u w p q h = record {
 -- a half that keeps the law keeps it after a turn
 pub bridged_turned : (t : Tree) → IsBridged t → IsBridged (turned_tree t)
 bridged_turned (Leaf x) h = tt
-bridged_turned (Fork e f u w) h =
-    (order_turned u w h.0, upper_turned u w f.0 f.1 h.2, lower_turned u w e.0 e.1 h.1, bridged_turned w h.4, bridged_turned u h.3)
+bridged_turned (Fork e f u w) h = (
+  order_turned u w h.0,
+  upper_turned u w f.0 f.1 h.2,
+  lower_turned u w e.0 e.1 h.1,
+  bridged_turned w h.4,
+  bridged_turned u h.3,
+)
 
 -- a stored edge turned
 abbrev pub turned_edge : Option (Pair × Pair) → Option (Pair × Pair)
@@ -158,5 +173,6 @@ depth_turned (Fork e f u w) p n (k, h, inl i) = (k, h, inr (depth_turned w p k i
 depth_turned (Fork e f u w) p n (k, h, inr i) = (k, h, inl (depth_turned u p k i))
 
 -- what holds of all points of a half and is kept by a turn holds of all points of the turned half
-pub fits_turned : (P : Pair → Type 0) → ((p : Pair) → P p → P (turned_point p)) → (t : Tree) → ((p : Pair) → On t p → P p) → (p : Pair) → On (turned_tree t) p → P p
+pub fits_turned : (P : Pair → Type 0) → ((p : Pair) → P p → P (turned_point p)) → (t : Tree)
+    → ((p : Pair) → On t p → P p) → (p : Pair) → On (turned_tree t) p → P p
 fits_turned P kept t all p i = subst P (turned_twice p) (kept (turned_point p) (all (turned_point p) (on_turned t p i)))

@@ -12,7 +12,9 @@ use Rattle.ticket_lock.specs.declared.guard.Guard.{Guard}
 use Rattle.ticket_lock.specs.declared.lock.TicketLock.{TicketLock}
 use Rattle.ticket_lock.specs.declared.seat.Seat.{Seat}
 use Rattle.ticket_lock.specs.declared.ticket.Ticket.{Ticket}
-use Rattle.ticket_lock.specs.Tokens.{opening_book, IsSeatOf, seat_number, seat_seen, IsTicketOf, ticket_seat, ticket_seen, guard_lock, guard_seat, guard_number, guard_seen, guard_book, KeepsHead}
+use Rattle.ticket_lock.specs.Tokens.{opening_book, IsSeatOf, seat_number, seat_seen, IsTicketOf, ticket_seat}
+use Rattle.ticket_lock.specs.Tokens.{ticket_seen, guard_lock, guard_seat, guard_number, guard_seen, guard_book}
+use Rattle.ticket_lock.specs.Tokens.{KeepsHead}
 
 module _ {S : Type 0} (lock : TicketLock (Boxed S) BookHead Line) (k : ℕ) (ledger : LedgerValue) where
   -- the seat k of the lock, idle
@@ -22,7 +24,8 @@ module _ {S : Type 0} (lock : TicketLock (Boxed S) BookHead Line) (k : ℕ) (led
     pub counts : IsLedgerOf k (seat_seen s) ledger
 
   -- the seat k of the lock, with a number
-  pub record IsTicketAt {C : chronicle.Ghosts (Boxed S) BookHead Line} (t : Ticket (Boxed S) BookHead Line C) : Type 0 where
+  pub record IsTicketAt {C : chronicle.Ghosts (Boxed S) BookHead Line}
+      (t : Ticket (Boxed S) BookHead Line C) : Type 0 where
     pub own : IsTicketOf lock t
     pub number : ticket_seat t ≡ k
     pub counts : IsLedgerOf k (ticket_seen t) ledger
@@ -39,7 +42,9 @@ module _ {S : Type 0} (lock : TicketLock (Boxed S) BookHead Line) (k : ℕ) (led
     pub counts : IsLedgerOf k (guard_seen g) ledger
 
   -- what the player has is of the lock and the seat k, and its ledger counts what that has seen
-  pub record IsPlaced (K : Ghosts S) {C : chronicle.Ghosts (Boxed S) BookHead Line} (seat : Option (Seat (Boxed S) BookHead Line)) (ticket : Option (Ticket (Boxed S) BookHead Line C)) (guard : Option (Guard (Boxed S) BookHead Line)) : Type 0 where
+  pub record IsPlaced (K : Ghosts S) {C : chronicle.Ghosts (Boxed S) BookHead Line}
+      (seat : Option (Seat (Boxed S) BookHead Line)) (ticket : Option (Ticket (Boxed S) BookHead Line C))
+      (guard : Option (Guard (Boxed S) BookHead Line)) : Type 0 where
     pub below : k < workers_of (box_value (opening_book lock))
     pub seated : IfSome seat IsSeatAt
     pub waits : IfSome ticket IsTicketAt

@@ -25,7 +25,8 @@ calls_in jobs = sum_by (λ calls. length calls) jobs
 abbrev pub calls_in_all : List PhaseValue → ℕ
 calls_in_all phases = sum_by calls_in phases
 
--- the limits of a script: one to 64 workers, a list of calls a worker in each phase, and no more calls than a text has lines
+-- the limits of a script: one to 64 workers, a list of calls a worker in each phase, and no more calls than a text has
+-- lines
 pub record IsScript (workers : ℕ) (phases : List PhaseValue) : Type 0 where
   pub workers_low : 1 ≤ workers
   pub workers_high : workers ≤ SEAT_LIMIT

@@ -34,16 +34,21 @@ IsServedAs kind.Count x y old new told = IsServed call.Count old new told
 -- the request's call was made; or no kind has its number, and nothing changed
 abbrev pub IsAnswered : HullRequest → LimitedTree → LimitedTree → HullReply → Type 0
 IsAnswered q old new told =
-    ((k : Kind) × (kind_number k ≡ q.kind) × IsServedAs k q.x q.y old new told) ⊎ (((k : Kind) → kind_number k ≢ q.kind) × IsBare code.UnknownKind told × (new ≡ old))
+    ((k : Kind) × (kind_number k ≡ q.kind) × IsServedAs k q.x q.y old new told)
+    ⊎ (((k : Kind) → kind_number k ≢ q.kind) × IsBare code.UnknownKind told × (new ≡ old))
 
 -- the code is that of a request that can't be served
 abbrev pub IsBad : ℕ → Type 0
-IsBad n = (n ≡ code_number code.OutOfRange) ⊎ ((n ≡ code_number code.ZeroDirection) ⊎ (n ≡ code_number code.UnknownKind))
+IsBad n = (n ≡ code_number code.OutOfRange)
+    ⊎ ((n ≡ code_number code.ZeroDirection) ⊎ (n ≡ code_number code.UnknownKind))
 
--- the requests were served in their order, each at what those before it left, up to the end of the shorter array or the first
+-- the requests were served in their order, each at what those before it left, up to the end of the shorter array or
+-- the first
 -- request that can't be served; so many replies were written to the front of the array, whose rest is as it was
 abbrev pub AreServed : List HullRequest → List HullReply → LimitedTree → LimitedTree → List HullReply → ℕ → Type 0
 AreServed (q ∷ qs) (_ ∷ rest) old new after made =
-    (told : HullReply) × (behind : List HullReply) × (mid : LimitedTree) × (after ≡ told ∷ behind) × IsAnswered q old mid told
-    × ((IsBad told.code × (made ≡ 1) × (behind ≡ rest) × (new ≡ mid)) ⊎ (¬ IsBad told.code × ((m : ℕ) × (made ≡ m + 1) × AreServed qs rest mid new behind m)))
+    (told : HullReply) × (behind : List HullReply) × (mid : LimitedTree) × (after ≡ told ∷ behind)
+    × IsAnswered q old mid told
+    × ((IsBad told.code × (made ≡ 1) × (behind ≡ rest) × (new ≡ mid))
+    ⊎ (¬ IsBad told.code × ((m : ℕ) × (made ≡ m + 1) × AreServed qs rest mid new behind m)))
 AreServed _ before old new after made = (made ≡ 0) × (after ≡ before) × (new ≡ old)

@@ -43,24 +43,37 @@ code_number code.UnknownKind = 22
 
 -- a code, and nothing beside it
 abbrev pub IsBare : Code → HullReply → Type 0
-IsBare c r = r ≡ record { code = code_number c; x = pos 0; y = pos 0; other_x = pos 0; other_y = pos 0; number = 0; high = 0 }
+IsBare c r = r ≡ record
+    { code = code_number c; x = pos 0; y = pos 0; other_x = pos 0; other_y = pos 0; number = 0; high = 0 }
 
 -- a code with a number
 abbrev pub IsNumber : Code → ℕ → HullReply → Type 0
-IsNumber c n r = r ≡ record { code = code_number c; x = pos 0; y = pos 0; other_x = pos 0; other_y = pos 0; number = n; high = 0 }
+IsNumber c n r = r ≡ record
+    { code = code_number c; x = pos 0; y = pos 0; other_x = pos 0; other_y = pos 0; number = n; high = 0 }
 
 -- a point
 abbrev pub IsPoint : Pair → HullReply → Type 0
-IsPoint p r = r ≡ record { code = code_number code.Point; x = p.x; y = p.y; other_x = pos 0; other_y = pos 0; number = 0; high = 0 }
+IsPoint p r = r ≡ record
+    { code = code_number code.Point; x = p.x; y = p.y; other_x = pos 0; other_y = pos 0; number = 0; high = 0 }
 
 -- two tangent points
 abbrev pub AreTangents : Pair → Pair → HullReply → Type 0
-AreTangents p q r = r ≡ record { code = code_number code.Tangents; x = p.x; y = p.y; other_x = q.x; other_y = q.y; number = 0; high = 0 }
+AreTangents p q r = r
+    ≡ record { code = code_number code.Tangents; x = p.x; y = p.y; other_x = q.x; other_y = q.y; number = 0; high = 0 }
 
 -- a number of 128 bits in two words, and nothing beside it
 abbrev pub IsWide : ℕ → HullReply → Type 0
 IsWide n r =
-    (r ≡ record { code = code_number code.Number; x = pos 0; y = pos 0; other_x = pos 0; other_y = pos 0; number = r.number; high = r.high })
+    (r ≡ record {
+      code = code_number code.Number;
+      x = pos 0;
+      y = pos 0;
+      other_x = pos 0;
+      other_y = pos 0;
+      number =
+          r.number;
+      high = r.high;
+    })
     × (n ≡ r.high * 2 ^ 64 + r.number)
 
 -- the numbers tell the reply of a set
@@ -84,7 +97,8 @@ Tells r (reply.DoubledArea n) = IsWide n r
 Tells r (reply.PointCount n) = IsNumber code.Number n r
 Tells r _ = ⊥
 
--- the call was made: the numbers tell a reply that is allowed for what the tree held, which has its effect, and the limit stays
+-- the call was made: the numbers tell a reply that is allowed for what the tree held, which has its effect, and the
+-- limit stays
 pub record IsServed (call : Call) (old new : LimitedTree) (told : HullReply) : Type 0 where
   pub reply : Reply
   pub tells : Tells told reply
@@ -99,18 +113,21 @@ AreCoordinates x y = IsCoordinate x × IsCoordinate y
 -- a call at a point was made, or a coordinate was out of range and nothing changed
 abbrev pub IsServedAt : (Pair → Call) → ℤ → ℤ → LimitedTree → LimitedTree → HullReply → Type 0
 IsServedAt call x y old new told =
-    (AreCoordinates x y × IsServed (call (record { x = x; y = y })) old new told) ⊎ (¬ AreCoordinates x y × IsBare code.OutOfRange told × (new ≡ old))
+    (AreCoordinates x y × IsServed (call (record { x = x; y = y })) old new told)
+    ⊎ (¬ AreCoordinates x y × IsBare code.OutOfRange told × (new ≡ old))
 
 -- a call along a direction was made; or a component was out of range, or both were 0, and nothing changed
 abbrev pub IsServedAlong : ℤ → ℤ → LimitedTree → LimitedTree → HullReply → Type 0
 IsServedAlong x y old new told =
     (AreCoordinates x y × ¬ ((x ≡ pos 0) × (y ≡ pos 0)) × IsServed (Extreme (record { x = x; y = y })) old new told)
-    ⊎ ((¬ AreCoordinates x y × IsBare code.OutOfRange told × (new ≡ old)) ⊎ (((x ≡ pos 0) × (y ≡ pos 0)) × IsBare code.ZeroDirection told × (new ≡ old)))
+    ⊎ ((¬ AreCoordinates x y × IsBare code.OutOfRange told × (new ≡ old))
+    ⊎ (((x ≡ pos 0) × (y ≡ pos 0)) × IsBare code.ZeroDirection told × (new ≡ old)))
 
 -- how often the point is held was told, or a coordinate was out of range; nothing changed
 abbrev pub IsMultiplicityAt : ℤ → ℤ → LimitedTree → LimitedTree → HullReply → Type 0
 IsMultiplicityAt x y old new told =
-    (new ≡ old) × ((AreCoordinates x y × IsNumber code.Number ((held_by old.root).times (record { x = x; y = y })) told) ⊎ (¬ AreCoordinates x y × IsBare code.OutOfRange told))
+    (new ≡ old) × ((AreCoordinates x y × IsNumber code.Number ((held_by old.root).times (record { x = x; y = y })) told)
+    ⊎ (¬ AreCoordinates x y × IsBare code.OutOfRange told))
 
 -- nothing is held any more, and the limit stays
 pub record IsCleared (old new : LimitedTree) (told : HullReply) : Type 0 where
@@ -144,7 +161,8 @@ pub record IsTooSmall (points before after : List Pair) (told : HullReply) : Typ
   pub same : after ≡ before
   pub tells : IsNumber code.TooSmall (length corners) told
 
--- the hull stays; its corners were written, or the array is too short for them, or memory was refused, which nothing held would not ask for
+-- the hull stays; its corners were written, or the array is too short for them, or memory was refused, which nothing
+-- held would not ask for
 abbrev pub AreCorners : LimitedTree → LimitedTree → List Pair → List Pair → HullReply → Type 0
 AreCorners old new before after told =
     (new ≡ old)

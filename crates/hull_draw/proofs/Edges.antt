@@ -1,5 +1,6 @@
 -- A frame that grows with the marks.
-use Rattle.std.proofs.Common.{◌≡◌, inl, inr, ◌<◌, ◌≤◌, ◌+◌, ◌≤ℤ◌, ℕ, ℤ, List, length, take, get_or, subst, sym, ◌∙◌, arith}
+use Rattle.std.proofs.Common.{◌≡◌, inl, inr, ◌<◌, ◌≤◌, ◌+◌, ◌≤ℤ◌, ℕ, ℤ, List, length, take, get_or, subst, sym, ◌∙◌}
+use Rattle.std.proofs.Common.{arith}
 use Rattle.std.proofs.lemmas.Int.{ints}
 use Rattle.std.proofs.lemmas.List.{take_all}
 use Rattle.std.proofs.lemmas.List.Elements.{All-more}
@@ -31,7 +32,8 @@ holds_more marks i m f g lt e w so_far = All-more (λ n. IsWithin g n.point) mar
     (λ k d h. w.holds _ (so_far k d h)) (subst (λ n. IsWithin g n.point) e w.own)
 
 -- the point of a mark, or one that was marked, is marked
-pub either_marked : (marks : List Mark) (m : Mark) (p q : Pair) → Contains marks m → IsMarked marks p → IsEither p m.point q → IsMarked marks q
+pub either_marked : (marks : List Mark) (m : Mark) (p q : Pair) → Contains marks m → IsMarked marks p
+    → IsEither p m.point q → IsMarked marks q
 either_marked marks m p q in' h (inl e) = (h.0, h.1, h.2 ∙ sym e)
 either_marked marks m p q in' h (inr e) = (m, in', sym e)
 

@@ -18,7 +18,8 @@ IsJournalFaultOf bytes f = ReadsKnownJournal bytes (Err f)
 abbrev pub IsJournal : Option (List ℕ) → Type 0
 IsJournal bytes = (journal : JournalValue) × ReadsKnownJournal bytes (Ok journal)
 
--- The bytes, where they are known, were read as a journal, and those written have grown by the picture of a scene of it.
+-- The bytes, where they are known, were read as a journal, and those written have grown by the picture of a scene of
+-- it.
 pub record HasPicture (bytes : Option (List ℕ)) (o : DrawOptions) (old new : Option (List ℕ)) : Type 0 where
   pub journal : JournalValue
   pub scene : SceneValue

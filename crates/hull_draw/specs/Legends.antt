@@ -1,5 +1,6 @@
 -- What a picture says in words: beside the points how often they are held, and below them the numbers of the set.
-use Rattle.std.specs.Prelude.{◌==◌, ◌+◌, ◌*◌, ◌/◌, leb, ℕ, ℤ, List, [], ◌∷◌, ◌++◌, length, Option, Some, None, codes, if◌then◌else◌}
+use Rattle.std.specs.Prelude.{◌==◌, ◌+◌, ◌*◌, ◌/◌, leb, ℕ, ℤ, List, [], ◌∷◌, ◌++◌, length, Option, Some, None, codes}
+use Rattle.std.specs.Prelude.{if◌then◌else◌}
 use Rattle.std.specs.Fmt.{signed_decimal}
 use Rattle.hull_draw.specs.declared.bridges.Bridge.{Bridge}
 use Rattle.hull_draw.specs.declared.marks.Mark.{Mark}
@@ -20,7 +21,8 @@ abbrev pub label_text : ℕ → Frame → Mark → List ℕ
 label_text size frame m = if m.times == 1
     then []
     else told (codes "<text class='t' x='") (place_on_screen size frame (across frame m.point) + 39)
-    ++ told (codes "' y='") (place_on_screen size frame (down frame m.point) + 26) ++ told (codes "'>") m.times ++ codes "</text>\n"
+    ++ told (codes "' y='") (place_on_screen size frame (down frame m.point) + 26) ++ told (codes "'>") m.times
+    ++ codes "</text>\n"
 
 -- the marks that have labels: none where there are too many to be read
 abbrev pub labelled : List Mark → List Mark
@@ -41,7 +43,8 @@ thinned_text step = if step == 1 then [] else told (codes "; one of ") step ++ c
 -- how many points there are, and how many there may be
 abbrev pub count_text : ℕ → ℕ → ℕ → List ℕ
 count_text size count limit =
-    line_start size 76 ++ told (codes "'>points ") count ++ told (codes " (limit ") limit ++ codes ")" ++ thinned_text (step_of count) ++ codes "</text>\n"
+    line_start size 76 ++ told (codes "'>points ") count ++ told (codes " (limit ") limit ++ codes ")"
+    ++ thinned_text (step_of count) ++ codes "</text>\n"
 
 -- the doubled area
 abbrev pub area_text : ℕ → ℕ → List ℕ
@@ -65,7 +68,8 @@ wrong_text (Some k) = told (codes "<tspan class='w'>; line ") (k + 2) ++ codes "
 
 -- how many lines were replayed
 abbrev pub lines_text : ℕ → ℕ → Option ℕ → List ℕ
-lines_text size lines wrong = line_start size 142 ++ told (codes "'>calls ") lines ++ wrong_text wrong ++ codes "</text>\n"
+lines_text size lines wrong =
+    line_start size 142 ++ told (codes "'>calls ") lines ++ wrong_text wrong ++ codes "</text>\n"
 
 -- which bridges are drawn, where any are
 abbrev pub bridges_told_text : ℕ → List Bridge → List ℕ

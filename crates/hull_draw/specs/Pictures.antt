@@ -10,12 +10,14 @@ use Rattle.hull_draw.specs.Texts.{told}
 
 -- how wide and high a picture is, and how it is coloured
 abbrev pub head_text : ℕ → List ℕ
-head_text size = told (codes "<svg xmlns='http://www.w3.org/2000/svg' width='") (size + 64) ++ told (codes "' height='") (size + 184) ++ codes "'>\n" ++ STYLE.now
+head_text size = told (codes "<svg xmlns='http://www.w3.org/2000/svg' width='") (size + 64)
+    ++ told (codes "' height='") (size + 184) ++ codes "'>\n" ++ STYLE.now
 
 -- the shapes in their square, and the labels
 abbrev pub set_text : ℕ → Frame → SceneValue → List ℕ
 set_text size frame scene =
-    square_text size (extent_of frame) ++ shapes_text frame scene ++ codes "</svg>\n" ++ labels_text size frame scene.marks
+    square_text size (extent_of frame) ++ shapes_text frame scene ++ codes "</svg>\n"
+    ++ labels_text size frame scene.marks
 
 -- the set, or that it is empty
 abbrev pub shown_text : ℕ → Option Frame → SceneValue → List ℕ
@@ -24,4 +26,5 @@ shown_text size (Some frame) scene = set_text size frame scene
 
 -- the text of a picture of a scene, with its legend
 unfoldable pub picture_text : ℕ → Option Frame → SceneValue → List ℕ
-picture_text size frame scene = head_text size ++ shown_text size frame scene ++ legend_text size frame scene ++ codes "</svg>\n"
+picture_text size frame scene =
+    head_text size ++ shown_text size frame scene ++ legend_text size frame scene ++ codes "</svg>\n"

@@ -14,7 +14,8 @@ use Rattle.hull_draw.specs.declared.marks.Mark.{Mark}
 use Rattle.hull_draw.specs.Bridges.{bridges_of}
 use Rattle.hull_draw.specs.Replays.{IsReplayed, asked_lines}
 
--- the limit of the set, how many lines were replayed, the wrong line if there is one, the points with their multiplicities, the corners of the hull, its doubled area, and bridges of the tree
+-- the limit of the set, how many lines were replayed, the wrong line if there is one, the points with their
+-- multiplicities, the corners of the hull, its doubled area, and bridges of the tree
 pub record SceneValue : Type 0 where
   pub limit : ℕ
   pub lines : ℕ

@@ -1,4 +1,5 @@
--- The shapes of a picture, inside a square that the browser scales: its units are those of the plane, so all numbers are whole.
+-- The shapes of a picture, inside a square that the browser scales: its units are those of the plane, so all numbers
+-- are whole.
 use Rattle.std.specs.Prelude.{◌-◌, ◌/◌, ◌+◌, ℕ, zero, suc, List, [], ◌∷◌, ◌++◌, length, codes, decimal}
 use Rattle.lattice.specs.Plane.{Pair}
 use Rattle.hull_draw.specs.declared.bridges.Bridge.{Bridge}
@@ -55,11 +56,14 @@ bridge_line_text frame words level e =
 
 -- both bridges of a fork
 abbrev pub bridge_text : Frame → Bridge → List ℕ
-bridge_text frame b = bridge_line_text frame (codes "<path class='u v") b.level b.upper ++ bridge_line_text frame (codes "<path class='l v") b.level b.lower
+bridge_text frame b =
+    bridge_line_text frame (codes "<path class='u v") b.level b.upper
+    ++ bridge_line_text frame (codes "<path class='l v") b.level b.lower
 
 -- the square that the browser scales to `size` points of the screen
 abbrev pub square_text : ℕ → ℕ → List ℕ
-square_text size extent = told (codes "<svg x='32' y='32' overflow='visible' width='") size ++ told (codes "' height='") size
+square_text size extent =
+    told (codes "<svg x='32' y='32' overflow='visible' width='") size ++ told (codes "' height='") size
     ++ told (codes "' viewBox='0 0 ") extent ++ told (codes " ") extent ++ codes "'>\n"
 
 -- the hull, the points, above them the bridges, and above these the corners

@@ -11,18 +11,24 @@ use Rattle.hull_book.proofs.Counts.{all_counts}
 use Rattle.hull_tree.specs.Sets.{hull_tree}
 use Rattle.ticket_lock.specs.Forms.{partitioned_form}
 use Rattle.ticket_lock.specs.Schedule.{SchedulesHold}
-use Rattle.hull_headline.specs.Headline.{Always, WheneverFree, AtMostOneHolds, StoresBridgesOfLivePoints, HoldsEachPointAsOften, HasLegalJournal, IsInOrderOfNumbers, LedgersSumToLength}
+use Rattle.hull_headline.specs.Headline.{Always, WheneverFree, AtMostOneHolds, StoresBridgesOfLivePoints}
+use Rattle.hull_headline.specs.Headline.{HoldsEachPointAsOften, HasLegalJournal, IsInOrderOfNumbers, LedgersSumToLength}
 
 -- the law of the lock, at a book over a tree
 abbrev pub Law : Type 0
 Law = SchedulesHold (says_book hull_tree) partitioned_form
 
 -- a right line has its number: of the lines that begin with line k, line i has the first number and k and i
-numbered : (head : Head) (k : ℕ) (S : Held) (lines : List Line) → AreRight head k S lines → (i : ℕ) (line : Line) → slice_get lines i ≡ Some line → line.number ≡ (head.first + (k + i)) % (2 ^ 64)
+numbered : (head : Head) (k : ℕ) (S : Held) (lines : List Line) → AreRight head k S lines → (i : ℕ) (line : Line)
+    → slice_get lines i ≡ Some line → line.number ≡ (head.first + (k + i)) % (2 ^ 64)
 unfolding AreRight
 numbered head k S [] right i line e = cc
-numbered head k S (m ∷ lines) right zero line e = let same : m ≡ line = cc in subst (λ (l : Line). l.number ≡ (head.first + (k + 0)) % (2 ^ 64)) same (subst (λ (n : ℕ). m.number ≡ (head.first + n) % (2 ^ 64)) (omega arith) right.0.number)
-numbered head k S (m ∷ lines) right (suc i) line e = subst (λ (n : ℕ). line.number ≡ (head.first + n) % (2 ^ 64)) (omega arith) (numbered head (suc k) (after S m.call m.reply) lines right.1 i line e)
+numbered head k S (m ∷ lines) right zero line e = let same : m ≡ line = cc in
+    subst (λ (l : Line). l.number ≡ (head.first + (k + 0)) % (2 ^ 64)) same
+    (subst (λ (n : ℕ). m.number ≡ (head.first + n) % (2 ^ 64)) (omega arith) right.0.number)
+numbered head k S (m ∷ lines) right (suc i) line e =
+    subst (λ (n : ℕ). line.number ≡ (head.first + n) % (2 ^ 64)) (omega arith)
+    (numbered head (suc k) (after S m.call m.reply) lines right.1 i line e)
 
 -- no two seats hold
 pub one_holder : Law → Always AtMostOneHolds
@@ -30,11 +36,14 @@ one_holder law seats book opening now steps opened runs = (law seats book openin
 
 -- the stored bridges are those of the live points
 pub bridges : Law → WheneverFree StoresBridgesOfLivePoints
-bridges law seats book opening now steps opened runs free = let lawful = (law seats book opening now steps opened runs).0.lawful in (lawful.sound.built, ap (λ (h : Held). h.points) lawful.set)
+bridges law seats book opening now steps opened runs free = let lawful =
+    (law seats book opening now steps opened runs).0.lawful in
+    (lawful.sound.built, ap (λ (h : Held). h.points) lawful.set)
 
 -- each point is held as often as the journal's calls left it
 pub multiplicities : Law → WheneverFree HoldsEachPointAsOften
-multiplicities law seats book opening now steps opened runs free = (law seats book opening now steps opened runs).0.lawful.set
+multiplicities law seats book opening now steps opened runs free =
+    (law seats book opening now steps opened runs).0.lawful.set
 
 -- the journal is legal
 pub legal : Law → WheneverFree HasLegalJournal
@@ -44,7 +53,8 @@ legal law seats book opening now steps opened runs free = (law seats book openin
 pub in_order : Law → WheneverFree IsInOrderOfNumbers
 in_order law seats book opening now steps opened runs free k line at =
     subst (λ (n : ℕ). line.number ≡ (now.current.head.journal.first + n) % (2 ^ 64)) (omega arith)
-    (numbered now.current.head.journal 0 nothing_held now.current.lines (law seats book opening now steps opened runs).0.lawful.legal k line at)
+    (numbered now.current.head.journal 0 nothing_held now.current.lines
+    (law seats book opening now steps opened runs).0.lawful.legal k line at)
 
 -- the ledgers sum to its length
 pub ledgers : Law → WheneverFree LedgersSumToLength

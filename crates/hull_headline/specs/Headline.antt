@@ -1,4 +1,5 @@
--- What is promised of a book over a tree that many seats share, sentence by sentence, whatever order their single steps fall in.
+-- What is promised of a book over a tree that many seats share, sentence by sentence, whatever order their single
+-- steps fall in.
 use Rattle.std.specs.Prelude.{◌≡◌, ◌+◌, ◌%◌, ◌^◌, ℕ, true, List, length, slice_get, Some}
 use Rattle.hull_book.specs.declared.head.BookHead.{BookHead}
 use Rattle.hull_book.specs.declared.line.Line.{Line}
@@ -20,11 +21,13 @@ TreeBook = BookValue LimitedTree
 abbrev pub Moment : Type 0
 Moment = World TreeBook BookHead Line
 
--- It holds at every moment: however many seats a lock was opened for, round whatever lawful book, and whichever steps of
+-- It holds at every moment: however many seats a lock was opened for, round whatever lawful book, and whichever steps
+-- of
 -- its seats were made since, in whatever order.
 abbrev pub Always : (Moment → Type 0) → Type 0
 Always P = (seats : ℕ) (book : TreeBook) (opening now : Moment) (steps : List (Event TreeBook))
-    → Opened (says_book hull_tree) partitioned_form seats book opening → Runs (says_book hull_tree) partitioned_form steps opening now → P now
+    → Opened (says_book hull_tree) partitioned_form seats book opening
+    → Runs (says_book hull_tree) partitioned_form steps opening now → P now
 
 -- The same whenever the lock is free, of the book that it keeps.
 abbrev pub WheneverFree : (TreeBook → Type 0) → Type 0
@@ -34,7 +37,8 @@ WheneverFree P = Always (λ now. now.home ≡ true → P now.current)
 abbrev pub AtMostOneHolds : Moment → Type 0
 AtMostOneHolds now = (one other t u : ℕ) → Holds now one t → Holds now other u → one ≡ other
 
--- Each stored bridge is that of the points below it, and these are the live points: those that the journal's calls left.
+-- Each stored bridge is that of the points below it, and these are the live points: those that the journal's calls
+-- left.
 abbrev pub StoresBridgesOfLivePoints : TreeBook → Type 0
 StoresBridgesOfLivePoints book = IsWellBuiltRoot book.set.root × (points_of_root book.set.root ≡ live book.lines)
 
@@ -48,8 +52,10 @@ HasLegalJournal book = IsLegal book.head.journal book.lines
 
 -- The calls stand in the order of their numbers: line k has the first number and k, modulo 2 ^ 64.
 abbrev pub IsInOrderOfNumbers : TreeBook → Type 0
-IsInOrderOfNumbers book = (k : ℕ) (line : Line) → slice_get book.lines k ≡ Some line → line.number ≡ (book.head.journal.first + k) % (2 ^ 64)
+IsInOrderOfNumbers book = (k : ℕ) (line : Line) → slice_get book.lines k ≡ Some line
+    → line.number ≡ (book.head.journal.first + k) % (2 ^ 64)
 
 -- All its ledgers, once they are gathered, sum to the length of the journal.
 abbrev pub LedgersSumToLength : TreeBook → Type 0
-LedgersSumToLength book = (ledgers : List LedgerValue) → AreAllLedgers book ledgers → sum_of_counts ledgers ≡ length book.lines
+LedgersSumToLength book = (ledgers : List LedgerValue) → AreAllLedgers book ledgers
+    → sum_of_counts ledgers ≡ length book.lines

@@ -1,5 +1,6 @@
 -- The first of the farthest points of a list.
-use Rattle.std.proofs.Common.{◌≡◌, ℕ, ◌≤ℤ◌, inl, inr, sym, ◌∙◌, subst, List, arith, ◌+◌, ◌<◌, length, get_or, Bool, take}
+use Rattle.std.proofs.Common.{◌≡◌, ℕ, ◌≤ℤ◌, inl, inr, sym, ◌∙◌, subst, List, arith, ◌+◌, ◌<◌, length, get_or, Bool}
+use Rattle.std.proofs.Common.{take}
 use Rattle.std.specs.List.{Contains}
 use Rattle.std.specs.Prelude.{IsTrue, ◌↔◌}
 use Rattle.std.proofs.lemmas.Int.{ints}
@@ -12,7 +13,8 @@ use Rattle.lattice.proofs.Order.{before_trans, before_irrefl}
 use Rattle.hull_plain.proofs.PointLists.{get_or_free}
 
 -- in a tie the test is the order
-pub better_tie : (d p q : Pair) (r : Bool) → product d p ≡ product d q → IsTrue r ↔ IsBefore p q → IsTrue r ↔ IsBetter d p q
+pub better_tie : (d p q : Pair) (r : Bool) → product d p ≡ product d q → IsTrue r ↔ IsBefore p q
+    → IsTrue r ↔ IsBetter d p q
 better_tie d p q r e h = (λ t. inr (e, h.0 t), λ b. h.1 (only b))
   where
     only : IsBetter d p q → IsBefore p q
@@ -32,19 +34,26 @@ better_irrefl d p (inl h) = omega (arith, ints)
 better_irrefl d p (inr h) = before_irrefl p h.1
 
 -- a point that is not better leaves the best as it is
-pub best_stays : (S : List Pair) (d b : Pair) (i : ℕ) (x : Pair) → i < length S → IsBestOf (take i S) d b → x ≡ get_or S i x → ¬ (IsBetter d x b) → IsBestOf (take (i + 1) S) d b
-best_stays S d b i x l h e n = All-more (λ u. ¬ (IsBetter d u b)) S i x l h (λ k. n (subst (λ (z : Pair). IsBetter d z b) (sym e) k))
+pub best_stays : (S : List Pair) (d b : Pair) (i : ℕ) (x : Pair) → i < length S → IsBestOf (take i S) d b
+    → x ≡ get_or S i x → ¬ (IsBetter d x b) → IsBestOf (take (i + 1) S) d b
+best_stays S d b i x l h e n =
+    All-more (λ u. ¬ (IsBetter d u b)) S i x l h (λ k. n (subst (λ (z : Pair). IsBetter d z b) (sym e) k))
 
 -- a point that is better becomes the best
-pub best_moves : (S : List Pair) (d b : Pair) (i : ℕ) (x : Pair) → i < length S → IsBestOf (take i S) d b → IsBetter d x b → x ≡ get_or S i x → (f : Pair) → IsBestOf (take (i + 1) S) d (get_or S i f)
+pub best_moves : (S : List Pair) (d b : Pair) (i : ℕ) (x : Pair) → i < length S → IsBestOf (take i S) d b
+    → IsBetter d x b → x ≡ get_or S i x → (f : Pair) → IsBestOf (take (i + 1) S) d (get_or S i f)
 best_moves S d b i x l h n e f =
     let better : IsBetter d (get_or S i f) b = subst (λ (z : Pair). IsBetter d z b) (e ∙ get_or_free S i x f l) n in
-    All-more (λ u. ¬ (IsBetter d u (get_or S i f))) S i f l (All-weaker (λ u. ¬ (IsBetter d u b)) (λ u. ¬ (IsBetter d u (get_or S i f))) (λ u m k. m (better_trans d u (get_or S i f) b k better)) (take i S) h) (better_irrefl d _)
+    All-more (λ u. ¬ (IsBetter d u (get_or S i f))) S i f l
+    (All-weaker (λ u. ¬ (IsBetter d u b)) (λ u. ¬ (IsBetter d u (get_or S i f)))
+    (λ u m k. m (better_trans d u (get_or S i f) b k better)) (take i S) h) (better_irrefl d _)
 
 -- the best point is the first of the farthest
 pub first_farthest : (S : List Pair) (d t : Pair) → Contains S t → IsBestOf S d t → IsFirstFarthest S d t
 first_farthest S d t m h = (
   m,
-  All-weaker (λ u. ¬ (IsBetter d u t)) (λ u. product d u ≤ℤ product d t) (λ u n. elim (le_or_lt (product d u) (product d t)) [ inl k ↦ k | inr k ↦ absurd (n (inl k)) ]) S h,
-  All-weaker (λ u. ¬ (IsBetter d u t)) (λ u. IsBefore u t → product d u ≡ product d t → ⊥) (λ u n b e. n (inr (e, b))) S h,
+  All-weaker (λ u. ¬ (IsBetter d u t)) (λ u. product d u ≤ℤ product d t)
+      (λ u n. elim (le_or_lt (product d u) (product d t)) [ inl k ↦ k | inr k ↦ absurd (n (inl k)) ]) S h,
+  All-weaker (λ u. ¬ (IsBetter d u t)) (λ u. IsBefore u t → product d u ≡ product d t → ⊥)
+      (λ u n b e. n (inr (e, b))) S h,
 )

@@ -1,8 +1,10 @@
 -- What one pass over points in order makes of a chain.
-use Rattle.std.proofs.Common.{◌≡◌, ℕ, pos, ◌≤ℤ◌, ◌⊎◌, inl, inr, refl, sym, ap, ◌∙◌, subst, List, arith, zero, suc, [], ◌∷◌, ◌++◌, ◌<◌, ◌+◌, ◌-◌, length, get_or, take}
+use Rattle.std.proofs.Common.{◌≡◌, ℕ, pos, ◌≤ℤ◌, ◌⊎◌, inl, inr, refl, sym, ap, ◌∙◌, subst, List, arith, zero, suc, []}
+use Rattle.std.proofs.Common.{◌∷◌, ◌++◌, ◌<◌, ◌+◌, ◌-◌, length, get_or, take}
 use Rattle.std.specs.List.{All, Contains}
 use Rattle.std.proofs.lemmas.Int.{ints}
-use Rattle.std.proofs.lemmas.List.Elements.{All-cons, All-head, All-tail, Contains-append_left, Contains-append_right, Contains-append_cases}
+use Rattle.std.proofs.lemmas.List.Elements.{All-cons, All-head, All-tail, Contains-append_left, Contains-append_right}
+use Rattle.std.proofs.lemmas.List.Elements.{Contains-append_cases}
 use Rattle.lattice.specs.Covers.{IsPointSet}
 use Rattle.lattice.specs.Plane.{Pair, orient, IsBefore}
 use Rattle.lattice.proofs.Order.{before_trans}
@@ -11,29 +13,45 @@ use Rattle.hull_plain.specs.declared.monotone.Side.{Side}
 use Rattle.hull_plain.specs.declared.monotone.Side.TheVariants.{Lower, Upper}
 use Rattle.hull_plain.proofs.ChangedSets.{set-insert}
 use Rattle.hull_plain.proofs.Orientation.{orient_swap, orient-cycle, orient_other}
-use Rattle.hull_plain.proofs.PointLists.{AllPairs-cons, AllPairs-head, AllPairs-tail, all_append_right, left_part, right_part, append_none, append_twice, get_or_free}
+use Rattle.hull_plain.proofs.PointLists.{AllPairs-cons, AllPairs-head, AllPairs-tail, all_append_right, left_part}
+use Rattle.hull_plain.proofs.PointLists.{right_part, append_none, append_twice, get_or_free}
 use Rattle.hull_plain.proofs.SameSide.{side_trans}
 
--- three points in the order, of which the middle one does not lie outwards: it lies inwards of the segment of the others
+-- three points in the order, of which the middle one does not lie outwards: it lies inwards of the segment of the
+-- others
 middle : (side : Side) (a b c : Pair) → IsBefore a b → IsBefore b c → turn side a b c ≤ℤ pos 0 → IsInwards side a c b
 middle Lower a b c ab bc h = (ab, bc, let e = orient_swap a c b in omega (arith, ints))
-middle Upper a b c ab bc h = (ab, bc, let e = orient-cycle b c a in let f = orient_other c b a in let g = orient-cycle c a b in let k = orient_other a b c in let m = orient-cycle a b c in omega (arith, ints))
+middle Upper a b c ab bc h = (
+  ab,
+  bc,
+  let e = orient-cycle b c a in let f = orient_other c b a in let g = orient-cycle c a b in let k =
+      orient_other a b c in let m = orient-cycle a b c in omega (arith, ints),
+)
 
 -- what lies inwards of the first of two segments lies inwards of the long one
-first_inwards : (side : Side) (a b c u : Pair) → IsBefore a b → IsBefore b c → turn side a b c ≤ℤ pos 0 → IsInwards side a b u → IsInwards side a c u
-first_inwards Lower a b c u ab bc h (au, ub, k) =
-    (au, before_trans u b c ub bc, side_trans a c b u (inl (before_trans a b c ab bc, ab, au)) (let e = orient_swap a c b in omega (arith, ints)) k)
+first_inwards : (side : Side) (a b c u : Pair) → IsBefore a b → IsBefore b c → turn side a b c ≤ℤ pos 0
+    → IsInwards side a b u → IsInwards side a c u
+first_inwards Lower a b c u ab bc h (au, ub, k) = (
+  au,
+  before_trans u b c ub bc,
+  side_trans a c b u (inl (before_trans a b c ab bc, ab, au))
+      (let e = orient_swap a c b in omega (arith, ints)) k,
+)
 first_inwards Upper a b c u ab bc h (au, ub, k) = (
   au,
   before_trans u b c ub bc,
-  let r : pos 0 ≤ℤ orient a u c = side_trans a u b c (inl (au, ab, before_trans a b c ab bc)) (let e = orient_other a b u in let f = orient_swap a b u in omega (arith, ints)) (let e = orient_other a b c in omega (arith, ints)) in
+  let r : pos 0 ≤ℤ orient a u c =
+      side_trans a u b c (inl (au, ab, before_trans a b c ab bc))
+      (let e = orient_other a b u in let f = orient_swap a b u in omega (arith, ints))
+      (let e = orient_other a b c in omega (arith, ints)) in
       let e = orient_other a c u in
       let f = orient_swap a c u in
       omega (arith, ints),
 )
 
 -- and of the second
-second_inwards : (side : Side) (a b c u : Pair) → IsBefore a b → IsBefore b c → turn side a b c ≤ℤ pos 0 → IsInwards side b c u → IsInwards side a c u
+second_inwards : (side : Side) (a b c u : Pair) → IsBefore a b → IsBefore b c → turn side a b c ≤ℤ pos 0
+    → IsInwards side b c u → IsInwards side a c u
 second_inwards Lower a b c u ab bc h (bu, uc, k) = (
   before_trans a b u ab bu,
   uc,
@@ -47,11 +65,13 @@ second_inwards Lower a b c u ab bc h (bu, uc, k) = (
 second_inwards Upper a b c u ab bc h (bu, uc, k) = (
   before_trans a b u ab bu,
   uc,
-  side_trans c a b u (inr (before_trans a b c ab bc, bc, uc)) (let e = orient-cycle a b c in let f = orient_other a b c in omega (arith, ints)) k,
+  side_trans c a b u (inr (before_trans a b c ab bc, bc, uc))
+      (let e = orient-cycle a b c in let f = orient_other a b c in omega (arith, ints)) k,
 )
 
 -- the last two segments in one
-last_two : (side : Side) (a b c u : Pair) → IsBefore a b → IsBefore b c → turn side a b c ≤ℤ pos 0 → IsInnerFrom side a (b ∷ c ∷ []) u → IsInnerFrom side a (c ∷ []) u
+last_two : (side : Side) (a b c u : Pair) → IsBefore a b → IsBefore b c → turn side a b c ≤ℤ pos 0
+    → IsInnerFrom side a (b ∷ c ∷ []) u → IsInnerFrom side a (c ∷ []) u
 last_two side a b c u ab bc h (inl e) = inr (inl (subst (IsInwards side a c) (sym e) (middle side a b c ab bc h)))
 last_two side a b c u ab bc h (inr (inl k)) = inr (inl (first_inwards side a b c u ab bc h k))
 last_two side a b c u ab bc h (inr (inr (inl e))) = inl e
@@ -59,7 +79,9 @@ last_two side a b c u ab bc h (inr (inr (inr (inl k)))) = inr (inl (second_inwar
 last_two side a b c u ab bc h (inr (inr (inr (inr k)))) = elim k [ ]
 
 -- the same behind more of the chain
-behind_more : (side : Side) (x : Pair) (front : List Pair) (a b c u : Pair) → IsBefore a b → IsBefore b c → turn side a b c ≤ℤ pos 0 → IsInnerFrom side x (front ++ a ∷ b ∷ c ∷ []) u → IsInnerFrom side x (front ++ a ∷ c ∷ []) u
+behind_more : (side : Side) (x : Pair) (front : List Pair) (a b c u : Pair) → IsBefore a b → IsBefore b c
+    → turn side a b c ≤ℤ pos 0 → IsInnerFrom side x (front ++ a ∷ b ∷ c ∷ []) u
+    → IsInnerFrom side x (front ++ a ∷ c ∷ []) u
 behind_more side x [] a b c u ab bc h (inl e) = inl e
 behind_more side x [] a b c u ab bc h (inr (inl k)) = inr (inl k)
 behind_more side x [] a b c u ab bc h (inr (inr k)) = inr (inr (last_two side a b c u ab bc h k))
@@ -68,7 +90,8 @@ behind_more side x (y ∷ ys) a b c u ab bc h (inr (inl k)) = inr (inl k)
 behind_more side x (y ∷ ys) a b c u ab bc h (inr (inr k)) = inr (inr (behind_more side y ys a b c u ab bc h k))
 
 -- a chain without its last point but one
-without_inward : (side : Side) (front : List Pair) (a b c u : Pair) → IsBefore a b → IsBefore b c → turn side a b c ≤ℤ pos 0 → IsInner side (front ++ a ∷ b ∷ c ∷ []) u → IsInner side (front ++ a ∷ c ∷ []) u
+without_inward : (side : Side) (front : List Pair) (a b c u : Pair) → IsBefore a b → IsBefore b c
+    → turn side a b c ≤ℤ pos 0 → IsInner side (front ++ a ∷ b ∷ c ∷ []) u → IsInner side (front ++ a ∷ c ∷ []) u
 without_inward side [] a b c u ab bc h (inl e) = inl e
 without_inward side [] a b c u ab bc h (inr k) = inr (last_two side a b c u ab bc h k)
 without_inward side (x ∷ xs) a b c u ab bc h (inl e) = inl e
@@ -84,7 +107,10 @@ set_less : (xs : List Pair) (b : Pair) (ys : List Pair) → IsPointSet (xs ++ b 
 set_less [] b ys s = AllPairs-tail b ys s
 set_less (x ∷ xs) b ys s =
     let h : All (IsBefore x) (xs ++ b ∷ ys) = AllPairs-head x (xs ++ b ∷ ys) s in
-    AllPairs-cons x (xs ++ ys) (all_append_right (IsBefore x) xs ys (left_part (IsBefore x) xs (b ∷ ys) h) (All-tail (IsBefore x) b ys (right_part (IsBefore x) xs (b ∷ ys) h))) (set_less xs b ys (AllPairs-tail x (xs ++ b ∷ ys) s))
+    AllPairs-cons x (xs ++ ys)
+    (all_append_right (IsBefore x) xs ys (left_part (IsBefore x) xs (b ∷ ys) h)
+    (All-tail (IsBefore x) b ys (right_part (IsBefore x) xs (b ∷ ys) h)))
+    (set_less xs b ys (AllPairs-tail x (xs ++ b ∷ ys) s))
 
 -- a point after a set makes a longer one
 pub set_longer : (xs : List Pair) (c : Pair) → IsPointSet xs → All (λ t. IsBefore t c) xs → IsPointSet (xs ++ c ∷ [])
@@ -106,15 +132,22 @@ module _ {side : Side} {chain : List Pair} {c : Pair} (e : EndsInwards side chai
 
   -- it stays a set
   pub popped_set : IsPointSet (chain ++ c ∷ []) → IsPointSet (take (length chain - 1) chain ++ c ∷ [])
-  popped_set s = subst IsPointSet (sym shorter) (subst IsPointSet (append_twice e.front (e.a ∷ []) (c ∷ [])) (set_less (e.front ++ e.a ∷ []) e.b (c ∷ []) (subst IsPointSet (longer ∙ sym (append_twice e.front (e.a ∷ []) (e.b ∷ c ∷ []))) s)))
+  popped_set s = subst IsPointSet (sym shorter)
+      (subst IsPointSet (append_twice e.front (e.a ∷ []) (c ∷ []))
+      (set_less (e.front ++ e.a ∷ []) e.b (c ∷ [])
+      (subst IsPointSet (longer ∙ sym (append_twice e.front (e.a ∷ []) (e.b ∷ c ∷ []))) s)))
 
   -- what was inner stays inner
-  pub popped_inner : IsPointSet (chain ++ c ∷ []) → (u : Pair) → IsInner side (chain ++ c ∷ []) u → IsInner side (take (length chain - 1) chain ++ c ∷ []) u
+  pub popped_inner : IsPointSet (chain ++ c ∷ []) → (u : Pair) → IsInner side (chain ++ c ∷ []) u
+      → IsInner side (take (length chain - 1) chain ++ c ∷ []) u
   popped_inner s u k =
       let three = last_three s in
       let ab : IsBefore e.a e.b = All-head (IsBefore e.a) e.b (c ∷ []) (AllPairs-head e.a (e.b ∷ c ∷ []) three) in
-      let bc : IsBefore e.b c = All-head (IsBefore e.b) c [] (AllPairs-head e.b (c ∷ []) (AllPairs-tail e.a (e.b ∷ c ∷ []) three)) in
-      subst (λ (z : List Pair). IsInner side z u) (sym shorter) (without_inward side e.front e.a e.b c u ab bc e.inwards (subst (λ (z : List Pair). IsInner side z u) longer k))
+      let bc : IsBefore e.b c =
+      All-head (IsBefore e.b) c [] (AllPairs-head e.b (c ∷ []) (AllPairs-tail e.a (e.b ∷ c ∷ []) three)) in
+      subst (λ (z : List Pair). IsInner side z u) (sym shorter)
+      (without_inward side e.front e.a e.b c u ab bc e.inwards
+      (subst (λ (z : List Pair). IsInner side z u) longer k))
 
   -- its points were points of the chain
   pub popped_among : (t : Pair) → Contains (take (length chain - 1) chain) t → Contains chain t
@@ -123,11 +156,15 @@ module _ {side : Side} {chain : List Pair} {c : Pair} (e : EndsInwards side chai
       (Contains-append_left (e.front ++ e.a ∷ []) (e.b ∷ []) t (subst (λ (z : List Pair). Contains z t) e.kept m))
 
 -- a member of part of a chain and its new end is one of the chain and that end
-pub with_end : (part chain : List Pair) (c : Pair) → ((t : Pair) → Contains part t → Contains chain t) → (t : Pair) → Contains (part ++ c ∷ []) t → Contains (chain ++ c ∷ []) t
-with_end part chain c h t m = elim (Contains-append_cases part (c ∷ []) t m) [ inl k ↦ Contains-append_left chain (c ∷ []) t (h t k) | inr k ↦ Contains-append_right chain (c ∷ []) t k ]
+pub with_end : (part chain : List Pair) (c : Pair) → ((t : Pair) → Contains part t → Contains chain t) → (t : Pair)
+    → Contains (part ++ c ∷ []) t → Contains (chain ++ c ∷ []) t
+with_end part chain c h t m =
+    elim (Contains-append_cases part (c ∷ []) t m)
+    [ inl k ↦ Contains-append_left chain (c ∷ []) t (h t k) | inr k ↦ Contains-append_right chain (c ∷ []) t k ]
 
 -- what is inner to a chain from a point on is so to a longer chain
-inner_from_more : (side : Side) (x : Pair) (xs : List Pair) (c u : Pair) → IsInnerFrom side x xs u → IsInnerFrom side x (xs ++ c ∷ []) u
+inner_from_more : (side : Side) (x : Pair) (xs : List Pair) (c u : Pair) → IsInnerFrom side x xs u
+    → IsInnerFrom side x (xs ++ c ∷ []) u
 inner_from_more side x [] c u k = elim k [ ]
 inner_from_more side x (y ∷ ys) c u (inl e) = inl e
 inner_from_more side x (y ∷ ys) c u (inr (inl k)) = inr (inl k)
@@ -157,11 +194,14 @@ take_suc (x ∷ xs) (suc i) d l = ap (λ (z : List Pair). x ∷ z) (take_suc xs 
 
 -- the points up to a place and the one there
 take_next : (S : List Pair) (i : ℕ) (p : Pair) → i < length S → p ≡ get_or S i p → take (i + 1) S ≡ take i S ++ p ∷ []
-take_next S i p l e = let n : i + 1 ≡ suc i = omega arith in ap (λ (k : ℕ). take k S) n ∙ take_suc S i p l ∙ ap (λ (z : Pair). take i S ++ z ∷ []) (sym e)
+take_next S i p l e = let n : i + 1 ≡ suc i = omega arith in
+    ap (λ (k : ℕ). take k S) n ∙ take_suc S i p l ∙ ap (λ (z : Pair). take i S ++ z ∷ []) (sym e)
 
 -- a member of one more point
-pub one_more : (S : List Pair) (i : ℕ) (p t : Pair) → i < length S → p ≡ get_or S i p → Contains (take (i + 1) S) t → Contains (take i S) t ⊎ (t ≡ p)
-one_more S i p t l e m = go (Contains-append_cases (take i S) (p ∷ []) t (subst (λ (z : List Pair). Contains z t) (take_next S i p l e) m))
+pub one_more : (S : List Pair) (i : ℕ) (p t : Pair) → i < length S → p ≡ get_or S i p → Contains (take (i + 1) S) t
+    → Contains (take i S) t ⊎ (t ≡ p)
+one_more S i p t l e m =
+    go (Contains-append_cases (take i S) (p ∷ []) t (subst (λ (z : List Pair). Contains z t) (take_next S i p l e) m))
   where
     go : Contains (take i S) t ⊎ Contains (p ∷ []) t → Contains (take i S) t ⊎ (t ≡ p)
     go (inl k) = inl k
@@ -169,7 +209,9 @@ one_more S i p t l e m = go (Contains-append_cases (take i S) (p ∷ []) t (subs
     go (inr (suc j, b, k)) = absurd (omega (arith, b))
 
 -- and back
-pub one_more_back : (S chain : List Pair) (i : ℕ) (p : Pair) → i < length S → p ≡ get_or S i p → ((t : Pair) → Contains chain t → Contains (take i S) t) → (t : Pair) → Contains (chain ++ p ∷ []) t → Contains (take (i + 1) S) t
+pub one_more_back : (S chain : List Pair) (i : ℕ) (p : Pair) → i < length S → p ≡ get_or S i p
+    → ((t : Pair) → Contains chain t → Contains (take i S) t) → (t : Pair) → Contains (chain ++ p ∷ []) t
+    → Contains (take (i + 1) S) t
 one_more_back S chain i p l e h t m =
     subst (λ (z : List Pair). Contains z t) (sym (take_next S i p l e)) (go (Contains-append_cases chain (p ∷ []) t m))
   where
@@ -178,7 +220,9 @@ one_more_back S chain i p l e h t m =
     go (inr k) = Contains-append_right (take i S) (p ∷ []) t k
 
 -- one more point is inner to the longer chain
-pub one_more_inner : (side : Side) (S chain : List Pair) (i : ℕ) (p : Pair) → i < length S → p ≡ get_or S i p → ((u : Pair) → Contains (take i S) u → IsInner side chain u) → (u : Pair) → Contains (take (i + 1) S) u → IsInner side (chain ++ p ∷ []) u
+pub one_more_inner : (side : Side) (S chain : List Pair) (i : ℕ) (p : Pair) → i < length S → p ≡ get_or S i p
+    → ((u : Pair) → Contains (take i S) u → IsInner side chain u) → (u : Pair) → Contains (take (i + 1) S) u
+    → IsInner side (chain ++ p ∷ []) u
 one_more_inner side S chain i p l e h u m = go (one_more S i p u l e m)
   where
     go : Contains (take i S) u ⊎ (u ≡ p) → IsInner side (chain ++ p ∷ []) u
@@ -195,16 +239,22 @@ all_take P (suc n) (x ∷ xs) h = All-cons P x (take n xs) (All-head P x xs h) (
 set_take : (n : ℕ) (xs : List Pair) → IsPointSet xs → IsPointSet (take n xs)
 set_take zero xs o = λ j k d a b. absurd (omega arith)
 set_take (suc n) [] o = o
-set_take (suc n) (x ∷ xs) o = AllPairs-cons x (take n xs) (all_take (IsBefore x) n xs (AllPairs-head x xs o)) (set_take n xs (AllPairs-tail x xs o))
+set_take (suc n) (x ∷ xs) o =
+    AllPairs-cons x (take n xs) (all_take (IsBefore x) n xs (AllPairs-head x xs o))
+    (set_take n xs (AllPairs-tail x xs o))
 
 -- the point at a place stands after those of a chain of earlier points
-pub chain_before : (S chain : List Pair) (i : ℕ) (p : Pair) → IsPointSet S → i < length S → p ≡ get_or S i p → ((t : Pair) → Contains chain t → Contains (take i S) t) → IsPointSet chain → IsPointSet (chain ++ p ∷ [])
+pub chain_before : (S chain : List Pair) (i : ℕ) (p : Pair) → IsPointSet S → i < length S → p ≡ get_or S i p
+    → ((t : Pair) → Contains chain t → Contains (take i S) t) → IsPointSet chain → IsPointSet (chain ++ p ∷ [])
 chain_before S chain i p s l e h o = set_longer chain p o (λ k d b. earlier _ (h _ (k, b, get_or_free chain k _ d b)))
   where
     before_last : (xs : List Pair) (t : Pair) → IsPointSet (xs ++ p ∷ []) → Contains xs t → IsBefore t p
     before_last [] t o m = absurd (omega (arith, m.1))
-    before_last (x ∷ xs) t o (zero, b, k) = subst (λ (z : Pair). IsBefore z p) k (All-head (IsBefore x) p [] (right_part (IsBefore x) xs (p ∷ []) (AllPairs-head x (xs ++ p ∷ []) o)))
-    before_last (x ∷ xs) t o (suc j, b, k) = before_last xs t (AllPairs-tail x (xs ++ p ∷ []) o) (j, omega (arith, b), k)
+    before_last (x ∷ xs) t o (zero, b, k) =
+        subst (λ (z : Pair). IsBefore z p) k
+        (All-head (IsBefore x) p [] (right_part (IsBefore x) xs (p ∷ []) (AllPairs-head x (xs ++ p ∷ []) o)))
+    before_last (x ∷ xs) t o (suc j, b, k) =
+        before_last xs t (AllPairs-tail x (xs ++ p ∷ []) o) (j, omega (arith, b), k)
 
     earlier : (t : Pair) → Contains (take i S) t → IsBefore t p
     earlier t m = before_last (take i S) t (subst IsPointSet (take_next S i p l e) (set_take (i + 1) S s)) m

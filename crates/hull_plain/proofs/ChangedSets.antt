@@ -1,55 +1,79 @@
 -- What `with_point` and `without_point` make of a set.
-use Rattle.std.proofs.Common.{◌≡◌, ℕ, inl, inr, refl, sym, ap, ◌∙◌, subst, List, arith, zero, suc, ◌<◌, [], ◌∷◌, ◌++◌, length, get_or}
+use Rattle.std.proofs.Common.{◌≡◌, ℕ, inl, inr, refl, sym, ap, ◌∙◌, subst, List, arith, zero, suc, ◌<◌, [], ◌∷◌, ◌++◌}
+use Rattle.std.proofs.Common.{length, get_or}
 use Rattle.std.specs.List.{All, Contains}
 use Rattle.std.proofs.lemmas.List.Elements.{All-contains, All-weaker, All-cons, All-head, All-tail}
 use Rattle.lattice.specs.Covers.{IsPointSet, with_point, without_point}
 use Rattle.lattice.specs.Plane.{Pair, IsBefore}
 use Rattle.lattice.proofs.Order.{before_trans, before_irrefl, before_total, is_before-true, is_before-false, before_not}
-use Rattle.hull_plain.proofs.PointLists.{AllPairs-cons, AllPairs-head, AllPairs-tail, all_append_right, left_part, right_part, get_or_free}
+use Rattle.hull_plain.proofs.PointLists.{AllPairs-cons, AllPairs-head, AllPairs-tail, all_append_right, left_part}
+use Rattle.hull_plain.proofs.PointLists.{right_part, get_or_free}
 
 -- p between the points before it and those after it
-pub set-insert : (p : Pair) (xs ys : List Pair) → IsPointSet (xs ++ ys) → All (λ t. IsBefore t p) xs → All (IsBefore p) ys → IsPointSet (xs ++ p ∷ ys)
+pub set-insert : (p : Pair) (xs ys : List Pair) → IsPointSet (xs ++ ys) → All (λ t. IsBefore t p) xs
+    → All (IsBefore p) ys → IsPointSet (xs ++ p ∷ ys)
 set-insert p [] ys s a b = AllPairs-cons p ys b s
 set-insert p (x ∷ xs) ys s a b =
     AllPairs-cons x (xs ++ p ∷ ys)
     (all_append_right (IsBefore x) xs (p ∷ ys) (left_part (IsBefore x) xs ys (AllPairs-head x (xs ++ ys) s))
-    (All-cons (IsBefore x) p ys (All-head (λ t. IsBefore t p) x xs a) (right_part (IsBefore x) xs ys (AllPairs-head x (xs ++ ys) s))))
+    (All-cons (IsBefore x) p ys (All-head (λ t. IsBefore t p) x xs a)
+    (right_part (IsBefore x) xs ys (AllPairs-head x (xs ++ ys) s))))
     (set-insert p xs ys (AllPairs-tail x (xs ++ ys) s) (All-tail (λ t. IsBefore t p) x xs a) b)
 
 -- `with_point` puts p between the points before it and those after it
-pub with_point-at : (p : Pair) (xs ys : List Pair) → All (λ t. IsBefore t p) xs → All (IsBefore p) ys → with_point p (xs ++ ys) ≡ xs ++ p ∷ ys
+pub with_point-at : (p : Pair) (xs ys : List Pair) → All (λ t. IsBefore t p) xs → All (IsBefore p) ys
+    → with_point p (xs ++ ys) ≡ xs ++ p ∷ ys
 with_point-at p [] [] a b = refl
 with_point-at p [] (y ∷ ys) a b =
     let h : IsBefore p y = All-head (IsBefore p) y ys b in
     rw (is_before-false y p (before_not p y h), is_before-true p y h) refl
 with_point-at p (x ∷ xs) ys a b =
-    rw (is_before-true x p (All-head (λ t. IsBefore t p) x xs a)) (ap (λ (z : List Pair). x ∷ z) (with_point-at p xs ys (All-tail (λ t. IsBefore t p) x xs a) b))
+    rw (is_before-true x p (All-head (λ t. IsBefore t p) x xs a))
+    (ap (λ (z : List Pair). x ∷ z) (with_point-at p xs ys (All-tail (λ t. IsBefore t p) x xs a) b))
 
 -- `without_point` takes p from between them
-pub without_point-at : (p : Pair) (xs ys : List Pair) → All (λ t. IsBefore t p) xs → without_point p (xs ++ p ∷ ys) ≡ xs ++ ys
+pub without_point-at : (p : Pair) (xs ys : List Pair) → All (λ t. IsBefore t p) xs
+    → without_point p (xs ++ p ∷ ys) ≡ xs ++ ys
 without_point-at p [] ys a = rw (is_before-false p p (before_irrefl p)) refl
 without_point-at p (x ∷ xs) ys a =
-    rw (is_before-true x p (All-head (λ t. IsBefore t p) x xs a)) (ap (λ (z : List Pair). x ∷ z) (without_point-at p xs ys (All-tail (λ t. IsBefore t p) x xs a)))
+    rw (is_before-true x p (All-head (λ t. IsBefore t p) x xs a))
+    (ap (λ (z : List Pair). x ∷ z) (without_point-at p xs ys (All-tail (λ t. IsBefore t p) x xs a)))
 
 -- p is not among the points before it and after it
-pub absent_between : (p : Pair) (xs ys : List Pair) → All (λ t. IsBefore t p) xs → All (IsBefore p) ys → ¬ (Contains (xs ++ ys) p)
+pub absent_between : (p : Pair) (xs ys : List Pair) → All (λ t. IsBefore t p) xs → All (IsBefore p) ys
+    → ¬ (Contains (xs ++ ys) p)
 absent_between p xs ys a b m =
     All-contains (λ t. ¬ (t ≡ p)) (xs ++ ys) p
-    (all_append_right (λ t. ¬ (t ≡ p)) xs ys (All-weaker (λ t. IsBefore t p) (λ t. ¬ (t ≡ p)) (λ t h e. before_irrefl p (subst (λ (z : Pair). IsBefore z p) e h)) xs a)
+    (all_append_right (λ t. ¬ (t ≡ p)) xs ys
+    (All-weaker (λ t. IsBefore t p) (λ t. ¬ (t ≡ p))
+    (λ t h e. before_irrefl p (subst (λ (z : Pair). IsBefore z p) e h)) xs a)
     (All-weaker (IsBefore p) (λ t. ¬ (t ≡ p)) (λ t h e. before_irrefl p (subst (IsBefore p) e h)) ys b)) m refl
 
 -- The chains of hull edges, and that their points are the extreme points.
-pub all_without : (P : Pair → Type 0) (p : Pair) (S : List Pair) → IsPointSet S → ((t : Pair) → Contains S t → ¬ (t ≡ p) → P t) → All P (without_point p S)
+pub all_without : (P : Pair → Type 0) (p : Pair) (S : List Pair) → IsPointSet S
+    → ((t : Pair) → Contains S t → ¬ (t ≡ p) → P t) → All P (without_point p S)
 all_without P p [] s h = λ k d l. absurd (omega arith)
 all_without P p (x ∷ xs) s h =
     elim (before_total x p) [
-      | inl b ↦ rw (is_before-true x p b) (All-cons P x (without_point p xs) (h x (0, omega arith, refl) (λ e. before_irrefl p (subst (λ (z : Pair). IsBefore z p) e b)))
+      | inl b ↦ rw (is_before-true x p b)
+          (All-cons P x (without_point p xs)
+          (h x (0, omega arith, refl) (λ e. before_irrefl p (subst (λ (z : Pair). IsBefore z p) e b)))
           (all_without P p xs (AllPairs-tail x xs s) (λ t m n. h t (later t m) n)))
-      | inr (inl e) ↦ rw (is_before-false x p (λ b. before_irrefl p (subst (λ (z : Pair). IsBefore z p) e b)), is_before-false p x (λ b. before_irrefl p (subst (IsBefore p) e b)))
-          (λ k d l. h (get_or xs k d) (suc k, omega arith, refl2 k d l) (λ f. before_irrefl p (subst (IsBefore p) f (subst (λ (z : Pair). IsBefore z (get_or xs k d)) e (AllPairs-head x xs s k d l)))))
+      | inr (inl e) ↦ rw (
+        is_before-false x p (λ b. before_irrefl p (subst (λ (z : Pair). IsBefore z p) e b)),
+        is_before-false p x (λ b. before_irrefl p (subst (IsBefore p) e b)),
+      )
+          (λ k d l. h (get_or xs k d) (suc k, omega arith, refl2 k d l)
+          (λ f. before_irrefl p
+          (subst (IsBefore p) f
+          (subst (λ (z : Pair). IsBefore z (get_or xs k d)) e (AllPairs-head x xs s k d l)))))
       | inr (inr b) ↦ rw (is_before-false x p (before_not p x b), is_before-true p x b)
           (λ k d l. h (get_or (x ∷ xs) k d) (k, l, get_or_free (x ∷ xs) k _ d l)
-          (λ f. before_irrefl p (subst (IsBefore p) f (All-cons (IsBefore p) x xs b (All-weaker (IsBefore x) (IsBefore p) (λ t c. before_trans p x t b c) xs (AllPairs-head x xs s)) k d l))))
+          (λ f. before_irrefl p
+          (subst (IsBefore p) f
+          (All-cons (IsBefore p) x xs b
+          (All-weaker (IsBefore x) (IsBefore p) (λ t c. before_trans p x t b c) xs
+          (AllPairs-head x xs s)) k d l))))
     ]
   where
     later : (t : Pair) → Contains xs t → Contains (x ∷ xs) t
@@ -64,11 +88,15 @@ in_without p t [] n m = absurd (omega (arith, m.1))
 in_without p t (x ∷ xs) n m =
     elim (before_total x p) [
       | inl b ↦ rw (is_before-true x p b) (first (λ m. in_without p t xs n m) m)
-      | inr (inl e) ↦ rw (is_before-false x p (λ b. before_irrefl p (subst (λ (z : Pair). IsBefore z p) e b)), is_before-false p x (λ b. before_irrefl p (subst (IsBefore p) e b))) (gone e m)
+      | inr (inl e) ↦ rw (
+        is_before-false x p (λ b. before_irrefl p (subst (λ (z : Pair). IsBefore z p) e b)),
+        is_before-false p x (λ b. before_irrefl p (subst (IsBefore p) e b)),
+      ) (gone e m)
       | inr (inr b) ↦ rw (is_before-false x p (before_not p x b), is_before-true p x b) m
     ]
   where
-    first : (Contains xs t → Contains (without_point p xs) t) → Contains (x ∷ xs) t → Contains (x ∷ without_point p xs) t
+    first : (Contains xs t → Contains (without_point p xs) t) → Contains (x ∷ xs) t
+        → Contains (x ∷ without_point p xs) t
     first again (zero, l, e) = (zero, omega arith, e)
     first again (suc k, l, e) = let r = again (k, omega arith, e) in (suc r.0, omega (arith, r.1), r.2)
 

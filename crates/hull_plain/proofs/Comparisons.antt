@@ -11,7 +11,8 @@ pub fits_side : (z : ℤ) → IsWithin widest_side z → FitsSigned w128 z
 fits_side z h = omega (arith, ints)
 
 -- the test less, of two numbers that are x and y
-pub less_test : (a b x y : ℤ) → a ≡ x → b ≡ y → FitsSigned w128 a → FitsSigned w128 b → IsTrue (lt_z (to_z w128 (of_z w128 a)) (to_z w128 (of_z w128 b))) ↔ (x <ℤ y)
+pub less_test : (a b x y : ℤ) → a ≡ x → b ≡ y → FitsSigned w128 a → FitsSigned w128 b
+    → IsTrue (lt_z (to_z w128 (of_z w128 a)) (to_z w128 (of_z w128 b))) ↔ (x <ℤ y)
 less_test a b x y ea eb fa fb = (λ t. omega (arith, ints, t), λ h. yes h)
   where
     yes : x <ℤ y → lt_z (to_z w128 (of_z w128 a)) (to_z w128 (of_z w128 b)) ≡ true
@@ -34,5 +35,7 @@ pub from_zero : (a x : ℤ) → a ≡ x → FitsSigned w128 a → lt_z (to_z w12
 from_zero a x e f h = omega (arith, ints)
 
 -- two numbers of which neither is less are equal
-pub no_less : (a b x y : ℤ) → a ≡ x → b ≡ y → FitsSigned w128 a → FitsSigned w128 b → lt_z (to_z w128 (of_z w128 b)) (to_z w128 (of_z w128 a)) ≡ false → lt_z (to_z w128 (of_z w128 a)) (to_z w128 (of_z w128 b)) ≡ false → x ≡ y
+pub no_less : (a b x y : ℤ) → a ≡ x → b ≡ y → FitsSigned w128 a → FitsSigned w128 b
+    → lt_z (to_z w128 (of_z w128 b)) (to_z w128 (of_z w128 a)) ≡ false
+    → lt_z (to_z w128 (of_z w128 a)) (to_z w128 (of_z w128 b)) ≡ false → x ≡ y
 no_less a b x y ea eb fa fb h k = omega (arith, ints)

@@ -1,8 +1,10 @@
 -- A set of points covers a point, or a line has the whole set strictly on one side and the point on the other.
-use Rattle.std.proofs.Common.{◌≡◌, ℤ, pos, ◌≤ℤ◌, ◌<ℤ◌, ◌⊎◌, inl, inr, refl, sym, ap, subst, List, arith, suc, [], ◌∷◌, ◌++◌}
+use Rattle.std.proofs.Common.{◌≡◌, ℤ, pos, ◌≤ℤ◌, ◌<ℤ◌, ◌⊎◌, inl, inr, refl, sym, ap, subst, List, arith, suc, [], ◌∷◌}
+use Rattle.std.proofs.Common.{◌++◌}
 use Rattle.std.proofs.lemmas.Int.{ints}
 use Rattle.std.specs.List.{All, Contains}
-use Rattle.std.proofs.lemmas.List.Elements.{All-contains, All-weaker, All-cons, All-head, All-tail, Contains-append_left, Contains-append_right}
+use Rattle.std.proofs.lemmas.List.Elements.{All-contains, All-weaker, All-cons, All-head, All-tail}
+use Rattle.std.proofs.lemmas.List.Elements.{Contains-append_left, Contains-append_right}
 use Rattle.lattice.specs.Covers.{IsPointSet, Covers, Member}
 use Rattle.lattice.specs.Plane.{Pair, orient, distance_squared, IsBefore}
 use Rattle.lattice.specs.Signs.{le_or_lt}
@@ -24,10 +26,13 @@ there : (t u : Pair) (ts : List Pair) → Contains ts u → Contains (t ∷ ts) 
 there t u ts m = (suc m.0, omega (arith, m.1), m.2)
 
 -- a relation of which each two points can be told
-module _ (B : Pair → Pair → Type 0) (irreflexive : (x : Pair) → ¬ (B x x)) (told : (x y : Pair) → B x y ⊎ ¬ (B x y)) where
+module _ (B : Pair → Pair → Type 0) (irreflexive : (x : Pair) → ¬ (B x x))
+    (told : (x y : Pair) → B x y ⊎ ¬ (B x y)) where
   -- of the points of a list on which it is transitive, none is better than some one of them
-  best_there : (P : Pair → Type 0) → ((u v w : Pair) → P u → P v → P w → B u v → B v w → B u w) → (t : Pair) (ts : List Pair) → All P (t ∷ ts) → (b : Pair) × Contains (t ∷ ts) b × All (λ u. ¬ (B u b)) (t ∷ ts)
-  best_there P transitive t [] h = (t, here t [], All-cons (λ u. ¬ (B u t)) t [] (irreflexive t) (λ k d l. absurd (omega arith)))
+  best_there : (P : Pair → Type 0) → ((u v w : Pair) → P u → P v → P w → B u v → B v w → B u w)
+      → (t : Pair) (ts : List Pair) → All P (t ∷ ts) → (b : Pair) × Contains (t ∷ ts) b × All (λ u. ¬ (B u b)) (t ∷ ts)
+  best_there P transitive t [] h =
+      (t, here t [], All-cons (λ u. ¬ (B u t)) t [] (irreflexive t) (λ k d l. absurd (omega arith)))
   best_there P transitive t (x ∷ xs) h =
       let r = best_there P transitive x xs (All-tail P t (x ∷ xs) h) in
       let pt : P t = All-head P t (x ∷ xs) h in
@@ -43,7 +48,8 @@ module _ (B : Pair → Pair → Type 0) (irreflexive : (x : Pair) → ¬ (B x x)
       ]
 
 -- whether a turn is above 0, or is 0 and a number below another, can be told
-turn_told : (turn near far : ℤ) → ((pos 0 <ℤ turn) ⊎ ((turn ≡ pos 0) × (near <ℤ far))) ⊎ ¬ ((pos 0 <ℤ turn) ⊎ ((turn ≡ pos 0) × (near <ℤ far)))
+turn_told : (turn near far : ℤ)
+    → ((pos 0 <ℤ turn) ⊎ ((turn ≡ pos 0) × (near <ℤ far))) ⊎ ¬ ((pos 0 <ℤ turn) ⊎ ((turn ≡ pos 0) × (near <ℤ far)))
 turn_told turn near far =
     elim (le_or_lt turn (pos 0)) [
       | inr h ↦ inl (inl h)
@@ -82,15 +88,45 @@ pub record Parted (S : List Pair) (q : Pair) : Type 0 where
 
 -- a list in order is parted by any point
 pub parted_at : (S : List Pair) (q : Pair) → IsPointSet S → Parted S q
-parted_at [] q s = record { behind = []; ahead = []; all_behind = λ k d l. absurd (omega arith); all_ahead = λ k d l. absurd (omega arith); whole = inr refl }
+parted_at [] q s = record {
+  behind = [];
+  ahead = [];
+  all_behind = λ k d l. absurd (omega arith);
+  all_ahead =
+      λ k d l. absurd (omega arith);
+  whole = inr refl;
+}
 parted_at (t ∷ ts) q s =
     elim (before_total t q) [
       | inl b ↦
           let r : Parted ts q = parted_at ts q (AllPairs-tail t ts s) in
-          record { behind = t ∷ r.behind; ahead = r.ahead; all_behind = All-cons (λ u. IsBefore u q) t r.behind b r.all_behind; all_ahead = r.all_ahead; whole = behind_too r.behind r.ahead r.whole }
-      | inr (inl e) ↦ record { behind = []; ahead = []; all_behind = λ k d l. absurd (omega arith); all_ahead = λ k d l. absurd (omega arith); whole = inl (0, omega arith, e) }
+          record {
+            behind = t ∷ r.behind;
+            ahead = r.ahead;
+            all_behind =
+                All-cons (λ u. IsBefore u q) t r.behind b r.all_behind;
+            all_ahead = r.all_ahead;
+            whole =
+                behind_too r.behind r.ahead r.whole;
+          }
+      | inr (inl e) ↦ record {
+        behind = [];
+        ahead = [];
+        all_behind = λ k d l. absurd (omega arith);
+        all_ahead =
+            λ k d l. absurd (omega arith);
+        whole = inl (0, omega arith, e);
+      }
       | inr (inr b) ↦
-          record { behind = []; ahead = t ∷ ts; all_behind = λ k d l. absurd (omega arith); all_ahead = All-cons (IsBefore q) t ts b (All-weaker (IsBefore t) (IsBefore q) (λ u c. before_trans q t u b c) ts (AllPairs-head t ts s)); whole = inr refl }
+          record {
+            behind = [];
+            ahead = t ∷ ts;
+            all_behind = λ k d l. absurd (omega arith);
+            all_ahead =
+                All-cons (IsBefore q) t ts b
+                (All-weaker (IsBefore t) (IsBefore q) (λ u c. before_trans q t u b c) ts (AllPairs-head t ts s));
+            whole = inr refl;
+          }
     ]
   where
     behind_too : (xs ys : List Pair) → Contains ts q ⊎ (ts ≡ xs ++ ys) → Contains (t ∷ ts) q ⊎ (t ∷ ts ≡ (t ∷ xs) ++ ys)
@@ -98,14 +134,19 @@ parted_at (t ∷ ts) q s =
     behind_too xs ys (inr e) = inr (ap (λ (z : List Pair). t ∷ z) e)
 
 -- the outermost points before q and after it, and what their sides of q say
-round_told : (q b a : Pair) (bs cs : List Pair) → All (λ t. IsBefore t q) (b ∷ bs) → All (IsBefore q) (a ∷ cs) → Covers ((b ∷ bs) ++ (a ∷ cs)) q ⊎ Separated ((b ∷ bs) ++ (a ∷ cs)) q
+round_told : (q b a : Pair) (bs cs : List Pair) → All (λ t. IsBefore t q) (b ∷ bs) → All (IsBefore q) (a ∷ cs)
+    → Covers ((b ∷ bs) ++ (a ∷ cs)) q ⊎ Separated ((b ∷ bs) ++ (a ∷ cs)) q
 round_told q b a bs cs hb ha =
     let L : List Pair = b ∷ bs in
     let R : List Pair = a ∷ cs in
-    let low_behind = best_there (IsMoreLeft q) (left_irrefl q) (left_told q) (λ t. IsBefore t q) (λ u v w pu pv pw. left_trans q u v w (inr (pu, pv, pw))) b bs hb in
-    let high_behind = best_there (IsMoreRight q) (right_irrefl q) (right_told q) (λ t. IsBefore t q) (λ u v w pu pv pw. right_trans q u v w (inr (pu, pv, pw))) b bs hb in
-    let low_ahead = best_there (IsMoreRight q) (right_irrefl q) (right_told q) (IsBefore q) (λ u v w pu pv pw. right_trans q u v w (inl (pu, pv, pw))) a cs ha in
-    let high_ahead = best_there (IsMoreLeft q) (left_irrefl q) (left_told q) (IsBefore q) (λ u v w pu pv pw. left_trans q u v w (inl (pu, pv, pw))) a cs ha in
+    let low_behind = best_there (IsMoreLeft q) (left_irrefl q) (left_told q) (λ t. IsBefore t q)
+    (λ u v w pu pv pw. left_trans q u v w (inr (pu, pv, pw))) b bs hb in
+    let high_behind = best_there (IsMoreRight q) (right_irrefl q) (right_told q) (λ t. IsBefore t q)
+    (λ u v w pu pv pw. right_trans q u v w (inr (pu, pv, pw))) b bs hb in
+    let low_ahead = best_there (IsMoreRight q) (right_irrefl q) (right_told q) (IsBefore q)
+    (λ u v w pu pv pw. right_trans q u v w (inl (pu, pv, pw))) a cs ha in
+    let high_ahead = best_there (IsMoreLeft q) (left_irrefl q) (left_told q) (IsBefore q)
+    (λ u v w pu pv pw. left_trans q u v w (inl (pu, pv, pw))) a cs ha in
     let r : IsRound q L R low_behind.0 low_ahead.0 high_ahead.0 high_behind.0 = record {
       all_behind = hb;
       all_ahead = ha;
@@ -118,14 +159,17 @@ round_told q b a bs cs hb ha =
       | inr h ↦ inr (round_above r h)
       | inl h ↦ elim (le_or_lt (pos 0) (orient q high_ahead.0 high_behind.0)) [
         | inr k ↦ inr (round_below r k)
-        | inl k ↦ inl (round_covered r (L ++ R) (λ t m. Contains-append_left L R t m) (λ t m. Contains-append_right L R t m) h k)
+        | inl k ↦ inl (round_covered r (L ++ R) (λ t m. Contains-append_left L R t m)
+            (λ t m. Contains-append_right L R t m) h k)
       ]
     ]
 
 -- points before q and points after it cover q or are separated from it
-sides_told : (q : Pair) (L R : List Pair) → All (λ t. IsBefore t q) L → All (IsBefore q) R → Covers (L ++ R) q ⊎ Separated (L ++ R) q
+sides_told : (q : Pair) (L R : List Pair) → All (λ t. IsBefore t q) L → All (IsBefore q) R
+    → Covers (L ++ R) q ⊎ Separated (L ++ R) q
 sides_told q [] R hb ha = inr (ahead_separated R q ha)
-sides_told q (b ∷ bs) [] hb ha = inr (subst (λ (z : List Pair). Separated z q) (append_none (b ∷ bs)) (behind_separated (b ∷ bs) q hb))
+sides_told q (b ∷ bs) [] hb ha =
+    inr (subst (λ (z : List Pair). Separated z q) (append_none (b ∷ bs)) (behind_separated (b ∷ bs) q hb))
 sides_told q (b ∷ bs) (a ∷ cs) hb ha = round_told q b a bs cs hb ha
 
 -- a set of points covers a point or is separated from it
@@ -134,5 +178,6 @@ covers_or_separated S q s =
     let r : Parted S q = parted_at S q s in
     elim r.whole [
       | inl m ↦ inl (Member m)
-      | inr e ↦ subst (λ (z : List Pair). Covers z q ⊎ Separated z q) (sym e) (sides_told q r.behind r.ahead r.all_behind r.all_ahead)
+      | inr e ↦ subst (λ (z : List Pair). Covers z q ⊎ Separated z q) (sym e)
+          (sides_told q r.behind r.ahead r.all_behind r.all_ahead)
     ]

@@ -1,5 +1,6 @@
 -- The points of both chains of a set span the set.
-use Rattle.std.proofs.Common.{◌≡◌, ℕ, ◌⊎◌, inl, inr, refl, sym, subst, List, arith, suc, [], ◌∷◌, ◌++◌, ◌<◌, ◌+◌, length, get_or, take}
+use Rattle.std.proofs.Common.{◌≡◌, ℕ, ◌⊎◌, inl, inr, refl, sym, subst, List, arith, suc, [], ◌∷◌, ◌++◌, ◌<◌, ◌+◌}
+use Rattle.std.proofs.Common.{length, get_or, take}
 use Rattle.std.specs.List.{Contains}
 use Rattle.std.specs.Prelude.{◌↔◌, IsTrue, Result, Ok, Err, is_ok}
 use Rattle.std.proofs.lemmas.Int.{ints}
@@ -31,10 +32,12 @@ pub record Step (side : Side) (chain : List Pair) (u : Pair) : Type 0 where
   pub inwards : IsInwards side a b u
 
 -- what is inner to a chain from a point on is one of its points or inwards of a step
-inner_from_told : (side : Side) (x : Pair) (xs : List Pair) (u : Pair) → IsInnerFrom side x xs u → Contains (x ∷ xs) u ⊎ Step side (x ∷ xs) u
+inner_from_told : (side : Side) (x : Pair) (xs : List Pair) (u : Pair) → IsInnerFrom side x xs u
+    → Contains (x ∷ xs) u ⊎ Step side (x ∷ xs) u
 inner_from_told side x [] u k = elim k [ ]
 inner_from_told side x (y ∷ ys) u (inl e) = inl (1, omega arith, sym e)
-inner_from_told side x (y ∷ ys) u (inr (inl k)) = inr (record { a = x; b = y; in_a = (0, omega arith, refl); in_b = (1, omega arith, refl); inwards = k })
+inner_from_told side x (y ∷ ys) u (inr (inl k)) =
+    inr (record { a = x; b = y; in_a = (0, omega arith, refl); in_b = (1, omega arith, refl); inwards = k })
 inner_from_told side x (y ∷ ys) u (inr (inr k)) = later (inner_from_told side y ys u k)
   where
     there : (t : Pair) → Contains (y ∷ ys) t → Contains (x ∷ y ∷ ys) t
@@ -42,7 +45,8 @@ inner_from_told side x (y ∷ ys) u (inr (inr k)) = later (inner_from_told side 
 
     later : Contains (y ∷ ys) u ⊎ Step side (y ∷ ys) u → Contains (x ∷ y ∷ ys) u ⊎ Step side (x ∷ y ∷ ys) u
     later (inl m) = inl (there u m)
-    later (inr s) = inr (record { a = s.a; b = s.b; in_a = there s.a s.in_a; in_b = there s.b s.in_b; inwards = s.inwards })
+    later (inr s) = inr (record
+        { a = s.a; b = s.b; in_a = there s.a s.in_a; in_b = there s.b s.in_b; inwards = s.inwards })
 
 -- what is inner to a chain is one of its points or inwards of a step
 inner_told : (side : Side) (xs : List Pair) (u : Pair) → IsInner side xs u → Contains xs u ⊎ Step side xs u
@@ -51,16 +55,26 @@ inner_told side (x ∷ xs) u (inl e) = inl (0, omega arith, sym e)
 inner_told side (x ∷ xs) u (inr k) = inner_from_told side x xs u k
 
 -- a point inwards of a step of each chain is covered
-between_steps : (C lower upper : List Pair) (u : Pair) → ((t : Pair) → Contains lower t → Contains C t) → ((t : Pair) → Contains upper t → Contains C t) → Step Lower lower u → Step Upper upper u → Covers C u
+between_steps : (C lower upper : List Pair) (u : Pair) → ((t : Pair) → Contains lower t → Contains C t)
+    → ((t : Pair) → Contains upper t → Contains C t) → Step Lower lower u → Step Upper upper u → Covers C u
 between_steps C lower upper u f g s t =
-    covered_by_edges C u s.a s.b t.b t.a (f s.a s.in_a) (f s.b s.in_b) (g t.b t.in_b) (g t.a t.in_a) s.inwards.0 s.inwards.1 t.inwards.1 t.inwards.0
+    covered_by_edges C u s.a s.b t.b t.a (f s.a s.in_a) (f s.b s.in_b) (g t.b t.in_b)
+    (g t.a t.in_a) s.inwards.0 s.inwards.1 t.inwards.1 t.inwards.0
     (let e = orient-cycle s.a s.b u in let k = s.inwards.2 in omega (arith, ints))
     (let e = orient-cycle t.b t.a u in let k = t.inwards.2 in omega (arith, ints))
 
 -- points of a set in order, among them all of both chains, span it
-pub ends_span : (S C lower upper : List Pair) → IsPointSet C → ((t : Pair) → Contains C t → Contains S t) → ((t : Pair) → Contains lower t → Contains C t) → ((t : Pair) → Contains upper t → Contains C t)
-    → ((u : Pair) → Contains S u → IsInner Lower lower u) → ((u : Pair) → Contains S u → IsInner Upper upper u) → IsSpannedBy S C
-ends_span S C lower upper o h f g low high = record { ordered = o; among = h; covered = λ u m. cover u (inner_told Lower lower u (low u m)) (inner_told Upper upper u (high u m)) }
+pub ends_span : (S C lower upper : List Pair) → IsPointSet C → ((t : Pair) → Contains C t → Contains S t)
+    → ((t : Pair) → Contains lower t → Contains C t) → ((t : Pair) → Contains upper t → Contains C t)
+    → ((u : Pair) → Contains S u → IsInner Lower lower u) → ((u : Pair) → Contains S u → IsInner Upper upper u)
+    → IsSpannedBy S C
+ends_span S C lower upper o h f g low high =
+    record {
+      ordered = o;
+      among = h;
+      covered =
+          λ u m. cover u (inner_told Lower lower u (low u m)) (inner_told Upper upper u (high u m));
+    }
   where
     cover : (u : Pair) → Contains lower u ⊎ Step Lower lower u → Contains upper u ⊎ Step Upper upper u → Covers C u
     cover u (inl m) k = Member (f u m)
@@ -68,7 +82,8 @@ ends_span S C lower upper o h f g low high = record { ordered = o; among = h; co
     cover u (inr s) (inr t) = between_steps C lower upper u f g s t
 
 -- a list that has all points of two lists up to a place has them up to the next: the point there is put behind it
-pub ends_more : (S lower upper out : List Pair) (i : ℕ) (p : Pair) → i < length S → p ≡ get_or S i p → ((t : Pair) → Contains (take i S) t → Contains lower t ⊎ Contains upper t → Contains out t)
+pub ends_more : (S lower upper out : List Pair) (i : ℕ) (p : Pair) → i < length S → p ≡ get_or S i p
+    → ((t : Pair) → Contains (take i S) t → Contains lower t ⊎ Contains upper t → Contains out t)
     → (t : Pair) → Contains (take (i + 1) S) t → Contains lower t ⊎ Contains upper t → Contains (out ++ p ∷ []) t
 ends_more S lower upper out i p l e h t m k = go (one_more S i p t l e m)
   where
@@ -77,8 +92,10 @@ ends_more S lower upper out i p l e h t m k = go (one_more S i p t l e m)
     go (inr q) = Contains-append_right out (p ∷ []) t (0, omega arith, sym q)
 
 -- the point there is in neither
-pub ends_same : (S lower upper out : List Pair) (i : ℕ) (p : Pair) → i < length S → p ≡ get_or S i p → ((t : Pair) → Contains (take i S) t → Contains lower t ⊎ Contains upper t → Contains out t)
-    → ¬ (Contains lower p ⊎ Contains upper p) → (t : Pair) → Contains (take (i + 1) S) t → Contains lower t ⊎ Contains upper t → Contains out t
+pub ends_same : (S lower upper out : List Pair) (i : ℕ) (p : Pair) → i < length S → p ≡ get_or S i p
+    → ((t : Pair) → Contains (take i S) t → Contains lower t ⊎ Contains upper t → Contains out t)
+    → ¬ (Contains lower p ⊎ Contains upper p) → (t : Pair) → Contains (take (i + 1) S) t
+    → Contains lower t ⊎ Contains upper t → Contains out t
 ends_same S lower upper out i p l e h n t m k = go (one_more S i p t l e m)
   where
     go : Contains (take i S) t ⊎ (t ≡ p) → Contains out t
@@ -86,5 +103,6 @@ ends_same S lower upper out i p l e h n t m k = go (one_more S i p t l e m)
     go (inr q) = absurd (n (subst (λ (z : Pair). Contains lower z ⊎ Contains upper z) q k))
 
 -- a list of earlier points is one up to the next place
-pub among_same : (S out : List Pair) (i : ℕ) (p : Pair) → i < length S → p ≡ get_or S i p → ((t : Pair) → Contains out t → Contains (take i S) t) → (t : Pair) → Contains out t → Contains (take (i + 1) S) t
+pub among_same : (S out : List Pair) (i : ℕ) (p : Pair) → i < length S → p ≡ get_or S i p
+    → ((t : Pair) → Contains out t → Contains (take i S) t) → (t : Pair) → Contains out t → Contains (take (i + 1) S) t
 among_same S out i p l e h t m = one_more_back S out i p l e h t (Contains-append_left out (p ∷ []) t m)

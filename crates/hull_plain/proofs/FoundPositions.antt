@@ -1,5 +1,6 @@
 -- The position of a point in a list in the order "before".
-use Rattle.std.proofs.Common.{◌≡◌, ℕ, inl, inr, sym, ap, ◌∙◌, subst, List, arith, zero, suc, ◌+◌, ◌<◌, ◌≤◌, [], ◌∷◌, ◌++◌, length, get_or, true, false, take, drop, length-drop, length-take, Ok, Err}
+use Rattle.std.proofs.Common.{◌≡◌, ℕ, inl, inr, sym, ap, ◌∙◌, subst, List, arith, zero, suc, ◌+◌, ◌<◌, ◌≤◌, [], ◌∷◌}
+use Rattle.std.proofs.Common.{◌++◌, length, get_or, true, false, take, drop, length-drop, length-take, Ok, Err}
 use Rattle.std.specs.List.{All, Contains}
 use Rattle.std.specs.List.Sorted.{IsPartitionPoint, IsPartitionedBy}
 use Rattle.std.proofs.lemmas.Bool.{cases_lt}
@@ -9,27 +10,37 @@ use Rattle.lattice.specs.Covers.{IsPointSet, is_before, with_point}
 use Rattle.lattice.specs.Plane.{Pair, IsBefore}
 use Rattle.hull_plain.specs.Positions.{IsPositionOf}
 use Rattle.hull_plain.proofs.ChangedSets.{with_point-at, absent_between}
-use Rattle.lattice.proofs.Order.{before_trans, before_irrefl, before_total, is_before-true, is_before-holds, is_before-fails}
+use Rattle.lattice.proofs.Order.{before_trans, before_irrefl, before_total, is_before-true, is_before-holds}
+use Rattle.lattice.proofs.Order.{is_before-fails}
 use Rattle.hull_plain.proofs.PointLists.{AllPairs-head, AllPairs-tail, get_or_free, cut, cut_at}
 
 -- where the first of a set is not before p, none is
-none_from_first : (x : Pair) (xs : List Pair) (p : Pair) → IsPointSet (x ∷ xs) → ¬ (IsBefore x p) → All (λ t. ¬ (IsBefore t p)) (x ∷ xs)
-none_from_first x xs p s n = All-cons (λ t. ¬ (IsBefore t p)) x xs n (All-weaker (IsBefore x) (λ t. ¬ (IsBefore t p)) (λ t h k. n (before_trans x t p h k)) xs (AllPairs-head x xs s))
+none_from_first : (x : Pair) (xs : List Pair) (p : Pair) → IsPointSet (x ∷ xs) → ¬ (IsBefore x p)
+    → All (λ t. ¬ (IsBefore t p)) (x ∷ xs)
+none_from_first x xs p s n =
+    All-cons (λ t. ¬ (IsBefore t p)) x xs n
+    (All-weaker (IsBefore x) (λ t. ¬ (IsBefore t p)) (λ t h k. n (before_trans x t p h k)) xs
+    (AllPairs-head x xs s))
 
 -- where the point at i is not before p, none from there on is
-pub none_before : (S : List Pair) (p : Pair) (i : ℕ) (d : Pair) → IsPointSet S → i < length S → ¬ (IsBefore (get_or S i d) p) → All (λ t. ¬ (IsBefore t p)) (drop i S)
+pub none_before : (S : List Pair) (p : Pair) (i : ℕ) (d : Pair) → IsPointSet S → i < length S
+    → ¬ (IsBefore (get_or S i d) p) → All (λ t. ¬ (IsBefore t p)) (drop i S)
 none_before [] p i d s l n = absurd (omega arith)
 none_before (x ∷ xs) p zero d s l n = none_from_first x xs p s n
 none_before (x ∷ xs) p (suc i) d s l n = none_before xs p i d (AllPairs-tail x xs s) (omega arith) n
 
 -- where the first is not before p and not p, all stand after p
-all_after : (x : Pair) (xs : List Pair) (p : Pair) → IsPointSet (x ∷ xs) → ¬ (IsBefore x p) → ¬ (x ≡ p) → All (IsBefore p) (x ∷ xs)
+all_after : (x : Pair) (xs : List Pair) (p : Pair) → IsPointSet (x ∷ xs) → ¬ (IsBefore x p) → ¬ (x ≡ p)
+    → All (IsBefore p) (x ∷ xs)
 all_after x xs p s n m =
-    let first : IsBefore p x = elim (before_total p x) [ inl h ↦ h | inr (inl e) ↦ absurd (m (sym e)) | inr (inr h) ↦ absurd (n h) ] in
-    All-cons (IsBefore p) x xs first (All-weaker (IsBefore x) (IsBefore p) (λ t h. before_trans p x t first h) xs (AllPairs-head x xs s))
+    let first : IsBefore p x =
+    elim (before_total p x) [ inl h ↦ h | inr (inl e) ↦ absurd (m (sym e)) | inr (inr h) ↦ absurd (n h) ] in
+    All-cons (IsBefore p) x xs first
+    (All-weaker (IsBefore x) (IsBefore p) (λ t h. before_trans p x t first h) xs (AllPairs-head x xs s))
 
 -- where the point at i is not before p and not p, all from there on stand after p
-pub drop_after : (S : List Pair) (p : Pair) (i : ℕ) (d : Pair) → IsPointSet S → i < length S → All (λ t. ¬ (IsBefore t p)) (drop i S) → ¬ (get_or S i d ≡ p) → All (IsBefore p) (drop i S)
+pub drop_after : (S : List Pair) (p : Pair) (i : ℕ) (d : Pair) → IsPointSet S → i < length S
+    → All (λ t. ¬ (IsBefore t p)) (drop i S) → ¬ (get_or S i d ≡ p) → All (IsBefore p) (drop i S)
 drop_after [] p i d s l a n = absurd (omega arith)
 drop_after (x ∷ xs) p zero d s l a n = all_after x xs p s (All-head (λ t. ¬ (IsBefore t p)) x xs a) n
 drop_after (x ∷ xs) p (suc i) d s l a n = drop_after xs p i d (AllPairs-tail x xs s) (omega arith) a n
@@ -40,36 +51,56 @@ found_contains S p i h = (i, h.0, h.1 p)
 
 -- a point that was not found is not there
 pub found_absent : (S : List Pair) (p : Pair) (i : ℕ) → IsPositionOf S p (Err i) → ¬ (Contains S p)
-found_absent S p i h m = absent_between p (take i S) (drop i S) h.1 h.2 (subst (λ (z : List Pair). Contains z p) (cut S i h.0) m)
+found_absent S p i h m =
+    absent_between p (take i S) (drop i S) h.1 h.2 (subst (λ (z : List Pair). Contains z p) (cut S i h.0) m)
 
 -- and it is S with p
-pub inserted_is : (S : List Pair) (p : Pair) (i : ℕ) → IsPositionOf S p (Err i) → take i S ++ p ∷ drop i S ≡ with_point p S
+pub inserted_is : (S : List Pair) (p : Pair) (i : ℕ) → IsPositionOf S p (Err i)
+    → take i S ++ p ∷ drop i S ≡ with_point p S
 inserted_is S p i h = sym (ap (with_point p) (cut S i h.0) ∙ with_point-at p (take i S) (drop i S) h.1 h.2)
 
 -- the first point that is not before p stands after it: p is not there
-pub place_before : (S : List Pair) (p : Pair) (i : ℕ) (x : Pair) → IsPointSet S → i < length S → All (λ t. IsBefore t p) (take i S) → All (λ t. ¬ (IsBefore t p)) (drop i S) → x ≡ get_or S i x → IsBefore p x → IsPositionOf S p (Err i)
-place_before S p i x s l h n e b = (omega arith, h, drop_after S p i x s l n (λ k. before_irrefl p (subst (IsBefore p) (e ∙ k) b)))
+pub place_before : (S : List Pair) (p : Pair) (i : ℕ) (x : Pair) → IsPointSet S → i < length S
+    → All (λ t. IsBefore t p) (take i S) → All (λ t. ¬ (IsBefore t p)) (drop i S) → x ≡ get_or S i x → IsBefore p x
+    → IsPositionOf S p (Err i)
+place_before S p i x s l h n e b =
+    (omega arith, h, drop_after S p i x s l n (λ k. before_irrefl p (subst (IsBefore p) (e ∙ k) b)))
 
 -- the first point that is not before p is p
-pub place_found : (S : List Pair) (p : Pair) (i : ℕ) (x : Pair) → i < length S → All (λ t. IsBefore t p) (take i S) → All (λ t. ¬ (IsBefore t p)) (drop i S) → x ≡ get_or S i x → ¬ (IsBefore p x) → IsPositionOf S p (Ok i)
+pub place_found : (S : List Pair) (p : Pair) (i : ℕ) (x : Pair) → i < length S → All (λ t. IsBefore t p) (take i S)
+    → All (λ t. ¬ (IsBefore t p)) (drop i S) → x ≡ get_or S i x → ¬ (IsBefore p x) → IsPositionOf S p (Ok i)
 place_found S p i x l h n e b =
-    let not_less : ¬ (IsBefore (get_or S i x) p) = front S i n l in
-    (l, λ f. get_or_free S i f x l ∙ elim (before_total (get_or S i x) p) [ inl k ↦ absurd (not_less k) | inr (inl k) ↦ k | inr (inr k) ↦ absurd (b (subst (IsBefore p) (sym e) k)) ], h)
+    let not_less : ¬ (IsBefore (get_or S i x) p) = front S i n l in (
+      l,
+      λ f. get_or_free S i f x l
+          ∙ elim (before_total (get_or S i x) p) [
+            | inl k ↦ absurd (not_less k)
+            | inr (inl k) ↦ k
+            | inr (inr k) ↦
+                absurd (b (subst (IsBefore p) (sym e) k))
+          ],
+      h,
+    )
   where
-    front : (T : List Pair) (j : ℕ) → All (λ t. ¬ (IsBefore t p)) (drop j T) → j < length T → ¬ (IsBefore (get_or T j x) p)
+    front : (T : List Pair) (j : ℕ) → All (λ t. ¬ (IsBefore t p)) (drop j T) → j < length T
+        → ¬ (IsBefore (get_or T j x) p)
     front [] j a lt = absurd (omega arith)
     front (y ∷ ys) zero a lt = All-head (λ t. ¬ (IsBefore t p)) y ys a
     front (y ∷ ys) (suc j) a lt = front ys j a (omega arith)
 
 -- all points after the position of p stand after p
-pub found_after : (S : List Pair) (p : Pair) (i : ℕ) → IsPointSet S → IsPositionOf S p (Ok i) → All (IsBefore p) (drop (i + 1) S)
+pub found_after : (S : List Pair) (p : Pair) (i : ℕ) → IsPointSet S → IsPositionOf S p (Ok i)
+    → All (IsBefore p) (drop (i + 1) S)
 found_after S p i s h k d l =
     let n : i + 1 + k < length S = omega (arith, length-drop (i + 1) S) in
-    subst (λ (z : Pair). IsBefore p z) (sym (get_or-drop (i + 1) S k d)) (subst (λ (z : Pair). IsBefore z (get_or S (i + 1 + k) d)) (h.1 d) (s i (i + 1 + k) d (omega arith) n))
+    subst (λ (z : Pair). IsBefore p z) (sym (get_or-drop (i + 1) S k d))
+    (subst (λ (z : Pair). IsBefore z (get_or S (i + 1 + k) d)) (h.1 d) (s i (i + 1 + k) d (omega arith) n))
 
 -- a list around the position of p
 pub cut_around : (S : List Pair) (p : Pair) (i : ℕ) → IsPositionOf S p (Ok i) → take i S ++ p ∷ drop (i + 1) S ≡ S
-cut_around S p i h = sym (cut_at S i p h.0 ∙ ap (λ (z : Pair). take i S ++ z ∷ drop (suc i) S) (h.1 p) ∙ (let e : suc i ≡ i + 1 = omega arith in ap (λ (z : ℕ). take i S ++ p ∷ drop z S) e))
+cut_around S p i h =
+    sym (cut_at S i p h.0 ∙ ap (λ (z : Pair). take i S ++ z ∷ drop (suc i) S) (h.1 p)
+    ∙ (let e : suc i ≡ i + 1 = omega arith in ap (λ (z : ℕ). take i S ++ p ∷ drop z S) e))
 
 -- in a set the points before p come first
 pub parted : (S : List Pair) (p : Pair) → IsPointSet S → IsPartitionedBy (λ t. is_before t p) S
@@ -80,9 +111,14 @@ parted S p s i j d le l t =
     ]
 
 -- the points below the place where the test turns stand before p
-pub parted_below : (S : List Pair) (p : Pair) (i : ℕ) → i ≤ length S → IsPartitionPoint (λ t. is_before t p ≡ true) (λ t. is_before t p ≡ false) S i → All (λ t. IsBefore t p) (take i S)
-parted_below S p i l h k d lt = let n : k < i = omega (arith, length-take i S) in rw get_or-take (is_before-holds _ p (h.0 k d (omega arith) n))
+pub parted_below : (S : List Pair) (p : Pair) (i : ℕ) → i ≤ length S
+    → IsPartitionPoint (λ t. is_before t p ≡ true) (λ t. is_before t p ≡ false) S i → All (λ t. IsBefore t p) (take i S)
+parted_below S p i l h k d lt = let n : k < i = omega (arith, length-take i S) in
+    rw get_or-take (is_before-holds _ p (h.0 k d (omega arith) n))
 
 -- and those from there on do not
-pub parted_rest : (S : List Pair) (p : Pair) (i : ℕ) → i ≤ length S → IsPartitionPoint (λ t. is_before t p ≡ true) (λ t. is_before t p ≡ false) S i → All (λ t. ¬ (IsBefore t p)) (drop i S)
-parted_rest S p i l h k d lt = let n : i + k < length S = omega (arith, length-drop i S) in rw (get_or-drop i S k d) (is_before-fails _ p (h.1 (i + k) d (omega arith) n))
+pub parted_rest : (S : List Pair) (p : Pair) (i : ℕ) → i ≤ length S
+    → IsPartitionPoint (λ t. is_before t p ≡ true) (λ t. is_before t p ≡ false) S i
+    → All (λ t. ¬ (IsBefore t p)) (drop i S)
+parted_rest S p i l h k d lt = let n : i + k < length S = omega (arith, length-drop i S) in
+    rw (get_or-drop i S k d) (is_before-fails _ p (h.1 (i + k) d (omega arith) n))

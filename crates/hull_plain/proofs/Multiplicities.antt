@@ -1,5 +1,6 @@
 -- How often the points of an ordered map are held, in the words of what is held.
-use Rattle.std.proofs.Common.{◌≡◌, ℕ, inl, inr, refl, sym, ap, ◌∙◌, subst, List, arith, ◌+◌, ◌-◌, ◌≤◌, [], ◌∷◌, false, cond, Option, Some, None, add-zero}
+use Rattle.std.proofs.Common.{◌≡◌, ℕ, inl, inr, refl, sym, ap, ◌∙◌, subst, List, arith, ◌+◌, ◌-◌, ◌≤◌, [], ◌∷◌, false}
+use Rattle.std.proofs.Common.{cond, Option, Some, None, add-zero}
 use Rattle.std.specs.Option.{unwrap_or, IfSome, IsSome}
 use Rattle.std.specs.List.{All, Contains}
 use Rattle.std.specs.BTreeMap.{is_at}

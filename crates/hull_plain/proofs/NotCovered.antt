@@ -5,7 +5,8 @@ use Rattle.std.proofs.lemmas.Int.{ints}
 use Rattle.std.proofs.lemmas.List.Elements.{All-contains}
 use Rattle.lattice.specs.Covers.{IsBetween, Covers, Member, OnSegment, InTriangle}
 use Rattle.lattice.specs.Plane.{Pair, orient, product}
-use Rattle.lattice.specs.Polynomials.{difference-eq, as_difference, difference-add, difference-neg, difference-mul, difference-pos}
+use Rattle.lattice.specs.Polynomials.{difference-eq, as_difference, difference-add, difference-neg, difference-mul}
+use Rattle.lattice.specs.Polynomials.{difference-pos}
 use Rattle.lattice.specs.Signs.{product_nn, cancel_zero, product_np}
 use Rattle.lattice.proofs.Vectors.{minus, opp, cross}
 use Rattle.hull_plain.proofs.Orientation.{orient-cycle, orient-sum, product-minus, at_least, above}
@@ -17,10 +18,21 @@ Separated S q = (d : Pair) × All (λ t. product d t <ℤ product d q) S
 -- the cross products of three vectors weigh their products with any vector to 0
 balance : (f a b c : Pair) → cross b c *ℤ product f a +ℤ cross c a *ℤ product f b +ℤ cross a b *ℤ product f c ≡ pos 0
 unfolding product
-balance f a b c = rw (as_difference f.x, as_difference f.y, as_difference a.x, as_difference a.y, as_difference b.x, as_difference b.y, as_difference c.x, as_difference c.y) (simp (difference-add, difference-neg, difference-mul) (difference-pos _ _ 0 (omega arith)))
+balance f a b c = rw (
+  as_difference f.x,
+  as_difference f.y,
+  as_difference a.x,
+  as_difference a.y,
+  as_difference b.x,
+  as_difference b.y,
+  as_difference c.x,
+  as_difference c.y,
+)
+    (simp (difference-add, difference-neg, difference-mul) (difference-pos _ _ 0 (omega arith)))
 
 -- three weights, of which none is below 0 and one is above, of three numbers above 0
-mix : (a b c A B C : ℤ) → pos 0 <ℤ A → pos 0 <ℤ B → pos 0 <ℤ C → pos 0 ≤ℤ a → pos 0 ≤ℤ b → pos 0 ≤ℤ c → pos 0 <ℤ (a +ℤ b +ℤ c) → (a *ℤ A) +ℤ (b *ℤ B) +ℤ (c *ℤ C) ≡ pos 0 → ⊥
+mix : (a b c A B C : ℤ) → pos 0 <ℤ A → pos 0 <ℤ B → pos 0 <ℤ C → pos 0 ≤ℤ a → pos 0 ≤ℤ b → pos 0 ≤ℤ c
+    → pos 0 <ℤ (a +ℤ b +ℤ c) → (a *ℤ A) +ℤ (b *ℤ B) +ℤ (c *ℤ C) ≡ pos 0 → ⊥
 mix a b c A B C hA hB hC ha hb hc h e =
     let pa : pos 0 ≤ℤ (a *ℤ A) = product_nn a A ha (omega (arith, ints)) in
     let pb : pos 0 ≤ℤ (b *ℤ B) = product_nn b B hb (omega (arith, ints)) in
@@ -33,7 +45,8 @@ mix a b c A B C hA hB hC ha hb hc h e =
 -- three vectors that turn left round the origin do not all lie on one side of a line through it
 no_triangle : (f a b c : Pair) → pos 0 <ℤ product f a → pos 0 <ℤ product f b → pos 0 <ℤ product f c
     → pos 0 ≤ℤ cross b c → pos 0 ≤ℤ cross c a → pos 0 ≤ℤ cross a b → pos 0 <ℤ (cross b c +ℤ cross c a +ℤ cross a b) → ⊥
-no_triangle f a b c ha hb hc A B C s = mix (cross b c) (cross c a) (cross a b) (product f a) (product f b) (product f c) ha hb hc A B C s (balance f a b c)
+no_triangle f a b c ha hb hc A B C s =
+    mix (cross b c) (cross c a) (cross a b) (product f a) (product f b) (product f c) ha hb hc A B C s (balance f a b c)
 
 -- between, as seen from the point between
 abbrev Opposite : ℤ → ℤ → Type 0
@@ -54,25 +67,47 @@ flat a b A B hA hB (inr h) e =
 pub flat_x : (f a b : Pair) → cross a b ≡ pos 0 → b.x *ℤ product f a ≡ a.x *ℤ product f b
 unfolding product
 flat_x f a b e =
-    let r : b.x *ℤ product f a ≡ a.x *ℤ product f b -ℤ f.y *ℤ cross a b = rw (as_difference f.x, as_difference f.y, as_difference a.x, as_difference a.y, as_difference b.x, as_difference b.y) (simp (difference-add, difference-neg, difference-mul) (difference-eq _ _ _ _ (omega arith))) in
+    let r : b.x *ℤ product f a ≡ a.x *ℤ product f b -ℤ f.y *ℤ cross a b =
+    rw (
+      as_difference f.x,
+      as_difference f.y,
+      as_difference a.x,
+      as_difference a.y,
+      as_difference b.x,
+      as_difference b.y,
+    ) (simp (difference-add, difference-neg, difference-mul)
+    (difference-eq _ _ _ _ (omega arith))) in
     r ∙ ap (λ (z : ℤ). a.x *ℤ product f b -ℤ f.y *ℤ z) e ∙ omega (arith, ints)
 
 -- and as their second components
 flat_y : (f a b : Pair) → cross a b ≡ pos 0 → b.y *ℤ product f a ≡ a.y *ℤ product f b
 unfolding product
 flat_y f a b e =
-    let r : b.y *ℤ product f a ≡ a.y *ℤ product f b +ℤ f.x *ℤ cross a b = rw (as_difference f.x, as_difference f.y, as_difference a.x, as_difference a.y, as_difference b.x, as_difference b.y) (simp (difference-add, difference-neg, difference-mul) (difference-eq _ _ _ _ (omega arith))) in
+    let r : b.y *ℤ product f a ≡ a.y *ℤ product f b +ℤ f.x *ℤ cross a b =
+    rw (
+      as_difference f.x,
+      as_difference f.y,
+      as_difference a.x,
+      as_difference a.y,
+      as_difference b.x,
+      as_difference b.y,
+    ) (simp (difference-add, difference-neg, difference-mul)
+    (difference-eq _ _ _ _ (omega arith))) in
     r ∙ ap (λ (z : ℤ). a.y *ℤ product f b +ℤ f.x *ℤ z) e ∙ omega (arith, ints)
 
 -- the product with the zero vector
 product_zero : (f a : Pair) → a.x ≡ pos 0 → a.y ≡ pos 0 → product f a ≡ pos 0
 unfolding product
-product_zero f a zx zy = ap (λ (z : ℤ). f.x *ℤ z +ℤ f.y *ℤ a.y) zx ∙ ap (λ (z : ℤ). f.x *ℤ pos 0 +ℤ f.y *ℤ z) zy ∙ omega (arith, ints)
+product_zero f a zx zy =
+    ap (λ (z : ℤ). f.x *ℤ z +ℤ f.y *ℤ a.y) zx ∙ ap (λ (z : ℤ). f.x *ℤ pos 0 +ℤ f.y *ℤ z) zy ∙ omega (arith, ints)
 
 -- two vectors in one line on two sides of the origin do not both lie on one side of a line through it
-no_segment : (f a b : Pair) → pos 0 <ℤ product f a → pos 0 <ℤ product f b → cross a b ≡ pos 0 → Opposite a.x b.x → Opposite a.y b.y → ⊥
+no_segment : (f a b : Pair) → pos 0 <ℤ product f a → pos 0 <ℤ product f b → cross a b ≡ pos 0 → Opposite a.x b.x
+    → Opposite a.y b.y → ⊥
 no_segment f a b ha hb e ox oy =
-    let z : product f a ≡ pos 0 = product_zero f a (flat a.x b.x (product f a) (product f b) ha hb ox (flat_x f a b e)) (flat a.y b.y (product f a) (product f b) ha hb oy (flat_y f a b e)) in
+    let z : product f a ≡ pos 0 =
+    product_zero f a (flat a.x b.x (product f a) (product f b) ha hb ox (flat_x f a b e))
+    (flat a.y b.y (product f a) (product f b) ha hb oy (flat_y f a b e)) in
     omega (arith, ints)
 
 -- a difference is above 0
@@ -98,8 +133,12 @@ unfolding orient
 not_covered S q s (Member m) = unfurther _ (All-contains (λ t. product s.0 t <ℤ product s.0 q) S q s.1 m)
 not_covered S q s (OnSegment a b ma mb h) =
     let P : Pair → Type 0 = λ t. product s.0 t <ℤ product s.0 q in
-    no_segment (opp s.0) (minus a q) (minus b q) (further s.0 a q (All-contains P S a s.1 ma)) (further s.0 b q (All-contains P S b s.1 mb)) (sym (orient-cycle a b q) ∙ h.0) (opposite a.x b.x q.x h.1) (opposite a.y b.y q.y h.2)
+    no_segment (opp s.0) (minus a q) (minus b q) (further s.0 a q (All-contains P S a s.1 ma))
+    (further s.0 b q (All-contains P S b s.1 mb)) (sym (orient-cycle a b q) ∙ h.0) (opposite a.x b.x q.x h.1)
+    (opposite a.y b.y q.y h.2)
 not_covered S q s (InTriangle a b c ma mb mc h) =
     let P : Pair → Type 0 = λ t. product s.0 t <ℤ product s.0 q in
-    no_triangle (opp s.0) (minus a q) (minus b q) (minus c q) (further s.0 a q (All-contains P S a s.1 ma)) (further s.0 b q (All-contains P S b s.1 mb)) (further s.0 c q (All-contains P S c s.1 mc))
-    (at_least _ _ (orient-cycle b c q) h.2) (at_least _ _ (orient-cycle c a q) h.3) (at_least _ _ (orient-cycle a b q) h.1) (above _ _ (orient-sum a b c q) h.0)
+    no_triangle (opp s.0) (minus a q) (minus b q) (minus c q) (further s.0 a q (All-contains P S a s.1 ma))
+    (further s.0 b q (All-contains P S b s.1 mb)) (further s.0 c q (All-contains P S c s.1 mc))
+    (at_least _ _ (orient-cycle b c q) h.2) (at_least _ _ (orient-cycle c a q) h.3)
+    (at_least _ _ (orient-cycle a b q) h.1) (above _ _ (orient-sum a b c q) h.0)

@@ -78,7 +78,8 @@ insert_is [] p n = refl
 insert_is ((x, m) ∷ es) p n =
     elim (before_total x p) [
       | inl b ↦ rw (greater p x b, is_before-true x p b) (ap (λ (z : List Pair). x ∷ z) (insert_is es p n))
-      | inr (inl e) ↦ subst (λ (z : Pair). keys_of (insert_entry point_cmp ((z, m) ∷ es) p n) ≡ with_point p (z ∷ keys_of es))
+      | inr (inl e) ↦ subst
+          (λ (z : Pair). keys_of (insert_entry point_cmp ((z, m) ∷ es) p n) ≡ with_point p (z ∷ keys_of es))
           (sym e) (rw (equal p, is_before-false p p (before_irrefl p)) refl)
       | inr (inr b) ↦ rw (less p x b, is_before-false x p (before_not p x b), is_before-true p x b) refl
     ]

@@ -23,27 +23,70 @@ orient_swap_zero q u v e = orient_swap q v u ∙ ap neg_ℤ e
 -- the line from the other end
 pub orient_other : (q l t : Pair) → orient l q t ≡ neg_ℤ (orient q l t)
 unfolding orient
-orient_other q l t = rw (as_difference q.x, as_difference q.y, as_difference l.x, as_difference l.y, as_difference t.x, as_difference t.y) (simp (difference-add, difference-neg, difference-mul) (difference-eq _ _ _ _ (omega arith)))
+orient_other q l t =
+    rw (
+      as_difference q.x,
+      as_difference q.y,
+      as_difference l.x,
+      as_difference l.y,
+      as_difference t.x,
+      as_difference t.y,
+    ) (simp (difference-add, difference-neg, difference-mul) (difference-eq _ _ _ _ (omega arith)))
 
 -- the three points turned round keep the side
 pub orient-cycle : (a b q : Pair) → orient a b q ≡ orient q a b
 unfolding orient
-orient-cycle a b q = rw (as_difference a.x, as_difference a.y, as_difference b.x, as_difference b.y, as_difference q.x, as_difference q.y) (simp (difference-add, difference-neg, difference-mul) (difference-eq _ _ _ _ (omega arith)))
+orient-cycle a b q =
+    rw (
+      as_difference a.x,
+      as_difference a.y,
+      as_difference b.x,
+      as_difference b.y,
+      as_difference q.x,
+      as_difference q.y,
+    ) (simp (difference-add, difference-neg, difference-mul) (difference-eq _ _ _ _ (omega arith)))
 
 -- the triangle abc in three triangles with the corner q
 pub orient-sum : (a b c q : Pair) → orient a b c ≡ orient q b c +ℤ orient q c a +ℤ orient q a b
 unfolding orient
-orient-sum a b c q = rw (as_difference a.x, as_difference a.y, as_difference b.x, as_difference b.y, as_difference c.x, as_difference c.y, as_difference q.x, as_difference q.y) (simp (difference-add, difference-neg, difference-mul) (difference-eq _ _ _ _ (omega arith)))
+orient-sum a b c q =
+    rw (
+      as_difference a.x,
+      as_difference a.y,
+      as_difference b.x,
+      as_difference b.y,
+      as_difference c.x,
+      as_difference c.y,
+      as_difference q.x,
+      as_difference q.y,
+    )
+    (simp (difference-add, difference-neg, difference-mul) (difference-eq _ _ _ _ (omega arith)))
 
 -- the cross product of the steps from u to v and from v to t
 pub orient_at_end : (u v t : Pair) → cross (minus v u) (minus t v) ≡ orient u v t
 unfolding orient
-orient_at_end u v t = rw (as_difference u.x, as_difference u.y, as_difference v.x, as_difference v.y, as_difference t.x, as_difference t.y) (simp (difference-add, difference-neg, difference-mul) (difference-eq _ _ _ _ (omega arith)))
+orient_at_end u v t =
+    rw (
+      as_difference u.x,
+      as_difference u.y,
+      as_difference v.x,
+      as_difference v.y,
+      as_difference t.x,
+      as_difference t.y,
+    ) (simp (difference-add, difference-neg, difference-mul) (difference-eq _ _ _ _ (omega arith)))
 
 -- how much farther q lies than t in a direction
 pub product-minus : (d t q : Pair) → product (opp d) (minus t q) ≡ product d q -ℤ product d t
 unfolding product
-product-minus d t q = rw (as_difference d.x, as_difference d.y, as_difference t.x, as_difference t.y, as_difference q.x, as_difference q.y) (simp (difference-add, difference-neg, difference-mul) (difference-eq _ _ _ _ (omega arith)))
+product-minus d t q =
+    rw (
+      as_difference d.x,
+      as_difference d.y,
+      as_difference t.x,
+      as_difference t.y,
+      as_difference q.x,
+      as_difference q.y,
+    ) (simp (difference-add, difference-neg, difference-mul) (difference-eq _ _ _ _ (omega arith)))
 
 -- what is equal to a number at least 0 is at least 0
 pub at_least : (a b : ℤ) → a ≡ b → pos 0 ≤ℤ a → pos 0 ≤ℤ b
@@ -72,11 +115,14 @@ pub turned : (q u v : Pair) → orient q u v <ℤ pos 0 → pos 0 ≤ℤ orient 
 turned q u v h = let e = orient_swap q v u in omega (arith, ints)
 
 -- two vectors ahead, neither left of the other, point up both or down both
-pub along : (u b : Pair) → Ahead u → Ahead b → cross u b ≡ pos 0 → ((pos 0 ≤ℤ u.y) × (pos 0 ≤ℤ b.y)) ⊎ ((u.y ≤ℤ pos 0) × (b.y ≤ℤ pos 0))
+pub along : (u b : Pair) → Ahead u → Ahead b → cross u b ≡ pos 0
+    → ((pos 0 ≤ℤ u.y) × (pos 0 ≤ℤ b.y)) ⊎ ((u.y ≤ℤ pos 0) × (b.y ≤ℤ pos 0))
 along u b hu hb e =
     elim (le_or_lt (pos 0) u.y) [
-      | inl up_u ↦ elim (le_or_lt (pos 0) b.y) [ inl up_b ↦ inl (up_u, up_b) | inr down_b ↦ absurd (clash hu hb up_u down_b) ]
-      | inr down_u ↦ elim (le_or_lt b.y (pos 0)) [ inl down_b ↦ inr (omega (arith, ints), down_b) | inr up_b ↦ absurd (clash_down hu down_u up_b) ]
+      | inl up_u ↦ elim (le_or_lt (pos 0) b.y)
+          [ inl up_b ↦ inl (up_u, up_b) | inr down_b ↦ absurd (clash hu hb up_u down_b) ]
+      | inr down_u ↦ elim (le_or_lt b.y (pos 0))
+          [ inl down_b ↦ inr (omega (arith, ints), down_b) | inr up_b ↦ absurd (clash_down hu down_u up_b) ]
     ]
   where
     clash : Ahead u → Ahead b → pos 0 ≤ℤ u.y → b.y <ℤ pos 0 → ⊥

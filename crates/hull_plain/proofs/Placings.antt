@@ -1,8 +1,10 @@
 -- The place and the tangents of q, by the points before it and the points after it.
-use Rattle.std.proofs.Common.{◌≡◌, ℤ, pos, negsuc, ◌≤ℤ◌, ◌<ℤ◌, ◌⊎◌, inl, inr, refl, sym, subst, List, arith, [], ◌∷◌, ◌++◌, length, true, false, Bool, cond}
+use Rattle.std.proofs.Common.{◌≡◌, ℤ, pos, negsuc, ◌≤ℤ◌, ◌<ℤ◌, ◌⊎◌, inl, inr, refl, sym, subst, List, arith, [], ◌∷◌}
+use Rattle.std.proofs.Common.{◌++◌, length, true, false, Bool, cond}
 use Rattle.std.specs.List.{All, Contains}
 use Rattle.std.proofs.lemmas.Int.{ints}
-use Rattle.std.proofs.lemmas.List.Elements.{All-weaker, All-append, All-cons, Contains-append_left, Contains-append_right}
+use Rattle.std.proofs.lemmas.List.Elements.{All-weaker, All-append, All-cons, Contains-append_left}
+use Rattle.std.proofs.lemmas.List.Elements.{Contains-append_right}
 use Rattle.lattice.specs.Covers.{Covers, Member}
 use Rattle.lattice.specs.Places.{IsOuter}
 use Rattle.lattice.specs.Plane.{Pair, orient, product, IsBefore}
@@ -14,7 +16,8 @@ use Rattle.hull_plain.proofs.NotCovered.{not_covered}
 use Rattle.hull_plain.proofs.OneSided.{ahead_separated, behind_separated}
 use Rattle.lattice.proofs.Order.{before_irrefl, before_not}
 use Rattle.hull_plain.proofs.PointLists.{append_none}
-use Rattle.hull_plain.proofs.Rounds.{round_covered, round_inside, round_above, round_below, round_on_low, round_on_high, tangents_above, tangents_below}
+use Rattle.hull_plain.proofs.Rounds.{round_covered, round_inside, round_above, round_below, round_on_low, round_on_high}
+use Rattle.hull_plain.proofs.Rounds.{tangents_above, tangents_below}
 use Rattle.hull_plain.specs.declared.set.Place.{Place}
 use Rattle.hull_plain.specs.declared.set.Place.TheVariants.{Inside, On, Outside}
 use Rattle.hull_plain.specs.declared.reply.Reply.TheVariants.{TangentPoints, NoTangent}
@@ -39,19 +42,34 @@ right_unit t q n = elim (le_or_lt t.x q.x) [ inl h ↦ omega (arith, ints) | inr
 
 -- the first point is outer
 pub outer_first : (S : List Pair) (q : Pair) → All (λ t. ¬ (IsBefore t q)) S → IsOuter S q
-outer_first S q h = (leftwards, λ z. omega (arith, ints, z.0), All-weaker (λ t. ¬ (IsBefore t q)) (λ t. product leftwards t ≤ℤ product leftwards q) (λ t n. left_unit t q n) S h)
+outer_first S q h = (
+  leftwards,
+  λ z. omega (arith, ints, z.0),
+  All-weaker (λ t. ¬ (IsBefore t q)) (λ t. product leftwards t ≤ℤ product leftwards q) (λ t n. left_unit t q n) S h,
+)
 
 -- the last point is outer
 pub outer_last : (S : List Pair) (q : Pair) → All (λ t. ¬ (IsBefore q t)) S → IsOuter S q
-outer_last S q h = (rightwards, λ z. omega (arith, ints, z.0), All-weaker (λ t. ¬ (IsBefore q t)) (λ t. product rightwards t ≤ℤ product rightwards q) (λ t n. right_unit t q n) S h)
+outer_last S q h = (
+  rightwards,
+  λ z. omega (arith, ints, z.0),
+  All-weaker (λ t. ¬ (IsBefore q t)) (λ t. product rightwards t ≤ℤ product rightwards q)
+      (λ t n. right_unit t q n) S h,
+)
 
 -- q present, and no point before it
 pub first_on : (L R : List Pair) (q : Pair) → length L ≡ 0 → All (IsBefore q) R → LiesAt (joined L true q R) q On
-first_on [] R q e h = (Member (0, omega arith, refl), outer_first (q ∷ R) q (All-cons (λ t. ¬ (IsBefore t q)) q R (before_irrefl q) (All-weaker (IsBefore q) (λ t. ¬ (IsBefore t q)) (λ t k. before_not q t k) R h)))
+first_on [] R q e h = (
+  Member (0, omega arith, refl),
+  outer_first (q ∷ R) q
+      (All-cons (λ t. ¬ (IsBefore t q)) q R (before_irrefl q)
+      (All-weaker (IsBefore q) (λ t. ¬ (IsBefore t q)) (λ t k. before_not q t k) R h)),
+)
 first_on (x ∷ L) R q e h = absurd (omega arith)
 
 -- q absent, and no point before it
-pub first_outside : (L R : List Pair) (q : Pair) → length L ≡ 0 → All (IsBefore q) R → LiesAt (joined L false q R) q Outside
+pub first_outside : (L R : List Pair) (q : Pair) → length L ≡ 0 → All (IsBefore q) R
+    → LiesAt (joined L false q R) q Outside
 first_outside [] R q e h = not_covered R q (ahead_separated R q h)
 first_outside (x ∷ L) R q e h = absurd (omega arith)
 
@@ -59,14 +77,19 @@ first_outside (x ∷ L) R q e h = absurd (omega arith)
 pub last_on : (L R : List Pair) (q : Pair) → length R ≡ 0 → All (λ t. IsBefore t q) L → LiesAt (joined L true q R) q On
 last_on L [] q e h = (
   Member (Contains-append_right L (q ∷ []) q (0, omega arith, refl)),
-  outer_last (L ++ (q ∷ [])) q (All-append (λ t. ¬ (IsBefore q t)) L (q ∷ []) (All-weaker (λ t. IsBefore t q) (λ t. ¬ (IsBefore q t)) (λ t k. before_not t q k) L h)
+  outer_last (L ++ (q ∷ [])) q
+      (All-append (λ t. ¬ (IsBefore q t)) L (q ∷ [])
+      (All-weaker (λ t. IsBefore t q) (λ t. ¬ (IsBefore q t)) (λ t k. before_not t q k) L h)
       (All-cons (λ t. ¬ (IsBefore q t)) q [] (before_irrefl q) (λ k d l. absurd (omega arith)))),
 )
 last_on L (x ∷ R) q e h = absurd (omega arith)
 
 -- q absent, and no point after it
-pub last_outside : (L R : List Pair) (q : Pair) → length R ≡ 0 → All (λ t. IsBefore t q) L → LiesAt (joined L false q R) q Outside
-last_outside L [] q e h = not_covered (L ++ []) q (behind_separated (L ++ []) q (All-append (λ t. IsBefore t q) L [] h (λ k d l. absurd (omega arith))))
+pub last_outside : (L R : List Pair) (q : Pair) → length R ≡ 0 → All (λ t. IsBefore t q) L
+    → LiesAt (joined L false q R) q Outside
+last_outside L [] q e h =
+    not_covered (L ++ []) q
+    (behind_separated (L ++ []) q (All-append (λ t. IsBefore t q) L [] h (λ k d l. absurd (omega arith))))
 last_outside L (x ∷ R) q e h = absurd (omega arith)
 
 -- points on both sides of q
@@ -79,10 +102,12 @@ module _ {q : Pair} {L R : List Pair} {a b c d : Pair} (r : IsRound q L R a b c 
   in_left p t m = Contains-append_left L (cond p (q ∷ []) [] ++ R) t m
 
   in_right : (p : Bool) (t : Pair) → Contains R t → Contains (joined L p q R) t
-  in_right p t m = Contains-append_right L (cond p (q ∷ []) [] ++ R) t (Contains-append_right (cond p (q ∷ []) []) R t m)
+  in_right p t m = Contains-append_right L (cond p (q ∷ []) [] ++ R) t
+      (Contains-append_right (cond p (q ∷ []) []) R t m)
 
   covers : (p : Bool) → (p ≡ true) ⊎ ((pos 0 ≤ℤ orient q a b) × (pos 0 ≤ℤ orient q c d)) → Covers (joined L p q R) q
-  covers p (inl e) = subst (λ (z : Bool). Covers (joined L z q R) q) (sym e) (Member (Contains-append_right L (q ∷ R) q (0, omega arith, refl)))
+  covers p (inl e) = subst (λ (z : Bool). Covers (joined L z q R) q) (sym e)
+      (Member (Contains-append_right L (q ∷ R) q (0, omega arith, refl)))
   covers p (inr h) = round_covered r (joined L p q R) (in_left p) (in_right p) h.0 h.1
 
   outer : (p : Bool) → (orient q a b ≤ℤ pos 0) ⊎ (orient q c d ≤ℤ pos 0) → IsOuter (joined L p q R) q
@@ -96,10 +121,12 @@ module _ {q : Pair} {L R : List Pair} {a b c d : Pair} (r : IsRound q L R a b c 
   nonneg : (x : ℤ) → pos 0 <ℤ x → pos 0 ≤ℤ x
   nonneg x h = omega (arith, ints)
 
-  pub place_right : (p : Bool) (place : Place) → IsPlaceBy p (orient q a b) (orient q c d) place → LiesAt (joined L p q R) q place
+  pub place_right : (p : Bool) (place : Place) → IsPlaceBy p (orient q a b) (orient q c d) place
+      → LiesAt (joined L p q R) q place
   place_right p Outside h = subst (λ (z : Bool). ¬ (Covers (joined L z q R) q)) (sym h.0) (outside h.1)
   place_right p On h = (covers p h.0, outer p h.1)
-  place_right p Inside h = (covers p (inr (nonneg _ h.0, nonneg _ h.1)), round_inside r (joined L p q R) (in_left p) (in_right p) h.0 h.1)
+  place_right p Inside h =
+      (covers p (inr (nonneg _ h.0, nonneg _ h.1)), round_inside r (joined L p q R) (in_left p) (in_right p) h.0 h.1)
 
   pub around_above : orient q a b <ℤ pos 0 → AnswersTangents (L ++ R) q (TangentPoints a b)
   around_above h = let t = tangents_above r h in (not_covered (L ++ R) q (round_above r h), t.0, t.1)
@@ -108,14 +135,19 @@ module _ {q : Pair} {L R : List Pair} {a b c d : Pair} (r : IsRound q L R a b c 
   around_below h = let t = tangents_below r h in (not_covered (L ++ R) q (round_below r h), t.0, t.1)
 
   pub around_none : pos 0 ≤ℤ orient q a b → pos 0 ≤ℤ orient q c d → AnswersTangents (L ++ R) q NoTangent
-  around_none h k = inr (round_covered r (L ++ R) (λ t m. Contains-append_left L R t m) (λ t m. Contains-append_right L R t m) h k)
+  around_none h k = inr
+      (round_covered r (L ++ R) (λ t m. Contains-append_left L R t m) (λ t m. Contains-append_right L R t m) h k)
 
 -- no point before q: the tangents to the points after it
-pub ahead_alone : (L R : List Pair) (q l r : Pair) → length L ≡ 0 → All (IsBefore q) R → IsLeftTangent R q l → IsRightTangent R q r → AnswersTangents (L ++ R) q (TangentPoints l r)
+pub ahead_alone : (L R : List Pair) (q l r : Pair) → length L ≡ 0 → All (IsBefore q) R → IsLeftTangent R q l
+    → IsRightTangent R q r → AnswersTangents (L ++ R) q (TangentPoints l r)
 ahead_alone [] R q l r e h hl hr = (not_covered R q (ahead_separated R q h), hl, hr)
 ahead_alone (x ∷ L) R q l r e h hl hr = absurd (omega arith)
 
 -- no point after q: the tangents to the points before it
-pub behind_alone : (L R : List Pair) (q l r : Pair) → length R ≡ 0 → All (λ t. IsBefore t q) L → IsLeftTangent L q l → IsRightTangent L q r → AnswersTangents (L ++ R) q (TangentPoints l r)
-behind_alone L [] q l r e h hl hr = subst (λ (z : List Pair). AnswersTangents z q (TangentPoints l r)) (append_none L) (not_covered L q (behind_separated L q h), hl, hr)
+pub behind_alone : (L R : List Pair) (q l r : Pair) → length R ≡ 0 → All (λ t. IsBefore t q) L → IsLeftTangent L q l
+    → IsRightTangent L q r → AnswersTangents (L ++ R) q (TangentPoints l r)
+behind_alone L [] q l r e h hl hr =
+    subst (λ (z : List Pair). AnswersTangents z q (TangentPoints l r)) (append_none L)
+    (not_covered L q (behind_separated L q h), hl, hr)
 behind_alone L (x ∷ R) q l r e h hl hr = absurd (omega arith)

@@ -1,5 +1,6 @@
 -- What a plain set keeps after a change.
-use Rattle.std.proofs.Common.{◌≡◌, ℕ, sym, ap, ◌∙◌, subst, List, arith, ◌+◌, ◌≤◌, ◌<◌, [], ◌∷◌, inl, inr, length, BTreeMap, Some}
+use Rattle.std.proofs.Common.{◌≡◌, ℕ, sym, ap, ◌∙◌, subst, List, arith, ◌+◌, ◌≤◌, ◌<◌, [], ◌∷◌, inl, inr, length}
+use Rattle.std.proofs.Common.{BTreeMap, Some}
 use Rattle.std.specs.BTreeMap.{is_at, insert_entry}
 use Rattle.std.specs.Map.{keys_of, lookup, remove_entry, set_value}
 use Rattle.std.proofs.lemmas.Map.{keys-set_value}

@@ -1,5 +1,6 @@
 -- Lists of points, their parts, and what holds of all pairs in order.
-use Rattle.std.proofs.Common.{◌≡◌, ℕ, refl, ap, List, arith, zero, suc, ◌<◌, ◌≤◌, [], ◌∷◌, ◌++◌, length, get_or, take, ◌-◌, drop}
+use Rattle.std.proofs.Common.{◌≡◌, ℕ, refl, ap, List, arith, zero, suc, ◌<◌, ◌≤◌, [], ◌∷◌, ◌++◌, length, get_or, take}
+use Rattle.std.proofs.Common.{◌-◌, drop}
 use Rattle.std.specs.List.{All, Contains}
 use Rattle.std.proofs.lemmas.Grind.{common_steps}
 use Rattle.std.proofs.lemmas.List.Elements.{All-cons, All-head, All-tail}
@@ -27,7 +28,8 @@ AllPairs-none i j d lt l = absurd (omega arith)
 -- what holds of all members of two lists holds of all members of both in a row
 pub all_append_right : (P : Pair → Type 0) (xs ys : List Pair) → All P xs → All P ys → All P (xs ++ ys)
 all_append_right P [] ys a b = b
-all_append_right P (x ∷ xs) ys a b = All-cons P x (xs ++ ys) (All-head P x xs a) (all_append_right P xs ys (All-tail P x xs a) b)
+all_append_right P (x ∷ xs) ys a b =
+    All-cons P x (xs ++ ys) (All-head P x xs a) (all_append_right P xs ys (All-tail P x xs a) b)
 
 -- and of the left list alone
 pub left_part : (P : Pair → Type 0) (xs ys : List Pair) → All P (xs ++ ys) → All P xs

@@ -1,5 +1,7 @@
--- The walk round the hull: what it has passed so far, and that at its end this is the vertex list, and its fan the doubled area.
-use Rattle.std.proofs.Common.{◌≡◌, ℕ, pos, ◌+ℤ◌, ◌≤ℤ◌, inl, inr, refl, sym, ap, ◌∙◌, subst, List, arith, zero, suc, ◌+◌, ◌<◌, [], ◌∷◌, ◌++◌, length, get_or, ◌-◌, length-drop, ◌≢◌}
+-- The walk round the hull: what it has passed so far, and that at its end this is the vertex list, and its fan the
+-- doubled area.
+use Rattle.std.proofs.Common.{◌≡◌, ℕ, pos, ◌+ℤ◌, ◌≤ℤ◌, inl, inr, refl, sym, ap, ◌∙◌, subst, List, arith, zero, suc, ◌+◌}
+use Rattle.std.proofs.Common.{◌<◌, [], ◌∷◌, ◌++◌, length, get_or, ◌-◌, length-drop, ◌≢◌}
 use Rattle.std.specs.List.{Contains}
 use Rattle.std.proofs.lemmas.Bool.{cases_lt}
 use Rattle.std.proofs.lemmas.Int.{ints}
@@ -19,23 +21,28 @@ use Rattle.hull_plain.proofs.PointLists.{AllPairs-cons, AllPairs-none, get_or_fr
 use Rattle.hull_plain.proofs.VertexLists.{chain_push, end_push, vertex_list}
 
 -- one more lower edge
-pub lower_more : (S passed : List Pair) (i j : ℕ) → IsLowerWalk S passed i → IsLowerEdge S (point_at S i) (point_at S j) → IsLowerWalk S (passed ++ point_at S j ∷ []) j
+pub lower_more : (S passed : List Pair) (i j : ℕ) → IsLowerWalk S passed i → IsLowerEdge S (point_at S i) (point_at S j)
+    → IsLowerWalk S (passed ++ point_at S j ∷ []) j
 lower_more S passed i j w e =
     record {
-      chain = chain_push (IsLowerEdge S) (point_at S 0) passed (point_at S j) w.chain (subst (λ (z : Pair). IsLowerEdge S z (point_at S j)) (sym w.ends) e);
+      chain = chain_push (IsLowerEdge S) (point_at S 0) passed (point_at S j) w.chain
+          (subst (λ (z : Pair). IsLowerEdge S z (point_at S j)) (sym w.ends) e);
       ends = end_push (point_at S 0) passed (point_at S j);
       reached = λ t m. (point_at S i, e);
     }
 
 -- the walk along the upper chain begins
 pub upper_start : (S : List Pair) → 0 < length S → IsUpperWalk S [] (length S - 1)
-upper_start S l = record { chain = tt; ends = refl; reached = λ t m. absurd (omega (arith, m.1, length-drop (length S - 1 + 1) S)) }
+upper_start S l = record
+    { chain = tt; ends = refl; reached = λ t m. absurd (omega (arith, m.1, length-drop (length S - 1 + 1) S)) }
 
 -- one more upper edge
-pub upper_more : (S passed : List Pair) (i j : ℕ) → IsUpperWalk S passed i → IsUpperEdge S (point_at S i) (point_at S j) → IsUpperWalk S (passed ++ point_at S j ∷ []) j
+pub upper_more : (S passed : List Pair) (i j : ℕ) → IsUpperWalk S passed i → IsUpperEdge S (point_at S i) (point_at S j)
+    → IsUpperWalk S (passed ++ point_at S j ∷ []) j
 upper_more S passed i j w e =
     record {
-      chain = chain_push (IsUpperEdge S) (point_at S (length S - 1)) passed (point_at S j) w.chain (subst (λ (z : Pair). IsUpperEdge S z (point_at S j)) (sym w.ends) e);
+      chain = chain_push (IsUpperEdge S) (point_at S (length S - 1)) passed (point_at S j) w.chain
+          (subst (λ (z : Pair). IsUpperEdge S z (point_at S j)) (sym w.ends) e);
       ends = end_push (point_at S (length S - 1)) passed (point_at S j);
       reached = λ t m. (point_at S i, e);
     }
@@ -43,15 +50,19 @@ upper_more S passed i j w e =
 -- the point at 0 is the first
 pub least : (S : List Pair) → IsPointSet S → IsFirst S (point_at S 0)
 least S s p (zero, l, e) b = before_irrefl p (subst (IsBefore p) (get_or_free S 0 origin p l ∙ e) b)
-least S s p (suc k, l, e) b = before_not p (point_at S 0) b (subst (IsBefore (point_at S 0)) (get_or_free S (suc k) origin p l ∙ e) (s 0 (suc k) origin (omega arith) l))
+least S s p (suc k, l, e) b =
+    before_not p (point_at S 0) b
+    (subst (IsBefore (point_at S 0)) (get_or_free S (suc k) origin p l ∙ e) (s 0 (suc k) origin (omega arith) l))
 
 -- the point at the last place is the last
 pub greatest : (S : List Pair) → IsPointSet S → IsLast S (point_at S (length S - 1))
 greatest S s p (k, l, e) b =
     let q : get_or S k origin ≡ p = get_or_free S k origin p l ∙ e in
     elim (cases_lt k (length S - 1)) [
-      | inl h ↦ before_not (point_at S (length S - 1)) p b (subst (λ (z : Pair). IsBefore z (point_at S (length S - 1))) q (s k (length S - 1) origin h (omega arith)))
-      | inr h ↦ let n : length S - 1 ≡ k = omega arith in before_irrefl p (subst (λ (z : Pair). IsBefore z p) (ap (λ (z : ℕ). point_at S z) n ∙ q) b)
+      | inl h ↦ before_not (point_at S (length S - 1)) p b
+          (subst (λ (z : Pair). IsBefore z (point_at S (length S - 1))) q (s k (length S - 1) origin h (omega arith)))
+      | inr h ↦ let n : length S - 1 ≡ k = omega arith in
+          before_irrefl p (subst (λ (z : Pair). IsBefore z p) (ap (λ (z : ℕ). point_at S z) n ∙ q) b)
     ]
 
 -- of two points or more, the first stands before the last
@@ -59,9 +70,14 @@ first_last : (S : List Pair) → IsPointSet S → 1 < length S → IsBefore (poi
 first_last S s l = s 0 (length S - 1) origin (omega arith) (omega arith)
 
 -- a whole lower walk, and the points of a whole upper walk but the first point of S where it ends
-pub walked : (S lower upper : List Pair) → IsPointSet S → 1 < length S → IsLowerWalk S lower (length S - 1) → IsChain (IsUpperEdge S) (point_at S (length S - 1)) (upper ++ point_at S 0 ∷ []) → IsVertexList S (point_at S 0 ∷ (lower ++ upper))
-walked S [] upper s l w c = absurd (before_irrefl (point_at S (length S - 1)) (subst (λ (z : Pair). IsBefore z (point_at S (length S - 1))) w.ends (first_last S s l)))
-walked S (v ∷ vs) upper s l w c = vertex_list S (point_at S 0) (point_at S (length S - 1)) v vs upper s w.chain w.ends c (least S s) (greatest S s)
+pub walked : (S lower upper : List Pair) → IsPointSet S → 1 < length S → IsLowerWalk S lower (length S - 1)
+    → IsChain (IsUpperEdge S) (point_at S (length S - 1)) (upper ++ point_at S 0 ∷ [])
+    → IsVertexList S (point_at S 0 ∷ (lower ++ upper))
+walked S [] upper s l w c =
+    absurd (before_irrefl (point_at S (length S - 1))
+    (subst (λ (z : Pair). IsBefore z (point_at S (length S - 1))) w.ends (first_last S s l)))
+walked S (v ∷ vs) upper s l w c =
+    vertex_list S (point_at S 0) (point_at S (length S - 1)) v vs upper s w.chain w.ends c (least S s) (greatest S s)
 
 -- the points of a walk but the last, with the one where it began
 pub front_of : (v w : Pair) (vs : List Pair) → end_of v vs ≡ w → (front : List Pair) × (v ∷ vs ≡ front ++ w ∷ [])
@@ -90,14 +106,19 @@ pub fan-push : (f u w : Pair) (xs : List Pair) → fan f u (xs ++ w ∷ []) ≡ 
 fan-push f u w xs = let e = fan-append f u xs (w ∷ []) in omega (arith, ints)
 
 -- the doubled area is the sum of the fans of a whole lower walk and a whole upper walk
-pub fans_sum : (S : List Pair) (m n : ℕ) → IsPointSet S → 1 < length S → IsLowerFan S (length S - 1) m → IsUpperFan S 0 n → IsDoubledArea S (pos (m + n))
+pub fans_sum : (S : List Pair) (m n : ℕ) → IsPointSet S → 1 < length S → IsLowerFan S (length S - 1) m
+    → IsUpperFan S 0 n → IsDoubledArea S (pos (m + n))
 fans_sum S m n s l (lower, w, e) (upper, x, g) =
     let first : Pair = point_at S 0 in
     let last : Pair = point_at S (length S - 1) in
     let f = front_after last first upper x.ends (after_apart last first (first_last S s l)) in
     let back : fan first last upper ≡ fan first last f.0 = ap (fan first last) f.1 ∙ fan-back first last f.0 in
-    let both : fan first first (lower ++ f.0) ≡ fan first first lower +ℤ fan first last f.0 = fan-append first first lower f.0 ∙ ap (λ (z : Pair). fan first first lower +ℤ fan first z f.0) w.ends in
-    (first ∷ (lower ++ f.0), walked S lower f.0 s l w (subst (IsChain (IsUpperEdge S) last) f.1 x.chain), omega (arith, ints))
+    let both : fan first first (lower ++ f.0) ≡ fan first first lower +ℤ fan first last f.0 =
+    fan-append first first lower f.0 ∙ ap (λ (z : Pair). fan first first lower +ℤ fan first z f.0) w.ends in (
+      first ∷ (lower ++ f.0),
+      walked S lower f.0 s l w (subst (IsChain (IsUpperEdge S) last) f.1 x.chain),
+      omega (arith, ints),
+    )
 
 -- the triangle from the first point to a lower edge does not turn right
 pub lower_triangle : (S : List Pair) (u v t : Pair) → IsLowerEdge S u v → Contains S t → pos 0 ≤ℤ orient t u v
@@ -110,21 +131,30 @@ upper_triangle S u v t e m = at_least _ _ (orient-cycle u v t) (All-contains (λ
 -- the list is the lower chain of S and the part of the upper chain that comes before the point at i
 abbrev pub IsHalfRound : List Pair → List Pair → ℕ → Type 0
 IsHalfRound S out i =
-    (lower : List Pair) × (upper : List Pair) × IsLowerWalk S lower (length S - 1) × IsUpperWalk S (upper ++ point_at S i ∷ []) i × (out ≡ point_at S 0 ∷ (lower ++ upper))
+    (lower : List Pair) × (upper : List Pair) × IsLowerWalk S lower (length S - 1)
+    × IsUpperWalk S (upper ++ point_at S i ∷ []) i × (out ≡ point_at S 0 ∷ (lower ++ upper))
 
 -- with the first upper edge
-pub half_start : (S out : List Pair) (i : ℕ) → 1 < length S → IsLowerOutline S (length S - 1) out → IsUpperEdge S (point_at S (length S - 1)) (point_at S i) → IsHalfRound S out i
-half_start S out i l (lower, w, o) e =
-    (lower, [], w, upper_more S [] (length S - 1) i (upper_start S (omega arith)) e, o ∙ ap (λ (z : List Pair). point_at S 0 ∷ z) (append_none lower))
+pub half_start : (S out : List Pair) (i : ℕ) → 1 < length S → IsLowerOutline S (length S - 1) out
+    → IsUpperEdge S (point_at S (length S - 1)) (point_at S i) → IsHalfRound S out i
+half_start S out i l (lower, w, o) e = (
+  lower,
+  [],
+  w,
+  upper_more S [] (length S - 1) i (upper_start S (omega arith)) e,
+  o ∙ ap (λ (z : List Pair). point_at S 0 ∷ z) (append_none lower),
+)
 
 -- one more upper edge
-pub half_more : (S out : List Pair) (i j : ℕ) → IsHalfRound S out i → IsUpperEdge S (point_at S i) (point_at S j) → IsHalfRound S (out ++ point_at S i ∷ []) j
+pub half_more : (S out : List Pair) (i j : ℕ) → IsHalfRound S out i → IsUpperEdge S (point_at S i) (point_at S j)
+    → IsHalfRound S (out ++ point_at S i ∷ []) j
 half_more S out i j (lower, upper, w, x, o) e = (
   lower,
   upper ++ point_at S i ∷ [],
   w,
   upper_more S (upper ++ point_at S i ∷ []) i j x e,
-  ap (λ (z : List Pair). z ++ point_at S i ∷ []) o ∙ ap (λ (z : List Pair). point_at S 0 ∷ z) (append_twice lower upper (point_at S i ∷ [])),
+  ap (λ (z : List Pair). z ++ point_at S i ∷ []) o
+      ∙ ap (λ (z : List Pair). point_at S 0 ∷ z) (append_twice lower upper (point_at S i ∷ [])),
 )
 
 -- back at the first point the list is whole
@@ -132,29 +162,38 @@ pub half_done : (S out : List Pair) → IsPointSet S → 1 < length S → IsHalf
 half_done S out s l (lower, upper, w, x, o) = subst (IsVertexList S) (sym o) (walked S lower upper s l w x.chain)
 
 -- with one more lower edge the outline goes on
-pub outline_more : (S out : List Pair) (i j : ℕ) → IsLowerOutline S i out → IsLowerEdge S (point_at S i) (point_at S j) → IsLowerOutline S j (out ++ point_at S j ∷ [])
-outline_more S out i j (passed, w, o) e = (passed ++ point_at S j ∷ [], lower_more S passed i j w e, ap (λ (z : List Pair). z ++ point_at S j ∷ []) o)
+pub outline_more : (S out : List Pair) (i j : ℕ) → IsLowerOutline S i out → IsLowerEdge S (point_at S i) (point_at S j)
+    → IsLowerOutline S j (out ++ point_at S j ∷ [])
+outline_more S out i j (passed, w, o) e =
+    (passed ++ point_at S j ∷ [], lower_more S passed i j w e, ap (λ (z : List Pair). z ++ point_at S j ∷ []) o)
 
 -- the sides of three points that were read
-pub read_side : (S : List Pair) (i j : ℕ) (a b d : Pair) → 0 < length S → i < length S → j < length S → a ≡ get_or S 0 a → b ≡ get_or S i b → d ≡ get_or S j d → orient a b d ≡ orient (point_at S 0) (point_at S i) (point_at S j)
+pub read_side : (S : List Pair) (i j : ℕ) (a b d : Pair) → 0 < length S → i < length S → j < length S → a ≡ get_or S 0 a
+    → b ≡ get_or S i b → d ≡ get_or S j d → orient a b d ≡ orient (point_at S 0) (point_at S i) (point_at S j)
 read_side S i j a b d l m n ea eb ed =
-    ap (λ (z : Pair). orient z b d) (same_point S 0 a l ea) ∙ ap (λ (z : Pair). orient (point_at S 0) z d) (same_point S i b m eb) ∙ ap (orient (point_at S 0) (point_at S i)) (same_point S j d n ed)
+    ap (λ (z : Pair). orient z b d) (same_point S 0 a l ea)
+    ∙ ap (λ (z : Pair). orient (point_at S 0) z d) (same_point S i b m eb)
+    ∙ ap (orient (point_at S 0) (point_at S i)) (same_point S j d n ed)
 
 -- one more triangle under the lower chain
-pub lower_fan_more : (S : List Pair) (i j m n : ℕ) → IsLowerFan S i m → IsLowerEdge S (point_at S i) (point_at S j) → pos n ≡ orient (point_at S 0) (point_at S i) (point_at S j) → IsLowerFan S j (m + n)
+pub lower_fan_more : (S : List Pair) (i j m n : ℕ) → IsLowerFan S i m → IsLowerEdge S (point_at S i) (point_at S j)
+    → pos n ≡ orient (point_at S 0) (point_at S i) (point_at S j) → IsLowerFan S j (m + n)
 lower_fan_more S i j m n (passed, w, f) e t =
     let first : Pair = point_at S 0 in
     let g = fan-push first first (point_at S j) passed in
-    let h : orient first (end_of first passed) (point_at S j) ≡ orient first (point_at S i) (point_at S j) = ap (λ (z : Pair). orient first z (point_at S j)) w.ends in
+    let h : orient first (end_of first passed) (point_at S j) ≡ orient first (point_at S i) (point_at S j) =
+    ap (λ (z : Pair). orient first z (point_at S j)) w.ends in
     (passed ++ point_at S j ∷ [], lower_more S passed i j w e, omega (arith, ints))
 
 -- one more triangle over the upper chain
-pub upper_fan_more : (S : List Pair) (i j m n : ℕ) → IsUpperFan S i m → IsUpperEdge S (point_at S i) (point_at S j) → pos n ≡ orient (point_at S 0) (point_at S i) (point_at S j) → IsUpperFan S j (m + n)
+pub upper_fan_more : (S : List Pair) (i j m n : ℕ) → IsUpperFan S i m → IsUpperEdge S (point_at S i) (point_at S j)
+    → pos n ≡ orient (point_at S 0) (point_at S i) (point_at S j) → IsUpperFan S j (m + n)
 upper_fan_more S i j m n (passed, w, f) e t =
     let first : Pair = point_at S 0 in
     let last : Pair = point_at S (length S - 1) in
     let g = fan-push first last (point_at S j) passed in
-    let h : orient first (end_of last passed) (point_at S j) ≡ orient first (point_at S i) (point_at S j) = ap (λ (z : Pair). orient first z (point_at S j)) w.ends in
+    let h : orient first (end_of last passed) (point_at S j) ≡ orient first (point_at S i) (point_at S j) =
+    ap (λ (z : Pair). orient first z (point_at S j)) w.ends in
     (passed ++ point_at S j ∷ [], upper_more S passed i j w e, omega (arith, ints))
 
 -- the only member of a list of one
@@ -166,7 +205,9 @@ only_member v p (suc k, l, e) = absurd (omega (arith, l))
 alone_extreme : (v p : Pair) → Contains (v ∷ []) p → IsExtreme (v ∷ []) p
 alone_extreme v p m =
     subst (IsExtreme (v ∷ [])) (only_member v p m)
-    (first_extreme (v ∷ []) v (AllPairs-cons v [] (λ k d l. absurd (omega (arith, l))) AllPairs-none) (0, omega arith, refl) (λ t i b. before_irrefl v (subst (λ (z : Pair). IsBefore z v) (sym (only_member v t i)) b)))
+    (first_extreme (v ∷ []) v (AllPairs-cons v [] (λ k d l. absurd (omega (arith, l))) AllPairs-none)
+    (0, omega arith, refl)
+    (λ t i b. before_irrefl v (subst (λ (z : Pair). IsBefore z v) (sym (only_member v t i)) b)))
 
 -- a set of no point or of one is its own vertex list
 pub small_list : (S : List Pair) → length S < 2 → IsVertexList S S
@@ -178,14 +219,19 @@ small_list [] l = record {
 small_list (v ∷ []) l = record {
   distinct = λ i j d h k. absurd (omega (arith, h, k));
   members = λ p. ((λ m. alone_extreme v p m), λ x. x.0);
-  order = (All-cons (λ t. pos 0 ≤ℤ orient v v t) v [] (zero_nn _ (orient_start v v)) (λ k d h. absurd (omega (arith, h))), λ k d h. absurd (omega (arith, h)));
+  order = (
+    All-cons (λ t. pos 0 ≤ℤ orient v v t) v [] (zero_nn _ (orient_start v v))
+        (λ k d h. absurd (omega (arith, h))),
+    λ k d h. absurd (omega (arith, h)),
+  );
 }
 small_list (v ∷ w ∷ vs) l = absurd (omega (arith, l))
 
 -- the list of the only point
 pub one_list : (S : List Pair) (x : Pair) → length S ≡ 1 → x ≡ get_or S 0 x → IsVertexList S (x ∷ [])
 one_list [] x l e = absurd (omega (arith, l))
-one_list (v ∷ []) x l e = subst (λ (z : Pair). IsVertexList (v ∷ []) (z ∷ [])) (sym e) (small_list (v ∷ []) (omega (arith, l)))
+one_list (v ∷ []) x l e =
+    subst (λ (z : Pair). IsVertexList (v ∷ []) (z ∷ [])) (sym e) (small_list (v ∷ []) (omega (arith, l)))
 one_list (v ∷ w ∷ vs) x l e = absurd (omega (arith, l))
 
 -- the empty list of no points

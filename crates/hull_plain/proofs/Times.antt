@@ -23,7 +23,8 @@ fails false n = refl
 
 -- another point is not the same
 pub same_false : (p q : Pair) → ¬ (p ≡ q) → is_same_pair p q ≡ false
-same_false p q n = fails (is_same_pair p q) (λ t. n (λ i. record { x = ((told p q).0 t).0 i; y = ((told p q).0 t).1 i }))
+same_false p q n = fails (is_same_pair p q)
+    (λ t. n (λ i. record { x = ((told p q).0 t).0 i; y = ((told p q).0 t).1 i }))
 
 -- what a test counts at most
 few : (b : Bool) → (if b then 1 else 0) ≤ 1

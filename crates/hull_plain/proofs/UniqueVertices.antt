@@ -24,7 +24,8 @@ head_first S v t vs h x b = go ((h.members t).1 x)
 -- two vertex lists have one head
 same_head : (S : List Pair) (v w : Pair) (vs ws : List Pair) → IsVertexList S (v ∷ vs) → IsVertexList S (w ∷ ws) → v ≡ w
 same_head S v w vs ws h g =
-    equal_by v w (head_first S w v ws g (vertices_extreme S (v ∷ vs) h 0 v (omega arith))) (head_first S v w vs h (vertices_extreme S (w ∷ ws) g 0 w (omega arith)))
+    equal_by v w (head_first S w v ws g (vertices_extreme S (v ∷ vs) h 0 v (omega arith)))
+    (head_first S v w vs h (vertices_extreme S (w ∷ ws) g 0 w (omega arith)))
 
 -- the arc of a vertex list from its second member
 arc_of : (S : List Pair) (v x : Pair) (xs : List Pair) → IsVertexList S (v ∷ x ∷ xs) → IsArc S v x xs
@@ -45,10 +46,12 @@ one_or_more S v y ys h g = go ((h.members y).1 (vertices_extreme S (v ∷ y ∷ 
 
 -- nor are an empty one and one that is not
 none_or_some : (S : List Pair) (v : Pair) (vs : List Pair) → IsVertexList S [] → IsVertexList S (v ∷ vs) → ⊥
-none_or_some S v vs h g = let m = (h.members v).1 (vertices_extreme S (v ∷ vs) g 0 v (omega arith)) in absurd (omega (arith, m.1))
+none_or_some S v vs h g = let m = (h.members v).1 (vertices_extreme S (v ∷ vs) g 0 v (omega arith)) in
+    absurd (omega (arith, m.1))
 
 -- two vertex lists with one head are equal
-same_list : (S : List Pair) (v : Pair) (vs ws : List Pair) → IsVertexList S (v ∷ vs) → IsVertexList S (v ∷ ws) → v ∷ vs ≡ v ∷ ws
+same_list : (S : List Pair) (v : Pair) (vs ws : List Pair) → IsVertexList S (v ∷ vs) → IsVertexList S (v ∷ ws)
+    → v ∷ vs ≡ v ∷ ws
 same_list S v [] [] h g = refl
 same_list S v [] (y ∷ ys) h g = absurd (one_or_more S v y ys h g)
 same_list S v (x ∷ xs) [] h g = absurd (one_or_more S v x xs g h)
@@ -56,7 +59,9 @@ same_list S v (x ∷ xs) (y ∷ ys) h g =
     let a : IsArc S v x xs = arc_of S v x xs h in
     let b : IsArc S v y ys = arc_of S v y ys g in
     let first : IsExtreme S v = vertices_extreme S (v ∷ x ∷ xs) h 0 v (omega arith) in
-    let e : x ≡ y = next_same S v x y first (a.extreme 0 v (omega arith)) (b.extreme 0 v (omega arith)) (h.distinct 0 1 v (omega arith) (omega arith)) (g.distinct 0 1 v (omega arith) (omega arith)) h.order.0.0 g.order.0.0 in
+    let e : x ≡ y = next_same S v x y first (a.extreme 0 v (omega arith)) (b.extreme 0 v (omega arith))
+    (h.distinct 0 1 v (omega arith) (omega arith))
+    (g.distinct 0 1 v (omega arith) (omega arith)) h.order.0.0 g.order.0.0 in
     let rest : xs ≡ ys = same_arc S v y xs ys first (subst (λ (z : Pair). IsArc S v z xs) e a) b in
     ap (λ (z : Pair). v ∷ z ∷ xs) e ∙ ap (λ (z : List Pair). v ∷ y ∷ z) rest
 

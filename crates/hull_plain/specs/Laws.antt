@@ -13,7 +13,8 @@ use Rattle.hull_plain.specs.declared.reply.Reply.TheVariants.{NoMemory}
 
 -- a list of points has one list of vertices at most
 abbrev pub VertexListIsUnique : Type 0
-VertexListIsUnique = (S vertices others : List Pair) → IsVertexList S vertices → IsVertexList S others → vertices ≡ others
+VertexListIsUnique = (S vertices others : List Pair) → IsVertexList S vertices → IsVertexList S others
+    → vertices ≡ others
 
 -- and so one doubled area at most
 abbrev pub DoubledAreaIsUnique : Type 0

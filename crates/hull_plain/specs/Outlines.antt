@@ -15,7 +15,8 @@ pub record HasRoom (o : Outline) (n : ℕ) : Type 0 where
   pub lower : n ≤ vec_capacity o.lower
   pub upper : n ≤ vec_capacity o.upper
 
--- a limit that a set may have, no more points than that, in order, each held, and an outline of them with room for theirs
+-- a limit that a set may have, no more points than that, in order, each held, and an outline of them with room for
+-- theirs
 pub record IsPlainSet (limit : ℕ) (entries : List (Pair × ℕ)) (o : Outline) : Type 0 where
   pub low : 1 ≤ limit
   pub high : limit ≤ POINT_LIMIT

@@ -1,6 +1,7 @@
 -- Which replies a call may have, by the rules, for what is held before it and the limit on the live points; and what a
 -- reply makes of what is held. Of a question S are the live points.
-use Rattle.std.specs.Prelude.{◌≡◌, ◌≢◌, ◌⊎◌, ℕ, ◌+◌, ◌<◌, ◌≤◌, pos, List, [], length, Option, Some, None, Result, Ok, Err, Vec}
+use Rattle.std.specs.Prelude.{◌≡◌, ◌≢◌, ◌⊎◌, ℕ, ◌+◌, ◌<◌, ◌≤◌, pos, List, [], length, Option, Some, None, Result, Ok}
+use Rattle.std.specs.Prelude.{Err, Vec}
 use Rattle.std.specs.List.{Contains}
 use Rattle.lattice.specs.Plane.{Pair}
 use Rattle.lattice.specs.Covers.{Covers}
@@ -11,9 +12,12 @@ use Rattle.hull_plain.specs.Tangents.{IsFirstFarthest, IsLeftTangent, IsRightTan
 use Rattle.hull_plain.specs.declared.set.Place.{Place as WherePlaced}
 use Rattle.hull_plain.specs.declared.set.Place.TheVariants.{Inside, On, Outside}
 use Rattle.hull_plain.specs.declared.call.Call.{Call}
-use Rattle.hull_plain.specs.declared.call.Call.TheVariants.{Add, Remove, Extreme, Place, Tangents, Vertices, Area, Count}
+use Rattle.hull_plain.specs.declared.call.Call.TheVariants.{Add, Remove, Extreme, Place, Tangents, Vertices, Area}
+use Rattle.hull_plain.specs.declared.call.Call.TheVariants.{Count}
 use Rattle.hull_plain.specs.declared.reply.Reply.{Reply}
-use Rattle.hull_plain.specs.declared.reply.Reply.TheVariants.{Added, Already, Again, TooMany, NoMemory, Removed, Left, Absent, Farthest, Empty, Lies, TangentPoints, NoTangent, VertexList, DoubledArea, PointCount}
+use Rattle.hull_plain.specs.declared.reply.Reply.TheVariants.{Added, Already, Again, TooMany, NoMemory, Removed, Left}
+use Rattle.hull_plain.specs.declared.reply.Reply.TheVariants.{Absent, Farthest, Empty, Lies, TangentPoints, NoTangent}
+use Rattle.hull_plain.specs.declared.reply.Reply.TheVariants.{VertexList, DoubledArea, PointCount}
 use Rattle.hull_plain.specs.declared.TheConstants.{MULTIPLICITY_LIMIT}
 use Rattle.hull_plain.specs.declared.rules.Rules.{Rules}
 use Rattle.hull_plain.specs.declared.rules.Rules.TheVariants.{Set, Counted}
@@ -22,16 +26,21 @@ use Rattle.hull_plain.specs.declared.set.AddReply.TheVariants as add
 use Rattle.hull_plain.specs.declared.set.RemoveReply.{RemoveReply}
 use Rattle.hull_plain.specs.declared.set.RemoveReply.TheVariants as remove
 
--- the replies to `add p`: `already` where points are not counted; `again n` where they are and p is held n-1 times, n from 2 to the limit of multiplicities
+-- the replies to `add p`: `already` where points are not counted; `again n` where they are and p is held n-1 times, n
+-- from 2 to the limit of multiplicities
 abbrev pub AnswersAdd : Rules → Held → ℕ → Pair → Reply → Type 0
 AnswersAdd rules held limit p Added = ¬ Contains held.points p × (length held.points < limit)
 AnswersAdd rules held limit p NoMemory = ¬ Contains held.points p × (length held.points < limit)
 AnswersAdd rules held limit p Already = (rules ≡ Set) × Contains held.points p
-AnswersAdd rules held limit p (Again n) = (rules ≡ Counted) × Contains held.points p × (n ≡ held.times p + 1) × (2 ≤ n) × (n ≤ MULTIPLICITY_LIMIT)
-AnswersAdd rules held limit p TooMany = (¬ Contains held.points p × (length held.points ≡ limit)) ⊎ ((rules ≡ Counted) × Contains held.points p × (held.times p ≡ MULTIPLICITY_LIMIT))
+AnswersAdd rules held limit p (Again n) =
+    (rules ≡ Counted) × Contains held.points p × (n ≡ held.times p + 1) × (2 ≤ n) × (n ≤ MULTIPLICITY_LIMIT)
+AnswersAdd rules held limit p TooMany =
+    (¬ Contains held.points p × (length held.points ≡ limit))
+    ⊎ ((rules ≡ Counted) × Contains held.points p × (held.times p ≡ MULTIPLICITY_LIMIT))
 AnswersAdd rules held limit p _ = ⊥
 
--- the replies to `remove p`: where points are counted, `removed` where p is held once, and `left n` where it is held n+1 times, n at least 1
+-- the replies to `remove p`: where points are counted, `removed` where p is held once, and `left n` where it is held
+-- n+1 times, n at least 1
 abbrev pub AnswersRemove : Rules → Held → Pair → Reply → Type 0
 AnswersRemove rules held p Removed = Contains held.points p × (rules ≡ Counted → held.times p ≡ 1)
 AnswersRemove rules held p (Left n) = (rules ≡ Counted) × Contains held.points p × (held.times p ≡ n + 1) × (1 ≤ n)
@@ -100,7 +109,8 @@ after_remove held p Removed = with_none p held
 after_remove held p (Left n) = with_one_less p held
 after_remove held p _ = held
 
--- the effect of a reply: p is held once more after `added` and `again`, once less after `removed` and `left`; else nothing changes
+-- the effect of a reply: p is held once more after `added` and `again`, once less after `removed` and `left`; else
+-- nothing changes
 abbrev pub after : Held → Call → Reply → Held
 after held (Add p) reply = after_add held p reply
 after held (Remove p) reply = after_remove held p reply
@@ -111,7 +121,8 @@ after held Vertices reply = held
 after held Area reply = held
 after held Count reply = held
 
--- the reply is one of the rules: `already` where points are not counted, `again` and `left` where they are, with a number that a multiplicity may be; every other reply is one of both
+-- the reply is one of the rules: `already` where points are not counted, `again` and `left` where they are, with a
+-- number that a multiplicity may be; every other reply is one of both
 abbrev pub IsReplyOf : Rules → Reply → Type 0
 IsReplyOf rules Already = rules ≡ Set
 IsReplyOf rules (Again n) = (rules ≡ Counted) × (n ≤ MULTIPLICITY_LIMIT)

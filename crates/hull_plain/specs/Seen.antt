@@ -1,6 +1,7 @@
 -- What is seen from a point: the points that are most to the right and to the left of those on one side of it.
 use Rattle.std.specs.List.{All}
-use Rattle.std.specs.Prelude.{◌≡◌, ℕ, ℤ, pos, ◌≤ℤ◌, ◌<ℤ◌, ◌⊎◌, List, [], ◌∷◌, ◌++◌, true, false, Bool, cond, slice_index_or}
+use Rattle.std.specs.Prelude.{◌≡◌, ℕ, ℤ, pos, ◌≤ℤ◌, ◌<ℤ◌, ◌⊎◌, List, [], ◌∷◌, ◌++◌, true, false, Bool, cond}
+use Rattle.std.specs.Prelude.{slice_index_or}
 use Rattle.lattice.specs.Plane.{Pair, orient, distance_squared, IsBefore}
 use Rattle.hull_plain.specs.Tangents.{IsLeftTangent, IsRightTangent}
 use Rattle.hull_plain.specs.declared.set.Place.{Place}
@@ -27,7 +28,8 @@ abbrev pub IsLeftmostAt : List Pair → Pair → ℕ → Type 0
 IsLeftmostAt S q i = (e : Pair) → All (λ t. ¬ (IsMoreLeft q t (slice_index_or S i e))) S
 
 -- round q: of the points `behind`, all before q, and `ahead`, all after it, the lowest and the highest as seen from q
-pub record IsRound (q : Pair) (behind ahead : List Pair) (low_behind low_ahead high_ahead high_behind : Pair) : Type 0 where
+pub record IsRound (q : Pair) (behind ahead : List Pair)
+    (low_behind low_ahead high_ahead high_behind : Pair) : Type 0 where
   pub all_behind : All (λ t. IsBefore t q) behind
   pub all_ahead : All (IsBefore q) ahead
   pub lowest_behind : IsLeftTangent behind q low_behind
@@ -43,4 +45,5 @@ joined behind present q ahead = behind ++ (cond present (q ∷ []) [] ++ ahead)
 abbrev pub IsPlaceBy : Bool → ℤ → ℤ → Place → Type 0
 IsPlaceBy present lower upper Outside = (present ≡ false) × ((lower <ℤ pos 0) ⊎ (upper <ℤ pos 0))
 IsPlaceBy present lower upper Inside = (pos 0 <ℤ lower) × (pos 0 <ℤ upper)
-IsPlaceBy present lower upper On = ((present ≡ true) ⊎ ((pos 0 ≤ℤ lower) × (pos 0 ≤ℤ upper))) × ((lower ≤ℤ pos 0) ⊎ (upper ≤ℤ pos 0))
+IsPlaceBy present lower upper On =
+    ((present ≡ true) ⊎ ((pos 0 ≤ℤ lower) × (pos 0 ≤ℤ upper))) × ((lower ≤ℤ pos 0) ⊎ (upper ≤ℤ pos 0))

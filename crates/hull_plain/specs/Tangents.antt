@@ -10,8 +10,12 @@ IsFirstFarthest S d t = Contains S t × IsFarthest S d t × All (λ u. IsBefore 
 
 -- l is a point of S; no point of S lies left of the line from q to l, and none on that line is farther from q
 abbrev pub IsLeftTangent : List Pair → Pair → Pair → Type 0
-IsLeftTangent S q l = Contains S l × All (λ t. (orient q l t ≤ℤ pos 0) × (orient q l t ≡ pos 0 → distance_squared q t ≤ℤ distance_squared q l)) S
+IsLeftTangent S q l =
+    Contains S l × All (λ t. (orient q l t ≤ℤ pos 0)
+    × (orient q l t ≡ pos 0 → distance_squared q t ≤ℤ distance_squared q l)) S
 
 -- the same with right for left
 abbrev pub IsRightTangent : List Pair → Pair → Pair → Type 0
-IsRightTangent S q r = Contains S r × All (λ t. (pos 0 ≤ℤ orient q r t) × (orient q r t ≡ pos 0 → distance_squared q t ≤ℤ distance_squared q r)) S
+IsRightTangent S q r =
+    Contains S r × All (λ t. (pos 0 ≤ℤ orient q r t)
+    × (orient q r t ≡ pos 0 → distance_squared q t ≤ℤ distance_squared q r)) S

@@ -36,4 +36,5 @@ IsLowerFan S i n = (passed : List Pair) × IsLowerWalk S passed i × (pos n ≡ 
 
 -- n is the doubled area between the upper chain of S down to the point at i and the first point
 abbrev pub IsUpperFan : List Pair → ℕ → ℕ → Type 0
-IsUpperFan S i n = (passed : List Pair) × IsUpperWalk S passed i × (pos n ≡ fan (point_at S 0) (point_at S (length S - 1)) passed)
+IsUpperFan S i n = (passed : List Pair) × IsUpperWalk S passed i
+    × (pos n ≡ fan (point_at S 0) (point_at S (length S - 1)) passed)

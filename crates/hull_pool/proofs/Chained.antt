@@ -1,5 +1,6 @@
 -- Phases one after the other.
-use Rattle.std.proofs.Common.{◌≡◌, ◌<◌, ◌≤◌, ◌+◌, ◌-◌, ℕ, suc, List, [], ◌∷◌, ◌++◌, length, refl, sym, ap, subst, ◌∙◌, arith, append_assoc, length-append, map, take, inl, inr, All, Ok, Err}
+use Rattle.std.proofs.Common.{◌≡◌, ◌<◌, ◌≤◌, ◌+◌, ◌-◌, ℕ, suc, List, [], ◌∷◌, ◌++◌, length, refl, sym, ap, subst, ◌∙◌}
+use Rattle.std.proofs.Common.{arith, append_assoc, length-append, map, take, inl, inr, All, Ok, Err}
 use Rattle.std.proofs.lemmas.Bool.{cases_lt}
 use Rattle.std.proofs.lemmas.List.{map-append, replicate-append-replicate, take-append-le}
 use Rattle.std.proofs.lemmas.List.Sums.{sum_by-cons}
@@ -28,14 +29,23 @@ same_lines before lines p le = none p.0 (omega (arith, length-append before p.0,
     none (l ∷ rest) e is = absurd (omega arith)
 
 -- nothing is served where the lines are the same
-none_served : (k : ℕ) (before lines served : List Line) → lines ≡ before → lines_of k lines ≡ lines_of k before ++ served → served ≡ []
+none_served : (k : ℕ) (before lines served : List Line) → lines ≡ before
+    → lines_of k lines ≡ lines_of k before ++ served → served ≡ []
 none_served k before lines [] same own = refl
-none_served k before lines (l ∷ served) same own = absurd (omega (arith, ap length own, ap (λ (xs : List Line). length (lines_of k xs)) same, length-append (lines_of k before) (l ∷ served)))
+none_served k before lines (l ∷ served) same own =
+    absurd (omega (
+      arith,
+      ap length own,
+      ap (λ (xs : List Line). length (lines_of k xs)) same,
+      length-append (lines_of k before) (l ∷ served),
+    ))
 
 -- all of the first list, and so many of the second
 take_both : (xs ys : List Call) (n : ℕ) → take (length xs + n) (xs ++ ys) ≡ xs ++ take n ys
 take_both [] ys n = ap (λ (m : ℕ). take m ys) (let e : 0 + n ≡ n = omega arith in e)
-take_both (x ∷ xs) ys n = ap (λ (m : ℕ). take m ((x ∷ xs) ++ ys)) (let e : length (x ∷ xs) + n ≡ suc (length xs + n) = omega arith in e) ∙ ap (λ (zs : List Call). x ∷ zs) (take_both xs ys n)
+take_both (x ∷ xs) ys n =
+    ap (λ (m : ℕ). take m ((x ∷ xs) ++ ys)) (let e : length (x ∷ xs) + n ≡ suc (length xs + n) = omega arith in e)
+    ∙ ap (λ (zs : List Call). x ∷ zs) (take_both xs ys n)
 
 -- fulls behind fulls
 fulls_both : (m n k : ℕ) → k ≡ m + n → fulls m ++ fulls n ≡ fulls k
@@ -46,16 +56,25 @@ four : (a b c d e : List Answer) → (a ++ b ++ c) ++ d ++ e ≡ a ++ b ++ (c ++
 four a b c d e = ap (λ (xs : List Answer). xs ++ e) (append_assoc (a ++ b) c d)
 
 -- the work of two phases in a row, where the journal was not full before the second
-more_work : (k room : ℕ) (one two : List Call) (before between lines : List Line) (old mid new : List Answer) → (h : HasWorked k room (length one) one before between old mid) → (g : HasWorked k room (length two) two between lines mid new) → length h.served ≡ length one → HasWorked k room (length (one ++ two)) (one ++ two) before lines old new
+more_work : (k room : ℕ) (one two : List Call) (before between lines : List Line) (old mid new : List Answer)
+    → (h : HasWorked k room (length one) one before between old mid)
+    → (g : HasWorked k room (length two) two between lines mid new) → length h.served ≡ length one
+    → HasWorked k room (length (one ++ two)) (one ++ two) before lines old new
 more_work k room one two before between lines old mid new h g all =
-    let long : length (h.served ++ g.served) ≡ length one + length g.served = length-append h.served g.served ∙ ap (λ (n : ℕ). n + length g.served) all in
+    let long : length (h.served ++ g.served) ≡ length one + length g.served =
+    length-append h.served g.served ∙ ap (λ (n : ℕ). n + length g.served) all in
     let calls : length (one ++ two) ≡ length one + length two = length-append one two in
     let whole : take (length h.served) one ≡ one = ap (λ (n : ℕ). take n one) all ∙ take_all one in record {
       served = h.served ++ g.served;
-      own_lines = g.own_lines ∙ ap (λ (xs : List Line). xs ++ g.served) h.own_lines ∙ append_assoc (lines_of k before) h.served g.served;
-      in_order = map-append (λ (l : Line). l.call) h.served g.served ∙ ap (λ (xs : List Call). xs ++ map (λ (l : Line). l.call) g.served) (h.in_order ∙ whole) ∙ ap (λ (xs : List Call). one ++ xs) g.in_order ∙ sym (take_both one two (length g.served)) ∙ sym (ap (λ (n : ℕ). take n (one ++ two)) long);
+      own_lines = g.own_lines ∙ ap (λ (xs : List Line). xs ++ g.served) h.own_lines
+          ∙ append_assoc (lines_of k before) h.served g.served;
+      in_order = map-append (λ (l : Line). l.call) h.served g.served
+          ∙ ap (λ (xs : List Call). xs ++ map (λ (l : Line). l.call) g.served) (h.in_order ∙ whole)
+          ∙ ap (λ (xs : List Call). one ++ xs) g.in_order ∙ sym (take_both one two (length g.served))
+          ∙ sym (ap (λ (n : ℕ). take n (one ++ two)) long);
       few = omega (arith, long, calls, g.few);
-      answers = answers (length one - length h.served) (omega (arith, all)) h.answers g.answers (omega (arith, long, calls, g.few));
+      answers = answers (length one - length h.served) (omega (arith, all)) h.answers g.answers
+          (omega (arith, long, calls, g.few));
       full = λ lt. g.full (omega (arith, long, calls));
     }
   where
@@ -63,14 +82,25 @@ more_work k room one two before between lines old mid new h g all =
     take_all [] = refl
     take_all (x ∷ xs) = ap (λ (ys : List Call). x ∷ ys) (take_all xs)
 
-    answers : (n : ℕ) → n ≡ 0 → mid ≡ old ++ replies_of h.served ++ fulls n → new ≡ mid ++ replies_of g.served ++ fulls (length two - length g.served) → length two - length g.served ≡ length (one ++ two) - length (h.served ++ g.served) → new ≡ old ++ replies_of (h.served ++ g.served) ++ fulls (length (one ++ two) - length (h.served ++ g.served))
+    answers : (n : ℕ) → n ≡ 0 → mid ≡ old ++ replies_of h.served ++ fulls n
+        → new ≡ mid ++ replies_of g.served ++ fulls (length two - length g.served)
+        → length two - length g.served ≡ length (one ++ two) - length (h.served ++ g.served)
+        → new ≡ old ++ replies_of (h.served ++ g.served)
+        ++ fulls (length (one ++ two) - length (h.served ++ g.served))
     answers n e a c same =
-        c ∙ ap (λ (xs : List Answer). xs ++ replies_of g.served ++ fulls (length two - length g.served)) (a ∙ ap (λ (m : ℕ). old ++ replies_of h.served ++ fulls m) e ∙ sym (append_none (old ++ replies_of h.served)))
-        ∙ ap (λ (xs : List Answer). xs ++ fulls (length two - length g.served)) (append_assoc old (replies_of h.served) (replies_of g.served) ∙ ap (λ (xs : List Answer). old ++ xs) (sym (map-append (λ (l : Line). Ok l.reply) h.served g.served)))
+        c ∙ ap (λ (xs : List Answer). xs ++ replies_of g.served ++ fulls (length two - length g.served))
+        (a ∙ ap (λ (m : ℕ). old ++ replies_of h.served ++ fulls m) e
+        ∙ sym (append_none (old ++ replies_of h.served)))
+        ∙ ap (λ (xs : List Answer). xs ++ fulls (length two - length g.served))
+        (append_assoc old (replies_of h.served) (replies_of g.served)
+        ∙ ap (λ (xs : List Answer). old ++ xs) (sym (map-append (λ (l : Line). Ok l.reply) h.served g.served)))
         ∙ ap (λ (m : ℕ). old ++ replies_of (h.served ++ g.served) ++ fulls m) same
 
 -- and where it was
-no_more_work : (k room : ℕ) (one two : List Call) (before between lines : List Line) (old mid new : List Answer) → (h : HasWorked k room (length one) one before between old mid) → (g : HasWorked k room (length two) two between lines mid new) → lines ≡ between → length h.served < length one → HasWorked k room (length (one ++ two)) (one ++ two) before lines old new
+no_more_work : (k room : ℕ) (one two : List Call) (before between lines : List Line) (old mid new : List Answer)
+    → (h : HasWorked k room (length one) one before between old mid)
+    → (g : HasWorked k room (length two) two between lines mid new) → lines ≡ between → length h.served < length one
+    → HasWorked k room (length (one ++ two)) (one ++ two) before lines old new
 no_more_work k room one two before between lines old mid new h g same short =
     let none : g.served ≡ [] = none_served k between lines g.served same g.own_lines in
     let calls : length (one ++ two) ≡ length one + length two = length-append one two in record {
@@ -78,9 +108,14 @@ no_more_work k room one two before between lines old mid new h g same short =
       own_lines = ap (lines_of k) same ∙ h.own_lines;
       in_order = h.in_order ∙ sym (front one two (length h.served) h.few);
       few = omega (arith, calls, h.few);
-      answers = g.answers ∙ ap (λ (s : List Line). mid ++ replies_of s ++ fulls (length two - length s)) none ∙ ap (λ (n : ℕ). mid ++ [] ++ fulls n) (let e : length two - 0 ≡ length two = omega arith in e) ∙ ap (λ (xs : List Answer). xs ++ fulls (length two)) (sym (append_none mid)) ∙ ap (λ (xs : List Answer). xs ++ fulls (length two)) h.answers
+      answers = g.answers ∙ ap (λ (s : List Line). mid ++ replies_of s ++ fulls (length two - length s)) none
+          ∙ ap (λ (n : ℕ). mid ++ [] ++ fulls n) (let e : length two - 0 ≡ length two = omega arith in e)
+          ∙ ap (λ (xs : List Answer). xs ++ fulls (length two)) (sym (append_none mid))
+          ∙ ap (λ (xs : List Answer). xs ++ fulls (length two)) h.answers
           ∙ append_assoc (old ++ replies_of h.served) (fulls (length one - length h.served)) (fulls (length two))
-          ∙ ap (λ (xs : List Answer). old ++ replies_of h.served ++ xs) (fulls_both (length one - length h.served) (length two) (length (one ++ two) - length h.served) (omega (arith, calls, h.few)));
+          ∙ ap (λ (xs : List Answer). old ++ replies_of h.served ++ xs)
+          (fulls_both (length one - length h.served) (length two) (length (one ++ two) - length h.served)
+          (omega (arith, calls, h.few)));
       full = λ lt. let full : room ≤ length between = h.full short in omega (arith, ap length same);
     }
   where
@@ -88,17 +123,22 @@ no_more_work k room one two before between lines old mid new h g same short =
     front xs ys n le = take-append-le n xs ys le
 
 -- the work of two phases in a row
-pub works_on : (k room : ℕ) (one two : List Call) (before between lines : List Line) (old mid new : List Answer) → IsPrefix between lines → length lines ≤ room → HasWorked k room (length one) one before between old mid → HasWorked k room (length two) two between lines mid new → HasWorked k room (length (one ++ two)) (one ++ two) before lines old new
+pub works_on : (k room : ℕ) (one two : List Call) (before between lines : List Line) (old mid new : List Answer)
+    → IsPrefix between lines → length lines ≤ room → HasWorked k room (length one) one before between old mid
+    → HasWorked k room (length two) two between lines mid new
+    → HasWorked k room (length (one ++ two)) (one ++ two) before lines old new
 works_on k room one two before between lines old mid new begins within h g =
     elim (cases_lt (length h.served) (length one)) [
-      | inl lt ↦ no_more_work k room one two before between lines old mid new h g (same_lines between lines begins (let full : room ≤ length between = h.full lt in omega arith)) lt
+      | inl lt ↦ no_more_work k room one two before between lines old mid new h g
+          (same_lines between lines begins (let full : room ≤ length between = h.full lt in omega arith)) lt
       | inr ge ↦ more_work k room one two before between lines old mid new h g (omega (arith, h.few))
     ]
 
 -- ---- a phase, and the phases behind it
 
 -- the calls of a phase and of those behind it
-calls_both : (phase : PhaseValue) (phases : List PhaseValue) → calls_in_all (phase ∷ phases) ≡ calls_in phase + calls_in_all phases
+calls_both : (phase : PhaseValue) (phases : List PhaseValue)
+    → calls_in_all (phase ∷ phases) ≡ calls_in phase + calls_in_all phases
 calls_both phase phases = sum_by-cons (λ (p : PhaseValue). calls_in p) phase phases
 
 module _ {S : Type 0} {K : Ghosts S} where
@@ -116,42 +156,64 @@ module _ {S : Type 0} {K : Ghosts S} where
   }
 
   -- what a phase and the phases behind it come to
-  run_more : (b m c : BookValue S) (w x v : WorkersValue) (phase : PhaseValue) (phases : List PhaseValue) → HasRunPhase K b w phase m x → HasRunAll K m x phases c v → HasRunAll K b w (phase ∷ phases) c v
+  run_more : (b m c : BookValue S) (w x v : WorkersValue) (phase : PhaseValue) (phases : List PhaseValue)
+      → HasRunPhase K b w phase m x → HasRunAll K m x phases c v → HasRunAll K b w (phase ∷ phases) c v
   run_more b m c w x v phase phases one rest =
       let heads : capacity_of m ≡ capacity_of b = ap (λ (h : BookHead). h.journal.capacity) one.head in
       let crew : workers_of m ≡ workers_of b = ap (λ (h : BookHead). h.workers) one.head in
       let calls = calls_both phase phases in
-      let within : length c.lines ≤ capacity_of b = rw (ap (λ (h : BookHead). h.journal.capacity) (rest.head ∙ one.head)) at (rest.lawful).within in record {
+      let within : length c.lines ≤ capacity_of b =
+      rw (ap (λ (h : BookHead). h.journal.capacity) (rest.head ∙ one.head)) at (rest.lawful).within in record {
         lawful = rest.lawful;
         head = rest.head ∙ one.head;
         begins = begins_longer b.lines m.lines c.lines one.begins rest.begins;
         as_many = omega (arith, one.as_many, rest.as_many, calls, heads);
-        each = λ k below. works_on k (capacity_of b) (job phase k) (calls_of k phases) b.lines m.lines c.lines (answers_of w k).answers (answers_of x k).answers (answers_of v k).answers rest.begins within (one.each k below)
-            (subst (λ (n : ℕ). HasWorked k n (length (calls_of k phases)) (calls_of k phases) m.lines c.lines (answers_of x k).answers (answers_of v k).answers) heads (rest.each k (omega (arith, crew))));
+        each = λ k below. works_on k (capacity_of b) (job phase k) (calls_of k phases) b.lines m.lines c.lines
+            (answers_of w k).answers (answers_of x k).answers (answers_of v k).answers rest.begins within
+            (one.each k below)
+            (subst (λ (n : ℕ). HasWorked k n (length (calls_of k phases)) (calls_of k phases) m.lines c.lines
+            (answers_of x k).answers (answers_of v k).answers) heads (rest.each k (omega (arith, crew))));
         ledgers = rest.ledgers;
         answers = rest.answers ∙ crew;
-        room = λ k below. let a = one.room k below in let d = rest.room k (omega (arith, crew)) in omega (arith, a, d, length-append (job phase k) (calls_of k phases));
+        room = λ k below. let a = one.room k below in let d = rest.room k (omega (arith, crew)) in
+            omega (arith, a, d, length-append (job phase k) (calls_of k phases));
       }
 
   -- the phases behind one may be run after it
-  pub may_more : (b m : BookValue S) (w x : WorkersValue) (phase : PhaseValue) (phases : List PhaseValue) → MayRunAll K b w (phase ∷ phases) → HasRunPhase K b w phase m x → MayRunAll K m x phases
+  pub may_more : (b m : BookValue S) (w x : WorkersValue) (phase : PhaseValue) (phases : List PhaseValue)
+      → MayRunAll K b w (phase ∷ phases) → HasRunPhase K b w phase m x → MayRunAll K m x phases
   may_more b m w x phase phases may one =
       let crew : workers_of m ≡ workers_of b = ap (λ (h : BookHead). h.workers) one.head in record {
         lawful = one.lawful;
         ledgers = one.ledgers;
         answers = one.answers ∙ sym crew;
-        jobs = subst (λ (n : ℕ). All (λ p. length p ≡ n) phases) (sym crew) (All-tail (λ p. length p ≡ workers_of b) phase phases may.jobs);
+        jobs = subst (λ (n : ℕ). All (λ p. length p ≡ n) phases) (sym crew)
+            (All-tail (λ p. length p ≡ workers_of b) phase phases may.jobs);
         few = omega (arith, may.few, calls_both phase phases);
-        room = λ k below. let a = one.room k (omega (arith, crew)) in let d = may.room k (omega (arith, crew)) in omega (arith, a, d, length-append (job phase k) (calls_of k phases));
+        room = λ k below. let a = one.room k (omega (arith, crew)) in let d = may.room k (omega (arith, crew)) in
+            omega (arith, a, d, length-append (job phase k) (calls_of k phases));
       }
 
   -- what phases come to that were run one after the other
-  pub run_all : (b : BookValue S) (w : WorkersValue) (phases : List PhaseValue) (c : BookValue S) (v : WorkersValue) → MayRunAll K b w phases → HasRunPhases K b w phases c v → HasRunAll K b w phases c v
-  run_all b w [] c v may chain = subst (λ (z : WorkersValue). HasRunAll K b w [] c z) (sym chain.1) (subst (λ (d : BookValue S). HasRunAll K b w [] d w) (sym chain.0) (run_none b w may))
+  pub run_all : (b : BookValue S) (w : WorkersValue) (phases : List PhaseValue) (c : BookValue S) (v : WorkersValue)
+      → MayRunAll K b w phases → HasRunPhases K b w phases c v → HasRunAll K b w phases c v
+  run_all b w [] c v may chain =
+      subst (λ (z : WorkersValue). HasRunAll K b w [] c z) (sym chain.1)
+      (subst (λ (d : BookValue S). HasRunAll K b w [] d w) (sym chain.0) (run_none b w may))
   run_all b w (phase ∷ phases) c v may chain =
-      run_more b chain.0 c w chain.1 v phase phases chain.2 (run_all chain.0 chain.1 phases c v (may_more b chain.0 w chain.1 phase phases may chain.2) chain.3)
+      run_more b chain.0 c w chain.1 v phase phases chain.2
+      (run_all chain.0 chain.1 phases c v (may_more b chain.0 w chain.1 phase phases may chain.2) chain.3)
 
   -- one phase more at the end
-  pub run_one_more : (b : BookValue S) (w : WorkersValue) (phases : List PhaseValue) (m : BookValue S) (x : WorkersValue) (phase : PhaseValue) (c : BookValue S) (v : WorkersValue) → HasRunPhases K b w phases m x → HasRunPhase K m x phase c v → HasRunPhases K b w (phases ++ phase ∷ []) c v
-  run_one_more b w [] m x phase c v chain one = (c, v, subst (λ (y : WorkersValue). HasRunPhase K b y phase c v) chain.1 (subst (λ (d : BookValue S). HasRunPhase K d x phase c v) chain.0 one), (refl, refl))
-  run_one_more b w (p ∷ phases) m x phase c v chain one = (chain.0, chain.1, chain.2, run_one_more chain.0 chain.1 phases m x phase c v chain.3 one)
+  pub run_one_more : (b : BookValue S) (w : WorkersValue) (phases : List PhaseValue) (m : BookValue S)
+      (x : WorkersValue) (phase : PhaseValue) (c : BookValue S) (v : WorkersValue) → HasRunPhases K b w phases m x
+      → HasRunPhase K m x phase c v → HasRunPhases K b w (phases ++ phase ∷ []) c v
+  run_one_more b w [] m x phase c v chain one = (
+    c,
+    v,
+    subst (λ (y : WorkersValue). HasRunPhase K b y phase c v) chain.1
+        (subst (λ (d : BookValue S). HasRunPhase K d x phase c v) chain.0 one),
+    (refl, refl),
+  )
+  run_one_more b w (p ∷ phases) m x phase c v chain one =
+      (chain.0, chain.1, chain.2, run_one_more chain.0 chain.1 phases m x phase c v chain.3 one)

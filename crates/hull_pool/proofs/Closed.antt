@@ -21,7 +21,8 @@ module _ {S : Type 0} (b : BookValue S) where
   CountsSeen s l = IsLedgerOf (seat_number s) (seat_seen s) l
 
   -- so it counts the lines of that seat in the journal
-  counts_own : (s : BookSeat S) (l : LedgerValue) (j : ℕ) → seat_number s ≡ j → HasSeenOwn s → CountsSeen s l → IsLedgerOf j b.lines l
+  counts_own : (s : BookSeat S) (l : LedgerValue) (j : ℕ) → seat_number s ≡ j → HasSeenOwn s → CountsSeen s l
+      → IsLedgerOf j b.lines l
   counts_own s l j is seen counts = subst (λ (n : ℕ). IsLedgerOf n b.lines l) is
       (counts.0, counts.1 ∙ sym (same_count (seat_number s) b.lines (seat_seen s) seen))
 
@@ -33,23 +34,29 @@ module _ {S : Type 0} (b : BookValue S) where
   as_many (s ∷ ss) (l ∷ ls) z = ap suc (as_many ss ls z.1)
 
   -- each ledger counts the lines of the seat at its place, where the seats are numbered from j on
-  counts_from : (j : ℕ) (ss : List (BookSeat S)) (ls : List LedgerValue) → Numbered j ss → All HasSeenOwn ss → AllZip CountsSeen ss ls
+  counts_from : (j : ℕ) (ss : List (BookSeat S)) (ls : List LedgerValue) → Numbered j ss → All HasSeenOwn ss
+      → AllZip CountsSeen ss ls
       → (k : ℕ) (d : LedgerValue) → k < length ls → IsLedgerOf (k + j) b.lines (slice_index_or ls k d)
   counts_from j ss [] n seen z k d lt = absurd (omega arith)
   counts_from j [] (l ∷ ls) n seen z k d lt = absurd z
-  counts_from j (s ∷ ss) (l ∷ ls) n seen z zero d lt = counts_own s l (0 + j) (n.0 ∙ omega arith) (All-head HasSeenOwn s ss seen) z.0
-  counts_from j (s ∷ ss) (l ∷ ls) n seen z (suc k) d lt = subst (λ (i : ℕ). IsLedgerOf i b.lines (slice_index_or ls k d)) (omega arith)
+  counts_from j (s ∷ ss) (l ∷ ls) n seen z zero d lt =
+      counts_own s l (0 + j) (n.0 ∙ omega arith) (All-head HasSeenOwn s ss seen) z.0
+  counts_from j (s ∷ ss) (l ∷ ls) n seen z (suc k) d lt =
+      subst (λ (i : ℕ). IsLedgerOf i b.lines (slice_index_or ls k d)) (omega arith)
       (counts_from (suc j) ss ls n.1 (All-tail HasSeenOwn s ss seen) z.1 k d (omega arith))
 
   -- the ledgers of all seats are those of the book
-  pub closed_ledgers : (ss : List (BookSeat S)) (ls : List LedgerValue) → length ss ≡ workers_of b → Numbered 0 ss → All HasSeenOwn ss → AllZip CountsSeen ss ls → AreAllLedgers b ls
+  pub closed_ledgers : (ss : List (BookSeat S)) (ls : List LedgerValue) → length ss ≡ workers_of b → Numbered 0 ss
+      → All HasSeenOwn ss → AllZip CountsSeen ss ls → AreAllLedgers b ls
   closed_ledgers ss ls all n seen z = let many = as_many ss ls z in all_in_order b ls record {
     number = many ∙ all;
-    each = λ k d lt. let own = subst (λ (i : ℕ). IsLedgerOf i b.lines (slice_index_or ls k d)) (plus_zero k) (counts_from 0 ss ls n seen z k d lt) in record {
-      seat_is = own.0;
-      below = omega arith;
-      count_is = own.1;
-    };
+    each = λ k d lt. let own =
+        subst (λ (i : ℕ). IsLedgerOf i b.lines (slice_index_or ls k d)) (plus_zero k)
+        (counts_from 0 ss ls n seen z k d lt) in record {
+          seat_is = own.0;
+          below = omega arith;
+          count_is = own.1;
+        };
   }
     where
       plus_zero : (k : ℕ) → k + 0 ≡ k

@@ -1,5 +1,6 @@
 -- How many lines a phase adds: as many as it has calls, or as the journal had room.
-use Rattle.std.proofs.Common.{◌≡◌, ◌<◌, ◌≤◌, ◌+◌, ℕ, zero, suc, List, [], ◌∷◌, length, refl, ap, subst, ◌∙◌, arith, ◌⊎◌, inl, inr, length-append, take}
+use Rattle.std.proofs.Common.{◌≡◌, ◌<◌, ◌≤◌, ◌+◌, ℕ, zero, suc, List, [], ◌∷◌, length, refl, ap, subst, ◌∙◌, arith, ◌⊎◌}
+use Rattle.std.proofs.Common.{inl, inr, length-append, take}
 use Rattle.std.specs.Prelude.{min}
 use Rattle.std.proofs.lemmas.Bool.{cases_lt}
 use Rattle.std.proofs.lemmas.List.{take_more}
@@ -18,15 +19,25 @@ use Rattle.hull_pool.proofs.Called.{count-lines_of}
 use Rattle.hull_plain.specs.declared.set.HullSet.{Ghosts}
 
 -- a worker's lines are as many more as it was served
-count_grown : (k cap done : ℕ) (calls : List Call) (before lines : List Line) (old new : List Answer) (h : HasWorked k cap done calls before lines old new) → count_of k lines ≡ count_of k before + length h.served
+count_grown : (k cap done : ℕ) (calls : List Call) (before lines : List Line) (old new : List Answer)
+    (h : HasWorked k cap done calls before lines old new) → count_of k lines ≡ count_of k before + length h.served
 count_grown k cap done calls before lines old new h =
-    omega (arith, count-lines_of k lines, count-lines_of k before, ap length h.own_lines, length-append (lines_of k before) h.served)
+    omega (
+      arith,
+      count-lines_of k lines,
+      count-lines_of k before,
+      ap length h.own_lines,
+      length-append (lines_of k before) h.served,
+    )
 
 -- the calls of the first w + 1 workers
-first_jobs : (phase : PhaseValue) (w : ℕ) → w < length phase → calls_in (take (w + 1) phase) ≡ calls_in (take w phase) + length (job phase w)
+first_jobs : (phase : PhaseValue) (w : ℕ) → w < length phase
+    → calls_in (take (w + 1) phase) ≡ calls_in (take w phase) + length (job phase w)
 first_jobs phase w lt =
     let last = sum_by-cons (λ (calls : List Call). length calls) (job phase w) [] in
-    ap (λ (xs : PhaseValue). calls_in xs) (take_more phase w [] lt) ∙ sum_by-append (λ (calls : List Call). length calls) (take w phase) (job phase w ∷ []) ∙ ap (λ (n : ℕ). calls_in (take w phase) + n) (last ∙ omega arith)
+    ap (λ (xs : PhaseValue). calls_in xs) (take_more phase w [] lt)
+    ∙ sum_by-append (λ (calls : List Call). length calls) (take w phase) (job phase w ∷ [])
+    ∙ ap (λ (n : ℕ). calls_in (take w phase) + n) (last ∙ omega arith)
 
 -- the calls of all workers
 all_jobs : (phase : PhaseValue) → calls_in (take (length phase) phase) ≡ calls_in phase
@@ -42,7 +53,10 @@ pub record Grows (cap : ℕ) (phase : PhaseValue) (before lines : List Line) (w 
   pub all : (cap ≤ length lines) ⊎ (below w lines ≡ below w before + calls_in (take w phase))
 
 -- the first w workers added so many, each having worked
-grows : (cap : ℕ) (phase : PhaseValue) (before lines : List Line) (olds news : ℕ → List Answer) (w : ℕ) → w ≤ length phase → ((k : ℕ) → k < w → HasWorked k cap (length (job phase k)) (job phase k) before lines (olds k) (news k)) → Grows cap phase before lines w
+grows : (cap : ℕ) (phase : PhaseValue) (before lines : List Line) (olds news : ℕ → List Answer) (w : ℕ)
+    → w ≤ length phase → ((k : ℕ) → k < w
+    → HasWorked k cap (length (job phase k)) (job phase k) before lines (olds k) (news k))
+    → Grows cap phase before lines w
 grows cap phase before lines olds news zero le each = record {
   most = omega (arith, below_none lines);
   all = inr (omega (arith, below_none lines, below_none before));
@@ -70,13 +84,21 @@ grows cap phase before lines olds news (suc w) le each =
 
 module _ {S : Type 0} {K : Ghosts S} where
   -- the journal has grown by the calls of the phase, or to its capacity
-  pub grown_to : (b c : BookValue S) (phase : PhaseValue) (olds news : ℕ → List Answer) → IsLawful K b → IsLawful K c → c.head ≡ b.head → length phase ≡ workers_of b → ((k : ℕ) → k < workers_of b → HasWorked k (capacity_of b) (length (job phase k)) (job phase k) b.lines c.lines (olds k) (news k)) → length c.lines ≡ min (length b.lines + calls_in phase) (capacity_of b)
+  pub grown_to : (b c : BookValue S) (phase : PhaseValue) (olds news : ℕ → List Answer) → IsLawful K b → IsLawful K c
+      → c.head ≡ b.head → length phase ≡ workers_of b
+      → ((k : ℕ) → k < workers_of b
+      → HasWorked k (capacity_of b) (length (job phase k)) (job phase k) b.lines c.lines (olds k) (news k))
+      → length c.lines ≡ min (length b.lines + calls_in phase) (capacity_of b)
   grown_to b c phase olds news law still same long each =
-      let g = grows (capacity_of b) phase b.lines c.lines olds news (length phase) (omega arith) (λ k lt. each k (omega arith)) in
-      let all_b : below (length phase) b.lines ≡ length b.lines = rw long (below_all (workers_of b) b.lines law.seats) in
-      let all_c : below (length phase) c.lines ≡ length c.lines = rw (long, ← ap (λ (h : BookHead). h.workers) same) (below_all (workers_of c) c.lines still.seats) in
+      let g = grows (capacity_of b) phase b.lines c.lines olds news (length phase) (omega arith)
+      (λ k lt. each k (omega arith)) in
+      let all_b : below (length phase) b.lines ≡ length b.lines =
+      rw long (below_all (workers_of b) b.lines law.seats) in
+      let all_c : below (length phase) c.lines ≡ length c.lines =
+      rw (long, ← ap (λ (h : BookHead). h.workers) same) (below_all (workers_of c) c.lines still.seats) in
       let jobs = all_jobs phase in
-      let within : length c.lines ≤ capacity_of b = rw (ap (λ (h : BookHead). h.journal.capacity) same) at still.within in
+      let within : length c.lines ≤ capacity_of b =
+      rw (ap (λ (h : BookHead). h.journal.capacity) same) at still.within in
       elim g.all [
         | inl full ↦ omega (arith, g.most, all_b, all_c, jobs, within, full)
         | inr equal ↦ omega (arith, equal, all_b, all_c, jobs, within)

@@ -1,5 +1,6 @@
 -- A phase: from the lists that its crew is made of to the lists that are left of it.
-use Rattle.std.proofs.Common.{◌≡◌, ◌<◌, ◌≤◌, ◌+◌, ◌-◌, ℕ, zero, suc, List, [], ◌∷◌, ◌++◌, length, refl, sym, ap, subst, ◌∙◌, arith, reverse, map, length-append}
+use Rattle.std.proofs.Common.{◌≡◌, ◌<◌, ◌≤◌, ◌+◌, ◌-◌, ℕ, zero, suc, List, [], ◌∷◌, ◌++◌, length, refl, sym, ap, subst}
+use Rattle.std.proofs.Common.{◌∙◌, arith, reverse, map, length-append}
 use Rattle.std.specs.Prelude.{All, slice_index_or, slice_get, Option, Some, None, IfSome, Vec, vec_len, vec_capacity}
 use Rattle.std.specs.Global.{Global}
 use Rattle.std.specs.List.{AllZip}
@@ -42,9 +43,11 @@ module _ {S : Type 0} where
   Numbered j (s ∷ ss) = (seat_number s ≡ j) × Numbered (suc j) ss
 
   -- seats that each have the number of their place are numbered so
-  pub numbered_from : (j : ℕ) (ss : List (BookSeat S)) → ((i : ℕ) (s : BookSeat S) → slice_get ss i ≡ Some s → seat_number s ≡ i + j) → Numbered j ss
+  pub numbered_from : (j : ℕ) (ss : List (BookSeat S))
+      → ((i : ℕ) (s : BookSeat S) → slice_get ss i ≡ Some s → seat_number s ≡ i + j) → Numbered j ss
   numbered_from j [] h = tt
-  numbered_from j (s ∷ ss) h = (h 0 s refl ∙ omega arith, numbered_from (suc j) ss (λ i t e. h (suc i) t e ∙ omega arith))
+  numbered_from j (s ∷ ss) h =
+      (h 0 s refl ∙ omega arith, numbered_from (suc j) ss (λ i t e. h (suc i) t e ∙ omega arith))
 
 -- nothing and j is j
 zero_plus : (j : ℕ) → 0 + j ≡ j
@@ -56,38 +59,55 @@ vec_room v n h = omega (arith, v.ok.0, v.ok.1)
 
 module _ {S : Type 0} where
   -- what holds of the ledgers, the jobs and the room of the workers from j on
-  pub record Fits (b : BookValue S) (phase : PhaseValue) (j : ℕ) (vs : List AnswerVec) (ls : List LedgerValue) : Type 0 where
+  pub record Fits (b : BookValue S) (phase : PhaseValue) (j : ℕ) (vs : List AnswerVec)
+      (ls : List LedgerValue) : Type 0 where
     pub ledgers : (i : ℕ) (d : LedgerValue) → i < length ls → IsLedger b (i + j) (slice_index_or ls i d)
     pub few : (i : ℕ) → i < length ls → length (job phase (i + j)) ≤ TEXT_LINE_LIMIT
     pub jobs : length ls + j ≤ length phase
-    pub room : (i : ℕ) (d : AnswerVec) → i < length vs → length (job phase (i + j)) ≤ vec_capacity (slice_index_or vs i d) - length (slice_index_or vs i d).items
+    pub room : (i : ℕ) (d : AnswerVec) → i < length vs
+        → length (job phase (i + j)) ≤ vec_capacity (slice_index_or vs i d) - length (slice_index_or vs i d).items
 
   -- what fits the workers from j on fits those from j + 1 on
-  fits_rest : (b : BookValue S) (phase : PhaseValue) (j : ℕ) (v : AnswerVec) (vs : List AnswerVec) (l : LedgerValue) (ls : List LedgerValue) → Fits b phase j (v ∷ vs) (l ∷ ls) → Fits b phase (suc j) vs ls
+  fits_rest : (b : BookValue S) (phase : PhaseValue) (j : ℕ) (v : AnswerVec) (vs : List AnswerVec) (l : LedgerValue)
+      (ls : List LedgerValue) → Fits b phase j (v ∷ vs) (l ∷ ls) → Fits b phase (suc j) vs ls
   fits_rest b phase j v vs l ls f = record {
-    ledgers = λ i d lt. subst (λ (n : ℕ). IsLedger b n (slice_index_or ls i d)) (omega arith) (f.ledgers (suc i) d (omega arith));
+    ledgers = λ i d lt. subst (λ (n : ℕ). IsLedger b n (slice_index_or ls i d)) (omega arith)
+        (f.ledgers (suc i) d (omega arith));
     few = λ i lt. subst (λ (n : ℕ). length (job phase n) ≤ TEXT_LINE_LIMIT) (omega arith) (f.few (suc i) (omega arith));
     jobs = omega (arith, f.jobs);
-    room = λ i d lt. subst (λ (n : ℕ). length (job phase n) ≤ vec_capacity (slice_index_or vs i d) - length (slice_index_or vs i d).items) (omega arith) (f.room (suc i) d (omega arith));
+    room = λ i d lt. subst
+        (λ (n : ℕ). length (job phase n) ≤ vec_capacity (slice_index_or vs i d) - length (slice_index_or vs i d).items)
+        (omega arith) (f.room (suc i) d (omega arith));
   }
 
   -- every worker of a crew is ready
-  pub ready_from : (lock : TicketLock (Boxed S) BookHead Line) (b : BookValue S) (phase : PhaseValue) (j : ℕ) (ss : List (BookSeat S)) (vs : List AnswerVec) (ls : List LedgerValue) → length vs ≡ length ss → length ls ≡ length ss → Numbered j ss → All (IsSeatOf book_head lock) ss → All (λ s. seat_seen s ≡ b.lines) ss → Fits b phase j vs ls → All (IsReady lock b phase) (team worker_of ss vs ls)
+  pub ready_from : (lock : TicketLock (Boxed S) BookHead Line) (b : BookValue S) (phase : PhaseValue) (j : ℕ)
+      (ss : List (BookSeat S)) (vs : List AnswerVec) (ls : List LedgerValue) → length vs ≡ length ss
+      → length ls ≡ length ss → Numbered j ss → All (IsSeatOf book_head lock) ss
+      → All (λ s. seat_seen s ≡ b.lines) ss → Fits b phase j vs ls
+      → All (IsReady lock b phase) (team worker_of ss vs ls)
   ready_from lock b phase j [] vs ls lv ll num own seen f = λ k d lt. absurd (omega arith)
   ready_from lock b phase j (s ∷ ss) [] ls lv ll num own seen f = absurd (omega arith)
   ready_from lock b phase j (s ∷ ss) (v ∷ vs) [] lv ll num own seen f = absurd (omega arith)
   ready_from lock b phase j (s ∷ ss) (v ∷ vs) (l ∷ ls) lv ll num own seen f =
       let mine : IsLedger b j l = subst (λ (n : ℕ). IsLedger b n l) (zero_plus j) (f.ledgers 0 l (omega arith)) in
       let is_seen : seat_seen s ≡ b.lines = All-head (λ t. seat_seen t ≡ b.lines) s ss seen in
-      let ledger : IsLedgerOf (seat_number s) (seat_seen s) l = subst (λ (n : ℕ). IsLedgerOf n (seat_seen s) l) (sym num.0) (mine.seat_is, mine.count_is ∙ ap (λ (xs : List Line). count_of j xs) (sym is_seen)) in
+      let ledger : IsLedgerOf (seat_number s) (seat_seen s) l =
+      subst (λ (n : ℕ). IsLedgerOf n (seat_seen s) l) (sym num.0)
+      (mine.seat_is, mine.count_is ∙ ap (λ (xs : List Line). count_of j xs) (sym is_seen)) in
       All-cons (IsReady lock b phase) (worker_of s v l) (team worker_of ss vs ls) (record {
         seated = refl;
         own = (All-head (IsSeatOf book_head lock) s ss own, refl, is_seen, ledger);
         below = subst (λ (n : ℕ). n < workers_of b) (sym num.0) mine.below;
         job = subst (λ (n : ℕ). n < length phase) (sym num.0) (omega (arith, f.jobs));
-        few = subst (λ (n : ℕ). length (job phase n) ≤ TEXT_LINE_LIMIT) (zero_plus j ∙ sym num.0) (f.few 0 (omega arith));
-        room = vec_room v (length (job phase (seat_number s))) (subst (λ (n : ℕ). length (job phase n) ≤ vec_capacity v - length v.items) (zero_plus j ∙ sym num.0) (f.room 0 v (omega arith)));
-      }) (ready_from lock b phase (suc j) ss vs ls (omega arith) (omega arith) num.1 (All-tail (IsSeatOf book_head lock) s ss own) (All-tail (λ t. seat_seen t ≡ b.lines) s ss seen) (fits_rest b phase j v vs l ls f))
+        few = subst (λ (n : ℕ). length (job phase n) ≤ TEXT_LINE_LIMIT) (zero_plus j ∙ sym num.0)
+            (f.few 0 (omega arith));
+        room = vec_room v (length (job phase (seat_number s)))
+            (subst (λ (n : ℕ). length (job phase n) ≤ vec_capacity v - length v.items) (zero_plus j ∙ sym num.0)
+            (f.room 0 v (omega arith)));
+      }) (ready_from lock b phase (suc j) ss vs ls (omega arith) (omega arith) num.1
+      (All-tail (IsSeatOf book_head lock) s ss own) (All-tail (λ t. seat_seen t ≡ b.lines) s ss seen)
+      (fits_rest b phase j v vs l ls f))
 
   -- what came of the worker n: its part of the new journal, its ledger, and the same memory for its answers
   pub record Outcome (b c : BookValue S) (phase : PhaseValue) (n : ℕ) (v w : AnswerVec) (l : LedgerValue) : Type 0 where
@@ -98,10 +118,13 @@ module _ {S : Type 0} where
 
   -- the journal of the closed book has what the seat saw
   abbrev pub IsSeenIn : BookValue S → BookSeat S → Type 0
-  IsSeenIn c s = IsPrefix (seat_seen s) c.lines × (lines_of (seat_number s) c.lines ≡ lines_of (seat_number s) (seat_seen s))
+  IsSeenIn c s = IsPrefix (seat_seen s) c.lines
+      × (lines_of (seat_number s) c.lines ≡ lines_of (seat_number s) (seat_seen s))
 
 -- what a worker did stands where the journal grew on by other seats' lines
-worked_on : (n cap done : ℕ) (calls : List Call) (before seen lines : List Line) (old new : List Answer) → IsPrefix seen lines → lines_of n lines ≡ lines_of n seen → HasWorked n cap done calls before seen old new → HasWorked n cap done calls before lines old new
+worked_on : (n cap done : ℕ) (calls : List Call) (before seen lines : List Line) (old new : List Answer)
+    → IsPrefix seen lines → lines_of n lines ≡ lines_of n seen → HasWorked n cap done calls before seen old new
+    → HasWorked n cap done calls before lines old new
 worked_on n cap done calls before seen lines old new begins own h = record {
   served = h.served;
   own_lines = own ∙ h.own_lines;
@@ -116,7 +139,9 @@ worked_on n cap done calls before seen lines old new begins own h = record {
 
 module _ {S : Type 0} where
   -- what came of one worker
-  outcome : (lock : TicketLock (Boxed S) BookHead Line) (b c : BookValue S) (phase : PhaseValue) (n : ℕ) (s t : BookSeat S) (v w : AnswerVec) (l m : LedgerValue) → seat_number s ≡ n → IsSeenIn c t → HasRun lock b phase (worker_of s v l) (worker_of t w m) → Outcome b c phase n v w m
+  outcome : (lock : TicketLock (Boxed S) BookHead Line) (b c : BookValue S) (phase : PhaseValue) (n : ℕ)
+      (s t : BookSeat S) (v w : AnswerVec) (l m : LedgerValue) → seat_number s ≡ n → IsSeenIn c t
+      → HasRun lock b phase (worker_of s v l) (worker_of t w m) → Outcome b c phase n v w m
   outcome lock b c phase n s t v w l m num seen run =
       let e : seat_number t ≡ n = run.number ∙ num in
       subst (λ (k : ℕ). Outcome b c phase k v w m) e (record {
@@ -127,21 +152,38 @@ module _ {S : Type 0} where
       })
 
   -- what came of each worker of a crew
-  pub outcomes : (lock : TicketLock (Boxed S) BookHead Line) (b c : BookValue S) (phase : PhaseValue) (j : ℕ) (ss ts : List (BookSeat S)) (vs ws : List AnswerVec) (ls ms : List LedgerValue) → length vs ≡ length ss → length ls ≡ length ss → length ts ≡ length ss → length ws ≡ length ss → length ms ≡ length ss → Numbered j ss → All (IsSeenIn c) ts → AllZip (HasRun lock b phase) (team worker_of ss vs ls) (team worker_of ts ws ms) → (k : ℕ) (d e : AnswerVec) (f : LedgerValue) → k < length ss → Outcome b c phase (k + j) (slice_index_or vs k d) (slice_index_or ws k e) (slice_index_or ms k f)
-  outcomes lock b c phase j (s ∷ ss) (t ∷ ts) (v ∷ vs) (w ∷ ws) (l ∷ ls) (m ∷ ms) lv ll lt lw lm num seen runs zero d e f lt0 =
-      subst (λ (n : ℕ). Outcome b c phase n v w m) (sym (zero_plus j)) (outcome lock b c phase j s t v w l m num.0 (All-head (IsSeenIn c) t ts seen) runs.0)
-  outcomes lock b c phase j (s ∷ ss) (t ∷ ts) (v ∷ vs) (w ∷ ws) (l ∷ ls) (m ∷ ms) lv ll lt lw lm num seen runs (suc k) d e f lt0 =
-      subst (λ (n : ℕ). Outcome b c phase n (slice_index_or vs k d) (slice_index_or ws k e) (slice_index_or ms k f)) (omega arith)
-      (outcomes lock b c phase (suc j) ss ts vs ws ls ms (omega arith) (omega arith) (omega arith) (omega arith) (omega arith) num.1 (All-tail (IsSeenIn c) t ts seen) runs.1 k d e f (omega arith))
+  pub outcomes : (lock : TicketLock (Boxed S) BookHead Line) (b c : BookValue S) (phase : PhaseValue) (j : ℕ)
+      (ss ts : List (BookSeat S)) (vs ws : List AnswerVec) (ls ms : List LedgerValue) → length vs ≡ length ss
+      → length ls ≡ length ss → length ts ≡ length ss → length ws ≡ length ss → length ms ≡ length ss
+      → Numbered j ss → All (IsSeenIn c) ts
+      → AllZip (HasRun lock b phase) (team worker_of ss vs ls) (team worker_of ts ws ms)
+      → (k : ℕ) (d e : AnswerVec) (f : LedgerValue) → k < length ss
+      → Outcome b c phase (k + j) (slice_index_or vs k d) (slice_index_or ws k e)
+      (slice_index_or ms k f)
+  outcomes lock b c phase j (s ∷ ss) (t ∷ ts) (v ∷ vs) (w ∷ ws) (l ∷ ls)
+      (m ∷ ms) lv ll lt lw lm num seen runs zero d e f lt0 =
+      subst (λ (n : ℕ). Outcome b c phase n v w m) (sym (zero_plus j))
+      (outcome lock b c phase j s t v w l m num.0 (All-head (IsSeenIn c) t ts seen) runs.0)
+  outcomes lock b c phase j (s ∷ ss) (t ∷ ts) (v ∷ vs) (w ∷ ws) (l ∷ ls) (m ∷ ms) lv ll lt lw lm num seen runs
+      (suc k) d e f lt0 =
+      subst (λ (n : ℕ). Outcome b c phase n (slice_index_or vs k d) (slice_index_or ws k e) (slice_index_or ms k f))
+      (omega arith)
+      (outcomes lock b c phase (suc j) ss ts vs ws ls ms (omega arith) (omega arith) (omega arith) (omega arith)
+      (omega arith) num.1 (All-tail (IsSeenIn c) t ts seen) runs.1 k d e f (omega arith))
   outcomes lock b c phase j [] ts vs ws ls ms lv ll lt lw lm num seen runs k d e f lt0 = absurd (omega arith)
   outcomes lock b c phase j (s ∷ ss) [] vs ws ls ms lv ll lt lw lm num seen runs k d e f lt0 = absurd (omega arith)
-  outcomes lock b c phase j (s ∷ ss) (t ∷ ts) [] ws ls ms lv ll lt lw lm num seen runs k d e f lt0 = absurd (omega arith)
-  outcomes lock b c phase j (s ∷ ss) (t ∷ ts) (v ∷ vs) [] ls ms lv ll lt lw lm num seen runs k d e f lt0 = absurd (omega arith)
-  outcomes lock b c phase j (s ∷ ss) (t ∷ ts) (v ∷ vs) (w ∷ ws) [] ms lv ll lt lw lm num seen runs k d e f lt0 = absurd (omega arith)
-  outcomes lock b c phase j (s ∷ ss) (t ∷ ts) (v ∷ vs) (w ∷ ws) (l ∷ ls) [] lv ll lt lw lm num seen runs k d e f lt0 = absurd (omega arith)
+  outcomes lock b c phase j (s ∷ ss) (t ∷ ts) [] ws ls ms lv ll lt lw lm num seen runs k d e f lt0 =
+      absurd (omega arith)
+  outcomes lock b c phase j (s ∷ ss) (t ∷ ts) (v ∷ vs) [] ls ms lv ll lt lw lm num seen runs k d e f lt0 =
+      absurd (omega arith)
+  outcomes lock b c phase j (s ∷ ss) (t ∷ ts) (v ∷ vs) (w ∷ ws) [] ms lv ll lt lw lm num seen runs k d e f lt0 =
+      absurd (omega arith)
+  outcomes lock b c phase j (s ∷ ss) (t ∷ ts) (v ∷ vs) (w ∷ ws) (l ∷ ls) [] lv ll lt lw lm num seen runs k d e f lt0 =
+      absurd (omega arith)
 
 -- a team has as many members as each list
-pub team-length : {A B C D : Type 0} → (make : A → B → C → D) (xs : List A) (ys : List B) (zs : List C) → length ys ≡ length xs → length zs ≡ length xs → length (team make xs ys zs) ≡ length xs
+pub team-length : {A B C D : Type 0} → (make : A → B → C → D) (xs : List A) (ys : List B) (zs : List C)
+    → length ys ≡ length xs → length zs ≡ length xs → length (team make xs ys zs) ≡ length xs
 team-length make [] [] [] e f = refl
 team-length make (x ∷ xs) (y ∷ ys) (z ∷ zs) e f = omega (arith, team-length make xs ys zs (omega arith) (omega arith))
 team-length make [] (y ∷ ys) zs e f = absurd (omega arith)
@@ -150,7 +192,8 @@ team-length make (x ∷ xs) [] zs e f = absurd (omega arith)
 team-length make (x ∷ xs) (y ∷ ys) [] e f = absurd (omega arith)
 
 -- what follows from a relation holds of every member on its right
-pub zip_all : {A B : Type 0} → (R : A → B → Type 0) (P : B → Type 0) (xs : List A) (ys : List B) → ((x : A) (y : B) → R x y → P y) → AllZip R xs ys → All P ys
+pub zip_all : {A B : Type 0} → (R : A → B → Type 0) (P : B → Type 0) (xs : List A) (ys : List B)
+    → ((x : A) (y : B) → R x y → P y) → AllZip R xs ys → All P ys
 zip_all R P [] [] f z = λ k d lt. absurd (omega arith)
 zip_all R P [] (y ∷ ys) f z = absurd z
 zip_all R P (x ∷ xs) [] f z = absurd z
@@ -158,16 +201,22 @@ zip_all R P (x ∷ xs) (y ∷ ys) f z = All-cons P y ys (f x y z.0) (zip_all R P
 
 module _ {S : Type 0} where
   -- the seats of a team that has run are the lock's
-  pub seats_back : (lock : TicketLock (Boxed S) BookHead Line) (b : BookValue S) (phase : PhaseValue) (olds : List (Worker (Boxed S) BookHead Line)) (ts : List (BookSeat S)) (ws : List AnswerVec) (ms : List LedgerValue) → length ws ≡ length ts → length ms ≡ length ts → AllZip (HasRun lock b phase) olds (team worker_of ts ws ms) → All (IsSeatOf book_head lock) ts
+  pub seats_back : (lock : TicketLock (Boxed S) BookHead Line) (b : BookValue S) (phase : PhaseValue)
+      (olds : List (Worker (Boxed S) BookHead Line)) (ts : List (BookSeat S)) (ws : List AnswerVec)
+      (ms : List LedgerValue) → length ws ≡ length ts → length ms ≡ length ts
+      → AllZip (HasRun lock b phase) olds (team worker_of ts ws ms) → All (IsSeatOf book_head lock) ts
   seats_back lock b phase olds [] ws ms e f z = λ k d lt. absurd (omega arith)
   seats_back lock b phase olds (t ∷ ts) [] ms e f z = absurd (omega arith)
   seats_back lock b phase olds (t ∷ ts) (w ∷ ws) [] e f z = absurd (omega arith)
   seats_back lock b phase [] (t ∷ ts) (w ∷ ws) (m ∷ ms) e f z = absurd z
   seats_back lock b phase (old ∷ olds) (t ∷ ts) (w ∷ ws) (m ∷ ms) e f z =
-      All-cons (IsSeatOf book_head lock) t ts z.0.own.0 (seats_back lock b phase olds ts ws ms (omega arith) (omega arith) z.1)
+      All-cons (IsSeatOf book_head lock) t ts z.0.own.0
+      (seats_back lock b phase olds ts ws ms (omega arith) (omega arith) z.1)
 
 -- the member at a place, and what it shows
-shown_at : (vs : List AnswerVec) (k : ℕ) → k < length vs → (v : AnswerVec) × (slice_index_or (map (λ v. shown v) vs) k no_answers ≡ shown v) × ((d : AnswerVec) → slice_index_or vs k d ≡ v)
+shown_at : (vs : List AnswerVec) (k : ℕ) → k < length vs
+    → (v : AnswerVec) × (slice_index_or (map (λ v. shown v) vs) k no_answers ≡ shown v)
+    × ((d : AnswerVec) → slice_index_or vs k d ≡ v)
 shown_at [] k lt = absurd (omega arith)
 shown_at (v ∷ vs) zero lt = (v, refl, λ d. refl)
 shown_at (v ∷ vs) (suc k) lt = shown_at vs k (omega arith)
@@ -178,22 +227,29 @@ plus_zero k = omega arith
 
 module _ {S : Type 0} {K : Ghosts S} where
   -- what the workers may run fits them
-  pub fits_all : (b : BookValue S) (phase : PhaseValue) (vs : List AnswerVec) (ls : List LedgerValue) → MayRun K b (shown_workers vs ls) phase → length vs ≡ length ls → Fits b phase 0 vs ls
+  pub fits_all : (b : BookValue S) (phase : PhaseValue) (vs : List AnswerVec) (ls : List LedgerValue)
+      → MayRun K b (shown_workers vs ls) phase → length vs ≡ length ls → Fits b phase 0 vs ls
   fits_all b phase vs ls may long = record {
-    ledgers = λ i d lt. subst (λ (n : ℕ). IsLedger b n (slice_index_or ls i d)) (sym (plus_zero i)) (may.ledgers.each i d lt);
-    few = λ i lt. subst (λ (n : ℕ). length (job phase n) ≤ TEXT_LINE_LIMIT) (sym (plus_zero i)) (may.few i (omega (arith, may.ledgers.number)));
+    ledgers = λ i d lt. subst (λ (n : ℕ). IsLedger b n (slice_index_or ls i d)) (sym (plus_zero i))
+        (may.ledgers.each i d lt);
+    few = λ i lt. subst (λ (n : ℕ). length (job phase n) ≤ TEXT_LINE_LIMIT) (sym (plus_zero i))
+        (may.few i (omega (arith, may.ledgers.number)));
     jobs = omega (arith, may.jobs, may.ledgers.number);
     room = λ i d lt.
         let at = shown_at vs i lt in
-        let room : length (job phase i) ≤ (answers_of (shown_workers vs ls) i).room = may.room i (omega (arith, may.ledgers.number)) in
-        let enough : length (job phase i) ≤ vec_capacity at.0 - length (at.0).items = subst (λ (a : AnswersValue). length (job phase i) ≤ a.room) at.1 room in
-        subst (λ (n : ℕ). length (job phase n) ≤ vec_capacity (slice_index_or vs i d) - length (slice_index_or vs i d).items) (sym (plus_zero i))
+        let room : length (job phase i) ≤ (answers_of (shown_workers vs ls) i).room =
+        may.room i (omega (arith, may.ledgers.number)) in
+        let enough : length (job phase i) ≤ vec_capacity at.0 - length (at.0).items =
+        subst (λ (a : AnswersValue). length (job phase i) ≤ a.room) at.1 room in
+        subst (λ (n : ℕ). length (job phase n)
+        ≤ vec_capacity (slice_index_or vs i d) - length (slice_index_or vs i d).items) (sym (plus_zero i))
         (subst (λ (v : AnswerVec). length (job phase i) ≤ vec_capacity v - length v.items) (sym (at.2 d)) enough);
   }
 
 module _ {S : Type 0} where
   -- what came of the worker k, and where its answers and its ledger stand
-  pub record CameOut (b c : BookValue S) (phase : PhaseValue) (vs ws : List AnswerVec) (ms : List LedgerValue) (k : ℕ) : Type 0 where
+  pub record CameOut (b c : BookValue S) (phase : PhaseValue) (vs ws : List AnswerVec) (ms : List LedgerValue)
+      (k : ℕ) : Type 0 where
     pub old : AnswerVec
     pub new : AnswerVec
     pub old_shown : slice_index_or (map (λ v. shown v) vs) k no_answers ≡ shown old
@@ -201,7 +257,12 @@ module _ {S : Type 0} where
     pub outcome_is : (f : LedgerValue) → Outcome b c phase k old new (slice_index_or ms k f)
 
   -- what came of the worker k of a crew
-  pub came_out : (lock : TicketLock (Boxed S) BookHead Line) (b c : BookValue S) (phase : PhaseValue) (ss ts : List (BookSeat S)) (vs ws : List AnswerVec) (ls ms : List LedgerValue) → length vs ≡ length ss → length ls ≡ length ss → length ts ≡ length ss → length ws ≡ length ss → length ms ≡ length ss → Numbered 0 ss → All (IsSeenIn c) ts → AllZip (HasRun lock b phase) (team worker_of ss vs ls) (team worker_of ts ws ms) → (k : ℕ) → k < length ss → CameOut b c phase vs ws ms k
+  pub came_out : (lock : TicketLock (Boxed S) BookHead Line) (b c : BookValue S) (phase : PhaseValue)
+      (ss ts : List (BookSeat S)) (vs ws : List AnswerVec) (ls ms : List LedgerValue) → length vs ≡ length ss
+      → length ls ≡ length ss → length ts ≡ length ss → length ws ≡ length ss → length ms ≡ length ss
+      → Numbered 0 ss → All (IsSeenIn c) ts
+      → AllZip (HasRun lock b phase) (team worker_of ss vs ls) (team worker_of ts ws ms) → (k : ℕ)
+      → k < length ss → CameOut b c phase vs ws ms k
   came_out lock b c phase ss ts vs ws ls ms lv ll lt lw lm num seen runs k below =
       let v = shown_at vs k (omega arith) in
       let w = shown_at ws k (omega arith) in record {
@@ -211,40 +272,72 @@ module _ {S : Type 0} where
         new_shown = w.1;
         outcome_is = λ f. subst (λ (n : ℕ). Outcome b c phase n v.0 w.0 (slice_index_or ms k f)) (plus_zero k)
             (subst (λ (x : AnswerVec). Outcome b c phase (k + 0) x w.0 (slice_index_or ms k f)) (v.2 v.0)
-            (subst (λ (y : AnswerVec). Outcome b c phase (k + 0) (slice_index_or vs k v.0) y (slice_index_or ms k f)) (w.2 w.0)
+            (subst (λ (y : AnswerVec). Outcome b c phase (k + 0) (slice_index_or vs k v.0) y
+            (slice_index_or ms k f)) (w.2 w.0)
             (outcomes lock b c phase 0 ss ts vs ws ls ms lv ll lt lw lm num seen runs k v.0 w.0 f below)));
       }
 
   -- the worker's part, as the phase says it
-  came_worked : (b c : BookValue S) (phase : PhaseValue) (vs ws : List AnswerVec) (ls ms : List LedgerValue) (k : ℕ) (f : LedgerValue) → CameOut b c phase vs ws ms k → HasWorked k (capacity_of b) (length (job phase k)) (job phase k) b.lines c.lines (answers_of (shown_workers vs ls) k).answers (answers_of (shown_workers ws ms) k).answers
+  came_worked : (b c : BookValue S) (phase : PhaseValue) (vs ws : List AnswerVec) (ls ms : List LedgerValue) (k : ℕ)
+      (f : LedgerValue) → CameOut b c phase vs ws ms k
+      → HasWorked k (capacity_of b) (length (job phase k)) (job phase k) b.lines c.lines
+      (answers_of (shown_workers vs ls) k).answers (answers_of (shown_workers ws ms) k).answers
   came_worked b c phase vs ws ls ms k f out =
-      subst (λ (a : AnswersValue). HasWorked k (capacity_of b) (length (job phase k)) (job phase k) b.lines c.lines a.answers (answers_of (shown_workers ws ms) k).answers) (sym out.old_shown)
-      (subst (λ (a : AnswersValue). HasWorked k (capacity_of b) (length (job phase k)) (job phase k) b.lines c.lines out.old.items a.answers) (sym out.new_shown) (out.outcome_is f).worked)
+      subst (λ (a : AnswersValue). HasWorked k (capacity_of b) (length (job phase k))
+      (job phase k) b.lines c.lines a.answers (answers_of (shown_workers ws ms) k).answers) (sym out.old_shown)
+      (subst (λ (a : AnswersValue). HasWorked k (capacity_of b) (length (job phase k))
+      (job phase k) b.lines c.lines out.old.items a.answers) (sym out.new_shown) (out.outcome_is f).worked)
 
 -- as many answers more as there were calls
-answers_grown : (k cap : ℕ) (calls : List Call) (before lines : List Line) (old new : List Answer) → HasWorked k cap (length calls) calls before lines old new → length new ≡ length old + length calls
+answers_grown : (k cap : ℕ) (calls : List Call) (before lines : List Line) (old new : List Answer)
+    → HasWorked k cap (length calls) calls before lines old new → length new ≡ length old + length calls
 answers_grown k room calls before lines old new h =
-    omega (arith, ap length h.answers, length-append (old ++ replies_of h.served) (fulls (length calls - length h.served)), length-append old (replies_of h.served), length-map {B = Answer} h.served (λ (line : Line). Ok line.reply), length-replicate {A = Answer} (length calls - length h.served) (Err (record {})), h.few)
+    omega (
+      arith,
+      ap length h.answers,
+      length-append (old ++ replies_of h.served) (fulls (length calls - length h.served)),
+      length-append old (replies_of h.served),
+      length-map {B = Answer} h.served (λ (line : Line). Ok line.reply),
+      length-replicate {A = Answer} (length calls - length h.served) (Err (record {})),
+      h.few,
+    )
 
 module _ {S : Type 0} where
   -- the room that is left is less by the worker's calls
-  came_room : (b c : BookValue S) (phase : PhaseValue) (vs ws : List AnswerVec) (ls ms : List LedgerValue) (k : ℕ) (f : LedgerValue) → CameOut b c phase vs ws ms k → length (job phase k) ≤ (answers_of (shown_workers vs ls) k).room → (answers_of (shown_workers ws ms) k).room + length (job phase k) ≡ (answers_of (shown_workers vs ls) k).room
+  came_room : (b c : BookValue S) (phase : PhaseValue) (vs ws : List AnswerVec) (ls ms : List LedgerValue) (k : ℕ)
+      (f : LedgerValue) → CameOut b c phase vs ws ms k
+      → length (job phase k) ≤ (answers_of (shown_workers vs ls) k).room
+      → (answers_of (shown_workers ws ms) k).room + length (job phase k)
+      ≡ (answers_of (shown_workers vs ls) k).room
   came_room b c phase vs ws ls ms k f out room =
-      let grown : length out.new.items ≡ length out.old.items + length (job phase k) = answers_grown k (capacity_of b) (job phase k) b.lines c.lines out.old.items out.new.items (out.outcome_is f).worked in
+      let grown : length out.new.items ≡ length out.old.items + length (job phase k) =
+      answers_grown k (capacity_of b) (job phase k) b.lines c.lines out.old.items out.new.items
+      (out.outcome_is f).worked in
       let same : vec_capacity out.new ≡ vec_capacity out.old = (out.outcome_is f).room in
-      let enough : length (job phase k) ≤ vec_capacity out.old - length out.old.items = subst (λ (a : AnswersValue). length (job phase k) ≤ a.room) out.old_shown room in
-      let one : (answers_of (shown_workers vs ls) k).room ≡ vec_capacity out.old - length out.old.items = ap (λ (a : AnswersValue). a.room) out.old_shown in
-      let two : (answers_of (shown_workers ws ms) k).room ≡ vec_capacity out.new - length out.new.items = ap (λ (a : AnswersValue). a.room) out.new_shown in
+      let enough : length (job phase k) ≤ vec_capacity out.old - length out.old.items =
+      subst (λ (a : AnswersValue). length (job phase k) ≤ a.room) out.old_shown room in
+      let one : (answers_of (shown_workers vs ls) k).room ≡ vec_capacity out.old - length out.old.items =
+      ap (λ (a : AnswersValue). a.room) out.old_shown in
+      let two : (answers_of (shown_workers ws ms) k).room ≡ vec_capacity out.new - length out.new.items =
+      ap (λ (a : AnswersValue). a.room) out.new_shown in
       omega (arith, grown, same, enough, one, two, out.old.ok.1)
 
 module _ {S : Type 0} {K : Ghosts S} where
   -- the phase was run
-  pub phase_ran : (lock : TicketLock (Boxed S) BookHead Line) (b c : BookValue S) (phase : PhaseValue) (ss ts : List (BookSeat S)) (vs ws : List AnswerVec) (ls ms : List LedgerValue) → 1 ≤ length ss → length ss ≡ workers_of b → length vs ≡ length ss → length ls ≡ length ss → length ts ≡ length ss → length ws ≡ length ss → length ms ≡ length ss → MayRun K b (shown_workers vs ls) phase → Numbered 0 ss → IsLawful K c → c.head ≡ b.head → All (IsSeenIn c) ts → AllZip (HasRun lock b phase) (team worker_of ss vs ls) (team worker_of ts ws ms) → HasRunPhase K b (shown_workers vs ls) phase c (shown_workers ws ms)
+  pub phase_ran : (lock : TicketLock (Boxed S) BookHead Line) (b c : BookValue S) (phase : PhaseValue)
+      (ss ts : List (BookSeat S)) (vs ws : List AnswerVec) (ls ms : List LedgerValue) → 1 ≤ length ss
+      → length ss ≡ workers_of b → length vs ≡ length ss → length ls ≡ length ss → length ts ≡ length ss
+      → length ws ≡ length ss → length ms ≡ length ss → MayRun K b (shown_workers vs ls) phase → Numbered 0 ss
+      → IsLawful K c → c.head ≡ b.head → All (IsSeenIn c) ts
+      → AllZip (HasRun lock b phase) (team worker_of ss vs ls) (team worker_of ts ws ms)
+      → HasRunPhase K b (shown_workers vs ls) phase c (shown_workers ws ms)
   phase_ran lock b c phase ss ts vs ws ls ms some n lv ll lt lw lm may num law head seen runs = record {
     lawful = law;
     head = head;
     begins = ((out 0 (omega arith)).outcome_is none).begins;
-    as_many = grown_to b c phase (λ k. (answers_of (shown_workers vs ls) k).answers) (λ k. (answers_of (shown_workers ws ms) k).answers) may.lawful law head may.jobs (λ k below. came_worked b c phase vs ws ls ms k none (out k below));
+    as_many = grown_to b c phase (λ k. (answers_of (shown_workers vs ls) k).answers)
+        (λ k. (answers_of (shown_workers ws ms) k).answers) may.lawful law head may.jobs
+        (λ k below. came_worked b c phase vs ws ls ms k none (out k below));
     each = λ k below. came_worked b c phase vs ws ls ms k none (out k below);
     ledgers = record {
       number = lm ∙ n ∙ sym (ap (λ (h : BookHead). h.workers) head);
@@ -260,7 +353,8 @@ module _ {S : Type 0} {K : Ghosts S} where
       out : (k : ℕ) → k < workers_of b → CameOut b c phase vs ws ms k
       out k below = came_out lock b c phase ss ts vs ws ls ms lv ll lt lw lm num seen runs k (omega arith)
 
-      ledger : (k : ℕ) (d : LedgerValue) (v w : AnswerVec) → k < workers_of b → Outcome b c phase k v w (slice_index_or ms k d) → IsLedger c k (slice_index_or ms k d)
+      ledger : (k : ℕ) (d : LedgerValue) (v w : AnswerVec) → k < workers_of b
+          → Outcome b c phase k v w (slice_index_or ms k d) → IsLedger c k (slice_index_or ms k d)
       ledger k d v w below o = record {
         seat_is = o.ledger.0;
         below = subst (λ (h : BookHead). k < h.workers) (sym head) below;
@@ -269,22 +363,26 @@ module _ {S : Type 0} {K : Ghosts S} where
 
 module _ {S : Type 0} where
   -- a worker that has run has its seat's number
-  pub numbered_worker : (lock : TicketLock (Boxed S) BookHead Line) (b : BookValue S) (phase : PhaseValue) (x y : Worker (Boxed S) BookHead Line) → HasRun lock b phase x y → IfSome y.seat (λ s. seat_number s ≡ y.number)
+  pub numbered_worker : (lock : TicketLock (Boxed S) BookHead Line) (b : BookValue S) (phase : PhaseValue)
+      (x y : Worker (Boxed S) BookHead Line) → HasRun lock b phase x y → IfSome y.seat (λ s. seat_number s ≡ y.number)
   numbered_worker lock b phase x y run = numbered y.seat y.number _ (λ s h. h.1) run.own
     where
-      numbered : (o : Option (BookSeat S)) (n : ℕ) (P : BookSeat S → Type 0) → ((s : BookSeat S) → P s → seat_number s ≡ n) → IfSome o P → IfSome o (λ s. seat_number s ≡ n)
+      numbered : (o : Option (BookSeat S)) (n : ℕ) (P : BookSeat S → Type 0)
+          → ((s : BookSeat S) → P s → seat_number s ≡ n) → IfSome o P → IfSome o (λ s. seat_number s ≡ n)
       numbered None n P f h = h
       numbered (Some s) n P f h = f s h
 
   -- the lists that a crew is made of are as long as the book has workers
-  pub record AreLong (b : BookValue S) (ss : List (BookSeat S)) (vs : List AnswerVec) (ls : List LedgerValue) : Type 0 where
+  pub record AreLong (b : BookValue S) (ss : List (BookSeat S)) (vs : List AnswerVec)
+      (ls : List LedgerValue) : Type 0 where
     pub seats : length ss ≡ workers_of b
     pub answers : length vs ≡ length ss
     pub ledgers : length ls ≡ length ss
 
 module _ {S : Type 0} {K : Ghosts S} where
   -- what may be run has lists that long
-  pub are_long : (b : BookValue S) (phase : PhaseValue) (ss : List (BookSeat S)) (vs : List AnswerVec) (ls : List LedgerValue) → length ss ≡ workers_of b → MayRun K b (shown_workers vs ls) phase → AreLong b ss vs ls
+  pub are_long : (b : BookValue S) (phase : PhaseValue) (ss : List (BookSeat S)) (vs : List AnswerVec)
+      (ls : List LedgerValue) → length ss ≡ workers_of b → MayRun K b (shown_workers vs ls) phase → AreLong b ss vs ls
   are_long b phase ss vs ls n may = record {
     seats = n;
     answers = sym (length-map vs (λ (v : AnswerVec). shown v)) ∙ may.answers ∙ sym n;
@@ -293,5 +391,8 @@ module _ {S : Type 0} {K : Ghosts S} where
 
 module _ {S : Type 0} where
   -- the crew is as long
-  pub crew_long : (b : BookValue S) (crew : List (Worker (Boxed S) BookHead Line)) (ss : List (BookSeat S)) (vs : List AnswerVec) (ls : List LedgerValue) → AreLong b ss vs ls → reverse crew ≡ team worker_of ss vs ls → length crew ≡ workers_of b
-  crew_long b crew ss vs ls long is = sym (length-reverse crew) ∙ ap length is ∙ team-length worker_of ss vs ls long.answers long.ledgers ∙ long.seats
+  pub crew_long : (b : BookValue S) (crew : List (Worker (Boxed S) BookHead Line)) (ss : List (BookSeat S))
+      (vs : List AnswerVec) (ls : List LedgerValue) → AreLong b ss vs ls → reverse crew ≡ team worker_of ss vs ls
+      → length crew ≡ workers_of b
+  crew_long b crew ss vs ls long is =
+      sym (length-reverse crew) ∙ ap length is ∙ team-length worker_of ss vs ls long.answers long.ledgers ∙ long.seats

@@ -1,5 +1,6 @@
 -- The workers of a phase: a seat, answers and a ledger each.
-use Rattle.std.specs.Prelude.{◌≡◌, ◌<◌, ◌≤◌, ◌+◌, ℕ, Option, List, [], ◌∷◌, length, slice_index_or, Some, IsSome, IfSome, Vec, vec_len, vec_capacity, Box, box_value}
+use Rattle.std.specs.Prelude.{◌≡◌, ◌<◌, ◌≤◌, ◌+◌, ℕ, Option, List, [], ◌∷◌, length, slice_index_or, Some, IsSome}
+use Rattle.std.specs.Prelude.{IfSome, Vec, vec_len, vec_capacity, Box, box_value}
 use mathlib.Core.List.{IsPrefix}
 use Rattle.std.specs.Global.{Global}
 use Rattle.hull_book.specs.Ledgers.{LedgerValue, IsLedgerOf}
@@ -33,26 +34,37 @@ Boxed S = Box (BookValue S) Global
 abbrev pub book_head : {S : Type 0} → Boxed S → BookHead
 book_head b = (box_value b).head
 
--- the seat is there, is the one of this number of the lock, and the ledger counts its lines among those that it has seen
-pub record IsSeated {S : Type 0} (lock : TicketLock (Boxed S) BookHead Line) (number : ℕ) (ledger : LedgerValue) (seat : Option (Seat (Boxed S) BookHead Line)) : Type 0 where
+-- the seat is there, is the one of this number of the lock, and the ledger counts its lines among those that it has
+-- seen
+pub record IsSeated {S : Type 0} (lock : TicketLock (Boxed S) BookHead Line) (number : ℕ) (ledger : LedgerValue)
+    (seat : Option (Seat (Boxed S) BookHead Line)) : Type 0 where
   pub there : IsSome seat
-  pub own : IfSome seat (λ s. IsSeatOf book_head lock s × (seat_number s ≡ number) × IsLedgerOf number (seat_seen s) ledger)
+  pub own : IfSome seat
+      (λ s. IsSeatOf book_head lock s × (seat_number s ≡ number) × IsLedgerOf number (seat_seen s) ledger)
 
 -- The worker may work on the phase: its seat is there, is of the lock, and has seen the lines of the book b; its ledger
 -- counts its lines among them; it has a list of calls, and room for an answer to each.
-pub record IsReady {S : Type 0} (lock : TicketLock (Boxed S) BookHead Line) (b : BookValue S) (phase : PhaseValue) (w : Worker (Boxed S) BookHead Line) : Type 0 where
+pub record IsReady {S : Type 0} (lock : TicketLock (Boxed S) BookHead Line) (b : BookValue S) (phase : PhaseValue)
+    (w : Worker (Boxed S) BookHead Line) : Type 0 where
   pub seated : IsSome w.seat
-  pub own : IfSome w.seat (λ s. IsSeatOf book_head lock s × (seat_number s ≡ w.number) × (seat_seen s ≡ b.lines) × IsLedgerOf w.number (seat_seen s) w.ledger)
+  pub own : IfSome w.seat
+      (λ s. IsSeatOf book_head lock s × (seat_number s ≡ w.number) × (seat_seen s ≡ b.lines)
+      × IsLedgerOf w.number (seat_seen s) w.ledger)
   pub below : w.number < workers_of b
   pub job : w.number < length phase
   pub few : length (slice_index_or phase w.number []) ≤ TEXT_LINE_LIMIT
   pub room : vec_len w.answers + length (slice_index_or phase w.number []) ≤ vec_capacity w.answers
 
--- The worker has worked on the phase: its seat is there, is of the lock, and has seen what it did since the lines of the
+-- The worker has worked on the phase: its seat is there, is of the lock, and has seen what it did since the lines of
+-- the
 -- book b; its ledger counts its lines among those.
-pub record HasRun {S : Type 0} (lock : TicketLock (Boxed S) BookHead Line) (b : BookValue S) (phase : PhaseValue) (old new : Worker (Boxed S) BookHead Line) : Type 0 where
+pub record HasRun {S : Type 0} (lock : TicketLock (Boxed S) BookHead Line) (b : BookValue S) (phase : PhaseValue)
+    (old new : Worker (Boxed S) BookHead Line) : Type 0 where
   pub seated : IsSome new.seat
   pub number : new.number ≡ old.number
-  pub own : IfSome new.seat (λ s. IsSeatOf book_head lock s × (seat_number s ≡ new.number) × IsPrefix b.lines (seat_seen s) × IsLedgerOf new.number (seat_seen s) new.ledger
-      × HasWorked new.number (capacity_of b) (length (slice_index_or phase new.number [])) (slice_index_or phase new.number []) b.lines (seat_seen s) old.answers.items new.answers.items)
+  pub own : IfSome new.seat
+      (λ s. IsSeatOf book_head lock s × (seat_number s ≡ new.number) × IsPrefix b.lines (seat_seen s)
+      × IsLedgerOf new.number (seat_seen s) new.ledger
+      × HasWorked new.number (capacity_of b) (length (slice_index_or phase new.number []))
+      (slice_index_or phase new.number []) b.lines (seat_seen s) old.answers.items new.answers.items)
   pub room : vec_capacity new.answers ≡ vec_capacity old.answers

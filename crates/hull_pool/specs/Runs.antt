@@ -29,15 +29,19 @@ pub record MayRun {S : Type 0} (K : Ghosts S) (b : BookValue S) (w : WorkersValu
   pub room : (k : ℕ) → k < workers_of b → length (job phase k) ≤ (answers_of w k).room
 
 -- The phase was run. The book is lawful, with the same head; its journal is the earlier one and then new lines, as many
--- as the phase has calls or, where that is less, as the journal had room; the new lines of each worker are a front of its
+-- as the phase has calls or, where that is less, as the journal had room; the new lines of each worker are a front of
+-- its
 -- calls in their order, and its new answers are their replies and then that the journal is full; the ledgers are the
 -- book's own.
-pub record HasRunPhase {S : Type 0} (K : Ghosts S) (b : BookValue S) (w : WorkersValue) (phase : PhaseValue) (c : BookValue S) (v : WorkersValue) : Type 0 where
+pub record HasRunPhase {S : Type 0} (K : Ghosts S) (b : BookValue S) (w : WorkersValue) (phase : PhaseValue)
+    (c : BookValue S) (v : WorkersValue) : Type 0 where
   pub lawful : IsLawful K c
   pub head : c.head ≡ b.head
   pub begins : IsPrefix b.lines c.lines
   pub as_many : length c.lines ≡ min (length b.lines + calls_in phase) (capacity_of b)
-  pub each : (k : ℕ) → k < workers_of b → HasWorked k (capacity_of b) (length (job phase k)) (job phase k) b.lines c.lines (answers_of w k).answers (answers_of v k).answers
+  pub each : (k : ℕ) → k < workers_of b
+      → HasWorked k (capacity_of b) (length (job phase k)) (job phase k) b.lines c.lines (answers_of w k).answers
+      (answers_of v k).answers
   pub ledgers : AreLedgers c v.ledgers
   pub answers : length v.answers ≡ workers_of b
   pub room : (k : ℕ) → k < workers_of b → (answers_of v k).room + length (job phase k) ≡ (answers_of w k).room

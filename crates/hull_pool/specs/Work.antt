@@ -1,5 +1,6 @@
 -- What a worker has done: which lines are its, and what it was answered.
-use Rattle.std.specs.Prelude.{◌≡◌, ◌==◌, ◌-◌, ◌<◌, ◌≤◌, ℕ, List, [], ◌∷◌, ◌++◌, length, map, filter, take, replicate, Ok, Err}
+use Rattle.std.specs.Prelude.{◌≡◌, ◌==◌, ◌-◌, ◌<◌, ◌≤◌, ℕ, List, [], ◌∷◌, ◌++◌, length, map, filter, take, replicate}
+use Rattle.std.specs.Prelude.{Ok, Err}
 use Rattle.hull_plain.specs.declared.call.Call.{Call}
 use Rattle.hull_book.specs.declared.line.Line.{Line}
 use Rattle.hull_book.specs.Books.{BookValue}
@@ -21,10 +22,13 @@ replies_of lines = map (λ line. Ok line.reply) lines
 abbrev pub fulls : ℕ → List Answer
 fulls n = replicate n (Err (record {}))
 
--- The worker has made the first `done` of its calls, while the journal grew from `before` to `lines`. Its new lines are a
--- front of those calls in their order; its new answers are those lines' replies and then, for each call that has no line,
+-- The worker has made the first `done` of its calls, while the journal grew from `before` to `lines`. Its new lines
+-- are a
+-- front of those calls in their order; its new answers are those lines' replies and then, for each call that has no
+-- line,
 -- that the journal is full; and where there is such a call, the journal has its capacity.
-pub record HasWorked (seat capacity done : ℕ) (calls : List Call) (before lines : List Line) (old new : List Answer) : Type 0 where
+pub record HasWorked (seat capacity done : ℕ) (calls : List Call) (before lines : List Line)
+    (old new : List Answer) : Type 0 where
   pub served : List Line
   pub own_lines : lines_of seat lines ≡ lines_of seat before ++ served
   pub in_order : map (λ line. line.call) served ≡ take (length served) calls
@@ -43,11 +47,16 @@ workers_of b = b.head.workers
 -- One call was made while the journal grew from `before` to `lines`: it has one line more in the seat's name, with that
 -- call and the reply that was answered; or none, and the journal has its capacity.
 abbrev pub HasCalled : ℕ → ℕ → Call → List Line → List Line → Answer → Type 0
-HasCalled seat capacity call before lines (Ok reply) = (line : Line) × (lines_of seat lines ≡ lines_of seat before ++ line ∷ []) × (line.call ≡ call) × (line.reply ≡ reply)
-HasCalled seat capacity call before lines (Err full) = (lines_of seat lines ≡ lines_of seat before) × (capacity ≤ length lines)
+HasCalled seat capacity call before lines (Ok reply) =
+    (line : Line) × (lines_of seat lines ≡ lines_of seat before ++ line ∷ []) × (line.call ≡ call)
+    × (line.reply ≡ reply)
+HasCalled seat capacity call before lines (Err full) =
+    (lines_of seat lines ≡ lines_of seat before) × (capacity ≤ length lines)
 
--- The seat k entered with the number t and found a journal with the lines `found`. There was room, and what was handed on has
--- one line more: this call under that number, with a reply that is allowed, points being counted, at what the lines found had left. Or there was
+-- The seat k entered with the number t and found a journal with the lines `found`. There was room, and what was handed
+-- on has
+-- one line more: this call under that number, with a reply that is allowed, points being counted, at what the lines
+-- found had left. Or there was
 -- none, and the same lines were handed on. Either way they are a legal history.
 abbrev pub HasServed : Head → ℕ → ℕ → Call → List Line → List Line → Answer → Type 0
 HasServed head t k call found after (Ok reply) =

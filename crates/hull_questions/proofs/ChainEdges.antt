@@ -6,7 +6,8 @@ use Rattle.lattice.specs.Plane.{Pair, orient, IsBefore}
 use Rattle.lattice.specs.Bridges.{IsAllBefore, IsLowerBridge}
 use Rattle.lattice.specs.Signs.{le_or_lt}
 use Rattle.lattice.proofs.Vectors.{minus, cross, Ahead, turn_trans_strict, turn_trans_strict_right}
-use Rattle.bridge_search.specs.Trees.{Tree, Leaf, Fork, On, IsBridged, IsFork, lower_of, left_of, right_of, first_of, last_of}
+use Rattle.bridge_search.specs.Trees.{Tree, Leaf, Fork, On, IsBridged, IsFork, lower_of, left_of, right_of, first_of}
+use Rattle.bridge_search.specs.Trees.{last_of}
 use Rattle.bridge_search.specs.Leaves.{points_of}
 use Rattle.bridge_search.proofs.Ends.{last_by}
 use Rattle.bridge_search.proofs.Leaves.{all_of, on_of_contains, contains_of_on}
@@ -14,38 +15,53 @@ use Rattle.bridge_search.proofs.Turns.{first_by}
 use Rattle.hull_plain.specs.Edges.{IsLowerEdge, IsUpperEdge}
 use Rattle.lattice.proofs.Order.{before_trans, before_total}
 use Rattle.hull_plain.proofs.Orientation.{orient-cross, orient_swap, at_least, above, ahead_of}
-use Rattle.hull_questions.proofs.Sides.{side_by_start, side_by_end, side_before, side_after, side_to_end, side_back, side_beyond, sum_above, weak}
+use Rattle.hull_questions.proofs.Sides.{side_by_start, side_by_end, side_before, side_after, side_to_end, side_back}
+use Rattle.hull_questions.proofs.Sides.{side_beyond, sum_above, weak}
 use Rattle.hull_questions.proofs.StoredEdges.{same_ends}
 use Rattle.hull_questions.specs.Parts.{IsPartFor}
 use Rattle.hull_questions.specs.Chains.{IsBeforeEnd, IsLowerEdgeAt, IsUpperEdgeAt, IsLowerCorner, IsUpperCorner}
 
 -- an edge cd that begins before a, where the edge ab is steeper: what lies over ab, after a, lies over cd
-over_from_left : (a b c d t : Pair) → IsBefore a b → IsBefore c d → IsBefore c a → IsBefore a t → pos 0 ≤ℤ orient c d a → pos 0 <ℤ orient a b c → pos 0 ≤ℤ orient a b t → pos 0 <ℤ orient c d t
+over_from_left : (a b c d t : Pair) → IsBefore a b → IsBefore c d → IsBefore c a → IsBefore a t → pos 0 ≤ℤ orient c d a
+    → pos 0 <ℤ orient a b c → pos 0 ≤ℤ orient a b t → pos 0 <ℤ orient c d t
 over_from_left a b c d t ab cd ca at da bc bt =
     let hA : Ahead (minus a c) = ahead_of c a ca in
     let hT : Ahead (minus t a) = ahead_of a t at in
     let low : pos 0 ≤ℤ cross (minus d c) (minus a c) = at_least _ _ (orient-cross c d a) da in
-    let mid : pos 0 <ℤ cross (minus a c) (minus t a) = turn_trans_strict (minus a c) (minus b a) (minus t a) hA (ahead_of a b ab) hT (above _ _ (side_before a b c) bc) (at_least _ _ (orient-cross a b t) bt) in
-    sum_above _ _ _ (side_by_start c d a t) low (turn_trans_strict_right (minus d c) (minus a c) (minus t a) (ahead_of c d cd) hA hT low mid)
+    let mid : pos 0 <ℤ cross (minus a c) (minus t a) =
+    turn_trans_strict (minus a c) (minus b a) (minus t a) hA (ahead_of a b ab) hT (above _ _ (side_before a b c) bc)
+    (at_least _ _ (orient-cross a b t) bt) in
+    sum_above _ _ _ (side_by_start c d a t) low
+    (turn_trans_strict_right (minus d c) (minus a c) (minus t a) (ahead_of c d cd) hA hT low mid)
 
 -- an edge cd that ends after b, where the edge ab is less steep: what lies over ab, before b, lies over cd
-over_from_right : (a b c d t : Pair) → IsBefore a b → IsBefore c d → IsBefore b d → IsBefore t b → pos 0 ≤ℤ orient c d b → pos 0 <ℤ orient a b d → pos 0 ≤ℤ orient a b t → pos 0 <ℤ orient c d t
+over_from_right : (a b c d t : Pair) → IsBefore a b → IsBefore c d → IsBefore b d → IsBefore t b → pos 0 ≤ℤ orient c d b
+    → pos 0 <ℤ orient a b d → pos 0 ≤ℤ orient a b t → pos 0 <ℤ orient c d t
 over_from_right a b c d t ab cd bd tb db bd_turn bt =
     let hE : Ahead (minus d b) = ahead_of b d bd in
     let hT : Ahead (minus b t) = ahead_of t b tb in
     let low : pos 0 ≤ℤ cross (minus d b) (minus d c) = at_least _ _ (side_to_end c d b) db in
-    let mid : pos 0 <ℤ cross (minus b t) (minus d b) = turn_trans_strict_right (minus b t) (minus b a) (minus d b) hT (ahead_of a b ab) hE (at_least _ _ (side_to_end a b t) bt) (above _ _ (side_after a b d) bd_turn) in
-    sum_above _ _ _ (side_by_end c d b t) low (turn_trans_strict (minus b t) (minus d b) (minus d c) hT hE (ahead_of c d cd) mid low)
+    let mid : pos 0 <ℤ cross (minus b t) (minus d b) =
+    turn_trans_strict_right (minus b t) (minus b a) (minus d b) hT (ahead_of a b ab) hE
+    (at_least _ _ (side_to_end a b t) bt) (above _ _ (side_after a b d) bd_turn) in
+    sum_above _ _ _ (side_by_end c d b t) low
+    (turn_trans_strict (minus b t) (minus d b) (minus d c) hT hE (ahead_of c d cd) mid low)
 
 -- ---- the order
 
 -- c is not after v, and v stands before a
 up_to : (c v a : Pair) → ¬ (IsBefore v c) → IsBefore v a → IsBefore c a
-up_to c v a n h = elim (before_total c v) [ inl k ↦ before_trans c v a k h | inr (inl e) ↦ subst (λ (z : Pair). IsBefore z a) (sym e) h | inr (inr k) ↦ absurd (n k) ]
+up_to c v a n h = elim (before_total c v) [
+  | inl k ↦ before_trans c v a k h
+  | inr (inl e) ↦ subst (λ (z : Pair). IsBefore z a) (sym e) h
+  | inr (inr k) ↦
+      absurd (n k)
+]
 
 -- v stands before a, and d is not before a
 on_from : (v a d : Pair) → IsBefore v a → ¬ (IsBefore d a) → IsBefore v d
-on_from v a d h n = elim (before_total a d) [ inl k ↦ before_trans v a d h k | inr (inl e) ↦ subst (IsBefore v) e h | inr (inr k) ↦ absurd (n k) ]
+on_from v a d h n = elim (before_total a d)
+    [ inl k ↦ before_trans v a d h k | inr (inl e) ↦ subst (IsBefore v) e h | inr (inr k) ↦ absurd (n k) ]
 
 -- a number at least 0 that is not 0
 not_zero : (z : ℤ) → pos 0 ≤ℤ z → ¬ (z ≡ pos 0) → pos 0 <ℤ z
@@ -58,61 +74,81 @@ no_zero z h e = omega (arith, ints)
 -- ---- from a half to both
 
 -- a lower edge of u over which all of w lies
-grow_right : (u w : Tree) (c d : Pair) → IsLowerEdge (points_of u) c d → ((t : Pair) → On w t → pos 0 <ℤ orient c d t) → IsLowerEdge (points_of u ++ points_of w) c d
+grow_right : (u w : Tree) (c d : Pair) → IsLowerEdge (points_of u) c d → ((t : Pair) → On w t → pos 0 <ℤ orient c d t)
+    → IsLowerEdge (points_of u ++ points_of w) c d
 grow_right u w c d k over = record {
   from = Contains-append_left (points_of u) (points_of w) c k.from;
   to = Contains-append_left (points_of u) (points_of w) d k.to;
   forward = k.forward;
-  left = All-append (λ t. pos 0 ≤ℤ orient c d t) (points_of u) (points_of w) k.left (all_of (λ t. pos 0 ≤ℤ orient c d t) (points_of w) (λ t m. weak _ (over t (on_of_contains w t m))));
+  left = All-append (λ t. pos 0 ≤ℤ orient c d t) (points_of u) (points_of w) k.left
+      (all_of (λ t. pos 0 ≤ℤ orient c d t) (points_of w) (λ t m. weak _ (over t (on_of_contains w t m))));
   last = All-append (λ t. orient c d t ≡ pos 0 → ¬ (IsBefore d t)) (points_of u) (points_of w) k.last
-      (all_of (λ t. orient c d t ≡ pos 0 → ¬ (IsBefore d t)) (points_of w) (λ t m e. absurd (no_zero _ (over t (on_of_contains w t m)) e)));
+      (all_of (λ t. orient c d t ≡ pos 0 → ¬ (IsBefore d t)) (points_of w)
+      (λ t m e. absurd (no_zero _ (over t (on_of_contains w t m)) e)));
 }
 
 -- a lower edge of w over which all of u lies
-grow_left : (u w : Tree) (c d : Pair) → IsLowerEdge (points_of w) c d → ((t : Pair) → On u t → pos 0 <ℤ orient c d t) → IsLowerEdge (points_of u ++ points_of w) c d
+grow_left : (u w : Tree) (c d : Pair) → IsLowerEdge (points_of w) c d → ((t : Pair) → On u t → pos 0 <ℤ orient c d t)
+    → IsLowerEdge (points_of u ++ points_of w) c d
 grow_left u w c d k over = record {
   from = Contains-append_right (points_of u) (points_of w) c k.from;
   to = Contains-append_right (points_of u) (points_of w) d k.to;
   forward = k.forward;
-  left = All-append (λ t. pos 0 ≤ℤ orient c d t) (points_of u) (points_of w) (all_of (λ t. pos 0 ≤ℤ orient c d t) (points_of u) (λ t m. weak _ (over t (on_of_contains u t m)))) k.left;
+  left = All-append (λ t. pos 0 ≤ℤ orient c d t) (points_of u) (points_of w)
+      (all_of (λ t. pos 0 ≤ℤ orient c d t) (points_of u) (λ t m. weak _ (over t (on_of_contains u t m)))) k.left;
   last = All-append (λ t. orient c d t ≡ pos 0 → ¬ (IsBefore d t)) (points_of u) (points_of w)
-      (all_of (λ t. orient c d t ≡ pos 0 → ¬ (IsBefore d t)) (points_of u) (λ t m e. absurd (no_zero _ (over t (on_of_contains u t m)) e))) k.last;
+      (all_of (λ t. orient c d t ≡ pos 0 → ¬ (IsBefore d t)) (points_of u)
+      (λ t m e. absurd (no_zero _ (over t (on_of_contains u t m)) e))) k.last;
 }
 
 -- the bridge of two halves is a lower edge of both
-bridge_edge : (u w : Tree) (a b : Pair) → IsBefore a b → IsLowerBridge (On u) (On w) a b → IsLowerEdge (points_of u ++ points_of w) a b
+bridge_edge : (u w : Tree) (a b : Pair) → IsBefore a b → IsLowerBridge (On u) (On w) a b
+    → IsLowerEdge (points_of u ++ points_of w) a b
 bridge_edge u w a b ab h = record {
   from = Contains-append_left (points_of u) (points_of w) a (contains_of_on u a h.from_left);
   to = Contains-append_right (points_of u) (points_of w) b (contains_of_on w b h.to_right);
   forward = ab;
-  left = All-append (λ t. pos 0 ≤ℤ orient a b t) (points_of u) (points_of w) (all_of (λ t. pos 0 ≤ℤ orient a b t) (points_of u) (λ t m. h.above_left t (on_of_contains u t m)))
+  left = All-append (λ t. pos 0 ≤ℤ orient a b t) (points_of u) (points_of w)
+      (all_of (λ t. pos 0 ≤ℤ orient a b t) (points_of u) (λ t m. h.above_left t (on_of_contains u t m)))
       (all_of (λ t. pos 0 ≤ℤ orient a b t) (points_of w) (λ t m. h.above_right t (on_of_contains w t m)));
-  last = All-append (λ t. orient a b t ≡ pos 0 → ¬ (IsBefore b t)) (points_of u) (points_of w) (all_of (λ t. orient a b t ≡ pos 0 → ¬ (IsBefore b t)) (points_of u) (λ t m e. (h.tie_left t (on_of_contains u t m) e).1))
-      (all_of (λ t. orient a b t ≡ pos 0 → ¬ (IsBefore b t)) (points_of w) (λ t m e. (h.tie_right t (on_of_contains w t m) e).1));
+  last = All-append (λ t. orient a b t ≡ pos 0 → ¬ (IsBefore b t)) (points_of u) (points_of w)
+      (all_of (λ t. orient a b t ≡ pos 0 → ¬ (IsBefore b t)) (points_of u)
+      (λ t m e. (h.tie_left t (on_of_contains u t m) e).1))
+      (all_of (λ t. orient a b t ≡ pos 0 → ¬ (IsBefore b t)) (points_of w)
+      (λ t m e. (h.tie_right t (on_of_contains w t m) e).1));
 }
 
 -- a lower edge of the left half at a point before the bridge
-left_lifts : (u w : Tree) (v a b : Pair) (e : Pair × Pair) → IsAllBefore (On u) (On w) → IsLowerBridge (On u) (On w) a b → IsBefore v a → IsLowerEdgeAt (points_of u) v e → IsLowerEdgeAt (points_of u ++ points_of w) v e
+left_lifts : (u w : Tree) (v a b : Pair) (e : Pair × Pair) → IsAllBefore (On u) (On w) → IsLowerBridge (On u) (On w) a b
+    → IsBefore v a → IsLowerEdgeAt (points_of u) v e → IsLowerEdgeAt (points_of u ++ points_of w) v e
 left_lifts u w v a b e o h va k =
     let ca : IsBefore e.0 a = up_to e.0 v a k.starts va in
     let inc : On u e.0 = on_of_contains u e.0 k.edge.from in
     let turn : pos 0 <ℤ orient a b e.0 = not_zero _ (h.above_left e.0 inc) (λ z. (h.tie_left e.0 inc z).0 ca) in
-    let low : pos 0 ≤ℤ orient e.0 e.1 a = All-contains (λ t. pos 0 ≤ℤ orient e.0 e.1 t) (points_of u) a k.edge.left (contains_of_on u a h.from_left) in
+    let low : pos 0 ≤ℤ orient e.0 e.1 a =
+    All-contains (λ t. pos 0 ≤ℤ orient e.0 e.1 t) (points_of u) a k.edge.left (contains_of_on u a h.from_left) in
     record {
-      edge = grow_right u w e.0 e.1 k.edge (λ t i. over_from_left a b e.0 e.1 t (o a b h.from_left h.to_right) k.edge.forward ca (o a t h.from_left i) low turn (h.above_right t i));
+      edge = grow_right u w e.0 e.1 k.edge
+          (λ t i. over_from_left a b e.0 e.1 t (o a b h.from_left h.to_right) k.edge.forward ca
+          (o a t h.from_left i) low turn (h.above_right t i));
       starts = k.starts;
       onward = k.onward;
     }
 
 -- a lower edge of the right half at a point not before the end of the bridge
-right_lifts : (u w : Tree) (v a b : Pair) (e : Pair × Pair) → IsAllBefore (On u) (On w) → IsLowerBridge (On u) (On w) a b → ¬ (IsBefore v b) → IsLowerEdgeAt (points_of w) v e → IsLowerEdgeAt (points_of u ++ points_of w) v e
+right_lifts : (u w : Tree) (v a b : Pair) (e : Pair × Pair) → IsAllBefore (On u) (On w)
+    → IsLowerBridge (On u) (On w) a b → ¬ (IsBefore v b) → IsLowerEdgeAt (points_of w) v e
+    → IsLowerEdgeAt (points_of u ++ points_of w) v e
 right_lifts u w v a b e o h n k =
     let bd : IsBefore b e.1 = up_to b v e.1 n k.onward in
     let ind : On w e.1 = on_of_contains w e.1 k.edge.to in
     let turn : pos 0 <ℤ orient a b e.1 = not_zero _ (h.above_right e.1 ind) (λ z. (h.tie_right e.1 ind z).1 bd) in
-    let low : pos 0 ≤ℤ orient e.0 e.1 b = All-contains (λ t. pos 0 ≤ℤ orient e.0 e.1 t) (points_of w) b k.edge.left (contains_of_on w b h.to_right) in
+    let low : pos 0 ≤ℤ orient e.0 e.1 b =
+    All-contains (λ t. pos 0 ≤ℤ orient e.0 e.1 t) (points_of w) b k.edge.left (contains_of_on w b h.to_right) in
     record {
-      edge = grow_left u w e.0 e.1 k.edge (λ t i. over_from_right a b e.0 e.1 t (o a b h.from_left h.to_right) k.edge.forward bd (o t b i h.to_right) low turn (h.above_left t i));
+      edge = grow_left u w e.0 e.1 k.edge
+          (λ t i. over_from_right a b e.0 e.1 t (o a b h.from_left h.to_right) k.edge.forward bd
+          (o t b i h.to_right) low turn (h.above_left t i));
       starts = k.starts;
       onward = k.onward;
     }
@@ -125,7 +161,8 @@ pub record IsEdgePart (v : Pair) (whole part : Tree) : Type 0 where
   pub inside : IsBeforeEnd part v
 
 -- before the bridge: to the left half
-pub edge_left : (t : Tree) (v a b : Pair) → IsBridged t → Some (a, b) ≡ lower_of t → IsBefore v a → IsBeforeEnd t v → IsEdgePart v t (left_of t)
+pub edge_left : (t : Tree) (v a b : Pair) → IsBridged t → Some (a, b) ≡ lower_of t → IsBefore v a → IsBeforeEnd t v
+    → IsEdgePart v t (left_of t)
 edge_left (Leaf x) v a b h g va i = absurd (cc)
 edge_left (Fork e f u w) v a b h g va i =
     let k : IsBefore v f.0 = subst (IsBefore v) (same_ends g).0 va in
@@ -138,7 +175,8 @@ edge_left (Fork e f u w) v a b h g va i =
     }
 
 -- not before the end of the bridge: to the right half
-pub edge_right : (t : Tree) (v a b : Pair) → IsBridged t → Some (a, b) ≡ lower_of t → ¬ (IsBefore v b) → IsBeforeEnd t v → IsEdgePart v t (right_of t)
+pub edge_right : (t : Tree) (v a b : Pair) → IsBridged t → Some (a, b) ≡ lower_of t → ¬ (IsBefore v b) → IsBeforeEnd t v
+    → IsEdgePart v t (right_of t)
 edge_right (Leaf x) v a b h g n i = absurd (cc)
 edge_right (Fork e f u w) v a b h g n i =
     let k : ¬ (IsBefore v f.1) = subst (λ (z : Pair). ¬ (IsBefore v z)) (same_ends g).1 n in
@@ -151,7 +189,8 @@ edge_right (Fork e f u w) v a b h g n i =
     }
 
 -- from the start of the bridge on, and before its end: the bridge
-pub edge_here : (t : Tree) (v a b : Pair) → IsBridged t → Some (a, b) ≡ lower_of t → ¬ (IsBefore v a) → IsBefore v b → IsLowerEdgeAt (points_of t) v (a, b)
+pub edge_here : (t : Tree) (v a b : Pair) → IsBridged t → Some (a, b) ≡ lower_of t → ¬ (IsBefore v a) → IsBefore v b
+    → IsLowerEdgeAt (points_of t) v (a, b)
 edge_here (Leaf x) v a b h g n m = absurd (cc)
 edge_here (Fork e f u w) v a b h g n m =
     let s = same_ends g in
@@ -169,10 +208,14 @@ no_span S u v c d e f cv vd =
     let hC : Ahead (minus v c) = ahead_of c v cv in
     let hU : Ahead (minus v u) = ahead_of u v e.forward in
     let hD : Ahead (minus d v) = ahead_of v d vd in
-    let a : pos 0 ≤ℤ cross (minus v c) (minus v u) = at_least _ _ (side_to_end u v c) (All-contains (λ t. pos 0 ≤ℤ orient u v t) S c e.left f.from) in
+    let a : pos 0 ≤ℤ cross (minus v c) (minus v u) =
+    at_least _ _ (side_to_end u v c) (All-contains (λ t. pos 0 ≤ℤ orient u v t) S c e.left f.from) in
     let b : pos 0 <ℤ cross (minus v u) (minus d v) =
-    above _ _ (side_after u v d) (not_zero _ (All-contains (λ t. pos 0 ≤ℤ orient u v t) S d e.left f.to) (λ z. All-contains (λ t. orient u v t ≡ pos 0 → ¬ (IsBefore v t)) S d e.last f.to z vd)) in
-    let k : pos 0 <ℤ cross (minus v c) (minus d v) = turn_trans_strict_right (minus v c) (minus v u) (minus d v) hC hU hD a b in
+    above _ _ (side_after u v d)
+    (not_zero _ (All-contains (λ t. pos 0 ≤ℤ orient u v t) S d e.left f.to)
+    (λ z. All-contains (λ t. orient u v t ≡ pos 0 → ¬ (IsBefore v t)) S d e.last f.to z vd)) in
+    let k : pos 0 <ℤ cross (minus v c) (minus d v) =
+    turn_trans_strict_right (minus v c) (minus v u) (minus d v) hC hU hD a b in
     let m : pos 0 ≤ℤ orient c d v = All-contains (λ t. pos 0 ≤ℤ orient c d t) S v f.left e.to in
     clash _ _ _ (side_after c v d) (orient_swap c v d) k m
   where
@@ -193,12 +236,18 @@ from_corner S v e corner k =
     no_start (inr p) b = no_span S p.0 v e.0 e.1 p.1 k.edge b k.onward
 
 -- no upper edge spans the end of another
-no_span_back : (S : List Pair) (u v c d : Pair) → IsUpperEdge S u v → IsUpperEdge S c d → IsBefore v c → IsBefore d v → ⊥
+no_span_back : (S : List Pair) (u v c d : Pair) → IsUpperEdge S u v → IsUpperEdge S c d → IsBefore v c
+    → IsBefore d v → ⊥
 no_span_back S u v c d e f vc dv =
-    let a : pos 0 ≤ℤ cross (minus c v) (minus u v) = at_least _ _ (side_back u v c) (All-contains (λ t. pos 0 ≤ℤ orient u v t) S c e.left f.from) in
+    let a : pos 0 ≤ℤ cross (minus c v) (minus u v) =
+    at_least _ _ (side_back u v c) (All-contains (λ t. pos 0 ≤ℤ orient u v t) S c e.left f.from) in
     let b : pos 0 <ℤ cross (minus u v) (minus v d) =
-    above _ _ (side_beyond u v d) (not_zero _ (All-contains (λ t. pos 0 ≤ℤ orient u v t) S d e.left f.to) (λ z. All-contains (λ t. orient u v t ≡ pos 0 → ¬ (IsBefore t v)) S d e.last f.to z dv)) in
-    let k : pos 0 <ℤ cross (minus c v) (minus v d) = turn_trans_strict_right (minus c v) (minus u v) (minus v d) (ahead_of v c vc) (ahead_of v u e.backward) (ahead_of d v dv) a b in
+    above _ _ (side_beyond u v d)
+    (not_zero _ (All-contains (λ t. pos 0 ≤ℤ orient u v t) S d e.left f.to)
+    (λ z. All-contains (λ t. orient u v t ≡ pos 0 → ¬ (IsBefore t v)) S d e.last f.to z dv)) in
+    let k : pos 0 <ℤ cross (minus c v) (minus v d) =
+    turn_trans_strict_right (minus c v) (minus u v) (minus v d) (ahead_of v c vc) (ahead_of v u e.backward)
+    (ahead_of d v dv) a b in
     let m : pos 0 ≤ℤ orient c d v = All-contains (λ t. pos 0 ≤ℤ orient c d t) S v f.left e.to in
     clash _ _ _ (side_beyond c v d) (orient_swap c v d) k m
   where

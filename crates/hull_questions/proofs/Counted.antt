@@ -1,5 +1,6 @@
 -- How many points of a list stand after a corner, or before it: fewer at the next corner.
-use Rattle.std.proofs.Common.{◌≡◌, ℕ, refl, sym, ◌∙◌, ap, List, arith, ◌≤◌, ◌<◌, ◌+◌, zero, suc, [], ◌∷◌, true, false, Bool, cond, length}
+use Rattle.std.proofs.Common.{◌≡◌, ℕ, refl, sym, ◌∙◌, ap, List, arith, ◌≤◌, ◌<◌, ◌+◌, zero, suc, [], ◌∷◌, true, false}
+use Rattle.std.proofs.Common.{Bool, cond, length}
 use Rattle.std.specs.List.{Contains}
 use Rattle.std.proofs.lemmas.Bool.{false≢true}
 use Rattle.lattice.specs.Covers.{is_before}
@@ -57,17 +58,24 @@ one_less false false e f = absurd (false≢true f)
 one_less false true e f = omega arith
 
 -- and by fewer where a point of the list passes the other alone
-pub count_less : (p q : Pair → Bool) (xs : List Pair) (x : Pair) → ((t : Pair) → p t ≡ true → q t ≡ true) → Contains xs x → p x ≡ false → q x ≡ true → count_of p xs < count_of q xs
+pub count_less : (p q : Pair → Bool) (xs : List Pair) (x : Pair) → ((t : Pair) → p t ≡ true → q t ≡ true)
+    → Contains xs x → p x ≡ false → q x ≡ true → count_of p xs < count_of q xs
 count_less p q [] x h m e f = absurd (omega (arith, m.1))
-count_less p q (y ∷ ys) x h (zero, l, k) e f = omega (arith, one_less (p y) (q y) (ap p k ∙ e) (ap q k ∙ f), count_le p q ys h)
-count_less p q (y ∷ ys) x h (suc i, l, k) e f = omega (arith, one_le (p y) (q y) (h y), count_less p q ys x h (i, omega (arith, l), k) e f)
+count_less p q (y ∷ ys) x h (zero, l, k) e f =
+    omega (arith, one_less (p y) (q y) (ap p k ∙ e) (ap q k ∙ f), count_le p q ys h)
+count_less p q (y ∷ ys) x h (suc i, l, k) e f =
+    omega (arith, one_le (p y) (q y) (h y), count_less p q ys x h (i, omega (arith, l), k) e f)
 
 -- fewer points stand after the next corner
 pub fewer_after : (S : List Pair) (v w : Pair) → IsLowerEdge S v w → points_after S w < points_after S v
 fewer_after S v w e =
-    count_less (is_before w) (is_before v) S w (λ t h. is_before-true v t (before_trans v w t e.forward (is_before-holds w t h))) e.to (is_before-false w w (before_irrefl w)) (is_before-true v w e.forward)
+    count_less (is_before w) (is_before v) S w
+    (λ t h. is_before-true v t (before_trans v w t e.forward (is_before-holds w t h))) e.to
+    (is_before-false w w (before_irrefl w)) (is_before-true v w e.forward)
 
 -- fewer points stand before the next corner of the upper chain
 pub fewer_before : (S : List Pair) (v w : Pair) → IsUpperEdge S v w → points_before S w < points_before S v
 fewer_before S v w e =
-    count_less (λ t. is_before t w) (λ t. is_before t v) S w (λ t h. is_before-true t v (before_trans t w v (is_before-holds t w h) e.backward)) e.to (is_before-false w w (before_irrefl w)) (is_before-true w v e.backward)
+    count_less (λ t. is_before t w) (λ t. is_before t v) S w
+    (λ t h. is_before-true t v (before_trans t w v (is_before-holds t w h) e.backward)) e.to
+    (is_before-false w w (before_irrefl w)) (is_before-true w v e.backward)

@@ -1,5 +1,6 @@
 -- Which half has the first of the farthest points.
-use Rattle.std.proofs.Common.{◌≡◌, ℕ, ◌+◌, subst, ℤ, pos, ◌+ℤ◌, ◌-ℤ◌, ◌*ℤ◌, ◌≤ℤ◌, ◌<ℤ◌, neg_ℤ, inl, inr, refl, ap, ◌∙◌, arith, ◌++◌, [], ◌∷◌, Some, None}
+use Rattle.std.proofs.Common.{◌≡◌, ℕ, ◌+◌, subst, ℤ, pos, ◌+ℤ◌, ◌-ℤ◌, ◌*ℤ◌, ◌≤ℤ◌, ◌<ℤ◌, neg_ℤ, inl, inr, refl, ap, ◌∙◌}
+use Rattle.std.proofs.Common.{arith, ◌++◌, [], ◌∷◌, Some, None}
 use Rattle.std.specs.List.{All, Contains}
 use Rattle.std.specs.Prelude.{◌≢◌}
 use Rattle.std.proofs.lemmas.Int.{ints}
@@ -9,7 +10,8 @@ use Rattle.lattice.specs.Bridges.{IsAllBefore}
 use Rattle.lattice.specs.Polynomials.{difference-eq, as_difference, difference-add, difference-neg, difference-mul}
 use Rattle.lattice.specs.Signs.{le_or_lt, product_nn, product_pp, product_np}
 use Rattle.lattice.proofs.Vectors.{minus, cross, cross_swap, Ahead, ahead_nn}
-use Rattle.bridge_search.specs.Trees.{Tree, Leaf, Fork, On, IsBridged, IsFork, edge_of, left_of, right_of, first_of, IsAtDepth}
+use Rattle.bridge_search.specs.Trees.{Tree, Leaf, Fork, On, IsBridged, IsFork, edge_of, left_of, right_of, first_of}
+use Rattle.bridge_search.specs.Trees.{IsAtDepth}
 use Rattle.bridge_search.specs.Leaves.{points_of}
 use Rattle.bridge_search.proofs.Leaves.{all_of, on_of_contains, contains_of_on}
 use Rattle.hull_plain.specs.Tangents.{IsFirstFarthest}
@@ -21,12 +23,26 @@ use Rattle.hull_questions.specs.Parts.{IsFacing, IsFartherPart, IsOneDown}
 -- how far two vectors go in a direction, weighed by how far they go to the right and by their sides
 weigh_right : (d w t : Pair) → product d t *ℤ w.x +ℤ d.y *ℤ cross t w ≡ product d w *ℤ t.x
 unfolding product
-weigh_right d w t = rw (as_difference d.x, as_difference d.y, as_difference w.x, as_difference w.y, as_difference t.x, as_difference t.y) (simp (difference-add, difference-neg, difference-mul) (difference-eq _ _ _ _ (omega arith)))
+weigh_right d w t = rw (
+  as_difference d.x,
+  as_difference d.y,
+  as_difference w.x,
+  as_difference w.y,
+  as_difference t.x,
+  as_difference t.y,
+) (simp (difference-add, difference-neg, difference-mul) (difference-eq _ _ _ _ (omega arith)))
 
 -- the same by the other side
 weigh_left : (d w t : Pair) → product d t *ℤ w.x ≡ product d w *ℤ t.x +ℤ d.y *ℤ cross w t
 unfolding product
-weigh_left d w t = rw (as_difference d.x, as_difference d.y, as_difference w.x, as_difference w.y, as_difference t.x, as_difference t.y) (simp (difference-add, difference-neg, difference-mul) (difference-eq _ _ _ _ (omega arith)))
+weigh_left d w t = rw (
+  as_difference d.x,
+  as_difference d.y,
+  as_difference w.x,
+  as_difference w.y,
+  as_difference t.x,
+  as_difference t.y,
+) (simp (difference-add, difference-neg, difference-mul) (difference-eq _ _ _ _ (omega arith)))
 
 -- how far a vector that goes straight up goes
 upright : (d w : Pair) → w.x ≡ pos 0 → product d w ≡ d.y *ℤ w.y
@@ -34,7 +50,8 @@ unfolding product
 upright d w e = ap (λ (z : ℤ). d.x *ℤ z +ℤ d.y *ℤ w.y) e ∙ omega (arith, ints)
 
 -- where d goes up and w not farther, nor does a vector ahead on the right of w
-rises : (d w t : Pair) → pos 0 <ℤ d.y → Ahead w → Ahead t → pos 0 ≤ℤ cross t w → product d w ≤ℤ pos 0 → product d t ≤ℤ pos 0
+rises : (d w t : Pair) → pos 0 <ℤ d.y → Ahead w → Ahead t → pos 0 ≤ℤ cross t w → product d w ≤ℤ pos 0
+    → product d t ≤ℤ pos 0
 rises d w t up (inr h) ht side far =
     let k : pos 0 <ℤ (d.y *ℤ w.y) = product_pp d.y w.y up h.1 in
     let e = upright d w h.0 in
@@ -51,7 +68,8 @@ rises d w t up (inl h) ht side far =
     ]
 
 -- where d does not go up and w not farther, nor does a vector ahead on the left of w
-falls : (d w t : Pair) → d.y ≤ℤ pos 0 → Ahead w → Ahead t → pos 0 ≤ℤ cross w t → product d w ≤ℤ pos 0 → product d t ≤ℤ pos 0
+falls : (d w t : Pair) → d.y ≤ℤ pos 0 → Ahead w → Ahead t → pos 0 ≤ℤ cross w t → product d w ≤ℤ pos 0
+    → product d t ≤ℤ pos 0
 falls d w t down (inl h) ht side far =
     elim (le_or_lt (product d t) (pos 0)) [
       | inl k ↦ k
@@ -74,7 +92,15 @@ falls d w t down (inr h) (inr k) side far =
 -- how much farther t lies than p
 product-step : (d p t : Pair) → product d (minus t p) ≡ product d t -ℤ product d p
 unfolding product
-product-step d p t = rw (as_difference d.x, as_difference d.y, as_difference p.x, as_difference p.y, as_difference t.x, as_difference t.y) (simp (difference-add, difference-neg, difference-mul) (difference-eq _ _ _ _ (omega arith)))
+product-step d p t =
+    rw (
+      as_difference d.x,
+      as_difference d.y,
+      as_difference p.x,
+      as_difference p.y,
+      as_difference t.x,
+      as_difference t.y,
+    ) (simp (difference-add, difference-neg, difference-mul) (difference-eq _ _ _ _ (omega arith)))
 
 -- no farther
 no_farther : (d p t : Pair) → product d (minus t p) ≤ℤ pos 0 → product d t ≤ℤ product d p
@@ -92,72 +118,97 @@ side_at_start p q t = refl
 -- and by the steps to q
 side_at_end : (p q t : Pair) → cross (minus q p) (minus q t) ≡ neg_ℤ (orient p q t)
 unfolding orient
-side_at_end p q t = rw (as_difference p.x, as_difference p.y, as_difference q.x, as_difference q.y, as_difference t.x, as_difference t.y) (simp (difference-add, difference-neg, difference-mul) (difference-eq _ _ _ _ (omega arith)))
+side_at_end p q t = rw (
+  as_difference p.x,
+  as_difference p.y,
+  as_difference q.x,
+  as_difference q.y,
+  as_difference t.x,
+  as_difference t.y,
+) (simp (difference-add, difference-neg, difference-mul) (difference-eq _ _ _ _ (omega arith)))
 
 -- under the line pq and after p, where d goes up and q is no farther than p: no farther than p
-stays_up : (d p q t : Pair) → pos 0 <ℤ d.y → IsBefore p q → IsBefore p t → orient p q t ≤ℤ pos 0 → product d q ≤ℤ product d p → product d t ≤ℤ product d p
+stays_up : (d p q t : Pair) → pos 0 <ℤ d.y → IsBefore p q → IsBefore p t → orient p q t ≤ℤ pos 0
+    → product d q ≤ℤ product d p → product d t ≤ℤ product d p
 stays_up d p q t up pq pt o f =
     no_farther d p t (rises d (minus q p) (minus t p) up (ahead_of p q pq) (ahead_of p t pt)
-    (let e = side_at_start p q t in let s = cross_swap (minus t p) (minus q p) in omega (arith, ints)) (step_back d p q f))
+    (let e = side_at_start p q t in let s = cross_swap (minus t p) (minus q p) in omega (arith, ints))
+    (step_back d p q f))
 
 -- under the line pq and before q, where d goes up and p is less far than q: less far than q
-goes_up : (d p q t : Pair) → pos 0 <ℤ d.y → IsBefore p q → IsBefore t q → orient p q t ≤ℤ pos 0 → product d p <ℤ product d q → product d t <ℤ product d q
+goes_up : (d p q t : Pair) → pos 0 <ℤ d.y → IsBefore p q → IsBefore t q → orient p q t ≤ℤ pos 0
+    → product d p <ℤ product d q → product d t <ℤ product d q
 goes_up d p q t up pq tq o f =
     elim (le_or_lt (product d q) (product d t)) [
       | inr k ↦ k
       | inl k ↦
-          let b : product d q ≤ℤ product d p = no_farther d p q (rises d (minus q t) (minus q p) up (ahead_of t q tq) (ahead_of p q pq)
+          let b : product d q ≤ℤ product d p =
+          no_farther d p q (rises d (minus q t) (minus q p) up (ahead_of t q tq) (ahead_of p q pq)
           (let e = side_at_end p q t in omega (arith, ints)) (step_back d t q k)) in
           absurd (omega (arith, ints))
     ]
 
 -- over the line pq and after p, where d does not go up and q is no farther than p: no farther than p
-stays_down : (d p q t : Pair) → d.y ≤ℤ pos 0 → IsBefore p q → IsBefore p t → pos 0 ≤ℤ orient p q t → product d q ≤ℤ product d p → product d t ≤ℤ product d p
+stays_down : (d p q t : Pair) → d.y ≤ℤ pos 0 → IsBefore p q → IsBefore p t → pos 0 ≤ℤ orient p q t
+    → product d q ≤ℤ product d p → product d t ≤ℤ product d p
 stays_down d p q t down pq pt o f =
     no_farther d p t (falls d (minus q p) (minus t p) down (ahead_of p q pq) (ahead_of p t pt)
     (let e = side_at_start p q t in omega (arith, ints)) (step_back d p q f))
 
 -- over the line pq and before q, where d does not go up and p is less far than q: less far than q
-goes_down : (d p q t : Pair) → d.y ≤ℤ pos 0 → IsBefore p q → IsBefore t q → pos 0 ≤ℤ orient p q t → product d p <ℤ product d q → product d t <ℤ product d q
+goes_down : (d p q t : Pair) → d.y ≤ℤ pos 0 → IsBefore p q → IsBefore t q → pos 0 ≤ℤ orient p q t
+    → product d p <ℤ product d q → product d t <ℤ product d q
 goes_down d p q t down pq tq o f =
     elim (le_or_lt (product d q) (product d t)) [
       | inr k ↦ k
       | inl k ↦
-          let b : product d q ≤ℤ product d p = no_farther d p q (falls d (minus q t) (minus q p) down (ahead_of t q tq) (ahead_of p q pq)
-          (let e = side_at_end p q t in let s = cross_swap (minus q t) (minus q p) in omega (arith, ints)) (step_back d t q k)) in
+          let b : product d q ≤ℤ product d p =
+          no_farther d p q (falls d (minus q t) (minus q p) down (ahead_of t q tq) (ahead_of p q pq)
+          (let e = side_at_end p q t in let s = cross_swap (minus q t) (minus q p) in omega (arith, ints))
+          (step_back d t q k)) in
           absurd (omega (arith, ints))
     ]
 
--- the first of the farthest is in the left half where no point of the right one lies farther than some point of the left one
+-- the first of the farthest is in the left half where no point of the right one lies farther than some point of the
+-- left one
 in_left : (u w : Tree) (d r : Pair) → IsAllBefore (On u) (On w) → IsFirstFarthest (points_of u) d r
-    → ((s : Pair) → On w s → (p : Pair) × On u p × (product d s ≤ℤ product d p)) → IsFirstFarthest (points_of u ++ points_of w) d r
+    → ((s : Pair) → On w s → (p : Pair) × On u p × (product d s ≤ℤ product d p))
+    → IsFirstFarthest (points_of u ++ points_of w) d r
 in_left u w d r o f g = (
   Contains-append_left (points_of u) (points_of w) r f.0,
   All-append (λ s. product d s ≤ℤ product d r) (points_of u) (points_of w) f.1
-      (all_of (λ s. product d s ≤ℤ product d r) (points_of w) (λ s m. let n : (p : Pair) × On u p × (product d s ≤ℤ product d p) = g s (on_of_contains w s m) in
-      let k : product d n.0 ≤ℤ product d r = All-contains (λ s. product d s ≤ℤ product d r) (points_of u) n.0 f.1 (contains_of_on u n.0 n.1) in
+      (all_of (λ s. product d s ≤ℤ product d r) (points_of w)
+      (λ s m. let n : (p : Pair) × On u p × (product d s ≤ℤ product d p) = g s (on_of_contains w s m) in
+      let k : product d n.0 ≤ℤ product d r =
+      All-contains (λ s. product d s ≤ℤ product d r) (points_of u) n.0 f.1 (contains_of_on u n.0 n.1) in
       let h : product d s ≤ℤ product d n.0 = n.2 in omega (arith, ints))),
   All-append (λ s. IsBefore s r → product d s ≢ product d r) (points_of u) (points_of w) f.2
-      (all_of (λ s. IsBefore s r → product d s ≢ product d r) (points_of w) (λ s m b e. before_not s r b (o r s (on_of_contains u r f.0) (on_of_contains w s m)))),
+      (all_of (λ s. IsBefore s r → product d s ≢ product d r) (points_of w)
+      (λ s m b e. before_not s r b (o r s (on_of_contains u r f.0) (on_of_contains w s m)))),
 )
 
 -- and in the right half where each point of the left one is less far than some point of the right one
 in_right : (u w : Tree) (d r : Pair) → IsFirstFarthest (points_of w) d r
-    → ((s : Pair) → On u s → (q : Pair) × On w q × (product d s <ℤ product d q)) → IsFirstFarthest (points_of u ++ points_of w) d r
+    → ((s : Pair) → On u s → (q : Pair) × On w q × (product d s <ℤ product d q))
+    → IsFirstFarthest (points_of u ++ points_of w) d r
 in_right u w d r f g =
     let less : (s : Pair) → Contains (points_of u) s → product d s <ℤ product d r = λ s m.
     let n : (q : Pair) × On w q × (product d s <ℤ product d q) = g s (on_of_contains u s m) in
-    let k : product d n.0 ≤ℤ product d r = All-contains (λ s. product d s ≤ℤ product d r) (points_of w) n.0 f.1 (contains_of_on w n.0 n.1) in
+    let k : product d n.0 ≤ℤ product d r =
+    All-contains (λ s. product d s ≤ℤ product d r) (points_of w) n.0 f.1 (contains_of_on w n.0 n.1) in
     let h : product d s <ℤ product d n.0 = n.2 in omega (arith, ints) in (
       Contains-append_right (points_of u) (points_of w) r f.0,
-      All-append (λ s. product d s ≤ℤ product d r) (points_of u) (points_of w) (all_of (λ s. product d s ≤ℤ product d r) (points_of u) (λ s m. let h = less s m in omega (arith, ints))) f.1,
+      All-append (λ s. product d s ≤ℤ product d r) (points_of u) (points_of w)
+          (all_of (λ s. product d s ≤ℤ product d r) (points_of u) (λ s m. let h = less s m in omega (arith, ints))) f.1,
       All-append (λ s. IsBefore s r → product d s ≢ product d r) (points_of u) (points_of w)
-          (all_of (λ s. IsBefore s r → product d s ≢ product d r) (points_of u) (λ s m b e. let h = less s m in omega (arith, ints))) f.2,
+          (all_of (λ s. IsBefore s r → product d s ≢ product d r) (points_of u)
+          (λ s m b e. let h = less s m in omega (arith, ints))) f.2,
     )
 
 -- not less far, told of the stored ends
 at_most : (d p q a b : Pair) → (p ≡ a) × (q ≡ b) → ¬ (product d p <ℤ product d q) → product d b ≤ℤ product d a
-at_most d p q a b e n = elim (le_or_lt (product d q) (product d p)) [ inl k ↦ rw (e.0, e.1) at k | inr k ↦ absurd (n k) ]
+at_most d p q a b e n =
+    elim (le_or_lt (product d q) (product d p)) [ inl k ↦ rw (e.0, e.1) at k | inr k ↦ absurd (n k) ]
 
 -- less far, told of the stored ends
 less_far : (d p q a b : Pair) → (p ≡ a) × (q ≡ b) → product d p <ℤ product d q → product d a <ℤ product d b
@@ -170,28 +221,54 @@ facing_fork d (Leaf x) e (inr h) = absurd (cc)
 facing_fork d (Fork e f u w) g h = tt
 
 -- the left end is not less far than the right one: to the left half
-pub farther_left : (d : Pair) (t : Tree) (p q : Pair) → IsBridged t → IsFacing d t (Some (p, q)) → ¬ (product d p <ℤ product d q) → IsFartherPart d t (left_of t)
+pub farther_left : (d : Pair) (t : Tree) (p q : Pair) → IsBridged t → IsFacing d t (Some (p, q))
+    → ¬ (product d p <ℤ product d q) → IsFartherPart d t (left_of t)
 farther_left d (Leaf x) p q h (inl g) k = absurd (cc)
 farther_left d (Leaf x) p q h (inr g) k = absurd (cc)
 farther_left d (Fork e f u w) p q h (inl g) k = record {
-  lifts = λ r a. in_left u w d r h.0 a (λ s i. (e.0, h.1.from_left, stays_up d e.0 e.1 s g.0 (h.0 e.0 e.1 h.1.from_left h.1.to_right) (h.0 e.0 s h.1.from_left i) (h.1.below_right s i) (at_most d p q _ _ (same_ends g.1) k)));
+  lifts = λ r a. in_left u w d r h.0 a
+      (λ s i. (
+        e.0,
+        h.1.from_left,
+        stays_up d e.0 e.1 s g.0 (h.0 e.0 e.1 h.1.from_left h.1.to_right) (h.0 e.0 s h.1.from_left i)
+            (h.1.below_right s i) (at_most d p q _ _ (same_ends g.1) k),
+      ));
   lower = omega arith;
 }
 farther_left d (Fork e f u w) p q h (inr g) k = record {
-  lifts = λ r a. in_left u w d r h.0 a (λ s i. (f.0, h.2.from_left, stays_down d f.0 f.1 s g.0 (h.0 f.0 f.1 h.2.from_left h.2.to_right) (h.0 f.0 s h.2.from_left i) (h.2.above_right s i) (at_most d p q _ _ (same_ends g.1) k)));
+  lifts = λ r a. in_left u w d r h.0 a
+      (λ s i. (
+        f.0,
+        h.2.from_left,
+        stays_down d f.0 f.1 s g.0 (h.0 f.0 f.1 h.2.from_left h.2.to_right) (h.0 f.0 s h.2.from_left i)
+            (h.2.above_right s i) (at_most d p q _ _ (same_ends g.1) k),
+      ));
   lower = omega arith;
 }
 
 -- the left end is less far than the right one: to the right half
-pub farther_right : (d : Pair) (t : Tree) (p q : Pair) → IsBridged t → IsFacing d t (Some (p, q)) → product d p <ℤ product d q → IsFartherPart d t (right_of t)
+pub farther_right : (d : Pair) (t : Tree) (p q : Pair) → IsBridged t → IsFacing d t (Some (p, q))
+    → product d p <ℤ product d q → IsFartherPart d t (right_of t)
 farther_right d (Leaf x) p q h (inl g) k = absurd (cc)
 farther_right d (Leaf x) p q h (inr g) k = absurd (cc)
 farther_right d (Fork e f u w) p q h (inl g) k = record {
-  lifts = λ r a. in_right u w d r a (λ s i. (e.1, h.1.to_right, goes_up d e.0 e.1 s g.0 (h.0 e.0 e.1 h.1.from_left h.1.to_right) (h.0 s e.1 i h.1.to_right) (h.1.below_left s i) (less_far d p q _ _ (same_ends g.1) k)));
+  lifts = λ r a. in_right u w d r a
+      (λ s i. (
+        e.1,
+        h.1.to_right,
+        goes_up d e.0 e.1 s g.0 (h.0 e.0 e.1 h.1.from_left h.1.to_right) (h.0 s e.1 i h.1.to_right)
+            (h.1.below_left s i) (less_far d p q _ _ (same_ends g.1) k),
+      ));
   lower = omega arith;
 }
 farther_right d (Fork e f u w) p q h (inr g) k = record {
-  lifts = λ r a. in_right u w d r a (λ s i. (f.1, h.2.to_right, goes_down d f.0 f.1 s g.0 (h.0 f.0 f.1 h.2.from_left h.2.to_right) (h.0 s f.1 i h.2.to_right) (h.2.above_left s i) (less_far d p q _ _ (same_ends g.1) k)));
+  lifts = λ r a. in_right u w d r a
+      (λ s i. (
+        f.1,
+        h.2.to_right,
+        goes_down d f.0 f.1 s g.0 (h.0 f.0 f.1 h.2.from_left h.2.to_right) (h.0 s f.1 i h.2.to_right)
+            (h.2.above_left s i) (less_far d p q _ _ (same_ends g.1) k),
+      ));
   lower = omega arith;
 }
 
@@ -199,8 +276,12 @@ farther_right d (Fork e f u w) p q h (inr g) k = record {
 pub farthest_alone : (t : Tree) (d p : Pair) → edge_of t ≡ None → p ≡ first_of t → IsFirstFarthest (points_of t) d p
 farthest_alone (Fork e f u w) d p n k = absurd (cc)
 farthest_alone (Leaf x) d p n k =
-    let one : (P : Pair → Type 0) → P p → All P (x ∷ []) = λ P y. all_of P (x ∷ []) (λ t m. rw (on_of_contains (Leaf x) t m, ← k) y) in
-    (contains_of_on (Leaf x) p k, one (λ s. product d s ≤ℤ product d p) (omega (arith, ints)), one (λ s. IsBefore s p → product d s ≢ product d p) (λ b e. before_irrefl p b))
+    let one : (P : Pair → Type 0) → P p → All P (x ∷ []) =
+    λ P y. all_of P (x ∷ []) (λ t m. rw (on_of_contains (Leaf x) t m, ← k) y) in (
+      contains_of_on (Leaf x) p k,
+      one (λ s. product d s ≤ℤ product d p) (omega (arith, ints)),
+      one (λ s. IsBefore s p → product d s ≢ product d p) (λ b e. before_irrefl p b),
+    )
 
 -- one point lies no fork deep
 pub depth_alone : (t : Tree) (p : Pair) → edge_of t ≡ None → p ≡ first_of t → IsAtDepth t p 0

@@ -25,12 +25,23 @@ use Rattle.hull_questions.specs.declared.sights.Sight.TheVariants.{Before, After
 -- before the first point is before all
 pub before_all : (t : Tree) (q : Pair) → IsBridged t → IsBefore q (first_of t) → All (IsBefore q) (points_of t)
 before_all t q h b = all_of (IsBefore q) (points_of t) (λ s m.
-    elim (before_total (first_of t) s) [ inl k ↦ before_trans q (first_of t) s b k | inr (inl e) ↦ subst (IsBefore q) e b | inr (inr k) ↦ absurd (first_by t h s (on_of_contains t s m) k) ])
+    elim (before_total (first_of t) s) [
+      | inl k ↦ before_trans q (first_of t) s b k
+      | inr (inl e) ↦ subst (IsBefore q) e b
+      | inr (inr k) ↦
+          absurd (first_by t h s (on_of_contains t s m) k)
+    ])
 
 -- after the last point is after all
 pub after_all : (t : Tree) (q : Pair) → IsBridged t → IsBefore (last_of t) q → All (λ s. IsBefore s q) (points_of t)
 after_all t q h b = all_of (λ s. IsBefore s q) (points_of t) (λ s m.
-    elim (before_total s (last_of t)) [ inl k ↦ before_trans s (last_of t) q k b | inr (inl e) ↦ subst (λ (z : Pair). IsBefore z q) (sym e) b | inr (inr k) ↦ absurd (last_by t h s (on_of_contains t s m) k) ])
+    elim (before_total s (last_of t)) [
+      | inl k ↦ before_trans s (last_of t) q k b
+      | inr (inl e) ↦
+          subst (λ (z : Pair). IsBefore z q) (sym e) b
+      | inr (inr k) ↦
+          absurd (last_by t h s (on_of_contains t s m) k)
+    ])
 
 -- a point before all lies outside
 pub outside_before : (t : Tree) (q : Pair) → IsBridged t → IsBefore q (first_of t) → IsOutside (points_of t) q
@@ -50,26 +61,35 @@ outside_above S q (c, d, e, h) = right_outside S c d q e.left h
 
 -- a point before the first is before the last
 pub before_last : (t : Tree) (q : Pair) → IsBridged t → IsBefore q (first_of t) → IsBefore q (last_of t)
-before_last t q h b = All-contains (IsBefore q) (points_of t) (last_of t) (before_all t q h b) (contains_of_on t (last_of t) (on_last t))
+before_last t q h b =
+    All-contains (IsBefore q) (points_of t) (last_of t) (before_all t q h b) (contains_of_on t (last_of t) (on_last t))
 
 -- a point after the last is after the first
 pub after_first : (t : Tree) (q : Pair) → IsBridged t → IsBefore (last_of t) q → IsBefore (first_of t) q
-after_first t q h b = All-contains (λ s. IsBefore s q) (points_of t) (first_of t) (after_all t q h b) (contains_of_on t (first_of t) (on_first t))
+after_first t q h b =
+    All-contains (λ s. IsBefore s q) (points_of t) (first_of t) (after_all t q h b)
+    (contains_of_on t (first_of t) (on_first t))
 
 -- the first point lies on the boundary
-pub touching_first : (t : Tree) (q : Pair) → IsBridged t → ¬ (IsBefore q (first_of t)) → ¬ (IsBefore (first_of t) q) → IsOnBoundary (points_of t) q
+pub touching_first : (t : Tree) (q : Pair) → IsBridged t → ¬ (IsBefore q (first_of t)) → ¬ (IsBefore (first_of t) q)
+    → IsOnBoundary (points_of t) q
 touching_first t q h n m =
     let e : first_of t ≡ q = equal_by (first_of t) q m n in (
       Member (subst (Contains (points_of t)) e (contains_of_on t (first_of t) (on_first t))),
-      outer_first (points_of t) q (all_of (λ s. ¬ (IsBefore s q)) (points_of t) (λ s i b. first_by t h s (on_of_contains t s i) (subst (IsBefore s) (sym e) b))),
+      outer_first (points_of t) q
+          (all_of (λ s. ¬ (IsBefore s q)) (points_of t)
+          (λ s i b. first_by t h s (on_of_contains t s i) (subst (IsBefore s) (sym e) b))),
     )
 
 -- the last point lies on the boundary
-pub touching_last : (t : Tree) (q : Pair) → IsBridged t → ¬ (IsBefore (last_of t) q) → ¬ (IsBefore q (last_of t)) → IsOnBoundary (points_of t) q
+pub touching_last : (t : Tree) (q : Pair) → IsBridged t → ¬ (IsBefore (last_of t) q) → ¬ (IsBefore q (last_of t))
+    → IsOnBoundary (points_of t) q
 touching_last t q h n m =
     let e : last_of t ≡ q = equal_by (last_of t) q n m in (
       Member (subst (Contains (points_of t)) e (contains_of_on t (last_of t) (on_last t))),
-      outer_last (points_of t) q (all_of (λ s. ¬ (IsBefore q s)) (points_of t) (λ s i b. last_by t h s (on_of_contains t s i) (subst (λ (z : Pair). IsBefore z s) (sym e) b))),
+      outer_last (points_of t) q
+          (all_of (λ s. ¬ (IsBefore q s)) (points_of t)
+          (λ s i b. last_by t h s (on_of_contains t s i) (subst (λ (z : Pair). IsBefore z s) (sym e) b))),
     )
 
 -- a number at least 0 that is at most 0
@@ -81,7 +101,8 @@ not_start : (c d q : Pair) → c ≡ q → pos 0 <ℤ orient c d q → ⊥
 not_start c d q e h = let z : orient c d q ≡ pos 0 = ap (orient c d) (sym e) ∙ orient_start c d in omega (arith, ints)
 
 -- on the inner side of both edges at q, or on them: covered
-covered_at : (S : List Pair) (q : Pair) (e f : Pair × Pair) → IsLowerEdgeAt S q e → IsUpperEdgeAt S q f → pos 0 ≤ℤ orient e.0 e.1 q → pos 0 ≤ℤ orient f.0 f.1 q → Covers S q
+covered_at : (S : List Pair) (q : Pair) (e f : Pair × Pair) → IsLowerEdgeAt S q e → IsUpperEdgeAt S q f
+    → pos 0 ≤ℤ orient e.0 e.1 q → pos 0 ≤ℤ orient f.0 f.1 q → Covers S q
 covered_at S q e f k l low high =
     elim (before_total e.0 q) [
       | inr (inr b) ↦ absurd (k.starts b)
@@ -94,7 +115,8 @@ covered_at S q e f k l low high =
     ]
 
 -- on the inner side of both edges at q: inside
-inside_at : (S : List Pair) (q : Pair) (e f : Pair × Pair) → IsLowerEdgeAt S q e → IsUpperEdgeAt S q f → pos 0 <ℤ orient e.0 e.1 q → pos 0 <ℤ orient f.0 f.1 q → IsInside S q
+inside_at : (S : List Pair) (q : Pair) (e f : Pair × Pair) → IsLowerEdgeAt S q e → IsUpperEdgeAt S q f
+    → pos 0 <ℤ orient e.0 e.1 q → pos 0 <ℤ orient f.0 f.1 q → IsInside S q
 inside_at S q e f k l low high =
     elim (before_total e.0 q) [
       | inr (inr b) ↦ absurd (k.starts b)
@@ -107,15 +129,20 @@ inside_at S q e f k l low high =
     ]
 
 -- on the line of one of the edges at q: outer
-outer_at : (S : List Pair) (q : Pair) (e f : Pair × Pair) → IsLowerEdgeAt S q e → IsUpperEdgeAt S q f → pos 0 ≤ℤ orient e.0 e.1 q → pos 0 ≤ℤ orient f.0 f.1 q → (orient e.0 e.1 q ≤ℤ pos 0) ⊎ (orient f.0 f.1 q ≤ℤ pos 0) → IsOuter S q
+outer_at : (S : List Pair) (q : Pair) (e f : Pair × Pair) → IsLowerEdgeAt S q e → IsUpperEdgeAt S q f
+    → pos 0 ≤ℤ orient e.0 e.1 q → pos 0 ≤ℤ orient f.0 f.1 q → (orient e.0 e.1 q ≤ℤ pos 0) ⊎ (orient f.0 f.1 q ≤ℤ pos 0)
+    → IsOuter S q
 outer_at S q e f k l low high (inl h) = on_line_outer S e.0 e.1 q (inl k.edge.forward) k.edge.left (zero_of _ low h)
 outer_at S q e f k l low high (inr h) = on_line_outer S f.0 f.1 q (inr l.edge.backward) l.edge.left (zero_of _ high h)
 
 -- by the sides of the two edges at q
-pub seen_by : (t : Tree) (q : Pair) (e f : Pair × Pair) (s : Sight) → IsBetweenEnds t q → IsLowerEdgeAt (points_of t) q e → IsUpperEdgeAt (points_of t) q f → IsSightBy (orient e.0 e.1 q) (orient f.0 f.1 q) s → IsSeen t q s
+pub seen_by : (t : Tree) (q : Pair) (e f : Pair × Pair) (s : Sight) → IsBetweenEnds t q
+    → IsLowerEdgeAt (points_of t) q e → IsUpperEdgeAt (points_of t) q f
+    → IsSightBy (orient e.0 e.1 q) (orient f.0 f.1 q) s → IsSeen t q s
 seen_by t q e f Before i k l h = absurd h
 seen_by t q e f After i k l h = absurd h
 seen_by t q e f Below i k l h = (i, (e.0, e.1, k.edge, h))
 seen_by t q e f Above i k l h = (i, (f.0, f.1, l.edge, h))
-seen_by t q e f Touching i k l h = (covered_at (points_of t) q e f k l h.0 h.1, outer_at (points_of t) q e f k l h.0 h.1 h.2)
+seen_by t q e f Touching i k l h =
+    (covered_at (points_of t) q e f k l h.0 h.1, outer_at (points_of t) q e f k l h.0 h.1 h.2)
 seen_by t q e f Within i k l h = inside_at (points_of t) q e f k l h.0 h.1

@@ -16,14 +16,25 @@ use Rattle.hull_questions.specs.Chains.{IsBeforeEnd, IsAfterStart, IsLowerEdgeAt
 -- a turn keeps the side
 pub turned_side : (a b t : Pair) → orient a b (turned_point t) ≡ orient (turned_point a) (turned_point b) t
 unfolding orient
-turned_side a b t = rw (as_difference a.x, as_difference a.y, as_difference b.x, as_difference b.y, as_difference t.x, as_difference t.y) (simp (difference-add, difference-neg, difference-mul) (difference-eq _ _ _ _ (omega arith)))
+turned_side a b t = rw (
+  as_difference a.x,
+  as_difference a.y,
+  as_difference b.x,
+  as_difference b.y,
+  as_difference t.x,
+  as_difference t.y,
+) (simp (difference-add, difference-neg, difference-mul) (difference-eq _ _ _ _ (omega arith)))
 
 -- what holds of all points of the turned half holds of each point of the half, turned
-pub turned_all : (t : Tree) (P : Pair → Type 0) → All P (points_of (turned_tree t)) → All (λ s. P (turned_point s)) (points_of t)
-turned_all t P h = all_of (λ s. P (turned_point s)) (points_of t) (λ s m. All-contains P (points_of (turned_tree t)) (turned_point s) h (contains_of_on (turned_tree t) (turned_point s) (turned_on t s (on_of_contains t s m))))
+pub turned_all : (t : Tree) (P : Pair → Type 0) → All P (points_of (turned_tree t))
+    → All (λ s. P (turned_point s)) (points_of t)
+turned_all t P h = all_of (λ s. P (turned_point s)) (points_of t)
+    (λ s m. All-contains P (points_of (turned_tree t)) (turned_point s) h
+    (contains_of_on (turned_tree t) (turned_point s) (turned_on t s (on_of_contains t s m))))
 
 -- a point of the turned half is, turned, a point of the half
-pub turned_member : (t : Tree) (p : Pair) → Contains (points_of (turned_tree t)) p → Contains (points_of t) (turned_point p)
+pub turned_member : (t : Tree) (p : Pair) → Contains (points_of (turned_tree t)) p
+    → Contains (points_of t) (turned_point p)
 turned_member t p m = contains_of_on t (turned_point p) (on_turned t p (on_of_contains (turned_tree t) p m))
 
 -- a turn reverses the order
@@ -37,7 +48,9 @@ turned_before p q (inl h) = inl (omega (arith, ints))
 turned_before p q (inr h) = inr (omega (arith, ints, h.0), omega (arith, ints, h.1))
 
 -- the lower edge of the turned half at a turned point is, turned, the upper edge at the point
-pub upper_of_turned : (t : Tree) (v : Pair) (e : Pair × Pair) → IsLowerEdgeAt (points_of (turned_tree t)) (turned_point v) e → IsUpperEdgeAt (points_of t) v (turned_point e.0, turned_point e.1)
+pub upper_of_turned : (t : Tree) (v : Pair) (e : Pair × Pair)
+    → IsLowerEdgeAt (points_of (turned_tree t)) (turned_point v) e
+    → IsUpperEdgeAt (points_of t) v (turned_point e.0, turned_point e.1)
 upper_of_turned t v e k =
     let c : Pair = e.0 in
     let d : Pair = e.1 in
@@ -46,9 +59,12 @@ upper_of_turned t v e k =
         from = turned_member t c k.edge.from;
         to = turned_member t d k.edge.to;
         backward = turned_order c d k.edge.forward;
-        left = All-weaker (λ s. pos 0 ≤ℤ orient c d (turned_point s)) (λ s. pos 0 ≤ℤ orient (turned_point c) (turned_point d) s) (λ s h. at_least _ _ (turned_side c d s) h) (points_of t)
+        left = All-weaker (λ s. pos 0 ≤ℤ orient c d (turned_point s))
+            (λ s. pos 0 ≤ℤ orient (turned_point c) (turned_point d) s) (λ s h. at_least _ _ (turned_side c d s) h)
+            (points_of t)
             (turned_all t (λ s. pos 0 ≤ℤ orient c d s) k.edge.left);
-        last = All-weaker (λ s. orient c d (turned_point s) ≡ pos 0 → ¬ (IsBefore d (turned_point s))) (λ s. orient (turned_point c) (turned_point d) s ≡ pos 0 → ¬ (IsBefore s (turned_point d)))
+        last = All-weaker (λ s. orient c d (turned_point s) ≡ pos 0 → ¬ (IsBefore d (turned_point s)))
+            (λ s. orient (turned_point c) (turned_point d) s ≡ pos 0 → ¬ (IsBefore s (turned_point d)))
             (λ s h z b. h (turned_side c d s ∙ z) (before_turned_back s d b)) (points_of t)
             (turned_all t (λ s. orient c d s ≡ pos 0 → ¬ (IsBefore d s)) k.edge.last);
       };

@@ -1,4 +1,5 @@
--- A point before all, after all, below a lower edge or above an upper edge lies below the points, or above them, or both.
+-- A point before all, after all, below a lower edge or above an upper edge lies below the points, or above them, or
+-- both.
 use Rattle.std.proofs.Common.{◌≡◌, ℤ, pos, ◌-ℤ◌, ◌≤ℤ◌, ◌<ℤ◌, neg_ℤ, List, arith}
 use Rattle.std.specs.List.{All, Contains}
 use Rattle.std.proofs.lemmas.Int.{ints}
@@ -62,7 +63,9 @@ below_by_edge S q (c, d, e, h) = record {
   under = λ s t m n b k.
       let low : pos 0 <ℤ cross (minus q s) (minus d c) = apart _ _ _ (side_less c d q s) (over s m) h in
       let high : pos 0 <ℤ cross (minus d c) (minus t q) = apart _ _ _ (side_more c d q t) (over t n) h in
-      negative _ _ _ (orient_swap s t q) (side_after s q t) (turn_trans_strict (minus q s) (minus d c) (minus t q) (ahead_of s q b) (ahead_of c d e.forward) (ahead_of q t k) low (weak _ high));
+      negative _ _ _ (orient_swap s t q) (side_after s q t)
+      (turn_trans_strict (minus q s) (minus d c) (minus t q) (ahead_of s q b) (ahead_of c d e.forward)
+      (ahead_of q t k) low (weak _ high));
 }
   where
     over : (t : Pair) → Contains S t → pos 0 ≤ℤ orient c d t
@@ -71,12 +74,32 @@ below_by_edge S q (c, d, e, h) = record {
 -- the same differences, by the step back along the edge
 back_more : (c d q t : Pair) → orient c d t -ℤ orient c d q ≡ cross (minus t q) (minus c d)
 unfolding orient
-back_more c d q t = rw (as_difference c.x, as_difference c.y, as_difference d.x, as_difference d.y, as_difference q.x, as_difference q.y, as_difference t.x, as_difference t.y) (simp (difference-add, difference-neg, difference-mul) (difference-eq _ _ _ _ (omega arith)))
+back_more c d q t = rw (
+  as_difference c.x,
+  as_difference c.y,
+  as_difference d.x,
+  as_difference d.y,
+  as_difference q.x,
+  as_difference q.y,
+  as_difference t.x,
+  as_difference t.y,
+)
+    (simp (difference-add, difference-neg, difference-mul) (difference-eq _ _ _ _ (omega arith)))
 
 -- the same by the step from the point
 back_less : (c d q s : Pair) → orient c d s -ℤ orient c d q ≡ cross (minus c d) (minus q s)
 unfolding orient
-back_less c d q s = rw (as_difference c.x, as_difference c.y, as_difference d.x, as_difference d.y, as_difference q.x, as_difference q.y, as_difference s.x, as_difference s.y) (simp (difference-add, difference-neg, difference-mul) (difference-eq _ _ _ _ (omega arith)))
+back_less c d q s = rw (
+  as_difference c.x,
+  as_difference c.y,
+  as_difference d.x,
+  as_difference d.y,
+  as_difference q.x,
+  as_difference q.y,
+  as_difference s.x,
+  as_difference s.y,
+)
+    (simp (difference-add, difference-neg, difference-mul) (difference-eq _ _ _ _ (omega arith)))
 
 -- above an upper edge: above
 pub above_by_edge : (S : List Pair) (q : Pair) → IsAboveEdge S q → IsAbove S q
@@ -86,7 +109,8 @@ above_by_edge S q (c, d, e, h) = record {
       let low : pos 0 <ℤ cross (minus c d) (minus q s) = apart _ _ _ (back_less c d q s) (under s m) h in
       let high : pos 0 <ℤ cross (minus t q) (minus c d) = apart _ _ _ (back_more c d q t) (under t n) h in
       positive _ _ _ _ (orient_swap s t q) (side_after s q t) (cross_swap (minus t q) (minus q s))
-      (turn_trans_strict (minus t q) (minus c d) (minus q s) (ahead_of q t k) (ahead_of d c e.backward) (ahead_of s q b) high (weak _ low));
+      (turn_trans_strict (minus t q) (minus c d) (minus q s) (ahead_of q t k) (ahead_of d c e.backward)
+      (ahead_of s q b) high (weak _ low));
 }
   where
     under : (t : Pair) → Contains S t → pos 0 ≤ℤ orient c d t

@@ -20,7 +20,8 @@ small_low p None = omega arith
 small_low p (Some q) = omega arith
 
 -- what holds of all points of both halves holds of all points of the two together
-pub joined_fits : {A : Type 0} (P : Pair → Type 0) (tree : A → Tree) → ((x : A) (p : Pair) → On (tree x) p → P p) → (u : A) (w : Option A) (e f : Pair × Pair) (p : Pair) → On (joined_tree (tree u) (option_map tree w) e f) p → P p
+pub joined_fits : {A : Type 0} (P : Pair → Type 0) (tree : A → Tree) → ((x : A) (p : Pair) → On (tree x) p → P p)
+    → (u : A) (w : Option A) (e f : Pair × Pair) (p : Pair) → On (joined_tree (tree u) (option_map tree w) e f) p → P p
 joined_fits P tree all u None e f p i = all u p i
 joined_fits P tree all u (Some w) e f p (inl i) = all u p i
 joined_fits P tree all u (Some w) e f p (inr i) = all w p i

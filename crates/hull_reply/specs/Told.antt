@@ -54,19 +54,23 @@ code_number code.Ended = 51
 
 -- a code, and nothing beside it
 abbrev pub IsBare : Code → HullReply → Type 0
-IsBare c r = r ≡ record { code = code_number c; x = pos 0; y = pos 0; other_x = pos 0; other_y = pos 0; number = 0; high = 0 }
+IsBare c r = r ≡ record
+    { code = code_number c; x = pos 0; y = pos 0; other_x = pos 0; other_y = pos 0; number = 0; high = 0 }
 
 -- a code with a number
 abbrev pub IsNumber : Code → ℕ → HullReply → Type 0
-IsNumber c n r = r ≡ record { code = code_number c; x = pos 0; y = pos 0; other_x = pos 0; other_y = pos 0; number = n; high = 0 }
+IsNumber c n r = r ≡ record
+    { code = code_number c; x = pos 0; y = pos 0; other_x = pos 0; other_y = pos 0; number = n; high = 0 }
 
 -- a point
 abbrev pub IsPoint : Pair → HullReply → Type 0
-IsPoint p r = r ≡ record { code = code_number code.Point; x = p.x; y = p.y; other_x = pos 0; other_y = pos 0; number = 0; high = 0 }
+IsPoint p r = r ≡ record
+    { code = code_number code.Point; x = p.x; y = p.y; other_x = pos 0; other_y = pos 0; number = 0; high = 0 }
 
 -- two tangent points
 abbrev pub AreTangents : Pair → Pair → HullReply → Type 0
-AreTangents p q r = r ≡ record { code = code_number code.Tangents; x = p.x; y = p.y; other_x = q.x; other_y = q.y; number = 0; high = 0 }
+AreTangents p q r = r
+    ≡ record { code = code_number code.Tangents; x = p.x; y = p.y; other_x = q.x; other_y = q.y; number = 0; high = 0 }
 
 -- a number of 128 bits in two words
 abbrev pub IsWide : ℕ → HullReply → Type 0

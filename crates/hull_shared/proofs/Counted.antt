@@ -4,7 +4,8 @@ use Rattle.std.specs.Prelude.{◌≢◌}
 use Rattle.hull_plain.specs.Held.{Held}
 use Rattle.hull_plain.specs.Replies.{Answers}
 use Rattle.hull_plain.specs.declared.call.Call.{Call}
-use Rattle.hull_plain.specs.declared.call.Call.TheVariants.{Add, Remove, Extreme, Place, Tangents, Vertices, Area, Count}
+use Rattle.hull_plain.specs.declared.call.Call.TheVariants.{Add, Remove, Extreme, Place, Tangents, Vertices, Area}
+use Rattle.hull_plain.specs.declared.call.Call.TheVariants.{Count}
 use Rattle.hull_plain.specs.declared.reply.Reply.{Reply}
 use Rattle.hull_plain.specs.declared.reply.Reply.TheVariants.{Already}
 use Rattle.hull_plain.specs.declared.rules.Rules.{Rules}
@@ -22,5 +23,7 @@ not_already held limit Area h = h
 not_already held limit Count h = h
 
 -- no reply that is allowed is `already`
-pub never_already : (held : Held) (limit : ℕ) (call : Call) (reply : Reply) → Answers Counted held limit call reply → reply ≢ Already
-never_already held limit call reply h = λ e. not_already held limit call (subst (λ (r : Reply). Answers Counted held limit call r) e h)
+pub never_already : (held : Held) (limit : ℕ) (call : Call) (reply : Reply) → Answers Counted held limit call reply
+    → reply ≢ Already
+never_already held limit call reply h =
+    λ e. not_already held limit call (subst (λ (r : Reply). Answers Counted held limit call r) e h)

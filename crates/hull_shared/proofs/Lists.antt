@@ -1,5 +1,6 @@
 -- Lists place by place: a member more at the end, and another in a place.
-use Rattle.std.proofs.Common.{◌≡◌, ◌⊎◌, inl, inr, ◌<◌, ◌≤◌, ◌+◌, ℕ, zero, suc, List, [], ◌∷◌, ◌++◌, length, refl, sym, ap, subst, arith, Some, slice_get}
+use Rattle.std.proofs.Common.{◌≡◌, ◌⊎◌, inl, inr, ◌<◌, ◌≤◌, ◌+◌, ℕ, zero, suc, List, [], ◌∷◌, ◌++◌, length, refl, sym}
+use Rattle.std.proofs.Common.{ap, subst, arith, Some, slice_get}
 use Rattle.std.specs.Prelude.{Option, None, slice_set}
 
 -- at most, and then the same or more
@@ -7,7 +8,9 @@ pub same_or_more : (m j : ℕ) → m ≤ j → (j ≡ m) ⊎ (m + 1 ≤ j)
 same_or_more zero zero h = inl refl
 same_or_more zero (suc j) h = inr (omega arith)
 same_or_more (suc m) zero h = absurd (omega arith)
-same_or_more (suc m) (suc j) h = elim (same_or_more m j (omega arith)) as (λ _. (suc j ≡ suc m) ⊎ (suc m + 1 ≤ suc j)) [ inl e ↦ inl (ap suc e) | inr more ↦ inr (omega arith) ]
+same_or_more (suc m) (suc j) h =
+    elim (same_or_more m j (omega arith)) as (λ _. (suc j ≡ suc m) ⊎ (suc m + 1 ≤ suc j))
+    [ inl e ↦ inl (ap suc e) | inr more ↦ inr (omega arith) ]
 
 module _ {A : Type 0} where
   -- what stands in a place stands there with one member more
@@ -22,20 +25,29 @@ module _ {A : Type 0} where
   get_last (y ∷ xs) x = get_last xs x
 
   -- with one member more, in each place stands what stood there, or in the last one the new one
-  pub get_pushed : (xs : List A) (x : A) (i : ℕ) (a : A) → slice_get (xs ++ x ∷ []) i ≡ Some a → (slice_get xs i ≡ Some a) ⊎ ((i ≡ length xs) × (a ≡ x))
+  pub get_pushed : (xs : List A) (x : A) (i : ℕ) (a : A) → slice_get (xs ++ x ∷ []) i ≡ Some a
+      → (slice_get xs i ≡ Some a) ⊎ ((i ≡ length xs) × (a ≡ x))
   get_pushed [] x zero a at = inr (refl, cc)
   get_pushed [] x (suc i) a at = cc
   get_pushed (y ∷ xs) x zero a at = inl at
-  get_pushed (y ∷ xs) x (suc i) a at = elim (get_pushed xs x i a at) as (λ _. (slice_get xs i ≡ Some a) ⊎ ((suc i ≡ suc (length xs)) × (a ≡ x))) [ inl old ↦ inl old | inr new ↦ inr (ap suc new.0, new.1) ]
+  get_pushed (y ∷ xs) x (suc i) a at =
+      elim (get_pushed xs x i a at) as (λ _. (slice_get xs i ≡ Some a) ⊎ ((suc i ≡ suc (length xs)) × (a ≡ x)))
+      [ inl old ↦ inl old | inr new ↦ inr (ap suc new.0, new.1) ]
 
   -- before the new member stands what stood there
-  pub get_before : (xs : List A) (x : A) (i : ℕ) (a : A) → slice_get (xs ++ x ∷ []) i ≡ Some a → i < length xs → slice_get xs i ≡ Some a
-  get_before xs x i a at lt = elim (get_pushed xs x i a at) as (λ _. slice_get xs i ≡ Some a) [ inl old ↦ old | inr new ↦ absurd (let e : i ≡ length xs = new.0 in omega arith) ]
+  pub get_before : (xs : List A) (x : A) (i : ℕ) (a : A) → slice_get (xs ++ x ∷ []) i ≡ Some a → i < length xs
+      → slice_get xs i ≡ Some a
+  get_before xs x i a at lt =
+      elim (get_pushed xs x i a at) as (λ _. slice_get xs i ≡ Some a)
+      [ inl old ↦ old | inr new ↦ absurd (let e : i ≡ length xs = new.0 in omega arith) ]
 
   -- with another member in one place, in each place stands what stood there, or there the new one
-  pub get_set : (xs : List A) (j : ℕ) (v : A) (i : ℕ) (a : A) → slice_get (slice_set xs j v) i ≡ Some a → ((i ≡ j) × (a ≡ v)) ⊎ (slice_get xs i ≡ Some a)
+  pub get_set : (xs : List A) (j : ℕ) (v : A) (i : ℕ) (a : A) → slice_get (slice_set xs j v) i ≡ Some a
+      → ((i ≡ j) × (a ≡ v)) ⊎ (slice_get xs i ≡ Some a)
   get_set [] j v i a at = inr at
   get_set (x ∷ xs) zero v zero a at = inl (refl, cc)
   get_set (x ∷ xs) zero v (suc i) a at = inr at
   get_set (x ∷ xs) (suc j) v zero a at = inr at
-  get_set (x ∷ xs) (suc j) v (suc i) a at = elim (get_set xs j v i a at) as (λ _. ((suc i ≡ suc j) × (a ≡ v)) ⊎ (slice_get xs i ≡ Some a)) [ inl new ↦ inl (ap suc new.0, new.1) | inr old ↦ inr old ]
+  get_set (x ∷ xs) (suc j) v (suc i) a at =
+      elim (get_set xs j v i a at) as (λ _. ((suc i ≡ suc j) × (a ≡ v)) ⊎ (slice_get xs i ≡ Some a))
+      [ inl new ↦ inl (ap suc new.0, new.1) | inr old ↦ inr old ]

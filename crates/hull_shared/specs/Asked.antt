@@ -25,11 +25,14 @@ AreCoordinates x y = IsCoordinate x × IsCoordinate y
 
 -- the two numbers are a point, or one of them is no coordinate
 abbrev pub IsPointOf : ℤ → ℤ → Result Pair Code → Type 0
-IsPointOf x y r = MatchResult r (λ p. AreCoordinates x y × (p ≡ record { x = x; y = y })) (λ fault. ¬ AreCoordinates x y × (fault ≡ OutOfRange))
+IsPointOf x y r = MatchResult r (λ p. AreCoordinates x y × (p ≡ record { x = x; y = y }))
+    (λ fault. ¬ AreCoordinates x y × (fault ≡ OutOfRange))
 
 -- the call at the point of the two numbers, or why there is none
 abbrev pub IsPointCall : (Pair → Call) → ℤ → ℤ → Result Call Code → Type 0
-IsPointCall make x y r = MatchResult r (λ c. AreCoordinates x y × (c ≡ make (record { x = x; y = y }))) (λ fault. ¬ AreCoordinates x y × (fault ≡ OutOfRange))
+IsPointCall make x y r =
+    MatchResult r (λ c. AreCoordinates x y × (c ≡ make (record { x = x; y = y })))
+    (λ fault. ¬ AreCoordinates x y × (fault ≡ OutOfRange))
 
 -- the question along the direction of the two numbers, or why there is none
 abbrev pub IsDirectionCall : ℤ → ℤ → Result Call Code → Type 0
@@ -37,7 +40,8 @@ IsDirectionCall x y r = MatchResult r
     (λ c. AreCoordinates x y × ¬ ((x ≡ pos 0) × (y ≡ pos 0)) × (c ≡ call.Extreme (record { x = x; y = y })))
     (λ fault. (¬ AreCoordinates x y × (fault ≡ OutOfRange)) ⊎ (((x ≡ pos 0) × (y ≡ pos 0)) × (fault ≡ ZeroDirection)))
 
--- the call of a kind, or why there is none; where the kind asks for no point and no direction, the two numbers are not read
+-- the call of a kind, or why there is none; where the kind asks for no point and no direction, the two numbers are not
+-- read
 abbrev pub IsCallOf : Kind → ℤ → ℤ → Result Call Code → Type 0
 IsCallOf kind.Add x y r = IsPointCall call.Add x y r
 IsCallOf kind.Remove x y r = IsPointCall call.Remove x y r
@@ -50,4 +54,6 @@ IsCallOf kind.Count x y r = r ≡ Ok call.Count
 
 -- the call of the kind with this number, or why there is none
 abbrev pub IsAsked : ℕ → ℤ → ℤ → Result Call Code → Type 0
-IsAsked number x y r = ((k : Kind) × (kind_number k ≡ number) × IsCallOf k x y r) ⊎ (((k : Kind) → kind_number k ≢ number) × (r ≡ Err UnknownKind))
+IsAsked number x y r =
+    ((k : Kind) × (kind_number k ≡ number) × IsCallOf k x y r)
+    ⊎ (((k : Kind) → kind_number k ≢ number) × (r ≡ Err UnknownKind))

@@ -1,5 +1,6 @@
 -- What the calls on a desk come to.
-use Rattle.std.specs.Prelude.{◌≡◌, ◌⊎◌, ◌+◌, ◌≤◌, ◌<◌, ◌++◌, ℕ, List, [], length, drop, Option, Some, None, IsSome, slice_get, slice_set, Result, Ok, Err, MatchResult}
+use Rattle.std.specs.Prelude.{◌≡◌, ◌⊎◌, ◌+◌, ◌≤◌, ◌<◌, ◌++◌, ℕ, List, [], length, drop, Option, Some, None, IsSome}
+use Rattle.std.specs.Prelude.{slice_get, slice_set, Result, Ok, Err, MatchResult}
 use Rattle.std.specs.List.{All}
 use mathlib.Core.List.{IsPrefix}
 use Rattle.hull_book.specs.Books.{BookValue, opened_book}
@@ -91,7 +92,8 @@ ComesTo room told (Err fault) = (room ≡ seat.Vacant) × (told ≡ code_number 
 
 -- a seat is asked for: of an open desk, into a vacant room; else nothing changed
 abbrev pub HasLent : ℕ → Desk → Desk → SharedSeat → SharedSeat → ℕ → Type 0
-HasLent number (Open d) new seat.Vacant room told = (e : OpenDesk) × (r : Result IdleSeat Code) × Lends number d e r × (new ≡ Open e) × ComesTo room told r
+HasLent number (Open d) new seat.Vacant room told =
+    (e : OpenDesk) × (r : Result IdleSeat Code) × Lends number d e r × (new ≡ Open e) × ComesTo room told r
 HasLent number (Open d) new old room told = (new ≡ Open d) × (room ≡ old) × (told ≡ code_number code.RoomInUse)
 HasLent number old new was room told = (new ≡ old) × (room ≡ was) × (told ≡ code_number code.NotOpen)
 
@@ -120,9 +122,12 @@ IsLeftWith room told (Some left) = (room ≡ seat.Idle left) × (told ≡ code_n
 
 -- a seat is given back: to an open desk, and only if it has no number; else nothing changed
 abbrev pub HasReturned : Desk → Desk → SharedSeat → SharedSeat → ℕ → Type 0
-HasReturned (Open d) new (seat.Idle i) room told = (e : OpenDesk) × (left : Option IdleSeat) × TakesBack d i e left × (new ≡ Open e) × IsLeftWith room told left
-HasReturned (Open d) new seat.Vacant room told = (new ≡ Open d) × (room ≡ seat.Vacant) × (told ≡ code_number code.Vacant)
-HasReturned (Open d) new (seat.Waiting w) room told = (new ≡ Open d) × (room ≡ seat.Waiting w) × (told ≡ code_number code.Waiting)
+HasReturned (Open d) new (seat.Idle i) room told =
+    (e : OpenDesk) × (left : Option IdleSeat) × TakesBack d i e left × (new ≡ Open e) × IsLeftWith room told left
+HasReturned (Open d) new seat.Vacant room told =
+    (new ≡ Open d) × (room ≡ seat.Vacant) × (told ≡ code_number code.Vacant)
+HasReturned (Open d) new (seat.Waiting w) room told =
+    (new ≡ Open d) × (room ≡ seat.Waiting w) × (told ≡ code_number code.Waiting)
 HasReturned old new was room told = (new ≡ old) × (room ≡ was) × (told ≡ code_number code.NotOpen)
 
 -- ---- closing
@@ -136,19 +141,25 @@ pub record IsJournalOf (d : OpenDesk) (c : ClosedDesk) : Type 0 where
 -- a closing: all seats are at the desk, and it is closed; or it stays open
 abbrev pub HasClosed : Desk → Desk → ℕ → Type 0
 HasClosed (Open d) new told =
-    (All IsSome d.places.list.items × ((c : ClosedDesk) × (new ≡ Closed c) × IsJournalOf d c) × (told ≡ code_number code.Closed))
+    (All IsSome d.places.list.items × ((c : ClosedDesk) × (new ≡ Closed c) × IsJournalOf d c)
+    × (told ≡ code_number code.Closed))
     ⊎ ((new ≡ Open d) × (told ≡ code_number code.SeatsOut))
 HasClosed old new told = (new ≡ old) × (told ≡ code_number code.NotOpen)
 
--- the text stands at the front of the array, whose rest is as it was; or the array is too short for it, and is as it was
+-- the text stands at the front of the array, whose rest is as it was; or the array is too short for it, and is as it
+-- was
 abbrev pub TellsText : List ℕ → List ℕ → List ℕ → HullReply → Type 0
 TellsText text before after told =
-    ((length text ≤ length before) × (after ≡ text ++ drop (length text) before) × IsNumber code.Text (length text) told)
+    ((length text ≤ length before) × (after ≡ text ++ drop (length text) before)
+    × IsNumber code.Text (length text) told)
     ⊎ ((length before < length text) × (after ≡ before) × IsNumber code.TooSmall (length text) told)
 
--- the text of a closed desk's journal is asked for; where memory is refused the array is as it was; the desk stays in any case
+-- the text of a closed desk's journal is asked for; where memory is refused the array is as it was; the desk stays in
+-- any case
 abbrev pub HasWritten : Desk → Desk → List ℕ → List ℕ → HullReply → Type 0
-HasWritten (Closed c) new before after told = (new ≡ Closed c) × (TellsText (written_text c.journal) before after told ⊎ ((after ≡ before) × IsBare code.NoMemory told))
+HasWritten (Closed c) new before after told =
+    (new ≡ Closed c) × (TellsText (written_text c.journal) before after told
+    ⊎ ((after ≡ before) × IsBare code.NoMemory told))
 HasWritten old new before after told = (new ≡ old) × (after ≡ before) × IsBare code.NotClosed told
 
 -- an end: a closed desk is fresh again; an open one stays as it was

@@ -10,4 +10,7 @@ leaves R p holds = fex R.Denot (λ new. fsep (lies_at R full_share p new) (fex (
 
 -- a value of one type lies at p and one of another at q, of both of which this holds
 abbrev pub leaves_both : (R Q : RattleType) → Ptr → Ptr → (R.Denot → Q.Denot → Type 0) → Fml
-leaves_both R Q p q holds = fex R.Denot (λ new. fex Q.Denot (λ left. fsep (lies_at R full_share p new) (fsep (lies_at Q full_share q left) (fex (holds new left) (λ _. ftrue)))))
+leaves_both R Q p q holds =
+    fex R.Denot (λ new. fex Q.Denot
+    (λ left. fsep (lies_at R full_share p new)
+    (fsep (lies_at Q full_share q left) (fex (holds new left) (λ _. ftrue)))))

@@ -8,7 +8,8 @@ use Rattle.hull_shared.specs.Locks.{HullLock, book_of}
 use Rattle.hull_shared.specs.declared.place.Place.{Place}
 use Rattle.hull_shared.specs.declared.place.Places.{Places}
 
--- The seat is of the lock, its ledger counts the lines that it has seen in its name, and of n places it is at home in place j,
+-- The seat is of the lock, its ledger counts the lines that it has seen in its name, and of n places it is at home in
+-- place j,
 -- behind which there are as many as its number.
 pub record IsAtHome (lock : HullLock) (n j : ℕ) (p : Place) : Type 0 where
   pub own : IsSeatOf book_head lock p.seat

@@ -2,7 +2,8 @@
 use Rattle.std.proofs.Common.{◌≡◌, List, [], ◌∷◌, ◌++◌, Option, Some, None, Ok, codes, refl, sym, ap, subst}
 use Rattle.std.specs.Str.{bytes_eq}
 use Rattle.hull_plain.specs.declared.call.Call.{Call}
-use Rattle.hull_plain.specs.declared.call.Call.TheVariants.{Add, Remove, Extreme, Place, Tangents, Vertices, Area, Count}
+use Rattle.hull_plain.specs.declared.call.Call.TheVariants.{Add, Remove, Extreme, Place, Tangents, Vertices, Area}
+use Rattle.hull_plain.specs.declared.call.Call.TheVariants.{Count}
 use Rattle.hull_text.specs.declared.version.Version.{Version}
 use Rattle.hull_text.specs.declared.words.CallWord.{CallWord}
 use Rattle.hull_text.specs.declared.words.CallWord.TheVariants as word
@@ -25,7 +26,8 @@ call_word_takes f x e =
     pick (bytes_eq f (codes "tangents")) word.Tangents x _ P (word_is f (codes "tangents")) (λ e5.
     pick (bytes_eq f (codes "vertices")) word.Vertices x _ P (word_is f (codes "vertices")) (λ e6.
     pick (bytes_eq f (codes "area")) word.Area x _ P (word_is f (codes "area")) (λ e7.
-    pick (bytes_eq f (codes "count")) word.Count x None P (word_is f (codes "count")) (λ e8. absurd cc) e7) e6) e5) e4) e3) e2) e1) e
+    pick (bytes_eq f (codes "count")) word.Count x None P (word_is f (codes "count"))
+    (λ e8. absurd cc) e7) e6) e5) e4) e3) e2) e1) e
 
 -- A word that is spelled is found.
 call_word_again : (w : CallWord) → call_word_of (call_word_text w) ≡ Some w
@@ -50,23 +52,28 @@ unfolding call_after
 after_takes v word.Add fs c e =
     let b = bind_ok (point_at v fs) (λ p. Ok (Add p.0, p.1)) c e in
     let t = point_takes v fs b.0 b.1 in
-    subst (Takes v (codes "add" ∷ fs)) (ok_is (Add b.0.0, b.0.1) c b.2) (ap (λ (r : List Field). codes "add" ∷ r) t.0, t.1)
+    subst (Takes v (codes "add" ∷ fs)) (ok_is (Add b.0.0, b.0.1) c b.2)
+    (ap (λ (r : List Field). codes "add" ∷ r) t.0, t.1)
 after_takes v word.Remove fs c e =
     let b = bind_ok (point_at v fs) (λ p. Ok (Remove p.0, p.1)) c e in
     let t = point_takes v fs b.0 b.1 in
-    subst (Takes v (codes "remove" ∷ fs)) (ok_is (Remove b.0.0, b.0.1) c b.2) (ap (λ (r : List Field). codes "remove" ∷ r) t.0, t.1)
+    subst (Takes v (codes "remove" ∷ fs)) (ok_is (Remove b.0.0, b.0.1) c b.2)
+    (ap (λ (r : List Field). codes "remove" ∷ r) t.0, t.1)
 after_takes v word.Extreme fs c e =
     let b = bind_ok (direction_at v fs) (λ p. Ok (Extreme p.0, p.1)) c e in
     let t = direction_takes v fs b.0 b.1 in
-    subst (Takes v (codes "extreme" ∷ fs)) (ok_is (Extreme b.0.0, b.0.1) c b.2) (ap (λ (r : List Field). codes "extreme" ∷ r) t.0, t.1)
+    subst (Takes v (codes "extreme" ∷ fs)) (ok_is (Extreme b.0.0, b.0.1) c b.2)
+    (ap (λ (r : List Field). codes "extreme" ∷ r) t.0, t.1)
 after_takes v word.Place fs c e =
     let b = bind_ok (point_at v fs) (λ p. Ok (Place p.0, p.1)) c e in
     let t = point_takes v fs b.0 b.1 in
-    subst (Takes v (codes "place" ∷ fs)) (ok_is (Place b.0.0, b.0.1) c b.2) (ap (λ (r : List Field). codes "place" ∷ r) t.0, t.1)
+    subst (Takes v (codes "place" ∷ fs)) (ok_is (Place b.0.0, b.0.1) c b.2)
+    (ap (λ (r : List Field). codes "place" ∷ r) t.0, t.1)
 after_takes v word.Tangents fs c e =
     let b = bind_ok (point_at v fs) (λ p. Ok (Tangents p.0, p.1)) c e in
     let t = point_takes v fs b.0 b.1 in
-    subst (Takes v (codes "tangents" ∷ fs)) (ok_is (Tangents b.0.0, b.0.1) c b.2) (ap (λ (r : List Field). codes "tangents" ∷ r) t.0, t.1)
+    subst (Takes v (codes "tangents" ∷ fs)) (ok_is (Tangents b.0.0, b.0.1) c b.2)
+    (ap (λ (r : List Field). codes "tangents" ∷ r) t.0, t.1)
 after_takes v word.Vertices fs c e = subst (Takes v (codes "vertices" ∷ fs)) (ok_is (Vertices, fs) c e) (refl, tt)
 after_takes v word.Area fs c e = subst (Takes v (codes "area" ∷ fs)) (ok_is (Area, fs) c e) (refl, tt)
 after_takes v word.Count fs c e = subst (Takes v (codes "count" ∷ fs)) (ok_is (Count, fs) c e) (refl, tt)
@@ -85,7 +92,8 @@ call_takes v (f ∷ fs) c e = found (call_word_of f) refl
   where
     found : (o : Option CallWord) → call_word_of f ≡ o → Takes v (f ∷ fs) c
     found None same = absurd (none_read v fs c (rw same at e))
-    found (Some w) same = subst (λ (t : Field). Takes v (t ∷ fs) c) (sym (call_word_takes f w same)) (after_takes v w fs c (rw same at e))
+    found (Some w) same =
+        subst (λ (t : Field). Takes v (t ∷ fs) c) (sym (call_word_takes f w same)) (after_takes v w fs c (rw same at e))
 
 -- A call that is spelled is read.
 pub call_again : (v : Version) (c : Call) (rest : List Field) → IsCall v c

@@ -1,5 +1,6 @@
 -- Writing piece behind piece.
-use Rattle.std.proofs.Common.{◌≡◌, ◌++◌, ℕ, List, [], ◌∷◌, Option, Result, Ok, Err, OnOk, IsOk, refl, sym, ap, subst, ◌∙◌, append_assoc}
+use Rattle.std.proofs.Common.{◌≡◌, ◌++◌, ℕ, List, [], ◌∷◌, Option, Result, Ok, Err, OnOk, IsOk, refl, sym, ap, subst}
+use Rattle.std.proofs.Common.{◌∙◌, append_assoc}
 use Rattle.text_io.specs.Write.{WritesOn, WritesText}
 use Rattle.std.proofs.lemmas.List.{append-nil}
 use Rattle.lattice.specs.Plane.{Pair}
@@ -10,7 +11,8 @@ use Rattle.hull_text.specs.Spaced.{spaced}
 pub writes_then : {E : Type 0} (d e f : Result Unit E) (a b c : Option (List ℕ)) (l m n : ℕ) (t u : List ℕ)
     → WritesOn {E = E} d e a b l m t → WritesOn {E = E} e f b c m n u → WritesOn {E = E} d f a c l n (t ++ u)
 writes_then d e f a b c l m n t u first second = λ start count text h.
-    subst (λ (w : List ℕ). WritesText start c count n f w) (append_assoc text t u) (second start count (text ++ t) (first start count text h))
+    subst (λ (w : List ℕ). WritesText start c count n f w) (append_assoc text t u)
+    (second start count (text ++ t) (first start count text h))
 
 -- The fields of two lists, each behind a space.
 pub spaced_append : (fs gs : List (List ℕ)) → spaced (fs ++ gs) ≡ spaced fs ++ spaced gs
@@ -19,7 +21,8 @@ spaced_append (f ∷ fs) gs = ap (λ (t : List ℕ). 32 ∷ t) (ap (λ (t : List
     ∙ sym (append_assoc f (spaced fs) (spaced gs)))
 
 -- What a loop over pieces has written so far of a text, of which this is left.
-pub record Chained {E : Type 0} (first now : Result Unit E) (a b : Option (List ℕ)) (l m : ℕ) (all left : List ℕ) : Type 0 where
+pub record Chained {E : Type 0} (first now : Result Unit E) (a b : Option (List ℕ)) (l m : ℕ)
+    (all left : List ℕ) : Type 0 where
   pub text : List ℕ
   pub whole : text ++ left ≡ all
   pub wrote : WritesOn first now a b l m text
@@ -78,7 +81,8 @@ chained_end first now a b l m all left h e = λ start count text p.
 -- A point stands before the others.
 pub points_cons : (p : Pair) (after rest : List Pair) → rest ≡ p ∷ after
     → spaced (points_fields rest) ≡ spaced (pair_fields p) ++ spaced (points_fields after)
-points_cons p after rest e = ap (λ (r : List Pair). spaced (points_fields r)) e ∙ spaced_append (pair_fields p) (points_fields after)
+points_cons p after rest e =
+    ap (λ (r : List Pair). spaced (points_fields r)) e ∙ spaced_append (pair_fields p) (points_fields after)
 
 -- Six pieces behind a text are one piece behind it.
 pub six_pieces : (text a b c d e f : List ℕ) → text ++ a ++ b ++ c ++ d ++ e ++ f ≡ text ++ (a ++ b ++ c ++ d ++ e ++ f)

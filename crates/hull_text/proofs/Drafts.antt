@@ -10,11 +10,13 @@ use Rattle.hull_text.proofs.Workers.{workers_append, workers_append_join}
 -- Nothing was read.
 pub draft_empty : (items : List Item) → items ≡ [] → IsDraft items 1
 unfolding workers_from
-draft_empty items none = rw none (record { low = omega arith; high = omega arith; few = omega arith; workers = omega arith })
+draft_empty items none =
+    rw none (record { low = omega arith; high = omega arith; few = omega arith; workers = omega arith })
 
 -- A line that says nothing.
 draft_nothing : (items : List Item) (n : ℕ) → IsDraft items n → n ≤ 33554432 → IsDraft items (n + 1)
-draft_nothing items n d low = record { low = omega arith; high = omega arith; few = omega (arith, d.few); workers = d.workers }
+draft_nothing items n d low =
+    record { low = omega arith; high = omega arith; few = omega (arith, d.few); workers = d.workers }
 
 -- A line that says something.
 draft_more : (items : List Item) (n : ℕ) (item : Item) → IsDraft items n → n ≤ 33554432 → HasWorker item
@@ -35,7 +37,8 @@ draft_more items n (Some order) d low has = record {
 -- A line, whatever it says.
 pub draft_said : (items : List Item) (n : ℕ) (s : Option Item) → IsDraft items n → n ≤ 33554432 → SaysWorker s
     → IsDraft (items ++ kept s []) (n + 1)
-draft_said items n None d low has = subst (λ (is : List Item). IsDraft is (n + 1)) (sym (append-nil items)) (draft_nothing items n d low)
+draft_said items n None d low has =
+    subst (λ (is : List Item). IsDraft is (n + 1)) (sym (append-nil items)) (draft_nothing items n d low)
 draft_said items n (Some item) d low has = draft_more items n item d low has
 
 -- What is read of a text that ends within a line makes a script.

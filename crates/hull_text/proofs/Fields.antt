@@ -1,5 +1,6 @@
 -- A field that is read is the field that was written, and what was written is read again.
-use Rattle.std.proofs.Common.{◌≡◌, ◌<◌, ◌≤◌, ◌+◌, ◌-◌, ◌*◌, ◌^◌, ℕ, zero, suc, List, [], ◌∷◌, ◌++◌, Option, Some, None, Bool, true, false, cond, Ok, Err, decimal, refl, ap, subst, ◌∙◌, arith, inl, inr}
+use Rattle.std.proofs.Common.{◌≡◌, ◌<◌, ◌≤◌, ◌+◌, ◌-◌, ◌*◌, ◌^◌, ℕ, zero, suc, List, [], ◌∷◌, ◌++◌, Option, Some, None}
+use Rattle.std.proofs.Common.{Bool, true, false, cond, Ok, Err, decimal, refl, ap, subst, ◌∙◌, arith, inl, inr}
 use Rattle.std.specs.Prelude.{◌==◌, ◌&&◌, nat_le, nat_lt, ℤ, pos, negsuc}
 use Rattle.std.specs.Fmt.{signed_decimal}
 use Rattle.std.proofs.lemmas.Bool.{eqb-true}
@@ -9,7 +10,8 @@ use Rattle.hull_text.specs.declared.fault.FaultKind.TheVariants.{Number, Coordin
 use Rattle.hull_text.specs.declared.version.Version.{Version}
 use Rattle.hull_text.specs.Version.{coordinate_limit}
 use Rattle.hull_text.specs.Number.{is_digit, digits_after, number_of, negated, positive, signed_of}
-use Rattle.hull_text.specs.Field.{◌>>=◌, Field, coordinate_in, coordinate_at, point_at, direction_at, is_zero, number_in, number_at, seat_in, seat_at}
+use Rattle.hull_text.specs.Field.{◌>>=◌, Field, coordinate_in, coordinate_at, point_at, direction_at, is_zero}
+use Rattle.hull_text.specs.Field.{number_in, number_at, seat_in, seat_at}
 use Rattle.hull_text.specs.Spelling.{IsSized, IsPair, pair_fields, IsSomeDirection}
 use Rattle.hull_text.proofs.Numbers.{guard_some, guard_not, digit_low, number_text, text_number}
 use Rattle.hull_text.proofs.Versions.{limit_small}
@@ -41,17 +43,18 @@ signed_text : (limit : ℕ) (f : List ℕ) (z : ℤ) → limit ≤ 2 ^ 40 → Is
     → f ≡ signed_decimal z
 unfolding signed_of
 signed_text limit [] z small fits e = absurd cc
-signed_text limit (b ∷ bs) z small fits e = elim (chosen (b == 45) (negated (number_of bs)) (positive (number_of (b ∷ bs))) (Some z) e) [
-  | inl h ↦
-      let g = negated_some (number_of bs) z h.1 in
-      let size : IsSized limit (negsuc g.0) = subst (IsSized limit) g.2 fits in
-      let minus : b ≡ 45 = eqb-true b 45 h.0 in
-      rw (g.2, minus) (ap (λ (t : List ℕ). 45 ∷ t) (number_text bs (suc g.0) (omega (arith, size)) g.1))
-  | inr h ↦
-      let g = positive_some (number_of (b ∷ bs)) z h.1 in
-      let size : IsSized limit (pos g.0) = subst (IsSized limit) g.2 fits in
-      rw g.2 (number_text (b ∷ bs) g.0 (omega (arith, size)) g.1)
-]
+signed_text limit (b ∷ bs) z small fits e =
+    elim (chosen (b == 45) (negated (number_of bs)) (positive (number_of (b ∷ bs))) (Some z) e) [
+      | inl h ↦
+          let g = negated_some (number_of bs) z h.1 in
+          let size : IsSized limit (negsuc g.0) = subst (IsSized limit) g.2 fits in
+          let minus : b ≡ 45 = eqb-true b 45 h.0 in
+          rw (g.2, minus) (ap (λ (t : List ℕ). 45 ∷ t) (number_text bs (suc g.0) (omega (arith, size)) g.1))
+      | inr h ↦
+          let g = positive_some (number_of (b ∷ bs)) z h.1 in
+          let size : IsSized limit (pos g.0) = subst (IsSized limit) g.2 fits in
+          rw g.2 (number_text (b ∷ bs) g.0 (omega (arith, size)) g.1)
+    ]
 
 -- an unsigned number is a signed one
 unsigned_signed : (f : List ℕ) (n : ℕ) → number_of f ≡ Some n → signed_of f ≡ Some (pos n)
@@ -96,14 +99,16 @@ coordinate_takes v [] x e = absurd cc
 coordinate_takes v (f ∷ fs) x e =
     let b = bind_ok (coordinate_in (coordinate_limit v) (signed_of f)) (λ z. Ok (z, fs)) x e in
     let s = coordinate_some (coordinate_limit v) (signed_of f) b.0 b.1 in
-    subst (λ (y : ℤ × List Field). (f ∷ fs ≡ signed_decimal y.0 ∷ y.1) × IsSized (coordinate_limit v) y.0) (ok_is (b.0, fs) x b.2)
+    subst (λ (y : ℤ × List Field). (f ∷ fs ≡ signed_decimal y.0 ∷ y.1) × IsSized (coordinate_limit v) y.0)
+    (ok_is (b.0, fs) x b.2)
     (ap (λ (t : List ℕ). t ∷ fs) (signed_text (coordinate_limit v) f b.0 (limit_small v) s.1 s.0), s.1)
 
 -- the spelling of a coordinate is read as that coordinate
 coordinate_again : (v : Version) (z : ℤ) (rest : List Field) → IsSized (coordinate_limit v) z
     → coordinate_at v (signed_decimal z ∷ rest) ≡ Ok (z, rest)
 unfolding coordinate_at
-coordinate_again v z rest fits = rw (text_signed (coordinate_limit v) z (limit_small v) fits, in_coordinate (coordinate_limit v) z fits) refl
+coordinate_again v z rest fits =
+    rw (text_signed (coordinate_limit v) z (limit_small v) fits, in_coordinate (coordinate_limit v) z fits) refl
 
 -- ---- points and directions
 
@@ -112,7 +117,8 @@ pub point_takes : (v : Version) (fs : List Field) (p : Pair × List Field) → p
     → (fs ≡ pair_fields p.0 ++ p.1) × IsPair v p.0
 unfolding point_at
 point_takes v fs p e =
-    let a = bind_ok (coordinate_at v fs) (λ x. coordinate_at v x.1 >>= λ y. Ok (record { x = x.0; y = y.0 }, y.1)) p e in
+    let a = bind_ok (coordinate_at v fs)
+    (λ x. coordinate_at v x.1 >>= λ y. Ok (record { x = x.0; y = y.0 }, y.1)) p e in
     let b = bind_ok (coordinate_at v a.0.1) (λ y. Ok (record { x = a.0.0; y = y.0 }, y.1)) p a.2 in
     let s = coordinate_takes v fs a.0 a.1 in
     let t = coordinate_takes v a.0.1 b.0 b.1 in
@@ -124,7 +130,8 @@ point_takes v fs p e =
 pub point_again : (v : Version) (p : Pair) (rest : List Field) → IsPair v p
     → point_at v (pair_fields p ++ rest) ≡ Ok (p, rest)
 unfolding point_at
-point_again v p rest fits = rw (coordinate_again v p.x (signed_decimal p.y ∷ rest) fits.0, coordinate_again v p.y rest fits.1) refl
+point_again v p rest fits =
+    rw (coordinate_again v p.x (signed_decimal p.y ∷ rest) fits.0, coordinate_again v p.y rest fits.1) refl
 
 -- what passes the test for zero is zero
 zero_is : (z : ℤ) → is_zero z ≡ true → z ≡ pos 0
@@ -158,7 +165,8 @@ pub direction_again : (v : Version) (p : Pair) (rest : List Field) → IsSomeDir
     → direction_at v (pair_fields p ++ rest) ≡ Ok (p, rest)
 unfolding direction_at
 direction_again v p rest fits =
-    let some : (is_zero p.x && is_zero p.y) ≡ false = both_false _ _ (λ ex ey. fits.1 (zero_is p.x ex) (zero_is p.y ey)) in
+    let some : (is_zero p.x && is_zero p.y) ≡ false =
+    both_false _ _ (λ ex ey. fits.1 (zero_is p.x ex) (zero_is p.y ey)) in
     rw (point_again v p rest fits.0, some) refl
 
 -- ---- numbers and seats

@@ -1,5 +1,6 @@
 -- Fields as bytes, joined by spaces and cut apart again.
-use Rattle.std.proofs.Common.{◌≡◌, ◌<◌, ◌≤◌, ◌+◌, ◌-◌, ◌*◌, ◌^◌, ℕ, suc, List, [], ◌∷◌, ◌++◌, length, Some, Bool, true, false, cond, not, decimal, codes, refl, sym, ap, ◌∙◌, arith}
+use Rattle.std.proofs.Common.{◌≡◌, ◌<◌, ◌≤◌, ◌+◌, ◌-◌, ◌*◌, ◌^◌, ℕ, suc, List, [], ◌∷◌, ◌++◌, length, Some, Bool, true}
+use Rattle.std.proofs.Common.{false, cond, not, decimal, codes, refl, sym, ap, ◌∙◌, arith}
 use Rattle.std.specs.Prelude.{◌==◌, ◌&&◌, nat_le, ℤ, pos, negsuc}
 use Rattle.std.specs.Fmt.{signed_decimal}
 use Rattle.std.specs.List.{slice_split, join_with_byte}
@@ -7,15 +8,19 @@ use Rattle.std.proofs.lemmas.List.{append-nil}
 use Rattle.std.proofs.lemmas.Bool.Decides.{nat_tests}
 use Rattle.lattice.specs.Plane.{Pair}
 use Rattle.hull_plain.specs.declared.call.Call.{Call}
-use Rattle.hull_plain.specs.declared.call.Call.TheVariants.{Add, Remove, Extreme, Place, Tangents, Vertices, Area, Count}
+use Rattle.hull_plain.specs.declared.call.Call.TheVariants.{Add, Remove, Extreme, Place, Tangents, Vertices, Area}
+use Rattle.hull_plain.specs.declared.call.Call.TheVariants.{Count}
 use Rattle.hull_text.specs.declared.version.Version.{Version}
 use Rattle.hull_text.specs.Version.{coordinate_limit}
 use Rattle.hull_text.specs.Number.{is_digit, digits_after, number_of}
 use Rattle.hull_text.specs.Form.{has_form_after}
-use Rattle.hull_text.specs.Spelling.{ArePairs, IsSized, IsPair, IsReply, pair_fields, points_fields, IsCall, call_fields, reply_fields}
+use Rattle.hull_text.specs.Spelling.{ArePairs, IsSized, IsPair, IsReply, pair_fields, points_fields, IsCall}
+use Rattle.hull_text.specs.Spelling.{call_fields, reply_fields}
 use Rattle.hull_text.specs.Reading.{HasNoNewline}
 use Rattle.hull_plain.specs.declared.reply.Reply.{Reply}
-use Rattle.hull_plain.specs.declared.reply.Reply.TheVariants.{Added, Already, Again, TooMany, NoMemory, Removed, Left, Absent, Farthest, Empty, Lies, TangentPoints, NoTangent, VertexList, DoubledArea, PointCount}
+use Rattle.hull_plain.specs.declared.reply.Reply.TheVariants.{Added, Already, Again, TooMany, NoMemory, Removed, Left}
+use Rattle.hull_plain.specs.declared.reply.Reply.TheVariants.{Absent, Farthest, Empty, Lies, TangentPoints, NoTangent}
+use Rattle.hull_plain.specs.declared.reply.Reply.TheVariants.{VertexList, DoubledArea, PointCount}
 use Rattle.hull_plain.specs.declared.set.Place.TheVariants.{Inside, On, Outside}
 use Rattle.std.proofs.lemmas.Bool.{eqb-true, ne_eqb}
 use Rattle.std.proofs.lemmas.List.Elements.{All-cons, All-nil}
@@ -50,7 +55,8 @@ number_plain : (f : List ℕ) (n : ℕ) → number_of f ≡ Some n → (is_plain
 unfolding number_of
 number_plain [] n e = absurd cc
 number_plain (b ∷ []) n e = (digits_plain (b ∷ []) 0 n e, omega arith)
-number_plain (b ∷ c ∷ bs) n e = (digits_plain (b ∷ c ∷ bs) 0 n (guard_not (b == 48) (digits_after 0 (b ∷ c ∷ bs)) n e).1, omega arith)
+number_plain (b ∷ c ∷ bs) n e =
+    (digits_plain (b ∷ c ∷ bs) 0 n (guard_not (b == 48) (digits_after 0 (b ∷ c ∷ bs)) n e).1, omega arith)
 
 -- a field: at least one byte, and none of them a space
 pub record IsField (f : List ℕ) : Type 0 where
@@ -66,7 +72,8 @@ decimal_field n small =
 -- The text of a signed number is a field.
 pub signed_field : (v : Version) (z : ℤ) → IsSized (coordinate_limit v) z → IsField (signed_decimal z)
 signed_field v (pos n) fits = decimal_field n (omega (arith, limit_small v, fits))
-signed_field v (negsuc n) fits = record { plain = (decimal_field (suc n) (omega (arith, limit_small v, fits))).plain; some = omega arith }
+signed_field v (negsuc n) fits =
+    record { plain = (decimal_field (suc n) (omega (arith, limit_small v, fits))).plain; some = omega arith }
 
 -- These are fields.
 abbrev pub AreFields : List (List ℕ) → Type 0
@@ -111,7 +118,8 @@ form_skip s (b ∷ c ∷ bs) rest plain some =
 pub joined_form : (f : List ℕ) (fs : List (List ℕ)) → IsField f → AreFields fs
     → has_form_after true (join_with_byte 32 (f ∷ fs)) ≡ true
 joined_form f [] h hs = ap (has_form_after true) (sym (append-nil f)) ∙ form_skip true f [] h.plain h.some
-joined_form f (g ∷ gs) h hs = form_skip true f (32 ∷ join_with_byte 32 (g ∷ gs)) h.plain h.some ∙ joined_form g gs hs.0 hs.1
+joined_form f (g ∷ gs) h hs =
+    form_skip true f (32 ∷ join_with_byte 32 (g ∷ gs)) h.plain h.some ∙ joined_form g gs hs.0 hs.1
 
 -- the fields of a text
 abbrev pub cut : List ℕ → List (List ℕ)
@@ -135,7 +143,8 @@ split_last (b ∷ bs) plain =
 pub split_joined : (f : List ℕ) (fs : List (List ℕ)) → IsField f → AreFields fs
     → cut (join_with_byte 32 (f ∷ fs)) ≡ f ∷ fs
 split_joined f [] h hs = split_last f h.plain
-split_joined f (g ∷ gs) h hs = split_skip f (join_with_byte 32 (g ∷ gs)) h.plain ∙ ap (λ (r : List (List ℕ)). f ∷ r) (split_joined g gs hs.0 hs.1)
+split_joined f (g ∷ gs) h hs =
+    split_skip f (join_with_byte 32 (g ∷ gs)) h.plain ∙ ap (λ (r : List (List ℕ)). f ∷ r) (split_joined g gs hs.0 hs.1)
 
 -- Two lists of fields are one.
 pub fields_append : (fs gs : List (List ℕ)) → AreFields fs → AreFields gs → AreFields (fs ++ gs)
@@ -145,17 +154,20 @@ fields_append (f ∷ fs) gs h k = (h.0, fields_append fs gs h.1 k)
 -- Points are fields.
 pub points_are_fields : (v : Version) (ps : List Pair) → ArePairs v ps → AreFields (points_fields ps)
 points_are_fields v [] fits = tt
-points_are_fields v (p ∷ ps) fits = fields_append (pair_fields p) (points_fields ps) (pair_are_fields v p fits.0) (points_are_fields v ps fits.1)
+points_are_fields v (p ∷ ps) fits =
+    fields_append (pair_fields p) (points_fields ps) (pair_are_fields v p fits.0) (points_are_fields v ps fits.1)
 
 -- So is a reply.
 pub reply_are_fields : (v : Version) (r : Reply) → IsReply v r → AreFields (reply_fields r)
 reply_are_fields v Added fits = (word_field (codes "added") refl (omega arith), tt)
 reply_are_fields v Already fits = (word_field (codes "already") refl (omega arith), tt)
-reply_are_fields v (Again n) fits = (word_field (codes "again") refl (omega arith), (decimal_field n (omega (arith, fits.0.1)), tt))
+reply_are_fields v (Again n) fits =
+    (word_field (codes "again") refl (omega arith), (decimal_field n (omega (arith, fits.0.1)), tt))
 reply_are_fields v TooMany fits = (word_field (codes "toomany") refl (omega arith), tt)
 reply_are_fields v NoMemory fits = (word_field (codes "nomemory") refl (omega arith), tt)
 reply_are_fields v Removed fits = (word_field (codes "removed") refl (omega arith), tt)
-reply_are_fields v (Left n) fits = (word_field (codes "left") refl (omega arith), (decimal_field n (omega (arith, fits.0.1)), tt))
+reply_are_fields v (Left n) fits =
+    (word_field (codes "left") refl (omega arith), (decimal_field n (omega (arith, fits.0.1)), tt))
 reply_are_fields v Absent fits = (word_field (codes "absent") refl (omega arith), tt)
 reply_are_fields v (Farthest p) fits = (word_field (codes "point") refl (omega arith), pair_are_fields v p fits.1)
 reply_are_fields v Empty fits = (word_field (codes "empty") refl (omega arith), tt)
@@ -172,8 +184,10 @@ reply_are_fields v (VertexList ps) fits = (
   word_field (codes "list") refl (omega arith),
   (decimal_field (length ps) (omega (arith, fits.1.0)), points_are_fields v ps fits.1.1),
 )
-reply_are_fields v (DoubledArea n) fits = (word_field (codes "area") refl (omega arith), (decimal_field n (omega (arith, fits.1)), tt))
-reply_are_fields v (PointCount n) fits = (word_field (codes "count") refl (omega arith), (decimal_field n (omega (arith, fits.1)), tt))
+reply_are_fields v (DoubledArea n) fits =
+    (word_field (codes "area") refl (omega arith), (decimal_field n (omega (arith, fits.1)), tt))
+reply_are_fields v (PointCount n) fits =
+    (word_field (codes "count") refl (omega arith), (decimal_field n (omega (arith, fits.1)), tt))
 
 -- What has the form of a line has no newline.
 pub formed_whole : (s : Bool) (line : List ℕ) → has_form_after s line ≡ true → HasNoNewline line
@@ -188,7 +202,8 @@ formed_whole s (b ∷ bs) e = step (b == 32) refl e (λ t h. formed_whole t bs h
         → ((t : Bool) → has_form_after t bs ≡ true → HasNoNewline bs) → HasNoNewline (b ∷ bs)
     step true t h rest =
         let p = both (not s) (has_form_after true bs) h in
-        All-cons (λ b. (b == 10) ≡ false) b bs (ne_eqb b 10 (λ same. omega (arith, same, eqb-true b 32 t))) (rest true p.1)
+        All-cons (λ b. (b == 10) ≡ false) b bs (ne_eqb b 10 (λ same. omega (arith, same, eqb-true b 32 t)))
+        (rest true p.1)
     step false t h rest =
         let p = both (nat_le 33 b && nat_le b 126) (has_form_after false bs) h in
         All-cons (λ b. (b == 10) ≡ false) b bs (above b p.0) (rest false p.1)

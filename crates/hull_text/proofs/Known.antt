@@ -1,5 +1,7 @@
 -- The blocks of a known text.
-use Rattle.std.proofs.Common.{◌≡◌, ◌⊎◌, ◌<◌, ◌≤◌, ◌+◌, ◌^◌, ℕ, List, [], ◌∷◌, ◌++◌, length, Option, Some, None, Bool, true, false, cond, Result, Ok, Err, IfErr, refl, sym, ap, subst, ◌∙◌, arith, append_assoc, inl, inr}
+use Rattle.std.proofs.Common.{◌≡◌, ◌⊎◌, ◌<◌, ◌≤◌, ◌+◌, ◌^◌, ℕ, List, [], ◌∷◌, ◌++◌, length, Option, Some, None, Bool}
+use Rattle.std.proofs.Common.{true, false, cond, Result, Ok, Err, IfErr, refl, sym, ap, subst, ◌∙◌, arith, append_assoc}
+use Rattle.std.proofs.Common.{inl, inr}
 use Rattle.std.specs.Io.KnownBytes.{Consumes, IsAtEnd, Keeps}
 use Rattle.std.specs.List.{onto_first}
 use Rattle.std.proofs.lemmas.List.{append-nil, length-append}
@@ -7,7 +9,8 @@ use Rattle.std.proofs.lemmas.List.Splits.{slice_split_none}
 use Rattle.std.specs.Prelude.{◌==◌}
 use Rattle.hull_text.specs.declared.fault.TextFault.{TextFault}
 use Rattle.hull_text.specs.ScriptText.{last_line, pieces, text_lines, without_last_empty}
-use Rattle.hull_text.specs.Reading.{Outlook, ReadsOn, FailsIn, AnswersAll, HasNoNewline, IsLineBeingRead, IsLineTaken, line_at_end, newlines}
+use Rattle.hull_text.specs.Reading.{Outlook, ReadsOn, FailsIn, AnswersAll, HasNoNewline, IsLineBeingRead, IsLineTaken}
+use Rattle.hull_text.specs.Reading.{line_at_end, newlines}
 use Rattle.hull_text.proofs.Lines.{newlines_none}
 
 -- what a reader that keeps a part of a line knows of the bytes that it took
@@ -56,20 +59,22 @@ pub known_feed : {V : Type 0} (start now next : Outlook V) (a b c : Option (List
 known_feed start now next None b c kept left piece line after n k p some on lines tail = tt
 known_feed start now next (Some bytes) None c kept left piece line after n k p some on lines tail = absurd k
 known_feed start now next (Some bytes) (Some rest) None kept left piece line after n k p some on lines tail = absurd p
-known_feed start now next (Some bytes) (Some rest) (Some more) kept left piece line after n k p some on lines tail = record {
-  text = k.text ++ piece;
-  whole = k.whole ∙ ap (λ (t : List ℕ). k.text ++ t) p ∙ sym (append_assoc k.text piece more);
-  on = λ tail answer h.
-      subst (λ (t : List ℕ). start t answer) (sym (append_assoc k.text piece tail))
-      (k.on (piece ++ tail) answer (subst (λ (t : List ℕ). now t answer) (append_assoc kept piece tail) (on tail answer h)));
-  lines = omega (arith, newlines_append k.text piece, k.lines, lines);
-  ends = (
-    k.ends.0 ++ tail.0,
-    ap (λ (t : List ℕ). t ++ piece) k.ends.1 ∙ append_assoc k.ends.0 kept piece
-        ∙ ap (λ (t : List ℕ). k.ends.0 ++ t) tail.1 ∙ sym (append_assoc k.ends.0 tail.0 left),
-  );
-  long = omega (arith, k.long, length-append k.text piece);
-}
+known_feed start now next (Some bytes) (Some rest)
+    (Some more) kept left piece line after n k p some on lines tail = record {
+      text = k.text ++ piece;
+      whole = k.whole ∙ ap (λ (t : List ℕ). k.text ++ t) p ∙ sym (append_assoc k.text piece more);
+      on = λ tail answer h.
+          subst (λ (t : List ℕ). start t answer) (sym (append_assoc k.text piece tail))
+          (k.on (piece ++ tail) answer
+          (subst (λ (t : List ℕ). now t answer) (append_assoc kept piece tail) (on tail answer h)));
+      lines = omega (arith, newlines_append k.text piece, k.lines, lines);
+      ends = (
+        k.ends.0 ++ tail.0,
+        ap (λ (t : List ℕ). t ++ piece) k.ends.1 ∙ append_assoc k.ends.0 kept piece
+            ∙ ap (λ (t : List ℕ). k.ends.0 ++ t) tail.1 ∙ sym (append_assoc k.ends.0 tail.0 left),
+      );
+      long = omega (arith, k.long, length-append k.text piece);
+    }
 
 -- A block has a fault.
 pub known_fault : {V : Type 0} (start now : Outlook V) (a b c : Option (List ℕ)) (kept piece : List ℕ) (line n : ℕ)
@@ -146,7 +151,8 @@ pub line_here : {V : Type 0} (start now : Outlook V) (a b : Option (List ℕ)) (
     → Known start now a b kept line n → IsLineTaken a b line
 line_here start now None b kept line n k = tt
 line_here start now (Some bytes) None kept line n k = absurd k
-line_here start now (Some bytes) (Some rest) kept line n k = (k.text, k.whole, omega (arith, k.lines), inl (omega (arith, k.lines)))
+line_here start now (Some bytes) (Some rest) kept line n k =
+    (k.text, k.whole, omega (arith, k.lines), inl (omega (arith, k.lines)))
 
 -- So many lines has a text that ends within one.
 lines_within : (front part : List ℕ) → HasNoNewline part → 0 < length part
@@ -156,7 +162,8 @@ lines_within [] part whole some = rw (slice_split_none (λ (b : ℕ). b == 10) p
     one : (part : List ℕ) → 0 < length part → length (without_last_empty (part ∷ [])) ≡ 0 + 1
     one [] some = absurd (omega arith)
     one (b ∷ bs) some = refl
-lines_within (b ∷ bs) part whole some = step (b == 10) (pieces (bs ++ part)) (newlines bs) (lines_within bs part whole some)
+lines_within (b ∷ bs) part whole some =
+    step (b == 10) (pieces (bs ++ part)) (newlines bs) (lines_within bs part whole some)
   where
     step : (c : Bool) (ps : List (List ℕ)) (n : ℕ) → length (without_last_empty ps) ≡ n + 1
         → length (without_last_empty (cond c ([] ∷ ps) (onto_first b ps))) ≡ cond c (n + 1) n + 1
@@ -183,8 +190,21 @@ line_ended start now (Some bytes) (Some rest) (Some left) kept none line more at
       elim h [
         | inl e ↦ inl (omega (arith, k.lines, is, e))
         | inr e ↦
-            let lines = ap (λ (t : List ℕ). length (text_lines t)) (all ∙ k.ends.1) ∙ lines_within k.ends.0 kept whole e.0 in
-            inr (end, omega (arith, k.lines, is, e.1, lines, ap newlines k.ends.1, newlines_append k.ends.0 kept, newlines_none kept whole))
+            let lines = ap (λ (t : List ℕ). length (text_lines t)) (all ∙ k.ends.1)
+            ∙ lines_within k.ends.0 kept whole e.0 in
+            inr (
+              end,
+              omega (
+                arith,
+                k.lines,
+                is,
+                e.1,
+                lines,
+                ap newlines k.ends.1,
+                newlines_append k.ends.0 kept,
+                newlines_none kept whole,
+              ),
+            )
       ],
     )
 
@@ -202,5 +222,7 @@ lines_at_end start now a b c kept none line n (Ok v) k p empty end whole h = tt
 lines_at_end start now a b c kept none line n (Err f) k p empty end whole h = step (f.number == 10) h
   where
     step : (t : Bool) → f.line ≡ cond t (line + length (last_line kept)) line → IsLineTaken a c f.line
-    step true h = line_ended start now a b c kept none line (length (last_line kept)) f.line n k p empty end whole (one_or_none kept) h
-    step false h = line_ended start now a b c kept none line 0 f.line n k p empty end whole (inl refl) (omega (arith, h))
+    step true h = line_ended start now a b c kept none line (length (last_line kept)) f.line n k p empty end whole
+        (one_or_none kept) h
+    step false h = line_ended start now a b c kept none line 0 f.line n k p empty end whole (inl refl)
+        (omega (arith, h))

@@ -1,5 +1,6 @@
 -- Lines of a text.
-use Rattle.std.proofs.Common.{◌≡◌, ◌<◌, ◌+◌, ℕ, zero, suc, List, [], ◌∷◌, ◌++◌, length, get_or, take, drop, false, refl, sym, ap, subst, ◌∙◌, arith, append_assoc, Some, None, Err}
+use Rattle.std.proofs.Common.{◌≡◌, ◌<◌, ◌+◌, ℕ, zero, suc, List, [], ◌∷◌, ◌++◌, length, get_or, take, drop, false, refl}
+use Rattle.std.proofs.Common.{sym, ap, subst, ◌∙◌, arith, append_assoc, Some, None, Err}
 use Rattle.std.specs.Prelude.{◌==◌}
 use Rattle.std.proofs.lemmas.Bool.{eqb-true, ne_eqb}
 use Rattle.std.proofs.lemmas.List.Elements.{All-cons, All-nil}
@@ -22,13 +23,15 @@ newline_at (b ∷ bs) (suc i) lt here before =
 pub newline_none : (text : List ℕ) → ((k : ℕ) → k < length text → get_or text k 0 ≡ 10 → ⊥) → HasNoNewline text
 newline_none [] none = All-nil (λ b. (b == 10) ≡ false)
 newline_none (b ∷ bs) none =
-    All-cons (λ b. (b == 10) ≡ false) b bs (ne_eqb b 10 (none 0 (omega arith))) (newline_none bs (λ k h. none (suc k) (omega arith)))
+    All-cons (λ b. (b == 10) ≡ false) b bs (ne_eqb b 10 (none 0 (omega arith)))
+    (newline_none bs (λ k h. none (suc k) (omega arith)))
 
 -- Where the search for a newline found one, the first line stands before it.
 pub first_newline : (text : List ℕ) (i : ℕ) → IsFirstByte (is_byte 10) text (Some i)
     → HasNoNewline (take i text) × (text ≡ take i text ++ 10 ∷ drop 1 (drop i text))
 first_newline text i found =
-    newline_at text i found.0.high (eqb-true (get_or text i 0) 10 found.1) (λ k lt e. found.0.before k (omega arith) lt (rw e refl))
+    newline_at text i found.0.high (eqb-true (get_or text i 0) 10 found.1)
+    (λ k lt e. found.0.before k (omega arith) lt (rw e refl))
 
 -- Where it found none, the text is a part of a line.
 pub no_newline : (text : List ℕ) → IsFirstByte (is_byte 10) text None → HasNoNewline text
@@ -77,4 +80,5 @@ newlines_none (b ∷ bs) whole = rw (whole 0 0 (omega arith)) (newlines_none bs 
 -- A line ends with one newline.
 pub newlines_line : (line after : List ℕ) → HasNoNewline line → newlines (line ++ 10 ∷ after) ≡ newlines after + 1
 newlines_line [] after whole = refl
-newlines_line (b ∷ bs) after whole = rw (whole 0 0 (omega arith)) (newlines_line bs after (λ k d lt. whole (suc k) d (omega arith)))
+newlines_line (b ∷ bs) after whole =
+    rw (whole 0 0 (omega arith)) (newlines_line bs after (λ k d lt. whole (suc k) d (omega arith)))

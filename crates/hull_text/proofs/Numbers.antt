@@ -1,5 +1,7 @@
 -- A field spells a number just where it is the number's decimal text.
-use Rattle.std.proofs.Common.{◌≡◌, ◌<◌, ◌≤◌, ◌+◌, ◌-◌, ◌*◌, ◌/◌, ◌%◌, ◌^◌, ℕ, zero, suc, List, [], ◌∷◌, length, get_or, take, ◌++◌, Option, Some, None, Bool, true, false, cond, decimal, refl, sym, ap, subst, ◌∙◌, arith, ◌⊎◌, inl, inr}
+use Rattle.std.proofs.Common.{◌≡◌, ◌<◌, ◌≤◌, ◌+◌, ◌-◌, ◌*◌, ◌/◌, ◌%◌, ◌^◌, ℕ, zero, suc, List, [], ◌∷◌, length, get_or}
+use Rattle.std.proofs.Common.{take, ◌++◌, Option, Some, None, Bool, true, false, cond, decimal, refl, sym, ap, subst}
+use Rattle.std.proofs.Common.{◌∙◌, arith, ◌⊎◌, inl, inr}
 use Rattle.std.specs.Prelude.{◌==◌}
 use Rattle.std.proofs.lemmas.List.{append-nil, append_assoc}
 use Rattle.std.proofs.lemmas.Bool.{ne_eqb, cases_lt}
@@ -79,7 +81,8 @@ number_text (b ∷ c ∷ bs) n small e =
     let d = digit_low b g.0 in
     let ne : b ≡ 48 → ⊥ = λ same. not_zero b h.0 same in
     let first : 0 * 10 + (b - 48) ≡ b - 48 = omega arith in
-    let rest : digits_after (b - 48) (c ∷ bs) ≡ Some n = subst (λ (m : ℕ). digits_after m (c ∷ bs) ≡ Some n) first g.1 in
+    let rest : digits_after (b - 48) (c ∷ bs) ≡ Some n =
+    subst (λ (m : ℕ). digits_after m (c ∷ bs) ≡ Some n) first g.1 in
     sym (digits_text (c ∷ bs) (b - 48) n (omega (arith, ne)) small rest ∙ rw (one_digit b d.0 d.1) refl)
   where
     not_zero : (b : ℕ) → (b == 48) ≡ false → b ≡ 48 → ⊥
@@ -108,7 +111,8 @@ digits_more (c ∷ cs) m k x d e =
 
 -- One byte more of a text is read as a digit.
 pub digits_next : (text : List ℕ) (i m v : ℕ) → i < length text → 48 ≤ get_or text i 0 → get_or text i 0 ≤ 57
-    → digits_after m (take i text) ≡ Some v → digits_after m (take (suc i) text) ≡ Some (v * 10 + (get_or text i 0 - 48))
+    → digits_after m (take i text) ≡ Some v
+    → digits_after m (take (suc i) text) ≡ Some (v * 10 + (get_or text i 0 - 48))
 unfolding digits_after
 digits_next [] i m v lt low high e = absurd (omega arith)
 digits_next (b ∷ bs) zero m v lt low high e =

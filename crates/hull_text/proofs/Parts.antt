@@ -1,5 +1,6 @@
 -- The phases of a script.
-use Rattle.std.proofs.Common.{◌≡◌, ◌<◌, ◌≤◌, ◌+◌, ℕ, zero, suc, List, [], ◌∷◌, length, map, get_or, take, drop, Some, None, Bool, true, false, refl, ◌∙◌, arith, All}
+use Rattle.std.proofs.Common.{◌≡◌, ◌<◌, ◌≤◌, ◌+◌, ℕ, zero, suc, List, [], ◌∷◌, length, map, get_or, take, drop, Some}
+use Rattle.std.proofs.Common.{None, Bool, true, false, refl, ◌∙◌, arith, All}
 use Rattle.std.specs.Prelude.{◌==◌}
 use Rattle.std.specs.List.{onto_first}
 use Rattle.std.proofs.lemmas.List.{length-append}
@@ -18,7 +19,8 @@ pub part_at : (items : List Item) (i : ℕ) → i < length items → get_or item
 part_at [] i lt here before = absurd (omega arith)
 part_at (x ∷ xs) zero lt here before = rw here refl
 part_at (None ∷ xs) (suc i) lt here before = absurd (before 0 (omega arith) refl)
-part_at (Some o ∷ xs) (suc i) lt here before = rw (part_at xs i (omega arith) here (λ k h. before (suc k) (omega arith))) refl
+part_at (Some o ∷ xs) (suc i) lt here before =
+    rw (part_at xs i (omega arith) here (λ k h. before (suc k) (omega arith))) refl
 
 -- Where no join is left, the items are the last phase's.
 pub part_last : (items : List Item) → ((k : ℕ) → k < length items → get_or items k None ≡ None → ⊥)
@@ -36,7 +38,8 @@ jobs_long (suc n) items = omega (arith, jobs_long n items, length-append (jobs_b
 -- So has each.
 phases_long : (n : ℕ) (ps : List (List Item)) → All (λ phase. length phase ≡ n) (map (jobs_below n) ps)
 phases_long n [] = All-nil (λ phase. length phase ≡ n)
-phases_long n (p ∷ ps) = All-cons (λ phase. length phase ≡ n) (jobs_below n p) (map (jobs_below n) ps) (jobs_long n p) (phases_long n ps)
+phases_long n (p ∷ ps) =
+    All-cons (λ phase. length phase ≡ n) (jobs_below n p) (map (jobs_below n) ps) (jobs_long n p) (phases_long n ps)
 
 -- A phase of one worker more.
 jobs_more : (n : ℕ) (items : List Item)
@@ -104,7 +107,8 @@ parts_call n o (p ∷ ps) = omega (
 -- There are no more calls than items.
 calls_few : (n : ℕ) (items : List Item) → calls_in_all (map (jobs_below n) (parts items)) ≤ length items
 calls_few n [] = omega (arith, sum_by-cons calls_in (jobs_below n []) [], jobs_none n)
-calls_few n (None ∷ is) = omega (arith, sum_by-cons calls_in (jobs_below n []) (map (jobs_below n) (parts is)), jobs_none n, calls_few n is)
+calls_few n (None ∷ is) =
+    omega (arith, sum_by-cons calls_in (jobs_below n []) (map (jobs_below n) (parts is)), jobs_none n, calls_few n is)
 calls_few n (Some o ∷ is) = omega (arith, parts_call n o (parts is), calls_few n is)
 
 -- Items of 64 workers at most, and as many as a text has lines at most, make a script.

@@ -1,5 +1,6 @@
 -- The text of a report, piece by piece.
-use Rattle.std.proofs.Common.{◌≡◌, ◌<◌, ◌≤◌, ◌+◌, ◌++◌, ℕ, zero, suc, List, [], ◌∷◌, length, take, drop, get_or, codes, decimal, refl, sym, ap, subst, ◌∙◌, arith, add-one, append_assoc, drop-cons, All}
+use Rattle.std.proofs.Common.{◌≡◌, ◌<◌, ◌≤◌, ◌+◌, ◌++◌, ℕ, zero, suc, List, [], ◌∷◌, length, take, drop, get_or, codes}
+use Rattle.std.proofs.Common.{decimal, refl, sym, ap, subst, ◌∙◌, arith, add-one, append_assoc, drop-cons, All}
 use Rattle.std.specs.Prelude.{slice_index, slice_index_or, Vec}
 use Rattle.std.proofs.lemmas.List.{append-nil, drop_all, length-append}
 use Rattle.hull_plain.specs.declared.call.Call.{Call}
@@ -17,7 +18,8 @@ answer_is : (worker : ℕ) (call : Call) (answer : Answer)
     → answer_line worker call answer ≡ answer_pieces worker call answer
 answer_is worker call answer =
     line_is_spaced (decimal worker) (call_fields call ++ codes "=" ∷ answer_fields answer)
-    ∙ ap (λ (t : List ℕ). decimal worker ++ t ++ 10 ∷ []) (spaced_append (call_fields call) (codes "=" ∷ answer_fields answer))
+    ∙ ap (λ (t : List ℕ). decimal worker ++ t ++ 10 ∷ [])
+    (spaced_append (call_fields call) (codes "=" ∷ answer_fields answer))
     ∙ regroup (decimal worker) (spaced (call_fields call)) (codes " =") (spaced (answer_fields answer)) (10 ∷ [])
   where
     regroup : (n c e r l : List ℕ) → n ++ (c ++ (e ++ r)) ++ l ≡ n ++ c ++ e ++ r ++ l
@@ -26,7 +28,8 @@ answer_is worker call answer =
 -- A line stands before the others.
 pub answers_cons : (worker : ℕ) (call : Call) (answer : Answer) (calls more_calls : List Call)
     (answers more_answers : List Answer) → calls ≡ call ∷ more_calls → answers ≡ answer ∷ more_answers
-    → answers_text worker calls answers ≡ answer_pieces worker call answer ++ answers_text worker more_calls more_answers
+    → answers_text worker calls answers ≡ answer_pieces worker call answer
+    ++ answers_text worker more_calls more_answers
 unfolding answers_text
 answers_cons worker call answer calls more_calls answers more_answers e f =
     rw (e, f) (ap (λ (t : List ℕ). t ++ answers_text worker more_calls more_answers) (answer_is worker call answer))
@@ -105,7 +108,8 @@ six_flat a b c d e f = simp append_assoc
 pub sum_is : (sum lines capacity : ℕ)
     → line_text (codes "sum" ∷ decimal sum ∷ codes "journal" ∷ decimal lines ∷ codes "capacity" ∷ decimal capacity ∷ [])
     ≡ sum_pieces sum lines capacity
-sum_is sum lines capacity = go (codes "sum") (decimal sum) (decimal lines) (decimal capacity) (codes " journal") (codes " capacity") (10 ∷ [])
+sum_is sum lines capacity =
+    go (codes "sum") (decimal sum) (decimal lines) (decimal capacity) (codes " journal") (codes " capacity") (10 ∷ [])
   where
     go : (w s l c x y e : List ℕ)
         → w ++ 32 ∷ (s ++ (x ++ 32 ∷ (l ++ (y ++ 32 ∷ c)))) ++ e ≡ w ++ 32 ∷ s ++ x ++ 32 ∷ l ++ y ++ 32 ∷ c ++ e
@@ -144,7 +148,8 @@ all_after P x after rest e all = λ k d lt.
 pub calls_long : (worker : ℕ) (phase : PhaseValue) (rest after : List PhaseValue) (calls : List Call)
     → rest ≡ phase ∷ after → calls ≡ slice_index_or phase worker []
     → length (calls_of worker rest) ≡ length calls + length (calls_of worker after)
-calls_long worker phase rest after calls e f = rw e (length-append (slice_index_or phase worker []) (calls_of worker after) ∙ rw (← f) refl)
+calls_long worker phase rest after calls e f =
+    rw e (length-append (slice_index_or phase worker []) (calls_of worker after) ∙ rw (← f) refl)
 
 -- No phase, no call.
 pub calls_none : (worker : ℕ) (rest : List PhaseValue) → length rest ≡ 0 → length (calls_of worker rest) ≡ 0

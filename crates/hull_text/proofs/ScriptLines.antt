@@ -1,5 +1,6 @@
 -- Reading a script line by line.
-use Rattle.std.proofs.Common.{◌≡◌, ◌<◌, ◌+◌, ℕ, suc, List, [], ◌∷◌, ◌++◌, length, Option, Some, None, Result, Ok, Err, refl, sym, ap, subst, ◌∙◌, arith, add-one, append_assoc, inl, inr}
+use Rattle.std.proofs.Common.{◌≡◌, ◌<◌, ◌+◌, ℕ, suc, List, [], ◌∷◌, ◌++◌, length, Option, Some, None, Result, Ok, Err}
+use Rattle.std.proofs.Common.{refl, sym, ap, subst, ◌∙◌, arith, add-one, append_assoc, inl, inr}
 use Rattle.std.specs.Prelude.{◌==◌, MatchResult}
 use Rattle.std.proofs.lemmas.List.{append-nil}
 use Rattle.std.proofs.lemmas.List.Splits.{slice_split_at, slice_split_none, length-slice_split}
@@ -29,17 +30,20 @@ regroup items (Ok s) (Ok js) =
 
 -- A line that is not the last.
 items_cons : (n : ℕ) (line : List ℕ) (lines : List (List ℕ)) → 0 < length lines
-    → items_of n (line ∷ lines) ≡ (numbered n (script_line_of line) >>> λ s. items_of (suc n) lines >>> λ js. Ok (kept s js))
+    → items_of n (line ∷ lines)
+    ≡ (numbered n (script_line_of line) >>> λ s. items_of (suc n) lines >>> λ js. Ok (kept s js))
 unfolding items_of
 items_cons n line [] some = absurd (omega arith)
 items_cons n line (next ∷ lines) some = refl
 
 -- A line is read, and then what stands behind its newline.
 newline : (items : List Item) (n : ℕ) (line rest : List ℕ) → HasNoNewline line
-    → reading items n (line ++ 10 ∷ rest) ≡ (numbered n (script_line_of line) >>> λ s. reading (items ++ kept s []) (suc n) rest)
+    → reading items n (line ++ 10 ∷ rest)
+    ≡ (numbered n (script_line_of line) >>> λ s. reading (items ++ kept s []) (suc n) rest)
 unfolding reading
 newline items n line rest whole =
-    let cut : pieces (line ++ 10 ∷ rest) ≡ line ∷ pieces rest = slice_split_at (λ (b : ℕ). b == 10) line 10 rest whole refl in
+    let cut : pieces (line ++ 10 ∷ rest) ≡ line ∷ pieces rest =
+    slice_split_at (λ (b : ℕ). b == 10) line 10 rest whole refl in
     let some : 0 < length (pieces rest) = omega (arith, length-slice_split (λ (b : ℕ). b == 10) rest) in
     ap (λ (ps : List (List ℕ)). with_front items (items_of n ps)) cut
     ∙ ap (λ (r : Result (List Item) TextFault). with_front items r) (items_cons n line (pieces rest) some)
@@ -64,7 +68,8 @@ script_fault items n line f whole e = λ rest.
 -- Refused memory.
 pub script_refused : (items : List Item) (n : ℕ) (text : List ℕ) (f : TextFault) → f.number ≡ 10 → f.line ≡ n
     → FailsIn (AnswersScript items n) text f
-script_refused items n text f e place = λ rest. inl (inr e, reading_goes_on items f.line n (text ++ rest) (omega (arith, place)))
+script_refused items n text f e place =
+    λ rest. inl (inr e, reading_goes_on items f.line n (text ++ rest) (omega (arith, place)))
 
 -- Refused memory behind a text that has no fault.
 pub refused_at_end : (items all : List Item) (n : ℕ) (text : List ℕ) (f : TextFault) → reading items n text ≡ Ok all
@@ -75,7 +80,8 @@ refused_at_end items all n text f e h = inl (inr h, rw e tt)
 last_piece : (items : List Item) (n : ℕ) (line : List ℕ) → HasNoNewline line
     → reading items n line ≡ with_front items (last_items n line)
 unfolding reading items_of
-last_piece items n line whole = ap (λ (ps : List (List ℕ)). with_front items (items_of n ps)) (slice_split_none (λ (b : ℕ). b == 10) line whole)
+last_piece items n line whole =
+    ap (λ (ps : List (List ℕ)). with_front items (items_of n ps)) (slice_split_none (λ (b : ℕ). b == 10) line whole)
 
 -- It is a line where it is not empty.
 last_line : (items : List Item) (n : ℕ) (line : List ℕ) → 0 < length line
@@ -90,7 +96,8 @@ last_line items n (b ∷ bs) some = step (numbered n (script_line_of (b ∷ bs))
 
 -- A text ends behind a newline.
 pub end_empty : (items : List Item) (n : ℕ) (line : List ℕ) → length line ≡ 0 → reading items n line ≡ Ok items
-end_empty items n [] none = last_piece items n [] (λ k d lt. absurd (omega arith)) ∙ ap (λ (l : List Item). Ok l) (append-nil items)
+end_empty items n [] none =
+    last_piece items n [] (λ k d lt. absurd (omega arith)) ∙ ap (λ (l : List Item). Ok l) (append-nil items)
 end_empty items n (b ∷ bs) none = absurd (omega (arith, none))
 
 -- A text ends within a line that says something, or nothing.

@@ -1,5 +1,6 @@
 -- A line of a script is read as what it says just where it is spelled so.
-use Rattle.std.proofs.Common.{◌≡◌, ◌≤◌, ℕ, List, [], ◌∷◌, ◌++◌, Option, Some, None, true, false, cond, not, Ok, decimal, codes, refl, sym, ap, subst, ◌∙◌, arith, inl, inr}
+use Rattle.std.proofs.Common.{◌≡◌, ◌≤◌, ℕ, List, [], ◌∷◌, ◌++◌, Option, Some, None, true, false, cond, not, Ok, decimal}
+use Rattle.std.proofs.Common.{codes, refl, sym, ap, subst, ◌∙◌, arith, inl, inr}
 use Rattle.std.specs.Prelude.{◌==◌}
 use Rattle.std.specs.List.{join_with_byte}
 use Rattle.std.specs.Str.{bytes_eq}
@@ -31,7 +32,8 @@ ended_ok x y (f ∷ fs) e = absurd cc
 
 -- A served call that is read is spelled there.
 served_takes : (fs : List Field) (s : Option Item) → served_at fs ≡ Ok s
-    → (order : ℕ × Call) × (s ≡ Some (Some order)) × (fs ≡ decimal order.0 ∷ call_fields order.1) × (order.0 ≤ 63) × IsCall newest order.1
+    → (order : ℕ × Call) × (s ≡ Some (Some order)) × (fs ≡ decimal order.0 ∷ call_fields order.1) × (order.0 ≤ 63)
+    × IsCall newest order.1
 unfolding served_at
 served_takes fs s e =
     let a = bind_ok (seat_at fs) (λ w. call_at newest w.1 >>= λ c. ended (Some (Some (w.0, c.0))) c.1) s e in
@@ -52,7 +54,8 @@ served_again : (w : ℕ) (c : Call) → w ≤ 63 → IsCall newest c
     → served_at (decimal w ∷ call_fields c) ≡ Ok (Some (Some (w, c)))
 unfolding served_at
 served_again w c low fits =
-    let call : call_at newest (call_fields c) ≡ Ok (c, []) = ap (call_at newest) (sym (append-nil (call_fields c))) ∙ call_again newest c [] fits in
+    let call : call_at newest (call_fields c) ≡ Ok (c, []) =
+    ap (call_at newest) (sym (append-nil (call_fields c))) ∙ call_again newest c [] fits in
     rw (seat_again w (call_fields c) low, call) refl
 
 -- What a line says is spelled there.
@@ -62,12 +65,14 @@ line_takes [] s e = subst (IsScriptLine []) (ok_is None s e) (inl refl)
 line_takes (b ∷ bs) s e = elim (chosen (b == 35) (Ok None) _ (Ok s) e) [
   | inl h ↦ subst (IsScriptLine (b ∷ bs)) (ok_is None s h.1) (inr (bs, ap (λ (x : ℕ). x ∷ bs) (eqb-true b 35 h.0)))
   | inr h ↦
-      let g = guard_err (not (has_form (b ∷ bs))) (cond (bytes_eq (b ∷ bs) (codes "join")) (Ok (Some None)) (served_at (cut (b ∷ bs)))) Form s h.1 in
+      let g = guard_err (not (has_form (b ∷ bs)))
+      (cond (bytes_eq (b ∷ bs) (codes "join")) (Ok (Some None)) (served_at (cut (b ∷ bs)))) Form s h.1 in
       elim (chosen (bytes_eq (b ∷ bs) (codes "join")) (Ok (Some None)) (served_at (cut (b ∷ bs))) (Ok s) g.1) [
         | inl k ↦ subst (IsScriptLine (b ∷ bs)) (ok_is (Some None) s k.1) (word_is (b ∷ bs) (codes "join") k.0)
         | inr k ↦
             let t = served_takes (cut (b ∷ bs)) s k.1 in
-            subst (IsScriptLine (b ∷ bs)) (sym t.1) (sym (join_with_byte-slice_split 32 (b ∷ bs)) ∙ ap (join_with_byte 32) t.2, t.3, t.4)
+            subst (IsScriptLine (b ∷ bs)) (sym t.1)
+            (sym (join_with_byte-slice_split 32 (b ∷ bs)) ∙ ap (join_with_byte 32) t.2, t.3, t.4)
       ]
 ]
 
@@ -100,7 +105,8 @@ first_of (b ∷ bs) n e =
 pub joined_first : (f : List ℕ) (fs : List (List ℕ)) (b : ℕ) (bs : List ℕ) → f ≡ b ∷ bs
     → (rest : List ℕ) × (join_with_byte 32 (f ∷ fs) ≡ b ∷ rest)
 joined_first f [] b bs e = (bs, e)
-joined_first f (g ∷ gs) b bs e = (bs ++ 32 ∷ join_with_byte 32 (g ∷ gs), ap (λ (t : List ℕ). t ++ 32 ∷ join_with_byte 32 (g ∷ gs)) e)
+joined_first f (g ∷ gs) b bs e =
+    (bs ++ 32 ∷ join_with_byte 32 (g ∷ gs), ap (λ (t : List ℕ). t ++ 32 ∷ join_with_byte 32 (g ∷ gs)) e)
 
 -- A call that is spelled is read.
 call_line : (w : ℕ) (c : Call) → w ≤ 63 → IsCall newest c

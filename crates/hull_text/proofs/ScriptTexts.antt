@@ -1,5 +1,6 @@
 -- The bytes are read as items just where their lines say these, and else have a first fault.
-use Rattle.std.proofs.Common.{◌≡◌, ◌≤◌, ◌+◌, ℕ, suc, List, [], ◌∷◌, ◌++◌, length, Option, Some, None, Bool, true, false, cond, Result, Ok, Err, refl, sym, ap, subst, ◌∙◌, add-zero, arith, ◌⊎◌, inl, inr}
+use Rattle.std.proofs.Common.{◌≡◌, ◌≤◌, ◌+◌, ℕ, suc, List, [], ◌∷◌, ◌++◌, length, Option, Some, None, Bool, true, false}
+use Rattle.std.proofs.Common.{cond, Result, Ok, Err, refl, sym, ap, subst, ◌∙◌, add-zero, arith, ◌⊎◌, inl, inr}
 use Rattle.std.specs.Prelude.{nat_le}
 use Rattle.std.proofs.lemmas.List.{length-append}
 use Rattle.std.proofs.lemmas.Bool.{leb-true}
@@ -11,11 +12,13 @@ use Rattle.hull_text.specs.declared.fault.TextFault.{TextFault}
 use Rattle.hull_text.specs.Fault.{NoFaultBefore, fault_at, fault_number}
 use Rattle.hull_text.specs.Item.{Item}
 use Rattle.hull_text.specs.ScriptLine.{script_line_of}
-use Rattle.hull_text.specs.ScriptText.{◌>>>◌, at_line, numbered, kept, items_of, pieces, script_items, without_last_empty}
+use Rattle.hull_text.specs.ScriptText.{◌>>>◌, at_line, numbered, kept, items_of, pieces, script_items}
+use Rattle.hull_text.specs.ScriptText.{without_last_empty}
 use Rattle.hull_text.specs.ScriptValue.{script_of}
 use Rattle.hull_text.specs.Reading.{AnswersAll}
 use Rattle.hull_text.specs.ScriptReading.{AnswersScript, reading}
-use Rattle.hull_text.specs.ScriptGrammar.{ReadsScript, ReadsKnownScript, IsScriptLine, AreScriptLines, IsScriptText, HasLineFault, IsScriptFault}
+use Rattle.hull_text.specs.ScriptGrammar.{ReadsScript, ReadsKnownScript, IsScriptLine, AreScriptLines, IsScriptText}
+use Rattle.hull_text.specs.ScriptGrammar.{HasLineFault, IsScriptFault}
 use Rattle.hull_text.proofs.ScriptLines.{at_start}
 use Rattle.hull_text.proofs.ScriptSpelled.{line_takes, line_again}
 
@@ -81,7 +84,8 @@ items_take n ((b ∷ bs) ∷ []) items le e =
     let t = numbered_ok n (script_line_of (b ∷ bs)) a.0 a.1 in
     ((a.0, [], line_takes (b ∷ bs) a.0 t.0, refl, sym (text_ok_is (kept a.0 []) items a.2)), omega (arith, t.1))
 items_take n (line ∷ next ∷ lines) items le e =
-    let a = text_bind (numbered n (script_line_of line)) (λ s. items_of (suc n) (next ∷ lines) >>> λ is. Ok (kept s is)) items e in
+    let a = text_bind (numbered n (script_line_of line))
+    (λ s. items_of (suc n) (next ∷ lines) >>> λ is. Ok (kept s is)) items e in
     let b = text_bind (items_of (suc n) (next ∷ lines)) (λ is. Ok (kept a.0 is)) items a.2 in
     let t = numbered_ok n (script_line_of line) a.0 a.1 in
     let rest = items_take (suc n) (next ∷ lines) b.0 (omega (arith, t.1)) b.1 in
@@ -99,7 +103,8 @@ items_again n ((b ∷ bs) ∷ []) items h le =
     (ap (λ (x : List Item). Ok x) (ap (kept h.0) (sym h.3) ∙ sym h.4))
 items_again n (line ∷ next ∷ lines) items h le =
     let rest : items_of (suc n) (next ∷ lines) ≡ Ok h.1 = items_again (suc n) (next ∷ lines) h.1 h.3 (omega arith) in
-    rw (numbered_again n (script_line_of line) h.0 (line_again line h.0 h.2) (omega arith), rest) (ap (λ (x : List Item). Ok x) (sym h.4))
+    rw (numbered_again n (script_line_of line) h.0 (line_again line h.0 h.2) (omega arith), rest)
+    (ap (λ (x : List Item). Ok x) (sym h.4))
 
 -- The items that are read make the script whose text the bytes are.
 pub script_taken : (bytes : List ℕ) (items : List Item) → script_items bytes ≡ Ok items
@@ -197,10 +202,11 @@ items_fault : (m : ℕ) (ps : List (List ℕ)) (f : TextFault) → m ≤ 3355443
 unfolding items_of
 items_fault m [] f le e = absurd cc
 items_fault m ([] ∷ []) f le e = absurd cc
-items_fault m ((b ∷ bs) ∷ []) f le e = elim (text_bind_err (numbered (suc m) (script_line_of (b ∷ bs))) (λ s. Ok (kept s [])) f e) [
-  | inl h ↦ fault_here m (b ∷ bs) [] f (numbered_err m (b ∷ bs) f le h)
-  | inr h ↦ absurd (no_err (kept h.0 []) f h.2)
-]
+items_fault m ((b ∷ bs) ∷ []) f le e =
+    elim (text_bind_err (numbered (suc m) (script_line_of (b ∷ bs))) (λ s. Ok (kept s [])) f e) [
+      | inl h ↦ fault_here m (b ∷ bs) [] f (numbered_err m (b ∷ bs) f le h)
+      | inr h ↦ absurd (no_err (kept h.0 []) f h.2)
+    ]
   where
     no_err : (items : List Item) (f : TextFault) → text_done items ≡ text_failed f → ⊥
     no_err items f e = cc
@@ -250,7 +256,8 @@ fault_made n kind f place number = rw (← place, ← number) refl
 numbered_stop : (m : ℕ) (line : List ℕ) (f : TextFault) → f.line ≡ suc m → HasLineFault m line f.number
     → numbered (suc m) (script_line_of line) ≡ Err f
 unfolding numbered
-numbered_stop m line f place (inl h) = rw (h.0) (ap (λ (g : TextFault). Err g) (fault_made 33554433 Form f (omega (arith, place, h.0)) h.1))
+numbered_stop m line f place (inl h) =
+    rw (h.0) (ap (λ (g : TextFault). Err g) (fault_made 33554433 Form f (omega (arith, place, h.0)) h.1))
 numbered_stop m line f place (inr h) =
     rw (low (suc m) (omega (arith, h.0)), h.1.1)
     (ap (λ (g : TextFault). Err g) (fault_made (suc m) h.1.0 f place h.1.2))
@@ -273,8 +280,10 @@ items_stop : (m : ℕ) (ps before : List (List ℕ)) (line : List ℕ) (after : 
     (f : TextFault) → without_last_empty ps ≡ before ++ line ∷ after → AreScriptLines before items
     → f.line ≡ suc (m + length before) → HasLineFault (m + length before) line f.number → items_of (suc m) ps ≡ Err f
 unfolding items_of
-items_stop m [] before line after items f whole right place h = absurd (omega (arith, ap length whole, length-append before (line ∷ after)))
-items_stop m ([] ∷ []) before line after items f whole right place h = absurd (omega (arith, ap length whole, length-append before (line ∷ after)))
+items_stop m [] before line after items f whole right place h =
+    absurd (omega (arith, ap length whole, length-append before (line ∷ after)))
+items_stop m ([] ∷ []) before line after items f whole right place h =
+    absurd (omega (arith, ap length whole, length-append before (line ∷ after)))
 items_stop m ((b ∷ bs) ∷ []) [] line after items f whole right place h =
     rw (here m (b ∷ bs) line f (first_is (b ∷ bs) line [] after whole) place h) refl
 items_stop m ((b ∷ bs) ∷ []) (l ∷ before) line after items f whole right place h =
@@ -289,7 +298,11 @@ items_stop m (p ∷ next ∷ ps) (l ∷ before) line after items f whole right p
     let more = items_stop (suc m) (next ∷ ps) before line after right.1 f
     (others_are p l (without_last_empty (next ∷ ps)) (before ++ line ∷ after) whole) right.3 (omega (arith, place))
     (subst (λ (k : ℕ). HasLineFault k line f.number) same h) in
-    rw (numbered_again (suc m) (script_line_of p) right.0 said (omega (arith, few (m + length (l ∷ before)) h)), more) refl
+    rw (
+      numbered_again (suc m) (script_line_of p) right.0 said
+          (omega (arith, few (m + length (l ∷ before)) h)),
+      more,
+    ) refl
   where
     few : (k : ℕ) → HasLineFault k line f.number → k ≤ 33554432
     few k (inl h) = omega (arith, h.0)
@@ -316,8 +329,13 @@ reads_known (Some bytes) items n answer none first h =
     (subst (λ (is : List Item). AnswersScript is n bytes answer) none (h small)))
   where
     step : (answer : Result ScriptValue TextFault) → AnswersScript [] 1 bytes answer → ReadsScript bytes answer
-    step (Ok v) h = subst (λ (script : ScriptValue). IsScriptText bytes script) (sym h.2) (script_taken bytes h.0 (sym (at_start bytes) ∙ h.1))
+    step (Ok v) h = subst (λ (script : ScriptValue). IsScriptText bytes script) (sym h.2)
+        (script_taken bytes h.0 (sym (at_start bytes) ∙ h.1))
     step (Err f) h = elim h [
-      | inl o ↦ inl (o.0, λ g s. not_before f.line g (reading [] 1 bytes) o.1 (at_start bytes ∙ script_fault_again bytes g s))
+      | inl o ↦ inl (
+        o.0,
+        λ g s. not_before f.line g (reading [] 1 bytes) o.1
+            (at_start bytes ∙ script_fault_again bytes g s),
+      )
       | inr e ↦ inr (script_fault_is bytes f (sym (at_start bytes) ∙ e))
     ]

@@ -17,4 +17,5 @@ answer_line worker call answer = line_text (decimal worker ∷ (call_fields call
 unfoldable pub answers_text : ℕ → List Call → List Answer → List ℕ
 answers_text worker [] answers = []
 answers_text worker (call ∷ calls) [] = []
-answers_text worker (call ∷ calls) (answer ∷ answers) = answer_line worker call answer ++ answers_text worker calls answers
+answers_text worker (call ∷ calls) (answer ∷ answers) =
+    answer_line worker call answer ++ answers_text worker calls answers

@@ -1,7 +1,8 @@
 -- The numbers of the faults.
 use Rattle.std.specs.Prelude.{◌≡◌, ℕ, ◌≤◌, ◌⊎◌, Result, Ok, Err}
 use Rattle.hull_text.specs.declared.fault.FaultKind.{FaultKind}
-use Rattle.hull_text.specs.declared.fault.FaultKind.TheVariants.{Form, Number, Coordinate, Worker, Word, Truncated, Header, Read, NoMemory}
+use Rattle.hull_text.specs.declared.fault.FaultKind.TheVariants.{Form, Number, Coordinate, Worker, Word, Truncated}
+use Rattle.hull_text.specs.declared.fault.FaultKind.TheVariants.{Header, Read, NoMemory}
 use Rattle.hull_text.specs.declared.fault.TextFault.{TextFault}
 
 -- the number by which a fault is reported

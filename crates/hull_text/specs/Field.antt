@@ -1,5 +1,6 @@
 -- What the fields of a line say from the left, or their first fault. What is read comes with the fields behind it.
-use Rattle.std.specs.Prelude.{◌≡◌, ◌⊎◌, ℕ, ℤ, pos, negsuc, List, [], ◌∷◌, Option, Some, None, Result, Ok, Err, ◌==◌, ◌&&◌, nat_le, nat_lt, Bool, false, if◌then◌else◌}
+use Rattle.std.specs.Prelude.{◌≡◌, ◌⊎◌, ℕ, ℤ, pos, negsuc, List, [], ◌∷◌, Option, Some, None, Result, Ok, Err, ◌==◌}
+use Rattle.std.specs.Prelude.{◌&&◌, nat_le, nat_lt, Bool, false, if◌then◌else◌}
 use Rattle.std.specs.List.{slice_split}
 use Rattle.std.specs.Borrow.{Bor}
 use Rattle.lattice.specs.Plane.{Pair}

@@ -4,7 +4,8 @@ use Rattle.std.specs.Prelude.{ℕ, List, [], ◌∷◌, ◌==◌, ◌&&◌, not,
 -- The form of what stands behind a space or the line's beginning (then spaced is true), or behind another byte.
 abbrev pub has_form_after : Bool → List ℕ → Bool
 has_form_after spaced [] = not spaced
-has_form_after spaced (b ∷ bs) = if b == 32 then (not spaced && has_form_after true bs) else (nat_le 33 b && nat_le b 126 && has_form_after false bs)
+has_form_after spaced (b ∷ bs) =
+    if b == 32 then (not spaced && has_form_after true bs) else (nat_le 33 b && nat_le b 126 && has_form_after false bs)
 
 -- all bytes are from 32 to 126, no space is first or last, and no two stand together
 unfoldable pub has_form : List ℕ → Bool

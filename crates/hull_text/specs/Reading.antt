@@ -1,5 +1,6 @@
 -- How the reading of a text goes on, line by line, whatever pieces it comes in.
-use Rattle.std.specs.Prelude.{◌≡◌, ◌⊎◌, ◌<◌, ◌≤◌, ◌+◌, ◌^◌, ◌==◌, ℕ, List, [], ◌∷◌, ◌++◌, length, Option, Some, None, Result, Err, false, if◌then◌else◌}
+use Rattle.std.specs.Prelude.{◌≡◌, ◌⊎◌, ◌<◌, ◌≤◌, ◌+◌, ◌^◌, ◌==◌, ℕ, List, [], ◌∷◌, ◌++◌, length, Option, Some, None}
+use Rattle.std.specs.Prelude.{Result, Err, false, if◌then◌else◌}
 use Rattle.std.specs.List.{All}
 use Rattle.hull_text.specs.declared.fault.TextFault.{TextFault}
 use Rattle.hull_text.specs.declared.fault.FaultKind.TheVariants.{NoMemory}
@@ -21,7 +22,8 @@ Outlook V = List ℕ → Result V TextFault → Type 0
 
 -- What a reader may answer with left still to come, it might answer with text before: text was read as far as left.
 abbrev pub ReadsOn : {V : Type 0} → Outlook V → Outlook V → List ℕ → List ℕ → Type 0
-ReadsOn {V = V} old new text left = (rest : List ℕ) (answer : Result V TextFault) → new (left ++ rest) answer → old (text ++ rest) answer
+ReadsOn {V = V} old new text left = (rest : List ℕ) (answer : Result V TextFault) → new (left ++ rest) answer
+    → old (text ++ rest) answer
 
 -- The text has this fault, whatever comes behind it.
 abbrev pub FailsIn : {V : Type 0} → Outlook V → List ℕ → TextFault → Type 0
@@ -44,7 +46,8 @@ abbrev pub IsLineTaken : Option (List ℕ) → Option (List ℕ) → ℕ → Typ
 IsLineTaken None left line = Unit {0}
 IsLineTaken (Some bytes) None line = ⊥
 IsLineTaken (Some bytes) (Some left) line =
-    (taken : List ℕ) × (bytes ≡ taken ++ left) × (1 ≤ line) × ((line ≤ 1 + newlines taken) ⊎ ((left ≡ []) × (line ≡ 1 + length (text_lines bytes))))
+    (taken : List ℕ) × (bytes ≡ taken ++ left) × (1 ≤ line)
+    × ((line ≤ 1 + newlines taken) ⊎ ((left ≡ []) × (line ≡ 1 + length (text_lines bytes))))
 
 -- The line of a fault that is told at the end of a text, of which this part is left from the beginning of line n on:
 -- the line

@@ -1,5 +1,6 @@
 -- The grammar of scripts, and their first fault.
-use Rattle.std.specs.Prelude.{◌≡◌, ◌⊎◌, ◌<◌, ◌≤◌, ◌+◌, ◌^◌, ℕ, List, [], ◌∷◌, ◌++◌, length, codes, decimal, Option, Some, None, Result, Ok, Err}
+use Rattle.std.specs.Prelude.{◌≡◌, ◌⊎◌, ◌<◌, ◌≤◌, ◌+◌, ◌^◌, ℕ, List, [], ◌∷◌, ◌++◌, length, codes, decimal, Option}
+use Rattle.std.specs.Prelude.{Some, None, Result, Ok, Err}
 use Rattle.std.specs.List.{join_with_byte}
 use Rattle.hull_book.specs.declared.limits.TheConstants.{TEXT_LINE_LIMIT}
 use Rattle.hull_book.specs.Scripts.{ScriptValue}
@@ -17,12 +18,15 @@ use Rattle.hull_text.specs.ScriptValue.{script_of}
 abbrev pub IsScriptLine : List ℕ → Option Item → Type 0
 IsScriptLine line None = (line ≡ []) ⊎ ((rest : List ℕ) × (line ≡ 35 ∷ rest))
 IsScriptLine line (Some None) = line ≡ codes "join"
-IsScriptLine line (Some (Some order)) = (line ≡ join_with_byte 32 (decimal order.0 ∷ call_fields order.1)) × (order.0 ≤ 63) × IsCall newest order.1
+IsScriptLine line (Some (Some order)) =
+    (line ≡ join_with_byte 32 (decimal order.0 ∷ call_fields order.1)) × (order.0 ≤ 63) × IsCall newest order.1
 
 -- The lines say these items.
 abbrev pub AreScriptLines : List (List ℕ) → List Item → Type 0
 AreScriptLines [] items = items ≡ []
-AreScriptLines (line ∷ lines) items = (said : Option Item) × (rest : List Item) × IsScriptLine line said × AreScriptLines lines rest × (items ≡ kept said rest)
+AreScriptLines (line ∷ lines) items =
+    (said : Option Item) × (rest : List Item) × IsScriptLine line said × AreScriptLines lines rest
+    × (items ≡ kept said rest)
 
 -- The bytes are a text of the script.
 pub record IsScriptText (bytes : List ℕ) (script : ScriptValue) : Type 0 where
@@ -34,7 +38,9 @@ pub record IsScriptText (bytes : List ℕ) (script : ScriptValue) : Type 0 where
 -- A line behind so many others has this fault: its own first one from the left, or that it is one line too many.
 abbrev pub HasLineFault : ℕ → List ℕ → ℕ → Type 0
 HasLineFault before line number =
-    ((before ≡ TEXT_LINE_LIMIT) × (number ≡ 1)) ⊎ ((before < TEXT_LINE_LIMIT) × ((kind : FaultKind) × (script_line_of line ≡ Err kind) × (number ≡ fault_number kind)))
+    ((before ≡ TEXT_LINE_LIMIT) × (number ≡ 1))
+    ⊎ ((before < TEXT_LINE_LIMIT)
+    × ((kind : FaultKind) × (script_line_of line ≡ Err kind) × (number ≡ fault_number kind)))
 
 -- The first fault of the bytes: all lines before it are right.
 pub record IsScriptFault (bytes : List ℕ) (f : TextFault) : Type 0 where

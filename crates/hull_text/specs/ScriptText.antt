@@ -1,5 +1,6 @@
 -- What a whole script says, or its first fault.
-use Rattle.std.specs.Prelude.{ℕ, suc, ◌==◌, List, [], ◌∷◌, ◌++◌, Option, Some, None, Result, Ok, Err, nat_le, if◌then◌else◌}
+use Rattle.std.specs.Prelude.{ℕ, suc, ◌==◌, List, [], ◌∷◌, ◌++◌, Option, Some, None, Result, Ok, Err, nat_le}
+use Rattle.std.specs.Prelude.{if◌then◌else◌}
 use Rattle.std.specs.List.{slice_split}
 use Rattle.hull_book.specs.declared.limits.TheConstants.{TEXT_LINE_LIMIT}
 use Rattle.hull_text.specs.declared.fault.FaultKind.{FaultKind}
@@ -38,7 +39,8 @@ last_items n (b ∷ bs) = numbered n (script_line_of (b ∷ bs)) >>> λ i. Ok (k
 unfoldable pub items_of : ℕ → List (List ℕ) → Result (List Item) TextFault
 items_of n [] = Ok []
 items_of n (line ∷ []) = last_items n line
-items_of n (line ∷ next ∷ lines) = numbered n (script_line_of line) >>> λ i. items_of (suc n) (next ∷ lines) >>> λ is. Ok (kept i is)
+items_of n (line ∷ next ∷ lines) =
+    numbered n (script_line_of line) >>> λ i. items_of (suc n) (next ∷ lines) >>> λ is. Ok (kept i is)
 
 -- the pieces of a text between its newlines
 abbrev pub pieces : List ℕ → List (List ℕ)

@@ -1,5 +1,6 @@
 -- The value of a script: its phases, with the calls of each worker in order.
-use Rattle.std.specs.Prelude.{◌≤◌, ◌+◌, ◌==◌, ℕ, zero, suc, max, List, [], ◌∷◌, ◌++◌, map, Option, Some, None, if◌then◌else◌, Bool, true, false}
+use Rattle.std.specs.Prelude.{◌≤◌, ◌+◌, ◌==◌, ℕ, zero, suc, max, List, [], ◌∷◌, ◌++◌, map, Option, Some, None}
+use Rattle.std.specs.Prelude.{if◌then◌else◌, Bool, true, false}
 use Rattle.std.specs.Borrow.{Bor}
 use Rattle.std.specs.List.{slice_split}
 use Rattle.hull_plain.specs.declared.call.Call.{Call}

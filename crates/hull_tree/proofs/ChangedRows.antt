@@ -1,10 +1,12 @@
 -- What a change makes of a set, and of two lists in a row.
 use Rattle.std.proofs.Common.{◌≡◌, ◌+◌, refl, sym, ap, subst, List, [], ◌∷◌, ◌++◌, length, arith, inl, inr, zero, suc}
 use Rattle.std.specs.List.{All, Contains}
-use Rattle.std.proofs.lemmas.List.Elements.{All-contains, All-weaker, All-cons, All-head, All-tail, Contains-append_right, Contains-append_cases}
+use Rattle.std.proofs.lemmas.List.Elements.{All-contains, All-weaker, All-cons, All-head, All-tail}
+use Rattle.std.proofs.lemmas.List.Elements.{Contains-append_right, Contains-append_cases}
 use Rattle.lattice.specs.Covers.{IsPointSet, with_point, without_point}
 use Rattle.lattice.specs.Plane.{Pair, IsBefore}
-use Rattle.lattice.proofs.Order.{before_trans, before_irrefl, before_total, before_not, before_apart, after_apart, is_before-true, is_before-false}
+use Rattle.lattice.proofs.Order.{before_trans, before_irrefl, before_total, before_not, before_apart, after_apart}
+use Rattle.lattice.proofs.Order.{is_before-true, is_before-false}
 use Rattle.hull_plain.proofs.PointLists.{AllPairs-cons, AllPairs-head, AllPairs-tail, AllPairs-none}
 
 -- the one member of a list of one
@@ -21,18 +23,24 @@ with_left p [] (y ∷ ys) a =
 with_left p (x ∷ xs) ys a =
     elim (before_total x p) [
       | inl h ↦ rw (is_before-true x p h) (ap (λ (z : List Pair). x ∷ z) (with_left p xs ys a))
-      | inr (inl e) ↦ rw (is_before-false x p (λ k. before_apart x p k e), is_before-false p x (λ k. after_apart x p k e)) refl
+      | inr (inl e) ↦ rw (
+        is_before-false x p (λ k. before_apart x p k e),
+        is_before-false p x (λ k. after_apart x p k e),
+      ) refl
       | inr (inr h) ↦ rw (is_before-false x p (before_not p x h), is_before-true p x h) refl
     ]
 
 -- p after all of the left list: it is added to the right one
-pub with_right : (p : Pair) (xs ys : List Pair) → All (λ t. IsBefore t p) xs → with_point p (xs ++ ys) ≡ xs ++ with_point p ys
+pub with_right : (p : Pair) (xs ys : List Pair) → All (λ t. IsBefore t p) xs
+    → with_point p (xs ++ ys) ≡ xs ++ with_point p ys
 with_right p [] ys a = refl
 with_right p (x ∷ xs) ys a =
-    rw (is_before-true x p (All-head (λ t. IsBefore t p) x xs a)) (ap (λ (z : List Pair). x ∷ z) (with_right p xs ys (All-tail (λ t. IsBefore t p) x xs a)))
+    rw (is_before-true x p (All-head (λ t. IsBefore t p) x xs a))
+    (ap (λ (z : List Pair). x ∷ z) (with_right p xs ys (All-tail (λ t. IsBefore t p) x xs a)))
 
 -- p before all of the right list: it is taken from the left one
-pub without_left : (p : Pair) (xs ys : List Pair) → All (IsBefore p) ys → without_point p (xs ++ ys) ≡ without_point p xs ++ ys
+pub without_left : (p : Pair) (xs ys : List Pair) → All (IsBefore p) ys
+    → without_point p (xs ++ ys) ≡ without_point p xs ++ ys
 without_left p [] [] a = refl
 without_left p [] (y ∷ ys) a =
     let h : IsBefore p y = All-head (IsBefore p) y ys a in
@@ -40,23 +48,32 @@ without_left p [] (y ∷ ys) a =
 without_left p (x ∷ xs) ys a =
     elim (before_total x p) [
       | inl h ↦ rw (is_before-true x p h) (ap (λ (z : List Pair). x ∷ z) (without_left p xs ys a))
-      | inr (inl e) ↦ rw (is_before-false x p (λ k. before_apart x p k e), is_before-false p x (λ k. after_apart x p k e)) refl
+      | inr (inl e) ↦ rw (
+        is_before-false x p (λ k. before_apart x p k e),
+        is_before-false p x (λ k. after_apart x p k e),
+      ) refl
       | inr (inr h) ↦ rw (is_before-false x p (before_not p x h), is_before-true p x h) refl
     ]
 
 -- p after all of the left list: it is taken from the right one
-pub without_right : (p : Pair) (xs ys : List Pair) → All (λ t. IsBefore t p) xs → without_point p (xs ++ ys) ≡ xs ++ without_point p ys
+pub without_right : (p : Pair) (xs ys : List Pair) → All (λ t. IsBefore t p) xs
+    → without_point p (xs ++ ys) ≡ xs ++ without_point p ys
 without_right p [] ys a = refl
 without_right p (x ∷ xs) ys a =
-    rw (is_before-true x p (All-head (λ t. IsBefore t p) x xs a)) (ap (λ (z : List Pair). x ∷ z) (without_right p xs ys (All-tail (λ t. IsBefore t p) x xs a)))
+    rw (is_before-true x p (All-head (λ t. IsBefore t p) x xs a))
+    (ap (λ (z : List Pair). x ∷ z) (without_right p xs ys (All-tail (λ t. IsBefore t p) x xs a)))
 
 -- what holds of p and of all members holds of all members with p
 with_all : (P : Pair → Type 0) (p : Pair) (xs : List Pair) → P p → All P xs → All P (with_point p xs)
 with_all P p [] h a = All-cons P p [] h a
 with_all P p (x ∷ xs) h a =
     elim (before_total x p) [
-      | inl k ↦ rw (is_before-true x p k) (All-cons P x (with_point p xs) (All-head P x xs a) (with_all P p xs h (All-tail P x xs a)))
-      | inr (inl e) ↦ rw (is_before-false x p (λ k. before_apart x p k e), is_before-false p x (λ k. after_apart x p k e)) a
+      | inl k ↦ rw (is_before-true x p k)
+          (All-cons P x (with_point p xs) (All-head P x xs a) (with_all P p xs h (All-tail P x xs a)))
+      | inr (inl e) ↦ rw (
+        is_before-false x p (λ k. before_apart x p k e),
+        is_before-false p x (λ k. after_apart x p k e),
+      ) a
       | inr (inr k) ↦ rw (is_before-false x p (before_not p x k), is_before-true p x k) (All-cons P p (x ∷ xs) h a)
     ]
 
@@ -65,10 +82,17 @@ pub with_set : (p : Pair) (xs : List Pair) → IsPointSet xs → IsPointSet (wit
 with_set p [] s = AllPairs-cons p [] (λ k d l. absurd (omega arith)) AllPairs-none
 with_set p (x ∷ xs) s =
     elim (before_total x p) [
-      | inl k ↦ rw (is_before-true x p k) (AllPairs-cons x (with_point p xs) (with_all (IsBefore x) p xs k (AllPairs-head x xs s)) (with_set p xs (AllPairs-tail x xs s)))
-      | inr (inl e) ↦ rw (is_before-false x p (λ k. before_apart x p k e), is_before-false p x (λ k. after_apart x p k e)) s
+      | inl k ↦ rw (is_before-true x p k)
+          (AllPairs-cons x (with_point p xs) (with_all (IsBefore x) p xs k (AllPairs-head x xs s))
+          (with_set p xs (AllPairs-tail x xs s)))
+      | inr (inl e) ↦ rw (
+        is_before-false x p (λ k. before_apart x p k e),
+        is_before-false p x (λ k. after_apart x p k e),
+      ) s
       | inr (inr k) ↦ rw (is_before-false x p (before_not p x k), is_before-true p x k)
-          (AllPairs-cons p (x ∷ xs) (All-cons (IsBefore p) x xs k (All-weaker (IsBefore x) (IsBefore p) (λ t h. before_trans p x t k h) xs (AllPairs-head x xs s))) s)
+          (AllPairs-cons p (x ∷ xs)
+          (All-cons (IsBefore p) x xs k
+          (All-weaker (IsBefore x) (IsBefore p) (λ t h. before_trans p x t k h) xs (AllPairs-head x xs s))) s)
     ]
 
 -- what holds of all members holds of all members without p
@@ -76,8 +100,12 @@ without_all : (P : Pair → Type 0) (p : Pair) (xs : List Pair) → All P xs →
 without_all P p [] a = a
 without_all P p (x ∷ xs) a =
     elim (before_total x p) [
-      | inl k ↦ rw (is_before-true x p k) (All-cons P x (without_point p xs) (All-head P x xs a) (without_all P p xs (All-tail P x xs a)))
-      | inr (inl e) ↦ rw (is_before-false x p (λ k. before_apart x p k e), is_before-false p x (λ k. after_apart x p k e)) (All-tail P x xs a)
+      | inl k ↦ rw (is_before-true x p k)
+          (All-cons P x (without_point p xs) (All-head P x xs a) (without_all P p xs (All-tail P x xs a)))
+      | inr (inl e) ↦ rw (
+        is_before-false x p (λ k. before_apart x p k e),
+        is_before-false p x (λ k. after_apart x p k e),
+      ) (All-tail P x xs a)
       | inr (inr k) ↦ rw (is_before-false x p (before_not p x k), is_before-true p x k) a
     ]
 
@@ -86,8 +114,13 @@ pub without_set : (p : Pair) (xs : List Pair) → IsPointSet xs → IsPointSet (
 without_set p [] s = s
 without_set p (x ∷ xs) s =
     elim (before_total x p) [
-      | inl k ↦ rw (is_before-true x p k) (AllPairs-cons x (without_point p xs) (without_all (IsBefore x) p xs (AllPairs-head x xs s)) (without_set p xs (AllPairs-tail x xs s)))
-      | inr (inl e) ↦ rw (is_before-false x p (λ k. before_apart x p k e), is_before-false p x (λ k. after_apart x p k e)) (AllPairs-tail x xs s)
+      | inl k ↦ rw (is_before-true x p k)
+          (AllPairs-cons x (without_point p xs) (without_all (IsBefore x) p xs (AllPairs-head x xs s))
+          (without_set p xs (AllPairs-tail x xs s)))
+      | inr (inl e) ↦ rw (
+        is_before-false x p (λ k. before_apart x p k e),
+        is_before-false p x (λ k. after_apart x p k e),
+      ) (AllPairs-tail x xs s)
       | inr (inr k) ↦ rw (is_before-false x p (before_not p x k), is_before-true p x k) s
     ]
 
@@ -100,18 +133,26 @@ pub with_length : (p : Pair) (xs : List Pair) → ¬ (Contains xs p) → length 
 with_length p [] n = refl
 with_length p (x ∷ xs) n =
     elim (before_total x p) [
-      | inl k ↦ rw (is_before-true x p k) (let e : length (with_point p xs) ≡ length xs + 1 = with_length p xs (λ h. n (Contains-append_right (x ∷ []) xs p h)) in omega (arith, e))
+      | inl k ↦ rw (is_before-true x p k)
+          (let e : length (with_point p xs) ≡ length xs + 1 =
+          with_length p xs (λ h. n (Contains-append_right (x ∷ []) xs p h)) in omega (arith, e))
       | inr (inl e) ↦ absurd (n (0, omega arith, e))
       | inr (inr k) ↦ rw (is_before-false x p (before_not p x k), is_before-true p x k) (omega arith)
     ]
 
 -- a member that is taken is one less
-pub without_length : (p : Pair) (xs : List Pair) → IsPointSet xs → Contains xs p → length (without_point p xs) + 1 ≡ length xs
+pub without_length : (p : Pair) (xs : List Pair) → IsPointSet xs → Contains xs p
+    → length (without_point p xs) + 1 ≡ length xs
 without_length p [] s (i, l, e) = absurd (omega arith)
 without_length p (x ∷ xs) s h =
     elim (before_total x p) [
-      | inl k ↦ rw (is_before-true x p k) (let e : length (without_point p xs) + 1 ≡ length xs = without_length p xs (AllPairs-tail x xs s) (in_rest k) in omega (arith, e))
-      | inr (inl e) ↦ rw (is_before-false x p (λ k. before_apart x p k e), is_before-false p x (λ k. after_apart x p k e)) (omega arith)
+      | inl k ↦ rw (is_before-true x p k)
+          (let e : length (without_point p xs) + 1 ≡ length xs =
+          without_length p xs (AllPairs-tail x xs s) (in_rest k) in omega (arith, e))
+      | inr (inl e) ↦ rw (
+        is_before-false x p (λ k. before_apart x p k e),
+        is_before-false p x (λ k. after_apart x p k e),
+      ) (omega arith)
       | inr (inr k) ↦ absurd (nowhere k)
     ]
   where

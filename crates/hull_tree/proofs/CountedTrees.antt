@@ -1,5 +1,6 @@
 -- What a change of a tree with a limit is answered, and what it makes of what is held.
-use Rattle.std.proofs.Common.{◌≡◌, ℕ, ◌+◌, ◌-◌, ◌<◌, ◌≤◌, ap, refl, sym, ◌∙◌, List, length, arith, Some, inl, inr, subst}
+use Rattle.std.proofs.Common.{◌≡◌, ℕ, ◌+◌, ◌-◌, ◌<◌, ◌≤◌, ap, refl, sym, ◌∙◌, List, length, arith, Some, inl, inr}
+use Rattle.std.proofs.Common.{subst}
 use Rattle.std.specs.Prelude.{Option}
 use Rattle.std.specs.List.{Contains}
 use Rattle.lattice.specs.Plane.{Pair}
@@ -30,84 +31,113 @@ pub record IsCounted (root : Option Node) (n m : Node) (p : Pair) (count limit r
   pub same : tree_of m ≡ tree_of n
 
 -- n was well built
-built_before : {root : Option Node} {n m : Node} {p : Pair} {count limit r : ℕ} → IsCounted root n m p count limit r → IsWellBuilt n
+built_before : {root : Option Node} {n m : Node} {p : Pair} {count limit r : ℕ} → IsCounted root n m p count limit r
+    → IsWellBuilt n
 built_before k = subst IsWellBuiltRoot k.own k.limited.built
 
 -- m is a tree of the same set
-pub limited_after : {root : Option Node} {n m : Node} {p : Pair} {count limit r : ℕ} → IsCounted root n m p count limit r → IsLimited (Some m) count limit
+pub limited_after : {root : Option Node} {n m : Node} {p : Pair} {count limit r : ℕ}
+    → IsCounted root n m p count limit r → IsLimited (Some m) count limit
 limited_after k = record {
   built = k.built;
-  counted = k.limited.counted ∙ ap (λ (z : Option Node). length (points_of_root z)) k.own ∙ ap (λ (t : Tree). length (points_of t)) (sym k.same);
+  counted = k.limited.counted ∙ ap (λ (z : Option Node). length (points_of_root z)) k.own
+      ∙ ap (λ (t : Tree). length (points_of t)) (sym k.same);
   room = k.limited.room;
   low = k.limited.low;
   high = k.limited.high;
 }
 
 -- so it is sound
-pub sound_after : {root : Option Node} {n m : Node} {p : Pair} {count limit r : ℕ} → IsCounted root n m p count limit r → IsSound (Some m)
+pub sound_after : {root : Option Node} {n m : Node} {p : Pair} {count limit r : ℕ} → IsCounted root n m p count limit r
+    → IsSound (Some m)
 sound_after k = sound _ _ _ (limited_after k)
 
 -- p is held no more often than a point may be
-pub few_times : {root : Option Node} {n m : Node} {p : Pair} {count limit r : ℕ} → IsCounted root n m p count limit r → r ≤ MULTIPLICITY_LIMIT
-few_times {root} {n} {m} {p} k = let b : IsWellBuilt n = built_before k in omega (arith, k.was, times_few n p b.bridged b.labelled)
+pub few_times : {root : Option Node} {n m : Node} {p : Pair} {count limit r : ℕ} → IsCounted root n m p count limit r
+    → r ≤ MULTIPLICITY_LIMIT
+few_times {root} {n} {m} {p} k = let b : IsWellBuilt n = built_before k in
+    omega (arith, k.was, times_few n p b.bridged b.labelled)
 
 -- where p is held at least once, it is a live point
-live : {root : Option Node} {n m : Node} {p : Pair} {count limit r : ℕ} → IsCounted root n m p count limit r → 1 ≤ r → Contains (points_of_root root) p
+live : {root : Option Node} {n m : Node} {p : Pair} {count limit r : ℕ} → IsCounted root n m p count limit r → 1 ≤ r
+    → Contains (points_of_root root) p
 live {root} {n} {m} {p} k l = rw k.own ((live_iff n p (built_before k)).1 (omega (arith, k.was, l)))
 
 -- and one of the points of m
-pub live_after : {root : Option Node} {n m : Node} {p : Pair} {count limit r : ℕ} → IsCounted root n m p count limit r → 1 ≤ r → Contains (points_below m) p
-live_after {root} {n} {m} {p} k l = contains_of_on (tree_of m) p (subst (λ u. On u p) (sym k.same) (live_by_times n p (omega (arith, k.was, l))))
+pub live_after : {root : Option Node} {n m : Node} {p : Pair} {count limit r : ℕ} → IsCounted root n m p count limit r
+    → 1 ≤ r → Contains (points_below m) p
+live_after {root} {n} {m} {p} k l =
+    contains_of_on (tree_of m) p (subst (λ u. On u p) (sym k.same) (live_by_times n p (omega (arith, k.was, l))))
 
 -- where it is held 0 times, it is none
-pub dead : {root : Option Node} {n m : Node} {p : Pair} {count limit r : ℕ} → IsCounted root n m p count limit r → r ≡ 0 → ¬ (Contains (points_of_root root) p)
+pub dead : {root : Option Node} {n m : Node} {p : Pair} {count limit r : ℕ} → IsCounted root n m p count limit r → r ≡ 0
+    → ¬ (Contains (points_of_root root) p)
 dead {root} {n} {m} {p} k z = rw k.own (not_live n p (built_before k) (sym k.was ∙ z))
 
 -- and none of the points of m
-pub dead_after : {root : Option Node} {n m : Node} {p : Pair} {count limit r : ℕ} → IsCounted root n m p count limit r → r ≡ 0 → ¬ (Contains (points_below m) p)
-dead_after {root} {n} {m} {p} k z i = not_live n p (built_before k) (sym k.was ∙ z) (subst (λ u. Contains (points_of u) p) k.same i)
+pub dead_after : {root : Option Node} {n m : Node} {p : Pair} {count limit r : ℕ} → IsCounted root n m p count limit r
+    → r ≡ 0 → ¬ (Contains (points_below m) p)
+dead_after {root} {n} {m} {p} k z i =
+    not_live n p (built_before k) (sym k.was ∙ z) (subst (λ u. Contains (points_of u) p) k.same i)
 
 -- a list with a member is not empty
 pub some_points : (S : List Pair) (p : Pair) → Contains S p → 1 ≤ length S
 some_points S p (k, l, e) = omega (arith, l)
 
 -- a point that is held as often as a point may be is one too many
-pub answers_full : {root : Option Node} {n m : Node} {p : Pair} {count limit r : ℕ} → IsCounted root n m p count limit r → r ≡ MULTIPLICITY_LIMIT → AnswersAdd Counted (held_by root) limit p TooMany
+pub answers_full : {root : Option Node} {n m : Node} {p : Pair} {count limit r : ℕ} → IsCounted root n m p count limit r
+    → r ≡ MULTIPLICITY_LIMIT → AnswersAdd Counted (held_by root) limit p TooMany
 answers_full k z = inr (refl, live k (omega (arith, z)), rw k.own (sym k.was ∙ z))
 
 -- a live point that is held less often is held once more
-pub answers_again : {root : Option Node} {n m : Node} {p : Pair} {count limit r : ℕ} → IsCounted root n m p count limit r → 1 ≤ r → ¬ (r ≡ MULTIPLICITY_LIMIT) → AnswersAdd Counted (held_by root) limit p (Again (r + 1))
+pub answers_again : {root : Option Node} {n m : Node} {p : Pair} {count limit r : ℕ}
+    → IsCounted root n m p count limit r → 1 ≤ r → ¬ (r ≡ MULTIPLICITY_LIMIT)
+    → AnswersAdd Counted (held_by root) limit p (Again (r + 1))
 answers_again {root} {n} {m} {p} {count} {limit} {r} k l f =
     let e : times_of_root root p ≡ r = rw k.own (sym k.was) in
     (refl, live k l, omega (arith, e), omega (arith, l), omega (arith, f, few_times k))
 
 -- a new point is one too many where the set has as many points as its limit
-pub answers_many : {root : Option Node} {n m : Node} {p : Pair} {count limit r : ℕ} → IsCounted root n m p count limit r → r ≡ 0 → limit ≤ count → AnswersAdd Counted (held_by root) limit p TooMany
+pub answers_many : {root : Option Node} {n m : Node} {p : Pair} {count limit r : ℕ} → IsCounted root n m p count limit r
+    → r ≡ 0 → limit ≤ count → AnswersAdd Counted (held_by root) limit p TooMany
 answers_many k z l = inl (dead k z, omega (arith, k.limited.counted, k.limited.room, l))
 
 -- else there is room for it
-pub answers_new : {root : Option Node} {n m : Node} {p : Pair} {count limit r : ℕ} → IsCounted root n m p count limit r → r ≡ 0 → count < limit → AnswersAdd Counted (held_by root) limit p Added
+pub answers_new : {root : Option Node} {n m : Node} {p : Pair} {count limit r : ℕ} → IsCounted root n m p count limit r
+    → r ≡ 0 → count < limit → AnswersAdd Counted (held_by root) limit p Added
 answers_new k z l = (dead k z, omega (arith, k.limited.counted, l))
 
 -- a point that is held more than once is left
-pub answers_left : {root : Option Node} {n m : Node} {p : Pair} {count limit r : ℕ} → IsCounted root n m p count limit r → 1 < r → AnswersRemove Counted (held_by root) p (Left (r - 1))
+pub answers_left : {root : Option Node} {n m : Node} {p : Pair} {count limit r : ℕ} → IsCounted root n m p count limit r
+    → 1 < r → AnswersRemove Counted (held_by root) p (Left (r - 1))
 answers_left {root} {n} {m} {p} {count} {limit} {r} k l =
     let e : times_of_root root p ≡ r = rw k.own (sym k.was) in
     (refl, live k (omega (arith, l)), omega (arith, e, l), omega (arith, l))
 
 -- one that is held once is taken
-pub answers_removed : {root : Option Node} {n m : Node} {p : Pair} {count limit r : ℕ} → IsCounted root n m p count limit r → r ≡ 1 → AnswersRemove Counted (held_by root) p Removed
+pub answers_removed : {root : Option Node} {n m : Node} {p : Pair} {count limit r : ℕ}
+    → IsCounted root n m p count limit r → r ≡ 1 → AnswersRemove Counted (held_by root) p Removed
 answers_removed k l = (live k (omega (arith, l)), λ c. rw k.own (sym k.was ∙ l))
 
 -- the tree n with p once more
-pub held_again : (root : Option Node) (n m : Node) (p : Pair) → root ≡ Some n → tree_of m ≡ tree_of n → ((q : Pair) → times_below m q ≡ times_below n q + once p q) → held_by (Some m) ≡ with_again p (held_by root)
-held_again root n m p o e h = rw o (same_held (points_below m) (points_below n) (times_below m) (λ q. times_below n q + once p q) (ap points_of e) h)
+pub held_again : (root : Option Node) (n m : Node) (p : Pair) → root ≡ Some n → tree_of m ≡ tree_of n
+    → ((q : Pair) → times_below m q ≡ times_below n q + once p q) → held_by (Some m) ≡ with_again p (held_by root)
+held_again root n m p o e h =
+    rw o (same_held (points_below m) (points_below n) (times_below m) (λ q. times_below n q + once p q)
+    (ap points_of e) h)
 
 -- with the new point p
-pub held_new : (root : Option Node) (n m : Node) (p : Pair) → root ≡ Some n → points_below m ≡ with_point p (points_below n) → ((q : Pair) → times_below m q ≡ times_below n q + once p q) → held_by (Some m) ≡ with_new p (held_by root)
-held_new root n m p o e h = rw o (same_held (points_below m) (with_point p (points_below n)) (times_below m) (λ q. times_below n q + once p q) e h)
+pub held_new : (root : Option Node) (n m : Node) (p : Pair) → root ≡ Some n
+    → points_below m ≡ with_point p (points_below n) → ((q : Pair) → times_below m q ≡ times_below n q + once p q)
+    → held_by (Some m) ≡ with_new p (held_by root)
+held_new root n m p o e h =
+    rw o (same_held (points_below m) (with_point p (points_below n)) (times_below m)
+    (λ q. times_below n q + once p q) e h)
 
 -- without the point p, which was held once
-pub held_none : (root left : Option Node) (n : Node) (p : Pair) → root ≡ Some n → points_of_root left ≡ without_point p (points_below n) → ((q : Pair) → times_of_root left q + once p q ≡ times_below n q) → held_by left ≡ with_none p (held_by root)
+pub held_none : (root left : Option Node) (n : Node) (p : Pair) → root ≡ Some n
+    → points_of_root left ≡ without_point p (points_below n)
+    → ((q : Pair) → times_of_root left q + once p q ≡ times_below n q) → held_by left ≡ with_none p (held_by root)
 held_none root left n p o e h =
-    rw o (same_held (points_of_root left) (without_point p (points_below n)) (times_of_root left) (λ q. times_below n q - once p q) e (λ q. omega (arith, h q)))
+    rw o (same_held (points_of_root left) (without_point p (points_below n)) (times_of_root left)
+    (λ q. times_below n q - once p q) e (λ q. omega (arith, h q)))

@@ -9,8 +9,10 @@ use Rattle.bridge_search.proofs.Turns.{on_first, first_by}
 use Rattle.lattice.proofs.Order.{before_trans, before_total}
 use Rattle.hull_tree.specs.declared.node.Node as node
 use Rattle.hull_tree.specs.declared.node.Halves as halves
-use Rattle.hull_tree.specs.Nodes.{tree_of, halves_of, below_of, left_half, right_half, times_below, IsWellBuilt, DifferByAtMost}
-use Rattle.hull_tree.specs.Changes.{points_below, height_at, points_within, times_within, height_within, AreInRow, AreParted}
+use Rattle.hull_tree.specs.Nodes.{tree_of, halves_of, below_of, left_half, right_half, times_below, IsWellBuilt}
+use Rattle.hull_tree.specs.Nodes.{DifferByAtMost}
+use Rattle.hull_tree.specs.Changes.{points_below, height_at, points_within, times_within, height_within, AreInRow}
+use Rattle.hull_tree.specs.Changes.{AreParted}
 use Rattle.hull_tree.proofs.PointRows.{set_left, set_right, all_before_of_set}
 use Rattle.hull_tree.proofs.ChangedRows.{with_left, with_right, without_left, without_right, with_set, without_set}
 
@@ -33,13 +35,18 @@ same_below e = cc
 pub over_halves : (n : node.Node) (h : halves.Halves) → IsWellBuilt n → below_of n ≡ Some h → IsOver n h
 unfolding node.out-Node halves.out-Halves denote.Hole.Carrier.out
 over_halves (node.Node' upper lower height near times node.None') h b e = absurd (cc)
-over_halves (node.Node' upper lower height near times (node.Some' i (halves.Halves' left right last_left first_right))) h b e =
-    subst (λ (z : halves.Halves). IsOver (node.Node' upper lower height near times (node.Some' i (halves.Halves' left right last_left first_right))) z) (same_below e) record {
+over_halves (node.Node' upper lower height near times
+    (node.Some' i (halves.Halves' left right last_left first_right))) h b e =
+    subst (λ (z : halves.Halves). IsOver
+    (node.Node' upper lower height near times (node.Some' i (halves.Halves' left right last_left first_right))) z)
+    (same_below e) record {
       parted = record {
         row = record {
           left_built = record { bridged = b.bridged.3; balanced = b.balanced.1; labelled = b.labelled.3 };
           right_built = record { bridged = b.bridged.4; balanced = b.balanced.2; labelled = b.labelled.4 };
-          in_order = points_in_order (tree_of (node.Node' upper lower height near times (node.Some' i (halves.Halves' left right last_left first_right)))) b.bridged;
+          in_order = points_in_order
+              (tree_of (node.Node' upper lower height near times
+              (node.Some' i (halves.Halves' left right last_left first_right)))) b.bridged;
         };
         ends_left = b.labelled.0;
         starts_right = b.labelled.1;
@@ -54,9 +61,11 @@ over_halves (node.Node' upper lower height near times (node.Some' i (halves.Halv
     }
 
 -- a node that stands in a row with n stands in a row with a, where n has the points of a and then those of b
-pub row_with_left : (l n a b : node.Node) → AreInRow a b → points_below n ≡ points_below a ++ points_below b → AreInRow l n → AreInRow l a
+pub row_with_left : (l n a b : node.Node) → AreInRow a b → points_below n ≡ points_below a ++ points_below b
+    → AreInRow l n → AreInRow l a
 row_with_left l n a b o i k =
-    let e : points_below l ++ points_below n ≡ (points_below l ++ points_below a) ++ points_below b = rw i (simp append_assoc) in
+    let e : points_below l ++ points_below n ≡ (points_below l ++ points_below a) ++ points_below b =
+    rw i (simp append_assoc) in
     record {
       left_built = k.left_built;
       right_built = o.left_built;
@@ -64,9 +73,11 @@ row_with_left l n a b o i k =
     }
 
 -- and b with the node after n
-pub row_with_right : (n a b r : node.Node) → AreInRow a b → points_below n ≡ points_below a ++ points_below b → AreInRow n r → AreInRow b r
+pub row_with_right : (n a b r : node.Node) → AreInRow a b → points_below n ≡ points_below a ++ points_below b
+    → AreInRow n r → AreInRow b r
 row_with_right n a b r o i k =
-    let e : points_below n ++ points_below r ≡ points_below a ++ (points_below b ++ points_below r) = rw i (simp append_assoc) in
+    let e : points_below n ++ points_below r ≡ points_below a ++ (points_below b ++ points_below r) =
+    rw i (simp append_assoc) in
     record {
       left_built = o.right_built;
       right_built = k.right_built;
@@ -74,7 +85,8 @@ row_with_right n a b r o i k =
     }
 
 -- two nodes with the same points as two in a row are in a row
-pub regrouped : (l r s t : node.Node) → AreInRow l r → IsWellBuilt s → IsWellBuilt t → points_below l ++ points_below r ≡ points_below s ++ points_below t → AreInRow s t
+pub regrouped : (l r s t : node.Node) → AreInRow l r → IsWellBuilt s → IsWellBuilt t
+    → points_below l ++ points_below r ≡ points_below s ++ points_below t → AreInRow s t
 regrouped l r s t k a b e = record {
   left_built = a;
   right_built = b;
@@ -82,7 +94,8 @@ regrouped l r s t k a b e = record {
 }
 
 -- p before the first point of r: it stands before all of r
-pub before_first : (l r : node.Node) (p : Pair) → AreInRow l r → IsBefore p (first_of (tree_of r)) → All (IsBefore p) (points_below r)
+pub before_first : (l r : node.Node) (p : Pair) → AreInRow l r → IsBefore p (first_of (tree_of r))
+    → All (IsBefore p) (points_below r)
 before_first l r p k b = all_of (IsBefore p) (points_below r) (λ t i. elim (before_total (first_of (tree_of r)) t) [
   | inl h ↦ before_trans p (first_of (tree_of r)) t b h
   | inr (inl e) ↦ subst (IsBefore p) e b
@@ -90,9 +103,12 @@ before_first l r p k b = all_of (IsBefore p) (points_below r) (λ t i. elim (bef
 ])
 
 -- else all of l stands before p
-pub after_first : (l r : node.Node) (p : Pair) → AreInRow l r → ¬ (IsBefore p (first_of (tree_of r))) → All (λ t. IsBefore t p) (points_below l)
+pub after_first : (l r : node.Node) (p : Pair) → AreInRow l r → ¬ (IsBefore p (first_of (tree_of r)))
+    → All (λ t. IsBefore t p) (points_below l)
 after_first l r p k n = all_of (λ t. IsBefore t p) (points_below l) (λ t i.
-    let h : IsBefore t (first_of (tree_of r)) = all_before_of_set (tree_of l) (tree_of r) k.in_order t (first_of (tree_of r)) (on_of_contains (tree_of l) t i) (on_first (tree_of r)) in
+    let h : IsBefore t (first_of (tree_of r)) =
+    all_before_of_set (tree_of l) (tree_of r) k.in_order t (first_of (tree_of r)) (on_of_contains (tree_of l) t i)
+    (on_first (tree_of r)) in
     elim (before_total p (first_of (tree_of r))) [
       | inl m ↦ absurd (n m)
       | inr (inl e) ↦ subst (IsBefore t) (sym e) h
@@ -100,23 +116,28 @@ after_first l r p k n = all_of (λ t. IsBefore t p) (points_below l) (λ t i.
     ])
 
 -- a point before the first one of r is added to l
-pub add_left : (l r : node.Node) (p : Pair) → AreInRow l r → IsBefore p (first_of (tree_of r)) → with_point p (points_below l ++ points_below r) ≡ with_point p (points_below l) ++ points_below r
+pub add_left : (l r : node.Node) (p : Pair) → AreInRow l r → IsBefore p (first_of (tree_of r))
+    → with_point p (points_below l ++ points_below r) ≡ with_point p (points_below l) ++ points_below r
 add_left l r p k b = with_left p (points_below l) (points_below r) (before_first l r p k b)
 
 -- any other to r
-pub add_right : (l r : node.Node) (p : Pair) → AreInRow l r → ¬ (IsBefore p (first_of (tree_of r))) → with_point p (points_below l ++ points_below r) ≡ points_below l ++ with_point p (points_below r)
+pub add_right : (l r : node.Node) (p : Pair) → AreInRow l r → ¬ (IsBefore p (first_of (tree_of r)))
+    → with_point p (points_below l ++ points_below r) ≡ points_below l ++ with_point p (points_below r)
 add_right l r p k n = with_right p (points_below l) (points_below r) (after_first l r p k n)
 
 -- a point before the first one of r is taken from l
-pub drop_left : (l r : node.Node) (p : Pair) → AreInRow l r → IsBefore p (first_of (tree_of r)) → without_point p (points_below l ++ points_below r) ≡ without_point p (points_below l) ++ points_below r
+pub drop_left : (l r : node.Node) (p : Pair) → AreInRow l r → IsBefore p (first_of (tree_of r))
+    → without_point p (points_below l ++ points_below r) ≡ without_point p (points_below l) ++ points_below r
 drop_left l r p k b = without_left p (points_below l) (points_below r) (before_first l r p k b)
 
 -- any other from r
-pub drop_right : (l r : node.Node) (p : Pair) → AreInRow l r → ¬ (IsBefore p (first_of (tree_of r))) → without_point p (points_below l ++ points_below r) ≡ points_below l ++ without_point p (points_below r)
+pub drop_right : (l r : node.Node) (p : Pair) → AreInRow l r → ¬ (IsBefore p (first_of (tree_of r)))
+    → without_point p (points_below l ++ points_below r) ≡ points_below l ++ without_point p (points_below r)
 drop_right l r p k n = without_right p (points_below l) (points_below r) (after_first l r p k n)
 
 -- l with such a point stays in a row with r
-pub row_add_left : (l r m : node.Node) (p : Pair) → AreInRow l r → IsBefore p (first_of (tree_of r)) → IsWellBuilt m → points_below m ≡ with_point p (points_below l) → AreInRow m r
+pub row_add_left : (l r m : node.Node) (p : Pair) → AreInRow l r → IsBefore p (first_of (tree_of r)) → IsWellBuilt m
+    → points_below m ≡ with_point p (points_below l) → AreInRow m r
 row_add_left l r m p k b h e = record {
   left_built = h;
   right_built = k.right_built;
@@ -124,7 +145,8 @@ row_add_left l r m p k b h e = record {
 }
 
 -- and l with r with any other
-pub row_add_right : (l r m : node.Node) (p : Pair) → AreInRow l r → ¬ (IsBefore p (first_of (tree_of r))) → IsWellBuilt m → points_below m ≡ with_point p (points_below r) → AreInRow l m
+pub row_add_right : (l r m : node.Node) (p : Pair) → AreInRow l r → ¬ (IsBefore p (first_of (tree_of r)))
+    → IsWellBuilt m → points_below m ≡ with_point p (points_below r) → AreInRow l m
 row_add_right l r m p k n h e = record {
   left_built = k.left_built;
   right_built = h;
@@ -132,17 +154,21 @@ row_add_right l r m p k n h e = record {
 }
 
 -- l without such a point stays in a row with r
-pub row_drop_left : (l r m : node.Node) (p : Pair) → AreInRow l r → IsBefore p (first_of (tree_of r)) → IsWellBuilt m → points_below m ≡ without_point p (points_below l) → AreInRow m r
+pub row_drop_left : (l r m : node.Node) (p : Pair) → AreInRow l r → IsBefore p (first_of (tree_of r)) → IsWellBuilt m
+    → points_below m ≡ without_point p (points_below l) → AreInRow m r
 row_drop_left l r m p k b h e = record {
   left_built = h;
   right_built = k.right_built;
-  in_order = rw e (subst IsPointSet (drop_left l r p k b) (without_set p (points_below l ++ points_below r) k.in_order));
+  in_order = rw e (subst IsPointSet (drop_left l r p k b)
+      (without_set p (points_below l ++ points_below r) k.in_order));
 }
 
 -- and l with r without any other
-pub row_drop_right : (l r m : node.Node) (p : Pair) → AreInRow l r → ¬ (IsBefore p (first_of (tree_of r))) → IsWellBuilt m → points_below m ≡ without_point p (points_below r) → AreInRow l m
+pub row_drop_right : (l r m : node.Node) (p : Pair) → AreInRow l r → ¬ (IsBefore p (first_of (tree_of r)))
+    → IsWellBuilt m → points_below m ≡ without_point p (points_below r) → AreInRow l m
 row_drop_right l r m p k n h e = record {
   left_built = k.left_built;
   right_built = h;
-  in_order = rw e (subst IsPointSet (drop_right l r p k n) (without_set p (points_below l ++ points_below r) k.in_order));
+  in_order = rw e (subst IsPointSet (drop_right l r p k n)
+      (without_set p (points_below l ++ points_below r) k.in_order));
 }

@@ -1,5 +1,7 @@
--- A balanced tree of a height has so many points at least (Adelson-Velsky and Landis, 1962), so one of 2^20 points is at most 28 high.
-use Rattle.std.proofs.Common.{◌≡◌, ℕ, zero, suc, ◌+◌, ◌-◌, ◌≤◌, max, refl, subst, length, arith, ◌⊎◌, inl, inr, length-append}
+-- A balanced tree of a height has so many points at least (Adelson-Velsky and Landis, 1962), so one of 2^20 points is
+-- at most 28 high.
+use Rattle.std.proofs.Common.{◌≡◌, ℕ, zero, suc, ◌+◌, ◌-◌, ◌≤◌, max, refl, subst, length, arith, ◌⊎◌, inl, inr}
+use Rattle.std.proofs.Common.{length-append}
 use Rattle.bridge_search.specs.Trees.{Tree, Leaf, Fork, height_of}
 use Rattle.bridge_search.specs.Leaves.{points_of}
 use Rattle.hull_tree.specs.Nodes.{IsBalanced, DifferByAtMost}
@@ -26,7 +28,8 @@ rises (suc k) h = let e : suc k + h ≡ suc (k + h) = omega arith in rw e (omega
 
 -- the fewest points do not fall with the height
 monotone : (g h : ℕ) → g ≤ h → (fewest g).0 ≤ (fewest h).0
-monotone g h l = let e : (h - g) + g ≡ h = omega arith in subst (λ (z : ℕ). (fewest g).0 ≤ (fewest z).0) e (rises (h - g) g)
+monotone g h l = let e : (h - g) + g ≡ h = omega arith in
+    subst (λ (z : ℕ). (fewest g).0 ≤ (fewest z).0) e (rises (h - g) g)
 
 -- a fork over a half of height a and one that is at most one lower
 fork_step : (a b : ℕ) → a ≤ b + 1 → (fewest a).1 ≤ (fewest a).0 + (fewest b).0
@@ -63,5 +66,6 @@ pub at_most_28 : (t : Tree) → IsBalanced t → length (points_of t) ≤ 104857
 at_most_28 t h l =
     elim (cases (height_of t) 28) [
       | inl k ↦ k
-      | inr k ↦ absurd (let e : (fewest 29).0 ≤ (fewest (height_of t)).0 = monotone 29 (height_of t) k in omega (arith, of_29, enough t h, e))
+      | inr k ↦ absurd (let e : (fewest 29).0 ≤ (fewest (height_of t)).0 = monotone 29 (height_of t) k in
+          omega (arith, of_29, enough t h, e))
     ]

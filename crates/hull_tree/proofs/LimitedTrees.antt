@@ -26,9 +26,12 @@ sound (Some n) count limit h = record {
 }
 
 -- one point more, below the limit
-pub limited_with : (n m : Node) (p : Pair) (count limit : ℕ) → IsLimited (Some n) count limit → IsWellBuilt m → points_below m ≡ with_point p (points_below n) → ¬ (Contains (points_below n) p) → count < limit → IsLimited (Some m) (count + 1) limit
+pub limited_with : (n m : Node) (p : Pair) (count limit : ℕ) → IsLimited (Some n) count limit → IsWellBuilt m
+    → points_below m ≡ with_point p (points_below n) → ¬ (Contains (points_below n) p) → count < limit
+    → IsLimited (Some m) (count + 1) limit
 limited_with n m p count limit h b e a l =
-    let k : length (points_below m) ≡ length (points_below n) + 1 = ap (λ (z : List Pair). length z) e ∙ with_length p (points_below n) a in
+    let k : length (points_below m) ≡ length (points_below n) + 1 =
+    ap (λ (z : List Pair). length z) e ∙ with_length p (points_below n) a in
     record {
       built = b;
       counted = omega (arith, h.counted, k);
@@ -38,10 +41,13 @@ limited_with n m p count limit h b e a l =
     }
 
 -- one point less
-pub limited_without : (n : Node) (root : Option Node) (p : Pair) (count limit : ℕ) → IsLimited (Some n) count limit → IsWellBuiltRoot root → points_of_root root ≡ without_point p (points_below n) → Contains (points_below n) p → IsLimited root (count - 1) limit
+pub limited_without : (n : Node) (root : Option Node) (p : Pair) (count limit : ℕ) → IsLimited (Some n) count limit
+    → IsWellBuiltRoot root → points_of_root root ≡ without_point p (points_below n) → Contains (points_below n) p
+    → IsLimited root (count - 1) limit
 limited_without n root p count limit h b e m =
     let k : length (points_of_root root) + 1 ≡ length (points_below n) =
-    ap (λ (z : List Pair). length z + 1) e ∙ without_length p (points_below n) (points_in_order (tree_of n) h.built.bridged) m in
+    ap (λ (z : List Pair). length z + 1) e
+    ∙ without_length p (points_below n) (points_in_order (tree_of n) h.built.bridged) m in
     record {
       built = b;
       counted = omega (arith, h.counted, k);
@@ -51,7 +57,8 @@ limited_without n root p count limit h b e m =
     }
 
 -- the half that its root is has all its points
-pub whole : (root : Option Node) (n : Node) (u : Tree) (count limit : ℕ) → IsLimited root count limit → root ≡ Some n → u ≡ tree_of n → IsWhole (record { limit = limit; root = root }) u
+pub whole : (root : Option Node) (n : Node) (u : Tree) (count limit : ℕ) → IsLimited root count limit → root ≡ Some n
+    → u ≡ tree_of n → IsWhole (record { limit = limit; root = root }) u
 whole root n u count limit h r e =
     let p : points_of_root root ≡ points_of u = ap points_of_root r ∙ ap points_of (sym e) in
     record {
@@ -62,5 +69,6 @@ whole root n u count limit h r e =
     }
 
 -- a tree that is not nothing is well built
-pub built_root : (root : Option Node) (n : Node) (count limit : ℕ) → IsLimited root count limit → root ≡ Some n → IsWellBuilt n
+pub built_root : (root : Option Node) (n : Node) (count limit : ℕ) → IsLimited root count limit → root ≡ Some n
+    → IsWellBuilt n
 built_root root n count limit h r = subst IsWellBuiltRoot r h.built

@@ -1,5 +1,6 @@
 -- How often points are held below a node, and below which of its halves.
-use Rattle.std.proofs.Common.{◌≡◌, None, ℕ, zero, suc, ◌+◌, ◌-◌, ◌<◌, ◌≤◌, refl, sym, ◌∙◌, subst, arith, ◌⊎◌, inl, inr, true, false, Bool, if◌then◌else◌}
+use Rattle.std.proofs.Common.{◌≡◌, None, ℕ, zero, suc, ◌+◌, ◌-◌, ◌<◌, ◌≤◌, refl, sym, ◌∙◌, subst, arith, ◌⊎◌, inl, inr}
+use Rattle.std.proofs.Common.{true, false, Bool, if◌then◌else◌}
 use Rattle.std.specs.Prelude.{◌↔◌, not}
 use Rattle.std.specs.List.{Contains}
 use Rattle.std.proofs.lemmas.List.Elements.{All-contains}
@@ -27,17 +28,24 @@ several_elsewhere n p q d = rw (same_false p q d) refl
 
 -- a point that is not below a node is held 0 times there
 pub times_absent : (n : node.Node) (p : Pair) → ¬ (On (tree_of n) p) → times_below n p ≡ 0
-times_absent (node.Node' upper lower height near times node.None') p a = several_elsewhere times upper.0 p (λ e. a (sym e))
-times_absent (node.Node' upper lower height near times (node.Some' i (halves.Halves' left right last_left first_right))) p a =
+times_absent (node.Node' upper lower height near times node.None') p a =
+    several_elsewhere times upper.0 p (λ e. a (sym e))
+times_absent (node.Node' upper lower height near times
+    (node.Some' i (halves.Halves' left right last_left first_right))) p a =
     omega (arith, times_absent left p (λ h. a (inl h)), times_absent right p (λ h. a (inr h)))
 
 -- one that is below it is held at least once
 pub times_live : (n : node.Node) (p : Pair) → IsLabelled n → On (tree_of n) p → 1 ≤ times_below n p
 times_live (node.Node' upper lower height near times node.None') p l e =
-    let s : several times upper.0 p ≡ times = subst (λ z. several times upper.0 z ≡ times) (sym e) (several_there times upper.0) in
+    let s : several times upper.0 p ≡ times =
+    subst (λ z. several times upper.0 z ≡ times) (sym e) (several_there times upper.0) in
     omega (arith, s, l.1.0)
-times_live (node.Node' upper lower height near times (node.Some' i (halves.Halves' left right last_left first_right))) p l (inl h) = omega (arith, times_live left p l.3 h)
-times_live (node.Node' upper lower height near times (node.Some' i (halves.Halves' left right last_left first_right))) p l (inr h) = omega (arith, times_live right p l.4 h)
+times_live (node.Node' upper lower height near times
+    (node.Some' i (halves.Halves' left right last_left first_right))) p l (inl h) =
+    omega (arith, times_live left p l.3 h)
+times_live (node.Node' upper lower height near times
+    (node.Some' i (halves.Halves' left right last_left first_right))) p l (inr h) =
+    omega (arith, times_live right p l.4 h)
 
 -- where two numbers come to one at least, so does one of them
 some_of : (a b : ℕ) → 1 ≤ a + b → (1 ≤ a) ⊎ (1 ≤ b)
@@ -49,9 +57,11 @@ pub live_by_times : (n : node.Node) (p : Pair) → 1 ≤ times_below n p → On 
 live_by_times (node.Node' upper lower height near times node.None') p h =
     elim (same_or_other upper.0 p) [
       | inl e ↦ sym e
-      | inr d ↦ absurd (let e : several times upper.0 p ≡ 0 = several_elsewhere times upper.0 p d in omega (arith, e, h))
+      | inr d ↦ absurd (let e : several times upper.0 p ≡ 0 = several_elsewhere times upper.0 p d in
+          omega (arith, e, h))
     ]
-live_by_times (node.Node' upper lower height near times (node.Some' i (halves.Halves' left right last_left first_right))) p h =
+live_by_times (node.Node' upper lower height near times
+    (node.Some' i (halves.Halves' left right last_left first_right))) p h =
     elim (some_of (times_below left p) (times_below right p) h) [
       | inl k ↦ inl (live_by_times left p k)
       | inr k ↦ inr (live_by_times right p k)
@@ -64,10 +74,15 @@ times_few (node.Node' upper lower height near times node.None') p b l = at_most 
     at_most : (same : Bool) → (if same then times else 0) ≤ MULTIPLICITY_LIMIT
     at_most true = l.1.1
     at_most false = omega arith
-times_few (node.Node' upper lower height near times (node.Some' i (halves.Halves' left right last_left first_right))) p b l =
+times_few (node.Node' upper lower height near times
+    (node.Some' i (halves.Halves' left right last_left first_right))) p b l =
     elim (some_or_none (times_below left p)) [
       | inl e ↦ omega (arith, e, times_few right p b.4 l.4)
-      | inr h ↦ omega (arith, times_few left p b.3 l.3, times_absent right p (λ k. before_irrefl p (b.0 p p (live_by_times left p h) k)))
+      | inr h ↦ omega (
+        arith,
+        times_few left p b.3 l.3,
+        times_absent right p (λ k. before_irrefl p (b.0 p p (live_by_times left p h) k)),
+      )
     ]
   where
     some_or_none : (a : ℕ) → (a ≡ 0) ⊎ (1 ≤ a)
@@ -76,7 +91,10 @@ times_few (node.Node' upper lower height near times (node.Some' i (halves.Halves
 
 -- the points below a well-built node are those that are held there
 pub live_iff : (n : node.Node) (p : Pair) → IsWellBuilt n → Contains (points_below n) p ↔ (1 ≤ times_below n p)
-live_iff n p b = (λ m. times_live n p b.labelled (on_of_contains (tree_of n) p m), λ h. contains_of_on (tree_of n) p (live_by_times n p h))
+live_iff n p b = (
+  λ m. times_live n p b.labelled (on_of_contains (tree_of n) p m),
+  λ h. contains_of_on (tree_of n) p (live_by_times n p h),
+)
 
 -- a point that is held 0 times is none of them
 pub not_live : (n : node.Node) (p : Pair) → IsWellBuilt n → times_below n p ≡ 0 → ¬ (Contains (points_below n) p)
@@ -84,22 +102,31 @@ not_live n p b e m = let h : 1 ≤ times_below n p = (live_iff n p b).0 m in ome
 
 -- p before the first point of the right one of two nodes in a row is held 0 times there
 pub none_right : (l r : node.Node) (p : Pair) → AreInRow l r → IsBefore p (first_of (tree_of r)) → times_below r p ≡ 0
-none_right l r p k b = times_absent r p (λ h. before_irrefl p (All-contains (IsBefore p) (points_below r) p (before_first l r p k b) (contains_of_on (tree_of r) p h)))
+none_right l r p k b =
+    times_absent r p (λ h. before_irrefl p
+    (All-contains (IsBefore p) (points_below r) p (before_first l r p k b) (contains_of_on (tree_of r) p h)))
 
 -- any other is held 0 times in the left one
-pub none_left : (l r : node.Node) (p : Pair) → AreInRow l r → ¬ (IsBefore p (first_of (tree_of r))) → times_below l p ≡ 0
-none_left l r p k b = times_absent l p (λ h. before_irrefl p (All-contains (λ t. IsBefore t p) (points_below l) p (after_first l r p k b) (contains_of_on (tree_of l) p h)))
+pub none_left : (l r : node.Node) (p : Pair) → AreInRow l r → ¬ (IsBefore p (first_of (tree_of r)))
+    → times_below l p ≡ 0
+none_left l r p k b =
+    times_absent l p (λ h. before_irrefl p
+    (All-contains (λ t. IsBefore t p) (points_below l) p (after_first l r p k b) (contains_of_on (tree_of l) p h)))
 
 -- so p before the parting is held as often as in the left one
-pub all_left : (l r : node.Node) (p last first : Pair) → IsPartedAt l r last first → IsBefore p first → times_below l p + times_below r p ≡ times_below l p
+pub all_left : (l r : node.Node) (p last first : Pair) → IsPartedAt l r last first → IsBefore p first
+    → times_below l p + times_below r p ≡ times_below l p
 all_left l r p last first k b = omega (arith, none_right l r p k.row (subst (IsBefore p) k.starts_right b))
 
 -- and any other as in the right one
-pub all_right : (l r : node.Node) (p last first : Pair) → IsPartedAt l r last first → ¬ (IsBefore p first) → times_below l p + times_below r p ≡ times_below r p
-all_right l r p last first k b = omega (arith, none_left l r p k.row (λ h. b (subst (IsBefore p) (sym k.starts_right) h)))
+pub all_right : (l r : node.Node) (p last first : Pair) → IsPartedAt l r last first → ¬ (IsBefore p first)
+    → times_below l p + times_below r p ≡ times_below r p
+all_right l r p last first k b =
+    omega (arith, none_left l r p k.row (λ h. b (subst (IsBefore p) (sym k.starts_right) h)))
 
 -- the leaf of a point that is held once there
-pub leaf_once : (n : node.Node) (p : Pair) → tree_of n ≡ Leaf p → times_below n p ≡ 1 → (q : Pair) → times_below n q ≡ once p q
+pub leaf_once : (n : node.Node) (p : Pair) → tree_of n ≡ Leaf p → times_below n p ≡ 1 → (q : Pair)
+    → times_below n q ≡ once p q
 leaf_once (node.Node' upper lower height near times node.None') p t e q =
     let o : upper.0 ≡ p = same_leaf t in
     let d : times ≡ 1 = sym (several_there times upper.0) ∙ subst (λ z. several times upper.0 z ≡ 1) (sym o) e in
@@ -107,16 +134,19 @@ leaf_once (node.Node' upper lower height near times node.None') p t e q =
   where
     same_leaf : {a b : Pair} → Leaf a ≡ Leaf b → a ≡ b
     same_leaf h = cc
-leaf_once (node.Node' upper lower height near times (node.Some' i (halves.Halves' left right last_left first_right))) p t e q = absurd (cc)
+leaf_once (node.Node' upper lower height near times
+    (node.Some' i (halves.Halves' left right last_left first_right))) p t e q = absurd (cc)
 
 -- p before the parting, held once in both halves, is held once in the left one and is one of its points
-pub once_left : (l r : node.Node) (p last first : Pair) → IsPartedAt l r last first → IsBefore p first → times_below l p + times_below r p ≡ 1 → (times_below l p ≡ 1) × Contains (points_below l) p
+pub once_left : (l r : node.Node) (p last first : Pair) → IsPartedAt l r last first → IsBefore p first
+    → times_below l p + times_below r p ≡ 1 → (times_below l p ≡ 1) × Contains (points_below l) p
 once_left l r p last first k b e =
     let a : times_below l p ≡ 1 = sym (all_left l r p last first k b) ∙ e in
     (a, (live_iff l p k.row.left_built).1 (omega (arith, a)))
 
 -- and any other in the right one
-pub once_right : (l r : node.Node) (p last first : Pair) → IsPartedAt l r last first → ¬ (IsBefore p first) → times_below l p + times_below r p ≡ 1 → (times_below r p ≡ 1) × Contains (points_below r) p
+pub once_right : (l r : node.Node) (p last first : Pair) → IsPartedAt l r last first → ¬ (IsBefore p first)
+    → times_below l p + times_below r p ≡ 1 → (times_below r p ≡ 1) × Contains (points_below r) p
 once_right l r p last first k b e =
     let a : times_below r p ≡ 1 = sym (all_right l r p last first k b) ∙ e in
     (a, (live_iff r p k.row.right_built).1 (omega (arith, a)))
@@ -149,20 +179,29 @@ abbrev again : node.Node → node.Node
 again n = with_times n (node.out-Node n).times
 
 -- a leaf of p whose number rose by one holds p once more
-pub leaf_raised : (n : node.Node) (p q : Pair) → (node.out-Node n).below ≡ None → p ≡ (node.out-Node n).upper.0 → times_below (with_times (again n) ((node.out-Node (again n)).times + 1)) q ≡ times_below n q + once p q
+pub leaf_raised : (n : node.Node) (p q : Pair) → (node.out-Node n).below ≡ None → p ≡ (node.out-Node n).upper.0
+    → times_below (with_times (again n) ((node.out-Node (again n)).times + 1)) q ≡ times_below n q + once p q
 unfolding node.roll-Node node.out-Node denote.Hole.Carrier.out denote.Hole.Carrier.roll
-leaf_raised (node.Node' upper lower height near times node.None') p q e s = rw s (several_more (is_same_pair upper.0 q) times)
-leaf_raised (node.Node' upper lower height near times (node.Some' i (halves.Halves' left right last_left first_right))) p q e s = absurd (cc)
+leaf_raised (node.Node' upper lower height near times node.None') p q e s =
+    rw s (several_more (is_same_pair upper.0 q) times)
+leaf_raised (node.Node' upper lower height near times
+    (node.Some' i (halves.Halves' left right last_left first_right))) p q e s = absurd (cc)
 
 -- and one whose number fell by one holds it once less
-pub leaf_lowered : (n : node.Node) (p q : Pair) → (node.out-Node n).below ≡ None → p ≡ (node.out-Node n).upper.0 → 1 < (node.out-Node (again n)).times → times_below (with_times (again n) ((node.out-Node (again n)).times - 1)) q + once p q ≡ times_below n q
+pub leaf_lowered : (n : node.Node) (p q : Pair) → (node.out-Node n).below ≡ None → p ≡ (node.out-Node n).upper.0
+    → 1 < (node.out-Node (again n)).times
+    → times_below (with_times (again n) ((node.out-Node (again n)).times - 1)) q + once p q ≡ times_below n q
 unfolding node.roll-Node node.out-Node denote.Hole.Carrier.out denote.Hole.Carrier.roll
-leaf_lowered (node.Node' upper lower height near times node.None') p q e s h = rw s (several_less (is_same_pair upper.0 q) times h)
-leaf_lowered (node.Node' upper lower height near times (node.Some' i (halves.Halves' left right last_left first_right))) p q e s h = absurd (cc)
+leaf_lowered (node.Node' upper lower height near times node.None') p q e s h =
+    rw s (several_less (is_same_pair upper.0 q) times h)
+leaf_lowered (node.Node' upper lower height near times
+    (node.Some' i (halves.Halves' left right last_left first_right))) p q e s h = absurd (cc)
 
 -- two points of which a test did not tell that they differ are the same
 pub same_point : {r : Bool} (p q : Pair) → r ≡ not (is_same_pair p q) → r ≡ false → p ≡ q
-same_point p q e f = elim (same_or_other p q) [ inl h ↦ h | inr d ↦ absurd (let s : is_same_pair p q ≡ false = same_false p q d in tells (rw s at e) f) ]
+same_point p q e f =
+    elim (same_or_other p q)
+    [ inl h ↦ h | inr d ↦ absurd (let s : is_same_pair p q ≡ false = same_false p q d in tells (rw s at e) f) ]
   where
     tells : {r : Bool} → r ≡ true → r ≡ false → ⊥
     tells h g = absurd (cc)

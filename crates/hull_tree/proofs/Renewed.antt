@@ -15,7 +15,9 @@ use Rattle.hull_tree.proofs.HalfRows.{same_below}
 use Rattle.hull_tree.proofs.PointRows.{all_before_of_set}
 
 -- what a node has in its box is below it
-pub rolled_below : (e f : Pair × Pair) (k : ℕ) (c : Bool) (n : ℕ) (b : _) → below_of (node.roll-Node record { upper = e; lower = f; height = k; near = c; times = n; below = Some b }) ≡ Some b.value
+pub rolled_below : (e f : Pair × Pair) (k : ℕ) (c : Bool) (n : ℕ) (b : _)
+    → below_of (node.roll-Node record { upper = e; lower = f; height = k; near = c; times = n; below = Some b })
+    ≡ Some b.value
 unfolding node.roll-Node node.out-Node denote.Hole.Carrier.out denote.Hole.Carrier.roll
 rolled_below e f k c n b = refl
 
@@ -29,47 +31,85 @@ pub record IsUnder (n : node.Node) (h : halves.Halves) : Type 0 where
 pub under_fork : (n : node.Node) (h : halves.Halves) → IsParted n → below_of n ≡ Some h → IsUnder n h
 unfolding node.out-Node halves.out-Halves denote.Hole.Carrier.out
 under_fork (node.Node' upper lower height near times node.None') h p e = absurd (cc)
-under_fork (node.Node' upper lower height near times (node.Some' i (halves.Halves' left right last_left first_right))) h p e =
-    subst (λ (z : halves.Halves). IsUnder (node.Node' upper lower height near times (node.Some' i (halves.Halves' left right last_left first_right))) z) (same_below e)
+under_fork (node.Node' upper lower height near times
+    (node.Some' i (halves.Halves' left right last_left first_right))) h p e =
+    subst (λ (z : halves.Halves). IsUnder
+    (node.Node' upper lower height near times (node.Some' i (halves.Halves' left right last_left first_right))) z)
+    (same_below e)
     record { parted = p; left = refl; right = refl }
 
 -- a fork over two halves that are parted is yet to be renewed
 pub parted_fork : (n : node.Node) (h : halves.Halves) → below_of n ≡ Some h → AreParted h → IsParted n
 unfolding node.out-Node halves.out-Halves denote.Hole.Carrier.out
 parted_fork (node.Node' upper lower height near times node.None') h e p = absurd (cc)
-parted_fork (node.Node' upper lower height near times (node.Some' i (halves.Halves' left right last_left first_right))) h e p =
+parted_fork (node.Node' upper lower height near times
+    (node.Some' i (halves.Halves' left right last_left first_right))) h e p =
     subst AreParted (sym (same_below e)) p
 
 -- with its bridges and its height it is well built
-pub renewed_well : (n : node.Node) (h : halves.Halves) (e f : Pair × Pair) (k : ℕ) (c : Bool) → IsParted n → below_of n ≡ Some h → DifferByAtMost 1 (left_height n) (right_height n) → IsUpperBridge (On (tree_of (left_half h))) (On (tree_of (right_half h))) e.0 e.1 → IsLowerBridge (On (tree_of (left_half h))) (On (tree_of (right_half h))) f.0 f.1 → k ≡ max (height_at (left_half h)) (height_at (right_half h)) + 1 → c ≡ (are_near (tree_of (left_half h)) && are_near (tree_of (right_half h))) → IsWellBuilt (keeping n e f k c)
+pub renewed_well : (n : node.Node) (h : halves.Halves) (e f : Pair × Pair) (k : ℕ) (c : Bool) → IsParted n
+    → below_of n ≡ Some h → DifferByAtMost 1 (left_height n) (right_height n)
+    → IsUpperBridge (On (tree_of (left_half h))) (On (tree_of (right_half h))) e.0 e.1
+    → IsLowerBridge (On (tree_of (left_half h))) (On (tree_of (right_half h))) f.0 f.1
+    → k ≡ max (height_at (left_half h)) (height_at (right_half h)) + 1
+    → c ≡ (are_near (tree_of (left_half h)) && are_near (tree_of (right_half h)))
+    → IsWellBuilt (keeping n e f k c)
 unfolding node.out-Node halves.out-Halves denote.Hole.Carrier.out
 renewed_well (node.Node' upper lower height near times node.None') h e f k c p is d u w a t = absurd (cc)
-renewed_well (node.Node' upper lower height near times (node.Some' i (halves.Halves' left right last_left first_right))) h e f k c p is d u w a t =
+renewed_well (node.Node' upper lower height near times
+    (node.Some' i (halves.Halves' left right last_left first_right))) h e f k c p is d u w a t =
     let b : halves.Halves' left right last_left first_right ≡ h = same_below is in
     record {
-      bridged = (all_before_of_set (tree_of left) (tree_of right) p.row.in_order, subst (λ (z : halves.Halves). IsUpperBridge (On (tree_of (left_half z))) (On (tree_of (right_half z))) e.0 e.1) (sym b) u, subst (λ (z : halves.Halves). IsLowerBridge (On (tree_of (left_half z))) (On (tree_of (right_half z))) f.0 f.1) (sym b) w, p.row.left_built.bridged, p.row.right_built.bridged);
+      bridged = (
+        all_before_of_set (tree_of left) (tree_of right) p.row.in_order,
+        subst (λ (z : halves.Halves). IsUpperBridge (On (tree_of (left_half z)))
+            (On (tree_of (right_half z))) e.0 e.1) (sym b) u,
+        subst (λ (z : halves.Halves). IsLowerBridge (On (tree_of (left_half z)))
+            (On (tree_of (right_half z))) f.0 f.1) (sym b) w,
+        p.row.left_built.bridged,
+        p.row.right_built.bridged,
+      );
       balanced = (d, p.row.left_built.balanced, p.row.right_built.balanced);
-      labelled = (p.ends_left, p.starts_right, subst (λ (z : halves.Halves). k ≡ max (height_at (left_half z)) (height_at (right_half z)) + 1) (sym b) a, p.row.left_built.labelled, p.row.right_built.labelled, subst (λ (z : halves.Halves). c ≡ (are_near (tree_of (left_half z)) && are_near (tree_of (right_half z)))) (sym b) t);
+      labelled = (
+        p.ends_left,
+        p.starts_right,
+        subst (λ (z : halves.Halves). k ≡ max (height_at (left_half z)) (height_at (right_half z)) + 1) (sym b) a,
+        p.row.left_built.labelled,
+        p.row.right_built.labelled,
+        subst (λ (z : halves.Halves). c
+            ≡ (are_near (tree_of (left_half z)) && are_near (tree_of (right_half z)))) (sym b) t,
+      );
     }
 
 -- the points of its left half cost the turns of its two searches more
-pub dearer_on_left : (n : node.Node) (h : halves.Halves) (e f : Pair × Pair) (k : ℕ) (t : Bool) (a : ℕ) → IsParted n → below_of n ≡ Some h → IsForkCost e f (tree_of (left_half h)) (tree_of (right_half h)) a → IsDearerByAtMost (left_of (tree_of n)) (tree_of (keeping n e f k t)) a
+pub dearer_on_left : (n : node.Node) (h : halves.Halves) (e f : Pair × Pair) (k : ℕ) (t : Bool) (a : ℕ) → IsParted n
+    → below_of n ≡ Some h → IsForkCost e f (tree_of (left_half h)) (tree_of (right_half h)) a
+    → IsDearerByAtMost (left_of (tree_of n)) (tree_of (keeping n e f k t)) a
 unfolding node.out-Node halves.out-Halves denote.Hole.Carrier.out
 dearer_on_left (node.Node' upper lower height near times node.None') h e f k t a p is c = absurd (cc)
-dearer_on_left (node.Node' upper lower height near times (node.Some' i (halves.Halves' left right last_left first_right))) h e f k t a p is c =
+dearer_on_left (node.Node' upper lower height near times
+    (node.Some' i (halves.Halves' left right last_left first_right))) h e f k t a p is c =
     let b : halves.Halves' left right last_left first_right ≡ h = same_below is in
-    by_fork_left e f (tree_of left) (tree_of right) a (subst (λ (z : halves.Halves). IsForkCost e f (tree_of (left_half z)) (tree_of (right_half z)) a) (sym b) c)
+    by_fork_left e f (tree_of left) (tree_of right) a
+    (subst (λ (z : halves.Halves). IsForkCost e f (tree_of (left_half z)) (tree_of (right_half z)) a) (sym b) c)
 
 -- and so do those of its right half
-pub dearer_on_right : (n : node.Node) (h : halves.Halves) (e f : Pair × Pair) (k : ℕ) (t : Bool) (a : ℕ) → IsParted n → below_of n ≡ Some h → IsForkCost e f (tree_of (left_half h)) (tree_of (right_half h)) a → IsDearerByAtMost (right_of (tree_of n)) (tree_of (keeping n e f k t)) a
+pub dearer_on_right : (n : node.Node) (h : halves.Halves) (e f : Pair × Pair) (k : ℕ) (t : Bool) (a : ℕ) → IsParted n
+    → below_of n ≡ Some h → IsForkCost e f (tree_of (left_half h)) (tree_of (right_half h)) a
+    → IsDearerByAtMost (right_of (tree_of n)) (tree_of (keeping n e f k t)) a
 unfolding node.out-Node halves.out-Halves denote.Hole.Carrier.out
 dearer_on_right (node.Node' upper lower height near times node.None') h e f k t a p is c = absurd (cc)
-dearer_on_right (node.Node' upper lower height near times (node.Some' i (halves.Halves' left right last_left first_right))) h e f k t a p is c =
+dearer_on_right (node.Node' upper lower height near times
+    (node.Some' i (halves.Halves' left right last_left first_right))) h e f k t a p is c =
     let b : halves.Halves' left right last_left first_right ≡ h = same_below is in
-    by_fork_right e f (tree_of left) (tree_of right) a (subst (λ (z : halves.Halves). IsForkCost e f (tree_of (left_half z)) (tree_of (right_half z)) a) (sym b) c)
+    by_fork_right e f (tree_of left) (tree_of right) a
+    (subst (λ (z : halves.Halves). IsForkCost e f (tree_of (left_half z)) (tree_of (right_half z)) a) (sym b) c)
 
 -- where p is below one of the halves, and the fork over them was renewed, its forks cost the turns of both
-pub cost_through : (n : node.Node) (h : halves.Halves) (v : Tree) (p : Pair) (m a k : ℕ) → below_of n ≡ Some h → AreParted h → IsCostAtMost (tree_of (left_half h)) p m ⊎ IsCostAtMost (tree_of (right_half h)) p m → IsDearerByAtMost (left_of (tree_of n)) v a → IsDearerByAtMost (right_of (tree_of n)) v a → m + a ≤ k → IsCostAtMost v p k
+pub cost_through : (n : node.Node) (h : halves.Halves) (v : Tree) (p : Pair) (m a k : ℕ) → below_of n ≡ Some h
+    → AreParted h → IsCostAtMost (tree_of (left_half h)) p m ⊎ IsCostAtMost (tree_of (right_half h)) p m
+    → IsDearerByAtMost (left_of (tree_of n)) v a → IsDearerByAtMost (right_of (tree_of n)) v a → m + a ≤ k
+    → IsCostAtMost v p k
 cost_through n h v p m a k e d c x y l =
     let u : IsUnder n h = under_fork n h (parted_fork n h e d) e in
     elim c [

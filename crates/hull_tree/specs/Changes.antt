@@ -8,7 +8,8 @@ use Rattle.hull_tree.specs.declared.node.Node.{Node}
 use Rattle.hull_tree.specs.declared.node.Node as node
 use Rattle.hull_tree.specs.declared.node.Halves.{Halves}
 use Rattle.hull_tree.specs.declared.node.Halves as halves
-use Rattle.hull_tree.specs.Nodes.{tree_of, left_half, right_half, before_parting, after_parting, times_below, IsWellBuilt, DifferByAtMost}
+use Rattle.hull_tree.specs.Nodes.{tree_of, left_half, right_half, before_parting, after_parting, times_below}
+use Rattle.hull_tree.specs.Nodes.{IsWellBuilt, DifferByAtMost}
 
 -- the points below a node, in order
 abbrev pub points_below : Node → List Pair
@@ -53,7 +54,8 @@ AreParted h = IsPartedAt (left_half h) (right_half h) (before_parting h) (after_
 -- a fork over two such halves, whose edges and height may be yet to be renewed
 abbrev pub IsParted : Node → Type 0
 IsParted (node.Node' upper lower height near times node.None') = ⊥
-IsParted (node.Node' upper lower height near times (node.Some' i (halves.Halves' left right last_left first_right))) = IsPartedAt left right last_left first_right
+IsParted (node.Node' upper lower height near times (node.Some' i (halves.Halves' left right last_left first_right))) =
+    IsPartedAt left right last_left first_right
 
 -- the height of a node's left half; of a leaf its own
 abbrev pub left_height : Node → ℕ
@@ -63,6 +65,7 @@ left_height n = height_of (left_of (tree_of n))
 abbrev pub right_height : Node → ℕ
 right_height n = height_of (right_of (tree_of n))
 
--- the height h of a node that is made of two of heights l and r: that of the fork over them, or one less where they differ by two
+-- the height h of a node that is made of two of heights l and r: that of the fork over them, or one less where they
+-- differ by two
 abbrev pub IsHeightOver : ℕ → ℕ → ℕ → Type 0
 IsHeightOver l r h = IsAtMostOneMore (max l r) h × (DifferByAtMost 1 l r → h ≡ max l r + 1)

@@ -1,4 +1,5 @@
--- The finite tree that a node is, and what makes it well built (Overmars and van Leeuwen, 1981; Adelson-Velsky and Landis, 1962).
+-- The finite tree that a node is, and what makes it well built (Overmars and van Leeuwen, 1981; Adelson-Velsky and
+-- Landis, 1962).
 use Rattle.std.specs.Prelude.{◌≡◌, ℕ, Bool, ◌+◌, ◌≤◌, Option, Some, None, option_map, if◌then◌else◌}
 use Rattle.lattice.specs.Plane.{Pair}
 use Rattle.bridge_search.specs.Trees.{Tree, Leaf, Fork, IsBridged, first_of, last_of, height_of}
@@ -13,7 +14,8 @@ use Rattle.hull_tree.specs.declared.node.Halves as halves
 -- the tree of a node: a node with nothing below it is one point, both ends of the edges that it keeps
 abbrev pub tree_of : Node → Tree
 tree_of (node.Node' upper lower height near times node.None') = Leaf upper.0
-tree_of (node.Node' upper lower height near times (node.Some' i (halves.Halves' left right last_left first_right))) = Fork upper lower (tree_of left) (tree_of right)
+tree_of (node.Node' upper lower height near times (node.Some' i (halves.Halves' left right last_left first_right))) =
+    Fork upper lower (tree_of left) (tree_of right)
 
 -- the left one of two halves
 abbrev pub left_half : Halves → Node
@@ -42,17 +44,20 @@ below_of n = option_map (λ b. b.value) (out-Node n).below
 -- the left and the right half of a fork; of a leaf nothing
 abbrev pub halves_of : Node → Option (Node × Node)
 halves_of (node.Node' upper lower height near times node.None') = None
-halves_of (node.Node' upper lower height near times (node.Some' i (halves.Halves' left right last_left first_right))) = Some (left, right)
+halves_of (node.Node' upper lower height near times (node.Some' i (halves.Halves' left right last_left first_right))) =
+    Some (left, right)
 
 -- the point of a leaf; of a fork nothing
 abbrev pub point_of : Node → Option Pair
 point_of (node.Node' upper lower height near times node.None') = Some upper.0
-point_of (node.Node' upper lower height near times (node.Some' i (halves.Halves' left right last_left first_right))) = None
+point_of (node.Node' upper lower height near times
+    (node.Some' i (halves.Halves' left right last_left first_right))) = None
 
 -- how often a leaf's point is held; of a fork nothing
 abbrev pub multiplicity_of : Node → Option ℕ
 multiplicity_of (node.Node' upper lower height near times node.None') = Some times
-multiplicity_of (node.Node' upper lower height near times (node.Some' i (halves.Halves' left right last_left first_right))) = None
+multiplicity_of (node.Node' upper lower height near times
+    (node.Some' i (halves.Halves' left right last_left first_right))) = None
 
 -- p held so many times, and no other point
 abbrev pub several : ℕ → Pair → Pair → ℕ
@@ -61,7 +66,8 @@ several times p q = if is_same_pair p q then times else 0
 -- how often each point is held below a node
 abbrev pub times_below : Node → Pair → ℕ
 times_below (node.Node' upper lower height near times node.None') q = several times upper.0 q
-times_below (node.Node' upper lower height near times (node.Some' i (halves.Halves' left right last_left first_right))) q = times_below left q + times_below right q
+times_below (node.Node' upper lower height near times
+    (node.Some' i (halves.Halves' left right last_left first_right))) q = times_below left q + times_below right q
 
 -- how often a live point may be held
 abbrev pub IsMultiplicity : ℕ → Type 0
@@ -76,13 +82,19 @@ abbrev pub IsBalanced : Tree → Type 0
 IsBalanced (Leaf x) = Unit {0}
 IsBalanced (Fork e f u w) = DifferByAtMost 1 (height_of u) (height_of w) × IsBalanced u × IsBalanced w
 
--- each node keeps its height and whether its points are near, each leaf how often its point is held, and each fork the last point of its left half and the first one of its right half
+-- each node keeps its height and whether its points are near, each leaf how often its point is held, and each fork the
+-- last point of its left half and the first one of its right half
 abbrev pub IsLabelled : Node → Type 0
-IsLabelled (node.Node' upper lower height near times node.None') = (height ≡ 0) × IsMultiplicity times × (near ≡ is_near upper.0)
+IsLabelled (node.Node' upper lower height near times node.None') =
+    (height ≡ 0) × IsMultiplicity times × (near ≡ is_near upper.0)
 IsLabelled (node.Node' upper lower height near times (node.Some' i (halves.Halves' left right last_left first_right))) =
-    (last_left ≡ last_of (tree_of left)) × (first_right ≡ first_of (tree_of right)) × (height ≡ height_of (Fork upper lower (tree_of left) (tree_of right))) × IsLabelled left × IsLabelled right × (near ≡ are_near (Fork upper lower (tree_of left) (tree_of right)))
+    (last_left ≡ last_of (tree_of left)) × (first_right ≡ first_of (tree_of right))
+    × (height ≡ height_of (Fork upper lower (tree_of left) (tree_of right))) × IsLabelled left × IsLabelled right
+    × (near ≡ are_near (Fork upper lower (tree_of left) (tree_of right)))
 
--- all is as it should be: each fork's left half stands before its right one and its stored edges are the bridges of the two, it is balanced, and it keeps its height and the points at its parting; each leaf's point is held as often as a point may be
+-- all is as it should be: each fork's left half stands before its right one and its stored edges are the bridges of
+-- the two, it is balanced, and it keeps its height and the points at its parting; each leaf's point is held as often
+-- as a point may be
 pub record IsWellBuilt (n : Node) : Type 0 where
   pub bridged : IsBridged (tree_of n)
   pub balanced : IsBalanced (tree_of n)

@@ -15,7 +15,8 @@ IsForkCost e f u w n = (a : ℕ) × (b : ℕ) × IsDepthSum u w e.0 e.1 a × IsD
 -- p is a point of the tree, and n the sum of the costs of the forks above it
 abbrev pub IsPathCost : Tree → Pair → ℕ → Type 0
 IsPathCost (Leaf x) p n = (p ≡ x) × (n ≡ 0)
-IsPathCost (Fork e f u w) p n = (a : ℕ) × (k : ℕ) × IsForkCost e f u w a × (n ≡ a + k) × (IsPathCost u p k ⊎ IsPathCost w p k)
+IsPathCost (Fork e f u w) p n =
+    (a : ℕ) × (k : ℕ) × IsForkCost e f u w a × (n ≡ a + k) × (IsPathCost u p k ⊎ IsPathCost w p k)
 
 -- n turns are at least the cost of the forks above p, which is a point of the tree
 abbrev pub IsCostAtMost : Tree → Pair → ℕ → Type 0
@@ -30,7 +31,8 @@ abbrev pub IsRootCostAtMost : Option Node → Pair → ℕ → Type 0
 IsRootCostAtMost None p n = ⊥
 IsRootCostAtMost (Some root) p n = IsCostAtMost (tree_of root) p n
 
--- p was added to the tree that is now `root`: the turns are at least the cost of the forks above p; any other answer took none
+-- p was added to the tree that is now `root`: the turns are at least the cost of the forks above p; any other answer
+-- took none
 abbrev pub IsLeastCount : AddReply → Option Node → Pair → ℕ → Type 0
 IsLeastCount Added root p n = IsRootCostAtMost root p n
 IsLeastCount (Again times) root p n = n ≡ 0

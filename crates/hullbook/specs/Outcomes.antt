@@ -25,7 +25,8 @@ journal_of b = record { head = b.head.journal; lines = b.lines }
 
 -- The workers of the script ran all its phases on a book that was opened so: these are their answers, the counts of the
 -- closed book's ledgers, and its journal.
-pub record IsRun (script : ScriptValue) (o : Options) (answers : List (List Answer)) (counts : List ℕ) (journal : JournalValue) : Type 0 where
+pub record IsRun (script : ScriptValue) (o : Options) (answers : List (List Answer)) (counts : List ℕ)
+    (journal : JournalValue) : Type 0 where
   pub before : WorkersValue
   pub after : WorkersValue
   pub closed : BookValue LimitedTree
@@ -37,7 +38,8 @@ pub record IsRun (script : ScriptValue) (o : Options) (answers : List (List Answ
 
 -- the journal or the report, as the options ask
 abbrev pub output_text : Options → ScriptValue → List (List Answer) → List ℕ → JournalValue → List ℕ
-output_text o script answers counts journal = cond o.journal (written_text journal) (report_text script answers counts journal)
+output_text o script answers counts journal =
+    cond o.journal (written_text journal) (report_text script answers counts journal)
 
 -- where the journal is asked for, the text is one of this journal
 abbrev pub IsJournalWhereAsked : Options → List ℕ → JournalValue → Type 0
@@ -59,7 +61,8 @@ abbrev pub HasRunKnownText : Options → Option (List ℕ) → Option (List ℕ)
 HasRunKnownText o None old new = Unit {0}
 HasRunKnownText o (Some bytes) old new = length bytes < 2 ^ 63 → HasRunText o bytes old new
 
--- The bytes, where they are known, were read as a script, it was run, and what was written is a beginning of the text of
+-- The bytes, where they are known, were read as a script, it was run, and what was written is a beginning of the text
+-- of
 -- the run.
 pub record HasWrittenFront (o : Options) (bytes old new : Option (List ℕ)) : Type 0 where
   pub script : ScriptValue

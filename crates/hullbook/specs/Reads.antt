@@ -21,4 +21,5 @@ IsSomeScript bytes = (script : ScriptValue) × ReadsKnownScript bytes (Ok script
 
 -- the bytes, where they are known, are a text of some journal, whose replay comes to a call that may take memory
 abbrev pub IsJournalThatAsks : Option (List ℕ) → Type 0
-IsJournalThatAsks bytes = (journal : JournalValue) × ReadsKnownJournal bytes (Ok journal) × AsksInReplay journal.head journal.lines
+IsJournalThatAsks bytes =
+    (journal : JournalValue) × ReadsKnownJournal bytes (Ok journal) × AsksInReplay journal.head journal.lines

@@ -25,15 +25,18 @@ pub cast_wide : (z : ℤ) → IsWithin widest z → to_z w128 (of_z w128 (to_z w
 cast_wide z h = omega (arith, ints)
 
 -- u - v in 64 bits, cast to 128
-pub cast_difference : (u v : ℤ) → IsWithin widest u → IsWithin widest v → to_z w128 (of_z w128 (to_z w64 (of_z w64 (to_z w64 (of_z w64 u) -ℤ to_z w64 (of_z w64 v))))) ≡ u -ℤ v
+pub cast_difference : (u v : ℤ) → IsWithin widest u → IsWithin widest v
+    → to_z w128 (of_z w128 (to_z w64 (of_z w64 (to_z w64 (of_z w64 u) -ℤ to_z w64 (of_z w64 v))))) ≡ u -ℤ v
 cast_difference u v hu hv = omega (arith, ints)
 
 -- a difference of two numbers of 128 bits that are small enough
-pub cast_sub : (m n : ℤ) → IsWithin (2 ^ 125) m → IsWithin (2 ^ 125) n → to_z w128 (of_z w128 (to_z w128 (of_z w128 m) -ℤ to_z w128 (of_z w128 n))) ≡ m -ℤ n
+pub cast_sub : (m n : ℤ) → IsWithin (2 ^ 125) m → IsWithin (2 ^ 125) n
+    → to_z w128 (of_z w128 (to_z w128 (of_z w128 m) -ℤ to_z w128 (of_z w128 n))) ≡ m -ℤ n
 cast_sub m n h k = omega (arith, ints)
 
 -- a sum of two numbers of 128 bits that are small enough
-pub cast_add : (m n : ℤ) → IsWithin (2 ^ 125) m → IsWithin (2 ^ 125) n → to_z w128 (of_z w128 (to_z w128 (of_z w128 m) +ℤ to_z w128 (of_z w128 n))) ≡ m +ℤ n
+pub cast_add : (m n : ℤ) → IsWithin (2 ^ 125) m → IsWithin (2 ^ 125) n
+    → to_z w128 (of_z w128 (to_z w128 (of_z w128 m) +ℤ to_z w128 (of_z w128 n))) ≡ m +ℤ n
 cast_add m n h k = omega (arith, ints)
 
 -- the limit of coordinates is safe
@@ -41,9 +44,11 @@ pub coordinate_within : (z : ℤ) → IsCoordinate z → IsWithin widest z
 coordinate_within z h = omega (arith, ints)
 
 -- (u - v) * (p - q), of coordinates
-pub minor_within : (u v p q : ℤ) → IsWithin widest u → IsWithin widest v → IsWithin widest p → IsWithin widest q → IsWithin (4 * (widest * widest)) ((u -ℤ v) *ℤ (p -ℤ q))
+pub minor_within : (u v p q : ℤ) → IsWithin widest u → IsWithin widest v → IsWithin widest p → IsWithin widest q
+    → IsWithin (4 * (widest * widest)) ((u -ℤ v) *ℤ (p -ℤ q))
 minor_within u v p q hu hv hp hq =
-    within_mul (widest + widest) (widest + widest) (u -ℤ v) (p -ℤ q) (within_sub widest widest u v hu hv) (within_sub widest widest p q hp hq)
+    within_mul (widest + widest) (widest + widest) (u -ℤ v) (p -ℤ q) (within_sub widest widest u v hu hv)
+    (within_sub widest widest p q hp hq)
 
 -- that is no larger than the widest product
 pub minor_small : (z : ℤ) → IsWithin (4 * (widest * widest)) z → IsWithin (2 ^ 125) z
@@ -58,16 +63,19 @@ pub pair_small : (z : ℤ) → IsWithin (widest * widest) z → IsWithin (2 ^ 12
 pair_small z h = within_more (widest * widest) (2 ^ 125) z (lit≤ tt) h
 
 -- a side times a difference of two coordinates
-pub weight_within : (u p r : ℤ) → IsWithin widest_side u → IsWithin widest p → IsWithin widest r → IsWithin (2 ^ 125) (u *ℤ (p -ℤ r))
+pub weight_within : (u p r : ℤ) → IsWithin widest_side u → IsWithin widest p → IsWithin widest r
+    → IsWithin (2 ^ 125) (u *ℤ (p -ℤ r))
 weight_within u p r hu hp hr =
-    within_more (widest_side * (widest + widest)) (2 ^ 125) (u *ℤ (p -ℤ r)) (lit≤ tt) (within_mul widest_side (widest + widest) u (p -ℤ r) hu (within_sub widest widest p r hp hr))
+    within_more (widest_side * (widest + widest)) (2 ^ 125) (u *ℤ (p -ℤ r)) (lit≤ tt)
+    (within_mul widest_side (widest + widest) u (p -ℤ r) hu (within_sub widest widest p r hp hr))
 
 -- a coordinate that a point told
 pub cast_told : (z w : ℤ) → IsCoordinate z → z ≡ w → to_z w64 (of_z w64 z) ≡ w
 cast_told z w h e = cast64 z (coordinate_within z h) ∙ e
 
 -- a sum of two small enough numbers fits 128 bits
-pub sum_fits : (m n : ℤ) → IsWithin (2 ^ 125) m → IsWithin (2 ^ 125) n → FitsSigned w128 (to_z w128 (of_z w128 m) +ℤ to_z w128 (of_z w128 n))
+pub sum_fits : (m n : ℤ) → IsWithin (2 ^ 125) m → IsWithin (2 ^ 125) n
+    → FitsSigned w128 (to_z w128 (of_z w128 m) +ℤ to_z w128 (of_z w128 n))
 sum_fits m n h k = omega (arith, ints)
 
 -- a side
@@ -76,23 +84,29 @@ cast_side z h = omega (arith, ints)
 
 -- ---- near points
 -- u - v of near coordinates
-pub cast_near_difference : (u v : ℤ) → IsWithin nearest u → IsWithin nearest v → to_z w64 (of_z w64 (to_z w64 (of_z w64 u) -ℤ to_z w64 (of_z w64 v))) ≡ u -ℤ v
+pub cast_near_difference : (u v : ℤ) → IsWithin nearest u → IsWithin nearest v
+    → to_z w64 (of_z w64 (to_z w64 (of_z w64 u) -ℤ to_z w64 (of_z w64 v))) ≡ u -ℤ v
 cast_near_difference u v hu hv = omega (arith, ints)
 
 -- (u - v) * (p - q), of near coordinates
-pub near_within : (u v p q : ℤ) → IsWithin nearest u → IsWithin nearest v → IsWithin nearest p → IsWithin nearest q → IsWithin (4 * (nearest * nearest)) ((u -ℤ v) *ℤ (p -ℤ q))
+pub near_within : (u v p q : ℤ) → IsWithin nearest u → IsWithin nearest v → IsWithin nearest p → IsWithin nearest q
+    → IsWithin (4 * (nearest * nearest)) ((u -ℤ v) *ℤ (p -ℤ q))
 near_within u v p q hu hv hp hq =
-    within_mul (nearest + nearest) (nearest + nearest) (u -ℤ v) (p -ℤ q) (within_sub nearest nearest u v hu hv) (within_sub nearest nearest p q hp hq)
+    within_mul (nearest + nearest) (nearest + nearest) (u -ℤ v) (p -ℤ q) (within_sub nearest nearest u v hu hv)
+    (within_sub nearest nearest p q hp hq)
 
 -- a product of differences of near coordinates fits
 pub cast_near_product : (z : ℤ) → IsWithin (4 * (nearest * nearest)) z → to_z w64 (of_z w64 z) ≡ z
 cast_near_product z h = omega (arith, ints)
 
 -- the difference of two such products fits in 64 bits, and cast to 128 it is the same
-pub cast_near_side : (m n : ℤ) → IsWithin (4 * (nearest * nearest)) m → IsWithin (4 * (nearest * nearest)) n → to_z w128 (of_z w128 (to_z w64 (of_z w64 (to_z w64 (of_z w64 m) -ℤ to_z w64 (of_z w64 n))))) ≡ m -ℤ n
+pub cast_near_side : (m n : ℤ) → IsWithin (4 * (nearest * nearest)) m → IsWithin (4 * (nearest * nearest)) n
+    → to_z w128 (of_z w128 (to_z w64 (of_z w64 (to_z w64 (of_z w64 m) -ℤ to_z w64 (of_z w64 n))))) ≡ m -ℤ n
 cast_near_side m n h k = omega (arith, ints)
 
 -- and it is a side
-pub near_side_within : (m n : ℤ) → IsWithin (4 * (nearest * nearest)) m → IsWithin (4 * (nearest * nearest)) n → IsWithin widest_side (m -ℤ n)
+pub near_side_within : (m n : ℤ) → IsWithin (4 * (nearest * nearest)) m → IsWithin (4 * (nearest * nearest)) n
+    → IsWithin widest_side (m -ℤ n)
 near_side_within m n h k =
-    within_more (4 * (nearest * nearest) + 4 * (nearest * nearest)) widest_side (m -ℤ n) (lit≤ tt) (within_sub (4 * (nearest * nearest)) (4 * (nearest * nearest)) m n h k)
+    within_more (4 * (nearest * nearest) + 4 * (nearest * nearest)) widest_side (m -ℤ n) (lit≤ tt)
+    (within_sub (4 * (nearest * nearest)) (4 * (nearest * nearest)) m n h k)

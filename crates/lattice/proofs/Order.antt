@@ -1,5 +1,6 @@
 -- The order "before" of points.
-use Rattle.std.proofs.Common.{◌≡◌, ℤ, ◌≤ℤ◌, ◌<ℤ◌, ◌⊎◌, inl, inr, refl, sym, ap, ◌∙◌, subst, arith, true, false, Bool, ◌≢◌}
+use Rattle.std.proofs.Common.{◌≡◌, ℤ, ◌≤ℤ◌, ◌<ℤ◌, ◌⊎◌, inl, inr, refl, sym, ap, ◌∙◌, subst, arith, true, false, Bool}
+use Rattle.std.proofs.Common.{◌≢◌}
 use Rattle.std.specs.Prelude.{IsTrue, ◌↔◌, int_lt}
 use Rattle.std.proofs.lemmas.Bool.{false≢true}
 use Rattle.std.proofs.lemmas.Int.{ints}
@@ -55,20 +56,30 @@ int_lt-false a b h = grind (arith, ints)
 -- the test holds where p stands before q
 pub is_before-true : (p q : Pair) → IsBefore p q → is_before p q ≡ true
 is_before-true p q (inl h) = rw (int_lt-true p.x q.x h) refl
-is_before-true p q (inr h) = rw (int_lt-false p.x q.x (omega (arith, ints, h.0)), int_lt-false q.x p.x (omega (arith, ints, h.0)), int_lt-true p.y q.y h.1) refl
+is_before-true p q (inr h) =
+    rw (
+      int_lt-false p.x q.x (omega (arith, ints, h.0)),
+      int_lt-false q.x p.x (omega (arith, ints, h.0)),
+      int_lt-true p.y q.y h.1,
+    ) refl
 
 -- the test fails elsewhere
 pub is_before-false : (p q : Pair) → ¬ (IsBefore p q) → is_before p q ≡ false
 is_before-false p q n =
     elim (before_total p q) [
       | inl h ↦ absurd (n h)
-      | inr (inl e) ↦ rw e (rw (int_lt-false q.x q.x (omega (arith, ints)), int_lt-false q.y q.y (omega (arith, ints))) refl)
+      | inr (inl e) ↦ rw e
+          (rw (int_lt-false q.x q.x (omega (arith, ints)), int_lt-false q.y q.y (omega (arith, ints))) refl)
       | inr (inr h) ↦ after h
     ]
   where
     after : IsBefore q p → is_before p q ≡ false
     after (inl h) = rw (int_lt-false p.x q.x (omega (arith, ints)), int_lt-true q.x p.x h) refl
-    after (inr h) = rw (int_lt-false p.x q.x (omega (arith, ints, h.0)), int_lt-false q.x p.x (omega (arith, ints, h.0)), int_lt-false p.y q.y (omega (arith, ints, h.1))) refl
+    after (inr h) = rw (
+      int_lt-false p.x q.x (omega (arith, ints, h.0)),
+      int_lt-false q.x p.x (omega (arith, ints, h.0)),
+      int_lt-false p.y q.y (omega (arith, ints, h.1)),
+    ) refl
 
 -- not both ways
 pub before_not : (p q : Pair) → IsBefore p q → ¬ (IsBefore q p)
@@ -91,7 +102,8 @@ pub is_before-holds : (p q : Pair) → is_before p q ≡ true → IsBefore p q
 is_before-holds p q t =
     elim (before_total p q) [
       | inl h ↦ h
-      | inr (inl e) ↦ absurd (false≢true (sym (is_before-false p q (λ b. before_irrefl q (subst (λ (z : Pair). IsBefore z q) e b))) ∙ t))
+      | inr (inl e) ↦ absurd
+          (false≢true (sym (is_before-false p q (λ b. before_irrefl q (subst (λ (z : Pair). IsBefore z q) e b))) ∙ t))
       | inr (inr h) ↦ absurd (false≢true (sym (is_before-false p q (before_not q p h)) ∙ t))
     ]
 

@@ -8,7 +8,8 @@ use Rattle.lattice.specs.Integers.{linear, ring_laws}
 
 -- two turns are none
 pub turned_twice : (p : Pair) → turned_point (turned_point p) ≡ p
-turned_twice p = ap (λ (z : ℤ). let q : Pair = record { x = z; y = neg_ℤ (neg_ℤ p.y) } in q) (neg_ℤ-neg_ℤ p.x) ∙ ap (λ (z : ℤ). let q : Pair = record { x = p.x; y = z } in q) (neg_ℤ-neg_ℤ p.y)
+turned_twice p = ap (λ (z : ℤ). let q : Pair = record { x = z; y = neg_ℤ (neg_ℤ p.y) } in q) (neg_ℤ-neg_ℤ p.x)
+    ∙ ap (λ (z : ℤ). let q : Pair = record { x = p.x; y = z } in q) (neg_ℤ-neg_ℤ p.y)
 
 -- a turn that takes the ends along keeps the side in size and changes its sign
 pub orient_turned : (p q t : Pair) → orient (turned_point q) (turned_point p) t ≡ neg_ℤ (orient p q (turned_point t))
@@ -38,7 +39,8 @@ order_turned l r o p q i j = before_swap p q (o (turned_point q) (turned_point p
     before_swap p q (inr h) = inr (omega (arith, linear))
 
 -- the lower bridge of two sets, turned, is the upper bridge of the turned sets
-pub upper_from_lower : (l r : Pair → Type 0) (p q : Pair) → IsLowerBridge l r p q → IsUpperBridge (Turned r) (Turned l) (turned_point q) (turned_point p)
+pub upper_from_lower : (l r : Pair → Type 0) (p q : Pair) → IsLowerBridge l r p q
+    → IsUpperBridge (Turned r) (Turned l) (turned_point q) (turned_point p)
 upper_from_lower l r p q h = record {
   from_left = subst r (sym (turned_twice q)) h.to_right;
   to_right = subst l (sym (turned_twice p)) h.from_left;
@@ -49,10 +51,12 @@ upper_from_lower l r p q h = record {
 }
   where
     below : (t : Pair) → pos 0 ≤ℤ orient p q (turned_point t) → orient (turned_point q) (turned_point p) t ≤ℤ pos 0
-    below t g = let e : orient (turned_point q) (turned_point p) t ≡ neg_ℤ (orient p q (turned_point t)) = orient_turned p q t in omega (arith, linear)
+    below t g = let e : orient (turned_point q) (turned_point p) t ≡ neg_ℤ (orient p q (turned_point t)) =
+        orient_turned p q t in omega (arith, linear)
 
     zero : (t : Pair) → orient (turned_point q) (turned_point p) t ≡ pos 0 → orient p q (turned_point t) ≡ pos 0
-    zero t g = let e : orient (turned_point q) (turned_point p) t ≡ neg_ℤ (orient p q (turned_point t)) = orient_turned p q t in omega (arith, linear)
+    zero t g = let e : orient (turned_point q) (turned_point p) t ≡ neg_ℤ (orient p q (turned_point t)) =
+        orient_turned p q t in omega (arith, linear)
 
     tie : (t : Pair) → IsNotBeyond p q (turned_point t) → IsNotBeyond (turned_point q) (turned_point p) t
     tie t k = (λ b. k.1 (before_turned_back t q b), λ b. k.0 (before_turned t p b))

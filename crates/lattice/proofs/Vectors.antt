@@ -23,23 +23,36 @@ Ahead u = (pos 0 <ℤ u.x) ⊎ ((u.x ≡ pos 0) × (pos 0 <ℤ u.y))
 
 -- the identity of three vectors
 plucker : (u v w : Pair) → cross u w *ℤ v.x ≡ cross u v *ℤ w.x +ℤ cross v w *ℤ u.x
-plucker u v w = rw (as_difference u.x, as_difference u.y, as_difference v.x, as_difference v.y, as_difference w.x, as_difference w.y) (simp (difference-add, difference-neg, difference-mul) (difference-eq _ _ _ _ (omega arith)))
+plucker u v w = rw (
+  as_difference u.x,
+  as_difference u.y,
+  as_difference v.x,
+  as_difference v.y,
+  as_difference w.x,
+  as_difference w.y,
+) (simp (difference-add, difference-neg, difference-mul) (difference-eq _ _ _ _ (omega arith)))
 
 -- the first vector backwards
 pub cross-opp_left : (u v : Pair) → cross (opp u) v ≡ cross v u
-cross-opp_left u v = rw (as_difference u.x, as_difference u.y, as_difference v.x, as_difference v.y) (simp (difference-add, difference-neg, difference-mul) (difference-eq _ _ _ _ (omega arith)))
+cross-opp_left u v =
+    rw (as_difference u.x, as_difference u.y, as_difference v.x, as_difference v.y)
+    (simp (difference-add, difference-neg, difference-mul) (difference-eq _ _ _ _ (omega arith)))
 
 -- the second vector backwards
 pub cross-opp_right : (u v : Pair) → cross u (opp v) ≡ cross v u
-cross-opp_right u v = rw (as_difference u.x, as_difference u.y, as_difference v.x, as_difference v.y) (simp (difference-add, difference-neg, difference-mul) (difference-eq _ _ _ _ (omega arith)))
+cross-opp_right u v =
+    rw (as_difference u.x, as_difference u.y, as_difference v.x, as_difference v.y)
+    (simp (difference-add, difference-neg, difference-mul) (difference-eq _ _ _ _ (omega arith)))
 
 -- both vectors backwards
 pub cross-opp : (u v : Pair) → cross (opp u) (opp v) ≡ cross u v
-cross-opp u v = rw (as_difference u.x, as_difference u.y, as_difference v.x, as_difference v.y) (simp (difference-add, difference-neg, difference-mul) (difference-eq _ _ _ _ (omega arith)))
+cross-opp u v = rw (as_difference u.x, as_difference u.y, as_difference v.x, as_difference v.y)
+    (simp (difference-add, difference-neg, difference-mul) (difference-eq _ _ _ _ (omega arith)))
 
 -- the vectors exchanged
 pub cross_swap : (u v : Pair) → cross u v ≡ neg_ℤ (cross v u)
-cross_swap u v = rw (as_difference u.x, as_difference u.y, as_difference v.x, as_difference v.y) (simp (difference-add, difference-neg, difference-mul) (difference-eq _ _ _ _ (omega arith)))
+cross_swap u v = rw (as_difference u.x, as_difference u.y, as_difference v.x, as_difference v.y)
+    (simp (difference-add, difference-neg, difference-mul) (difference-eq _ _ _ _ (omega arith)))
 
 -- a vector ahead does not go left
 pub ahead_nn : (u : Pair) → Ahead u → pos 0 ≤ℤ u.x
@@ -51,34 +64,41 @@ sum_nn : (a b c : ℤ) → c ≡ a +ℤ b → pos 0 ≤ℤ a → pos 0 ≤ℤ b 
 sum_nn a b c e h k = omega (arith, ints)
 
 -- where v = (0, vy) with vy > 0
-vertical : (u w : Pair) (vy : ℤ) → pos 0 ≤ℤ u.x → pos 0 <ℤ vy → Ahead w → pos 0 ≤ℤ cross (record { x = pos 0; y = vy }) w → pos 0 ≤ℤ cross u w
+vertical : (u w : Pair) (vy : ℤ) → pos 0 ≤ℤ u.x → pos 0 <ℤ vy → Ahead w
+    → pos 0 ≤ℤ cross (record { x = pos 0; y = vy }) w → pos 0 ≤ℤ cross u w
 vertical u w vy hu v (inl h) vw = absurd (let p : pos 0 <ℤ (vy *ℤ w.x) = product_pp vy w.x v h in omega (arith, ints))
 vertical u w vy hu v (inr h) vw =
     let p : pos 0 ≤ℤ (u.x *ℤ w.y) = product_nn u.x w.y hu (omega (arith, ints, h.1)) in
     subst (λ (z : ℤ). pos 0 ≤ℤ (u.x *ℤ w.y -ℤ u.y *ℤ z)) (sym h.0) (omega (arith, ints))
 
 -- turns to the left, in the half of the plane ahead, compose
-pub turn_trans : (u v w : Pair) → Ahead u → Ahead v → Ahead w → pos 0 ≤ℤ cross u v → pos 0 ≤ℤ cross v w → pos 0 ≤ℤ cross u w
+pub turn_trans : (u v w : Pair) → Ahead u → Ahead v → Ahead w → pos 0 ≤ℤ cross u v → pos 0 ≤ℤ cross v w
+    → pos 0 ≤ℤ cross u w
 turn_trans u v w hu (inl h) hw uv vw =
     cancel_nn (cross u w) v.x h
-    (sum_nn (cross u v *ℤ w.x) (cross v w *ℤ u.x) _ (plucker u v w) (product_nn _ w.x uv (ahead_nn w hw)) (product_nn _ u.x vw (ahead_nn u hu)))
+    (sum_nn (cross u v *ℤ w.x) (cross v w *ℤ u.x) _ (plucker u v w) (product_nn _ w.x uv (ahead_nn w hw))
+    (product_nn _ u.x vw (ahead_nn u hu)))
 turn_trans u v w hu (inr h) hw uv vw =
     vertical u w v.y (ahead_nn u hu) h.1 hw (subst (λ (z : ℤ). pos 0 ≤ℤ (z *ℤ w.y -ℤ v.y *ℤ w.x)) h.0 vw)
 
 -- the same where the first turn is strict
-pub turn_trans_strict : (u v w : Pair) → Ahead u → Ahead v → Ahead w → pos 0 <ℤ cross u v → pos 0 ≤ℤ cross v w → pos 0 <ℤ cross u w
+pub turn_trans_strict : (u v w : Pair) → Ahead u → Ahead v → Ahead w → pos 0 <ℤ cross u v → pos 0 ≤ℤ cross v w
+    → pos 0 <ℤ cross u w
 turn_trans_strict u v w hu hv hw uv vw =
     elim (le_or_lt (cross u w) (pos 0)) [
       | inl h ↦ let k : pos 0 ≤ℤ cross w u = rw (cross_swap w u) (omega (arith, ints)) in
-          let n : pos 0 ≤ℤ cross v u = turn_trans v w u hv hw hu vw k in absurd (let e = cross_swap u v in omega (arith, ints))
+          let n : pos 0 ≤ℤ cross v u = turn_trans v w u hv hw hu vw k in
+          absurd (let e = cross_swap u v in omega (arith, ints))
       | inr h ↦ h
     ]
 
 -- the same where the second turn is strict
-pub turn_trans_strict_right : (u v w : Pair) → Ahead u → Ahead v → Ahead w → pos 0 ≤ℤ cross u v → pos 0 <ℤ cross v w → pos 0 <ℤ cross u w
+pub turn_trans_strict_right : (u v w : Pair) → Ahead u → Ahead v → Ahead w → pos 0 ≤ℤ cross u v → pos 0 <ℤ cross v w
+    → pos 0 <ℤ cross u w
 turn_trans_strict_right u v w hu hv hw uv vw =
     elim (le_or_lt (cross u w) (pos 0)) [
       | inl h ↦ let k : pos 0 ≤ℤ cross w u = rw (cross_swap w u) (omega (arith, ints)) in
-          let n : pos 0 ≤ℤ cross w v = turn_trans w u v hw hu hv k uv in absurd (let e = cross_swap v w in omega (arith, ints))
+          let n : pos 0 ≤ℤ cross w v = turn_trans w u v hw hu hv k uv in
+          absurd (let e = cross_swap v w in omega (arith, ints))
       | inr h ↦ h
     ]

@@ -16,7 +16,11 @@ weigh : (u v p q s : ℤ) → u *ℤ (p -ℤ s) +ℤ v *ℤ (q -ℤ s) ≡ (u *�
 weigh u v p q s = simp ring_laws (omega (arith, linear))
 
 -- what the program computed is that difference
-pub weight_told : (r u v p q s p' q' s' : ℤ) → FitsSigned w128 r → FitsSigned w128 u → FitsSigned w128 v → to_z w64 (of_z w64 p) ≡ p' → to_z w64 (of_z w64 q) ≡ q' → to_z w64 (of_z w64 s) ≡ s' → r ≡ to_z w128 (of_z w128 u) *ℤ (to_z w64 (of_z w64 p) -ℤ to_z w64 (of_z w64 s)) +ℤ to_z w128 (of_z w128 v) *ℤ (to_z w64 (of_z w64 q) -ℤ to_z w64 (of_z w64 s)) → to_z w128 (of_z w128 r) ≡ (u *ℤ p' +ℤ v *ℤ q') -ℤ ((u +ℤ v) *ℤ s')
+pub weight_told : (r u v p q s p' q' s' : ℤ) → FitsSigned w128 r → FitsSigned w128 u → FitsSigned w128 v
+    → to_z w64 (of_z w64 p) ≡ p' → to_z w64 (of_z w64 q) ≡ q' → to_z w64 (of_z w64 s) ≡ s'
+    → r ≡ to_z w128 (of_z w128 u) *ℤ (to_z w64 (of_z w64 p) -ℤ to_z w64 (of_z w64 s)) +ℤ to_z w128 (of_z w128 v) *ℤ
+    (to_z w64 (of_z w64 q) -ℤ to_z w64 (of_z w64 s))
+    → to_z w128 (of_z w128 r) ≡ (u *ℤ p' +ℤ v *ℤ q') -ℤ ((u +ℤ v) *ℤ s')
 weight_told r u v p q s p' q' s' fr fu fv ep eq es e =
     cast128 r fr ∙ (rw (cast128 u fu, cast128 v fv, ep, eq, es) at e) ∙ weigh u v p' q' s'
 
@@ -36,7 +40,8 @@ after_in_x z x y u v e h = (λ t. cc, λ w. absurd (not_both w))
     not_both (inr k) = omega (arith, ints, above, k.0)
 
 -- zero in x: by y
-pub by_y : (z w x y u v : ℤ) → z ≡ x -ℤ u → w ≡ y -ℤ v → lt_z z (pos 0) ≡ false → lt_z (pos 0) z ≡ false → IsTrue (le_z w (pos 0)) ↔ IsAtOrBefore x y u v
+pub by_y : (z w x y u v : ℤ) → z ≡ x -ℤ u → w ≡ y -ℤ v → lt_z z (pos 0) ≡ false → lt_z (pos 0) z ≡ false
+    → IsTrue (le_z w (pos 0)) ↔ IsAtOrBefore x y u v
 by_y z w x y u v e f h k = (λ t. inr (same, below t), back)
   where
     same : x ≡ u

@@ -18,7 +18,8 @@ IsOnSegment a b q = (orient a b q ≡ pos 0) × IsBetween a.x b.x q.x × IsBetwe
 
 -- q lies in the closed triangle abc, which turns left
 abbrev pub IsInTriangle : Pair → Pair → Pair → Pair → Type 0
-IsInTriangle a b c q = (pos 0 <ℤ orient a b c) × (pos 0 ≤ℤ orient a b q) × (pos 0 ≤ℤ orient b c q) × (pos 0 ≤ℤ orient c a q)
+IsInTriangle a b c q =
+    (pos 0 <ℤ orient a b c) × (pos 0 ≤ℤ orient a b q) × (pos 0 ≤ℤ orient b c q) × (pos 0 ≤ℤ orient c a q)
 
 -- S covers q: it is one of the points, or on a segment between two of them, or in a closed triangle of three of them
 pub data Covers (S : List Pair) (q : Pair) : Type 0 where

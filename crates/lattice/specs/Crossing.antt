@@ -8,7 +8,8 @@ IsAtOrBefore x y u v = (x <ℤ u) ⊎ ((x ≡ u) × (y ≤ℤ v))
 
 -- the point (u*d + v*c) / (u + v) stands before m or is m, after multiplying by u + v
 abbrev pub IsWeightedAtOrBefore : ℤ → ℤ → Pair → Pair → Pair → Type 0
-IsWeightedAtOrBefore u v c d m = IsAtOrBefore (u *ℤ d.x +ℤ v *ℤ c.x) (u *ℤ d.y +ℤ v *ℤ c.y) ((u +ℤ v) *ℤ m.x) ((u +ℤ v) *ℤ m.y)
+IsWeightedAtOrBefore u v c d m =
+    IsAtOrBefore (u *ℤ d.x +ℤ v *ℤ c.x) (u *ℤ d.y +ℤ v *ℤ c.y) ((u +ℤ v) *ℤ m.x) ((u +ℤ v) *ℤ m.y)
 
 -- the same point stands after m
 abbrev pub IsWeightedAfter : ℤ → ℤ → Pair → Pair → Pair → Type 0

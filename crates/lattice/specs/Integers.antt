@@ -3,7 +3,8 @@ use Rattle.std.proofs.Common.{◌≡◌, ℕ, suc, ◌+◌, ◌*◌, ◌≤◌, 
 use lib.IntN.{ℤ, pos, negsuc, ◌+ℤ◌, ◌-ℤ◌, ◌*ℤ◌, neg_ℤ, *ℤ_comm, +ℤ_comm, +ℤ_assoc}
 use Rattle.std.proofs.lemmas.Nat.{mul-le}
 use Rattle.lattice.specs.Plane.{IsWithin}
-use borrow.Author.Differences.{ints, up, down, sum_is_lem, product_is, neg_is, same_in, same_out, Apart-out, lt_out, le_out, below_in, at_most_in}
+use borrow.Author.Differences.{ints, up, down, sum_is_lem, product_is, neg_is, same_in, same_out, Apart-out, lt_out}
+use borrow.Author.Differences.{le_out, below_in, at_most_in}
 
 -- a product with a sum on the right
 pub distrib_l : (a b c : ℤ) → a *ℤ (b +ℤ c) ≡ a *ℤ b +ℤ a *ℤ c
@@ -18,12 +19,30 @@ distrib_r a b c =
 -- products in a row
 pub mul_assoc : (a b c : ℤ) → (a *ℤ b) *ℤ c ≡ a *ℤ (b *ℤ c)
 mul_assoc a b c =
-    omega (arith, ints, ap (λ (n : ℕ). n * up c) (product_is a b).0, ap (λ (n : ℕ). n * down c) (product_is a b).0, ap (λ (n : ℕ). n * up c) (product_is a b).1, ap (λ (n : ℕ). n * down c) (product_is a b).1, ap (λ (n : ℕ). up a * n) (product_is b c).0, ap (λ (n : ℕ). down a * n) (product_is b c).0, ap (λ (n : ℕ). up a * n) (product_is b c).1, ap (λ (n : ℕ). down a * n) (product_is b c).1)
+    omega (
+      arith,
+      ints,
+      ap (λ (n : ℕ). n * up c) (product_is a b).0,
+      ap (λ (n : ℕ). n * down c) (product_is a b).0,
+      ap (λ (n : ℕ). n * up c) (product_is a b).1,
+      ap (λ (n : ℕ). n * down c) (product_is a b).1,
+      ap (λ (n : ℕ). up a * n) (product_is b c).0,
+      ap (λ (n : ℕ). down a * n) (product_is b c).0,
+      ap (λ (n : ℕ). up a * n) (product_is b c).1,
+      ap (λ (n : ℕ). down a * n) (product_is b c).1,
+    )
 
 -- a negated factor on the left
 pub neg_mul_l : (a b : ℤ) → neg_ℤ a *ℤ b ≡ neg_ℤ (a *ℤ b)
 neg_mul_l a b =
-    omega (arith, ints, ap (λ (n : ℕ). n * up b) (neg_is a).0, ap (λ (n : ℕ). n * down b) (neg_is a).0, ap (λ (n : ℕ). n * up b) (neg_is a).1, ap (λ (n : ℕ). n * down b) (neg_is a).1)
+    omega (
+      arith,
+      ints,
+      ap (λ (n : ℕ). n * up b) (neg_is a).0,
+      ap (λ (n : ℕ). n * down b) (neg_is a).0,
+      ap (λ (n : ℕ). n * up b) (neg_is a).1,
+      ap (λ (n : ℕ). n * down b) (neg_is a).1,
+    )
 
 -- a negated factor on the right
 pub neg_mul_r : (a b : ℤ) → a *ℤ neg_ℤ b ≡ neg_ℤ (a *ℤ b)
@@ -52,10 +71,14 @@ within_sub j k a b h g = (omega (arith, ints), omega (arith, ints))
 
 -- a product is at most as large as the product of the sizes
 pub within_mul : (j k : ℕ) (a b : ℤ) → IsWithin j a → IsWithin k b → IsWithin (j * k) (a *ℤ b)
-within_mul j k (pos a) (pos b) h g = (omega (arith, ints), omega (arith, ints, mul-le a b j k (omega (arith, ints)) (omega (arith, ints))))
-within_mul j k (pos a) (negsuc b) h g = (omega (arith, ints, mul-le a (suc b) j k (omega (arith, ints)) (omega (arith, ints))), omega (arith, ints))
-within_mul j k (negsuc a) (pos b) h g = (omega (arith, ints, mul-le (suc a) b j k (omega (arith, ints)) (omega (arith, ints))), omega (arith, ints))
-within_mul j k (negsuc a) (negsuc b) h g = (omega (arith, ints), omega (arith, ints, mul-le (suc a) (suc b) j k (omega (arith, ints)) (omega (arith, ints))))
+within_mul j k (pos a) (pos b) h g =
+    (omega (arith, ints), omega (arith, ints, mul-le a b j k (omega (arith, ints)) (omega (arith, ints))))
+within_mul j k (pos a) (negsuc b) h g =
+    (omega (arith, ints, mul-le a (suc b) j k (omega (arith, ints)) (omega (arith, ints))), omega (arith, ints))
+within_mul j k (negsuc a) (pos b) h g =
+    (omega (arith, ints, mul-le (suc a) b j k (omega (arith, ints)) (omega (arith, ints))), omega (arith, ints))
+within_mul j k (negsuc a) (negsuc b) h g =
+    (omega (arith, ints), omega (arith, ints, mul-le (suc a) (suc b) j k (omega (arith, ints)) (omega (arith, ints))))
 
 -- a larger bound
 pub within_more : (j k : ℕ) (a : ℤ) → j ≤ k → IsWithin j a → IsWithin k a

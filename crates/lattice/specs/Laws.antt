@@ -1,4 +1,5 @@
--- Laws that show that the definitions mean what they should. Each is the contract of a public function with an empty body.
+-- Laws that show that the definitions mean what they should. Each is the contract of a public function with an empty
+-- body.
 use Rattle.std.specs.Prelude.{◌≡◌, pos, ◌+ℤ◌, ◌*ℤ◌, ◌<ℤ◌}
 use Rattle.lattice.specs.Plane.{Pair, orient, IsBefore}
 use Rattle.lattice.specs.Bridges.{IsAllBefore, IsUpperBridge, IsLowerBridge}
@@ -14,7 +15,8 @@ abbrev pub LowerBridgeIsUnique : (Pair → Type 0) → (Pair → Type 0) → Typ
 LowerBridgeIsUnique l r =
     (p q a b : Pair) → IsAllBefore l r → IsLowerBridge l r p q → IsLowerBridge l r a b → (p ≡ a) × (q ≡ b)
 
--- where a, b, c, d stand in their order and turn right at b and at c, the weights of their crossing have a positive sum,
+-- where a, b, c, d stand in their order and turn right at b and at c, the weights of their crossing have a positive
+-- sum,
 -- and the point between c and d that has these weights has neither side of the line ab, so it lies on both lines
 abbrev pub CrossingIsOnBothLines : Type 0
 CrossingIsOnBothLines =

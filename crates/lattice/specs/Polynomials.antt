@@ -1,4 +1,5 @@
--- Identities of the ring of whole numbers. `difference a b` is a - b for two naturals; each whole number is one, and sums and products of such are such, so an identity becomes an equation of naturals, which omega decides.
+-- Identities of the ring of whole numbers. `difference a b` is a - b for two naturals; each whole number is one, and
+-- sums and products of such are such, so an identity becomes an equation of naturals, which omega decides.
 use Rattle.std.proofs.Common.{◌≡◌, ℕ, ◌+◌, ◌-◌, ◌*◌, ℤ, pos, ◌+ℤ◌, ◌*ℤ◌, neg_ℤ, arith}
 use Rattle.std.proofs.Common.{◌⊎◌, inl, inr}
 use Rattle.std.proofs.lemmas.Bool.{cases_lt}
@@ -20,7 +21,8 @@ difference-is a b = omega (arith, ints)
 
 -- when two differences are equal
 pub difference-eq : (a b c d : ℕ) → a + d ≡ c + b → difference a b ≡ difference c d
-difference-eq a b c d e = same_in (difference a b) (difference c d) (omega (arith, difference-is a b, difference-is c d))
+difference-eq a b c d e =
+    same_in (difference a b) (difference c d) (omega (arith, difference-is a b, difference-is c d))
 
 -- each whole number is a difference of two naturals
 pub as_difference : (z : ℤ) → z ≡ difference (up z) (down z)
@@ -28,33 +30,56 @@ as_difference z = same_in z (difference (up z) (down z)) (omega (arith, differen
 
 -- a sum of differences
 pub difference-add : (a b c d : ℕ) → difference a b +ℤ difference c d ≡ difference (a + c) (b + d)
-difference-add a b c d = same_in (difference a b +ℤ difference c d) (difference (a + c) (b + d)) (omega (arith, difference-is a b, difference-is c d, difference-is (a + c) (b + d), sum_is_lem (difference a b) (difference c d)))
+difference-add a b c d =
+    same_in (difference a b +ℤ difference c d) (difference (a + c) (b + d))
+    (omega (
+      arith,
+      difference-is a b,
+      difference-is c d,
+      difference-is (a + c) (b + d),
+      sum_is_lem (difference a b) (difference c d),
+    ))
 
 -- a negated difference
 pub difference-neg : (a b : ℕ) → neg_ℤ (difference a b) ≡ difference b a
-difference-neg a b = same_in (neg_ℤ (difference a b)) (difference b a) (omega (arith, difference-is a b, difference-is b a, neg_is (difference a b)))
+difference-neg a b =
+    same_in (neg_ℤ (difference a b)) (difference b a)
+    (omega (arith, difference-is a b, difference-is b a, neg_is (difference a b)))
 
 -- a is b and k more, or b is a and k more
 split : (a b : ℕ) → ((k : ℕ) × (a ≡ b + k)) ⊎ ((k : ℕ) × (b ≡ a + k))
 split a b = elim (cases_lt a b) [ inl h ↦ inr (b - a, omega arith) | inr h ↦ inl (a - b, omega arith) ]
 
 -- the equation of naturals behind a product of differences
-prod : (u v w x a b c d : ℕ) → u + b ≡ v + a → w + d ≡ x + c → (u * w + v * x) + (a * d + b * c) ≡ (a * c + b * d) + (u * x + v * w)
+prod : (u v w x a b c d : ℕ) → u + b ≡ v + a → w + d ≡ x + c
+    → (u * w + v * x) + (a * d + b * c) ≡ (a * c + b * d) + (u * x + v * w)
 prod u v w x a b c d e f =
     elim (split a b) [
       | inl p ↦ elim (split c d) [
-        | inl q ↦ let u-is : u ≡ v + p.0 = omega (arith, p.1) in let w-is : w ≡ x + q.0 = omega (arith, q.1) in rw (u-is, w-is, p.1, q.1) (omega arith)
-        | inr q ↦ let u-is : u ≡ v + p.0 = omega (arith, p.1) in let x-is : x ≡ w + q.0 = omega (arith, q.1) in rw (u-is, x-is, p.1, q.1) (omega arith)
+        | inl q ↦ let u-is : u ≡ v + p.0 = omega (arith, p.1) in let w-is : w ≡ x + q.0 = omega (arith, q.1) in
+            rw (u-is, w-is, p.1, q.1) (omega arith)
+        | inr q ↦ let u-is : u ≡ v + p.0 = omega (arith, p.1) in let x-is : x ≡ w + q.0 = omega (arith, q.1) in
+            rw (u-is, x-is, p.1, q.1) (omega arith)
       ]
       | inr p ↦ elim (split c d) [
-        | inl q ↦ let v-is : v ≡ u + p.0 = omega (arith, p.1) in let w-is : w ≡ x + q.0 = omega (arith, q.1) in rw (v-is, w-is, p.1, q.1) (omega arith)
-        | inr q ↦ let v-is : v ≡ u + p.0 = omega (arith, p.1) in let x-is : x ≡ w + q.0 = omega (arith, q.1) in rw (v-is, x-is, p.1, q.1) (omega arith)
+        | inl q ↦ let v-is : v ≡ u + p.0 = omega (arith, p.1) in let w-is : w ≡ x + q.0 = omega (arith, q.1) in
+            rw (v-is, w-is, p.1, q.1) (omega arith)
+        | inr q ↦ let v-is : v ≡ u + p.0 = omega (arith, p.1) in let x-is : x ≡ w + q.0 = omega (arith, q.1) in
+            rw (v-is, x-is, p.1, q.1) (omega arith)
       ]
     ]
 
 -- a product of differences
 pub difference-mul : (a b c d : ℕ) → difference a b *ℤ difference c d ≡ difference (a * c + b * d) (a * d + b * c)
-difference-mul a b c d = same_in (difference a b *ℤ difference c d) (difference (a * c + b * d) (a * d + b * c)) (omega (arith, prod (up (difference a b)) (down (difference a b)) (up (difference c d)) (down (difference c d)) a b c d (difference-is a b) (difference-is c d), difference-is (a * c + b * d) (a * d + b * c), product_is (difference a b) (difference c d)))
+difference-mul a b c d =
+    same_in (difference a b *ℤ difference c d) (difference (a * c + b * d) (a * d + b * c))
+    (omega (
+      arith,
+      prod (up (difference a b)) (down (difference a b)) (up (difference c d))
+          (down (difference c d)) a b c d (difference-is a b) (difference-is c d),
+      difference-is (a * c + b * d) (a * d + b * c),
+      product_is (difference a b) (difference c d),
+    ))
 
 -- when a difference is a natural number
 pub difference-pos : (a b n : ℕ) → a ≡ n + b → difference a b ≡ pos n

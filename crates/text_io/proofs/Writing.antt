@@ -1,5 +1,6 @@
 -- Writing one text after another.
-use Rattle.std.proofs.Common.{◌≡◌, ◌<◌, ◌++◌, ◌∙◌, ℕ, zero, suc, List, [], take, drop, Option, refl, sym, ap, arith, append_assoc}
+use Rattle.std.proofs.Common.{◌≡◌, ◌<◌, ◌++◌, ◌∙◌, ℕ, zero, suc, List, [], take, drop, Option, refl, sym, ap, arith}
+use Rattle.std.proofs.Common.{append_assoc}
 use Rattle.std.proofs.lemmas.List.{take-append-drop}
 use Rattle.std.specs.Io.KnownBytes.{Appends}
 use Rattle.std.proofs.KnownBytes.{Appends-trans, Appends-nil}
@@ -16,7 +17,8 @@ pub written_more : (a b c : Option (List ℕ)) (piece rest : List ℕ) (n : ℕ)
     → Appends b c (take n rest) → Written a c piece (drop n rest)
 written_more a b c piece rest n w p = record {
   front = w.front ++ take n rest;
-  whole = w.whole ∙ ap (λ (t : List ℕ). w.front ++ t) (sym (take-append-drop n rest)) ∙ sym (append_assoc w.front (take n rest) (drop n rest));
+  whole = w.whole ∙ ap (λ (t : List ℕ). w.front ++ t) (sym (take-append-drop n rest))
+      ∙ sym (append_assoc w.front (take n rest) (drop n rest));
   grown = Appends-trans a b c w.front (take n rest) w.grown p;
 }
 

@@ -13,7 +13,8 @@ CountsTaken (suc taken) length old new = new ≡ old
 
 -- What a write of a piece of this length does to the count.
 abbrev pub CountsWrite : {E : Type 0} → Result ℕ E → ℕ → ℕ → ℕ → Type 0
-CountsWrite outcome length old new = MatchResult outcome (λ taken. CountsTaken taken length old new) (λ _. new ≡ raised old)
+CountsWrite outcome length old new =
+    MatchResult outcome (λ taken. CountsTaken taken length old new) (λ _. new ≡ raised old)
 
 -- What any other call does to the count: it rises where the call fails.
 abbrev pub CountsFailure : {T E : Type 0} → Result T E → ℕ → ℕ → Type 0

@@ -1,5 +1,6 @@
 -- The seats of a lock that is closed.
-use Rattle.std.proofs.Common.{◌≡◌, ℕ, zero, suc, ◌+◌, List, [], ◌∷◌, ◌++◌, map, length, sym, refl, ap, ◌∙◌, subst, arith, All, Some, slice_get}
+use Rattle.std.proofs.Common.{◌≡◌, ℕ, zero, suc, ◌+◌, List, [], ◌∷◌, ◌++◌, map, length, sym, refl, ap, ◌∙◌, subst}
+use Rattle.std.proofs.Common.{arith, All, Some, slice_get}
 use Rattle.std.specs.Prelude as std
 use mathlib.Core.List.{append-nil, append_assoc, map-append}
 use mathlib.Core.Option.{some}
@@ -80,11 +81,13 @@ module _ {H L : Type 0} where
   joined_stage (Holding m t) u v w = absurd (omega arith)
 
   -- the same of a view that is known by an equation
-  pub stays_keeper : (v w after : SeatState H L) → stage_of v ≡ 0 → stage_of w ≡ 1 → after ≡ joined v w → stage_of after ≡ 0
+  pub stays_keeper : (v w after : SeatState H L) → stage_of v ≡ 0 → stage_of w ≡ 1 → after ≡ joined v w
+      → stage_of after ≡ 0
   stays_keeper v w after is there told = ap stage_of told ∙ joined_stage v w is there
 
   -- it has that seat before those that it had
-  joined_more : (v w : SeatState H L) → stage_of v ≡ 0 → stage_of w ≡ 1 → w ∷ idles (memos_of v) ≡ idles (memos_of (joined v w))
+  joined_more : (v w : SeatState H L) → stage_of v ≡ 0 → stage_of w ≡ 1
+      → w ∷ idles (memos_of v) ≡ idles (memos_of (joined v w))
   joined_more (Keeper ms) (Idle m) v w = refl
   joined_more (Keeper ms) (Keeper ns) v w = absurd (omega arith)
   joined_more (Keeper ms) (Waiting m t k) v w = absurd (omega arith)
@@ -94,11 +97,15 @@ module _ {H L : Type 0} where
   joined_more (Holding m t) u v w = absurd (omega arith)
 
   -- the seats that are left and those that were joined are all seats, also after one more is joined
-  pub gathered : {A : Type 0} (f : A → SeatState H L) (all items new : List A) (a : A) (v after : SeatState H L) → stage_of v ≡ 0 → stage_of (f a) ≡ 1 → items ≡ new ++ a ∷ [] → after ≡ joined v (f a)
+  pub gathered : {A : Type 0} (f : A → SeatState H L) (all items new : List A) (a : A) (v after : SeatState H L)
+      → stage_of v ≡ 0 → stage_of (f a) ≡ 1 → items ≡ new ++ a ∷ [] → after ≡ joined v (f a)
       → map f all ≡ map f items ++ idles (memos_of v) → map f all ≡ map f new ++ idles (memos_of after)
   gathered f all items new a v after is there split told before =
-      before ∙ (ap (λ z. map f z ++ idles (memos_of v)) split ∙ (ap (λ z. z ++ idles (memos_of v)) (map-append f new (a ∷ []))
-      ∙ (append_assoc (map f new) (f a ∷ []) (idles (memos_of v)) ∙ (ap (λ z. map f new ++ z) (joined_more v (f a) is there) ∙ ap (λ (z : SeatState H L). map f new ++ idles (memos_of z)) (sym told)))))
+      before ∙ (ap (λ z. map f z ++ idles (memos_of v)) split
+      ∙ (ap (λ z. z ++ idles (memos_of v)) (map-append f new (a ∷ []))
+      ∙ (append_assoc (map f new) (f a ∷ []) (idles (memos_of v))
+      ∙ (ap (λ z. map f new ++ z) (joined_more v (f a) is there)
+      ∙ ap (λ (z : SeatState H L). map f new ++ idles (memos_of z)) (sym told)))))
 
   -- as many idle seats as memos
   length_idles : (ms : List (Memo H L)) → length (idles ms) ≡ length ms
@@ -111,7 +118,8 @@ module _ {H L : Type 0} where
   length_of_map f (x ∷ xs) = let p = length_of_map f xs in omega arith
 
   -- as many memos as seats were joined
-  pub as_many : {A : Type 0} (f : A → SeatState H L) (items : List A) (ms : List (Memo H L)) → map f items ≡ idles ms → length ms ≡ length items
+  pub as_many : {A : Type 0} (f : A → SeatState H L) (items : List A) (ms : List (Memo H L)) → map f items ≡ idles ms
+      → length ms ≡ length items
   as_many f items ms e = sym (length_idles ms) ∙ (ap length (sym e) ∙ length_of_map f items)
 
   -- the first view, or d
@@ -125,28 +133,37 @@ module _ {H L : Type 0} where
   others (x ∷ xs) = xs
 
   -- what the keeper remembers of each memo stands of the seat that it came from
-  pub all_stand : {A B : Type 0} (K : Ghosts B H L) (opened b : B) (f : A → SeatState H L) (items : List A) (ms : List (Memo H L)) → map f items ≡ idles ms
-      → ((a : ℕ) (m : Memo H L) → get_elem? ms a ≡ some m → Remembers K opened b m) → All (λ s. Stands K (seat_of (f s)) (seen_of (f s)) b) items
+  pub all_stand : {A B : Type 0} (K : Ghosts B H L) (opened b : B) (f : A → SeatState H L) (items : List A)
+      (ms : List (Memo H L)) → map f items ≡ idles ms
+      → ((a : ℕ) (m : Memo H L) → get_elem? ms a ≡ some m → Remembers K opened b m)
+      → All (λ s. Stands K (seat_of (f s)) (seen_of (f s)) b) items
   all_stand K opened b f [] ms e r k d l = absurd (omega arith)
   all_stand K opened b f (x ∷ xs) [] e r k d l = absurd (let n = ap length e in omega arith)
-  all_stand K opened b f (x ∷ xs) (m ∷ ms) e r zero d l = let one = r 0 m refl in let same : Idle m ≡ f x = ap (first_or (Idle m)) (sym e) in
-      subst (λ (v : SeatState H L). Stands K (seat_of v) (seen_of v) b) same record { begins = one.begins; own_lines = one.own_lines }
-  all_stand K opened b f (x ∷ xs) (m ∷ ms) e r (suc k) d l = all_stand K opened b f xs ms (ap others e) (λ a. r (suc a)) k d (omega arith)
+  all_stand K opened b f (x ∷ xs) (m ∷ ms) e r zero d l = let one = r 0 m refl in let same : Idle m ≡ f x =
+      ap (first_or (Idle m)) (sym e) in
+      subst (λ (v : SeatState H L). Stands K (seat_of v) (seen_of v) b) same record
+      { begins = one.begins; own_lines = one.own_lines }
+  all_stand K opened b f (x ∷ xs) (m ∷ ms) e r (suc k) d l =
+      all_stand K opened b f xs ms (ap others e) (λ a. r (suc a)) k d (omega arith)
 
   -- each of the idle seats that were cut off remembers the head and the lines at opening
-  pub all_idle : {A : Type 0} (f : A → SeatState H L) (items : List A) (h : H) (xs : List L) (k c : ℕ) → map f items ≡ idle_from h xs k c → All (λ s. (heads_of (f s) ≡ h ∷ []) × (seen_of (f s) ≡ xs)) items
+  pub all_idle : {A : Type 0} (f : A → SeatState H L) (items : List A) (h : H) (xs : List L) (k c : ℕ)
+      → map f items ≡ idle_from h xs k c → All (λ s. (heads_of (f s) ≡ h ∷ []) × (seen_of (f s) ≡ xs)) items
   all_idle f [] h xs k c e i d l = absurd (omega arith)
   all_idle f (x ∷ items) h xs k zero e i d l = absurd (let n = ap length e in omega arith)
-  all_idle f (x ∷ items) h xs k (suc c) e zero d l = let same : Idle (memo k h xs) ≡ f x = ap (first_or (Idle (memo k h xs))) (sym e) in
+  all_idle f (x ∷ items) h xs k (suc c) e zero d l = let same : Idle (memo k h xs) ≡ f x =
+      ap (first_or (Idle (memo k h xs))) (sym e) in
       subst (λ (v : SeatState H L). (heads_of v ≡ h ∷ []) × (seen_of v ≡ xs)) same (refl, refl)
   all_idle f (x ∷ items) h xs k (suc c) e (suc i) d l = all_idle f items h xs (suc k) c (ap others e) i d (omega arith)
 
   -- each seat's number is its place
-  pub numbers_from : {A : Type 0} (f : A → SeatState H L) (all : List A) (h : H) (xs : List L) (k c : ℕ) → map f all ≡ idle_from h xs k c → (i : ℕ) (a : A) → slice_get all i ≡ Some a → seat_of (f a) ≡ k + i
+  pub numbers_from : {A : Type 0} (f : A → SeatState H L) (all : List A) (h : H) (xs : List L) (k c : ℕ)
+      → map f all ≡ idle_from h xs k c → (i : ℕ) (a : A) → slice_get all i ≡ Some a → seat_of (f a) ≡ k + i
   numbers_from f [] h xs k c e i a at = cc
   numbers_from f (x ∷ all) h xs k zero e i a at = absurd (let n = ap length e in omega arith)
   numbers_from f (x ∷ all) h xs k (suc c) e zero a at =
       let same : x ≡ a = ap (value_or x) at in
       let first : f x ≡ Idle (memo k h xs) = ap (first_or (f x)) e in
       let number : seat_of (f a) ≡ k = ap (λ z. seat_of (f z)) (sym same) ∙ ap seat_of first in omega arith
-  numbers_from f (x ∷ all) h xs k (suc c) e (suc i) a at = let p = numbers_from f all h xs (suc k) c (ap others e) i a at in omega arith
+  numbers_from f (x ∷ all) h xs k (suc c) e (suc i) a at = let p =
+      numbers_from f all h xs (suc k) c (ap others e) i a at in omega arith

@@ -13,7 +13,8 @@ module _ {B H L : Type 0} (code : Coded B) (x : Guard B H L) where
 
   -- the guard's seat holds the book, which is out of its slot
   abbrev Holding : Type 0
-  Holding = (stage_of x.place.me.0 ≡ 3) × (seat_of x.place.me.0 ≡ x.seat) × (number_of x.place.me.0 ≡ x.number) × (x.place.me.1 ≡ (0, std.None) ∷ [])
+  Holding = (stage_of x.place.me.0 ≡ 3) × (seat_of x.place.me.0 ≡ x.seat) × (number_of x.place.me.0 ≡ x.number)
+      × (x.place.me.1 ≡ (0, std.None) ∷ [])
 
   -- that it is of its lock has one proof
   own_prop : IsProp Own
@@ -25,7 +26,17 @@ module _ {B H L : Type 0} (code : Coded B) (x : Guard B H L) where
 
   -- the guard with the book w and these proofs
   abbrev with_facts : B → Own → Holding → Guard B H L
-  with_facts w own holding = record { lock = x.lock; place = x.place; seat = x.seat; number = x.number; book = w; own = own; holding = holding }
+  with_facts w own holding =
+      record {
+        lock = x.lock;
+        place = x.place;
+        seat = x.seat;
+        number = x.number;
+        book = w;
+        own =
+            own;
+        holding = holding;
+      }
 
   -- which proofs it has makes no difference
   pub same_guard : (w : B) (p q : Own) (r s : Holding) → with_facts w p r ≡ with_facts w q s

@@ -1,5 +1,6 @@
 -- Every list of events from an opened world is linearizable.
-use Rattle.std.proofs.Common.{◌≡◌, ◌≢◌, ℕ, zero, suc, ◌+◌, ◌<◌, ◌≤◌, ◌⊎◌, List, [], ◌∷◌, ◌++◌, length, get_or, set, sym, refl, ap, ◌∙◌, subst, inl, inr, ⊎_elim, arith, length-append}
+use Rattle.std.proofs.Common.{◌≡◌, ◌≢◌, ℕ, zero, suc, ◌+◌, ◌<◌, ◌≤◌, ◌⊎◌, List, [], ◌∷◌, ◌++◌, length, get_or, set, sym}
+use Rattle.std.proofs.Common.{refl, ap, ◌∙◌, subst, inl, inr, ⊎_elim, arith, length-append}
 use mathlib.Core.Logic.{dite}
 use native.Mathlib.Decide.{dec_le}
 use mathlib.Core.Option.{none, some, some-injective, some-ne-none}
@@ -10,7 +11,8 @@ use Rattle.ticket_lock.specs.declared.chronicle.Chronicle.{Ghosts}
 use Rattle.ticket_lock.specs.declared.seat_state.Memo.{Memo}
 use Rattle.ticket_lock.specs.declared.seat_state.SeatState.{SeatState}
 use Rattle.ticket_lock.specs.declared.seat_state.SeatState.TheVariants.{Idle, Waiting, Holding}
-use Rattle.ticket_lock.specs.World.{Form, World, Event, takes, misses, enters, hands_on, memo, shown, out, HandsOn, taken, missed, entered, handed, Happens, Good}
+use Rattle.ticket_lock.specs.World.{Form, World, Event, takes, misses, enters, hands_on, memo, shown, out, HandsOn}
+use Rattle.ticket_lock.specs.World.{taken, missed, entered, handed, Happens, Good}
 use Rattle.ticket_lock.specs.Schedule.{idle_from, Opened, Runs}
 use Rattle.ticket_lock.specs.Linearizable.{book_after, journal_after, Call, FoundFull, Linearizable}
 use Rattle.ticket_lock.specs.Standing.{seat_of}
@@ -110,7 +112,8 @@ module _ {B H L : Type 0} (K : Ghosts B H L) where
         begins = at_longer es more i (takes k) c.begins;
         later = c.later;
         ends = (c.ends.0, at_longer es more r (hands_on k c.ends.0) c.ends.1);
-        next_end = λ a d past before at. c.next_end a d past before (at_shorter es more a (hands_on k d) (omega arith) at);
+        next_end = λ a d past before at. c.next_end a d past before
+            (at_shorter es more a (hands_on k d) (omega arith) at);
         adds = after_some b es more (suc r) (omega arith) ∙ (c.adds ∙ ap (λ (z : List L).
             z ++ l ∷ []) (sym (after_some b es more r (omega arith))));
         place = ap length (after_some b es more r (omega arith)) ∙ c.place;
@@ -195,7 +198,8 @@ module _ {B H L : Type 0} (K : Ghosts B H L) (F : Form) (laws : FormLaws F) (n :
             )) (λ f. inr (full_more K b es more k r f)) (p.each_end k r c old))
             (λ (t : (r ≡ length es) × (e ≡ hands_on k c)).
             absurd (none_given k c t.1)) (snoc_at es e (hands_on k c) r at);
-        in_order = λ k i r a l j d s z m c o before. p.in_order k i r a l j d s z m (less k i r a l c) (less j d s z m o) before;
+        in_order = λ k i r a l j d s z m c o before. p.in_order k i r a l j d s z m (less k i r a l c)
+            (less j d s z m o) before;
       }
 
   -- a seat keeps its number where another view of that seat stands in its place
@@ -221,7 +225,8 @@ module _ {B H L : Type 0} (K : Ghosts B H L) (F : Form) (laws : FormLaws F) (n :
   past_take es w j m p at =
       let found : ℕ = get_or w.words 0 0 in
       let other : (k : ℕ) (c : B) → takes j ≡ hands_on k c → ⊥ = λ k c e. cc in
-      quiet es (takes j) w (taken K F j m w) other (λ c. refl) refl p (p.good.0 ++ j ∷ []) (good_take K F laws n b w p.good.0 j m p.good.1 at)
+      quiet es (takes j) w (taken K F j m w) other (λ c. refl) refl p (p.good.0 ++ j ∷ [])
+      (good_take K F laws n b w p.good.0 j m p.good.1 at)
       (named_stays w j (Waiting m found 0) (p.named j (Idle m) at) p.named)
       (begun_stays es (takes j) w j (Waiting m found 0) (λ _. begun_last K es j) (λ k c _. other k c) p.begun)
 
@@ -230,9 +235,12 @@ module _ {B H L : Type 0} (K : Ghosts B H L) (F : Form) (laws : FormLaws F) (n :
       → get_elem? w.seats j ≡ some (Waiting m t looks) → Past (es ++ misses j ∷ []) (missed K F j m t looks w)
   past_miss es w j m t looks p at =
       let other : (k : ℕ) (c : B) → misses j ≡ hands_on k c → ⊥ = λ k c e. cc in
-      quiet es (misses j) w (missed K F j m t looks w) other (λ c. refl) refl p p.good.0 (good_miss K F laws n b w p.good.0 j m t looks p.good.1 at)
+      quiet es (misses j) w (missed K F j m t looks w) other (λ c. refl) refl p p.good.0
+      (good_miss K F laws n b w p.good.0 j m t looks p.good.1 at)
       (named_stays w j (Waiting m t (looks + 1)) (p.named j (Waiting m t looks) at) p.named)
-      (begun_stays es (misses j) w j (Waiting m t (looks + 1)) (λ _. begun_more K es (misses j) j (λ c. other j c) (p.begun j (Waiting m t looks) at refl)) (λ k c _. other k c) p.begun)
+      (begun_stays es (misses j) w j (Waiting m t (looks + 1))
+      (λ _. begun_more K es (misses j) j (λ c. other j c) (p.begun j (Waiting m t looks) at refl))
+      (λ k c _. other k c) p.begun)
 
   -- after an entry
   past_enter : (es : List (Event B)) (w : World B H L) (j : ℕ) (m : Memo H L) (t looks : ℕ) → Past es w
@@ -241,9 +249,12 @@ module _ {B H L : Type 0} (K : Ghosts B H L) (F : Form) (laws : FormLaws F) (n :
   past_enter es w j m t looks p at found =
       let other : (k : ℕ) (c : B) → enters j ≡ hands_on k c → ⊥ = λ k c e. cc in
       let new : SeatState H L = Holding (shown m (K.lines w.current)) t in
-      quiet es (enters j) w (entered K F j m t w) other (λ c. refl) refl p p.good.0 (good_enter K F laws n b w p.good.0 j m t looks p.good.1 at found)
+      quiet es (enters j) w (entered K F j m t w) other (λ c. refl) refl p p.good.0
+      (good_enter K F laws n b w p.good.0 j m t looks p.good.1 at found)
       (named_stays w j new (p.named j (Waiting m t looks) at) p.named)
-      (begun_stays es (enters j) w j new (λ _. begun_more K es (enters j) j (λ c. other j c) (p.begun j (Waiting m t looks) at refl)) (λ k c _. other k c) p.begun)
+      (begun_stays es (enters j) w j new
+      (λ _. begun_more K es (enters j) j (λ c. other j c) (p.begun j (Waiting m t looks) at refl))
+      (λ k c _. other k c) p.begun)
 
   -- the calls, after the seat j has handed the book c on: `now` says that its journal is that of the book before with
   -- this seat's line, or that book's where it was full
@@ -315,7 +326,9 @@ module _ {B H L : Type 0} (K : Ghosts B H L) (F : Form) (laws : FormLaws F) (n :
     -- each call has its line
     calls : (k i r p : ℕ) (l : L) → Call K b Longer k i r p l → (get_elem? (K.lines c) p ≡ some l) × (K.line_seat l ≡ k)
     calls k i r p l x = ⊎_elim
-        (λ old. let o = h.past.each_call k i r p l (call_less K b es (hands_on j c ∷ []) k i r p l (at_below es r (hands_on k x.ends.0) old) x) in (stays p l o.0, o.1))
+        (λ old. let o = h.past.each_call k i r p l
+        (call_less K b es (hands_on j c ∷ []) k i r p l (at_below es r (hands_on k x.ends.0) old) x) in
+        (stays p l o.0, o.1))
         (λ (t : (r ≡ length es) × (j ≡ k)). let last = last_line k i r p l x t.0 in (
           ap (λ (z : List L). get_elem? z p) last.0 ∙ at_last (K.lines w.current) l p last.1,
           last_seat l last.0
@@ -387,9 +400,12 @@ module _ {B H L : Type 0} (K : Ghosts B H L) (F : Form) (laws : FormLaws F) (n :
         let shorter : (k i r p : ℕ) (l : L) → r < length es → Call K b Longer k i r p l → Call K b es k i r p l =
         λ k i r p l. call_less K b es (hands_on j c ∷ []) k i r p l in ⊎_elim
         (λ old. let below : r' < length es = at_below es r' (hands_on k' y.ends.0) old in
-        h.past.in_order k i r p l k' i' r' p' l' (shorter k i r p l (omega arith) x) (shorter k' i' r' p' l' below y) less)
+        h.past.in_order k i r p l k' i' r' p' l' (shorter k i r p l (omega arith) x)
+        (shorter k' i' r' p' l' below y) less)
         (λ (t : (r' ≡ length es) × (j ≡ k')). let last = (last_line k' i' r' p' l' y t.0).1 in
-        let first = at_below (K.lines w.current) p l (h.past.each_call k i r p l (shorter k i r p l (omega arith) x)).0 in omega arith) (which k' r' y.ends.0 y.ends.1)
+        let first = at_below (K.lines w.current) p l
+        (h.past.each_call k i r p l (shorter k i r p l (omega arith) x)).0 in omega arith)
+        (which k' r' y.ends.0 y.ends.1)
 
   -- after a hand on
   past_hand : (es : List (Event B)) (w : World B H L) (j : ℕ) (m : Memo H L) (t : ℕ) (c : B) → Past es w
@@ -415,7 +431,8 @@ module _ {B H L : Type 0} (K : Ghosts B H L) (F : Form) (laws : FormLaws F) (n :
         good = (good.0, good.2);
         book = last_more K b es (hands_on j c);
         named = named_stays w j (Idle (shown m (K.lines c))) seat p.named;
-        begun = begun_stays es (hands_on j c) w j (Idle (shown m (K.lines c))) (λ is. absurd (omega arith)) (λ k d apart e. let same : j ≡ k = cc in apart (sym same)) p.begun;
+        begun = begun_stays es (hands_on j c) w j (Idle (shown m (K.lines c))) (λ is. absurd (omega arith))
+            (λ k d apart e. let same : j ≡ k = cc in apart (sym same)) p.begun;
         each_call = calls es w j c h;
         each_line = lines es w j c h;
         each_end = ends es w j c h;
@@ -437,7 +454,8 @@ module _ {B H L : Type 0} (K : Ghosts B H L) (F : Form) (laws : FormLaws F) (n :
   past_events es [] w u p r = let Q : List (Event B) × World B H L → Type 0 =
       λ z. Past z.0 z.1 in subst Q (λ i. (sym (append-nil es) i, sym r i)) p
   past_events es (e ∷ more) w u p r = subst (λ (z : List (Event B)).
-      Past z u) (append_assoc es (e ∷ []) more) (past_events (es ++ e ∷ []) more r.0 u (past_event es e w r.0 p r.1) r.2)
+      Past z u) (append_assoc es (e ∷ []) more)
+      (past_events (es ++ e ∷ []) more r.0 u (past_event es e w r.0 p r.1) r.2)
 
   -- before any event
   past_none : (w : World B H L) → Opened K F n b w → Past [] w

@@ -1,5 +1,6 @@
 -- A keeper's seats are cut off, and joined again.
-use Rattle.std.proofs.Common.{◌≡◌, ℕ, zero, suc, ◌+◌, ◌-◌, ◌^◌, ◌<◌, ◌≤◌, Bool, true, List, [], ◌∷◌, ◌++◌, map, length, set, sym, refl, ap, ◌∙◌, subst, ⊎_elim, arith}
+use Rattle.std.proofs.Common.{◌≡◌, ℕ, zero, suc, ◌+◌, ◌-◌, ◌^◌, ◌<◌, ◌≤◌, Bool, true, List, [], ◌∷◌, ◌++◌, map, length}
+use Rattle.std.proofs.Common.{set, sym, refl, ap, ◌∙◌, subst, ⊎_elim, arith}
 use Rattle.std.specs.Prelude as std
 use mathlib.Core.Option.{Option, some, some-injective, some-ne-none}
 use mathlib.Core.List.{map-append}
@@ -11,9 +12,11 @@ use Rattle.ticket_lock.specs.declared.chronicle.Chronicle.{Ghosts}
 use Rattle.ticket_lock.specs.declared.seat_state.Memo.{Memo}
 use Rattle.ticket_lock.specs.declared.seat_state.SeatState.{SeatState}
 use Rattle.ticket_lock.specs.declared.seat_state.SeatState.TheVariants.{Keeper, Idle, Waiting, Holding}
-use Rattle.ticket_lock.specs.World.{Form, World, wrap, memo, memos, out, HasNumber, total, weigh, span, Remembers, Knows, Good}
+use Rattle.ticket_lock.specs.World.{Form, World, wrap, memo, memos, out, HasNumber, total, weigh, span, Remembers}
+use Rattle.ticket_lock.specs.World.{Knows, Good}
 use Rattle.ticket_lock.specs.Schedule.{idle_from}
-use Rattle.ticket_lock.specs.Standing.{stage_of, seat_of, left_of, right_of, joined, nobody, memos_of, memos_from, idles, keeper_of, shelf, Standing}
+use Rattle.ticket_lock.specs.Standing.{stage_of, seat_of, left_of, right_of, joined, nobody, memos_of, memos_from}
+use Rattle.ticket_lock.specs.Standing.{idles, keeper_of, shelf, Standing}
 use Rattle.ticket_lock.proofs.Sums.{snoc_at, wrap_small, total_set, total_at, total_two, span_all}
 use Rattle.ticket_lock.proofs.Machine.{true_false, apart_from, queue_beside, holder_beside, seats_stay, is_true}
 
@@ -41,16 +44,20 @@ module _ {H L : Type 0} where
   weigh_from f h xs k (suc c) = let p = weigh_from f h xs (suc k) c in omega arith
 
   -- each of those memos is of one of the seats, and has seen the lines
-  memo_from : (h : H) (xs : List L) (k c a : ℕ) (m : Memo H L) → get_elem? (memos_from h xs k c) a ≡ some m → (i : ℕ) × (memo i h xs ≡ m)
+  memo_from : (h : H) (xs : List L) (k c a : ℕ) (m : Memo H L) → get_elem? (memos_from h xs k c) a ≡ some m
+      → (i : ℕ) × (memo i h xs ≡ m)
   memo_from h xs k zero a m e = absurd (some-ne-none m (sym e))
   memo_from h xs k (suc c) zero m e = (k, some-injective (memo k h xs) m e)
   memo_from h xs k (suc c) (suc a) m e = memo_from h xs (suc k) c a m e
 
   -- one idle seat more, at the end
-  pub idle_snoc : (h : H) (xs : List L) (k c : ℕ) → idle_from h xs k (suc c) ≡ idle_from h xs k c ++ Idle (memo (k + c) h xs) ∷ []
-  idle_snoc h xs k zero = let e : k ≡ k + 0 = omega arith in ap (λ (z : ℕ). let v : SeatState H L = Idle (memo z h xs) in v ∷ []) e
+  pub idle_snoc : (h : H) (xs : List L) (k c : ℕ)
+      → idle_from h xs k (suc c) ≡ idle_from h xs k c ++ Idle (memo (k + c) h xs) ∷ []
+  idle_snoc h xs k zero = let e : k ≡ k + 0 = omega arith in
+      ap (λ (z : ℕ). let v : SeatState H L = Idle (memo z h xs) in v ∷ []) e
   idle_snoc h xs k (suc c) = let e : suc k + c ≡ k + suc c = omega arith in
-      ap (λ (vs : List (SeatState H L)). Idle (memo k h xs) ∷ vs) (idle_snoc h xs (suc k) c ∙ ap (λ (z : ℕ). idle_from h xs (suc k) c ++ Idle (memo z h xs) ∷ []) e)
+      ap (λ (vs : List (SeatState H L)). Idle (memo k h xs) ∷ vs)
+      (idle_snoc h xs (suc k) c ∙ ap (λ (z : ℕ). idle_from h xs (suc k) c ++ Idle (memo z h xs) ∷ []) e)
 
 -- the value, or d
 abbrev held_or : {B : Type 0} → B → std.Option B → B
@@ -68,13 +75,17 @@ empty (k ∷ q) h = absurd (h k refl)
 
 module _ {H L : Type 0} where
   -- a keeper of the seats from k to c has the seat k first
-  pub keeper_step : (h : H) (xs : List L) (k c : ℕ) → k < c → keeper_of h xs k (c - k) ≡ Keeper (memo k h xs ∷ memos_from h xs (k + 1) (c - (k + 1)))
+  pub keeper_step : (h : H) (xs : List L) (k c : ℕ) → k < c
+      → keeper_of h xs k (c - k) ≡ Keeper (memo k h xs ∷ memos_from h xs (k + 1) (c - (k + 1)))
   keeper_step h xs k c less = let e : c - k ≡ suc (c - (k + 1)) = omega arith in let d : suc k ≡ k + 1 = omega arith in
-      ap (keeper_of h xs k) e ∙ ap (λ (z : ℕ). let v : SeatState H L = Keeper (memo k h xs ∷ memos_from h xs z (c - (k + 1))) in v) d
+      ap (keeper_of h xs k) e
+      ∙ ap (λ (z : ℕ). let v : SeatState H L = Keeper (memo k h xs ∷ memos_from h xs z (c - (k + 1))) in v) d
 
 -- the working form of a lock's end, with the seats that came back
 abbrev pub Ended : {B H L : Type 0} → Ghosts B H L → Form → ℕ → B → List (SeatState H L) → B → Type 0
-Ended {B} {H} {L} K F n opening given b = (w : World B H L) × Good K F n opening w [] × (w.home ≡ true) × (w.current ≡ b) × (w.next ≡ K.turn b) × (w.seats ≡ given)
+Ended {B} {H} {L} K F n opening given b =
+    (w : World B H L) × Good K F n opening w [] × (w.home ≡ true) × (w.current ≡ b) × (w.next ≡ K.turn b)
+    × (w.seats ≡ given)
 
 module _ {H L : Type 0} where
   -- idle seats have no number
@@ -88,7 +99,8 @@ module _ {H L : Type 0} where
   idles_weigh h (m ∷ ms) = let p = idles_weigh h ms in omega arith
 
   -- each of them has its memo
-  idle_there : (ms : List (Memo H L)) (j : ℕ) (v : SeatState H L) → get_elem? (idles ms) j ≡ some v → (m : Memo H L) × (get_elem? ms j ≡ some m) × (Idle m ≡ v)
+  idle_there : (ms : List (Memo H L)) (j : ℕ) (v : SeatState H L) → get_elem? (idles ms) j ≡ some v
+      → (m : Memo H L) × (get_elem? ms j ≡ some m) × (Idle m ≡ v)
   idle_there [] j v e = absurd (some-ne-none v (sym e))
   idle_there (m ∷ ms) zero v e = (m, refl, some-injective (Idle m) v e)
   idle_there (m ∷ ms) (suc j) v e = idle_there ms j v e
@@ -99,12 +111,15 @@ module _ {H L : Type 0} where
   weigh_none h (m ∷ ms) e = absurd (omega arith)
 
   -- nor do views without memos
-  total_none : (h : ℕ → ℕ) (vs : List (SeatState H L)) → total (λ v. weigh (λ _. 1) (memos v)) vs ≡ 0 → total (λ v. weigh h (memos v)) vs ≡ 0
+  total_none : (h : ℕ → ℕ) (vs : List (SeatState H L)) → total (λ v. weigh (λ _. 1) (memos v)) vs ≡ 0
+      → total (λ v. weigh h (memos v)) vs ≡ 0
   total_none h [] e = refl
-  total_none h (v ∷ vs) e = let p = weigh_none h (memos v) (omega arith) in let q = total_none h vs (omega arith) in omega arith
+  total_none h (v ∷ vs) e = let p = weigh_none h (memos v) (omega arith) in let q =
+      total_none h vs (omega arith) in omega arith
 
   -- where one view has all memos, it weighs what all do
-  has_all : (h : ℕ → ℕ) (vs : List (SeatState H L)) (id : ℕ) (v : SeatState H L) → get_elem? vs id ≡ some v → total (λ v. weigh (λ _. 1) (memos v)) vs ≡ weigh (λ _. 1) (memos v)
+  has_all : (h : ℕ → ℕ) (vs : List (SeatState H L)) (id : ℕ) (v : SeatState H L) → get_elem? vs id ≡ some v
+      → total (λ v. weigh (λ _. 1) (memos v)) vs ≡ weigh (λ _. 1) (memos v)
       → total (λ v. weigh h (memos v)) vs ≡ weigh h (memos v)
   has_all h [] id v at e = absurd (some-ne-none v (sym at))
   has_all h (x ∷ vs) zero v at e =
@@ -142,11 +157,17 @@ module _ {B H L : Type 0} (K : Ghosts B H L) (F : Form) (n : ℕ) (opened : B) w
           next_is = g.next_is;
           queued = λ i k e. let v = queue_beside s.views r.serving r.queue id old new tt at g.queued i k e in
               (v.0, at_longer (set s.views id new) right k v.0 v.1, v.2);
-          counted = let p = total_set out s.views id old new at in let q = total_append out (set s.views id new) right in let c = g.counted in omega arith;
-          parts = λ h. let p = total_set (λ v. weigh h (memos v)) s.views id old new at in let q = total_append (λ v. weigh h (memos v)) (set s.views id new) right in let c = g.parts h in omega arith;
+          counted = let p = total_set out s.views id old new at in let q =
+              total_append out (set s.views id new) right in let c = g.counted in omega arith;
+          parts = λ h. let p = total_set (λ v. weigh h (memos v)) s.views id old new at in let q =
+              total_append (λ v. weigh h (memos v)) (set s.views id new) right in let c = g.parts h in omega arith;
           each_seat = λ j v e. ⊎_elim
-              (λ (t : get_elem? (set s.views id new) j ≡ some v). seats_stay (Knows K opened r.current r.home r.serving r.queue) (Knows K opened r.current r.home r.serving r.queue) s.views id new (λ a x e. mine (suc a) x e) (λ k u _ _ same. same) g.each_seat j v t)
-              (λ (t : (j ≡ length (set s.views id new)) × (Idle m ≡ v)). subst (Knows K opened r.current r.home r.serving r.queue j) t.1 (mine 0 m refl))
+              (λ (t : get_elem? (set s.views id new) j ≡ some v). seats_stay
+              (Knows K opened r.current r.home r.serving r.queue)
+              (Knows K opened r.current r.home r.serving r.queue) s.views id new (λ a x e. mine (suc a) x e)
+              (λ k u _ _ same. same) g.each_seat j v t)
+              (λ (t : (j ≡ length (set s.views id new)) × (Idle m ≡ v)). subst
+              (Knows K opened r.current r.home r.serving r.queue j) t.1 (mine 0 m refl))
               (snoc_at (set s.views id new) (Idle m) v j e);
           away = λ out. let a = holder_beside s.views id old new tt at (g.away out) in
               (a.0, a.1, a.2, at_longer (set s.views id new) right a.0 (Holding a.1 a.2) a.3);
@@ -158,7 +179,8 @@ module _ {B H L : Type 0} (K : Ghosts B H L) (F : Form) (n : ℕ) (opened : B) w
       }
 
   -- a seat of nobody arrives
-  pub arrives_ok : (slots i : ℕ) → Enters Rule slots i (λ found v. ◌≡◌ {A = Me (std.Option B) (SeatState H L)} (v, []) (nobody, []))
+  pub arrives_ok : (slots i : ℕ)
+      → Enters Rule slots i (λ found v. ◌≡◌ {A = Me (std.Option B) (SeatState H L)} (v, []) (nobody, []))
   arrives_ok slots i s r _ _ =
       let g = r.good in
       let new : List (SeatState H L) = nobody ∷ [] in (
@@ -178,7 +200,9 @@ module _ {B H L : Type 0} (K : Ghosts B H L) (F : Form) (n : ℕ) (opened : B) w
             counted = let q = total_append out s.views new in let c = g.counted in omega arith;
             parts = λ h. let q = total_append (λ v. weigh h (memos v)) s.views new in let c = g.parts h in omega arith;
             each_seat = λ j v e. ⊎_elim (g.each_seat j v)
-                (λ (t : (j ≡ length s.views) × (nobody ≡ v)). subst (Knows K opened r.current r.home r.serving r.queue j) t.1 (λ a x none_there. absurd (some-ne-none x (sym none_there)))) (snoc_at s.views nobody v j e);
+                (λ (t : (j ≡ length s.views) × (nobody ≡ v)). subst
+                (Knows K opened r.current r.home r.serving r.queue j) t.1
+                (λ a x none_there. absurd (some-ne-none x (sym none_there)))) (snoc_at s.views nobody v j e);
             away = λ out. let a = g.away out in (a.0, a.1, a.2, at_longer s.views new a.0 (Holding a.1 a.2) a.3);
             lawful = g.lawful;
             head = g.head;
@@ -190,18 +214,22 @@ module _ {B H L : Type 0} (K : Ghosts B H L) (F : Form) (n : ℕ) (opened : B) w
       )
 
   -- the next seat of the keeper of those from k to c
-  pub splits_from : (id k c : ℕ) (h : H) (xs : List L) (v : SeatState H L) → v ≡ keeper_of h xs k (c - k) → k < c → Splits Rule id v (left_of v) (right_of v)
+  pub splits_from : (id k c : ℕ) (h : H) (xs : List L) (v : SeatState H L) → v ≡ keeper_of h xs k (c - k) → k < c
+      → Splits Rule id v (left_of v) (right_of v)
   splits_from id k c h xs v is less = let P : SeatState H L → Type 0 = λ z. Splits Rule id z (left_of z) (right_of z) in
-      subst P (sym (is ∙ keeper_step h xs k c less)) (splits_ok id (memo k h xs) (memos_from h xs (k + 1) (c - (k + 1))))
+      subst P (sym (is ∙ keeper_step h xs k c less))
+      (splits_ok id (memo k h xs) (memos_from h xs (k + 1) (c - (k + 1))))
 
   -- one memo more is remembered
-  more : (m : Memo H L) (ms : List (Memo H L)) (current : B) → Remembers K opened current m → ((a : ℕ) (x : Memo H L) → get_elem? ms a ≡ some x → Remembers K opened current x)
+  more : (m : Memo H L) (ms : List (Memo H L)) (current : B) → Remembers K opened current m
+      → ((a : ℕ) (x : Memo H L) → get_elem? ms a ≡ some x → Remembers K opened current x)
       → (a : ℕ) (x : Memo H L) → get_elem? (m ∷ ms) a ≡ some x → Remembers K opened current x
   more m ms current one rest zero x e = subst (Remembers K opened current) (some-injective m x e) one
   more m ms current one rest (suc a) x e = rest a x e
 
   -- a keeper that takes in an idle seat keeps the rule
-  pub joins_ok : (id other : ℕ) (m : Memo H L) (ms : List (Memo H L)) → Joins Rule id (Keeper ms) other (Idle m) (Keeper (m ∷ ms)) (Keeper [])
+  pub joins_ok : (id other : ℕ) (m : Memo H L) (ms : List (Memo H L))
+      → Joins Rule id (Keeper ms) other (Idle m) (Keeper (m ∷ ms)) (Keeper [])
   joins_ok id other m ms s r at apart there =
       let both : SeatState H L = Keeper (m ∷ ms) in
       let spent : SeatState H L = Keeper [] in
@@ -211,7 +239,8 @@ module _ {B H L : Type 0} (K : Ghosts B H L) (F : Form) (n : ℕ) (opened : B) w
       let K' : ℕ → SeatState H L → Type 0 = Knows K opened r.current r.home r.serving r.queue in
       let mine = g.each_seat id (Keeper ms) at in
       let its = g.each_seat other (Idle m) beside in
-      let go : (a : ℕ) (x : Memo H L) → get_elem? (m ∷ ms) a ≡ some x → Remembers K opened r.current x = λ a. more m ms r.current its mine a in record {
+      let go : (a : ℕ) (x : Memo H L) → get_elem? (m ∷ ms) a ≡ some x → Remembers K opened r.current x =
+      λ a. more m ms r.current its mine a in record {
         next = r.next;
         serving = r.serving;
         home = r.home;
@@ -222,11 +251,16 @@ module _ {B H L : Type 0} (K : Ghosts B H L) (F : Form) (n : ℕ) (opened : B) w
           shows = g.shows;
           small = g.small;
           next_is = g.next_is;
-          queued = queue_beside first r.serving r.queue other (Idle m) spent tt there (queue_beside s.views r.serving r.queue id (Keeper ms) both tt at g.queued);
-          counted = let p = total_set out s.views id (Keeper ms) both at in let q = total_set out first other (Idle m) spent there in let c = g.counted in omega arith;
-          parts = λ h. let p = total_set (λ v. weigh h (memos v)) s.views id (Keeper ms) both at in let q = total_set (λ v. weigh h (memos v)) first other (Idle m) spent there in let c = g.parts h in omega arith;
-          each_seat = seats_stay K' K' first other spent (λ a x e. absurd (some-ne-none x (sym e))) (λ k u _ _ same. same) (seats_stay K' K' s.views id both go (λ k u _ _ same. same) g.each_seat);
-          away = λ out. holder_beside first other (Idle m) spent tt there (holder_beside s.views id (Keeper ms) both tt at (g.away out));
+          queued = queue_beside first r.serving r.queue other (Idle m) spent tt there
+              (queue_beside s.views r.serving r.queue id (Keeper ms) both tt at g.queued);
+          counted = let p = total_set out s.views id (Keeper ms) both at in let q =
+              total_set out first other (Idle m) spent there in let c = g.counted in omega arith;
+          parts = λ h. let p = total_set (λ v. weigh h (memos v)) s.views id (Keeper ms) both at in let q =
+              total_set (λ v. weigh h (memos v)) first other (Idle m) spent there in let c = g.parts h in omega arith;
+          each_seat = seats_stay K' K' first other spent (λ a x e. absurd (some-ne-none x (sym e)))
+              (λ k u _ _ same. same) (seats_stay K' K' s.views id both go (λ k u _ _ same. same) g.each_seat);
+          away = λ out. holder_beside first other (Idle m) spent tt there
+              (holder_beside s.views id (Keeper ms) both tt at (g.away out));
           lawful = g.lawful;
           head = g.head;
           turn = g.turn;
@@ -235,7 +269,8 @@ module _ {B H L : Type 0} (K : Ghosts B H L) (F : Form) (n : ℕ) (opened : B) w
       }
 
   -- the same of any two views of these kinds
-  pub joins_from : (id other : ℕ) (v w : SeatState H L) → stage_of v ≡ 0 → stage_of w ≡ 1 → Joins Rule id v other w (joined v w) nobody
+  pub joins_from : (id other : ℕ) (v w : SeatState H L) → stage_of v ≡ 0 → stage_of w ≡ 1
+      → Joins Rule id v other w (joined v w) nobody
   joins_from id other (Keeper ms) (Idle m) is there = joins_ok id other m ms
   joins_from id other (Keeper ms) (Keeper ns) is there = absurd (omega arith)
   joins_from id other (Keeper ms) (Waiting m t k) is there = absurd (omega arith)
@@ -245,13 +280,19 @@ module _ {B H L : Type 0} (K : Ghosts B H L) (F : Form) (n : ℕ) (opened : B) w
   joins_from id other (Holding m t) w is there = absurd (omega arith)
 
   -- the first view of the table is the keeper of all seats
-  one_keeper : (j : ℕ) (v : SeatState H L) → get_elem? (keeper_of (K.head opened) (K.lines opened) 0 n ∷ []) j ≡ some v → Knows K opened opened true (K.turn opened) [] j v
-  one_keeper zero v e = subst (Knows K opened opened true (K.turn opened) [] 0) (some-injective (keeper_of (K.head opened) (K.lines opened) 0 n) v e)
-      (λ a m e. let i = memo_from (K.head opened) (K.lines opened) 0 n a m e in subst (Remembers K opened opened) i.1 record { head = refl; begins = prefix_refl (K.lines opened); own_lines = refl })
+  one_keeper : (j : ℕ) (v : SeatState H L) → get_elem? (keeper_of (K.head opened) (K.lines opened) 0 n ∷ []) j ≡ some v
+      → Knows K opened opened true (K.turn opened) [] j v
+  one_keeper zero v e =
+      subst (Knows K opened opened true (K.turn opened) [] 0)
+      (some-injective (keeper_of (K.head opened) (K.lines opened) 0 n) v e)
+      (λ a m e. let i = memo_from (K.head opened) (K.lines opened) 0 n a m e in
+      subst (Remembers K opened opened) i.1 record
+      { head = refl; begins = prefix_refl (K.lines opened); own_lines = refl })
   one_keeper (suc j) v e = absurd (some-ne-none v (sym e))
 
   -- the table at the start
-  pub opens_ok : (ws : List ℕ) → F.Shows (K.turn opened) (K.turn opened) ws → n ≤ 64 → K.lawful opened → K.turn opened < 2 ^ 64
+  pub opens_ok : (ws : List ℕ) → F.Shows (K.turn opened) (K.turn opened) ws → n ≤ 64 → K.lawful opened
+      → K.turn opened < 2 ^ 64
       → Rule (opening ws (std.Some opened ∷ []) (keeper_of (K.head opened) (K.lines opened) 0 n))
   opens_ok ws shows size lawful small = record {
     next = K.turn opened;
@@ -277,8 +318,11 @@ module _ {B H L : Type 0} (K : Ghosts B H L) (F : Form) (n : ℕ) (opened : B) w
   }
 
   -- a keeper of all seats at the end: the book is at home, and its turn is the next number
-  pub closes_ok : (id : ℕ) (ms : List (Memo H L)) (ws : List ℕ) (xs : List (std.Option B)) → length ms ≡ n → Final (Seen Rule id (Keeper ms)) ws xs
-      → (b : B) × (get_elem? xs 0 ≡ some (std.Some b)) × K.lawful b × (K.head b ≡ K.head opened) × Ended K F n opened (idles ms) b × ((a : ℕ) (m : Memo H L) → get_elem? ms a ≡ some m → Remembers K opened b m)
+  pub closes_ok : (id : ℕ) (ms : List (Memo H L)) (ws : List ℕ) (xs : List (std.Option B)) → length ms ≡ n
+      → Final (Seen Rule id (Keeper ms)) ws xs
+      → (b : B) × (get_elem? xs 0 ≡ some (std.Some b)) × K.lawful b × (K.head b ≡ K.head opened)
+      × Ended K F n opened (idles ms) b
+      × ((a : ℕ) (m : Memo H L) → get_elem? ms a ≡ some m → Remembers K opened b m)
   closes_ok id ms ws xs long f =
       let s = f.0 in
       let r = f.1.0 in
@@ -287,19 +331,33 @@ module _ {B H L : Type 0} (K : Ghosts B H L) (F : Form) (n : ℕ) (opened : B) w
       let mine = g.each_seat id (Keeper ms) at in
       let all : (λ (v : SeatState H L). weigh (λ _. 1) (memos v)) (Keeper ms) ≡ n = ones ms ∙ long in
       let sum : total (λ v. weigh (λ _. 1) (memos v)) s.views ≡ n = g.parts (λ _. 1) ∙ span_all 0 n in
-      let nobody_else : (j : ℕ) (v : SeatState H L) (u : ℕ) → get_elem? s.views j ≡ some v → HasNumber v u → ⊥ = λ j v u e has.
-      let two = total_two (λ v. weigh (λ _. 1) (memos v)) s.views id j (Keeper ms) v (λ same. apart_from s.views id j (Keeper ms) v u tt at e has (sym same)) at e in
+      let nobody_else : (j : ℕ) (v : SeatState H L) (u : ℕ) → get_elem? s.views j ≡ some v → HasNumber v u → ⊥ =
+      λ j v u e has.
+      let two = total_two (λ v. weigh (λ _. 1) (memos v)) s.views id j (Keeper ms) v
+      (λ same. apart_from s.views id j (Keeper ms) v u tt at e has (sym same)) at e in
       let one = numbered_weighs v u has in omega arith in
-      let home : r.home ≡ true = is_true r.home (λ out. let a = g.away out in nobody_else a.0 (Holding a.1 a.2) a.2 a.3 refl) in
-      let none_out : r.queue ≡ [] = empty r.queue (λ k e. let v = g.queued 0 k e in nobody_else k v.0 (wrap (r.serving + 0)) v.1 v.2) in
+      let home : r.home ≡ true =
+      is_true r.home (λ out. let a = g.away out in nobody_else a.0 (Holding a.1 a.2) a.2 a.3 refl) in
+      let none_out : r.queue ≡ [] =
+      empty r.queue (λ k e. let v = g.queued 0 k e in nobody_else k v.0 (wrap (r.serving + 0)) v.1 v.2) in
       let homes : s.homes ≡ shelf true r.current = r.shelved ∙ ap (λ (z : Bool). shelf z r.current) home in
-      let next : r.next ≡ r.serving = g.next_is ∙ (ap (λ (q : List ℕ). wrap (r.serving + length q)) none_out ∙ (ap wrap (omega arith) ∙ wrap_small r.serving g.small)) in (
+      let next : r.next ≡ r.serving =
+      g.next_is ∙ (ap (λ (q : List ℕ). wrap (r.serving + length q)) none_out
+      ∙ (ap wrap (omega arith) ∙ wrap_small r.serving g.small)) in (
         r.current,
         f.4 0 (std.Some r.current) (ap (λ (z : List (Option (std.Option B))). get_elem? z 0) homes),
         g.lawful,
         g.head,
         (
-          record { words = s.words; next = r.next; serving = r.serving; seats = idles ms; home = true; current = r.current },
+          record {
+            words = s.words;
+            next = r.next;
+            serving = r.serving;
+            seats = idles ms;
+            home = true;
+            current =
+                r.current;
+          },
           record {
             size = g.size;
             shows = g.shows;
@@ -308,7 +366,8 @@ module _ {B H L : Type 0} (K : Ghosts B H L) (F : Form) (n : ℕ) (opened : B) w
             queued = λ i k e. absurd (some-ne-none k (sym e));
             counted = idles_out ms;
             parts = λ h. idles_weigh h ms ∙ (sym (has_all h s.views id (Keeper ms) at (sum ∙ sym all)) ∙ g.parts h);
-            each_seat = λ j v e. let m = idle_there ms j v e in subst (Knows K opened r.current true r.serving [] j) m.2 (mine j m.0 m.1);
+            each_seat = λ j v e. let m = idle_there ms j v e in
+                subst (Knows K opened r.current true r.serving [] j) m.2 (mine j m.0 m.1);
             away = λ out. absurd (true_false out);
             lawful = g.lawful;
             head = g.head;
@@ -323,41 +382,68 @@ module _ {B H L : Type 0} (K : Ghosts B H L) (F : Form) (n : ℕ) (opened : B) w
       )
 
   -- the same of any keeper, and of what came out of the slot
-  pub closes_from : (id seats : ℕ) (v : SeatState H L) (ws : List ℕ) (xs : List (std.Option B)) (r : std.Option B) → stage_of v ≡ 0 → length (memos_of v) ≡ n → Final (Seen Rule id v) ws xs → get_elem? xs 0 ≡ some r
-      → (b : B) × (r ≡ std.Some b) × K.lawful b × (K.head b ≡ K.head opened) × Ended K F n opened (idles (memos_of v)) b × ((a : ℕ) (m : Memo H L) → get_elem? (memos_of v) a ≡ some m → Remembers K opened b m)
-  closes_from id seats (Keeper ms) ws xs r is long f at = let c = closes_ok id ms ws xs long f in (c.0, some-injective r (std.Some c.0) (sym at ∙ c.1), c.2, c.3, c.4, c.5)
+  pub closes_from : (id seats : ℕ) (v : SeatState H L) (ws : List ℕ) (xs : List (std.Option B)) (r : std.Option B)
+      → stage_of v ≡ 0 → length (memos_of v) ≡ n → Final (Seen Rule id v) ws xs → get_elem? xs 0 ≡ some r
+      → (b : B) × (r ≡ std.Some b) × K.lawful b × (K.head b ≡ K.head opened) × Ended K F n opened (idles (memos_of v)) b
+      × ((a : ℕ) (m : Memo H L) → get_elem? (memos_of v) a ≡ some m → Remembers K opened b m)
+  closes_from id seats (Keeper ms) ws xs r is long f at = let c = closes_ok id ms ws xs long f in
+      (c.0, some-injective r (std.Some c.0) (sym at ∙ c.1), c.2, c.3, c.4, c.5)
   closes_from id seats (Idle m) ws xs r is long f at = absurd (omega arith)
   closes_from id seats (Waiting m t k) ws xs r is long f at = absurd (omega arith)
   closes_from id seats (Holding m t) ws xs r is long f at = absurd (omega arith)
 
   -- the same of the book that is taken out
-  pub closed_book : (id seats : ℕ) (v : SeatState H L) (ws : List ℕ) (xs : List (std.Option B)) (r : std.Option B) (b : B) → stage_of v ≡ 0 → length (memos_of v) ≡ n → Final (Seen Rule id v) ws xs → get_elem? xs 0 ≡ some r → r ≡ std.Some b
-      → K.lawful b × (K.head b ≡ K.head opened) × Ended K F n opened (idles (memos_of v)) b × ((a : ℕ) (m : Memo H L) → get_elem? (memos_of v) a ≡ some m → Remembers K opened b m)
+  pub closed_book : (id seats : ℕ) (v : SeatState H L) (ws : List ℕ) (xs : List (std.Option B)) (r : std.Option B)
+      (b : B) → stage_of v ≡ 0 → length (memos_of v) ≡ n → Final (Seen Rule id v) ws xs → get_elem? xs 0 ≡ some r
+      → r ≡ std.Some b
+      → K.lawful b × (K.head b ≡ K.head opened) × Ended K F n opened (idles (memos_of v)) b
+      × ((a : ℕ) (m : Memo H L) → get_elem? (memos_of v) a ≡ some m → Remembers K opened b m)
   closed_book id seats v ws xs r b is long f at found = let c = closes_from id seats v ws xs r is long f at in
       let same : c.0 ≡ b = unwrapped c.0 b (sym c.1 ∙ found) in
-      subst (λ (z : B). K.lawful z × (K.head z ≡ K.head opened) × Ended K F n opened (idles (memos_of v)) z × ((a : ℕ) (m : Memo H L) → get_elem? (memos_of v) a ≡ some m → Remembers K opened z m)) same (c.2, c.3, c.4, c.5)
+      subst (λ (z : B). K.lawful z × (K.head z ≡ K.head opened) × Ended K F n opened (idles (memos_of v)) z
+      × ((a : ℕ) (m : Memo H L) → get_elem? (memos_of v) a ≡ some m → Remembers K opened z m)) same
+      (c.2, c.3, c.4, c.5)
 
   -- the table as `open` lays it meets the rule
-  pub opens_from : (turn seats : ℕ) (ws : List ℕ) (value : B) (items : List (std.Option B)) → F.Shows turn turn ws → n ≤ 64 → K.lawful opened → turn < 2 ^ 64 → turn ≡ K.turn opened → seats ≡ n → value ≡ opened → items ≡ std.Some opened ∷ []
+  pub opens_from : (turn seats : ℕ) (ws : List ℕ) (value : B) (items : List (std.Option B)) → F.Shows turn turn ws
+      → n ≤ 64 → K.lawful opened → turn < 2 ^ 64 → turn ≡ K.turn opened → seats ≡ n → value ≡ opened
+      → items ≡ std.Some opened ∷ []
       → Standing K F seats value (opening ws items (keeper_of (K.head value) (K.lines value) 0 seats))
   opens_from turn seats ws value items shows size lawful small is count same laid =
-      let P : ℕ × B × List (std.Option B) → Type 0 = λ z. Standing K F z.0 z.1 (opening ws z.2 (keeper_of (K.head z.1) (K.lines z.1) 0 z.0)) in
-      subst P (λ i. (sym count i, sym same i, sym laid i)) (opens_ok ws (subst (λ (z : ℕ). F.Shows z z ws) is shows) size lawful (subst (λ (z : ℕ). z < 2 ^ 64) is small))
+      let P : ℕ × B × List (std.Option B) → Type 0 =
+      λ z. Standing K F z.0 z.1 (opening ws z.2 (keeper_of (K.head z.1) (K.lines z.1) 0 z.0)) in
+      subst P (λ i. (sym count i, sym same i, sym laid i))
+      (opens_ok ws (subst (λ (z : ℕ). F.Shows z z ws) is shows) size lawful
+      (subst (λ (z : ℕ). z < 2 ^ 64) is small))
 
 module _ {S H L : Type 0} where
   -- the keeper after a seat was cut off it
-  pub cut_keeper : (h : H) (xs : List L) (k c : ℕ) (old new : Me S (SeatState H L)) → old ≡ (keeper_of h xs k (c - k), []) → k < c → new ≡ (left_of old.0, old.1) → new ≡ (keeper_of h xs (k + 1) (c - (k + 1)), [])
-  cut_keeper h xs k c old new is less told = told ∙ (ap (λ (z : Me S (SeatState H L)). (left_of z.0, z.1)) is ∙ ap (λ (v : SeatState H L). (left_of v, [])) (keeper_step h xs k c less))
+  pub cut_keeper : (h : H) (xs : List L) (k c : ℕ) (old new : Me S (SeatState H L))
+      → old ≡ (keeper_of h xs k (c - k), []) → k < c → new ≡ (left_of old.0, old.1)
+      → new ≡ (keeper_of h xs (k + 1) (c - (k + 1)), [])
+  cut_keeper h xs k c old new is less told =
+      told ∙ (ap (λ (z : Me S (SeatState H L)). (left_of z.0, z.1)) is
+      ∙ ap (λ (v : SeatState H L). (left_of v, [])) (keeper_step h xs k c less))
 
   -- the seat that was cut off
-  pub cut_seat : (h : H) (xs : List L) (k c : ℕ) (old new : Me S (SeatState H L)) → old ≡ (keeper_of h xs k (c - k), []) → k < c → new ≡ (right_of old.0, []) → new ≡ (Idle (memo k h xs), [])
-  cut_seat h xs k c old new is less told = told ∙ (ap (λ (z : Me S (SeatState H L)). (right_of z.0, [])) is ∙ ap (λ (v : SeatState H L). (right_of v, [])) (keeper_step h xs k c less))
+  pub cut_seat : (h : H) (xs : List L) (k c : ℕ) (old new : Me S (SeatState H L)) → old ≡ (keeper_of h xs k (c - k), [])
+      → k < c → new ≡ (right_of old.0, []) → new ≡ (Idle (memo k h xs), [])
+  cut_seat h xs k c old new is less told =
+      told ∙ (ap (λ (z : Me S (SeatState H L)). (right_of z.0, [])) is
+      ∙ ap (λ (v : SeatState H L). (right_of v, [])) (keeper_step h xs k c less))
 
   -- a view that is an idle seat of number k
-  pub is_idle : (m : Memo H L) (k : ℕ) (me : Me S (SeatState H L)) → me ≡ (Idle m, []) → m.seat ≡ k → (stage_of me.0 ≡ 1) × (seat_of me.0 ≡ k) × (me.1 ≡ [])
-  is_idle m k me e seat = let P : Me S (SeatState H L) → Type 0 = λ z. (stage_of z.0 ≡ 1) × (seat_of z.0 ≡ k) × (z.1 ≡ []) in subst P (sym e) (refl, seat, refl)
+  pub is_idle : (m : Memo H L) (k : ℕ) (me : Me S (SeatState H L)) → me ≡ (Idle m, []) → m.seat ≡ k
+      → (stage_of me.0 ≡ 1) × (seat_of me.0 ≡ k) × (me.1 ≡ [])
+  is_idle m k me e seat = let P : Me S (SeatState H L) → Type 0 =
+      λ z. (stage_of z.0 ≡ 1) × (seat_of z.0 ≡ k) × (z.1 ≡ []) in subst P (sym e) (refl, seat, refl)
 
 -- the seats cut off so far and one more
-pub seats_snoc : {A H L : Type 0} (f : A → SeatState H L) (all new : List A) (a : A) (h : H) (xs : List L) (k : ℕ) → new ≡ all ++ a ∷ [] → map f all ≡ idle_from h xs 0 k → f a ≡ Idle (memo k h xs) → map f new ≡ idle_from h xs 0 (k + 1)
+pub seats_snoc : {A H L : Type 0} (f : A → SeatState H L) (all new : List A) (a : A) (h : H) (xs : List L) (k : ℕ)
+    → new ≡ all ++ a ∷ [] → map f all ≡ idle_from h xs 0 k → f a ≡ Idle (memo k h xs)
+    → map f new ≡ idle_from h xs 0 (k + 1)
 seats_snoc f all new a h xs k is before last = let e : k + 1 ≡ suc k = omega arith in let z : 0 + k ≡ k = omega arith in
-    ap (map f) is ∙ (map-append f all (a ∷ []) ∙ ((λ i. before i ++ last i ∷ []) ∙ (ap (λ (n : ℕ). idle_from h xs 0 k ++ Idle (memo n h xs) ∷ []) (sym z) ∙ (sym (idle_snoc h xs 0 k) ∙ ap (idle_from h xs 0) (sym e)))))
+    ap (map f) is ∙ (map-append f all (a ∷ [])
+    ∙ ((λ i. before i ++ last i ∷ [])
+    ∙ (ap (λ (n : ℕ). idle_from h xs 0 k ++ Idle (memo n h xs) ∷ []) (sym z)
+    ∙ (sym (idle_snoc h xs 0 k) ∙ ap (idle_from h xs 0) (sym e)))))

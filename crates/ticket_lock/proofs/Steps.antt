@@ -1,5 +1,6 @@
 -- Each step on the table keeps the rule.
-use Rattle.std.proofs.Common.{◌≡◌, ℕ, ◌+◌, ◌%◌, ◌^◌, Bool, true, false, List, [], ◌∷◌, ◌++◌, get_or, set, sym, refl, ap, ◌∙◌, subst, arith}
+use Rattle.std.proofs.Common.{◌≡◌, ℕ, ◌+◌, ◌%◌, ◌^◌, Bool, true, false, List, [], ◌∷◌, ◌++◌, get_or, set, sym, refl, ap}
+use Rattle.std.proofs.Common.{◌∙◌, subst, arith}
 use Rattle.std.specs.Prelude as std
 use mathlib.Core.Logic.{dite}
 use mathlib.Core.Option.{Option, some, none}
@@ -12,7 +13,8 @@ use Rattle.ticket_lock.specs.declared.chronicle.Chronicle.{Ghosts}
 use Rattle.ticket_lock.specs.declared.seat_state.SeatState.{SeatState}
 use Rattle.ticket_lock.specs.declared.seat_state.SeatState.TheVariants.{Keeper, Idle, Waiting, Holding}
 use Rattle.ticket_lock.specs.World.{Form, wrap, World, memo, shown, HandsOn, Good}
-use Rattle.ticket_lock.specs.Standing.{stage_of, seat_of, number_of, looks_of, seen_of, heads_of, after_take, after_hand, shelf, world_of, Standing, took, looked, gave}
+use Rattle.ticket_lock.specs.Standing.{stage_of, seat_of, number_of, looks_of, seen_of, heads_of, after_take}
+use Rattle.ticket_lock.specs.Standing.{after_hand, shelf, world_of, Standing, took, looked, gave}
 use Rattle.ticket_lock.proofs.Machine.{FormLaws, served, good_take, good_miss, good_enter, good_hand}
 
 module _ {H L : Type 0} where
@@ -60,7 +62,8 @@ module _ {B H L : Type 0} (K : Ghosts B H L) (F : Form) (laws : FormLaws F) (n :
   Good' s next serving home current q = Good K F n opening (world_of s next serving home current) q
 
   -- a fetch-and-add on word 0 by an idle seat is an event take
-  pub takes_ok : (slots id : ℕ) (v : SeatState H L) (cs : List (ℕ × std.Option B)) → stage_of v ≡ 1 → Allows Rule slots id (v, cs) 0 (λ x. (x + 1) % 2 ^ 64) (took (step slots 0 1 0 none) (v, cs))
+  pub takes_ok : (slots id : ℕ) (v : SeatState H L) (cs : List (ℕ × std.Option B)) → stage_of v ≡ 1
+      → Allows Rule slots id (v, cs) 0 (λ x. (x + 1) % 2 ^ 64) (took (step slots 0 1 0 none) (v, cs))
   takes_ok slots id (Keeper ms) cs is = absurd (omega arith)
   takes_ok slots id (Waiting m t looks) cs is = absurd (omega arith)
   takes_ok slots id (Holding m t) cs is = absurd (omega arith)
@@ -81,21 +84,29 @@ module _ {B H L : Type 0} (K : Ghosts B H L) (F : Form) (laws : FormLaws F) (n :
   )
 
   -- a step that changes no word
-  unmoved : (s : St) (next serving : ℕ) (home : Bool) (current : B) (q : List ℕ) (homes : List (Option (std.Option B))) (views : List (SeatState H L)) (i : ℕ)
-      → Good K F n opening (record { words = s.words; next = next; serving = serving; seats = views; home = home; current = current }) q → homes ≡ shelf home current
+  unmoved : (s : St) (next serving : ℕ) (home : Bool) (current : B) (q : List ℕ) (homes : List (Option (std.Option B)))
+      (views : List (SeatState H L)) (i : ℕ)
+      → Good K F n opening
+      (record { words = s.words; next = next; serving = serving; seats = views; home = home; current = current }) q
+      → homes ≡ shelf home current
       → Rule record { words = set s.words i (get_or s.words i 0); homes = homes; views = views }
-  unmoved s next serving home current q homes views i good shelved = subst (λ (ws : List ℕ). Rule record { words = ws; homes = homes; views = views }) (sym (set-get_or s.words i 0)) record {
-    next = next;
-    serving = serving;
-    home = home;
-    current = current;
-    queue = q;
-    good = good;
-    shelved = shelved;
-  }
+  unmoved s next serving home current q homes views i good shelved =
+      subst (λ (ws : List ℕ). Rule record { words = ws; homes = homes; views = views })
+      (sym (set-get_or s.words i 0)) record {
+        next = next;
+        serving = serving;
+        home = home;
+        current = current;
+        queue = q;
+        good = good;
+        shelved = shelved;
+      }
 
-  -- a load of its serving word by a seat that waits is an event enter where it finds its number, and an event miss where it does not
-  pub looks_ok : (slots id : ℕ) (v : SeatState H L) (cs : List (ℕ × std.Option B)) → stage_of v ≡ 2 → Allows Rule slots id (v, cs) (F.serving_word (number_of v)) (λ x. x) (looked K (step slots (F.serving_word (number_of v)) 0 0 none) (v, cs))
+  -- a load of its serving word by a seat that waits is an event enter where it finds its number, and an event miss
+  -- where it does not
+  pub looks_ok : (slots id : ℕ) (v : SeatState H L) (cs : List (ℕ × std.Option B)) → stage_of v ≡ 2
+      → Allows Rule slots id (v, cs) (F.serving_word (number_of v)) (λ x. x)
+      (looked K (step slots (F.serving_word (number_of v)) 0 0 none) (v, cs))
   looks_ok slots id (Keeper ms) cs is = absurd (omega arith)
   looks_ok slots id (Idle m) cs is = absurd (omega arith)
   looks_ok slots id (Holding m t) cs is = absurd (omega arith)
@@ -109,8 +120,10 @@ module _ {B H L : Type 0} (K : Ghosts B H L) (F : Form) (laws : FormLaws F) (n :
         Holding (shown m (K.lines r.current)) t,
         takes 0 (std.Some r.current),
         ap (λ (z : List (Option (std.Option B))). get_elem? z 0) home,
-        unmoved s r.next r.serving false r.current r.queue (set s.homes 0 none) (set s.views id (Holding (shown m (K.lines r.current)) t)) (F.serving_word t)
-            (good_enter K F laws n opening w r.queue id m t looks r.good at hit) (ap (λ (z : List (Option (std.Option B))). set z 0 none) home),
+        unmoved s r.next r.serving false r.current r.queue (set s.homes 0 none)
+            (set s.views id (Holding (shown m (K.lines r.current)) t)) (F.serving_word t)
+            (good_enter K F laws n opening w r.queue id m t looks r.good at hit)
+            (ap (λ (z : List (Option (std.Option B))). set z 0 none) home),
         (
           λ e. (
             r.current,
@@ -130,17 +143,25 @@ module _ {B H L : Type 0} (K : Ghosts B H L) (F : Form) (laws : FormLaws F) (n :
         Waiting m t (looks + 1),
         keeps,
         tt,
-        unmoved s r.next r.serving r.home r.current r.queue s.homes (set s.views id (Waiting m t (looks + 1))) (F.serving_word t) (good_miss K F laws n opening w r.queue id m t looks r.good at) r.shelved,
+        unmoved s r.next r.serving r.home r.current r.queue s.homes (set s.views id (Waiting m t (looks + 1)))
+            (F.serving_word t) (good_miss K F laws n opening w r.queue id m t looks r.good at) r.shelved,
         (λ e. absurd (off e), λ _. refl),
       ))
 
   -- the same of a number that is known by an equation
-  pub looks_from : (slots id t : ℕ) (v : SeatState H L) (cs : List (ℕ × std.Option B)) → stage_of v ≡ 2 → number_of v ≡ t → Allows Rule slots id (v, cs) (F.serving_word t) (λ x. x) (looked K (step slots (F.serving_word t) 0 0 none) (v, cs))
-  looks_from slots id t v cs is number = subst (λ (z : ℕ). Allows Rule slots id (v, cs) (F.serving_word z) (λ x. x) (looked K (step slots (F.serving_word z) 0 0 none) (v, cs))) number (looks_ok slots id v cs is)
+  pub looks_from : (slots id t : ℕ) (v : SeatState H L) (cs : List (ℕ × std.Option B)) → stage_of v ≡ 2
+      → number_of v ≡ t → Allows Rule slots id (v, cs) (F.serving_word t) (λ x. x)
+      (looked K (step slots (F.serving_word t) 0 0 none) (v, cs))
+  looks_from slots id t v cs is number =
+      subst (λ (z : ℕ). Allows Rule slots id (v, cs) (F.serving_word z) (λ x. x)
+      (looked K (step slots (F.serving_word z) 0 0 none) (v, cs))) number (looks_ok slots id v cs is)
 
   -- a store of the number after its own by the seat that holds the book is an event hand on
-  gives_at : (slots id : ℕ) (m : Memo H L) (t : ℕ) (b : B) → m.head ≡ K.head opening → HandsOn K (memo m.seat (K.head opening) m.seen) t b
-      → Allows Rule slots id (Holding m t, (0, std.Some b) ∷ []) (F.serving_word (wrap (t + 1))) (λ _. wrap (t + 1)) (λ _. gave K (step slots (F.serving_word (wrap (t + 1))) (wrap (t + 1)) 0 none) (Holding m t, (0, std.Some b) ∷ []) (wrap (t + 1)))
+  gives_at : (slots id : ℕ) (m : Memo H L) (t : ℕ) (b : B) → m.head ≡ K.head opening
+      → HandsOn K (memo m.seat (K.head opening) m.seen) t b
+      → Allows Rule slots id (Holding m t, (0, std.Some b) ∷ []) (F.serving_word (wrap (t + 1))) (λ _. wrap (t + 1))
+      (λ _. gave K (step slots (F.serving_word (wrap (t + 1))) (wrap (t + 1)) 0 none)
+      (Holding m t, (0, std.Some b) ∷ []) (wrap (t + 1)))
   gives_at slots id m t b head hands = λ s r sized at small.
       let w : World B H L = world_of s r.next r.serving r.home r.current in
       let mine = r.good.each_seat id (Holding m t) at in
@@ -163,14 +184,18 @@ module _ {B H L : Type 0} (K : Ghosts B H L) (F : Form) (laws : FormLaws F) (n :
       )
 
   -- the same of any view of that kind
-  pub gives_ok : (slots id : ℕ) (v : SeatState H L) (cs : List (ℕ × std.Option B)) (b : B) (new : ℕ) → stage_of v ≡ 3 → cs ≡ (0, std.Some b) ∷ [] → heads_of v ≡ K.head opening ∷ []
+  pub gives_ok : (slots id : ℕ) (v : SeatState H L) (cs : List (ℕ × std.Option B)) (b : B) (new : ℕ) → stage_of v ≡ 3
+      → cs ≡ (0, std.Some b) ∷ [] → heads_of v ≡ K.head opening ∷ []
       → new ≡ wrap (number_of v + 1) → HandsOn K (memo (seat_of v) (K.head opening) (seen_of v)) (number_of v) b
-      → Allows Rule slots id (v, cs) (F.serving_word new) (λ _. new) (λ _. gave K (step slots (F.serving_word new) new 0 none) (v, cs) new)
+      → Allows Rule slots id (v, cs) (F.serving_word new) (λ _. new)
+      (λ _. gave K (step slots (F.serving_word new) new 0 none) (v, cs) new)
   gives_ok slots id (Keeper ms) cs b new is has head to hands = absurd (omega arith)
   gives_ok slots id (Idle m) cs b new is has head to hands = absurd (omega arith)
   gives_ok slots id (Waiting m t looks) cs b new is has head to hands = absurd (omega arith)
   gives_ok slots id (Holding m t) cs b new is has head to hands =
-      let P : List (ℕ × std.Option B) × ℕ → Type 0 = λ z. Allows Rule slots id (Holding m t, z.0) (F.serving_word z.1) (λ _. z.1) (λ _. gave K (step slots (F.serving_word z.1) z.1 0 none) (Holding m t, z.0) z.1) in
+      let P : List (ℕ × std.Option B) × ℕ → Type 0 =
+      λ z. Allows Rule slots id (Holding m t, z.0) (F.serving_word z.1) (λ _. z.1)
+      (λ _. gave K (step slots (F.serving_word z.1) z.1 0 none) (Holding m t, z.0) z.1) in
       let one : m.head ≡ K.head opening = cc in
       subst P (λ i. (sym has i, sym to i)) (gives_at slots id m t b one hands)
 
@@ -195,26 +220,41 @@ module _ {B H L : Type 0} (K : Ghosts B H L) (F : Form) (laws : FormLaws F) wher
   Back old new b = new ≡ (old.0, (0, std.Some b) ∷ rest old.1)
 
   -- the store keeps the rule, after the book was laid back
-  pub gives_from : (n : ℕ) (opening : B) (slots id k t word : ℕ) (old new : Me (std.Option B) (SeatState H L)) (b : B) → Back old new b
-      → (stage_of old.0 ≡ 3) × (seat_of old.0 ≡ k) × (number_of old.0 ≡ t) × (old.1 ≡ (0, std.None) ∷ []) → heads_of old.0 ≡ K.head opening ∷ []
-      → HandsOn K (memo k (K.head opening) (seen_of old.0)) t b → word ≡ wrap (t + 1) → Allows (Rule K F laws n opening) slots id new (F.serving_word word) (λ _. word) (λ _. gave K (step slots (F.serving_word word) word 0 none) new word)
+  pub gives_from : (n : ℕ) (opening : B) (slots id k t word : ℕ) (old new : Me (std.Option B) (SeatState H L)) (b : B)
+      → Back old new b
+      → (stage_of old.0 ≡ 3) × (seat_of old.0 ≡ k) × (number_of old.0 ≡ t) × (old.1 ≡ (0, std.None) ∷ [])
+      → heads_of old.0 ≡ K.head opening ∷ []
+      → HandsOn K (memo k (K.head opening) (seen_of old.0)) t b → word ≡ wrap (t + 1)
+      → Allows (Rule K F laws n opening) slots id new (F.serving_word word) (λ _. word)
+      (λ _. gave K (step slots (F.serving_word word) word 0 none) new word)
   gives_from n opening slots id k t word old new b back is head hands to =
-      let P : Me (std.Option B) (SeatState H L) → Type 0 = λ z. Allows (Rule K F laws n opening) slots id z (F.serving_word word) (λ _. word) (λ _. gave K (step slots (F.serving_word word) word 0 none) z word) in
-      let carried : (0, std.Some b) ∷ rest old.1 ≡ (0, std.Some b) ∷ [] = ap (λ (z : List (ℕ × std.Option B)). (0, std.Some b) ∷ rest z) is.3 in
+      let P : Me (std.Option B) (SeatState H L) → Type 0 =
+      λ z. Allows (Rule K F laws n opening) slots id z (F.serving_word word) (λ _. word)
+      (λ _. gave K (step slots (F.serving_word word) word 0 none) z word) in
+      let carried : (0, std.Some b) ∷ rest old.1 ≡ (0, std.Some b) ∷ [] =
+      ap (λ (z : List (ℕ × std.Option B)). (0, std.Some b) ∷ rest z) is.3 in
       let Q : ℕ × ℕ → Type 0 = λ z. HandsOn K (memo z.0 (K.head opening) (seen_of old.0)) z.1 b in
-      subst P (sym back) (gives_ok K F laws n opening slots id old.0 ((0, std.Some b) ∷ rest old.1) b word is.0 carried head (to ∙ ap (λ (z : ℕ). wrap (z + 1)) (sym is.2))
+      subst P (sym back) (gives_ok K F laws n opening slots id old.0
+      ((0, std.Some b) ∷ rest old.1) b word is.0 carried head (to ∙ ap (λ (z : ℕ). wrap (z + 1)) (sym is.2))
       (subst Q (λ i. (sym is.1 i, sym is.2 i)) hands))
 
   -- what the store tells of the seat, after the book was laid back
-  pub gave_from : (old new after : Me (std.Option B) (SeatState H L)) (b : B) → Back old new b → old.1 ≡ (0, std.None) ∷ [] → ((c : B) → new.1 ≡ (0, std.Some c) ∷ [] → after ≡ (after_hand (K.lines c) new.0, []))
+  pub gave_from : (old new after : Me (std.Option B) (SeatState H L)) (b : B) → Back old new b
+      → old.1 ≡ (0, std.None) ∷ []
+      → ((c : B) → new.1 ≡ (0, std.Some c) ∷ [] → after ≡ (after_hand (K.lines c) new.0, []))
       → after ≡ (after_hand (K.lines b) old.0, [])
   gave_from old new after b back is told =
-      let carried : new.1 ≡ (0, std.Some b) ∷ [] = ap (λ (z : Me (std.Option B) (SeatState H L)). z.1) back ∙ ap (λ (z : List (ℕ × std.Option B)). (0, std.Some b) ∷ rest z) is in
+      let carried : new.1 ≡ (0, std.Some b) ∷ [] =
+      ap (λ (z : Me (std.Option B) (SeatState H L)). z.1) back
+      ∙ ap (λ (z : List (ℕ × std.Option B)). (0, std.Some b) ∷ rest z) is in
       told b carried ∙ ap (λ (z : Me (std.Option B) (SeatState H L)). (after_hand (K.lines b) z.0, [])) back
 
   -- the seat that comes back is idle and has taken no slot
-  pub handed_is : (old after : Me (std.Option B) (SeatState H L)) (xs : List L) (k : ℕ) → stage_of old.0 ≡ 3 → seat_of old.0 ≡ k → after ≡ (after_hand xs old.0, []) → (stage_of after.0 ≡ 1) × (seat_of after.0 ≡ k) × (after.1 ≡ [])
-  handed_is old after xs k is seat e = let P : Me (std.Option B) (SeatState H L) → Type 0 = λ z. (stage_of z.0 ≡ 1) × (seat_of z.0 ≡ k) × (z.1 ≡ []) in
+  pub handed_is : (old after : Me (std.Option B) (SeatState H L)) (xs : List L) (k : ℕ) → stage_of old.0 ≡ 3
+      → seat_of old.0 ≡ k → after ≡ (after_hand xs old.0, [])
+      → (stage_of after.0 ≡ 1) × (seat_of after.0 ≡ k) × (after.1 ≡ [])
+  handed_is old after xs k is seat e = let P : Me (std.Option B) (SeatState H L) → Type 0 =
+      λ z. (stage_of z.0 ≡ 1) × (seat_of z.0 ≡ k) × (z.1 ≡ []) in
       subst P (sym e) (handed_stage xs old.0 is, handed_seat xs old.0 ∙ seat, refl)
 
 module _ {H L : Type 0} where

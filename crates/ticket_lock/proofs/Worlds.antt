@@ -1,5 +1,6 @@
 -- A world that stands under the invariant is good.
-use Rattle.std.proofs.Common.{◌≡◌, ℕ, zero, suc, ◌+◌, ◌^◌, ◌<◌, ◌≤◌, true, List, [], ◌∷◌, length, sym, refl, ap, ◌∙◌, subst, arith}
+use Rattle.std.proofs.Common.{◌≡◌, ℕ, zero, suc, ◌+◌, ◌^◌, ◌<◌, ◌≤◌, true, List, [], ◌∷◌, length, sym, refl, ap, ◌∙◌}
+use Rattle.std.proofs.Common.{subst, arith}
 use mathlib.Core.Logic.{dite}
 use mathlib.Core.Option.{some, some-injective, some-ne-none}
 use native.Mathlib.Decide.{ℕ_discrete}
@@ -22,25 +23,30 @@ at_of [] i h = absurd (omega arith)
 at_of (x ∷ xs) zero h = (x, refl)
 at_of (x ∷ xs) (suc i) h = at_of xs i (omega arith)
 
-module _ {B H L : Type 0} (K : Ghosts B H L) (F : Form) (laws : FormLaws F) (n : ℕ) (opening : B) (w : World B H L) (q : List ℕ) (g : Good K F n opening w q) where
+module _ {B H L : Type 0} (K : Ghosts B H L) (F : Form) (laws : FormLaws F) (n : ℕ) (opening : B) (w : World B H L)
+    (q : List ℕ) (g : Good K F n opening w q) where
   -- a seat with a number stands in the queue at the place of that number
-  place_of : (k t : ℕ) (v : SeatState H L) → Knows K opening w.current w.home w.serving q k v → HasNumber v t → (i : ℕ) × (get_elem? q i ≡ some k) × (t ≡ wrap (w.serving + i))
+  place_of : (k t : ℕ) (v : SeatState H L) → Knows K opening w.current w.home w.serving q k v → HasNumber v t
+      → (i : ℕ) × (get_elem? q i ≡ some k) × (t ≡ wrap (w.serving + i))
   place_of k t (Keeper ms) know has = absurd has
   place_of k t (Idle m) know has = absurd has
   place_of k t (Waiting m u looks) know has = (know.1.0, know.1.1, sym has ∙ know.1.2)
-  place_of k t (Holding m u) know has = (0, know.1, sym has ∙ (know.2 ∙ (sym (wrap_small w.serving g.small) ∙ ap wrap (omega arith))))
+  place_of k t (Holding m u) know has =
+      (0, know.1, sym has ∙ (know.2 ∙ (sym (wrap_small w.serving g.small) ∙ ap wrap (omega arith))))
 
   -- the same of the owner of a number
   pub owner : (k t : ℕ) → Owns w k t → (i : ℕ) × (get_elem? q i ≡ some k) × (t ≡ wrap (w.serving + i))
   owner k t o = place_of k t o.0 (g.each_seat k o.0 o.1) o.2
 
   -- a seat has one memo
-  only_one : (x m : Memo H L) (a : ℕ) → Remembers K opening w.current x → get_elem? (x ∷ []) a ≡ some m → Remembers K opening w.current m
+  only_one : (x m : Memo H L) (a : ℕ) → Remembers K opening w.current x → get_elem? (x ∷ []) a ≡ some m
+      → Remembers K opening w.current m
   only_one x m zero r e = subst (Remembers K opening w.current) (some-injective x m e) r
   only_one x m (suc a) r e = absurd (some-ne-none m (sym e))
 
   -- each memo of a seat is remembered
-  remembered : (j a : ℕ) (m : Memo H L) (v : SeatState H L) → Knows K opening w.current w.home w.serving q j v → get_elem? (memos v) a ≡ some m → Remembers K opening w.current m
+  remembered : (j a : ℕ) (m : Memo H L) (v : SeatState H L) → Knows K opening w.current w.home w.serving q j v
+      → get_elem? (memos v) a ≡ some m → Remembers K opening w.current m
   remembered j a m (Keeper ms) know e = know a m e
   remembered j a m (Idle x) know e = only_one x m a know e
   remembered j a m (Waiting x t looks) know e = only_one x m a know.0 e
@@ -61,9 +67,11 @@ module _ {B H L : Type 0} (K : Ghosts B H L) (F : Form) (laws : FormLaws F) (n :
           some-injective k j.0 (sym p.1 ∙ (ap (get_elem? q) (sym same) ∙ j.1)),
     );
     each_owner = λ j t o. let p = owner j t o in (p.0, at_below q p.0 j p.1, p.2);
-    apart = λ j k m x one other same. dite (ℕ_discrete j k) (λ e. e) (λ off. absurd (strangers K F laws n opening w q j k one.1 other.1 one.0 other.0 m x g off one.2 other.2 one.3 other.3 (sym same)));
+    apart = λ j k m x one other same. dite (ℕ_discrete j k) (λ e. e)
+        (λ off. absurd (strangers K F laws n opening w q j k one.1 other.1 one.0 other.0 m x g off one.2 other.2 one.3 other.3 (sym same)));
     holder = λ j t h. (g.each_seat j (Holding h.0 t) h.1).2;
-    one_holder = λ j k t u h i. some-injective j k (sym (g.each_seat j (Holding h.0 t) h.1).1 ∙ (g.each_seat k (Holding i.0 u) i.1).1);
+    one_holder = λ j k t u h i. some-injective j k
+        (sym (g.each_seat j (Holding h.0 t) h.1).1 ∙ (g.each_seat k (Holding i.0 u) i.1).1);
     home = λ is j t h. true_false (sym is ∙ (g.each_seat j (Holding h.0 t) h.1).3);
     away = λ is. let a = g.away is in (a.0, a.2, (a.1, a.3));
     lawful = g.lawful;
@@ -75,7 +83,8 @@ module _ {B H L : Type 0} (K : Ghosts B H L) (F : Form) (laws : FormLaws F) (n :
 
 module _ {B H L : Type 0} (K : Ghosts B H L) (F : Form) (laws : FormLaws F) where
   -- a lock that ends in the working form has ended well
-  pub shut : (n : ℕ) (opening : B) (given back : List (SeatState H L)) (b : B) → Ended K F n opening given b → back ≡ given
+  pub shut : (n : ℕ) (opening : B) (given back : List (SeatState H L)) (b : B) → Ended K F n opening given b
+      → back ≡ given
       → Shut K F opening back b
   shut n opening given back b e same = record {
     world = e.0;
@@ -89,10 +98,12 @@ module _ {B H L : Type 0} (K : Ghosts B H L) (F : Form) (laws : FormLaws F) wher
 
   -- whatever stands in the table under the rule shows a good world
   pub resting : RestingTablesAreGood K F
-  resting n opening s r = (good_world K F laws n opening (world_of s r.next r.serving r.home r.current) r.queue r.good, r.shelved)
+  resting n opening s r =
+      (good_world K F laws n opening (world_of s r.next r.serving r.home r.current) r.queue r.good, r.shelved)
 
 -- the seats that were cut off are those of an opened world
-pub begins : {B H L : Type 0} (K : Ghosts B H L) (F : Form) (n : ℕ) (b value : B) (ws : List ℕ) (seats : List (SeatState H L))
+pub begins : {B H L : Type 0} (K : Ghosts B H L) (F : Form) (n : ℕ) (b value : B) (ws : List ℕ)
+    (seats : List (SeatState H L))
     → 0 < n → n ≤ 64 → K.lawful b → K.turn b < 2 ^ 64 → F.Shows (K.turn b) (K.turn b) ws → value ≡ b
     → seats ≡ idle_from (K.head value) (K.lines value) 0 n → Begins K F n b seats
 begins K F n b value ws seats some_seats few lawful first shows same is = record {

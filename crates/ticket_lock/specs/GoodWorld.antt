@@ -29,7 +29,8 @@ module _ {B H L : Type 0} where
     pub out : ℕ
     pub few : out ≤ 64
     pub next_is : w.next ≡ wrap (w.serving + out)
-    pub each_number : (i : ℕ) → i < out → (j : ℕ) × Owns w j (wrap (w.serving + i)) × ((k : ℕ) → Owns w k (wrap (w.serving + i)) → k ≡ j)
+    pub each_number : (i : ℕ) → i < out
+        → (j : ℕ) × Owns w j (wrap (w.serving + i)) × ((k : ℕ) → Owns w k (wrap (w.serving + i)) → k ≡ j)
     pub each_owner : (j t : ℕ) → Owns w j t → (i : ℕ) × (i < out) × (t ≡ wrap (w.serving + i))
     -- no two seats have one number as seats
     pub apart : (j k : ℕ) (m x : Memo H L) → HasSeen w j m → HasSeen w k x → m.seat ≡ x.seat → j ≡ k

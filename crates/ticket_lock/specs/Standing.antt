@@ -121,10 +121,13 @@ shelf false b = none ∷ []
 module _ {B H L : Type 0} where
   -- the world that the table shows
   abbrev pub world_of : State (std.Option B) (SeatState H L) → ℕ → ℕ → Bool → B → World B H L
-  world_of s next serving home current = record { words = s.words; next = next; serving = serving; seats = s.views; home = home; current = current }
+  world_of s next serving home current =
+      record { words = s.words; next = next; serving = serving; seats = s.views; home = home; current = current }
 
-  -- The rule: the table shows a world that is good, with this queue of seats that have a number; the slot has the book exactly when it is at home
-  pub record Standing (K : Ghosts B H L) (F : Form) (n : ℕ) (opening : B) (s : State (std.Option B) (SeatState H L)) : Type 0 where
+  -- The rule: the table shows a world that is good, with this queue of seats that have a number; the slot has the book
+  -- exactly when it is at home
+  pub record Standing (K : Ghosts B H L) (F : Form) (n : ℕ) (opening : B)
+      (s : State (std.Option B) (SeatState H L)) : Type 0 where
     pub next : ℕ
     pub serving : ℕ
     pub home : Bool
@@ -142,23 +145,31 @@ module _ {B H L : Type 0} where
     pub own_lines : own K (seat_of v) (K.lines b) ≡ own K (seat_of v) (seen_of v)
 
   -- at the load by which `close` comes in: a seat of nobody, with no slot
-  abbrev pub sat : Step (std.Option B) → Me (std.Option B) (SeatState H L) → ℕ → Me (std.Option B) (SeatState H L) → Type 0
+  abbrev pub sat : Step (std.Option B) → Me (std.Option B) (SeatState H L) → ℕ
+      → Me (std.Option B) (SeatState H L) → Type 0
   sat st m found m' = m' ≡ (nobody, [])
 
   -- at a take: the seat waits with the number found
-  abbrev pub took : Step (std.Option B) → Me (std.Option B) (SeatState H L) → ℕ → Me (std.Option B) (SeatState H L) → Type 0
+  abbrev pub took : Step (std.Option B) → Me (std.Option B) (SeatState H L) → ℕ
+      → Me (std.Option B) (SeatState H L) → Type 0
   took st m found m' = m' ≡ (after_take found m.0, m.1)
 
   -- at a look: where its number was found the seat holds the book, and else it has looked once more
-  abbrev pub looked : Ghosts B H L → Step (std.Option B) → Me (std.Option B) (SeatState H L) → ℕ → Me (std.Option B) (SeatState H L) → Type 0
-  looked K st m found m' = (found ≡ number_of m.0 → (b : B) × (m' ≡ (after_enter (K.lines b) m.0, (0, std.Some b) ∷ m.1)) × Found K m.0 (number_of m.0) b)
+  abbrev pub looked : Ghosts B H L → Step (std.Option B) → Me (std.Option B) (SeatState H L) → ℕ
+      → Me (std.Option B) (SeatState H L) → Type 0
+  looked K st m found m' =
+      (found ≡ number_of m.0
+      → (b : B) × (m' ≡ (after_enter (K.lines b) m.0, (0, std.Some b) ∷ m.1)) × Found K m.0 (number_of m.0) b)
       × (found ≢ number_of m.0 → m' ≡ (after_miss m.0, m.1))
 
   -- at a hand on: the seat is idle, and has seen the lines of the book that it gave back
-  abbrev pub gave : Ghosts B H L → Step (std.Option B) → Me (std.Option B) (SeatState H L) → ℕ → Me (std.Option B) (SeatState H L) → Type 0
+  abbrev pub gave : Ghosts B H L → Step (std.Option B) → Me (std.Option B) (SeatState H L) → ℕ
+      → Me (std.Option B) (SeatState H L) → Type 0
   gave K st m found m' = (b : B) → m.1 ≡ (0, std.Some b) ∷ [] → m' ≡ (after_hand (K.lines b) m.0, [])
 
-  -- whatever stands in the table under the rule shows a good world, and the slot has its book exactly when it is at home
+  -- whatever stands in the table under the rule shows a good world, and the slot has its book exactly when it is at
+  -- home
   abbrev pub RestingTablesAreGood : Ghosts B H L → Form → Type 0
-  RestingTablesAreGood K F = (n : ℕ) (opening : B) (s : State (std.Option B) (SeatState H L)) (r : Standing K F n opening s)
+  RestingTablesAreGood K F =
+      (n : ℕ) (opening : B) (s : State (std.Option B) (SeatState H L)) (r : Standing K F n opening s)
       → GoodWorld K F opening (world_of s r.next r.serving r.home r.current) × (s.homes ≡ shelf r.home r.current)

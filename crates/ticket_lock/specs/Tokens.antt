@@ -23,7 +23,9 @@ module _ {B H L : Type 0} where
 
   -- the seat is of this lock, idle, and remembers the head at opening, where `head` is that of the chronicle
   abbrev pub IsSeatOf : (B → H) → TicketLock B H L → Seat B H L → Type 0
-  IsSeatOf head lock s = (s.place.table_id ≡ lock.board.shared.table_id) × (heads_of s.place.me.0 ≡ head (opening_book lock) ∷ []) × IsIdle s.number s.place.me
+  IsSeatOf head lock s =
+      (s.place.table_id ≡ lock.board.shared.table_id) × (heads_of s.place.me.0 ≡ head (opening_book lock) ∷ [])
+      × IsIdle s.number s.place.me
 
   -- the seat as the lock's world shows it
   abbrev pub seat_state : Seat B H L → SeatState H L
@@ -72,7 +74,8 @@ module _ {B H L : Type 0} where
 module _ {B H L : Type 0} {K : Ghosts B H L} where
   -- the ticket is of this lock
   abbrev pub IsTicketOf : TicketLock B H L → Ticket B H L K → Type 0
-  IsTicketOf lock t = (t.place.table_id ≡ lock.board.shared.table_id) × (heads_of t.place.me.0 ≡ K.head (opening_book lock) ∷ [])
+  IsTicketOf lock t = (t.place.table_id ≡ lock.board.shared.table_id)
+      × (heads_of t.place.me.0 ≡ K.head (opening_book lock) ∷ [])
 
   -- which seat has taken the ticket
   abbrev pub ticket_seat : Ticket B H L K → ℕ
@@ -101,7 +104,9 @@ module _ {B H L : Type 0} {K : Ghosts B H L} where
   IfNotYet (NotYet t) P = P t
 
 module _ {B H L : Type 0} where
-  -- what the seat k finds that had seen the lines `seen` and enters with the number t: a lawful book with the head at opening, whose turn is t, and whose journal begins with what the seat has seen and holds in its name just the lines that it has seen in its name
+  -- what the seat k finds that had seen the lines `seen` and enters with the number t: a lawful book with the head at
+  -- opening, whose turn is t, and whose journal begins with what the seat has seen and holds in its name just the
+  -- lines that it has seen in its name
   pub record Finds (K : Ghosts B H L) (head : H) (k : ℕ) (seen : List L) (t : ℕ) (b : B) : Type 0 where
     pub lawful : K.lawful b
     pub same_head : K.head b ≡ head
@@ -109,7 +114,8 @@ module _ {B H L : Type 0} where
     pub begins : IsPrefix seen (K.lines b)
     pub own_lines : own K k (K.lines b) ≡ own K k seen
 
-  -- the book's journal begins with the lines `seen` that the seat k has seen, and holds in its name just the lines that it has seen in its name
+  -- the book's journal begins with the lines `seen` that the seat k has seen, and holds in its name just the lines
+  -- that it has seen in its name
   pub record Stands (K : Ghosts B H L) (k : ℕ) (seen : List L) (b : B) : Type 0 where
     pub begins : IsPrefix seen (K.lines b)
     pub own_lines : own K k (K.lines b) ≡ own K k seen

@@ -1,5 +1,14 @@
--- `hull_count` meets its contract: the hull at the pointer is lent for one call, and comes back with what that call left.
-use Rattle.hull_c.proofs.Steps.{ℕ, ◌++◌, List, [], ◌∷◌, refl, proved, full_share, id⊢, ftrue, flft, flent, named, vptr, fact, tables, WpFn, ‵, raw, ◌⊛◌, some, later, prop, at_ret, ◌$◌, ◌∵◌, !, qed, done, move, keep, drop, use1, use3, split, join, fsplit, fjoin, fpack, pick, await, regoal, suffices, group, enter, of_opd, addr, stop, no_more, and_then, first, blocks, exec, returns, alloc_all, pass_all, free_all, look_at, get, through, sets, sets_last, lands_as, env, lft_new, lft_end, yes, Is, shows, mem, lends_ref, ref_back, Ptr, RawPtr, block_ptr, lies_at, in_a_block, rawptr_vals, rawptr_Tells, MutRef, Body, plain, nothing, heard, peeks, calls_at, Lasts, lasts, on_entry, triple_of, Stays, walk_of, stay_dropped, Goes-dropped, ends_at, framed}
+-- `hull_count` meets its contract: the hull at the pointer is lent for one call, and comes back with what that call
+-- left.
+use Rattle.hull_c.proofs.Steps.{ℕ, ◌++◌, List, [], ◌∷◌, refl, proved, full_share, id⊢, ftrue, flft, flent, named, vptr}
+use Rattle.hull_c.proofs.Steps.{fact, tables, WpFn, ‵, raw, ◌⊛◌, some, later, prop, at_ret, ◌$◌, ◌∵◌, !, qed, done}
+use Rattle.hull_c.proofs.Steps.{move, keep, drop, use1, use3, split, join, fsplit, fjoin, fpack, pick, await, regoal}
+use Rattle.hull_c.proofs.Steps.{suffices, group, enter, of_opd, addr, stop, no_more, and_then, first, blocks, exec}
+use Rattle.hull_c.proofs.Steps.{returns, alloc_all, pass_all, free_all, look_at, get, through, sets, sets_last}
+use Rattle.hull_c.proofs.Steps.{lands_as, env, lft_new, lft_end, yes, Is, shows, mem, lends_ref, ref_back, Ptr, RawPtr}
+use Rattle.hull_c.proofs.Steps.{block_ptr, lies_at, in_a_block, rawptr_vals, rawptr_Tells, MutRef, Body, plain, nothing}
+use Rattle.hull_c.proofs.Steps.{heard, peeks, calls_at, Lasts, lasts, on_entry, triple_of, Stays, walk_of, stay_dropped}
+use Rattle.hull_c.proofs.Steps.{Goes-dropped, ends_at, framed}
 use Rattle.hull_tree.specs.contracts.tree.HullTree.{the_row as R}
 use base.Fml.{fex, fsep}
 use Rattle.hull_plain.specs.declared.call.Call.TheVariants.{Count}
@@ -32,24 +41,38 @@ hull_count_spec 𝓤 𝓛 𝓜 𝓡 wired =
     exec ! 𝓣.C 𝓣.Λ (env code.Mir.locals l) code.Mir.t-4 (at_ret _ (W.post (y (block_ptr b o)))) $
     sets ! (of_opd ! (get ! refl)) refl (tt, tt) $
     lft_new ! tt (λ α. let κ : List ℕ = α ∷ [] in move ! (1 ∷ []) $
-    use1 𝓛 (later (some (λ (γ : ℕ). ‵ ((MutRef (named 0) κ R).own_val (record { ref_ptr = (b, o); ghost_name = γ; now = t }) (vptr b o ∷ [])) ⊛ ‵ (flent κ (Body (mem R) b o γ)))))
+    use1 𝓛 (later (some (λ (γ : ℕ). ‵
+    ((MutRef (named 0) κ R).own_val (record { ref_ptr = (b, o); ghost_name = γ; now = t }) (vptr b o ∷ [])) ⊛ ‵
+    (flent κ (Body (mem R) b o γ)))))
     (lends_ref 𝓛 R (named 0) κ t b o) $ await ! tt $ pick ! (λ γ. split ! $
     -- [the loan; what the lender keeps; the token]
     let G = triple_of 𝓛 g.signature (g.spec 𝓛 𝓜.mem 𝓡.returns) in
-    let z : G.Ghost = (((κ, tt), (full_share, tt), tt, (record { ref_ptr = (b, o); ghost_name = γ; now = t }, tt), (vptr b o ∷ [], tt)), tt) in
+    let z : G.Ghost = (
+      (
+        (κ, tt),
+        (full_share, tt),
+        tt,
+        (record { ref_ptr = (b, o); ghost_name = γ; now = t }, tt),
+        (vptr b o ∷ [], tt),
+      ),
+      tt,
+    ) in
     nothing ! $ move ! (1 ∷ 0 ∷ []) $ fjoin ! $
-    nothing ! $ move ! (3 ∷ 0 ∷ []) $ join ! $ join ! $ nothing ! $ move ! (1 ∷ 0 ∷ []) $ join ! $ use1 𝓛 (raw (G.pre z)) (id⊢ 𝓤 _) $
+    nothing ! $ move ! (3 ∷ 0 ∷ []) $ join ! $ join ! $ nothing ! $ move ! (1 ∷ 0 ∷ []) $ join ! $ use1 𝓛
+    (raw (G.pre z)) (id⊢ 𝓤 _) $
     calls_at ! (framed 𝓤 𝓛.H 𝓜 (tables 𝓤 𝓛.H 𝓜 𝓡 𝓡.env)) G (met 𝓤 𝓛 𝓜 𝓡 (code.calls-hull_c::calls::count 𝓡.env wired)) z
     (and_then ! (get ! refl) (no_more !)) (λ v.
     use1 𝓛 (later (some (λ (u : Out.Denot). ((‵ (flft κ full_share) ⊛ ‵ ftrue) ⊛ ‵ (Out.own_val u (v ∷ []))) ⊛
-    some (λ (ws : Lasts g.ended z.0.0 z.0.3). ‵ (lasts g.ended z.0.0 z.0.3 ws) ⊛ raw (fact 𝓤 (IsServed Count t ws.0 u)))))) (id⊢ 𝓤 _) $
+    some (λ (ws : Lasts g.ended z.0.0 z.0.3). ‵ (lasts g.ended z.0.0 z.0.3 ws) ⊛ raw
+    (fact 𝓤 (IsServed Count t ws.0 u)))))) (id⊢ 𝓤 _) $
     await ! tt $ pick ! (λ u. split ! $ split ! $ split ! $ lft_end ! tt $ move ! (2 ∷ []) $
     peeks ! Out (Is Out) (shows 𝓛 Out) u (v ∷ []) (λ is. lands_as ! refl refl ((the_row_laws.lawful 𝓛).typed u _ is).0 $
     move ! (3 ∷ []) $ pick ! (λ ws. split ! $ move ! (1 ∷ []) $ heard ! _ (λ low. fsplit ! $ fsplit ! $
     -- [the loan's last value; its borrow; nothing; the result; the token is over; nothing; what the lender keeps]
     move ! (4 ∷ 6 ∷ 0 ∷ []) $ use3 𝓛 (later (‵ ((mem R).own_at ws.0 b o))) (ref_back 𝓛 R κ γ ws.0 b o) $ await ! tt $
     nothing ! $ fpack ! (IsServed Count t ws.0 u) (λ _. ftrue) low $ move ! (1 ∷ 0 ∷ []) $ fjoin ! $
-    fpack ! R.Denot (λ t'. fsep (lies_at R full_share (block_ptr b o) t') (fex (IsServed Count t t' u) (λ _. ftrue))) ws.0 $
+    fpack ! R.Denot (λ t'. fsep (lies_at R full_share (block_ptr b o) t')
+    (fex (IsServed Count t t' u) (λ _. ftrue))) ws.0 $
     returns ! (look_at ! 0 refl) $ free_all ! refl $ keep ! (3 ∷ 0 ∷ []) $
     suffices ! _ (ends_at 𝓛 f.ended stayed c (y (block_ptr b o)) v u (tt, tt) (tt, tt)) $
     nothing ! $ nothing ! $ join ! $ nothing ! $ group ! 3 $ done !))))))))))

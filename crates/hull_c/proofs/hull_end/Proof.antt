@@ -1,5 +1,12 @@
 -- `hull_end` meets its contract.
-use Rattle.hull_c.proofs.Steps.{◌≡◌, ℕ, ◌++◌, [], ◌∷◌, refl, proved, full_share, id⊢, ftrue, Val, fact, tables, WpFn, ‵, raw, ◌⊛◌, some, later, prop, at_ret, ◌$◌, ◌∵◌, !, qed, done, move, keep, drop, use1, split, join, pick, await, regoal, suffices, group, and_then, no_more, calls_at, framed, triple_of, lasts, Lasts, lands_as, u32, w32, uint_Lawful, fjoin, enter, of_opd, stop, first, blocks, exec, returns, alloc_all, pass_all, free_all, look_at, get, through, sets, sets_last, env, yes, Ptr, RawPtr, block_ptr, lies_at, in_a_block, rawptr_vals, rawptr_Tells, plain, nothing, on_entry, Stays, walk_of, stay_dropped, Goes-dropped, ends_at}
+use Rattle.hull_c.proofs.Steps.{◌≡◌, ℕ, ◌++◌, [], ◌∷◌, refl, proved, full_share, id⊢, ftrue, Val, fact, tables, WpFn, ‵}
+use Rattle.hull_c.proofs.Steps.{raw, ◌⊛◌, some, later, prop, at_ret, ◌$◌, ◌∵◌, !, qed, done, move, keep, drop, use1}
+use Rattle.hull_c.proofs.Steps.{split, join, pick, await, regoal, suffices, group, and_then, no_more, calls_at, framed}
+use Rattle.hull_c.proofs.Steps.{triple_of, lasts, Lasts, lands_as, u32, w32, uint_Lawful, fjoin, enter, of_opd, stop}
+use Rattle.hull_c.proofs.Steps.{first, blocks, exec, returns, alloc_all, pass_all, free_all, look_at, get, through}
+use Rattle.hull_c.proofs.Steps.{sets, sets_last, env, yes, Ptr, RawPtr, block_ptr, lies_at, in_a_block, rawptr_vals}
+use Rattle.hull_c.proofs.Steps.{rawptr_Tells, plain, nothing, on_entry, Stays, walk_of, stay_dropped, Goes-dropped}
+use Rattle.hull_c.proofs.Steps.{ends_at}
 use Rattle.hull_tree.specs.contracts.tree.HullTree.{the_row as R}
 use Rattle.hull_tree.proofs.tree.HullTree.TheLaws.{the_row_laws as tree_laws}
 use borrow.Table.OneValue.{part_out}
@@ -28,7 +35,8 @@ hull_end_spec 𝓤 𝓛 𝓜 𝓡 wired =
     in_a_block ! a.0 (λ p. lies_at R full_share p t) (id⊢ 𝓤 _) (λ b o e.
     regoal ! (λ p. prop (WpFn 𝓤 𝓛.H 𝓣.C 𝓣.Λ code.function (rawptr_vals p ++ []) (W.post (y p)))) e refl $
     enter ! _ _ _ _ _ $ alloc_all ! (λ l. pass_all ! refl ((tt, tt), tt) $
-    use1 𝓛 (some (λ (v : Val). ‵ (fat full_share (lone R.mir) b o v) ⊛ ‵ (R.own_val t (v ∷ [])))) (part_out 𝓛 R refl full_share t b o) $ pick ! (λ v. split ! $ move ! (1 ∷ []) $
+    use1 𝓛 (some (λ (v : Val). ‵ (fat full_share (lone R.mir) b o v) ⊛ ‵ (R.own_val t (v ∷ []))))
+    (part_out 𝓛 R refl full_share t b o) $ pick ! (λ v. split ! $ move ! (1 ∷ []) $
     peeks ! R (Is R) (shows 𝓛 R) t (v ∷ []) (λ is. let ok = ((tree_laws.lawful 𝓛).typed t (v ∷ []) is).0 in
     sets ! (of_opd ! (get ! refl)) refl (tt, tt) $
     sets ! (of_opd ! (get ! refl)) refl (tt, tt) $
@@ -39,8 +47,10 @@ hull_end_spec 𝓤 𝓛 𝓜 𝓡 wired =
     -- [what the tree owns; the cell]
     let G = triple_of 𝓛 g.signature (g.spec 𝓛 𝓜.mem 𝓡.returns) in
     let z : G.Ghost = ((tt, tt, tt, (t, tt), (v ∷ [], tt)), tt) in
-    nothing ! $ move ! (1 ∷ 0 ∷ []) $ fjoin ! $ nothing ! $ join ! $ nothing ! $ move ! (1 ∷ 0 ∷ []) $ join ! $ use1 𝓛 (raw (G.pre z)) (id⊢ 𝓤 _) $
-    calls_at ! (framed 𝓤 𝓛.H 𝓜 (tables 𝓤 𝓛.H 𝓜 𝓡 𝓡.env)) G (met 𝓤 𝓛 𝓜 𝓡 (code.calls-hull_c::calls::finish 𝓡.env wired)) z
+    nothing ! $ move ! (1 ∷ 0 ∷ []) $ fjoin ! $ nothing ! $ join ! $ nothing ! $ move ! (1 ∷ 0 ∷ []) $ join ! $ use1 𝓛
+    (raw (G.pre z)) (id⊢ 𝓤 _) $
+    calls_at ! (framed 𝓤 𝓛.H 𝓜 (tables 𝓤 𝓛.H 𝓜 𝓡 𝓡.env)) G
+    (met 𝓤 𝓛 𝓜 𝓡 (code.calls-hull_c::calls::finish 𝓡.env wired)) z
     (and_then ! (get ! refl) (no_more !)) (λ r.
     use1 𝓛 (later (some (λ (u : ℕ). (‵ ftrue ⊛ ‵ (u32.own_val u (r ∷ []))) ⊛
     some (λ (ws : Lasts g.ended z.0.0 z.0.3). ‵ (lasts g.ended z.0.0 z.0.3 ws) ⊛ raw (fact 𝓤 (u ≡ 0)))))) (id⊢ 𝓤 _) $

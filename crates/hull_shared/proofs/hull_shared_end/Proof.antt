@@ -1,5 +1,16 @@
--- `hull_shared_end` meets its contract: what lies at the pointer is lent for one call, and comes back with what that call left.
-use Rattle.hull_shared.proofs.Steps.{ℕ, ◌++◌, List, [], ◌∷◌, refl, w32, w64, proved, full_share, id⊢, ftrue, flft, flent, named, vptr, fact, tables, WpFn, ‵, raw, ◌⊛◌, some, later, prop, at_ret, ◌$◌, ◌∵◌, !, qed, done, move, keep, drop, use1, use3, split, join, fsplit, fjoin, fpack, pick, await, regoal, suffices, group, enter, of_opd, addr, stop, no_more, and_then, first, blocks, exec, returns, alloc_all, pass_all, free_all, look_at, get, through, sets, sets_last, lands_as, env, lft_new, lft_end, u32, u64, i64, yes, Is, shows, mem, lends_ref, ref_back, uint_Makes, uint_vals, uint_Tells, uint_Lawful, sint_Makes, sint_vals, sint_Tells, sint_Lawful, Ptr, RawPtr, block_ptr, lies_at, in_a_block, rawptr_vals, rawptr_Tells, MutRef, Body, plain, nothing, owned, heard, peeks, calls_at, Lasts, lasts, on_entry, triple_of, Stays, walk_of, stay_dropped, Goes-dropped, ends_at, framed}
+-- `hull_shared_end` meets its contract: what lies at the pointer is lent for one call, and comes back with what that
+-- call left.
+use Rattle.hull_shared.proofs.Steps.{ℕ, ◌++◌, List, [], ◌∷◌, refl, w32, w64, proved, full_share, id⊢, ftrue, flft}
+use Rattle.hull_shared.proofs.Steps.{flent, named, vptr, fact, tables, WpFn, ‵, raw, ◌⊛◌, some, later, prop, at_ret}
+use Rattle.hull_shared.proofs.Steps.{◌$◌, ◌∵◌, !, qed, done, move, keep, drop, use1, use3, split, join, fsplit, fjoin}
+use Rattle.hull_shared.proofs.Steps.{fpack, pick, await, regoal, suffices, group, enter, of_opd, addr, stop, no_more}
+use Rattle.hull_shared.proofs.Steps.{and_then, first, blocks, exec, returns, alloc_all, pass_all, free_all, look_at}
+use Rattle.hull_shared.proofs.Steps.{get, through, sets, sets_last, lands_as, env, lft_new, lft_end, u32, u64, i64, yes}
+use Rattle.hull_shared.proofs.Steps.{Is, shows, mem, lends_ref, ref_back, uint_Makes, uint_vals, uint_Tells}
+use Rattle.hull_shared.proofs.Steps.{uint_Lawful, sint_Makes, sint_vals, sint_Tells, sint_Lawful, Ptr, RawPtr}
+use Rattle.hull_shared.proofs.Steps.{block_ptr, lies_at, in_a_block, rawptr_vals, rawptr_Tells, MutRef, Body, plain}
+use Rattle.hull_shared.proofs.Steps.{nothing, owned, heard, peeks, calls_at, Lasts, lasts, on_entry, triple_of, Stays}
+use Rattle.hull_shared.proofs.Steps.{walk_of, stay_dropped, Goes-dropped, ends_at, framed}
 use Rattle.hull_shared.specs.contracts.desk.Desk.{the_row as R}
 use base.Fml.{fex, fsep}
 use Rattle.hull_shared.specs.Desks.{HasEnded}
@@ -29,17 +40,31 @@ hull_shared_end_spec 𝓤 𝓛 𝓜 𝓡 wired =
     exec ! 𝓣.C 𝓣.Λ (env code.Mir.locals l) code.Mir.t-4 (at_ret _ (W.post (y (block_ptr b o)))) $
     sets ! (of_opd ! (get ! refl)) refl (tt, tt) $
     lft_new ! tt (λ α. let κ : List ℕ = α ∷ [] in move ! (1 ∷ []) $
-    use1 𝓛 (later (some (λ (γ : ℕ). ‵ ((MutRef (named 0) κ R).own_val (record { ref_ptr = (b, o); ghost_name = γ; now = t }) (vptr b o ∷ [])) ⊛ ‵ (flent κ (Body (mem R) b o γ)))))
+    use1 𝓛 (later (some (λ (γ : ℕ). ‵
+    ((MutRef (named 0) κ R).own_val (record { ref_ptr = (b, o); ghost_name = γ; now = t }) (vptr b o ∷ [])) ⊛ ‵
+    (flent κ (Body (mem R) b o γ)))))
     (lends_ref 𝓛 R (named 0) κ t b o) $ await ! tt $ pick ! (λ γ. split ! $
     -- [the loan; what the lender keeps; the token]
     let G = triple_of 𝓛 g.signature (g.spec 𝓛 𝓜.mem 𝓡.returns) in
-    let z : G.Ghost = (((κ, tt), (full_share, tt), tt, (record { ref_ptr = (b, o); ghost_name = γ; now = t }, tt), (vptr b o ∷ [], tt)), tt) in
+    let z : G.Ghost = (
+      (
+        (κ, tt),
+        (full_share, tt),
+        tt,
+        (record { ref_ptr = (b, o); ghost_name = γ; now = t }, tt),
+        (vptr b o ∷ [], tt),
+      ),
+      tt,
+    ) in
     nothing ! $ move ! (1 ∷ 0 ∷ []) $ fjoin ! $
-    nothing ! $ move ! (3 ∷ 0 ∷ []) $ join ! $ join ! $ nothing ! $ move ! (1 ∷ 0 ∷ []) $ join ! $ use1 𝓛 (raw (G.pre z)) (id⊢ 𝓤 _) $
-    calls_at ! (framed 𝓤 𝓛.H 𝓜 (tables 𝓤 𝓛.H 𝓜 𝓡 𝓡.env)) G (met 𝓤 𝓛 𝓜 𝓡 (code.calls-hull_shared::closing::end 𝓡.env wired)) z
+    nothing ! $ move ! (3 ∷ 0 ∷ []) $ join ! $ join ! $ nothing ! $ move ! (1 ∷ 0 ∷ []) $ join ! $ use1 𝓛
+    (raw (G.pre z)) (id⊢ 𝓤 _) $
+    calls_at ! (framed 𝓤 𝓛.H 𝓜 (tables 𝓤 𝓛.H 𝓜 𝓡 𝓡.env)) G
+    (met 𝓤 𝓛 𝓜 𝓡 (code.calls-hull_shared::closing::end 𝓡.env wired)) z
     (and_then ! (get ! refl) (no_more !)) (λ v.
     use1 𝓛 (later (some (λ (u : ℕ). ((‵ (flft κ full_share) ⊛ ‵ ftrue) ⊛ ‵ (u32.own_val u (v ∷ []))) ⊛
-    some (λ (ws : Lasts g.ended z.0.0 z.0.3). ‵ (lasts g.ended z.0.0 z.0.3 ws) ⊛ raw (fact 𝓤 (HasEnded t ws.0 u)))))) (id⊢ 𝓤 _) $
+    some (λ (ws : Lasts g.ended z.0.0 z.0.3). ‵ (lasts g.ended z.0.0 z.0.3 ws) ⊛ raw
+    (fact 𝓤 (HasEnded t ws.0 u)))))) (id⊢ 𝓤 _) $
     await ! tt $ pick ! (λ u. split ! $ split ! $ split ! $ lft_end ! tt $ move ! (2 ∷ []) $
     peeks ! u32 (Is u32) (shows 𝓛 u32) u (v ∷ []) (λ is. lands_as ! refl refl ((uint_Lawful 𝓛 w32).typed u _ is).0 $
     move ! (3 ∷ []) $ pick ! (λ ws. split ! $ move ! (1 ∷ []) $ heard ! _ (λ low. fsplit ! $ fsplit ! $

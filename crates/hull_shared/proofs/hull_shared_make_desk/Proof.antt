@@ -1,5 +1,12 @@
 -- `hull_shared_make_desk` meets its contract: what the plain function makes is written to the room.
-use Rattle.hull_shared.proofs.Steps.{◌≡◌, ◌++◌, [], ◌∷◌, refl, proved, full_share, id⊢, ftrue, fact, tables, WpFn, ‵, raw, ◌⊛◌, some, later, prop, at_ret, ◌$◌, ◌∵◌, !, qed, done, move, keep, drop, use1, split, join, fjoin, pick, await, regoal, suffices, group, heard, fpack, and_then, no_more, calls_at, framed, triple_of, lasts, Lasts, lands_as, enter, of_opd, stop, first, blocks, exec, returns, alloc_all, pass_all, free_all, look_at, get, through, sets, env, yes, Ptr, RawPtr, block_ptr, lies_at, in_a_block, rawptr_vals, rawptr_Tells, plain, nothing, on_entry, Stays, walk_of, stay_dropped, Goes-dropped, ends_at}
+use Rattle.hull_shared.proofs.Steps.{◌≡◌, ◌++◌, [], ◌∷◌, refl, proved, full_share, id⊢, ftrue, fact, tables, WpFn, ‵}
+use Rattle.hull_shared.proofs.Steps.{raw, ◌⊛◌, some, later, prop, at_ret, ◌$◌, ◌∵◌, !, qed, done, move, keep, drop}
+use Rattle.hull_shared.proofs.Steps.{use1, split, join, fjoin, pick, await, regoal, suffices, group, heard, fpack}
+use Rattle.hull_shared.proofs.Steps.{and_then, no_more, calls_at, framed, triple_of, lasts, Lasts, lands_as, enter}
+use Rattle.hull_shared.proofs.Steps.{of_opd, stop, first, blocks, exec, returns, alloc_all, pass_all, free_all, look_at}
+use Rattle.hull_shared.proofs.Steps.{get, through, sets, env, yes, Ptr, RawPtr, block_ptr, lies_at, in_a_block}
+use Rattle.hull_shared.proofs.Steps.{rawptr_vals, rawptr_Tells, plain, nothing, on_entry, Stays, walk_of, stay_dropped}
+use Rattle.hull_shared.proofs.Steps.{Goes-dropped, ends_at}
 use Rattle.hull_shared.specs.contracts.desk.Desk.{the_row as R}
 use Rattle.hull_shared.proofs.desk.Desk.TheLaws.{the_row_laws}
 use Rattle.hull_shared.specs.declared.desk.Desk.TheVariants.{Fresh}
@@ -35,12 +42,15 @@ hull_shared_make_desk_spec 𝓤 𝓛 𝓜 𝓡 wired =
     let G = triple_of 𝓛 g.signature (g.spec 𝓛 𝓜.mem 𝓡.returns) in
     let z : G.Ghost = ((tt, tt, tt, tt, tt), tt) in
     nothing ! $ nothing ! $ join ! $ nothing ! $ move ! (1 ∷ 0 ∷ []) $ join ! $ use1 𝓛 (raw (G.pre z)) (id⊢ 𝓤 _) $
-    calls_at ! (framed 𝓤 𝓛.H 𝓜 (tables 𝓤 𝓛.H 𝓜 𝓡 𝓡.env)) G (met 𝓤 𝓛 𝓜 𝓡 (code.calls-hull_shared::fresh_desk 𝓡.env wired)) z
+    calls_at ! (framed 𝓤 𝓛.H 𝓜 (tables 𝓤 𝓛.H 𝓜 𝓡 𝓡.env)) G
+    (met 𝓤 𝓛 𝓜 𝓡 (code.calls-hull_shared::fresh_desk 𝓡.env wired)) z
     (no_more !) (λ v.
     use1 𝓛 (later (some (λ (u : R.Denot). (‵ ftrue ⊛ ‵ (R.own_val u (v ∷ []))) ⊛
-    some (λ (ws : Lasts g.ended z.0.0 z.0.3). ‵ (lasts g.ended z.0.0 z.0.3 ws) ⊛ raw (fact 𝓤 (u ≡ Fresh)))))) (id⊢ 𝓤 _) $
+    some (λ (ws : Lasts g.ended z.0.0 z.0.3). ‵ (lasts g.ended z.0.0 z.0.3 ws) ⊛ raw
+    (fact 𝓤 (u ≡ Fresh)))))) (id⊢ 𝓤 _) $
     await ! tt $ pick ! (λ u. split ! $ split ! $ drop ! $
-    peeks ! R (Is R) (shows 𝓛 R) u (v ∷ []) (λ is. let ok = ((the_row_laws.lawful 𝓛).typed u (v ∷ []) is).0 in lands_as ! refl refl ok $
+    peeks ! R (Is R) (shows 𝓛 R) u (v ∷ [])
+    (λ is. let ok = ((the_row_laws.lawful 𝓛).typed u (v ∷ []) is).0 in lands_as ! refl refl ok $
     move ! (1 ∷ []) $ pick ! (λ ws. split ! $ move ! (1 ∷ []) $ heard ! _ (λ low. drop ! $
     -- [what the value owns; the room]
     first ! $ blocks ! $ sets ! (of_opd ! (get ! refl)) refl ok $
@@ -50,6 +60,7 @@ hull_shared_make_desk_spec 𝓤 𝓛 𝓜 𝓡 wired =
     returns ! (look_at ! 0 refl) $ free_all ! refl $ move ! (1 ∷ 0 ∷ []) $
     use2 𝓛 (‵ (lies_at R full_share (block_ptr b o) u)) (part_in 𝓛 R refl full_share u b o v) $
     nothing ! $ fpack ! (u ≡ Fresh) (λ _. ftrue) low $ move ! (1 ∷ 0 ∷ []) $ fjoin ! $
-    fpack ! R.Denot (λ t'. fsep (lies_at R full_share (block_ptr b o) t') (fex (t' ≡ Fresh) (λ _. ftrue))) u $ keep ! (0 ∷ []) $
+    fpack ! R.Denot (λ t'. fsep (lies_at R full_share (block_ptr b o) t')
+    (fex (t' ≡ Fresh) (λ _. ftrue))) u $ keep ! (0 ∷ []) $
     suffices ! _ (ends_at 𝓛 f.ended stayed c (y (block_ptr b o)) vunit tt (tt, tt) (tt, tt)) $
     feq_i ! _ (vunit ∷ []) _ refl $ nothing ! $ nothing ! $ join ! $ nothing ! $ group ! 3 $ done !))))))))

@@ -4,7 +4,9 @@ use Rattle.bridge_search.specs.Search.{IsReached}
 use Rattle.bridge_search.proofs.search.upper_bridge_counted.Given as goal
 
 abbrev pub invariant-loop : goal.invariant-loop
-invariant-loop g l = IsReached (g.H.Half.tree l.fn.u) (g.H.Half.tree l.fn.w) (g.H.Half.tree l.search.left) (g.H.Half.tree l.search.right) l.search.parting l.search.turns
+invariant-loop g l =
+    IsReached (g.H.Half.tree l.fn.u) (g.H.Half.tree l.fn.w) (g.H.Half.tree l.search.left)
+    (g.H.Half.tree l.search.right) l.search.parting l.search.turns
 
 abbrev pub decreases-loop : goal.decreases-loop
 decreases-loop g l = size_of (g.H.Half.tree l.search.left) + size_of (g.H.Half.tree l.search.right)

@@ -8,4 +8,6 @@ upper_bridge-first-requires g c =
 pub returns : goal.returns
 returns g c =
     rw (c.turned.ensures, c.turned-2.ensures)
-    (lower_from_turned (g.H.Half.tree c.args.u) (g.H.Half.tree c.args.w) c.upper_bridge-first.result.0 c.upper_bridge-first.result.1 (rw (c.new.ensures, c.new-2.ensures) at c.upper_bridge-first.ensures))
+    (lower_from_turned (g.H.Half.tree c.args.u)
+    (g.H.Half.tree c.args.w) c.upper_bridge-first.result.0 c.upper_bridge-first.result.1
+    (rw (c.new.ensures, c.new-2.ensures) at c.upper_bridge-first.ensures))

@@ -12,7 +12,8 @@ loop-ledger-init g c = record {
 
 pub loop-ledger-preserved : goal.loop-ledger-preserved
 loop-ledger-preserved g c = record {
-  sum_is = gather_step _ _ _ c.in-Some.ledger _ _ c.in-Some.ensures.items c.loop-ledger.invariant.sum_is (c.from-sum.ensures ∙ ap (λ (l : LedgerValue). l.count) c.ledger.view_is);
+  sum_is = gather_step _ _ _ c.in-Some.ledger _ _ c.in-Some.ensures.items c.loop-ledger.invariant.sum_is
+      (c.from-sum.ensures ∙ ap (λ (l : LedgerValue). l.count) c.ledger.view_is);
   whole = c.loop-ledger.invariant.whole;
 }
 

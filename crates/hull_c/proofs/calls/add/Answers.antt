@@ -14,5 +14,13 @@ returns-in-Ok c =
     inl (
       search rules,
       subst (λ (p : Pair). IsServed (Add p) c.args.hull.now c.add.new.self c.told.result) same
-          (record { reply = reply_to_add c.add.result; tells = subst (λ (r : Reply). Tells c.told.result r) given c.told.ensures; allowed = c.add.ensures.reply; effect = c.add.ensures.effect; same_limit = c.add.ensures.same_limit }),
+          (record {
+            reply = reply_to_add c.add.result;
+            tells =
+                subst (λ (r : Reply). Tells c.told.result r) given c.told.ensures;
+            allowed = c.add.ensures.reply;
+            effect =
+                c.add.ensures.effect;
+            same_limit = c.add.ensures.same_limit;
+          }),
     )

@@ -8,4 +8,9 @@ use Rattle.hull_c.proofs.calls.extreme.Goals as goal
 pub returns-in-Ok : goal.returns-in-Ok
 returns-in-Ok c =
     let same : c.in-Ok.d ≡ record { x = c.args.x; y = c.args.y } = search rules in
-    inl (search rules, search rules, subst (λ (d : Pair). IsServed (Extreme d) c.args.hull.now c.farthest.new.hull c.farthest.result) same c.farthest.ensures)
+    inl (
+      search rules,
+      search rules,
+      subst (λ (d : Pair). IsServed
+          (Extreme d) c.args.hull.now c.farthest.new.hull c.farthest.result) same c.farthest.ensures,
+    )

@@ -12,5 +12,12 @@ returns-in-Ok c =
     inl (
       search rules,
       subst (λ (q : Pair). IsServed (Place q) c.args.hull.now c.args.hull.now c.told.result) same
-          (record { reply = Lies c.place.result; tells = c.told.ensures; allowed = c.place.ensures; effect = refl; same_limit = refl }),
+          (record {
+            reply = Lies c.place.result;
+            tells = c.told.ensures;
+            allowed = c.place.ensures;
+            effect =
+                refl;
+            same_limit = refl;
+          }),
     )

@@ -10,4 +10,8 @@ pub loop-level-init : goal.loop-level-init
 loop-level-init c = c.new-bridges.ensures.items ∙ sym (levels_none _)
 
 pub loop-level-preserved : goal.loop-level-preserved
-loop-level-preserved c = c.in_ok-put_level.ensures ∙ ap (λ (bs : List Bridge). bs ++ level_of c.loop-level.level 0 (tree_of c.in-Some.root.now)) c.loop-level.invariant ∙ sym (levels_more _ _)
+loop-level-preserved c =
+    c.in_ok-put_level.ensures
+    ∙ ap (λ (bs : List Bridge). bs
+    ++ level_of c.loop-level.level 0 (tree_of c.in-Some.root.now)) c.loop-level.invariant
+    ∙ sym (levels_more _ _)

@@ -5,8 +5,10 @@ use Rattle.hull_draw.proofs.frame.frame_of.Goals as goal
 
 pub loop-mark-preserved : goal.loop-mark-preserved
 loop-mark-preserved c = (
-  holds_more c.args.marks.now c.loop-mark.mark-index c.mark-item.result _ _ (omega arith) c.mark-item.is c.widened-frame.ensures c.loop-mark.invariant.0,
-  of_marks_more c.args.marks.now c.loop-mark.mark-index c.mark-item.result _ _ (omega arith) c.mark-item.is c.widened-frame.ensures c.loop-mark.invariant.1,
+  holds_more c.args.marks.now c.loop-mark.mark-index c.mark-item.result _ _
+      (omega arith) c.mark-item.is c.widened-frame.ensures c.loop-mark.invariant.0,
+  of_marks_more c.args.marks.now c.loop-mark.mark-index c.mark-item.result _ _
+      (omega arith) c.mark-item.is c.widened-frame.ensures c.loop-mark.invariant.1,
 )
 
 pub returns : goal.returns

@@ -6,6 +6,12 @@ use Rattle.hull_draw.proofs.legend.count_after.Goals as goal
 
 pub returns-clause-wrote : goal.returns-clause-wrote
 returns-clause-wrote g c = λ start count text h.
-    (subst (λ (w : List ℕ). WritesText start (g.W.Write.contents c.put_after.new.out) count (g.W.Sink.failed c.put_after.new.out) c.put_after.result w)
+    (subst (λ (w : List ℕ). WritesText start (g.W.Write.contents c.put_after.new.out) count
+    (g.W.Sink.failed c.put_after.new.out) c.put_after.result w)
     (six_pieces text _ _ _ _ _ _)
-    (c.put_after.ensures.wrote start count _ (c.thinned_after-done.ensures.wrote start count _ (c.put_after-done.ensures.wrote start count _ (c.told_after-done-2.ensures.wrote start count _ (c.told_after-done.ensures.wrote start count _ (c.line_start_after-done.ensures.wrote start count _ h)))))))
+    (c.put_after.ensures.wrote start count _
+    (c.thinned_after-done.ensures.wrote start count _
+    (c.put_after-done.ensures.wrote start count _
+    (c.told_after-done-2.ensures.wrote start count _
+    (c.told_after-done.ensures.wrote start count _
+    (c.line_start_after-done.ensures.wrote start count _ h)))))))

@@ -9,4 +9,5 @@ loop-point-preserved g c = chained_more _ _ _ _ _ _ _ _ _ _ _ _ _ c.loop-point.i
     c.corner_after-done.ensures.kept c.corner_after-done.ensures.was
 
 pub returns-clause-wrote : goal.returns-clause-wrote
-returns-clause-wrote g c = chained_end _ _ _ _ _ _ _ _ c.loop-point.invariant (texts_none _ _ c.in_default.ensures.cases)
+returns-clause-wrote g c =
+    chained_end _ _ _ _ _ _ _ _ c.loop-point.invariant (texts_none _ _ c.in_default.ensures.cases)

@@ -17,7 +17,9 @@ loop-mark-preserved-then-skip-eq0 g c =
 
 pub loop-mark-preserved : goal.loop-mark-preserved
 loop-mark-preserved g c = chained_same _ _ _ _ _ _ _ _ _ c.loop-mark.invariant
-    (ap (λ (ms : List Mark). texts (mark_dot_text c.args.frame.now) ms) (every_passed c.args.step _ c.in-Some.mark.now c.in-Some.after.now _ c.if-skip-eq0.false c.in-Some.ensures.cases.0))
+    (ap (λ (ms : List Mark). texts (mark_dot_text c.args.frame.now) ms)
+    (every_passed c.args.step _ c.in-Some.mark.now c.in-Some.after.now _ c.if-skip-eq0.false c.in-Some.ensures.cases.0))
 
 pub returns-clause-wrote : goal.returns-clause-wrote
-returns-clause-wrote g c = chained_end _ _ _ _ _ _ _ _ c.loop-mark.invariant (drawn_none _ _ _ _ c.in_default.ensures.cases)
+returns-clause-wrote g c =
+    chained_end _ _ _ _ _ _ _ _ c.loop-mark.invariant (drawn_none _ _ _ _ c.in_default.ensures.cases)

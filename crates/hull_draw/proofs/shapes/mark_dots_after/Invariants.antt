@@ -8,7 +8,8 @@ use Rattle.hull_draw.proofs.shapes.mark_dots_after.Given as goal
 abbrev pub invariant-loop-mark : goal.invariant-loop-mark
 invariant-loop-mark g l =
     Chained l.fn.done l.done (g.W.Write.contents l.fn.out) (g.W.Write.contents l.out) (g.W.Sink.failed l.fn.out)
-    (g.W.Sink.failed l.out) (texts (mark_dot_text l.frame) (every l.step 0 l.marks)) (texts (mark_dot_text l.frame) (every l.step l.skip l.rest))
+    (g.W.Sink.failed l.out) (texts (mark_dot_text l.frame) (every l.step 0 l.marks))
+    (texts (mark_dot_text l.frame) (every l.step l.skip l.rest))
 
 abbrev pub decreases-loop-mark : goal.decreases-loop-mark
 decreases-loop-mark g l = length l.rest

@@ -21,7 +21,14 @@ returns-else-present-2 c = rw c.if-present-2.false (last_outside _ _ _ c.if-ahea
 pub returns : goal.returns
 returns c =
     let q : Pair = c.args.q in
-    let low : to_z w128 (of_z w128 c.orient.result) ≡ orient q c.look_round-corners.result.low_behind c.look_round-corners.result.low_ahead = cast_side _ (c.orient.ensures.size) ∙ c.orient.ensures.value in
-    let high : to_z w128 (of_z w128 c.orient-2.result) ≡ orient q c.look_round-corners.result.high_ahead c.look_round-corners.result.high_behind = cast_side _ (c.orient-2.ensures.size) ∙ c.orient-2.ensures.value in
+    let low : to_z w128 (of_z w128 c.orient.result)
+    ≡ orient q c.look_round-corners.result.low_behind c.look_round-corners.result.low_ahead =
+    cast_side _ (c.orient.ensures.size) ∙ c.orient.ensures.value in
+    let high : to_z w128 (of_z w128 c.orient-2.result)
+    ≡ orient q c.look_round-corners.result.high_ahead c.look_round-corners.result.high_behind =
+    cast_side _ (c.orient-2.ensures.size) ∙ c.orient-2.ensures.value in
     place_right c.look_round-corners.ensures c.args.present c.place_by.result
-    (subst (λ (z : ℤ). IsPlaceBy c.args.present (orient q c.look_round-corners.result.low_behind c.look_round-corners.result.low_ahead) z c.place_by.result) high (subst (λ (z : ℤ). IsPlaceBy c.args.present z (to_z w128 (of_z w128 c.orient-2.result)) c.place_by.result) low c.place_by.ensures))
+    (subst (λ (z : ℤ). IsPlaceBy c.args.present
+    (orient q c.look_round-corners.result.low_behind c.look_round-corners.result.low_ahead) z c.place_by.result) high
+    (subst (λ (z : ℤ). IsPlaceBy c.args.present z
+    (to_z w128 (of_z w128 c.orient-2.result)) c.place_by.result) low c.place_by.ensures))

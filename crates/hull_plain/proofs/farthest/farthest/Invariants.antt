@@ -4,4 +4,9 @@ use Rattle.hull_plain.specs.Farthest.{IsBestOf}
 use Rattle.hull_plain.proofs.farthest.farthest.Given as goal
 
 abbrev pub invariant-loop-i : goal.invariant-loop-i
-invariant-loop-i l = record { within : l.best < length l.points; best_so_far : (e : Pair) → IsBestOf (take l.i l.points) l.d (get_or l.points l.best e) }
+invariant-loop-i l =
+    record {
+      within : l.best < length l.points;
+      best_so_far : (e : Pair)
+          → IsBestOf (take l.i l.points) l.d (get_or l.points l.best e);
+    }

@@ -6,13 +6,15 @@ use Rattle.hull_plain.proofs.ChainPasses.{chain_before, one_more_back, one_more_
 use Rattle.hull_plain.proofs.monotone.chain_of.Goals as goal
 
 pub extend-requires-clause-set : goal.extend-requires-clause-set
-extend-requires-clause-set c = chain_before c.args.points.now c.loop-i.chain.items c.loop-i.i c.index-points-i.result c.requires.set c.loop-i-test.true c.index-points-i.is c.loop-i.invariant.among c.loop-i.invariant.set
+extend-requires-clause-set c =
+    chain_before c.args.points.now c.loop-i.chain.items c.loop-i.i c.index-points-i.result c.requires.set c.loop-i-test.true c.index-points-i.is c.loop-i.invariant.among c.loop-i.invariant.set
 
 pub loop-i-preserved : goal.loop-i-preserved
 loop-i-preserved c = record {
   set = c.extend.ensures.set;
   among = λ t m. one_more_back c.args.points.now c.loop-i.chain.items c.loop-i.i c.index-points-i.result c.loop-i-test.true c.index-points-i.is c.loop-i.invariant.among t (c.extend.ensures.among t m);
-  inner = λ u m. c.extend.ensures.inner u (one_more_inner c.args.side c.args.points.now c.loop-i.chain.items c.loop-i.i c.index-points-i.result c.loop-i-test.true c.index-points-i.is c.loop-i.invariant.inner u m);
+  inner = λ u m. c.extend.ensures.inner u
+      (one_more_inner c.args.side c.args.points.now c.loop-i.chain.items c.loop-i.i c.index-points-i.result c.loop-i-test.true c.index-points-i.is c.loop-i.invariant.inner u m);
   short = omega (arith, c.loop-i.invariant.short, c.extend.ensures.short);
   capacity = c.extend.ensures.capacity ∙ c.loop-i.invariant.capacity;
 }

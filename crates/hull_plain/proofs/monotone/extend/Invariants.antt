@@ -9,7 +9,8 @@ abbrev pub invariant-loop-side : goal.invariant-loop-side
 invariant-loop-side l = record {
   set : IsPointSet (l.chain.items ++ l.c ∷ []);
   among : (t : Pair) → Contains l.chain.items t → Contains l.initial.chain.items t;
-  inner : (u : Pair) → IsInner l.side (l.initial.chain.items ++ l.c ∷ []) u → IsInner l.side (l.chain.items ++ l.c ∷ []) u;
+  inner : (u : Pair) → IsInner l.side (l.initial.chain.items ++ l.c ∷ []) u
+      → IsInner l.side (l.chain.items ++ l.c ∷ []) u;
   short : length l.chain.items ≤ length l.initial.chain.items;
   capacity : l.chain.cap ≡ l.initial.chain.cap;
 }

@@ -6,5 +6,6 @@ use Rattle.hull_plain.proofs.outline.put_in_order.Goals as goal
 
 pub returns-clause-points : goal.returns-clause-points
 returns-clause-points c =
-    let at : IsPositionOf c.args.points.now.items c.args.p (Err c.in-Err.i) = subst (λ (z : List Pair). IsPositionOf z c.args.p (Err c.in-Err.i)) c.deref.ensures.value c.in-Err.ensures in
+    let at : IsPositionOf c.args.points.now.items c.args.p (Err c.in-Err.i) =
+    subst (λ (z : List Pair). IsPositionOf z c.args.p (Err c.in-Err.i)) c.deref.ensures.value c.in-Err.ensures in
     c.in-Ok.ensures.items ∙ inserted_is _ _ _ at

@@ -10,7 +10,11 @@ use Rattle.hull_plain.proofs.seen.leftmost.Goals as goal
 use Rattle.hull_plain.proofs.seen.leftmost.Goals.{then-is_more_left, else-is_more_left}
 
 pub loop-i-init : goal.loop-i-init
-loop-i-init c = record { within = c.requires.some; best_so_far = scan_first (IsMoreLeft c.args.q) (left_irrefl c.args.q) c.args.points.now c.requires.some }
+loop-i-init c = record {
+  within = c.requires.some;
+  best_so_far =
+      scan_first (IsMoreLeft c.args.q) (left_irrefl c.args.q) c.args.points.now c.requires.some;
+}
 
 pub loop-i-preserved : goal.loop-i-preserved
 loop-i-preserved c =
@@ -18,19 +22,29 @@ loop-i-preserved c =
     elim c.if-is_more_left.branch [
       | then-is_more_left w ↦ rw w.best-is (record {
         within = c.loop-i-test.true;
-        best_so_far = scan_moves (IsMoreLeft c.args.q) (left_irrefl c.args.q) S c.index-points-best.result c.loop-i.i c.index-points-i.result c.loop-i-test.true
-            (subst (λ (z : Pair). All (λ t. ¬ (IsMoreLeft c.args.q t z)) (take c.loop-i.i S)) (sym c.index-points-best.is) (c.loop-i.invariant.best_so_far c.index-points-best.result))
+        best_so_far = scan_moves (IsMoreLeft c.args.q)
+            (left_irrefl c.args.q) S c.index-points-best.result c.loop-i.i c.index-points-i.result c.loop-i-test.true
+            (subst (λ (z : Pair). All (λ t. ¬ (IsMoreLeft c.args.q t z)) (take c.loop-i.i S))
+            (sym c.index-points-best.is) (c.loop-i.invariant.best_so_far c.index-points-best.result))
             (c.is_more_left.ensures.0 w.if-is_more_left.true) c.index-points-i.is
-            (left_moves S c.args.q c.index-points-i.result c.index-points-best.result c.loop-i.i c.requires.side (c.loop-i.i, c.loop-i-test.true, sym c.index-points-i.is) (c.loop-i.best, c.loop-i.invariant.within, sym c.index-points-best.is));
+            (left_moves S c.args.q c.index-points-i.result c.index-points-best.result c.loop-i.i c.requires.side
+            (c.loop-i.i, c.loop-i-test.true, sym c.index-points-i.is)
+            (c.loop-i.best, c.loop-i.invariant.within, sym c.index-points-best.is));
       })
       | else-is_more_left w ↦ rw w.best-is (record {
         within = c.loop-i.invariant.within;
-        best_so_far = λ e. scan_stays (IsMoreLeft c.args.q) S _ c.loop-i.i c.index-points-i.result c.loop-i-test.true (c.loop-i.invariant.best_so_far e) c.index-points-i.is
-            (λ k. false≢true (sym w.if-is_more_left.false ∙ c.is_more_left.ensures.1 (subst (IsMoreLeft c.args.q c.index-points-i.result) (get_or_free S c.loop-i.best e c.index-points-best.result c.loop-i.invariant.within ∙ sym c.index-points-best.is) k)));
+        best_so_far = λ e. scan_stays (IsMoreLeft c.args.q) S _ c.loop-i.i c.index-points-i.result c.loop-i-test.true
+            (c.loop-i.invariant.best_so_far e) c.index-points-i.is
+            (λ k. false≢true (sym w.if-is_more_left.false
+            ∙ c.is_more_left.ensures.1
+            (subst (IsMoreLeft c.args.q c.index-points-i.result)
+            (get_or_free S c.loop-i.best e c.index-points-best.result c.loop-i.invariant.within
+            ∙ sym c.index-points-best.is) k)));
       })
     ]
 
 pub returns-clause-leftmost : goal.returns-clause-leftmost
 returns-clause-leftmost c =
     let t : take c.loop-i.i c.args.points.now ≡ c.args.points.now = grind (arith, common_steps, c.loop-i-test.false) in
-    λ f. subst (λ (z : List Pair). All (λ t. ¬ (IsMoreLeft c.args.q t (get_or c.args.points.now c.loop-i.best f))) z) t (c.loop-i.invariant.best_so_far f)
+    λ f. subst (λ (z : List Pair). All (λ t. ¬ (IsMoreLeft c.args.q t (get_or c.args.points.now c.loop-i.best f))) z) t
+    (c.loop-i.invariant.best_so_far f)

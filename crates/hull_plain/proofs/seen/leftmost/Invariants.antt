@@ -5,4 +5,9 @@ use Rattle.hull_plain.specs.Seen.{IsMoreLeft}
 use Rattle.hull_plain.proofs.seen.leftmost.Given as goal
 
 abbrev pub invariant-loop-i : goal.invariant-loop-i
-invariant-loop-i l = record { within : l.best < length l.points; best_so_far : (e : Pair) → All (λ t. ¬ (IsMoreLeft l.q t (get_or l.points l.best e))) (take l.i l.points) }
+invariant-loop-i l =
+    record {
+      within : l.best < length l.points;
+      best_so_far : (e : Pair)
+          → All (λ t. ¬ (IsMoreLeft l.q t (get_or l.points l.best e))) (take l.i l.points);
+    }

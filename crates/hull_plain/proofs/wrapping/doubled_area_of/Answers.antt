@@ -6,4 +6,5 @@ pub returns-then-points-lt2 : goal.returns-then-points-lt2
 returns-then-points-lt2 c = small_area c.args.points.now c.if-points-lt2.true
 
 pub returns : goal.returns
-returns c = fans_sum c.args.points.now c.lower_fan.result c.upper_fan.result c.requires.set (omega (arith, c.if-points-lt2.false)) c.lower_fan.ensures.fan c.upper_fan.ensures.fan
+returns c = fans_sum c.args.points.now c.lower_fan.result c.upper_fan.result c.requires.set
+    (omega (arith, c.if-points-lt2.false)) c.lower_fan.ensures.fan c.upper_fan.ensures.fan

@@ -12,7 +12,8 @@ doubled_triangle-doubled-requires c =
     let j : ℕ = c.next_lower-next.result in
     let n : j < length S = omega (arith, c.next_lower-next.ensures, c.loop-i.invariant.within) in
     at_least _ _ (sym (read_side S i j c.index-points-0.result c.index-points-i.result c.index-points-next.result c.requires.some c.loop-i.invariant.within n c.index-points-0.is c.index-points-i.is c.index-points-next.is))
-    (lower_triangle S (point_at S i) (point_at S j) (point_at S 0) c.next_lower-next.ensures.edge (first_there S c.requires.some))
+    (lower_triangle S (point_at S i) (point_at S j) (point_at S 0) c.next_lower-next.ensures.edge
+    (first_there S c.requires.some))
 
 pub loop-i-preserved : goal.loop-i-preserved
 loop-i-preserved c =
@@ -21,9 +22,15 @@ loop-i-preserved c =
     let j : ℕ = c.next_lower-next.result in
     let n : j < length S = omega (arith, c.next_lower-next.ensures, c.loop-i.invariant.within) in
     let t : pos c.doubled_triangle-doubled.result ≡ orient (point_at S 0) (point_at S i) (point_at S j) =
-    c.doubled_triangle-doubled.ensures.value ∙ read_side S i j c.index-points-0.result c.index-points-i.result c.index-points-next.result c.requires.some c.loop-i.invariant.within n c.index-points-0.is c.index-points-i.is c.index-points-next.is in
+    c.doubled_triangle-doubled.ensures.value
+    ∙ read_side S i j c.index-points-0.result c.index-points-i.result c.index-points-next.result c.requires.some c.loop-i.invariant.within n c.index-points-0.is c.index-points-i.is c.index-points-next.is in
     record {
       within = n;
-      size = omega (arith, c.loop-i.invariant.size, c.doubled_triangle-doubled.ensures.size, c.next_lower-next.ensures.later);
+      size = omega (
+        arith,
+        c.loop-i.invariant.size,
+        c.doubled_triangle-doubled.ensures.size,
+        c.next_lower-next.ensures.later,
+      );
       walk = lower_fan_more S i j c.loop-i.doubled c.doubled_triangle-doubled.result c.loop-i.invariant.walk c.next_lower-next.ensures.edge t;
     }

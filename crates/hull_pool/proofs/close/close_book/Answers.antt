@@ -11,9 +11,12 @@ use Rattle.hull_pool.proofs.close.close_book.Goals as goal
 pub gather-sum-requires-clause-ledgers : goal.gather-sum-requires-clause-ledgers
 gather-sum-requires-clause-ledgers g c =
     let b : BookValue _ = c.into_inner-book.result in
-    let same : b.head ≡ (box_value (opening_book c.args.lock)).head = ap (λ (x : BookValue _). x.head) c.into_inner-book.ensures ∙ c.close.ensures.head in
-    let workers : workers_of b ≡ workers_of (box_value (opening_book c.args.lock)) = ap (λ (h : BookHead). h.workers) same in
-    closed_ledgers b c.args.seats.items c.args.ledgers.items (omega (arith, workers, c.requires.all.0, c.requires.all.1, c.args.seats.ok.0))
+    let same : b.head ≡ (box_value (opening_book c.args.lock)).head =
+    ap (λ (x : BookValue _). x.head) c.into_inner-book.ensures ∙ c.close.ensures.head in
+    let workers : workers_of b ≡ workers_of (box_value (opening_book c.args.lock)) =
+    ap (λ (h : BookHead). h.workers) same in
+    closed_ledgers b c.args.seats.items c.args.ledgers.items
+    (omega (arith, workers, c.requires.all.0, c.requires.all.1, c.args.seats.ok.0))
     (numbered_from 0 _ (λ i s e. c.requires.numbered i s e ∙ omega arith))
     (λ k d lt. rw c.into_inner-book.ensures (c.close.ensures.seen k d lt).own_lines) c.requires.ledgers
 

@@ -11,8 +11,10 @@ invariant-loop-worker g l = record {
   numbered : All (λ w. IfSome w.seat (λ s. seat_number s ≡ w.number)) l.crew.items;
   same : (length l.answers.items ≡ length l.seats.items) × (length l.ledgers.items ≡ length l.seats.items);
   all : vec_len l.seats + vec_len l.crew ≡ vec_len l.fn.crew;
-  room : (vec_len l.fn.crew ≤ vec_capacity l.seats) × (vec_len l.fn.crew ≤ vec_capacity l.answers) × (vec_len l.fn.crew ≤ vec_capacity l.ledgers);
-  team_is : team worker_of l.seats.items l.answers.items l.ledgers.items ++ reverse l.crew.items ≡ reverse l.fn.crew.items;
+  room : (vec_len l.fn.crew ≤ vec_capacity l.seats) × (vec_len l.fn.crew ≤ vec_capacity l.answers)
+      × (vec_len l.fn.crew ≤ vec_capacity l.ledgers);
+  team_is : team worker_of l.seats.items l.answers.items l.ledgers.items ++ reverse l.crew.items
+      ≡ reverse l.fn.crew.items;
 }
 
 abbrev pub decreases-loop-worker : goal.decreases-loop-worker

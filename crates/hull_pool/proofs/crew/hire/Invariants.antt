@@ -8,8 +8,10 @@ invariant-loop-seat g l = record {
   answers_left : length l.answers.items ≡ length l.seats.items;
   ledgers_left : length l.ledgers.items ≡ length l.seats.items;
   room : vec_len l.crew + vec_len l.seats ≤ vec_capacity l.crew;
-  rooms : (vec_capacity l.seats ≡ vec_capacity l.fn.seats) × (vec_capacity l.answers ≡ vec_capacity l.fn.answers) × (vec_capacity l.ledgers ≡ vec_capacity l.fn.ledgers);
-  crew_is : team worker_of l.seats.items l.answers.items l.ledgers.items ++ reverse l.crew.items ≡ team worker_of l.fn.seats.items l.fn.answers.items l.fn.ledgers.items;
+  rooms : (vec_capacity l.seats ≡ vec_capacity l.fn.seats) × (vec_capacity l.answers ≡ vec_capacity l.fn.answers)
+      × (vec_capacity l.ledgers ≡ vec_capacity l.fn.ledgers);
+  crew_is : team worker_of l.seats.items l.answers.items l.ledgers.items ++ reverse l.crew.items
+      ≡ team worker_of l.fn.seats.items l.fn.answers.items l.fn.ledgers.items;
 }
 
 abbrev pub decreases-loop-seat : goal.decreases-loop-seat

@@ -13,7 +13,8 @@ use Rattle.hull_pool.proofs.phase.run_phases.Goals as goal
 
 pub run_phase-end-requires-after_bounds : goal.run_phase-end-requires-after_bounds
 run_phase-end-requires-after_bounds g c κs within =
-    let may = subst (MayRunAll g.S.HullSet c.args.book c.args.workers) (sym c.phases-phase-items.ensures.phases) c.requires in
+    let may = subst (MayRunAll g.S.HullSet c.args.book c.args.workers)
+    (sym c.phases-phase-items.ensures.phases) c.requires in
     subst (MayRun g.S.HullSet c.loop-phase.book c.loop-phase.workers) (sym c.phase-item.is)
     (may_next c.args.book c.args.workers c.phases-phase-items.result.now c.loop-phase.phase-index c.phase-item.result c.loop-phase.book c.loop-phase.workers may c.loop-phase-test.true c.loop-phase.invariant)
 
@@ -23,18 +24,27 @@ returns-in-Err-clause-refused g c =
     let same = rw c.in-Err.is at c.run_phase-end.ensures.refused in
     let refused : PhaseValue = slice_index_or items c.loop-phase.phase-index c.phase-item.result in
     let back : List PhaseValue = drop (suc c.loop-phase.phase-index) items in
-    let behind : drop c.loop-phase.phase-index items ≡ refused ∷ back = drop-cons items c.loop-phase.phase-index c.phase-item.result c.loop-phase-test.true in
+    let behind : drop c.loop-phase.phase-index items ≡ refused ∷ back =
+    drop-cons items c.loop-phase.phase-index c.phase-item.result c.loop-phase-test.true in
     let split : c.args.script.now.phases ≡ take c.loop-phase.phase-index items ++ refused ∷ back =
-    sym c.phases-phase-items.ensures.phases ∙ sym (take-append-drop c.loop-phase.phase-index items) ∙ ap (λ (xs : List PhaseValue). take c.loop-phase.phase-index items ++ xs) behind in
-    let chain : HasRunPhases g.S.HullSet c.args.book c.args.workers (take c.loop-phase.phase-index items) c.run_phase-end.result.book c.run_phase-end.result.workers =
-    subst (λ (v : WorkersValue). HasRunPhases g.S.HullSet c.args.book c.args.workers (take c.loop-phase.phase-index items) c.run_phase-end.result.book v) (sym same.1)
-    (subst (λ (d : BookValue _). HasRunPhases g.S.HullSet c.args.book c.args.workers (take c.loop-phase.phase-index items) d c.loop-phase.workers) (sym same.0) c.loop-phase.invariant)
+    sym c.phases-phase-items.ensures.phases ∙ sym (take-append-drop c.loop-phase.phase-index items)
+    ∙ ap (λ (xs : List PhaseValue). take c.loop-phase.phase-index items ++ xs) behind in
+    let chain : HasRunPhases g.S.HullSet c.args.book c.args.workers
+    (take c.loop-phase.phase-index items) c.run_phase-end.result.book c.run_phase-end.result.workers =
+    subst (λ (v : WorkersValue). HasRunPhases g.S.HullSet c.args.book c.args.workers
+    (take c.loop-phase.phase-index items) c.run_phase-end.result.book v) (sym same.1)
+    (subst (λ (d : BookValue _). HasRunPhases g.S.HullSet c.args.book c.args.workers
+    (take c.loop-phase.phase-index items) d c.loop-phase.workers) (sym same.0) c.loop-phase.invariant)
     in (
       take c.loop-phase.phase-index items,
       refused,
       back,
       split,
-      (chain, run_all c.args.book c.args.workers _ _ _ (may_front c.args.book c.args.workers _ _ c.args.script.now.phases split c.requires) chain),
+      (
+        chain,
+        run_all c.args.book c.args.workers _ _ _
+            (may_front c.args.book c.args.workers _ _ c.args.script.now.phases split c.requires) chain,
+      ),
     )
 
 pub loop-phase-preserved : goal.loop-phase-preserved
@@ -42,11 +52,15 @@ loop-phase-preserved g c =
     let items : List PhaseValue = c.phases-phase-items.result.now in
     let ran = of_ok c.run_phase-end.result.ended _ c.in_default.not-Err c.run_phase-end.ensures.ran in
     subst (λ (xs : List PhaseValue). HasRunPhases g.S.HullSet c.args.book c.args.workers xs c.run_phase-end.result.book c.run_phase-end.result.workers) (sym (take_more items c.loop-phase.phase-index c.phase-item.result c.loop-phase-test.true))
-    (run_one_more c.args.book c.args.workers (take c.loop-phase.phase-index items) c.loop-phase.book c.loop-phase.workers (slice_index_or items c.loop-phase.phase-index c.phase-item.result) c.run_phase-end.result.book c.run_phase-end.result.workers c.loop-phase.invariant
+    (run_one_more c.args.book c.args.workers
+    (take c.loop-phase.phase-index items) c.loop-phase.book c.loop-phase.workers
+    (slice_index_or items c.loop-phase.phase-index c.phase-item.result) c.run_phase-end.result.book c.run_phase-end.result.workers c.loop-phase.invariant
     (subst (λ (p : PhaseValue). HasRunPhase g.S.HullSet c.loop-phase.book c.loop-phase.workers p c.run_phase-end.result.book c.run_phase-end.result.workers) c.phase-item.is ran))
 
 pub returns-clause-ran : goal.returns-clause-ran
 returns-clause-ran g c =
-    let whole = take_whole c.phases-phase-items.result.now c.loop-phase.phase-index c.loop-phase-test.false ∙ c.phases-phase-items.ensures.phases in
-    let chain = subst (λ (xs : List PhaseValue). HasRunPhases g.S.HullSet c.args.book c.args.workers xs c.loop-phase.book c.loop-phase.workers) whole c.loop-phase.invariant in
+    let whole = take_whole c.phases-phase-items.result.now c.loop-phase.phase-index c.loop-phase-test.false
+    ∙ c.phases-phase-items.ensures.phases in
+    let chain = subst (λ
+    (xs : List PhaseValue). HasRunPhases g.S.HullSet c.args.book c.args.workers xs c.loop-phase.book c.loop-phase.workers) whole c.loop-phase.invariant in
     (chain, run_all c.args.book c.args.workers c.args.script.now.phases _ _ c.requires chain)

@@ -4,4 +4,5 @@ use Rattle.hull_pool.specs.Scripts.{HasRunPhases}
 use Rattle.hull_pool.proofs.phase.run_phases.Given as goal
 
 abbrev pub invariant-loop-phase : goal.invariant-loop-phase
-invariant-loop-phase g l = HasRunPhases g.S.HullSet l.fn.book l.fn.workers (take l.phase-index l.phase-items) l.book l.workers
+invariant-loop-phase g l =
+    HasRunPhases g.S.HullSet l.fn.book l.fn.workers (take l.phase-index l.phase-items) l.book l.workers

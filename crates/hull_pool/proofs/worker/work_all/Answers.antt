@@ -8,10 +8,15 @@ use Rattle.hull_pool.proofs.worker.work_all.Goals as goal
 
 pub work_each-requires-clause-ready : goal.work_each-requires-clause-ready
 work_each-requires-clause-ready g c κs within =
-    rw c.as_mut_slice.ensures.value (all_unreverse (IsReady c.args.lock.now (box_value (opening_book c.args.lock.now)) c.args.phase.now) c.args.crew.now.items c.requires.ready)
+    rw c.as_mut_slice.ensures.value
+    (all_unreverse (IsReady c.args.lock.now
+    (box_value (opening_book c.args.lock.now)) c.args.phase.now) c.args.crew.now.items c.requires.ready)
 
 pub returns-clause-ran : goal.returns-clause-ran
 returns-clause-ran g c =
-    let long : length c.work_each.new.crew ≡ length c.args.crew.now.items = c.work_each.auto.crew ∙ ap length c.as_mut_slice.ensures.value in
+    let long : length c.work_each.new.crew ≡ length c.args.crew.now.items =
+    c.work_each.auto.crew ∙ ap length c.as_mut_slice.ensures.value in
     rw (written_back c.args.crew.now.len c.work_each.new.crew _ (omega (arith, long, c.args.crew.now.ok.0)))
-    (zip_reverse (HasRun c.args.lock.now (box_value (opening_book c.args.lock.now)) c.args.phase.now) c.args.crew.now.items c.work_each.new.crew long (rw c.as_mut_slice.ensures.value at c.work_each.ensures))
+    (zip_reverse (HasRun c.args.lock.now
+    (box_value (opening_book c.args.lock.now)) c.args.phase.now) c.args.crew.now.items c.work_each.new.crew long
+    (rw c.as_mut_slice.ensures.value at c.work_each.ensures))

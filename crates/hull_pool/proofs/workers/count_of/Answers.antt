@@ -16,6 +16,7 @@ loop-phase-preserved c =
     let inv = c.loop-phase.invariant in
     let split = c.in-Some.ensures.cases.0 in record {
       counted = counted_more _ _ _ _ _ _ _ split c.calls.ensures inv.counted;
-      jobs = All-tail (λ phase. c.args.worker < length phase) _ _ (subst (All (λ phase. c.args.worker < length phase)) split inv.jobs);
+      jobs = All-tail (λ phase. c.args.worker < length phase) _ _
+          (subst (All (λ phase. c.args.worker < length phase)) split inv.jobs);
       few = inv.few;
     }

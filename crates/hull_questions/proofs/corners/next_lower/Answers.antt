@@ -9,10 +9,13 @@ use Rattle.hull_questions.proofs.corners.next_lower.Goals as goal
 
 pub lower_after-requires : goal.lower_after-requires
 lower_after-requires g c =
-    let t : Tree = g.H.Half.tree c.args.half in
-    (first_is t (g.met.H.Half.bridged c.args.half) c.args.v (lower_in (points_of t) c.args.v c.requires.corner), c.requires.more)
+    let t : Tree = g.H.Half.tree c.args.half in (
+      first_is t (g.met.H.Half.bridged c.args.half) c.args.v (lower_in (points_of t) c.args.v c.requires.corner),
+      c.requires.more,
+    )
 
 pub returns : goal.returns
 returns g c =
     let t : Tree = g.H.Half.tree c.args.half in
-    subst (λ (z : Pair). IsLowerEdge (points_of t) z c.lower_after.result.1) (from_corner (points_of t) c.args.v c.lower_after.result c.requires.corner c.lower_after.ensures) c.lower_after.ensures.edge
+    subst (λ (z : Pair). IsLowerEdge (points_of t) z c.lower_after.result.1)
+    (from_corner (points_of t) c.args.v c.lower_after.result c.requires.corner c.lower_after.ensures) c.lower_after.ensures.edge

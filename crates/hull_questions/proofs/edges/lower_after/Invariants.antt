@@ -7,7 +7,8 @@ use Rattle.hull_questions.proofs.edges.lower_after.Given as goal
 abbrev pub invariant-loop-edge : goal.invariant-loop-edge
 invariant-loop-edge g l = record {
   inside : IsBeforeEnd (g.H.Half.tree l.part) l.v;
-  lifts : (e : Pair × Pair) → IsLowerEdgeAt (points_of (g.H.Half.tree l.part)) l.v e → IsLowerEdgeAt (points_of (g.H.Half.tree l.fn.half)) l.v e;
+  lifts : (e : Pair × Pair) → IsLowerEdgeAt (points_of (g.H.Half.tree l.part)) l.v e
+      → IsLowerEdgeAt (points_of (g.H.Half.tree l.fn.half)) l.v e;
 }
 
 abbrev pub decreases-loop-edge : goal.decreases-loop-edge

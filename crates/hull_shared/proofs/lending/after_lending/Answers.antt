@@ -13,7 +13,8 @@ returns-in-Ok c = rw (c.in-Open.is, c.in-Vacant.is) (
   c.lend_from-open.result.1,
   c.lend_from-open.ensures,
   refl,
-  subst (λ (r : Result IdleSeat Code). ComesTo (Idle c.in-Ok.idle) c.number-in-Ok.result r) (sym c.in-Ok.is) (refl, c.number-in-Ok.ensures),
+  subst (λ (r : Result IdleSeat Code). ComesTo (Idle c.in-Ok.idle) c.number-in-Ok.result r) (sym c.in-Ok.is)
+      (refl, c.number-in-Ok.ensures),
 )
 
 pub returns-in-Err : goal.returns-in-Err
@@ -22,5 +23,6 @@ returns-in-Err c = rw (c.in-Open.is, c.in-Vacant.is) (
   c.lend_from-open.result.1,
   c.lend_from-open.ensures,
   refl,
-  subst (λ (r : Result IdleSeat Code). ComesTo Vacant c.number-in-Err.result r) (sym c.in-Err.is) (refl, c.number-in-Err.ensures),
+  subst (λ (r : Result IdleSeat Code). ComesTo Vacant c.number-in-Err.result r) (sym c.in-Err.is)
+      (refl, c.number-in-Err.ensures),
 )

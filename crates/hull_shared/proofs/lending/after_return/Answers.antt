@@ -12,7 +12,8 @@ returns-in-None c = rw (c.in-Open.is, c.in-Idle.is) (
   c.return_to-open.result.1,
   c.return_to-open.ensures,
   refl,
-  subst (λ (r : Option IdleSeat). IsLeftWith Vacant c.number-in-None.result r) (sym c.in-None.is) (refl, c.number-in-None.ensures),
+  subst (λ (r : Option IdleSeat). IsLeftWith Vacant c.number-in-None.result r) (sym c.in-None.is)
+      (refl, c.number-in-None.ensures),
 )
 
 pub returns-in-Some : goal.returns-in-Some
@@ -21,5 +22,6 @@ returns-in-Some c = rw (c.in-Open.is, c.in-Idle.is) (
   c.return_to-open.result.1,
   c.return_to-open.ensures,
   refl,
-  subst (λ (r : Option IdleSeat). IsLeftWith (Idle c.in-Some.idle) c.number-in-Some.result r) (sym c.in-Some.is) (refl, c.number-in-Some.ensures),
+  subst (λ (r : Option IdleSeat). IsLeftWith (Idle c.in-Some.idle) c.number-in-Some.result r) (sym c.in-Some.is)
+      (refl, c.number-in-Some.ensures),
 )

@@ -17,15 +17,19 @@ use Rattle.hull_shared.proofs.lending.lend_from.Goals as goal
 pub invariant_of-idle : goal.invariant_of-idle
 invariant_of-idle c =
     let d = c.args.desk in let j = c.in-Some.j in let p = c.unwrap-seat.result in
-    let stands : slice_get d.places.list.items j ≡ Some c.index_mut.result.now = slice_get_read d.places.list.items (length d.places.list.items) j c.index_mut.result.now refl (omega (arith, d.laid_out.each, d.places.list.ok.0, c.in-Some.ensures)) c.index_mut.ensures.value in
+    let stands : slice_get d.places.list.items j ≡ Some c.index_mut.result.now =
+    slice_get_read d.places.list.items (length d.places.list.items) j c.index_mut.result.now refl
+    (omega (arith, d.laid_out.each, d.places.list.ok.0, c.in-Some.ensures)) c.index_mut.ensures.value in
     let was : HasAt d.places.list.items j p = cc in
     let is : IsAtHome (lock_of d.lock) d.seats j p = d.laid_out.at_home j p was in
-    let same : lock_of c.in-Ok.lock ≡ lock_of d.lock = ap (λ (m : ManuallyDrop HullLock). manually_drop_value m) c.in-Ok.ensures in
+    let same : lock_of c.in-Ok.lock ≡ lock_of d.lock =
+    ap (λ (m : ManuallyDrop HullLock). manually_drop_value m) c.in-Ok.ensures in
     let number : seat_number p.seat ≡ c.args.number = omega (arith, is.home, c.in-Some.ensures) in
     record {
       own = subst (λ (l : HullLock). IsSeatOf book_head l p.seat) (sym same) is.own;
       numbered = number;
-      below = subst (λ (l : HullLock). c.args.number < workers_of (book_of l)) (sym same) (omega (arith, d.laid_out.workers, c.in-Some.ensures));
+      below = subst (λ (l : HullLock). c.args.number < workers_of (book_of l)) (sym same)
+          (omega (arith, d.laid_out.workers, c.in-Some.ensures));
       counts = subst (λ (k : ℕ). IsLedgerOf k (seat_seen p.seat) p.ledger) number is.counts;
     }
 
@@ -35,7 +39,8 @@ invariant_of-desk c = let d = c.args.desk in record {
     each = d.laid_out.each;
     seats = d.laid_out.seats;
     workers = d.laid_out.workers;
-    at_home = home_without (lock_of d.lock) d.seats d.places.list.items c.in-Some.j c.take.new.self c.take.ensures.after d.laid_out.at_home;
+    at_home = home_without
+        (lock_of d.lock) d.seats d.places.list.items c.in-Some.j c.take.new.self c.take.ensures.after d.laid_out.at_home;
     no_seats = d.laid_out.no_seats;
     no_ledgers = d.laid_out.no_ledgers;
   };
@@ -44,7 +49,9 @@ invariant_of-desk c = let d = c.args.desk in record {
 pub returns : goal.returns
 returns c =
     let d = c.args.desk in let j = c.in-Some.j in let p = c.unwrap-seat.result in
-    let stands : slice_get d.places.list.items j ≡ Some c.index_mut.result.now = slice_get_read d.places.list.items (length d.places.list.items) j c.index_mut.result.now refl (omega (arith, d.laid_out.each, d.places.list.ok.0, c.in-Some.ensures)) c.index_mut.ensures.value in
+    let stands : slice_get d.places.list.items j ≡ Some c.index_mut.result.now =
+    slice_get_read d.places.list.items (length d.places.list.items) j c.index_mut.result.now refl
+    (omega (arith, d.laid_out.each, d.places.list.ok.0, c.in-Some.ensures)) c.index_mut.ensures.value in
     record {
       same = (refl, refl);
       place = p;

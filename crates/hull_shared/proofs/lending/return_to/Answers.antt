@@ -24,7 +24,8 @@ invariant_of-desk c =
         each = d.laid_out.each;
         seats = d.laid_out.seats;
         workers = d.laid_out.workers;
-        at_home = home_with (lock_of d.lock) d.seats d.places.list.items c.in-Some.j c.replace-none.new.self (record { seat = i.seat; ledger = i.ledger }) c.replace-none.ensures.after is d.laid_out.at_home;
+        at_home = home_with (lock_of d.lock) d.seats d.places.list.items c.in-Some.j c.replace-none.new.self
+            (record { seat = i.seat; ledger = i.ledger }) c.replace-none.ensures.after is d.laid_out.at_home;
         no_seats = d.laid_out.no_seats;
         no_ledgers = d.laid_out.no_ledgers;
       };
@@ -33,7 +34,9 @@ invariant_of-desk c =
 pub returns : goal.returns
 returns c =
     let d = c.args.desk in let j = c.in-Some.j in
-    let stands : slice_get d.places.list.items j ≡ Some c.index_mut.result.now = slice_get_read d.places.list.items (length d.places.list.items) j c.index_mut.result.now refl (omega (arith, d.laid_out.each, d.places.list.ok.0, c.in-Some.ensures)) c.index_mut.ensures.value in
+    let stands : slice_get d.places.list.items j ≡ Some c.index_mut.result.now =
+    slice_get_read d.places.list.items (length d.places.list.items) j c.index_mut.result.now refl
+    (omega (arith, d.laid_out.each, d.places.list.ok.0, c.in-Some.ensures)) c.index_mut.ensures.value in
     record {
       same = (refl, refl);
       j = j;

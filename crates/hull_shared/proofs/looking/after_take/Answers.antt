@@ -3,4 +3,5 @@ use Rattle.std.proofs.Common.{◌≡◌, refl}
 use Rattle.hull_shared.proofs.looking.after_take.Goals as goal
 
 pub returns-in-Ok : goal.returns-in-Ok
-returns-in-Ok c = rw (c.in-Idle.is, c.in-Ok.is) (c.with_number.result, refl, c.with_number.ensures, c.number-in-Ok.ensures)
+returns-in-Ok c = rw (c.in-Idle.is, c.in-Ok.is)
+    (c.with_number.result, refl, c.with_number.ensures, c.number-in-Ok.ensures)

@@ -8,4 +8,5 @@ use Rattle.hull_shared.proofs.opening.new_book.Goals as goal
 
 pub gather-none-requires-clause-ledgers : goal.gather-none-requires-clause-ledgers
 gather-none-requires-clause-ledgers c =
-    subst (λ (b : BookValue LimitedTree). AreAllLedgers b c.in-Ok.ledgers.items) (sym c.in-Err.ensures.value_returned) (all_in_order c.in-Ok.book c.in-Ok.ledgers.items c.in-Ok.ensures.ledgers)
+    subst (λ (b : BookValue LimitedTree). AreAllLedgers b c.in-Ok.ledgers.items) (sym c.in-Err.ensures.value_returned)
+    (all_in_order c.in-Ok.book c.in-Ok.ledgers.items c.in-Ok.ensures.ledgers)

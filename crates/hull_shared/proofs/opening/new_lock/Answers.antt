@@ -9,5 +9,6 @@ use Rattle.hull_shared.proofs.opening.new_lock.Goals as goal
 
 pub gather-none-requires-clause-ledgers : goal.gather-none-requires-clause-ledgers
 gather-none-requires-clause-ledgers c =
-    subst (λ (b : BookValue LimitedTree). AreAllLedgers b c.in_ok-book.ledgers.items) (sym (c.deref.ensures ∙ ap (λ (b : Boxed LimitedTree). box_value b) c.in-Err.ensures.back))
+    subst (λ (b : BookValue LimitedTree). AreAllLedgers b c.in_ok-book.ledgers.items)
+    (sym (c.deref.ensures ∙ ap (λ (b : Boxed LimitedTree). box_value b) c.in-Err.ensures.back))
     (all_in_order (box_value c.in_ok-book.book) c.in_ok-book.ledgers.items c.in_ok-book.ensures.ledgers)

@@ -1,5 +1,6 @@
 -- the seat of the last place that is left has the number behind those that are gathered
-use Rattle.std.proofs.Common.{rules, ◌≡◌, ◌<◌, ◌≤◌, ◌+◌, ◌-◌, ℕ, List, [], ◌∷◌, ◌++◌, length, All, IsSome, Some, slice_get, refl, sym, ap, subst, ◌∙◌, arith, length-append, inl, inr, vec_len}
+use Rattle.std.proofs.Common.{rules, ◌≡◌, ◌<◌, ◌≤◌, ◌+◌, ◌-◌, ℕ, List, [], ◌∷◌, ◌++◌, length, All, IsSome, Some}
+use Rattle.std.proofs.Common.{slice_get, refl, sym, ap, subst, ◌∙◌, arith, length-append, inl, inr, vec_len}
 use Rattle.std.specs.Prelude.{Option, None}
 use Rattle.std.proofs.lemmas.Option.{slice_get_within}
 use Rattle.hull_book.specs.Ledgers.{IsLedgerOf}
@@ -21,12 +22,19 @@ loop-place-preserved c =
     let p = c.unwrap-seat.result in
     let e : c.loop-place.list.items ≡ list ++ c.in-Some.place ∷ [] = c.in-Some.ensures.items in
     let more : c.push_reserved.new.self.items ≡ seats ++ p.seat ∷ [] = c.push_reserved.ensures.items in
-    let more2 : c.push_reserved-in-Some.new.self.items ≡ c.loop-place.ledgers.items ++ p.ledger ∷ [] = c.push_reserved-in-Some.ensures.items in
-    let long : length c.loop-place.list.items ≡ length list + 1 = ap length e ∙ length-append list (c.in-Some.place ∷ []) in
-    let longer : length c.push_reserved.new.self.items ≡ length seats + 1 = ap length more ∙ length-append seats (p.seat ∷ []) in
-    let longer2 : length c.push_reserved-in-Some.new.self.items ≡ length c.loop-place.ledgers.items + 1 = ap length more2 ∙ length-append c.loop-place.ledgers.items (p.ledger ∷ []) in
-    let last : slice_get c.loop-place.list.items (length list) ≡ Some c.in-Some.place = subst (λ (z : List (Option Place)). slice_get z (length list) ≡ Some c.in-Some.place) (sym e) (get_last list c.in-Some.place) in
-    let was : HasAt c.loop-place.list.items (length list) p = last ∙ ap (λ (o : Option Place). Some o) c.unwrap-seat.ensures in
+    let more2 : c.push_reserved-in-Some.new.self.items ≡ c.loop-place.ledgers.items ++ p.ledger ∷ [] =
+    c.push_reserved-in-Some.ensures.items in
+    let long : length c.loop-place.list.items ≡ length list + 1 =
+    ap length e ∙ length-append list (c.in-Some.place ∷ []) in
+    let longer : length c.push_reserved.new.self.items ≡ length seats + 1 =
+    ap length more ∙ length-append seats (p.seat ∷ []) in
+    let longer2 : length c.push_reserved-in-Some.new.self.items ≡ length c.loop-place.ledgers.items + 1 =
+    ap length more2 ∙ length-append c.loop-place.ledgers.items (p.ledger ∷ []) in
+    let last : slice_get c.loop-place.list.items (length list) ≡ Some c.in-Some.place =
+    subst (λ (z : List (Option Place)). slice_get z (length list) ≡ Some c.in-Some.place) (sym e)
+    (get_last list c.in-Some.place) in
+    let was : HasAt c.loop-place.list.items (length list) p =
+    last ∙ ap (λ (o : Option Place). Some o) c.unwrap-seat.ensures in
     let is : IsAtHome lock n (length list) p = inv.at_home (length list) p was in
     let number : seat_number p.seat ≡ length seats = omega (arith, is.home, inv.all) in
     record {
@@ -37,17 +45,25 @@ loop-place-preserved c =
       room = search rules;
       own = all_push (IsSeatOf book_head lock) seats c.push_reserved.new.self.items p.seat more inv.own is.own;
       numbers = numbered_push (λ s. seat_number s) seats c.push_reserved.new.self.items p.seat more inv.numbers number;
-      counts = zipped_push (λ s k. IsLedgerOf (seat_number s) (seat_seen s) k) seats c.push_reserved.new.self.items c.loop-place.ledgers.items c.push_reserved-in-Some.new.self.items p.seat p.ledger more more2 inv.counts is.counts;
-      left = λ j q at lt. get_before list c.in-Some.place j (Some q) (subst (λ (z : List (Option Place)). HasAt z j q) e (inv.left j q at (omega (arith, long)))) lt;
-      gathered = λ i j q at le sum. elim (same_or_more (length list) j le) as (λ _. slice_get c.push_reserved.new.self.items i ≡ Some q.seat) [
-        | inl here ↦
-            let there : HasAt c.loop-place.list.items (length list) q = subst (λ (k : ℕ). HasAt c.loop-place.list.items k q) here (inv.left j q at (omega (arith, long, here))) in
-            let same : p ≡ q = (let o : Some (Some p) ≡ Some (Some q) = sym was ∙ there in cc) in
-            let at_end : i ≡ length seats = omega (arith, sum, here, inv.all, long) in
-            subst (λ (k : ℕ). slice_get c.push_reserved.new.self.items k ≡ Some q.seat) (sym at_end)
-            (subst (λ (z : List _). slice_get z (length seats) ≡ Some q.seat) (sym more) (get_last seats p.seat ∙ ap (λ (x : Place). Some x.seat) same))
-        | inr behind ↦ subst (λ (z : List _). slice_get z i ≡ Some q.seat) (sym more) (get_front seats p.seat i q.seat (inv.gathered i j q at (omega (arith, long, behind)) sum))
-      ];
+      counts = zipped_push
+          (λ s k. IsLedgerOf (seat_number s)
+          (seat_seen s) k) seats c.push_reserved.new.self.items c.loop-place.ledgers.items c.push_reserved-in-Some.new.self.items p.seat p.ledger more more2 inv.counts is.counts;
+      left = λ j q at lt. get_before list c.in-Some.place j (Some q)
+          (subst (λ (z : List (Option Place)). HasAt z j q) e (inv.left j q at (omega (arith, long)))) lt;
+      gathered = λ i j q at le sum. elim (same_or_more (length list) j le) as
+          (λ _. slice_get c.push_reserved.new.self.items i ≡ Some q.seat) [
+            | inl here ↦
+                let there : HasAt c.loop-place.list.items (length list) q =
+                subst (λ (k : ℕ). HasAt c.loop-place.list.items k q) here
+                (inv.left j q at (omega (arith, long, here))) in
+                let same : p ≡ q = (let o : Some (Some p) ≡ Some (Some q) = sym was ∙ there in cc) in
+                let at_end : i ≡ length seats = omega (arith, sum, here, inv.all, long) in
+                subst (λ (k : ℕ). slice_get c.push_reserved.new.self.items k ≡ Some q.seat) (sym at_end)
+                (subst (λ (z : List _). slice_get z (length seats) ≡ Some q.seat) (sym more)
+                (get_last seats p.seat ∙ ap (λ (x : Place). Some x.seat) same))
+            | inr behind ↦ subst (λ (z : List _). slice_get z i ≡ Some q.seat) (sym more)
+                (get_front seats p.seat i q.seat (inv.gathered i j q at (omega (arith, long, behind)) sum))
+          ];
     }
 
 pub returns-clause-seen : goal.returns-clause-seen
@@ -55,7 +71,9 @@ returns-clause-seen c = λ j p at.
     let inv = c.loop-place.invariant in let n = seat_count c.args.lock in
     let within : j < length c.args.places.list.items = slice_get_within c.args.places.list.items j (Some p) at in
     let each : vec_len c.args.places.list ≡ n = c.requires.laid_out.each in
-    let none : length c.loop-place.list.items ≡ 0 = omega (arith, c.in_default.ensures.cases.0, c.loop-place.list.ok.0) in
+    let none : length c.loop-place.list.items ≡ 0 =
+    omega (arith, c.in_default.ensures.cases.0, c.loop-place.list.ok.0) in
     let back : (n - 1 - j) + j + 1 ≡ n = omega (arith, each, within, c.args.places.list.ok.0) in
-    at_place (λ s. IsPrefix (seat_seen s) c.close_book-book.result.0.lines) c.loop-place.seats.items (n - 1 - j) p.seat c.close_book-book.ensures.seen
+    at_place (λ s. IsPrefix (seat_seen s) c.close_book-book.result.0.lines) c.loop-place.seats.items
+    (n - 1 - j) p.seat c.close_book-book.ensures.seen
     (inv.gathered (n - 1 - j) j p at (omega (arith, none)) back)

@@ -19,7 +19,8 @@ invariant-loop-place l = record {
   numbers : AreNumbered l.seats.items;
   counts : AllZip (λ s k. IsLedgerOf (seat_number s) (seat_seen s) k) l.seats.items l.ledgers.items;
   left : (j : ℕ) (p : Place) → HasAt l.fn.places.list.items j p → j < length l.list.items → HasAt l.list.items j p;
-  gathered : (i j : ℕ) (p : Place) → HasAt l.fn.places.list.items j p → length l.list.items ≤ j → i + j + 1 ≡ seat_count l.lock → slice_get l.seats.items i ≡ Some p.seat;
+  gathered : (i j : ℕ) (p : Place) → HasAt l.fn.places.list.items j p → length l.list.items ≤ j
+      → i + j + 1 ≡ seat_count l.lock → slice_get l.seats.items i ≡ Some p.seat;
 }
 
 abbrev pub decreases-loop-place : goal.decreases-loop-place

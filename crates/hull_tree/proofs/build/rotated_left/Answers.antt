@@ -22,7 +22,8 @@ joined-first-requires-2-clause-parted c = record {
   row = row_with_left _ _ _ _ c.taken_apart-middle_left.ensures.parted.row c.taken_apart-middle_left.ensures.points
       (row_with_left _ _ _ _ c.taken_apart-inner.ensures.parted.row c.taken_apart-inner.ensures.points c.requires.parted.row);
   ends_left = c.requires.parted.ends_left;
-  starts_right = c.requires.parted.starts_right ∙ c.taken_apart-inner.ensures.first ∙ c.taken_apart-middle_left.ensures.first;
+  starts_right = c.requires.parted.starts_right ∙ c.taken_apart-inner.ensures.first
+      ∙ c.taken_apart-middle_left.ensures.first;
 }
 
 pub joined-second-requires-clause-parted : goal.joined-second-requires-clause-parted
@@ -35,7 +36,12 @@ joined-second-requires-clause-parted c = record {
 pub joined-whole-requires-2-clause-parted : goal.joined-whole-requires-2-clause-parted
 joined-whole-requires-2-clause-parted c = record {
   row = regrouped _ _ _ _ c.requires.parted.row c.joined-first-2.ensures.built c.joined-second.ensures.built
-      (rw (c.taken_apart-inner.ensures.points, c.taken_apart-middle_left.ensures.points, c.joined-first-2.ensures.points, c.joined-second.ensures.points) (simp append_assoc));
+      (rw (
+        c.taken_apart-inner.ensures.points,
+        c.taken_apart-middle_left.ensures.points,
+        c.joined-first-2.ensures.points,
+        c.joined-second.ensures.points,
+      ) (simp append_assoc));
   ends_left = c.taken_apart-middle_left.ensures.parted.ends_left ∙ sym c.joined-first-2.ensures.last;
   starts_right = c.taken_apart-middle_left.ensures.parted.starts_right ∙ sym c.joined-second.ensures.first;
 }

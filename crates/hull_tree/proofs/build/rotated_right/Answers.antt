@@ -41,7 +41,12 @@ joined-second-requires-2-clause-parted c = record {
 pub joined-whole-requires-2-clause-parted : goal.joined-whole-requires-2-clause-parted
 joined-whole-requires-2-clause-parted c = record {
   row = regrouped _ _ _ _ c.requires.parted.row c.joined-first.ensures.built c.joined-second-2.ensures.built
-      (rw (c.taken_apart-outer.ensures.points, c.taken_apart-middle_left.ensures.points, c.joined-first.ensures.points, c.joined-second-2.ensures.points) (simp append_assoc));
+      (rw (
+        c.taken_apart-outer.ensures.points,
+        c.taken_apart-middle_left.ensures.points,
+        c.joined-first.ensures.points,
+        c.joined-second-2.ensures.points,
+      ) (simp append_assoc));
   ends_left = c.taken_apart-middle_left.ensures.parted.ends_left ∙ sym c.joined-first.ensures.last;
   starts_right = c.taken_apart-middle_left.ensures.parted.starts_right ∙ sym c.joined-second-2.ensures.first;
 }

@@ -6,4 +6,9 @@ use Rattle.hull_tree.proofs.build.taken_apart.Goals as goal
 pub returns-clause-parted : goal.returns-clause-parted
 returns-clause-parted c =
     let b : below_of c.args.node ≡ Some c.deref_mut.result.now = rw (c.in-Some.is, c.deref_mut.ensures.value) refl in
-    rw (c.take_halves-left.ensures.left, c.take_halves-left.ensures.right, c.take_halves-left.ensures.last, c.take_halves-left.ensures.first) (over_halves _ _ c.requires.built b).parted
+    rw (
+      c.take_halves-left.ensures.left,
+      c.take_halves-left.ensures.right,
+      c.take_halves-left.ensures.last,
+      c.take_halves-left.ensures.first,
+    ) (over_halves _ _ c.requires.built b).parted

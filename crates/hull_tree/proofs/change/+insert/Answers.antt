@@ -14,28 +14,45 @@ use Rattle.hull_tree.proofs.change.+insert.Goals as goal
 
 pub insert-insert_below-below-requires : goal.insert-insert_below-below-requires
 insert-insert_below-below-requires t c =
-    let i : below_of c.args.node.now ≡ Some c.deref_mut.result.now = rw (c.in-Some.is, c.deref_mut.ensures.value) refl in
-    let o : IsOver c.args.node.now c.deref_mut.result.now = over_halves _ _ c.requires.built i in
-    (omega (arith, o.height), (o.parted, (subst (λ z. ¬ (Contains z c.args.p)) o.points c.requires.absent, omega (arith, o.height, c.requires.low))))
+    let i : below_of c.args.node.now ≡ Some c.deref_mut.result.now =
+    rw (c.in-Some.is, c.deref_mut.ensures.value) refl in
+    let o : IsOver c.args.node.now c.deref_mut.result.now = over_halves _ _ c.requires.built i in (
+      omega (arith, o.height),
+      (
+        o.parted,
+        (
+          subst (λ z. ¬ (Contains z c.args.p)) o.points c.requires.absent,
+          omega (arith, o.height, c.requires.low),
+        ),
+      ),
+    )
 
 pub insert-returns-in-Some-clause-cost : goal.insert-returns-in-Some-clause-cost
 insert-returns-in-Some-clause-cost t c =
-    cost_through _ c.insert_below-below.new.halves _ _ _ _ _ (rolled_below _ _ _ _ _ _) c.insert_below-below.ensures.parted c.insert_below-below.ensures.cost c.rebalance.ensures.cost_left c.rebalance.ensures.cost_right (omega arith)
+    cost_through _ c.insert_below-below.new.halves _ _ _ _ _
+    (rolled_below _ _ _ _ _ _) c.insert_below-below.ensures.parted c.insert_below-below.ensures.cost c.rebalance.ensures.cost_left c.rebalance.ensures.cost_right (omega arith)
 
 pub insert_below-insert-requires-else-before : goal.insert_below-insert-requires-else-before
-insert_below-insert-requires-else-before t c =
-    (omega arith, (c.requires.parted.row.right_built, (λ h. c.requires.absent (Contains-append_right _ _ _ h), omega (arith, c.requires.low))))
+insert_below-insert-requires-else-before t c = (
+  omega arith,
+  (
+    c.requires.parted.row.right_built,
+    (λ h. c.requires.absent (Contains-append_right _ _ _ h), omega (arith, c.requires.low)),
+  ),
+)
 
 pub insert_below-returns-then-before-clause-parted : goal.insert_below-returns-then-before-clause-parted
 unfolding halves.roll-Halves halves.out-Halves denote.Hole.Carrier.out denote.Hole.Carrier.roll
 insert_below-returns-then-before-clause-parted t c =
-    parted_add_left _ _ _ _ _ _ _ c.requires.parted (passed _ _ c.if-before.true c.before-2.ensures) c.insert.ensures.built c.insert.ensures.points c.reach.ensures.moved c.reach.ensures.kept
+    parted_add_left _ _ _ _ _ _ _ c.requires.parted
+    (passed _ _ c.if-before.true c.before-2.ensures) c.insert.ensures.built c.insert.ensures.points c.reach.ensures.moved c.reach.ensures.kept
 
 pub insert_below-returns-then-before-clause-points : goal.insert_below-returns-then-before-clause-points
 unfolding halves.roll-Halves halves.out-Halves denote.Hole.Carrier.out denote.Hole.Carrier.roll
 insert_below-returns-then-before-clause-points t c =
     let b = subst (IsBefore c.args.p) c.requires.parted.starts_right (passed _ _ c.if-before.true c.before-2.ensures) in
-    ap (λ z. z ++ points_below (right_half c.args.halves.now)) c.insert.ensures.points ∙ sym (add_left _ _ _ c.requires.parted.row b)
+    ap (λ z. z ++ points_below (right_half c.args.halves.now)) c.insert.ensures.points
+    ∙ sym (add_left _ _ _ c.requires.parted.row b)
 
 pub insert_below-returns-then-before-clause-cost : goal.insert_below-returns-then-before-clause-cost
 unfolding halves.roll-Halves halves.out-Halves denote.Hole.Carrier.out denote.Hole.Carrier.roll
@@ -44,13 +61,17 @@ insert_below-returns-then-before-clause-cost t c = inl c.insert.ensures.cost
 pub insert_below-returns-else-before-clause-parted : goal.insert_below-returns-else-before-clause-parted
 unfolding halves.roll-Halves halves.out-Halves denote.Hole.Carrier.out denote.Hole.Carrier.roll
 insert_below-returns-else-before-clause-parted t c =
-    parted_add_right _ _ _ _ _ _ c.requires.parted (failed _ _ c.if-before.false c.before-2.ensures) c.insert-else-before.ensures.built c.insert-else-before.ensures.points
+    parted_add_right _ _ _ _ _ _ c.requires.parted
+    (failed _ _ c.if-before.false c.before-2.ensures) c.insert-else-before.ensures.built c.insert-else-before.ensures.points
 
 pub insert_below-returns-else-before-clause-points : goal.insert_below-returns-else-before-clause-points
 unfolding halves.roll-Halves halves.out-Halves denote.Hole.Carrier.out denote.Hole.Carrier.roll
 insert_below-returns-else-before-clause-points t c =
-    let b : ¬ IsBefore c.args.p (first_of (tree_of (right_half c.args.halves.now))) = λ i. failed _ _ c.if-before.false c.before-2.ensures (subst (IsBefore c.args.p) (sym c.requires.parted.starts_right) i) in
-    ap (λ z. points_below (left_half c.args.halves.now) ++ z) c.insert-else-before.ensures.points ∙ sym (add_right _ _ _ c.requires.parted.row b)
+    let b : ¬ IsBefore c.args.p (first_of (tree_of (right_half c.args.halves.now))) =
+    λ i. failed _ _ c.if-before.false c.before-2.ensures
+    (subst (IsBefore c.args.p) (sym c.requires.parted.starts_right) i) in
+    ap (λ z. points_below (left_half c.args.halves.now) ++ z) c.insert-else-before.ensures.points
+    ∙ sym (add_right _ _ _ c.requires.parted.row b)
 
 pub insert_below-returns-else-before-clause-cost : goal.insert_below-returns-else-before-clause-cost
 unfolding halves.roll-Halves halves.out-Halves denote.Hole.Carrier.out denote.Hole.Carrier.roll

@@ -18,9 +18,11 @@ returns-else-before-clause-was t c =
     let i : below_of c.args.node.now ≡ Some c.in-Some.halves.value = rw c.in-Some.is refl in
     let o : IsOver c.args.node.now c.in-Some.halves.value = over_halves _ _ c.requires i in
     let b = rw c.deref.ensures at (failed _ _ c.if-before.false c.before-in-Some.ensures) in
-    rw c.deref_mut-else-before.ensures.value at c.lower-else-before.ensures.was ∙ sym (o.times _ ∙ all_right _ _ _ _ _ o.parted b)
+    rw c.deref_mut-else-before.ensures.value at c.lower-else-before.ensures.was
+    ∙ sym (o.times _ ∙ all_right _ _ _ _ _ o.parted b)
 
 pub returns-then-times-gt1-clause-lowered : goal.returns-then-times-gt1-clause-lowered
 unfolding node.roll-Node node.out-Node denote.Hole.Carrier.out denote.Hole.Carrier.roll
 returns-then-times-gt1-clause-lowered t c =
-    λ h q. leaf_lowered c.args.node.now c.args.p q c.in-None.is (same_point c.args.p (node.out-Node c.args.node.now).upper.0 c.ne.ensures c.if-ne.false) h
+    λ h q. leaf_lowered c.args.node.now c.args.p q c.in-None.is
+    (same_point c.args.p (node.out-Node c.args.node.now).upper.0 c.ne.ensures c.if-ne.false) h

@@ -7,4 +7,5 @@ pub returns-then-options-clause-wrote : goal.returns-then-options-clause-wrote
 returns-then-options-clause-wrote g c = rw (c.if-options.true) c.write_journal.ensures.wrote
 
 pub returns-then-options-clause-said : goal.returns-then-options-clause-said
-returns-then-options-clause-said g c asked = rw (c.if-options.true) (written c.args.outcome.now.journal.head.rules, c.write_journal.ensures.said, refl)
+returns-then-options-clause-said g c asked =
+    rw (c.if-options.true) (written c.args.outcome.now.journal.head.rules, c.write_journal.ensures.said, refl)

@@ -13,11 +13,25 @@ overflow_sub-result c =
 
 pub returns-clause-size : goal.returns-clause-size
 returns-clause-size c =
-    rw (cast_sub c.product_of_differences.result c.product_of_differences-2.result (minor_small _ c.product_of_differences.ensures.size) (minor_small _ c.product_of_differences-2.ensures.size))
-    (within_sub (4 * (widest * widest)) (4 * (widest * widest)) c.product_of_differences.result c.product_of_differences-2.result c.product_of_differences.ensures.size c.product_of_differences-2.ensures.size)
+    rw (cast_sub c.product_of_differences.result c.product_of_differences-2.result
+    (minor_small _ c.product_of_differences.ensures.size) (minor_small _ c.product_of_differences-2.ensures.size))
+    (within_sub (4 * (widest * widest))
+    (4 * (widest * widest)) c.product_of_differences.result c.product_of_differences-2.result c.product_of_differences.ensures.size c.product_of_differences-2.ensures.size)
 
 pub returns-clause-value : goal.returns-clause-value
 unfolding orient
 returns-clause-value c =
-    cast_sub c.product_of_differences.result c.product_of_differences-2.result (minor_small _ c.product_of_differences.ensures.size) (minor_small _ c.product_of_differences-2.ensures.size)
-    ∙ (rw (c.product_of_differences.ensures.value, c.product_of_differences-2.ensures.value, cast_told c.x.result c.args.b.x c.x.ensures.range c.x.ensures.value, cast_told c.x-2.result c.args.a.x c.x-2.ensures.range c.x-2.ensures.value, cast_told c.y.result c.args.c.y c.y.ensures.range c.y.ensures.value, cast_told c.y-2.result c.args.a.y c.y-2.ensures.range c.y-2.ensures.value, cast_told c.y-3.result c.args.b.y c.y-3.ensures.range c.y-3.ensures.value, cast_told c.y-4.result c.args.a.y c.y-4.ensures.range c.y-4.ensures.value, cast_told c.x-3.result c.args.c.x c.x-3.ensures.range c.x-3.ensures.value, cast_told c.x-4.result c.args.a.x c.x-4.ensures.range c.x-4.ensures.value))
+    cast_sub c.product_of_differences.result c.product_of_differences-2.result
+    (minor_small _ c.product_of_differences.ensures.size) (minor_small _ c.product_of_differences-2.ensures.size)
+    ∙ (rw (
+      c.product_of_differences.ensures.value,
+      c.product_of_differences-2.ensures.value,
+      cast_told c.x.result c.args.b.x c.x.ensures.range c.x.ensures.value,
+      cast_told c.x-2.result c.args.a.x c.x-2.ensures.range c.x-2.ensures.value,
+      cast_told c.y.result c.args.c.y c.y.ensures.range c.y.ensures.value,
+      cast_told c.y-2.result c.args.a.y c.y-2.ensures.range c.y-2.ensures.value,
+      cast_told c.y-3.result c.args.b.y c.y-3.ensures.range c.y-3.ensures.value,
+      cast_told c.y-4.result c.args.a.y c.y-4.ensures.range c.y-4.ensures.value,
+      cast_told c.x-3.result c.args.c.x c.x-3.ensures.range c.x-3.ensures.value,
+      cast_told c.x-4.result c.args.a.x c.x-4.ensures.range c.x-4.ensures.value,
+    ))

@@ -6,5 +6,7 @@ use Rattle.lattice.proofs.compare.product.Goals as goal
 
 pub returns-clause-size : goal.returns-clause-size
 returns-clause-size c =
-    rw (cast_product c.sum_of_products.result (within_more (2 * (widest * widest)) (2 ^ 125) c.sum_of_products.result (lit≤ tt) c.sum_of_products.ensures.size))
+    rw (cast_product c.sum_of_products.result
+    (within_more (2 * (widest * widest)) (2 ^ 125) c.sum_of_products.result
+    (lit≤ tt) c.sum_of_products.ensures.size))
     (within_more (2 * (widest * widest)) widest_side c.sum_of_products.result (lit≤ tt) c.sum_of_products.ensures.size)

@@ -20,9 +20,17 @@ multiplied-requires-2 c =
     (weight_within c.args.v c.args.q c.args.r c.requires.second c.requires.fourth c.requires.fifth)
 
 pub overflow_add-result : goal.overflow_add-result
-overflow_add-result c = sum_fits c.multiplied.result c.multiplied-2.result c.multiplied.ensures.size c.multiplied-2.ensures.size
+overflow_add-result c =
+    sum_fits c.multiplied.result c.multiplied-2.result c.multiplied.ensures.size c.multiplied-2.ensures.size
 
 pub returns : goal.returns
 returns c =
     cast_add c.multiplied.result c.multiplied-2.result c.multiplied.ensures.size c.multiplied-2.ensures.size
-    ∙ (rw (c.multiplied.ensures.value, c.multiplied-2.ensures.value, cast128 c.args.u c.ranges.u, cast128 c.args.v c.ranges.v, cast_difference c.args.p c.args.r c.requires.third c.requires.fifth, cast_difference c.args.q c.args.r c.requires.fourth c.requires.fifth))
+    ∙ (rw (
+      c.multiplied.ensures.value,
+      c.multiplied-2.ensures.value,
+      cast128 c.args.u c.ranges.u,
+      cast128 c.args.v c.ranges.v,
+      cast_difference c.args.p c.args.r c.requires.third c.requires.fifth,
+      cast_difference c.args.q c.args.r c.requires.fourth c.requires.fifth,
+    ))

@@ -4,10 +4,16 @@ use Rattle.lattice.proofs.near.product_of_differences.Goals as goal
 
 pub multiplied-requires : goal.multiplied-requires
 multiplied-requires c =
-    rw (cast_near_difference c.args.u c.args.v c.requires.first c.requires.second, cast_near_difference c.args.p c.args.q c.requires.third c.requires.fourth)
+    rw (
+      cast_near_difference c.args.u c.args.v c.requires.first c.requires.second,
+      cast_near_difference c.args.p c.args.q c.requires.third c.requires.fourth,
+    )
     (near_within c.args.u c.args.v c.args.p c.args.q c.requires.first c.requires.second c.requires.third c.requires.fourth)
 
 pub returns-clause-value : goal.returns-clause-value
 returns-clause-value c =
     cast_near_product c.multiplied.result c.multiplied.ensures.size
-    ∙ (rw (cast_near_difference c.args.u c.args.v c.requires.first c.requires.second, cast_near_difference c.args.p c.args.q c.requires.third c.requires.fourth) at c.multiplied.ensures.value)
+    ∙ (rw (
+      cast_near_difference c.args.u c.args.v c.requires.first c.requires.second,
+      cast_near_difference c.args.p c.args.q c.requires.third c.requires.fourth,
+    ) at c.multiplied.ensures.value)

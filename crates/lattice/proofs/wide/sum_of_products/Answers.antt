@@ -25,9 +25,18 @@ overflow_add-result c =
 pub returns-clause-value : goal.returns-clause-value
 returns-clause-value c =
     cast_add c.multiplied.result c.multiplied-2.result c.multiplied.ensures.size c.multiplied-2.ensures.size
-    ∙ (rw (c.multiplied.ensures.value, c.multiplied-2.ensures.value, cast_wide c.args.u c.requires.first, cast_wide c.args.p c.requires.second, cast_wide c.args.v c.requires.third, cast_wide c.args.q c.requires.fourth))
+    ∙ (rw (
+      c.multiplied.ensures.value,
+      c.multiplied-2.ensures.value,
+      cast_wide c.args.u c.requires.first,
+      cast_wide c.args.p c.requires.second,
+      cast_wide c.args.v c.requires.third,
+      cast_wide c.args.q c.requires.fourth,
+    ))
 
 pub returns-clause-size : goal.returns-clause-size
 returns-clause-size c =
     rw (returns-clause-value c)
-    (within_add (widest * widest) (widest * widest) (c.args.u *ℤ c.args.p) (c.args.v *ℤ c.args.q) (pair_within c.args.u c.args.p c.requires.first c.requires.second) (pair_within c.args.v c.args.q c.requires.third c.requires.fourth))
+    (within_add (widest * widest) (widest * widest) (c.args.u *ℤ c.args.p) (c.args.v *ℤ c.args.q)
+    (pair_within c.args.u c.args.p c.requires.first c.requires.second)
+    (pair_within c.args.v c.args.q c.requires.third c.requires.fourth))

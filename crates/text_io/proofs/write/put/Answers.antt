@@ -9,5 +9,6 @@ loop-rest-preserved g c =
     let more = written_more _ _ _ _ _ c.in-Ok.n c.loop-rest.invariant.written c.in-Ok.ensures.bytes in
     record {
       written = rw c.split_at.ensures.back more;
-      count = count_kept c.in-Ok.n (length c.loop-rest.rest.now) _ _ c.in-Ok.n-test.1 c.in-Ok.ensures.count ∙ c.loop-rest.invariant.count;
+      count = count_kept c.in-Ok.n (length c.loop-rest.rest.now) _ _ c.in-Ok.n-test.1 c.in-Ok.ensures.count
+          ∙ c.loop-rest.invariant.count;
     }

@@ -8,7 +8,12 @@ use Rattle.ticket_lock.proofs.Seats.{splits_from, cut_keeper, cut_seat, is_idle,
 use Rattle.ticket_lock.proofs.open.cut.Goals as goal
 
 pub split_seat-place-requires : goal.split_seat-place-requires
-split_seat-place-requires g c = (search rules, search rules, splits_from g.B.Chronicle partitioned_form _ _ _ c.loop-number.number c.args.seats _ _ _ (ap (λ m. m.0) c.loop-number.invariant.keeper) c.loop-number-test.true)
+split_seat-place-requires g c = (
+  search rules,
+  search rules,
+  splits_from g.B.Chronicle partitioned_form _ _ _ c.loop-number.number c.args.seats _ _ _
+      (ap (λ m. m.0) c.loop-number.invariant.keeper) c.loop-number-test.true,
+)
 
 pub loop-number-preserved : goal.loop-number-preserved
 loop-number-preserved g c = record {
@@ -16,8 +21,15 @@ loop-number-preserved g c = record {
   keeper = cut_keeper _ _ _ _ _ _ c.loop-number.invariant.keeper c.loop-number-test.true c.split_seat-place.ensures.2;
   long = search rules;
   room = search rules;
-  own = all_push (λ (s : Seat g.row.B.Denot g.row.B-Head.Denot g.row.B-Line.Denot). (s.place.table_id ≡ c.args.board.now.shared.table_id) × IsIdle s.number s.place.me) _ _ _ c.push_reserved.ensures.items c.loop-number.invariant.own (search rules, is_idle _ _ _ (cut_seat _ _ _ _ _ _ c.loop-number.invariant.keeper c.loop-number-test.true c.split_seat-place.ensures.4) refl);
-  views = seats_snoc _ _ _ _ _ _ _ c.push_reserved.ensures.items c.loop-number.invariant.views (ap (λ m. m.0) (cut_seat _ _ _ _ _ _ c.loop-number.invariant.keeper c.loop-number-test.true c.split_seat-place.ensures.4));
+  own = all_push (λ (s : Seat g.row.B.Denot g.row.B-Head.Denot g.row.B-Line.Denot).
+      (s.place.table_id ≡ c.args.board.now.shared.table_id)
+      × IsIdle s.number s.place.me) _ _ _ c.push_reserved.ensures.items c.loop-number.invariant.own (
+        search rules,
+        is_idle _ _ _
+            (cut_seat _ _ _ _ _ _ c.loop-number.invariant.keeper c.loop-number-test.true c.split_seat-place.ensures.4) refl,
+      );
+  views = seats_snoc _ _ _ _ _ _ _ c.push_reserved.ensures.items c.loop-number.invariant.views
+      (ap (λ m. m.0) (cut_seat _ _ _ _ _ _ c.loop-number.invariant.keeper c.loop-number-test.true c.split_seat-place.ensures.4));
 }
 
 pub returns-clause-own : goal.returns-clause-own
@@ -28,8 +40,14 @@ returns-clause-own g c = λ k d l. let own = c.loop-number.invariant.own k d l i
 )
 
 pub returns-clause-seen : goal.returns-clause-seen
-returns-clause-seen g c = λ k d l. (all_idle (λ (s : Seat g.row.B.Denot g.row.B-Head.Denot g.row.B-Line.Denot). s.place.me.0) c.loop-number.all.items _ _ 0 c.loop-number.number c.loop-number.invariant.views k d l).1
+returns-clause-seen g c =
+    λ k d l. (all_idle (λ
+    (s : Seat g.row.B.Denot g.row.B-Head.Denot g.row.B-Line.Denot). s.place.me.0) c.loop-number.all.items _ _ 0 c.loop-number.number c.loop-number.invariant.views k d l).1
 
 pub returns-clause-numbers : goal.returns-clause-numbers
-returns-clause-numbers g c = λ i s at. sym (at_place (λ (s : Seat g.row.B.Denot g.row.B-Head.Denot g.row.B-Line.Denot). (s.place.table_id ≡ c.args.board.now.shared.table_id) × IsIdle s.number s.place.me) _ i s c.loop-number.invariant.own at).1.1
+returns-clause-numbers g c =
+    λ i s at. sym (at_place
+    (λ (s : Seat g.row.B.Denot g.row.B-Head.Denot g.row.B-Line.Denot).
+    (s.place.table_id ≡ c.args.board.now.shared.table_id)
+    × IsIdle s.number s.place.me) _ i s c.loop-number.invariant.own at).1.1
     ∙ (numbers_from (λ (s : Seat g.row.B.Denot g.row.B-Head.Denot g.row.B-Line.Denot). s.place.me.0) c.loop-number.all.items _ _ 0 c.loop-number.number c.loop-number.invariant.views i s at ∙ zero_add i)

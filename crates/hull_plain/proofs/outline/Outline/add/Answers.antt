@@ -7,11 +7,16 @@ use Rattle.hull_plain.proofs.Spanning.{spans_with_covered, spans_with, spans_thr
 use Rattle.hull_plain.proofs.outline.Outline.add.Goals as goal
 
 pub returns-then-is_covered-clause-spans : goal.returns-then-is_covered-clause-spans
-returns-then-is_covered-clause-spans c = λ S o s. spans_with_covered c.args.p s (subst (λ (z : List Pair). Covers z c.args.p) c.deref.ensures.value (c.is_covered.ensures.covered c.if-is_covered.true))
+returns-then-is_covered-clause-spans c =
+    λ S o s. spans_with_covered c.args.p s
+    (subst (λ (z : List Pair). Covers z c.args.p) c.deref.ensures.value
+    (c.is_covered.ensures.covered c.if-is_covered.true))
 
 pub thin-requires-clause-set : goal.thin-requires-clause-set
-thin-requires-clause-set c = subst IsPointSet (sym c.put_in_order.ensures.points) (ordered_with c.args.p _ c.requires.set)
+thin-requires-clause-set c =
+    subst IsPointSet (sym c.put_in_order.ensures.points) (ordered_with c.args.p _ c.requires.set)
 
 pub returns-clause-spans : goal.returns-clause-spans
 returns-clause-spans c = λ S o s.
-    spans_through (subst (IsSpannedBy (with_point c.args.p S)) (sym c.put_in_order.ensures.points) (spans_with c.args.p s)) c.thin.ensures.spans
+    spans_through (subst (IsSpannedBy (with_point c.args.p S)) (sym c.put_in_order.ensures.points)
+    (spans_with c.args.p s)) c.thin.ensures.spans

@@ -9,4 +9,6 @@ use Rattle.hull_plain.proofs.outline.Outline.remove.Goals as goal
 pub returns-else-is_on-clause-spans : goal.returns-else-is_on-clause-spans
 returns-else-is_on-clause-spans c = λ S o s e.
     subst (λ (z : List Pair). IsSpannedBy z c.args.self.now.corners.items) (sym e)
-    (spans_without c.args.p o s (λ m. false≢true (sym c.if-is_on.false ∙ c.is_on.ensures.1 (subst (λ (z : List Pair). Contains z c.args.p) (sym c.deref.ensures.value) m))))
+    (spans_without c.args.p o s
+    (λ m. false≢true (sym c.if-is_on.false
+    ∙ c.is_on.ensures.1 (subst (λ (z : List Pair). Contains z c.args.p) (sym c.deref.ensures.value) m))))

@@ -1,4 +1,5 @@
-use Rattle.std.proofs.Common.{◌≡◌, ℕ, sym, ap, ◌∙◌, subst, refl, List, arith, rules, ◌+◌, ◌≤◌, ◌<◌, ◌⊎◌, inl, inr, length, Some, BTreeMap}
+use Rattle.std.proofs.Common.{◌≡◌, ℕ, sym, ap, ◌∙◌, subst, refl, List, arith, rules, ◌+◌, ◌≤◌, ◌<◌, ◌⊎◌, inl, inr}
+use Rattle.std.proofs.Common.{length, Some, BTreeMap}
 use Rattle.std.specs.Prelude.{IsSome}
 use Rattle.std.specs.List.{Contains}
 use Rattle.std.specs.BTreeMap.{insert_entry}
@@ -12,7 +13,8 @@ use Rattle.hull_plain.specs.Sets.{LimitedSet, held_in, times_in}
 use Rattle.hull_plain.specs.Spans.{IsSpannedBy}
 use Rattle.hull_plain.specs.declared.TheConstants.{MULTIPLICITY_LIMIT}
 use Rattle.hull_plain.specs.declared.rules.Rules.TheVariants.{Counted}
-use Rattle.hull_plain.proofs.Multiplicities.{times_found, times_none, live, not_live, held_found, PutsAt, raised_is, same_held}
+use Rattle.hull_plain.proofs.Multiplicities.{times_found, times_none, live, not_live, held_found, PutsAt, raised_is}
+use Rattle.hull_plain.proofs.Multiplicities.{same_held}
 use Rattle.hull_plain.proofs.OrderedMaps.{point_cmp, insert_is}
 use Rattle.hull_plain.proofs.PlainSets.{written, reserved, put_in, count_is}
 use Rattle.hull_plain.proofs.SetLaws.{ordered_with}

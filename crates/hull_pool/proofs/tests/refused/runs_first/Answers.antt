@@ -10,5 +10,6 @@ use Rattle.hull_pool.proofs.tests.refused.runs_first.Goals as goal
 pub runs_again-book-requires-after_bounds : goal.runs_again-book-requires-after_bounds
 runs_again-book-requires-after_bounds g c = λ κs bounds.
     subst (MayRun plain_set c.ready-book.result.0 c.ready-book.result.1)
-    (sym (c.index-phases-0.is ∙ ap (λ (z : List PhaseValue). slice_index_or z 0 c.index-phases-0.result) c.phases.ensures.phases))
+    (sym (c.index-phases-0.is
+    ∙ ap (λ (z : List PhaseValue). slice_index_or z 0 c.index-phases-0.result) c.phases.ensures.phases))
     (may_next c.ready-book.result.0 c.ready-book.result.1 c.args.script.now.phases 0 c.index-phases-0.result c.ready-book.result.0 c.ready-book.result.1 c.ready-book.ensures (omega (arith, c.requires)) (refl, refl))

@@ -14,7 +14,8 @@ loop-next-init g c = record {
 pub loop-next-preserved : goal.loop-next-preserved
 loop-next-preserved g c = record {
   lifts = λ p a. c.loop-next.invariant.lifts p (c.in-Some.ensures.part.lifts p a);
-  deeper = λ p n a. deeper_on (g.H.Half.tree c.args.half) p ((n + 1) + c.loop-next.depth) (n + (c.loop-next.depth + 1)) (omega arith) (c.loop-next.invariant.deeper p (n + 1) (c.in-Some.ensures.down p n a));
+  deeper = λ p n a. deeper_on (g.H.Half.tree c.args.half) p ((n + 1) + c.loop-next.depth) (n + (c.loop-next.depth + 1))
+      (omega arith) (c.loop-next.invariant.deeper p (n + 1) (c.in-Some.ensures.down p n a));
   within = omega (arith, c.loop-next.invariant.within, c.in-Some.ensures.part.lower);
 }
 
@@ -24,9 +25,12 @@ overflow_add-depth g c =
     omega (arith, low, c.loop-next.invariant.within, c.in-Some.ensures.part.lower)
 
 pub returns-clause-farthest : goal.returns-clause-farthest
-returns-clause-farthest g c = c.loop-next.invariant.lifts c.first.result (farthest_alone (g.H.Half.tree c.loop-next.part) c.args.d c.first.result c.in_default.ensures.part c.first.ensures)
+returns-clause-farthest g c =
+    c.loop-next.invariant.lifts c.first.result
+    (farthest_alone (g.H.Half.tree c.loop-next.part) c.args.d c.first.result c.in_default.ensures.part c.first.ensures)
 
 pub returns-clause-depth : goal.returns-clause-depth
 returns-clause-depth g c =
     deeper_on (g.H.Half.tree c.args.half) c.first.result (0 + c.loop-next.depth) c.loop-next.depth (omega arith)
-    (c.loop-next.invariant.deeper c.first.result 0 (depth_alone (g.H.Half.tree c.loop-next.part) c.first.result c.in_default.ensures.part c.first.ensures))
+    (c.loop-next.invariant.deeper c.first.result 0
+    (depth_alone (g.H.Half.tree c.loop-next.part) c.first.result c.in_default.ensures.part c.first.ensures))

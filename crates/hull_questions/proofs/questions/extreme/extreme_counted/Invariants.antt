@@ -8,8 +8,10 @@ use Rattle.hull_questions.proofs.questions.extreme.extreme_counted.Given as goal
 
 abbrev pub invariant-loop-next : goal.invariant-loop-next
 invariant-loop-next g l = record {
-  lifts : (p : Pair) → IsFirstFarthest (points_of (g.H.Half.tree l.part)) l.d p → IsFirstFarthest (points_of (g.H.Half.tree l.fn.half)) l.d p;
-  deeper : (p : Pair) (n : ℕ) → IsAtDepth (g.H.Half.tree l.part) p n → IsAtDepth (g.H.Half.tree l.fn.half) p (n + l.depth);
+  lifts : (p : Pair) → IsFirstFarthest (points_of (g.H.Half.tree l.part)) l.d p
+      → IsFirstFarthest (points_of (g.H.Half.tree l.fn.half)) l.d p;
+  deeper : (p : Pair) (n : ℕ) → IsAtDepth (g.H.Half.tree l.part) p n
+      → IsAtDepth (g.H.Half.tree l.fn.half) p (n + l.depth);
   within : height_of (g.H.Half.tree l.part) + l.depth ≤ height_of (g.H.Half.tree l.fn.half);
 }
 

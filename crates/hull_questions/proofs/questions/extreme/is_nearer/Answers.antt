@@ -2,4 +2,5 @@ use Rattle.hull_plain.proofs.Comparisons.{fits_side, less_test}
 use Rattle.hull_questions.proofs.questions.extreme.is_nearer.Goals as goal
 
 pub returns : goal.returns
-returns c = less_test _ _ _ _ c.product.ensures.value c.product-2.ensures.value (fits_side _ c.product.ensures.size) (fits_side _ c.product-2.ensures.size)
+returns c = less_test _ _ _ _ c.product.ensures.value c.product-2.ensures.value (fits_side _ c.product.ensures.size)
+    (fits_side _ c.product-2.ensures.size)

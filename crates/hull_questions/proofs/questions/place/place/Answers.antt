@@ -3,10 +3,12 @@ use Rattle.hull_questions.proofs.Sighted.{outside_before, outside_after, outside
 use Rattle.hull_questions.proofs.questions.place.place.Goals as goal
 
 pub returns-in-Before : goal.returns-in-Before
-returns-in-Before g c = outside_before (g.H.Half.tree c.args.half) c.args.q (g.met.H.Half.bridged c.args.half) c.in-Before.ensures
+returns-in-Before g c =
+    outside_before (g.H.Half.tree c.args.half) c.args.q (g.met.H.Half.bridged c.args.half) c.in-Before.ensures
 
 pub returns-in-After : goal.returns-in-After
-returns-in-After g c = outside_after (g.H.Half.tree c.args.half) c.args.q (g.met.H.Half.bridged c.args.half) c.in-After.ensures
+returns-in-After g c =
+    outside_after (g.H.Half.tree c.args.half) c.args.q (g.met.H.Half.bridged c.args.half) c.in-After.ensures
 
 pub returns-in-Below : goal.returns-in-Below
 returns-in-Below g c = outside_below (points_of (g.H.Half.tree c.args.half)) c.args.q c.in-Below.ensures.1

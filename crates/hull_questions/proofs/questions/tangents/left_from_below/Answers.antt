@@ -9,4 +9,5 @@ loop-next-preserved g c = record {
 }
 
 pub returns : goal.returns
-returns g c = c.loop-next.invariant.lifts c.first.result (left_alone (g.H.Half.tree c.loop-next.part) c.args.q c.first.result c.in_default.ensures c.first.ensures)
+returns g c = c.loop-next.invariant.lifts c.first.result
+    (left_alone (g.H.Half.tree c.loop-next.part) c.args.q c.first.result c.in_default.ensures c.first.ensures)

@@ -9,7 +9,8 @@ abbrev pub invariant-loop-next : goal.invariant-loop-next
 invariant-loop-next g l = record {
   below : IsBelow (points_of (g.H.Half.tree l.part)) l.q;
   after : IsBefore (first_of (g.H.Half.tree l.part)) l.q;
-  lifts : (p : Pair) → IsLeftTangent (points_of (g.H.Half.tree l.part)) l.q p → IsLeftTangent (points_of (g.H.Half.tree l.fn.half)) l.q p;
+  lifts : (p : Pair) → IsLeftTangent (points_of (g.H.Half.tree l.part)) l.q p
+      → IsLeftTangent (points_of (g.H.Half.tree l.fn.half)) l.q p;
 }
 
 abbrev pub decreases-loop-next : goal.decreases-loop-next

@@ -17,19 +17,23 @@ loop-half-init g c =
     }
 
 pub loop-half-smaller : goal.loop-half-smaller
-loop-half-smaller g c = fewer_after (points_of (g.H.Half.tree c.args.half)) c.loop-half.v c.next_lower-v.result c.next_lower-v.ensures
+loop-half-smaller g c =
+    fewer_after (points_of (g.H.Half.tree c.args.half)) c.loop-half.v c.next_lower-v.result c.next_lower-v.ensures
 
 pub loop-half-preserved : goal.loop-half-preserved
 loop-half-preserved g c =
     let t : Tree = g.H.Half.tree c.args.half in
     record {
       corner = inr (c.loop-half.v, c.next_lower-v.ensures);
-      walk = subst (IsLowerOutline t c.next_lower-v.result) (sym c.in_ok-push-2.ensures.items) (outline_more t c.loop-half.v c.next_lower-v.result c.loop-half.out.items c.loop-half.invariant.walk c.next_lower-v.ensures);
+      walk = subst (IsLowerOutline t c.next_lower-v.result) (sym c.in_ok-push-2.ensures.items)
+          (outline_more t c.loop-half.v c.next_lower-v.result c.loop-half.out.items c.loop-half.invariant.walk c.next_lower-v.ensures);
     }
 
 pub returns : goal.returns
 returns g c =
     let t : Tree = g.H.Half.tree c.args.half in
     subst (λ (z : Pair). IsLowerOutline t z c.loop-half.out.items)
-    (at_last t c.loop-half.v (g.met.H.Half.bridged c.args.half) (lower_in (points_of t) c.loop-half.v c.loop-half.invariant.corner)
-    (rw c.last-last.ensures at (failed c.before-in-loop-half.result _ c.loop-half-test.false c.before-in-loop-half.ensures))) c.loop-half.invariant.walk
+    (at_last t c.loop-half.v (g.met.H.Half.bridged c.args.half)
+    (lower_in (points_of t) c.loop-half.v c.loop-half.invariant.corner)
+    (rw c.last-last.ensures at
+    (failed c.before-in-loop-half.result _ c.loop-half-test.false c.before-in-loop-half.ensures))) c.loop-half.invariant.walk

@@ -6,15 +6,19 @@ use Rattle.bridge_search.proofs.Signs.{failed}
 use Rattle.hull_plain.proofs.FewVertices.{vertices_few}
 use Rattle.hull_questions.proofs.Walked.{vertices_alone}
 use Rattle.hull_questions.proofs.questions.vertices.vertices.Goals as goal
-use Rattle.hull_questions.proofs.questions.vertices.vertices.Goals.{then-before+in_ok-push_lower_chain+in_ok-push_upper_chain, else-before+in_ok-push}
+use Rattle.hull_questions.proofs.questions.vertices.vertices.Goals.{then-before+in_ok-push_lower_chain+in_ok-push_upper_chain}
+use Rattle.hull_questions.proofs.questions.vertices.vertices.Goals.{else-before+in_ok-push}
 
 pub returns-clause-vertices : goal.returns-clause-vertices
 returns-clause-vertices g c =
     let t : Tree = g.H.Half.tree c.args.half in
     elim c.if-before.branch [
       | then-before+in_ok-push_lower_chain+in_ok-push_upper_chain w ↦ rw w.out-is w.in_ok-push_upper_chain.ensures
-      | else-before+in_ok-push w ↦ rw (w.out-is, w.in_ok-push.ensures.items, c.new-out.ensures.items, w.first-else-before.ensures)
-          (vertices_alone t (g.met.H.Half.bridged c.args.half) (rw (c.first.ensures, c.last.ensures) at (failed c.before-2.result _ w.if-before.false c.before-2.ensures)))
+      | else-before+in_ok-push w ↦
+          rw (w.out-is, w.in_ok-push.ensures.items, c.new-out.ensures.items, w.first-else-before.ensures)
+          (vertices_alone t (g.met.H.Half.bridged c.args.half)
+          (rw (c.first.ensures, c.last.ensures) at
+          (failed c.before-2.result _ w.if-before.false c.before-2.ensures)))
     ]
 
 pub returns-clause-few : goal.returns-clause-few

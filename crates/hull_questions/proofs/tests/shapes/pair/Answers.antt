@@ -4,4 +4,8 @@ use Rattle.hull_questions.proofs.SmallTrees.{small_bridged}
 use Rattle.hull_questions.proofs.tests.shapes.pair.Goals as goal
 
 pub invariant_of-result : goal.invariant_of-result
-invariant_of-result c = record { bridged = small_bridged c.args.left c.args.right (passed c.before-2.result (IsBefore c.args.left c.args.right) c.if-not-before.false c.before-2.ensures) }
+invariant_of-result c =
+    record {
+      bridged = small_bridged c.args.left c.args.right
+          (passed c.before-2.result (IsBefore c.args.left c.args.right) c.if-not-before.false c.before-2.ensures);
+    }

@@ -4,7 +4,8 @@ use Rattle.hull_text.specs.ScriptValue.{jobs_below, parts, parts_left}
 use Rattle.hull_text.proofs.read.assemble.phases_of.Given as goal
 
 abbrev pub invariant-loop-rest : goal.invariant-loop-rest
-invariant-loop-rest l = l.phases.items ++ map (jobs_below l.workers) (parts_left l.rest) ≡ map (jobs_below l.workers) (parts l.items)
+invariant-loop-rest l =
+    l.phases.items ++ map (jobs_below l.workers) (parts_left l.rest) ≡ map (jobs_below l.workers) (parts l.items)
 
 abbrev pub decreases-loop-rest : goal.decreases-loop-rest
 decreases-loop-rest l = length (parts_left l.rest)

@@ -15,7 +15,9 @@ loop-i-preserved c =
     let next : suc i ≡ i + 1 = omega arith in
     let more = digits_next text i 0 c.loop-i.value c.loop-i-test.true c.if-b-lt48.false c.if-b-gt57.false c.loop-i.invariant.digits in
     record {
-      digits = rw c.from.ensures (subst (λ (n : ℕ). digits_after 0 (take n text) ≡ Some (c.loop-i.value * 10 + (get_or text i 0 - 48))) next more);
+      digits = rw c.from.ensures
+          (subst (λ (n : ℕ). digits_after 0 (take n text)
+          ≡ Some (c.loop-i.value * 10 + (get_or text i 0 - 48))) next more);
       low = omega (arith, c.from.ensures, c.if-b-gt57.false, c.if-value-ge-SHORT.false);
       before = search rules;
     }

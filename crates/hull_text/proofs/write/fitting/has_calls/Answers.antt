@@ -11,5 +11,6 @@ loop-phase-preserved c =
     let long = calls_long c.args.worker c.in-Some.phase.now _ c.in-Some.after.now c.calls-calls.result.now here c.calls-calls.ensures in
     record {
       left = omega (arith, long, c.loop-phase.invariant.left, c.if-left-calls.false);
-      jobs = all_after (λ (phase : PhaseValue). length phase ≡ c.args.workers) c.in-Some.phase.now _ _ here c.loop-phase.invariant.jobs;
+      jobs = all_after (λ (phase : PhaseValue). length phase
+          ≡ c.args.workers) c.in-Some.phase.now _ _ here c.loop-phase.invariant.jobs;
     }

@@ -11,7 +11,9 @@ loop-call-preserved g c =
     c.answer_line_after-done.ensures.was
 
 pub returns-in_default-clause-wrote : goal.returns-in_default-clause-wrote
-returns-in_default-clause-wrote g c = chained_end _ _ _ _ _ _ _ _ c.loop-call.invariant (answers_no_answer _ _ _ c.in_default.ensures'.cases)
+returns-in_default-clause-wrote g c =
+    chained_end _ _ _ _ _ _ _ _ c.loop-call.invariant (answers_no_answer _ _ _ c.in_default.ensures'.cases)
 
 pub returns-in_default-2-clause-wrote : goal.returns-in_default-2-clause-wrote
-returns-in_default-2-clause-wrote g c = chained_end _ _ _ _ _ _ _ _ c.loop-call.invariant (answers_no_call _ _ _ c.in_default.ensures.cases)
+returns-in_default-2-clause-wrote g c =
+    chained_end _ _ _ _ _ _ _ _ c.loop-call.invariant (answers_no_call _ _ _ c.in_default.ensures.cases)

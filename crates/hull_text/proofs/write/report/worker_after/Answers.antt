@@ -20,7 +20,8 @@ loop-phase-preserved g c =
         calls_long c.args.worker
             c.in-Some.phase.now _ c.in-Some.after.now c.calls-calls.result.now here c.calls-calls.ensures,
       );
-      jobs = all_after (λ (phase : PhaseValue). length phase ≡ c.args.workers) c.in-Some.phase.now _ _ here c.loop-phase.invariant.jobs;
+      jobs = all_after (λ (phase : PhaseValue). length phase
+          ≡ c.args.workers) c.in-Some.phase.now _ _ here c.loop-phase.invariant.jobs;
     }
 
 pub returns-clause-wrote : goal.returns-clause-wrote

@@ -15,7 +15,8 @@ returns g c =
     let all = c.flush_after.ensures.wrote a n _
     (c.sum_after-done.ensures.wrote a n _
     (c.ledgers_after-done.ensures.wrote a n _ (c.workers_after-done.ensures.wrote a n [] (Appends-nil a, refl)))) in
-    subst (λ (w : List ℕ). WritesText a (g.W.Write.contents c.flush_after.new.out) n (g.W.Sink.failed c.flush_after.new.out) c.flush_after.result w)
+    subst (λ (w : List ℕ). WritesText a (g.W.Write.contents c.flush_after.new.out) n
+    (g.W.Sink.failed c.flush_after.new.out) c.flush_after.result w)
     (report_is (workers_text 0 report.script.now.phases (answers_in report.answers.now))
     (ledgers_text 0 report.ledgers.now) (sum report.ledgers.now) (length report.journal.now.lines)
     report.journal.now.head.capacity)

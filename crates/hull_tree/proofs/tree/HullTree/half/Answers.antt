@@ -15,5 +15,7 @@ returns-in-Some c =
 
 pub new-requires-clause-low : goal.new-requires-clause-low
 new-requires-clause-low c =
-    let h : height_at c.in-Some.node ≤ 28 = (sound _ _ _ (subst (λ (z : Option Node). IsLimited z c.self.inside.count c.self.inside.limit) c.in-Some.is c.self.invariant)).low in
+    let h : height_at c.in-Some.node ≤ 28 =
+    (sound _ _ _ (subst (λ
+    (z : Option Node). IsLimited z c.self.inside.count c.self.inside.limit) c.in-Some.is c.self.invariant)).low in
     omega (arith, h)

@@ -11,5 +11,6 @@ returns-in-Some-clause-few c =
 
 pub returns-in-Some-clause-live : goal.returns-in-Some-clause-live
 returns-in-Some-clause-live c =
-    let r : c.args.self.now.root ≡ Some c.in-Some.root = sym (ap (λ (z : LimitedTree). z.root) c.self.view_is) ∙ c.in-Some.is in
+    let r : c.args.self.now.root ≡ Some c.in-Some.root =
+    sym (ap (λ (z : LimitedTree). z.root) c.self.view_is) ∙ c.in-Some.is in
     rw (r, c.times_of.ensures) (live_iff _ _ (built_root _ _ _ _ c.self.invariant c.in-Some.is))

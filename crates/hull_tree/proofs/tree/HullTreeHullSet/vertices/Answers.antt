@@ -7,5 +7,6 @@ use Rattle.hull_tree.proofs.tree.HullTreeHullSet.vertices.Goals as goal
 
 pub returns-in_err-vertices-in-Some-clause-reply : goal.returns-in_err-vertices-in-Some-clause-reply
 returns-in_err-vertices-in-Some-clause-reply c =
-    let n : points_of_root c.args.self.now.root ≢ [] = λ e. points_not_none (tree_of c.in-Some.half.node.now) (sym c.in-Some.ensures.points ∙ e) in
+    let n : points_of_root c.args.self.now.root ≢ [] =
+    λ e. points_not_none (tree_of c.in-Some.half.node.now) (sym c.in-Some.ensures.points ∙ e) in
     search rules

@@ -6,4 +6,6 @@ use Rattle.ticket_lock.proofs.Worlds.{begins}
 use Rattle.ticket_lock.proofs.lock.TicketLock.open.Goals as goal
 
 pub returns-clause-begins : goal.returns-clause-begins
-returns-clause-begins g c = begins g.B.Chronicle partitioned_form c.args.seats c.args.book _ _ _ (omega arith) (omega arith) c.requires.lawful (search rules) (partitioned_opened (g.B.Chronicle.turn c.args.book)) (search rules) c.cut.ensures.views
+returns-clause-begins g c =
+    begins g.B.Chronicle partitioned_form c.args.seats c.args.book _ _ _ (omega arith) (omega arith) c.requires.lawful
+    (search rules) (partitioned_opened (g.B.Chronicle.turn c.args.book)) (search rules) c.cut.ensures.views

@@ -6,7 +6,8 @@ use Rattle.ticket_lock.proofs.Steps.{takes_ok, took_is}
 use Rattle.ticket_lock.proofs.lock.TicketLock.take.Goals as goal
 
 pub fetch_add-taken-requires : goal.fetch_add-taken-requires
-fetch_add-taken-requires g c = (search rules, search rules, takes_ok _ partitioned_form partitioned_laws _ _ _ _ _ _ (search rules))
+fetch_add-taken-requires g c =
+    (search rules, search rules, takes_ok _ partitioned_form partitioned_laws _ _ _ _ _ _ (search rules))
 
 pub returns : goal.returns
 returns g c =

@@ -8,6 +8,8 @@ use Rattle.ticket_lock.proofs.tests.threads.all_sign.Given as goal
 
 abbrev pub invariant-loop-round : goal.invariant-loop-round
 invariant-loop-round g l = record {
-  ready : All (λ w. IsSome w.seat × (w.signed ≤ l.round) × IfSome w.seat (λ s. IsSeatOf ghosts.head l.lock s × (seat_number s ≡ w.number) × (length (own ghosts w.number (seat_seen s)) ≡ w.signed))) l.workers.items;
+  ready : All (λ w. IsSome w.seat × (w.signed ≤ l.round)
+      × IfSome w.seat (λ s. IsSeatOf ghosts.head l.lock s × (seat_number s ≡ w.number)
+      × (length (own ghosts w.number (seat_seen s)) ≡ w.signed))) l.workers.items;
   many : vec_len l.workers ≡ l.fn.count;
 }

@@ -9,7 +9,9 @@ use Rattle.ticket_lock.proofs.tests.threads.hire.Given as goal
 abbrev pub invariant-loop-seat : goal.invariant-loop-seat
 invariant-loop-seat l = record {
   left : All (λ s. IsSeatOf ghosts.head l.fn.lock s × (seat_seen s ≡ [])) l.seats.items;
-  ready : All (λ w. IsSome w.seat × (w.signed ≤ 0) × IfSome w.seat (λ s. IsSeatOf ghosts.head l.fn.lock s × (seat_number s ≡ w.number) × (length (own ghosts w.number (seat_seen s)) ≡ w.signed))) l.workers.items;
+  ready : All (λ w. IsSome w.seat × (w.signed ≤ 0)
+      × IfSome w.seat (λ s. IsSeatOf ghosts.head l.fn.lock s × (seat_number s ≡ w.number)
+      × (length (own ghosts w.number (seat_seen s)) ≡ w.signed))) l.workers.items;
   many : vec_len l.workers + vec_len l.seats ≡ vec_len l.fn.seats;
   room : vec_len l.fn.seats ≤ vec_capacity l.workers;
 }
