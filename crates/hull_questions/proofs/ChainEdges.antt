@@ -1,25 +1,21 @@
 -- A lower edge of one half is one of both, where it stands clear of the lower bridge.
-use Rattle.std.proofs.Common.{◌≡◌, ℤ, pos, ◌≤ℤ◌, ◌<ℤ◌, neg_ℤ, inl, inr, sym, subst, List, arith, ◌++◌, Some, None}
+use Rattle.std.proofs.Common.{◌≡◌, ℤ, pos, ◌≤ℤ◌, ◌<ℤ◌, neg_ℤ, inl, inr, sym, subst, List, arith, ◌++◌, Some}
 use Rattle.std.proofs.lemmas.Int.{ints}
 use Rattle.std.proofs.lemmas.List.Elements.{All-contains, All-append, Contains-append_left, Contains-append_right}
 use Rattle.lattice.specs.Plane.{Pair, orient, IsBefore}
 use Rattle.lattice.specs.Bridges.{IsAllBefore, IsLowerBridge}
 use Rattle.lattice.specs.Signs.{le_or_lt}
 use Rattle.lattice.proofs.Vectors.{minus, cross, Ahead, turn_trans_strict, turn_trans_strict_right}
-use Rattle.bridge_search.specs.Trees.{Tree, Leaf, Fork, On, IsBridged, IsFork, lower_of, left_of, right_of, first_of}
-use Rattle.bridge_search.specs.Trees.{last_of}
+use Rattle.bridge_search.specs.Trees.{Tree, Leaf, Fork, On, IsBridged, lower_of}
 use Rattle.bridge_search.specs.Leaves.{points_of}
-use Rattle.bridge_search.proofs.Ends.{last_by}
 use Rattle.bridge_search.proofs.Leaves.{all_of, on_of_contains, contains_of_on}
-use Rattle.bridge_search.proofs.Turns.{first_by}
 use Rattle.hull_plain.specs.Edges.{IsLowerEdge, IsUpperEdge}
 use Rattle.lattice.proofs.Order.{before_trans, before_total}
 use Rattle.hull_plain.proofs.Orientation.{orient-cross, orient_swap, at_least, above, ahead_of}
 use Rattle.hull_questions.proofs.Sides.{side_by_start, side_by_end, side_before, side_after, side_to_end, side_back}
 use Rattle.hull_questions.proofs.Sides.{side_beyond, sum_above, weak}
 use Rattle.hull_questions.proofs.StoredEdges.{same_ends}
-use Rattle.hull_questions.specs.Parts.{IsPartFor}
-use Rattle.hull_questions.specs.Chains.{IsBeforeEnd, IsLowerEdgeAt, IsUpperEdgeAt, IsLowerCorner, IsUpperCorner}
+use Rattle.hull_questions.specs.Chains.{IsLowerEdgeAt, IsUpperEdgeAt, IsLowerCorner, IsUpperCorner}
 
 -- an edge cd that begins before a, where the edge ab is steeper: what lies over ab, after a, lies over cd
 over_from_left : (a b c d t : Pair) → IsBefore a b → IsBefore c d → IsBefore c a → IsBefore a t → pos 0 ≤ℤ orient c d a
@@ -50,7 +46,7 @@ over_from_right a b c d t ab cd bd tb db bd_turn bt =
 -- ---- the order
 
 -- c is not after v, and v stands before a
-up_to : (c v a : Pair) → ¬ (IsBefore v c) → IsBefore v a → IsBefore c a
+pub up_to : (c v a : Pair) → ¬ (IsBefore v c) → IsBefore v a → IsBefore c a
 up_to c v a n h = elim (before_total c v) [
   | inl k ↦ before_trans c v a k h
   | inr (inl e) ↦ subst (λ (z : Pair). IsBefore z a) (sym e) h
@@ -59,7 +55,7 @@ up_to c v a n h = elim (before_total c v) [
 ]
 
 -- v stands before a, and d is not before a
-on_from : (v a d : Pair) → IsBefore v a → ¬ (IsBefore d a) → IsBefore v d
+pub on_from : (v a d : Pair) → IsBefore v a → ¬ (IsBefore d a) → IsBefore v d
 on_from v a d h n = elim (before_total a d)
     [ inl k ↦ before_trans v a d h k | inr (inl e) ↦ subst (IsBefore v) e h | inr (inr k) ↦ absurd (n k) ]
 
@@ -119,7 +115,7 @@ bridge_edge u w a b ab h = record {
 }
 
 -- a lower edge of the left half at a point before the bridge
-left_lifts : (u w : Tree) (v a b : Pair) (e : Pair × Pair) → IsAllBefore (On u) (On w) → IsLowerBridge (On u) (On w) a b
+pub left_lifts : (u w : Tree) (v a b : Pair) (e : Pair × Pair) → IsAllBefore (On u) (On w) → IsLowerBridge (On u) (On w) a b
     → IsBefore v a → IsLowerEdgeAt (points_of u) v e → IsLowerEdgeAt (points_of u ++ points_of w) v e
 left_lifts u w v a b e o h va k =
     let ca : IsBefore e.0 a = up_to e.0 v a k.starts va in
@@ -136,7 +132,7 @@ left_lifts u w v a b e o h va k =
     }
 
 -- a lower edge of the right half at a point not before the end of the bridge
-right_lifts : (u w : Tree) (v a b : Pair) (e : Pair × Pair) → IsAllBefore (On u) (On w)
+pub right_lifts : (u w : Tree) (v a b : Pair) (e : Pair × Pair) → IsAllBefore (On u) (On w)
     → IsLowerBridge (On u) (On w) a b → ¬ (IsBefore v b) → IsLowerEdgeAt (points_of w) v e
     → IsLowerEdgeAt (points_of u ++ points_of w) v e
 right_lifts u w v a b e o h n k =
@@ -151,41 +147,6 @@ right_lifts u w v a b e o h n k =
           (o t b i h.to_right) low turn (h.above_left t i));
       starts = k.starts;
       onward = k.onward;
-    }
-
--- ---- one step down
-
--- the part has the lower edge at v
-pub record IsEdgePart (v : Pair) (whole part : Tree) : Type 0 where
-  pub part_for : IsPartFor (Pair × Pair) (λ S e. IsLowerEdgeAt S v e) whole part
-  pub inside : IsBeforeEnd part v
-
--- before the bridge: to the left half
-pub edge_left : (t : Tree) (v a b : Pair) → IsBridged t → Some (a, b) ≡ lower_of t → IsBefore v a → IsBeforeEnd t v
-    → IsEdgePart v t (left_of t)
-edge_left (Leaf x) v a b h g va i = absurd (cc)
-edge_left (Fork e f u w) v a b h g va i =
-    let k : IsBefore v f.0 = subst (IsBefore v) (same_ends g).0 va in
-    record {
-      part_for = record {
-        lifts = λ z m. left_lifts u w v f.0 f.1 z h.0 h.2 k m;
-        lower = omega arith;
-      };
-      inside = (i.0, on_from v f.0 (last_of u) k (last_by u h.3 f.0 h.2.from_left));
-    }
-
--- not before the end of the bridge: to the right half
-pub edge_right : (t : Tree) (v a b : Pair) → IsBridged t → Some (a, b) ≡ lower_of t → ¬ (IsBefore v b) → IsBeforeEnd t v
-    → IsEdgePart v t (right_of t)
-edge_right (Leaf x) v a b h g n i = absurd (cc)
-edge_right (Fork e f u w) v a b h g n i =
-    let k : ¬ (IsBefore v f.1) = subst (λ (z : Pair). ¬ (IsBefore v z)) (same_ends g).1 n in
-    record {
-      part_for = record {
-        lifts = λ z m. right_lifts u w v f.0 f.1 z h.0 h.2 k m;
-        lower = omega arith;
-      };
-      inside = (λ b. k (on_from v (first_of w) f.1 b (first_by w h.4 f.1 h.2.to_right)), i.1);
     }
 
 -- from the start of the bridge on, and before its end: the bridge

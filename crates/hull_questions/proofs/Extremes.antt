@@ -1,5 +1,5 @@
 -- Which half has the first of the farthest points.
-use Rattle.std.proofs.Common.{◌≡◌, ℕ, ◌+◌, subst, ℤ, pos, ◌+ℤ◌, ◌-ℤ◌, ◌*ℤ◌, ◌≤ℤ◌, ◌<ℤ◌, neg_ℤ, inl, inr, refl, ap, ◌∙◌}
+use Rattle.std.proofs.Common.{◌≡◌, ℕ, subst, ℤ, pos, ◌+ℤ◌, ◌-ℤ◌, ◌*ℤ◌, ◌≤ℤ◌, ◌<ℤ◌, neg_ℤ, inl, inr, refl, ap, ◌∙◌}
 use Rattle.std.proofs.Common.{arith, ◌++◌, [], ◌∷◌, Some, None}
 use Rattle.std.specs.List.{All, Contains}
 use Rattle.std.specs.Prelude.{◌≢◌}

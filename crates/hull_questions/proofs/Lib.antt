@@ -2,6 +2,7 @@ pub mod Sides
 pub mod StoredEdges
 pub mod Extremes
 pub mod ChainEdges
+pub mod SlabParts
 pub mod TurnedEdges
 pub mod Sighted
 pub mod Counted

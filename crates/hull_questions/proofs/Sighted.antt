@@ -16,8 +16,9 @@ use Rattle.hull_plain.proofs.NotCovered.{not_covered}
 use Rattle.hull_plain.proofs.OneSided.{ahead_separated, behind_separated}
 use Rattle.lattice.proofs.Order.{before_total, before_trans, equal_by}
 use Rattle.lattice.proofs.LineCrossings.{orient_start}
-use Rattle.hull_plain.proofs.Placings.{outer_first, outer_last}
+use Rattle.hull_plain.proofs.Placings.{outer_last}
 use Rattle.hull_questions.specs.Chains.{IsLowerEdgeAt, IsUpperEdgeAt}
+use Rattle.hull_questions.proofs.ChainEdges.{up_to, on_from}
 use Rattle.hull_questions.specs.Sights.{IsBetweenEnds, IsBelowEdge, IsAboveEdge, IsSeen, IsSightBy}
 use Rattle.hull_questions.specs.declared.sights.Sight.{Sight}
 use Rattle.hull_questions.specs.declared.sights.Sight.TheVariants.{Before, After, Below, Above, Touching, Within}
@@ -70,27 +71,22 @@ after_first t q h b =
     All-contains (λ s. IsBefore s q) (points_of t) (first_of t) (after_all t q h b)
     (contains_of_on t (first_of t) (on_first t))
 
--- the first point lies on the boundary
-pub touching_first : (t : Tree) (q : Pair) → IsBridged t → ¬ (IsBefore q (first_of t)) → ¬ (IsBefore (first_of t) q)
-    → IsOnBoundary (points_of t) q
-touching_first t q h n m =
-    let e : first_of t ≡ q = equal_by (first_of t) q m n in (
-      Member (subst (Contains (points_of t)) e (contains_of_on t (first_of t) (on_first t))),
-      outer_first (points_of t) q
-          (all_of (λ s. ¬ (IsBefore s q)) (points_of t)
-          (λ s i b. first_by t h s (on_of_contains t s i) (subst (IsBefore s) (sym e) b))),
-    )
-
 -- the last point lies on the boundary
-pub touching_last : (t : Tree) (q : Pair) → IsBridged t → ¬ (IsBefore (last_of t) q) → ¬ (IsBefore q (last_of t))
-    → IsOnBoundary (points_of t) q
-touching_last t q h n m =
-    let e : last_of t ≡ q = equal_by (last_of t) q n m in (
-      Member (subst (Contains (points_of t)) e (contains_of_on t (last_of t) (on_last t))),
-      outer_last (points_of t) q
-          (all_of (λ s. ¬ (IsBefore q s)) (points_of t)
-          (λ s i b. last_by t h s (on_of_contains t s i) (subst (λ (z : Pair). IsBefore z s) (sym e) b))),
-    )
+pub touching_last : (t : Tree) (q : Pair) → IsBridged t → q ≡ last_of t → IsOnBoundary (points_of t) q
+touching_last t q h e = (
+  Member (subst (Contains (points_of t)) (sym e) (contains_of_on t (last_of t) (on_last t))),
+  outer_last (points_of t) q
+      (all_of (λ s. ¬ (IsBefore q s)) (points_of t)
+      (λ s i b. last_by t h s (on_of_contains t s i) (subst (λ (z : Pair). IsBefore z s) e b))),
+)
+
+-- a point that has an edge at it stands between the ends, if it stands after the edge's left end
+pub between_ends : (t : Tree) (q : Pair) (e : Pair × Pair) → IsBridged t → IsLowerEdgeAt (points_of t) q e
+    → IsBefore e.0 q → IsBetweenEnds t q
+between_ends t q e h k b = (
+  up_to (first_of t) e.0 q (first_by t h e.0 (on_of_contains t e.0 k.edge.from)) b,
+  on_from q e.1 (last_of t) k.onward (last_by t h e.1 (on_of_contains t e.1 k.edge.to)),
+)
 
 -- a number at least 0 that is at most 0
 zero_of : (x : ℤ) → pos 0 ≤ℤ x → x ≤ℤ pos 0 → x ≡ pos 0
@@ -99,6 +95,15 @@ zero_of x h k = omega (arith, ints)
 -- a line has its own start on it
 not_start : (c d q : Pair) → c ≡ q → pos 0 <ℤ orient c d q → ⊥
 not_start c d q e h = let z : orient c d q ≡ pos 0 = ap (orient c d) (sym e) ∙ orient_start c d in omega (arith, ints)
+
+-- the left end of an edge lies on the boundary
+pub touching_start : (S : List Pair) (q : Pair) (e : Pair × Pair) → IsLowerEdgeAt S q e → ¬ (IsBefore e.0 q)
+    → IsOnBoundary S q
+touching_start S q e k n =
+    let s : e.0 ≡ q = equal_by e.0 q n k.starts in (
+      Member (subst (Contains S) s k.edge.from),
+      on_line_outer S e.0 e.1 q (inl k.edge.forward) k.edge.left (ap (orient e.0 e.1) (sym s) ∙ orient_start e.0 e.1),
+    )
 
 -- on the inner side of both edges at q, or on them: covered
 covered_at : (S : List Pair) (q : Pair) (e f : Pair × Pair) → IsLowerEdgeAt S q e → IsUpperEdgeAt S q f
@@ -141,7 +146,7 @@ pub seen_by : (t : Tree) (q : Pair) (e f : Pair × Pair) (s : Sight) → IsBetwe
     → IsSightBy (orient e.0 e.1 q) (orient f.0 f.1 q) s → IsSeen t q s
 seen_by t q e f Before i k l h = absurd h
 seen_by t q e f After i k l h = absurd h
-seen_by t q e f Below i k l h = (i, (e.0, e.1, k.edge, h))
+seen_by t q e f Below i k l h = absurd h
 seen_by t q e f Above i k l h = (i, (f.0, f.1, l.edge, h))
 seen_by t q e f Touching i k l h =
     (covered_at (points_of t) q e f k l h.0 h.1, outer_at (points_of t) q e f k l h.0 h.1 h.2)

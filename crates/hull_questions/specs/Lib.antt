@@ -1,5 +1,6 @@
 pub mod Parts
 pub mod Chains
+pub mod Slabs
 pub mod Sights
 pub mod Walks
 pub mod Shapes

@@ -40,11 +40,12 @@ IsSeen t q Above = IsBetweenEnds t q × IsAboveEdge (points_of t) q
 IsSeen t q Touching = IsOnBoundary (points_of t) q
 IsSeen t q Within = IsInside (points_of t) q
 
--- from where a point looks that stands between the ends, by its sides of the lower and the upper edge there
+-- from where a point looks that stands between the ends and not below the lower edge there, by its sides of that edge and
+-- of the upper one
 abbrev pub IsSightBy : ℤ → ℤ → Sight → Type 0
 IsSightBy lower upper Before = ⊥
 IsSightBy lower upper After = ⊥
-IsSightBy lower upper Below = lower <ℤ pos 0
+IsSightBy lower upper Below = ⊥
 IsSightBy lower upper Above = upper <ℤ pos 0
 IsSightBy lower upper Touching = (pos 0 ≤ℤ lower) × (pos 0 ≤ℤ upper) × ((lower ≤ℤ pos 0) ⊎ (upper ≤ℤ pos 0))
 IsSightBy lower upper Within = (pos 0 <ℤ lower) × (pos 0 <ℤ upper)

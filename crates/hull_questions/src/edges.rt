@@ -3,25 +3,19 @@ ghost use Rattle.std.specs.Prelude.{◌≡◌};
 ghost use Rattle.bridge_search.specs.Leaves.{points_of};
 ghost use Rattle.hull_questions.specs.Chains.{IsBeforeEnd, IsAfterStart, IsLowerEdgeAt, IsUpperEdgeAt};
 
+use crate::slabs::{Slab, slab_of};
 use bridge_search::{Half, Turned};
-use lattice::{Point, before};
+use lattice::Point;
 
 /// The lower edge that begins at `v`, or the one that begins before `v` and ends after it.
 pub(crate) fn lower_after<H: Half>(half: H, v: Point) -> (Point, Point)
     requires { IsBeforeEnd (H.tree half) v }
     ensures { IsLowerEdgeAt (points_of (H.tree half)) v result }
 {
-    let mut part = half;
-    while let Some(edge) = part.lower() {
-        if before(v, edge.0) {
-            part = part.left();
-        } else if before(v, edge.1) {
-            return edge;
-        } else {
-            part = part.right();
-        }
-    }
-    unreachable!()
+    let Slab::Edge(edge) = slab_of(half, v) else {
+        unreachable!()
+    };
+    edge
 }
 
 /// The upper edge that goes back from `v`, or the one that goes back from a point after `v` to one before it: the lower

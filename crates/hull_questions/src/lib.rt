@@ -9,6 +9,7 @@ mod corners;
 mod edges;
 mod questions;
 mod sights;
+mod slabs;
 #[cfg(test)]
 mod tests;
 

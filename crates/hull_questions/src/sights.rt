@@ -1,10 +1,11 @@
 //! From where a point looks at a hull.
-ghost use Rattle.std.specs.Prelude.{◌≡◌};
-ghost use Rattle.lattice.specs.Plane.{IsBefore};
-ghost use Rattle.bridge_search.specs.Trees.{first_of, last_of};
+ghost use Rattle.std.specs.Prelude.{pos, ◌≤ℤ◌};
+ghost use Rattle.bridge_search.specs.Leaves.{points_of};
+ghost use Rattle.hull_questions.specs.Chains.{IsLowerEdgeAt};
 ghost use Rattle.hull_questions.specs.Sights.{IsSeen, IsSightBy};
 
-use super::edges::{lower_after, upper_before};
+use crate::edges::upper_before;
+use crate::slabs::{Slab, slab_of};
 use bridge_search::Half;
 use lattice::{Point, before, orient};
 
@@ -25,14 +26,12 @@ pub(crate) enum Sight {
     Within,
 }
 
-/// From where a point looks that has the lower edge below or above it on its side `lower`, and the upper edge on its
-/// side `upper`; each is positive where the point lies on the inner side of the edge.
+/// From where a point looks that has the lower edge at it on its side `lower`, not outside of it, and the upper edge on
+/// its side `upper`; each is positive where the point lies on the inner side of the edge.
 fn sight_by(lower: i128, upper: i128) -> Sight
+    requires { pos 0 ≤ℤ lower }
     ensures { IsSightBy lower upper result }
 {
-    if lower < 0 {
-        return Sight::Below;
-    }
     if upper < 0 {
         return Sight::Above;
     }
@@ -45,34 +44,30 @@ fn sight_by(lower: i128, upper: i128) -> Sight
     Sight::Touching
 }
 
-/// From where `q` looks, which stands after the first point and before the last.
-fn look_between<H: Half>(half: H, q: Point) -> Sight
-    requires after { IsBefore (first_of (H.tree half)) q }
-    requires before { IsBefore q (last_of (H.tree half)) }
+/// From where `q` looks, whose lower edge is `edge`.
+fn look_at<H: Half>(half: H, q: Point, edge: (Point, Point)) -> Sight
+    requires { IsLowerEdgeAt (points_of (H.tree half)) q edge }
     ensures { IsSeen (H.tree half) q result }
 {
-    let lower = lower_after(half, q);
+    if !before(edge.0, q) {
+        return Sight::Touching;
+    }
+    let lower = orient(edge.0, edge.1, q);
+    if lower < 0 {
+        return Sight::Below;
+    }
     let upper = upper_before(half, q);
-    sight_by(orient(lower.0, lower.1, q), orient(upper.0, upper.1, q))
+    sight_by(lower, orient(upper.0, upper.1, q))
 }
 
 /// From where `q` looks at the hull of a half.
 pub(crate) fn look<H: Half>(half: H, q: Point) -> Sight
     ensures { IsSeen (H.tree half) q result }
 {
-    let first = half.first();
-    if before(q, first) {
-        return Sight::Before;
+    match slab_of(half, q) {
+        Slab::Before => Sight::Before,
+        Slab::After => Sight::After,
+        Slab::Last => Sight::Touching,
+        Slab::Edge(edge) => look_at(half, q, edge),
     }
-    let last = half.last();
-    if before(last, q) {
-        return Sight::After;
-    }
-    if !before(first, q) {
-        return Sight::Touching;
-    }
-    if !before(q, last) {
-        return Sight::Touching;
-    }
-    look_between(half, q)
 }
