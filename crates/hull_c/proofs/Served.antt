@@ -2,7 +2,7 @@
 use Rattle.std.proofs.Common.{rules, ◌≡◌, ◌⊎◌, inl, inr, ℕ, ◌+◌, ◌≤◌, ◌<◌, ◌++◌, List, [], ◌∷◌, length, take, drop, set}
 use Rattle.std.proofs.Common.{get_or, refl, sym, ap, subst, ◌∙◌}
 use Rattle.hull_tree.specs.Sets.{LimitedTree}
-use Rattle.hull_c.specs.declared.reply.HullReply.{HullReply}
+use Rattle.hull_reply.specs.declared.reply.HullReply.{HullReply}
 use Rattle.hull_c.specs.declared.requests.HullRequest.{HullRequest}
 use Rattle.hull_c.specs.Requests.{AreServed, IsAnswered, IsBad}
 use Rattle.std.proofs.lemmas.List.{drop_all, drop_more, drop-drop, drop-set, drop-set-lt, take-set, take_more_set}

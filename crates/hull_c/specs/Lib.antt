@@ -1,3 +1,2 @@
-pub mod Told
-pub mod Left
+pub mod Calls
 pub mod Requests

@@ -2,12 +2,13 @@
 use Rattle.std.specs.Prelude.{◌≡◌, ◌≢◌, ◌⊎◌, ℕ, ℤ, ◌+◌, List, ◌∷◌}
 use Rattle.hull_plain.specs.declared.call.Call.TheVariants as call
 use Rattle.hull_tree.specs.Sets.{LimitedTree}
-use Rattle.hull_c.specs.declared.code.Code.TheVariants as code
-use Rattle.hull_c.specs.declared.reply.HullReply.{HullReply}
+use Rattle.hull_reply.specs.declared.code.Code.TheVariants as code
+use Rattle.hull_reply.specs.declared.reply.HullReply.{HullReply}
 use Rattle.hull_c.specs.declared.requests.Kind.{Kind}
 use Rattle.hull_c.specs.declared.requests.Kind.TheVariants as kind
 use Rattle.hull_c.specs.declared.requests.HullRequest.{HullRequest}
-use Rattle.hull_c.specs.Told.{code_number, IsBare, IsServed, IsServedAt, IsServedAlong, IsMultiplicityAt}
+use Rattle.hull_reply.specs.Told.{code_number, IsBare}
+use Rattle.hull_c.specs.Calls.{IsServed, IsServedAt, IsServedAlong, IsMultiplicityAt}
 
 -- the number of a kind in the header
 abbrev pub kind_number : Kind → ℕ

@@ -1,10 +1,9 @@
 //! The corners of a hull, in an array of the caller's.
 ghost use Rattle.std.specs.Prelude.{◌≡◌, ◌≤◌, ◌++◌, length, drop};
-ghost use Rattle.hull_c.specs.Told.{AreCorners};
+ghost use Rattle.hull_c.specs.Calls.{AreCorners};
 
-use super::code::Code;
-use super::reply::HullReply;
 use hull_plain::HullSet;
+use hull_reply::{Code, HullReply};
 use hull_tree::HullTree;
 use lattice::Point;
 use std::marker::Model;

@@ -11,23 +11,20 @@
 ghost use Rattle.std.specs.Borrow.{full_share, sem};
 ghost use Rattle.std.specs.Ptr.{lies_at, room_at};
 ghost use Rattle.hull_tree.specs.contracts.tree.HullTree.{the_row};
-ghost use Rattle.hull_c.specs.Left.{leaves};
+ghost use Rattle.hull_reply.specs.Left.{leaves};
 ghost use Rattle.hull_c.specs.Requests.{AreServed};
-ghost use Rattle.hull_c.specs.Told.{AreCorners, IsCleared, IsFresh, IsLimitOf, IsMultiplicityAt, IsServed, IsServedAlong, IsServedAt};
+ghost use Rattle.hull_c.specs.Calls.{AreCorners, IsCleared, IsFresh, IsLimitOf, IsMultiplicityAt, IsServed, IsServedAlong, IsServedAt};
 
 mod calls;
-mod code;
 mod corners;
-mod reply;
 mod requests;
 #[cfg(test)]
 mod tests;
 
-pub use code::Code;
 pub use corners::HullPoint;
 use hull_plain::Call;
+use hull_reply::HullReply;
 use hull_tree::HullTree;
-pub use reply::HullReply;
 pub use requests::{HullRequest, Kind};
 use std::alloc::Global;
 

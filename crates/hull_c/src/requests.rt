@@ -3,8 +3,7 @@ ghost use Rattle.std.specs.Prelude.{◌≡◌, ◌≢◌, ◌↔◌, IsTrue, Mat
 ghost use Rattle.hull_c.specs.Requests.{AreServed, IsAnswered, IsBad, IsServedAs, kind_number};
 
 use super::calls;
-use super::code::Code;
-use super::reply::HullReply;
+use hull_reply::{Code, HullReply};
 use hull_tree::HullTree;
 
 /// A call: the number of its kind, and a point or a direction.

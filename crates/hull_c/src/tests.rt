@@ -1,10 +1,9 @@
-//! Each code by its number, and what stands beside it.
+//! The calls on a hull, with the number of each code and what stands beside it.
 use super::calls;
-use super::code::Code;
 use super::corners::{HullPoint, vertices};
-use super::reply::HullReply;
 use super::requests::{HullRequest, calls_of};
 use hull_plain::{MULTIPLICITY_LIMIT, POINT_LIMIT};
+use hull_reply::{Code, HullReply};
 use hull_tree::HullTree;
 use lattice::COORDINATE_LIMIT;
 use std::process::Abort;
@@ -34,31 +33,6 @@ fn square(rt: &impl Abort, hull: &mut HullTree) {
     for (x, y) in [(0, 0), (10, 0), (10, 10), (0, 10), (4, 4)] {
         is_bare(rt, calls::add(hull, x, y), 3);
     }
-}
-
-#[test]
-fn numbers_of_the_codes(rt: HostRuntime) {
-    assert_eq!(rt; Code::OutOfRange.number(), 1);
-    assert_eq!(rt; Code::ZeroDirection.number(), 2);
-    assert_eq!(rt; Code::Added.number(), 3);
-    assert_eq!(rt; Code::Again.number(), 4);
-    assert_eq!(rt; Code::TooMany.number(), 5);
-    assert_eq!(rt; Code::NoMemory.number(), 6);
-    assert_eq!(rt; Code::Removed.number(), 7);
-    assert_eq!(rt; Code::Left.number(), 8);
-    assert_eq!(rt; Code::Absent.number(), 9);
-    assert_eq!(rt; Code::Point.number(), 10);
-    assert_eq!(rt; Code::Empty.number(), 11);
-    assert_eq!(rt; Code::Inside.number(), 12);
-    assert_eq!(rt; Code::On.number(), 13);
-    assert_eq!(rt; Code::Outside.number(), 14);
-    assert_eq!(rt; Code::Tangents.number(), 15);
-    assert_eq!(rt; Code::NoTangent.number(), 16);
-    assert_eq!(rt; Code::Number.number(), 17);
-    assert_eq!(rt; Code::Corners.number(), 18);
-    assert_eq!(rt; Code::TooSmall.number(), 19);
-    assert_eq!(rt; Code::Cleared.number(), 20);
-    assert_eq!(rt; Code::UnknownKind.number(), 22);
 }
 
 #[test]

@@ -4,15 +4,20 @@
     crates/hull_c/walks/write.py [--check]
 
 The exports of one shape differ in the function that they call and in what it ensures, and their walks (proofs/*/Proof.antt)
-in nothing else. So each walk is made from one pattern: a change is made in the pattern, and all of them are written anew.
-With --check nothing is written, and the status is 1 where a walk is not what its pattern makes.
+in nothing else. So each walk is made from one pattern: a change is made in the pattern, those that differ are written anew,
+and rt fmt and tools/wrap.py lay them out. With --check nothing is written, and the status is 1 where a walk is not what its
+pattern makes but for its layout.
 """
 import os
 import sys
 
 HERE = os.path.dirname(os.path.abspath(__file__))
-CALL = "use Rattle.hull_plain.specs.declared.call.Call.TheVariants.{%s}\nuse Rattle.hull_c.specs.Told.{%s}\n"
-TOLD = "use Rattle.hull_c.specs.Told.{%s}\n"
+sys.path.insert(0, os.path.join(HERE, "..", "..", "hull_reply", "walks"))
+sys.dont_write_bytecode = True
+from writing import put  # noqa: E402 (the folder has to be named first)
+
+CALL = "use Rattle.hull_plain.specs.declared.call.Call.TheVariants.{%s}\nuse Rattle.hull_c.specs.Calls.{%s}\n"
+TOLD = "use Rattle.hull_c.specs.Calls.{%s}\n"
 
 # the export, its pattern, the names that its law needs, and the law of a value before, one after, and a reply
 WALKS = [
@@ -36,15 +41,9 @@ def main():
             text = file.read()
         text = text.replace("USES", uses).replace("LAW", law).replace("NAME", name)
         path = os.path.join(HERE, "..", "proofs", "hull_" + name, "Proof.antt")
-        if check:
-            with open(path, encoding="utf-8") as file:
-                if file.read() != text:
-                    print(f"{path} is not what {pattern}.walk makes")
-                    wrong = 1
-        else:
-            os.makedirs(os.path.dirname(path), exist_ok=True)
-            with open(path, "w", encoding="utf-8") as file:
-                file.write(text)
+        if not put(path, text, check) and check:
+            print(f"{path} is not what {pattern}.walk makes")
+            wrong = 1
     sys.exit(wrong)
 
 

@@ -72,9 +72,20 @@ abbrev pub AreTangents : Pair → Pair → HullReply → Type 0
 AreTangents p q r = r
     ≡ record { code = code_number code.Tangents; x = p.x; y = p.y; other_x = q.x; other_y = q.y; number = 0; high = 0 }
 
--- a number of 128 bits in two words
+-- a number of 128 bits in two words, and nothing beside it
 abbrev pub IsWide : ℕ → HullReply → Type 0
-IsWide n r = (r.code ≡ code_number code.Number) × (n ≡ r.high * 2 ^ 64 + r.number)
+IsWide n r =
+    (r ≡ record {
+      code = code_number code.Number;
+      x = pos 0;
+      y = pos 0;
+      other_x = pos 0;
+      other_y = pos 0;
+      number =
+          r.number;
+      high = r.high;
+    })
+    × (n ≡ r.high * 2 ^ 64 + r.number)
 
 -- the numbers tell the reply of a set
 abbrev pub Tells : HullReply → Reply → Type 0

@@ -1,91 +1,91 @@
 ghost use Rattle.std.specs.Prelude.{◌≡◌};
 ghost use Rattle.hull_reply.specs.Told.{code_number};
 
-/// What a call of a library for C came to. The headers name each by its number.
+/// What a call of a library for C came to. The headers name each by its number, which is the discriminant here.
 #[derive(Clone, Copy, PartialEq, Eq, Debug)]
 pub enum Code {
     /// A coordinate is out of range. Nothing changed.
-    OutOfRange,
+    OutOfRange = 1,
     /// Both components of a direction are 0.
-    ZeroDirection,
+    ZeroDirection = 2,
     /// The point is new, and is there now.
-    Added,
+    Added = 3,
     /// The point was there, and is held `number` times now.
-    Again,
+    Again = 4,
     /// The point is new and there are as many as the limit, or it is held as often as a point may be. Nothing changed.
-    TooMany,
+    TooMany = 5,
     /// Memory was refused. Nothing changed.
-    NoMemory,
+    NoMemory = 6,
     /// The point was held once, and is no more.
-    Removed,
+    Removed = 7,
     /// The point is still held `number` times.
-    Left,
+    Left = 8,
     /// The point is not there. Nothing changed.
-    Absent,
+    Absent = 9,
     /// The point (`x`, `y`).
-    Point,
+    Point = 10,
     /// The hull has no point.
-    Empty,
+    Empty = 11,
     /// Inside.
-    Inside,
+    Inside = 12,
     /// On the boundary.
-    On,
+    On = 13,
     /// Outside.
-    Outside,
+    Outside = 14,
     /// The left tangent point (`x`, `y`) and the right one (`other_x`, `other_y`).
-    Tangents,
+    Tangents = 15,
     /// No tangent: the hull is empty, or covers the point.
-    NoTangent,
+    NoTangent = 16,
     /// A number: `number`, and for an area 2^64 times `high` more.
-    Number,
+    Number = 17,
     /// The number of corners: `number`.
-    Corners,
+    Corners = 18,
     /// The array has no room for all corners, of which there are `number`: it is as it was.
-    TooSmall,
+    TooSmall = 19,
     /// The hull has no point any more.
-    Cleared,
+    Cleared = 20,
     /// No kind of request has this number. Nothing changed.
-    UnknownKind,
+    UnknownKind = 22,
     /// The desk is open now.
-    Open,
+    Open = 32,
     /// A limit, a capacity or a number of seats is out of range. Nothing changed.
-    OutOfLimits,
+    OutOfLimits = 33,
     /// The desk is open or closed. Nothing changed.
-    WasOpened,
+    WasOpened = 34,
     /// The seat was moved out to the room.
-    Lent,
+    Lent = 35,
     /// There is no seat of this number at the desk: it is out, or there never was one. Nothing changed.
-    NoSeat,
+    NoSeat = 36,
     /// The room has a seat already. Nothing changed.
-    RoomInUse,
+    RoomInUse = 37,
     /// The desk is not open. Nothing changed.
-    NotOpen,
+    NotOpen = 38,
     /// The seat is at its desk again, and the room is free.
-    Returned,
+    Returned = 39,
     /// The room has no seat. Nothing changed.
-    Vacant,
+    Vacant = 40,
     /// The seat has a number, and its call is still to be served. Nothing changed.
-    Waiting,
+    Waiting = 41,
     /// The seat's place at the desk is not free. Nothing changed.
-    PlaceInUse,
+    PlaceInUse = 42,
     /// The seat has a number now.
-    Taken,
+    Taken = 43,
     /// Another number is served: the seat waits on.
-    NotYet,
+    NotYet = 44,
     /// The seat has no number, so nothing is served to it. Nothing changed.
-    NoNumber,
+    NoNumber = 45,
     /// The journal is full: the call was not made.
-    Full,
+    Full = 46,
     /// A seat is out, so the desk stays open.
-    SeatsOut,
+    SeatsOut = 47,
     /// The desk is closed, and has its journal.
-    Closed,
+    Closed = 48,
     /// The desk is not closed. Nothing changed.
-    NotClosed,
+    NotClosed = 49,
     /// The text of the journal was written: `number` bytes.
-    Text,
+    Text = 50,
     /// The desk holds nothing any more.
-    Ended,
+    Ended = 51,
 }
 
 impl Code {
@@ -93,48 +93,6 @@ impl Code {
     pub fn number(self) -> u32
         ensures { result ≡ code_number self }
     {
-        match self {
-            Code::OutOfRange => 1,
-            Code::ZeroDirection => 2,
-            Code::Added => 3,
-            Code::Again => 4,
-            Code::TooMany => 5,
-            Code::NoMemory => 6,
-            Code::Removed => 7,
-            Code::Left => 8,
-            Code::Absent => 9,
-            Code::Point => 10,
-            Code::Empty => 11,
-            Code::Inside => 12,
-            Code::On => 13,
-            Code::Outside => 14,
-            Code::Tangents => 15,
-            Code::NoTangent => 16,
-            Code::Number => 17,
-            Code::Corners => 18,
-            Code::TooSmall => 19,
-            Code::Cleared => 20,
-            Code::UnknownKind => 22,
-            Code::Open => 32,
-            Code::OutOfLimits => 33,
-            Code::WasOpened => 34,
-            Code::Lent => 35,
-            Code::NoSeat => 36,
-            Code::RoomInUse => 37,
-            Code::NotOpen => 38,
-            Code::Returned => 39,
-            Code::Vacant => 40,
-            Code::Waiting => 41,
-            Code::PlaceInUse => 42,
-            Code::Taken => 43,
-            Code::NotYet => 44,
-            Code::NoNumber => 45,
-            Code::Full => 46,
-            Code::SeatsOut => 47,
-            Code::Closed => 48,
-            Code::NotClosed => 49,
-            Code::Text => 50,
-            Code::Ended => 51,
-        }
+        self as u32
     }
 }

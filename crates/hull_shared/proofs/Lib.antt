@@ -1,4 +1,3 @@
 pub mod Counted
 pub mod Homes
 pub mod Lists
-pub mod Steps

@@ -1,8 +1,9 @@
 -- Which call a kind and two numbers ask for.
-use Rattle.std.specs.Prelude.{◌≡◌, ◌≢◌, ◌⊎◌, ℕ, ℤ, pos, Result, Ok, Err, MatchResult}
-use Rattle.lattice.specs.Plane.{Pair, IsCoordinate}
+use Rattle.std.specs.Prelude.{◌≡◌, ◌≢◌, ◌⊎◌, ℕ, ℤ, Result, Ok, Err, MatchResult}
+use Rattle.lattice.specs.Plane.{Pair}
 use Rattle.hull_plain.specs.declared.call.Call.{Call}
 use Rattle.hull_plain.specs.declared.call.Call.TheVariants as call
+use Rattle.hull_reply.specs.Coordinates.{AreCoordinates, AreZero}
 use Rattle.hull_reply.specs.declared.code.Code.{Code}
 use Rattle.hull_reply.specs.declared.code.Code.TheVariants.{OutOfRange, ZeroDirection, UnknownKind}
 use Rattle.hull_shared.specs.declared.calls.Kind.{Kind}
@@ -19,15 +20,6 @@ kind_number kind.Vertices = 6
 kind_number kind.Area = 7
 kind_number kind.Count = 8
 
--- both numbers are coordinates
-abbrev pub AreCoordinates : ℤ → ℤ → Type 0
-AreCoordinates x y = IsCoordinate x × IsCoordinate y
-
--- the two numbers are a point, or one of them is no coordinate
-abbrev pub IsPointOf : ℤ → ℤ → Result Pair Code → Type 0
-IsPointOf x y r = MatchResult r (λ p. AreCoordinates x y × (p ≡ record { x = x; y = y }))
-    (λ fault. ¬ AreCoordinates x y × (fault ≡ OutOfRange))
-
 -- the call at the point of the two numbers, or why there is none
 abbrev pub IsPointCall : (Pair → Call) → ℤ → ℤ → Result Call Code → Type 0
 IsPointCall make x y r =
@@ -37,8 +29,8 @@ IsPointCall make x y r =
 -- the question along the direction of the two numbers, or why there is none
 abbrev pub IsDirectionCall : ℤ → ℤ → Result Call Code → Type 0
 IsDirectionCall x y r = MatchResult r
-    (λ c. AreCoordinates x y × ¬ ((x ≡ pos 0) × (y ≡ pos 0)) × (c ≡ call.Extreme (record { x = x; y = y })))
-    (λ fault. (¬ AreCoordinates x y × (fault ≡ OutOfRange)) ⊎ (((x ≡ pos 0) × (y ≡ pos 0)) × (fault ≡ ZeroDirection)))
+    (λ c. AreCoordinates x y × ¬ AreZero x y × (c ≡ call.Extreme (record { x = x; y = y })))
+    (λ fault. (¬ AreCoordinates x y × (fault ≡ OutOfRange)) ⊎ (AreZero x y × (fault ≡ ZeroDirection)))
 
 -- the call of a kind, or why there is none; where the kind asks for no point and no direction, the two numbers are not
 -- read

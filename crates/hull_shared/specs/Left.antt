@@ -1,12 +1,8 @@
--- What a call leaves where desks and seats lie.
+-- What a call leaves where a desk and a seat lie.
 use base.Fml.{Fml, fex, fsep, ftrue}
 use base.Fraction.{full_share}
 use denote.RattleType.{RattleType}
 use denote.RawPtr.{Ptr, lies_at}
-
--- a value of the type lies at p, of which this holds
-abbrev pub leaves : (R : RattleType) → Ptr → (R.Denot → Type 0) → Fml
-leaves R p holds = fex R.Denot (λ new. fsep (lies_at R full_share p new) (fex (holds new) (λ _. ftrue)))
 
 -- a value of one type lies at p and one of another at q, of both of which this holds
 abbrev pub leaves_both : (R Q : RattleType) → Ptr → Ptr → (R.Denot → Q.Denot → Type 0) → Fml

@@ -1,10 +1,9 @@
 //! Calls by numbers: a kind, and a point or a direction.
 ghost use Rattle.std.specs.Prelude.{◌≡◌, ◌≢◌, MatchOption};
-ghost use Rattle.hull_shared.specs.Asked.{IsAsked, IsCallOf, IsDirectionCall, IsPointOf, kind_number};
+ghost use Rattle.hull_shared.specs.Asked.{IsAsked, IsCallOf, IsDirectionCall, kind_number};
 
 use hull_plain::Call;
-use hull_reply::Code;
-use lattice::{Direction, LatticeFault, Point};
+use hull_reply::{Code, direction_of, point_of};
 
 /// What a call asks for. The header names each by its number.
 #[derive(Clone, Copy)]
@@ -46,25 +45,11 @@ impl Kind {
     }
 }
 
-/// The point (x, y).
-fn point_of(x: i64, y: i64) -> Result<Point, Code>
-    ensures { IsPointOf x y result }
-{
-    match Point::new(x, y) {
-        Ok(p) => Ok(p),
-        Err(_) => Err(Code::OutOfRange),
-    }
-}
-
 /// The question for the farthest point in the direction (x, y).
 fn along(x: i64, y: i64) -> Result<Call, Code>
     ensures { IsDirectionCall x y result }
 {
-    match Direction::new(x, y) {
-        Ok(d) => Ok(Call::Extreme(d)),
-        Err(LatticeFault::OutOfRange) => Err(Code::OutOfRange),
-        Err(LatticeFault::ZeroDirection) => Err(Code::ZeroDirection),
-    }
+    Ok(Call::Extreme(direction_of(x, y)?))
 }
 
 /// The call of a kind.

@@ -4,14 +4,19 @@
     crates/hull_shared/walks/write.py [--check]
 
 Such exports differ in their numbers, in the type of what lies at the pointer and in what the function ensures, and their walks
-(proofs/*/Proof.antt) in nothing else. So each walk is made here from those; after a change all of them are written anew. With
---check nothing is written, and the status is 1 where a walk is not what is made here. The walks of the other exports
+(proofs/*/Proof.antt) in nothing else. So each walk is made here from those; after a change those that differ are written anew,
+and rt fmt and tools/wrap.py lay them out. With --check nothing is written, and the status is 1 where a walk is not what is made
+here but for its layout. The walks of the other exports
 (hull_shared_make_*, hull_shared_lend, hull_shared_give_back, hull_shared_text) are written by hand.
 """
 import os
 import sys
 
 HERE = os.path.dirname(os.path.abspath(__file__))
+sys.path.insert(0, os.path.join(HERE, "..", "..", "hull_reply", "walks"))
+sys.dont_write_bytecode = True
+from writing import put  # noqa: E402 (the folder has to be named first)
+
 STEPS = """ℕ, ◌++◌, List, [], ◌∷◌, refl, w32, w64, proved, full_share, id⊢, ftrue, flft, flent, named, vptr, fact, tables, WpFn, ‵, raw, ◌⊛◌, some, later, prop, at_ret, ◌$◌, ◌∵◌, !, qed, done, move, keep, drop, use1, use3, split, join, fsplit, fjoin, fpack, pick, await, regoal, suffices, group, enter, of_opd, addr, stop, no_more, and_then, first, blocks, exec, returns, alloc_all, pass_all, free_all, look_at, get, through, sets, sets_last, lands_as, env, lft_new, lft_end, u32, u64, i64, yes, Is, shows, mem, lends_ref, ref_back, uint_Makes, uint_vals, uint_Tells, uint_Lawful, sint_Makes, sint_vals, sint_Tells, sint_Lawful, Ptr, RawPtr, block_ptr, lies_at, in_a_block, rawptr_vals, rawptr_Tells, MutRef, Body, plain, nothing, owned, heard, peeks, calls_at, Lasts, lasts, on_entry, triple_of, Stays, walk_of, stay_dropped, Goes-dropped, ends_at, framed"""
 
 DESK = "desk.Desk"
@@ -80,7 +85,7 @@ def walk(name, at, function, law_file, law, alloc, numbers, result):
     heap_joins = "move ! (3 ∷ 0 ∷ []) $ fjoin ! $ " if alloc else ""
     gets = "".join("(and_then ! (get ! refl) " for _ in range(total)) + "(no_more !)" + ")" * total
     lines = [f"-- `hull_shared_{name}` meets its contract: what lies at the pointer is lent for one call, and comes back with what that call left.",
-             f"use Rattle.hull_shared.proofs.Steps.{{{STEPS}}}",
+             f"use Rattle.hull_reply.proofs.Steps.{{{STEPS}}}",
              f"use Rattle.hull_shared.specs.contracts.{at}.{{the_row as R}}",
              "use base.Fml.{fex, fsep}"]
     if alloc:
@@ -154,15 +159,9 @@ def main():
     for each in WALKS:
         text = walk(*each)
         path = os.path.join(HERE, "..", "proofs", "hull_shared_" + each[0], "Proof.antt")
-        if check:
-            with open(path, encoding="utf-8") as file:
-                if file.read() != text:
-                    print(f"{path} is not what is made here")
-                    wrong = 1
-        else:
-            os.makedirs(os.path.dirname(path), exist_ok=True)
-            with open(path, "w", encoding="utf-8") as file:
-                file.write(text)
+        if not put(path, text, check) and check:
+            print(f"{path} is not what is made here")
+            wrong = 1
     sys.exit(wrong)
 
 

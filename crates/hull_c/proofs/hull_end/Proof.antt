@@ -1,12 +1,12 @@
 -- `hull_end` meets its contract.
-use Rattle.hull_c.proofs.Steps.{◌≡◌, ℕ, ◌++◌, [], ◌∷◌, refl, proved, full_share, id⊢, ftrue, Val, fact, tables, WpFn, ‵}
-use Rattle.hull_c.proofs.Steps.{raw, ◌⊛◌, some, later, prop, at_ret, ◌$◌, ◌∵◌, !, qed, done, move, keep, drop, use1}
-use Rattle.hull_c.proofs.Steps.{split, join, pick, await, regoal, suffices, group, and_then, no_more, calls_at, framed}
-use Rattle.hull_c.proofs.Steps.{triple_of, lasts, Lasts, lands_as, u32, w32, uint_Lawful, fjoin, enter, of_opd, stop}
-use Rattle.hull_c.proofs.Steps.{first, blocks, exec, returns, alloc_all, pass_all, free_all, look_at, get, through}
-use Rattle.hull_c.proofs.Steps.{sets, sets_last, env, yes, Ptr, RawPtr, block_ptr, lies_at, in_a_block, rawptr_vals}
-use Rattle.hull_c.proofs.Steps.{rawptr_Tells, plain, nothing, on_entry, Stays, walk_of, stay_dropped, Goes-dropped}
-use Rattle.hull_c.proofs.Steps.{ends_at}
+use Rattle.hull_reply.proofs.Steps.{◌≡◌, ℕ, ◌++◌, [], ◌∷◌, refl, proved, full_share, id⊢, ftrue, Val, fact, tables, WpFn, ‵}
+use Rattle.hull_reply.proofs.Steps.{raw, ◌⊛◌, some, later, prop, at_ret, ◌$◌, ◌∵◌, !, qed, done, move, keep, drop, use1}
+use Rattle.hull_reply.proofs.Steps.{split, join, pick, await, regoal, suffices, group, and_then, no_more, calls_at, framed}
+use Rattle.hull_reply.proofs.Steps.{triple_of, lasts, Lasts, lands_as, u32, w32, uint_Lawful, fjoin, enter, of_opd, stop}
+use Rattle.hull_reply.proofs.Steps.{first, blocks, exec, returns, alloc_all, pass_all, free_all, look_at, get, through}
+use Rattle.hull_reply.proofs.Steps.{sets, sets_last, env, yes, Ptr, RawPtr, block_ptr, lies_at, in_a_block, rawptr_vals}
+use Rattle.hull_reply.proofs.Steps.{rawptr_Tells, plain, nothing, on_entry, Stays, walk_of, stay_dropped, Goes-dropped}
+use Rattle.hull_reply.proofs.Steps.{ends_at}
 use Rattle.hull_tree.specs.contracts.tree.HullTree.{the_row as R}
 use Rattle.hull_tree.proofs.tree.HullTree.TheLaws.{the_row_laws as tree_laws}
 use borrow.Table.OneValue.{part_out}

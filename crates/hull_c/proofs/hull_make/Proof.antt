@@ -1,12 +1,12 @@
 -- `hull_make` meets its contract.
-use Rattle.hull_c.proofs.Steps.{◌++◌, [], ◌∷◌, refl, proved, full_share, id⊢, ftrue, fact, tables, WpFn, ‵, raw, ◌⊛◌}
-use Rattle.hull_c.proofs.Steps.{some, later, prop, at_ret, ◌$◌, ◌∵◌, !, qed, done, move, keep, drop, use1, split, join}
-use Rattle.hull_c.proofs.Steps.{pick, await, regoal, suffices, group, heard, fpack, uint_vals, uint_Tells, uint_Makes}
-use Rattle.hull_c.proofs.Steps.{owned, and_then, no_more, calls_at, framed, triple_of, lasts, Lasts, lands_as, u32, w32}
-use Rattle.hull_c.proofs.Steps.{uint_Lawful, fjoin, enter, of_opd, stop, first, blocks, exec, returns, alloc_all}
-use Rattle.hull_c.proofs.Steps.{pass_all, free_all, look_at, get, through, sets, env, yes, Ptr, RawPtr, block_ptr}
-use Rattle.hull_c.proofs.Steps.{lies_at, in_a_block, rawptr_vals, rawptr_Tells, plain, nothing, Stays, walk_of}
-use Rattle.hull_c.proofs.Steps.{stay_dropped, Goes-dropped, ends_at}
+use Rattle.hull_reply.proofs.Steps.{◌++◌, [], ◌∷◌, refl, proved, full_share, id⊢, ftrue, fact, tables, WpFn, ‵, raw, ◌⊛◌}
+use Rattle.hull_reply.proofs.Steps.{some, later, prop, at_ret, ◌$◌, ◌∵◌, !, qed, done, move, keep, drop, use1, split, join}
+use Rattle.hull_reply.proofs.Steps.{pick, await, regoal, suffices, group, heard, fpack, uint_vals, uint_Tells, uint_Makes}
+use Rattle.hull_reply.proofs.Steps.{owned, and_then, no_more, calls_at, framed, triple_of, lasts, Lasts, lands_as, u32, w32}
+use Rattle.hull_reply.proofs.Steps.{uint_Lawful, fjoin, enter, of_opd, stop, first, blocks, exec, returns, alloc_all}
+use Rattle.hull_reply.proofs.Steps.{pass_all, free_all, look_at, get, through, sets, env, yes, Ptr, RawPtr, block_ptr}
+use Rattle.hull_reply.proofs.Steps.{lies_at, in_a_block, rawptr_vals, rawptr_Tells, plain, nothing, Stays, walk_of}
+use Rattle.hull_reply.proofs.Steps.{stay_dropped, Goes-dropped, ends_at}
 use Rattle.hull_tree.specs.contracts.tree.HullTree.{the_row as R}
 use Rattle.hull_tree.proofs.tree.HullTree.TheLaws.{the_row_laws as tree_laws}
 use denote.Laws.{Is, shows}
@@ -18,7 +18,7 @@ use Rattle.hull_c.specs.contracts.calls.fresh as g
 use Rattle.hull_c.proofs.calls.fresh.Met.{met}
 use types.Run.{assigns_last, init, unit_lit}
 use types.Kit.{feq_i, use2}
-use Rattle.hull_c.specs.Told.{IsFresh}
+use Rattle.hull_c.specs.Calls.{IsFresh}
 use mir.Val.{vunit}
 use borrow.Table.OneValue.{part_in}
 use denote.RawPtr.{room_at}

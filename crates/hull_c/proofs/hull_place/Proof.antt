@@ -1,21 +1,21 @@
 -- `hull_place` meets its contract: the hull at the pointer is lent for one call, and comes back with what that call
 -- left.
-use Rattle.hull_c.proofs.Steps.{ℕ, ◌++◌, List, [], ◌∷◌, refl, w64, proved, full_share, id⊢, ftrue, flft, flent, named}
-use Rattle.hull_c.proofs.Steps.{vptr, fact, tables, WpFn, ‵, raw, ◌⊛◌, some, later, prop, at_ret, ◌$◌, ◌∵◌, !, qed}
-use Rattle.hull_c.proofs.Steps.{done, move, keep, drop, use1, use3, split, join, fsplit, fjoin, fpack, pick, await}
-use Rattle.hull_c.proofs.Steps.{regoal, suffices, group, enter, of_opd, addr, stop, no_more, and_then, first, blocks}
-use Rattle.hull_c.proofs.Steps.{exec, returns, alloc_all, pass_all, free_all, look_at, get, through, sets, sets_last}
-use Rattle.hull_c.proofs.Steps.{lands_as, env, lft_new, lft_end, i64, yes, Is, shows, mem, lends_ref, ref_back}
-use Rattle.hull_c.proofs.Steps.{sint_Lawful, sint_Makes, sint_vals, sint_Tells, Ptr, RawPtr, block_ptr, lies_at}
-use Rattle.hull_c.proofs.Steps.{in_a_block, rawptr_vals, rawptr_Tells, MutRef, Body, plain, nothing, owned, heard}
-use Rattle.hull_c.proofs.Steps.{peeks, calls_at, Lasts, lasts, on_entry, triple_of, Stays, walk_of, stay_dropped}
-use Rattle.hull_c.proofs.Steps.{Goes-dropped, ends_at, framed}
+use Rattle.hull_reply.proofs.Steps.{ℕ, ◌++◌, List, [], ◌∷◌, refl, w64, proved, full_share, id⊢, ftrue, flft, flent, named}
+use Rattle.hull_reply.proofs.Steps.{vptr, fact, tables, WpFn, ‵, raw, ◌⊛◌, some, later, prop, at_ret, ◌$◌, ◌∵◌, !, qed}
+use Rattle.hull_reply.proofs.Steps.{done, move, keep, drop, use1, use3, split, join, fsplit, fjoin, fpack, pick, await}
+use Rattle.hull_reply.proofs.Steps.{regoal, suffices, group, enter, of_opd, addr, stop, no_more, and_then, first, blocks}
+use Rattle.hull_reply.proofs.Steps.{exec, returns, alloc_all, pass_all, free_all, look_at, get, through, sets, sets_last}
+use Rattle.hull_reply.proofs.Steps.{lands_as, env, lft_new, lft_end, i64, yes, Is, shows, mem, lends_ref, ref_back}
+use Rattle.hull_reply.proofs.Steps.{sint_Lawful, sint_Makes, sint_vals, sint_Tells, Ptr, RawPtr, block_ptr, lies_at}
+use Rattle.hull_reply.proofs.Steps.{in_a_block, rawptr_vals, rawptr_Tells, MutRef, Body, plain, nothing, owned, heard}
+use Rattle.hull_reply.proofs.Steps.{peeks, calls_at, Lasts, lasts, on_entry, triple_of, Stays, walk_of, stay_dropped}
+use Rattle.hull_reply.proofs.Steps.{Goes-dropped, ends_at, framed}
 use Rattle.hull_tree.specs.contracts.tree.HullTree.{the_row as R}
 use base.Fml.{fex, fsep}
 use Rattle.hull_plain.specs.declared.call.Call.TheVariants.{Place}
-use Rattle.hull_c.specs.Told.{IsServedAt}
-use Rattle.hull_c.specs.contracts.reply.HullReply.{the_row as Out}
-use Rattle.hull_c.proofs.reply.HullReply.TheLaws.{the_row_laws}
+use Rattle.hull_c.specs.Calls.{IsServedAt}
+use Rattle.hull_reply.specs.contracts.reply.HullReply.{the_row as Out}
+use Rattle.hull_reply.proofs.reply.HullReply.TheLaws.{the_row_laws}
 use Rattle.hull_c.specs.contracts.hull_place as f
 use Rattle.hull_c.proofs.hull_place.Statement.{statement}
 use Rattle.hull_c.proofs.hull_place.Code as code

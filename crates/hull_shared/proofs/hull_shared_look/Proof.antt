@@ -1,16 +1,16 @@
 -- `hull_shared_look` meets its contract: what lies at the pointer is lent for one call, and comes back with what that
 -- call left.
-use Rattle.hull_shared.proofs.Steps.{ℕ, ◌++◌, List, [], ◌∷◌, refl, w32, w64, proved, full_share, id⊢, ftrue, flft}
-use Rattle.hull_shared.proofs.Steps.{flent, named, vptr, fact, tables, WpFn, ‵, raw, ◌⊛◌, some, later, prop, at_ret}
-use Rattle.hull_shared.proofs.Steps.{◌$◌, ◌∵◌, !, qed, done, move, keep, drop, use1, use3, split, join, fsplit, fjoin}
-use Rattle.hull_shared.proofs.Steps.{fpack, pick, await, regoal, suffices, group, enter, of_opd, addr, stop, no_more}
-use Rattle.hull_shared.proofs.Steps.{and_then, first, blocks, exec, returns, alloc_all, pass_all, free_all, look_at}
-use Rattle.hull_shared.proofs.Steps.{get, through, sets, sets_last, lands_as, env, lft_new, lft_end, u32, u64, i64, yes}
-use Rattle.hull_shared.proofs.Steps.{Is, shows, mem, lends_ref, ref_back, uint_Makes, uint_vals, uint_Tells}
-use Rattle.hull_shared.proofs.Steps.{uint_Lawful, sint_Makes, sint_vals, sint_Tells, sint_Lawful, Ptr, RawPtr}
-use Rattle.hull_shared.proofs.Steps.{block_ptr, lies_at, in_a_block, rawptr_vals, rawptr_Tells, MutRef, Body, plain}
-use Rattle.hull_shared.proofs.Steps.{nothing, owned, heard, peeks, calls_at, Lasts, lasts, on_entry, triple_of, Stays}
-use Rattle.hull_shared.proofs.Steps.{walk_of, stay_dropped, Goes-dropped, ends_at, framed}
+use Rattle.hull_reply.proofs.Steps.{ℕ, ◌++◌, List, [], ◌∷◌, refl, w32, w64, proved, full_share, id⊢, ftrue, flft}
+use Rattle.hull_reply.proofs.Steps.{flent, named, vptr, fact, tables, WpFn, ‵, raw, ◌⊛◌, some, later, prop, at_ret}
+use Rattle.hull_reply.proofs.Steps.{◌$◌, ◌∵◌, !, qed, done, move, keep, drop, use1, use3, split, join, fsplit, fjoin}
+use Rattle.hull_reply.proofs.Steps.{fpack, pick, await, regoal, suffices, group, enter, of_opd, addr, stop, no_more}
+use Rattle.hull_reply.proofs.Steps.{and_then, first, blocks, exec, returns, alloc_all, pass_all, free_all, look_at}
+use Rattle.hull_reply.proofs.Steps.{get, through, sets, sets_last, lands_as, env, lft_new, lft_end, u32, u64, i64, yes}
+use Rattle.hull_reply.proofs.Steps.{Is, shows, mem, lends_ref, ref_back, uint_Makes, uint_vals, uint_Tells}
+use Rattle.hull_reply.proofs.Steps.{uint_Lawful, sint_Makes, sint_vals, sint_Tells, sint_Lawful, Ptr, RawPtr}
+use Rattle.hull_reply.proofs.Steps.{block_ptr, lies_at, in_a_block, rawptr_vals, rawptr_Tells, MutRef, Body, plain}
+use Rattle.hull_reply.proofs.Steps.{nothing, owned, heard, peeks, calls_at, Lasts, lasts, on_entry, triple_of, Stays}
+use Rattle.hull_reply.proofs.Steps.{walk_of, stay_dropped, Goes-dropped, ends_at, framed}
 use Rattle.hull_shared.specs.contracts.seat.SharedSeat.{the_row as R}
 use base.Fml.{fex, fsep}
 use Rattle.hull_shared.specs.contracts.looking.SeatReply.{the_row as Out}

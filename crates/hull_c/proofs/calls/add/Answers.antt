@@ -4,7 +4,8 @@ use Rattle.lattice.specs.Plane.{Pair}
 use Rattle.hull_plain.specs.declared.call.Call.TheVariants.{Add}
 use Rattle.hull_plain.specs.declared.reply.Reply.{Reply}
 use Rattle.hull_plain.specs.Replies.{reply_to_add}
-use Rattle.hull_c.specs.Told.{IsServed, Tells}
+use Rattle.hull_reply.specs.Told.{Tells}
+use Rattle.hull_c.specs.Calls.{IsServed}
 use Rattle.hull_c.proofs.calls.add.Goals as goal
 
 pub returns-in-Ok : goal.returns-in-Ok

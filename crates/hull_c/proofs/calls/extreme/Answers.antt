@@ -2,7 +2,7 @@
 use Rattle.std.proofs.Common.{◌≡◌, inl, rules, subst}
 use Rattle.lattice.specs.Plane.{Pair}
 use Rattle.hull_plain.specs.declared.call.Call.TheVariants.{Extreme}
-use Rattle.hull_c.specs.Told.{IsServed}
+use Rattle.hull_c.specs.Calls.{IsServed}
 use Rattle.hull_c.proofs.calls.extreme.Goals as goal
 
 pub returns-in-Ok : goal.returns-in-Ok

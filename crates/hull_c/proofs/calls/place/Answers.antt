@@ -3,7 +3,7 @@ use Rattle.std.proofs.Common.{◌≡◌, inl, rules, refl, subst}
 use Rattle.lattice.specs.Plane.{Pair}
 use Rattle.hull_plain.specs.declared.call.Call.TheVariants.{Place}
 use Rattle.hull_plain.specs.declared.reply.Reply.TheVariants.{Lies}
-use Rattle.hull_c.specs.Told.{IsServed}
+use Rattle.hull_c.specs.Calls.{IsServed}
 use Rattle.hull_c.proofs.calls.place.Goals as goal
 
 pub returns-in-Ok : goal.returns-in-Ok

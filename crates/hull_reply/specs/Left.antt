@@ -1,4 +1,4 @@
--- What a call leaves where a hull lies.
+-- What a call leaves where a value lies that it was lent.
 use base.Fml.{Fml, fex, fsep, ftrue}
 use base.Fraction.{full_share}
 use denote.RattleType.{RattleType}

@@ -1,0 +1,26 @@
+"""What the writers of walks share: one walk is written, or compared with what is there."""
+import re
+
+
+def canonical(text):
+    """The text without its layout: what rt fmt and tools/wrap.py change of it."""
+    names = {}
+    body = []
+    for line in text.splitlines():
+        use = re.fullmatch(r"use (\S+)\.\{(.*)\}", line)
+        if use:
+            names.setdefault(use.group(1), set()).update(use.group(2).split(", "))
+        else:
+            body.append(line.replace("--", ""))
+    uses = [f"{module}: {sorted(of_it)}" for module, of_it in sorted(names.items())]
+    return uses, re.sub(r",(?=[)\]}])", "", "".join("".join(body).split()))
+
+
+def put(path, text, check):
+    """Whether the file has this text but for its layout. Where it hasn't, it is written, unless it is only to be checked."""
+    with open(path, encoding="utf-8") as file:
+        same = canonical(file.read()) == canonical(text)
+    if not same and not check:
+        with open(path, "w", encoding="utf-8") as file:
+            file.write(text)
+    return same
