@@ -12,15 +12,20 @@
 //! # Ok::<(), hull::Fault>(())
 //! ```
 //!
-//! A [`Hull`] may go to another thread (`Send`), but be used by one at a time: share it as `Mutex<Hull>`.
+//! A [`Hull`] may go to another thread (`Send`), but be used by one at a time: share it as `Mutex<Hull>`, or open a
+//! [`SharedHull`] (over `libhull_shared.a`), at which each thread has a [`Seat`] and whose calls are kept in a journal.
+mod answer;
 mod raw;
+mod shared;
 
-use raw::{code, Reply};
+use answer::fault_of;
+use raw::code;
 use std::alloc::{alloc, dealloc, Layout};
 use std::fmt;
 use std::ptr::NonNull;
 
 pub use raw::Point;
+pub use shared::{Limits, Seat, SharedHull, CAPACITY_LIMIT, SEAT_LIMIT};
 
 /// The greatest size of a coordinate, of a point and of a direction: 2^40.
 pub const COORDINATE_LIMIT: i64 = 1 << 40;
@@ -40,8 +45,16 @@ pub enum Fault {
     TooMany,
     /// Memory was refused.
     NoMemory,
-    /// A limit is 0 or above [`POINT_LIMIT`].
+    /// A limit, a capacity or a number of seats is 0 or too great.
     BadLimit,
+    /// The seat is out, or the shared hull has none of this number.
+    NoSeat,
+    /// The shared hull is closed.
+    NotOpen,
+    /// A seat of the shared hull is out.
+    SeatsOut,
+    /// The journal of the shared hull is full: the call was not made.
+    Full,
 }
 
 impl fmt::Display for Fault {
@@ -51,7 +64,11 @@ impl fmt::Display for Fault {
             Fault::ZeroDirection => "a direction is zero",
             Fault::TooMany => "there are as many points as the limit, or the point is held as often as may be",
             Fault::NoMemory => "memory was refused",
-            Fault::BadLimit => "the limit of a hull is out of range",
+            Fault::BadLimit => "a limit of a hull is out of range",
+            Fault::NoSeat => "there is no such seat at the hull",
+            Fault::NotOpen => "the hull is closed",
+            Fault::SeatsOut => "a seat of the hull is out",
+            Fault::Full => "the journal of the hull is full",
         })
     }
 }
@@ -101,11 +118,7 @@ impl Hull {
     pub fn add(&mut self, point: Point) -> Result<u32, Fault> {
         // SAFETY: a hull lies in the room, from `new` to `drop`, and `&mut self` keeps other calls away.
         let reply = unsafe { raw::hull_add(self.room.as_ptr(), point.x, point.y) };
-        match reply.code {
-            code::ADDED => Ok(1),
-            code::AGAIN => Ok(reply.number as u32),
-            _ => Err(fault_of(reply)),
-        }
+        answer::times_added(reply)
     }
 
     /// Holds a point once less, and tells how often it is still held: 0 where it is there no more; `None` where it was not
@@ -113,24 +126,14 @@ impl Hull {
     pub fn remove(&mut self, point: Point) -> Result<Option<u32>, Fault> {
         // SAFETY: as in `add`.
         let reply = unsafe { raw::hull_remove(self.room.as_ptr(), point.x, point.y) };
-        match reply.code {
-            code::REMOVED => Ok(Some(0)),
-            code::LEFT => Ok(Some(reply.number as u32)),
-            code::ABSENT => Ok(None),
-            _ => Err(fault_of(reply)),
-        }
+        answer::times_left(reply)
     }
 
     /// Where a point lies.
     pub fn place(&self, point: Point) -> Result<Place, Fault> {
         // SAFETY: a hull lies in the room; since `Hull` is not `Sync`, no other call is under way.
         let reply = unsafe { raw::hull_place(self.room.as_ptr(), point.x, point.y) };
-        match reply.code {
-            code::INSIDE => Ok(Place::Inside),
-            code::ON => Ok(Place::On),
-            code::OUTSIDE => Ok(Place::Outside),
-            _ => Err(fault_of(reply)),
-        }
+        answer::place(reply)
     }
 
     /// The left and the right point that bound the hull as it is seen from `point`, of several on one line the farthest;
@@ -138,32 +141,21 @@ impl Hull {
     pub fn tangents(&self, point: Point) -> Result<Option<(Point, Point)>, Fault> {
         // SAFETY: as in `place`.
         let reply = unsafe { raw::hull_tangents(self.room.as_ptr(), point.x, point.y) };
-        match reply.code {
-            code::TANGENTS => Ok(Some((reply.point(), reply.other_point()))),
-            code::NO_TANGENT => Ok(None),
-            _ => Err(fault_of(reply)),
-        }
+        answer::tangents(reply)
     }
 
     /// The point that lies farthest in a direction, of several the first by x and then by y; `None` where there is none.
     pub fn extreme(&self, direction: Point) -> Result<Option<Point>, Fault> {
         // SAFETY: as in `place`.
         let reply = unsafe { raw::hull_extreme(self.room.as_ptr(), direction.x, direction.y) };
-        match reply.code {
-            code::POINT => Ok(Some(reply.point())),
-            code::EMPTY => Ok(None),
-            _ => Err(fault_of(reply)),
-        }
+        answer::extreme(reply)
     }
 
     /// How often a point is held: 0 where it is not there.
     pub fn multiplicity(&self, point: Point) -> Result<u32, Fault> {
         // SAFETY: as in `place`.
         let reply = unsafe { raw::hull_multiplicity(self.room.as_ptr(), point.x, point.y) };
-        match reply.code {
-            code::NUMBER => Ok(reply.number as u32),
-            _ => Err(fault_of(reply)),
-        }
+        answer::number(reply).map(|times| times as u32)
     }
 
     /// Twice the area, 0 for a point and a line.
@@ -212,7 +204,7 @@ impl Hull {
                     corners.try_reserve_exact(number).map_err(|_| Fault::NoMemory)?;
                     corners.resize(number, Point { x: 0, y: 0 });
                 }
-                _ => return Err(fault_of(reply)),
+                other => return Err(fault_of(other)),
             }
         }
     }
@@ -259,14 +251,3 @@ impl DoubleEndedIterator for Vertices {
 impl ExactSizeIterator for Vertices {}
 
 impl std::iter::FusedIterator for Vertices {}
-
-/// The fault of a reply that is none of a call's answers.
-fn fault_of(reply: Reply) -> Fault {
-    match reply.code {
-        code::OUT_OF_RANGE => Fault::OutOfRange,
-        code::ZERO_DIRECTION => Fault::ZeroDirection,
-        code::TOO_MANY => Fault::TooMany,
-        code::NO_MEMORY => Fault::NoMemory,
-        code => unreachable!("the library answered {code}"),
-    }
-}

@@ -1,4 +1,5 @@
-//! The header `include/hull.h`, declared for Rust: what it says of each call stands there.
+//! The headers `include/hull.h` and `include/hull_shared.h`, declared for Rust: what they say of each call stands
+//! there.
 
 /// A point, or a direction, by its coordinates.
 #[repr(C)]
@@ -32,6 +33,13 @@ impl Reply {
     }
 }
 
+#[repr(C)]
+#[derive(Clone, Copy)]
+pub(crate) struct SeatReply {
+    pub told: Reply,
+    pub turn: u64,
+}
+
 /// The numbers of the codes.
 pub(crate) mod code {
     pub const OUT_OF_RANGE: u32 = 1;
@@ -53,6 +61,27 @@ pub(crate) mod code {
     pub const NUMBER: u32 = 17;
     pub const CORNERS: u32 = 18;
     pub const TOO_SMALL: u32 = 19;
+    pub const OPEN: u32 = 32;
+    pub const OUT_OF_LIMITS: u32 = 33;
+    pub const LENT: u32 = 35;
+    pub const NO_SEAT: u32 = 36;
+    pub const NOT_OPEN: u32 = 38;
+    pub const TAKEN: u32 = 43;
+    pub const NOT_YET: u32 = 44;
+    pub const FULL: u32 = 46;
+    pub const SEATS_OUT: u32 = 47;
+    pub const CLOSED: u32 = 48;
+    pub const TEXT: u32 = 50;
+
+    // the kinds of calls on a shared hull
+    pub const KIND_ADD: u32 = 1;
+    pub const KIND_REMOVE: u32 = 2;
+    pub const KIND_PLACE: u32 = 3;
+    pub const KIND_TANGENTS: u32 = 4;
+    pub const KIND_EXTREME: u32 = 5;
+    pub const KIND_VERTICES: u32 = 6;
+    pub const KIND_AREA: u32 = 7;
+    pub const KIND_COUNT: u32 = 8;
 }
 
 #[link(name = "hull", kind = "static")]
@@ -72,4 +101,22 @@ extern "C" {
     pub(crate) fn hull_limit(hull: *mut u8) -> Reply;
     pub(crate) fn hull_clear(hull: *mut u8) -> Reply;
     pub(crate) fn hull_vertices(hull: *mut u8, out: *mut Point, room: usize) -> Reply;
+}
+
+#[link(name = "hull_shared", kind = "static")]
+extern "C" {
+    pub(crate) fn hull_shared_desk_size() -> usize;
+    pub(crate) fn hull_shared_desk_alignment() -> usize;
+    pub(crate) fn hull_shared_seat_size() -> usize;
+    pub(crate) fn hull_shared_seat_alignment() -> usize;
+    pub(crate) fn hull_shared_make_desk(room: *mut u8);
+    pub(crate) fn hull_shared_make_seat(room: *mut u8);
+    pub(crate) fn hull_shared_open(desk: *mut u8, limit: u32, first: u64, capacity: u32, seats: u32) -> u32;
+    pub(crate) fn hull_shared_lend(desk: *mut u8, room: *mut u8, number: u32) -> u32;
+    pub(crate) fn hull_shared_give_back(desk: *mut u8, room: *mut u8) -> u32;
+    pub(crate) fn hull_shared_take(seat: *mut u8, kind: u32, x: i64, y: i64) -> u32;
+    pub(crate) fn hull_shared_look(seat: *mut u8) -> SeatReply;
+    pub(crate) fn hull_shared_close(desk: *mut u8) -> u32;
+    pub(crate) fn hull_shared_text(desk: *mut u8, out: *mut u8, length: usize) -> Reply;
+    pub(crate) fn hull_shared_end(desk: *mut u8) -> u32;
 }

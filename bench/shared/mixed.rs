@@ -1,0 +1,130 @@
+//! Mixed calls from 1, 2, 4 and 8 threads: through a shared hull, beside a `Mutex<Hull>`.
+//!
+//!     mixed POINTS CALLS ROUNDS
+//!
+//! Each round makes either hull anew, puts so many random points in, and has the threads make so many calls in all:
+//! half of them questions, the others additions and removals of random points in turn. Both take turns; of each the
+//! least time of the rounds.
+use hull::{Fault, Hull, Limits, Point, Seat, SharedHull, POINT_LIMIT};
+use std::hint::black_box;
+use std::sync::{Barrier, Mutex};
+use std::thread;
+use std::time::Instant;
+
+const SIZE: u64 = 1 << 20;
+
+/// Random points with no coordinate 0 (xorshift; Marsaglia, 2003).
+struct Points(u64);
+
+impl Points {
+    fn coordinate(&mut self) -> i64 {
+        self.0 ^= self.0 << 13;
+        self.0 ^= self.0 >> 7;
+        self.0 ^= self.0 << 17;
+        ((self.0 % (2 * SIZE)) as i64 - SIZE as i64) | 1
+    }
+}
+
+impl Iterator for Points {
+    type Item = Point;
+
+    fn next(&mut self) -> Option<Point> {
+        Some(Point { x: self.coordinate(), y: self.coordinate() })
+    }
+}
+
+/// Has an answer, which no compiler leaves out.
+fn kept<T>(answer: Result<T, Fault>) -> Result<(), Fault> {
+    answer.map(|answer| {
+        black_box(answer);
+    })
+}
+
+fn by_mutex(hull: &Mutex<Hull>, kind: usize, at: Point) -> Result<(), Fault> {
+    let mut hull = hull.lock().unwrap();
+    match kind % 8 {
+        0 | 4 => kept(hull.add(at)),
+        2 | 6 => kept(hull.remove(at)),
+        3 => kept(hull.extreme(at)),
+        5 => kept(hull.tangents(at)),
+        _ => kept(hull.place(at)),
+    }
+}
+
+fn by_seat(seat: &mut Seat, kind: usize, at: Point) -> Result<(), Fault> {
+    match kind % 8 {
+        0 | 4 => kept(seat.add(at)),
+        2 | 6 => kept(seat.remove(at)),
+        3 => kept(seat.extreme(at)),
+        5 => kept(seat.tangents(at)),
+        _ => kept(seat.place(at)),
+    }
+}
+
+/// The seconds that so many threads take, each of which makes its calls by what it is made from.
+fn timed<C>(threads: u32, calls: usize, caller: impl Fn(u32) -> C) -> f64
+where
+    C: FnMut(usize, Point) -> Result<(), Fault> + Send,
+{
+    let start = Barrier::new(threads as usize + 1);
+    let begun = thread::scope(|scope| {
+        for me in 0..threads {
+            let mut call = caller(me);
+            let start = &start;
+            scope.spawn(move || {
+                let points = Points(88172645463325252 ^ u64::from(me + 1) * 0x9E37_79B9_7F4A_7C15);
+                start.wait();
+                for (kind, at) in (0..calls).zip(points) {
+                    call(kind, at).unwrap();
+                }
+            });
+        }
+        start.wait();
+        Instant::now()
+    });
+    begun.elapsed().as_secs_f64()
+}
+
+fn through_mutex(threads: u32, points: usize, calls: usize) -> f64 {
+    let mut hull = Hull::new(POINT_LIMIT).unwrap();
+    for point in Points(7).take(points) {
+        hull.add(point).unwrap();
+    }
+    let hull = Mutex::new(hull);
+    timed(threads, calls, |_| |kind, at| by_mutex(&hull, kind, at))
+}
+
+fn through_seats(threads: u32, points: usize, calls: usize) -> f64 {
+    let capacity = (points + threads as usize * calls) as u32;
+    let hull = SharedHull::open(Limits { points: POINT_LIMIT, first: 0, capacity, seats: threads }).unwrap();
+    let mut seat = hull.lend(0).unwrap();
+    for point in Points(7).take(points) {
+        seat.add(point).unwrap();
+    }
+    seat.give_back();
+    timed(threads, calls, |me| {
+        let mut seat = hull.lend(me).unwrap();
+        move |kind, at| by_seat(&mut seat, kind, at)
+    })
+}
+
+fn main() {
+    let mut words = std::env::args().skip(1).map(|word| word.parse::<usize>().unwrap());
+    let mut word = |usual| words.next().unwrap_or(usual);
+    let (points, calls, rounds) = (word(1000), word(200_000), word(5));
+    println!("Rust: {points} points, {calls} calls in all, the least of {rounds} rounds");
+    for threads in [1, 2, 4, 8] {
+        let (mut mutex, mut seats) = (f64::INFINITY, f64::INFINITY);
+        for _ in 0..rounds {
+            mutex = mutex.min(through_mutex(threads, points, calls / threads as usize));
+            seats = seats.min(through_seats(threads, points, calls / threads as usize));
+        }
+        let each = 1e9 / calls as f64;
+        println!(
+            "{threads} threads: mutex {:7.1} ns a call, seats {:7.1} ns a call, speed of the mutex's: {:.2}",
+            mutex * each,
+            seats * each,
+            mutex / seats
+        );
+    }
+}

@@ -1,0 +1,20 @@
+#!/bin/sh
+# One hull for several threads, timed: mixed calls from 1, 2, 4 and 8 threads through a shared hull, beside a mutex
+# round a hull of one thread, in C and in Rust. Wants cc and rustc, and a quiet machine.
+#
+# run.sh [POINTS [CALLS [ROUNDS]]]: so many points at first (1000), so many calls in all (200000), and the least of so
+# many rounds taken in turn (5)
+set -eu
+here=$(cd "$(dirname "$0")" && pwd)
+top=$(cd "$here/../.." && pwd)
+room=$(mktemp -d)
+trap 'rm -rf "$room"' EXIT
+"$top/bin/install" --library "$room"
+cc -std=gnu11 -O2 -I"$room/include" "$here/mixed.c" -L"$room/lib" -lhull -lhull_shared -lpthread -o "$room/mixed_c"
+rust() {
+    rustc --edition 2021 -O -L "$room" -L "native=$room/lib" "$@"
+}
+rust --crate-type rlib --crate-name hull --out-dir "$room" "$top/rust/hull/src/lib.rs"
+rust --extern hull "$here/mixed.rs" -o "$room/mixed_rust"
+"$room/mixed_c" "$@"
+"$room/mixed_rust" "$@"

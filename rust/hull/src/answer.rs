@@ -1,0 +1,71 @@
+//! What a reply in numbers tells, in types of Rust. Both libraries tell by the same numbers.
+use crate::raw::{code, Reply};
+use crate::{Fault, Place, Point};
+
+/// How often a point is held that was added.
+pub(crate) fn times_added(reply: Reply) -> Result<u32, Fault> {
+    match reply.code {
+        code::ADDED => Ok(1),
+        code::AGAIN => Ok(reply.number as u32),
+        other => Err(fault_of(other)),
+    }
+}
+
+/// How often a point is still held that was removed; `None` where it was not there.
+pub(crate) fn times_left(reply: Reply) -> Result<Option<u32>, Fault> {
+    match reply.code {
+        code::REMOVED => Ok(Some(0)),
+        code::LEFT => Ok(Some(reply.number as u32)),
+        code::ABSENT => Ok(None),
+        other => Err(fault_of(other)),
+    }
+}
+
+pub(crate) fn place(reply: Reply) -> Result<Place, Fault> {
+    match reply.code {
+        code::INSIDE => Ok(Place::Inside),
+        code::ON => Ok(Place::On),
+        code::OUTSIDE => Ok(Place::Outside),
+        other => Err(fault_of(other)),
+    }
+}
+
+pub(crate) fn tangents(reply: Reply) -> Result<Option<(Point, Point)>, Fault> {
+    match reply.code {
+        code::TANGENTS => Ok(Some((reply.point(), reply.other_point()))),
+        code::NO_TANGENT => Ok(None),
+        other => Err(fault_of(other)),
+    }
+}
+
+pub(crate) fn extreme(reply: Reply) -> Result<Option<Point>, Fault> {
+    match reply.code {
+        code::POINT => Ok(Some(reply.point())),
+        code::EMPTY => Ok(None),
+        other => Err(fault_of(other)),
+    }
+}
+
+/// A number that is told: of points, of corners, or the doubled area.
+pub(crate) fn number(reply: Reply) -> Result<u128, Fault> {
+    match reply.code {
+        code::NUMBER | code::CORNERS => Ok(u128::from(reply.high) << 64 | u128::from(reply.number)),
+        other => Err(fault_of(other)),
+    }
+}
+
+/// The fault of a code that is none of a call's answers.
+pub(crate) fn fault_of(code: u32) -> Fault {
+    match code {
+        code::OUT_OF_RANGE => Fault::OutOfRange,
+        code::ZERO_DIRECTION => Fault::ZeroDirection,
+        code::TOO_MANY => Fault::TooMany,
+        code::NO_MEMORY => Fault::NoMemory,
+        code::OUT_OF_LIMITS => Fault::BadLimit,
+        code::NO_SEAT => Fault::NoSeat,
+        code::NOT_OPEN => Fault::NotOpen,
+        code::SEATS_OUT => Fault::SeatsOut,
+        code::FULL => Fault::Full,
+        other => unreachable!("the library answered {other}"),
+    }
+}

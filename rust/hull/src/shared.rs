@@ -1,0 +1,286 @@
+//! One hull for many threads, each with a seat of its own: safe Rust over `libhull_shared.a`.
+use crate::answer;
+use crate::raw::{self, code, Reply};
+use crate::{Fault, Place, Point};
+use std::alloc::{alloc, dealloc, Layout};
+use std::fmt;
+use std::hint::spin_loop;
+use std::ptr::NonNull;
+use std::sync::{Arc, Mutex, MutexGuard, PoisonError};
+use std::thread::yield_now;
+
+/// The greatest capacity of a shared hull: how many calls its journal may have room for.
+pub const CAPACITY_LIMIT: u32 = 1 << 24;
+/// The greatest number of seats of a shared hull.
+pub const SEAT_LIMIT: u32 = 64;
+
+/// What a shared hull is opened with.
+#[derive(Clone, Copy, Debug, PartialEq, Eq)]
+pub struct Limits {
+    /// How many different points it may hold, 1 to [`POINT_LIMIT`](crate::POINT_LIMIT).
+    pub points: u32,
+    /// The number of the first call.
+    pub first: u64,
+    /// How many calls have room in the journal, 1 to [`CAPACITY_LIMIT`].
+    pub capacity: u32,
+    /// How many seats there are, 1 to [`SEAT_LIMIT`].
+    pub seats: u32,
+}
+
+/// Memory in which a desk or a seat lies, which is given back when it is dropped.
+struct Room {
+    at: NonNull<u8>,
+    layout: Layout,
+}
+
+// SAFETY: what lies in a room owns no more than memory from `malloc` and a share of the lock, and is tied to no thread.
+unsafe impl Send for Room {}
+
+impl Room {
+    fn new(size: usize, alignment: usize) -> Result<Room, Fault> {
+        let layout = Layout::from_size_align(size, alignment).expect("a room has a layout");
+        // SAFETY: the layout has a size of more than 0.
+        let at = NonNull::new(unsafe { alloc(layout) }).ok_or(Fault::NoMemory)?;
+        Ok(Room { at, layout })
+    }
+
+    fn at(&self) -> *mut u8 {
+        self.at.as_ptr()
+    }
+}
+
+impl Drop for Room {
+    fn drop(&mut self) {
+        // SAFETY: the memory came from `alloc` with this layout, and nothing uses it any more.
+        unsafe { dealloc(self.at(), self.layout) };
+    }
+}
+
+/// A desk, on which there is one call at a time. The hull and each seat that is out own it together.
+struct Desk(Mutex<Room>);
+
+impl Desk {
+    fn new() -> Result<Desk, Fault> {
+        // SAFETY: the two that are asked read nothing; the room is of that size and alignment, and nobody else's.
+        unsafe {
+            let room = Room::new(raw::hull_shared_desk_size(), raw::hull_shared_desk_alignment())?;
+            raw::hull_shared_make_desk(room.at());
+            Ok(Desk(Mutex::new(room)))
+        }
+    }
+
+    fn lock(&self) -> MutexGuard<'_, Room> {
+        self.0.lock().unwrap_or_else(PoisonError::into_inner)
+    }
+}
+
+impl Drop for Desk {
+    fn drop(&mut self) {
+        let room = self.lock();
+        // SAFETY: the desk lies in the room. All seats are back, since each owns the desk until then.
+        unsafe {
+            raw::hull_shared_close(room.at());
+            raw::hull_shared_end(room.at());
+        }
+    }
+}
+
+/// One hull that up to [`SEAT_LIMIT`] threads change and question at once. Each call takes effect at one moment between
+/// its beginning and its end, in the order of the calls' numbers, and has its line in a journal.
+///
+/// ```no_run
+/// use hull::{Limits, Point, SharedHull};
+///
+/// let hull = SharedHull::open(Limits { points: 1000, first: 0, capacity: 4096, seats: 2 })?;
+/// let mut seat = hull.lend(0)?;
+/// std::thread::spawn(move || seat.add(Point { x: 3, y: 4 })).join().unwrap()?;
+/// let journal = hull.close()?; // which `hullbook check` judges
+/// # Ok::<(), hull::Fault>(())
+/// ```
+pub struct SharedHull {
+    desk: Arc<Desk>,
+}
+
+impl SharedHull {
+    /// Opens an empty hull, whose seats are all to be lent. All memory but that of points is asked for here.
+    pub fn open(limits: Limits) -> Result<SharedHull, Fault> {
+        let desk = Arc::new(Desk::new()?);
+        let Limits { points, first, capacity, seats } = limits;
+        // SAFETY: the desk lies in its room, and nobody else has it yet.
+        let told = unsafe { raw::hull_shared_open(desk.lock().at(), points, first, capacity, seats) };
+        match told {
+            code::OPEN => Ok(SharedHull { desk }),
+            other => Err(answer::fault_of(other)),
+        }
+    }
+
+    /// Lends the seat of a number, 0 and up; [`Fault::NoSeat`] where it is out or there is none, and [`Fault::NotOpen`]
+    /// once the hull is closed.
+    pub fn lend(&self, number: u32) -> Result<Seat, Fault> {
+        // SAFETY: the two that are asked read nothing; the room is of that size and alignment, and nobody else's; the
+        // desk lies in its own, and its lock keeps other calls away.
+        unsafe {
+            let room = Room::new(raw::hull_shared_seat_size(), raw::hull_shared_seat_alignment())?;
+            raw::hull_shared_make_seat(room.at());
+            match raw::hull_shared_lend(self.desk.lock().at(), room.at(), number) {
+                code::LENT => Ok(Seat { room, desk: Arc::clone(&self.desk), number, turn: None }),
+                other => Err(answer::fault_of(other)),
+            }
+        }
+    }
+
+    /// Closes the hull, unless it is closed, and returns the text of its journal, which the program `hullbook` judges.
+    ///
+    /// [`Fault::SeatsOut`] where a seat is out: the hull stays open. [`Fault::NoMemory`] where there is none for the
+    /// text: the hull is closed, and this may be called again.
+    pub fn close(&self) -> Result<String, Fault> {
+        let desk = self.desk.lock();
+        // SAFETY: the desk lies in the room, and its lock keeps other calls away.
+        match unsafe { raw::hull_shared_close(desk.at()) } {
+            code::CLOSED | code::NOT_OPEN => text_of(&desk),
+            other => Err(answer::fault_of(other)),
+        }
+    }
+}
+
+/// The text of a closed desk's journal.
+fn text_of(desk: &Room) -> Result<String, Fault> {
+    let mut text = Vec::new();
+    loop {
+        // SAFETY: the desk lies in the room, which is locked; the array is the vector's own, and all of it was written.
+        let told = unsafe { raw::hull_shared_text(desk.at(), text.as_mut_ptr(), text.len()) };
+        match told.code {
+            code::TEXT => return Ok(String::from_utf8(text).expect("a journal is a text")),
+            code::TOO_SMALL => {
+                text.try_reserve_exact(told.number as usize).map_err(|_| Fault::NoMemory)?;
+                text.resize(told.number as usize, 0);
+            }
+            other => return Err(answer::fault_of(other)),
+        }
+    }
+}
+
+impl fmt::Debug for SharedHull {
+    fn fmt(&self, f: &mut fmt::Formatter<'_>) -> fmt::Result {
+        f.debug_struct("SharedHull").finish_non_exhaustive()
+    }
+}
+
+/// A seat at a shared hull, by which one thread at a time makes calls. It may go to another thread (`Send`), and goes
+/// back to its hull when it is dropped.
+///
+/// Each call waits for its turn: the numbers that were taken before are served first. [`Fault::Full`] where the journal
+/// has no room for the call, which is not made then.
+pub struct Seat {
+    room: Room,
+    desk: Arc<Desk>,
+    number: u32,
+    turn: Option<u64>,
+}
+
+impl Seat {
+    /// The number of the seat.
+    pub fn number(&self) -> u32 {
+        self.number
+    }
+
+    /// The number of the seat's last call that was served, under which it has its line in the journal.
+    pub fn turn(&self) -> Option<u64> {
+        self.turn
+    }
+
+    /// Gives the seat back to its hull, as dropping it does.
+    pub fn give_back(self) {}
+
+    /// Holds a point once more, and tells how often it is held now: 1 where it is new.
+    pub fn add(&mut self, point: Point) -> Result<u32, Fault> {
+        self.call(code::KIND_ADD, point).and_then(answer::times_added)
+    }
+
+    /// Holds a point once less, and tells how often it is still held: 0 where it is there no more; `None` where it was
+    /// not there.
+    pub fn remove(&mut self, point: Point) -> Result<Option<u32>, Fault> {
+        self.call(code::KIND_REMOVE, point).and_then(answer::times_left)
+    }
+
+    /// Where a point lies.
+    pub fn place(&mut self, point: Point) -> Result<Place, Fault> {
+        self.call(code::KIND_PLACE, point).and_then(answer::place)
+    }
+
+    /// The left and the right point that bound the hull as it is seen from `point`, as
+    /// [`Hull::tangents`](crate::Hull::tangents).
+    pub fn tangents(&mut self, point: Point) -> Result<Option<(Point, Point)>, Fault> {
+        self.call(code::KIND_TANGENTS, point).and_then(answer::tangents)
+    }
+
+    /// The point that lies farthest in a direction, as [`Hull::extreme`](crate::Hull::extreme).
+    pub fn extreme(&mut self, direction: Point) -> Result<Option<Point>, Fault> {
+        self.call(code::KIND_EXTREME, direction).and_then(answer::extreme)
+    }
+
+    /// How many corners there are; they stand in the journal's line.
+    pub fn corners(&mut self) -> Result<usize, Fault> {
+        self.call(code::KIND_VERTICES, NOWHERE).and_then(answer::number).map(|corners| corners as usize)
+    }
+
+    /// Twice the area, 0 for a point and a line.
+    pub fn doubled_area(&mut self) -> Result<u128, Fault> {
+        self.call(code::KIND_AREA, NOWHERE).and_then(answer::number)
+    }
+
+    /// How many different points there are.
+    pub fn count(&mut self) -> Result<usize, Fault> {
+        self.call(code::KIND_COUNT, NOWHERE).and_then(answer::number).map(|points| points as usize)
+    }
+
+    /// Takes a number for a call, and looks until it is served.
+    fn call(&mut self, kind: u32, at: Point) -> Result<Reply, Fault> {
+        // SAFETY: a seat lies in the room, and `&mut self` keeps other calls away.
+        let taken = unsafe { raw::hull_shared_take(self.room.at(), kind, at.x, at.y) };
+        if taken != code::TAKEN {
+            return Err(answer::fault_of(taken));
+        }
+        let mut looks = 0;
+        loop {
+            // SAFETY: as above.
+            let reply = unsafe { raw::hull_shared_look(self.room.at()) };
+            match reply.told.code {
+                code::NOT_YET => pause(looks),
+                code::FULL => return Err(Fault::Full),
+                _ => {
+                    self.turn = Some(reply.turn);
+                    return Ok(reply.told);
+                }
+            }
+            looks += 1;
+        }
+    }
+}
+
+/// What calls go with that read no point.
+const NOWHERE: Point = Point { x: 0, y: 0 };
+
+/// Waits a little after so many looks: a pause at first, longer each time, and then the processor is yielded.
+fn pause(looks: u32) {
+    if looks < 7 {
+        for _ in 0..1 << looks {
+            spin_loop();
+        }
+    } else {
+        yield_now();
+    }
+}
+
+impl Drop for Seat {
+    fn drop(&mut self) {
+        // SAFETY: the seat lies in its room and went out of this desk, whose lock keeps other calls away.
+        unsafe { raw::hull_shared_give_back(self.desk.lock().at(), self.room.at()) };
+    }
+}
+
+impl fmt::Debug for Seat {
+    fn fmt(&self, f: &mut fmt::Formatter<'_>) -> fmt::Result {
+        f.debug_struct("Seat").field("number", &self.number).field("turn", &self.turn).finish_non_exhaustive()
+    }
+}

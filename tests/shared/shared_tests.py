@@ -1,0 +1,103 @@
+"""Each method of a shared hull in python/hull.py, each of its answers and each of its faults.
+
+Eight threads make calls at once; the journal of those goes to the file that JOURNAL names.
+"""
+import copy
+import os
+import random
+import threading
+import unittest
+
+from hull import CAPACITY_LIMIT, COORDINATE_LIMIT, POINT_LIMIT, SEAT_LIMIT
+from hull import JournalFull, NoSeat, OutOfRange, Place, SeatsOut, SharedHull, TooMany, ZeroDirection
+
+
+class Calls(unittest.TestCase):
+    def test_limits(self):
+        for wrong in ({"limit": 0}, {"limit": POINT_LIMIT + 1}, {"limit": -1}, {"capacity": 0}, {"seats": 0},
+                      {"capacity": CAPACITY_LIMIT + 1}, {"seats": SEAT_LIMIT + 1}, {"first": -1}, {"first": 1 << 64}):
+            self.assertRaises(ValueError, SharedHull, **{"capacity": 1, "seats": 1, **wrong})
+        SharedHull(capacity=1, seats=SEAT_LIMIT, first=(1 << 64) - 1)
+
+    def test_calls(self):
+        hull = SharedHull(capacity=100, seats=2, limit=6, first=7)
+        seat = hull.lend(1)
+        self.assertEqual((seat.turn(), seat.extreme(1, 0), seat.turn()), (None, None, 7))
+        self.assertEqual((seat.place(0, 0), seat.tangents(0, 0)), (Place.OUTSIDE, None))
+        self.assertEqual([seat.add(x, y) for x, y in [(0, 0), (10, 0), (10, 10), (0, 10), (4, 4)]], [1] * 5)
+        self.assertEqual((seat.add(4, 4), [seat.remove(4, 4) for _ in range(3)]), (2, [1, 0, None]))
+        self.assertEqual((seat.place(5, 5), seat.place(10, 5)), (Place.INSIDE, Place.ON))
+        self.assertEqual((seat.tangents(20, 5), seat.extreme(0, 1)), (((10, 0), (10, 10)), (0, 10)))
+        self.assertEqual((seat.corners(), seat.doubled_area(), seat.count(), seat.turn()), (4, 200, 4, 25))
+
+    def test_faults_of_calls(self):
+        hull = SharedHull(capacity=3, seats=1, limit=1)
+        seat = hull.lend(0)
+        self.assertRaises(OutOfRange, seat.add, COORDINATE_LIMIT + 1, 0)
+        self.assertRaises(OutOfRange, seat.place, 1 << 64, 0)
+        self.assertRaises(ZeroDirection, seat.extreme, 0, 0)
+        self.assertEqual((seat.turn(), seat.add(1, 1)), (None, 1))
+        self.assertRaises(TooMany, seat.add, 2, 2)
+        self.assertEqual(seat.count(), 1)
+        self.assertRaises(JournalFull, seat.count)
+        self.assertEqual(seat.turn(), 2)
+
+    def test_seats_and_the_journal(self):
+        hull = SharedHull(capacity=10, seats=2)
+        with hull.lend(0) as seat:
+            for number in (0, 2, -1, SEAT_LIMIT, 1 << 40):
+                self.assertRaises(NoSeat, hull.lend, number)
+            seat.add(3, 4)
+            self.assertRaises(SeatsOut, hull.close)
+        self.assertRaises(ValueError, seat.add, 3, 4)
+        seat.give_back()
+        hull.lend(1)  # let go at once
+        text = hull.close()
+        self.assertIn("add 3 4", text)
+        self.assertEqual(hull.close(), text)
+        self.assertRaises(ValueError, hull.lend, 0)
+        for value in (hull, seat):
+            self.assertRaises(TypeError, copy.copy, value)
+
+    def test_the_last_seat_keeps_the_hull(self):
+        seat = SharedHull(capacity=10, seats=1).lend(0)
+        self.assertEqual((seat.add(3, 4), seat.count()), (1, 1))
+
+    def test_the_end_of_a_with_closes(self):
+        with SharedHull(capacity=10, seats=1) as hull:
+            hull.lend(0).give_back()
+        self.assertRaises(ValueError, hull.lend, 0)
+
+
+class Threads(unittest.TestCase):
+    def make_calls(self, hull, number, calls):
+        """So many mixed calls of one seat, each with a number above that of the one before."""
+        numbers = random.Random(number)
+        with hull.lend(number) as seat:
+            kinds = [seat.add, seat.add, seat.remove, seat.place, seat.tangents, seat.extreme]
+            last = -1
+            for _ in range(calls):
+                numbers.choice(kinds)(numbers.randrange(-1000, 1001), 2 * numbers.randrange(-500, 500) + 1)
+                self.rising[number] &= seat.turn() > last
+                last = seat.turn()
+            self.made[number] = calls
+
+    def test_eight_threads(self):
+        calls = int(os.environ.get("CALLS", 1000))
+        hull = SharedHull(capacity=8 * calls, seats=8)
+        self.rising, self.made = [True] * 8, [0] * 8
+        threads = [threading.Thread(target=self.make_calls, args=(hull, number, calls)) for number in range(8)]
+        for thread in threads:
+            thread.start()
+        for thread in threads:
+            thread.join()
+        self.assertEqual((self.rising, self.made), ([True] * 8, [calls] * 8))
+        text = hull.close()
+        self.assertEqual(len(text.splitlines()), 8 * calls + 2)
+        if "JOURNAL" in os.environ:
+            with open(os.environ["JOURNAL"], "w", encoding="ascii") as file:
+                file.write(text)
+
+
+if __name__ == "__main__":
+    unittest.main()

@@ -1,0 +1,130 @@
+//! Each function of a shared hull in `rust/hull`, each of its answers and each of its faults; and eight threads at
+//! once, the journal of whose calls goes to the file that JOURNAL names.
+use hull::{Fault, Limits, Place, Point, Seat, SharedHull, CAPACITY_LIMIT, COORDINATE_LIMIT, POINT_LIMIT, SEAT_LIMIT};
+use std::thread;
+
+fn point(x: i64, y: i64) -> Point {
+    Point { x, y }
+}
+
+const SMALL: Limits = Limits { points: 6, first: 7, capacity: 100, seats: 2 };
+
+#[test]
+fn limits() {
+    let wrong = [
+        Limits { points: 0, ..SMALL },
+        Limits { points: POINT_LIMIT + 1, ..SMALL },
+        Limits { capacity: 0, ..SMALL },
+        Limits { capacity: CAPACITY_LIMIT + 1, ..SMALL },
+        Limits { seats: 0, ..SMALL },
+        Limits { seats: SEAT_LIMIT + 1, ..SMALL },
+    ];
+    for limits in wrong {
+        assert_eq!(SharedHull::open(limits).unwrap_err(), Fault::BadLimit, "{limits:?}");
+    }
+    SharedHull::open(Limits { points: POINT_LIMIT, first: u64::MAX, capacity: 1, seats: SEAT_LIMIT }).unwrap();
+}
+
+#[test]
+fn calls() {
+    let hull = SharedHull::open(SMALL).unwrap();
+    let mut seat = hull.lend(1).unwrap();
+    assert_eq!((seat.number(), seat.turn()), (1, None));
+    assert_eq!(seat.extreme(point(1, 0)), Ok(None));
+    assert_eq!((seat.turn(), seat.place(point(0, 0))), (Some(7), Ok(Place::Outside)));
+    assert_eq!(seat.tangents(point(0, 0)), Ok(None));
+    for (x, y) in [(0, 0), (10, 0), (10, 10), (0, 10), (4, 4)] {
+        assert_eq!(seat.add(point(x, y)), Ok(1));
+    }
+    assert_eq!((seat.add(point(4, 4)), seat.remove(point(4, 4))), (Ok(2), Ok(Some(1))));
+    assert_eq!((seat.remove(point(4, 4)), seat.remove(point(4, 4))), (Ok(Some(0)), Ok(None)));
+    assert_eq!((seat.place(point(5, 5)), seat.place(point(10, 5))), (Ok(Place::Inside), Ok(Place::On)));
+    assert_eq!(seat.tangents(point(20, 5)), Ok(Some((point(10, 0), point(10, 10)))));
+    assert_eq!(seat.extreme(point(0, 1)), Ok(Some(point(0, 10))));
+    assert_eq!((seat.corners(), seat.doubled_area(), seat.count()), (Ok(4), Ok(200), Ok(4)));
+    assert_eq!(seat.turn(), Some(25));
+}
+
+#[test]
+fn faults_of_calls() {
+    let hull = SharedHull::open(Limits { points: 1, capacity: 3, ..SMALL }).unwrap();
+    let mut seat = hull.lend(0).unwrap();
+    assert_eq!(seat.add(point(COORDINATE_LIMIT + 1, 0)), Err(Fault::OutOfRange));
+    assert_eq!(seat.extreme(point(0, 0)), Err(Fault::ZeroDirection));
+    assert_eq!((seat.turn(), seat.add(point(1, 1))), (None, Ok(1)));
+    assert_eq!((seat.add(point(2, 2)), seat.count()), (Err(Fault::TooMany), Ok(1)));
+    assert_eq!((seat.turn(), seat.count(), seat.turn()), (Some(9), Err(Fault::Full), Some(9)));
+    assert_eq!(format!("{seat:?} at {hull:?}"), "Seat { number: 0, turn: Some(9), .. } at SharedHull { .. }");
+}
+
+#[test]
+fn seats_and_the_journal() {
+    let hull = SharedHull::open(SMALL).unwrap();
+    let mut seat = hull.lend(0).unwrap();
+    assert_eq!(hull.lend(0).unwrap_err(), Fault::NoSeat);
+    assert_eq!(hull.lend(2).unwrap_err(), Fault::NoSeat);
+    assert_eq!(seat.add(point(3, 4)), Ok(1));
+    assert_eq!(hull.close().unwrap_err(), Fault::SeatsOut);
+    drop(hull.lend(1).unwrap());
+    seat.give_back();
+    let text = hull.close().unwrap();
+    assert!(text.contains("add 3 4"), "{text}");
+    assert_eq!(hull.close().unwrap(), text);
+    assert_eq!(hull.lend(0).unwrap_err(), Fault::NotOpen);
+}
+
+/// A seat outlives the hull that it was lent by.
+#[test]
+fn the_last_seat_keeps_the_hull() {
+    let hull = SharedHull::open(SMALL).unwrap();
+    let mut seat = hull.lend(0).unwrap();
+    drop(hull);
+    assert_eq!((seat.add(point(3, 4)), seat.count()), (Ok(1), Ok(1)));
+}
+
+/// Numbers from 0 to 2^64 - 1 (xorshift; Marsaglia, 2003).
+fn next(state: &mut u64) -> u64 {
+    *state ^= *state << 13;
+    *state ^= *state >> 7;
+    *state ^= *state << 17;
+    *state
+}
+
+/// So many mixed calls of one seat, each with a number above that of the one before.
+fn make_calls(seat: &mut Seat, calls: u64) {
+    let mut state = 88172645463325252 ^ u64::from(seat.number() + 1) * 0x9E37_79B9_7F4A_7C15;
+    let mut last = None;
+    for _ in 0..calls {
+        let kind = next(&mut state) % 8;
+        let mut coordinate = || (next(&mut state) % 2001) as i64 - 1000;
+        let at = point(coordinate(), coordinate() * 2 + 1);
+        match kind {
+            0..=2 => assert!(seat.add(at).unwrap() > 0),
+            3 => assert!(seat.remove(at).unwrap() != Some(u32::MAX)),
+            4 => assert!(seat.extreme(at).is_ok()),
+            5 => assert!(seat.tangents(at).is_ok()),
+            6 => assert!(seat.corners().unwrap() <= 8 * calls as usize),
+            _ => assert!(seat.place(at).is_ok()),
+        }
+        assert!(seat.turn() > last);
+        last = seat.turn();
+    }
+}
+
+#[test]
+fn eight_threads() {
+    let calls = std::env::var("CALLS").map_or(1000, |calls| calls.parse().unwrap());
+    let limits = Limits { points: POINT_LIMIT, first: 0, capacity: 8 * calls as u32, seats: 8 };
+    let hull = SharedHull::open(limits).unwrap();
+    thread::scope(|scope| {
+        for number in 0..8 {
+            let mut seat = hull.lend(number).unwrap();
+            scope.spawn(move || make_calls(&mut seat, calls));
+        }
+    });
+    let text = hull.close().unwrap();
+    assert_eq!(text.lines().count() as u64, 8 * calls + 2);
+    if let Ok(file) = std::env::var("JOURNAL") {
+        std::fs::write(file, text).unwrap();
+    }
+}
