@@ -2,3 +2,5 @@ pub mod Pieces
 pub mod Rows
 pub mod Edges
 pub mod Levels
+pub mod ManyScenes
+pub mod Frames

@@ -6,4 +6,6 @@ pub mod Texts
 pub mod Shapes
 pub mod Legends
 pub mod Pictures
+pub mod Films
+pub mod FilmTexts
 pub mod Drawings

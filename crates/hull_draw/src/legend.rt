@@ -16,7 +16,7 @@ pub const BRIDGES_TOLD: &[u8] =
     b"'>bridges of 8 levels: <tspan fill='#c0392b'>upper</tspan>, <tspan fill='#1e8449'>lower</tspan></text>\n";
 
 /// Begins a line of the legend, so far below the square.
-fn line_start_after<W: Sink>(done: Done, out: &mut W, size: u64, below: u64) -> Done
+pub(crate) fn line_start_after<W: Sink>(done: Done, out: &mut W, size: u64, below: u64) -> Done
     requires room { OnOk done (W.failed out.old < 2 ^ 64 - 1) }
     requires small { size < 2 ^ 20 }
     requires near { below < 2 ^ 20 }

@@ -15,6 +15,8 @@
 
 mod bridges;
 mod drawing;
+mod film_picture;
+mod filming;
 mod frame;
 mod labels;
 mod legend;
@@ -23,10 +25,13 @@ mod picture;
 mod replaying;
 mod scene;
 mod shapes;
+mod shots;
 #[cfg(test)]
 mod tests;
 
 pub use bridges::{Bridge, LEVEL_LIMIT};
 pub use drawing::{DrawFault, DrawOptions, draw};
+pub use filming::film;
 pub use marks::Mark;
 pub use scene::{Scene, scene_of};
+pub use shots::{FRAME_LIMIT, scenes_of};

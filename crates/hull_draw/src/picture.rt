@@ -32,7 +32,7 @@ fn set_after<W: Sink>(done: Done, out: &mut W, size: u64, frame: &Frame, scene: 
 }
 
 /// Writes the set, or that it is empty.
-fn shown_after<W: Sink>(
+pub(crate) fn shown_after<W: Sink>(
     done: Done,
     out: &mut W,
     size: u64,
@@ -52,7 +52,7 @@ fn shown_after<W: Sink>(
 }
 
 /// Begins a picture.
-fn put_head<W: Sink>(out: &mut W, size: u64) -> Done
+pub(crate) fn put_head<W: Sink>(out: &mut W, size: u64) -> Done
     requires room { W.failed out.old < 2 ^ 64 - 1 }
     requires small { size < 2 ^ 20 }
     ensures { WritesText (W.contents out.old) (W.contents out.new) (W.failed out.old) (W.failed out.new) result (head_text size) }

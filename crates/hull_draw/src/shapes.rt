@@ -72,7 +72,7 @@ fn polygon_after<W: Sink>(done: Done, out: &mut W, frame: &Frame, points: &[Poin
 }
 
 /// Writes a dot.
-fn dot_after<W: Sink>(done: Done, out: &mut W, frame: &Frame, point: Point) -> Done
+pub(crate) fn dot_after<W: Sink>(done: Done, out: &mut W, frame: &Frame, point: Point) -> Done
     requires { OnOk done (W.failed out.old < 2 ^ 64 - 1) }
     ensures wrote { WritesOn done result (W.contents out.old) (W.contents out.new) (W.failed out.old) (W.failed out.new) (dot_text frame.now point) }
     ensures kept { OnOk result (W.failed out.new ≡ W.failed out.old) }

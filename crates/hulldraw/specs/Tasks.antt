@@ -1,13 +1,16 @@
--- What an accepted command line asks for: only numbers within their limits, and a path that is one of its words.
-use Rattle.std.specs.Prelude.{◌≡◌, ◌≤◌, ℕ, List, map, slice_get, Some, string_bytes}
+-- What an accepted command line asks for: only numbers within their limits, a path that is one of its words, and of a film
+-- no line and no bridges.
+use Rattle.std.specs.Prelude.{◌≡◌, ◌≤◌, ℕ, List, map, slice_get, Some, None, true, false, string_bytes}
 use Rattle.std.specs.Borrow.{Bor}
 use Rattle.hulldraw.specs.declared.options.Task.{Task}
 use Rattle.hulldraw.specs.declared.options.TheConstants.{SIZE_LEAST, SIZE_LIMIT}
 
--- the side of the picture is within its limits
+-- the side of the picture is within its limits, and a film is of the whole journal, without bridges
 pub record IsWithinLimits (task : Task) : Type 0 where
   pub low : SIZE_LEAST ≤ task.options.size
   pub high : task.options.size ≤ SIZE_LIMIT
+  pub whole : task.film ≡ true → task.options.line ≡ None
+  pub plain : task.film ≡ true → task.options.bridges ≡ false
 
 -- the words as texts
 abbrev pub texts_of : List (Bor (List ℕ)) → List (List ℕ)

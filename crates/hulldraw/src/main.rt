@@ -1,4 +1,4 @@
-//! `hulldraw`: draws the set that a journal of `hullbook` leaves, as SVG on standard output.
+//! `hulldraw`: draws the set that a journal of `hullbook` leaves, or a film of the journal, as SVG on standard output.
 #![tactic(auto)]
 
 ghost use Rattle.std.specs.Prelude.{IfOk};
@@ -8,7 +8,7 @@ mod fault;
 mod options;
 
 use fault::Fault;
-use hull_draw::draw;
+use hull_draw::{draw, film};
 use options::{OptionFault, Task, options};
 use std::io::BufWriter;
 use std::process::ExitCode;
@@ -44,7 +44,12 @@ fn work<R: Env + Files + Print + AllocGlobal>(rt: &R) -> Result<(), Fault> {
         |_| Fault::Memory,
     )?;
     let mut output = Counted::new(block);
-    draw(rt.alloc(), &mut input, &mut output, &task.options).map_err(Fault::from)
+    let done = if task.film {
+        film(rt.alloc(), &mut input, &mut output, task.options.size)
+    } else {
+        draw(rt.alloc(), &mut input, &mut output, &task.options)
+    };
+    done.map_err(Fault::from)
 }
 
 fn main(rt: HostRuntime) -> ExitCode {

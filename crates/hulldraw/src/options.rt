@@ -22,6 +22,8 @@ pub struct Task {
     pub path: String,
     /// The lines that are replayed, what is drawn, and its size.
     pub options: DrawOptions,
+    /// Whether a film of that size is drawn, in place of one picture.
+    pub film: bool,
 }
 
 /// Why the words were refused.
@@ -52,6 +54,9 @@ fn command<'a>(alloc: Global) -> Result<Command<'a>, AllocError> {
     let bridges = Arg::new(alloc, "bridges")
         .long("bridges")
         .action(ArgAction::SetTrue);
+    let film = Arg::new(alloc, "film")
+        .long("film")
+        .action(ArgAction::SetTrue);
     let size = Arg::new(alloc, "size")
         .long("size")
         .action(ArgAction::Set)
@@ -61,6 +66,7 @@ fn command<'a>(alloc: Global) -> Result<Command<'a>, AllocError> {
         .arg(journal)?
         .arg(line)?
         .arg(bridges)?
+        .arg(film)?
         .arg(size)
 }
 
@@ -103,10 +109,11 @@ fn path_of(alloc: Global, matches: &ArgMatches<'_>, words: &[&str]) -> Result<St
     Err(OptionFault::Usage)
 }
 
-/// What the words after the program's name ask for: `JOURNAL` with `--line N`, `--bridges` and `--size PIXELS`.
+/// What the words after the program's name ask for: `JOURNAL` with `--line N`, `--bridges` and `--size PIXELS`, or with
+/// `--film` and `--size PIXELS`.
 ///
-/// The path is one of the words, as it was written. `Usage` for any other words and for a number outside its limits; a
-/// question for help counts as one. `Memory` where memory was refused.
+/// The path is one of the words, as it was written. `Usage` for any other words, for a number outside its limits, and for
+/// a film with `--line` or `--bridges`; a question for help counts as one. `Memory` where memory was refused.
 pub fn options(alloc: Global, words: &[&str]) -> Result<Task, OptionFault>
     ensures limits { IfOk result IsWithinLimits }
     ensures path { IfOk result (λ task. IsOneOf (texts_of words.now) (string_bytes task.path)) }
@@ -121,6 +128,14 @@ pub fn options(alloc: Global, words: &[&str]) -> Result<Task, OptionFault>
     let Some(options) = options_of(&matches) else {
         return Err(OptionFault::Usage);
     };
+    let film = matches.get_flag("film");
+    if film && (options.line.is_some() || options.bridges) {
+        return Err(OptionFault::Usage);
+    }
     let path = path_of(alloc, &matches, words)?;
-    Ok(Task { path, options })
+    Ok(Task {
+        path,
+        options,
+        film,
+    })
 }

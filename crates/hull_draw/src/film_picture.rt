@@ -1,0 +1,358 @@
+ghost use Rattle.std.specs.Prelude.{◌≡◌, ◌<◌, ◌≤◌, ◌-◌, ◌^◌, ◌++◌, OnOk, IsOk, length};
+ghost use Rattle.text_io.specs.Write.{WritesOn, WritesText};
+ghost use Rattle.hull_draw.specs.declared.shots.TheConstants.{FRAME_LIMIT};
+ghost use Rattle.hull_draw.specs.FilmTexts.{ray_text, tangents_text, farthest_text, found_text, right_found_text, asked_words, asked_text, call_text, call_shown_text, said_text, caption_text, hidden_again_text, frame_start_text, frame_end_text, shot_text, frames_text, title_text, film_text};
+ghost use Rattle.hull_draw.specs.Films.{call_point};
+
+use super::shots::call_point;
+use super::frame::Frame;
+use super::legend::{legend_after, line_start_after};
+use super::picture::{put_head, shown_after};
+use super::scene::Scene;
+use super::shapes::{Done, dot_after, square_after, told_after};
+use hull_book::Line;
+use hull_plain::Reply;
+use hull_text::{call_after, reply_after};
+use lattice::Point;
+use text_io::{Sink, flush_after, put_after};
+
+/// How a call is coloured: its point (`q`), or that of a refused one (`x`), the two
+/// tangents from there (`f`), and the farthest point (`e`).
+pub const FILM_STYLE: &[u8] =
+    b"<style>.q{stroke:#7d3c98;stroke-width:11}.x{stroke:#c00;stroke-width:11}.f{stroke:#d35400;stroke-width:3}.e{stroke:#d35400;stroke-width:13}</style>\n";
+
+/// Writes a line from the point of the call, where it names one, to another point; where it names none, a dot.
+fn ray_after<W: Sink>(
+    done: Done,
+    out: &mut W,
+    frame: &Frame,
+    asked: &Option<Point>,
+    point: Point,
+) -> Done
+    requires { OnOk done (W.failed out.old < 2 ^ 64 - 1) }
+    ensures wrote { WritesOn done result (W.contents out.old) (W.contents out.new) (W.failed out.old) (W.failed out.new) (ray_text frame.now asked.now point) }
+    ensures kept { OnOk result (W.failed out.new ≡ W.failed out.old) }
+    ensures was { OnOk result (IsOk done) }
+{
+    match asked {
+        None => dot_after(done, out, frame, point),
+        Some(start) => {
+            let done = told_after(done, out, b"M", frame.across(*start));
+            let done = told_after(done, out, b" ", frame.down(*start));
+            let done = told_after(done, out, b"L", frame.across(point));
+            told_after(done, out, b" ", frame.down(point))
+        }
+    }
+}
+
+/// Writes both tangents, from the point of the call.
+fn tangents_after<W: Sink>(
+    done: Done,
+    out: &mut W,
+    frame: &Frame,
+    asked: &Option<Point>,
+    ends: (Point, Point),
+) -> Done
+    requires { OnOk done (W.failed out.old < 2 ^ 64 - 1) }
+    ensures wrote { WritesOn done result (W.contents out.old) (W.contents out.new) (W.failed out.old) (W.failed out.new) (tangents_text frame.now asked.now ends.0 ends.1) }
+    ensures kept { OnOk result (W.failed out.new ≡ W.failed out.old) }
+    ensures was { OnOk result (IsOk done) }
+{
+    let done = put_after(done, out, b"<path class='f' d='");
+    let done = ray_after(done, out, frame, asked, ends.0);
+    let done = ray_after(done, out, frame, asked, ends.1);
+    put_after(done, out, b"'/>\n")
+}
+
+/// Writes the point that lies farthest.
+fn farthest_after<W: Sink>(done: Done, out: &mut W, frame: &Frame, point: Point) -> Done
+    requires { OnOk done (W.failed out.old < 2 ^ 64 - 1) }
+    ensures wrote { WritesOn done result (W.contents out.old) (W.contents out.new) (W.failed out.old) (W.failed out.new) (farthest_text frame.now point) }
+    ensures kept { OnOk result (W.failed out.new ≡ W.failed out.old) }
+    ensures was { OnOk result (IsOk done) }
+{
+    let done = put_after(done, out, b"<path class='e' d='");
+    let done = dot_after(done, out, frame, point);
+    put_after(done, out, b"'/>\n")
+}
+
+/// Writes what a reply found.
+fn found_after<W: Sink>(
+    done: Done,
+    out: &mut W,
+    frame: &Frame,
+    asked: &Option<Point>,
+    reply: &Reply,
+) -> Done
+    requires { OnOk done (W.failed out.old < 2 ^ 64 - 1) }
+    ensures wrote { WritesOn done result (W.contents out.old) (W.contents out.new) (W.failed out.old) (W.failed out.new) (found_text frame.now asked.now reply.now) }
+    ensures kept { OnOk result (W.failed out.new ≡ W.failed out.old) }
+    ensures was { OnOk result (IsOk done) }
+{
+    match reply {
+        Reply::Farthest(point) => farthest_after(done, out, frame, *point),
+        Reply::TangentPoints(left, right) => {
+            tangents_after(done, out, frame, asked, (*left, *right))
+        }
+        _ => done,
+    }
+}
+
+/// Writes what a reply found, where its line is right.
+fn right_found_after<W: Sink>(
+    done: Done,
+    out: &mut W,
+    frame: &Frame,
+    wrong: Option<u32>,
+    asked: &Option<Point>,
+    reply: &Reply,
+) -> Done
+    requires { OnOk done (W.failed out.old < 2 ^ 64 - 1) }
+    ensures wrote { WritesOn done result (W.contents out.old) (W.contents out.new) (W.failed out.old) (W.failed out.new) (right_found_text frame.now wrong asked.now reply.now) }
+    ensures kept { OnOk result (W.failed out.new ≡ W.failed out.old) }
+    ensures was { OnOk result (IsOk done) }
+{
+    match wrong {
+        None => found_after(done, out, frame, asked, reply),
+        Some(_) => done,
+    }
+}
+
+/// How the point of a call begins: one that was refused stands out.
+fn put_asked_words<W: Sink>(done: Done, out: &mut W, reply: &Reply) -> Done
+    requires { OnOk done (W.failed out.old < 2 ^ 64 - 1) }
+    ensures wrote { WritesOn done result (W.contents out.old) (W.contents out.new) (W.failed out.old) (W.failed out.new) (asked_words reply.now) }
+    ensures kept { OnOk result (W.failed out.new ≡ W.failed out.old) }
+    ensures was { OnOk result (IsOk done) }
+{
+    match reply {
+        Reply::TooMany | Reply::NoMemory => put_after(done, out, b"<path class='x' d='"),
+        _ => put_after(done, out, b"<path class='q' d='"),
+    }
+}
+
+/// Writes the point of a call, where it names one.
+fn asked_after<W: Sink>(
+    done: Done,
+    out: &mut W,
+    frame: &Frame,
+    asked: &Option<Point>,
+    reply: &Reply,
+) -> Done
+    requires { OnOk done (W.failed out.old < 2 ^ 64 - 1) }
+    ensures wrote { WritesOn done result (W.contents out.old) (W.contents out.new) (W.failed out.old) (W.failed out.new) (asked_text frame.now asked.now reply.now) }
+    ensures kept { OnOk result (W.failed out.new ≡ W.failed out.old) }
+    ensures was { OnOk result (IsOk done) }
+{
+    match asked {
+        None => done,
+        Some(point) => {
+            let done = put_asked_words(done, out, reply);
+            let done = dot_after(done, out, frame, *point);
+            put_after(done, out, b"'/>\n")
+        }
+    }
+}
+
+/// Writes a call and what it found, in the square of the picture.
+fn call_marks_after<W: Sink>(
+    done: Done,
+    out: &mut W,
+    size: u64,
+    frame: &Frame,
+    wrong: Option<u32>,
+    line: &Line,
+) -> Done
+    requires { OnOk done (W.failed out.old < 2 ^ 64 - 1) }
+    ensures wrote { WritesOn done result (W.contents out.old) (W.contents out.new) (W.failed out.old) (W.failed out.new) (call_text size frame.now wrong line.now) }
+    ensures kept { OnOk result (W.failed out.new ≡ W.failed out.old) }
+    ensures was { OnOk result (IsOk done) }
+{
+    let asked = call_point(&line.call);
+    let done = square_after(done, out, size, frame.extent());
+    let done = right_found_after(done, out, frame, wrong, &asked, &line.reply);
+    let done = asked_after(done, out, frame, &asked, &line.reply);
+    put_after(done, out, b"</svg>\n")
+}
+
+/// Writes a call and what it found, where there is a square.
+fn call_shown_after<W: Sink>(
+    done: Done,
+    out: &mut W,
+    size: u64,
+    frame: &Option<Frame>,
+    wrong: Option<u32>,
+    line: &Line,
+) -> Done
+    requires { OnOk done (W.failed out.old < 2 ^ 64 - 1) }
+    ensures wrote { WritesOn done result (W.contents out.old) (W.contents out.new) (W.failed out.old) (W.failed out.new) (call_shown_text size frame.now wrong line.now) }
+    ensures kept { OnOk result (W.failed out.new ≡ W.failed out.old) }
+    ensures was { OnOk result (IsOk done) }
+{
+    match frame {
+        None => done,
+        Some(frame) => call_marks_after(done, out, size, frame, wrong, line),
+    }
+}
+
+/// Writes a call and its reply, as a journal has them.
+fn said_after<W: Sink>(done: Done, out: &mut W, line: &Line) -> Done
+    requires { OnOk done (W.failed out.old < 2 ^ 64 - 1) }
+    ensures wrote { WritesOn done result (W.contents out.old) (W.contents out.new) (W.failed out.old) (W.failed out.new) (said_text line.now) }
+    ensures kept { OnOk result (W.failed out.new ≡ W.failed out.old) }
+    ensures was { OnOk result (IsOk done) }
+{
+    let done = call_after(done, out, &line.call);
+    let done = put_after(done, out, b" =");
+    reply_after(done, out, &line.reply)
+}
+
+/// Writes the caption of a frame.
+fn caption_after<W: Sink>(done: Done, out: &mut W, size: u64, line: &Line) -> Done
+    requires room { OnOk done (W.failed out.old < 2 ^ 64 - 1) }
+    requires small { size < 2 ^ 20 }
+    ensures wrote { WritesOn done result (W.contents out.old) (W.contents out.new) (W.failed out.old) (W.failed out.new) (caption_text size line.now) }
+    ensures kept { OnOk result (W.failed out.new ≡ W.failed out.old) }
+    ensures was { OnOk result (IsOk done) }
+{
+    let done = line_start_after(done, out, size, 164);
+    let done = put_after(done, out, b"' font-weight='bold'>");
+    let done = said_after(done, out, line);
+    put_after(done, out, b"</text>\n")
+}
+
+/// Hides a frame again behind its second, but for the last.
+fn hidden_again_after<W: Sink>(done: Done, out: &mut W, count: usize, place: usize) -> Done
+    requires room { OnOk done (W.failed out.old < 2 ^ 64 - 1) }
+    requires inside { place < count }
+    ensures wrote { WritesOn done result (W.contents out.old) (W.contents out.new) (W.failed out.old) (W.failed out.new) (hidden_again_text count place) }
+    ensures kept { OnOk result (W.failed out.new ≡ W.failed out.old) }
+    ensures was { OnOk result (IsOk done) }
+{
+    let next = place + 1;
+    if next == count {
+        return put_after(done, out, b"\n");
+    }
+    let start = b"<set attributeName='display' to='none' begin='";
+    let done = told_after(done, out, start, next);
+    put_after(done, out, b"s'/>\n")
+}
+
+/// Begins a frame, which is hidden until its second.
+fn frame_start_after<W: Sink>(done: Done, out: &mut W, count: usize, place: usize) -> Done
+    requires room { OnOk done (W.failed out.old < 2 ^ 64 - 1) }
+    requires inside { place < count }
+    ensures wrote { WritesOn done result (W.contents out.old) (W.contents out.new) (W.failed out.old) (W.failed out.new) (frame_start_text count place) }
+    ensures kept { OnOk result (W.failed out.new ≡ W.failed out.old) }
+    ensures was { OnOk result (IsOk done) }
+{
+    let start = b"<g><set attributeName='display' to='none' begin='-1s' end='";
+    let done = told_after(done, out, start, place);
+    let done = put_after(done, out, b"s'/>");
+    hidden_again_after(done, out, count, place)
+}
+
+/// Ends a frame with its caption.
+fn frame_end_after<W: Sink>(done: Done, out: &mut W, size: u64, line: &Line) -> Done
+    requires room { OnOk done (W.failed out.old < 2 ^ 64 - 1) }
+    requires small { size < 2 ^ 20 }
+    ensures wrote { WritesOn done result (W.contents out.old) (W.contents out.new) (W.failed out.old) (W.failed out.new) (frame_end_text size line.now) }
+    ensures kept { OnOk result (W.failed out.new ≡ W.failed out.old) }
+    ensures was { OnOk result (IsOk done) }
+{
+    let done = caption_after(done, out, size, line);
+    put_after(done, out, b"</g>\n")
+}
+
+/// Writes a frame: the set as a still picture has it, over it the call, below it the legend and the caption.
+fn frame_after<W: Sink>(
+    done: Done,
+    out: &mut W,
+    size: u64,
+    frame: &Option<Frame>,
+    scene: &Scene,
+    line: &Line,
+) -> Done
+    requires room { OnOk done (W.failed out.old < 2 ^ 64 - 1) }
+    requires small { size < 2 ^ 20 }
+    ensures wrote { WritesOn done result (W.contents out.old) (W.contents out.new) (W.failed out.old) (W.failed out.new) (shot_text size frame.now scene.now line.now) }
+    ensures kept { OnOk result (W.failed out.new ≡ W.failed out.old) }
+    ensures was { OnOk result (IsOk done) }
+{
+    let done = shown_after(done, out, size, frame, scene);
+    let done = call_shown_after(done, out, size, frame, scene.wrong, line);
+    let done = legend_after(done, out, size, frame, scene);
+    frame_end_after(done, out, size, line)
+}
+
+/// Writes the frames, each with its line.
+fn frames_after<W: Sink>(
+    done: Done,
+    out: &mut W,
+    size: u64,
+    frame: &Option<Frame>,
+    scenes: &[Scene],
+    lines: &[Line],
+) -> Done
+    requires room { OnOk done (W.failed out.old < 2 ^ 64 - 1) }
+    requires small { size < 2 ^ 20 }
+    requires few { length scenes.now ≤ FRAME_LIMIT }
+    ensures wrote { WritesOn done result (W.contents out.old) (W.contents out.new) (W.failed out.old) (W.failed out.new) (frames_text size frame.now (length scenes.now) 0 scenes.now lines.now) }
+    ensures kept { OnOk result (W.failed out.new ≡ W.failed out.old) }
+    ensures was { OnOk result (IsOk done) }
+{
+    let mut done = done;
+    let mut place = 0;
+    let mut rest = scenes;
+    let mut left = lines;
+    while let Some((scene, after)) = rest.split_first() {
+        let Some((line, lines_after)) = left.split_first() else {
+            return done;
+        };
+        done = frame_start_after(done, out, scenes.len(), place);
+        done = frame_after(done, out, size, frame, scene, line);
+        place += 1;
+        rest = after;
+        left = lines_after;
+    }
+    done
+}
+
+/// Writes which calls are played.
+fn title_after<W: Sink>(done: Done, out: &mut W, count: usize, total: usize) -> Done
+    requires { OnOk done (W.failed out.old < 2 ^ 64 - 1) }
+    ensures wrote { WritesOn done result (W.contents out.old) (W.contents out.new) (W.failed out.old) (W.failed out.new) (title_text count total) }
+    ensures kept { OnOk result (W.failed out.new ≡ W.failed out.old) }
+    ensures was { OnOk result (IsOk done) }
+{
+    let done = told_after(done, out, b"<text x='32' y='14'>the first ", count);
+    let done = told_after(done, out, b" of ", total);
+    put_after(done, out, b" calls</text>\n")
+}
+
+/// Writes a film of these scenes, each with its line, of this size and of this square of the plane.
+///
+/// It takes no memory, and ends with a flush. The count of failures has to be below its last value.
+///
+/// # Errors
+///
+/// `WriteFault` comes only where the writer failed in this call; what was written is then a beginning of the text.
+pub(crate) fn write_film<W: Sink>(
+    out: &mut W,
+    size: u64,
+    frame: &Option<Frame>,
+    scenes: &[Scene],
+    lines: &[Line],
+) -> Done
+    requires room { W.failed out.old < 2 ^ 64 - 1 }
+    requires small { size < 2 ^ 20 }
+    requires few { length scenes.now ≤ FRAME_LIMIT }
+    ensures { WritesText (W.contents out.old) (W.contents out.new) (W.failed out.old) (W.failed out.new) result (film_text size frame.now scenes.now lines.now) }
+{
+    let done = put_head(out, size);
+    let done = put_after(done, out, FILM_STYLE);
+    let done = title_after(done, out, scenes.len(), lines.len());
+    let done = frames_after(done, out, size, frame, scenes, lines);
+    let done = put_after(done, out, b"</svg>\n");
+    flush_after(done, out)
+}
