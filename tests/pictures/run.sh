@@ -46,6 +46,7 @@ picture upright upright
 picture wide wide
 picture near near
 picture wrong-line wrong
+picture film film --film
 [ "$new" != new ] || exit 0
 
 # 99,996 points inside a square of side 2,000,000, on different verticals, and its four corners
@@ -72,6 +73,15 @@ said 'its area' "$(grep -c '>doubled area 8000000000000<' "$room/large.svg")" 1
 "$top/bin/hulldraw" "$room/large" --line 2 >"$room/large.svg"
 said 'corners after two lines' "$(grep -c "points='0,1000000 2000000,1000000 '" "$room/large.svg")" 1
 
+# a film of its first 600 lines
+"$top/bin/hulldraw" "$room/large" --film >"$room/large.svg"
+said 'status of the large film' $? 0
+said 'its frames' "$(grep -c '^<g><set' "$room/large.svg")" 600
+said 'its captions' "$(count "font-weight='bold'> add [-0-9]* [-0-9]* = added<")" 600
+said 'its title' "$(grep -c '>the first 600 of 100000 calls<' "$room/large.svg")" 1
+"$top/bin/hulldraw" "$here/journals/wrong.txt" --film >"$room/large.svg"
+said 'where a film ends at a wrong line' "$(grep -c 'is wrong' "$room/large.svg")" 1
+
 # what is refused: MESSAGE STATUS WORDS..
 refused() {
     message=$1
@@ -86,6 +96,8 @@ printf 'hullbook journal 3 first 0 limit 4 capacity 9\n0 0 add 01 0 = added\nend
 refused 'hulldraw: usage' 2
 refused 'hulldraw: usage' 2 --help
 refused 'hulldraw: usage' 2 "$room/large" --size 239
+refused 'hulldraw: usage' 2 "$room/large" --film --line 2
+refused 'hulldraw: usage' 2 "$room/large" --film --bridges
 refused 'hulldraw: open' 3 "$room/absent"
 refused 'hulldraw: line 2: fault 2' 2 "$room/spelling"
 "$top/bin/hulldraw" "$room/large" >/dev/full 2>"$room/error"

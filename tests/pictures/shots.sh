@@ -1,5 +1,6 @@
 #!/bin/sh
-# Screenshots of docs/pictures/*.svg, to be looked at: shots.sh [FOLDER]. Skips with a word where there is no Chromium.
+# Screenshots of docs/pictures/*.svg, of the film at three moments, to be looked at: shots.sh [FOLDER]. Skips with a word where
+# there is no Chromium.
 set -eu
 cd "$(dirname "$0")/../.."
 browser=$(command -v chromium || command -v chromium-browser || true)
@@ -14,5 +15,10 @@ for picture in docs/pictures/*.svg; do
     "$browser" --headless --no-sandbox --disable-gpu --window-size=760,900 \
         --screenshot="$shot" "file://$PWD/$picture" > "$shots/browser.txt" 2>&1
     [ -s "$shot" ] || { echo "no screenshot of $picture"; exit 1; }
+done
+for moment in 500 3500 9000; do
+    "$browser" --headless --no-sandbox --disable-gpu --window-size=760,900 --virtual-time-budget="$moment" \
+        --screenshot="$shots/film-$moment.png" "file://$PWD/docs/pictures/film.svg" > "$shots/browser.txt" 2>&1
+    [ -s "$shots/film-$moment.png" ] || { echo "no screenshot of the film"; exit 1; }
 done
 echo "screenshots in $shots"

@@ -1,10 +1,9 @@
 -- A film that grows shot by shot, and the marks of the points that its calls name.
 use Rattle.std.specs.Option.{is_some}
-use Rattle.std.proofs.Common.{true, false, ◌≡◌, ◌++◌, ◌+◌, ℕ, suc, List, [], ◌∷◌, length, Option, Some, None, refl, sym, ap, subst, ◌∙◌, append_assoc, arith}
+use Rattle.std.proofs.Common.{true, false, ◌≡◌, ◌++◌, ◌+◌, ℕ, suc, List, [], ◌∷◌, length, Option, Some, None, refl, ap, subst, ◌∙◌, arith}
 use Rattle.lattice.specs.Plane.{Pair}
 use Rattle.hull_book.specs.Journals.{JournalValue}
 use Rattle.hull_book.specs.declared.line.Line.{Line}
-use Rattle.hull_draw.specs.declared.marks.Mark.{Mark}
 use Rattle.hull_draw.specs.Films.{AreShots, shot_options, call_point, point_marks, called_marks}
 use Rattle.hull_draw.specs.Scenes.{SceneValue, IsScene}
 

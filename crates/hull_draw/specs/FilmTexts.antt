@@ -1,5 +1,5 @@
 -- The text of a film: frames that lie one over the other, each of which is seen for a second, and the last from then on.
-use Rattle.std.specs.Prelude.{◌==◌, ◌+◌, ℕ, suc, List, [], ◌∷◌, ◌++◌, length, Option, Some, None, codes, if◌then◌else◌}
+use Rattle.std.specs.Prelude.{◌==◌, ◌+◌, ℕ, List, [], ◌∷◌, ◌++◌, length, Option, Some, None, codes, if◌then◌else◌}
 use Rattle.lattice.specs.Plane.{Pair}
 use Rattle.hull_plain.specs.declared.reply.Reply.{Reply}
 use Rattle.hull_plain.specs.declared.reply.Reply.TheVariants.{TooMany, NoMemory, Farthest, TangentPoints}

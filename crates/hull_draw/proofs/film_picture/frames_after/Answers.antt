@@ -1,5 +1,5 @@
 -- A frame's text stands before those of the frames behind it.
-use Rattle.std.proofs.Common.{◌≡◌, ◌∷◌, ◌+◌, length, refl, sym, ap, ◌∙◌, arith}
+use Rattle.std.proofs.Common.{◌≡◌, ◌+◌, length, refl, arith}
 use Rattle.hull_text.proofs.Chains.{chained_end, chained_more}
 use Rattle.hull_draw.proofs.Frames.{frames_cons, frames_none, frames_no_lines}
 use Rattle.hull_draw.proofs.film_picture.frames_after.Goals as goal

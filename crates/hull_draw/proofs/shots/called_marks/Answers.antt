@@ -1,5 +1,5 @@
 -- The mark of a call's point, where it names one, stands behind those so far.
-use Rattle.std.proofs.Common.{◌≡◌, ◌++◌, ◌∙◌, sym, ap, List, append_assoc, append-nil}
+use Rattle.std.proofs.Common.{◌++◌, ◌∙◌, sym, ap, List, append_assoc, append-nil}
 use Rattle.hull_draw.specs.declared.marks.Mark.{Mark}
 use Rattle.hull_draw.specs.Films.{called_marks}
 use Rattle.hull_draw.proofs.ManyScenes.{called_point, called_no_point, called_none}
