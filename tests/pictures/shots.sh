@@ -16,9 +16,14 @@ for picture in docs/pictures/*.svg; do
         --screenshot="$shot" "file://$PWD/$picture" > "$shots/browser.txt" 2>&1
     [ -s "$shot" ] || { echo "no screenshot of $picture"; exit 1; }
 done
-for moment in 500 3500 9000; do
-    "$browser" --headless --no-sandbox --disable-gpu --window-size=760,900 --virtual-time-budget="$moment" \
-        --screenshot="$shots/film-$moment.png" "file://$PWD/docs/pictures/film.svg" > "$shots/browser.txt" 2>&1
+# a page holds the film still at a moment, in tenths of a second
+for moment in 5 35 45; do
+    {
+        cat docs/pictures/film.svg
+        echo "<script>f=document.querySelector('svg');f.pauseAnimations();f.setCurrentTime($moment/10)</script>"
+    } > "$shots/film.html"
+    "$browser" --headless --no-sandbox --disable-gpu --window-size=760,900 \
+        --screenshot="$shots/film-$moment.png" "file://$shots/film.html" > "$shots/browser.txt" 2>&1
     [ -s "$shots/film-$moment.png" ] || { echo "no screenshot of the film"; exit 1; }
 done
 echo "screenshots in $shots"
