@@ -20,8 +20,11 @@ shots_more journal size k [] scene so_far h = (subst (λ (n : ℕ). IsScene jour
   where
     no_more : (n : ℕ) → n + 0 ≡ n
     no_more n = omega arith
-shots_more journal size k (s ∷ ss) scene so_far h = (so_far.0, shots_more journal size (suc k) ss scene so_far.1
-    (subst (λ (n : ℕ). IsScene journal (shot_options size (suc n)) scene) (over k (length ss)) h))
+shots_more journal size k (s ∷ ss) scene so_far h = (
+  so_far.0,
+  shots_more journal size (suc k) ss scene so_far.1
+      (subst (λ (n : ℕ). IsScene journal (shot_options size (suc n)) scene) (over k (length ss)) h),
+)
   where
     over : (n m : ℕ) → n + suc m ≡ suc n + m
     over n m = omega arith

@@ -4,12 +4,12 @@ ghost use Rattle.hull_draw.specs.declared.shots.TheConstants.{FRAME_LIMIT};
 ghost use Rattle.hull_draw.specs.FilmTexts.{ray_text, tangents_text, farthest_text, found_text, right_found_text, asked_words, asked_text, call_text, call_shown_text, said_text, caption_text, hidden_again_text, frame_start_text, frame_end_text, shot_text, frames_text, title_text, film_text};
 ghost use Rattle.hull_draw.specs.Films.{call_point};
 
-use super::shots::call_point;
 use super::frame::Frame;
 use super::legend::{legend_after, line_start_after};
 use super::picture::{put_head, shown_after};
 use super::scene::Scene;
 use super::shapes::{Done, dot_after, square_after, told_after};
+use super::shots::call_point;
 use hull_book::Line;
 use hull_plain::Reply;
 use hull_text::{call_after, reply_after};
