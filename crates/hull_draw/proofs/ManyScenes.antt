@@ -1,6 +1,7 @@
 -- A film that grows shot by shot, and the marks of the points that its calls name.
 use Rattle.std.specs.Option.{is_some}
-use Rattle.std.proofs.Common.{true, false, ◌≡◌, ◌++◌, ◌+◌, ℕ, suc, List, [], ◌∷◌, length, Option, Some, None, refl, ap, subst, ◌∙◌, arith}
+use Rattle.std.proofs.Common.{true, false, ◌≡◌, ◌++◌, ◌+◌, ℕ, suc, List, [], ◌∷◌, length, Option, Some, None, refl, ap}
+use Rattle.std.proofs.Common.{subst, ◌∙◌, arith}
 use Rattle.lattice.specs.Plane.{Pair}
 use Rattle.hull_book.specs.Journals.{JournalValue}
 use Rattle.hull_book.specs.declared.line.Line.{Line}
@@ -13,10 +14,13 @@ unfolding AreShots
 shots_none journal size k = tt
 
 -- a scene more, that of the line behind the last, makes shots of shots
-pub shots_more : (journal : JournalValue) (size k : ℕ) (scenes : List SceneValue) (scene : SceneValue) → AreShots journal size k scenes
-    → IsScene journal (shot_options size (suc (k + length scenes))) scene → AreShots journal size k (scenes ++ scene ∷ [])
+pub shots_more : (journal : JournalValue) (size k : ℕ) (scenes : List SceneValue) (scene : SceneValue)
+    → AreShots journal size k scenes
+    → IsScene journal (shot_options size (suc (k + length scenes))) scene
+    → AreShots journal size k (scenes ++ scene ∷ [])
 unfolding AreShots
-shots_more journal size k [] scene so_far h = (subst (λ (n : ℕ). IsScene journal (shot_options size (suc n)) scene) (no_more k) h, tt)
+shots_more journal size k [] scene so_far h =
+    (subst (λ (n : ℕ). IsScene journal (shot_options size (suc n)) scene) (no_more k) h, tt)
   where
     no_more : (n : ℕ) → n + 0 ≡ n
     no_more n = omega arith
@@ -30,16 +34,19 @@ shots_more journal size k (s ∷ ss) scene so_far h = (
     over n m = omega arith
 
 -- the mark of the point that a call names stands before those of the calls behind it
-pub called_point : (line : Line) (p : Pair) (after rest : List Line) → call_point line.call ≡ Some p → rest ≡ line ∷ after
+pub called_point : (line : Line) (p : Pair) (after rest : List Line) → call_point line.call ≡ Some p
+    → rest ≡ line ∷ after
     → called_marks rest ≡ record { point = p; times = 1 } ∷ called_marks after
 unfolding called_marks
-called_point line p after rest named e = ap called_marks e ∙ ap (λ (q : Option Pair). point_marks q ++ called_marks after) named
+called_point line p after rest named e =
+    ap called_marks e ∙ ap (λ (q : Option Pair). point_marks q ++ called_marks after) named
 
 -- a call that names no point has no mark
 pub called_no_point : (line : Line) (after rest : List Line) → call_point line.call ≡ None → rest ≡ line ∷ after
     → called_marks rest ≡ called_marks after
 unfolding called_marks
-called_no_point line after rest named e = ap called_marks e ∙ ap (λ (q : Option Pair). point_marks q ++ called_marks after) named
+called_no_point line after rest named e =
+    ap called_marks e ∙ ap (λ (q : Option Pair). point_marks q ++ called_marks after) named
 
 -- no calls have no marks
 pub called_none : (rest : List Line) → length rest ≡ 0 → called_marks rest ≡ []

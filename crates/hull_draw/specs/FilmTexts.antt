@@ -1,4 +1,5 @@
--- The text of a film: frames that lie one over the other, each of which is seen for a second, and the last from then on.
+-- The text of a film: frames that lie one over the other, each of which is seen for a second, and the last from then
+-- on.
 use Rattle.std.specs.Prelude.{◌==◌, ◌+◌, ℕ, List, [], ◌∷◌, ◌++◌, length, Option, Some, None, codes, if◌then◌else◌}
 use Rattle.lattice.specs.Plane.{Pair}
 use Rattle.hull_plain.specs.declared.reply.Reply.{Reply}
@@ -20,11 +21,13 @@ use Rattle.hull_draw.specs.Texts.{told}
 abbrev pub ray_text : Frame → Option Pair → Pair → List ℕ
 ray_text frame None p = dot_text frame p
 ray_text frame (Some q) p =
-    told (codes "M") (across frame q) ++ told (codes " ") (down frame q) ++ told (codes "L") (across frame p) ++ told (codes " ") (down frame p)
+    told (codes "M") (across frame q) ++ told (codes " ") (down frame q) ++ told (codes "L") (across frame p)
+    ++ told (codes " ") (down frame p)
 
 -- both tangents, from the point of the call
 abbrev pub tangents_text : Frame → Option Pair → Pair → Pair → List ℕ
-tangents_text frame q left right = codes "<path class='f' d='" ++ ray_text frame q left ++ ray_text frame q right ++ codes "'/>\n"
+tangents_text frame q left right =
+    codes "<path class='f' d='" ++ ray_text frame q left ++ ray_text frame q right ++ codes "'/>\n"
 
 -- the point that lies farthest
 abbrev pub farthest_text : Frame → Pair → List ℕ
@@ -74,11 +77,14 @@ caption_text size line = line_start size 164 ++ codes "' font-weight='bold'>" ++
 -- a frame is hidden again behind its second, but the last is not
 abbrev pub hidden_again_text : ℕ → ℕ → List ℕ
 hidden_again_text count k =
-    if k + 1 == count then codes "\n" else told (codes "<set attributeName='display' to='none' begin='") (k + 1) ++ codes "s'/>\n"
+    if k + 1 == count then codes "\n" else told (codes "<set attributeName='display' to='none' begin='") (k + 1)
+    ++ codes "s'/>\n"
 
 -- frame k begins: it is hidden until second k
 abbrev pub frame_start_text : ℕ → ℕ → List ℕ
-frame_start_text count k = told (codes "<g><set attributeName='display' to='none' begin='-1s' end='") k ++ codes "s'/>" ++ hidden_again_text count k
+frame_start_text count k =
+    told (codes "<g><set attributeName='display' to='none' begin='-1s' end='") k ++ codes "s'/>"
+    ++ hidden_again_text count k
 
 -- a frame ends with its caption
 abbrev pub frame_end_text : ℕ → Line → List ℕ
@@ -87,7 +93,8 @@ frame_end_text size line = caption_text size line ++ codes "</g>\n"
 -- what a frame shows: the set as a still picture has it, over it the call, and below it the legend and the caption
 unfoldable pub shot_text : ℕ → Option Frame → SceneValue → Line → List ℕ
 shot_text size frame scene line =
-    shown_text size frame scene ++ call_shown_text size frame scene.wrong line ++ legend_text size frame scene ++ frame_end_text size line
+    shown_text size frame scene ++ call_shown_text size frame scene.wrong line ++ legend_text size frame scene
+    ++ frame_end_text size line
 
 -- the frames from frame k on, each with its line
 unfoldable pub frames_text : ℕ → Option Frame → ℕ → ℕ → List SceneValue → List Line → List ℕ
@@ -98,9 +105,11 @@ frames_text size frame count k (scene ∷ scenes) (line ∷ lines) =
 
 -- which calls are played
 abbrev pub title_text : ℕ → ℕ → List ℕ
-title_text count total = told (codes "<text x='32' y='14'>the first ") count ++ told (codes " of ") total ++ codes " calls</text>\n"
+title_text count total =
+    told (codes "<text x='32' y='14'>the first ") count ++ told (codes " of ") total ++ codes " calls</text>\n"
 
 -- the text of a film of these scenes and lines
 unfoldable pub film_text : ℕ → Option Frame → List SceneValue → List Line → List ℕ
 film_text size frame scenes lines =
-    head_text size ++ FILM_STYLE.now ++ title_text (length scenes) (length lines) ++ frames_text size frame (length scenes) 0 scenes lines ++ codes "</svg>\n"
+    head_text size ++ FILM_STYLE.now ++ title_text (length scenes) (length lines)
+    ++ frames_text size frame (length scenes) 0 scenes lines ++ codes "</svg>\n"

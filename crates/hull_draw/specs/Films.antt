@@ -3,7 +3,8 @@ use Rattle.std.specs.Prelude.{◌≡◌, ◌≤◌, ◌⊎◌, ℕ, suc, List, [
 use Rattle.std.specs.List.{All}
 use Rattle.lattice.specs.Plane.{Pair}
 use Rattle.hull_plain.specs.declared.call.Call.{Call}
-use Rattle.hull_plain.specs.declared.call.Call.TheVariants.{Add, Remove, Extreme, Place, Tangents, Vertices, Area, Count}
+use Rattle.hull_plain.specs.declared.call.Call.TheVariants.{Add, Remove, Extreme, Place, Tangents, Vertices, Area}
+use Rattle.hull_plain.specs.declared.call.Call.TheVariants.{Count}
 use Rattle.hull_book.specs.declared.line.Line.{Line}
 use Rattle.hull_book.specs.Journals.{JournalValue}
 use Rattle.hull_draw.specs.declared.drawing.DrawOptions.{DrawOptions}
@@ -18,7 +19,8 @@ shot_options size n = record { line = Some n; bridges = false; size = size }
 -- the scenes are those of the pictures after k+1 lines, after k+2, and so on
 unfoldable pub AreShots : JournalValue → ℕ → ℕ → List SceneValue → Type 0
 AreShots journal size k [] = Unit {0}
-AreShots journal size k (scene ∷ scenes) = IsScene journal (shot_options size (suc k)) scene × AreShots journal size (suc k) scenes
+AreShots journal size k (scene ∷ scenes) =
+    IsScene journal (shot_options size (suc k)) scene × AreShots journal size (suc k) scenes
 
 -- no line of these was wrong
 abbrev pub AreAllRight : List SceneValue → Type 0
@@ -37,7 +39,8 @@ pub record EndsAtWrong (scenes : List SceneValue) : Type 0 where
   pub right : AreAllRight front
   pub wrong : last.wrong ≡ Some place
 
--- The scenes after one line, after two, and so on: after each line up to the limit, or up to the first wrong one, behind
+-- The scenes after one line, after two, and so on: after each line up to the limit, or up to the first wrong one,
+-- behind
 -- which there is none.
 pub record IsFilm (journal : JournalValue) (size : ℕ) (scenes : List SceneValue) : Type 0 where
   pub shots : AreShots journal size 0 scenes

@@ -1,4 +1,5 @@
--- What an accepted command line asks for: only numbers within their limits, a path that is one of its words, and of a film
+-- What an accepted command line asks for: only numbers within their limits, a path that is one of its words, and of a
+-- film
 -- no line and no bridges.
 use Rattle.std.specs.Prelude.{◌≡◌, ◌≤◌, ℕ, List, map, slice_get, Some, None, true, false, string_bytes}
 use Rattle.std.specs.Borrow.{Bor}

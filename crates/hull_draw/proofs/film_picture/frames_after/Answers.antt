@@ -6,17 +6,21 @@ use Rattle.hull_draw.proofs.film_picture.frames_after.Goals as goal
 
 pub returns-in_default-split_first-clause-wrote : goal.returns-in_default-split_first-clause-wrote
 returns-in_default-split_first-clause-wrote g c =
-    chained_end _ _ _ _ _ _ _ _ c.loop-scene.invariant.0 (frames_no_lines _ _ _ _ _ _ c.in_default-split_first.ensures.cases)
+    chained_end _ _ _ _ _ _ _ _ c.loop-scene.invariant.0
+    (frames_no_lines _ _ _ _ _ _ c.in_default-split_first.ensures.cases)
 
 pub loop-scene-preserved : goal.loop-scene-preserved
 loop-scene-preserved g c =
     let started = chained_more _ _ _ _ _ _ _ _ _ _ _ _ _ c.loop-scene.invariant.0
-    (frames_cons c.args.size c.args.frame.now (length c.args.scenes.now) c.loop-scene.place c.in-Some.scene.now c.in-Some.after.now c.loop-scene.rest.now
+    (frames_cons c.args.size c.args.frame.now
+    (length c.args.scenes.now) c.loop-scene.place c.in-Some.scene.now c.in-Some.after.now c.loop-scene.rest.now
     c.in-Some-split_first.line.now c.in-Some-split_first.lines_after.now c.loop-scene.left.now c.in-Some.ensures.cases.0 c.in-Some-split_first.ensures.cases.0)
     c.frame_start_after-done.ensures.wrote c.frame_start_after-done.ensures.kept c.frame_start_after-done.ensures.was in
-    let left : length c.loop-scene.rest.now ≡ length c.in-Some.after.now + 1 = rw c.in-Some.ensures.cases.0 (omega arith) in
+    let left : length c.loop-scene.rest.now ≡ length c.in-Some.after.now + 1 =
+    rw c.in-Some.ensures.cases.0 (omega arith) in
     let places = c.loop-scene.invariant.1 in
     (chained_more _ _ _ _ _ _ _ _ _ _ _ _ _ started refl c.frame_after-done.ensures.wrote c.frame_after-done.ensures.kept c.frame_after-done.ensures.was, omega (arith, left, places))
 
 pub returns-clause-wrote : goal.returns-clause-wrote
-returns-clause-wrote g c = chained_end _ _ _ _ _ _ _ _ c.loop-scene.invariant.0 (frames_none _ _ _ _ _ _ c.in_default.ensures.cases)
+returns-clause-wrote g c =
+    chained_end _ _ _ _ _ _ _ _ c.loop-scene.invariant.0 (frames_none _ _ _ _ _ _ c.in_default.ensures.cases)

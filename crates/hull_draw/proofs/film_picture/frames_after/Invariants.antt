@@ -6,8 +6,10 @@ use Rattle.hull_draw.proofs.film_picture.frames_after.Given as goal
 
 abbrev pub invariant-loop-scene : goal.invariant-loop-scene
 invariant-loop-scene g l =
-    Chained l.fn.done l.done (g.W.Write.contents l.fn.out) (g.W.Write.contents l.out) (g.W.Sink.failed l.fn.out) (g.W.Sink.failed l.out)
-    (frames_text l.size l.frame (length l.scenes) 0 l.scenes l.lines) (frames_text l.size l.frame (length l.scenes) l.place l.rest l.left)
+    Chained l.fn.done l.done (g.W.Write.contents l.fn.out) (g.W.Write.contents l.out) (g.W.Sink.failed l.fn.out)
+    (g.W.Sink.failed l.out)
+    (frames_text l.size l.frame (length l.scenes) 0 l.scenes l.lines)
+    (frames_text l.size l.frame (length l.scenes) l.place l.rest l.left)
     × (l.place + length l.rest ≡ length l.scenes)
 
 abbrev pub decreases-loop-scene : goal.decreases-loop-scene
