@@ -68,7 +68,8 @@ module _ {B H L : Type 0} (K : Ghosts B H L) (F : Form) (laws : FormLaws F) (n :
     );
     each_owner = λ j t o. let p = owner j t o in (p.0, at_below q p.0 j p.1, p.2);
     apart = λ j k m x one other same. dite (ℕ_discrete j k) (λ e. e)
-        (λ off. absurd (strangers K F laws n opening w q j k one.1 other.1 one.0 other.0 m x g off one.2 other.2 one.3 other.3 (sym same)));
+        (λ off. absurd (strangers K F laws n opening w q j k one.1 other.1 one.0 other.0 m x g off one.2 other.2 one.3
+        other.3 (sym same)));
     holder = λ j t h. (g.each_seat j (Holding h.0 t) h.1).2;
     one_holder = λ j k t u h i. some-injective j k
         (sym (g.each_seat j (Holding h.0 t) h.1).1 ∙ (g.each_seat k (Holding i.0 u) i.1).1);

@@ -9,9 +9,12 @@ use crate::chronicle::Chronicle;
 use crate::guard::Guard;
 
 impl<'a, B: Chronicle> Guard<'a, B> {
-    /// The book, as it was found at entry until it is written to. When the borrow ends, the guard has what was written to it.
+    /// The book, as it was found at entry until it is written to. When the borrow ends, the guard has what was written
+    /// to it.
     pub fn book<'s>(&'s mut self) -> &'s mut B
-        ensures* writes_back { sem 𝓛 (Lends (the_row (record { mir = named 1; lft = [] }) B.row B.Head.row B.Line.row B.Chronicle) B.row self.entry result (with_book self.old)) }
+        ensures* writes_back { sem 𝓛 (Lends
+            (the_row (record { mir = named 1; lft = [] }) B.row B.Head.row B.Line.row B.Chronicle) B.row
+            self.entry result (with_book self.old)) }
         ensures value { result.now ≡ guard_book self.old }
     {
         &mut self.book

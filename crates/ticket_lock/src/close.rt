@@ -3,7 +3,8 @@ ghost use Rattle.std.specs.Prelude.{◌≡◌, ◌+◌, ◌<◌, [], length, All
 ghost use Rattle.ticket_lock.specs.Standing.{stage_of, memos_of, idles, IsIdle};
 ghost use Rattle.ticket_lock.specs.Forms.{partitioned_form};
 ghost use Rattle.ticket_lock.specs.GoodWorld.{Shut};
-ghost use Rattle.ticket_lock.specs.Tokens.{seat_count, opening_book, IsSeatOf, seat_state, seat_number, seat_seen, Stands};
+ghost use Rattle.ticket_lock.specs.Tokens.{seat_count, opening_book, IsSeatOf, seat_state, seat_number, seat_seen};
+ghost use Rattle.ticket_lock.specs.Tokens.{Stands};
 
 use crate::chronicle::Chronicle;
 use crate::lock::TicketLock;
@@ -14,9 +15,11 @@ use crate::seat::Seat;
 // Joins all seats into the keeper.
 fn gather<B: Chronicle>(board: &Board<B>, keeper: &mut Place<B>, mut seats: Vec<Seat<B>>)
     requires table { (keeper.old.table_id ≡ board.now.shared.table_id) × (0 < board.now.shared.table_id.words) }
-    requires keeper { (stage_of keeper.old.me.0 ≡ 0) × (length (memos_of keeper.old.me.0) ≡ 0) × (keeper.old.me.1 ≡ []) }
+    requires keeper { (stage_of keeper.old.me.0 ≡ 0) × (length (memos_of keeper.old.me.0) ≡ 0)
+        × (keeper.old.me.1 ≡ []) }
     requires own { All (λ s. (s.place.table_id ≡ board.now.shared.table_id) × IsIdle s.number s.place.me) seats.items }
-    ensures keeper { (keeper.new.table_id ≡ keeper.old.table_id) × (stage_of keeper.new.me.0 ≡ 0) × (keeper.new.me.1 ≡ []) }
+    ensures keeper { (keeper.new.table_id ≡ keeper.old.table_id) × (stage_of keeper.new.me.0 ≡ 0)
+        × (keeper.new.me.1 ≡ []) }
     ensures memos { map (λ s. s.place.me.0) seats.items ≡ idles (memos_of keeper.new.me.0) }
 {
     while let Some(seat) = seats.pop() {
@@ -37,7 +40,8 @@ impl<B: Chronicle> TicketLock<B> {
         requires own { All (IsSeatOf B.head self) seats.items }
         ensures lawful { B.lawful result }
         ensures head { B.head result ≡ B.head (opening_book self) }
-        ensures next { Shut B.Chronicle partitioned_form (opening_book self) (map (λ s. seat_state s) seats.items) result }
+        ensures next { Shut B.Chronicle partitioned_form (opening_book self)
+            (map (λ s. seat_state s) seats.items) result }
         ensures seen { All (λ s. Stands B.Chronicle (seat_number s) (seat_seen s) result) seats.items }
     {
         let TicketLock {

@@ -1,6 +1,7 @@
 //! Waiting for the book: near its turn a seat looks for a while, and else it sleeps.
 ghost use Rattle.std.specs.Prelude.{◌≡◌};
-ghost use Rattle.ticket_lock.specs.Tokens.{opening_book, IsSeatOf, seat_number, seat_seen, guard_lock, guard_seat, guard_number, guard_seen, guard_book, KeepsHead, Finds};
+ghost use Rattle.ticket_lock.specs.Tokens.{opening_book, IsSeatOf, seat_number, seat_seen, guard_lock, guard_seat};
+ghost use Rattle.ticket_lock.specs.Tokens.{guard_number, guard_seen, guard_book, KeepsHead, Finds};
 
 use crate::chronicle::Chronicle;
 use crate::guard::Guard;
@@ -14,14 +15,17 @@ use std::sync::Wait;
 const NEAR: u64 = 2;
 
 impl<B: Chronicle> TicketLock<B> {
-    /// Takes a number, and looks until it is served. Near its turn it pauses between two looks, for longer each time, and
-    /// after some time it sleeps; far from its turn it sleeps at once. Who hands its number on wakes it.
+    /// Takes a number, and looks until it is served. Near its turn it pauses between two looks, for longer each time,
+    /// and after some time it sleeps; far from its turn it sleeps at once. Who hands its number on wakes it.
     ///
-    /// It never yields the processor: on a busy machine that gives milliseconds away, where a thread that is woken runs soon.
+    /// It never yields the processor: on a busy machine that gives milliseconds away, where a thread that is woken runs
+    /// soon.
     pub fn enter<R: Wait>(&self, rt: &R, seat: Seat<B>) -> Guard<'_, B>
         requires own { IsSeatOf B.head self.now seat }
-        ensures entered { (guard_lock result ≡ self.now) × (guard_seat result ≡ seat_number seat) × KeepsHead B.head result }
-        ensures finds { Finds B.Chronicle (B.head (opening_book self.now)) (seat_number seat) (seat_seen seat) (guard_number result) (guard_book result) }
+        ensures entered { (guard_lock result ≡ self.now) × (guard_seat result ≡ seat_number seat)
+            × KeepsHead B.head result }
+        ensures finds { Finds B.Chronicle (B.head (opening_book self.now)) (seat_number seat) (seat_seen seat)
+            (guard_number result) (guard_book result) }
         ensures seen { guard_seen result ≡ B.lines (guard_book result) }
     {
         let backoff = Backoff::new();
@@ -42,16 +46,17 @@ impl<B: Chronicle> TicketLock<B> {
         unreachable!()
     }
 
-    // Whether a number that waits is at most NEAR numbers from its turn. The grant word of the number that stands NEAR before
-    // it tells: it has that number from its hand-over on until the seat has entered; before, a smaller one, or the first.
+    // Whether a number that waits is at most NEAR numbers from its turn. The grant word of the number that stands NEAR
+    // before it tells: it has that number from its hand-over on until the seat has entered; before, a smaller one, or
+    // the first.
     fn is_near(&self, number: u64) -> bool {
         let before = number.wrapping_sub(NEAR);
         let found = self.board.shared.peek((before % 8) as usize + 1);
         number.wrapping_sub(found) <= NEAR
     }
 
-    // Sleeps until the number is served. The seat announces itself and then looks again: a hand-over that this look does not
-    // see is stored after the announcement, and so finds it and wakes it.
+    // Sleeps until the number is served. The seat announces itself and then looks again: a hand-over that this look
+    // does not see is stored after the announcement, and so finds it and wakes it.
     fn sleep<R: Wait>(&self, rt: &R, number: u64) {
         let announced = self.sleepers.announce(number);
         if self.board.shared.peek((number % 8) as usize + 1) != number {

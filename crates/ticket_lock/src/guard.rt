@@ -16,21 +16,26 @@ pub struct Guard<'a, B: Chronicle> {
     pub(crate) number: u64,
     pub(crate) book: B,
     ghost own: { place.table_id ≡ lock.now.board.shared.table_id },
-    ghost holding: { (stage_of place.me.0 ≡ 3) × (seat_of place.me.0 ≡ seat) × (number_of place.me.0 ≡ number) × (place.me.1 ≡ (0, None) ∷ []) },
+    ghost holding: { (stage_of place.me.0 ≡ 3) × (seat_of place.me.0 ≡ seat) × (number_of place.me.0 ≡ number)
+        × (place.me.1 ≡ (0, None) ∷ []) },
 }
 
 impl<'a, B: Chronicle> Guard<'a, B> {
     ghost use Rattle.ticket_lock.specs.World.{memo, HandsOn};
-    ghost use Rattle.ticket_lock.specs.Tokens.{guard_lock, guard_seat, guard_number, guard_seen, guard_book, opening_book, KeepsHead, IsSeatOf, seat_number, seat_seen};
+    ghost use Rattle.ticket_lock.specs.Tokens.{guard_lock, guard_seat, guard_number, guard_seen, guard_book};
+    ghost use Rattle.ticket_lock.specs.Tokens.{opening_book, KeepsHead, IsSeatOf, seat_number, seat_seen};
 
-    /// Gives the book back, and the next number is served; then the seat that waits for it is woken, if it sleeps. The seat that comes back has seen the lines handed on.
+    /// Gives the book back, and the next number is served; then the seat that waits for it is woken, if it sleeps. The
+    /// seat that comes back has seen the lines handed on.
     ///
     /// It asks that the book is lawful, that its head is that at opening, that its turn is one more than the number
     /// served, and that its lines are those at entry and one line of this seat with this number, or those at entry
     /// alone where they filled the capacity.
     pub fn hand_on(self) -> Seat<B>
         requires head { KeepsHead B.head self }
-        requires hands { HandsOn B.Chronicle (memo (guard_seat self) (B.head (opening_book (guard_lock self))) (guard_seen self)) (guard_number self) (guard_book self) }
+        requires hands { HandsOn B.Chronicle
+            (memo (guard_seat self) (B.head (opening_book (guard_lock self))) (guard_seen self)) (guard_number self)
+            (guard_book self) }
         ensures own { IsSeatOf B.head (guard_lock self.entry) result }
         ensures seat { seat_number result ≡ guard_seat self.entry }
         ensures seen { seat_seen result ≡ B.lines (guard_book self.entry) }
@@ -42,11 +47,14 @@ impl<'a, B: Chronicle> Guard<'a, B> {
         seat
     }
 
-    /// The same for a lock whose seats all look for themselves: it wakes nobody. A seat that sleeps in `TicketLock::enter` would
-    /// sleep on, so it is for callers that only `take` and `look`, as in a library that may not wake threads.
+    /// The same for a lock whose seats all look for themselves: it wakes nobody. A seat that sleeps in
+    /// `TicketLock::enter` would sleep on, so it is for callers that only `take` and `look`, as in a library that may
+    /// not wake threads.
     pub fn hand_on_awake(self) -> Seat<B>
         requires head { KeepsHead B.head self }
-        requires hands { HandsOn B.Chronicle (memo (guard_seat self) (B.head (opening_book (guard_lock self))) (guard_seen self)) (guard_number self) (guard_book self) }
+        requires hands { HandsOn B.Chronicle
+            (memo (guard_seat self) (B.head (opening_book (guard_lock self))) (guard_seen self)) (guard_number self)
+            (guard_book self) }
         ensures own { IsSeatOf B.head (guard_lock self.entry) result }
         ensures seat { seat_number result ≡ guard_seat self.entry }
         ensures seen { seat_seen result ≡ B.lines (guard_book self.entry) }

@@ -1,4 +1,5 @@
-//! A ticket lock round a book that keeps a chronicle (Mellor-Crummey and Scott, 1991), in a form with eight grant words.
+//! A ticket lock round a book that keeps a chronicle (Mellor-Crummey and Scott, 1991), in a form with eight grant
+//! words.
 //!
 //! Each call of a seat is one atomic step on one word. What the lock promises is said over every order of such steps.
 //!
@@ -19,9 +20,9 @@
 //! let roll = lock.close(seats); // with all seats, at the end
 //! ```
 //!
-//! What `hand_on` asks of the book, and what `enter` tells of it, are their contracts: one line more, in this seat's name and
-//! with its number. A thread that may not wait has the same in two steps, `take` and `look`. `Chronicle` is what a type has
-//! to be to stand under the lock.
+//! What `hand_on` asks of the book, and what `enter` tells of it, are their contracts: one line more, in this seat's
+//! name and with its number. A thread that may not wait has the same in two steps, `take` and `look`. `Chronicle` is
+//! what a type has to be to stand under the lock.
 #![tactic(auto)]
 
 mod book;

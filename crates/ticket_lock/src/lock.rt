@@ -14,12 +14,16 @@ pub struct TicketLock<B: Chronicle> {
     pub(crate) board: Board<B>,
     pub(crate) seats: u8,
     pub(crate) sleepers: Sleepers,
-    ghost sized: { (board.shared.table_id.words ≡ 9) × (board.shared.table_id.slots ≡ 1) × (board.shared.key.seats ≡ seats) },
+    ghost sized: { (board.shared.table_id.words ≡ 9) × (board.shared.table_id.slots ≡ 1)
+        × (board.shared.key.seats ≡ seats) },
 }
 
 impl<B: Chronicle> TicketLock<B> {
     ghost use Rattle.std.specs.Prelude.{◌+◌};
-    ghost use Rattle.ticket_lock.specs.Tokens.{opening_book, IsSeatOf, seat_number, seat_seen, IsTicketOf, ticket_seat, ticket_number, ticket_seen, ticket_looks, guard_lock, guard_seat, guard_number, guard_seen, guard_book, KeepsHead, Finds, IfEntered, IfNotYet};
+    ghost use Rattle.ticket_lock.specs.Tokens.{opening_book, IsSeatOf, seat_number, seat_seen, IsTicketOf, ticket_seat};
+    ghost use Rattle.ticket_lock.specs.Tokens.{ticket_number, ticket_seen, ticket_looks, guard_lock, guard_seat};
+    ghost use Rattle.ticket_lock.specs.Tokens.{guard_number, guard_seen, guard_book, KeepsHead, Finds, IfEntered};
+    ghost use Rattle.ticket_lock.specs.Tokens.{IfNotYet};
 
     /// Takes the next number: one fetch-and-add. It never waits.
     pub fn take(&self, seat: Seat<B>) -> Ticket<B>
@@ -41,10 +45,16 @@ impl<B: Chronicle> TicketLock<B> {
     /// waits.
     pub fn look(&self, ticket: Ticket<B>) -> Look<'_, B>
         requires own { IsTicketOf self.now ticket }
-        ensures entered { IfEntered result (λ g. (guard_lock g ≡ self.now) × (guard_seat g ≡ ticket_seat ticket) × (guard_number g ≡ ticket_number ticket) × KeepsHead B.head g) }
-        ensures finds { IfEntered result (λ g. Finds B.Chronicle (B.head (opening_book self.now)) (ticket_seat ticket) (ticket_seen ticket) (ticket_number ticket) (guard_book g)) }
+        ensures entered { IfEntered result
+            (λ g. (guard_lock g ≡ self.now) × (guard_seat g ≡ ticket_seat ticket)
+            × (guard_number g ≡ ticket_number ticket) × KeepsHead B.head g) }
+        ensures finds { IfEntered result
+            (λ g. Finds B.Chronicle (B.head (opening_book self.now)) (ticket_seat ticket) (ticket_seen ticket)
+            (ticket_number ticket) (guard_book g)) }
         ensures seen { IfEntered result (λ g. guard_seen g ≡ B.lines (guard_book g)) }
-        ensures not_yet { IfNotYet result (λ t. IsTicketOf self.now t × (ticket_seat t ≡ ticket_seat ticket) × (ticket_number t ≡ ticket_number ticket) × (ticket_seen t ≡ ticket_seen ticket)) }
+        ensures not_yet { IfNotYet result
+            (λ t. IsTicketOf self.now t × (ticket_seat t ≡ ticket_seat ticket)
+            × (ticket_number t ≡ ticket_number ticket) × (ticket_seen t ≡ ticket_seen ticket)) }
         ensures one_more { IfNotYet result (λ t. ticket_looks t ≡ ticket_looks ticket + 1) }
     {
         let Ticket {

@@ -1,5 +1,6 @@
 //! A lock is opened round a book.
-ghost use Rattle.std.specs.Prelude.{◌≡◌, ◌^◌, ◌<◌, ◌≤◌, ◌⊎◌, [], ◌∷◌, length, vec_len, vec_capacity, All, IfOk, IfErr, IsErrAnd, map};
+ghost use Rattle.std.specs.Prelude.{◌≡◌, ◌^◌, ◌<◌, ◌≤◌, ◌⊎◌, [], ◌∷◌, length, vec_len, vec_capacity, All, IfOk, IfErr};
+ghost use Rattle.std.specs.Prelude.{IsErrAnd, map};
 ghost use Rattle.ticket_lock.specs.Standing.{keeper_of, heads_of, seen_of, IsIdle};
 ghost use Rattle.ticket_lock.specs.Schedule.{idle_from, Begins};
 ghost use Rattle.ticket_lock.specs.Forms.{partitioned_form};
@@ -42,8 +43,11 @@ fn only<T>(mut all: Vec<T>) -> T
 fn lay<B: Chronicle>(alloc: Global, book: B, seats: u8) -> Result<(Board<B>, Place<B>), B>
     requires lawful { B.lawful book }
     requires few { seats ≤ 64 }
-    ensures sized { IfOk result (λ r. (r.0.shared.table_id.words ≡ 9) × (r.0.shared.table_id.slots ≡ 1) × (r.0.shared.key.seats ≡ seats) × (r.0.shared.key.book.value ≡ book)) }
-    ensures keeper { IfOk result (λ r. (r.1.table_id ≡ r.0.shared.table_id) × (r.1.me ≡ (keeper_of (B.head book) (B.lines book) 0 seats, []))) }
+    ensures sized { IfOk result
+        (λ r. (r.0.shared.table_id.words ≡ 9) × (r.0.shared.table_id.slots ≡ 1) × (r.0.shared.key.seats ≡ seats)
+        × (r.0.shared.key.book.value ≡ book)) }
+    ensures keeper { IfOk result
+        (λ r. (r.1.table_id ≡ r.0.shared.table_id) × (r.1.me ≡ (keeper_of (B.head book) (B.lines book) 0 seats, []))) }
     ensures first { IfOk result (λ _. B.turn book < 2 ^ 64) }
     ensures back { IfErr result (λ b. b ≡ book) }
 {
@@ -64,13 +68,23 @@ fn lay<B: Chronicle>(alloc: Global, book: B, seats: u8) -> Result<(Board<B>, Pla
 
 // Cuts the seats off the keeper.
 fn cut<B: Chronicle>(board: &Board<B>, keeper: &mut Place<B>, all: &mut Vec<Seat<B>>, seats: u8)
-    requires table { (keeper.old.table_id ≡ board.now.shared.table_id) × (0 < board.now.shared.table_id.words) × (board.now.shared.key.seats ≡ seats) }
-    requires keeper { keeper.old.me ≡ (keeper_of (B.head board.now.shared.key.book.value) (B.lines board.now.shared.key.book.value) 0 seats, []) }
+    requires table { (keeper.old.table_id ≡ board.now.shared.table_id) × (0 < board.now.shared.table_id.words)
+        × (board.now.shared.key.seats ≡ seats) }
+    requires keeper { keeper.old.me
+        ≡ (keeper_of (B.head board.now.shared.key.book.value) (B.lines board.now.shared.key.book.value) 0 seats, []) }
     requires room { (all.old.items ≡ []) × (seats ≤ vec_capacity all.old) }
-    ensures keeper { (keeper.new.table_id ≡ keeper.old.table_id) × (keeper.new.me ≡ (keeper_of (B.head board.now.shared.key.book.value) (B.lines board.now.shared.key.book.value) seats 0, [])) }
-    ensures own { All (λ s. (s.place.table_id ≡ board.now.shared.table_id) × (heads_of s.place.me.0 ≡ B.head board.now.shared.key.book.value ∷ []) × IsIdle s.number s.place.me) all.new.items }
+    ensures keeper { (keeper.new.table_id ≡ keeper.old.table_id)
+        × (keeper.new.me ≡ (
+          keeper_of (B.head board.now.shared.key.book.value)
+              (B.lines board.now.shared.key.book.value) seats 0,
+          [],
+        )) }
+    ensures own { All (λ s. (s.place.table_id ≡ board.now.shared.table_id)
+        × (heads_of s.place.me.0 ≡ B.head board.now.shared.key.book.value ∷ []) × IsIdle s.number s.place.me)
+        all.new.items }
     ensures seen { All (λ s. seen_of s.place.me.0 ≡ B.lines board.now.shared.key.book.value) all.new.items }
-    ensures views { map (λ s. s.place.me.0) all.new.items ≡ idle_from (B.head board.now.shared.key.book.value) (B.lines board.now.shared.key.book.value) 0 seats }
+    ensures views { map (λ s. s.place.me.0) all.new.items
+        ≡ idle_from (B.head board.now.shared.key.book.value) (B.lines board.now.shared.key.book.value) 0 seats }
     ensures numbers { AreNumbered all.new.items }
     ensures room { (vec_len all.new ≡ seats) × (seats ≤ vec_capacity all.new) }
 {
@@ -102,7 +116,8 @@ impl<B: Chronicle> TicketLock<B> {
         ensures own { IfOk result (λ r. All (IsSeatOf B.head r.0) r.1.items) }
         ensures numbers { IfOk result (λ r. AreNumbered r.1.items) }
         ensures seen { IfOk result (λ r. All (λ s. seat_seen s ≡ B.lines book) r.1.items) }
-        ensures begins { IfOk result (λ r. Begins B.Chronicle partitioned_form seats book (map (λ s. seat_state s) r.1.items)) }
+        ensures begins { IfOk result
+            (λ r. Begins B.Chronicle partitioned_form seats book (map (λ s. seat_state s) r.1.items)) }
         ensures seat_count { (seats ≡ 0) ⊎ (64 < seats) → IsErrAnd result (λ e. e.0 ≡ SeatCount) }
         ensures no_memory { IfErr result (λ e. 1 ≤ seats → seats ≤ 64 → e.0 ≡ NoMemory) }
         ensures back { IfErr result (λ e. e.1 ≡ book) }

@@ -1,6 +1,7 @@
 //! An example of a book: a roll that each seat signs when it is served.
 ghost use Rattle.std.specs.Prelude.{◌≡◌, ◌+◌, ◌≤◌, ◌<◌, [], ◌∷◌, ◌++◌, length, vec_capacity, IfOk};
-ghost use Rattle.ticket_lock.specs.Tokens.{opening_book, IsSeatOf, seat_number, seat_seen, guard_lock, guard_seat, guard_number, guard_seen, guard_book, KeepsHead};
+ghost use Rattle.ticket_lock.specs.Tokens.{opening_book, IsSeatOf, seat_number, seat_seen, guard_lock, guard_seat};
+ghost use Rattle.ticket_lock.specs.Tokens.{guard_number, guard_seen, guard_book, KeepsHead};
 
 use crate::chronicle::Chronicle;
 use crate::guard::Guard;
@@ -69,12 +70,15 @@ impl Roll {
 pub fn sign(guard: Guard<Roll>, seat: u8) -> Seat<Roll>
     requires seat { guard_seat guard ≡ seat }
     requires lawful { (guard_book guard).capacity ≤ vec_capacity (guard_book guard).lines }
-    requires head { KeepsHead ⟦<Roll as Chronicle>⟧.head guard × ((guard_book guard).capacity ≡ (opening_book (guard_lock guard)).capacity) }
+    requires head { KeepsHead ⟦<Roll as Chronicle>⟧.head guard
+        × ((guard_book guard).capacity ≡ (opening_book (guard_lock guard)).capacity) }
     requires turn { (guard_book guard).turn ≡ guard_number guard }
     requires seen { guard_seen guard ≡ (guard_book guard).lines.items }
     ensures own { IsSeatOf ⟦<Roll as Chronicle>⟧.head (guard_lock guard.entry) result × (seat_number result ≡ seat) }
-    ensures signed { length (guard_seen guard.entry) < (guard_book guard.entry).capacity → seat_seen result ≡ guard_seen guard.entry ++ record { seat = seat; number = guard_number guard.entry } ∷ [] }
-    ensures full { (guard_book guard.entry).capacity ≤ length (guard_seen guard.entry) → seat_seen result ≡ guard_seen guard.entry }
+    ensures signed { length (guard_seen guard.entry) < (guard_book guard.entry).capacity
+        → seat_seen result ≡ guard_seen guard.entry ++ record { seat = seat; number = guard_number guard.entry } ∷ [] }
+    ensures full { (guard_book guard.entry).capacity ≤ length (guard_seen guard.entry)
+        → seat_seen result ≡ guard_seen guard.entry }
 {
     let mut guard = guard;
     let roll = guard.book();

@@ -2,11 +2,13 @@
 use crossbeam_utils::sync::{EventCount, Key};
 use std::array;
 
-/// A place to sleep for each number up to 63: at most 64 numbers are out, so that no two seats that wait have one place.
+/// A place to sleep for each number up to 63: at most 64 numbers are out, so that no two seats that wait have one
+/// place.
 #[derive(Drop)]
 pub struct Sleepers {
     places: [EventCount; 64],
-    /// How often a seat looks near its turn before it sleeps. Seats so few that each may have a core to itself look for longer.
+    /// How often a seat looks near its turn before it sleeps. Seats so few that each may have a core to itself look for
+    /// longer.
     pub(crate) patience: u32,
 }
 
@@ -18,7 +20,8 @@ impl Sleepers {
         }
     }
 
-    /// Announces that the seat with this number may sleep. Before it does, it has to look once more whether it is served.
+    /// Announces that the seat with this number may sleep. Before it does, it has to look once more whether it is
+    /// served.
     pub(crate) fn announce(&self, number: u64) -> Key<'_> {
         self.places[(number % 64) as usize].prepare_wait()
     }

@@ -59,7 +59,8 @@ fn opened(
     requires lawful { roll.capacity ≤ vec_capacity roll.lines }
     requires seats { (1 ≤ seats) × (seats ≤ 64) }
     ensures lock { IfOk result (λ r. (seat_count r.0 ≡ seats) × (vec_len r.1 ≡ seats) × (seats ≤ vec_capacity r.1)) }
-    ensures seats { IfOk result (λ r. All (λ s. IsSeatOf ⟦<Roll as Chronicle>⟧.head r.0 s × (seat_seen s ≡ roll.lines.items)) r.1.items) }
+    ensures seats { IfOk result
+        (λ r. All (λ s. IsSeatOf ⟦<Roll as Chronicle>⟧.head r.0 s × (seat_seen s ≡ roll.lines.items)) r.1.items) }
 {
     let was = (roll.turn, roll.capacity, roll.lines.len());
     match TicketLock::open(alloc, roll, seats) {
@@ -123,8 +124,10 @@ fn grant_words(lock: &TicketLock<Roll>) -> [u64; 8] {
 
 // The last seat serves one call, and is the last again.
 fn last_serves(rt: &impl Abort, lock: &TicketLock<Roll>, seats: &mut Vec<Seat<Roll>>)
-    requires own { All (IsSeatOf ⟦<Roll as Chronicle>⟧.head lock.now) seats.old.items × (vec_len seats.old ≤ vec_capacity seats.old) }
-    ensures own { All (IsSeatOf ⟦<Roll as Chronicle>⟧.head lock.now) seats.new.items × (vec_capacity seats.new ≡ vec_capacity seats.old) × (vec_len seats.new ≡ vec_len seats.old) }
+    requires own { All (IsSeatOf ⟦<Roll as Chronicle>⟧.head lock.now) seats.old.items
+        × (vec_len seats.old ≤ vec_capacity seats.old) }
+    ensures own { All (IsSeatOf ⟦<Roll as Chronicle>⟧.head lock.now) seats.new.items
+        × (vec_capacity seats.new ≡ vec_capacity seats.old) × (vec_len seats.new ≡ vec_len seats.old) }
 {
     let seat = last_seat(rt, lock, seats);
     let number = seat.number();
@@ -198,7 +201,8 @@ fn all_serve(
 )
     requires own { All (IsSeatOf ⟦<Roll as Chronicle>⟧.head lock.now) seats.items × (done.old.items ≡ []) }
     requires room { vec_len seats ≤ vec_capacity done.old }
-    ensures own { All (IsSeatOf ⟦<Roll as Chronicle>⟧.head lock.now) done.new.items × (vec_len done.new ≡ vec_len seats) }
+    ensures own { All (IsSeatOf ⟦<Roll as Chronicle>⟧.head lock.now) done.new.items
+        × (vec_len done.new ≡ vec_len seats) }
 {
     while let Some(seat) = seats.pop() {
         let number = seat.number();

@@ -11,7 +11,8 @@ pub struct Ticket<B: Chronicle> {
     pub(crate) place: Place<B>,
     pub(crate) seat: u8,
     pub(crate) number: u64,
-    ghost waiting: { (stage_of place.me.0 ≡ 2) × (seat_of place.me.0 ≡ seat) × (number_of place.me.0 ≡ number) × (place.me.1 ≡ []) },
+    ghost waiting: { (stage_of place.me.0 ≡ 2) × (seat_of place.me.0 ≡ seat) × (number_of place.me.0 ≡ number)
+        × (place.me.1 ≡ []) },
 }
 
 /// What one look at the lock found.

@@ -1,7 +1,10 @@
 //! Workers in threads of their own, over one lock.
-ghost use Rattle.std.specs.Prelude.{◌≡◌, ◌+◌, ◌≤◌, ◌<◌, ◌^◌, [], length, vec_len, vec_capacity, map, All, IfSome, IsSome};
+ghost use Rattle.std.specs.Prelude.{◌≡◌, ◌+◌, ◌≤◌, ◌<◌, ◌^◌, [], length, vec_len, vec_capacity, map, All, IfSome};
+ghost use Rattle.std.specs.Prelude.{IsSome};
 ghost use Rattle.ticket_lock.specs.World.{own};
-ghost use Rattle.ticket_lock.specs.Tokens.{seat_count, opening_book, IsSeatOf, seat_number, seat_seen, IsTicketOf, ticket_seat, guard_lock, guard_seat, guard_number, guard_seen, guard_book, KeepsHead, IfEntered, IfNotYet};
+ghost use Rattle.ticket_lock.specs.Tokens.{seat_count, opening_book, IsSeatOf, seat_number, seat_seen, IsTicketOf};
+ghost use Rattle.ticket_lock.specs.Tokens.{ticket_seat, guard_lock, guard_seat, guard_number, guard_seen, guard_book};
+ghost use Rattle.ticket_lock.specs.Tokens.{KeepsHead, IfEntered, IfNotYet};
 
 use super::{last_seat, opened};
 use crate::roll::{Roll, sign};
@@ -33,9 +36,14 @@ fn wait_for_crowd<R: Wait>(rt: &R, lock: &TicketLock<Roll>, number: u64, crowd: 
 // Waits for the roll, signs it, and hands it on. Who has a number that 64 divides first waits for a crowd behind it.
 fn work<R: Wait>(rt: &R, lock: &TicketLock<Roll>, worker: &mut Worker, crowd: u64)
     requires some { IsSome worker.old.seat × (worker.old.signed < 2 ^ 32) }
-    requires own { IfSome worker.old.seat (λ s. IsSeatOf ⟦<Roll as Chronicle>⟧.head lock.now s × (seat_number s ≡ worker.old.number) × (length (own ⟦<Roll as Chronicle>⟧ worker.old.number (seat_seen s)) ≡ worker.old.signed)) }
-    ensures some { IsSome worker.new.seat × (worker.new.number ≡ worker.old.number) × (worker.new.signed ≤ worker.old.signed + 1) }
-    ensures own { IfSome worker.new.seat (λ s. IsSeatOf ⟦<Roll as Chronicle>⟧.head lock.now s × (seat_number s ≡ worker.new.number) × (length (own ⟦<Roll as Chronicle>⟧ worker.new.number (seat_seen s)) ≡ worker.new.signed)) }
+    requires own { IfSome worker.old.seat
+        (λ s. IsSeatOf ⟦<Roll as Chronicle>⟧.head lock.now s × (seat_number s ≡ worker.old.number)
+        × (length (own ⟦<Roll as Chronicle>⟧ worker.old.number (seat_seen s)) ≡ worker.old.signed)) }
+    ensures some { IsSome worker.new.seat × (worker.new.number ≡ worker.old.number)
+        × (worker.new.signed ≤ worker.old.signed + 1) }
+    ensures own { IfSome worker.new.seat
+        (λ s. IsSeatOf ⟦<Roll as Chronicle>⟧.head lock.now s × (seat_number s ≡ worker.new.number)
+        × (length (own ⟦<Roll as Chronicle>⟧ worker.new.number (seat_seen s)) ≡ worker.new.signed)) }
 {
     let seat = worker.seat.take().unwrap();
     let mut guard = lock.enter(rt, seat);
@@ -59,9 +67,14 @@ fn all_work<R: Threads + Wait + Sync>(
     round: u32,
     crowd: u64,
 )
-    requires ready { All (λ w. IsSome w.seat × (w.signed ≤ round) × IfSome w.seat (λ s. IsSeatOf ⟦<Roll as Chronicle>⟧.head lock.now s × (seat_number s ≡ w.number) × (length (own ⟦<Roll as Chronicle>⟧ w.number (seat_seen s)) ≡ w.signed))) workers.old }
+    requires ready { All
+        (λ w. IsSome w.seat × (w.signed ≤ round)
+        × IfSome w.seat (λ s. IsSeatOf ⟦<Roll as Chronicle>⟧.head lock.now s × (seat_number s ≡ w.number)
+        × (length (own ⟦<Roll as Chronicle>⟧ w.number (seat_seen s)) ≡ w.signed))) workers.old }
     requires some { (1 ≤ length workers.old) × (round < 2 ^ 31) }
-    ensures ready { All (λ w. IsSome w.seat × (w.signed ≤ round + 1) × IfSome w.seat (λ s. IsSeatOf ⟦<Roll as Chronicle>⟧.head lock.now s × (seat_number s ≡ w.number) × (length (own ⟦<Roll as Chronicle>⟧ w.number (seat_seen s)) ≡ w.signed))) workers.new }
+    ensures ready { All (λ w. IsSome w.seat × (w.signed ≤ round + 1)
+        × IfSome w.seat (λ s. IsSeatOf ⟦<Roll as Chronicle>⟧.head lock.now s × (seat_number s ≡ w.number)
+        × (length (own ⟦<Roll as Chronicle>⟧ w.number (seat_seen s)) ≡ w.signed))) workers.new }
     ensures many { length workers.new ≡ length workers.old }
 {
     let threads = workers.len();
@@ -87,11 +100,17 @@ fn part(
     seats: &mut Vec<Seat<Roll>>,
     tallies: &mut Vec<Tally>,
 )
-    requires ready { All (λ w. IsSome w.seat × IfSome w.seat (λ s. IsSeatOf ⟦<Roll as Chronicle>⟧.head lock.now s × (seat_number s ≡ w.number) × (length (own ⟦<Roll as Chronicle>⟧ w.number (seat_seen s)) ≡ w.signed))) workers.items }
-    requires room { (vec_len workers ≤ vec_capacity seats.old) × (vec_len workers ≤ vec_capacity tallies.old) × (seats.old.items ≡ []) × (tallies.old.items ≡ []) }
-    ensures own { All (IsSeatOf ⟦<Roll as Chronicle>⟧.head lock.now) seats.new.items × (vec_len seats.new ≡ vec_len workers) }
+    requires ready { All
+        (λ w. IsSome w.seat × IfSome w.seat
+        (λ s. IsSeatOf ⟦<Roll as Chronicle>⟧.head lock.now s × (seat_number s ≡ w.number)
+        × (length (own ⟦<Roll as Chronicle>⟧ w.number (seat_seen s)) ≡ w.signed))) workers.items }
+    requires room { (vec_len workers ≤ vec_capacity seats.old) × (vec_len workers ≤ vec_capacity tallies.old)
+        × (seats.old.items ≡ []) × (tallies.old.items ≡ []) }
+    ensures own { All (IsSeatOf ⟦<Roll as Chronicle>⟧.head lock.now) seats.new.items
+        × (vec_len seats.new ≡ vec_len workers) }
     ensures numbers { map (λ s. seat_number s) seats.new.items ≡ map (λ t. t.number) tallies.new.items }
-    ensures counts { map (λ s. length (own ⟦<Roll as Chronicle>⟧ (seat_number s) (seat_seen s))) seats.new.items ≡ map (λ t. t.signed) tallies.new.items }
+    ensures counts { map (λ s. length (own ⟦<Roll as Chronicle>⟧ (seat_number s) (seat_seen s))) seats.new.items
+        ≡ map (λ t. t.signed) tallies.new.items }
 {
     while let Some(worker) = workers.pop() {
         let Worker {
@@ -109,7 +128,8 @@ fn part(
 fn finish(lock: TicketLock<Roll>, seats: Vec<Seat<Roll>>, tallies: &[Tally]) -> Roll
     requires own { All (IsSeatOf ⟦<Roll as Chronicle>⟧.head lock) seats.items × (vec_len seats ≡ seat_count lock) }
     requires numbers { map (λ s. seat_number s) seats.items ≡ map (λ t. t.number) tallies.now }
-    requires counts { map (λ s. length (own ⟦<Roll as Chronicle>⟧ (seat_number s) (seat_seen s))) seats.items ≡ map (λ t. t.signed) tallies.now }
+    requires counts { map (λ s. length (own ⟦<Roll as Chronicle>⟧ (seat_number s) (seat_seen s))) seats.items
+        ≡ map (λ t. t.signed) tallies.now }
     ensures counts { All (λ t. length (own ⟦<Roll as Chronicle>⟧ t.number result.lines.items) ≡ t.signed) tallies.now }
 {
     lock.close(seats)
@@ -119,7 +139,9 @@ fn finish(lock: TicketLock<Roll>, seats: Vec<Seat<Roll>>, tallies: &[Tally]) -> 
 fn hire(lock: &TicketLock<Roll>, mut seats: Vec<Seat<Roll>>, workers: &mut Vec<Worker>)
     requires own { All (λ s. IsSeatOf ⟦<Roll as Chronicle>⟧.head lock.now s × (seat_seen s ≡ [])) seats.items }
     requires room { (vec_len seats ≤ vec_capacity workers.old) × (workers.old.items ≡ []) }
-    ensures ready { All (λ w. IsSome w.seat × (w.signed ≤ 0) × IfSome w.seat (λ s. IsSeatOf ⟦<Roll as Chronicle>⟧.head lock.now s × (seat_number s ≡ w.number) × (length (own ⟦<Roll as Chronicle>⟧ w.number (seat_seen s)) ≡ w.signed))) workers.new.items }
+    ensures ready { All (λ w. IsSome w.seat × (w.signed ≤ 0)
+        × IfSome w.seat (λ s. IsSeatOf ⟦<Roll as Chronicle>⟧.head lock.now s × (seat_number s ≡ w.number)
+        × (length (own ⟦<Roll as Chronicle>⟧ w.number (seat_seen s)) ≡ w.signed))) workers.new.items }
     ensures many { vec_len workers.new ≡ vec_len seats }
 {
     while let Some(seat) = seats.pop() {
@@ -194,8 +216,8 @@ fn workers_sign_in_threads(rt: HostRuntime) -> Result<(), Fail> {
     Ok(())
 }
 
-// In each round the first to enter waits until all 64 numbers are out: all but a few of the others go to sleep, and each is
-// woken by who hands on before it. A wake-up that is lost leaves its worker asleep, and the test never ends.
+// In each round the first to enter waits until all 64 numbers are out: all but a few of the others go to sleep, and
+// each is woken by who hands on before it. A wake-up that is lost leaves its worker asleep, and the test never ends.
 #[test]
 fn sixty_four_workers_sleep_and_wake(rt: HostRuntime) -> Result<(), Fail> {
     let first = u64::MAX - 63;
@@ -211,8 +233,12 @@ fn take_and_look<'a, R: Threads>(
     seat: Seat<Roll>,
 ) -> Look<'a, Roll>
     requires own { IsSeatOf ⟦<Roll as Chronicle>⟧.head lock.now seat }
-    ensures entered { IfEntered result (λ g. (guard_lock g ≡ lock.now) × (guard_seat g ≡ seat_number seat) × KeepsHead ⟦<Roll as Chronicle>⟧.head g) }
-    ensures roll { IfEntered result (λ g. ((guard_book g).capacity ≤ vec_capacity (guard_book g).lines) × ((guard_book g).capacity ≡ (opening_book lock.now).capacity) × ((guard_book g).turn ≡ guard_number g) × (guard_seen g ≡ (guard_book g).lines.items)) }
+    ensures entered { IfEntered result
+        (λ g. (guard_lock g ≡ lock.now) × (guard_seat g ≡ seat_number seat) × KeepsHead ⟦<Roll as Chronicle>⟧.head g) }
+    ensures roll { IfEntered result
+        (λ g. ((guard_book g).capacity ≤ vec_capacity (guard_book g).lines)
+        × ((guard_book g).capacity ≡ (opening_book lock.now).capacity) × ((guard_book g).turn ≡ guard_number g)
+        × (guard_seen g ≡ (guard_book g).lines.items)) }
     ensures not_yet { IfNotYet result (λ t. IsTicketOf lock.now t × (ticket_seat t ≡ seat_number seat)) }
 {
     thread::join(rt, || (), || ());

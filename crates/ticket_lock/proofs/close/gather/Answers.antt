@@ -13,7 +13,8 @@ join_seat-requires g c =
     × IsIdle c.in-Some.seat.number c.in-Some.seat.place.me =
     last_of (λ (s : Seat g.row.B.Denot g.row.B-Head.Denot g.row.B-Line.Denot).
     (s.place.table_id ≡ c.args.board.now.shared.table_id)
-    × IsIdle s.number s.place.me) c.loop-seat.seats.items c.pop.new.self.items c.in-Some.seat c.in-Some.ensures.items c.loop-seat.invariant.own in (
+    × IsIdle s.number s.place.me) c.loop-seat.seats.items c.pop.new.self.items c.in-Some.seat c.in-Some.ensures.items
+    c.loop-seat.invariant.own in (
       search rules,
       own.0,
       own.1.2,
@@ -36,13 +37,15 @@ loop-seat-preserved g c =
     × IsIdle c.in-Some.seat.number c.in-Some.seat.place.me =
     last_of (λ (s : Seat g.row.B.Denot g.row.B-Head.Denot g.row.B-Line.Denot).
     (s.place.table_id ≡ c.args.board.now.shared.table_id)
-    × IsIdle s.number s.place.me) c.loop-seat.seats.items c.pop.new.self.items c.in-Some.seat c.in-Some.ensures.items c.loop-seat.invariant.own in record {
+    × IsIdle s.number s.place.me) c.loop-seat.seats.items c.pop.new.self.items c.in-Some.seat c.in-Some.ensures.items
+    c.loop-seat.invariant.own in record {
       table = search rules;
       stage = stays_keeper _ _ _ c.loop-seat.invariant.stage own.1.0 (ap (λ m. m.0) c.join_seat.ensures.2);
       bare = search rules;
       own = front_of (λ (s : Seat g.row.B.Denot g.row.B-Head.Denot g.row.B-Line.Denot).
           (s.place.table_id ≡ c.args.board.now.shared.table_id)
-          × IsIdle s.number s.place.me) c.loop-seat.seats.items c.pop.new.self.items c.in-Some.seat c.in-Some.ensures.items c.loop-seat.invariant.own;
+          × IsIdle s.number s.place.me) c.loop-seat.seats.items c.pop.new.self.items c.in-Some.seat
+          c.in-Some.ensures.items c.loop-seat.invariant.own;
       views = gathered _ _ _ _ c.in-Some.seat _ _ c.loop-seat.invariant.stage own.1.0 c.in-Some.ensures.items
           (ap (λ m. m.0) c.join_seat.ensures.2) c.loop-seat.invariant.views;
     }

@@ -26,23 +26,27 @@ loop-number-preserved g c = record {
       × IsIdle s.number s.place.me) _ _ _ c.push_reserved.ensures.items c.loop-number.invariant.own (
         search rules,
         is_idle _ _ _
-            (cut_seat _ _ _ _ _ _ c.loop-number.invariant.keeper c.loop-number-test.true c.split_seat-place.ensures.4) refl,
+            (cut_seat _ _ _ _ _ _ c.loop-number.invariant.keeper c.loop-number-test.true
+            c.split_seat-place.ensures.4) refl,
       );
   views = seats_snoc _ _ _ _ _ _ _ c.push_reserved.ensures.items c.loop-number.invariant.views
-      (ap (λ m. m.0) (cut_seat _ _ _ _ _ _ c.loop-number.invariant.keeper c.loop-number-test.true c.split_seat-place.ensures.4));
+      (ap (λ m. m.0) (cut_seat _ _ _ _ _ _ c.loop-number.invariant.keeper
+      c.loop-number-test.true c.split_seat-place.ensures.4));
 }
 
 pub returns-clause-own : goal.returns-clause-own
 returns-clause-own g c = λ k d l. let own = c.loop-number.invariant.own k d l in (
   own.0,
-  (all_idle (λ (s : Seat g.row.B.Denot g.row.B-Head.Denot g.row.B-Line.Denot). s.place.me.0) c.loop-number.all.items _ _ 0 c.loop-number.number c.loop-number.invariant.views k d l).0,
+  (all_idle (λ (s : Seat g.row.B.Denot g.row.B-Head.Denot g.row.B-Line.Denot). s.place.me.0)
+      c.loop-number.all.items _ _ 0 c.loop-number.number c.loop-number.invariant.views k d l).0,
   own.1,
 )
 
 pub returns-clause-seen : goal.returns-clause-seen
 returns-clause-seen g c =
     λ k d l. (all_idle (λ
-    (s : Seat g.row.B.Denot g.row.B-Head.Denot g.row.B-Line.Denot). s.place.me.0) c.loop-number.all.items _ _ 0 c.loop-number.number c.loop-number.invariant.views k d l).1
+    (s : Seat g.row.B.Denot g.row.B-Head.Denot g.row.B-Line.Denot). s.place.me.0) c.loop-number.all.items _ _ 0
+    c.loop-number.number c.loop-number.invariant.views k d l).1
 
 pub returns-clause-numbers : goal.returns-clause-numbers
 returns-clause-numbers g c =
@@ -50,4 +54,5 @@ returns-clause-numbers g c =
     (λ (s : Seat g.row.B.Denot g.row.B-Head.Denot g.row.B-Line.Denot).
     (s.place.table_id ≡ c.args.board.now.shared.table_id)
     × IsIdle s.number s.place.me) _ i s c.loop-number.invariant.own at).1.1
-    ∙ (numbers_from (λ (s : Seat g.row.B.Denot g.row.B-Head.Denot g.row.B-Line.Denot). s.place.me.0) c.loop-number.all.items _ _ 0 c.loop-number.number c.loop-number.invariant.views i s at ∙ zero_add i)
+    ∙ (numbers_from (λ (s : Seat g.row.B.Denot g.row.B-Head.Denot g.row.B-Line.Denot). s.place.me.0)
+    c.loop-number.all.items _ _ 0 c.loop-number.number c.loop-number.invariant.views i s at ∙ zero_add i)

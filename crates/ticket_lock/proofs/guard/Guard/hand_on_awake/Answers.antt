@@ -10,12 +10,17 @@ pub store-requires : goal.store-requires
 store-requires g c = (
   search rules,
   search rules,
-  gives_from g.B.Chronicle partitioned_form partitioned_laws _ _ _ _ _ _ _ c.args.self.place.me _ c.args.self.book c.exchange-left.ensures.3 (c.args.self.holding.0, refl, refl, c.args.self.holding.3) c.requires.head c.requires.hands (ap (λ (z : ℕ). wrap (z + 1)) (sym c.args.self.holding.2)),
+  gives_from g.B.Chronicle partitioned_form partitioned_laws _ _ _ _ _ _ _ c.args.self.place.me _ c.args.self.book
+      c.exchange-left.ensures.3
+      (c.args.self.holding.0, refl, refl, c.args.self.holding.3) c.requires.head c.requires.hands
+      (ap (λ (z : ℕ). wrap (z + 1)) (sym c.args.self.holding.2)),
 )
 
 pub returns : goal.returns
 returns g c =
-    let after = gave_from g.B.Chronicle partitioned_form partitioned_laws c.args.self.place.me c.exchange-left.new.seat.me c.store.new.seat.me c.args.self.book c.exchange-left.ensures.3 c.args.self.holding.3 c.store.ensures.2 in
+    let after = gave_from g.B.Chronicle partitioned_form partitioned_laws c.args.self.place.me
+    c.exchange-left.new.seat.me c.store.new.seat.me c.args.self.book c.exchange-left.ensures.3 c.args.self.holding.3
+    c.store.ensures.2 in
     let told = given_is _ _ _ c.args.self.holding.0 (ap (λ m. m.0) after) in record {
       own = (
         search rules,

@@ -24,7 +24,8 @@ unwrap-book-requires g c =
     as_many _ c.args.seats.items _ c.gather.ensures.memos in
     let long : length (memos_of c.gather.new.keeper.me.0) ≡ c.args.self.board.shared.key.seats =
     many ∙ (search rules) in
-    let book = closes_from g.B.Chronicle partitioned_form _ _ _ c.args.self.seats _ _ _ c.take.result c.gather.ensures.keeper.1 long c.close_with-closed.ensures.values.2 c.take.ensures.value in
+    let book = closes_from g.B.Chronicle partitioned_form _ _ _ c.args.self.seats _ _ _ c.take.result
+    c.gather.ensures.keeper.1 long c.close_with-closed.ensures.values.2 c.take.ensures.value in
     subst IsSome (sym book.1) refl
 
 pub returns : goal.returns
@@ -33,7 +34,9 @@ returns g c =
     as_many _ c.args.seats.items _ c.gather.ensures.memos in
     let long : length (memos_of c.gather.new.keeper.me.0) ≡ c.args.self.board.shared.key.seats =
     many ∙ (search rules) in
-    let book = closed_book g.B.Chronicle partitioned_form _ _ _ c.args.self.seats _ _ _ c.take.result c.unwrap-book.result c.gather.ensures.keeper.1 long c.close_with-closed.ensures.values.2 c.take.ensures.value c.unwrap-book.ensures in record {
+    let book = closed_book g.B.Chronicle partitioned_form _ _ _ c.args.self.seats _ _ _ c.take.result
+    c.unwrap-book.result c.gather.ensures.keeper.1 long c.close_with-closed.ensures.values.2 c.take.ensures.value
+    c.unwrap-book.ensures in record {
       lawful = book.0;
       head = book.1;
       next = shut g.B.Chronicle partitioned_form partitioned_laws _ _ _ _ _ book.2 c.gather.ensures.memos;

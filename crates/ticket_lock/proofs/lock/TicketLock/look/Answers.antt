@@ -12,7 +12,8 @@ pub load-found-requires : goal.load-found-requires
 load-found-requires g c = (
   search rules,
   search rules,
-  looks_from _ partitioned_form partitioned_laws _ _ _ _ c.args.ticket.number _ _ c.args.ticket.waiting.0 c.args.ticket.waiting.2,
+  looks_from _ partitioned_form partitioned_laws _ _ _ _ c.args.ticket.number _ _
+      c.args.ticket.waiting.0 c.args.ticket.waiting.2,
 )
 
 pub exchange-requires : goal.exchange-requires

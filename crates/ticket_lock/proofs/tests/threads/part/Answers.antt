@@ -27,13 +27,18 @@ loop-worker-preserved c =
     (last_of (λ (w : Worker). IsSome w.seat
     × IfSome w.seat (λ s. IsSeatOf ghosts.head c.args.lock.now s × (seat_number s ≡ w.number)
     × (length (own ghosts w.number (seat_seen s))
-    ≡ w.signed))) c.loop-worker.workers.items c.pop.new.self.items c.in-Some.worker c.in-Some.ensures.items c.loop-worker.invariant.ready).1 in record {
+    ≡ w.signed))) c.loop-worker.workers.items c.pop.new.self.items c.in-Some.worker
+    c.in-Some.ensures.items c.loop-worker.invariant.ready).1 in record {
       ready = search (rules, common_steps);
-      mine = all_push (λ (s : Place). IsSeatOf ghosts.head c.args.lock.now s) _ _ _ c.push_reserved.ensures.items c.loop-worker.invariant.mine mine.0;
+      mine = all_push (λ (s : Place). IsSeatOf ghosts.head c.args.lock.now s) _ _ _ c.push_reserved.ensures.items
+          c.loop-worker.invariant.mine mine.0;
       numbers = matched (λ s. seat_number s)
-          (λ t. t.number) _ _ _ _ _ _ c.push_reserved.ensures.items c.push_reserved-in-Some.ensures.items c.loop-worker.invariant.numbers mine.1;
+          (λ t. t.number) _ _ _ _ _ _ c.push_reserved.ensures.items c.push_reserved-in-Some.ensures.items
+          c.loop-worker.invariant.numbers mine.1;
       counts = matched (λ s. length (own ghosts (seat_number s) (seat_seen s)))
-          (λ t. t.signed) _ _ _ _ _ _ c.push_reserved.ensures.items c.push_reserved-in-Some.ensures.items c.loop-worker.invariant.counts (ap (λ z. length (own ghosts z (seat_seen c.unwrap.result))) mine.1 ∙ mine.2);
+          (λ t. t.signed) _ _ _ _ _ _ c.push_reserved.ensures.items c.push_reserved-in-Some.ensures.items
+          c.loop-worker.invariant.counts
+          (ap (λ z. length (own ghosts z (seat_seen c.unwrap.result))) mine.1 ∙ mine.2);
       many = search rules;
       room = search rules;
     }
