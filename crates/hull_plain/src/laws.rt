@@ -1,6 +1,7 @@
 //! Laws of the definitions: each function has an empty body, and its contract is the law.
 ghost use Rattle.std.specs.Prelude.{◌≡◌};
-ghost use Rattle.hull_plain.specs.Laws.{VertexListIsUnique, DoubledAreaIsUnique, RepliesAreUnique, WithPointAddsThePoint, WithoutPointTakesThePoint};
+ghost use Rattle.hull_plain.specs.Laws.{VertexListIsUnique, DoubledAreaIsUnique, RepliesAreUnique};
+ghost use Rattle.hull_plain.specs.Laws.{WithPointAddsThePoint, WithoutPointTakesThePoint};
 
 use super::{MULTIPLICITY_LIMIT, POINT_LIMIT};
 
@@ -19,14 +20,14 @@ pub fn replies_are_unique()
     ensures { RepliesAreUnique }
 {}
 
-/// A list of points in the order "before", with a point: that point is in it, and else the same points as before, and it
-/// is in that order. This is what an answered `add` makes of the live points.
+/// A list of points in the order "before", with a point: that point is in it, and else the same points as before, and
+/// it is in that order. This is what an answered `add` makes of the live points.
 pub fn with_point_adds_the_point()
     ensures { WithPointAddsThePoint }
 {}
 
-/// A list of points in the order "before", without a point: that point is not in it, and else the same points as before,
-/// and it is in that order. This is what an answered `remove` makes of the live points.
+/// A list of points in the order "before", without a point: that point is not in it, and else the same points as
+/// before, and it is in that order. This is what an answered `remove` makes of the live points.
 pub fn without_point_takes_the_point()
     ensures { WithoutPointTakesThePoint }
 {}

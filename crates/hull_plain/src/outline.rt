@@ -1,5 +1,6 @@
 //! Points of a set whose hull is that of the whole set.
-ghost use Rattle.std.specs.Prelude.{◌≡◌, ◌+◌, ◌≤◌, ◌<◌, [], ℕ, length, List, OnOk, ◌↔◌, ◌⊎◌, IsTrue, vec_capacity, vec_len, false};
+ghost use Rattle.std.specs.Prelude.{◌≡◌, ◌+◌, ◌≤◌, ◌<◌, [], ℕ, length, List, OnOk, ◌↔◌, ◌⊎◌, IsTrue, vec_capacity};
+ghost use Rattle.std.specs.Prelude.{vec_len, false};
 ghost use Rattle.std.specs.List.{Contains};
 ghost use Rattle.std.specs.Map.{keys_of};
 ghost use Rattle.lattice.specs.Plane.{Pair};
@@ -179,7 +180,8 @@ impl Outline {
     pub(crate) fn add(&mut self, p: Point)
         requires set { IsPointSet self.old.corners.items }
         requires room { HasRoom self.old (length self.old.corners.items + 1) }
-        ensures spans { (S : List Pair) → IsPointSet S → IsSpannedBy S self.old.corners.items → IsSpannedBy (with_point p S) self.new.corners.items }
+        ensures spans { (S : List Pair) → IsPointSet S → IsSpannedBy S self.old.corners.items
+            → IsSpannedBy (with_point p S) self.new.corners.items }
         ensures kept { (n : ℕ) → HasRoom self.old n → HasRoom self.new n }
     {
         if is_covered(&self.corners, p) {
@@ -194,7 +196,9 @@ impl Outline {
         requires set { IsPointSet self.old.corners.items }
         requires left { IsPointSet (keys_of points.now.entries) }
         requires room { HasRoom self.old (length (keys_of points.now.entries)) }
-        ensures spans { (S : List Pair) → IsPointSet S → IsSpannedBy S self.old.corners.items → keys_of points.now.entries ≡ without_point p S → IsSpannedBy (keys_of points.now.entries) self.new.corners.items }
+        ensures spans { (S : List Pair) → IsPointSet S → IsSpannedBy S self.old.corners.items
+            → keys_of points.now.entries ≡ without_point p S
+            → IsSpannedBy (keys_of points.now.entries) self.new.corners.items }
         ensures kept { (n : ℕ) → HasRoom self.old n → HasRoom self.new n }
     {
         if is_on(&self.corners, p) {

@@ -14,11 +14,11 @@ use std::marker::Model;
 
 /// A set of points in order, with an outline: points of the set whose hull is that of the whole set.
 ///
-/// `add` and `remove` go by an ordered map of std, from each live point to how often it is held: of a point that was live
-/// and stays so they change that number in place, and nothing else. `add` keeps the outline where it covers the new point,
-/// and else puts the point there; `remove` makes it anew, in one pass over all points (Andrew, 1979), where the point was
-/// one of it. `extreme`, `place` and `tangents` are passes over the outline; `vertices` and `area2` are a pass for each
-/// vertex (gift wrapping: Jarvis, 1973). Only `add` of a new point and `vertices` ask for memory.
+/// `add` and `remove` go by an ordered map of std, from each live point to how often it is held: of a point that was
+/// live and stays so they change that number in place, and nothing else. `add` keeps the outline where it covers the
+/// new point, and else puts the point there; `remove` makes it anew, in one pass over all points (Andrew, 1979), where
+/// the point was one of it. `extreme`, `place` and `tangents` are passes over the outline; `vertices` and `area2` are a
+/// pass for each vertex (gift wrapping: Jarvis, 1973). Only `add` of a new point and `vertices` ask for memory.
 #[derive(Drop)]
 pub struct PlainSet {
     limit: u32,

@@ -2,7 +2,8 @@ ghost use Rattle.std.specs.Prelude.{◌≡◌, ◌↔◌, ℕ, ◌≤◌, vec_le
 ghost use Rattle.std.specs.List.{Contains};
 ghost use Rattle.lattice.specs.Covers.{IsPointSet};
 ghost use Rattle.hull_plain.specs.Held.{Held};
-ghost use Rattle.hull_plain.specs.Replies.{Answers, after, reply_to_add, reply_to_remove, reply_to_extreme, reply_to_tangents, reply_to_vertices};
+ghost use Rattle.hull_plain.specs.Replies.{Answers, after, reply_to_add, reply_to_remove, reply_to_extreme};
+ghost use Rattle.hull_plain.specs.Replies.{reply_to_tangents, reply_to_vertices};
 
 use super::call::Call;
 use super::reply::Reply;
@@ -77,7 +78,8 @@ impl From<AllocError> for NoMemory {
 /// its live points 1 to [`MULTIPLICITY_LIMIT`] times; the limit, the count and all questions are over the live points.
 ///
 /// Contracts see what it holds, its limit, and whether what it keeps is sound: what that asks is told by each set. Each
-/// call answers by the allowed-reply relation, changes what is held by the effect of its reply, and leaves the set sound.
+/// call answers by the allowed-reply relation, changes what is held by the effect of its reply, and leaves the set
+/// sound.
 pub trait HullSet {
     ghost held: { Self → Held };
 
@@ -114,7 +116,8 @@ pub trait HullSet {
 
     /// Holds `p` once less; a point that was held once leaves the set. Asks for no memory.
     fn remove(&mut self, p: Point) -> RemoveReply
-        ensures reply { Answers Rules.Counted (held self.old) (bound self.old) (Call.Remove p) (reply_to_remove result) }
+        ensures reply { Answers Rules.Counted (held self.old) (bound self.old) (Call.Remove p)
+            (reply_to_remove result) }
         ensures effect { held self.new ≡ after (held self.old) (Call.Remove p) (reply_to_remove result) }
         ensures same_limit { bound self.new ≡ bound self.old }
         ensures sound { sound self.new };
@@ -133,7 +136,8 @@ pub trait HullSet {
 
     /// The vertices, counterclockwise from the first in the order "before". `NoMemory` comes only for a nonempty set.
     fn vertices(&self) -> Result<Vec<Point>, NoMemory>
-        ensures reply { Answers Rules.Counted (held self.now) (bound self.now) Call.Vertices (reply_to_vertices result) }
+        ensures reply { Answers Rules.Counted (held self.now) (bound self.now) Call.Vertices
+            (reply_to_vertices result) }
         ensures few { IfOk result (λ v. vec_len v ≤ bound self.now) };
 
     /// The doubled area of the hull.

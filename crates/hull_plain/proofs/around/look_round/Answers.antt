@@ -1,3 +1,4 @@
+-- the points on either side of q that q sees farthest to the left and to the right are the lowest and the highest ones
 use Rattle.std.proofs.Common.{sym, subst, List}
 use Rattle.std.specs.List.{All}
 use Rattle.lattice.specs.Plane.{Pair}

@@ -1,3 +1,5 @@
+-- q lies between the lowest and the highest of the points before it and of those after it: two sides tell where;
+-- with no points on one side it is outside, or it is the first or the last point and lies on the hull
 use Rattle.std.proofs.Common.{◌≡◌, ℤ, ◌∙◌, subst, to_z, of_z}
 use mir.Syntax.{w128}
 use Rattle.lattice.specs.Plane.{Pair, orient}

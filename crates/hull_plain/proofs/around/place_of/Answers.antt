@@ -1,3 +1,5 @@
+-- the points before q, q itself where it is one, and the points after q are all points, and so q lies in them as it
+-- lies between those
 use Rattle.std.proofs.Common.{sym, subst, List, ◌+◌, true, false, take}
 use Rattle.std.specs.List.{All}
 use Rattle.lattice.specs.Plane.{Pair, IsBefore}

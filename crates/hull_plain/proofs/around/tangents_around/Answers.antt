@@ -1,3 +1,5 @@
+-- with points on one side of q only, the tangent points are the leftmost and the rightmost of these; with points on
+-- both sides they are found among the four that q sees on the edges of its view
 use Rattle.std.proofs.Common.{sym, subst, List}
 use Rattle.std.specs.List.{All}
 use Rattle.lattice.specs.Plane.{Pair}

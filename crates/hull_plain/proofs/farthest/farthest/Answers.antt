@@ -1,3 +1,4 @@
+-- a point that is better takes the place of the best so far; else that stays the best with the point looked at, too
 use Rattle.std.proofs.Common.{◌≡◌, sym, ◌∙◌, subst, List, arith, get_or, take}
 use Rattle.std.proofs.lemmas.Bool.{false≢true}
 use Rattle.std.proofs.lemmas.Grind.{common_steps}
@@ -13,7 +14,8 @@ loop-i-preserved c =
     elim c.if-is_better.branch [
       | then-is_better w ↦ rw w.best-is (record {
         within = c.loop-i-test.true;
-        best_so_far = best_moves c.args.points.now c.args.d c.index-points-best.result c.loop-i.i c.index-points-i.result c.loop-i-test.true
+        best_so_far = best_moves c.args.points.now c.args.d c.index-points-best.result c.loop-i.i
+            c.index-points-i.result c.loop-i-test.true
             (subst (IsBestOf (take c.loop-i.i c.args.points.now) c.args.d) (sym c.index-points-best.is)
             (c.loop-i.invariant.best_so_far c.index-points-best.result))
             (c.is_better.ensures.0 w.if-is_better.true) c.index-points-i.is;

@@ -1,3 +1,4 @@
+-- the best so far is the first of the farthest points of those looked at
 use Rattle.std.proofs.Common.{◌<◌, length, get_or, take}
 use Rattle.lattice.specs.Plane.{Pair}
 use Rattle.hull_plain.specs.Farthest.{IsBestOf}

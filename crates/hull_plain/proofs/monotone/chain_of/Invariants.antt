@@ -1,3 +1,4 @@
+-- the chain has some of the points so far, in their order, and all other points so far are inward of it
 use Rattle.std.proofs.Common.{◌≡◌, ◌≤◌, length, take}
 use Rattle.std.specs.List.{Contains}
 use Rattle.lattice.specs.Covers.{IsPointSet}

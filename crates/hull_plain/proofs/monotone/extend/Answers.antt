@@ -1,3 +1,4 @@
+-- a last point that ends inwards is covered by its neighbours, so without it the same points are inward
 use Rattle.std.proofs.Common.{◌≡◌, ℕ, ◌-◌, take, length, sym, ap, ◌∙◌, subst, List, arith, ◌∷◌, ◌++◌, []}
 use Rattle.std.specs.List.{Contains}
 use Rattle.lattice.specs.Covers.{IsPointSet}

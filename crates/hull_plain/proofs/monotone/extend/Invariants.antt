@@ -1,3 +1,4 @@
+-- of the chain at the start the points taken off are inward of what is left of it and the new point
 use Rattle.std.proofs.Common.{◌≡◌, ◌≤◌, [], ◌∷◌, ◌++◌, length}
 use Rattle.std.specs.List.{Contains}
 use Rattle.lattice.specs.Covers.{IsPointSet}

@@ -1,3 +1,4 @@
+-- the points copied and those that are left to copy are all keys, in their order
 use Rattle.std.proofs.Common.{◌≡◌, ◌++◌}
 use Rattle.std.specs.Map.{keys_of}
 use Rattle.hull_plain.proofs.outline.copy_into.Given as goal

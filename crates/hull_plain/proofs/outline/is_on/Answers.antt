@@ -1,3 +1,4 @@
+-- the search for the position finds a point just where it is in the list
 use Rattle.hull_plain.proofs.Ends.{position_told}
 use Rattle.hull_plain.proofs.outline.is_on.Goals as goal
 

@@ -1,3 +1,4 @@
+-- a point of either chain goes behind those before it, and stands after all of them; another point is left out
 use Rattle.std.proofs.Common.{◌≡◌, sym, ◌∙◌, subst, List, arith, ◌⊎◌, inl, inr, take, ◌++◌, ◌∷◌, []}
 use Rattle.std.specs.List.{Contains}
 use Rattle.std.proofs.lemmas.Bool.{false≢true}
@@ -21,8 +22,10 @@ loop-i-preserved c =
           let e : w.push_reserved.new.self.items ≡ out ++ p ∷ [] = w.push_reserved.ensures.items in
           rw w.out-is (record {
             set = subst IsPointSet (sym e)
-                (chain_before S out c.loop-i.i p c.requires.set c.loop-i-test.true c.index-points-i.is c.loop-i.invariant.among c.loop-i.invariant.set);
-            among = λ t m. one_more_back S out c.loop-i.i p c.loop-i-test.true c.index-points-i.is c.loop-i.invariant.among t (subst (λ (z : List Pair). Contains z t) e m);
+                (chain_before S out c.loop-i.i p c.requires.set c.loop-i-test.true c.index-points-i.is
+                c.loop-i.invariant.among c.loop-i.invariant.set);
+            among = λ t m. one_more_back S out c.loop-i.i p c.loop-i-test.true c.index-points-i.is
+                c.loop-i.invariant.among t (subst (λ (z : List Pair). Contains z t) e m);
             kept = λ t m k. subst (λ (z : List Pair). Contains z t) (sym e)
                 (ends_more S L U out c.loop-i.i p c.loop-i-test.true c.index-points-i.is c.loop-i.invariant.kept t m k);
             short = omega (

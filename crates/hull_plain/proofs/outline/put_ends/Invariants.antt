@@ -1,3 +1,4 @@
+-- those put in are the points so far that one of the two chains has, in their order
 use Rattle.std.proofs.Common.{◌≡◌, ◌≤◌, ◌⊎◌, length, take}
 use Rattle.std.specs.List.{Contains}
 use Rattle.lattice.specs.Covers.{IsPointSet}

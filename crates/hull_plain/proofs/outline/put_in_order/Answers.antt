@@ -1,3 +1,4 @@
+-- a point that is put where the search says it belongs makes the list with that point
 use Rattle.std.proofs.Common.{◌∙◌, subst, List, Err}
 use Rattle.lattice.specs.Plane.{Pair}
 use Rattle.hull_plain.specs.Positions.{IsPositionOf}

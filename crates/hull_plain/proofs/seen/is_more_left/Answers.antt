@@ -1,3 +1,4 @@
+-- where q sees two points in one direction, their distances decide
 use Rattle.hull_plain.proofs.Comparisons.{fits_side, less_test, not_above, not_below}
 use Rattle.hull_plain.proofs.Sightings.{more_left}
 use Rattle.hull_plain.proofs.seen.is_more_left.Goals as goal

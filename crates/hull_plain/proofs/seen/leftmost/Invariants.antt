@@ -1,3 +1,4 @@
+-- of the points looked at none is more left than the best so far, as q sees them
 use Rattle.std.proofs.Common.{◌<◌, length, get_or, take}
 use Rattle.std.specs.List.{All}
 use Rattle.lattice.specs.Plane.{Pair}

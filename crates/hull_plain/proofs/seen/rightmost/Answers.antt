@@ -1,3 +1,5 @@
+-- a point that is more right takes the place of the best so far; else that stays the rightmost with the point looked
+-- at too
 use Rattle.std.proofs.Common.{◌≡◌, sym, ◌∙◌, subst, List, arith, get_or, take}
 use Rattle.std.specs.List.{All}
 use Rattle.std.proofs.lemmas.Bool.{false≢true}

@@ -1,3 +1,4 @@
+-- the two fans are all triangles between the first point and the edges; fewer than two points have no area
 use Rattle.std.proofs.Common.{arith}
 use Rattle.hull_plain.proofs.Rounding.{fans_sum, small_area}
 use Rattle.hull_plain.proofs.wrapping.doubled_area_of.Goals as goal

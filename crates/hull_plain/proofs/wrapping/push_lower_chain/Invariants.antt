@@ -1,3 +1,4 @@
+-- the list has the vertices of the lower chain up to this point
 use Rattle.std.proofs.Common.{◌<◌, length, ◌-◌}
 use Rattle.hull_plain.specs.Walks.{IsLowerOutline}
 use Rattle.hull_plain.proofs.wrapping.push_lower_chain.Given as goal

@@ -1,3 +1,4 @@
+-- behind the lower chain the end of the next upper edge is the next vertex, until the first point is reached
 use Rattle.std.proofs.Common.{◌≡◌, ℕ, sym, ap, ◌∙◌, subst, List, arith, [], ◌∷◌, ◌++◌}
 use Rattle.lattice.specs.Plane.{Pair}
 use Rattle.hull_plain.specs.Positions.{point_at}
@@ -9,7 +10,8 @@ pub loop-i-init : goal.loop-i-init
 loop-i-init c =
     record {
       within = omega (arith, c.next_upper-i.ensures.earlier);
-      walk = half_start c.args.points.now c.args.out.now.items c.next_upper-i.result c.requires.some c.requires.lower c.next_upper-i.ensures.edge;
+      walk = half_start c.args.points.now c.args.out.now.items c.next_upper-i.result c.requires.some
+          c.requires.lower c.next_upper-i.ensures.edge;
     }
 
 pub loop-i-preserved : goal.loop-i-preserved
@@ -23,7 +25,8 @@ loop-i-preserved c =
     record {
       within = omega (arith, c.next_upper-i-in-loop-i.ensures.earlier, c.loop-i.invariant.within);
       walk = subst (λ (z : List Pair). IsHalfRound S z c.next_upper-i-in-loop-i.result) (sym e)
-          (half_more S c.loop-i.out.items i c.next_upper-i-in-loop-i.result c.loop-i.invariant.walk c.next_upper-i-in-loop-i.ensures.edge);
+          (half_more S c.loop-i.out.items i c.next_upper-i-in-loop-i.result
+          c.loop-i.invariant.walk c.next_upper-i-in-loop-i.ensures.edge);
     }
 
 pub returns : goal.returns

@@ -1,3 +1,4 @@
+-- the list has the lower chain and the vertices of the upper one that were passed; the next one waits to be put in
 use Rattle.std.proofs.Common.{◌<◌, length}
 use Rattle.hull_plain.proofs.Rounding.{IsHalfRound}
 use Rattle.hull_plain.proofs.wrapping.push_upper_chain.Given as goal

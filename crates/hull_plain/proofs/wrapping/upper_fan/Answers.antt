@@ -1,3 +1,4 @@
+-- each upper edge makes a triangle with the first point that does not turn right, so the sum grows by its doubled area
 use Rattle.std.proofs.Common.{◌≡◌, ℕ, pos, sym, ◌∙◌, List, arith, ◌<◌, length}
 use Rattle.lattice.specs.Plane.{Pair, orient}
 use Rattle.hull_plain.specs.Positions.{point_at}
@@ -11,7 +12,8 @@ doubled_triangle-doubled-requires c =
     let i : ℕ = c.loop-i.i in
     let j : ℕ = c.next_upper-next.result in
     let n : j < length S = omega (arith, c.next_upper-next.ensures, c.loop-i.invariant.within) in
-    at_least _ _ (sym (read_side S i j c.index-points-0.result c.index-points-i.result c.index-points-next.result c.requires.some c.loop-i.invariant.within n c.index-points-0.is c.index-points-i.is c.index-points-next.is))
+    at_least _ _ (sym (read_side S i j c.index-points-0.result c.index-points-i.result c.index-points-next.result
+    c.requires.some c.loop-i.invariant.within n c.index-points-0.is c.index-points-i.is c.index-points-next.is))
     (upper_triangle S (point_at S i) (point_at S j) (point_at S 0) c.next_upper-next.ensures.edge
     (first_there S c.requires.some))
 
@@ -23,7 +25,8 @@ loop-i-preserved c =
     let n : j < length S = omega (arith, c.next_upper-next.ensures, c.loop-i.invariant.within) in
     let t : pos c.doubled_triangle-doubled.result ≡ orient (point_at S 0) (point_at S i) (point_at S j) =
     c.doubled_triangle-doubled.ensures.value
-    ∙ read_side S i j c.index-points-0.result c.index-points-i.result c.index-points-next.result c.requires.some c.loop-i.invariant.within n c.index-points-0.is c.index-points-i.is c.index-points-next.is in
+    ∙ read_side S i j c.index-points-0.result c.index-points-i.result c.index-points-next.result c.requires.some
+    c.loop-i.invariant.within n c.index-points-0.is c.index-points-i.is c.index-points-next.is in
     record {
       within = n;
       size = omega (
@@ -32,5 +35,6 @@ loop-i-preserved c =
         c.doubled_triangle-doubled.ensures.size,
         c.next_upper-next.ensures.earlier,
       );
-      walk = upper_fan_more S i j c.loop-i.doubled c.doubled_triangle-doubled.result c.loop-i.invariant.walk c.next_upper-next.ensures.edge t;
+      walk = upper_fan_more S i j c.loop-i.doubled c.doubled_triangle-doubled.result c.loop-i.invariant.walk
+          c.next_upper-next.ensures.edge t;
     }

@@ -1,3 +1,5 @@
+-- the sum is that of the triangles from the last point back to this one, each at most the widest, and no more than
+-- places passed
 use Rattle.std.proofs.Common.{◌+◌, ◌<◌, ◌≤◌, length, ◌*◌}
 use Rattle.lattice.specs.Plane.{widest_side}
 use Rattle.hull_plain.specs.Walks.{IsUpperFan}

@@ -1,3 +1,4 @@
+-- of more than one point the two chains are the vertex list; of one the point itself, of none nothing
 use Rattle.std.proofs.Common.{sym, ap, ◌∙◌, subst, List, arith, [], ◌∷◌, ◌++◌}
 use Rattle.lattice.specs.Plane.{Pair}
 use Rattle.lattice.specs.Vertices.{IsVertexList}

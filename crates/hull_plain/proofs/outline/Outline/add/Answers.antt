@@ -1,3 +1,4 @@
+-- a covered point adds nothing to what is spanned; another is put into its place, and thinning keeps the span
 use Rattle.std.proofs.Common.{sym, subst, List}
 use Rattle.lattice.specs.Covers.{IsPointSet, Covers, with_point}
 use Rattle.lattice.specs.Plane.{Pair}

@@ -1,3 +1,4 @@
+-- a point that is no corner may leave: the corners are still points, and span those that are left
 use Rattle.std.proofs.Common.{sym, ◌∙◌, subst, List}
 use Rattle.std.specs.List.{Contains}
 use Rattle.std.proofs.lemmas.Bool.{false≢true}

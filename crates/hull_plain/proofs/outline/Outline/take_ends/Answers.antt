@@ -1,3 +1,4 @@
+-- what the two chains have is among the points, whichever vector lends them
 use Rattle.std.proofs.Common.{sym, ◌∙◌, subst, List}
 use Rattle.std.specs.List.{Contains}
 use Rattle.lattice.specs.Plane.{Pair}

@@ -1,3 +1,5 @@
+-- a live point is held once more, in its place in the map, or refused at the most times; a new one is a key more, and
+-- the outline spans the keys with it
 use Rattle.std.proofs.Common.{◌≡◌, ℕ, sym, ap, ◌∙◌, subst, refl, List, arith, rules, ◌+◌, ◌≤◌, ◌<◌, ◌⊎◌, inl, inr}
 use Rattle.std.proofs.Common.{length, Some, BTreeMap}
 use Rattle.std.specs.Prelude.{IsSome}

@@ -1,3 +1,5 @@
+-- the outline spans the points, so the area of its hull is that of theirs; it has no more points than they are, so no
+-- sum is too large
 use Rattle.std.proofs.Common.{◌≡◌, pos, ap, subst, List, arith, ◌≤◌, length}
 use Rattle.std.specs.Map.{keys_of}
 use Rattle.lattice.specs.Plane.{Pair}

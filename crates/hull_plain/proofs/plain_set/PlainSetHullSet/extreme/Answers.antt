@@ -1,3 +1,4 @@
+-- the first of the farthest corners is the first of the farthest points, since the corners span the points
 use Rattle.std.proofs.Common.{◌≡◌, sym, ap, ◌∙◌, subst, List, rules, length}
 use Rattle.std.specs.Prelude.{None}
 use Rattle.std.specs.Map.{keys_of}

@@ -1,3 +1,4 @@
+-- a point is held as often as the map tells, at least once, and is live just where the map has it
 use Rattle.std.proofs.Common.{◌≡◌, sym, ap, ◌∙◌, subst, arith, ◌≤◌}
 use Rattle.std.specs.List.{Contains}
 use Rattle.std.specs.Map.{keys_of}

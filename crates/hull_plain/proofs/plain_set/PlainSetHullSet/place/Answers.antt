@@ -1,3 +1,4 @@
+-- a point lies in the corners as it lies in the points that they span
 use Rattle.std.proofs.Common.{◌≡◌, ap, subst, List}
 use Rattle.std.specs.Map.{keys_of}
 use Rattle.lattice.specs.Plane.{Pair}

@@ -1,3 +1,5 @@
+-- a point that is held more than once is held once less, in its place in the map; else its key goes, and the outline
+-- is made to span those that are left
 use Rattle.std.proofs.Common.{◌≡◌, ℕ, sym, ap, ◌∙◌, subst, refl, List, arith, ◌-◌, ◌+◌, ◌≤◌, Some, None}
 use Rattle.std.specs.Prelude.{IsSome}
 use Rattle.std.specs.List.{Contains}

@@ -1,3 +1,4 @@
+-- the corners have the tangents of the points that they span
 use Rattle.std.proofs.Common.{◌≡◌, ap, subst, List}
 use Rattle.std.specs.Map.{keys_of}
 use Rattle.lattice.specs.Plane.{Pair}

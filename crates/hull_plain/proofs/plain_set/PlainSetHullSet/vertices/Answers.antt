@@ -1,3 +1,4 @@
+-- the corners have the vertex list of the points that they span; memory is refused only where there are points
 use Rattle.std.proofs.Common.{◌≡◌, ◌≢◌, ap, subst, List, arith, rules, ◌≤◌, length, []}
 use Rattle.std.specs.Map.{keys_of}
 use Rattle.lattice.specs.Plane.{Pair}
