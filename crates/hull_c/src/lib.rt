@@ -8,10 +8,12 @@
 //! shape are written from one pattern by `walks/write.py`, which is to be run after a change of a pattern.
 #![tactic(auto)]
 
+ghost use Rattle.std.specs.Prelude.{◌≡◌};
 ghost use Rattle.std.specs.Borrow.{full_share, sem};
 ghost use Rattle.std.specs.Ptr.{lies_at, room_at};
 ghost use Rattle.hull_tree.specs.contracts.tree.HullTree.{the_row};
 ghost use Rattle.hull_reply.specs.Left.{leaves};
+ghost use Rattle.hull_reply.specs.Rooms.{room_alignment, room_size};
 ghost use Rattle.hull_c.specs.Requests.{AreServed};
 ghost use Rattle.hull_c.specs.Calls.{AreCorners, IsCleared, IsFresh, IsLimitOf, IsMultiplicityAt, IsServed, IsServedAlong, IsServedAt};
 
@@ -215,13 +217,17 @@ pub unsafe extern "C" fn hull_limit(at: *mut u8) -> HullReply
 
 /// How many bytes the room of a hull has.
 #[unsafe(no_mangle)]
-pub extern "C" fn hull_size() -> usize {
+pub extern "C" fn hull_size() -> usize
+    ensures { result ≡ room_size the_row }
+{
     size_of::<HullTree>()
 }
 
 /// At which multiples of bytes the room of a hull begins.
 #[unsafe(no_mangle)]
-pub extern "C" fn hull_alignment() -> usize {
+pub extern "C" fn hull_alignment() -> usize
+    ensures { result ≡ room_alignment the_row }
+{
     align_of::<HullTree>()
 }
 

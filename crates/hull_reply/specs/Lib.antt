@@ -1,3 +1,4 @@
 pub mod Told
 pub mod Coordinates
 pub mod Left
+pub mod Rooms

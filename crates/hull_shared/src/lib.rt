@@ -25,6 +25,7 @@ ghost use Rattle.hull_shared.specs.contracts.desk.Desk.{the_row as desk_row};
 ghost use Rattle.hull_shared.specs.contracts.seat.SharedSeat.{the_row as seat_row};
 ghost use Rattle.hull_shared.specs.Desks.{HasClosed, HasEnded, HasLent, HasOpened, HasReturned, HasWritten, IsSeatOfDesk};
 ghost use Rattle.hull_reply.specs.Left.{leaves};
+ghost use Rattle.hull_reply.specs.Rooms.{room_alignment, room_size};
 ghost use Rattle.hull_shared.specs.Left.{leaves_both};
 ghost use Rattle.hull_shared.specs.Looks.{HasReplied, HasTaken};
 ghost use Rattle.hull_shared.specs.declared.desk.Desk.TheVariants.{Fresh};
@@ -51,25 +52,33 @@ use std::alloc::Global;
 
 /// How many bytes the room of a desk has.
 #[unsafe(no_mangle)]
-pub extern "C" fn hull_shared_desk_size() -> usize {
+pub extern "C" fn hull_shared_desk_size() -> usize
+    ensures { result ≡ room_size desk_row }
+{
     size_of::<Desk>()
 }
 
 /// At which multiples of bytes the room of a desk begins.
 #[unsafe(no_mangle)]
-pub extern "C" fn hull_shared_desk_alignment() -> usize {
+pub extern "C" fn hull_shared_desk_alignment() -> usize
+    ensures { result ≡ room_alignment desk_row }
+{
     align_of::<Desk>()
 }
 
 /// How many bytes the room of a seat has.
 #[unsafe(no_mangle)]
-pub extern "C" fn hull_shared_seat_size() -> usize {
+pub extern "C" fn hull_shared_seat_size() -> usize
+    ensures { result ≡ room_size seat_row }
+{
     size_of::<SharedSeat>()
 }
 
 /// At which multiples of bytes the room of a seat begins.
 #[unsafe(no_mangle)]
-pub extern "C" fn hull_shared_seat_alignment() -> usize {
+pub extern "C" fn hull_shared_seat_alignment() -> usize
+    ensures { result ≡ room_alignment seat_row }
+{
     align_of::<SharedSeat>()
 }
 
