@@ -1,10 +1,11 @@
 -- Phases one after the other.
 use Rattle.std.proofs.Common.{◌≡◌, ◌<◌, ◌≤◌, ◌+◌, ◌-◌, ℕ, suc, List, [], ◌∷◌, ◌++◌, length, refl, sym, ap, subst, ◌∙◌}
-use Rattle.std.proofs.Common.{arith, append_assoc, length-append, map, take, inl, inr, All, Ok, Err}
+use Rattle.std.proofs.Common.{arith, append_assoc, append-nil, length-append, map, take, take_all, inl, inr, All, Ok}
+use Rattle.std.proofs.Common.{Err}
 use Rattle.std.proofs.lemmas.Bool.{cases_lt}
 use Rattle.std.proofs.lemmas.List.{map-append, replicate-append-replicate, take-append-le}
-use Rattle.std.proofs.lemmas.List.Sums.{sum_by-cons}
-use Rattle.std.proofs.lemmas.List.Elements.{All-tail}
+use Rattle.std.proofs.lemmas.List.Sums.{sum_by-append}
+use Rattle.std.proofs.lemmas.List.Elements.{All-cons, All-head, All-tail}
 use mathlib.Core.List.{IsPrefix}
 use Rattle.hull_plain.specs.declared.call.Call.{Call}
 use Rattle.hull_book.specs.declared.line.Line.{Line}
@@ -13,11 +14,11 @@ use Rattle.hull_book.specs.Books.{BookValue}
 use Rattle.hull_book.specs.Scripts.{PhaseValue, calls_in, calls_in_all, calls_of}
 use Rattle.hull_book.specs.Answers.{Answer}
 use Rattle.hull_pool.specs.Answers.{WorkersValue}
-use Rattle.hull_pool.specs.Runs.{job, answers_of, HasRunPhase}
-use Rattle.hull_pool.specs.Scripts.{MayRunAll, HasRunPhases, HasRunAll}
+use Rattle.hull_pool.specs.Runs.{job, answers_of, MayRunAll, HasRunAll}
+use Rattle.hull_pool.specs.Scripts.{HasRunPhases}
 use Rattle.hull_pool.specs.Work.{HasWorked, lines_of, capacity_of, workers_of, replies_of, fulls}
 use Rattle.hull_pool.proofs.Called.{begins_longer}
-use Rattle.hull_pool.proofs.Worked.{append_none, not_begun}
+use Rattle.hull_pool.proofs.Worked.{not_begun}
 use Rattle.hull_plain.specs.declared.set.HullSet.{Ghosts}
 
 -- lines that begin with as many lines are those lines
@@ -25,7 +26,7 @@ same_lines : (before lines : List Line) → IsPrefix before lines → length lin
 same_lines before lines p le = none p.0 (omega (arith, length-append before p.0, ap length p.1)) p.1
   where
     none : (rest : List Line) → length rest ≡ 0 → before ++ rest ≡ lines → lines ≡ before
-    none [] e is = sym is ∙ sym (append_none before)
+    none [] e is = sym is ∙ append-nil before
     none (l ∷ rest) e is = absurd (omega arith)
 
 -- nothing is served where the lines are the same
@@ -64,7 +65,7 @@ more_work k room one two before between lines old mid new h g all =
     let long : length (h.served ++ g.served) ≡ length one + length g.served =
     length-append h.served g.served ∙ ap (λ (n : ℕ). n + length g.served) all in
     let calls : length (one ++ two) ≡ length one + length two = length-append one two in
-    let whole : take (length h.served) one ≡ one = ap (λ (n : ℕ). take n one) all ∙ take_all one in record {
+    let whole : take (length h.served) one ≡ one = take_all (length h.served) one (omega (arith, all)) in record {
       served = h.served ++ g.served;
       own_lines = g.own_lines ∙ ap (λ (xs : List Line). xs ++ g.served) h.own_lines
           ∙ append_assoc (lines_of k before) h.served g.served;
@@ -78,10 +79,6 @@ more_work k room one two before between lines old mid new h g all =
       full = λ lt. g.full (omega (arith, long, calls));
     }
   where
-    take_all : (xs : List Call) → take (length xs) xs ≡ xs
-    take_all [] = refl
-    take_all (x ∷ xs) = ap (λ (ys : List Call). x ∷ ys) (take_all xs)
-
     answers : (n : ℕ) → n ≡ 0 → mid ≡ old ++ replies_of h.served ++ fulls n
         → new ≡ mid ++ replies_of g.served ++ fulls (length two - length g.served)
         → length two - length g.served ≡ length (one ++ two) - length (h.served ++ g.served)
@@ -90,7 +87,7 @@ more_work k room one two before between lines old mid new h g all =
     answers n e a c same =
         c ∙ ap (λ (xs : List Answer). xs ++ replies_of g.served ++ fulls (length two - length g.served))
         (a ∙ ap (λ (m : ℕ). old ++ replies_of h.served ++ fulls m) e
-        ∙ sym (append_none (old ++ replies_of h.served)))
+        ∙ append-nil (old ++ replies_of h.served))
         ∙ ap (λ (xs : List Answer). xs ++ fulls (length two - length g.served))
         (append_assoc old (replies_of h.served) (replies_of g.served)
         ∙ ap (λ (xs : List Answer). old ++ xs) (sym (map-append (λ (l : Line). Ok l.reply) h.served g.served)))
@@ -110,7 +107,7 @@ no_more_work k room one two before between lines old mid new h g same short =
       few = omega (arith, calls, h.few);
       answers = g.answers ∙ ap (λ (s : List Line). mid ++ replies_of s ++ fulls (length two - length s)) none
           ∙ ap (λ (n : ℕ). mid ++ [] ++ fulls n) (let e : length two - 0 ≡ length two = omega arith in e)
-          ∙ ap (λ (xs : List Answer). xs ++ fulls (length two)) (sym (append_none mid))
+          ∙ ap (λ (xs : List Answer). xs ++ fulls (length two)) (append-nil mid)
           ∙ ap (λ (xs : List Answer). xs ++ fulls (length two)) h.answers
           ∙ append_assoc (old ++ replies_of h.served) (fulls (length one - length h.served)) (fulls (length two))
           ∙ ap (λ (xs : List Answer). old ++ replies_of h.served ++ xs)
@@ -134,12 +131,38 @@ works_on k room one two before between lines old mid new begins within h g =
       | inr ge ↦ more_work k room one two before between lines old mid new h g (omega (arith, h.few))
     ]
 
--- ---- a phase, and the phases behind it
+-- ---- some phases, and the phases behind them
 
--- the calls of a phase and of those behind it
-calls_both : (phase : PhaseValue) (phases : List PhaseValue)
-    → calls_in_all (phase ∷ phases) ≡ calls_in phase + calls_in_all phases
-calls_both phase phases = sum_by-cons (λ (p : PhaseValue). calls_in p) phase phases
+-- the calls of some phases and of those behind them
+pub calls_both : (front back : List PhaseValue)
+    → calls_in_all (front ++ back) ≡ calls_in_all front + calls_in_all back
+calls_both front back = sum_by-append (λ (p : PhaseValue). calls_in p) front back
+
+-- a worker's calls in two runs of phases are those in the first and then those in the second
+pub calls_of-append : (k : ℕ) (front back : List PhaseValue)
+    → calls_of k (front ++ back) ≡ calls_of k front ++ calls_of k back
+calls_of-append k [] back = refl
+calls_of-append k (phase ∷ front) back =
+    ap (λ (xs : List Call). job phase k ++ xs) (calls_of-append k front back)
+    ∙ sym (append_assoc (job phase k) (calls_of k front) (calls_of k back))
+
+-- so many are they
+pub count_both : (k : ℕ) (front back : List PhaseValue)
+    → length (calls_of k (front ++ back)) ≡ length (calls_of k front) + length (calls_of k back)
+count_both k front back = ap length (calls_of-append k front back)
+    ∙ length-append (calls_of k front) (calls_of k back)
+
+-- what holds of all phases holds of those in front
+all_front : (P : PhaseValue → Type 0) (front back : List PhaseValue) → All P (front ++ back) → All P front
+all_front P [] back all = λ k d lt. absurd (omega arith)
+all_front P (phase ∷ front) back all =
+    All-cons P phase front (All-head P phase (front ++ back) all)
+    (all_front P front back (All-tail P phase (front ++ back) all))
+
+-- and of those behind them
+all_back : (P : PhaseValue → Type 0) (front back : List PhaseValue) → All P (front ++ back) → All P back
+all_back P [] back all = all
+all_back P (phase ∷ front) back all = all_back P front back (All-tail P phase (front ++ back) all)
 
 module _ {S : Type 0} {K : Ghosts S} where
   -- no phase was run
@@ -147,7 +170,7 @@ module _ {S : Type 0} {K : Ghosts S} where
   run_none b w may = record {
     lawful = may.lawful;
     head = refl;
-    begins = ([], sym (append_none b.lines));
+    begins = ([], append-nil b.lines);
     as_many = omega (arith, (may.lawful).within);
     each = λ k below. not_begun k (capacity_of b) [] b.lines (answers_of w k).answers;
     ledgers = may.ledgers;
@@ -155,43 +178,56 @@ module _ {S : Type 0} {K : Ghosts S} where
     room = λ k below. omega arith;
   }
 
-  -- what a phase and the phases behind it come to
-  run_more : (b m c : BookValue S) (w x v : WorkersValue) (phase : PhaseValue) (phases : List PhaseValue)
-      → HasRunPhase K b w phase m x → HasRunAll K m x phases c v → HasRunAll K b w (phase ∷ phases) c v
-  run_more b m c w x v phase phases one rest =
+  -- what some phases and the phases behind them come to
+  run_on : (b m c : BookValue S) (w x v : WorkersValue) (front back : List PhaseValue)
+      → HasRunAll K b w front m x → HasRunAll K m x back c v → HasRunAll K b w (front ++ back) c v
+  run_on b m c w x v front back one rest =
       let heads : capacity_of m ≡ capacity_of b = ap (λ (h : BookHead). h.journal.capacity) one.head in
       let crew : workers_of m ≡ workers_of b = ap (λ (h : BookHead). h.workers) one.head in
-      let calls = calls_both phase phases in
       let within : length c.lines ≤ capacity_of b =
       rw (ap (λ (h : BookHead). h.journal.capacity) (rest.head ∙ one.head)) at (rest.lawful).within in record {
         lawful = rest.lawful;
         head = rest.head ∙ one.head;
         begins = begins_longer b.lines m.lines c.lines one.begins rest.begins;
-        as_many = omega (arith, one.as_many, rest.as_many, calls, heads);
-        each = λ k below. works_on k (capacity_of b) (job phase k) (calls_of k phases) b.lines m.lines c.lines
+        as_many = omega (arith, one.as_many, rest.as_many, calls_both front back, heads);
+        each = λ k below. subst (λ (calls : List Call). HasWorked k (capacity_of b) (length calls) calls b.lines
+            c.lines (answers_of w k).answers (answers_of v k).answers) (sym (calls_of-append k front back))
+            (works_on k (capacity_of b) (calls_of k front) (calls_of k back) b.lines m.lines c.lines
             (answers_of w k).answers (answers_of x k).answers (answers_of v k).answers rest.begins within
             (one.each k below)
-            (subst (λ (n : ℕ). HasWorked k n (length (calls_of k phases)) (calls_of k phases) m.lines c.lines
-            (answers_of x k).answers (answers_of v k).answers) heads (rest.each k (omega (arith, crew))));
+            (subst (λ (n : ℕ). HasWorked k n (length (calls_of k back)) (calls_of k back) m.lines c.lines
+            (answers_of x k).answers (answers_of v k).answers) heads (rest.each k (omega (arith, crew)))));
         ledgers = rest.ledgers;
         answers = rest.answers ∙ crew;
         room = λ k below. let a = one.room k below in let d = rest.room k (omega (arith, crew)) in
-            omega (arith, a, d, length-append (job phase k) (calls_of k phases));
+            omega (arith, a, d, count_both k front back);
       }
 
-  -- the phases behind one may be run after it
-  pub may_more : (b m : BookValue S) (w x : WorkersValue) (phase : PhaseValue) (phases : List PhaseValue)
-      → MayRunAll K b w (phase ∷ phases) → HasRunPhase K b w phase m x → MayRunAll K m x phases
-  may_more b m w x phase phases may one =
+  -- the phases of a front may be run
+  pub may_front : (b : BookValue S) (w : WorkersValue) (front back : List PhaseValue)
+      → MayRunAll K b w (front ++ back) → MayRunAll K b w front
+  may_front b w front back may = record {
+    lawful = may.lawful;
+    ledgers = may.ledgers;
+    answers = may.answers;
+    jobs = all_front (λ p. length p ≡ workers_of b) front back may.jobs;
+    few = λ k below. let f = may.few k below in omega (arith, f, count_both k front back);
+    room = λ k below. let r = may.room k below in omega (arith, r, count_both k front back);
+  }
+
+  -- the phases behind some may be run after them
+  may_back : (b m : BookValue S) (w x : WorkersValue) (front back : List PhaseValue)
+      → MayRunAll K b w (front ++ back) → HasRunAll K b w front m x → MayRunAll K m x back
+  may_back b m w x front back may one =
       let crew : workers_of m ≡ workers_of b = ap (λ (h : BookHead). h.workers) one.head in record {
         lawful = one.lawful;
         ledgers = one.ledgers;
         answers = one.answers ∙ sym crew;
-        jobs = subst (λ (n : ℕ). All (λ p. length p ≡ n) phases) (sym crew)
-            (All-tail (λ p. length p ≡ workers_of b) phase phases may.jobs);
-        few = omega (arith, may.few, calls_both phase phases);
+        jobs = subst (λ (n : ℕ). All (λ p. length p ≡ n) back) (sym crew)
+            (all_back (λ p. length p ≡ workers_of b) front back may.jobs);
+        few = λ k below. let f = may.few k (omega (arith, crew)) in omega (arith, f, count_both k front back);
         room = λ k below. let a = one.room k (omega (arith, crew)) in let d = may.room k (omega (arith, crew)) in
-            omega (arith, a, d, length-append (job phase k) (calls_of k phases));
+            omega (arith, a, d, count_both k front back);
       }
 
   -- what phases come to that were run one after the other
@@ -201,18 +237,26 @@ module _ {S : Type 0} {K : Ghosts S} where
       subst (λ (z : WorkersValue). HasRunAll K b w [] c z) (sym chain.1)
       (subst (λ (d : BookValue S). HasRunAll K b w [] d w) (sym chain.0) (run_none b w may))
   run_all b w (phase ∷ phases) c v may chain =
-      run_more b chain.0 c w chain.1 v phase phases chain.2
-      (run_all chain.0 chain.1 phases c v (may_more b chain.0 w chain.1 phase phases may chain.2) chain.3)
+      run_on b chain.0 c w chain.1 v (phase ∷ []) phases chain.2
+      (run_all chain.0 chain.1 phases c v (may_back b chain.0 w chain.1 (phase ∷ []) phases may chain.2) chain.3)
+
+  -- after the phases before it, the next may be run
+  pub may_next : (b : BookValue S) (w : WorkersValue) (front : List PhaseValue) (phase : PhaseValue)
+      (back : List PhaseValue) (m : BookValue S) (x : WorkersValue) → MayRunAll K b w (front ++ phase ∷ back)
+      → HasRunPhases K b w front m x → MayRunAll K m x (phase ∷ [])
+  may_next b w front phase back m x may chain =
+      may_front m x (phase ∷ []) back (may_back b m w x front (phase ∷ back) may
+      (run_all b w front m x (may_front b w front (phase ∷ back) may) chain))
 
   -- one phase more at the end
   pub run_one_more : (b : BookValue S) (w : WorkersValue) (phases : List PhaseValue) (m : BookValue S)
       (x : WorkersValue) (phase : PhaseValue) (c : BookValue S) (v : WorkersValue) → HasRunPhases K b w phases m x
-      → HasRunPhase K m x phase c v → HasRunPhases K b w (phases ++ phase ∷ []) c v
+      → HasRunAll K m x (phase ∷ []) c v → HasRunPhases K b w (phases ++ phase ∷ []) c v
   run_one_more b w [] m x phase c v chain one = (
     c,
     v,
-    subst (λ (y : WorkersValue). HasRunPhase K b y phase c v) chain.1
-        (subst (λ (d : BookValue S). HasRunPhase K d x phase c v) chain.0 one),
+    subst (λ (y : WorkersValue). HasRunAll K b y (phase ∷ []) c v) chain.1
+        (subst (λ (d : BookValue S). HasRunAll K d x (phase ∷ []) c v) chain.0 one),
     (refl, refl),
   )
   run_one_more b w (p ∷ phases) m x phase c v chain one =

@@ -1,19 +1,17 @@
--- Which phase may be run next, and the calls of some phases among those of all.
-use Rattle.std.proofs.Common.{◌≡◌, ◌<◌, ◌≤◌, ◌+◌, ℕ, zero, suc, List, [], ◌∷◌, ◌++◌, length, refl, sym, ap, subst, ◌∙◌}
-use Rattle.std.proofs.Common.{arith, append_assoc, length-append, map, take, All}
+-- A phase among all phases: the calls of a worker in it, and that it may be run.
+use Rattle.std.proofs.Common.{◌≡◌, ◌<◌, ◌≤◌, ◌+◌, ℕ, zero, suc, List, [], ◌∷◌, ◌++◌, length, refl, sym, ap, ◌∙◌}
+use Rattle.std.proofs.Common.{arith, length-append, map, take, drop, take-append-drop, drop-cons}
 use Rattle.std.specs.Prelude.{slice_index_or, Result, Ok, Err, OnOk}
-use Rattle.std.proofs.lemmas.List.Sums.{sum_by-cons, sum_by-append}
-use Rattle.std.proofs.lemmas.List.Elements.{All-cons, All-head, All-tail}
+use Rattle.std.proofs.lemmas.List.Sums.{sum_by-cons}
 use Rattle.hull_plain.specs.declared.call.Call.{Call}
+use Rattle.hull_book.specs.declared.limits.TheConstants.{TEXT_LINE_LIMIT}
 use Rattle.hull_book.specs.Books.{BookValue}
 use Rattle.hull_book.specs.Scripts.{PhaseValue, calls_in, calls_in_all, calls_of}
 use Rattle.hull_book.specs.Answers.{Answer}
 use Rattle.hull_pool.specs.Answers.{WorkersValue, shown}
-use Rattle.hull_pool.specs.Runs.{job, MayRun}
-use Rattle.hull_pool.specs.Scripts.{MayRunAll, HasRunPhases}
-use Rattle.hull_pool.specs.Work.{workers_of}
+use Rattle.hull_pool.specs.Runs.{job, MayRunAll}
 use Rattle.hull_pool.proofs.Phases.{AnswerVec}
-use Rattle.hull_pool.proofs.Chained.{may_more}
+use Rattle.hull_pool.proofs.Chained.{may_front}
 use Rattle.hull_plain.specs.declared.set.HullSet.{Ghosts}
 
 -- a worker has no more calls in a phase than all have
@@ -34,78 +32,23 @@ calls_le (phase ∷ phases) k =
       length-append (job phase k) (calls_of k phases),
     )
 
-module _ {S : Type 0} {K : Ghosts S} where
-  -- the first phase may be run
-  may_first : (b : BookValue S) (w : WorkersValue) (phase : PhaseValue) (phases : List PhaseValue)
-      → MayRunAll K b w (phase ∷ phases) → MayRun K b w phase
-  may_first b w phase phases may = record {
-    lawful = may.lawful;
-    ledgers = may.ledgers;
-    answers = may.answers;
-    jobs = All-head (λ p. length p ≡ workers_of b) phase phases may.jobs;
-    few = λ k below. omega (arith, job_le phase k, may.few, sum_by-cons (λ (p : PhaseValue). calls_in p) phase phases);
-    room = λ k below. let r = may.room k below in omega (arith, r, length-append (job phase k) (calls_of k phases));
-  }
-
-  -- after the phases before it, the next may be run
-  pub may_next : (b : BookValue S) (w : WorkersValue) (phases : List PhaseValue) (i : ℕ) (d : PhaseValue)
-      (m : BookValue S) (x : WorkersValue) → MayRunAll K b w phases → i < length phases
-      → HasRunPhases K b w (take i phases) m x → MayRun K m x (slice_index_or phases i d)
-  may_next b w [] i d m x may lt chain = absurd (omega arith)
-  may_next b w (phase ∷ phases) zero d m x may lt chain =
-      subst (λ (y : WorkersValue). MayRun K m y phase) (sym chain.1)
-      (subst (λ (c : BookValue S). MayRun K c w phase) (sym chain.0) (may_first b w phase phases may))
-  may_next b w (phase ∷ phases) (suc i) d m x may lt chain =
-      may_next chain.0 chain.1 phases i d m x (may_more b chain.0 w chain.1 phase phases may chain.2)
-      (omega arith) chain.3
-
--- a worker's calls in two runs of phases are those in the first and then those in the second
-calls_of-append : (k : ℕ) (front back : List PhaseValue)
-    → calls_of k (front ++ back) ≡ calls_of k front ++ calls_of k back
-calls_of-append k [] back = refl
-calls_of-append k (phase ∷ front) back =
-    ap (λ (xs : List Call). job phase k ++ xs) (calls_of-append k front back)
-    ∙ sym (append_assoc (job phase k) (calls_of k front) (calls_of k back))
-
--- what holds of all phases holds of those in front
-all_front : (P : PhaseValue → Type 0) (front back : List PhaseValue) → All P (front ++ back) → All P front
-all_front P [] back all = λ k d lt. absurd (omega arith)
-all_front P (phase ∷ front) back all =
-    All-cons P phase front (All-head P phase (front ++ back) all)
-    (all_front P front back (All-tail P phase (front ++ back) all))
+-- so where all have no more than a text has lines, no worker has
+pub few_each : (phases : List PhaseValue) (k : ℕ) → calls_in_all phases ≤ TEXT_LINE_LIMIT
+    → length (calls_of k phases) ≤ TEXT_LINE_LIMIT
+few_each phases k few = omega (arith, calls_le phases k, few)
 
 module _ {S : Type 0} {K : Ghosts S} where
-  -- the phases of a front may be run
-  pub may_front : (b : BookValue S) (w : WorkersValue) (front back phases : List PhaseValue) → phases ≡ front ++ back
-      → MayRunAll K b w phases → MayRunAll K b w front
-  may_front b w front back phases split may = record {
-    lawful = may.lawful;
-    ledgers = may.ledgers;
-    answers = may.answers;
-    jobs = all_front (λ p. length p ≡ workers_of b) front back
-        (subst (All (λ p. length p ≡ workers_of b)) split may.jobs);
-    few = omega (
-      arith,
-      may.few,
-      ap (λ (xs : List PhaseValue). calls_in_all xs) split,
-      sum_by-append (λ (p : PhaseValue). calls_in p) front back,
-    );
-    room = λ k below. let r = may.room k below in
-        omega (
-          arith,
-          r,
-          ap (λ (xs : List PhaseValue). length (calls_of k xs)) split,
-          ap length (calls_of-append k front back),
-          length-append (calls_of k front) (calls_of k back),
-        );
-  }
+  -- where all phases may be run, the first may be
+  pub may_first : (b : BookValue S) (w : WorkersValue) (phases : List PhaseValue) (d : PhaseValue)
+      → MayRunAll K b w phases → 0 < length phases → MayRunAll K b w (slice_index_or phases 0 d ∷ [])
+  may_first b w [] d may some = absurd (omega arith)
+  may_first b w (phase ∷ phases) d may some = may_front b w (phase ∷ []) phases may
 
--- all that is taken
-pub take_whole : (phases : List PhaseValue) (i : ℕ) → length phases ≤ i → take i phases ≡ phases
-take_whole [] zero le = refl
-take_whole [] (suc i) le = refl
-take_whole (phase ∷ phases) zero le = absurd (omega arith)
-take_whole (phase ∷ phases) (suc i) le = ap (λ (xs : List PhaseValue). phase ∷ xs) (take_whole phases i (omega arith))
+-- the phases before one, that one, and the phases behind it
+pub parted : (phases : List PhaseValue) (i : ℕ) (d : PhaseValue) → i < length phases
+    → phases ≡ take i phases ++ slice_index_or phases i d ∷ drop (suc i) phases
+parted phases i d lt =
+    sym (take-append-drop i phases) ∙ ap (λ (xs : List PhaseValue). take i phases ++ xs) (drop-cons phases i d lt)
 
 -- one phase more was counted
 pub counted_more : (k count total : ℕ) (rest after : List PhaseValue) (phase : PhaseValue) (calls : List Call)

@@ -1,12 +1,13 @@
 -- A phase: from the lists that its crew is made of to the lists that are left of it.
 use Rattle.std.proofs.Common.{◌≡◌, ◌<◌, ◌≤◌, ◌+◌, ◌-◌, ℕ, zero, suc, List, [], ◌∷◌, ◌++◌, length, refl, sym, ap, subst}
-use Rattle.std.proofs.Common.{◌∙◌, arith, reverse, map, length-append}
+use Rattle.std.proofs.Common.{◌∙◌, arith, reverse, map, length-append, append-nil}
 use Rattle.std.specs.Prelude.{All, slice_index_or, slice_get, Option, Some, None, IfSome, Vec, vec_len, vec_capacity}
 use Rattle.std.specs.Global.{Global}
 use Rattle.std.specs.List.{AllZip}
 use Rattle.std.proofs.lemmas.List.{length-map, length-replicate, length-reverse}
 use Rattle.std.proofs.Common.{Ok, Err}
 use Rattle.std.proofs.lemmas.List.Elements.{All-cons, All-head, All-tail}
+use Rattle.std.proofs.lemmas.List.Sums.{sum_by-cons}
 use mathlib.Core.List.{IsPrefix}
 use Rattle.hull_plain.specs.declared.call.Call.{Call}
 use Rattle.hull_book.specs.declared.limits.TheConstants.{TEXT_LINE_LIMIT}
@@ -14,7 +15,7 @@ use Rattle.hull_book.specs.declared.head.BookHead.{BookHead}
 use Rattle.hull_book.specs.declared.line.Line.{Line}
 use Rattle.hull_book.specs.Books.{BookValue, IsLawful}
 use Rattle.hull_book.specs.Ledgers.{LedgerValue, IsLedger, IsLedgerOf, count_of}
-use Rattle.hull_book.specs.Scripts.{PhaseValue}
+use Rattle.hull_book.specs.Scripts.{PhaseValue, calls_in, calls_in_all, calls_of}
 use Rattle.ticket_lock.specs.declared.lock.TicketLock.{TicketLock}
 use Rattle.ticket_lock.specs.declared.seat.Seat.{Seat}
 use Rattle.ticket_lock.specs.Tokens.{IsSeatOf, seat_number, seat_seen}
@@ -22,7 +23,7 @@ use Rattle.hull_pool.specs.declared.worker.Worker.{Worker}
 use Rattle.hull_book.specs.Answers.{Answer}
 use Rattle.hull_pool.specs.Answers.{AnswersValue, shown, shown_workers, no_answers}
 use Rattle.hull_pool.specs.Crews.{Boxed, book_head, team, worker_of, IsReady, HasRun}
-use Rattle.hull_pool.specs.Runs.{job, answers_of, MayRun, HasRunPhase}
+use Rattle.hull_pool.specs.Runs.{job, answers_of, MayRunAll, HasRunAll}
 use Rattle.hull_pool.proofs.Growth.{grown_to}
 use Rattle.hull_pool.specs.Work.{HasWorked, lines_of, capacity_of, workers_of, replies_of, fulls}
 use Rattle.hull_pool.proofs.Called.{same_count, begins_longer}
@@ -225,20 +226,28 @@ shown_at (v ∷ vs) (suc k) lt = shown_at vs k (omega arith)
 plus_zero : (k : ℕ) → k + 0 ≡ k
 plus_zero k = omega arith
 
+-- a worker's calls in a list of one phase are those in the phase
+pub calls_of-one : (phase : PhaseValue) (k : ℕ) → calls_of k (phase ∷ []) ≡ job phase k
+calls_of-one phase k = append-nil (job phase k)
+
+-- so are the calls of all workers
+calls_in-one : (phase : PhaseValue) → calls_in_all (phase ∷ []) ≡ calls_in phase
+calls_in-one phase = sum_by-cons (λ (p : PhaseValue). calls_in p) phase [] ∙ omega arith
+
 module _ {S : Type 0} {K : Ghosts S} where
   -- what the workers may run fits them
   pub fits_all : (b : BookValue S) (phase : PhaseValue) (vs : List AnswerVec) (ls : List LedgerValue)
-      → MayRun K b (shown_workers vs ls) phase → length vs ≡ length ls → Fits b phase 0 vs ls
+      → MayRunAll K b (shown_workers vs ls) (phase ∷ []) → length vs ≡ length ls → Fits b phase 0 vs ls
   fits_all b phase vs ls may long = record {
     ledgers = λ i d lt. subst (λ (n : ℕ). IsLedger b n (slice_index_or ls i d)) (sym (plus_zero i))
         (may.ledgers.each i d lt);
     few = λ i lt. subst (λ (n : ℕ). length (job phase n) ≤ TEXT_LINE_LIMIT) (sym (plus_zero i))
-        (may.few i (omega (arith, may.ledgers.number)));
-    jobs = omega (arith, may.jobs, may.ledgers.number);
+        (rw (calls_of-one phase i) at (may.few i (omega (arith, may.ledgers.number))));
+    jobs = omega (arith, All-head (λ p. length p ≡ workers_of b) phase [] may.jobs, may.ledgers.number);
     room = λ i d lt.
         let at = shown_at vs i lt in
         let room : length (job phase i) ≤ (answers_of (shown_workers vs ls) i).room =
-        may.room i (omega (arith, may.ledgers.number)) in
+        rw (calls_of-one phase i) at (may.room i (omega (arith, may.ledgers.number))) in
         let enough : length (job phase i) ≤ vec_capacity at.0 - length (at.0).items =
         subst (λ (a : AnswersValue). length (job phase i) ≤ a.room) at.1 room in
         subst (λ (n : ℕ). length (job phase n)
@@ -327,24 +336,27 @@ module _ {S : Type 0} {K : Ghosts S} where
   pub phase_ran : (lock : TicketLock (Boxed S) BookHead Line) (b c : BookValue S) (phase : PhaseValue)
       (ss ts : List (BookSeat S)) (vs ws : List AnswerVec) (ls ms : List LedgerValue) → 1 ≤ length ss
       → length ss ≡ workers_of b → length vs ≡ length ss → length ls ≡ length ss → length ts ≡ length ss
-      → length ws ≡ length ss → length ms ≡ length ss → MayRun K b (shown_workers vs ls) phase → Numbered 0 ss
+      → length ws ≡ length ss → length ms ≡ length ss → MayRunAll K b (shown_workers vs ls) (phase ∷ []) → Numbered 0 ss
       → IsLawful K c → c.head ≡ b.head → All (IsSeenIn c) ts
       → AllZip (HasRun lock b phase) (team worker_of ss vs ls) (team worker_of ts ws ms)
-      → HasRunPhase K b (shown_workers vs ls) phase c (shown_workers ws ms)
+      → HasRunAll K b (shown_workers vs ls) (phase ∷ []) c (shown_workers ws ms)
   phase_ran lock b c phase ss ts vs ws ls ms some n lv ll lt lw lm may num law head seen runs = record {
     lawful = law;
     head = head;
     begins = ((out 0 (omega arith)).outcome_is none).begins;
-    as_many = grown_to b c phase (λ k. (answers_of (shown_workers vs ls) k).answers)
-        (λ k. (answers_of (shown_workers ws ms) k).answers) may.lawful law head may.jobs
-        (λ k below. came_worked b c phase vs ws ls ms k none (out k below));
-    each = λ k below. came_worked b c phase vs ws ls ms k none (out k below);
+    as_many = rw (calls_in-one phase)
+        (grown_to b c phase (λ k. (answers_of (shown_workers vs ls) k).answers)
+        (λ k. (answers_of (shown_workers ws ms) k).answers) may.lawful law head
+        (All-head (λ p. length p ≡ workers_of b) phase [] may.jobs)
+        (λ k below. came_worked b c phase vs ws ls ms k none (out k below)));
+    each = λ k below. rw (calls_of-one phase k) (came_worked b c phase vs ws ls ms k none (out k below));
     ledgers = record {
       number = lm ∙ n ∙ sym (ap (λ (h : BookHead). h.workers) head);
       each = λ k d below. ledger k d _ _ (omega arith) ((out k (omega arith)).outcome_is d);
     };
     answers = length-map ws (λ (v : AnswerVec). shown v) ∙ lw ∙ n;
-    room = λ k below. came_room b c phase vs ws ls ms k none (out k below) (may.room k below);
+    room = λ k below. rw (calls_of-one phase k)
+        (came_room b c phase vs ws ls ms k none (out k below) (rw (calls_of-one phase k) at (may.room k below)));
   }
     where
       none : LedgerValue
@@ -382,7 +394,8 @@ module _ {S : Type 0} where
 module _ {S : Type 0} {K : Ghosts S} where
   -- what may be run has lists that long
   pub are_long : (b : BookValue S) (phase : PhaseValue) (ss : List (BookSeat S)) (vs : List AnswerVec)
-      (ls : List LedgerValue) → length ss ≡ workers_of b → MayRun K b (shown_workers vs ls) phase → AreLong b ss vs ls
+      (ls : List LedgerValue) → length ss ≡ workers_of b → MayRunAll K b (shown_workers vs ls) (phase ∷ [])
+      → AreLong b ss vs ls
   are_long b phase ss vs ls n may = record {
     seats = n;
     answers = sym (length-map vs (λ (v : AnswerVec). shown v)) ∙ may.answers ∙ sym n;

@@ -56,8 +56,7 @@ pub record IsReady {S : Type 0} (lock : TicketLock (Boxed S) BookHead Line) (b :
   pub room : vec_len w.answers + length (slice_index_or phase w.number []) ≤ vec_capacity w.answers
 
 -- The worker has worked on the phase: its seat is there, is of the lock, and has seen what it did since the lines of
--- the
--- book b; its ledger counts its lines among those.
+-- the book b; its ledger counts its lines among those.
 pub record HasRun {S : Type 0} (lock : TicketLock (Boxed S) BookHead Line) (b : BookValue S) (phase : PhaseValue)
     (old new : Worker (Boxed S) BookHead Line) : Type 0 where
   pub seated : IsSome new.seat

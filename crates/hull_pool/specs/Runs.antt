@@ -1,9 +1,10 @@
--- What a run of phases comes to.
+-- What a run of phases comes to, over all calls of each worker.
 use Rattle.std.specs.Prelude.{◌≡◌, ◌+◌, ◌<◌, ◌≤◌, ℕ, min, List, [], length, slice_index_or}
+use Rattle.std.specs.List.{All}
 use mathlib.Core.List.{IsPrefix}
 use Rattle.hull_book.specs.Books.{BookValue, IsLawful}
 use Rattle.hull_book.specs.Ledgers.{AreLedgers}
-use Rattle.hull_book.specs.Scripts.{PhaseValue, calls_in}
+use Rattle.hull_book.specs.Scripts.{PhaseValue, calls_in_all, calls_of}
 use Rattle.hull_plain.specs.declared.call.Call.{Call}
 use Rattle.hull_book.specs.declared.limits.TheConstants.{TEXT_LINE_LIMIT}
 use Rattle.hull_pool.specs.Answers.{AnswersValue, WorkersValue, no_answers}
@@ -18,30 +19,30 @@ job phase k = slice_index_or phase k []
 abbrev pub answers_of : WorkersValue → ℕ → AnswersValue
 answers_of w k = slice_index_or w.answers k no_answers
 
--- The workers may run the phase on the book: it is lawful, the ledgers are its own, there is a list of calls for each
--- worker, none longer than a text, and room for an answer to each call.
-pub record MayRun {S : Type 0} (K : Ghosts S) (b : BookValue S) (w : WorkersValue) (phase : PhaseValue) : Type 0 where
+-- The workers may run these phases on the book: it is lawful, the ledgers are its own, each phase has a list of calls
+-- for each worker, none has more calls than a text has lines, and there is room for an answer to each.
+pub record MayRunAll {S : Type 0} (K : Ghosts S) (b : BookValue S) (w : WorkersValue)
+    (phases : List PhaseValue) : Type 0 where
   pub lawful : IsLawful K b
   pub ledgers : AreLedgers b w.ledgers
   pub answers : length w.answers ≡ workers_of b
-  pub jobs : length phase ≡ workers_of b
-  pub few : (k : ℕ) → k < workers_of b → length (job phase k) ≤ TEXT_LINE_LIMIT
-  pub room : (k : ℕ) → k < workers_of b → length (job phase k) ≤ (answers_of w k).room
+  pub jobs : All (λ phase. length phase ≡ workers_of b) phases
+  pub few : (k : ℕ) → k < workers_of b → length (calls_of k phases) ≤ TEXT_LINE_LIMIT
+  pub room : (k : ℕ) → k < workers_of b → length (calls_of k phases) ≤ (answers_of w k).room
 
--- The phase was run. The book is lawful, with the same head; its journal is the earlier one and then new lines, as many
--- as the phase has calls or, where that is less, as the journal had room; the new lines of each worker are a front of
--- its
--- calls in their order, and its new answers are their replies and then that the journal is full; the ledgers are the
--- book's own.
-pub record HasRunPhase {S : Type 0} (K : Ghosts S) (b : BookValue S) (w : WorkersValue) (phase : PhaseValue)
+-- The phases were run. The book is lawful, with the same head; its journal is the earlier one and then new lines, as
+-- many as there are calls or, where that is less, as the journal had room; the new lines of each worker are a front of
+-- its calls over the phases in their order, and its new answers are their replies and then that the journal is full;
+-- the ledgers are the book's own.
+pub record HasRunAll {S : Type 0} (K : Ghosts S) (b : BookValue S) (w : WorkersValue) (phases : List PhaseValue)
     (c : BookValue S) (v : WorkersValue) : Type 0 where
   pub lawful : IsLawful K c
   pub head : c.head ≡ b.head
   pub begins : IsPrefix b.lines c.lines
-  pub as_many : length c.lines ≡ min (length b.lines + calls_in phase) (capacity_of b)
+  pub as_many : length c.lines ≡ min (length b.lines + calls_in_all phases) (capacity_of b)
   pub each : (k : ℕ) → k < workers_of b
-      → HasWorked k (capacity_of b) (length (job phase k)) (job phase k) b.lines c.lines (answers_of w k).answers
-      (answers_of v k).answers
+      → HasWorked k (capacity_of b) (length (calls_of k phases)) (calls_of k phases) b.lines c.lines
+      (answers_of w k).answers (answers_of v k).answers
   pub ledgers : AreLedgers c v.ledgers
   pub answers : length v.answers ≡ workers_of b
-  pub room : (k : ℕ) → k < workers_of b → (answers_of v k).room + length (job phase k) ≡ (answers_of w k).room
+  pub room : (k : ℕ) → k < workers_of b → (answers_of v k).room + length (calls_of k phases) ≡ (answers_of w k).room

@@ -1,52 +1,17 @@
--- What a run of all phases of a script comes to.
-use Rattle.std.specs.Prelude.{◌≡◌, ◌+◌, ◌<◌, ◌≤◌, ◌++◌, ℕ, min, List, [], ◌∷◌, length}
-use Rattle.std.specs.List.{All}
-use mathlib.Core.List.{IsPrefix}
-use Rattle.hull_book.specs.Books.{BookValue, IsLawful}
-use Rattle.hull_book.specs.Ledgers.{AreLedgers}
-use Rattle.hull_book.specs.Scripts.{PhaseValue, calls_in_all, calls_of}
-use Rattle.hull_book.specs.declared.limits.TheConstants.{TEXT_LINE_LIMIT}
+-- What a run of a script comes to, phase by phase.
+use Rattle.std.specs.Prelude.{◌≡◌, ◌++◌, List, [], ◌∷◌}
+use Rattle.hull_book.specs.Books.{BookValue}
+use Rattle.hull_book.specs.Scripts.{PhaseValue}
 use Rattle.hull_pool.specs.Answers.{WorkersValue}
-use Rattle.hull_pool.specs.Runs.{HasRunPhase, answers_of}
-use Rattle.hull_pool.specs.Work.{HasWorked, capacity_of, workers_of}
+use Rattle.hull_pool.specs.Runs.{HasRunAll}
 use Rattle.hull_plain.specs.declared.set.HullSet.{Ghosts}
-
--- The workers may run these phases on the book: it is lawful, the ledgers are its own, each phase has a list of calls
--- for
--- each worker, there are no more calls than a text has lines, and there is room for an answer to each.
-pub record MayRunAll {S : Type 0} (K : Ghosts S) (b : BookValue S) (w : WorkersValue)
-    (phases : List PhaseValue) : Type 0 where
-  pub lawful : IsLawful K b
-  pub ledgers : AreLedgers b w.ledgers
-  pub answers : length w.answers ≡ workers_of b
-  pub jobs : All (λ phase. length phase ≡ workers_of b) phases
-  pub few : calls_in_all phases ≤ TEXT_LINE_LIMIT
-  pub room : (k : ℕ) → k < workers_of b → length (calls_of k phases) ≤ (answers_of w k).room
 
 -- the phases were run one after the other: all lines of a phase stand before those of the next
 abbrev pub HasRunPhases : {S : Type 0} → Ghosts S → BookValue S → WorkersValue → List PhaseValue → BookValue S
     → WorkersValue → Type 0
 HasRunPhases {S = S} K b w [] c v = (c ≡ b) × (v ≡ w)
 HasRunPhases {S = S} K b w (phase ∷ phases) c v =
-    (m : BookValue S) × (x : WorkersValue) × HasRunPhase K b w phase m x × HasRunPhases K m x phases c v
-
--- All phases were run. The book is lawful, with the same head; its journal is the earlier one and then new lines, as
--- many
--- as there are calls or, where that is less, as the journal had room; the new lines of each worker are a front of its
--- calls over all phases in their order, and its new answers are their replies and then that the journal is full; the
--- ledgers are the book's own.
-pub record HasRunAll {S : Type 0} (K : Ghosts S) (b : BookValue S) (w : WorkersValue) (phases : List PhaseValue)
-    (c : BookValue S) (v : WorkersValue) : Type 0 where
-  pub lawful : IsLawful K c
-  pub head : c.head ≡ b.head
-  pub begins : IsPrefix b.lines c.lines
-  pub as_many : length c.lines ≡ min (length b.lines + calls_in_all phases) (capacity_of b)
-  pub each : (k : ℕ) → k < workers_of b
-      → HasWorked k (capacity_of b) (length (calls_of k phases)) (calls_of k phases) b.lines c.lines
-      (answers_of w k).answers (answers_of v k).answers
-  pub ledgers : AreLedgers c v.ledgers
-  pub answers : length v.answers ≡ workers_of b
-  pub room : (k : ℕ) → k < workers_of b → (answers_of v k).room + length (calls_of k phases) ≡ (answers_of w k).room
+    (m : BookValue S) × (x : WorkersValue) × HasRunAll K b w (phase ∷ []) m x × HasRunPhases K m x phases c v
 
 -- the phases were run, one after the other, to what they come to in all
 abbrev pub Runs : {S : Type 0} → Ghosts S → BookValue S → WorkersValue → List PhaseValue → BookValue S

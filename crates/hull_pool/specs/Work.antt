@@ -25,8 +25,7 @@ fulls n = replicate n (Err (record {}))
 -- The worker has made the first `done` of its calls, while the journal grew from `before` to `lines`. Its new lines
 -- are a
 -- front of those calls in their order; its new answers are those lines' replies and then, for each call that has no
--- line,
--- that the journal is full; and where there is such a call, the journal has its capacity.
+-- line, that the journal is full; and where there is such a call, the journal has its capacity.
 pub record HasWorked (seat capacity done : ℕ) (calls : List Call) (before lines : List Line)
     (old new : List Answer) : Type 0 where
   pub served : List Line
@@ -54,10 +53,8 @@ HasCalled seat capacity call before lines (Err full) =
     (lines_of seat lines ≡ lines_of seat before) × (capacity ≤ length lines)
 
 -- The seat k entered with the number t and found a journal with the lines `found`. There was room, and what was handed
--- on has
--- one line more: this call under that number, with a reply that is allowed, points being counted, at what the lines
--- found had left. Or there was
--- none, and the same lines were handed on. Either way they are a legal history.
+-- on has one line more: this call under that number, with a reply that is allowed, points being counted, at what the
+-- lines found had left. Or there was none, and the same lines were handed on. Either way they are a legal history.
 abbrev pub HasServed : Head → ℕ → ℕ → Call → List Line → List Line → Answer → Type 0
 HasServed head t k call found after (Ok reply) =
     (length found < head.capacity) × (after ≡ found ++ record { number = t; seat = k; call = call; reply = reply } ∷ [])

@@ -1,6 +1,7 @@
 use std::marker::Model;
 
-/// Room between what two threads write: two lines of 64 bytes, which most machines fetch in pairs. Nothing is read from it.
+/// Room between what two threads write: two lines of 64 bytes, which most machines fetch in pairs. Nothing is read from
+/// it.
 #[derive(Drop)]
 pub(crate) struct Apart {
     unused: [u64; 16],

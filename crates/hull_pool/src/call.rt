@@ -1,7 +1,8 @@
 //! One call of a worker: it enters the lock, has the call served, and hands the book on.
 ghost use Rattle.std.specs.Prelude.{◌≡◌, ◌<◌, ◌≤◌, length, box_value, IsErr};
 ghost use mathlib.Core.List.{IsPrefix};
-ghost use Rattle.ticket_lock.specs.Tokens.{opening_book, IsSeatOf, seat_number, seat_seen, guard_lock, guard_seat, guard_number, guard_seen, guard_book, KeepsHead};
+ghost use Rattle.ticket_lock.specs.Tokens.{opening_book, IsSeatOf, seat_number, seat_seen, guard_lock, guard_seat};
+ghost use Rattle.ticket_lock.specs.Tokens.{guard_number, guard_seen, guard_book, KeepsHead};
 ghost use Rattle.hull_book.specs.Books.{IsLawful};
 ghost use Rattle.hull_book.specs.Ledgers.{IsLedger, IsLedgerOf};
 ghost use Rattle.hull_pool.specs.Crews.{book_head};
@@ -21,11 +22,13 @@ pub type BookSeat<S> = Seat<Box<Book<S>>>;
 /// A seat that holds the book of that lock.
 pub type BookGuard<'a, S> = Guard<'a, Box<Book<S>>>;
 
-/// Has one call of the seat that holds the book served, and hands the book on. It asks for the book as the seat found it; who
-/// waits for the lock and who looks once both end with it. `number` is the seat's number, and `ledger` the ledger of that seat.
+/// Has one call of the seat that holds the book served, and hands the book on. It asks for the book as the seat found
+/// it; who waits for the lock and who looks once both end with it. `number` is the seat's number, and `ledger` the
+/// ledger of that seat.
 ///
-/// The answer is the reply, which is allowed at what the seat found and has its line behind the lines found, under the number
-/// that was served; or that the journal is full. The journal handed on is legal, and the seat that comes back has seen it.
+/// The answer is the reply, which is allowed at what the seat found and has its line behind the lines found, under the
+/// number that was served; or that the journal is full. The journal handed on is legal, and the seat that comes back
+/// has seen it.
 pub fn serve_and_hand_on<S: HullSet + Drop>(
     guard: BookGuard<'_, S>,
     number: u8,
@@ -42,7 +45,8 @@ pub fn serve_and_hand_on<S: HullSet + Drop>(
     ensures own { IsSeatOf book_head (guard_lock guard.entry) result.0 }
     ensures number { seat_number result.0 ≡ number }
     ensures ledger { IsLedgerOf number (seat_seen result.0) ledger.new }
-    ensures served { let found = box_value (guard_book guard.entry) in HasServed found.head.journal (guard_number guard.entry) number call found.lines (seat_seen result.0) result.1 }
+    ensures served { let found = box_value (guard_book guard.entry) in
+        HasServed found.head.journal (guard_number guard.entry) number call found.lines (seat_seen result.0) result.1 }
 {
     let mut guard = guard;
     let book = guard.book();
@@ -72,7 +76,8 @@ pub fn make_call<R: Wait, S: HullSet + Drop>(
     ensures number { seat_number result.0 ≡ number }
     ensures ledger { IsLedgerOf number (seat_seen result.0) ledger.new }
     ensures begins { IsPrefix (seat_seen seat) (seat_seen result.0) }
-    ensures called { HasCalled number (capacity_of (box_value (opening_book lock.now))) call (seat_seen seat) (seat_seen result.0) result.1 }
+    ensures called { HasCalled number (capacity_of (box_value (opening_book lock.now))) call (seat_seen seat)
+        (seat_seen result.0) result.1 }
     ensures stays_full { capacity_of (box_value (opening_book lock.now)) ≤ length (seat_seen seat) → IsErr result.1 }
 {
     let guard = lock.enter(rt, seat);

@@ -12,9 +12,9 @@ use super::call::{BookLock, BookSeat};
 use hull_book::{Book, Ledger, gather};
 use hull_plain::HullSet;
 
-/// Closes the lock and gathers the ledgers: the book, and how many calls have their line in its journal. It asks for all
-/// seats of the lock in the order of their numbers, and for the ledger of each, in the same order. The journal begins with what
-/// each seat has seen.
+/// Closes the lock and gathers the ledgers: the book, and how many calls have their line in its journal. It asks for
+/// all seats of the lock in the order of their numbers, and for the ledger of each, in the same order. The journal
+/// begins with what each seat has seen.
 pub fn close_book<S: HullSet + Drop>(
     lock: BookLock<S>,
     seats: Vec<BookSeat<S>>,

@@ -1,5 +1,6 @@
 //! The workers of a phase, put together from their seats, answers and ledgers, and taken apart again.
-ghost use Rattle.std.specs.Prelude.{◌≡◌, ◌+◌, ◌<◌, ◌≤◌, ℕ, List, [], ◌∷◌, ◌++◌, Some, IsSome, IfSome, length, reverse, slice_index_or, vec_len, vec_capacity, All};
+ghost use Rattle.std.specs.Prelude.{◌≡◌, ◌+◌, ◌<◌, ◌≤◌, ℕ, List, [], ◌∷◌, ◌++◌, Some, IsSome, IfSome, length, reverse};
+ghost use Rattle.std.specs.Prelude.{slice_index_or, vec_len, vec_capacity, All};
 ghost use Rattle.ticket_lock.specs.Tokens.{seat_number};
 ghost use Rattle.hull_pool.specs.Crews.{team, worker_of};
 
@@ -20,7 +21,9 @@ pub(crate) fn hire<B: Chronicle>(
     requires crew { crew.old.items ≡ [] }
     requires room { vec_len seats.old ≤ vec_capacity crew.old }
     ensures empty { (seats.new.items ≡ []) × (answers.new.items ≡ []) × (ledgers.new.items ≡ []) }
-    ensures room { (vec_capacity seats.new ≡ vec_capacity seats.old) × (vec_capacity answers.new ≡ vec_capacity answers.old) × (vec_capacity ledgers.new ≡ vec_capacity ledgers.old) }
+    ensures room { (vec_capacity seats.new ≡ vec_capacity seats.old)
+        × (vec_capacity answers.new ≡ vec_capacity answers.old)
+        × (vec_capacity ledgers.new ≡ vec_capacity ledgers.old) }
     ensures crew { reverse crew.new.items ≡ team worker_of seats.old.items answers.old.items ledgers.old.items }
 {
     while let Some(seat) = seats.pop() {
@@ -45,10 +48,12 @@ pub(crate) fn dismiss<B: Chronicle>(
     requires seated { All (λ w. IsSome w.seat) crew.old.items }
     requires numbered { All (λ w. IfSome w.seat (λ s. seat_number s ≡ w.number)) crew.old.items }
     requires empty { (seats.old.items ≡ []) × (answers.old.items ≡ []) × (ledgers.old.items ≡ []) }
-    requires room { (vec_len crew.old ≤ vec_capacity seats.old) × (vec_len crew.old ≤ vec_capacity answers.old) × (vec_len crew.old ≤ vec_capacity ledgers.old) }
+    requires room { (vec_len crew.old ≤ vec_capacity seats.old) × (vec_len crew.old ≤ vec_capacity answers.old)
+        × (vec_len crew.old ≤ vec_capacity ledgers.old) }
     ensures crew { crew.new.items ≡ [] }
     ensures team { team worker_of seats.new.items answers.new.items ledgers.new.items ≡ reverse crew.old.items }
-    ensures long { (vec_len seats.new ≡ vec_len crew.old) × (vec_len answers.new ≡ vec_len crew.old) × (vec_len ledgers.new ≡ vec_len crew.old) }
+    ensures long { (vec_len seats.new ≡ vec_len crew.old) × (vec_len answers.new ≡ vec_len crew.old)
+        × (vec_len ledgers.new ≡ vec_len crew.old) }
 {
     while let Some(worker) = crew.pop() {
         let Worker {

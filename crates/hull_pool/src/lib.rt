@@ -13,17 +13,17 @@
 //! let journal = book.into_journal();
 //! ```
 //!
-//! `Book::open` (crate `hull_book`) makes a book round an empty set, and a ledger for each worker. `TicketLock::open` (crate
-//! `ticket_lock`) makes a lock round the book, boxed, and a seat for each worker. [`make_call`] waits for the book, has a
-//! call served and hands the book on. [`close_book`] closes the lock and gathers the ledgers: it gives back the book, and how
-//! many calls have their line. The test `two_threads_share_a_book` does all of it. Who may not wait looks (`TicketLock::look`), and
-//! ends with [`serve_and_hand_on`], as `make_call` does.
+//! `Book::open` (crate `hull_book`) makes a book round an empty set, and a ledger for each worker. `TicketLock::open`
+//! (crate `ticket_lock`) makes a lock round the book, boxed, and a seat for each worker. [`make_call`] waits for the
+//! book, has a call served and hands the book on. [`close_book`] closes the lock and gathers the ledgers: it gives back
+//! the book, and how many calls have their line. The test `two_threads_share_a_book` does all of it. Who may not wait
+//! looks (`TicketLock::look`), and ends with [`serve_and_hand_on`], as `make_call` does.
 //!
 //! # A whole script
 //!
 //! [`run_phases`] does all of it for a script: [`Workers`] holds the ledgers and the answers, and each phase has a lock
-//! and threads of its own. [`run_phase`] runs one phase. What a run comes to is said in `specs/Runs.antt`, of a phase, and
-//! in `specs/Scripts.antt`, of a script.
+//! and threads of its own. [`run_phase`] runs one phase. What phases come to, over all calls of each worker, is
+//! said in `specs/Runs.antt`, of one phase as of many; `specs/Scripts.antt` adds that they ran one after the other.
 #![tactic(auto)]
 
 mod apart;

@@ -1,12 +1,13 @@
 //! One phase: a lock is opened round the book, the workers run, and the lock is closed.
-ghost use Rattle.std.specs.Prelude.{◌≡◌, ◌≤◌, [], IfOk, IfErr, OnOk, OnErr, Err, All, box_value, vec_len, vec_capacity};
+ghost use Rattle.std.specs.Prelude.{◌≡◌, ◌≤◌, [], ◌∷◌, IfOk, IfErr, OnOk, OnErr, Err, All, box_value, vec_len};
+ghost use Rattle.std.specs.Prelude.{vec_capacity};
 ghost use Rattle.ticket_lock.specs.Tokens.{seat_count, opening_book, IsSeatOf, AreNumbered, seat_seen};
 ghost use Rattle.hull_book.specs.Books.{IsLawful};
 ghost use Rattle.hull_pool.specs.Answers.{shown_workers};
 ghost use Rattle.hull_pool.specs.Crews.{book_head};
 ghost use Rattle.hull_pool.specs.Work.{workers_of};
-ghost use Rattle.hull_pool.specs.Runs.{MayRun, HasRunPhase};
-ghost use Rattle.hull_pool.specs.Scripts.{MayRunAll, Runs, RunsFront};
+ghost use Rattle.hull_pool.specs.Runs.{MayRunAll, HasRunAll};
+ghost use Rattle.hull_pool.specs.Scripts.{Runs, RunsFront};
 
 use super::call::{BookLock, BookSeat};
 use super::crew::{dismiss, hire};
@@ -57,9 +58,13 @@ fn run_locked<R: Threads + Wait + Sync, S: HullSet + Drop + Send + Sync, G: Gate
 ) -> Box<Book<S>>
     requires crew { (crew.items ≡ []) × (vec_len seats ≤ vec_capacity crew) }
     requires some { 1 ≤ vec_len seats }
-    requires seats { (seat_count lock ≡ workers_of (box_value (opening_book lock))) × (vec_len seats ≡ seat_count lock) × (vec_len seats ≤ vec_capacity seats) × All (IsSeatOf book_head lock) seats.items × AreNumbered seats.items × All (λ s. seat_seen s ≡ (box_value (opening_book lock)).lines) seats.items }
-    requires may { MayRun S.HullSet (box_value (opening_book lock)) (shown_workers answers.old.items ledgers.old.items) phase.now }
-    ensures { HasRunPhase S.HullSet (box_value (opening_book lock)) (shown_workers answers.old.items ledgers.old.items) phase.now (box_value result) (shown_workers answers.new.items ledgers.new.items) }
+    requires seats { (seat_count lock ≡ workers_of (box_value (opening_book lock))) × (vec_len seats ≡ seat_count lock)
+        × (vec_len seats ≤ vec_capacity seats) × All (IsSeatOf book_head lock) seats.items × AreNumbered seats.items
+        × All (λ s. seat_seen s ≡ (box_value (opening_book lock)).lines) seats.items }
+    requires may { MayRunAll S.HullSet (box_value (opening_book lock))
+        (shown_workers answers.old.items ledgers.old.items) (phase.now ∷ []) }
+    ensures { HasRunAll S.HullSet (box_value (opening_book lock)) (shown_workers answers.old.items ledgers.old.items)
+        (phase.now ∷ []) (box_value result) (shown_workers answers.new.items ledgers.new.items) }
 {
     hire(&mut seats, answers, ledgers, &mut crew);
     work_all(rt, &lock, phase, gate, &mut crew);
@@ -86,7 +91,10 @@ fn set_up<S: HullSet + Drop>(alloc: Global, book: Book<S>) -> Result<SetUp<S>, B
     requires lawful { IsLawful S.HullSet book }
     ensures lock { IfOk result (λ r. (box_value (opening_book r.lock) ≡ book) × (seat_count r.lock ≡ workers_of book)) }
     ensures crew { IfOk result (λ r. (r.crew.items ≡ []) × (vec_len r.seats ≤ vec_capacity r.crew)) }
-    ensures seats { IfOk result (λ r. (1 ≤ vec_len r.seats) × (vec_len r.seats ≡ seat_count r.lock) × (vec_len r.seats ≤ vec_capacity r.seats) × All (IsSeatOf book_head r.lock) r.seats.items × AreNumbered r.seats.items × All (λ s. seat_seen s ≡ book.lines) r.seats.items) }
+    ensures seats { IfOk result
+        (λ r. (1 ≤ vec_len r.seats) × (vec_len r.seats ≡ seat_count r.lock) × (vec_len r.seats ≤ vec_capacity r.seats)
+        × All (IsSeatOf book_head r.lock) r.seats.items × AreNumbered r.seats.items
+        × All (λ s. seat_seen s ≡ book.lines) r.seats.items) }
     ensures back { IfErr result (λ b. b ≡ book) }
 {
     let workers = book.workers();
@@ -121,8 +129,8 @@ pub fn run_phase<R: Threads + Wait + Sync, S: HullSet + Drop + Send + Sync, G: G
     phase: &Phase,
     gate: &G,
 ) -> PhaseEnd<S>
-    requires { MayRun S.HullSet book workers phase.now }
-    ensures ran { OnOk result.ended (HasRunPhase S.HullSet book workers phase.now result.book result.workers) }
+    requires { MayRunAll S.HullSet book workers (phase.now ∷ []) }
+    ensures ran { OnOk result.ended (HasRunAll S.HullSet book workers (phase.now ∷ []) result.book result.workers) }
     ensures refused { OnErr result.ended ((result.book ≡ book) × (result.workers ≡ workers)) }
 {
     let SetUp { lock, seats, crew } = match set_up(alloc, book) {
@@ -163,7 +171,8 @@ pub fn run_phases<R: Threads + Wait + Sync, S: HullSet + Drop + Send + Sync, G: 
 ) -> PhaseEnd<S>
     requires { MayRunAll S.HullSet book workers script.now.phases }
     ensures ran { OnOk result.ended (Runs S.HullSet book workers script.now.phases result.book result.workers) }
-    ensures refused { OnErr result.ended (RunsFront S.HullSet book workers script.now.phases result.book result.workers) }
+    ensures refused { OnErr result.ended
+        (RunsFront S.HullSet book workers script.now.phases result.book result.workers) }
 {
     let mut book = book;
     let mut workers = workers;

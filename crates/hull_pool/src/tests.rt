@@ -4,7 +4,7 @@ ghost use Rattle.hull_plain.specs.Sets.{plain_set};
 ghost use Rattle.hull_book.specs.Books.{IsLawful};
 ghost use Rattle.hull_book.specs.Ledgers.{AreLedgers};
 ghost use Rattle.hull_book.specs.Scripts.{calls_in};
-ghost use Rattle.hull_pool.specs.Scripts.{MayRunAll};
+ghost use Rattle.hull_pool.specs.Runs.{MayRunAll};
 
 mod gates;
 mod hostile;
@@ -65,6 +65,7 @@ fn opened(
 }
 
 // A book and workers that may run the script. Where memory is refused, the second attempt has it.
+#[tactic(auto, using(crate::proofs::Fronts::few_each))]
 fn ready(
     rt: &impl Abort,
     alloc: Global,
@@ -313,9 +314,9 @@ fn six_counts(alloc: Global) -> Result<Script, AllocError> {
     two_phases(alloc, counts, none)
 }
 
-/// Three workers race for four lines whose numbers pass the greatest one, 100 times: the numbers are the two greatest and
-/// then 0 and 1, four answers are that no point is there and two that the journal is full, and no worker has a reply
-/// behind one of those.
+/// Three workers race for four lines whose numbers pass the greatest one, 100 times: the numbers are the two greatest
+/// and then 0 and 1, four answers are that no point is there and two that the journal is full, and no worker has a
+/// reply behind one of those.
 #[test]
 fn six_calls_for_four_lines_across_the_wrap(rt: HostRuntime) -> Result<(), Fail> {
     let script = six_counts(rt.alloc())?;

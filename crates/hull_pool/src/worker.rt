@@ -14,8 +14,8 @@ use std::thread;
 use std::thread::Threads;
 use ticket_lock::{Chronicle, Seat};
 
-/// A worker of a phase. Its seat is there whenever it does not work. The workers of a crew lie in one list, and each writes
-/// its ledger while it holds the book and its answers after: none of that is on a line of another's.
+/// A worker of a phase. Its seat is there whenever it does not work. The workers of a crew lie in one list, and each
+/// writes its ledger while it holds the book and its answers after: none of that is on a line of another's.
 pub(crate) struct Worker<B: Chronicle> {
     pub(crate) number: u8,
     pub(crate) seat: Option<Seat<B>>,
@@ -60,12 +60,15 @@ fn work_each<R: Threads + Wait + Sync, S: HullSet + Drop + Send + Sync, G: Gate>
 )
     requires some { 0 < length crew.old }
     requires ready { All (IsReady lock.now (box_value (opening_book lock.now)) phase.now) crew.old }
-    ensures { (i : ℕ) (d : _) → i < length crew.old → HasRun lock.now (box_value (opening_book lock.now)) phase.now (slice_index_or crew.old i d) (slice_index_or crew.new i d) }
+    ensures { (i : ℕ) (d : _) → i < length crew.old
+        → HasRun lock.now (box_value (opening_book lock.now)) phase.now (slice_index_or crew.old i d)
+        (slice_index_or crew.new i d) }
 {
     let threads = crew.len();
     let each = |_: usize, worker: &mut Worker<Box<Book<S>>>|
         requires { IsReady lock.now (box_value (opening_book lock.now)) phase.now worker.now }
-        ensures { HasRun lock.entry.now (box_value (opening_book lock.entry.now)) phase.entry.now worker.entry.now worker.exit.now }
+        ensures { HasRun lock.entry.now
+            (box_value (opening_book lock.entry.now)) phase.entry.now worker.entry.now worker.exit.now }
     { work(rt, lock, phase, gate, worker) };
     thread::for_each_mut(rt, crew, threads, &each);
 }
@@ -80,7 +83,8 @@ pub(crate) fn work_all<R: Threads + Wait + Sync, S: HullSet + Drop + Send + Sync
 )
     requires some { 0 < vec_len crew.old }
     requires ready { All (IsReady lock.now (box_value (opening_book lock.now)) phase.now) (reverse crew.old.items) }
-    ensures ran { AllZip (HasRun lock.now (box_value (opening_book lock.now)) phase.now) (reverse crew.old.items) (reverse crew.new.items) }
+    ensures ran { AllZip (HasRun lock.now (box_value (opening_book lock.now)) phase.now) (reverse crew.old.items)
+        (reverse crew.new.items) }
     ensures many { vec_len crew.new ≡ vec_len crew.old }
 {
     work_each(rt, lock, phase, gate, crew.as_mut_slice());

@@ -1,10 +1,9 @@
 //! A phase, and a script of one phase, are run by one worker.
-ghost use Rattle.std.specs.Prelude.{◌≡◌, ◌≤◌, IfSome, OnErr, OnOk, length};
+ghost use Rattle.std.specs.Prelude.{◌≡◌, ◌≤◌, [], ◌∷◌, IfSome, OnErr, OnOk, length};
 ghost use Rattle.hull_plain.specs.Held.{nothing_held};
 ghost use Rattle.hull_book.specs.Books.{IsLawful};
 ghost use Rattle.hull_book.specs.Ledgers.{AreLedgers};
-ghost use Rattle.hull_pool.specs.Runs.{HasRunPhase, MayRun};
-ghost use Rattle.hull_pool.specs.Scripts.{MayRunAll};
+ghost use Rattle.hull_pool.specs.Runs.{HasRunAll, MayRunAll};
 
 use crate::books::{give_up, lists};
 use crate::findings::Findings;
@@ -112,6 +111,7 @@ fn judge<S: HullSet + Drop>(
 }
 
 /// A book over the set, and workers that may run the script; `None` where memory is refused to them.
+#[tactic(auto, using(hull_pool::proofs::Fronts::few_each))]
 fn prepared<S: HullSet + Drop>(alloc: Global, set: S, script: &Script) -> Option<(Book<S>, Workers)>
     requires empty { S.held set ≡ nothing_held }
     ensures { IfSome result (λ r. MayRunAll S.HullSet r.0 r.1 script.now.phases) }
@@ -173,8 +173,9 @@ fn run_again<R: Threads + Wait + Sync, S: HullSet + Drop + Send + Sync>(
     phase: &Phase,
     findings: &mut Findings,
 ) -> (Stage, PhaseEnd<S>)
-    requires { MayRun S.HullSet book workers phase.now }
-    ensures ran { OnOk result.1.ended (HasRunPhase S.HullSet book workers phase.now result.1.book result.1.workers) }
+    requires { MayRunAll S.HullSet book workers (phase.now ∷ []) }
+    ensures ran { OnOk result.1.ended
+        (HasRunAll S.HullSet book workers (phase.now ∷ []) result.1.book result.1.workers) }
     ensures refused { OnErr result.1.ended ((result.1.book ≡ book) × (result.1.workers ≡ workers)) }
 {
     let PhaseEnd {

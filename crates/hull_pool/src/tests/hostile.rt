@@ -186,8 +186,8 @@ fn count_and_add(rt: &impl Abort, alloc: Global, looker: u8) -> Result<Script, A
     Ok(Script::new(2, Vec::from_array(alloc, [phase])?))
 }
 
-/// Two flags: a worker whose gate looks for the flag that the other raises behind its call sees it, whichever of the two
-/// it is, 100 times each. A body that runs the workers one after another fails one of the two.
+/// Two flags: a worker whose gate looks for the flag that the other raises behind its call sees it, whichever of the
+/// two it is, 100 times each. A body that runs the workers one after another fails one of the two.
 #[test]
 fn workers_one_after_another(rt: HostRuntime) -> Result<(), Fail> {
     for looker in [0u8, 1] {

@@ -1,9 +1,9 @@
 //! Phases that are refused memory. `rt try --test --fail-alloc N` refuses the Nth allocation of each test.
-ghost use Rattle.std.specs.Prelude.{◌≡◌, ◌≤◌, OnOk, length};
+ghost use Rattle.std.specs.Prelude.{◌≡◌, ◌≤◌, [], ◌∷◌, OnOk, length};
 ghost use Rattle.hull_plain.specs.Sets.{plain_set};
 ghost use Rattle.hull_book.specs.Books.{IsLawful};
 ghost use Rattle.hull_book.specs.Ledgers.{AreLedgers};
-ghost use Rattle.hull_pool.specs.Runs.{MayRun, HasRunPhase};
+ghost use Rattle.hull_pool.specs.Runs.{MayRunAll, HasRunAll};
 
 use super::{Outcome, outcome_of, ready, three_corners};
 use crate::{Gate, PhaseEnd, PoolFault, Workers, run_phase, run_phases};
@@ -66,8 +66,8 @@ fn runs_again<R: Threads + Wait + Abort + Sync>(
     phase: &Phase,
     calls: &Calls,
 ) -> PhaseEnd<PlainSet>
-    requires { MayRun plain_set book workers phase.now }
-    ensures { OnOk result.ended (HasRunPhase plain_set book workers phase.now result.book result.workers) }
+    requires { MayRunAll plain_set book workers (phase.now ∷ []) }
+    ensures { OnOk result.ended (HasRunAll plain_set book workers (phase.now ∷ []) result.book result.workers) }
 {
     let before = (book.turn(), book.lines().len());
     let end = run_phase(rt, alloc, book, workers, phase, calls);

@@ -40,7 +40,8 @@ fn last_caller(
     ensures number { result.number ≡ number }
     ensures ready { IsSeated lock.now result.number result.ledger result.seat }
     ensures left { (vec_len seats.new + 1 ≡ vec_len seats.old) × (vec_len ledgers.new + 1 ≡ vec_len ledgers.old) }
-    ensures room { (vec_capacity seats.new ≡ vec_capacity seats.old) × (vec_capacity ledgers.new ≡ vec_capacity ledgers.old) }
+    ensures room { (vec_capacity seats.new ≡ vec_capacity seats.old)
+        × (vec_capacity ledgers.new ≡ vec_capacity ledgers.old) }
 {
     let Some(seat) = seats.pop() else {
         panic!(rt; "a seat is left")

@@ -1,5 +1,5 @@
 -- the book that the seat found has its own lines as it had seen them, and one call adds one of them at most
-use Rattle.std.proofs.Common.{◌≡◌, ap, sym, refl, box_value}
+use Rattle.std.proofs.Common.{ap, sym, refl, box_value}
 use Rattle.hull_book.specs.declared.head.BookHead.{BookHead}
 use Rattle.ticket_lock.specs.Tokens.{seat_seen, guard_book, guard_number, opening_book}
 use Rattle.hull_pool.proofs.Called.{found_ledger, found_own, begins_longer, served_begins, served_called, stays_full}

@@ -10,16 +10,23 @@ use Rattle.hull_pool.proofs.crew.dismiss.Goals as goal
 pub loop-worker-preserved : goal.loop-worker-preserved
 loop-worker-preserved g c =
     let inv = c.loop-worker.invariant in record {
-      seated = all_front (λ w. IsSome w.seat) c.loop-worker.crew.items c.pop.new.self.items c.in-Some.worker c.in-Some.ensures.items inv.seated;
+      seated = all_front (λ w. IsSome w.seat) c.loop-worker.crew.items c.pop.new.self.items c.in-Some.worker
+          c.in-Some.ensures.items inv.seated;
       numbered = all_front
           (λ w. IfSome w.seat (λ s. seat_number s
-          ≡ w.number)) c.loop-worker.crew.items c.pop.new.self.items c.in-Some.worker c.in-Some.ensures.items inv.numbered;
+          ≡ w.number)) c.loop-worker.crew.items c.pop.new.self.items c.in-Some.worker
+          c.in-Some.ensures.items inv.numbered;
       same = search (rules, common_steps);
       all = search (rules, common_steps);
       room = search (rules, common_steps);
-      team_is = moved_back worker_of c.loop-worker.seats.items c.push_reserved.new.self.items c.loop-worker.answers.items c.push_reserved-in-Some.new.self.items c.loop-worker.ledgers.items c.push_reserved-in-Some-2.new.self.items c.unwrap.result c.in-Some.worker.answers c.in-Some.worker.ledger c.in-Some.worker c.loop-worker.crew.items c.pop.new.self.items (reverse c.args.crew.now.items)
-          c.push_reserved.ensures.items c.push_reserved-in-Some.ensures.items c.push_reserved-in-Some-2.ensures.items inv.same.0 inv.same.1 c.in-Some.ensures.items
+      team_is = moved_back worker_of c.loop-worker.seats.items c.push_reserved.new.self.items
+          c.loop-worker.answers.items c.push_reserved-in-Some.new.self.items c.loop-worker.ledgers.items
+          c.push_reserved-in-Some-2.new.self.items c.unwrap.result c.in-Some.worker.answers c.in-Some.worker.ledger
+          c.in-Some.worker c.loop-worker.crew.items c.pop.new.self.items (reverse c.args.crew.now.items)
+          c.push_reserved.ensures.items c.push_reserved-in-Some.ensures.items c.push_reserved-in-Some-2.ensures.items
+          inv.same.0 inv.same.1 c.in-Some.ensures.items
           (whole_worker c.in-Some.worker c.unwrap.result c.unwrap.ensures
           (all_last (λ w. IfSome w.seat
-          (λ s. seat_number s ≡ w.number)) c.loop-worker.crew.items c.pop.new.self.items c.in-Some.worker c.in-Some.ensures.items inv.numbered)) inv.team_is;
+          (λ s. seat_number s ≡ w.number)) c.loop-worker.crew.items c.pop.new.self.items c.in-Some.worker
+          c.in-Some.ensures.items inv.numbered)) inv.team_is;
     }

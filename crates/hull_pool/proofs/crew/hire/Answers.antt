@@ -13,5 +13,10 @@ loop-seat-preserved g c =
       room = search (rules, common_steps);
       rooms = search (rules, common_steps);
       crew_is = rw (c.push_reserved.ensures.items, c.number-number.ensures)
-          (moved worker_of c.loop-seat.seats.items c.pop.new.self.items c.loop-seat.answers.items c.pop-in-Some-2.new.self.items c.loop-seat.ledgers.items c.pop-in-Some.new.self.items c.in-Some.seat c.unwrap-in-Some.result c.unwrap.result c.loop-seat.crew.items _ c.in-Some.ensures.items (rw c.unwrap-in-Some.ensures at c.pop-in-Some-2.ensures.items) (rw c.unwrap.ensures at c.pop-in-Some.ensures.items) inv.answers_left inv.ledgers_left inv.crew_is);
+          (moved worker_of c.loop-seat.seats.items c.pop.new.self.items c.loop-seat.answers.items
+          c.pop-in-Some-2.new.self.items c.loop-seat.ledgers.items c.pop-in-Some.new.self.items c.in-Some.seat
+          c.unwrap-in-Some.result c.unwrap.result c.loop-seat.crew.items _ c.in-Some.ensures.items
+          (rw c.unwrap-in-Some.ensures at c.pop-in-Some-2.ensures.items)
+          (rw c.unwrap.ensures at c.pop-in-Some.ensures.items) inv.answers_left
+          inv.ledgers_left inv.crew_is);
     }

@@ -1,66 +1,73 @@
 -- one phase more was run, or it was refused and those before it were run
-use Rattle.std.proofs.Common.{◌≡◌, ◌++◌, ◌∷◌, ◌∙◌, List, suc, sym, ap, subst, take, drop, drop-cons}
+use Rattle.std.proofs.Common.{◌≡◌, ◌++◌, ◌∷◌, [], ◌∙◌, List, suc, sym, subst, take, take_all, drop}
 use Rattle.std.specs.Prelude.{slice_index_or}
-use Rattle.std.proofs.lemmas.List.{take_more, take-append-drop}
+use Rattle.std.proofs.lemmas.List.{take_more}
 use Rattle.hull_book.specs.Books.{BookValue}
 use Rattle.hull_book.specs.Scripts.{PhaseValue}
 use Rattle.hull_pool.specs.Answers.{WorkersValue}
-use Rattle.hull_pool.specs.Runs.{MayRun, HasRunPhase}
-use Rattle.hull_pool.specs.Scripts.{MayRunAll, HasRunPhases}
-use Rattle.hull_pool.proofs.Chained.{run_all, run_one_more}
-use Rattle.hull_pool.proofs.Fronts.{may_next, may_front, take_whole, of_ok}
+use Rattle.hull_pool.specs.Runs.{MayRunAll, HasRunAll}
+use Rattle.hull_pool.specs.Scripts.{HasRunPhases}
+use Rattle.hull_pool.proofs.Chained.{run_all, run_one_more, may_front, may_next}
+use Rattle.hull_pool.proofs.Fronts.{parted, of_ok}
 use Rattle.hull_pool.proofs.phase.run_phases.Goals as goal
 
 pub run_phase-end-requires-after_bounds : goal.run_phase-end-requires-after_bounds
 run_phase-end-requires-after_bounds g c κs within =
-    let may = subst (MayRunAll g.S.HullSet c.args.book c.args.workers)
-    (sym c.phases-phase-items.ensures.phases) c.requires in
-    subst (MayRun g.S.HullSet c.loop-phase.book c.loop-phase.workers) (sym c.phase-item.is)
-    (may_next c.args.book c.args.workers c.phases-phase-items.result.now c.loop-phase.phase-index c.phase-item.result c.loop-phase.book c.loop-phase.workers may c.loop-phase-test.true c.loop-phase.invariant)
+    let items : List PhaseValue = c.phases-phase-items.result.now in
+    let i = c.loop-phase.phase-index in
+    let split = sym c.phases-phase-items.ensures.phases ∙ parted items i c.phase-item.result c.loop-phase-test.true in
+    subst (λ (p : PhaseValue). MayRunAll g.S.HullSet c.loop-phase.book c.loop-phase.workers (p ∷ []))
+    (sym c.phase-item.is)
+    (may_next c.args.book c.args.workers (take i items) (slice_index_or items i c.phase-item.result)
+    (drop (suc i) items) c.loop-phase.book c.loop-phase.workers
+    (subst (MayRunAll g.S.HullSet c.args.book c.args.workers) split c.requires) c.loop-phase.invariant)
 
 pub returns-in-Err-clause-refused : goal.returns-in-Err-clause-refused
 returns-in-Err-clause-refused g c =
     let items : List PhaseValue = c.phases-phase-items.result.now in
+    let i = c.loop-phase.phase-index in
     let same = rw c.in-Err.is at c.run_phase-end.ensures.refused in
-    let refused : PhaseValue = slice_index_or items c.loop-phase.phase-index c.phase-item.result in
-    let back : List PhaseValue = drop (suc c.loop-phase.phase-index) items in
-    let behind : drop c.loop-phase.phase-index items ≡ refused ∷ back =
-    drop-cons items c.loop-phase.phase-index c.phase-item.result c.loop-phase-test.true in
-    let split : c.args.script.now.phases ≡ take c.loop-phase.phase-index items ++ refused ∷ back =
-    sym c.phases-phase-items.ensures.phases ∙ sym (take-append-drop c.loop-phase.phase-index items)
-    ∙ ap (λ (xs : List PhaseValue). take c.loop-phase.phase-index items ++ xs) behind in
+    let refused : PhaseValue = slice_index_or items i c.phase-item.result in
+    let back : List PhaseValue = drop (suc i) items in
+    let split : c.args.script.now.phases ≡ take i items ++ refused ∷ back =
+    sym c.phases-phase-items.ensures.phases ∙ parted items i c.phase-item.result c.loop-phase-test.true in
     let chain : HasRunPhases g.S.HullSet c.args.book c.args.workers
-    (take c.loop-phase.phase-index items) c.run_phase-end.result.book c.run_phase-end.result.workers =
+    (take i items) c.run_phase-end.result.book c.run_phase-end.result.workers =
     subst (λ (v : WorkersValue). HasRunPhases g.S.HullSet c.args.book c.args.workers
-    (take c.loop-phase.phase-index items) c.run_phase-end.result.book v) (sym same.1)
+    (take i items) c.run_phase-end.result.book v) (sym same.1)
     (subst (λ (d : BookValue _). HasRunPhases g.S.HullSet c.args.book c.args.workers
-    (take c.loop-phase.phase-index items) d c.loop-phase.workers) (sym same.0) c.loop-phase.invariant)
+    (take i items) d c.loop-phase.workers) (sym same.0) c.loop-phase.invariant)
     in (
-      take c.loop-phase.phase-index items,
+      take i items,
       refused,
       back,
       split,
       (
         chain,
         run_all c.args.book c.args.workers _ _ _
-            (may_front c.args.book c.args.workers _ _ c.args.script.now.phases split c.requires) chain,
+            (may_front c.args.book c.args.workers _ (refused ∷ back)
+            (subst (MayRunAll g.S.HullSet c.args.book c.args.workers) split c.requires)) chain,
       ),
     )
 
 pub loop-phase-preserved : goal.loop-phase-preserved
 loop-phase-preserved g c =
     let items : List PhaseValue = c.phases-phase-items.result.now in
+    let i = c.loop-phase.phase-index in
     let ran = of_ok c.run_phase-end.result.ended _ c.in_default.not-Err c.run_phase-end.ensures.ran in
-    subst (λ (xs : List PhaseValue). HasRunPhases g.S.HullSet c.args.book c.args.workers xs c.run_phase-end.result.book c.run_phase-end.result.workers) (sym (take_more items c.loop-phase.phase-index c.phase-item.result c.loop-phase-test.true))
-    (run_one_more c.args.book c.args.workers
-    (take c.loop-phase.phase-index items) c.loop-phase.book c.loop-phase.workers
-    (slice_index_or items c.loop-phase.phase-index c.phase-item.result) c.run_phase-end.result.book c.run_phase-end.result.workers c.loop-phase.invariant
-    (subst (λ (p : PhaseValue). HasRunPhase g.S.HullSet c.loop-phase.book c.loop-phase.workers p c.run_phase-end.result.book c.run_phase-end.result.workers) c.phase-item.is ran))
+    subst (λ (xs : List PhaseValue). HasRunPhases g.S.HullSet c.args.book c.args.workers xs
+    c.run_phase-end.result.book c.run_phase-end.result.workers)
+    (sym (take_more items i c.phase-item.result c.loop-phase-test.true))
+    (run_one_more c.args.book c.args.workers (take i items) c.loop-phase.book c.loop-phase.workers
+    (slice_index_or items i c.phase-item.result) c.run_phase-end.result.book c.run_phase-end.result.workers
+    c.loop-phase.invariant
+    (subst (λ (p : PhaseValue). HasRunAll g.S.HullSet c.loop-phase.book c.loop-phase.workers (p ∷ [])
+    c.run_phase-end.result.book c.run_phase-end.result.workers) c.phase-item.is ran))
 
 pub returns-clause-ran : goal.returns-clause-ran
 returns-clause-ran g c =
-    let whole = take_whole c.phases-phase-items.result.now c.loop-phase.phase-index c.loop-phase-test.false
+    let whole = take_all c.loop-phase.phase-index c.phases-phase-items.result.now c.loop-phase-test.false
     ∙ c.phases-phase-items.ensures.phases in
-    let chain = subst (λ
-    (xs : List PhaseValue). HasRunPhases g.S.HullSet c.args.book c.args.workers xs c.loop-phase.book c.loop-phase.workers) whole c.loop-phase.invariant in
+    let chain = subst (λ (xs : List PhaseValue). HasRunPhases g.S.HullSet c.args.book c.args.workers xs
+    c.loop-phase.book c.loop-phase.workers) whole c.loop-phase.invariant in
     (chain, run_all c.args.book c.args.workers c.args.script.now.phases _ _ c.requires chain)

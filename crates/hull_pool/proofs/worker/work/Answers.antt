@@ -35,7 +35,8 @@ loop-call-preserved g c =
       begins = begins_longer _ _ _ inv.begins c.make_call-next.ensures.begins;
       ledger_is = c.make_call-next.ensures.ledger;
       worked = one_more _ _ _ _ _ _ _ _ _ _ _ c.make_call-next.result.1 inv.worked c.loop-call-test.true
-          (sym c.call-item.is) c.make_call-next.ensures.called c.make_call-next.ensures.stays_full c.push_reserved.ensures.items;
+          (sym c.call-item.is) c.make_call-next.ensures.called
+          c.make_call-next.ensures.stays_full c.push_reserved.ensures.items;
       index_is = ap (λ (n : ℕ). n + 1) inv.index_is;
       room = omega (
         arith,
@@ -58,7 +59,8 @@ returns g c =
         inv.begins,
         subst (λ (k : ℕ). IsLedgerOf k (seat_seen c.loop-call.seat) c.loop-call.worker.ledger)
             (sym inv.number_is) inv.ledger_is,
-        finished _ _ _ _ _ c.args.phase.now _ _ _ _ inv.number_is c.calls-call-items.ensures c.loop-call.auto.call-index-end c.loop-call-test.false inv.worked,
+        finished _ _ _ _ _ c.args.phase.now _ _ _ _ inv.number_is c.calls-call-items.ensures
+            c.loop-call.auto.call-index-end c.loop-call-test.false inv.worked,
       );
       room = inv.same_room;
     }

@@ -1,7 +1,19 @@
+-- the book and the workers that were made for the script may run it, no worker having more calls than all have; and
 -- ledgers in the order of their seats are all ledgers
 use Rattle.std.proofs.Common.{rules}
 use Rattle.hull_book.proofs.Counts.{all_in_order}
+use Rattle.hull_pool.proofs.Fronts.{few_each}
 use Rattle.hullbook.proofs.run.perform.Goals as goal
+
+pub run_phases-end-requires-after_bounds : goal.run_phases-end-requires-after_bounds
+run_phases-end-requires-after_bounds g c κs within = record {
+  lawful = search rules;
+  ledgers = search rules;
+  answers = search rules;
+  jobs = search rules;
+  few = λ k below. few_each c.args.script.now.phases k (c.workers-workers.ensures.limits.calls);
+  room = search rules;
+}
 
 pub gather-lines-requires-clause-ledgers : goal.gather-lines-requires-clause-ledgers
 gather-lines-requires-clause-ledgers g c = all_in_order _ _ (search rules)

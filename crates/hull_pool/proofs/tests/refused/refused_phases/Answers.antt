@@ -19,7 +19,8 @@ lawful_after K b c w v phases (Err x) h k = k.4.1.lawful
 
 pub count_on-requires-clause-lawful : goal.count_on-requires-clause-lawful
 count_on-requires-clause-lawful g c =
-    lawful_after plain_set _ _ _ _ _ c.run_phases-book.result.ended c.run_phases-book.ensures.ran c.run_phases-book.ensures.refused
+    lawful_after plain_set _ _ _ _ _ c.run_phases-book.result.ended c.run_phases-book.ensures.ran
+    c.run_phases-book.ensures.refused
 
 pub gather-requires-clause-ledgers : goal.gather-requires-clause-ledgers
 gather-requires-clause-ledgers g c = all_in_order _ _ (search rules)
