@@ -22,8 +22,7 @@ abbrev pub Moment : Type 0
 Moment = World TreeBook BookHead Line
 
 -- It holds at every moment: however many seats a lock was opened for, round whatever lawful book, and whichever steps
--- of
--- its seats were made since, in whatever order.
+-- of its seats were made since, in whatever order.
 abbrev pub Always : (Moment → Type 0) → Type 0
 Always P = (seats : ℕ) (book : TreeBook) (opening now : Moment) (steps : List (Event TreeBook))
     → Opened (says_book hull_tree) partitioned_form seats book opening

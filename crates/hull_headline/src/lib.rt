@@ -1,15 +1,17 @@
 //! The headline: what a hull that many threads share promises, as one contract.
 //!
-//! > In whatever order the threads' single steps fall, at most one thread holds the book. Whenever the lock is free, every
-//! > stored bridge is that of the live points below it, and the journal is a legal history from the empty set, its calls
-//! > in the order of their numbers. Once all ledgers are gathered, they sum to the journal's length.
+//! > In whatever order the threads' single steps fall, at most one thread holds the book. Whenever the lock is free,
+//! > every stored bridge is that of the live points below it, and the journal is a legal history from the empty set,
+//! > its calls in the order of their numbers. Once all ledgers are gathered, they sum to the journal's length.
 //!
 //! Beside that, whenever the lock is free each point is held as often as the journal's calls left it. It is said of a
-//! lock (`ticket_lock`, in the form that runs) round a book (`hull_book`) over a tree (`hull_tree`), and over every list
-//! of single steps of its seats; `specs/Headline.antt` has each of its words.
+//! lock (`ticket_lock`, in the form that runs) round a book (`hull_book`) over a tree (`hull_tree`), and over every
+//! list of single steps of its seats; `specs/Headline.antt` has each of its words.
 #![tactic(auto)]
 
-ghost use Rattle.hull_headline.specs.Headline.{Always, WheneverFree, AtMostOneHolds, StoresBridgesOfLivePoints, HoldsEachPointAsOften, HasLegalJournal, IsInOrderOfNumbers, LedgersSumToLength};
+ghost use Rattle.hull_headline.specs.Headline.{Always, WheneverFree, AtMostOneHolds, StoresBridgesOfLivePoints};
+ghost use Rattle.hull_headline.specs.Headline.{HoldsEachPointAsOften, HasLegalJournal, IsInOrderOfNumbers};
+ghost use Rattle.hull_headline.specs.Headline.{LedgersSumToLength};
 
 use hull_book::Book;
 use hull_tree::HullTree;
