@@ -391,21 +391,29 @@ module _ {S : Type 0} where
     pub answers : length vs ≡ length ss
     pub ledgers : length ls ≡ length ss
 
-module _ {S : Type 0} {K : Ghosts S} where
-  -- what may be run has lists that long
-  pub are_long : (b : BookValue S) (phase : PhaseValue) (ss : List (BookSeat S)) (vs : List AnswerVec)
-      (ls : List LedgerValue) → length ss ≡ workers_of b → MayRunAll K b (shown_workers vs ls) (phase ∷ [])
-      → AreLong b ss vs ls
-  are_long b phase ss vs ls n may = record {
-    seats = n;
-    answers = sym (length-map vs (λ (v : AnswerVec). shown v)) ∙ may.answers ∙ sym n;
-    ledgers = may.ledgers.number ∙ sym n;
-  }
+  -- and so is the crew
+  pub record IsCrew (b : BookValue S) (crew : List (Worker (Boxed S) BookHead Line)) (ss : List (BookSeat S))
+      (vs : List AnswerVec) (ls : List LedgerValue) : Type 0 where
+    pub long : AreLong b ss vs ls
+    pub many : length crew ≡ workers_of b
 
-module _ {S : Type 0} where
-  -- the crew is as long
-  pub crew_long : (b : BookValue S) (crew : List (Worker (Boxed S) BookHead Line)) (ss : List (BookSeat S))
-      (vs : List AnswerVec) (ls : List LedgerValue) → AreLong b ss vs ls → reverse crew ≡ team worker_of ss vs ls
-      → length crew ≡ workers_of b
-  crew_long b crew ss vs ls long is =
-      sym (length-reverse crew) ∙ ap length is ∙ team-length worker_of ss vs ls long.answers long.ledgers ∙ long.seats
+module _ {S : Type 0} {K : Ghosts S} where
+  -- a crew for what may be run, made the other way round of lists with a seat for each worker, is that long
+  pub is_crew : (b : BookValue S) (phase : PhaseValue) (crew : List (Worker (Boxed S) BookHead Line))
+      (seats : Vec (BookSeat S) Global) (vs : List AnswerVec) (ls : List LedgerValue) (count : ℕ)
+      → count ≡ workers_of b → vec_len seats ≡ count → MayRunAll K b (shown_workers vs ls) (phase ∷ [])
+      → reverse crew ≡ team worker_of seats.items vs ls → IsCrew b crew seats.items vs ls
+  is_crew b phase crew seats vs ls count workers some may is =
+      let n : length seats.items ≡ workers_of b = omega (arith, workers, some, seats.ok.0) in
+      let answers : length vs ≡ length seats.items =
+      sym (length-map vs (λ (v : AnswerVec). shown v)) ∙ may.answers ∙ sym n in
+      let ledgers : length ls ≡ length seats.items = may.ledgers.number ∙ sym n in record {
+        long = record { seats = n; answers = answers; ledgers = ledgers };
+        many = sym (length-reverse crew) ∙ ap length is ∙ team-length worker_of seats.items vs ls answers ledgers ∙ n;
+      }
+
+-- what a crew left is as long as what it was made of
+pub as_long : {A B C : Type 0} → (left : Vec A Global) (crew ran : Vec B Global) (made : List C) (n : ℕ)
+    → length crew.items ≡ n → length made ≡ n → vec_len ran ≡ vec_len crew → vec_len left ≡ vec_len ran
+    → length left.items ≡ length made
+as_long left crew ran made n long many same back = omega (arith, long, many, same, back, left.ok.0, crew.ok.0)

@@ -1,36 +1,29 @@
 -- every worker that was hired has run, came back with its parts, and stands in the closed journal
-use Rattle.std.proofs.Common.{arith, ◌≡◌, ◌∙◌, sym, length}
+use Rattle.std.proofs.Common.{arith, ◌≡◌, ◌∙◌, sym}
 use Rattle.std.specs.Prelude.{box_value, IsSome, IfSome}
 use Rattle.hull_book.specs.Books.{BookValue}
 use Rattle.ticket_lock.specs.Tokens.{opening_book, seat_number}
-use Rattle.hull_pool.specs.Work.{workers_of}
 use Rattle.hull_pool.proofs.Reversed.{all_unreverse}
 use Rattle.hull_pool.proofs.Phases.{numbered_from, ready_from, fits_all, zip_all, seats_back, phase_ran}
-use Rattle.hull_pool.proofs.Phases.{numbered_worker, AreLong, are_long, crew_long}
+use Rattle.hull_pool.proofs.Phases.{numbered_worker, is_crew, as_long}
 use Rattle.hull_pool.proofs.phase.run_locked.Goals as goal
 
 pub work_all-requires-clause-some : goal.work_all-requires-clause-some
 work_all-requires-clause-some g c κs within =
     let b : BookValue _ = box_value (opening_book c.args.lock) in
-    let n : length c.args.seats.items ≡ workers_of b =
-    omega (arith, c.requires.seats.0, c.requires.seats.1, c.args.seats.ok.0) in
-    let long : AreLong b c.args.seats.items c.args.answers.now.items c.args.ledgers.now.items =
-    are_long b c.args.phase.now _ _ _ n c.requires.may in
-    let crew : length c.hire.new.crew.items ≡ workers_of b = crew_long b _ _ _ _ long c.hire.ensures.crew in
-    omega (arith, crew, n, c.requires.some, c.args.seats.ok.0, c.hire.new.crew.ok.0)
+    let made = is_crew b c.args.phase.now c.hire.new.crew.items c.args.seats _ _ _ c.requires.seats.0
+    c.requires.seats.1 c.requires.may c.hire.ensures.crew in
+    omega (arith, made.many, made.long.seats, c.requires.some, c.args.seats.ok.0, c.hire.new.crew.ok.0)
 
 pub work_all-requires-clause-ready : goal.work_all-requires-clause-ready
 work_all-requires-clause-ready g c κs within =
     let b : BookValue _ = box_value (opening_book c.args.lock) in
-    let n : length c.args.seats.items ≡ workers_of b =
-    omega (arith, c.requires.seats.0, c.requires.seats.1, c.args.seats.ok.0) in
-    let long : AreLong b c.args.seats.items c.args.answers.now.items c.args.ledgers.now.items =
-    are_long b c.args.phase.now _ _ _ n c.requires.may in
-    let crew : length c.hire.new.crew.items ≡ workers_of b = crew_long b _ _ _ _ long c.hire.ensures.crew in
+    let made = is_crew b c.args.phase.now c.hire.new.crew.items c.args.seats _ _ _ c.requires.seats.0
+    c.requires.seats.1 c.requires.may c.hire.ensures.crew in
     rw c.hire.ensures.crew
-    (ready_from c.args.lock b c.args.phase.now 0 _ _ _ long.answers long.ledgers
+    (ready_from c.args.lock b c.args.phase.now 0 _ _ _ made.long.answers made.long.ledgers
     (numbered_from 0 _ (λ i s e. c.requires.seats.4 i s e ∙ omega arith)) c.requires.seats.3 c.requires.seats.5
-    (fits_all b c.args.phase.now _ _ c.requires.may (long.answers ∙ sym long.ledgers)))
+    (fits_all b c.args.phase.now _ _ c.requires.may (made.long.answers ∙ sym made.long.ledgers)))
 
 pub dismiss-requires-clause-seated : goal.dismiss-requires-clause-seated
 dismiss-requires-clause-seated g c =
@@ -46,32 +39,29 @@ dismiss-requires-clause-numbered g c =
 pub dismiss-requires-clause-room : goal.dismiss-requires-clause-room
 dismiss-requires-clause-room g c =
     let b : BookValue _ = box_value (opening_book c.args.lock) in
-    let n : length c.args.seats.items ≡ workers_of b =
-    omega (arith, c.requires.seats.0, c.requires.seats.1, c.args.seats.ok.0) in
-    let long : AreLong b c.args.seats.items c.args.answers.now.items c.args.ledgers.now.items =
-    are_long b c.args.phase.now _ _ _ n c.requires.may in
-    let crew : length c.hire.new.crew.items ≡ workers_of b = crew_long b _ _ _ _ long c.hire.ensures.crew in
+    let made = is_crew b c.args.phase.now c.hire.new.crew.items c.args.seats _ _ _ c.requires.seats.0
+    c.requires.seats.1 c.requires.may c.hire.ensures.crew in
     let same = c.work_all.ensures.many in
     let rooms = c.hire.ensures.room in (
-      omega (arith, crew, n, same, rooms.0, c.requires.seats.2, c.hire.new.crew.ok.0, c.args.seats.ok.0),
+      omega (arith, made.many, made.long.seats, same, rooms.0, c.requires.seats.2, c.hire.new.crew.ok.0, c.args.seats.ok.0),
       omega (
         arith,
-        crew,
-        n,
+        made.many,
+        made.long.seats,
         same,
         rooms.1,
-        long.answers,
+        made.long.answers,
         c.hire.new.crew.ok.0,
         c.args.answers.now.ok.0,
         c.args.answers.now.ok.1,
       ),
       omega (
         arith,
-        crew,
-        n,
+        made.many,
+        made.long.seats,
         same,
         rooms.2,
-        long.ledgers,
+        made.long.ledgers,
         c.hire.new.crew.ok.0,
         c.args.ledgers.now.ok.0,
         c.args.ledgers.now.ok.1,
@@ -81,95 +71,38 @@ dismiss-requires-clause-room g c =
 pub close-requires-clause-all : goal.close-requires-clause-all
 close-requires-clause-all g c =
     let b : BookValue _ = box_value (opening_book c.args.lock) in
-    let n : length c.args.seats.items ≡ workers_of b =
-    omega (arith, c.requires.seats.0, c.requires.seats.1, c.args.seats.ok.0) in
-    let long : AreLong b c.args.seats.items c.args.answers.now.items c.args.ledgers.now.items =
-    are_long b c.args.phase.now _ _ _ n c.requires.may in
-    let crew : length c.hire.new.crew.items ≡ workers_of b = crew_long b _ _ _ _ long c.hire.ensures.crew in
-    omega (arith, crew, c.dismiss.ensures.long.0, c.work_all.ensures.many, c.requires.seats.0, c.hire.new.crew.ok.0)
+    let made = is_crew b c.args.phase.now c.hire.new.crew.items c.args.seats _ _ _ c.requires.seats.0
+    c.requires.seats.1 c.requires.may c.hire.ensures.crew in
+    omega (arith, made.many, c.dismiss.ensures.long.0, c.work_all.ensures.many, c.requires.seats.0, c.hire.new.crew.ok.0)
 
 pub close-requires-clause-own : goal.close-requires-clause-own
 close-requires-clause-own g c =
     let b : BookValue _ = box_value (opening_book c.args.lock) in
-    let n : length c.args.seats.items ≡ workers_of b =
-    omega (arith, c.requires.seats.0, c.requires.seats.1, c.args.seats.ok.0) in
-    let long : AreLong b c.args.seats.items c.args.answers.now.items c.args.ledgers.now.items =
-    are_long b c.args.phase.now _ _ _ n c.requires.may in
-    let crew : length c.hire.new.crew.items ≡ workers_of b = crew_long b _ _ _ _ long c.hire.ensures.crew in
-    let ts : length c.dismiss.new.seats.items ≡ length c.args.seats.items =
-    omega (
-      arith,
-      crew,
-      n,
-      c.dismiss.ensures.long.0,
-      c.work_all.ensures.many,
-      c.hire.new.crew.ok.0,
-      c.dismiss.new.seats.ok.0,
-    ) in
-    let ws : length c.dismiss.new.answers.items ≡ length c.args.seats.items =
-    omega (
-      arith,
-      crew,
-      n,
-      c.dismiss.ensures.long.1,
-      c.work_all.ensures.many,
-      c.hire.new.crew.ok.0,
-      c.dismiss.new.answers.ok.0,
-    ) in
-    let ms : length c.dismiss.new.ledgers.items ≡ length c.args.seats.items =
-    omega (
-      arith,
-      crew,
-      n,
-      c.dismiss.ensures.long.2,
-      c.work_all.ensures.many,
-      c.hire.new.crew.ok.0,
-      c.dismiss.new.ledgers.ok.0,
-    ) in
+    let made = is_crew b c.args.phase.now c.hire.new.crew.items c.args.seats _ _ _ c.requires.seats.0
+    c.requires.seats.1 c.requires.may c.hire.ensures.crew in
+    let ts = as_long c.dismiss.new.seats c.hire.new.crew c.work_all.new.crew c.args.seats.items _ made.many
+    made.long.seats c.work_all.ensures.many c.dismiss.ensures.long.0 in
+    let ws = as_long c.dismiss.new.answers c.hire.new.crew c.work_all.new.crew c.args.seats.items _ made.many
+    made.long.seats c.work_all.ensures.many c.dismiss.ensures.long.1 in
+    let ms = as_long c.dismiss.new.ledgers c.hire.new.crew c.work_all.new.crew c.args.seats.items _ made.many
+    made.long.seats c.work_all.ensures.many c.dismiss.ensures.long.2 in
     let runs = rw (c.hire.ensures.crew, ← c.dismiss.ensures.team) at c.work_all.ensures.ran in
     seats_back c.args.lock b c.args.phase.now _ _ _ _ (ws ∙ sym ts) (ms ∙ sym ts) runs
 
 pub returns : goal.returns
 returns g c =
     let b : BookValue _ = box_value (opening_book c.args.lock) in
-    let n : length c.args.seats.items ≡ workers_of b =
-    omega (arith, c.requires.seats.0, c.requires.seats.1, c.args.seats.ok.0) in
-    let long : AreLong b c.args.seats.items c.args.answers.now.items c.args.ledgers.now.items =
-    are_long b c.args.phase.now _ _ _ n c.requires.may in
-    let crew : length c.hire.new.crew.items ≡ workers_of b = crew_long b _ _ _ _ long c.hire.ensures.crew in
-    let ts : length c.dismiss.new.seats.items ≡ length c.args.seats.items =
-    omega (
-      arith,
-      crew,
-      n,
-      c.dismiss.ensures.long.0,
-      c.work_all.ensures.many,
-      c.hire.new.crew.ok.0,
-      c.dismiss.new.seats.ok.0,
-    ) in
-    let ws : length c.dismiss.new.answers.items ≡ length c.args.seats.items =
-    omega (
-      arith,
-      crew,
-      n,
-      c.dismiss.ensures.long.1,
-      c.work_all.ensures.many,
-      c.hire.new.crew.ok.0,
-      c.dismiss.new.answers.ok.0,
-    ) in
-    let ms : length c.dismiss.new.ledgers.items ≡ length c.args.seats.items =
-    omega (
-      arith,
-      crew,
-      n,
-      c.dismiss.ensures.long.2,
-      c.work_all.ensures.many,
-      c.hire.new.crew.ok.0,
-      c.dismiss.new.ledgers.ok.0,
-    ) in
+    let made = is_crew b c.args.phase.now c.hire.new.crew.items c.args.seats _ _ _ c.requires.seats.0
+    c.requires.seats.1 c.requires.may c.hire.ensures.crew in
+    let ts = as_long c.dismiss.new.seats c.hire.new.crew c.work_all.new.crew c.args.seats.items _ made.many
+    made.long.seats c.work_all.ensures.many c.dismiss.ensures.long.0 in
+    let ws = as_long c.dismiss.new.answers c.hire.new.crew c.work_all.new.crew c.args.seats.items _ made.many
+    made.long.seats c.work_all.ensures.many c.dismiss.ensures.long.1 in
+    let ms = as_long c.dismiss.new.ledgers c.hire.new.crew c.work_all.new.crew c.args.seats.items _ made.many
+    made.long.seats c.work_all.ensures.many c.dismiss.ensures.long.2 in
     let runs = rw (c.hire.ensures.crew, ← c.dismiss.ensures.team) at c.work_all.ensures.ran in
     phase_ran c.args.lock b (box_value c.close.result) c.args.phase.now _ _ _ _ _ _
-    (omega (arith, c.requires.some, c.args.seats.ok.0)) n long.answers long.ledgers ts ws ms c.requires.may
+    (omega (arith, c.requires.some, c.args.seats.ok.0)) made.long.seats made.long.answers made.long.ledgers ts ws ms c.requires.may
     (numbered_from 0 _ (λ i s e. c.requires.seats.4 i s e
     ∙ omega arith)) c.close.ensures.lawful c.close.ensures.head
     (λ k d lt. let stands = c.close.ensures.seen k d lt in (stands.begins, stands.own_lines)) runs
