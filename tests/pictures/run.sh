@@ -77,10 +77,17 @@ said 'corners after two lines' "$(grep -c "points='0,1000000 2000000,1000000 '" 
 "$top/bin/hulldraw" "$room/large" --film >"$room/large.svg"
 said 'status of the large film' $? 0
 said 'its frames' "$(grep -c '^<g><set' "$room/large.svg")" 600
-said 'its captions' "$(count "font-weight='bold'> add [-0-9]* [-0-9]* = added<")" 600
+said 'the calls in its captions' "$(count "class='b'> add [-0-9]* [-0-9]*<")" 600
+said 'the replies in its captions' "$(count "class='b'>= added<")" 600
 said 'its title' "$(grep -c '>the first 600 of 100000 calls<' "$room/large.svg")" 1
 "$top/bin/hulldraw" "$here/journals/wrong.txt" --film >"$room/large.svg"
 said 'where a film ends at a wrong line' "$(grep -c 'is wrong' "$room/large.svg")" 1
+# a list that has no room in its line, and a refused point
+"$top/bin/hulldraw" "$here/journals/many.txt" --film >"$room/large.svg"
+said 'status of a film with a long list' $? 0
+said 'its long list' "$(grep -c '>= list 8 -11000 0 -9999 -9999 0 -11000 &#8230; and 5 more<' "$room/large.svg")" 1
+said 'its refused point' "$(count "<path class='x' d='M11002 10998h0'/>")" 1
+said 'its wrong lines' "$(count 'is wrong')" 0
 
 # what is refused: MESSAGE STATUS WORDS..
 refused() {

@@ -17,7 +17,7 @@ for picture in docs/pictures/*.svg; do
     [ -s "$shot" ] || { echo "no screenshot of $picture"; exit 1; }
 done
 # a page holds the film still at a moment, in tenths of a second
-for moment in 5 35 45; do
+for moment in 65 85 115; do
     {
         cat docs/pictures/film.svg
         echo "<script>f=document.querySelector('svg');f.pauseAnimations();f.setCurrentTime($moment/10)</script>"

@@ -4,3 +4,4 @@ pub mod Edges
 pub mod Levels
 pub mod ManyScenes
 pub mod Frames
+pub mod Squares

@@ -10,6 +10,7 @@ use Rattle.hull_draw.specs.Films.{IsFilm, called_marks}
 use Rattle.hull_draw.specs.FilmTexts.{film_text}
 use Rattle.hull_draw.specs.Frames.{IsFrameOf}
 use Rattle.hull_draw.specs.Scenes.{SceneValue, IsScene}
+use Rattle.hull_draw.specs.Squares.{AreShownIn}
 use Rattle.hull_draw.specs.Pictures.{picture_text}
 
 -- a reader of journals may answer this fault for the bytes
@@ -44,10 +45,12 @@ pub record HasPictureFront (bytes : Option (List ℕ)) (o : DrawOptions) (old ne
   pub text : picture_text o.size frame scene ≡ front ++ back
   pub writes : Appends old new front
 
--- The scenes of a journal's film, and its square: that of all points that the calls of its lines name.
+-- The scenes of a journal's film, and its square: that of all points that the calls of its lines name, outside of which
+-- no frame shows anything.
 pub record Films (journal : JournalValue) (size : ℕ) (scenes : List SceneValue) (frame : Option Frame) : Type 0 where
   pub shows : IsFilm journal size scenes
   pub frames : IsFrameOf (called_marks (take (length scenes) journal.lines)) frame
+  pub inside : AreShownIn frame scenes journal.lines
 
 -- The bytes, where they are known, were read as a journal, and those written have grown by its film.
 pub record HasFilm (bytes : Option (List ℕ)) (size : ℕ) (old new : Option (List ℕ)) : Type 0 where

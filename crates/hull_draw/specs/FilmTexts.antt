@@ -5,13 +5,12 @@ use Rattle.lattice.specs.Plane.{Pair}
 use Rattle.hull_plain.specs.declared.reply.Reply.{Reply}
 use Rattle.hull_plain.specs.declared.reply.Reply.TheVariants.{TooMany, NoMemory, Farthest, TangentPoints}
 use Rattle.hull_book.specs.declared.line.Line.{Line}
-use Rattle.hull_text.specs.Spaced.{spaced}
-use Rattle.hull_text.specs.Spelling.{call_fields, reply_fields}
 use Rattle.hull_draw.specs.declared.frame.Frame.{Frame}
 use Rattle.hull_draw.specs.declared.film_picture.TheConstants.{FILM_STYLE}
-use Rattle.hull_draw.specs.Frames.{across, down, extent_of}
+use Rattle.hull_draw.specs.Frames.{across, down, side_of}
 use Rattle.hull_draw.specs.Films.{call_point}
-use Rattle.hull_draw.specs.Legends.{line_start, legend_text}
+use Rattle.hull_draw.specs.Captions.{caption_text}
+use Rattle.hull_draw.specs.Legends.{legend_text}
 use Rattle.hull_draw.specs.Pictures.{head_text, shown_text}
 use Rattle.hull_draw.specs.Scenes.{SceneValue}
 use Rattle.hull_draw.specs.Shapes.{dot_text, square_text}
@@ -58,21 +57,13 @@ asked_text frame (Some q) reply = asked_words reply ++ dot_text frame q ++ codes
 -- the call and what it found, over the picture, in the same square
 abbrev pub call_text : ℕ → Frame → Option ℕ → Line → List ℕ
 call_text size frame wrong line =
-    square_text size (extent_of frame) ++ right_found_text frame wrong (call_point line.call) line.reply
+    square_text size (side_of frame) ++ right_found_text frame wrong (call_point line.call) line.reply
     ++ asked_text frame (call_point line.call) line.reply ++ codes "</svg>\n"
 
 -- the same, where there is a square
 abbrev pub call_shown_text : ℕ → Option Frame → Option ℕ → Line → List ℕ
 call_shown_text size None wrong line = []
 call_shown_text size (Some frame) wrong line = call_text size frame wrong line
-
--- a call and its reply, as a journal has them
-abbrev pub said_text : Line → List ℕ
-said_text line = spaced (call_fields line.call) ++ codes " =" ++ spaced (reply_fields line.reply)
-
--- the call and its reply below the legend
-abbrev pub caption_text : ℕ → Line → List ℕ
-caption_text size line = line_start size 164 ++ codes "' font-weight='bold'>" ++ said_text line ++ codes "</text>\n"
 
 -- a frame is hidden again behind its second, but the last is not
 abbrev pub hidden_again_text : ℕ → ℕ → List ℕ
@@ -111,5 +102,5 @@ title_text count total =
 -- the text of a film of these scenes and lines
 unfoldable pub film_text : ℕ → Option Frame → List SceneValue → List Line → List ℕ
 film_text size frame scenes lines =
-    head_text size ++ FILM_STYLE.now ++ title_text (length scenes) (length lines)
+    head_text size 206 ++ FILM_STYLE.now ++ title_text (length scenes) (length lines)
     ++ frames_text size frame (length scenes) 0 scenes lines ++ codes "</svg>\n"

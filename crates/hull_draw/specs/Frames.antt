@@ -1,9 +1,11 @@
 -- The square of the plane that a picture shows.
-use Rattle.std.specs.Prelude.{◌≡◌, ◌⊎◌, ◌+◌, ◌-◌, ◌/◌, max, ℕ, ◌-ℤ◌, ◌≤ℤ◌, unsigned_abs, List, [], Option, Some, None}
+use Rattle.std.specs.Prelude.{◌≡◌, ◌⊎◌, ◌≤◌, ◌+◌, ◌-◌, ◌/◌, max, ℕ, ◌-ℤ◌, ◌≤ℤ◌, unsigned_abs, List, [], Option, Some}
+use Rattle.std.specs.Prelude.{None}
 use Rattle.std.specs.List.{All, Contains}
 use Rattle.lattice.specs.Plane.{Pair}
 use Rattle.hull_draw.specs.declared.marks.Mark.{Mark}
 use Rattle.hull_draw.specs.declared.frame.Frame.{Frame}
+use Rattle.hull_draw.specs.declared.frame.TheConstants.{PICTURE_UNITS}
 
 -- how far apart its points farthest to the left and to the right stand
 abbrev pub width_of : Frame → ℕ
@@ -17,13 +19,29 @@ height_of frame = unsigned_abs (frame.top.y -ℤ frame.bottom.y)
 unfoldable pub extent_of : Frame → ℕ
 extent_of frame = max (max (width_of frame) (height_of frame)) 2
 
--- how far p is drawn from the left edge of the square, whose middle is that of the points
-unfoldable pub across : Frame → Pair → ℕ
-across frame p = unsigned_abs (p.x -ℤ frame.left.x) + (extent_of frame - width_of frame) / 2
+-- how many units of the plane one of the picture is: 1 where the square's sides are short enough for a browser
+unfoldable pub unit_of : Frame → ℕ
+unit_of frame = extent_of frame / PICTURE_UNITS + 1
 
--- how far p is drawn from its upper edge
+-- the side of the square, in units of the picture
+unfoldable pub side_of : Frame → ℕ
+side_of frame = extent_of frame / unit_of frame
+
+-- how far p stands from the left edge of the square, whose middle is that of the points
+unfoldable pub from_left : Frame → Pair → ℕ
+from_left frame p = unsigned_abs (p.x -ℤ frame.left.x) + (extent_of frame - width_of frame) / 2
+
+-- how far p stands from its upper edge
+unfoldable pub from_top : Frame → Pair → ℕ
+from_top frame p = unsigned_abs (frame.top.y -ℤ p.y) + (extent_of frame - height_of frame) / 2
+
+-- how far p is drawn from the left edge, in units of the picture
+unfoldable pub across : Frame → Pair → ℕ
+across frame p = from_left frame p / unit_of frame
+
+-- how far p is drawn from the upper edge, in the same units
 unfoldable pub down : Frame → Pair → ℕ
-down frame p = unsigned_abs (frame.top.y -ℤ p.y) + (extent_of frame - height_of frame) / 2
+down frame p = from_top frame p / unit_of frame
 
 -- p lies between the points at the edges
 pub record IsWithin (frame : Frame) (p : Pair) : Type 0 where
@@ -31,6 +49,11 @@ pub record IsWithin (frame : Frame) (p : Pair) : Type 0 where
   pub left_of : p.x ≤ℤ frame.right.x
   pub above : frame.bottom.y ≤ℤ p.y
   pub below : p.y ≤ℤ frame.top.y
+
+-- p is drawn in the square
+pub record IsInSquare (frame : Frame) (p : Pair) : Type 0 where
+  pub wide : across frame p ≤ side_of frame
+  pub high : down frame p ≤ side_of frame
 
 -- p is the point of a mark
 abbrev pub IsMarked : List Mark → Pair → Type 0

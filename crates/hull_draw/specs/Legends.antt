@@ -7,14 +7,14 @@ use Rattle.hull_draw.specs.declared.marks.Mark.{Mark}
 use Rattle.hull_draw.specs.declared.marks.TheConstants.{LABEL_LIMIT}
 use Rattle.hull_draw.specs.declared.frame.Frame.{Frame}
 use Rattle.hull_draw.specs.declared.legend.TheConstants.{BRIDGES_TOLD}
-use Rattle.hull_draw.specs.Frames.{across, down, extent_of}
+use Rattle.hull_draw.specs.Frames.{across, down, side_of}
 use Rattle.hull_draw.specs.Scenes.{SceneValue}
 use Rattle.hull_draw.specs.Shapes.{step_of}
 use Rattle.hull_draw.specs.Texts.{told, texts}
 
 -- how far from an edge of the screen's square, whose side is `size`, what lies n from that of the plane's
 abbrev pub place_on_screen : ℕ → Frame → ℕ → ℕ
-place_on_screen size frame n = n * size / extent_of frame
+place_on_screen size frame n = n * size / side_of frame
 
 -- beside a point that is held more than once, how often it is
 abbrev pub label_text : ℕ → Frame → Mark → List ℕ

@@ -7,5 +7,7 @@ pub mod Shapes
 pub mod Legends
 pub mod Pictures
 pub mod Films
+pub mod Captions
 pub mod FilmTexts
+pub mod Squares
 pub mod Drawings

@@ -1,5 +1,6 @@
--- The shapes of a picture, inside a square that the browser scales: its units are those of the plane, so all numbers
--- are whole.
+-- The shapes of a picture, inside a square that the browser scales. Its units are those of the plane, or several of
+-- them
+-- each: all numbers are whole.
 use Rattle.std.specs.Prelude.{◌-◌, ◌/◌, ◌+◌, ℕ, zero, suc, List, [], ◌∷◌, ◌++◌, length, codes, decimal}
 use Rattle.lattice.specs.Plane.{Pair}
 use Rattle.hull_draw.specs.declared.bridges.Bridge.{Bridge}
@@ -62,9 +63,9 @@ bridge_text frame b =
 
 -- the square that the browser scales to `size` points of the screen
 abbrev pub square_text : ℕ → ℕ → List ℕ
-square_text size extent =
+square_text size side =
     told (codes "<svg x='32' y='32' overflow='visible' width='") size ++ told (codes "' height='") size
-    ++ told (codes "' viewBox='0 0 ") extent ++ told (codes " ") extent ++ codes "'>\n"
+    ++ told (codes "' viewBox='0 0 ") side ++ told (codes " ") side ++ codes "'>\n"
 
 -- the hull, the points, above them the bridges, and above these the corners
 abbrev pub shapes_text : Frame → SceneValue → List ℕ

@@ -1,25 +1,25 @@
 ghost use Rattle.std.specs.Prelude.{◌≡◌, ◌<◌, ◌≤◌, ◌-◌, ◌^◌, ◌++◌, OnOk, IsOk, length};
 ghost use Rattle.text_io.specs.Write.{WritesOn, WritesText};
 ghost use Rattle.hull_draw.specs.declared.shots.TheConstants.{FRAME_LIMIT};
-ghost use Rattle.hull_draw.specs.FilmTexts.{ray_text, tangents_text, farthest_text, found_text, right_found_text, asked_words, asked_text, call_text, call_shown_text, said_text, caption_text, hidden_again_text, frame_start_text, frame_end_text, shot_text, frames_text, title_text, film_text};
+ghost use Rattle.hull_draw.specs.FilmTexts.{ray_text, tangents_text, farthest_text, found_text, right_found_text, asked_words, asked_text, call_text, call_shown_text, hidden_again_text, frame_start_text, frame_end_text, shot_text, frames_text, title_text, film_text};
 ghost use Rattle.hull_draw.specs.Films.{call_point};
 
+use super::captions::caption_after;
 use super::frame::Frame;
-use super::legend::{legend_after, line_start_after};
+use super::legend::legend_after;
 use super::picture::{put_head, shown_after};
 use super::scene::Scene;
 use super::shapes::{Done, dot_after, square_after, told_after};
 use super::shots::call_point;
 use hull_book::Line;
 use hull_plain::Reply;
-use hull_text::{call_after, reply_after};
 use lattice::Point;
 use text_io::{Sink, flush_after, put_after};
 
 /// How a call is coloured: its point (`q`), or that of a refused one (`x`), the two
-/// tangents from there (`f`), and the farthest point (`e`).
+/// tangents from there (`f`), and the farthest point (`e`); `b` is the caption.
 pub const FILM_STYLE: &[u8] =
-    b"<style>.q{stroke:#7d3c98;stroke-width:11}.x{stroke:#c00;stroke-width:11}.f{stroke:#d35400;stroke-width:3}.e{stroke:#d35400;stroke-width:13}</style>\n";
+    b"<style>.q{stroke:#7d3c98;stroke-width:11}.x{stroke:#c00;stroke-width:11}.f{stroke:#d35400;stroke-width:3}.e{stroke:#d35400;stroke-width:13}.b{font-weight:bold}</style>\n";
 
 /// Writes a line from the point of the call, where it names one, to another point; where it names none, a dot.
 fn ray_after<W: Sink>(
@@ -169,7 +169,7 @@ fn call_marks_after<W: Sink>(
     ensures was { OnOk result (IsOk done) }
 {
     let asked = call_point(&line.call);
-    let done = square_after(done, out, size, frame.extent());
+    let done = square_after(done, out, size, frame.side());
     let done = right_found_after(done, out, frame, wrong, &asked, &line.reply);
     let done = asked_after(done, out, frame, &asked, &line.reply);
     put_after(done, out, b"</svg>\n")
@@ -193,32 +193,6 @@ fn call_shown_after<W: Sink>(
         None => done,
         Some(frame) => call_marks_after(done, out, size, frame, wrong, line),
     }
-}
-
-/// Writes a call and its reply, as a journal has them.
-fn said_after<W: Sink>(done: Done, out: &mut W, line: &Line) -> Done
-    requires { OnOk done (W.failed out.old < 2 ^ 64 - 1) }
-    ensures wrote { WritesOn done result (W.contents out.old) (W.contents out.new) (W.failed out.old) (W.failed out.new) (said_text line.now) }
-    ensures kept { OnOk result (W.failed out.new ≡ W.failed out.old) }
-    ensures was { OnOk result (IsOk done) }
-{
-    let done = call_after(done, out, &line.call);
-    let done = put_after(done, out, b" =");
-    reply_after(done, out, &line.reply)
-}
-
-/// Writes the caption of a frame.
-fn caption_after<W: Sink>(done: Done, out: &mut W, size: u64, line: &Line) -> Done
-    requires room { OnOk done (W.failed out.old < 2 ^ 64 - 1) }
-    requires small { size < 2 ^ 20 }
-    ensures wrote { WritesOn done result (W.contents out.old) (W.contents out.new) (W.failed out.old) (W.failed out.new) (caption_text size line.now) }
-    ensures kept { OnOk result (W.failed out.new ≡ W.failed out.old) }
-    ensures was { OnOk result (IsOk done) }
-{
-    let done = line_start_after(done, out, size, 164);
-    let done = put_after(done, out, b"' font-weight='bold'>");
-    let done = said_after(done, out, line);
-    put_after(done, out, b"</text>\n")
 }
 
 /// Hides a frame again behind its second, but for the last.
@@ -349,7 +323,7 @@ pub(crate) fn write_film<W: Sink>(
     requires few { length scenes.now ≤ FRAME_LIMIT }
     ensures { WritesText (W.contents out.old) (W.contents out.new) (W.failed out.old) (W.failed out.new) result (film_text size frame.now scenes.now lines.now) }
 {
-    let done = put_head(out, size);
+    let done = put_head(out, size, 206);
     let done = put_after(done, out, FILM_STYLE);
     let done = title_after(done, out, scenes.len(), lines.len());
     let done = frames_after(done, out, size, frame, scenes, lines);

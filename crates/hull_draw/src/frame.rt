@@ -1,8 +1,13 @@
 ghost use Rattle.std.specs.Prelude.{◌≡◌, ◌⊎◌, ◌≤◌, ◌^◌, ◌≤ℤ◌};
-ghost use Rattle.hull_draw.specs.Frames.{IsFrameOf, IsEither, Widens, across, down, extent_of, width_of, height_of};
+ghost use Rattle.hull_draw.specs.Frames.{IsFrameOf, IsEither, Widens, across, down, from_left, from_top};
+ghost use Rattle.hull_draw.specs.Frames.{extent_of, unit_of, side_of, width_of, height_of};
 
 use super::marks::Mark;
 use lattice::Point;
+
+/// The sides of a picture's square are at most so many of its units, in which browsers tell whole numbers apart: where the
+/// plane's square is wider, a unit of the picture is several of the plane's.
+pub const PICTURE_UNITS: u64 = 16_777_216;
 
 /// The least square of the plane that holds some points, with them in its middle. It is told by points at its edges.
 #[derive(Clone, Copy, PartialEq, Eq, Debug)]
@@ -56,24 +61,61 @@ impl Frame {
         self.width().max(self.height()).max(2)
     }
 
-    /// How far a point is drawn from the left edge.
-    #[tactic(auto, unfolding(crate::specs::Frames::across))]
-    pub(crate) fn across(&self, point: Point) -> u64
-        ensures value { result ≡ across self.now point }
+    /// How many units of the plane one of the picture is.
+    #[tactic(auto, unfolding(crate::specs::Frames::unit_of))]
+    fn unit(&self) -> u64
+        ensures value { result ≡ unit_of self.now }
+        ensures least { 1 ≤ result }
+        ensures small { result ≤ extent_of self.now }
+    {
+        self.extent() / PICTURE_UNITS + 1
+    }
+
+    /// The length of the square's sides in the picture, at least 1.
+    #[tactic(auto, unfolding(crate::specs::Frames::side_of))]
+    pub(crate) fn side(&self) -> u64
+        ensures value { result ≡ side_of self.now }
+        ensures least { 1 ≤ result }
+    {
+        self.extent() / self.unit()
+    }
+
+    /// How far a point stands from the left edge.
+    #[tactic(auto, unfolding(crate::specs::Frames::from_left))]
+    fn from_left(&self, point: Point) -> u64
+        ensures value { result ≡ from_left self.now point }
         ensures small { result ≤ 2 ^ 42 }
     {
         let margin = (self.extent() - self.width()) / 2;
         (point.x() - self.left.x()).unsigned_abs() + margin
     }
 
-    /// How far a point is drawn from the upper edge.
+    /// How far a point stands from the upper edge.
+    #[tactic(auto, unfolding(crate::specs::Frames::from_top))]
+    fn from_top(&self, point: Point) -> u64
+        ensures value { result ≡ from_top self.now point }
+        ensures small { result ≤ 2 ^ 42 }
+    {
+        let margin = (self.extent() - self.height()) / 2;
+        (self.top.y() - point.y()).unsigned_abs() + margin
+    }
+
+    /// How far a point is drawn from the left edge, in units of the picture.
+    #[tactic(auto, unfolding(crate::specs::Frames::across))]
+    pub(crate) fn across(&self, point: Point) -> u64
+        ensures value { result ≡ across self.now point }
+        ensures small { result ≤ 2 ^ 42 }
+    {
+        self.from_left(point) / self.unit()
+    }
+
+    /// How far a point is drawn from the upper edge, in units of the picture.
     #[tactic(auto, unfolding(crate::specs::Frames::down))]
     pub(crate) fn down(&self, point: Point) -> u64
         ensures value { result ≡ down self.now point }
         ensures small { result ≤ 2 ^ 42 }
     {
-        let margin = (self.extent() - self.height()) / 2;
-        (self.top.y() - point.y()).unsigned_abs() + margin
+        self.from_top(point) / self.unit()
     }
 
     /// The frame of its points and another one.

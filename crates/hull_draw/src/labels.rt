@@ -15,7 +15,7 @@ fn place_on_screen(size: u64, frame: &Frame, distance: u64) -> u64
     ensures value { result ≡ place_on_screen size frame.now distance }
     ensures small { result ≤ 2 ^ 62 }
 {
-    distance * size / frame.extent()
+    distance * size / frame.side()
 }
 
 /// Writes how often a point is held, where it is held more than once.

@@ -2,7 +2,8 @@
 //!
 //! [`draw`] reads a journal, replays it, and writes a picture of what is held after the lines that are asked for: the
 //! live points, how often each is held, the hull with its corners, the stored bridges of the tree where they are asked
-//! for, and a legend. The polygon is the vertex list of the replayed set, in order, in whole numbers.
+//! for, and a legend. The polygon is the vertex list of the replayed set, in order, in whole numbers. [`film`] writes a
+//! picture that plays the journal, a call a second.
 //!
 //! # A worked example
 //!
@@ -14,6 +15,7 @@
 #![tactic(auto)]
 
 mod bridges;
+mod captions;
 mod drawing;
 mod film_picture;
 mod filming;

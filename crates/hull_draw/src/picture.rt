@@ -25,7 +25,7 @@ fn set_after<W: Sink>(done: Done, out: &mut W, size: u64, frame: &Frame, scene: 
     ensures kept { OnOk result (W.failed out.new ≡ W.failed out.old) }
     ensures was { OnOk result (IsOk done) }
 {
-    let done = square_after(done, out, size, frame.extent());
+    let done = square_after(done, out, size, frame.side());
     let done = shapes_after(done, out, frame, scene);
     let done = put_after(done, out, b"</svg>\n");
     labels_after(done, out, size, frame, &scene.marks)
@@ -51,15 +51,16 @@ pub(crate) fn shown_after<W: Sink>(
     }
 }
 
-/// Begins a picture.
-pub(crate) fn put_head<W: Sink>(out: &mut W, size: u64) -> Done
+/// Begins a picture, so much higher than its square.
+pub(crate) fn put_head<W: Sink>(out: &mut W, size: u64, below: u64) -> Done
     requires room { W.failed out.old < 2 ^ 64 - 1 }
     requires small { size < 2 ^ 20 }
-    ensures { WritesText (W.contents out.old) (W.contents out.new) (W.failed out.old) (W.failed out.new) result (head_text size) }
+    requires near { below < 2 ^ 20 }
+    ensures { WritesText (W.contents out.old) (W.contents out.new) (W.failed out.old) (W.failed out.new) result (head_text size below) }
 {
     let done = put(out, b"<svg xmlns='http://www.w3.org/2000/svg' width='");
     let done = number_after(done, out, size + 64);
-    let done = told_after(done, out, b"' height='", size + 184);
+    let done = told_after(done, out, b"' height='", size + below);
     let done = put_after(done, out, b"'>\n");
     put_after(done, out, STYLE)
 }
@@ -81,7 +82,7 @@ pub(crate) fn write_picture<W: Sink>(
     requires small { size < 2 ^ 20 }
     ensures { WritesText (W.contents out.old) (W.contents out.new) (W.failed out.old) (W.failed out.new) result (picture_text size frame.now scene.now) }
 {
-    let done = put_head(out, size);
+    let done = put_head(out, size, 184);
     let done = shown_after(done, out, size, frame, scene);
     let done = legend_after(done, out, size, frame, scene);
     let done = put_after(done, out, b"</svg>\n");

@@ -219,17 +219,17 @@ fn bridges_after<W: Sink>(done: Done, out: &mut W, frame: &Frame, bridges: &[Bri
 }
 
 /// Begins the square that the browser scales.
-pub(crate) fn square_after<W: Sink>(done: Done, out: &mut W, size: u64, extent: u64) -> Done
+pub(crate) fn square_after<W: Sink>(done: Done, out: &mut W, size: u64, side: u64) -> Done
     requires { OnOk done (W.failed out.old < 2 ^ 64 - 1) }
-    ensures wrote { WritesOn done result (W.contents out.old) (W.contents out.new) (W.failed out.old) (W.failed out.new) (square_text size extent) }
+    ensures wrote { WritesOn done result (W.contents out.old) (W.contents out.new) (W.failed out.old) (W.failed out.new) (square_text size side) }
     ensures kept { OnOk result (W.failed out.new ≡ W.failed out.old) }
     ensures was { OnOk result (IsOk done) }
 {
     let start = b"<svg x='32' y='32' overflow='visible' width='";
     let done = told_after(done, out, start, size);
     let done = told_after(done, out, b"' height='", size);
-    let done = told_after(done, out, b"' viewBox='0 0 ", extent);
-    let done = told_after(done, out, b" ", extent);
+    let done = told_after(done, out, b"' viewBox='0 0 ", side);
+    let done = told_after(done, out, b" ", side);
     put_after(done, out, b"'>\n")
 }
 

@@ -1,4 +1,6 @@
 //! Pictures of small journals, byte for byte, and how a drawing ends where a device fails.
+mod films;
+
 ghost use Rattle.std.specs.Prelude.{◌<◌, ◌^◌};
 
 use super::{DrawFault, DrawOptions, draw};

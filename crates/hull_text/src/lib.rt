@@ -31,7 +31,7 @@ pub use read::{read_journal, read_script};
 pub use text_io::{Counted, Sink, Source, WriteFault};
 pub use upgrading::{UpgradeFault, upgrade};
 pub use version::{NEWEST, Version};
-pub use write::{call_after, reply_after, report_fits, write_journal, write_report};
+pub use write::{call_after, points_after, reply_after, report_fits, write_journal, write_report};
 
 #[cfg(test)]
 mod tests;

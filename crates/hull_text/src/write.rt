@@ -7,4 +7,4 @@ mod writing;
 pub use fitting::report_fits;
 pub use journal_text::write_journal;
 pub use report::write_report;
-pub use writing::{call_after, reply_after};
+pub use writing::{call_after, points_after, reply_after};

@@ -8,10 +8,10 @@ use Rattle.hull_draw.proofs.film_picture.call_marks_after.Goals as goal
 
 pub returns-clause-wrote : goal.returns-clause-wrote
 returns-clause-wrote g c = λ start count text h.
-    rw (← c.extent.ensures.value, ← c.call_point-asked.ensures)
+    rw (← c.side.ensures.value, ← c.call_point-asked.ensures)
     (subst (λ (w : List ℕ). WritesText start (g.W.Write.contents c.put_after.new.out) count
     (g.W.Sink.failed c.put_after.new.out) c.put_after.result w)
-    (four_pieces text (square_text c.args.size c.extent.result)
+    (four_pieces text (square_text c.args.size c.side.result)
     (right_found_text c.args.frame.now c.args.wrong c.call_point-asked.result c.args.line.now.reply)
     (asked_text c.args.frame.now c.call_point-asked.result c.args.line.now.reply) (codes "</svg>\n"))
     (c.put_after.ensures.wrote start count _

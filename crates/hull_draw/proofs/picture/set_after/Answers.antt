@@ -14,7 +14,7 @@ returns-clause-wrote g c = λ start count text h.
     (g.W.Write.contents c.labels_after.new.out) (g.W.Sink.failed c.put_after-done.new.out)
     (g.W.Sink.failed c.labels_after.new.out)
     (labels_text c.args.size c.args.frame.now ms)) (sym marks) c.labels_after.ensures.wrote in
-    rw (← c.extent.ensures.value)
+    rw (← c.side.ensures.value)
     (subst (λ (w : List ℕ). WritesText start (g.W.Write.contents c.labels_after.new.out) count
     (g.W.Sink.failed c.labels_after.new.out) c.labels_after.result w)
     (four_pieces text _ _ _ _)

@@ -1,0 +1,129 @@
+ghost use Rattle.std.specs.Prelude.{◌≡◌, ◌≤◌, ◌<◌, ◌-◌, ◌^◌, OnOk, IsOk, length};
+ghost use Rattle.text_io.specs.Write.{WritesOn};
+ghost use Rattle.hull_draw.specs.Captions.{widest_from, room_for, corners_told, left_out_text, list_text};
+ghost use Rattle.hull_draw.specs.Captions.{reply_text, call_line_text, reply_line_text, caption_text};
+
+use super::legend::line_start_after;
+use super::shapes::{Done, told_after};
+use hull_book::Line;
+use hull_plain::Reply;
+use hull_text::{call_after, points_after, reply_after};
+use lattice::Point;
+use text_io::{Sink, put_after};
+
+/// The greatest size of a coordinate of these points.
+#[tactic(auto, unfolding(crate::specs::Captions::widest_from))]
+fn widest(points: &[Point]) -> u64
+    ensures { result ≡ widest_from 0 points.now }
+{
+    let mut widest: u64 = 0;
+    let mut rest = points;
+    while let Some((point, after)) = rest.split_first() {
+        widest = widest
+            .max(point.x().unsigned_abs())
+            .max(point.y().unsigned_abs());
+        rest = after;
+    }
+    widest
+}
+
+/// How many points have room in a line of a picture, where no coordinate is of a greater size.
+fn room_for(widest: u64) -> usize
+    ensures { result ≡ room_for widest }
+{
+    if widest <= 9999 {
+        5
+    } else if widest <= 9_999_999 {
+        3
+    } else {
+        1
+    }
+}
+
+/// How many corners of a list are told.
+fn corners_told(corners: &[Point]) -> usize
+    ensures value { result ≡ corners_told corners.now }
+    ensures few { result ≤ length corners.now }
+{
+    room_for(widest(corners)).min(corners.len())
+}
+
+/// Writes how many corners are left out, where any are.
+fn left_out_after<W: Sink>(done: Done, out: &mut W, count: usize) -> Done
+    requires { OnOk done (W.failed out.old < 2 ^ 64 - 1) }
+    ensures wrote { WritesOn done result (W.contents out.old) (W.contents out.new) (W.failed out.old) (W.failed out.new) (left_out_text count) }
+    ensures kept { OnOk result (W.failed out.new ≡ W.failed out.old) }
+    ensures was { OnOk result (IsOk done) }
+{
+    if count == 0 {
+        return done;
+    }
+    let done = told_after(done, out, b" &#8230; and ", count);
+    put_after(done, out, b" more")
+}
+
+/// Writes a list of corners, as far as it has room.
+fn list_after<W: Sink>(done: Done, out: &mut W, corners: &[Point]) -> Done
+    requires { OnOk done (W.failed out.old < 2 ^ 64 - 1) }
+    ensures wrote { WritesOn done result (W.contents out.old) (W.contents out.new) (W.failed out.old) (W.failed out.new) (list_text corners.now) }
+    ensures kept { OnOk result (W.failed out.new ≡ W.failed out.old) }
+    ensures was { OnOk result (IsOk done) }
+{
+    let count = corners_told(corners);
+    let done = told_after(done, out, b" list ", corners.len());
+    let done = points_after(done, out, &corners[..count]);
+    left_out_after(done, out, corners.len() - count)
+}
+
+/// Writes a reply as a journal has it, but for a list that is too long.
+fn short_reply_after<W: Sink>(done: Done, out: &mut W, reply: &Reply) -> Done
+    requires { OnOk done (W.failed out.old < 2 ^ 64 - 1) }
+    ensures wrote { WritesOn done result (W.contents out.old) (W.contents out.new) (W.failed out.old) (W.failed out.new) (reply_text reply.now) }
+    ensures kept { OnOk result (W.failed out.new ≡ W.failed out.old) }
+    ensures was { OnOk result (IsOk done) }
+{
+    match reply {
+        Reply::VertexList(corners) => list_after(done, out, corners.as_slice()),
+        _ => reply_after(done, out, reply),
+    }
+}
+
+/// Writes the line of a call.
+fn call_line_after<W: Sink>(done: Done, out: &mut W, size: u64, line: &Line) -> Done
+    requires room { OnOk done (W.failed out.old < 2 ^ 64 - 1) }
+    requires small { size < 2 ^ 20 }
+    ensures wrote { WritesOn done result (W.contents out.old) (W.contents out.new) (W.failed out.old) (W.failed out.new) (call_line_text size line.now) }
+    ensures kept { OnOk result (W.failed out.new ≡ W.failed out.old) }
+    ensures was { OnOk result (IsOk done) }
+{
+    let done = line_start_after(done, out, size, 164);
+    let done = put_after(done, out, b"' class='b'>");
+    let done = call_after(done, out, &line.call);
+    put_after(done, out, b"</text>\n")
+}
+
+/// Writes the line of a reply.
+fn reply_line_after<W: Sink>(done: Done, out: &mut W, size: u64, line: &Line) -> Done
+    requires room { OnOk done (W.failed out.old < 2 ^ 64 - 1) }
+    requires small { size < 2 ^ 20 }
+    ensures wrote { WritesOn done result (W.contents out.old) (W.contents out.new) (W.failed out.old) (W.failed out.new) (reply_line_text size line.now) }
+    ensures kept { OnOk result (W.failed out.new ≡ W.failed out.old) }
+    ensures was { OnOk result (IsOk done) }
+{
+    let done = line_start_after(done, out, size, 186);
+    let done = put_after(done, out, b"' class='b'>=");
+    let done = short_reply_after(done, out, &line.reply);
+    put_after(done, out, b"</text>\n")
+}
+
+/// Writes the caption of a frame: its call, and below that its reply.
+pub(crate) fn caption_after<W: Sink>(done: Done, out: &mut W, size: u64, line: &Line) -> Done
+    requires room { OnOk done (W.failed out.old < 2 ^ 64 - 1) }
+    requires small { size < 2 ^ 20 }
+    ensures wrote { WritesOn done result (W.contents out.old) (W.contents out.new) (W.failed out.old) (W.failed out.new) (caption_text size line.now) }
+    ensures kept { OnOk result (W.failed out.new ≡ W.failed out.old) }
+    ensures was { OnOk result (IsOk done) }
+{
+    let done = call_line_after(done, out, size, line);
+    reply_line_after(done, out, size, line)
+}
