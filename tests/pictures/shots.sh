@@ -12,7 +12,7 @@ shots=${1:-$(mktemp -d)}
 mkdir -p "$shots"
 for picture in docs/pictures/*.svg; do
     shot="$shots/$(basename "$picture" .svg).png"
-    "$browser" --headless --no-sandbox --disable-gpu --window-size=760,900 \
+    "$browser" --headless --no-sandbox --disable-gpu --window-size=900,900 \
         --screenshot="$shot" "file://$PWD/$picture" > "$shots/browser.txt" 2>&1
     [ -s "$shot" ] || { echo "no screenshot of $picture"; exit 1; }
 done
@@ -22,7 +22,7 @@ for moment in 65 85 115; do
         cat docs/pictures/film.svg
         echo "<script>f=document.querySelector('svg');f.pauseAnimations();f.setCurrentTime($moment/10)</script>"
     } > "$shots/film.html"
-    "$browser" --headless --no-sandbox --disable-gpu --window-size=760,900 \
+    "$browser" --headless --no-sandbox --disable-gpu --window-size=900,900 \
         --screenshot="$shots/film-$moment.png" "file://$shots/film.html" > "$shots/browser.txt" 2>&1
     [ -s "$shots/film-$moment.png" ] || { echo "no screenshot of the film"; exit 1; }
 done

@@ -51,7 +51,8 @@ fn corners_told(corners: &[Point]) -> usize
 /// Writes how many corners are left out, where any are.
 fn left_out_after<W: Sink>(done: Done, out: &mut W, count: usize) -> Done
     requires { OnOk done (W.failed out.old < 2 ^ 64 - 1) }
-    ensures wrote { WritesOn done result (W.contents out.old) (W.contents out.new) (W.failed out.old) (W.failed out.new) (left_out_text count) }
+    ensures wrote { WritesOn done result (W.contents out.old) (W.contents out.new) (W.failed out.old) (W.failed out.new)
+        (left_out_text count) }
     ensures kept { OnOk result (W.failed out.new ≡ W.failed out.old) }
     ensures was { OnOk result (IsOk done) }
 {
@@ -65,7 +66,8 @@ fn left_out_after<W: Sink>(done: Done, out: &mut W, count: usize) -> Done
 /// Writes a list of corners, as far as it has room.
 fn list_after<W: Sink>(done: Done, out: &mut W, corners: &[Point]) -> Done
     requires { OnOk done (W.failed out.old < 2 ^ 64 - 1) }
-    ensures wrote { WritesOn done result (W.contents out.old) (W.contents out.new) (W.failed out.old) (W.failed out.new) (list_text corners.now) }
+    ensures wrote { WritesOn done result (W.contents out.old) (W.contents out.new) (W.failed out.old) (W.failed out.new)
+        (list_text corners.now) }
     ensures kept { OnOk result (W.failed out.new ≡ W.failed out.old) }
     ensures was { OnOk result (IsOk done) }
 {
@@ -78,7 +80,8 @@ fn list_after<W: Sink>(done: Done, out: &mut W, corners: &[Point]) -> Done
 /// Writes a reply as a journal has it, but for a list that is too long.
 fn short_reply_after<W: Sink>(done: Done, out: &mut W, reply: &Reply) -> Done
     requires { OnOk done (W.failed out.old < 2 ^ 64 - 1) }
-    ensures wrote { WritesOn done result (W.contents out.old) (W.contents out.new) (W.failed out.old) (W.failed out.new) (reply_text reply.now) }
+    ensures wrote { WritesOn done result (W.contents out.old) (W.contents out.new) (W.failed out.old) (W.failed out.new)
+        (reply_text reply.now) }
     ensures kept { OnOk result (W.failed out.new ≡ W.failed out.old) }
     ensures was { OnOk result (IsOk done) }
 {
@@ -92,7 +95,8 @@ fn short_reply_after<W: Sink>(done: Done, out: &mut W, reply: &Reply) -> Done
 fn call_line_after<W: Sink>(done: Done, out: &mut W, size: u64, line: &Line) -> Done
     requires room { OnOk done (W.failed out.old < 2 ^ 64 - 1) }
     requires small { size < 2 ^ 20 }
-    ensures wrote { WritesOn done result (W.contents out.old) (W.contents out.new) (W.failed out.old) (W.failed out.new) (call_line_text size line.now) }
+    ensures wrote { WritesOn done result (W.contents out.old) (W.contents out.new) (W.failed out.old) (W.failed out.new)
+        (call_line_text size line.now) }
     ensures kept { OnOk result (W.failed out.new ≡ W.failed out.old) }
     ensures was { OnOk result (IsOk done) }
 {
@@ -106,7 +110,8 @@ fn call_line_after<W: Sink>(done: Done, out: &mut W, size: u64, line: &Line) -> 
 fn reply_line_after<W: Sink>(done: Done, out: &mut W, size: u64, line: &Line) -> Done
     requires room { OnOk done (W.failed out.old < 2 ^ 64 - 1) }
     requires small { size < 2 ^ 20 }
-    ensures wrote { WritesOn done result (W.contents out.old) (W.contents out.new) (W.failed out.old) (W.failed out.new) (reply_line_text size line.now) }
+    ensures wrote { WritesOn done result (W.contents out.old) (W.contents out.new) (W.failed out.old) (W.failed out.new)
+        (reply_line_text size line.now) }
     ensures kept { OnOk result (W.failed out.new ≡ W.failed out.old) }
     ensures was { OnOk result (IsOk done) }
 {
@@ -120,7 +125,8 @@ fn reply_line_after<W: Sink>(done: Done, out: &mut W, size: u64, line: &Line) ->
 pub(crate) fn caption_after<W: Sink>(done: Done, out: &mut W, size: u64, line: &Line) -> Done
     requires room { OnOk done (W.failed out.old < 2 ^ 64 - 1) }
     requires small { size < 2 ^ 20 }
-    ensures wrote { WritesOn done result (W.contents out.old) (W.contents out.new) (W.failed out.old) (W.failed out.new) (caption_text size line.now) }
+    ensures wrote { WritesOn done result (W.contents out.old) (W.contents out.new) (W.failed out.old) (W.failed out.new)
+        (caption_text size line.now) }
     ensures kept { OnOk result (W.failed out.new ≡ W.failed out.old) }
     ensures was { OnOk result (IsOk done) }
 {

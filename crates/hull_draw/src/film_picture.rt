@@ -1,7 +1,10 @@
 ghost use Rattle.std.specs.Prelude.{◌≡◌, ◌<◌, ◌≤◌, ◌-◌, ◌^◌, ◌++◌, OnOk, IsOk, length};
 ghost use Rattle.text_io.specs.Write.{WritesOn, WritesText};
 ghost use Rattle.hull_draw.specs.declared.shots.TheConstants.{FRAME_LIMIT};
-ghost use Rattle.hull_draw.specs.FilmTexts.{ray_text, tangents_text, farthest_text, found_text, right_found_text, asked_words, asked_text, call_text, call_shown_text, hidden_again_text, frame_start_text, frame_end_text, shot_text, frames_text, title_text, film_text};
+ghost use Rattle.hull_draw.specs.FilmTexts.{ray_text, tangents_text, farthest_text, found_text, right_found_text};
+ghost use Rattle.hull_draw.specs.FilmTexts.{asked_words, asked_text, call_text, call_shown_text, hidden_again_text};
+ghost use Rattle.hull_draw.specs.FilmTexts.{frame_start_text, frame_end_text, shot_text, frames_text, title_text};
+ghost use Rattle.hull_draw.specs.FilmTexts.{film_text};
 ghost use Rattle.hull_draw.specs.Films.{call_point};
 
 use super::captions::caption_after;
@@ -30,7 +33,8 @@ fn ray_after<W: Sink>(
     point: Point,
 ) -> Done
     requires { OnOk done (W.failed out.old < 2 ^ 64 - 1) }
-    ensures wrote { WritesOn done result (W.contents out.old) (W.contents out.new) (W.failed out.old) (W.failed out.new) (ray_text frame.now asked.now point) }
+    ensures wrote { WritesOn done result (W.contents out.old) (W.contents out.new) (W.failed out.old) (W.failed out.new)
+        (ray_text frame.now asked.now point) }
     ensures kept { OnOk result (W.failed out.new ≡ W.failed out.old) }
     ensures was { OnOk result (IsOk done) }
 {
@@ -54,7 +58,8 @@ fn tangents_after<W: Sink>(
     ends: (Point, Point),
 ) -> Done
     requires { OnOk done (W.failed out.old < 2 ^ 64 - 1) }
-    ensures wrote { WritesOn done result (W.contents out.old) (W.contents out.new) (W.failed out.old) (W.failed out.new) (tangents_text frame.now asked.now ends.0 ends.1) }
+    ensures wrote { WritesOn done result (W.contents out.old) (W.contents out.new) (W.failed out.old) (W.failed out.new)
+        (tangents_text frame.now asked.now ends.0 ends.1) }
     ensures kept { OnOk result (W.failed out.new ≡ W.failed out.old) }
     ensures was { OnOk result (IsOk done) }
 {
@@ -67,7 +72,8 @@ fn tangents_after<W: Sink>(
 /// Writes the point that lies farthest.
 fn farthest_after<W: Sink>(done: Done, out: &mut W, frame: &Frame, point: Point) -> Done
     requires { OnOk done (W.failed out.old < 2 ^ 64 - 1) }
-    ensures wrote { WritesOn done result (W.contents out.old) (W.contents out.new) (W.failed out.old) (W.failed out.new) (farthest_text frame.now point) }
+    ensures wrote { WritesOn done result (W.contents out.old) (W.contents out.new) (W.failed out.old) (W.failed out.new)
+        (farthest_text frame.now point) }
     ensures kept { OnOk result (W.failed out.new ≡ W.failed out.old) }
     ensures was { OnOk result (IsOk done) }
 {
@@ -85,7 +91,8 @@ fn found_after<W: Sink>(
     reply: &Reply,
 ) -> Done
     requires { OnOk done (W.failed out.old < 2 ^ 64 - 1) }
-    ensures wrote { WritesOn done result (W.contents out.old) (W.contents out.new) (W.failed out.old) (W.failed out.new) (found_text frame.now asked.now reply.now) }
+    ensures wrote { WritesOn done result (W.contents out.old) (W.contents out.new) (W.failed out.old) (W.failed out.new)
+        (found_text frame.now asked.now reply.now) }
     ensures kept { OnOk result (W.failed out.new ≡ W.failed out.old) }
     ensures was { OnOk result (IsOk done) }
 {
@@ -108,7 +115,8 @@ fn right_found_after<W: Sink>(
     reply: &Reply,
 ) -> Done
     requires { OnOk done (W.failed out.old < 2 ^ 64 - 1) }
-    ensures wrote { WritesOn done result (W.contents out.old) (W.contents out.new) (W.failed out.old) (W.failed out.new) (right_found_text frame.now wrong asked.now reply.now) }
+    ensures wrote { WritesOn done result (W.contents out.old) (W.contents out.new) (W.failed out.old) (W.failed out.new)
+        (right_found_text frame.now wrong asked.now reply.now) }
     ensures kept { OnOk result (W.failed out.new ≡ W.failed out.old) }
     ensures was { OnOk result (IsOk done) }
 {
@@ -121,7 +129,8 @@ fn right_found_after<W: Sink>(
 /// How the point of a call begins: one that was refused stands out.
 fn put_asked_words<W: Sink>(done: Done, out: &mut W, reply: &Reply) -> Done
     requires { OnOk done (W.failed out.old < 2 ^ 64 - 1) }
-    ensures wrote { WritesOn done result (W.contents out.old) (W.contents out.new) (W.failed out.old) (W.failed out.new) (asked_words reply.now) }
+    ensures wrote { WritesOn done result (W.contents out.old) (W.contents out.new) (W.failed out.old) (W.failed out.new)
+        (asked_words reply.now) }
     ensures kept { OnOk result (W.failed out.new ≡ W.failed out.old) }
     ensures was { OnOk result (IsOk done) }
 {
@@ -140,7 +149,8 @@ fn asked_after<W: Sink>(
     reply: &Reply,
 ) -> Done
     requires { OnOk done (W.failed out.old < 2 ^ 64 - 1) }
-    ensures wrote { WritesOn done result (W.contents out.old) (W.contents out.new) (W.failed out.old) (W.failed out.new) (asked_text frame.now asked.now reply.now) }
+    ensures wrote { WritesOn done result (W.contents out.old) (W.contents out.new) (W.failed out.old) (W.failed out.new)
+        (asked_text frame.now asked.now reply.now) }
     ensures kept { OnOk result (W.failed out.new ≡ W.failed out.old) }
     ensures was { OnOk result (IsOk done) }
 {
@@ -164,7 +174,8 @@ fn call_marks_after<W: Sink>(
     line: &Line,
 ) -> Done
     requires { OnOk done (W.failed out.old < 2 ^ 64 - 1) }
-    ensures wrote { WritesOn done result (W.contents out.old) (W.contents out.new) (W.failed out.old) (W.failed out.new) (call_text size frame.now wrong line.now) }
+    ensures wrote { WritesOn done result (W.contents out.old) (W.contents out.new) (W.failed out.old) (W.failed out.new)
+        (call_text size frame.now wrong line.now) }
     ensures kept { OnOk result (W.failed out.new ≡ W.failed out.old) }
     ensures was { OnOk result (IsOk done) }
 {
@@ -185,7 +196,8 @@ fn call_shown_after<W: Sink>(
     line: &Line,
 ) -> Done
     requires { OnOk done (W.failed out.old < 2 ^ 64 - 1) }
-    ensures wrote { WritesOn done result (W.contents out.old) (W.contents out.new) (W.failed out.old) (W.failed out.new) (call_shown_text size frame.now wrong line.now) }
+    ensures wrote { WritesOn done result (W.contents out.old) (W.contents out.new) (W.failed out.old) (W.failed out.new)
+        (call_shown_text size frame.now wrong line.now) }
     ensures kept { OnOk result (W.failed out.new ≡ W.failed out.old) }
     ensures was { OnOk result (IsOk done) }
 {
@@ -199,7 +211,8 @@ fn call_shown_after<W: Sink>(
 fn hidden_again_after<W: Sink>(done: Done, out: &mut W, count: usize, place: usize) -> Done
     requires room { OnOk done (W.failed out.old < 2 ^ 64 - 1) }
     requires inside { place < count }
-    ensures wrote { WritesOn done result (W.contents out.old) (W.contents out.new) (W.failed out.old) (W.failed out.new) (hidden_again_text count place) }
+    ensures wrote { WritesOn done result (W.contents out.old) (W.contents out.new) (W.failed out.old) (W.failed out.new)
+        (hidden_again_text count place) }
     ensures kept { OnOk result (W.failed out.new ≡ W.failed out.old) }
     ensures was { OnOk result (IsOk done) }
 {
@@ -216,7 +229,8 @@ fn hidden_again_after<W: Sink>(done: Done, out: &mut W, count: usize, place: usi
 fn frame_start_after<W: Sink>(done: Done, out: &mut W, count: usize, place: usize) -> Done
     requires room { OnOk done (W.failed out.old < 2 ^ 64 - 1) }
     requires inside { place < count }
-    ensures wrote { WritesOn done result (W.contents out.old) (W.contents out.new) (W.failed out.old) (W.failed out.new) (frame_start_text count place) }
+    ensures wrote { WritesOn done result (W.contents out.old) (W.contents out.new) (W.failed out.old) (W.failed out.new)
+        (frame_start_text count place) }
     ensures kept { OnOk result (W.failed out.new ≡ W.failed out.old) }
     ensures was { OnOk result (IsOk done) }
 {
@@ -230,7 +244,8 @@ fn frame_start_after<W: Sink>(done: Done, out: &mut W, count: usize, place: usiz
 fn frame_end_after<W: Sink>(done: Done, out: &mut W, size: u64, line: &Line) -> Done
     requires room { OnOk done (W.failed out.old < 2 ^ 64 - 1) }
     requires small { size < 2 ^ 20 }
-    ensures wrote { WritesOn done result (W.contents out.old) (W.contents out.new) (W.failed out.old) (W.failed out.new) (frame_end_text size line.now) }
+    ensures wrote { WritesOn done result (W.contents out.old) (W.contents out.new) (W.failed out.old) (W.failed out.new)
+        (frame_end_text size line.now) }
     ensures kept { OnOk result (W.failed out.new ≡ W.failed out.old) }
     ensures was { OnOk result (IsOk done) }
 {
@@ -249,7 +264,8 @@ fn frame_after<W: Sink>(
 ) -> Done
     requires room { OnOk done (W.failed out.old < 2 ^ 64 - 1) }
     requires small { size < 2 ^ 20 }
-    ensures wrote { WritesOn done result (W.contents out.old) (W.contents out.new) (W.failed out.old) (W.failed out.new) (shot_text size frame.now scene.now line.now) }
+    ensures wrote { WritesOn done result (W.contents out.old) (W.contents out.new) (W.failed out.old) (W.failed out.new)
+        (shot_text size frame.now scene.now line.now) }
     ensures kept { OnOk result (W.failed out.new ≡ W.failed out.old) }
     ensures was { OnOk result (IsOk done) }
 {
@@ -271,7 +287,8 @@ fn frames_after<W: Sink>(
     requires room { OnOk done (W.failed out.old < 2 ^ 64 - 1) }
     requires small { size < 2 ^ 20 }
     requires few { length scenes.now ≤ FRAME_LIMIT }
-    ensures wrote { WritesOn done result (W.contents out.old) (W.contents out.new) (W.failed out.old) (W.failed out.new) (frames_text size frame.now (length scenes.now) 0 scenes.now lines.now) }
+    ensures wrote { WritesOn done result (W.contents out.old) (W.contents out.new) (W.failed out.old) (W.failed out.new)
+        (frames_text size frame.now (length scenes.now) 0 scenes.now lines.now) }
     ensures kept { OnOk result (W.failed out.new ≡ W.failed out.old) }
     ensures was { OnOk result (IsOk done) }
 {
@@ -295,7 +312,8 @@ fn frames_after<W: Sink>(
 /// Writes which calls are played.
 fn title_after<W: Sink>(done: Done, out: &mut W, count: usize, total: usize) -> Done
     requires { OnOk done (W.failed out.old < 2 ^ 64 - 1) }
-    ensures wrote { WritesOn done result (W.contents out.old) (W.contents out.new) (W.failed out.old) (W.failed out.new) (title_text count total) }
+    ensures wrote { WritesOn done result (W.contents out.old) (W.contents out.new) (W.failed out.old) (W.failed out.new)
+        (title_text count total) }
     ensures kept { OnOk result (W.failed out.new ≡ W.failed out.old) }
     ensures was { OnOk result (IsOk done) }
 {
@@ -321,7 +339,8 @@ pub(crate) fn write_film<W: Sink>(
     requires room { W.failed out.old < 2 ^ 64 - 1 }
     requires small { size < 2 ^ 20 }
     requires few { length scenes.now ≤ FRAME_LIMIT }
-    ensures { WritesText (W.contents out.old) (W.contents out.new) (W.failed out.old) (W.failed out.new) result (film_text size frame.now scenes.now lines.now) }
+    ensures { WritesText (W.contents out.old) (W.contents out.new) (W.failed out.old) (W.failed out.new) result
+        (film_text size frame.now scenes.now lines.now) }
 {
     let done = put_head(out, size, 206);
     let done = put_after(done, out, FILM_STYLE);

@@ -5,8 +5,8 @@ ghost use Rattle.hull_draw.specs.Frames.{extent_of, unit_of, side_of, width_of, 
 use super::marks::Mark;
 use lattice::Point;
 
-/// The sides of a picture's square are at most so many of its units, in which browsers tell whole numbers apart: where the
-/// plane's square is wider, a unit of the picture is several of the plane's.
+/// The sides of a picture's square are shorter than so many of its units, in which browsers tell whole numbers apart:
+/// where the plane's square is that wide or wider, a unit of the picture is several of the plane's.
 pub const PICTURE_UNITS: u64 = 16_777_216;
 
 /// The least square of the plane that holds some points, with them in its middle. It is told by points at its edges.

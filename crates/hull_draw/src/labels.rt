@@ -22,7 +22,8 @@ fn place_on_screen(size: u64, frame: &Frame, distance: u64) -> u64
 fn label_after<W: Sink>(done: Done, out: &mut W, size: u64, frame: &Frame, mark: Mark) -> Done
     requires room { OnOk done (W.failed out.old < 2 ^ 64 - 1) }
     requires small { size < 2 ^ 20 }
-    ensures wrote { WritesOn done result (W.contents out.old) (W.contents out.new) (W.failed out.old) (W.failed out.new) (label_text size frame.now mark) }
+    ensures wrote { WritesOn done result (W.contents out.old) (W.contents out.new) (W.failed out.old) (W.failed out.new)
+        (label_text size frame.now mark) }
     ensures kept { OnOk result (W.failed out.new ≡ W.failed out.old) }
     ensures was { OnOk result (IsOk done) }
 {
@@ -48,7 +49,8 @@ fn all_labels_after<W: Sink>(
 ) -> Done
     requires room { OnOk done (W.failed out.old < 2 ^ 64 - 1) }
     requires small { size < 2 ^ 20 }
-    ensures wrote { WritesOn done result (W.contents out.old) (W.contents out.new) (W.failed out.old) (W.failed out.new) (texts (label_text size frame.now) marks.now) }
+    ensures wrote { WritesOn done result (W.contents out.old) (W.contents out.new) (W.failed out.old) (W.failed out.new)
+        (texts (label_text size frame.now) marks.now) }
     ensures kept { OnOk result (W.failed out.new ≡ W.failed out.old) }
     ensures was { OnOk result (IsOk done) }
 {
@@ -71,7 +73,8 @@ pub(crate) fn labels_after<W: Sink>(
 ) -> Done
     requires room { OnOk done (W.failed out.old < 2 ^ 64 - 1) }
     requires small { size < 2 ^ 20 }
-    ensures wrote { WritesOn done result (W.contents out.old) (W.contents out.new) (W.failed out.old) (W.failed out.new) (labels_text size frame.now marks.now) }
+    ensures wrote { WritesOn done result (W.contents out.old) (W.contents out.new) (W.failed out.old) (W.failed out.new)
+        (labels_text size frame.now marks.now) }
     ensures kept { OnOk result (W.failed out.new ≡ W.failed out.old) }
     ensures was { OnOk result (IsOk done) }
 {

@@ -1,6 +1,8 @@
 ghost use Rattle.std.specs.Prelude.{◌≡◌, ◌<◌, ◌≤◌, ◌+◌, ◌-◌, ◌^◌, OnOk, IsOk};
 ghost use Rattle.text_io.specs.Write.{WritesOn};
-ghost use Rattle.hull_draw.specs.Legends.{line_start, thinned_text, count_text, area_text, told_signed, range_text, wrong_text, lines_text, bridges_told_text, numbers_text, drawn_text, legend_text};
+ghost use Rattle.hull_draw.specs.Legends.{line_start, thinned_text, count_text, area_text, told_signed, range_text};
+ghost use Rattle.hull_draw.specs.Legends.{wrong_text, lines_text, bridges_told_text, numbers_text, drawn_text};
+ghost use Rattle.hull_draw.specs.Legends.{legend_text};
 ghost use Rattle.hull_draw.specs.Shapes.{step_of};
 
 use super::bridges::Bridge;
@@ -20,7 +22,8 @@ pub(crate) fn line_start_after<W: Sink>(done: Done, out: &mut W, size: u64, belo
     requires room { OnOk done (W.failed out.old < 2 ^ 64 - 1) }
     requires small { size < 2 ^ 20 }
     requires near { below < 2 ^ 20 }
-    ensures wrote { WritesOn done result (W.contents out.old) (W.contents out.new) (W.failed out.old) (W.failed out.new) (line_start size below) }
+    ensures wrote { WritesOn done result (W.contents out.old) (W.contents out.new) (W.failed out.old) (W.failed out.new)
+        (line_start size below) }
     ensures kept { OnOk result (W.failed out.new ≡ W.failed out.old) }
     ensures was { OnOk result (IsOk done) }
 {
@@ -30,7 +33,8 @@ pub(crate) fn line_start_after<W: Sink>(done: Done, out: &mut W, size: u64, belo
 /// Writes of how many points one is drawn, where not all are.
 fn thinned_after<W: Sink>(done: Done, out: &mut W, step: usize) -> Done
     requires { OnOk done (W.failed out.old < 2 ^ 64 - 1) }
-    ensures wrote { WritesOn done result (W.contents out.old) (W.contents out.new) (W.failed out.old) (W.failed out.new) (thinned_text step) }
+    ensures wrote { WritesOn done result (W.contents out.old) (W.contents out.new) (W.failed out.old) (W.failed out.new)
+        (thinned_text step) }
     ensures kept { OnOk result (W.failed out.new ≡ W.failed out.old) }
     ensures was { OnOk result (IsOk done) }
 {
@@ -45,7 +49,8 @@ fn thinned_after<W: Sink>(done: Done, out: &mut W, step: usize) -> Done
 fn count_after<W: Sink>(done: Done, out: &mut W, size: u64, count: usize, limit: u32) -> Done
     requires room { OnOk done (W.failed out.old < 2 ^ 64 - 1) }
     requires small { size < 2 ^ 20 }
-    ensures wrote { WritesOn done result (W.contents out.old) (W.contents out.new) (W.failed out.old) (W.failed out.new) (count_text size count limit) }
+    ensures wrote { WritesOn done result (W.contents out.old) (W.contents out.new) (W.failed out.old) (W.failed out.new)
+        (count_text size count limit) }
     ensures kept { OnOk result (W.failed out.new ≡ W.failed out.old) }
     ensures was { OnOk result (IsOk done) }
 {
@@ -61,7 +66,8 @@ fn count_after<W: Sink>(done: Done, out: &mut W, size: u64, count: usize, limit:
 fn area_after<W: Sink>(done: Done, out: &mut W, size: u64, area: u128) -> Done
     requires room { OnOk done (W.failed out.old < 2 ^ 64 - 1) }
     requires small { size < 2 ^ 20 }
-    ensures wrote { WritesOn done result (W.contents out.old) (W.contents out.new) (W.failed out.old) (W.failed out.new) (area_text size area) }
+    ensures wrote { WritesOn done result (W.contents out.old) (W.contents out.new) (W.failed out.old) (W.failed out.new)
+        (area_text size area) }
     ensures kept { OnOk result (W.failed out.new ≡ W.failed out.old) }
     ensures was { OnOk result (IsOk done) }
 {
@@ -73,7 +79,8 @@ fn area_after<W: Sink>(done: Done, out: &mut W, size: u64, area: u128) -> Done
 /// Writes words, and the first coordinate of a point behind them.
 fn x_after<W: Sink>(done: Done, out: &mut W, words: &[u8], point: Point) -> Done
     requires { OnOk done (W.failed out.old < 2 ^ 64 - 1) }
-    ensures wrote { WritesOn done result (W.contents out.old) (W.contents out.new) (W.failed out.old) (W.failed out.new) (told_signed words.now point.x) }
+    ensures wrote { WritesOn done result (W.contents out.old) (W.contents out.new) (W.failed out.old) (W.failed out.new)
+        (told_signed words.now point.x) }
     ensures kept { OnOk result (W.failed out.new ≡ W.failed out.old) }
     ensures was { OnOk result (IsOk done) }
 {
@@ -84,7 +91,8 @@ fn x_after<W: Sink>(done: Done, out: &mut W, words: &[u8], point: Point) -> Done
 /// Writes words, and the second coordinate of a point behind them.
 fn y_after<W: Sink>(done: Done, out: &mut W, words: &[u8], point: Point) -> Done
     requires { OnOk done (W.failed out.old < 2 ^ 64 - 1) }
-    ensures wrote { WritesOn done result (W.contents out.old) (W.contents out.new) (W.failed out.old) (W.failed out.new) (told_signed words.now point.y) }
+    ensures wrote { WritesOn done result (W.contents out.old) (W.contents out.new) (W.failed out.old) (W.failed out.new)
+        (told_signed words.now point.y) }
     ensures kept { OnOk result (W.failed out.new ≡ W.failed out.old) }
     ensures was { OnOk result (IsOk done) }
 {
@@ -96,7 +104,8 @@ fn y_after<W: Sink>(done: Done, out: &mut W, words: &[u8], point: Point) -> Done
 fn range_after<W: Sink>(done: Done, out: &mut W, size: u64, frame: &Option<Frame>) -> Done
     requires room { OnOk done (W.failed out.old < 2 ^ 64 - 1) }
     requires small { size < 2 ^ 20 }
-    ensures wrote { WritesOn done result (W.contents out.old) (W.contents out.new) (W.failed out.old) (W.failed out.new) (range_text size frame.now) }
+    ensures wrote { WritesOn done result (W.contents out.old) (W.contents out.new) (W.failed out.old) (W.failed out.new)
+        (range_text size frame.now) }
     ensures kept { OnOk result (W.failed out.new ≡ W.failed out.old) }
     ensures was { OnOk result (IsOk done) }
 {
@@ -116,7 +125,8 @@ fn range_after<W: Sink>(done: Done, out: &mut W, size: u64, frame: &Option<Frame
 /// Writes which line is wrong, if one is.
 fn wrong_after<W: Sink>(done: Done, out: &mut W, wrong: Option<u32>) -> Done
     requires { OnOk done (W.failed out.old < 2 ^ 64 - 1) }
-    ensures wrote { WritesOn done result (W.contents out.old) (W.contents out.new) (W.failed out.old) (W.failed out.new) (wrong_text wrong) }
+    ensures wrote { WritesOn done result (W.contents out.old) (W.contents out.new) (W.failed out.old) (W.failed out.new)
+        (wrong_text wrong) }
     ensures kept { OnOk result (W.failed out.new ≡ W.failed out.old) }
     ensures was { OnOk result (IsOk done) }
 {
@@ -134,7 +144,8 @@ fn wrong_after<W: Sink>(done: Done, out: &mut W, wrong: Option<u32>) -> Done
 fn lines_after<W: Sink>(done: Done, out: &mut W, size: u64, lines: u32, wrong: Option<u32>) -> Done
     requires room { OnOk done (W.failed out.old < 2 ^ 64 - 1) }
     requires small { size < 2 ^ 20 }
-    ensures wrote { WritesOn done result (W.contents out.old) (W.contents out.new) (W.failed out.old) (W.failed out.new) (lines_text size lines wrong) }
+    ensures wrote { WritesOn done result (W.contents out.old) (W.contents out.new) (W.failed out.old) (W.failed out.new)
+        (lines_text size lines wrong) }
     ensures kept { OnOk result (W.failed out.new ≡ W.failed out.old) }
     ensures was { OnOk result (IsOk done) }
 {
@@ -148,7 +159,8 @@ fn lines_after<W: Sink>(done: Done, out: &mut W, size: u64, lines: u32, wrong: O
 fn bridges_told_after<W: Sink>(done: Done, out: &mut W, size: u64, bridges: &[Bridge]) -> Done
     requires room { OnOk done (W.failed out.old < 2 ^ 64 - 1) }
     requires small { size < 2 ^ 20 }
-    ensures wrote { WritesOn done result (W.contents out.old) (W.contents out.new) (W.failed out.old) (W.failed out.new) (bridges_told_text size bridges.now) }
+    ensures wrote { WritesOn done result (W.contents out.old) (W.contents out.new) (W.failed out.old) (W.failed out.new)
+        (bridges_told_text size bridges.now) }
     ensures kept { OnOk result (W.failed out.new ≡ W.failed out.old) }
     ensures was { OnOk result (IsOk done) }
 {
@@ -165,7 +177,8 @@ fn bridges_told_after<W: Sink>(done: Done, out: &mut W, size: u64, bridges: &[Br
 fn numbers_after<W: Sink>(done: Done, out: &mut W, size: u64, scene: &Scene) -> Done
     requires room { OnOk done (W.failed out.old < 2 ^ 64 - 1) }
     requires small { size < 2 ^ 20 }
-    ensures wrote { WritesOn done result (W.contents out.old) (W.contents out.new) (W.failed out.old) (W.failed out.new) (numbers_text size scene.now) }
+    ensures wrote { WritesOn done result (W.contents out.old) (W.contents out.new) (W.failed out.old) (W.failed out.new)
+        (numbers_text size scene.now) }
     ensures kept { OnOk result (W.failed out.new ≡ W.failed out.old) }
     ensures was { OnOk result (IsOk done) }
 {
@@ -177,7 +190,8 @@ fn numbers_after<W: Sink>(done: Done, out: &mut W, size: u64, scene: &Scene) -> 
 fn drawn_after<W: Sink>(done: Done, out: &mut W, size: u64, scene: &Scene) -> Done
     requires room { OnOk done (W.failed out.old < 2 ^ 64 - 1) }
     requires small { size < 2 ^ 20 }
-    ensures wrote { WritesOn done result (W.contents out.old) (W.contents out.new) (W.failed out.old) (W.failed out.new) (drawn_text size scene.now) }
+    ensures wrote { WritesOn done result (W.contents out.old) (W.contents out.new) (W.failed out.old) (W.failed out.new)
+        (drawn_text size scene.now) }
     ensures kept { OnOk result (W.failed out.new ≡ W.failed out.old) }
     ensures was { OnOk result (IsOk done) }
 {
@@ -195,7 +209,8 @@ pub(crate) fn legend_after<W: Sink>(
 ) -> Done
     requires room { OnOk done (W.failed out.old < 2 ^ 64 - 1) }
     requires small { size < 2 ^ 20 }
-    ensures wrote { WritesOn done result (W.contents out.old) (W.contents out.new) (W.failed out.old) (W.failed out.new) (legend_text size frame.now scene.now) }
+    ensures wrote { WritesOn done result (W.contents out.old) (W.contents out.new) (W.failed out.old) (W.failed out.new)
+        (legend_text size frame.now scene.now) }
     ensures kept { OnOk result (W.failed out.new ≡ W.failed out.old) }
     ensures was { OnOk result (IsOk done) }
 {

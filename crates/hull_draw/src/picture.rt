@@ -9,8 +9,8 @@ use super::scene::Scene;
 use super::shapes::{Done, shapes_after, square_after, told_after};
 use text_io::{Sink, flush_after, number_after, put, put_after};
 
-/// The background, and how the parts of a picture are coloured: dots and lines keep their width whatever the scale is. Of
-/// the bridges (`u` and `l`) those of the root (`v0`) are the widest.
+/// The background, and how the parts of a picture are coloured: dots and lines keep their width whatever the scale is.
+/// Of the bridges (`u` and `l`) those of the root (`v0`) are the widest.
 pub const STYLE: &[u8] =
     b"<rect width='100%' height='100%' fill='#fff'/>\n<style>text{font:14px sans-serif;fill:#222}path,polygon{fill:none;vector-effect:non-scaling-stroke;stroke-linecap:round;stroke-linejoin:round}.h{fill:#dbe9f6;stroke:#1f5f99;stroke-width:2}.p{stroke:#6b7a89;stroke-width:5}.c{stroke:#1f5f99;stroke-width:9}.u{stroke:#c0392b}.l{stroke:#1e8449}.v0{stroke-width:6}.v1{stroke-width:4.5}.v2{stroke-width:3}.v3{stroke-width:2}.t{font-size:12px;fill:#a33;paint-order:stroke;stroke:#fff;stroke-width:3px}.w{fill:#c00}</style>\n";
 
@@ -21,7 +21,8 @@ pub const EMPTY: &[u8] = b"<text x='32' y='46'>the set is empty</text>\n";
 fn set_after<W: Sink>(done: Done, out: &mut W, size: u64, frame: &Frame, scene: &Scene) -> Done
     requires room { OnOk done (W.failed out.old < 2 ^ 64 - 1) }
     requires small { size < 2 ^ 20 }
-    ensures wrote { WritesOn done result (W.contents out.old) (W.contents out.new) (W.failed out.old) (W.failed out.new) (set_text size frame.now scene.now) }
+    ensures wrote { WritesOn done result (W.contents out.old) (W.contents out.new) (W.failed out.old) (W.failed out.new)
+        (set_text size frame.now scene.now) }
     ensures kept { OnOk result (W.failed out.new ≡ W.failed out.old) }
     ensures was { OnOk result (IsOk done) }
 {
@@ -41,7 +42,8 @@ pub(crate) fn shown_after<W: Sink>(
 ) -> Done
     requires room { OnOk done (W.failed out.old < 2 ^ 64 - 1) }
     requires small { size < 2 ^ 20 }
-    ensures wrote { WritesOn done result (W.contents out.old) (W.contents out.new) (W.failed out.old) (W.failed out.new) (shown_text size frame.now scene.now) }
+    ensures wrote { WritesOn done result (W.contents out.old) (W.contents out.new) (W.failed out.old) (W.failed out.new)
+        (shown_text size frame.now scene.now) }
     ensures kept { OnOk result (W.failed out.new ≡ W.failed out.old) }
     ensures was { OnOk result (IsOk done) }
 {
@@ -56,7 +58,8 @@ pub(crate) fn put_head<W: Sink>(out: &mut W, size: u64, below: u64) -> Done
     requires room { W.failed out.old < 2 ^ 64 - 1 }
     requires small { size < 2 ^ 20 }
     requires near { below < 2 ^ 20 }
-    ensures { WritesText (W.contents out.old) (W.contents out.new) (W.failed out.old) (W.failed out.new) result (head_text size below) }
+    ensures { WritesText (W.contents out.old) (W.contents out.new) (W.failed out.old) (W.failed out.new) result
+        (head_text size below) }
 {
     let done = put(out, b"<svg xmlns='http://www.w3.org/2000/svg' width='");
     let done = number_after(done, out, size + 64);
@@ -80,7 +83,8 @@ pub(crate) fn write_picture<W: Sink>(
 ) -> Done
     requires room { W.failed out.old < 2 ^ 64 - 1 }
     requires small { size < 2 ^ 20 }
-    ensures { WritesText (W.contents out.old) (W.contents out.new) (W.failed out.old) (W.failed out.new) result (picture_text size frame.now scene.now) }
+    ensures { WritesText (W.contents out.old) (W.contents out.new) (W.failed out.old) (W.failed out.new) result
+        (picture_text size frame.now scene.now) }
 {
     let done = put_head(out, size, 184);
     let done = shown_after(done, out, size, frame, scene);

@@ -30,7 +30,16 @@ impl Model for Scene {
 
     ghost Value = { SceneValue };
 
-    ghost view = { λ s. record { limit = s.limit; lines = s.lines; wrong = s.wrong; marks = s.marks.items; corners = s.corners.items; area = s.area; bridges = s.bridges.items } };
+    ghost view = { λ s. record {
+      limit = s.limit;
+      lines = s.lines;
+      wrong = s.wrong;
+      marks = s.marks.items;
+      corners = s.corners.items;
+      area =
+          s.area;
+      bridges = s.bridges.items;
+    } };
 }
 
 /// The lines that are asked for: the first ones, or all where no number is given.

@@ -1,7 +1,8 @@
 ghost use Rattle.std.specs.Prelude.{◌≡◌, ◌<◌, ◌≤◌, ◌-◌, ◌^◌, ◌++◌, OnOk, IsOk, codes, decimal, length};
 ghost use Rattle.text_io.specs.Write.{WritesOn};
 ghost use Rattle.hull_draw.specs.Texts.{texts};
-ghost use Rattle.hull_draw.specs.Shapes.{corner_text, polygon_text, dot_text, corner_dots_text, every, mark_dot_text, all_dots_text, bridge_line_text, bridge_text, square_text, shapes_text};
+ghost use Rattle.hull_draw.specs.Shapes.{corner_text, polygon_text, dot_text, corner_dots_text, every, mark_dot_text};
+ghost use Rattle.hull_draw.specs.Shapes.{all_dots_text, bridge_line_text, bridge_text, square_text, shapes_text};
 
 use super::bridges::Bridge;
 use super::frame::Frame;
@@ -22,7 +23,8 @@ pub(crate) fn told_after<W: Sink, N: Integer>(
     number: N,
 ) -> Done
     requires { OnOk done (W.failed out.old < 2 ^ 64 - 1) }
-    ensures wrote { WritesOn done result (W.contents out.old) (W.contents out.new) (W.failed out.old) (W.failed out.new) (words.now ++ N.text number) }
+    ensures wrote { WritesOn done result (W.contents out.old) (W.contents out.new) (W.failed out.old) (W.failed out.new)
+        (words.now ++ N.text number) }
     ensures kept { OnOk result (W.failed out.new ≡ W.failed out.old) }
     ensures was { OnOk result (IsOk done) }
 {
@@ -33,7 +35,8 @@ pub(crate) fn told_after<W: Sink, N: Integer>(
 /// Writes a corner of the polygon.
 fn corner_after<W: Sink>(done: Done, out: &mut W, frame: &Frame, point: Point) -> Done
     requires { OnOk done (W.failed out.old < 2 ^ 64 - 1) }
-    ensures wrote { WritesOn done result (W.contents out.old) (W.contents out.new) (W.failed out.old) (W.failed out.new) (corner_text frame.now point) }
+    ensures wrote { WritesOn done result (W.contents out.old) (W.contents out.new) (W.failed out.old) (W.failed out.new)
+        (corner_text frame.now point) }
     ensures kept { OnOk result (W.failed out.new ≡ W.failed out.old) }
     ensures was { OnOk result (IsOk done) }
 {
@@ -46,7 +49,8 @@ fn corner_after<W: Sink>(done: Done, out: &mut W, frame: &Frame, point: Point) -
 #[tactic(auto, using(hull_text::proofs::Chains::chained_start, hull_text::proofs::Chains::chained_end))]
 fn corners_after<W: Sink>(done: Done, out: &mut W, frame: &Frame, points: &[Point]) -> Done
     requires { OnOk done (W.failed out.old < 2 ^ 64 - 1) }
-    ensures wrote { WritesOn done result (W.contents out.old) (W.contents out.new) (W.failed out.old) (W.failed out.new) (texts (corner_text frame.now) points.now) }
+    ensures wrote { WritesOn done result (W.contents out.old) (W.contents out.new) (W.failed out.old) (W.failed out.new)
+        (texts (corner_text frame.now) points.now) }
     ensures kept { OnOk result (W.failed out.new ≡ W.failed out.old) }
     ensures was { OnOk result (IsOk done) }
 {
@@ -62,7 +66,8 @@ fn corners_after<W: Sink>(done: Done, out: &mut W, frame: &Frame, points: &[Poin
 /// Writes the polygon.
 fn polygon_after<W: Sink>(done: Done, out: &mut W, frame: &Frame, points: &[Point]) -> Done
     requires { OnOk done (W.failed out.old < 2 ^ 64 - 1) }
-    ensures wrote { WritesOn done result (W.contents out.old) (W.contents out.new) (W.failed out.old) (W.failed out.new) (polygon_text frame.now points.now) }
+    ensures wrote { WritesOn done result (W.contents out.old) (W.contents out.new) (W.failed out.old) (W.failed out.new)
+        (polygon_text frame.now points.now) }
     ensures kept { OnOk result (W.failed out.new ≡ W.failed out.old) }
     ensures was { OnOk result (IsOk done) }
 {
@@ -74,7 +79,8 @@ fn polygon_after<W: Sink>(done: Done, out: &mut W, frame: &Frame, points: &[Poin
 /// Writes a dot.
 pub(crate) fn dot_after<W: Sink>(done: Done, out: &mut W, frame: &Frame, point: Point) -> Done
     requires { OnOk done (W.failed out.old < 2 ^ 64 - 1) }
-    ensures wrote { WritesOn done result (W.contents out.old) (W.contents out.new) (W.failed out.old) (W.failed out.new) (dot_text frame.now point) }
+    ensures wrote { WritesOn done result (W.contents out.old) (W.contents out.new) (W.failed out.old) (W.failed out.new)
+        (dot_text frame.now point) }
     ensures kept { OnOk result (W.failed out.new ≡ W.failed out.old) }
     ensures was { OnOk result (IsOk done) }
 {
@@ -87,7 +93,8 @@ pub(crate) fn dot_after<W: Sink>(done: Done, out: &mut W, frame: &Frame, point: 
 #[tactic(auto, using(hull_text::proofs::Chains::chained_start, hull_text::proofs::Chains::chained_end))]
 fn dots_after<W: Sink>(done: Done, out: &mut W, frame: &Frame, points: &[Point]) -> Done
     requires { OnOk done (W.failed out.old < 2 ^ 64 - 1) }
-    ensures wrote { WritesOn done result (W.contents out.old) (W.contents out.new) (W.failed out.old) (W.failed out.new) (texts (dot_text frame.now) points.now) }
+    ensures wrote { WritesOn done result (W.contents out.old) (W.contents out.new) (W.failed out.old) (W.failed out.new)
+        (texts (dot_text frame.now) points.now) }
     ensures kept { OnOk result (W.failed out.new ≡ W.failed out.old) }
     ensures was { OnOk result (IsOk done) }
 {
@@ -103,7 +110,8 @@ fn dots_after<W: Sink>(done: Done, out: &mut W, frame: &Frame, points: &[Point])
 /// Writes the dots at the corners.
 fn corner_dots_after<W: Sink>(done: Done, out: &mut W, frame: &Frame, points: &[Point]) -> Done
     requires { OnOk done (W.failed out.old < 2 ^ 64 - 1) }
-    ensures wrote { WritesOn done result (W.contents out.old) (W.contents out.new) (W.failed out.old) (W.failed out.new) (corner_dots_text frame.now points.now) }
+    ensures wrote { WritesOn done result (W.contents out.old) (W.contents out.new) (W.failed out.old) (W.failed out.new)
+        (corner_dots_text frame.now points.now) }
     ensures kept { OnOk result (W.failed out.new ≡ W.failed out.old) }
     ensures was { OnOk result (IsOk done) }
 {
@@ -123,7 +131,8 @@ fn mark_dots_after<W: Sink>(
 ) -> Done
     requires room { OnOk done (W.failed out.old < 2 ^ 64 - 1) }
     requires step { 1 ≤ step }
-    ensures wrote { WritesOn done result (W.contents out.old) (W.contents out.new) (W.failed out.old) (W.failed out.new) (texts (mark_dot_text frame.now) (every step 0 marks.now)) }
+    ensures wrote { WritesOn done result (W.contents out.old) (W.contents out.new) (W.failed out.old) (W.failed out.new)
+        (texts (mark_dot_text frame.now) (every step 0 marks.now)) }
     ensures kept { OnOk result (W.failed out.new ≡ W.failed out.old) }
     ensures was { OnOk result (IsOk done) }
 {
@@ -145,7 +154,8 @@ fn mark_dots_after<W: Sink>(
 /// Writes the dots of the marks that are drawn.
 fn all_dots_after<W: Sink>(done: Done, out: &mut W, frame: &Frame, marks: &[Mark]) -> Done
     requires { OnOk done (W.failed out.old < 2 ^ 64 - 1) }
-    ensures wrote { WritesOn done result (W.contents out.old) (W.contents out.new) (W.failed out.old) (W.failed out.new) (all_dots_text frame.now marks.now) }
+    ensures wrote { WritesOn done result (W.contents out.old) (W.contents out.new) (W.failed out.old) (W.failed out.new)
+        (all_dots_text frame.now marks.now) }
     ensures kept { OnOk result (W.failed out.new ≡ W.failed out.old) }
     ensures was { OnOk result (IsOk done) }
 {
@@ -164,7 +174,8 @@ fn bridge_line_after<W: Sink>(
     ends: (Point, Point),
 ) -> Done
     requires { OnOk done (W.failed out.old < 2 ^ 64 - 1) }
-    ensures wrote { WritesOn done result (W.contents out.old) (W.contents out.new) (W.failed out.old) (W.failed out.new) (bridge_line_text frame.now words.now level ends) }
+    ensures wrote { WritesOn done result (W.contents out.old) (W.contents out.new) (W.failed out.old) (W.failed out.new)
+        (bridge_line_text frame.now words.now level ends) }
     ensures kept { OnOk result (W.failed out.new ≡ W.failed out.old) }
     ensures was { OnOk result (IsOk done) }
 {
@@ -179,7 +190,8 @@ fn bridge_line_after<W: Sink>(
 /// Writes both bridges of a fork.
 fn bridge_after<W: Sink>(done: Done, out: &mut W, frame: &Frame, bridge: Bridge) -> Done
     requires { OnOk done (W.failed out.old < 2 ^ 64 - 1) }
-    ensures wrote { WritesOn done result (W.contents out.old) (W.contents out.new) (W.failed out.old) (W.failed out.new) (bridge_text frame.now bridge) }
+    ensures wrote { WritesOn done result (W.contents out.old) (W.contents out.new) (W.failed out.old) (W.failed out.new)
+        (bridge_text frame.now bridge) }
     ensures kept { OnOk result (W.failed out.new ≡ W.failed out.old) }
     ensures was { OnOk result (IsOk done) }
 {
@@ -205,7 +217,8 @@ fn bridge_after<W: Sink>(done: Done, out: &mut W, frame: &Frame, bridge: Bridge)
 #[tactic(auto, using(hull_text::proofs::Chains::chained_start, hull_text::proofs::Chains::chained_end))]
 fn bridges_after<W: Sink>(done: Done, out: &mut W, frame: &Frame, bridges: &[Bridge]) -> Done
     requires { OnOk done (W.failed out.old < 2 ^ 64 - 1) }
-    ensures wrote { WritesOn done result (W.contents out.old) (W.contents out.new) (W.failed out.old) (W.failed out.new) (texts (bridge_text frame.now) bridges.now) }
+    ensures wrote { WritesOn done result (W.contents out.old) (W.contents out.new) (W.failed out.old) (W.failed out.new)
+        (texts (bridge_text frame.now) bridges.now) }
     ensures kept { OnOk result (W.failed out.new ≡ W.failed out.old) }
     ensures was { OnOk result (IsOk done) }
 {
@@ -221,7 +234,8 @@ fn bridges_after<W: Sink>(done: Done, out: &mut W, frame: &Frame, bridges: &[Bri
 /// Begins the square that the browser scales.
 pub(crate) fn square_after<W: Sink>(done: Done, out: &mut W, size: u64, side: u64) -> Done
     requires { OnOk done (W.failed out.old < 2 ^ 64 - 1) }
-    ensures wrote { WritesOn done result (W.contents out.old) (W.contents out.new) (W.failed out.old) (W.failed out.new) (square_text size side) }
+    ensures wrote { WritesOn done result (W.contents out.old) (W.contents out.new) (W.failed out.old) (W.failed out.new)
+        (square_text size side) }
     ensures kept { OnOk result (W.failed out.new ≡ W.failed out.old) }
     ensures was { OnOk result (IsOk done) }
 {
@@ -236,7 +250,8 @@ pub(crate) fn square_after<W: Sink>(done: Done, out: &mut W, size: u64, side: u6
 /// Writes the hull, the points, above them the bridges, and above these the corners.
 pub(crate) fn shapes_after<W: Sink>(done: Done, out: &mut W, frame: &Frame, scene: &Scene) -> Done
     requires { OnOk done (W.failed out.old < 2 ^ 64 - 1) }
-    ensures wrote { WritesOn done result (W.contents out.old) (W.contents out.new) (W.failed out.old) (W.failed out.new) (shapes_text frame.now scene.now) }
+    ensures wrote { WritesOn done result (W.contents out.old) (W.contents out.new) (W.failed out.old) (W.failed out.new)
+        (shapes_text frame.now scene.now) }
     ensures kept { OnOk result (W.failed out.new ≡ W.failed out.old) }
     ensures was { OnOk result (IsOk done) }
 {

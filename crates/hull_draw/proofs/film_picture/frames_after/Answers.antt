@@ -14,12 +14,15 @@ loop-scene-preserved g c =
     let started = chained_more _ _ _ _ _ _ _ _ _ _ _ _ _ c.loop-scene.invariant.0
     (frames_cons c.args.size c.args.frame.now
     (length c.args.scenes.now) c.loop-scene.place c.in-Some.scene.now c.in-Some.after.now c.loop-scene.rest.now
-    c.in-Some-split_first.line.now c.in-Some-split_first.lines_after.now c.loop-scene.left.now c.in-Some.ensures.cases.0 c.in-Some-split_first.ensures.cases.0)
+    c.in-Some-split_first.line.now c.in-Some-split_first.lines_after.now c.loop-scene.left.now
+    c.in-Some.ensures.cases.0 c.in-Some-split_first.ensures.cases.0)
     c.frame_start_after-done.ensures.wrote c.frame_start_after-done.ensures.kept c.frame_start_after-done.ensures.was in
     let left : length c.loop-scene.rest.now ≡ length c.in-Some.after.now + 1 =
     rw c.in-Some.ensures.cases.0 (omega arith) in
     let places = c.loop-scene.invariant.1 in
-    (chained_more _ _ _ _ _ _ _ _ _ _ _ _ _ started refl c.frame_after-done.ensures.wrote c.frame_after-done.ensures.kept c.frame_after-done.ensures.was, omega (arith, left, places))
+    let ended = chained_more _ _ _ _ _ _ _ _ _ _ _ _ _ started refl c.frame_after-done.ensures.wrote
+    c.frame_after-done.ensures.kept c.frame_after-done.ensures.was in
+    (ended, omega (arith, left, places))
 
 pub returns-clause-wrote : goal.returns-clause-wrote
 returns-clause-wrote g c =

@@ -5,8 +5,8 @@ use Rattle.hull_draw.proofs.shapes.bridges_after.Goals as goal
 
 pub loop-bridge-preserved : goal.loop-bridge-preserved
 loop-bridge-preserved g c = chained_more _ _ _ _ _ _ _ _ _ _ _ _ _ c.loop-bridge.invariant
-    (texts_cons _ c.in-Some.bridge.now c.in-Some.after.now _ c.in-Some.ensures.cases.0) c.bridge_after-done.ensures.wrote
-    c.bridge_after-done.ensures.kept c.bridge_after-done.ensures.was
+    (texts_cons _ c.in-Some.bridge.now c.in-Some.after.now _ c.in-Some.ensures.cases.0)
+    c.bridge_after-done.ensures.wrote c.bridge_after-done.ensures.kept c.bridge_after-done.ensures.was
 
 pub returns-clause-wrote : goal.returns-clause-wrote
 returns-clause-wrote g c =

@@ -12,8 +12,8 @@ pub loop-mark-preserved-then-skip-eq0 : goal.loop-mark-preserved-then-skip-eq0
 loop-mark-preserved-then-skip-eq0 g c =
     let so_far = rw c.if-skip-eq0.true at c.loop-mark.invariant in
     chained_more _ _ _ _ _ _ _ _ _ _ _ _ _ so_far
-    (drawn_cons c.args.frame.now c.args.step c.in-Some.mark.now c.in-Some.after.now _ c.in-Some.ensures.cases.0) c.dot_after-done.ensures.wrote
-    c.dot_after-done.ensures.kept c.dot_after-done.ensures.was
+    (drawn_cons c.args.frame.now c.args.step c.in-Some.mark.now c.in-Some.after.now _ c.in-Some.ensures.cases.0)
+    c.dot_after-done.ensures.wrote c.dot_after-done.ensures.kept c.dot_after-done.ensures.was
 
 pub loop-mark-preserved : goal.loop-mark-preserved
 loop-mark-preserved g c = chained_same _ _ _ _ _ _ _ _ _ c.loop-mark.invariant
