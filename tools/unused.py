@@ -14,7 +14,7 @@ from pathlib import Path
 
 TOP = Path(__file__).resolve().parent.parent
 WORD = re.compile(r"[^\s(){}\[\],;.:`\"]+")
-DECLARED = re.compile(r"^ *(?:abbrev |unfoldable )*(?:pub )?(?:record |data |abbrev )?(?:pub )?([A-Za-z_][\w'-]*) (?:\{.*?\} )?:", re.M)
+DECLARED = re.compile(r"^( *)(?:abbrev |unfoldable )*(?:pub )?(?:record |data |abbrev )?(?:pub )?([A-Za-z_][\w'-]*) (?:\{.*?\} )?:", re.M)
 IMPORT = re.compile(r"^use ([\w.+-]+)\.\{(.*)\}", re.M)
 
 
@@ -32,9 +32,9 @@ def main(crates):
         if crates and parts[1] not in crates or path.suffix != ".antt":
             continue
         own = Counter(WORD.findall(text))
-        for name in dict.fromkeys(DECLARED.findall(text)):
+        for indent, name in dict.fromkeys(DECLARED.findall(text)):
             is_answer = path.name in ("Answers.antt", "Invariants.antt", "Proof.antt")
-            lines = len(re.findall(rf"^ *(?:pub |abbrev |unfoldable )*{re.escape(name)}(?= .*(?: = | =$| : ))", text, re.M))
+            lines = len(re.findall(rf"^{indent}(?:pub |abbrev |unfoldable )*{re.escape(name)}(?= .*(?: = | =$| : ))", text, re.M))
             if not is_answer and everywhere[name] == own[name] and own[name] <= lines:
                 print(f"{'/'.join(parts)}: nothing names {name}")
         body = IMPORT.sub("", text)
