@@ -1,6 +1,6 @@
 -- A keeper's seats are cut off, and joined again.
 use Rattle.std.proofs.Common.{◌≡◌, ℕ, zero, suc, ◌+◌, ◌-◌, ◌^◌, ◌<◌, ◌≤◌, Bool, true, List, [], ◌∷◌, ◌++◌, map, length}
-use Rattle.std.proofs.Common.{set, sym, refl, ap, ◌∙◌, subst, ⊎_elim, arith}
+use Rattle.std.proofs.Common.{set, sym, refl, ap, ◌∙◌, subst, ⊎_elim, arith, true≢false}
 use Rattle.std.specs.Prelude as std
 use mathlib.Core.Option.{Option, some, some-injective, some-ne-none}
 use mathlib.Core.List.{map-append}
@@ -18,7 +18,7 @@ use Rattle.ticket_lock.specs.Schedule.{idle_from}
 use Rattle.ticket_lock.specs.Standing.{stage_of, seat_of, left_of, right_of, joined, nobody, memos_of, memos_from}
 use Rattle.ticket_lock.specs.Standing.{idles, keeper_of, shelf, Standing}
 use Rattle.ticket_lock.proofs.Sums.{snoc_at, wrap_small, total_set, total_at, total_two, span_all}
-use Rattle.ticket_lock.proofs.Machine.{true_false, apart_from, queue_beside, holder_beside, seats_stay, is_true}
+use Rattle.ticket_lock.proofs.Machine.{apart_from, queue_beside, holder_beside, seats_stay, is_true}
 
 module _ {H L : Type 0} where
   -- the sum over two lists of views
@@ -309,7 +309,7 @@ module _ {B H L : Type 0} (K : Ghosts B H L) (F : Form) (n : ℕ) (opened : B) w
       counted = refl;
       parts = λ h. let p = weigh_from h (K.head opened) (K.lines opened) 0 n in omega arith;
       each_seat = λ j v e. one_keeper j v e;
-      away = λ out. absurd (true_false out);
+      away = λ out. absurd (true≢false out);
       lawful = lawful;
       head = refl;
       turn = refl;
@@ -368,7 +368,7 @@ module _ {B H L : Type 0} (K : Ghosts B H L) (F : Form) (n : ℕ) (opened : B) w
             parts = λ h. idles_weigh h ms ∙ (sym (has_all h s.views id (Keeper ms) at (sum ∙ sym all)) ∙ g.parts h);
             each_seat = λ j v e. let m = idle_there ms j v e in
                 subst (Knows K opened r.current true r.serving [] j) m.2 (mine j m.0 m.1);
-            away = λ out. absurd (true_false out);
+            away = λ out. absurd (true≢false out);
             lawful = g.lawful;
             head = g.head;
             turn = g.turn;

@@ -57,10 +57,6 @@ module _ {B H L : Type 0} (K : Ghosts B H L) (F : Form) (laws : FormLaws F) (n :
   abbrev St : Type 0
   St = State (std.Option B) (SeatState H L)
 
-  -- the table shows a good world
-  abbrev Good' : St → (next serving : ℕ) → Bool → B → List ℕ → Type 0
-  Good' s next serving home current q = Good K F n opening (world_of s next serving home current) q
-
   -- a fetch-and-add on word 0 by an idle seat is an event take
   pub takes_ok : (slots id : ℕ) (v : SeatState H L) (cs : List (ℕ × std.Option B)) → stage_of v ≡ 1
       → Allows Rule slots id (v, cs) 0 (λ x. (x + 1) % 2 ^ 64) (took (step slots 0 1 0 none) (v, cs))

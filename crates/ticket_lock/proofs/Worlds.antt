@@ -1,6 +1,6 @@
 -- A world that stands under the invariant is good.
 use Rattle.std.proofs.Common.{◌≡◌, ℕ, zero, suc, ◌+◌, ◌^◌, ◌<◌, ◌≤◌, true, List, [], ◌∷◌, length, sym, refl, ap, ◌∙◌}
-use Rattle.std.proofs.Common.{subst, arith}
+use Rattle.std.proofs.Common.{subst, arith, true≢false}
 use mathlib.Core.Logic.{dite}
 use mathlib.Core.Option.{some, some-injective, some-ne-none}
 use native.Mathlib.Decide.{ℕ_discrete}
@@ -15,7 +15,7 @@ use Rattle.ticket_lock.specs.Schedule.{idle_from, Begins}
 use Rattle.ticket_lock.specs.Standing.{RestingTablesAreGood, world_of}
 use Rattle.ticket_lock.proofs.Seats.{Ended}
 use Rattle.ticket_lock.proofs.Sums.{wrap_small, one_place, at_below}
-use Rattle.ticket_lock.proofs.Machine.{FormLaws, true_false, few, strangers}
+use Rattle.ticket_lock.proofs.Machine.{FormLaws, few, strangers}
 
 -- below the length of the queue stands a seat
 pub at_of : (q : List ℕ) (i : ℕ) → i < length q → (j : ℕ) × (get_elem? q i ≡ some j)
@@ -73,7 +73,7 @@ module _ {B H L : Type 0} (K : Ghosts B H L) (F : Form) (laws : FormLaws F) (n :
     holder = λ j t h. (g.each_seat j (Holding h.0 t) h.1).2;
     one_holder = λ j k t u h i. some-injective j k
         (sym (g.each_seat j (Holding h.0 t) h.1).1 ∙ (g.each_seat k (Holding i.0 u) i.1).1);
-    home = λ is j t h. true_false (sym is ∙ (g.each_seat j (Holding h.0 t) h.1).3);
+    home = λ is j t h. true≢false (sym is ∙ (g.each_seat j (Holding h.0 t) h.1).3);
     away = λ is. let a = g.away is in (a.0, a.2, (a.1, a.3));
     lawful = g.lawful;
     head = g.head;
