@@ -26,11 +26,6 @@ pub same_false : (p q : Pair) → ¬ (p ≡ q) → is_same_pair p q ≡ false
 same_false p q n = fails (is_same_pair p q)
     (λ t. n (λ i. record { x = ((told p q).0 t).0 i; y = ((told p q).0 t).1 i }))
 
--- what a test counts at most
-few : (b : Bool) → (if b then 1 else 0) ≤ 1
-few true = omega arith
-few false = omega arith
-
 -- a point counts once at itself
 pub once_same : (p : Pair) → once p p ≡ 1
 once_same p = rw (same_true p) refl
@@ -38,10 +33,6 @@ once_same p = rw (same_true p) refl
 -- it does not count at another one
 pub once_other : (p q : Pair) → ¬ (p ≡ q) → once p q ≡ 0
 once_other p q n = rw (same_false p q n) refl
-
--- and nowhere more than once
-pub once_few : (p q : Pair) → once p q ≤ 1
-once_few p q = few (is_same_pair p q)
 
 -- two points are one, or they are not
 pub same_or_other : (p q : Pair) → (p ≡ q) ⊎ ¬ (p ≡ q)

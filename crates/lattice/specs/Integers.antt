@@ -52,10 +52,6 @@ neg_mul_r a b = *ℤ_comm a (neg_ℤ b) ∙ neg_mul_l b a ∙ ap neg_ℤ (*ℤ_c
 pub mul_left_comm : (a b c : ℤ) → a *ℤ (b *ℤ c) ≡ b *ℤ (a *ℤ c)
 mul_left_comm a b c = sym (mul_assoc a b c) ∙ ap (λ (z : ℤ). z *ℤ c) (*ℤ_comm a b) ∙ mul_assoc b a c
 
--- a negated sum
-pub neg_add : (a b : ℤ) → neg_ℤ (a +ℤ b) ≡ neg_ℤ a +ℤ neg_ℤ b
-neg_add a b = omega (arith, ints)
-
 -- the integers as unknowns of a linear problem, products included
 pub ruleset linear = (same_out, Apart-out, lt_out, le_out, same_in, below_in, at_most_in, sum_is_lem, neg_is)
 

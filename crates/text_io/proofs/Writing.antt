@@ -1,10 +1,10 @@
 -- Writing one text after another.
-use Rattle.std.proofs.Common.{◌≡◌, ◌<◌, ◌++◌, ◌∙◌, ℕ, zero, suc, List, [], take, drop, Option, refl, sym, ap, arith}
+use Rattle.std.proofs.Common.{◌≡◌, ◌++◌, ◌∙◌, ℕ, zero, suc, List, take, drop, Option, refl, sym, ap}
 use Rattle.std.proofs.Common.{append_assoc}
 use Rattle.std.proofs.lemmas.List.{take-append-drop}
 use Rattle.std.specs.Io.KnownBytes.{Appends}
-use Rattle.std.proofs.KnownBytes.{Appends-trans, Appends-nil}
-use Rattle.text_io.specs.Count.{CountsTaken, raised}
+use Rattle.std.proofs.KnownBytes.{Appends-trans}
+use Rattle.text_io.specs.Count.{CountsTaken}
 
 -- What a loop over pieces has written so far.
 pub record Written (a b : Option (List ℕ)) (piece rest : List ℕ) : Type 0 where
@@ -22,16 +22,7 @@ written_more a b c piece rest n w p = record {
   grown = Appends-trans a b c w.front (take n rest) w.grown p;
 }
 
--- Before the first write.
-pub written_none : (a : Option (List ℕ)) (piece : List ℕ) → Written a a piece piece
-written_none a piece = record { front = []; whole = refl; grown = Appends-nil a }
-
 -- A write that took something leaves the count.
 pub count_kept : (n len old new : ℕ) → (n ≡ 0 → ⊥) → CountsTaken n len old new → new ≡ old
 count_kept zero len old new h p = absurd (h refl)
 count_kept (suc n) len old new h p = p
-
--- A write that took nothing of a nonempty piece raises it.
-pub count_raised : (len old new : ℕ) → 0 < len → CountsTaken 0 len old new → new ≡ raised old
-count_raised zero old new h p = absurd (omega arith)
-count_raised (suc len) old new h p = p

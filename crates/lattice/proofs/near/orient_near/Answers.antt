@@ -1,4 +1,4 @@
-use Rattle.std.proofs.Common.{◌∙◌, ◌*◌, arith}
+use Rattle.std.proofs.Common.{◌∙◌, arith}
 use borrow.Author.Differences.{ints}
 use Rattle.lattice.specs.Plane.{orient}
 use Rattle.lattice.proofs.Casts.{cast_near_side, near_side_within, cast_told}
