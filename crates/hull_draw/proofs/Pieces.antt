@@ -10,10 +10,6 @@ three_pieces text a b c = simp append_assoc
 pub four_pieces : (text a b c d : List ℕ) → text ++ a ++ b ++ c ++ d ≡ text ++ (a ++ b ++ c ++ d)
 four_pieces text a b c d = simp append_assoc
 
--- Five pieces behind a text are one piece behind it.
-pub five_pieces : (text a b c d e : List ℕ) → text ++ a ++ b ++ c ++ d ++ e ≡ text ++ (a ++ b ++ c ++ d ++ e)
-five_pieces text a b c d e = simp append_assoc
-
 -- What is left may be told in other words.
 pub chained_same : {E : Type 0} (first now : Result Unit E) (a b : Option (List ℕ)) (l m : ℕ) (all left other : List ℕ)
     → Chained first now a b l m all left → left ≡ other → Chained first now a b l m all other

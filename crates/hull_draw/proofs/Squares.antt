@@ -12,9 +12,8 @@ use Rattle.std.proofs.lemmas.List.Elements.{Contains-append_left, Contains-appen
 use Rattle.std.proofs.lemmas.Nat.{le-div}
 use Rattle.std.specs.List.{All, Contains}
 use Rattle.lattice.proofs.Order.{before_total, is_before-true, is_before-false, before_not, before_irrefl}
-use Rattle.lattice.specs.Covers.{with_point, without_point}
+use Rattle.lattice.specs.Covers.{without_point}
 use Rattle.lattice.specs.Plane.{Pair, IsBefore}
-use Rattle.lattice.specs.Vertices.{IsVertexList}
 use Rattle.hull_plain.proofs.SetLaws.{members_with}
 use Rattle.hull_plain.specs.Held.{Held, nothing_held}
 use Rattle.hull_plain.specs.Replies.{Answers, after}

@@ -112,8 +112,8 @@ fn path_of(alloc: Global, matches: &ArgMatches<'_>, words: &[&str]) -> Result<St
 /// What the words after the program's name ask for: `JOURNAL` with `--line N`, `--bridges` and `--size PIXELS`, or with
 /// `--film` and `--size PIXELS`.
 ///
-/// The path is one of the words, as it was written. `Usage` for any other words, for a number outside its limits, and for
-/// a film with `--line` or `--bridges`; a question for help counts as one. `Memory` where memory was refused.
+/// The path is one of the words, as it was written. `Usage` for any other words, for a number outside its limits, and
+/// for a film with `--line` or `--bridges`; a question for help counts as one. `Memory` where memory was refused.
 pub fn options(alloc: Global, words: &[&str]) -> Result<Task, OptionFault>
     ensures limits { IfOk result IsWithinLimits }
     ensures path { IfOk result (λ task. IsOneOf (texts_of words.now) (string_bytes task.path)) }
