@@ -60,38 +60,41 @@ typedef void (*one_call)(unsigned me, uint32_t kind, int64_t x, int64_t y);
 typedef struct {
     unsigned me;
     one_call call;
+    double begin, end;
 } worker;
 
 static void *work(void *given) {
     worker *w = given;
     uint64_t state = 88172645463325252u ^ (w->me + 1) * UINT64_C(0x9E3779B97F4A7C15);
     pthread_barrier_wait(&start);
+    w->begin = now();
     for (long i = 0; i < calls_of_each; i++) {
         int64_t x = coordinate(&state), y = coordinate(&state);
         w->call(w->me, KIND[i % KINDS], x, y);
     }
+    w->end = now();
     return NULL;
 }
 
-/* the seconds that so many threads take */
+/* the seconds from the first thread's beginning to the last one's end */
 static double timed(unsigned threads, one_call call) {
     pthread_t ids[MOST_THREADS];
     worker workers[MOST_THREADS];
-    pthread_barrier_init(&start, NULL, threads + 1);
+    pthread_barrier_init(&start, NULL, threads);
     for (unsigned k = 0; k < threads; k++) {
-        workers[k] = (worker){k, call};
+        workers[k] = (worker){k, call, 0, 0};
         if (pthread_create(&ids[k], NULL, work, &workers[k]) != 0) {
             abort();
         }
     }
-    pthread_barrier_wait(&start);
-    double begin = now();
+    double begin = 0, end = 0;
     for (unsigned k = 0; k < threads; k++) {
         pthread_join(ids[k], NULL);
+        begin = k == 0 || workers[k].begin < begin ? workers[k].begin : begin;
+        end = workers[k].end > end ? workers[k].end : end;
     }
-    double took = now() - begin;
     pthread_barrier_destroy(&start);
-    return took;
+    return end - begin;
 }
 
 static double through_mutex(unsigned threads, long points) {

@@ -61,28 +61,34 @@ fn by_seat(seat: &mut Seat, kind: usize, at: Point) -> Result<(), Fault> {
     }
 }
 
-/// The seconds that so many threads take, each of which makes its calls by what it is made from.
+/// The seconds from the first thread's beginning to the last one's end, each of which makes its calls by what it is made
+/// from.
 fn timed<C>(threads: u32, calls: usize, caller: impl Fn(u32) -> C) -> f64
 where
     C: FnMut(usize, Point) -> Result<(), Fault> + Send,
 {
-    let start = Barrier::new(threads as usize + 1);
-    let begun = thread::scope(|scope| {
-        for me in 0..threads {
-            let mut call = caller(me);
-            let start = &start;
-            scope.spawn(move || {
-                let points = Points(88172645463325252 ^ u64::from(me + 1) * 0x9E37_79B9_7F4A_7C15);
-                start.wait();
-                for (kind, at) in (0..calls).zip(points) {
-                    call(kind, at).unwrap();
-                }
-            });
-        }
+    let start = Barrier::new(threads as usize);
+    let work = |me: u32, mut call: C| {
+        let points = Points(88172645463325252 ^ u64::from(me + 1) * 0x9E37_79B9_7F4A_7C15);
         start.wait();
-        Instant::now()
+        let begin = Instant::now();
+        for (kind, at) in (0..calls).zip(points) {
+            call(kind, at).unwrap();
+        }
+        (begin, Instant::now())
+    };
+    let times: Vec<(Instant, Instant)> = thread::scope(|scope| {
+        let work = &work;
+        let mut started = Vec::new();
+        for me in 0..threads {
+            let call = caller(me);
+            started.push(scope.spawn(move || work(me, call)));
+        }
+        started.into_iter().map(|thread| thread.join().unwrap()).collect()
     });
-    begun.elapsed().as_secs_f64()
+    let begin = times.iter().map(|time| time.0).min().unwrap();
+    let end = times.iter().map(|time| time.1).max().unwrap();
+    (end - begin).as_secs_f64()
 }
 
 fn through_mutex(threads: u32, points: usize, calls: usize) -> f64 {
