@@ -54,8 +54,8 @@ fn two_seats_across_the_wrap(rt: HostRuntime) -> Result<(), Fail> {
     Ok(two_in_turn(&rt, rt.alloc(), 18446744073709551615, 0)?)
 }
 
-/// A book of capacity 1 that is full: the second seat enters and is told so, its hand on is accepted, and the next number
-/// enters. A hundred times.
+/// A book of capacity 1 that is full: the second seat enters and is told so, its hand on is accepted, and the next
+/// number enters. A hundred times.
 #[test]
 fn a_full_book_hands_on(rt: HostRuntime) -> Result<(), Fail> {
     for _ in 0..100 {

@@ -91,8 +91,10 @@ pub(super) fn make_step<'a>(
     player: &mut Player<'a>,
     call: Call,
 ) -> Step
-    requires { IsPlaced lock.now player.old.number player.old.ledger ⟦<HullTree as HullSet>⟧ player.old.seat player.old.ticket player.old.guard }
-    ensures { IsPlaced lock.now player.new.number player.new.ledger ⟦<HullTree as HullSet>⟧ player.new.seat player.new.ticket player.new.guard }
+    requires { IsPlaced lock.now player.old.number player.old.ledger
+        ⟦<HullTree as HullSet>⟧ player.old.seat player.old.ticket player.old.guard }
+    ensures { IsPlaced lock.now player.new.number player.new.ledger
+        ⟦<HullTree as HullSet>⟧ player.new.seat player.new.ticket player.new.guard }
 {
     if let Some(seat) = player.seat.take() {
         let ticket = lock.take(seat);

@@ -41,6 +41,19 @@ pub(super) struct Seen {
     pub(super) steps: Vec<(u8, Step)>,
 }
 
+impl Seen {
+    /// Nothing was seen yet.
+    fn new(alloc: Global) -> Seen {
+        Seen {
+            takers: Vec::new(alloc),
+            enterers: Vec::new(alloc),
+            handed: 0,
+            misses: 0,
+            steps: Vec::new(alloc),
+        }
+    }
+}
+
 /// What came of it: each player's answers, the last player's first, the sum of the ledgers, and the journal.
 #[derive(Drop)]
 pub(super) struct Outcome {
@@ -61,7 +74,8 @@ fn next_call(player: &Player, game: &Game) -> Option<Call> {
     own.get(player.answers.len()).copied()
 }
 
-// Whether the player can make a step: it holds the book, its number is served, its look may miss, or it has a call left.
+// Whether the player can make a step: it holds the book, its number is served, its look may miss, or it has a call
+// left.
 fn can_step(player: &Player, game: &Game, seen: &Seen) -> bool {
     if player.guard.is_some() {
         return true;
@@ -112,8 +126,10 @@ fn expected_step<'a>(
     game: &Game,
     seen: &mut Seen,
 )
-    requires { IsPlaced lock.now player.old.number player.old.ledger ⟦<HullTree as HullSet>⟧ player.old.seat player.old.ticket player.old.guard }
-    ensures { IsPlaced lock.now player.new.number player.new.ledger ⟦<HullTree as HullSet>⟧ player.new.seat player.new.ticket player.new.guard }
+    requires { IsPlaced lock.now player.old.number player.old.ledger
+        ⟦<HullTree as HullSet>⟧ player.old.seat player.old.ticket player.old.guard }
+    ensures { IsPlaced lock.now player.new.number player.new.ledger
+        ⟦<HullTree as HullSet>⟧ player.new.seat player.new.ticket player.new.guard }
 {
     let Some(call) = next_call(player, game) else {
         panic!(rt; "a player that makes a step has a call")
@@ -152,8 +168,10 @@ fn play<'a, C: Choice>(
     choice: &mut C,
     seen: &mut Seen,
 )
-    requires { All (λ p. IsPlaced lock.now p.number p.ledger ⟦<HullTree as HullSet>⟧ p.seat p.ticket p.guard) players.old.items }
-    ensures placed { All (λ p. IsPlaced lock.now p.number p.ledger ⟦<HullTree as HullSet>⟧ p.seat p.ticket p.guard) players.new.items }
+    requires { All (λ p. IsPlaced lock.now p.number p.ledger ⟦<HullTree as HullSet>⟧ p.seat p.ticket p.guard)
+        players.old.items }
+    ensures placed { All
+        (λ p. IsPlaced lock.now p.number p.ledger ⟦<HullTree as HullSet>⟧ p.seat p.ticket p.guard) players.new.items }
     ensures many { vec_len players.new ≡ vec_len players.old }
 {
     for _step in 0..STEPS {
@@ -181,10 +199,12 @@ fn hire(
 )
     requires seats { All (λ s. IsSeatOf book_head lock.now s × (seat_seen s ≡ [])) seats.old.items }
     requires room { (players.old.items ≡ []) × (vec_len seats.old ≤ vec_capacity players.old) }
-    requires few { (workers_of (box_value (opening_book lock.now)) ≡ vec_len seats.old) × (vec_len ledgers.old ≡ vec_len seats.old) }
+    requires few { (workers_of (box_value (opening_book lock.now)) ≡ vec_len seats.old)
+        × (vec_len ledgers.old ≡ vec_len seats.old) }
     ensures seats { (seats.new.items ≡ []) × (vec_capacity seats.new ≡ vec_capacity seats.old) }
     ensures ledgers { (ledgers.new.items ≡ []) × (vec_capacity ledgers.new ≡ vec_capacity ledgers.old) }
-    ensures placed { All (λ p. IsPlaced lock.now p.number p.ledger ⟦<HullTree as HullSet>⟧ p.seat p.ticket p.guard) players.new.items }
+    ensures placed { All
+        (λ p. IsPlaced lock.now p.number p.ledger ⟦<HullTree as HullSet>⟧ p.seat p.ticket p.guard) players.new.items }
     ensures many { vec_len players.new ≡ vec_len seats.old }
 {
     let workers = seats.len();
@@ -216,7 +236,8 @@ fn dismiss(
     ledgers: &mut Vec<Ledger>,
     answers: &mut Vec<(u8, Vec<Answer>)>,
 )
-    requires placed { All (λ p. IsPlaced lock.now p.number p.ledger ⟦<HullTree as HullSet>⟧ p.seat p.ticket p.guard) players.old.items }
+    requires placed { All
+        (λ p. IsPlaced lock.now p.number p.ledger ⟦<HullTree as HullSet>⟧ p.seat p.ticket p.guard) players.old.items }
     requires empty { (seats.old.items ≡ []) × (ledgers.old.items ≡ []) }
     requires room { (vec_len players.old ≤ vec_capacity seats.old) × (vec_len players.old ≤ vec_capacity ledgers.old) }
     ensures players { players.new.items ≡ [] }
@@ -253,6 +274,29 @@ fn dismiss(
     }
 }
 
+// A book of the leaf tree for so many players, on the heap, and its ledgers.
+fn opened(
+    rt: &impl Abort,
+    alloc: Global,
+    game: &Game,
+    workers: u8,
+) -> (Box<Book<HullTree>>, Vec<Ledger>)
+    requires { (1 ≤ workers) × (workers ≤ 64) }
+    ensures lawful { IsLawful ⟦<HullTree as HullSet>⟧ (box_value result.0) }
+    ensures ledgers { AreLedgers (box_value result.0) result.1.items }
+    ensures workers { workers_of (box_value result.0) ≡ workers }
+    ensures empty { (box_value result.0).lines ≡ [] }
+{
+    let set = HullTree::new(alloc, 16);
+    let Ok((book, ledgers)) = Book::open(alloc, set, game.first, game.capacity, workers) else {
+        panic!(rt; "there is memory for the book")
+    };
+    let Ok(book) = Box::new(alloc, book) else {
+        panic!(rt; "there is memory for the book")
+    };
+    (book, ledgers)
+}
+
 /// Plays the game once, as the choice goes, over a book of the leaf tree.
 pub(super) fn play_once<C: Choice>(
     rt: &impl Abort,
@@ -263,26 +307,14 @@ pub(super) fn play_once<C: Choice>(
 ) -> Outcome
     requires { (1 ≤ workers) × (workers ≤ 64) }
 {
-    let set = HullTree::new(alloc, 16);
-    let Ok((book, mut ledgers)) = Book::open(alloc, set, game.first, game.capacity, workers) else {
-        panic!(rt; "there is memory for the book")
-    };
-    let Ok(book) = Box::new(alloc, book) else {
-        panic!(rt; "there is memory for the book")
-    };
+    let (book, mut ledgers) = opened(rt, alloc, game, workers);
     let Ok((lock, mut seats)) = TicketLock::open(alloc, book, workers) else {
         panic!(rt; "there is memory for the lock")
     };
     let Ok(mut players) = Vec::with_capacity(alloc, usize::from(workers)) else {
         panic!(rt; "there is memory for the players")
     };
-    let mut seen = Seen {
-        takers: Vec::new(alloc),
-        enterers: Vec::new(alloc),
-        handed: 0,
-        misses: 0,
-        steps: Vec::new(alloc),
-    };
+    let mut seen = Seen::new(alloc);
     let mut answers = Vec::new(alloc);
     hire(rt, alloc, &lock, &mut seats, &mut ledgers, &mut players);
     play(rt, &lock, &mut players, game, choice, &mut seen);

@@ -8,6 +8,7 @@ use Rattle.explorer.proofs.tests.schedule.play.Goals as goal
 
 pub loop-step-preserved : goal.loop-step-preserved
 loop-step-preserved g c = record {
-  placed = All-set (λ (p : Player). IsPlaced c.args.lock.now p.number p.ledger ghosts p.seat p.ticket p.guard) c.loop-step.players.items c.in-Some.place _ c.expected_step.ensures c.loop-step.invariant.placed;
+  placed = All-set (λ (p : Player). IsPlaced c.args.lock.now p.number p.ledger ghosts p.seat p.ticket p.guard)
+      c.loop-step.players.items c.in-Some.place _ c.expected_step.ensures c.loop-step.invariant.placed;
   many = search rules;
 }
