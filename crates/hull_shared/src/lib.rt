@@ -43,6 +43,8 @@ mod place;
 mod places;
 mod seat;
 mod serving;
+#[cfg(test)]
+mod tests;
 
 use desk::Desk;
 use hull_reply::HullReply;
