@@ -43,7 +43,16 @@ dismiss-requires-clause-room g c =
     c.requires.seats.1 c.requires.may c.hire.ensures.crew in
     let same = c.work_all.ensures.many in
     let rooms = c.hire.ensures.room in (
-      omega (arith, made.many, made.long.seats, same, rooms.0, c.requires.seats.2, c.hire.new.crew.ok.0, c.args.seats.ok.0),
+      omega (
+        arith,
+        made.many,
+        made.long.seats,
+        same,
+        rooms.0,
+        c.requires.seats.2,
+        c.hire.new.crew.ok.0,
+        c.args.seats.ok.0,
+      ),
       omega (
         arith,
         made.many,
@@ -73,7 +82,14 @@ close-requires-clause-all g c =
     let b : BookValue _ = box_value (opening_book c.args.lock) in
     let made = is_crew b c.args.phase.now c.hire.new.crew.items c.args.seats _ _ _ c.requires.seats.0
     c.requires.seats.1 c.requires.may c.hire.ensures.crew in
-    omega (arith, made.many, c.dismiss.ensures.long.0, c.work_all.ensures.many, c.requires.seats.0, c.hire.new.crew.ok.0)
+    omega (
+      arith,
+      made.many,
+      c.dismiss.ensures.long.0,
+      c.work_all.ensures.many,
+      c.requires.seats.0,
+      c.hire.new.crew.ok.0,
+    )
 
 pub close-requires-clause-own : goal.close-requires-clause-own
 close-requires-clause-own g c =
@@ -102,7 +118,8 @@ returns g c =
     made.long.seats c.work_all.ensures.many c.dismiss.ensures.long.2 in
     let runs = rw (c.hire.ensures.crew, ← c.dismiss.ensures.team) at c.work_all.ensures.ran in
     phase_ran c.args.lock b (box_value c.close.result) c.args.phase.now _ _ _ _ _ _
-    (omega (arith, c.requires.some, c.args.seats.ok.0)) made.long.seats made.long.answers made.long.ledgers ts ws ms c.requires.may
+    (omega (arith, c.requires.some, c.args.seats.ok.0)) made.long.seats made.long.answers made.long.ledgers ts ws ms
+    c.requires.may
     (numbered_from 0 _ (λ i s e. c.requires.seats.4 i s e
     ∙ omega arith)) c.close.ensures.lawful c.close.ensures.head
     (λ k d lt. let stands = c.close.ensures.seen k d lt in (stands.begins, stands.own_lines)) runs
