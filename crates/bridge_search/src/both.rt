@@ -11,8 +11,8 @@ use lattice::Point;
 /// A bridge, from its end in the left half to its end in the right one, and how many turns its search took.
 pub type Counted = ((Point, Point), u32);
 
-/// The upper and the lower bridge of `u` and `w`, as [`upper_bridge_counted`](crate::upper_bridge_counted) finds them, each with the turns of its own
-/// search. All of `u` must stand before all of `w`.
+/// The upper and the lower bridge of `u` and `w`, as [`upper_bridge_counted`](crate::upper_bridge_counted) finds them,
+/// each with the turns of its own search. All of `u` must stand before all of `w`.
 pub fn both_bridges<H: Half>(u: H, w: H) -> (Counted, Counted)
     requires { IsAllBefore (On (H.tree u)) (On (H.tree w)) }
     ensures upper { IsUpperBridge (On (H.tree u)) (On (H.tree w)) result.0.0.0 result.0.0.1 }

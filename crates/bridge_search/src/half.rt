@@ -1,18 +1,19 @@
 ghost use Rattle.std.specs.Prelude.{◌≡◌, ◌≤◌};
 ghost use Rattle.lattice.specs.Plane as plane;
 ghost use Rattle.lattice.specs.Plane.{Pair, IsWithin, turned_point, widest_side};
-ghost use Rattle.bridge_search.specs.Trees.{Tree, On, IsBridged, IsFork, edge_of, lower_of, left_of, right_of, first_of, last_of, height_of, highest};
+ghost use Rattle.bridge_search.specs.Trees.{Tree, On, IsBridged, IsFork, edge_of, lower_of, left_of, right_of};
+ghost use Rattle.bridge_search.specs.Trees.{first_of, last_of, height_of, highest};
 
 use lattice::Point;
 
 /// A half of a hull: one point, or two stored edges and two halves of its own.
 ///
 /// Contracts see it as a finite tree. Its law: at each fork all points of the left half stand before all points of
-/// the right one, the upper edge is the upper bridge of these two halves, and the lower edge their lower bridge. Its height is at most
-/// 2147483647, so that the turns of a search are a number of 32 bits.
+/// the right one, the upper edge is the upper bridge of these two halves, and the lower edge their lower bridge. Its
+/// height is at most 2147483647, so that the turns of a search are a number of 32 bits.
 ///
-/// It compares in the width that its points need: [`orient`](Half::orient) is asked of points that fit, and all points of
-/// the half do. So one search serves halves whose sides take 128 bits and halves whose sides take 64.
+/// It compares in the width that its points need: [`orient`](Half::orient) is asked of points that fit, and all points
+/// of the half do. So one search serves halves whose sides take 128 bits and halves whose sides take 64.
 pub trait Half: Copy {
     ghost tree: { Self → Tree };
 

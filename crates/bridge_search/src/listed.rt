@@ -41,7 +41,8 @@ impl<'a> Listed<'a> {
     /// The half of a list, or nothing where it is empty or longer than a half may be high.
     pub fn new(entries: &'a [Entry]) -> Option<Listed<'a>>
         requires { IsBridged (listed_tree entries.now) }
-        ensures { MatchOption result ((entries.now ≡ []) ⊎ (highest < length entries.now)) (λ h. h.entries.now ≡ entries.now) }
+        ensures { MatchOption result ((entries.now ≡ []) ⊎ (highest < length entries.now))
+            (λ h. h.entries.now ≡ entries.now) }
     {
         if entries.is_empty() || entries.len() > 2147483647 {
             None

@@ -56,7 +56,8 @@ fn turn_both<H: Half>(u: H, w: H, a: Point, b: Point, c: Point, d: Point, m: Poi
 /// One turn: two halves that have the same upper bridge, or nothing where both are one point.
 fn turn<H: Half>(u: H, w: H, m: Point) -> Option<(H, H)>
     requires { IsReady (H.tree u) (H.tree w) m }
-    ensures { MatchOption result (IsDone (H.tree u) (H.tree w)) (λ r. IsTurn (H.tree u) (H.tree w) m (H.tree r.0) (H.tree r.1)) }
+    ensures { MatchOption result (IsDone (H.tree u) (H.tree w))
+        (λ r. IsTurn (H.tree u) (H.tree w) m (H.tree r.0) (H.tree r.1)) }
 {
     match (u.edge(), w.edge()) {
         (None, None) => None,
@@ -81,7 +82,8 @@ impl<H: Half> Search<H> {
     pub(crate) fn new(u: H, w: H, parting: Point) -> Search<H>
         requires in_order { IsAllBefore (On (H.tree u)) (On (H.tree w)) }
         requires parting { parting ≡ first_of (H.tree w) }
-        ensures { IsReached (H.tree u) (H.tree w) (H.tree result.left) (H.tree result.right) result.parting result.turns }
+        ensures { IsReached (H.tree u) (H.tree w) (H.tree result.left)
+            (H.tree result.right) result.parting result.turns }
     {
         Search {
             left: u,
@@ -94,8 +96,11 @@ impl<H: Half> Search<H> {
     /// Makes one turn; false where both halves are one point, and then nothing changes.
     pub(crate) fn advance(&mut self) -> bool
         requires ready { IsReady (H.tree self.old.left) (H.tree self.old.right) self.old.parting }
-        requires room { height_of (H.tree self.old.left) + height_of (H.tree self.old.right) + self.old.turns ≤ highest + highest }
-        ensures advance { IsAdvance result (H.tree self.old.left) (H.tree self.old.right) self.old.parting self.old.turns (H.tree self.new.left) (H.tree self.new.right) self.new.turns }
+        requires room { height_of (H.tree self.old.left) + height_of (H.tree self.old.right) + self.old.turns
+            ≤ highest + highest }
+        ensures advance { IsAdvance result (H.tree self.old.left)
+            (H.tree self.old.right) self.old.parting self.old.turns (H.tree self.new.left)
+            (H.tree self.new.right) self.new.turns }
         ensures parting { self.new.parting ≡ self.old.parting }
     {
         match turn(self.left, self.right, self.parting) {

@@ -115,7 +115,8 @@ bridge_edge u w a b ab h = record {
 }
 
 -- a lower edge of the left half at a point before the bridge
-pub left_lifts : (u w : Tree) (v a b : Pair) (e : Pair × Pair) → IsAllBefore (On u) (On w) → IsLowerBridge (On u) (On w) a b
+pub left_lifts : (u w : Tree) (v a b : Pair) (e : Pair × Pair) → IsAllBefore (On u) (On w)
+    → IsLowerBridge (On u) (On w) a b
     → IsBefore v a → IsLowerEdgeAt (points_of u) v e → IsLowerEdgeAt (points_of u ++ points_of w) v e
 left_lifts u w v a b e o h va k =
     let ca : IsBefore e.0 a = up_to e.0 v a k.starts va in

@@ -40,8 +40,8 @@ IsSeen t q Above = IsBetweenEnds t q × IsAboveEdge (points_of t) q
 IsSeen t q Touching = IsOnBoundary (points_of t) q
 IsSeen t q Within = IsInside (points_of t) q
 
--- from where a point looks that stands between the ends and not below the lower edge there, by its sides of that edge and
--- of the upper one
+-- from where a point looks that stands between the ends and not below the lower edge there, by its sides of that edge
+-- and of the upper one
 abbrev pub IsSightBy : ℤ → ℤ → Sight → Type 0
 IsSightBy lower upper Before = ⊥
 IsSightBy lower upper After = ⊥

@@ -7,8 +7,8 @@ use Rattle.hull_questions.specs.Chains.{IsLowerEdgeAt}
 use Rattle.hull_questions.specs.declared.slabs.Slab.{Slab}
 use Rattle.hull_questions.specs.declared.slabs.Slab.TheVariants.{Before, After, Last, Edge}
 
--- q stands in this slab: before or after all points, at the last one, or before the right end of a lower edge and not before
--- its left end
+-- q stands in this slab: before or after all points, at the last one, or before the right end of a lower edge and not
+-- before its left end
 abbrev pub IsSlab : Tree → Pair → Slab → Type 0
 IsSlab t q Before = IsBefore q (first_of t)
 IsSlab t q After = IsBefore (last_of t) q

@@ -1,8 +1,8 @@
 //! Questions about a convex hull, answered by going down its stored bridges (Overmars and van Leeuwen, 1981).
 //!
 //! Each question is over any [`Half`](bridge_search::Half), and its answer is one that the definitions allow for the
-//! points of that half. [`extreme`], [`place`] and [`tangents`] go down once or a few times, with one or two comparisons
-//! at each fork, and ask for no memory; [`vertices`] and [`area2`] go down once for each corner.
+//! points of that half. [`extreme`], [`place`] and [`tangents`] go down once or a few times, with one or two
+//! comparisons at each fork, and ask for no memory; [`vertices`] and [`area2`] go down once for each corner.
 #![tactic(auto)]
 
 mod corners;

@@ -1,5 +1,5 @@
-//! The slabs of a half: the parts of the plane between the ends of its lower edges (Dobkin and Lipton, 1976), in the order
-//! by x and then y.
+//! The slabs of a half: the parts of the plane between the ends of its lower edges (Dobkin and Lipton, 1976), in the
+//! order by x and then y.
 ghost use Rattle.bridge_search.specs.Trees.{Leaf};
 ghost use Rattle.hull_questions.specs.Slabs.{IsSlab};
 
@@ -32,8 +32,8 @@ fn slab_beside(only: Point, q: Point) -> Slab
     }
 }
 
-/// In which slab of a half `q` stands: one way down the stored lower bridges, which asks for neither end of the half and
-/// stops at the first bridge between whose ends `q` stands.
+/// In which slab of a half `q` stands: one way down the stored lower bridges, which asks for neither end of the half
+/// and stops at the first bridge between whose ends `q` stands.
 pub(crate) fn slab_of<H: Half>(half: H, q: Point) -> Slab
     ensures { IsSlab (H.tree half) q result }
 {

@@ -4,8 +4,10 @@ ghost use Rattle.lattice.specs.Bridges.{IsUpperBridge, IsLowerBridge};
 ghost use Rattle.bridge_search.specs.Near.{are_near};
 ghost use Rattle.bridge_search.specs.Search.{IsDepthSum};
 ghost use Rattle.bridge_search.specs.Trees.{On, IsFork, left_of, right_of, first_of as first_in, last_of as last_in};
-ghost use Rattle.hull_tree.specs.Nodes.{tree_of, keeping, halves_of, left_half, right_half, before_parting, after_parting, times_below, IsWellBuilt, DifferByAtMost};
-ghost use Rattle.hull_tree.specs.Changes.{points_below, height_at, height_within, left_height, right_height, IsParted, IsPartedAt, AreParted, IsAtMostOneMore, IsHeightOver};
+ghost use Rattle.hull_tree.specs.Nodes.{tree_of, keeping, halves_of, left_half, right_half, before_parting};
+ghost use Rattle.hull_tree.specs.Nodes.{after_parting, times_below, IsWellBuilt, DifferByAtMost};
+ghost use Rattle.hull_tree.specs.Changes.{points_below, height_at, height_within, left_height, right_height, IsParted};
+ghost use Rattle.hull_tree.specs.Changes.{IsPartedAt, AreParted, IsAtMostOneMore, IsHeightOver};
 ghost use Rattle.hull_tree.specs.Turns.{IsForkCost, IsDearerByAtMost};
 
 use super::node::{Halves, Node, height_of, near_of};
@@ -73,10 +75,14 @@ struct Found {
 fn both_bridges_of(halves: &Halves) -> (Counted, Counted)
     requires parted { AreParted halves.now }
     requires low { height_within halves.now ≤ 28 }
-    ensures upper { IsUpperBridge (On (tree_of (left_half halves.now))) (On (tree_of (right_half halves.now))) result.0.0.0 result.0.0.1 }
-    ensures lower { IsLowerBridge (On (tree_of (left_half halves.now))) (On (tree_of (right_half halves.now))) result.1.0.0 result.1.0.1 }
-    ensures upper_depths { IsDepthSum (tree_of (left_half halves.now)) (tree_of (right_half halves.now)) result.0.0.0 result.0.0.1 result.0.1 }
-    ensures lower_depths { IsDepthSum (tree_of (left_half halves.now)) (tree_of (right_half halves.now)) result.1.0.0 result.1.0.1 result.1.1 }
+    ensures upper { IsUpperBridge (On (tree_of (left_half halves.now)))
+        (On (tree_of (right_half halves.now))) result.0.0.0 result.0.0.1 }
+    ensures lower { IsLowerBridge (On (tree_of (left_half halves.now)))
+        (On (tree_of (right_half halves.now))) result.1.0.0 result.1.0.1 }
+    ensures upper_depths { IsDepthSum (tree_of (left_half halves.now))
+        (tree_of (right_half halves.now)) result.0.0.0 result.0.0.1 result.0.1 }
+    ensures lower_depths { IsDepthSum (tree_of (left_half halves.now))
+        (tree_of (right_half halves.now)) result.1.0.0 result.1.0.1 result.1.1 }
     ensures upper_few { result.0.1 ≤ height_at (left_half halves.now) + height_at (right_half halves.now) }
     ensures lower_few { result.1.1 ≤ height_at (left_half halves.now) + height_at (right_half halves.now) }
 {
@@ -93,11 +99,15 @@ fn both_bridges_of(halves: &Halves) -> (Counted, Counted)
 fn searched(halves: &Halves) -> Found
     requires parted { AreParted halves.now }
     requires low { height_within halves.now ≤ 28 }
-    ensures upper { IsUpperBridge (On (tree_of (left_half halves.now))) (On (tree_of (right_half halves.now))) result.upper.0 result.upper.1 }
-    ensures lower { IsLowerBridge (On (tree_of (left_half halves.now))) (On (tree_of (right_half halves.now))) result.lower.0 result.lower.1 }
+    ensures upper { IsUpperBridge (On (tree_of (left_half halves.now)))
+        (On (tree_of (right_half halves.now))) result.upper.0 result.upper.1 }
+    ensures lower { IsLowerBridge (On (tree_of (left_half halves.now)))
+        (On (tree_of (right_half halves.now))) result.lower.0 result.lower.1 }
     ensures height { result.height ≡ height_within halves.now + 1 }
-    ensures near { result.near ≡ (are_near (tree_of (left_half halves.now)) && are_near (tree_of (right_half halves.now))) }
-    ensures cost { IsForkCost result.upper result.lower (tree_of (left_half halves.now)) (tree_of (right_half halves.now)) result.turns }
+    ensures near { result.near
+        ≡ (are_near (tree_of (left_half halves.now)) && are_near (tree_of (right_half halves.now))) }
+    ensures cost { IsForkCost result.upper result.lower (tree_of (left_half halves.now))
+        (tree_of (right_half halves.now)) result.turns }
     ensures within { result.turns ≤ 2 * (height_at (left_half halves.now) + height_at (right_half halves.now)) }
 {
     let ((upper, upper_turns), (lower, lower_turns)) = both_bridges_of(halves);

@@ -4,8 +4,10 @@ ghost use Rattle.lattice.specs.Plane.{Pair, IsBefore};
 ghost use Rattle.lattice.specs.Covers.{with_point, without_point};
 ghost use Rattle.hull_plain.specs.Held.{once};
 ghost use Rattle.bridge_search.specs.Trees.{Leaf, IsFork, first_of as first_in, last_of as last_in};
-ghost use Rattle.hull_tree.specs.Nodes.{tree_of, left_half, right_half, before_parting, after_parting, several, times_below, IsMultiplicity, IsWellBuilt};
-ghost use Rattle.hull_tree.specs.Changes.{points_below, height_at, points_within, times_within, height_within, AreParted, IsAtMostOneMore};
+ghost use Rattle.hull_tree.specs.Nodes.{tree_of, left_half, right_half, before_parting, after_parting, several};
+ghost use Rattle.hull_tree.specs.Nodes.{times_below, IsMultiplicity, IsWellBuilt};
+ghost use Rattle.hull_tree.specs.Changes.{points_below, height_at, points_within, times_within, height_within};
+ghost use Rattle.hull_tree.specs.Changes.{AreParted, IsAtMostOneMore};
 ghost use Rattle.hull_tree.specs.Turns.{IsCostAtMost};
 
 use super::build::{joined, rebalance, take_halves};
@@ -39,7 +41,8 @@ pub(crate) fn raise(node: &mut Node, p: Point) -> u32
     ensures same_tree { tree_of node.new ≡ tree_of node.old }
     ensures absent { result ≡ 0 → node.new ≡ node.old }
     ensures full { result ≡ MULTIPLICITY_LIMIT → node.new ≡ node.old }
-    ensures raised { 1 ≤ result → result < MULTIPLICITY_LIMIT → (q : Pair) → times_below node.new q ≡ times_below node.old q + once p q }
+    ensures raised { 1 ≤ result → result < MULTIPLICITY_LIMIT → (q : Pair)
+        → times_below node.new q ≡ times_below node.old q + once p q }
 {
     match &mut node.below {
         None => {
@@ -181,7 +184,8 @@ fn insert_below(halves: &mut Halves, p: Point, spare: Box<Halves>) -> u32
     ensures left { IsAtMostOneMore (height_at (left_half halves.old)) (height_at (left_half halves.new)) }
     ensures right { IsAtMostOneMore (height_at (right_half halves.old)) (height_at (right_half halves.new)) }
     ensures few { result ≤ 336 * height_within halves.old }
-    ensures cost { IsCostAtMost (tree_of (left_half halves.new)) p result ⊎ IsCostAtMost (tree_of (right_half halves.new)) p result }
+    ensures cost { IsCostAtMost (tree_of (left_half halves.new)) p result
+        ⊎ IsCostAtMost (tree_of (right_half halves.new)) p result }
 {
     if before(p, halves.first_right) {
         reach(&mut halves.last_left, p);
@@ -217,8 +221,8 @@ fn other_half(halves: &mut Halves, p: Point) -> Node
     if is_leaf(&left, p) { right } else { left }
 }
 
-/// Takes a point that is held once from below a fork. Both bridges of each fork on the way to the point are searched, but for
-/// the last one: its other half takes its place. Tells how many turns the searches took: at most 336 a level.
+/// Takes a point that is held once from below a fork. Both bridges of each fork on the way to the point are searched,
+/// but for the last one: its other half takes its place. Tells how many turns the searches took: at most 336 a level.
 #[cycle(remove)]
 pub(crate) fn remove(node: &mut Node, p: Point) -> u32
     requires built { IsWellBuilt node.old }
@@ -270,7 +274,8 @@ fn remove_below(halves: &mut Halves, p: Point) -> u32
 
 /// Finds the last point of the left half anew where it was p, which was taken from that half.
 fn draw_back_last(halves: &mut Halves, p: Point)
-    requires { ¬ (before_parting halves.old ≡ p) → before_parting halves.old ≡ last_in (tree_of (left_half halves.old)) }
+    requires { ¬ (before_parting halves.old ≡ p)
+        → before_parting halves.old ≡ last_in (tree_of (left_half halves.old)) }
     ensures last { before_parting halves.new ≡ last_in (tree_of (left_half halves.old)) }
     ensures first { after_parting halves.new ≡ after_parting halves.old }
     ensures left { left_half halves.new ≡ left_half halves.old }
@@ -283,7 +288,8 @@ fn draw_back_last(halves: &mut Halves, p: Point)
 
 /// Finds the first point of the right half anew where it was p, which was taken from that half.
 fn draw_back_first(halves: &mut Halves, p: Point)
-    requires { ¬ (after_parting halves.old ≡ p) → after_parting halves.old ≡ first_in (tree_of (right_half halves.old)) }
+    requires { ¬ (after_parting halves.old ≡ p)
+        → after_parting halves.old ≡ first_in (tree_of (right_half halves.old)) }
     ensures last { before_parting halves.new ≡ before_parting halves.old }
     ensures first { after_parting halves.new ≡ first_in (tree_of (right_half halves.old)) }
     ensures left { left_half halves.new ≡ left_half halves.old }

@@ -1,10 +1,10 @@
 //! A set of lattice points as a balanced leaf tree whose forks keep the bridges of their two halves
 //! (Overmars and van Leeuwen, 1981).
 //!
-//! A [`Node`] is one point with how often it is held, or a fork: two halves with all points of the one before all points
-//! of the other, and the upper and the lower bridge between them. A point that comes or goes renews the bridges of the
-//! forks above its place and of those that a rotation makes, and of no others; a point that is held once more or once
-//! less renews none.
+//! A [`Node`] is one point with how often it is held, or a fork: two halves with all points of the one before all
+//! points of the other, and the upper and the lower bridge between them. A point that comes or goes renews the bridges
+//! of the forks above its place and of those that a rotation makes, and of no others; a point that is held once more or
+//! once less renews none.
 //!
 //! # A worked example, for one thread
 //!
@@ -21,8 +21,8 @@
 //! assert!(tree.multiplicity(Point::new(2, 3)?) == 1 && tree.count() == 4); // the number of points, not of adds
 //! ```
 //!
-//! The questions are those of the trait `HullSet` (crate `hull_plain`), each O(log n) but for `vertices` and `area2`. Many
-//! threads share a tree by the crate `hull_pool`.
+//! The questions are those of the trait `HullSet` (crate `hull_plain`), each O(log n) but for `vertices` and `area2`.
+//! Many threads share a tree by the crate `hull_pool`.
 #![tactic(auto)]
 
 mod build;

@@ -1,10 +1,12 @@
 ghost use Rattle.std.specs.Prelude.{◌≡◌, option_map};
 ghost use Rattle.std.specs.Borrow.{Bor};
 ghost use Rattle.lattice.specs.Plane.{Pair};
-ghost use Rattle.bridge_search.specs.Trees.{Leaf, edge_of, lower_of, first_of as first_in, last_of as last_in, height_of as height_in};
+ghost use Rattle.bridge_search.specs.Trees.{Leaf, edge_of, lower_of, first_of as first_in, last_of as last_in};
+ghost use Rattle.bridge_search.specs.Trees.{height_of as height_in};
 ghost use Rattle.bridge_search.specs.Near.{are_near};
 ghost use Rattle.hull_tree.specs.declared.node.Node.{Node};
-ghost use Rattle.hull_tree.specs.Nodes.{tree_of, halves_of, point_of, multiplicity_of, several, times_below, IsMultiplicity, IsLabelled};
+ghost use Rattle.hull_tree.specs.Nodes.{tree_of, halves_of, point_of, multiplicity_of, several, times_below};
+ghost use Rattle.hull_tree.specs.Nodes.{IsMultiplicity, IsLabelled};
 
 use lattice::{Point, is_near};
 

@@ -148,7 +148,8 @@ fn as_often_as_may_be(rt: HostRuntime) -> Result<(), Fail> {
     Ok(())
 }
 
-/// A leaf that becomes the half of a fork, and a half that takes its fork's place, keep how often their points are held.
+/// A leaf that becomes the half of a fork, and a half that takes its fork's place, keep how often their points are
+/// held.
 #[test]
 fn times_among_changes(rt: HostRuntime) -> Result<(), Fail> {
     let mut tree = tree_of(&rt, rt.alloc(), &[(0, 0)])?;

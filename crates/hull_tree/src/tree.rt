@@ -75,7 +75,8 @@ impl HullTree {
 
     /// The half that the whole tree is; `None` for the empty set.
     pub(crate) fn half<'a>(&'a self) -> Option<NodeRef<'a>>
-        ensures { MatchOption result (self.now.root ≡ None) (λ half. IsWhole self.now (⟦<NodeRef<'a> as Half>⟧.tree half)) }
+        ensures { MatchOption result (self.now.root ≡ None)
+            (λ half. IsWhole self.now (⟦<NodeRef<'a> as Half>⟧.tree half)) }
     {
         match &self.root {
             None => None,
@@ -90,7 +91,8 @@ impl HullTree {
     /// sum, over the forks that stand above it afterwards, of the depths of both bridges' ends in that fork's halves:
     /// each of these bridges was searched for. Every other answer takes none.
     pub fn add_counted(&mut self, p: Point) -> (AddReply, u32)
-        ensures reply { Answers Rules.Counted (held_by self.old.root) self.old.limit (Call.Add p) (reply_to_add result.0) }
+        ensures reply { Answers Rules.Counted (held_by self.old.root) self.old.limit (Call.Add p)
+            (reply_to_add result.0) }
         ensures effect { held_by self.new.root ≡ after (held_by self.old.root) (Call.Add p) (reply_to_add result.0) }
         ensures same_limit { self.new.limit ≡ self.old.limit }
         ensures sound { IsSound self.new.root }
@@ -120,11 +122,14 @@ impl HullTree {
         (AddReply::Added, turns)
     }
 
-    /// Holds `p` once less, as [`remove`](HullSet::remove), and tells how many turns the searches of bridges took: at most
+    /// Holds `p` once less, as [`remove`](HullSet::remove), and tells how many turns the searches of bridges took: at
+    /// most
     /// 10,000, for the reason told at [`add_counted`](HullTree::add_counted), and none unless `p` left the set.
     pub fn remove_counted(&mut self, p: Point) -> (RemoveReply, u32)
-        ensures reply { Answers Rules.Counted (held_by self.old.root) self.old.limit (Call.Remove p) (reply_to_remove result.0) }
-        ensures effect { held_by self.new.root ≡ after (held_by self.old.root) (Call.Remove p) (reply_to_remove result.0) }
+        ensures reply { Answers Rules.Counted (held_by self.old.root) self.old.limit (Call.Remove p)
+            (reply_to_remove result.0) }
+        ensures effect { held_by self.new.root
+            ≡ after (held_by self.old.root) (Call.Remove p) (reply_to_remove result.0) }
         ensures same_limit { self.new.limit ≡ self.old.limit }
         ensures sound { IsSound self.new.root }
         ensures few { result.1 ≤ 10000 }
@@ -151,7 +156,8 @@ impl HullTree {
     /// The first of the farthest points in the direction `d`, as [`extreme`](HullSet::extreme), and how many forks lie
     /// above its leaf; none for the empty set.
     pub fn extreme_counted(&self, d: Direction) -> (Option<Point>, u32)
-        ensures reply { Answers Rules.Counted (held_by self.now.root) self.now.limit (Call.Extreme d) (reply_to_extreme result.0) }
+        ensures reply { Answers Rules.Counted (held_by self.now.root) self.now.limit (Call.Extreme d)
+            (reply_to_extreme result.0) }
         ensures depth { IsLeafDepth self.now.root result.0 result.1 }
     {
         match self.half() {

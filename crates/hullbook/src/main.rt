@@ -1,4 +1,5 @@
-//! `hullbook`: runs a script of calls on a shared convex hull, checks a journal of such a run, and upgrades old journals.
+//! `hullbook`: runs a script of calls on a shared convex hull, checks a journal of such a run, and upgrades old
+//! journals.
 #![tactic(auto)]
 
 ghost use Rattle.std.specs.Prelude.{IfOk};

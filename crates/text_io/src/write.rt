@@ -17,7 +17,8 @@ pub struct WriteFault;
 /// `WriteFault` at the first failure, of whatever kind; a beginning of the piece has gone out then.
 pub fn put<W: Sink>(out: &mut W, piece: &[u8]) -> Result<(), WriteFault>
     requires { W.failed out.old < 2 ^ 64 - 1 }
-    ensures { WritesText (W.contents out.old) (W.contents out.new) (W.failed out.old) (W.failed out.new) result piece.now }
+    ensures { WritesText (W.contents out.old) (W.contents out.new) (W.failed out.old)
+        (W.failed out.new) result piece.now }
 {
     let mut rest = piece;
     while !rest.is_empty() {
@@ -40,7 +41,8 @@ pub fn put_after<W: Sink>(
     piece: &[u8],
 ) -> Result<(), WriteFault>
     requires { OnOk done (W.failed out.old < 2 ^ 64 - 1) }
-    ensures wrote { WritesOn done result (W.contents out.old) (W.contents out.new) (W.failed out.old) (W.failed out.new) piece.now }
+    ensures wrote { WritesOn done result (W.contents out.old) (W.contents out.new) (W.failed out.old)
+        (W.failed out.new) piece.now }
     ensures kept { OnOk result (W.failed out.new ≡ W.failed out.old) }
     ensures was { OnOk result (IsOk done) }
     ensures alone { OnErr done (out.new ≡ out.old) }
@@ -57,7 +59,8 @@ pub fn number_after<W: Sink, N: Integer>(
     number: N,
 ) -> Result<(), WriteFault>
     requires { OnOk done (W.failed out.old < 2 ^ 64 - 1) }
-    ensures wrote { WritesOn done result (W.contents out.old) (W.contents out.new) (W.failed out.old) (W.failed out.new) (N.text number) }
+    ensures wrote { WritesOn done result (W.contents out.old) (W.contents out.new) (W.failed out.old) (W.failed out.new)
+        (N.text number) }
     ensures kept { OnOk result (W.failed out.new ≡ W.failed out.old) }
     ensures was { OnOk result (IsOk done) }
     ensures alone { OnErr done (out.new ≡ out.old) }
@@ -73,7 +76,8 @@ pub fn number_after<W: Sink, N: Integer>(
 /// The fault of before, or `WriteFault` where the flush fails.
 pub fn flush_after<W: Sink>(done: Result<(), WriteFault>, out: &mut W) -> Result<(), WriteFault>
     requires { OnOk done (W.failed out.old < 2 ^ 64 - 1) }
-    ensures wrote { WritesOn done result (W.contents out.old) (W.contents out.new) (W.failed out.old) (W.failed out.new) [] }
+    ensures wrote { WritesOn done result (W.contents out.old) (W.contents out.new) (W.failed out.old)
+        (W.failed out.new) [] }
     ensures kept { OnOk result (W.failed out.new ≡ W.failed out.old) }
     ensures was { OnOk result (IsOk done) }
     ensures alone { OnErr done (out.new ≡ out.old) }

@@ -36,7 +36,8 @@ fn facing<H: Half>(half: H, d: Direction) -> Option<(Point, Point)>
 
 /// The half of `half` that has the first of its farthest points, or nothing where it is one point.
 fn farther_part<H: Half>(half: H, d: Direction) -> Option<H>
-    ensures part { MatchOption result (edge_of (H.tree half) ≡ None) (λ part. IsFartherPart d (H.tree half) (H.tree part)) }
+    ensures part { MatchOption result (edge_of (H.tree half) ≡ None)
+        (λ part. IsFartherPart d (H.tree half) (H.tree part)) }
     ensures down { IfSome result (λ part. IsOneDown (H.tree half) (H.tree part)) }
 {
     let (p, q) = facing(half, d)?;

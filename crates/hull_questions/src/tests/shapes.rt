@@ -97,7 +97,8 @@ pub struct Joined<A: Half> {
     right: Option<A>,
     upper: (Point, Point),
     lower: (Point, Point),
-    ghost bridged: { IsBridged (joined_tree (A.tree left) (option_map A.tree right) upper lower) } by { IsBridged-prop (joined_tree (A.tree left) (option_map A.tree right) upper lower) },
+    ghost bridged: { IsBridged (joined_tree (A.tree left) (option_map A.tree right) upper lower) } by { IsBridged-prop
+        (joined_tree (A.tree left) (option_map A.tree right) upper lower) },
     ghost low: { height_of (joined_tree (A.tree left) (option_map A.tree right) upper lower) ≤ highest },
 }
 
@@ -123,7 +124,8 @@ fn alone<A: Half>(left: A) -> Joined<A>
 /// Two halves with the bridges between them, or nothing where the left one does not end before the right one begins, or
 /// one is as high as a half may be.
 fn join<A: Half>(left: A, right: A) -> Option<Joined<A>>
-    ensures { IfSome result (λ h. size_of (⟦<Joined<A> as Half>⟧.tree h) ≡ size_of (A.tree left) + size_of (A.tree right)) }
+    ensures { IfSome result
+        (λ h. size_of (⟦<Joined<A> as Half>⟧.tree h) ≡ size_of (A.tree left) + size_of (A.tree right)) }
 {
     if !before(left.last(), right.first()) || left.height().max(right.height()) >= 2147483647 {
         return None;

@@ -138,8 +138,8 @@ fn same_answers(rt: HostRuntime) -> Result<(), Fail> {
     Ok(())
 }
 
-/// Makes so many changes at points of a grid of 201 by 201 that lie so far apart, half of them at the point of the change
-/// before.
+/// Makes so many changes at points of a grid of 201 by 201 that lie so far apart, half of them at the point of the
+/// change before.
 fn change_on_grid(rt: &impl Abort, alloc: Global, apart: i64, steps: u32) -> Result<(), Fail> {
     let mut tree = HullTree::new(alloc, POINT_LIMIT);
     let mut plain = PlainSet::new(alloc, POINT_LIMIT);

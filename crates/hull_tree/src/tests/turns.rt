@@ -26,8 +26,8 @@ fn tree_of(rt: &impl Abort, alloc: Global, order: &[usize]) -> Result<HullTree, 
     Ok(tree)
 }
 
-/// The turns of taking each of these points from the tree of all of them, where it is held once: to hold it twice before
-/// takes none.
+/// The turns of taking each of these points from the tree of all of them, where it is held once: to hold it twice
+/// before takes none.
 fn assert_removals(
     rt: &impl Abort,
     alloc: Global,
@@ -201,8 +201,8 @@ fn both_found<H: Half>(u: H, w: H) -> Option<(Counted, Counted)> {
     }
 }
 
-/// A tree of the points (k, -k * k), for 512 numbers k in a row, each fork over two halves of one size: the numbers come in
-/// the order of their bits read backwards.
+/// A tree of the points (k, -k * k), for 512 numbers k in a row, each fork over two halves of one size: the numbers
+/// come in the order of their bits read backwards.
 fn evenly_halved(rt: &impl Abort, alloc: Global, from: u32) -> Result<HullTree, Fail> {
     let mut tree = HullTree::new(alloc, POINT_LIMIT);
     for i in 0u32..512 {

@@ -94,7 +94,8 @@ fn options_of(matches: &ArgMatches<'_>) -> Option<Options>
     })
 }
 
-/// The path that was given under this id, as it was written: it is found among the words, so that the contract can say so.
+/// The path that was given under this id, as it was written: it is found among the words, so that the contract can say
+/// so.
 fn path_of(
     alloc: Global,
     matches: &ArgMatches<'_>,
@@ -114,7 +115,8 @@ fn path_of(
     Err(OptionFault::Usage)
 }
 
-/// What the words after the program's name ask for: `run SCRIPT` with its options, `check JOURNAL`, or `upgrade JOURNAL`.
+/// What the words after the program's name ask for: `run SCRIPT` with its options, `check JOURNAL`, or `upgrade
+/// JOURNAL`.
 ///
 /// The path is one of the words, as it was written. `Usage` for any other words and for a number outside its limits; a
 /// question for help counts as one. `Memory` where memory was refused.

@@ -1,4 +1,5 @@
-ghost use Rattle.std.specs.Prelude.{◌≡◌, ◌≢◌, ◌+◌, ◌-◌, ◌%◌, ◌^◌, [], length, max, min, Some, true, false, IsTrue, IsOk, IsOkAnd, IfErr, IfOk, MatchResult};
+ghost use Rattle.std.specs.Prelude.{◌≡◌, ◌≢◌, ◌+◌, ◌-◌, ◌%◌, ◌^◌, [], length, max, min, Some, true, false, IsTrue};
+ghost use Rattle.std.specs.Prelude.{IsOk, IsOkAnd, IfErr, IfOk, MatchResult};
 ghost use Rattle.std.specs.Io.{WritesAtMost};
 ghost use Rattle.std.specs.IoError.{error_kind};
 ghost use Rattle.std.specs.Io.KnownBytes.{WriteAppends};
@@ -26,7 +27,15 @@ impl Model for Spout {
 
     ghost Value = { Filled };
 
-    ghost view = { λ s. record { bytes = s.bytes.items; room = s.room; size = s.size; calls = s.calls; failing = s.failing; refusing = s.refusing } };
+    ghost view = { λ s. record {
+      bytes = s.bytes.items;
+      room = s.room;
+      size = s.size;
+      calls = s.calls;
+      failing =
+          s.failing;
+      refusing = s.refusing;
+    } };
 
     ghost invariant = { λ s. (vec_len s.bytes ≤ s.room) × (s.room ≤ vec_capacity s.bytes) };
 }
@@ -39,7 +48,8 @@ impl Spout {
     ///
     /// `AllocError` where memory was refused.
     pub fn new(alloc: Global, room: usize, size: usize) -> Result<Spout, AllocError>
-        ensures { IfOk result (λ s. s ≡ record { bytes = []; room = room; size = size; calls = 0; failing = 0; refusing = false }) }
+        ensures { IfOk result
+            (λ s. s ≡ record { bytes = []; room = room; size = size; calls = 0; failing = 0; refusing = false }) }
     {
         Ok(Spout {
             bytes: Vec::with_capacity(alloc, room)?,
@@ -101,9 +111,12 @@ impl Write for Spout {
         ensures bound { WritesAtMost result buf.now }
         ensures bytes { WriteAppends (Some self.old.bytes) (Some self.new.bytes) result buf.now }
         ensures calls { self.new.calls ≡ (self.old.calls + 1) % (2 ^ 64) }
-        ensures chosen { self.new.calls ≡ self.old.failing → MatchResult result (λ n. IsTrue self.old.refusing × (n ≡ 0)) (λ _. self.old.refusing ≡ false) }
+        ensures chosen { self.new.calls ≡ self.old.failing
+            → MatchResult result (λ n. IsTrue self.old.refusing × (n ≡ 0)) (λ _. self.old.refusing ≡ false) }
         ensures kind { IfErr result (λ e. error_kind e ≡ ErrorKind.Other) }
-        ensures other { self.new.calls ≢ self.old.failing → IsOkAnd result (λ n. n ≡ min (min (max self.old.size 1) (length buf.now)) (self.old.room - length self.old.bytes)) }
+        ensures other { self.new.calls ≢ self.old.failing
+            → IsOkAnd result (λ n. n
+            ≡ min (min (max self.old.size 1) (length buf.now)) (self.old.room - length self.old.bytes)) }
         ensures kept { self.new ≡ record self.old { bytes = self.new.bytes; calls = self.new.calls } }
     {
         self.calls = self.calls.wrapping_add(1);

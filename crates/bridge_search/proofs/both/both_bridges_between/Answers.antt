@@ -19,7 +19,8 @@ new-lower-requires-clause-parting g c =
 pub loop-preserved : goal.loop-preserved
 loop-preserved g c = (
   turns.under_way_on _ _ _ _ _ _ _ _ _ _ _ c.loop.invariant.0 c.advance.ensures.advance c.advance.ensures.parting,
-  turns.under_way_on _ _ _ _ _ _ _ _ _ _ _ c.loop.invariant.1 c.advance-in-loop.ensures.advance c.advance-in-loop.ensures.parting,
+  turns.under_way_on _ _ _ _ _ _ _ _ _ _ _ c.loop.invariant.1 c.advance-in-loop.ensures.advance
+      c.advance-in-loop.ensures.parting,
 )
 
 pub returns-clause-upper : goal.returns-clause-upper

@@ -85,20 +85,24 @@ pub returns-then-weighted_at_or_before : goal.returns-then-weighted_at_or_before
 returns-then-weighted_at_or_before g c =
     rw c.right-then-weighted_at_or_before.ensures
     (turns.turn_right_left (g.H.Half.tree c.args.u)
-    (g.H.Half.tree c.args.w) c.args.m c.args.a c.args.b c.args.c c.args.d c.requires.ready c.requires.left_edge c.requires.right_edge
+    (g.H.Half.tree c.args.w) c.args.m c.args.a c.args.b c.args.c c.args.d c.requires.ready c.requires.left_edge
+    c.requires.right_edge
     (is_under c.orient-side.result
     (orient c.args.a c.args.b c.args.c) c.orient-side.ensures.size c.orient-side.ensures.value c.if-side-ge0.false)
     (is_under c.orient.result
     (orient c.args.b c.args.c c.args.d) c.orient.ensures.size c.orient.ensures.value c.if-orient-ge0.false)
     (passed c.weighted_at_or_before.result
     (IsCrossingAtOrBefore c.args.a c.args.b c.args.c c.args.d c.args.m) c.if-weighted_at_or_before.true
-    (crossing_told c.weighted_at_or_before.result c.orient-side.result c.orient-else-orient-ge0.result c.args.a c.args.b c.args.c c.args.d c.args.m c.orient-side.ensures.size c.orient-else-orient-ge0.ensures.size c.orient-side.ensures.value c.orient-else-orient-ge0.ensures.value c.weighted_at_or_before.ensures)))
+    (crossing_told c.weighted_at_or_before.result c.orient-side.result c.orient-else-orient-ge0.result c.args.a c.args.b
+    c.args.c c.args.d c.args.m c.orient-side.ensures.size c.orient-else-orient-ge0.ensures.size
+    c.orient-side.ensures.value c.orient-else-orient-ge0.ensures.value c.weighted_at_or_before.ensures)))
 
 pub returns-else-weighted_at_or_before : goal.returns-else-weighted_at_or_before
 returns-else-weighted_at_or_before g c =
     rw c.left-else-weighted_at_or_before.ensures
     (turns.turn_left_right (g.H.Half.tree c.args.u)
-    (g.H.Half.tree c.args.w) c.args.m c.args.a c.args.b c.args.c c.args.d c.requires.ready c.requires.left_edge c.requires.right_edge
+    (g.H.Half.tree c.args.w) c.args.m c.args.a c.args.b c.args.c c.args.d c.requires.ready c.requires.left_edge
+    c.requires.right_edge
     (is_under c.orient-side.result
     (orient c.args.a c.args.b c.args.c) c.orient-side.ensures.size c.orient-side.ensures.value c.if-side-ge0.false)
     (is_under c.orient.result
@@ -106,4 +110,6 @@ returns-else-weighted_at_or_before g c =
     (turns.crossing_after c.args.a c.args.b c.args.c c.args.d c.args.m
     (failed c.weighted_at_or_before.result
     (IsCrossingAtOrBefore c.args.a c.args.b c.args.c c.args.d c.args.m) c.if-weighted_at_or_before.false
-    (crossing_told c.weighted_at_or_before.result c.orient-side.result c.orient-else-orient-ge0.result c.args.a c.args.b c.args.c c.args.d c.args.m c.orient-side.ensures.size c.orient-else-orient-ge0.ensures.size c.orient-side.ensures.value c.orient-else-orient-ge0.ensures.value c.weighted_at_or_before.ensures))))
+    (crossing_told c.weighted_at_or_before.result c.orient-side.result c.orient-else-orient-ge0.result c.args.a c.args.b
+    c.args.c c.args.d c.args.m c.orient-side.ensures.size c.orient-else-orient-ge0.ensures.size
+    c.orient-side.ensures.value c.orient-else-orient-ge0.ensures.value c.weighted_at_or_before.ensures))))

@@ -36,6 +36,7 @@ pub returns-else-orient-ge0 : goal.returns-else-orient-ge0
 returns-else-orient-ge0 g c =
     rw c.left.ensures
     (turns.turn_left_right_one (g.H.Half.tree c.args.u)
-    (g.H.Half.tree c.args.w) c.args.m c.first.result c.args.c c.args.d c.requires.ready c.requires.edge c.requires.one c.first.ensures
+    (g.H.Half.tree c.args.w) c.args.m c.first.result c.args.c c.args.d c.requires.ready c.requires.edge c.requires.one
+    c.first.ensures
     (is_under c.orient.result
     (orient c.first.result c.args.c c.args.d) c.orient.ensures.size c.orient.ensures.value c.if-orient-ge0.false))

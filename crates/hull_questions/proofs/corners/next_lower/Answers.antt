@@ -18,4 +18,5 @@ pub returns : goal.returns
 returns g c =
     let t : Tree = g.H.Half.tree c.args.half in
     subst (λ (z : Pair). IsLowerEdge (points_of t) z c.lower_after.result.1)
-    (from_corner (points_of t) c.args.v c.lower_after.result c.requires.corner c.lower_after.ensures) c.lower_after.ensures.edge
+    (from_corner (points_of t) c.args.v c.lower_after.result c.requires.corner c.lower_after.ensures)
+    c.lower_after.ensures.edge

@@ -19,4 +19,5 @@ pub returns : goal.returns
 returns g c =
     let t : Tree = g.H.Half.tree c.args.half in
     subst (λ (z : Pair). IsUpperEdge (points_of t) z c.upper_before.result.1)
-    (from_upper_corner (points_of t) c.args.v c.upper_before.result c.requires.corner c.upper_before.ensures) c.upper_before.ensures.edge
+    (from_upper_corner (points_of t) c.args.v c.upper_before.result c.requires.corner c.upper_before.ensures)
+    c.upper_before.ensures.edge

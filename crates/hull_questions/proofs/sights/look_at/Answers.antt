@@ -22,7 +22,8 @@ returns-then-lower-lt0 g c =
     let t : Tree = g.H.Half.tree c.args.half in
     let low : to_z w128 (of_z w128 c.orient-lower.result) ≡ orient c.args.edge.0 c.args.edge.1 c.args.q =
     cast_side _ c.orient-lower.ensures.size ∙ c.orient-lower.ensures.value in
-    let under : orient c.args.edge.0 c.args.edge.1 c.args.q <ℤ pos 0 = omega (arith, ints, low, c.if-lower-lt0.true) in (
+    let under : orient c.args.edge.0 c.args.edge.1 c.args.q <ℤ pos 0 =
+    omega (arith, ints, low, c.if-lower-lt0.true) in (
       between_ends t c.args.q c.args.edge (g.met.H.Half.bridged c.args.half) c.requires
           (passed c.before-2.result _ c.if-not-before.false c.before-2.ensures),
       (c.args.edge.0, c.args.edge.1, c.requires.edge, under),

@@ -15,6 +15,7 @@ both_bridges_between-requires-clause-in_order c =
     rw (c.new.ensures, c.new-then-near_of-2.ensures, c.new-u.ensures, c.new-w.ensures)
     (all_before_of_set _ _ c.requires.parted.row.in_order)
 
-pub both_bridges_between-requires-else-near_of-clause-in_order : goal.both_bridges_between-requires-else-near_of-clause-in_order
+pub both_bridges_between-requires-else-near_of-clause-in_order
+    : goal.both_bridges_between-requires-else-near_of-clause-in_order
 both_bridges_between-requires-else-near_of-clause-in_order c =
     rw (c.new-u.ensures, c.new-w.ensures) (all_before_of_set _ _ c.requires.parted.row.in_order)

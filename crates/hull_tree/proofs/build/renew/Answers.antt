@@ -7,7 +7,8 @@ pub returns-clause-built : goal.returns-clause-built
 returns-clause-built c =
     let b : below_of c.args.node.now ≡ Some c.deref.result.now = rw (c.in-Some.is, c.deref.ensures) refl in
     rw c.keep.ensures
-    (renewed_well _ _ _ _ _ _ c.requires.parted b c.requires.balanced c.searched-found.ensures.upper c.searched-found.ensures.lower c.searched-found.ensures.height c.searched-found.ensures.near)
+    (renewed_well _ _ _ _ _ _ c.requires.parted b c.requires.balanced c.searched-found.ensures.upper
+    c.searched-found.ensures.lower c.searched-found.ensures.height c.searched-found.ensures.near)
 
 pub returns-clause-cost_left : goal.returns-clause-cost_left
 returns-clause-cost_left c =

@@ -5,14 +5,17 @@ use Rattle.hull_tree.proofs.build.rotated_left.Goals as goal
 
 pub joined-first-requires-clause-parted : goal.joined-first-requires-clause-parted
 joined-first-requires-clause-parted c = record {
-  row = row_with_left _ _ _ _ c.taken_apart-inner.ensures.parted.row c.taken_apart-inner.ensures.points c.requires.parted.row;
+  row = row_with_left _ _ _ _ c.taken_apart-inner.ensures.parted.row c.taken_apart-inner.ensures.points
+      c.requires.parted.row;
   ends_left = c.requires.parted.ends_left;
   starts_right = c.requires.parted.starts_right ∙ c.taken_apart-inner.ensures.first;
 }
 
 pub joined-whole-requires-clause-parted : goal.joined-whole-requires-clause-parted
 joined-whole-requires-clause-parted c = record {
-  row = regrouped _ _ _ _ c.requires.parted.row c.joined-first.ensures.built c.taken_apart-inner.ensures.parted.row.right_built (rw (c.taken_apart-inner.ensures.points, c.joined-first.ensures.points) (simp append_assoc));
+  row = regrouped _ _ _ _ c.requires.parted.row c.joined-first.ensures.built
+      c.taken_apart-inner.ensures.parted.row.right_built
+      (rw (c.taken_apart-inner.ensures.points, c.joined-first.ensures.points) (simp append_assoc));
   ends_left = c.taken_apart-inner.ensures.parted.ends_left ∙ sym c.joined-first.ensures.last;
   starts_right = c.taken_apart-inner.ensures.parted.starts_right;
 }
@@ -20,7 +23,8 @@ joined-whole-requires-clause-parted c = record {
 pub joined-first-requires-2-clause-parted : goal.joined-first-requires-2-clause-parted
 joined-first-requires-2-clause-parted c = record {
   row = row_with_left _ _ _ _ c.taken_apart-middle_left.ensures.parted.row c.taken_apart-middle_left.ensures.points
-      (row_with_left _ _ _ _ c.taken_apart-inner.ensures.parted.row c.taken_apart-inner.ensures.points c.requires.parted.row);
+      (row_with_left _ _ _ _ c.taken_apart-inner.ensures.parted.row c.taken_apart-inner.ensures.points
+      c.requires.parted.row);
   ends_left = c.requires.parted.ends_left;
   starts_right = c.requires.parted.starts_right ∙ c.taken_apart-inner.ensures.first
       ∙ c.taken_apart-middle_left.ensures.first;
@@ -28,7 +32,8 @@ joined-first-requires-2-clause-parted c = record {
 
 pub joined-second-requires-clause-parted : goal.joined-second-requires-clause-parted
 joined-second-requires-clause-parted c = record {
-  row = row_with_right _ _ _ _ c.taken_apart-middle_left.ensures.parted.row c.taken_apart-middle_left.ensures.points c.taken_apart-inner.ensures.parted.row;
+  row = row_with_right _ _ _ _ c.taken_apart-middle_left.ensures.parted.row c.taken_apart-middle_left.ensures.points
+      c.taken_apart-inner.ensures.parted.row;
   ends_left = c.taken_apart-inner.ensures.parted.ends_left ∙ c.taken_apart-middle_left.ensures.last;
   starts_right = c.taken_apart-inner.ensures.parted.starts_right;
 }

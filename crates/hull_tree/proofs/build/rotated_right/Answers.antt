@@ -5,14 +5,17 @@ use Rattle.hull_tree.proofs.build.rotated_right.Goals as goal
 
 pub joined-second-requires-clause-parted : goal.joined-second-requires-clause-parted
 joined-second-requires-clause-parted c = record {
-  row = row_with_right _ _ _ _ c.taken_apart-outer.ensures.parted.row c.taken_apart-outer.ensures.points c.requires.parted.row;
+  row = row_with_right _ _ _ _ c.taken_apart-outer.ensures.parted.row c.taken_apart-outer.ensures.points
+      c.requires.parted.row;
   ends_left = c.requires.parted.ends_left ∙ c.taken_apart-outer.ensures.last;
   starts_right = c.requires.parted.starts_right;
 }
 
 pub joined-whole-requires-clause-parted : goal.joined-whole-requires-clause-parted
 joined-whole-requires-clause-parted c = record {
-  row = regrouped _ _ _ _ c.requires.parted.row c.taken_apart-outer.ensures.parted.row.left_built c.joined-second.ensures.built (rw (c.taken_apart-outer.ensures.points, c.joined-second.ensures.points) (simp append_assoc));
+  row = regrouped _ _ _ _ c.requires.parted.row c.taken_apart-outer.ensures.parted.row.left_built
+      c.joined-second.ensures.built
+      (rw (c.taken_apart-outer.ensures.points, c.joined-second.ensures.points) (simp append_assoc));
   ends_left = c.taken_apart-outer.ensures.parted.ends_left;
   starts_right = c.taken_apart-outer.ensures.parted.starts_right ∙ sym c.joined-second.ensures.first;
 }
@@ -25,7 +28,8 @@ returns-then-height_of-clause-cost_left c =
 
 pub joined-first-requires-clause-parted : goal.joined-first-requires-clause-parted
 joined-first-requires-clause-parted c = record {
-  row = row_with_left _ _ _ _ c.taken_apart-middle_left.ensures.parted.row c.taken_apart-middle_left.ensures.points c.taken_apart-outer.ensures.parted.row;
+  row = row_with_left _ _ _ _ c.taken_apart-middle_left.ensures.parted.row c.taken_apart-middle_left.ensures.points
+      c.taken_apart-outer.ensures.parted.row;
   ends_left = c.taken_apart-outer.ensures.parted.ends_left;
   starts_right = c.taken_apart-outer.ensures.parted.starts_right ∙ c.taken_apart-middle_left.ensures.first;
 }
@@ -33,7 +37,8 @@ joined-first-requires-clause-parted c = record {
 pub joined-second-requires-2-clause-parted : goal.joined-second-requires-2-clause-parted
 joined-second-requires-2-clause-parted c = record {
   row = row_with_right _ _ _ _ c.taken_apart-middle_left.ensures.parted.row c.taken_apart-middle_left.ensures.points
-      (row_with_right _ _ _ _ c.taken_apart-outer.ensures.parted.row c.taken_apart-outer.ensures.points c.requires.parted.row);
+      (row_with_right _ _ _ _ c.taken_apart-outer.ensures.parted.row c.taken_apart-outer.ensures.points
+      c.requires.parted.row);
   ends_left = c.requires.parted.ends_left ∙ c.taken_apart-outer.ensures.last ∙ c.taken_apart-middle_left.ensures.last;
   starts_right = c.requires.parted.starts_right;
 }

@@ -30,7 +30,8 @@ insert-insert_below-below-requires t c =
 pub insert-returns-in-Some-clause-cost : goal.insert-returns-in-Some-clause-cost
 insert-returns-in-Some-clause-cost t c =
     cost_through _ c.insert_below-below.new.halves _ _ _ _ _
-    (rolled_below _ _ _ _ _ _) c.insert_below-below.ensures.parted c.insert_below-below.ensures.cost c.rebalance.ensures.cost_left c.rebalance.ensures.cost_right (omega arith)
+    (rolled_below _ _ _ _ _ _) c.insert_below-below.ensures.parted c.insert_below-below.ensures.cost
+    c.rebalance.ensures.cost_left c.rebalance.ensures.cost_right (omega arith)
 
 pub insert_below-insert-requires-else-before : goal.insert_below-insert-requires-else-before
 insert_below-insert-requires-else-before t c = (
@@ -45,7 +46,8 @@ pub insert_below-returns-then-before-clause-parted : goal.insert_below-returns-t
 unfolding halves.roll-Halves halves.out-Halves denote.Hole.Carrier.out denote.Hole.Carrier.roll
 insert_below-returns-then-before-clause-parted t c =
     parted_add_left _ _ _ _ _ _ _ c.requires.parted
-    (passed _ _ c.if-before.true c.before-2.ensures) c.insert.ensures.built c.insert.ensures.points c.reach.ensures.moved c.reach.ensures.kept
+    (passed _ _ c.if-before.true c.before-2.ensures) c.insert.ensures.built c.insert.ensures.points
+    c.reach.ensures.moved c.reach.ensures.kept
 
 pub insert_below-returns-then-before-clause-points : goal.insert_below-returns-then-before-clause-points
 unfolding halves.roll-Halves halves.out-Halves denote.Hole.Carrier.out denote.Hole.Carrier.roll
@@ -62,7 +64,8 @@ pub insert_below-returns-else-before-clause-parted : goal.insert_below-returns-e
 unfolding halves.roll-Halves halves.out-Halves denote.Hole.Carrier.out denote.Hole.Carrier.roll
 insert_below-returns-else-before-clause-parted t c =
     parted_add_right _ _ _ _ _ _ c.requires.parted
-    (failed _ _ c.if-before.false c.before-2.ensures) c.insert-else-before.ensures.built c.insert-else-before.ensures.points
+    (failed _ _ c.if-before.false c.before-2.ensures) c.insert-else-before.ensures.built
+    c.insert-else-before.ensures.points
 
 pub insert_below-returns-else-before-clause-points : goal.insert_below-returns-else-before-clause-points
 unfolding halves.roll-Halves halves.out-Halves denote.Hole.Carrier.out denote.Hole.Carrier.roll

@@ -14,19 +14,22 @@ pub remove-returns-then-is_half-clause-built : goal.remove-returns-then-is_half-
 remove-returns-then-is_half-clause-built t c =
     (rest_below _ _ _ _ _ c.requires.built (rw (c.in-Some.is, c.deref_mut.ensures.value) refl)
     (c.deref.ensures ∙ sym c.deref_mut.ensures.value)
-    (passed _ _ c.if-is_half.true c.is_half.ensures) c.other_half.ensures.right c.other_half.ensures.left c.requires.once).built
+    (passed _ _ c.if-is_half.true c.is_half.ensures) c.other_half.ensures.right c.other_half.ensures.left
+    c.requires.once).built
 
 pub remove-returns-then-is_half-clause-points : goal.remove-returns-then-is_half-clause-points
 remove-returns-then-is_half-clause-points t c =
     (rest_below _ _ _ _ _ c.requires.built (rw (c.in-Some.is, c.deref_mut.ensures.value) refl)
     (c.deref.ensures ∙ sym c.deref_mut.ensures.value)
-    (passed _ _ c.if-is_half.true c.is_half.ensures) c.other_half.ensures.right c.other_half.ensures.left c.requires.once).points
+    (passed _ _ c.if-is_half.true c.is_half.ensures) c.other_half.ensures.right c.other_half.ensures.left
+    c.requires.once).points
 
 pub remove-returns-then-is_half-clause-times : goal.remove-returns-then-is_half-clause-times
 remove-returns-then-is_half-clause-times t c =
     (rest_below _ _ _ _ _ c.requires.built (rw (c.in-Some.is, c.deref_mut.ensures.value) refl)
     (c.deref.ensures ∙ sym c.deref_mut.ensures.value)
-    (passed _ _ c.if-is_half.true c.is_half.ensures) c.other_half.ensures.right c.other_half.ensures.left c.requires.once).times
+    (passed _ _ c.if-is_half.true c.is_half.ensures) c.other_half.ensures.right c.other_half.ensures.left
+    c.requires.once).times
 
 pub remove-remove_below-below-requires : goal.remove-remove_below-below-requires
 remove-remove_below-below-requires t c =
@@ -71,34 +74,42 @@ pub remove_below-draw_back_last-requires : goal.remove_below-draw_back_last-requ
 unfolding halves.roll-Halves halves.out-Halves denote.Hole.Carrier.out denote.Hole.Carrier.roll
 remove_below-draw_back_last-requires t c n =
     c.requires.parted.ends_left
-    ∙ last_left _ _ _ c.requires.parted.row.left_built.bridged c.remove-turns.ensures.built.bridged c.remove-turns.ensures.points (λ e. n (c.requires.parted.ends_left ∙ e))
+    ∙ last_left _ _ _ c.requires.parted.row.left_built.bridged c.remove-turns.ensures.built.bridged
+    c.remove-turns.ensures.points (λ e. n (c.requires.parted.ends_left ∙ e))
 
 pub remove_below-draw_back_first-requires : goal.remove_below-draw_back_first-requires
 unfolding halves.roll-Halves halves.out-Halves denote.Hole.Carrier.out denote.Hole.Carrier.roll
 remove_below-draw_back_first-requires t c n =
     c.requires.parted.starts_right
-    ∙ first_left _ _ _ c.requires.parted.row.right_built.bridged c.remove-turns-else-before.ensures.built.bridged c.remove-turns-else-before.ensures.points (λ e. n (c.requires.parted.starts_right ∙ e))
+    ∙ first_left _ _ _ c.requires.parted.row.right_built.bridged c.remove-turns-else-before.ensures.built.bridged
+    c.remove-turns-else-before.ensures.points (λ e. n (c.requires.parted.starts_right ∙ e))
 
 pub remove_below-returns-then-before-clause-parted : goal.remove_below-returns-then-before-clause-parted
 unfolding halves.roll-Halves halves.out-Halves denote.Hole.Carrier.out denote.Hole.Carrier.roll
 remove_below-returns-then-before-clause-parted t c =
     parted_drop_left _ _ c.remove-turns.new.node _ _ _ _ _ _ _ c.requires.parted
-    (passed _ _ c.if-before.true c.before-2.ensures) c.remove-turns.ensures.built c.remove-turns.ensures.points c.draw_back_last.ensures.left c.draw_back_last.ensures.right c.draw_back_last.ensures.last c.draw_back_last.ensures.first
+    (passed _ _ c.if-before.true c.before-2.ensures) c.remove-turns.ensures.built c.remove-turns.ensures.points
+    c.draw_back_last.ensures.left c.draw_back_last.ensures.right c.draw_back_last.ensures.last
+    c.draw_back_last.ensures.first
 
 pub remove_below-returns-then-before-clause-points : goal.remove_below-returns-then-before-clause-points
 unfolding halves.roll-Halves halves.out-Halves denote.Hole.Carrier.out denote.Hole.Carrier.roll
 remove_below-returns-then-before-clause-points t c =
     points_drop_left _ _ c.remove-turns.new.node _ _ _ _ _ c.requires.parted
-    (passed _ _ c.if-before.true c.before-2.ensures) c.remove-turns.ensures.points c.draw_back_last.ensures.left c.draw_back_last.ensures.right
+    (passed _ _ c.if-before.true c.before-2.ensures) c.remove-turns.ensures.points c.draw_back_last.ensures.left
+    c.draw_back_last.ensures.right
 
 pub remove_below-returns-else-before-clause-parted : goal.remove_below-returns-else-before-clause-parted
 unfolding halves.roll-Halves halves.out-Halves denote.Hole.Carrier.out denote.Hole.Carrier.roll
 remove_below-returns-else-before-clause-parted t c =
     parted_drop_right _ _ c.remove-turns-else-before.new.node _ _ _ _ _ _ _ c.requires.parted
-    (failed _ _ c.if-before.false c.before-2.ensures) c.remove-turns-else-before.ensures.built c.remove-turns-else-before.ensures.points c.draw_back_first.ensures.left c.draw_back_first.ensures.right c.draw_back_first.ensures.last c.draw_back_first.ensures.first
+    (failed _ _ c.if-before.false c.before-2.ensures) c.remove-turns-else-before.ensures.built
+    c.remove-turns-else-before.ensures.points c.draw_back_first.ensures.left c.draw_back_first.ensures.right
+    c.draw_back_first.ensures.last c.draw_back_first.ensures.first
 
 pub remove_below-returns-else-before-clause-points : goal.remove_below-returns-else-before-clause-points
 unfolding halves.roll-Halves halves.out-Halves denote.Hole.Carrier.out denote.Hole.Carrier.roll
 remove_below-returns-else-before-clause-points t c =
     points_drop_right _ _ c.remove-turns-else-before.new.node _ _ _ _ _ c.requires.parted
-    (failed _ _ c.if-before.false c.before-2.ensures) c.remove-turns-else-before.ensures.points c.draw_back_first.ensures.left c.draw_back_first.ensures.right
+    (failed _ _ c.if-before.false c.before-2.ensures) c.remove-turns-else-before.ensures.points
+    c.draw_back_first.ensures.left c.draw_back_first.ensures.right

@@ -16,7 +16,8 @@ returns-clause-size c =
     rw (cast_sub c.product_of_differences.result c.product_of_differences-2.result
     (minor_small _ c.product_of_differences.ensures.size) (minor_small _ c.product_of_differences-2.ensures.size))
     (within_sub (4 * (widest * widest))
-    (4 * (widest * widest)) c.product_of_differences.result c.product_of_differences-2.result c.product_of_differences.ensures.size c.product_of_differences-2.ensures.size)
+    (4 * (widest * widest)) c.product_of_differences.result c.product_of_differences-2.result
+    c.product_of_differences.ensures.size c.product_of_differences-2.ensures.size)
 
 pub returns-clause-value : goal.returns-clause-value
 unfolding orient

@@ -13,7 +13,8 @@ overflow_sub-side c =
 pub returns-clause-value : goal.returns-clause-value
 unfolding orient
 returns-clause-value c =
-    cast_near_side c.product_of_differences.result c.product_of_differences-2.result c.product_of_differences.ensures.size c.product_of_differences-2.ensures.size
+    cast_near_side c.product_of_differences.result c.product_of_differences-2.result
+    c.product_of_differences.ensures.size c.product_of_differences-2.ensures.size
     ∙ (rw (
       c.product_of_differences.ensures.value,
       c.product_of_differences-2.ensures.value,

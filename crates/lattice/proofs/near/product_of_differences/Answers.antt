@@ -8,7 +8,8 @@ multiplied-requires c =
       cast_near_difference c.args.u c.args.v c.requires.first c.requires.second,
       cast_near_difference c.args.p c.args.q c.requires.third c.requires.fourth,
     )
-    (near_within c.args.u c.args.v c.args.p c.args.q c.requires.first c.requires.second c.requires.third c.requires.fourth)
+    (near_within c.args.u c.args.v c.args.p c.args.q c.requires.first c.requires.second c.requires.third
+    c.requires.fourth)
 
 pub returns-clause-value : goal.returns-clause-value
 returns-clause-value c =

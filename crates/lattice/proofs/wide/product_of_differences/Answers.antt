@@ -8,7 +8,8 @@ multiplied-requires c =
       cast_difference c.args.u c.args.v c.requires.first c.requires.second,
       cast_difference c.args.p c.args.q c.requires.third c.requires.fourth,
     )
-    (minor_small _ (minor_within c.args.u c.args.v c.args.p c.args.q c.requires.first c.requires.second c.requires.third c.requires.fourth))
+    (minor_small _ (minor_within c.args.u c.args.v c.args.p c.args.q c.requires.first c.requires.second c.requires.third
+    c.requires.fourth))
 
 pub returns-clause-value : goal.returns-clause-value
 returns-clause-value c =
@@ -21,4 +22,5 @@ returns-clause-value c =
 pub returns-clause-size : goal.returns-clause-size
 returns-clause-size c =
     rw (returns-clause-value c)
-    (minor_within c.args.u c.args.v c.args.p c.args.q c.requires.first c.requires.second c.requires.third c.requires.fourth)
+    (minor_within c.args.u c.args.v c.args.p c.args.q c.requires.first c.requires.second c.requires.third
+    c.requires.fourth)

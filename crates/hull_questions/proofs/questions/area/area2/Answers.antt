@@ -11,4 +11,5 @@ pub returns : goal.returns
 returns g c =
     fans_sum (g.H.Half.tree c.args.half) c.lower_fan.result c.upper_fan.result (g.met.H.Half.bridged c.args.half)
     (rw (c.first.ensures, c.last.ensures) at
-    (passed c.before-2.result _ c.if-not-before.false c.before-2.ensures)) c.lower_fan.ensures.fan c.upper_fan.ensures.fan
+    (passed c.before-2.result _ c.if-not-before.false
+    c.before-2.ensures)) c.lower_fan.ensures.fan c.upper_fan.ensures.fan

@@ -38,7 +38,8 @@ loop-half-preserved g c =
     ∙ ap (λ (y : Pair). orient y c.loop-half.v c.next_lower-next.result) c.first-first.ensures in
     record {
       corner = inr (c.loop-half.v, c.next_lower-next.ensures);
-      walk = lower_fan_more t c.loop-half.v c.next_lower-next.result c.loop-half.doubled c.doubled_triangle-doubled.result c.loop-half.invariant.walk c.next_lower-next.ensures z;
+      walk = lower_fan_more t c.loop-half.v c.next_lower-next.result c.loop-half.doubled
+          c.doubled_triangle-doubled.result c.loop-half.invariant.walk c.next_lower-next.ensures z;
       size = omega (
         arith,
         c.loop-half.invariant.size,
@@ -54,4 +55,5 @@ returns-clause-fan g c =
     (at_last t c.loop-half.v (g.met.H.Half.bridged c.args.half)
     (lower_in (points_of t) c.loop-half.v c.loop-half.invariant.corner)
     (rw c.last-last.ensures at
-    (failed c.before-in-loop-half.result _ c.loop-half-test.false c.before-in-loop-half.ensures))) c.loop-half.invariant.walk
+    (failed c.before-in-loop-half.result _ c.loop-half-test.false
+    c.before-in-loop-half.ensures))) c.loop-half.invariant.walk

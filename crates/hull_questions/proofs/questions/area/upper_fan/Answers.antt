@@ -39,7 +39,8 @@ loop-half-preserved g c =
     ∙ ap (λ (y : Pair). orient y c.loop-half.v c.next_upper-next.result) c.first-first.ensures in
     record {
       corner = inr (c.loop-half.v, c.next_upper-next.ensures);
-      walk = upper_fan_more t c.loop-half.v c.next_upper-next.result c.loop-half.doubled c.doubled_triangle-doubled.result c.loop-half.invariant.walk c.next_upper-next.ensures z;
+      walk = upper_fan_more t c.loop-half.v c.next_upper-next.result c.loop-half.doubled
+          c.doubled_triangle-doubled.result c.loop-half.invariant.walk c.next_upper-next.ensures z;
       size = omega (
         arith,
         c.loop-half.invariant.size,
@@ -55,4 +56,5 @@ returns-clause-fan g c =
     (at_first t c.loop-half.v (g.met.H.Half.bridged c.args.half)
     (upper_in (points_of t) c.loop-half.v c.loop-half.invariant.corner)
     (rw c.first-first.ensures at
-    (failed c.before-in-loop-half.result _ c.loop-half-test.false c.before-in-loop-half.ensures))) c.loop-half.invariant.walk
+    (failed c.before-in-loop-half.result _ c.loop-half-test.false
+    c.before-in-loop-half.ensures))) c.loop-half.invariant.walk

@@ -26,7 +26,8 @@ loop-half-preserved g c =
     record {
       corner = inr (c.loop-half.v, c.next_lower-v.ensures);
       walk = subst (IsLowerOutline t c.next_lower-v.result) (sym c.in_ok-push-2.ensures.items)
-          (outline_more t c.loop-half.v c.next_lower-v.result c.loop-half.out.items c.loop-half.invariant.walk c.next_lower-v.ensures);
+          (outline_more t c.loop-half.v c.next_lower-v.result c.loop-half.out.items c.loop-half.invariant.walk
+          c.next_lower-v.ensures);
     }
 
 pub returns : goal.returns
@@ -36,4 +37,5 @@ returns g c =
     (at_last t c.loop-half.v (g.met.H.Half.bridged c.args.half)
     (lower_in (points_of t) c.loop-half.v c.loop-half.invariant.corner)
     (rw c.last-last.ensures at
-    (failed c.before-in-loop-half.result _ c.loop-half-test.false c.before-in-loop-half.ensures))) c.loop-half.invariant.walk
+    (failed c.before-in-loop-half.result _ c.loop-half-test.false
+    c.before-in-loop-half.ensures))) c.loop-half.invariant.walk

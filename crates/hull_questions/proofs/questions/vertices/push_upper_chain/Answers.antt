@@ -36,7 +36,8 @@ loop-half-preserved g c =
       corner = inr (c.loop-half.v, c.next_upper-v-in-loop-half.ensures);
       walk = subst (λ (z : List Pair). IsHalfRound t z c.next_upper-v-in-loop-half.result)
           (sym c.in_ok-push.ensures.items)
-          (half_more t c.loop-half.out.items c.loop-half.v c.next_upper-v-in-loop-half.result c.loop-half.invariant.walk c.next_upper-v-in-loop-half.ensures);
+          (half_more t c.loop-half.out.items c.loop-half.v c.next_upper-v-in-loop-half.result c.loop-half.invariant.walk
+          c.next_upper-v-in-loop-half.ensures);
     }
 
 pub returns : goal.returns
@@ -46,4 +47,5 @@ returns g c =
     (at_first t c.loop-half.v (g.met.H.Half.bridged c.args.half)
     (upper_in (points_of t) c.loop-half.v c.loop-half.invariant.corner)
     (rw c.first-first.ensures at
-    (failed c.before-in-loop-half.result _ c.loop-half-test.false c.before-in-loop-half.ensures))) c.loop-half.invariant.walk
+    (failed c.before-in-loop-half.result _ c.loop-half-test.false
+    c.before-in-loop-half.ensures))) c.loop-half.invariant.walk
