@@ -30,6 +30,12 @@ pub record IsCounted (root : Option Node) (n m : Node) (p : Pair) (count limit r
   pub built : IsWellBuilt m
   pub same : tree_of m ≡ tree_of n
 
+-- what the way down says, together with what the set was
+pub counted : {root : Option Node} {n m : Node} {p : Pair} {count limit r : ℕ} → IsLimited root count limit
+    → root ≡ Some n → r ≡ times_below n p → IsWellBuilt m → tree_of m ≡ tree_of n → IsCounted root n m p count limit r
+counted limited own was built same =
+    record { limited = limited; own = own; was = was; built = built; same = same }
+
 -- n was well built
 built_before : {root : Option Node} {n m : Node} {p : Pair} {count limit r : ℕ} → IsCounted root n m p count limit r
     → IsWellBuilt n

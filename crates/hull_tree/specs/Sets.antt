@@ -29,8 +29,7 @@ pub record IsSound (root : Option Node) : Type 0 where
   pub low : height_of_root root ≤ 28
 
 -- what the trait `HullSet` says of a tree: what it holds, its bound, and that it is well built, which says that each
--- stored
--- bridge is that of the points below it
+-- stored bridge is that of the points below it
 abbrev pub hull_tree : Ghosts LimitedTree
 hull_tree = record { held = λ t. held_by t.root; bound = λ t. t.limit; sound = λ t. IsSound t.root }
 

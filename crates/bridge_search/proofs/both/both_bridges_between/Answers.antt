@@ -1,3 +1,4 @@
+-- each round makes a turn of each search that is not done, and each turn keeps its bridge
 use Rattle.std.proofs.lemmas.Bool.{or_parts}
 use Rattle.std.proofs.Common.{◌≤◌, arith}
 use Rattle.bridge_search.specs.Trees.{height_of, highest}

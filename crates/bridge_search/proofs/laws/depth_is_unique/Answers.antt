@@ -1,3 +1,4 @@
+-- a point stands in one half of each fork only, so one way leads to it, at most as long as the half is high
 use Rattle.bridge_search.proofs.Depths.{one_depth, depth_within}
 use Rattle.bridge_search.proofs.laws.depth_is_unique.Goals as goal
 

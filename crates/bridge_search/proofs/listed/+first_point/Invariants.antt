@@ -1,3 +1,4 @@
+-- a left half is a shorter list
 use Rattle.std.proofs.Common.{length}
 use Rattle.bridge_search.proofs.listed.+first_point.Given as goal
 

@@ -1,3 +1,4 @@
+-- the last point of the one stands before the first of the other, so all do
 use Rattle.lattice.specs.Plane.{IsBefore}
 use Rattle.bridge_search.proofs.Ends.{all_before}
 use Rattle.bridge_search.proofs.Signs.{passed}

@@ -1,3 +1,4 @@
+-- the ends of both edges fit, and each of the four cases of the table keeps the bridge
 use Rattle.bridge_search.proofs.Signs.{not_under, is_under, passed, failed, crossing_told}
 use Rattle.lattice.specs.Plane.{orient}
 use Rattle.lattice.specs.Crossing.{IsCrossingAtOrBefore}

@@ -1,3 +1,4 @@
+-- the ends of an edge are points of its half, so they fit; the case of the table that holds keeps the bridge
 use Rattle.bridge_search.proofs.Signs.{not_under, is_under}
 use Rattle.lattice.specs.Plane.{orient}
 use Rattle.bridge_search.proofs.Turns as turns

@@ -1,3 +1,4 @@
+-- the halves reached have the bridge of the two halves asked for, and each turn makes them fewer points
 use Rattle.std.proofs.Common.{◌+◌}
 use Rattle.bridge_search.specs.Trees.{size_of}
 use Rattle.bridge_search.specs.Search.{IsReached}

@@ -1,3 +1,4 @@
+-- the upper edge at a corner begins there, so its other end is the next corner
 use Rattle.std.proofs.Common.{subst}
 use Rattle.lattice.specs.Plane.{Pair}
 use Rattle.bridge_search.specs.Trees.{Tree}

@@ -1,3 +1,4 @@
+-- near halves are the same halves, so both branches search the same bridges
 use Rattle.std.proofs.Common.{sym, ◌∙◌}
 use Rattle.bridge_search.specs.Near.{all_told}
 use Rattle.hull_tree.proofs.PointRows.{all_before_of_set}

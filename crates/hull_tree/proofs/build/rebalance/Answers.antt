@@ -1,3 +1,4 @@
+-- by the difference of the heights, one of three ways makes the fork: as it is, or a rotation to either side
 use Rattle.std.proofs.Common.{refl, ◌≡◌, Some}
 use Rattle.hull_tree.specs.Nodes.{below_of}
 use Rattle.hull_tree.proofs.Renewed.{IsUnder, under_fork}

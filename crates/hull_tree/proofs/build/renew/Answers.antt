@@ -1,3 +1,4 @@
+-- the two bridges, the height and the nearness that are stored are those that were searched or computed
 use Rattle.std.proofs.Common.{◌≡◌, refl, Some}
 use Rattle.hull_tree.specs.Nodes.{below_of}
 use Rattle.hull_tree.proofs.Renewed.{renewed_well, dearer_on_left, dearer_on_right}

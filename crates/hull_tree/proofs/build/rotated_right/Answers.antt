@@ -1,3 +1,4 @@
+-- the halves stand in the same order after a rotation, and each fork that it makes is built with its bridges
 use Rattle.std.proofs.Common.{arith, append_assoc, sym, ◌∙◌}
 use Rattle.hull_tree.proofs.Costs.{by_halves, looser, through}
 use Rattle.hull_tree.proofs.HalfRows.{row_with_left, row_with_right, regrouped}

@@ -1,3 +1,4 @@
+-- each way down goes to a lower node; a fork asks for its box first, so it counts twice
 use Rattle.std.proofs.Common.{◌+◌, ◌*◌}
 use Rattle.hull_tree.specs.Changes.{height_at, height_within}
 use Rattle.hull_tree.proofs.change.+insert.Given as goal

@@ -1,3 +1,4 @@
+-- the point that parts the halves tells in which half the point can be; the other half stays
 use Rattle.std.proofs.Common.{refl, ◌≡◌, ◌∙◌, sym, Some}
 use Rattle.bridge_search.proofs.Signs.{passed, failed}
 use Rattle.hull_tree.specs.declared.node.Node as node

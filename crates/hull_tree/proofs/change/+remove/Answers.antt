@@ -1,3 +1,4 @@
+-- the half that the point leaves is well built without it, and so is the fork over it once it is rebalanced
 use Rattle.std.proofs.Common.{arith, refl, sym, ◌∙◌, subst, inl, inr, ◌≡◌, ◌⊎◌, Some}
 use Rattle.bridge_search.specs.Trees.{Leaf}
 use Rattle.bridge_search.proofs.Leaves.{on_of_contains}

@@ -1,3 +1,4 @@
+-- two leaves in order make a fork, whose two searches take no turn
 use Rattle.std.proofs.Common.{refl, arith, ◌≡◌}
 use Rattle.bridge_search.specs.Trees.{Leaf}
 use Rattle.hull_tree.specs.Changes.{height_at}

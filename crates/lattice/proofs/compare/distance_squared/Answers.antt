@@ -1,3 +1,4 @@
+-- both squares are below 2^84, so the casts and the sum lose nothing
 use Rattle.std.proofs.Common.{◌∙◌, ◌*◌, arith}
 use borrow.Author.Differences.{ints}
 use Rattle.lattice.specs.Plane.{widest, distance_squared}

@@ -1,3 +1,4 @@
+-- both products of differences are below 2^84, so the casts and the difference lose nothing
 use Rattle.std.proofs.Common.{◌∙◌, ◌*◌, arith}
 use borrow.Author.Differences.{ints}
 use Rattle.lattice.specs.Plane.{widest, orient}

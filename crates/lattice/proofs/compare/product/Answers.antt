@@ -1,3 +1,4 @@
+-- a sum of two products of coordinates is far below 2^125
 use Rattle.std.proofs.Common.{◌*◌, ◌^◌, lit≤}
 use Rattle.lattice.specs.Plane.{widest, widest_side}
 use Rattle.lattice.specs.Integers.{within_more}

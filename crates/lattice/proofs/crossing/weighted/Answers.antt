@@ -1,3 +1,4 @@
+-- a weight below 2^84 times a difference below 2^42 fits 128 bits, and so does the sum of two
 use Rattle.std.proofs.Common.{◌∙◌, arith}
 use borrow.Author.Differences.{ints}
 use Rattle.lattice.proofs.Casts.{cast128, cast_difference, cast_add, weight_within, sum_fits}

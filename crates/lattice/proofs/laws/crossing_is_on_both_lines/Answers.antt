@@ -1,3 +1,4 @@
+-- the weights are the sides of b and a as seen along the other line, so their mean lies on both
 use Rattle.lattice.proofs.LineCrossings.{crossing_on_both}
 use Rattle.lattice.proofs.laws.crossing_is_on_both_lines.Goals as goal
 

@@ -1,3 +1,4 @@
+-- two upper bridges of the same two sets would each have the ends of the other on or below it
 use Rattle.lattice.proofs.UniqueBridge.{one_bridge}
 use Rattle.lattice.proofs.laws.upper_bridge_is_unique.Goals as goal
 

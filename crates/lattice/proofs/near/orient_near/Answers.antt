@@ -1,3 +1,4 @@
+-- products of near coordinates fit 64 bits, so the casts and the difference lose nothing
 use Rattle.std.proofs.Common.{◌∙◌, arith}
 use borrow.Author.Differences.{ints}
 use Rattle.lattice.specs.Plane.{orient}

@@ -1,3 +1,4 @@
+-- differences of near coordinates are below 2^31, so their product fits 64 bits
 use Rattle.std.proofs.Common.{◌∙◌}
 use Rattle.lattice.proofs.Casts.{cast_near_difference, cast_near_product, near_within}
 use Rattle.lattice.proofs.near.product_of_differences.Goals as goal

@@ -1,3 +1,4 @@
+-- differences of coordinates are below 2^42, so their product fits 128 bits
 use Rattle.std.proofs.Common.{◌∙◌, rules}
 use Rattle.lattice.proofs.Casts.{cast128, cast_difference, minor_within, minor_small}
 use Rattle.lattice.proofs.wide.product_of_differences.Goals as goal

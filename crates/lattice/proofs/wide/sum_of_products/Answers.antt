@@ -1,3 +1,4 @@
+-- products of two coordinates fit 128 bits, and so does the sum of two
 use Rattle.std.proofs.Common.{◌∙◌, ◌*◌, arith}
 use lib.IntN.{◌*ℤ◌}
 use borrow.Author.Differences.{ints}

@@ -1,3 +1,4 @@
+-- a list of one entry is a point, of more a fork that has its edges in its first entry
 use Rattle.std.proofs.Common.{arith}
 use Rattle.bridge_search.proofs.ListedTrees.{edge_one, edge_more}
 use Rattle.bridge_search.proofs.listed.ListedHalf.edge.Goals as goal

@@ -1,3 +1,4 @@
+-- before the first turn the halves reached are the two themselves
 use Rattle.bridge_search.proofs.Turns as turns
 use Rattle.bridge_search.proofs.search.Search.new.Goals as goal
 

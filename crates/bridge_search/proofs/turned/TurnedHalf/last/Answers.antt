@@ -1,3 +1,4 @@
+-- the last point of a turned half is the first one, turned
 use Rattle.std.proofs.Common.{sym, ap, ◌∙◌}
 use Rattle.lattice.specs.Plane.{turned_point}
 use Rattle.bridge_search.specs.TurnedTrees.{last_turned}

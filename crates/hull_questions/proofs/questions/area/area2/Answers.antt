@@ -1,3 +1,4 @@
+-- one point has no area; else the triangles below and above add up to the hull
 use Rattle.bridge_search.proofs.Signs.{passed, failed}
 use Rattle.hull_questions.proofs.Fans.{area_alone, fans_sum}
 use Rattle.hull_questions.proofs.questions.area.area2.Goals as goal

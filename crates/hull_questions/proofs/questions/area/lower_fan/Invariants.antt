@@ -1,3 +1,4 @@
+-- the triangles so far reach to the corner, and each point after it can add one more at most
 use Rattle.std.proofs.Common.{◌+◌, ◌*◌, ◌≤◌}
 use Rattle.lattice.specs.Plane.{widest_side}
 use Rattle.bridge_search.specs.Leaves.{points_of}

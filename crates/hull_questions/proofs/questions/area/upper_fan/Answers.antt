@@ -1,3 +1,4 @@
+-- the triangle over the next edge takes the fan one corner on, and the sum stays within 128 bits
 use Rattle.std.proofs.Common.{◌≡◌, pos, ap, ◌∙◌, subst, arith, inl, inr}
 use Rattle.lattice.specs.Plane.{Pair, orient}
 use Rattle.bridge_search.specs.Trees.{Tree, first_of}

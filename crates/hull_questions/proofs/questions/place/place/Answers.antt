@@ -1,3 +1,4 @@
+-- each sight tells the place: from outside by a line that separates, else as it says
 use Rattle.bridge_search.specs.Leaves.{points_of}
 use Rattle.hull_questions.proofs.Sighted.{outside_before, outside_after, outside_below, outside_above}
 use Rattle.hull_questions.proofs.questions.place.place.Goals as goal

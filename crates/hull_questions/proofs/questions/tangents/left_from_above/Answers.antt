@@ -1,3 +1,4 @@
+-- what is above is below after a turn by 180 degrees, and a left tangent point stays a left one
 use Rattle.hull_questions.proofs.TurnedTangents.{below_turned, left_of_turned, after_turned}
 use Rattle.hull_questions.proofs.questions.tangents.left_from_above.Goals as goal
 

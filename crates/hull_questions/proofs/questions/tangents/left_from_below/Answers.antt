@@ -1,3 +1,4 @@
+-- each step goes into the half that has the tangent point, and one point is the tangent point
 use Rattle.hull_questions.proofs.TangentParts.{left_alone}
 use Rattle.hull_questions.proofs.questions.tangents.left_from_below.Goals as goal
 

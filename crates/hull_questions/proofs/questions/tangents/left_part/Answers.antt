@@ -1,3 +1,4 @@
+-- the side of the point as seen along the lower bridge tells which half has the left tangent point
 use Rattle.bridge_search.proofs.Signs.{passed, failed}
 use Rattle.hull_questions.proofs.TangentParts.{left_to_left, left_to_right}
 use Rattle.hull_questions.proofs.questions.tangents.left_part.Goals as goal

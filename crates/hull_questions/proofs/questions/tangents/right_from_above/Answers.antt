@@ -1,3 +1,4 @@
+-- what is above is below after a turn by 180 degrees, and a right tangent point stays a right one
 use Rattle.hull_questions.proofs.TurnedTangents.{below_turned, right_of_turned, before_last_turned}
 use Rattle.hull_questions.proofs.questions.tangents.right_from_above.Goals as goal
 

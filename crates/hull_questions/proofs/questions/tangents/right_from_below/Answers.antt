@@ -1,3 +1,4 @@
+-- each step goes into the half that has the tangent point, and one point is the tangent point
 use Rattle.hull_questions.proofs.TangentParts.{right_alone}
 use Rattle.hull_questions.proofs.questions.tangents.right_from_below.Goals as goal
 

@@ -1,3 +1,4 @@
+-- the right tangent point of the part is that of the half
 use Rattle.lattice.specs.Plane.{Pair, IsBefore}
 use Rattle.bridge_search.specs.Trees.{last_of, height_of}
 use Rattle.bridge_search.specs.Leaves.{points_of}

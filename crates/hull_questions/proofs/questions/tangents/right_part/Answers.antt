@@ -1,3 +1,4 @@
+-- the side of the point as seen along the lower bridge tells which half has the right tangent point
 use Rattle.bridge_search.proofs.Signs.{passed, failed}
 use Rattle.hull_questions.proofs.TangentParts.{right_to_left, right_to_right}
 use Rattle.hull_questions.proofs.questions.tangents.right_part.Goals as goal

@@ -1,3 +1,4 @@
+-- each sight says on which side of both chains the point lies; from the boundary or inside there is no tangent
 use Rattle.std.proofs.Common.{inr}
 use Rattle.bridge_search.specs.Leaves.{points_of}
 use Rattle.hull_questions.proofs.Sighted.{before_all, after_all, before_last, after_first, outside_before}

@@ -1,3 +1,4 @@
+-- the next corner is one step on, and at the last point the lower chain is whole
 use Rattle.std.proofs.Common.{sym, subst, inl, inr}
 use Rattle.lattice.specs.Plane.{Pair}
 use Rattle.bridge_search.specs.Trees.{Tree}

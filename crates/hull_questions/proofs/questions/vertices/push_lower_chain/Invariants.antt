@@ -1,3 +1,4 @@
+-- what is listed goes from the first point to the corner; each step leaves fewer points after it
 use Rattle.bridge_search.specs.Leaves.{points_of}
 use Rattle.hull_questions.specs.Chains.{IsLowerCorner}
 use Rattle.hull_questions.specs.Walks.{IsLowerOutline}

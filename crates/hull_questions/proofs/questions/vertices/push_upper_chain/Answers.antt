@@ -1,3 +1,4 @@
+-- the next corner is one step on, and at the first point the round is closed
 use Rattle.std.proofs.Common.{sym, subst, List, inl, inr}
 use Rattle.lattice.specs.Plane.{Pair}
 use Rattle.bridge_search.specs.Trees.{Tree}

@@ -1,3 +1,4 @@
+-- what is listed goes from the last point back to the corner; each step leaves fewer points before it
 use Rattle.bridge_search.specs.Leaves.{points_of}
 use Rattle.hull_questions.specs.Chains.{IsUpperCorner}
 use Rattle.hull_questions.proofs.Counted.{points_before}

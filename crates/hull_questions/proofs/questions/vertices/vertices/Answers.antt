@@ -1,3 +1,4 @@
+-- the lower chain and then the upper chain, without the points where they meet again, are the vertex list
 use Rattle.std.proofs.Common.{arith}
 use Rattle.bridge_search.specs.Trees.{Tree}
 use Rattle.bridge_search.specs.Leaves.{points_of}

@@ -1,3 +1,4 @@
+-- the edge from one point to another is both bridges of the two
 use Rattle.lattice.specs.Plane.{IsBefore}
 use Rattle.bridge_search.proofs.Signs.{passed}
 use Rattle.hull_questions.proofs.SmallTrees.{small_bridged}

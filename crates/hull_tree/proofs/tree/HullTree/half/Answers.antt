@@ -1,3 +1,4 @@
+-- the root is well built and at most 28 high, so it is a half, with the points of the set
 use Rattle.std.proofs.Common.{◌≤◌, arith, subst}
 use Rattle.hull_tree.specs.Nodes.{tree_of}
 use Rattle.hull_tree.specs.Sets.{LimitedTree, IsWhole}

@@ -1,3 +1,4 @@
+-- the number that is kept is that of the points, which stand in order
 use Rattle.std.proofs.Common.{ap, subst}
 use Rattle.hull_tree.specs.Sets.{LimitedTree, IsSound}
 use Rattle.hull_tree.proofs.LimitedTrees.{sound}

@@ -1,3 +1,4 @@
+-- the leaf that the way down finds has the number, and a point has one just where it is live
 use Rattle.std.proofs.Common.{◌≡◌, ap, sym, ◌∙◌, Some, arith}
 use Rattle.hull_tree.specs.Sets.{LimitedTree}
 use Rattle.hull_tree.proofs.LimitedTrees.{built_root}

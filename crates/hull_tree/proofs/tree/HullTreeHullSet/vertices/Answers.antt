@@ -1,3 +1,4 @@
+-- a set with a root is not empty, so it may be refused memory
 use Rattle.std.proofs.Common.{rules, sym, ◌∙◌, []}
 use Rattle.std.specs.Prelude.{◌≢◌}
 use Rattle.bridge_search.proofs.Leaves.{points_not_none}

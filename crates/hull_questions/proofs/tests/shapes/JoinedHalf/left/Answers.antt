@@ -1,3 +1,4 @@
+-- a half alone has the part of its own; of two joined it is the first
 use Rattle.std.proofs.Common.{◌∙◌}
 use Rattle.hull_questions.proofs.tests.shapes.JoinedHalf.left.Goals as goal
 
