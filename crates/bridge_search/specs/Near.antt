@@ -22,16 +22,6 @@ near_turned p h = (
   omega (arith, linear, h),
 )
 
--- all points of the left half of such a tree are near
-pub near_left : (t : Tree) → IsAllNear t → IsAllNear (left_of t)
-near_left (Leaf x) h = h
-near_left (Fork e f u w) h = λ p i. h p (inl i)
-
--- and all of its right half
-pub near_right : (t : Tree) → IsAllNear t → IsAllNear (right_of t)
-near_right (Leaf x) h = h
-near_right (Fork e f u w) h = λ p i. h p (inr i)
-
 -- whether a point is near
 abbrev pub is_near : Pair → Bool
 is_near p = le_z (neg_ℤ NEAR_LIMIT) p.x && le_z p.x NEAR_LIMIT && le_z (neg_ℤ NEAR_LIMIT) p.y && le_z p.y NEAR_LIMIT

@@ -132,31 +132,6 @@ abbrev pub turned_edge : Option (Pair × Pair) → Option (Pair × Pair)
 turned_edge None = None
 turned_edge (Some e) = Some (turned_pair e)
 
--- the upper edge of the turned half is the lower one turned
-pub edge_turned : (t : Tree) → edge_of (turned_tree t) ≡ turned_edge (lower_of t)
-edge_turned (Leaf x) = refl
-edge_turned (Fork e f u w) = refl
-
--- the lower edge of the turned half is the upper one turned
-pub lower_edge_turned : (t : Tree) → lower_of (turned_tree t) ≡ turned_edge (edge_of t)
-lower_edge_turned (Leaf x) = refl
-lower_edge_turned (Fork e f u w) = refl
-
--- the left half of the turned half is the right one turned
-pub left_turned : (t : Tree) → left_of (turned_tree t) ≡ turned_tree (right_of t)
-left_turned (Leaf x) = refl
-left_turned (Fork e f u w) = refl
-
--- the right half of the turned half is the left one turned
-pub right_turned : (t : Tree) → right_of (turned_tree t) ≡ turned_tree (left_of t)
-right_turned (Leaf x) = refl
-right_turned (Fork e f u w) = refl
-
--- a turned half with edges has edges without the turn
-pub fork_turned : (t : Tree) → IsFork (turned_tree t) → IsFork t
-fork_turned (Leaf x) h = h
-fork_turned (Fork e f u w) h = h
-
 -- a turn keeps the height
 pub height_turned : (t : Tree) → height_of (turned_tree t) ≡ height_of t
 height_turned (Leaf x) = refl

@@ -1,8 +1,8 @@
 //! A convex hull for C: a static library over [`HullTree`](hull_tree::HullTree), whose header is `include/hull.h`.
 //!
 //! A hull lies in room that the caller gives. Each call of the header is one export, which lends the hull at the
-//! pointer to one plain function (`calls.rt`, `corners.rt`, `requests.rt`) and gives back its reply: what it promises is
-//! that function's contract, in the words of the trait `HullSet`.
+//! pointer to one plain function (`calls.rt`, `corners.rt`, `requests.rt`) and gives back its reply: what it promises
+//! is that function's contract, in the words of the trait `HullSet`.
 //!
 //! The walk of each export (`proofs/hull_*/Proof.antt`) shows that it lends the hull and takes it back; those of one
 //! shape are written from one pattern by `walks/write.py`, which is to be run after a change of a pattern.
@@ -15,7 +15,8 @@ ghost use Rattle.hull_tree.specs.contracts.tree.HullTree.{the_row};
 ghost use Rattle.hull_reply.specs.Left.{leaves};
 ghost use Rattle.hull_reply.specs.Rooms.{room_alignment, room_size};
 ghost use Rattle.hull_c.specs.Requests.{AreServed};
-ghost use Rattle.hull_c.specs.Calls.{AreCorners, IsCleared, IsFresh, IsLimitOf, IsMultiplicityAt, IsServed, IsServedAlong, IsServedAt};
+ghost use Rattle.hull_c.specs.Calls.{AreCorners, IsCleared, IsFresh, IsLimitOf, IsMultiplicityAt, IsServed};
+ghost use Rattle.hull_c.specs.Calls.{IsServedAlong, IsServedAt};
 
 mod calls;
 mod corners;
@@ -165,8 +166,8 @@ pub unsafe extern "C" fn hull_vertices(at: *mut u8, out: &mut [HullPoint]) -> Hu
     corners::vertices(unsafe { &mut *hull }, out)
 }
 
-/// Makes the calls of the requests in their order, up to the end of the shorter array or the first request that can't be
-/// served, and tells how many replies were written.
+/// Makes the calls of the requests in their order, up to the end of the shorter array or the first request that can't
+/// be served, and tells how many replies were written.
 ///
 /// # Safety
 ///

@@ -40,8 +40,7 @@ pub record EndsAtWrong (scenes : List SceneValue) : Type 0 where
   pub wrong : last.wrong ≡ Some place
 
 -- The scenes after one line, after two, and so on: after each line up to the limit, or up to the first wrong one,
--- behind
--- which there is none.
+-- behind which there is none.
 pub record IsFilm (journal : JournalValue) (size : ℕ) (scenes : List SceneValue) : Type 0 where
   pub shots : AreShots journal size 0 scenes
   pub few : length scenes ≤ frames_of journal.lines

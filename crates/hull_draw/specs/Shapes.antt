@@ -1,6 +1,5 @@
 -- The shapes of a picture, inside a square that the browser scales. Its units are those of the plane, or several of
--- them
--- each: all numbers are whole.
+-- them each: all numbers are whole.
 use Rattle.std.specs.Prelude.{◌-◌, ◌/◌, ◌+◌, ℕ, zero, suc, List, [], ◌∷◌, ◌++◌, length, codes, decimal}
 use Rattle.lattice.specs.Plane.{Pair}
 use Rattle.hull_draw.specs.declared.bridges.Bridge.{Bridge}

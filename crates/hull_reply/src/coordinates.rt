@@ -14,8 +14,8 @@ pub fn point_of(x: i64, y: i64) -> Result<Point, Code>
     }
 }
 
-/// The direction (x, y); [`Code::OutOfRange`] where one of them is no coordinate, and [`Code::ZeroDirection`] where both
-/// are 0.
+/// The direction (x, y); [`Code::OutOfRange`] where one of them is no coordinate, and [`Code::ZeroDirection`] where
+/// both are 0.
 pub fn direction_of(x: i64, y: i64) -> Result<Direction, Code>
     ensures { IsDirectionOf x y result }
 {

@@ -8,7 +8,6 @@ use Rattle.hull_plain.specs.declared.call.Call.TheVariants.{Add, Remove, Extreme
 use Rattle.hull_plain.specs.declared.call.Call.TheVariants.{Count}
 use Rattle.hull_plain.specs.declared.reply.Reply.{Reply}
 use Rattle.hull_plain.specs.declared.reply.Reply.TheVariants.{Already}
-use Rattle.hull_plain.specs.declared.rules.Rules.{Rules}
 use Rattle.hull_plain.specs.declared.rules.Rules.TheVariants.{Set, Counted}
 
 -- `already` is the reply to no call: to an addition only where points are not counted

@@ -1,5 +1,5 @@
 -- Seats that are at home stay at home when a seat comes or goes.
-use Rattle.std.proofs.Common.{◌≡◌, ◌⊎◌, inl, inr, ℕ, List, [], ◌∷◌, ◌++◌, length, sym, ap, subst, ◌∙◌, Some, slice_get}
+use Rattle.std.proofs.Common.{◌≡◌, inl, inr, ℕ, List, [], ◌∷◌, ◌++◌, length, sym, subst, Some}
 use Rattle.std.specs.Prelude.{Option, None, slice_set}
 use Rattle.hull_shared.specs.Locks.{HullLock}
 use Rattle.hull_shared.specs.Places.{AreAtHome, HasAt, IsAtHome}

@@ -1,7 +1,7 @@
 -- Lists place by place: a member more at the end, and another in a place.
-use Rattle.std.proofs.Common.{◌≡◌, ◌⊎◌, inl, inr, ◌<◌, ◌≤◌, ◌+◌, ℕ, zero, suc, List, [], ◌∷◌, ◌++◌, length, refl, sym}
-use Rattle.std.proofs.Common.{ap, subst, arith, Some, slice_get}
-use Rattle.std.specs.Prelude.{Option, None, slice_set}
+use Rattle.std.proofs.Common.{◌≡◌, ◌⊎◌, inl, inr, ◌<◌, ◌≤◌, ◌+◌, ℕ, zero, suc, List, [], ◌∷◌, ◌++◌, length, refl}
+use Rattle.std.proofs.Common.{ap, arith, Some, slice_get}
+use Rattle.std.specs.Prelude.{slice_set}
 
 -- at most, and then the same or more
 pub same_or_more : (m j : ℕ) → m ≤ j → (j ≡ m) ⊎ (m + 1 ≤ j)

@@ -9,8 +9,7 @@ use Rattle.hull_shared.specs.declared.place.Place.{Place}
 use Rattle.hull_shared.specs.declared.place.Places.{Places}
 
 -- The seat is of the lock, its ledger counts the lines that it has seen in its name, and of n places it is at home in
--- place j,
--- behind which there are as many as its number.
+-- place j, behind which there are as many as its number.
 pub record IsAtHome (lock : HullLock) (n j : ℕ) (p : Place) : Type 0 where
   pub own : IsSeatOf book_head lock p.seat
   pub counts : IsLedgerOf (seat_number p.seat) (seat_seen p.seat) p.ledger

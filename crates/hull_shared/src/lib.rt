@@ -1,9 +1,10 @@
 //! One hull for up to 64 threads of a program in C: a static library, whose header is `include/hull_shared.h`.
 //!
-//! A desk keeps a book (`hull_book`) behind a ticket lock (`ticket_lock`), with a seat for each thread. A seat that is out takes
-//! a number for a call and looks whether it is served; the thread that looks pauses between two looks, so nothing here waits. A
-//! desk and a seat lie in rooms that the caller gives. Each call of the header is one export, which lends what lies at a pointer
-//! to one plain function and gives back its answer: what it promises is that function's contract.
+//! A desk keeps a book (`hull_book`) behind a ticket lock (`ticket_lock`), with a seat for each thread. A seat that is
+//! out takes a number for a call and looks whether it is served; the thread that looks pauses between two looks, so
+//! nothing here waits. A desk and a seat lie in rooms that the caller gives. Each call of the header is one export,
+//! which lends what lies at a pointer to one plain function and gives back its answer: what it promises is that
+//! function's contract.
 //!
 //! # A desk for two threads
 //!
@@ -23,7 +24,8 @@ ghost use Rattle.std.specs.Borrow.{full_share, sem};
 ghost use Rattle.std.specs.Ptr.{lies_at, room_at};
 ghost use Rattle.hull_shared.specs.contracts.desk.Desk.{the_row as desk_row};
 ghost use Rattle.hull_shared.specs.contracts.seat.SharedSeat.{the_row as seat_row};
-ghost use Rattle.hull_shared.specs.Desks.{HasClosed, HasEnded, HasLent, HasOpened, HasReturned, HasWritten, IsSeatOfDesk};
+ghost use Rattle.hull_shared.specs.Desks.{HasClosed, HasEnded, HasLent, HasOpened, HasReturned, HasWritten};
+ghost use Rattle.hull_shared.specs.Desks.{IsSeatOfDesk};
 ghost use Rattle.hull_reply.specs.Left.{leaves};
 ghost use Rattle.hull_reply.specs.Rooms.{room_alignment, room_size};
 ghost use Rattle.hull_shared.specs.Left.{leaves_both};
@@ -128,8 +130,8 @@ pub unsafe extern "C" fn hull_shared_make_seat(room: *mut u8)
     unsafe { at.write(seat) };
 }
 
-/// Opens a desk round an empty hull: for up to `limit` different points, `capacity` calls whose numbers begin with `first`, and
-/// `seats` seats.
+/// Opens a desk round an empty hull: for up to `limit` different points, `capacity` calls whose numbers begin with
+/// `first`, and `seats` seats.
 ///
 /// # Safety
 ///
@@ -145,7 +147,8 @@ pub unsafe extern "C" fn hull_shared_open(
 ) -> u32
     ghost t: { desk_row.Denot }
     requires* { sem 𝓛 (lies_at desk_row full_share at t) }
-    ensures* { sem 𝓛 (leaves desk_row at (λ new. HasOpened (record { limit = limit; first = first; capacity = capacity; seats = seats }) t new result)) }
+    ensures* { sem 𝓛 (leaves desk_row at
+        (λ new. HasOpened (record { limit = limit; first = first; capacity = capacity; seats = seats }) t new result)) }
 {
     let desk = at as *mut Desk;
     opening::open(alloc, unsafe { &mut *desk }, limit, first, capacity, seats)
@@ -172,8 +175,8 @@ pub unsafe extern "C" fn hull_shared_lend(at: *mut u8, room: *mut u8, number: u3
 ///
 /// # Safety
 ///
-/// A desk lies at `at` and a room for a seat at `room`; a seat in it went out of that desk; and no other call on either is under
-/// way.
+/// A desk lies at `at` and a room for a seat at `room`; a seat in it went out of that desk; and no other call on either
+/// is under way.
 #[unsafe(no_mangle)]
 pub unsafe extern "C" fn hull_shared_give_back(at: *mut u8, room: *mut u8) -> u32
     ghost t: { desk_row.Denot × seat_row.Denot }

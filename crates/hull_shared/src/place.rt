@@ -9,8 +9,8 @@ pub(crate) struct Place {
     pub(crate) ledger: Ledger,
 }
 
-/// The places of a desk: that of seat k has k places behind it, and is empty while the seat is out. Beside them lies room for
-/// all seats and all ledgers, so that closing asks for no memory.
+/// The places of a desk: that of seat k has k places behind it, and is empty while the seat is out. Beside them lies
+/// room for all seats and all ledgers, so that closing asks for no memory.
 pub(crate) struct Places {
     pub(crate) list: Vec<Option<Place>>,
     pub(crate) seats: Vec<BookSeat<HullTree>>,

@@ -50,7 +50,6 @@ IsLineTaken (Some bytes) (Some left) line =
     × ((line ≤ 1 + newlines taken) ⊎ ((left ≡ []) × (line ≡ 1 + length (text_lines bytes))))
 
 -- The line of a fault that is told at the end of a text, of which this part is left from the beginning of line n on:
--- the line
--- after the last where memory was refused, and else line n.
+-- the line after the last where memory was refused, and else line n.
 abbrev pub line_at_end : ℕ → List ℕ → TextFault → ℕ
 line_at_end n part f = if f.number == fault_number NoMemory then n + length (last_line part) else n

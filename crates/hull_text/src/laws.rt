@@ -33,22 +33,36 @@ pub fn replies_are_read_again()
 /// The texts hold what they say: a script text and a journal text have one reading each; a journal that a version can
 /// say has one text of that version, and this text is read back as the same journal.
 pub fn texts_hold()
-    ensures scripts { (bytes : List ℕ) (script other : ScriptValue) → IsScriptText bytes script → IsScriptText bytes other → script ≡ other }
-    ensures journals { (bytes : List ℕ) (journal other : JournalValue) → IsJournalText bytes journal → IsJournalText bytes other → journal ≡ other }
-    ensures one { (v : Version) (journal : JournalValue) → IsJournalSaid v journal → IsJournalText (journal_text v journal) journal }
-    ensures again { (v : Version) (journal : JournalValue) → IsJournalSaid v journal → journal_of (journal_text v journal) ≡ Ok journal }
-    ensures reading { (bytes : List ℕ) (journal : JournalValue) → (journal_of bytes ≡ Ok journal) ↔ IsJournalText bytes journal }
+    ensures scripts { (bytes : List ℕ) (script other : ScriptValue) → IsScriptText bytes script
+        → IsScriptText bytes other → script ≡ other }
+    ensures journals { (bytes : List ℕ) (journal other : JournalValue) → IsJournalText bytes journal
+        → IsJournalText bytes other → journal ≡ other }
+    ensures one { (v : Version) (journal : JournalValue) → IsJournalSaid v journal
+        → IsJournalText (journal_text v journal) journal }
+    ensures again { (v : Version) (journal : JournalValue) → IsJournalSaid v journal
+        → journal_of (journal_text v journal) ≡ Ok journal }
+    ensures reading { (bytes : List ℕ) (journal : JournalValue)
+        → (journal_of bytes ≡ Ok journal) ↔ IsJournalText bytes journal }
 {}
 
-/// The first fault of a text is a function of its bytes: a text of the grammar has none, and every other text has exactly
-/// one. So two readers to whom device and memory served answer the same for the same bytes, whatever pieces these came in.
+/// The first fault of a text is a function of its bytes: a text of the grammar has none, and every other text has
+/// exactly one. So two readers to whom device and memory served answer the same for the same bytes, whatever pieces
+/// these came in.
 pub fn faults_hold()
-    ensures script_one { (bytes : List ℕ) (f other : TextFault) → IsScriptFault bytes f → IsScriptFault bytes other → f ≡ other }
-    ensures script_none { (bytes : List ℕ) (script : ScriptValue) (f : TextFault) → IsScriptText bytes script → IsScriptFault bytes f → ⊥ }
-    ensures script_else { (bytes : List ℕ) → ((script : ScriptValue) × IsScriptText bytes script) ⊎ ((f : TextFault) × IsScriptFault bytes f) }
-    ensures journal_one { (bytes : List ℕ) (f other : TextFault) → IsJournalFault bytes f → IsJournalFault bytes other → f ≡ other }
-    ensures journal_none { (bytes : List ℕ) (journal : JournalValue) (f : TextFault) → IsJournalText bytes journal → IsJournalFault bytes f → ⊥ }
-    ensures journal_else { (bytes : List ℕ) → ((journal : JournalValue) × IsJournalText bytes journal) ⊎ ((f : TextFault) × IsJournalFault bytes f) }
-    ensures script_answers { (bytes : List ℕ) (answer other : Result ScriptValue TextFault) → ReadsScript bytes answer → ReadsScript bytes other → IsServed answer → IsServed other → answer ≡ other }
-    ensures journal_answers { (bytes : List ℕ) (answer other : Result JournalValue TextFault) → ReadsJournal bytes answer → ReadsJournal bytes other → IsServed answer → IsServed other → answer ≡ other }
+    ensures script_one { (bytes : List ℕ) (f other : TextFault) → IsScriptFault bytes f → IsScriptFault bytes other
+        → f ≡ other }
+    ensures script_none { (bytes : List ℕ) (script : ScriptValue) (f : TextFault) → IsScriptText bytes script
+        → IsScriptFault bytes f → ⊥ }
+    ensures script_else { (bytes : List ℕ)
+        → ((script : ScriptValue) × IsScriptText bytes script) ⊎ ((f : TextFault) × IsScriptFault bytes f) }
+    ensures journal_one { (bytes : List ℕ) (f other : TextFault) → IsJournalFault bytes f → IsJournalFault bytes other
+        → f ≡ other }
+    ensures journal_none { (bytes : List ℕ) (journal : JournalValue) (f : TextFault) → IsJournalText bytes journal
+        → IsJournalFault bytes f → ⊥ }
+    ensures journal_else { (bytes : List ℕ) → ((journal : JournalValue) × IsJournalText bytes journal)
+        ⊎ ((f : TextFault) × IsJournalFault bytes f) }
+    ensures script_answers { (bytes : List ℕ) (answer other : Result ScriptValue TextFault) → ReadsScript bytes answer
+        → ReadsScript bytes other → IsServed answer → IsServed other → answer ≡ other }
+    ensures journal_answers { (bytes : List ℕ) (answer other : Result JournalValue TextFault) → ReadsJournal bytes answer
+        → ReadsJournal bytes other → IsServed answer → IsServed other → answer ≡ other }
 {}

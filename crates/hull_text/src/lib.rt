@@ -1,8 +1,8 @@
 //! Scripts, journals and reports as texts.
 //!
 //! A script is read by `read_script`, a journal by `read_journal`, from a counted reader; `write_journal` and
-//! `write_report` write to a counted writer; `upgrade` writes a journal in the newest version that has its rules. A text
-//! that is no script or journal has a `TextFault`: what is wrong with it, and in which line.
+//! `write_report` write to a counted writer; `upgrade` writes a journal in the newest version that has its rules. A
+//! text that is no script or journal has a `TextFault`: what is wrong with it, and in which line.
 //!
 //! # A worked example
 //!

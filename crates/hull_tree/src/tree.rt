@@ -123,8 +123,7 @@ impl HullTree {
     }
 
     /// Holds `p` once less, as [`remove`](HullSet::remove), and tells how many turns the searches of bridges took: at
-    /// most
-    /// 10,000, for the reason told at [`add_counted`](HullTree::add_counted), and none unless `p` left the set.
+    /// most 10,000, for the reason told at [`add_counted`](HullTree::add_counted), and none unless `p` left the set.
     pub fn remove_counted(&mut self, p: Point) -> (RemoveReply, u32)
         ensures reply { Answers Rules.Counted (held_by self.old.root) self.old.limit (Call.Remove p)
             (reply_to_remove result.0) }

@@ -62,8 +62,7 @@ HasRunKnownText o None old new = Unit {0}
 HasRunKnownText o (Some bytes) old new = length bytes < 2 ^ 63 → HasRunText o bytes old new
 
 -- The bytes, where they are known, were read as a script, it was run, and what was written is a beginning of the text
--- of
--- the run.
+-- of the run.
 pub record HasWrittenFront (o : Options) (bytes old new : Option (List ℕ)) : Type 0 where
   pub script : ScriptValue
   pub answers : List (List Answer)

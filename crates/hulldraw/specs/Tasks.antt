@@ -1,7 +1,6 @@
 -- What an accepted command line asks for: only numbers within their limits, a path that is one of its words, and of a
--- film
--- no line and no bridges.
-use Rattle.std.specs.Prelude.{◌≡◌, ◌≤◌, ℕ, List, map, slice_get, Some, None, true, false, string_bytes}
+-- film no line and no bridges.
+use Rattle.std.specs.Prelude.{◌≡◌, ◌≤◌, ℕ, List, map, slice_get, Some, None, true, false}
 use Rattle.std.specs.Borrow.{Bor}
 use Rattle.hulldraw.specs.declared.options.Task.{Task}
 use Rattle.hulldraw.specs.declared.options.TheConstants.{SIZE_LEAST, SIZE_LIMIT}

@@ -16,8 +16,7 @@ LowerBridgeIsUnique l r =
     (p q a b : Pair) → IsAllBefore l r → IsLowerBridge l r p q → IsLowerBridge l r a b → (p ≡ a) × (q ≡ b)
 
 -- where a, b, c, d stand in their order and turn right at b and at c, the weights of their crossing have a positive
--- sum,
--- and the point between c and d that has these weights has neither side of the line ab, so it lies on both lines
+-- sum, and the point between c and d that has these weights has neither side of the line ab, so it lies on both lines
 abbrev pub CrossingIsOnBothLines : Type 0
 CrossingIsOnBothLines =
     (a b c d : Pair) → IsBefore a b → IsBefore b c → IsBefore c d → orient a b c <ℤ pos 0 → orient b c d <ℤ pos 0

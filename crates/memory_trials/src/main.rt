@@ -2,8 +2,8 @@
 //!
 //! `memory_trials NAME..` makes each of the named trials, all of them without a name, and writes a line for each: its
 //! name, and the stage in which memory was refused (`whole` where none was that it needs), or `wrong:` and what did not
-//! hold. The status is 0 where nothing was wrong, 1 where something was, and 4 where the words could not be read for want of
-//! memory. Nothing is refused unless something outside the program does it:
+//! hold. The status is 0 where nothing was wrong, 1 where something was, and 4 where the words could not be read for
+//! want of memory. Nothing is refused unless something outside the program does it:
 //! `tests/memory/run.sh` refuses each request for memory in turn, below the C library.
 //!
 //! After a refusal a trial looks at what its function gives back or leaves, and then makes a second attempt, which has

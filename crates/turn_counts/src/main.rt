@@ -1,8 +1,8 @@
 //! How many turns of bridge search the changes of a tree take: the greatest number of one change, and the mean.
 //!
 //! `turn_counts N..` puts N random points of the whole range into a tree (`build`), and then N times takes a random one
-//! out and puts another in (`churn`), for each N from 1 to 1048576; 1000 where none is given. The points come from a fixed
-//! seed. The bound of one change is 10,000, by the contracts of `add_counted` and `remove_counted`.
+//! out and puts another in (`churn`), for each N from 1 to 1048576; 1000 where none is given. The points come from a
+//! fixed seed. The bound of one change is 10,000, by the contracts of `add_counted` and `remove_counted`.
 #![tactic(auto)]
 
 mod random;

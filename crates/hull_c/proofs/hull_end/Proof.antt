@@ -1,8 +1,11 @@
 -- `hull_end` meets its contract.
-use Rattle.hull_reply.proofs.Steps.{◌≡◌, ℕ, ◌++◌, [], ◌∷◌, refl, proved, full_share, id⊢, ftrue, Val, fact, tables, WpFn, ‵}
+use Rattle.hull_reply.proofs.Steps.{◌≡◌, ℕ, ◌++◌, [], ◌∷◌, refl, proved, full_share, id⊢, ftrue, Val, fact, tables}
+use Rattle.hull_reply.proofs.Steps.{WpFn, ‵}
 use Rattle.hull_reply.proofs.Steps.{raw, ◌⊛◌, some, later, prop, at_ret, ◌$◌, ◌∵◌, !, qed, done, move, keep, drop, use1}
-use Rattle.hull_reply.proofs.Steps.{split, join, pick, await, regoal, suffices, group, and_then, no_more, calls_at, framed}
-use Rattle.hull_reply.proofs.Steps.{triple_of, lasts, Lasts, lands_as, u32, w32, uint_Lawful, fjoin, enter, of_opd, stop}
+use Rattle.hull_reply.proofs.Steps.{split, join, pick, await, regoal, suffices, group, and_then, no_more, calls_at}
+use Rattle.hull_reply.proofs.Steps.{framed}
+use Rattle.hull_reply.proofs.Steps.{triple_of, lasts, Lasts, lands_as, u32, w32, uint_Lawful, fjoin, enter, of_opd}
+use Rattle.hull_reply.proofs.Steps.{stop}
 use Rattle.hull_reply.proofs.Steps.{first, blocks, exec, returns, alloc_all, pass_all, free_all, look_at, get, through}
 use Rattle.hull_reply.proofs.Steps.{sets, sets_last, env, yes, Ptr, RawPtr, block_ptr, lies_at, in_a_block, rawptr_vals}
 use Rattle.hull_reply.proofs.Steps.{rawptr_Tells, plain, nothing, on_entry, Stays, walk_of, stay_dropped, Goes-dropped}

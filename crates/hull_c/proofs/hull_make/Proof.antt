@@ -1,8 +1,12 @@
 -- `hull_make` meets its contract.
-use Rattle.hull_reply.proofs.Steps.{◌++◌, [], ◌∷◌, refl, proved, full_share, id⊢, ftrue, fact, tables, WpFn, ‵, raw, ◌⊛◌}
-use Rattle.hull_reply.proofs.Steps.{some, later, prop, at_ret, ◌$◌, ◌∵◌, !, qed, done, move, keep, drop, use1, split, join}
-use Rattle.hull_reply.proofs.Steps.{pick, await, regoal, suffices, group, heard, fpack, uint_vals, uint_Tells, uint_Makes}
-use Rattle.hull_reply.proofs.Steps.{owned, and_then, no_more, calls_at, framed, triple_of, lasts, Lasts, lands_as, u32, w32}
+use Rattle.hull_reply.proofs.Steps.{◌++◌, [], ◌∷◌, refl, proved, full_share, id⊢, ftrue, fact, tables, WpFn, ‵, raw}
+use Rattle.hull_reply.proofs.Steps.{◌⊛◌}
+use Rattle.hull_reply.proofs.Steps.{some, later, prop, at_ret, ◌$◌, ◌∵◌, !, qed, done, move, keep, drop, use1, split}
+use Rattle.hull_reply.proofs.Steps.{join}
+use Rattle.hull_reply.proofs.Steps.{pick, await, regoal, suffices, group, heard, fpack, uint_vals, uint_Tells}
+use Rattle.hull_reply.proofs.Steps.{uint_Makes}
+use Rattle.hull_reply.proofs.Steps.{owned, and_then, no_more, calls_at, framed, triple_of, lasts, Lasts, lands_as, u32}
+use Rattle.hull_reply.proofs.Steps.{w32}
 use Rattle.hull_reply.proofs.Steps.{uint_Lawful, fjoin, enter, of_opd, stop, first, blocks, exec, returns, alloc_all}
 use Rattle.hull_reply.proofs.Steps.{pass_all, free_all, look_at, get, through, sets, env, yes, Ptr, RawPtr, block_ptr}
 use Rattle.hull_reply.proofs.Steps.{lies_at, in_a_block, rawptr_vals, rawptr_Tells, plain, nothing, Stays, walk_of}

@@ -1,10 +1,13 @@
 -- `hull_tangents` meets its contract: the hull at the pointer is lent for one call, and comes back with what that call
 -- left.
-use Rattle.hull_reply.proofs.Steps.{ℕ, ◌++◌, List, [], ◌∷◌, refl, w64, proved, full_share, id⊢, ftrue, flft, flent, named}
+use Rattle.hull_reply.proofs.Steps.{ℕ, ◌++◌, List, [], ◌∷◌, refl, w64, proved, full_share, id⊢, ftrue, flft, flent}
+use Rattle.hull_reply.proofs.Steps.{named}
 use Rattle.hull_reply.proofs.Steps.{vptr, fact, tables, WpFn, ‵, raw, ◌⊛◌, some, later, prop, at_ret, ◌$◌, ◌∵◌, !, qed}
 use Rattle.hull_reply.proofs.Steps.{done, move, keep, drop, use1, use3, split, join, fsplit, fjoin, fpack, pick, await}
-use Rattle.hull_reply.proofs.Steps.{regoal, suffices, group, enter, of_opd, addr, stop, no_more, and_then, first, blocks}
-use Rattle.hull_reply.proofs.Steps.{exec, returns, alloc_all, pass_all, free_all, look_at, get, through, sets, sets_last}
+use Rattle.hull_reply.proofs.Steps.{regoal, suffices, group, enter, of_opd, addr, stop, no_more, and_then, first}
+use Rattle.hull_reply.proofs.Steps.{blocks}
+use Rattle.hull_reply.proofs.Steps.{exec, returns, alloc_all, pass_all, free_all, look_at, get, through, sets}
+use Rattle.hull_reply.proofs.Steps.{sets_last}
 use Rattle.hull_reply.proofs.Steps.{lands_as, env, lft_new, lft_end, i64, yes, Is, shows, mem, lends_ref, ref_back}
 use Rattle.hull_reply.proofs.Steps.{sint_Lawful, sint_Makes, sint_vals, sint_Tells, Ptr, RawPtr, block_ptr, lies_at}
 use Rattle.hull_reply.proofs.Steps.{in_a_block, rawptr_vals, rawptr_Tells, MutRef, Body, plain, nothing, owned, heard}

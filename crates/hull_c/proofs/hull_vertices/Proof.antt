@@ -1,12 +1,16 @@
 -- `hull_vertices` meets its contract: the hull at the pointer is lent for one call, and comes back with what that call
 -- left.
-use Rattle.hull_reply.proofs.Steps.{ℕ, ◌++◌, List, [], ◌∷◌, refl, proved, full_share, id⊢, ftrue, flft, flent, named, vptr}
+use Rattle.hull_reply.proofs.Steps.{ℕ, ◌++◌, List, [], ◌∷◌, refl, proved, full_share, id⊢, ftrue, flft, flent, named}
+use Rattle.hull_reply.proofs.Steps.{vptr}
 use Rattle.hull_reply.proofs.Steps.{fact, tables, WpFn, ‵, raw, ◌⊛◌, some, later, prop, at_ret, ◌$◌, ◌∵◌, !, qed, done}
-use Rattle.hull_reply.proofs.Steps.{move, keep, drop, use1, use3, split, join, fsplit, fjoin, fpack, pick, await, regoal}
+use Rattle.hull_reply.proofs.Steps.{move, keep, drop, use1, use3, split, join, fsplit, fjoin, fpack, pick, await}
+use Rattle.hull_reply.proofs.Steps.{regoal}
 use Rattle.hull_reply.proofs.Steps.{suffices, group, enter, of_opd, addr, stop, no_more, and_then, first, blocks, exec}
 use Rattle.hull_reply.proofs.Steps.{returns, alloc_all, pass_all, free_all, look_at, get, through, sets, sets_last}
-use Rattle.hull_reply.proofs.Steps.{lands_as, env, lft_new, lft_end, yes, Is, shows, mem, lends_ref, ref_back, Ptr, RawPtr}
-use Rattle.hull_reply.proofs.Steps.{block_ptr, lies_at, in_a_block, rawptr_vals, rawptr_Tells, MutRef, Body, plain, nothing}
+use Rattle.hull_reply.proofs.Steps.{lands_as, env, lft_new, lft_end, yes, Is, shows, mem, lends_ref, ref_back, Ptr}
+use Rattle.hull_reply.proofs.Steps.{RawPtr}
+use Rattle.hull_reply.proofs.Steps.{block_ptr, lies_at, in_a_block, rawptr_vals, rawptr_Tells, MutRef, Body, plain}
+use Rattle.hull_reply.proofs.Steps.{nothing}
 use Rattle.hull_reply.proofs.Steps.{heard, peeks, calls_at, Lasts, lasts, triple_of, Stays, walk_of, stay_dropped}
 use Rattle.hull_reply.proofs.Steps.{Goes-dropped, ends_at, framed}
 use Rattle.hull_tree.specs.contracts.tree.HullTree.{the_row as R}

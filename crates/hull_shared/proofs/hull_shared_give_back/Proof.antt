@@ -6,9 +6,9 @@ use Rattle.hull_reply.proofs.Steps.{ !, qed, done, move, keep, drop, use1, use3,
 use Rattle.hull_reply.proofs.Steps.{pick, await, regoal, suffices, group, enter, of_opd, addr, stop, no_more, and_then}
 use Rattle.hull_reply.proofs.Steps.{first, blocks, exec, returns, alloc_all, pass_all, free_all, look_at, get, through}
 use Rattle.hull_reply.proofs.Steps.{sets, sets_last, lands_as, env, lft_new, lft_end, u32, yes, Is, shows, mem}
-use Rattle.hull_reply.proofs.Steps.{lends_ref, ref_back, uint_Makes, uint_vals, uint_Tells, uint_Lawful, Ptr, RawPtr}
+use Rattle.hull_reply.proofs.Steps.{lends_ref, ref_back, uint_Lawful, Ptr, RawPtr}
 use Rattle.hull_reply.proofs.Steps.{block_ptr, lies_at, in_a_block, rawptr_vals, rawptr_Tells, MutRef, Body, plain}
-use Rattle.hull_reply.proofs.Steps.{nothing, owned, heard, peeks, calls_at, Lasts, lasts, on_entry, triple_of, Stays}
+use Rattle.hull_reply.proofs.Steps.{nothing, heard, peeks, calls_at, Lasts, lasts, on_entry, triple_of, Stays}
 use Rattle.hull_reply.proofs.Steps.{walk_of, stay_dropped, Goes-dropped, ends_at, framed}
 use Rattle.hull_shared.specs.contracts.desk.Desk.{the_row as R}
 use Rattle.hull_shared.specs.contracts.seat.SharedSeat.{the_row as Q}

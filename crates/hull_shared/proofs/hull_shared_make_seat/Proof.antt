@@ -2,7 +2,7 @@
 use Rattle.hull_reply.proofs.Steps.{◌≡◌, ◌++◌, [], ◌∷◌, refl, proved, full_share, id⊢, ftrue, fact, tables, WpFn, ‵}
 use Rattle.hull_reply.proofs.Steps.{raw, ◌⊛◌, some, later, prop, at_ret, ◌$◌, ◌∵◌, !, qed, done, move, keep, drop}
 use Rattle.hull_reply.proofs.Steps.{use1, split, join, fjoin, pick, await, regoal, suffices, group, heard, fpack}
-use Rattle.hull_reply.proofs.Steps.{and_then, no_more, calls_at, framed, triple_of, lasts, Lasts, lands_as, enter}
+use Rattle.hull_reply.proofs.Steps.{no_more, calls_at, framed, triple_of, lasts, Lasts, lands_as, enter}
 use Rattle.hull_reply.proofs.Steps.{of_opd, stop, first, blocks, exec, returns, alloc_all, pass_all, free_all, look_at}
 use Rattle.hull_reply.proofs.Steps.{get, through, sets, env, yes, Ptr, RawPtr, block_ptr, lies_at, in_a_block}
 use Rattle.hull_reply.proofs.Steps.{rawptr_vals, rawptr_Tells, plain, nothing, on_entry, Stays, walk_of, stay_dropped}

@@ -1,7 +1,9 @@
-ghost use Rattle.std.specs.Prelude.{◌≡◌, ◌≤◌, ◌<◌, ◌+◌, ◌++◌, [], ◌∷◌, ℕ, List, IfOk, length, map, MatchOption, Option, Some};
+ghost use Rattle.std.specs.Prelude.{◌≡◌, ◌≤◌, ◌<◌, ◌+◌, ◌++◌, [], ◌∷◌, ℕ, List, IfOk, length, map, MatchOption, Option};
+ghost use Rattle.std.specs.Prelude.{Some};
 ghost use Rattle.hull_book.specs.Scripts.{IsScript, lists_of};
 ghost use Rattle.hull_book.specs.declared.limits.TheConstants.{TEXT_LINE_LIMIT};
-ghost use Rattle.hull_text.specs.ScriptValue.{calls_by, jobs_below, parts, parts_left, script_of, workers_from, workers_in};
+ghost use Rattle.hull_text.specs.ScriptValue.{calls_by, jobs_below, parts, parts_left, script_of, workers_from};
+ghost use Rattle.hull_text.specs.ScriptValue.{workers_in};
 
 use super::item::Item;
 use hull_book::{Phase, Script};

@@ -4,7 +4,8 @@ ghost use Rattle.hull_text.specs.Fault.{IsLineFault};
 ghost use Rattle.hull_text.specs.Version.{coordinate_limit};
 ghost use Rattle.hull_text.specs.Number.{negated, positive};
 ghost use Rattle.hull_text.specs.Told.{TellsNumber};
-ghost use Rattle.hull_text.specs.Field.{Gives, fields_left, coordinate_in, coordinate_at, point_at, direction_at, number_in as number_within, number_at, seat_in, seat_at};
+ghost use Rattle.hull_text.specs.Field.{Gives, fields_left, coordinate_in, coordinate_at, point_at, direction_at};
+ghost use Rattle.hull_text.specs.Field.{number_in as number_within, number_at, seat_in, seat_at};
 
 use super::next_number::next_number;
 use super::number::Number;
@@ -19,7 +20,8 @@ pub(crate) type Rest<'a> = Option<&'a [u8]>;
 #[inline(always)]
 #[tactic(auto, using(crate::proofs::Cut::cut_at, crate::proofs::Cut::cut_none))]
 pub(crate) fn next_field(rest: Rest<'_>) -> Option<(&[u8], Rest<'_>)>
-    ensures { MatchOption result (fields_left rest.entry ≡ []) (λ x. fields_left rest.entry ≡ x.0.now ∷ fields_left x.1) }
+    ensures { MatchOption result (fields_left rest.entry ≡ [])
+        (λ x. fields_left rest.entry ≡ x.0.now ∷ fields_left x.1) }
 {
     let text = rest?;
     for (i, b) in text.iter().enumerate() {
@@ -35,7 +37,8 @@ pub(crate) fn next_field(rest: Rest<'_>) -> Option<(&[u8], Rest<'_>)>
 /// A number behind a minus, as a coordinate.
 #[inline(always)]
 fn negative(version: Version, number: Number<u64>) -> Result<i64, FaultKind>
-    ensures value { (spelled : Option ℕ) → TellsNumber (2 ^ 64) number spelled → result ≡ coordinate_in (coordinate_limit version) (negated spelled) }
+    ensures value { (spelled : Option ℕ) → TellsNumber (2 ^ 64) number spelled
+        → result ≡ coordinate_in (coordinate_limit version) (negated spelled) }
     ensures line { IfErr result IsLineFault }
     ensures small { IfOk result IsCoordinate }
 {
@@ -49,7 +52,8 @@ fn negative(version: Version, number: Number<u64>) -> Result<i64, FaultKind>
 /// A number without a sign, as a coordinate.
 #[inline(always)]
 fn plain(version: Version, number: Number<u64>) -> Result<i64, FaultKind>
-    ensures value { (spelled : Option ℕ) → TellsNumber (2 ^ 64) number spelled → result ≡ coordinate_in (coordinate_limit version) (positive spelled) }
+    ensures value { (spelled : Option ℕ) → TellsNumber (2 ^ 64) number spelled
+        → result ≡ coordinate_in (coordinate_limit version) (positive spelled) }
     ensures line { IfErr result IsLineFault }
     ensures small { IfOk result IsCoordinate }
 {

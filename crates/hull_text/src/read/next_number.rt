@@ -18,8 +18,8 @@ fn are_spelling(digits: &[u8]) -> bool
     !matches!(digits, [] | [b'0', _, ..])
 }
 
-/// The first field of a text as a number, and what is left behind it, by one pass over the field. `None` says nothing: the
-/// field may spell no number, or one of more digits.
+/// The first field of a text as a number, and what is left behind it, by one pass over the field. `None` says nothing:
+/// the field may spell no number, or one of more digits.
 #[inline(always)]
 #[tactic(auto, using(crate::proofs::Cut::cut_at, crate::proofs::Cut::cut_none))]
 fn short_number(text: &[u8]) -> Option<(&[u8], u64, Rest<'_>)>
@@ -52,7 +52,8 @@ fn short_number(text: &[u8]) -> Option<(&[u8], u64, Rest<'_>)>
 #[cold]
 #[inline(never)]
 fn long_number(rest: Rest<'_>) -> Option<(&[u8], Number<u64>, Rest<'_>)>
-    ensures { MatchOption result (fields_left rest.entry ≡ []) (λ x. (fields_left rest.entry ≡ x.0.now ∷ fields_left x.2) × TellsNumber (2 ^ 64) x.1 (number_of x.0.now)) }
+    ensures { MatchOption result (fields_left rest.entry ≡ [])
+        (λ x. (fields_left rest.entry ≡ x.0.now ∷ fields_left x.2) × TellsNumber (2 ^ 64) x.1 (number_of x.0.now)) }
 {
     let (field, after) = next_field(rest)?;
     Some((field, number_in(field), after))
@@ -61,7 +62,8 @@ fn long_number(rest: Rest<'_>) -> Option<(&[u8], Number<u64>, Rest<'_>)>
 /// The next field, the number that it should be, and what is left behind it.
 #[inline(always)]
 pub(crate) fn next_number(rest: Rest<'_>) -> Option<(&[u8], Number<u64>, Rest<'_>)>
-    ensures { MatchOption result (fields_left rest.entry ≡ []) (λ x. (fields_left rest.entry ≡ x.0.now ∷ fields_left x.2) × TellsNumber (2 ^ 64) x.1 (number_of x.0.now)) }
+    ensures { MatchOption result (fields_left rest.entry ≡ [])
+        (λ x. (fields_left rest.entry ≡ x.0.now ∷ fields_left x.2) × TellsNumber (2 ^ 64) x.1 (number_of x.0.now)) }
 {
     if let Some((field, number, after)) = short_number(rest?) {
         return Some((field, Number::Value(number), after));

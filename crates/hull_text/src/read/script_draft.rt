@@ -1,4 +1,5 @@
-ghost use Rattle.std.specs.Prelude.{◌≡◌, ◌≢◌, ◌++◌, ◌∷◌, [], ◌+◌, ◌≤◌, ◌<◌, IfErr, IfOk, MatchResult, OnErr, OnOk, Ok, Err, length};
+ghost use Rattle.std.specs.Prelude.{◌≡◌, ◌≢◌, ◌++◌, ◌∷◌, [], ◌+◌, ◌≤◌, ◌<◌, IfErr, IfOk, MatchResult, OnErr, OnOk, Ok};
+ghost use Rattle.std.specs.Prelude.{Err, length};
 ghost use Rattle.hull_text.specs.Fault.{IsMemoryFault, IsOutside, IsReadFault, fault_at};
 ghost use Rattle.hull_text.specs.ScriptText.{kept, numbered};
 ghost use Rattle.hull_text.specs.ScriptLine.{script_line_of};
@@ -61,7 +62,9 @@ fn add_line(items: &mut Vec<Item>, number: u32, line: &[u8]) -> Result<(), TextF
     requires draft { IsDraft items.old.items number }
     requires whole { HasNoNewline line.now }
     ensures draft { OnOk result (IsDraft items.new.items (number + 1)) }
-    ensures on { OnOk result (ReadsOn (AnswersScript items.old.items number) (AnswersScript items.new.items (number + 1)) (line.now ++ 10 ∷ []) []) }
+    ensures on { OnOk result
+        (ReadsOn (AnswersScript items.old.items number) (AnswersScript items.new.items (number + 1))
+        (line.now ++ 10 ∷ []) []) }
     ensures fault { IfErr result (FailsIn (AnswersScript items.old.items number) (line.now ++ 10 ∷ [])) }
     ensures kept { OnErr result (items.new.items ≡ items.old.items) }
     ensures inside { IfErr result (λ f. ¬ IsReadFault f) }

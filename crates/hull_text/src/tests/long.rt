@@ -50,8 +50,8 @@ fn a_list_of_5000_points_is_read_and_written_back(rt: HostRuntime) -> Result<(),
     Ok(())
 }
 
-// A reader that takes a byte at a call, and a writer that hands on a byte at a call, meet their contracts. A device that
-// is wide enough is read in one call for a block of 65536 bytes, and once more for the end.
+// A reader that takes a byte at a call, and a writer that hands on a byte at a call, meet their contracts. A device
+// that is wide enough is read in one call for a block of 65536 bytes, and once more for the end.
 #[test]
 fn a_wide_device_is_called_once_a_piece(rt: HostRuntime) -> Result<(), Fail> {
     let text = long_text(rt.alloc())?;

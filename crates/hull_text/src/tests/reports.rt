@@ -137,8 +137,8 @@ fn example_answers(alloc: Global) -> Result<Vec<Vec<Answer>>, Fail> {
     Ok(all)
 }
 
-// The report of the example is written to a device that takes pieces of this size and fails at each call in turn: whether
-// the write fault came each time, and a beginning of the text had gone out.
+// The report of the example is written to a device that takes pieces of this size and fails at each call in turn:
+// whether the write fault came each time, and a beginning of the text had gone out.
 fn is_cut_short_at_each_call(
     alloc: Global,
     report: &Report<'_>,

@@ -146,7 +146,8 @@ fn each_failing_read_is_fault_8_in_the_line_being_read(rt: HostRuntime) -> Resul
         }
     }
     assert_eq!(rt; read(rt.alloc(), text, 1, 24), Outcome::Fault(8, 4));
-    // by twos: the third byte of the first line comes with the second read, and the second line's newline with the fifth
+    // by twos: the third byte of the first line comes with the second read, and the second line's newline with the
+    // fifth
     for (call, line) in [(1, 1), (2, 1), (5, 2), (6, 3), (9, 4), (13, 4)] {
         assert_eq!(rt; read(rt.alloc(), text, 2, call), Outcome::Fault(8, line));
     }

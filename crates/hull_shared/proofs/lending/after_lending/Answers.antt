@@ -1,5 +1,5 @@
 -- the room has the seat, or is vacant still
-use Rattle.std.proofs.Common.{◌≡◌, refl, sym, subst}
+use Rattle.std.proofs.Common.{refl, sym, subst}
 use Rattle.std.specs.Prelude.{Result}
 use Rattle.hull_reply.specs.declared.code.Code.{Code}
 use Rattle.hull_shared.specs.Desks.{ComesTo}

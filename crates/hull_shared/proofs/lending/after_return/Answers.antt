@@ -1,5 +1,5 @@
 -- the room is vacant, or has the seat still
-use Rattle.std.proofs.Common.{◌≡◌, refl, sym, subst}
+use Rattle.std.proofs.Common.{refl, sym, subst}
 use Rattle.std.specs.Prelude.{Option}
 use Rattle.hull_shared.specs.Desks.{IsLeftWith}
 use Rattle.hull_shared.specs.declared.seat.IdleSeat.{IdleSeat}

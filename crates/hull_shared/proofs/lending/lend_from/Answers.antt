@@ -1,6 +1,6 @@
 -- the seat that goes out was at home in its place
-use Rattle.std.proofs.Common.{◌≡◌, ◌<◌, ◌+◌, ℕ, List, Some, slice_get, length, refl, sym, ap, subst, ◌∙◌, arith}
-use Rattle.std.specs.Prelude.{Option, None, slice_set}
+use Rattle.std.proofs.Common.{◌≡◌, ◌<◌, ℕ, Some, slice_get, length, refl, sym, ap, subst, arith}
+use Rattle.std.specs.Prelude.{Option, slice_set}
 use Rattle.std.specs.Mem.{manually_drop_value}
 use Rattle.std.specs.declared.mem.ManuallyDrop.{ManuallyDrop}
 use Rattle.std.proofs.lemmas.Option.{slice_get_read}
@@ -40,7 +40,8 @@ invariant_of-desk c = let d = c.args.desk in record {
     seats = d.laid_out.seats;
     workers = d.laid_out.workers;
     at_home = home_without
-        (lock_of d.lock) d.seats d.places.list.items c.in-Some.j c.take.new.self c.take.ensures.after d.laid_out.at_home;
+        (lock_of d.lock) d.seats d.places.list.items c.in-Some.j c.take.new.self
+        c.take.ensures.after d.laid_out.at_home;
     no_seats = d.laid_out.no_seats;
     no_ledgers = d.laid_out.no_ledgers;
   };

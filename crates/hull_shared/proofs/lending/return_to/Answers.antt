@@ -1,10 +1,10 @@
 -- the seat that comes back is at home in its place
-use Rattle.std.proofs.Common.{◌≡◌, ◌+◌, ℕ, List, Some, slice_get, length, refl, sym, ap, subst, ◌∙◌, arith}
-use Rattle.std.specs.Prelude.{Option, None, slice_set}
+use Rattle.std.proofs.Common.{◌≡◌, ℕ, Some, slice_get, length, refl, sym, ap, subst, arith}
+use Rattle.std.specs.Prelude.{Option, slice_set}
 use Rattle.std.proofs.lemmas.Option.{slice_get_read}
 use Rattle.hull_book.specs.Ledgers.{IsLedgerOf}
 use Rattle.hull_pool.specs.Crews.{book_head}
-use Rattle.ticket_lock.specs.Tokens.{IsSeatOf, seat_number, seat_seen}
+use Rattle.ticket_lock.specs.Tokens.{IsSeatOf, seat_seen}
 use Rattle.hull_shared.specs.Locks.{HullLock, lock_of}
 use Rattle.hull_shared.specs.Places.{IsAtHome}
 use Rattle.hull_shared.specs.declared.place.Place.{Place}

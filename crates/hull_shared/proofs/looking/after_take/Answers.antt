@@ -1,5 +1,5 @@
 -- a seat with no number has taken one for the call that was asked for
-use Rattle.std.proofs.Common.{◌≡◌, refl}
+use Rattle.std.proofs.Common.{refl}
 use Rattle.hull_shared.proofs.looking.after_take.Goals as goal
 
 pub returns-in-Ok : goal.returns-in-Ok

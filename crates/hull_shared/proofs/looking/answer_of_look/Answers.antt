@@ -1,5 +1,5 @@
 -- the reply of a call that was served is allowed, so it is none of sets that do not count
-use Rattle.std.proofs.Common.{◌≡◌, ℕ, List, Ok, Err}
+use Rattle.std.proofs.Common.{ℕ, List, Ok, Err}
 use Rattle.std.specs.Prelude.{◌≢◌, IfOk}
 use Rattle.hull_book.specs.Answers.{Answer}
 use Rattle.hull_book.specs.History.{held_after}

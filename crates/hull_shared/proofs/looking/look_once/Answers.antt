@@ -4,8 +4,8 @@ use Rattle.hull_book.specs.declared.head.BookHead.{BookHead}
 use Rattle.hull_book.specs.declared.head.Head.{Head}
 use Rattle.hull_pool.specs.Work.{HasServed}
 use Rattle.hull_pool.proofs.Called.{found_ledger, found_own}
-use Rattle.ticket_lock.specs.Tokens.{guard_book, guard_number, seat_seen, ticket_number, ticket_seen}
-use Rattle.hull_shared.specs.Locks.{HullLock, book_of, head_of, lock_of}
+use Rattle.ticket_lock.specs.Tokens.{guard_book, seat_seen, ticket_number, ticket_seen}
+use Rattle.hull_shared.specs.Locks.{HullLock, book_of, lock_of}
 use Rattle.hull_shared.proofs.looking.look_once.Goals as goal
 
 pub serve_and_hand_on_awake-seat-requires-clause-ledger : goal.serve_and_hand_on_awake-seat-requires-clause-ledger

@@ -1,5 +1,5 @@
 -- the ledgers that were made with the book are all of its own
-use Rattle.std.proofs.Common.{◌≡◌, sym, subst}
+use Rattle.std.proofs.Common.{sym, subst}
 use Rattle.hull_book.specs.Books.{BookValue}
 use Rattle.hull_book.specs.Ledgers.{AreAllLedgers}
 use Rattle.hull_book.proofs.Counts.{all_in_order}

@@ -1,7 +1,7 @@
 -- the seat of the last place that is left has the number behind those that are gathered
-use Rattle.std.proofs.Common.{rules, ◌≡◌, ◌<◌, ◌≤◌, ◌+◌, ◌-◌, ℕ, List, [], ◌∷◌, ◌++◌, length, All, IsSome, Some}
-use Rattle.std.proofs.Common.{slice_get, refl, sym, ap, subst, ◌∙◌, arith, length-append, inl, inr, vec_len}
-use Rattle.std.specs.Prelude.{Option, None}
+use Rattle.std.proofs.Common.{rules, ◌≡◌, ◌<◌, ◌+◌, ◌-◌, ℕ, List, [], ◌∷◌, ◌++◌, length, IsSome, Some}
+use Rattle.std.proofs.Common.{slice_get, sym, ap, subst, ◌∙◌, arith, length-append, inl, inr, vec_len}
+use Rattle.std.specs.Prelude.{Option}
 use Rattle.std.proofs.lemmas.Option.{slice_get_within}
 use Rattle.hull_book.specs.Ledgers.{IsLedgerOf}
 use Rattle.hull_pool.specs.Crews.{book_head}
@@ -47,7 +47,8 @@ loop-place-preserved c =
       numbers = numbered_push (λ s. seat_number s) seats c.push_reserved.new.self.items p.seat more inv.numbers number;
       counts = zipped_push
           (λ s k. IsLedgerOf (seat_number s)
-          (seat_seen s) k) seats c.push_reserved.new.self.items c.loop-place.ledgers.items c.push_reserved-in-Some.new.self.items p.seat p.ledger more more2 inv.counts is.counts;
+          (seat_seen s) k) seats c.push_reserved.new.self.items c.loop-place.ledgers.items
+          c.push_reserved-in-Some.new.self.items p.seat p.ledger more more2 inv.counts is.counts;
       left = λ j q at lt. get_before list c.in-Some.place j (Some q)
           (subst (λ (z : List (Option Place)). HasAt z j q) e (inv.left j q at (omega (arith, long)))) lt;
       gathered = λ i j q at le sum. elim (same_or_more (length list) j le) as

@@ -1,9 +1,8 @@
 -- the last seat that is left, with its ledger, goes behind those that are laid out
-use Rattle.std.proofs.Common.{rules, ◌≡◌, ◌<◌, ◌≤◌, ◌+◌, ℕ, List, [], ◌∷◌, ◌++◌, length, All, IsSome, Some, slice_get}
+use Rattle.std.proofs.Common.{rules, ◌≡◌, ◌+◌, List, [], ◌∷◌, ◌++◌, length, IsSome, Some, slice_get}
 use Rattle.std.proofs.Common.{refl, sym, ap, subst, ◌∙◌, arith, length-append, inl, inr}
-use Rattle.std.specs.Prelude.{Option, slice_index_or, option_to_list}
-use Rattle.std.proofs.lemmas.Option.{slice_get_within, get_or_from_slice_get}
-use Rattle.hull_book.specs.Ledgers.{LedgerValue, IsLedger, IsLedgerOf, count_of}
+use Rattle.std.specs.Prelude.{Option, option_to_list}
+use Rattle.hull_book.specs.Ledgers.{LedgerValue, IsLedger, count_of}
 use Rattle.hull_book.specs.declared.line.Line.{Line}
 use Rattle.hull_pool.specs.Crews.{book_head}
 use Rattle.ticket_lock.specs.Tokens.{IsSeatOf, seat_count, seat_number, seat_seen}

@@ -13,7 +13,8 @@ loop-i-preserved c =
     let i = c.loop-i.i in
     let text = c.args.text.now in
     let next : suc i ≡ i + 1 = omega arith in
-    let more = digits_next text i 0 c.loop-i.value c.loop-i-test.true c.if-b-lt48.false c.if-b-gt57.false c.loop-i.invariant.digits in
+    let more = digits_next text i 0 c.loop-i.value c.loop-i-test.true c.if-b-lt48.false c.if-b-gt57.false
+    c.loop-i.invariant.digits in
     record {
       digits = rw c.from.ensures
           (subst (λ (n : ℕ). digits_after 0 (take n text)

@@ -8,7 +8,8 @@ use Rattle.hull_text.proofs.write.fitting.has_calls.Goals as goal
 pub loop-phase-preserved : goal.loop-phase-preserved
 loop-phase-preserved c =
     let here = c.in-Some.ensures.cases.0 in
-    let long = calls_long c.args.worker c.in-Some.phase.now _ c.in-Some.after.now c.calls-calls.result.now here c.calls-calls.ensures in
+    let long = calls_long c.args.worker c.in-Some.phase.now _ c.in-Some.after.now c.calls-calls.result.now here
+    c.calls-calls.ensures in
     record {
       left = omega (arith, long, c.loop-phase.invariant.left, c.if-left-calls.false);
       jobs = all_after (λ (phase : PhaseValue). length phase

@@ -12,7 +12,8 @@ loop-phase-preserved g c =
       chained = rw c.split_at.ensures.back (chained_more _ _ _ _ _ _ _ _ _ _ _ _ _ c.loop-phase.invariant.chained
           (phases_cons c.args.worker c.in-Some.phase.now _ c.in-Some.after.now c.loop-phase.answers.now
           c.calls-calls.result.now here c.calls-calls.ensures)
-          (rw c.split_at.ensures.front at c.answers_after-done.ensures.wrote) c.answers_after-done.ensures.kept c.answers_after-done.ensures.was);
+          (rw c.split_at.ensures.front at c.answers_after-done.ensures.wrote)
+          c.answers_after-done.ensures.kept c.answers_after-done.ensures.was);
       answered = omega (
         arith,
         c.split_at.ensures.back_len,
