@@ -7,12 +7,10 @@ use crate::chronicle::Chronicle;
 use crate::guard::Guard;
 use crate::lock::TicketLock;
 use crate::seat::Seat;
+use crate::sleepers::NEAR;
 use crate::ticket::Look;
 use crossbeam_utils::Backoff;
 use std::sync::Wait;
-
-/// So many numbers before its own a seat is near its turn. It is at most 8, the number of grant words.
-const NEAR: u64 = 2;
 
 impl<B: Chronicle> TicketLock<B> {
     /// Takes a number, and looks until it is served. Near its turn it pauses between two looks, for longer each time,
@@ -36,7 +34,7 @@ impl<B: Chronicle> TicketLock<B> {
                 Look::Entered(guard) => return guard,
                 Look::NotYet(same) => ticket = same,
             }
-            if looks < self.sleepers.patience && self.is_near(ticket.number) {
+            if looks < self.sleepers.patience() && self.is_near(ticket.number) {
                 backoff.spin();
                 looks += 1;
             } else {
