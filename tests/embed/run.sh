@@ -137,9 +137,9 @@ else
     skip "the walks beside their patterns" python3
 fi
 what=
-if [ ! -x "$top/crates/hullbook/out/hullbook" ]; then
+if [ ! -x "$top/crates/hullbook/out/hullbook" ] || [ ! -x "$top/crates/hulldraw/out/hulldraw" ]; then
     what=--library
-    skip "the program's installation" "crates/hullbook/out/hullbook"
+    skip "the programs' installation" "crates/hullbook/out/hullbook or crates/hulldraw/out/hulldraw"
 fi
 # shellcheck disable=SC2086 # no word where there is no option
 try "bin/install" "$top/bin/install" $what "$prefix"
