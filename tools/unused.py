@@ -40,6 +40,8 @@ def main(crates):
         body = IMPORT.sub("", text)
         for _, names in IMPORT.findall(text):
             for name in (n.strip().split(" as ")[-1] for n in names.split(",")):
+                if name == "◌>>=◌" and "←" in body:
+                    continue  # each step of a `do` names it
                 if any(part not in body for part in name.split("◌")):
                     print(f"{'/'.join(parts)}: imports {name}, and does not use it")
 

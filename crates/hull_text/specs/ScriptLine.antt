@@ -6,7 +6,7 @@ use Rattle.hull_text.specs.declared.fault.FaultKind.TheVariants.{Form}
 use Rattle.hull_text.specs.Item.{Item}
 use Rattle.hull_text.specs.Version.{newest}
 use Rattle.hull_text.specs.Form.{has_form}
-use Rattle.hull_text.specs.Field.{Field, fields_of, seat_at, ended}
+use Rattle.hull_text.specs.Field.{Field, ◌>>=◌, fields_of, seat_at, ended}
 use Rattle.hull_text.specs.Call.{call_at}
 
 -- a worker and its call
