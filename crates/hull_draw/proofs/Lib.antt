@@ -1,5 +1,6 @@
 pub mod Pieces
 pub mod Rows
+pub mod MarkLabels
 pub mod Edges
 pub mod Levels
 pub mod ManyScenes

@@ -1,36 +1,13 @@
--- What a picture says in words: beside the points how often they are held, and below them the numbers of the set.
-use Rattle.std.specs.Prelude.{◌==◌, ◌+◌, ◌*◌, ◌/◌, leb, ℕ, ℤ, List, [], ◌∷◌, ◌++◌, length, Option, Some, None, codes}
+-- What a picture says in words below its square: the numbers of the set, and how far its journal was replayed.
+use Rattle.std.specs.Prelude.{◌==◌, ◌+◌, ℕ, ℤ, List, [], ◌∷◌, ◌++◌, length, Option, Some, None, codes}
 use Rattle.std.specs.Prelude.{if◌then◌else◌}
 use Rattle.std.specs.Fmt.{signed_decimal}
 use Rattle.hull_draw.specs.declared.bridges.Bridge.{Bridge}
-use Rattle.hull_draw.specs.declared.marks.Mark.{Mark}
-use Rattle.hull_draw.specs.declared.marks.TheConstants.{LABEL_LIMIT}
 use Rattle.hull_draw.specs.declared.frame.Frame.{Frame}
 use Rattle.hull_draw.specs.declared.legend.TheConstants.{BRIDGES_TOLD}
-use Rattle.hull_draw.specs.Frames.{across, down, side_of}
 use Rattle.hull_draw.specs.Scenes.{SceneValue}
 use Rattle.hull_draw.specs.Shapes.{step_of}
-use Rattle.hull_draw.specs.Texts.{told, texts}
-
--- how far from an edge of the screen's square, whose side is `size`, what lies n from that of the plane's
-abbrev pub place_on_screen : ℕ → Frame → ℕ → ℕ
-place_on_screen size frame n = n * size / side_of frame
-
--- beside a point that is held more than once, how often it is
-abbrev pub label_text : ℕ → Frame → Mark → List ℕ
-label_text size frame m = if m.times == 1
-    then []
-    else told (codes "<text class='t' x='") (place_on_screen size frame (across frame m.point) + 39)
-    ++ told (codes "' y='") (place_on_screen size frame (down frame m.point) + 26) ++ told (codes "'>") m.times
-    ++ codes "</text>\n"
-
--- the marks that have labels: none where there are too many to be read
-abbrev pub labelled : List Mark → List Mark
-labelled marks = if leb (length marks) LABEL_LIMIT then marks else []
-
--- the labels
-abbrev pub labels_text : ℕ → Frame → List Mark → List ℕ
-labels_text size frame marks = texts (label_text size frame) (labelled marks)
+use Rattle.hull_draw.specs.Texts.{told}
 
 -- where a line of the legend begins
 abbrev pub line_start : ℕ → ℕ → List ℕ

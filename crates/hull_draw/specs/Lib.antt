@@ -4,6 +4,7 @@ pub mod Frames
 pub mod Scenes
 pub mod Texts
 pub mod Shapes
+pub mod Labels
 pub mod Legends
 pub mod Pictures
 pub mod Films

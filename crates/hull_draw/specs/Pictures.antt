@@ -3,7 +3,8 @@ use Rattle.std.specs.Prelude.{◌+◌, ℕ, List, ◌++◌, Option, Some, None, 
 use Rattle.hull_draw.specs.declared.frame.Frame.{Frame}
 use Rattle.hull_draw.specs.declared.picture.TheConstants.{STYLE, EMPTY}
 use Rattle.hull_draw.specs.Frames.{side_of}
-use Rattle.hull_draw.specs.Legends.{labels_text, legend_text}
+use Rattle.hull_draw.specs.Labels.{labels_text}
+use Rattle.hull_draw.specs.Legends.{legend_text}
 use Rattle.hull_draw.specs.Scenes.{SceneValue}
 use Rattle.hull_draw.specs.Shapes.{square_text, shapes_text}
 use Rattle.hull_draw.specs.Texts.{told}

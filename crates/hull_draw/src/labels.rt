@@ -1,12 +1,29 @@
-ghost use Rattle.std.specs.Prelude.{◌≡◌, ◌<◌, ◌≤◌, ◌-◌, ◌^◌, OnOk, IsOk};
+ghost use Rattle.std.specs.Prelude.{◌≡◌, ◌<◌, ◌≤◌, ◌-◌, ◌^◌, OnOk, IsOk, None};
 ghost use Rattle.text_io.specs.Write.{WritesOn};
 ghost use Rattle.hull_draw.specs.Texts.{texts};
-ghost use Rattle.hull_draw.specs.Legends.{place_on_screen, label_text, labels_text};
+ghost use Rattle.hull_draw.specs.Labels.{place_on_screen, label_place, is_clear, has_label, labelled};
+ghost use Rattle.hull_draw.specs.Labels.{label_text, mark_label_text, labels_text};
 
 use super::frame::Frame;
 use super::marks::{LABEL_LIMIT, Mark};
 use super::shapes::{Done, told_after};
+use lattice::Point;
 use text_io::{Sink, put_after};
+
+/// How far to the left or to the right of the last label the next one lies clear of it, in units of the picture.
+pub const LABEL_WIDTH: u64 = 18;
+
+/// How far above or below the last label the next one lies clear of it, in units of the picture.
+pub const LABEL_HEIGHT: u64 = 13;
+
+/// Where a label begins on the screen.
+#[derive(Clone, Copy)]
+pub(crate) struct Place {
+    /// How far from the left edge of the picture.
+    x: u64,
+    /// How far from its upper edge.
+    y: u64,
+}
 
 /// How far from an edge of the screen's square lies what is so far from that of the plane's.
 fn place_on_screen(size: u64, frame: &Frame, distance: u64) -> u64
@@ -18,27 +35,51 @@ fn place_on_screen(size: u64, frame: &Frame, distance: u64) -> u64
     distance * size / frame.side()
 }
 
-/// Writes how often a point is held, where it is held more than once.
-fn label_after<W: Sink>(done: Done, out: &mut W, size: u64, frame: &Frame, mark: Mark) -> Done
-    requires room { OnOk done (W.failed out.old < 2 ^ 64 - 1) }
+/// Where the label beside a point begins.
+fn label_place(size: u64, frame: &Frame, point: Point) -> Place
     requires small { size < 2 ^ 20 }
+    ensures { result ≡ label_place size frame.now point }
+{
+    Place {
+        x: place_on_screen(size, frame, frame.across(point)) + 39,
+        y: place_on_screen(size, frame, frame.down(point)) + 26,
+    }
+}
+
+/// Whether a label at the second place lies clear of the one at the first, if there is one.
+fn is_clear(last: Option<Place>, place: Place) -> bool
+    ensures { result ≡ is_clear last place }
+{
+    match last {
+        None => true,
+        Some(last) => {
+            last.x.abs_diff(place.x) >= LABEL_WIDTH || last.y.abs_diff(place.y) >= LABEL_HEIGHT
+        }
+    }
+}
+
+/// Whether a point that is held so often has a label at its place, where the last one before it lies there.
+fn has_label(last: Option<Place>, place: Place, times: u32) -> bool
+    ensures { result ≡ has_label last place times }
+{
+    times != 1 && is_clear(last, place)
+}
+
+/// Writes a label.
+fn label_after<W: Sink>(done: Done, out: &mut W, place: Place, times: u32) -> Done
+    requires { OnOk done (W.failed out.old < 2 ^ 64 - 1) }
     ensures wrote { WritesOn done result (W.contents out.old) (W.contents out.new) (W.failed out.old) (W.failed out.new)
-        (label_text size frame.now mark) }
+        (label_text place times) }
     ensures kept { OnOk result (W.failed out.new ≡ W.failed out.old) }
     ensures was { OnOk result (IsOk done) }
 {
-    if mark.times == 1 {
-        return done;
-    }
-    let x = place_on_screen(size, frame, frame.across(mark.point)) + 39;
-    let y = place_on_screen(size, frame, frame.down(mark.point)) + 26;
-    let done = told_after(done, out, b"<text class='t' x='", x);
-    let done = told_after(done, out, b"' y='", y);
-    let done = told_after(done, out, b"'>", mark.times);
+    let done = told_after(done, out, b"<text class='t' x='", place.x);
+    let done = told_after(done, out, b"' y='", place.y);
+    let done = told_after(done, out, b"'>", times);
     put_after(done, out, b"</text>\n")
 }
 
-/// Writes the labels of marks.
+/// Writes the labels of those of the marks that have one.
 #[tactic(auto, using(hull_text::proofs::Chains::chained_start, hull_text::proofs::Chains::chained_end))]
 fn all_labels_after<W: Sink>(
     done: Done,
@@ -50,20 +91,25 @@ fn all_labels_after<W: Sink>(
     requires room { OnOk done (W.failed out.old < 2 ^ 64 - 1) }
     requires small { size < 2 ^ 20 }
     ensures wrote { WritesOn done result (W.contents out.old) (W.contents out.new) (W.failed out.old) (W.failed out.new)
-        (texts (label_text size frame.now) marks.now) }
+        (texts (mark_label_text size frame.now) (labelled size frame.now None marks.now)) }
     ensures kept { OnOk result (W.failed out.new ≡ W.failed out.old) }
     ensures was { OnOk result (IsOk done) }
 {
     let mut done = done;
     let mut rest = marks;
+    let mut last = None;
     while let Some((mark, after)) = rest.split_first() {
-        done = label_after(done, out, size, frame, *mark);
+        let place = label_place(size, frame, mark.point);
+        if has_label(last, place, mark.times) {
+            done = label_after(done, out, place, mark.times);
+            last = Some(place);
+        }
         rest = after;
     }
     done
 }
 
-/// Writes the labels of the marks that have one.
+/// Writes the labels, where the marks are few enough.
 pub(crate) fn labels_after<W: Sink>(
     done: Done,
     out: &mut W,
@@ -78,10 +124,10 @@ pub(crate) fn labels_after<W: Sink>(
     ensures kept { OnOk result (W.failed out.new ≡ W.failed out.old) }
     ensures was { OnOk result (IsOk done) }
 {
-    let labelled = if marks.len() <= LABEL_LIMIT {
+    let readable = if marks.len() <= LABEL_LIMIT {
         marks
     } else {
         &[]
     };
-    all_labels_after(done, out, size, frame, labelled)
+    all_labels_after(done, out, size, frame, readable)
 }

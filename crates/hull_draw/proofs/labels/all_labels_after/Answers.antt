@@ -1,12 +1,23 @@
--- The item's text stands before those of the items behind it.
+-- The label of a mark that has one stands before those of the marks behind it; another mark has none.
+use Rattle.std.proofs.Common.{sym, ◌∙◌}
 use Rattle.hull_text.proofs.Chains.{chained_end, chained_more}
-use Rattle.hull_draw.proofs.Rows.{texts_cons, texts_none}
+use Rattle.hull_draw.proofs.MarkLabels.{label_cons, label_passed, label_none}
+use Rattle.hull_draw.proofs.Pieces.{chained_same}
 use Rattle.hull_draw.proofs.labels.all_labels_after.Goals as goal
 
+pub loop-mark-preserved-then-has_label : goal.loop-mark-preserved-then-has_label
+loop-mark-preserved-then-has_label g c = chained_more _ _ _ _ _ _ _ _ _ _ _ _ _ c.loop-mark.invariant
+    (label_cons c.args.size c.args.frame.now c.loop-mark.last c.label_place-place.result c.in-Some.mark.now
+    c.in-Some.after.now _ c.label_place-place.ensures (sym c.has_label.ensures ∙ c.if-has_label.true)
+    c.in-Some.ensures.cases.0)
+    c.label_after-done.ensures.wrote c.label_after-done.ensures.kept c.label_after-done.ensures.was
+
 pub loop-mark-preserved : goal.loop-mark-preserved
-loop-mark-preserved g c = chained_more _ _ _ _ _ _ _ _ _ _ _ _ _ c.loop-mark.invariant
-    (texts_cons _ c.in-Some.mark.now c.in-Some.after.now _ c.in-Some.ensures.cases.0) c.label_after-done.ensures.wrote
-    c.label_after-done.ensures.kept c.label_after-done.ensures.was
+loop-mark-preserved g c = chained_same _ _ _ _ _ _ _ _ _ c.loop-mark.invariant
+    (label_passed c.args.size c.args.frame.now c.loop-mark.last c.label_place-place.result c.in-Some.mark.now
+    c.in-Some.after.now _ c.label_place-place.ensures (sym c.has_label.ensures ∙ c.if-has_label.false)
+    c.in-Some.ensures.cases.0)
 
 pub returns-clause-wrote : goal.returns-clause-wrote
-returns-clause-wrote g c = chained_end _ _ _ _ _ _ _ _ c.loop-mark.invariant (texts_none _ _ c.in_default.ensures.cases)
+returns-clause-wrote g c =
+    chained_end _ _ _ _ _ _ _ _ c.loop-mark.invariant (label_none _ _ _ _ c.in_default.ensures.cases)

@@ -2,7 +2,7 @@
 use Rattle.std.proofs.Common.{◌≡◌, subst, sym, List, ℕ, rules}
 use Rattle.text_io.specs.Write.{WritesOn, WritesText}
 use Rattle.hull_draw.specs.declared.marks.Mark.{Mark}
-use Rattle.hull_draw.specs.Legends.{labels_text}
+use Rattle.hull_draw.specs.Labels.{labels_text}
 use Rattle.hull_draw.proofs.Pieces.{four_pieces}
 use Rattle.hull_draw.proofs.picture.set_after.Goals as goal
 
