@@ -1,8 +1,8 @@
 #!/bin/sh
 # Draws each journal of journals/ with the built program and compares the picture with the one in docs/pictures, byte for
-# byte; then counts what stands in the picture of 100,000 points whose hull is known, tries messages and statuses, and
-# refuses each request for memory in turn. With the word `new` it writes the pictures in docs/pictures instead. The last
-# line counts, and the status is not 0 where something else came.
+# byte; counts the labels of points that lie near, and what stands in the picture of 100,000 points whose hull is known,
+# tries messages and statuses, and refuses each request for memory in turn. With the word `new` it writes the pictures in
+# docs/pictures instead. The last line counts, and the status is not 0 where something else came.
 set -u
 here=$(cd "$(dirname "$0")" && pwd)
 top=$(cd "$here/../.." && pwd)
@@ -48,6 +48,10 @@ picture near near
 picture wrong-line wrong
 picture film film --film
 [ "$new" != new ] || exit 0
+
+# points a unit apart at two corners: all are drawn, and of their labels one at each corner, which lies over no other
+said 'the dots of near points, and of their corners' "$(grep -o 'h0' "$room/near.svg" | wc -l)" $((7 + 4))
+said 'the labels of near points' "$(sed -n "s/.*class='t'.*>\([0-9]*\)<.*/\1/p" "$room/near.svg" | tr '\n' ' ')" '3 12 '
 
 # 99,996 points inside a square of side 2,000,000, on different verticals, and its four corners
 awk 'BEGIN {
