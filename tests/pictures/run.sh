@@ -1,8 +1,8 @@
 #!/bin/sh
-# Draws each journal of journals/ with the built program and compares the picture with the one in docs/pictures, byte for
-# byte; counts the labels of points that lie near, and what stands in the picture of 100,000 points whose hull is known,
-# tries messages and statuses, and refuses each request for memory in turn. With the word `new` it writes the pictures in
-# docs/pictures instead. The last line counts, and the status is not 0 where something else came.
+# Draws each journal of journals/ with the built program and compares the picture with the one in docs/pictures, byte
+# for byte; counts the labels of points that lie near, and what stands in the picture of 100,000 points whose hull is
+# known, tries messages and statuses, and refuses each request for memory in turn. With the word `new` it writes the
+# pictures in docs/pictures instead. The last line counts, and the status is not 0 where something else came.
 set -u
 here=$(cd "$(dirname "$0")" && pwd)
 top=$(cd "$here/../.." && pwd)

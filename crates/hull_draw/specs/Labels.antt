@@ -1,6 +1,6 @@
 -- The labels of a picture: beside the points how often they are held.
-use Rattle.std.specs.Prelude.{◌==◌, ◌+◌, ◌*◌, ◌/◌, ◌&&◌, ◌||◌, leb, not, ℕ, List, [], ◌∷◌, ◌++◌, length, Option, Some, None}
-use Rattle.std.specs.Prelude.{Bool, true, codes, if◌then◌else◌}
+use Rattle.std.specs.Prelude.{◌==◌, ◌+◌, ◌*◌, ◌/◌, ◌&&◌, ◌||◌, leb, not, ℕ, List, [], ◌∷◌, ◌++◌, length, Option}
+use Rattle.std.specs.Prelude.{Some, None, Bool, true, codes, if◌then◌else◌}
 use Rattle.std.specs.Int.{abs_diff}
 use Rattle.lattice.specs.Plane.{Pair}
 use Rattle.hull_draw.specs.declared.marks.Mark.{Mark}

@@ -10,13 +10,13 @@ use super::shapes::{Done, told_after};
 use lattice::Point;
 use text_io::{Sink, put_after};
 
-/// How far to the left or to the right of the last label the next one lies clear of it, in units of the picture.
+/// How far to the left or to the right of the last label the next one lies clear of it, in points of the screen.
 pub const LABEL_WIDTH: u64 = 18;
 
-/// How far above or below the last label the next one lies clear of it, in units of the picture.
+/// How far above or below the last label the next one lies clear of it, in points of the screen.
 pub const LABEL_HEIGHT: u64 = 13;
 
-/// Where a label begins on the screen.
+/// Where a label begins, in points of the screen.
 #[derive(Clone, Copy)]
 pub(crate) struct Place {
     /// How far from the left edge of the picture.
@@ -58,7 +58,7 @@ fn is_clear(last: Option<Place>, place: Place) -> bool
     }
 }
 
-/// Whether a point that is held so often has a label at its place, where the last one before it lies there.
+/// Whether a point that is held so often has a label at its place, where the last one before it lies at `last`.
 fn has_label(last: Option<Place>, place: Place, times: u32) -> bool
     ensures { result ≡ has_label last place times }
 {
@@ -79,7 +79,7 @@ fn label_after<W: Sink>(done: Done, out: &mut W, place: Place, times: u32) -> Do
     put_after(done, out, b"</text>\n")
 }
 
-/// Writes the labels of those of the marks that have one.
+/// Writes the labels of those marks that have one.
 #[tactic(auto, using(hull_text::proofs::Chains::chained_start, hull_text::proofs::Chains::chained_end))]
 fn all_labels_after<W: Sink>(
     done: Done,
