@@ -2,37 +2,37 @@
 use Rattle.std.proofs.Common.{◌≡◌, ◌++◌, ℕ, List, [], ◌∷◌, Option, Some, Bool, true, false, length, refl, sym, ap}
 use Rattle.std.proofs.Common.{◌∙◌, arith, if◌then◌else◌}
 use Rattle.hull_draw.specs.declared.frame.Frame.{Frame}
-use Rattle.hull_draw.specs.declared.labels.Place.{Place}
+use Rattle.hull_draw.specs.declared.labels.Spot.{Spot}
 use Rattle.hull_draw.specs.declared.marks.Mark.{Mark}
 use Rattle.hull_draw.specs.Labels.{label_place, has_label, labelled, label_text, mark_label_text}
 use Rattle.hull_draw.specs.Texts.{texts}
 
 -- what is labelled of a mark and those behind it
-labelled_cons : (size : ℕ) (frame : Frame) (last : Option Place) (place : Place) (m : Mark) (after rest : List Mark)
+labelled_cons : (size : ℕ) (frame : Frame) (last : Option Spot) (place : Spot) (m : Mark) (after rest : List Mark)
     (b : Bool) → place ≡ label_place size frame m.point → has_label last place m.times ≡ b → rest ≡ m ∷ after
     → labelled size frame last rest
     ≡ (if b then m ∷ labelled size frame (Some place) after else labelled size frame last after)
 unfolding labelled
 labelled_cons size frame last place m after rest b at has e =
     ap (labelled size frame last) e
-    ∙ ap (λ (q : Place). if has_label last q m.times then m ∷ labelled size frame (Some q) after
+    ∙ ap (λ (q : Spot). if has_label last q m.times then m ∷ labelled size frame (Some q) after
     else labelled size frame last after) (sym at)
     ∙ ap (λ (c : Bool). if c then m ∷ labelled size frame (Some place) after
     else labelled size frame last after) has
 
 -- the label of a mark that has one stands before those of the marks behind it, the first of which lies clear of it
-pub label_cons : (size : ℕ) (frame : Frame) (last : Option Place) (place : Place) (m : Mark) (after rest : List Mark)
+pub label_cons : (size : ℕ) (frame : Frame) (last : Option Spot) (place : Spot) (m : Mark) (after rest : List Mark)
     → place ≡ label_place size frame m.point → has_label last place m.times ≡ true → rest ≡ m ∷ after
     → texts (mark_label_text size frame) (labelled size frame last rest) ≡ label_text place m.times
     ++ texts (mark_label_text size frame) (labelled size frame (Some place) after)
 unfolding texts
 label_cons size frame last place m after rest at has e =
     ap (texts (mark_label_text size frame)) (labelled_cons size frame last place m after rest true at has e)
-    ∙ ap (λ (q : Place). label_text q m.times
+    ∙ ap (λ (q : Spot). label_text q m.times
     ++ texts (mark_label_text size frame) (labelled size frame (Some place) after)) (sym at)
 
 -- a mark without a label is passed over
-pub label_passed : (size : ℕ) (frame : Frame) (last : Option Place) (place : Place) (m : Mark) (after rest : List Mark)
+pub label_passed : (size : ℕ) (frame : Frame) (last : Option Spot) (place : Spot) (m : Mark) (after rest : List Mark)
     → place ≡ label_place size frame m.point → has_label last place m.times ≡ false → rest ≡ m ∷ after
     → texts (mark_label_text size frame) (labelled size frame last rest)
     ≡ texts (mark_label_text size frame) (labelled size frame last after)
@@ -40,7 +40,7 @@ label_passed size frame last place m after rest at has e =
     ap (texts (mark_label_text size frame)) (labelled_cons size frame last place m after rest false at has e)
 
 -- no marks have no labels
-pub label_none : (size : ℕ) (frame : Frame) (last : Option Place) (rest : List Mark) → length rest ≡ 0
+pub label_none : (size : ℕ) (frame : Frame) (last : Option Spot) (rest : List Mark) → length rest ≡ 0
     → texts (mark_label_text size frame) (labelled size frame last rest) ≡ []
 unfolding texts labelled
 label_none size frame last [] e = refl

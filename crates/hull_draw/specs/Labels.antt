@@ -4,7 +4,7 @@ use Rattle.std.specs.Prelude.{Some, None, Bool, true, codes, if◌then◌else◌
 use Rattle.std.specs.Int.{abs_diff}
 use Rattle.lattice.specs.Plane.{Pair}
 use Rattle.hull_draw.specs.declared.marks.Mark.{Mark}
-use Rattle.hull_draw.specs.declared.labels.Place.{Place}
+use Rattle.hull_draw.specs.declared.labels.Spot.{Spot}
 use Rattle.hull_draw.specs.declared.labels.TheConstants.{LABEL_WIDTH, LABEL_HEIGHT}
 use Rattle.hull_draw.specs.declared.marks.TheConstants.{LABEL_LIMIT}
 use Rattle.hull_draw.specs.declared.frame.Frame.{Frame}
@@ -16,31 +16,31 @@ abbrev pub place_on_screen : ℕ → Frame → ℕ → ℕ
 place_on_screen size frame n = n * size / side_of frame
 
 -- where the label beside a point begins
-abbrev pub label_place : ℕ → Frame → Pair → Place
+abbrev pub label_place : ℕ → Frame → Pair → Spot
 label_place size frame p = record {
   x = place_on_screen size frame (across frame p) + 39;
   y = place_on_screen size frame (down frame p) + 26;
 }
 
 -- a label at the second place lies clear of the one at the first, if there is one
-abbrev pub is_clear : Option Place → Place → Bool
+abbrev pub is_clear : Option Spot → Spot → Bool
 is_clear None place = true
 is_clear (Some last) place =
     leb LABEL_WIDTH (abs_diff last.x place.x) || leb LABEL_HEIGHT (abs_diff last.y place.y)
 
 -- a point has a label at its place: it is held more than once, and the label lies clear of the last one before it
-abbrev pub has_label : Option Place → Place → ℕ → Bool
+abbrev pub has_label : Option Spot → Spot → ℕ → Bool
 has_label last place times = not (times == 1) && is_clear last place
 
 -- of these marks those that have a label, where the last one before them lies at a place that may be given
-unfoldable pub labelled : ℕ → Frame → Option Place → List Mark → List Mark
+unfoldable pub labelled : ℕ → Frame → Option Spot → List Mark → List Mark
 labelled size frame last [] = []
 labelled size frame last (m ∷ ms) = if has_label last (label_place size frame m.point) m.times
     then m ∷ labelled size frame (Some (label_place size frame m.point)) ms
     else labelled size frame last ms
 
 -- a label
-abbrev pub label_text : Place → ℕ → List ℕ
+abbrev pub label_text : Spot → ℕ → List ℕ
 label_text place times =
     told (codes "<text class='t' x='") place.x ++ told (codes "' y='") place.y ++ told (codes "'>") times
     ++ codes "</text>\n"

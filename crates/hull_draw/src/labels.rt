@@ -18,7 +18,7 @@ pub const LABEL_HEIGHT: u64 = 13;
 
 /// Where a label begins, in points of the screen.
 #[derive(Clone, Copy)]
-pub(crate) struct Place {
+pub(crate) struct Spot {
     /// How far from the left edge of the picture.
     x: u64,
     /// How far from its upper edge.
@@ -36,18 +36,18 @@ fn place_on_screen(size: u64, frame: &Frame, distance: u64) -> u64
 }
 
 /// Where the label beside a point begins.
-fn label_place(size: u64, frame: &Frame, point: Point) -> Place
+fn label_place(size: u64, frame: &Frame, point: Point) -> Spot
     requires small { size < 2 ^ 20 }
     ensures { result ≡ label_place size frame.now point }
 {
-    Place {
+    Spot {
         x: place_on_screen(size, frame, frame.across(point)) + 39,
         y: place_on_screen(size, frame, frame.down(point)) + 26,
     }
 }
 
 /// Whether a label at the second place lies clear of the one at the first, if there is one.
-fn is_clear(last: Option<Place>, place: Place) -> bool
+fn is_clear(last: Option<Spot>, place: Spot) -> bool
     ensures { result ≡ is_clear last place }
 {
     match last {
@@ -59,14 +59,14 @@ fn is_clear(last: Option<Place>, place: Place) -> bool
 }
 
 /// Whether a point that is held so often has a label at its place, where the last one before it lies at `last`.
-fn has_label(last: Option<Place>, place: Place, times: u32) -> bool
+fn has_label(last: Option<Spot>, place: Spot, times: u32) -> bool
     ensures { result ≡ has_label last place times }
 {
     times != 1 && is_clear(last, place)
 }
 
 /// Writes a label.
-fn label_after<W: Sink>(done: Done, out: &mut W, place: Place, times: u32) -> Done
+fn label_after<W: Sink>(done: Done, out: &mut W, place: Spot, times: u32) -> Done
     requires { OnOk done (W.failed out.old < 2 ^ 64 - 1) }
     ensures wrote { WritesOn done result (W.contents out.old) (W.contents out.new) (W.failed out.old) (W.failed out.new)
         (label_text place times) }
