@@ -7,7 +7,7 @@ use Rattle.std.proofs.lemmas.Bool.{and_parts, and_from}
 use Rattle.lattice.specs.declared.TheConstants.{NEAR_LIMIT}
 use Rattle.lattice.specs.Plane.{Pair, IsNear, turned_point}
 use Rattle.lattice.specs.Integers.{linear}
-use Rattle.bridge_search.specs.Trees.{Tree, Leaf, Fork, On, left_of, right_of}
+use Rattle.bridge_search.specs.Trees.{Tree, Leaf, Fork, On}
 
 -- each point of the tree is near
 abbrev pub IsAllNear : Tree → Type 0

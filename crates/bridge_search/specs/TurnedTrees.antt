@@ -3,7 +3,7 @@ use Rattle.std.specs.Prelude.{◌≡◌, ℕ, ◌≤◌, pos, neg_ℤ, ◌≤ℤ
 use Rattle.std.proofs.Common.{refl, ap, subst, ◌∙◌, arith, inl, inr}
 use Rattle.lattice.specs.Plane.{Pair, orient, IsBefore, turned_point}
 use Rattle.lattice.specs.Bridges.{IsAllBefore, IsUpperBridge, IsLowerBridge, IsNotBeyond}
-use Rattle.bridge_search.specs.Trees.{Tree, Leaf, Fork, On, IsBridged, IsFork, edge_of, lower_of, left_of, right_of}
+use Rattle.bridge_search.specs.Trees.{Tree, Leaf, Fork, On, IsBridged}
 use Rattle.bridge_search.specs.Trees.{first_of, last_of, height_of, IsAtDepth, highest}
 use Rattle.lattice.specs.Integers.{linear}
 use Rattle.lattice.proofs.TurnedBridges.{turned_twice, orient_turned, before_turned, before_turned_back}
