@@ -28,8 +28,6 @@ mod replaying;
 mod scene;
 mod shapes;
 mod shots;
-#[cfg(test)]
-mod tests;
 
 pub use bridges::{Bridge, LEVEL_LIMIT};
 pub use drawing::{DrawFault, DrawOptions, draw};

@@ -35,8 +35,6 @@ mod reply;
 mod rules;
 mod seen;
 mod set;
-#[cfg(test)]
-mod tests;
 mod wrapping;
 
 pub use call::Call;

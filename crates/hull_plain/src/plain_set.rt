@@ -1,5 +1,7 @@
 ghost use Rattle.std.specs.Prelude.{◌≡◌, ◌≤◌, []};
+ghost use Rattle.std.specs.Map.{keys_of};
 ghost use Rattle.hull_plain.specs.Sets.{LimitedSet};
+ghost use Rattle.hull_plain.specs.Spans.{IsSpannedBy};
 
 use super::around::{place_of, tangents_from};
 use super::farthest::farthest;
@@ -23,7 +25,7 @@ use std::marker::Model;
 pub struct PlainSet {
     limit: u32,
     points: BTreeMap<Point, u16>,
-    pub(crate) outline: Outline,
+    outline: Outline,
 }
 
 impl Model for PlainSet {
@@ -49,6 +51,14 @@ impl PlainSet {
             points: BTreeMap::new(alloc),
             outline: Outline::new(alloc),
         }
+    }
+
+    /// Points of the set, in order, whose hull is that of the whole set: what a question passes over. The corners are
+    /// among them, and beside them points that were corners when they came.
+    pub fn outline(&self) -> &[Point]
+        ensures spans { IsSpannedBy (keys_of self.now.entries) result.now }
+    {
+        self.outline.points()
     }
 }
 

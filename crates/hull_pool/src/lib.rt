@@ -32,8 +32,6 @@ mod close;
 mod crew;
 mod gate;
 mod phase;
-#[cfg(test)]
-mod tests;
 mod worker;
 mod workers;
 

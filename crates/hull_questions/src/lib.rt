@@ -10,8 +10,6 @@ mod edges;
 mod questions;
 mod sights;
 mod slabs;
-#[cfg(test)]
-mod tests;
 
 pub use questions::area::area2;
 pub use questions::extreme::{extreme, extreme_counted};

@@ -8,8 +8,6 @@
 mod code;
 mod coordinates;
 mod reply;
-#[cfg(test)]
-mod tests;
 
 pub use code::Code;
 pub use coordinates::{direction_of, point_of};

@@ -30,8 +30,6 @@ mod change;
 mod laws;
 mod node;
 mod node_ref;
-#[cfg(test)]
-mod tests;
 mod tree;
 
 pub use laws::path_cost_is_unique;

@@ -74,7 +74,7 @@ impl HullTree {
     }
 
     /// The half that the whole tree is; `None` for the empty set.
-    pub(crate) fn half<'a>(&'a self) -> Option<NodeRef<'a>>
+    pub fn half<'a>(&'a self) -> Option<NodeRef<'a>>
         ensures { MatchOption result (self.now.root ≡ None)
             (λ half. IsWhole self.now (⟦<NodeRef<'a> as Half>⟧.tree half)) }
     {

@@ -21,8 +21,6 @@ mod fault;
 mod laws;
 mod near;
 mod point;
-#[cfg(test)]
-mod tests;
 mod wide;
 
 pub use compare::{before, distance_squared, orient, product};

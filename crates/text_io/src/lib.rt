@@ -19,5 +19,3 @@ pub use counted::Counted;
 pub use device::{Sink, Source};
 pub use write::{WriteFault, flush_after, number_after, put, put_after};
 
-#[cfg(test)]
-mod tests;

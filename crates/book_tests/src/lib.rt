@@ -1,0 +1,16 @@
+//! Tests of books, of their texts and pictures, of devices, and of replies in numbers, over what these crates show
+//! everybody.
+//!
+//! They stand in a crate of their own, so that the crates that they try are proved once.
+#![tactic(auto)]
+
+#[cfg(test)]
+mod book;
+#[cfg(test)]
+mod devices;
+#[cfg(test)]
+mod pictures;
+#[cfg(test)]
+mod replies;
+#[cfg(test)]
+mod texts;

@@ -1,6 +1,0 @@
--- there is a call for each round so far
-use Rattle.std.proofs.Common.{◌≡◌, length}
-use Rattle.hull_pool.proofs.tests.hostile.long_list.Given as goal
-
-abbrev pub invariant-loop-made : goal.invariant-loop-made
-invariant-loop-made l = length l.calls.items ≡ l._made

@@ -1,7 +1,0 @@
--- ledgers in the order of their seats are all ledgers
-use Rattle.std.proofs.Common.{rules}
-use Rattle.hull_book.proofs.Counts.{all_in_order}
-use Rattle.hull_pool.proofs.tests.outcome_of.Goals as goal
-
-pub gather-sum-requires-clause-ledgers : goal.gather-sum-requires-clause-ledgers
-gather-sum-requires-clause-ledgers c = all_in_order _ _ (search rules)

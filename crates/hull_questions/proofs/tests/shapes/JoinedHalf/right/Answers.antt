@@ -1,9 +1,0 @@
--- a half alone has the part of its own; of two joined it is the second
-use Rattle.std.proofs.Common.{◌∙◌}
-use Rattle.hull_questions.proofs.tests.shapes.JoinedHalf.right.Goals as goal
-
-pub returns-in-None : goal.returns-in-None
-returns-in-None g c = rw c.in-None.is (c.alone.ensures ∙ c.right.ensures)
-
-pub returns-in-Some : goal.returns-in-Some
-returns-in-Some g c = rw c.in-Some.is c.alone-in-Some.ensures

@@ -1,0 +1,270 @@
+//! Gates by which two workers look for one another, and wait for one another.
+ghost use Rattle.std.specs.Prelude.{◌≡◌, ◌≤◌, IfOk, length};
+
+use super::{run_first, run_script, three_at_once};
+use hull_pool::Gate;
+use hull_book::{Call, Phase, Reply, Script};
+use std::alloc::{AllocError, Global};
+use std::process::Abort;
+use std::sync::atomic::{AtomicBool, AtomicU64, Ordering};
+use std::test::Fail;
+use std::thread;
+
+/// How often a worker looks for the other's flag.
+const LOOKS: u32 = 10_000_000;
+
+/// A flag for each of two workers, and whether each has seen the other's.
+#[derive(Drop)]
+struct Flags {
+    zero: AtomicBool,
+    one: AtomicBool,
+    zero_met: AtomicBool,
+    one_met: AtomicBool,
+}
+
+// Raises the own flag and looks for the other.
+fn meet(own: &AtomicBool, other: &AtomicBool, met: &AtomicBool) {
+    own.store(true, Ordering::SeqCst);
+    for _ in 0..LOOKS {
+        if other.load(Ordering::SeqCst) {
+            met.store(true, Ordering::SeqCst);
+            return;
+        }
+        thread::yield_now();
+    }
+}
+
+impl Flags {
+    fn new() -> Flags {
+        Flags {
+            zero: AtomicBool::new(false),
+            one: AtomicBool::new(false),
+            zero_met: AtomicBool::new(false),
+            one_met: AtomicBool::new(false),
+        }
+    }
+
+    // Whether each has seen the other's flag.
+    fn met(&self) -> (bool, bool) {
+        let zero = self.zero_met.load(Ordering::SeqCst);
+        (zero, self.one_met.load(Ordering::SeqCst))
+    }
+}
+
+impl Gate for Flags {
+    fn before_call(&self, worker: u8, _index: u32) {
+        if worker == 0 {
+            meet(&self.zero, &self.one, &self.zero_met);
+        } else {
+            meet(&self.one, &self.zero, &self.one_met);
+        }
+    }
+
+    fn after_call(&self, _worker: u8, _index: u32) {}
+}
+
+/// One of two workers waits at its gate until the other's call has ended.
+#[derive(Drop)]
+struct Behind {
+    waits: u8,
+    ended: AtomicBool,
+}
+
+impl Gate for Behind {
+    fn before_call(&self, worker: u8, _index: u32) {
+        if worker != self.waits {
+            return;
+        }
+        for _ in 0..LOOKS {
+            if self.ended.load(Ordering::SeqCst) {
+                return;
+            }
+            thread::yield_now();
+        }
+    }
+
+    fn after_call(&self, worker: u8, _index: u32) {
+        if worker != self.waits {
+            self.ended.store(true, Ordering::SeqCst);
+        }
+    }
+}
+
+// Two workers count once each, at once.
+fn two_counts(alloc: Global) -> Result<Script, AllocError>
+    ensures { IfOk result (λ s. length s.phases ≡ 1) }
+{
+    let zero = Vec::from_array(alloc, [Call::Count])?;
+    let one = Vec::from_array(alloc, [Call::Count])?;
+    let jobs = Vec::from_array(alloc, [zero, one])?;
+    let phases = Vec::from_array(alloc, [Phase::new(jobs)])?;
+    Ok(Script::new(2, phases))
+}
+
+/// `run_phase` has both workers at work at once: each sees the other's flag before its call. A body that runs the
+/// workers one after another ends with a flag that was not seen, and fails here.
+#[test]
+fn two_flags_by_run_phase(rt: HostRuntime) -> Result<(), Fail> {
+    let script = two_counts(rt.alloc())?;
+    let flags = Flags::new();
+    let end = run_first(&rt, rt.alloc(), &script, &flags);
+    assert_eq!(rt; end.sum, 2);
+    assert_eq!(rt; flags.met(), (true, true));
+    Ok(())
+}
+
+/// The same of `run_phases`.
+#[test]
+fn two_flags_by_run_phases(rt: HostRuntime) -> Result<(), Fail> {
+    let script = two_counts(rt.alloc())?;
+    let flags = Flags::new();
+    let end = run_script(&rt, rt.alloc(), 0, 8, &script, &flags);
+    assert_eq!(rt; end.sum, 2);
+    assert_eq!(rt; flags.met(), (true, true));
+    Ok(())
+}
+
+/// The gate stands round each call: a worker that waits at it until the other's call has ended is the second in the
+/// journal, whichever of them it is, 20 times each. A body that opens the gate before a call too late, or after it too
+/// soon, fails here.
+#[test]
+fn gate_round_each_call(rt: HostRuntime) -> Result<(), Fail> {
+    let script = two_counts(rt.alloc())?;
+    for round in 0..40u8 {
+        let waits = round % 2;
+        let gate = Behind {
+            waits,
+            ended: AtomicBool::new(false),
+        };
+        let end = run_first(&rt, rt.alloc(), &script, &gate);
+        let lines = end.journal.lines();
+        assert_eq!(rt; lines.len(), 2);
+        assert_eq!(rt; (lines[0].seat, lines[1].seat), (1 - waits, waits));
+    }
+    Ok(())
+}
+
+/// How many workers meet at a [`Meeting`].
+const MEETING: u64 = 8;
+
+/// A gate at which all workers wait for one another before their calls.
+#[derive(Drop)]
+struct Meeting {
+    arrived: AtomicU64,
+    met: AtomicU64,
+}
+
+impl Gate for Meeting {
+    fn before_call(&self, _worker: u8, _index: u32) {
+        self.arrived.fetch_add(1, Ordering::SeqCst);
+        for _ in 0..LOOKS {
+            if self.arrived.load(Ordering::SeqCst) == MEETING {
+                self.met.fetch_add(1, Ordering::SeqCst);
+                return;
+            }
+            thread::yield_now();
+        }
+    }
+
+    fn after_call(&self, _worker: u8, _index: u32) {}
+}
+
+// One count, as the calls of a worker.
+fn one_count(alloc: Global) -> Result<Vec<Call>, AllocError>
+    ensures { IfOk result (λ v. length v.items ≡ 1) }
+{
+    Ok(Vec::from_array(alloc, [Call::Count])?)
+}
+
+// Eight workers count once each, at once.
+fn eight_counts(alloc: Global) -> Result<Script, AllocError>
+    ensures { IfOk result (λ s. length s.phases ≡ 1) }
+{
+    let jobs = [
+        one_count(alloc)?,
+        one_count(alloc)?,
+        one_count(alloc)?,
+        one_count(alloc)?,
+        one_count(alloc)?,
+        one_count(alloc)?,
+        one_count(alloc)?,
+        one_count(alloc)?,
+    ];
+    let jobs = Vec::from_array(alloc, jobs)?;
+    let phases = Vec::from_array(alloc, [Phase::new(jobs)])?;
+    Ok(Script::new(8, phases))
+}
+
+/// All workers are at work at once: eight of them wait at the gate until all have come. A body that runs fewer at a
+/// time fails here.
+#[test]
+fn eight_workers_meet(rt: HostRuntime) -> Result<(), Fail> {
+    let script = eight_counts(rt.alloc())?;
+    let meeting = Meeting {
+        arrived: AtomicU64::new(0),
+        met: AtomicU64::new(0),
+    };
+    let end = run_first(&rt, rt.alloc(), &script, &meeting);
+    assert_eq!(rt; end.sum, MEETING);
+    assert_eq!(rt; meeting.met.load(Ordering::SeqCst), MEETING);
+    Ok(())
+}
+
+/// How often the gate was told of each of three workers that make three calls in each phase, and whether it was ever
+/// told of another call than the next one.
+#[derive(Drop)]
+struct Told {
+    zero: AtomicU64,
+    one: AtomicU64,
+    two: AtomicU64,
+    out_of_turn: AtomicBool,
+}
+
+impl Told {
+    fn new() -> Told {
+        Told {
+            zero: AtomicU64::new(0),
+            one: AtomicU64::new(0),
+            two: AtomicU64::new(0),
+            out_of_turn: AtomicBool::new(false),
+        }
+    }
+
+    // The worker's call begins, or has ended.
+    fn tell(&self, worker: u8, index: u32, has_ended: bool) {
+        let times = match worker {
+            0 => &self.zero,
+            1 => &self.one,
+            _ => &self.two,
+        };
+        let before = times.fetch_add(1, Ordering::SeqCst);
+        if before % 6 != 2 * u64::from(index) + u64::from(has_ended) {
+            self.out_of_turn.store(true, Ordering::SeqCst);
+        }
+    }
+}
+
+impl Gate for Told {
+    fn before_call(&self, worker: u8, index: u32) {
+        self.tell(worker, index, false);
+    }
+
+    fn after_call(&self, worker: u8, index: u32) {
+        self.tell(worker, index, true);
+    }
+}
+
+/// The gate is told of each worker's calls in their order, counted from 0 in each phase: that it begins, and that it
+/// has ended.
+#[test]
+fn gate_told_of_each_call(rt: HostRuntime) -> Result<(), Fail> {
+    let script = three_at_once(&rt, rt.alloc())?;
+    let told = Told::new();
+    let end = run_script(&rt, rt.alloc(), 0, 32, &script, &told);
+    assert_eq!(rt; end.sum, 18);
+    assert!(rt; !told.out_of_turn.load(Ordering::SeqCst));
+    let zero = told.zero.load(Ordering::SeqCst);
+    let one = told.one.load(Ordering::SeqCst);
+    assert_eq!(rt; (zero, one, told.two.load(Ordering::SeqCst)), (12, 12, 12));
+    Ok(())
+}

@@ -1,0 +1,13 @@
+//! Tests of the plane, of both sets and of the questions, over what these crates show everybody.
+//!
+//! They stand in a crate of their own, so that the crates that they try are proved once.
+#![tactic(auto)]
+
+#[cfg(test)]
+mod plain;
+#[cfg(test)]
+mod plane;
+#[cfg(test)]
+mod questions;
+#[cfg(test)]
+mod tree;

@@ -1,0 +1,111 @@
+#!/usr/bin/env python3
+"""The gate, part by part: every crate and its tests proved from nothing, wrong bodies refused, programs and libraries tried.
+
+    .ci/run [PART..]
+
+Without words all parts run, in the order of `--list`; those of one row run beside one another. Each part ends with its
+own line 'N passed, M failed'. At the end stand the seconds and processor seconds of each part, what failed, and the sum
+in a line of that form; the status is 0 only where nothing failed.
+
+What the parts share is proved once beside `rt ci`, which keeps none of its work: the programs are those that `rt ci`
+linked from what it proved; the libraries are proved by the part `wrong-bodies`, which the libraries for C stand on.
+"""
+import os
+import re
+import subprocess
+import sys
+import tempfile
+import time
+
+TOP = os.path.dirname(os.path.dirname(os.path.abspath(__file__)))
+PROGRAMS = ("hullbook", "hulldraw", "memory_trials")
+# the parts that run beside one another stand in one row
+ROWS = (
+    {"proofs": ["rt", "ci"]},
+    {"wrong-bodies": ["tools/wrong_bodies.py"]},
+    {
+        "cli": ["tests/cli/run.sh"],
+        "memory": ["tests/memory/run.sh"],
+        "trials": ["tests/memory/trials.sh"],
+        "pictures": ["tests/pictures/run.sh"],
+    },
+    {"long": ["tests/long/run.sh"], "texts": ["tests/texts/run.sh"], "refused": ["tests/refused/run.sh"]},
+    {"soak": ["tests/soak/run.sh"]},
+    {"embed": ["tests/embed/run.sh"]},
+    {"shared": ["tests/shared/run.sh"]},
+    {"readme": ["tests/readme/run.sh"]},
+)
+COUNTS = re.compile(r"(\d+) passed, (\d+) failed")
+FAILED = re.compile(r"FAILED|: failed|NOT REFUSED|NOT PROVED|BAD EDIT")
+
+
+class Part:
+    """A part that runs: its process, and what it has told so far."""
+
+    def __init__(self, name, command, shown):
+        self.name, self.shown, self.start = name, shown, time.time()
+        self.told = tempfile.TemporaryFile("w+", errors="replace")
+        how = {"cwd": TOP, "stdin": subprocess.DEVNULL, "stderr": subprocess.STDOUT, "text": True, "errors": "replace"}
+        self.process = subprocess.Popen(command, stdout=subprocess.PIPE if shown else self.told, **how)
+
+    def end(self):
+        """Waits for the part. What it passed and failed, its seconds and processor seconds, and its lines that tell of failures."""
+        if self.shown:
+            for line in self.process.stdout:
+                print(line, end="", flush=True)
+                self.told.write(line)
+        _, status, used = os.wait4(self.process.pid, 0)
+        self.seconds, self.processor = time.time() - self.start, used.ru_utime + used.ru_stime
+        self.told.seek(0)
+        lines = self.told.read().splitlines()
+        if not self.shown:
+            print(f"==== {self.name}", *lines, sep="\n", flush=True)
+        counts = COUNTS.fullmatch(lines[-1]) if lines else None
+        self.passed, self.failed = (int(counts[1]), int(counts[2])) if counts else (0, 1)
+        if status and not self.failed:
+            self.failed = 1
+        self.faults = [it for it in lines if FAILED.search(it)] if self.failed else []
+        if not counts:
+            self.faults.append(f"{self.name} told no counts")
+        return self
+
+
+def keep_programs():
+    """Tells bin/hullbook and the others that the programs which `rt ci` linked are those of these sources."""
+    for name in PROGRAMS:
+        subprocess.run(["tools/become.sh", "--keep", name], cwd=TOP, check=False)
+
+
+def run(row, names):
+    """Runs the parts of a row that are asked for, beside one another, and returns what came of each."""
+    parts = [Part(name, command, len(row) == 1) for name, command in row.items() if name in names]
+    ended = [it.end() for it in parts]
+    if any(it.name == "proofs" and not it.failed for it in ended):
+        keep_programs()
+    return ended
+
+
+def main(words):
+    known = [name for row in ROWS for name in row]
+    if words == ["--list"]:
+        print(*(" ".join(row) for row in ROWS), sep="\n")
+        return 0
+    if any(it not in known for it in words):
+        print(f"usage: .ci/run [PART..], where a part is one of {' '.join(known)}\n0 passed, 1 failed")
+        return 2
+    ended = [part for row in ROWS for part in run(row, words or known)]
+    print(f"{'part':14}{'passed':>8}{'failed':>8}{'seconds':>9}{'processor seconds':>19}")
+    for it in ended:
+        print(f"{it.name:14}{it.passed:8}{it.failed:8}{it.seconds:9.0f}{it.processor:19.0f}")
+    minutes = sum(it.processor for it in ended) / 60
+    print(f"{minutes:.0f} processor minutes on {os.cpu_count()} processors")
+    for it in ended:
+        for line in it.faults[:40]:
+            print(f"{it.name}: {line[:300]}")
+    passed, failed = sum(it.passed for it in ended), sum(it.failed for it in ended)
+    print(f"{passed} passed, {failed} failed")
+    return 1 if failed or not passed else 0
+
+
+if __name__ == "__main__":
+    sys.exit(main(sys.argv[1:]))

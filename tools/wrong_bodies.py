@@ -1,0 +1,245 @@
+#!/usr/bin/env python3
+"""Tries the wrong bodies of crates, many in one check, and tells of each which goal refused it.
+
+    tools/wrong_bodies.py [--jobs N] [--list] [CRATE..]
+
+A wrong body is a file crates/CRATE/wrong-bodies/NAME.edit in the form of `rt must-fail`: lines `file: src/x.rt`, then
+pairs of lines `old: TEXT` and `new: TEXT`. A function is proved from the contracts of what it calls and not from their
+bodies, so wrong bodies of different functions are tried in one check, and each has to show as a goal of its own
+function that is not proved. One that does not is tried again alone, as is one that changes no function, and each of a
+group that the prover cannot read. The libraries are proved first where that is not kept in out/; the sources are never
+touched, since each check has a copy of them.
+
+Each line tells a wrong body, and whether a goal refused it (a clause of the contract or what the body owes, such as an
+index within its bounds) or a proof file that names what the change took away, which says little of the contract: those
+are counted before the end. The last line is 'N passed, M failed'; the status is 0 only where M is 0. --list tells
+the groups alone.
+"""
+import argparse
+import importlib.machinery
+import importlib.util
+import os
+import re
+import subprocess
+import sys
+import time
+from concurrent.futures import ThreadPoolExecutor
+from dataclasses import dataclass
+
+TOP = os.path.dirname(os.path.dirname(os.path.abspath(__file__)))
+# a check takes up to so many bytes
+MEMORY_OF_A_CHECK = 4 << 30
+# what antt says of a proof file that names what a change took away
+NAMES_WHAT_WENT = re.compile(r"has no field|is not in scope|has no `|was not admitted")
+
+
+def load_rt():
+    """The kit's own `rt`, whose functions read an edit and check a copy of a crate with it."""
+    page = subprocess.run(["rt", "doc"], capture_output=True, text=True, check=True).stdout.strip()
+    path = os.path.join(os.path.dirname(page), "bin", "rt")
+    loader = importlib.machinery.SourceFileLoader("rt_of_the_kit", path)
+    module = importlib.util.module_from_spec(importlib.util.spec_from_loader("rt_of_the_kit", loader))
+    loader.exec_module(module)
+    module.rtlib.guarded()  # its first call sets a signal's handler, which only the main thread may
+    return module
+
+
+RT = load_rt()
+
+
+@dataclass(frozen=True)
+class Edit:
+    """A wrong body: its name, its changes as (file, old, new), and the functions that they stand in."""
+
+    name: str
+    path: str
+    changes: tuple
+    functions: frozenset
+
+    def is_alone(self):
+        """Whether no function is seen to be changed, so that only a check of its own tells."""
+        return not self.functions
+
+
+@dataclass(frozen=True)
+class Refusal:
+    """What came of a wrong body: whether it was refused, whether by a goal, and what was told."""
+
+    edit: str
+    refused: bool
+    by_goal: bool
+    told: str
+
+
+def functions_at(text, old):
+    """The names of the functions that a text within a file belongs to: those that it opens, else the one it stands in."""
+    opened = re.findall(r"\bfn\s+([A-Za-z_0-9]+)", old)
+    before = re.findall(r"\bfn\s+([A-Za-z_0-9]+)", text[: text.find(old)])
+    return opened or before[-1:]
+
+
+def read(crate, name):
+    """The wrong body of that file name, or why it cannot be applied."""
+    path = f"{crate.folder}/wrong-bodies/{name}"
+    texts, why = RT.read_edit(path, crate.folder)
+    if why:
+        return None, why
+    changes, file, old = [], "", None
+    for line in open(path, encoding="utf-8"):
+        line = line.rstrip("\n")
+        if line.startswith("file: "):
+            file = line[6:].strip()
+        elif line.startswith("old: "):
+            old = line[5:]
+        elif line.startswith("new:"):
+            changes.append((file, old, line[4:].removeprefix(" ")))
+    functions = set()
+    for file, old, _ in changes:
+        with open(f"{crate.folder}/{file}", encoding="utf-8") as text:
+            found = functions_at(text.read(), old) if file.startswith("src/") else []
+        if not found:
+            return Edit(name, path, tuple(changes), frozenset()), None
+        functions.update(found)
+    return Edit(name, path, tuple(changes), frozenset(functions)), None
+
+
+def applied(crate, edits):
+    """The texts of the changed files with all these edits in them, or None where the changes get in each other's way."""
+    texts = {}
+    for edit in edits:
+        for file, old, new in edit.changes:
+            if file not in texts:
+                with open(f"{crate.folder}/{file}", encoding="utf-8") as text:
+                    texts[file] = text.read()
+            if texts[file].count(old) != 1:
+                return None
+            texts[file] = texts[file].replace(old, new)
+    return texts
+
+
+def grouped(crate, edits):
+    """Groups of wrong bodies that can be tried at once: no two change one function, or get in each other's way."""
+    groups = []
+    for edit in edits:
+        for group in groups:
+            others = frozenset().union(*(it.functions for it in group))
+            if not edit.functions & others and applied(crate, [*group, edit]) is not None:
+                group.append(edit)
+                break
+        else:
+            groups.append([edit])
+    return groups
+
+
+def goals_of(output):
+    """What a check told of each function that has a goal of its own which is not proved, and not only calls such ones."""
+    found = {}
+    for path, goals in re.findall(r"^fn (\S+): no proof: .*?did not prove (.*?)(?:; it calls .*)?$", output, re.M):
+        found.setdefault(path.rpartition("::")[2], goals)
+    for path in re.findall(r"^fn (\S+): not proved(?:;.*)?$", output, re.M):
+        name = path.rpartition("::")[2]
+        errors = re.findall(rf"^(?:\./)?proofs/(?:\S*/)?\+?{name}/\S+?:\d+:\d+: error: (.*)", output, re.M)
+        told = next((it for it in errors if not NAMES_WHAT_WENT.search(it)), None)
+        if told is not None:
+            found.setdefault(name, told)
+    return found
+
+
+def tried_alone(crate, edit, kept):
+    """The outcome of one wrong body in a check of its own, as `rt must-fail` gives it."""
+    refused, told = RT.must_fail(crate, edit.path, ["--jobs", "1"], kept)
+    by_goal = refused and "only because a proof file" not in told
+    return Refusal(edit.name, refused, by_goal, told.partition(": ")[2])
+
+
+def tried(crate, group, kept):
+    """The outcomes of a group in one check, those that it does not show each in a check of its own."""
+    if len(group) == 1:
+        return [tried_alone(crate, group[0], kept)]
+    ran = RT.checked(crate, applied(crate, group), ["--jobs", "1"], kept)
+    reached = ran.returncode == 1 and ran.stdout.rstrip("\n").rpartition("\n")[2].startswith("logic=not-proved")
+    if not reached:
+        half = len(group) // 2
+        return tried(crate, group[:half], kept) + tried(crate, group[half:], kept)
+    goals, outcomes = goals_of(ran.stdout), []
+    for edit in group:
+        told = next((goals[name] for name in sorted(edit.functions) if name in goals), None)
+        if told is None:
+            outcomes.append(tried_alone(crate, edit, kept))
+        else:
+            outcomes.append(Refusal(edit.name, True, True, told))
+    return outcomes
+
+
+def edits_of(crate):
+    """The wrong bodies of a crate, and outcomes for those that cannot be applied."""
+    folder, edits, bad = f"{crate.folder}/wrong-bodies", [], []
+    for name in sorted(os.listdir(folder)) if os.path.isdir(folder) else []:
+        edit, why = read(crate, name) if name.endswith(".edit") else (None, "its name does not end in .edit")
+        if why:
+            bad.append(Refusal(name, False, False, f"BAD EDIT: {why}"))
+        else:
+            edits.append(edit)
+    return edits, bad
+
+
+def groups_of(crate, edits):
+    """All groups of a crate's wrong bodies, those alone last."""
+    return grouped(crate, [it for it in edits if not it.is_alone()]) + [[it] for it in edits if it.is_alone()]
+
+
+def work(crate):
+    """The outcomes of a crate's wrong bodies, and how many seconds and groups they took."""
+    start, (edits, outcomes) = time.time(), edits_of(crate)
+    kept = f"{crate.folder}/out/incremental"
+    os.makedirs(kept, exist_ok=True)
+    groups = groups_of(crate, edits)
+    for group in groups:
+        outcomes += tried(crate, group, kept)
+    if edits and RT.checked(crate, {}, ["--jobs", "1"], kept).returncode:
+        outcomes.append(Refusal("the crate itself", False, False, "it is not proved without any change"))
+    return outcomes, time.time() - start, len(groups)
+
+
+def main():
+    words = argparse.ArgumentParser(usage="tools/wrong_bodies.py [--jobs N] [--list] [CRATE..]")
+    words.add_argument("--jobs", type=int, default=0)
+    words.add_argument("--list", action="store_true")
+    words.add_argument("crates", nargs="*")
+    given = words.parse_args()
+    os.chdir(TOP)
+    crates = [it for it in RT.rtlib.crates_below(TOP) if not given.crates or it.name in given.crates]
+    crates = [it for it in crates if os.path.isdir(f"{it.folder}/wrong-bodies")]
+    if given.list:
+        for crate in crates:
+            for group in groups_of(crate, edits_of(crate)[0]):
+                print(f"{crate.name}: {' '.join(it.name.removesuffix('.edit') for it in group)}")
+        return 0
+    libraries = [it.name for it in crates if not it.is_program]
+    if libraries and subprocess.run(["tools/prove.py", *libraries], check=False).returncode:
+        print("not proved without any change\n0 passed, 1 failed")
+        return 1
+    memory = os.sysconf("SC_PAGE_SIZE") * os.sysconf("SC_AVPHYS_PAGES")
+    lanes = given.jobs or max(1, min(os.cpu_count() or 1, memory // MEMORY_OF_A_CHECK))
+    passed, failed, by_shape = 0, [], []
+    # the crates with the most wrong bodies first, so that none of them is left alone at the end
+    crates.sort(key=lambda it: -len(os.listdir(f"{it.folder}/wrong-bodies")))
+    with ThreadPoolExecutor(lanes) as pool:
+        for crate, (outcomes, seconds, groups) in zip(crates, pool.map(work, crates)):
+            print(f"== {crate.name}: {len(outcomes)} wrong bodies in {groups} groups, {seconds:.0f} s", flush=True)
+            for it in outcomes:
+                name = f"{crate.name}/{it.edit.removesuffix('.edit')}"
+                print(f"{name}: {'refused' if it.refused else 'NOT REFUSED'}: {it.told[:160]}", flush=True)
+                passed += it.refused
+                failed += [name] * (not it.refused)
+                by_shape += [name] * (it.refused and not it.by_goal)
+    print(f"refused by a goal: {passed - len(by_shape)}; only since a proof names what went: {len(by_shape)}"
+          f"{': ' + ' '.join(by_shape) if by_shape else ''}")
+    if failed:
+        print(f"FAILED: {' '.join(failed)}")
+    print(f"{passed} passed, {len(failed)} failed")
+    return 1 if failed or not passed else 0
+
+
+if __name__ == "__main__":
+    sys.exit(main())
