@@ -1,9 +1,9 @@
 ghost use Rattle.std.specs.Prelude.{◌<◌, ◌-◌, ◌^◌};
 
-use text_io::testing::{Pieces, Spout};
-use text_io::*;
 use std::io::{BufWriter, Read, Write};
 use std::test::Fail;
+use text_io::testing::{Pieces, Spout};
+use text_io::*;
 
 // Says a text of several pieces and numbers.
 fn say<W: Sink>(out: &mut W) -> Result<(), WriteFault>

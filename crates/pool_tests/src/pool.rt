@@ -11,12 +11,12 @@ mod hostile;
 mod refused;
 mod sharing;
 
-use hull_pool::{Gate, NoGate, PhaseEnd, Workers, run_phase, run_phases};
 use hull_book::{
     Answer, Book, Call, CheckResult, Journal, JournalFull, Ledger, Phase, Reply, Script, check,
     gather,
 };
 use hull_plain::PlainSet;
+use hull_pool::{Gate, NoGate, PhaseEnd, Workers, run_phase, run_phases};
 use lattice::Point;
 use std::alloc::{AllocError, Global};
 use std::process::Abort;

@@ -4,9 +4,9 @@ ghost use Rattle.bridge_search.specs.Trees.{size_of};
 
 mod shapes;
 
-use hull_questions::{area2, extreme, place, tangents, vertices};
 use bridge_search::Half;
 use hull_plain::{AddReply, HullSet, POINT_LIMIT, Place, PlainSet};
+use hull_questions::{area2, extreme, place, tangents, vertices};
 use lattice::{Direction, Point};
 use shapes::{Sixteen, sixteen};
 use std::alloc::Global;

@@ -2,10 +2,10 @@
 mod beside_plain;
 mod turns;
 
-use hull_tree::{HullTree, trees_are_sound};
 use hull_plain::{
     AddReply, HullSet, MULTIPLICITY_LIMIT, NoMemory, POINT_LIMIT, Place, RemoveReply,
 };
+use hull_tree::{HullTree, trees_are_sound};
 use lattice::{Direction, Point};
 use std::alloc::Global;
 use std::process::Abort;

@@ -18,4 +18,3 @@ mod write;
 pub use counted::Counted;
 pub use device::{Sink, Source};
 pub use write::{WriteFault, flush_after, number_after, put, put_after};
-

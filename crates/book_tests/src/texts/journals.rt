@@ -1,9 +1,9 @@
 ghost use Rattle.std.specs.Prelude.{◌<◌, ◌-◌, ◌^◌};
 
 use super::line_in_hand;
-use hull_text::{Counted, TextFault, WriteFault, read_journal, write_journal};
 use hull_book::Journal;
 use hull_plain::Rules;
+use hull_text::{Counted, TextFault, WriteFault, read_journal, write_journal};
 use std::alloc::Global;
 use std::io::BufWriter;
 use std::test::Fail;

@@ -1,6 +1,6 @@
-use hull_text::{Counted, read_journal, write_journal};
 use hull_book::Journal;
 use hull_plain::Reply;
+use hull_text::{Counted, read_journal, write_journal};
 use std::alloc::Global;
 use std::io::BufWriter;
 use std::test::Fail;

@@ -1,6 +1,6 @@
-use hull_text::{Counted, WriteFault, read_journal, read_script, report_fits, write_report};
 use hull_book::{Answer, Journal, JournalFull, Report, Script};
 use hull_plain::{Place, PointList, Reply};
+use hull_text::{Counted, WriteFault, read_journal, read_script, report_fits, write_report};
 use lattice::Point;
 use std::alloc::Global;
 use std::io::BufWriter;

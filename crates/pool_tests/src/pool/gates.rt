@@ -2,8 +2,8 @@
 ghost use Rattle.std.specs.Prelude.{◌≡◌, ◌≤◌, IfOk, length};
 
 use super::{run_first, run_script, three_at_once};
-use hull_pool::Gate;
 use hull_book::{Call, Phase, Reply, Script};
+use hull_pool::Gate;
 use std::alloc::{AllocError, Global};
 use std::process::Abort;
 use std::sync::atomic::{AtomicBool, AtomicU64, Ordering};

@@ -3,8 +3,8 @@ ghost use Rattle.std.specs.Prelude.{◌≡◌, ◌+◌, ◌≤◌, IfOk, length,
 ghost use Rattle.hull_book.specs.Scripts.{calls_in};
 
 use super::{Outcome, at, run_first, run_script, two_phases};
-use hull_pool::{Gate, NoGate};
 use hull_book::{Call, CheckResult, JournalFull, Phase, Reply, Script, check};
+use hull_pool::{Gate, NoGate};
 use std::alloc::{AllocError, Global};
 use std::process::Abort;
 use std::sync::atomic::{AtomicBool, AtomicU64, Ordering};

@@ -6,9 +6,9 @@ ghost use Rattle.hull_book.specs.Ledgers.{AreLedgers};
 ghost use Rattle.hull_pool.specs.Runs.{MayRunAll, HasRunAll};
 
 use super::{Outcome, outcome_of, ready, three_corners};
-use hull_pool::{Gate, PhaseEnd, PoolFault, Workers, run_phase, run_phases};
 use hull_book::{Book, Call, CheckResult, Journal, Ledger, Phase, Reply, Script, check, gather};
 use hull_plain::PlainSet;
+use hull_pool::{Gate, PhaseEnd, PoolFault, Workers, run_phase, run_phases};
 use std::alloc::{AllocError, Global};
 use std::process::Abort;
 use std::sync::Wait;

@@ -8,9 +8,9 @@ ghost use Rattle.hull_pool.specs.Crews.{book_head, IsSeated};
 ghost use Rattle.hull_pool.specs.Work.{workers_of};
 
 use super::{at, opened};
-use hull_pool::{BookLock, BookSeat, close_book, make_call};
 use hull_book::{Answer, Book, Call, Journal, Ledger, Reply};
 use hull_plain::PlainSet;
+use hull_pool::{BookLock, BookSeat, close_book, make_call};
 use std::alloc::Global;
 use std::process::Abort;
 use std::sync::Wait;

@@ -4,9 +4,9 @@ ghost use Rattle.lattice.specs.Plane as plane;
 ghost use Rattle.lattice.specs.Plane.{IsWithin, widest_side};
 
 use super::at;
-use hull_tree::{HullTree, path_cost_is_unique};
 use bridge_search::{Counted, Half, both_bridges, depth_is_unique, upper_bridge_counted};
 use hull_plain::{AddReply, HullSet, POINT_LIMIT, RemoveReply};
+use hull_tree::{HullTree, path_cost_is_unique};
 use lattice::{Direction, Point, before};
 use std::alloc::Global;
 use std::cell::Cell;
