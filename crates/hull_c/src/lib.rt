@@ -14,6 +14,7 @@ ghost use Rattle.hull_tree.specs.Sets.{hull_tree};
 ghost use Rattle.hull_reply.specs.Left.{leaves};
 ghost use Rattle.hull_reply.specs.Rooms.{room_alignment, room_size};
 ghost use Rattle.hull_reply.specs.Served.{IsAnswered};
+ghost use Rattle.hull_c.specs.Left.{leaves_room};
 ghost use Rattle.hull_c.specs.Requests.{AreServed};
 ghost use Rattle.hull_c.specs.Calls.{AreCorners, IsCleared, IsFresh, IsLimitOf};
 
@@ -150,7 +151,7 @@ pub unsafe extern "C" fn hull_make(alloc: Global, limit: u32, room: *mut u8)
 pub unsafe extern "C" fn hull_end(at: *mut u8) -> u32
     ghost t: { the_row.Denot }
     requires* { sem 𝓛 (lies_at the_row full_share at t) }
-    ensures* { sem 𝓛 (room_at the_row at) }
+    ensures* { sem 𝓛 (leaves_room the_row at (result ≡ 0)) }
 {
     let hull = at as *mut HullTree;
     calls::finish(unsafe { hull.read() })

@@ -4,7 +4,7 @@ use Rattle.hull_reply.proofs.Steps.{WpFn, ‵}
 use Rattle.hull_reply.proofs.Steps.{raw, ◌⊛◌, some, later, prop, at_ret, ◌$◌, ◌∵◌, !, qed, done, move, keep, drop, use1}
 use Rattle.hull_reply.proofs.Steps.{split, join, pick, await, regoal, suffices, group, and_then, no_more, calls_at}
 use Rattle.hull_reply.proofs.Steps.{framed}
-use Rattle.hull_reply.proofs.Steps.{triple_of, lasts, Lasts, lands_as, u32, w32, uint_Lawful, fjoin, enter, of_opd}
+use Rattle.hull_reply.proofs.Steps.{fpack, triple_of, lasts, Lasts, lands_as, u32, w32, uint_Lawful, fjoin, enter, of_opd}
 use Rattle.hull_reply.proofs.Steps.{stop}
 use Rattle.hull_reply.proofs.Steps.{first, blocks, exec, returns, alloc_all, pass_all, free_all, look_at, get, through}
 use Rattle.hull_reply.proofs.Steps.{sets, sets_last, env, yes, Ptr, RawPtr, block_ptr, lies_at, in_a_block, rawptr_vals}
@@ -17,7 +17,7 @@ use denote.Memory.{lone}
 use base.Fml.{fat, froom}
 use types.Run.{load, look}
 use denote.Laws.{Is, shows}
-use denote.Steps.{peeks}
+use denote.Steps.{heard, peeks}
 use Rattle.hull_c.specs.contracts.hull_end as f
 use Rattle.hull_c.proofs.hull_end.Statement.{statement}
 use Rattle.hull_c.proofs.hull_end.Code as code
@@ -59,9 +59,10 @@ hull_end_spec 𝓤 𝓛 𝓜 𝓡 wired =
     some (λ (ws : Lasts g.ended z.0.0 z.0.3). ‵ (lasts g.ended z.0.0 z.0.3 ws) ⊛ raw (fact 𝓤 (u ≡ 0)))))) (id⊢ 𝓤 _) $
     await ! tt $ pick ! (λ u. split ! $ split ! $ drop ! $
     peeks ! u32 (Is u32) (shows 𝓛 u32) u (r ∷ []) (λ isu. lands_as ! refl refl ((uint_Lawful 𝓛 w32).typed u _ isu).0 $
-    move ! (1 ∷ []) $ pick ! (λ ws. split ! $ drop ! $ drop ! $ move ! (1 ∷ []) $
+    move ! (1 ∷ []) $ pick ! (λ ws. split ! $ drop ! $ heard ! _ (λ low. move ! (1 ∷ []) $
     use1 𝓛 (‵ (froom (lone R.mir) b o)) (𝓛.laws.at_room (lone R.mir) b o v) $
     -- [the room; the result]
+    nothing ! $ fpack ! (u ≡ 0) (λ _. ftrue) low $ move ! (1 ∷ 0 ∷ []) $ fjoin ! $
     returns ! (look_at ! 0 refl) $ free_all ! refl $ keep ! (1 ∷ 0 ∷ []) $
     suffices ! _ (ends_at 𝓛 f.ended stayed c (y (block_ptr b o)) r u (tt, tt) (tt, tt)) $
-    nothing ! $ nothing ! $ join ! $ nothing ! $ group ! 3 $ done !)))))))))
+    nothing ! $ nothing ! $ join ! $ nothing ! $ group ! 3 $ done !))))))))))
