@@ -168,6 +168,29 @@ static void corners(void) {
     static const hull_point wanted[] = {{0, 0}, {10, 0}, {10, 10}, {0, 10}, {-1, -2}, {-1, -2}};
     CHECK(memcmp(out, wanted, sizeof wanted) == 0);
     CHECK(number(hull_vertices(h, out, 4), HULL_CORNERS, 4));
+    CHECK(number(hull_call(h, HULL_KIND_VERTICES, -1, INT64_MIN), HULL_CORNERS, 4));
+    refused_from = 0, asked = 0;
+    CHECK(bare(hull_call(h, HULL_KIND_VERTICES, 0, 0), HULL_NO_MEMORY));
+    refused_from = -1;
+    ended(h);
+}
+
+/* a long list: the points of a parabola are all corners */
+static void many_corners(void) {
+    enum { NUMBER = 10000 };
+    hull h = made(NUMBER);
+    hull_point *out = calloc(NUMBER, sizeof *out);
+    int right = out != NULL;
+    for (int64_t i = 0; i < NUMBER; i++) {
+        right &= hull_add(h, i, i * i).code == HULL_ADDED;
+    }
+    CHECK(right && number(hull_vertices(h, out, NUMBER), HULL_CORNERS, NUMBER));
+    CHECK(number(hull_call(h, HULL_KIND_VERTICES, 0, 0), HULL_CORNERS, NUMBER));
+    for (int64_t i = 0; i < NUMBER; i++) {
+        right &= out[i].x == i && out[i].y == i * i;
+    }
+    CHECK(right);
+    free(out);
     ended(h);
 }
 
@@ -193,8 +216,9 @@ static void calls(void) {
     CHECK(number(told[6], HULL_NUMBER, 2) && number(told[7], HULL_LEFT, 1) && bare(told[8], HULL_ABSENT));
     CHECK(bare(told[9], HULL_ZERO_DIRECTION) && memcmp(&told[10], &mark, sizeof mark) == 0);
     hull_request bad[] = {{HULL_KIND_COUNT, 0, 0}, {0, 0, 0}, {HULL_KIND_REMOVE, 0, 0}};
-    for (uint32_t kind = 0; kind < 30; kind += kind == 0 ? 9 : 1) {
+    for (uint32_t kind = 0; kind < 30; kind += kind == 0 ? 10 : 1) {
         bad[1].kind = kind;
+        CHECK(bare(hull_call(h, kind, 0, 0), HULL_UNKNOWN_KIND));
         CHECK(hull_calls(h, bad, 3, told, 16) == 2 && number(told[0], HULL_NUMBER, 2) && bare(told[1], HULL_UNKNOWN_KIND));
     }
     bad[1].kind = HULL_KIND_PLACE, bad[1].y = INT64_MIN;
@@ -244,6 +268,7 @@ int main(void) {
     changes();
     questions();
     corners();
+    many_corners();
     calls();
     refusals();
     printf("codes: %d passed, %d failed\n", passed, failed);

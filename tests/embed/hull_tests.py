@@ -1,6 +1,7 @@
 """Each method of python/hull.py, each of its answers and each of its faults."""
 import copy
 import threading
+import time
 import unittest
 from array import array
 
@@ -9,6 +10,7 @@ try:
 except ImportError:
     numpy = None
 
+import hull as hull_module
 from hull import COORDINATE_LIMIT, MULTIPLICITY_LIMIT, POINT_LIMIT, Hull, OutOfRange, Place, TooMany, ZeroDirection
 
 SQUARE = [(0, 0), (10, 0), (10, 10), (0, 10), (4, 4)]
@@ -85,6 +87,8 @@ class Calls(unittest.TestCase):
         self.assertEqual(self.hull.place_all(columns(points)), wanted)
         self.assertEqual(self.hull.remove_all(columns(points)), 5)
         self.assertEqual(len(self.hull), 0)
+        self.hull.add_all([(4, 4)] * 2)
+        self.assertEqual([self.hull.remove_all([(4, 4), (5, 5)]) for _ in range(3)], [1, 1, 0])
         self.assertEqual(list(self.hull.add_all(points)), [1] * 6 + [0] * (len(points) - 6))
 
     def test_threads(self):
@@ -95,6 +99,77 @@ class Calls(unittest.TestCase):
         for thread in threads:
             thread.join()
         self.assertEqual((len(hull), hull.multiplicity(7, 49)), (2000, 4))
+
+
+class OneAtATime:
+    """The library, slowed down, which counts the calls on a hull that begin while another is under way."""
+
+    def __init__(self, library):
+        self.library, self.inside, self.overlaps = library, set(), 0
+
+    def __getattr__(self, name):
+        function = getattr(self.library, name)
+
+        def call(at, *words):
+            self.overlaps += at in self.inside
+            self.inside.add(at)
+            time.sleep(0.0002)
+            reply = function(at, *words)
+            self.inside.discard(at)
+            return reply
+
+        return call
+
+
+class Locks(unittest.TestCase):
+    def setUp(self):
+        self.slow = OneAtATime(hull_module._LIBRARY)
+        hull_module._LIBRARY, self.fast = self.slow, hull_module._LIBRARY
+
+    def tearDown(self):
+        hull_module._LIBRARY = self.fast
+
+    def race(self, *calls):
+        """The calls at once, each in a thread of its own, which no two of may make at one time."""
+        failed = []
+
+        def run(call):
+            try:
+                for n in range(50):
+                    call(n)
+            except Exception as fault:  # what a thread raises is lost otherwise
+                failed.append(fault)
+
+        threads = [threading.Thread(target=run, args=(call,)) for call in calls]
+        for thread in threads:
+            thread.start()
+        for thread in threads:
+            thread.join()
+        self.assertEqual((failed, self.slow.overlaps), ([], 0))
+
+    def new_hull(self):
+        """A hull, which is made by a library whose first word is no place of a hull."""
+        hull_module._LIBRARY = self.fast
+        hull = Hull()
+        hull_module._LIBRARY = self.slow
+        return hull
+
+    def test_calls_one_by_one(self):
+        hull = self.new_hull()
+        self.race(lambda n: hull.add(n, n), lambda n: hull.place(n, n))
+
+    def test_many_calls_at_once(self):
+        hull = self.new_hull()
+        self.race(lambda n: hull.add_all([(n, n)]), lambda n: hull.place_all([(n, n)]))
+
+    def test_corners_of_one_moment(self):
+        hull = self.new_hull()
+
+        def are_those_of_a_parabola(_):
+            corners = hull.vertices()
+            assert corners == [(n, n * n) for n in range(len(corners))], corners
+
+        self.race(lambda n: hull.add(n, n * n), are_those_of_a_parabola)
 
 
 @unittest.skipIf(numpy is None, "there is no numpy")

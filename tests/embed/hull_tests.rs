@@ -48,6 +48,7 @@ fn greatest_multiplicity() {
     for times in 1..=MULTIPLICITY_LIMIT {
         assert_eq!(hull.add(point(0, 0)), Ok(times));
     }
+    assert_eq!(hull.multiplicity(point(0, 0)), Ok(MULTIPLICITY_LIMIT));
     assert_eq!(hull.add(point(0, 0)), Err(Fault::TooMany));
 }
 

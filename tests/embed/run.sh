@@ -109,6 +109,12 @@ in_rust() {
     try "rust/hull compiles" rust --crate-type rlib --crate-name hull "$top/rust/hull/src/lib.rs"
     try "the tests of rust/hull compile" rust --test --extern hull --crate-name hull_tests "$here/hull_tests.rs"
     try "the tests of rust/hull" "$room/hull_tests"
+    if is_there valgrind; then
+        try "valgrind finds nothing lost by the tests of rust/hull" valgrind -q --error-exitcode=9 --leak-check=full \
+            --show-leak-kinds=definite,indirect --errors-for-leak-kinds=definite,indirect "$room/hull_tests"
+    else
+        skip "memory by valgrind in Rust" valgrind
+    fi
     try "examples/embed/collision.rs compiles" rust --extern hull "$examples/collision.rs"
     try "examples/embed/collision.rs writes examples/embed/collision.txt" writes "$examples/collision.txt" "$room/collision"
     if is_there cargo; then

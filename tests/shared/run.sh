@@ -105,6 +105,13 @@ in_rust() {
     count "rust/hull and its tests of a shared hull compile" $?
     passes "$room/shared_tests"
     count "the tests of a shared hull in Rust, and the journal of eight threads of $((calls / 10)) calls" $?
+    if is_there valgrind; then
+        CALLS=100 valgrind -q --error-exitcode=9 --leak-check=full --show-leak-kinds=definite,indirect \
+            --errors-for-leak-kinds=definite,indirect "$room/shared_tests" >"$room/told" 2>&1
+        count "valgrind finds nothing lost by the tests of a shared hull in Rust" $?
+    else
+        skip "memory by valgrind in Rust" valgrind
+    fi
     rust --extern hull --crate-name threads_rust "$examples/threads.rs" &&
         writes "$examples/threads.txt" "$room/threads_rust"
     count "examples/shared/threads.rs writes examples/shared/threads.txt and a legal journal" $?

@@ -6,8 +6,10 @@ import copy
 import os
 import random
 import threading
+import time
 import unittest
 
+import hull as hull_module
 from hull import CAPACITY_LIMIT, COORDINATE_LIMIT, POINT_LIMIT, SEAT_LIMIT
 from hull import JournalFull, NoSeat, OutOfRange, Place, SeatsOut, SharedHull, TooMany, ZeroDirection
 
@@ -45,7 +47,7 @@ class Calls(unittest.TestCase):
     def test_seats_and_the_journal(self):
         hull = SharedHull(capacity=10, seats=2)
         with hull.lend(0) as seat:
-            for number in (0, 2, -1, SEAT_LIMIT, 1 << 40):
+            for number in (0, 2, -1, SEAT_LIMIT, 1 << 32, (1 << 32) + 1, 1 << 40):
                 self.assertRaises(NoSeat, hull.lend, number)
             seat.add(3, 4)
             self.assertRaises(SeatsOut, hull.close)
@@ -67,6 +69,94 @@ class Calls(unittest.TestCase):
         with SharedHull(capacity=10, seats=1) as hull:
             hull.lend(0).give_back()
         self.assertRaises(ValueError, hull.lend, 0)
+
+
+class Interrupted(unittest.TestCase):
+    """Seats whose last call was ended by an exception while it waited: they have a number."""
+
+    def setUp(self):
+        self.hull = SharedHull(capacity=10, seats=1)
+        self.seat = self.hull.lend(0)
+        taken = hull_module._shared_library().hull_shared_take(self.seat._at, hull_module._Kind.ADD, 3, 4)
+        self.assertEqual(taken, 43)
+
+    def test_given_back(self):
+        self.seat.give_back()
+        self.assertIn("0 add 3 4 = added", self.hull.close())
+
+    def test_asked(self):
+        self.assertEqual((self.seat.count(), self.seat.turn()), (1, 1))
+        self.seat.give_back()
+        self.assertIn("count = count 1", self.hull.close())
+
+
+class OneAtATime:
+    """The library, slowed down, which counts the calls on a desk or a seat that begin while another is under way."""
+
+    def __init__(self, library):
+        self.library, self.inside, self.overlaps = library, [], 0
+
+    def __getattr__(self, name):
+        function = getattr(self.library, name)
+
+        def call(*words):
+            places = [word for word in words if isinstance(word, int) and word in self.places]
+            self.overlaps += any(place in self.inside for place in places)
+            self.inside.extend(places)
+            time.sleep(0.0002)
+            answer = function(*words)
+            for place in places:
+                self.inside.remove(place)
+            return answer
+
+        return call
+
+
+class Locks(unittest.TestCase):
+    def setUp(self):
+        self.hull = SharedHull(capacity=1000, seats=2)
+        self.seat = self.hull.lend(0)
+        slow = OneAtATime(hull_module._shared_library())
+        slow.places = {self.hull._desk.at, self.seat._at}
+        self.slow, self.load = slow, hull_module._shared_library
+        hull_module._shared_library = lambda: slow
+
+    def tearDown(self):
+        hull_module._shared_library = self.load
+
+    def race(self, *calls):
+        """The calls at once, each in a thread of its own."""
+        failed = []
+
+        def run(call):
+            try:
+                for _ in range(30):
+                    call()
+            except Exception as fault:  # what a thread raises is lost otherwise
+                failed.append(fault)
+
+        threads = [threading.Thread(target=run, args=(call,)) for call in calls]
+        for thread in threads:
+            thread.start()
+        for thread in threads:
+            thread.join()
+        self.assertEqual((failed, self.slow.overlaps), ([], 0))
+
+    def close(self):
+        self.assertRaises(SeatsOut, self.hull.close)
+
+    def test_one_seat(self):
+        self.race(lambda: self.seat.add(1, 2), self.seat.count)
+
+    def test_one_desk(self):
+        self.race(lambda: self.hull.lend(1).give_back(), self.close, lambda: self.hull.__exit__(None, None, None))
+
+    def test_a_seat_given_back_while_it_is_asked(self):
+        calls = iter([self.seat.give_back])
+        try:
+            self.race(self.seat.count, lambda: next(calls, int)())
+        except AssertionError:
+            self.assertEqual(self.slow.overlaps, 0)
 
 
 class Threads(unittest.TestCase):
