@@ -119,7 +119,7 @@ fn parted(mut spare: Box<Halves>, first: (Point, u32), last: (Point, u32)) -> No
 }
 
 /// The fork over a point that is held so many times and a new one, whose halves lie in a box that is there.
-fn beside(point: Point, times: u32, p: Point, spare: Box<Halves>) -> Node
+pub(crate) fn beside(point: Point, times: u32, p: Point, spare: Box<Halves>) -> Node
     requires new { ¬ (p ≡ point) }
     requires times { IsMultiplicity times }
     ensures built { IsWellBuilt result }
@@ -136,7 +136,7 @@ fn beside(point: Point, times: u32, p: Point, spare: Box<Halves>) -> Node
 }
 
 /// Moves the last point of a half behind a point that was added to it.
-fn reach(last: &mut Point, p: Point)
+pub(crate) fn reach(last: &mut Point, p: Point)
     ensures moved { IsBefore last.old p → last.new ≡ p }
     ensures kept { ¬ IsBefore last.old p → last.new ≡ last.old }
 {
@@ -196,7 +196,7 @@ fn insert_below(halves: &mut Halves, p: Point, spare: Box<Halves>) -> u32
 }
 
 /// Whether a point is all of one of two halves.
-fn is_half(halves: &Halves, p: Point) -> bool
+pub(crate) fn is_half(halves: &Halves, p: Point) -> bool
     ensures { IsTrue result ↔ (tree_of (left_half halves.now) ≡ Leaf p) ⊎ (tree_of (right_half halves.now) ≡ Leaf p) }
 {
     is_leaf(&halves.left, p) || is_leaf(&halves.right, p)
@@ -213,7 +213,7 @@ pub(crate) fn is_leaf(node: &Node, p: Point) -> bool
 }
 
 /// The half that is left where the other one is a point alone, taken from its place.
-fn other_half(halves: &mut Halves, p: Point) -> Node
+pub(crate) fn other_half(halves: &mut Halves, p: Point) -> Node
     ensures right { tree_of (left_half halves.old) ≡ Leaf p → result ≡ right_half halves.old }
     ensures left { ¬ (tree_of (left_half halves.old) ≡ Leaf p) → result ≡ left_half halves.old }
 {
@@ -273,7 +273,7 @@ fn remove_below(halves: &mut Halves, p: Point) -> u32
 }
 
 /// Finds the last point of the left half anew where it was p, which was taken from that half.
-fn draw_back_last(halves: &mut Halves, p: Point)
+pub(crate) fn draw_back_last(halves: &mut Halves, p: Point)
     requires { ¬ (before_parting halves.old ≡ p)
         → before_parting halves.old ≡ last_in (tree_of (left_half halves.old)) }
     ensures last { before_parting halves.new ≡ last_in (tree_of (left_half halves.old)) }
@@ -287,7 +287,7 @@ fn draw_back_last(halves: &mut Halves, p: Point)
 }
 
 /// Finds the first point of the right half anew where it was p, which was taken from that half.
-fn draw_back_first(halves: &mut Halves, p: Point)
+pub(crate) fn draw_back_first(halves: &mut Halves, p: Point)
     requires { ¬ (after_parting halves.old ≡ p)
         → after_parting halves.old ≡ first_in (tree_of (right_half halves.old)) }
     ensures last { before_parting halves.new ≡ before_parting halves.old }

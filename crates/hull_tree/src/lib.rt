@@ -28,11 +28,14 @@
 mod build;
 mod change;
 mod laws;
+mod load;
 mod node;
 mod node_ref;
+mod sparing;
 mod tree;
 
 pub use laws::path_cost_is_unique;
+pub use load::{LoadFault, entries_of};
 pub use node::Node;
 pub use node_ref::NodeRef;
 pub use tree::{HullTree, trees_are_sound};

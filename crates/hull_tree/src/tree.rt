@@ -1,13 +1,17 @@
-ghost use Rattle.std.specs.Prelude.{◌≡◌, ◌≢◌, ◌≤◌, Option, None, option_map, MatchOption};
+ghost use Rattle.std.specs.Prelude.{◌≡◌, ◌≢◌, ◌≤◌, Option, None, option_map, MatchOption, length, IfOk, IfErr, Err};
 ghost use Rattle.hull_plain.specs.Replies.{Answers, after, reply_to_add, reply_to_remove, reply_to_extreme};
 ghost use Rattle.std.specs.Borrow.{Bor};
 ghost use Rattle.hull_tree.specs.declared.node.Node.{Node};
-ghost use Rattle.hull_tree.specs.Roots.{held_by, IsWellBuiltRoot};
+ghost use Rattle.hull_tree.specs.Roots.{held_by, times_of_root, IsWellBuiltRoot};
 ghost use Rattle.hull_tree.specs.Sets.{LimitedTree, IsSound, IsWhole};
+ghost use Rattle.lattice.specs.Plane.{Pair};
+ghost use Rattle.hull_tree.specs.Loaded.{AreEntries, held_listed, times_among, held_after_adds, AreTooMany};
+ghost use Rattle.hull_plain.specs.Held.{nothing_held};
 ghost use Rattle.hull_tree.specs.Turns.{IsLeastCount, IsLeafDepth};
 
 use super::build::blank;
 use super::change::{insert, is_leaf, lower, raise, remove, times_of};
+use super::load::{LoadFault, entries_of, node_over};
 use super::node::Node;
 use super::node_ref::NodeRef;
 use bridge_search::Half;
@@ -60,6 +64,52 @@ impl HullTree {
             limit,
             alloc,
         }
+    }
+
+    /// The set of some points in order, each with how often it is held, with room for `limit` points. Each fork is built
+    /// once, from the points up: so this takes a small part of the time of adding them one by one. `NoMemory` comes
+    /// only for some points, and leaves nothing behind.
+    pub fn from_entries(
+        alloc: Global,
+        limit: u32,
+        entries: &[(Point, u32)],
+    ) -> Result<HullTree, NoMemory>
+        requires high { limit ≤ POINT_LIMIT }
+        requires low { 1 ≤ limit }
+        requires room { length entries.now ≤ limit }
+        requires entries { AreEntries entries.now }
+        ensures held { IfOk result (λ tree. held_by tree.root ≡ held_listed entries.now) }
+        ensures limit { IfOk result (λ tree. tree.limit ≡ limit) }
+        ensures sound { IfOk result (λ tree. IsSound tree.root) }
+        ensures refused { IfErr result (λ _. 1 ≤ length entries.now) }
+    {
+        let mut tree = HullTree::new(alloc, limit);
+        if entries.is_empty() {
+            return Ok(tree);
+        }
+        let root = node_over(alloc, entries)?;
+        tree.root = Some(root);
+        tree.count = entries.len() as u32;
+        Ok(tree)
+    }
+
+    /// The set of some points in any order, each held as often as it stands among them, with room for `limit` points:
+    /// what adding them one by one makes, in a small part of the time. `TooMany` comes where adding them would answer
+    /// it; a fault leaves nothing behind.
+    pub fn from_points(alloc: Global, limit: u32, points: &[Point]) -> Result<HullTree, LoadFault>
+        requires high { limit ≤ POINT_LIMIT }
+        requires low { 1 ≤ limit }
+        ensures held { IfOk result (λ tree. held_by tree.root ≡ held_after_adds nothing_held points.now) }
+        ensures times { IfOk result (λ tree. (q : Pair) → times_of_root tree.root q ≡ times_among points.now q) }
+        ensures limit { IfOk result (λ tree. tree.limit ≡ limit) }
+        ensures sound { IfOk result (λ tree. IsSound tree.root) }
+        ensures too_many { result ≡ Err LoadFault.TooMany → AreTooMany points.now limit }
+    {
+        let entries = entries_of(alloc, points)?;
+        if entries.len() > limit as usize {
+            return Err(LoadFault::TooMany);
+        }
+        Ok(HullTree::from_entries(alloc, limit, &entries)?)
     }
 
     /// The tree's own root; `None` for the empty set.

@@ -1,0 +1,85 @@
+-- the half that the point goes to is well built with it, and so is the fork over it once it is rebalanced
+use Rattle.std.proofs.Common.{arith, refl, sym, ap, ◌∙◌, subst, inl, inr, ◌≡◌, Some, ◌++◌}
+use Rattle.std.specs.List.{Contains}
+use Rattle.std.proofs.lemmas.List.Elements.{Contains-append_right}
+use Rattle.lattice.specs.Plane.{IsBefore}
+use Rattle.bridge_search.specs.Trees.{first_of}
+use Rattle.bridge_search.proofs.Signs.{passed, failed}
+use Rattle.hull_tree.specs.Nodes.{tree_of, below_of, left_half, right_half}
+use Rattle.hull_tree.specs.Changes.{points_below}
+use Rattle.hull_tree.specs.declared.node.Halves as halves
+use Rattle.hull_tree.proofs.HalfRows.{IsOver, over_halves, add_left, add_right}
+use Rattle.hull_tree.proofs.PartingPoints.{parted_add_left, parted_add_right}
+use Rattle.hull_tree.proofs.Standing.{rolled_behind, gained_behind}
+use Rattle.hull_tree.proofs.sparing.+insert.Goals as goal
+
+pub insert-insert_below-below-requires : goal.insert-insert_below-below-requires
+insert-insert_below-below-requires t c =
+    let i : below_of c.args.node.now ≡ Some c.deref_mut.result.now =
+    rw (c.in-Some.is, c.deref_mut.ensures.value) refl in
+    let o : IsOver c.args.node.now c.deref_mut.result.now = over_halves _ _ c.requires.built i in (
+      omega (arith, o.height),
+      (
+        o.parted,
+        (
+          subst (λ z. ¬ (Contains z c.args.p)) o.points c.requires.absent,
+          omega (arith, o.height, c.requires.low),
+        ),
+      ),
+    )
+
+pub insert_below-insert-requires-else-before : goal.insert_below-insert-requires-else-before
+insert_below-insert-requires-else-before t c = (
+  omega arith,
+  (
+    c.requires.parted.row.right_built,
+    (λ h. c.requires.absent (Contains-append_right _ _ _ h), omega (arith, c.requires.low)),
+  ),
+)
+
+pub insert_below-returns-then-before-clause-parted : goal.insert_below-returns-then-before-clause-parted
+unfolding halves.roll-Halves halves.out-Halves denote.Hole.Carrier.out denote.Hole.Carrier.roll
+insert_below-returns-then-before-clause-parted t c =
+    parted_add_left _ _ _ _ _ _ _ c.requires.parted
+    (passed _ _ c.if-before.true c.before-2.ensures) c.insert.ensures.built c.insert.ensures.points
+    c.reach.ensures.moved c.reach.ensures.kept
+
+pub insert_below-returns-then-before-clause-points : goal.insert_below-returns-then-before-clause-points
+unfolding halves.roll-Halves halves.out-Halves denote.Hole.Carrier.out denote.Hole.Carrier.roll
+insert_below-returns-then-before-clause-points t c =
+    let b = subst (IsBefore c.args.p) c.requires.parted.starts_right (passed _ _ c.if-before.true c.before-2.ensures) in
+    ap (λ z. z ++ points_below (right_half c.args.halves.now)) c.insert.ensures.points
+    ∙ sym (add_left _ _ _ c.requires.parted.row b)
+
+pub insert_below-returns-else-before-clause-parted : goal.insert_below-returns-else-before-clause-parted
+unfolding halves.roll-Halves halves.out-Halves denote.Hole.Carrier.out denote.Hole.Carrier.roll
+insert_below-returns-else-before-clause-parted t c =
+    parted_add_right _ _ _ _ _ _ c.requires.parted
+    (failed _ _ c.if-before.false c.before-2.ensures) c.insert-else-before.ensures.built
+    c.insert-else-before.ensures.points
+
+pub insert_below-returns-else-before-clause-points : goal.insert_below-returns-else-before-clause-points
+unfolding halves.roll-Halves halves.out-Halves denote.Hole.Carrier.out denote.Hole.Carrier.roll
+insert_below-returns-else-before-clause-points t c =
+    let b : ¬ IsBefore c.args.p (first_of (tree_of (right_half c.args.halves.now))) =
+    λ i. failed _ _ c.if-before.false c.before-2.ensures
+    (subst (IsBefore c.args.p) (sym c.requires.parted.starts_right) i) in
+    ap (λ z. points_below (left_half c.args.halves.now) ++ z) c.insert-else-before.ensures.points
+    ∙ sym (add_right _ _ _ c.requires.parted.row b)
+
+pub insert-rebalance_after-requires-clause-behind : goal.insert-rebalance_after-requires-clause-behind
+insert-rebalance_after-requires-clause-behind t c =
+    let i : below_of c.args.node.now ≡ Some c.deref_mut.result.now =
+    rw (c.in-Some.is, c.deref_mut.ensures.value) refl in
+    rolled_behind _ _ _ _ _ _ _
+    (gained_behind c.args.p c.args.node.now c.deref_mut.result.now c.insert_below-below.new.halves
+    c.requires.built i c.requires.absent c.insert_below-below.ensures.gained)
+
+pub insert_below-returns-then-before-clause-gained : goal.insert_below-returns-then-before-clause-gained
+unfolding halves.roll-Halves halves.out-Halves denote.Hole.Carrier.out denote.Hole.Carrier.roll
+insert_below-returns-then-before-clause-gained t c = inl (c.insert.ensures.points, refl)
+
+pub insert_below-returns-else-before-clause-gained : goal.insert_below-returns-else-before-clause-gained
+unfolding halves.roll-Halves halves.out-Halves denote.Hole.Carrier.out denote.Hole.Carrier.roll
+insert_below-returns-else-before-clause-gained t c =
+    inr (refl, c.insert-else-before.ensures.points)
