@@ -7,13 +7,14 @@ ghost use Rattle.hull_tree.specs.Sets.{LimitedTree, IsSound, IsWhole};
 ghost use Rattle.lattice.specs.Plane.{Pair};
 ghost use Rattle.hull_tree.specs.Loaded.{AreEntries, held_listed, times_among, held_after_adds, AreTooMany};
 ghost use Rattle.hull_plain.specs.Held.{nothing_held};
-ghost use Rattle.hull_tree.specs.Turns.{IsLeastCount, IsLeafDepth};
+ghost use Rattle.hull_tree.specs.Turns.{IsCountBy, IsLeastCount, IsLeafDepth};
 
 use super::build::blank;
 use super::change::{insert, is_leaf, lower, raise, remove, times_of};
 use super::load::{LoadFault, entries_of, node_over};
 use super::node::Node;
 use super::node_ref::NodeRef;
+use super::renewal::{Renewal, SearchesAll};
 use bridge_search::Half;
 use hull_plain::{
     AddReply, Call, HullSet, MULTIPLICITY_LIMIT, NoMemory, POINT_LIMIT, Place, RemoveReply, Rules,
@@ -149,6 +150,34 @@ impl HullTree {
         ensures few { result.1 ≤ 10000 }
         ensures least { IsLeastCount result.0 self.new.root p result.1 }
     {
+        self.add_by::<SearchesAll>(p)
+    }
+
+    /// Holds `p` once less, as [`remove`](HullSet::remove), and tells how many turns the searches of bridges took: at
+    /// most 10,000, for the reason told at [`add_counted`](HullTree::add_counted), and none unless `p` left the set.
+    pub fn remove_counted(&mut self, p: Point) -> (RemoveReply, u32)
+        ensures reply { Answers Rules.Counted (held_by self.old.root) self.old.limit (Call.Remove p)
+            (reply_to_remove result.0) }
+        ensures effect { held_by self.new.root
+            ≡ after (held_by self.old.root) (Call.Remove p) (reply_to_remove result.0) }
+        ensures same_limit { self.new.limit ≡ self.old.limit }
+        ensures sound { IsSound self.new.root }
+        ensures few { result.1 ≤ 10000 }
+        ensures none { result.0 ≢ RemoveReply.Removed → result.1 ≡ 0 }
+    {
+        self.remove_by::<SearchesAll>(p)
+    }
+
+    /// Holds `p` once more, and renews the forks above a new point in the way `R`.
+    pub(crate) fn add_by<R: Renewal>(&mut self, p: Point) -> (AddReply, u32)
+        ensures reply { Answers Rules.Counted (held_by self.old.root) self.old.limit (Call.Add p)
+            (reply_to_add result.0) }
+        ensures effect { held_by self.new.root ≡ after (held_by self.old.root) (Call.Add p) (reply_to_add result.0) }
+        ensures same_limit { self.new.limit ≡ self.old.limit }
+        ensures sound { IsSound self.new.root }
+        ensures few { result.1 ≤ 10000 }
+        ensures turns { IsCountBy R.Cost result.0 self.new.root p result.1 }
+    {
         let Some(root) = &mut self.root else {
             self.root = Some(Node::leaf(p, 1));
             self.count = 1;
@@ -167,14 +196,13 @@ impl HullTree {
         let Ok(spare) = Box::new(self.alloc, blank(p)) else {
             return (AddReply::NoMemory, 0);
         };
-        let turns = insert(root, p, spare);
+        let turns = insert::<R>(root, p, spare);
         self.count += 1;
         (AddReply::Added, turns)
     }
 
-    /// Holds `p` once less, as [`remove`](HullSet::remove), and tells how many turns the searches of bridges took: at
-    /// most 10,000, for the reason told at [`add_counted`](HullTree::add_counted), and none unless `p` left the set.
-    pub fn remove_counted(&mut self, p: Point) -> (RemoveReply, u32)
+    /// Holds `p` once less, and renews the forks above a point that leaves the set in the way `R`.
+    pub(crate) fn remove_by<R: Renewal>(&mut self, p: Point) -> (RemoveReply, u32)
         ensures reply { Answers Rules.Counted (held_by self.old.root) self.old.limit (Call.Remove p)
             (reply_to_remove result.0) }
         ensures effect { held_by self.new.root
@@ -199,7 +227,7 @@ impl HullTree {
             self.root = None;
             return (RemoveReply::Removed, 0);
         }
-        (RemoveReply::Removed, remove(root, p))
+        (RemoveReply::Removed, remove::<R>(root, p))
     }
 
     /// The first of the farthest points in the direction `d`, as [`extreme`](HullSet::extreme), and how many forks lie
