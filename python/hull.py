@@ -103,7 +103,7 @@ class _Code(enum.IntEnum):
 
 
 class _Kind(enum.IntEnum):
-    """The kinds of a request, and of a call on a shared hull."""
+    """The kinds of calls; a seat can't ask for the last."""
 
     ADD = 1
     REMOVE = 2
@@ -113,6 +113,7 @@ class _Kind(enum.IntEnum):
     VERTICES = 6
     AREA = 7
     COUNT = 8
+    MULTIPLICITY = 9
 
 
 class _Reply(ctypes.Structure):
@@ -159,10 +160,8 @@ def _library():
     at, whole = ctypes.c_void_p, ctypes.c_int64
     return _load("libhull.so", "HULL_LIBRARY", "hull_", [
         ("size", [], ctypes.c_size_t), ("alignment", [], ctypes.c_size_t), ("make", [ctypes.c_uint32, at], None),
-        ("end", [at], ctypes.c_uint32), ("add", [at, whole, whole], _Reply), ("remove", [at, whole, whole], _Reply),
-        ("place", [at, whole, whole], _Reply), ("tangents", [at, whole, whole], _Reply),
-        ("extreme", [at, whole, whole], _Reply), ("multiplicity", [at, whole, whole], _Reply), ("area", [at], _Reply),
-        ("count", [at], _Reply), ("limit", [at], _Reply), ("clear", [at], _Reply),
+        ("end", [at], ctypes.c_uint32), ("call", [at, ctypes.c_uint32, whole, whole], _Reply), ("limit", [at], _Reply),
+        ("clear", [at], _Reply),
         ("vertices", [at, at, ctypes.c_size_t], _Reply),
         ("calls", [at, at, ctypes.c_size_t, at, ctypes.c_size_t], ctypes.c_size_t),
     ])
@@ -272,39 +271,43 @@ class Hull:
         raise TypeError("a hull lies in one place: it can't be copied")
 
     def _ask(self, function, *words):
-        """The reply of a call, or the fault that it told."""
+        """The reply of a function of the library, or the fault that it told."""
         with self._lock:
             reply = function(self._at, *words)
         _told(reply.code)
         return reply
 
+    def _call(self, kind, x=0, y=0):
+        """The reply of a call, or the fault that it told."""
+        return self._ask(_LIBRARY.hull_call, kind, x, y)
+
     def add(self, x, y):
         """Holds the point once more, and returns how often it is held now: 1 where it is new."""
-        return _times_added(self._ask(_LIBRARY.hull_add, _whole(x), _whole(y)))
+        return _times_added(self._call(_Kind.ADD, _whole(x), _whole(y)))
 
     def remove(self, x, y):
         """Holds the point once less, and returns how often it is still held; None where it was not there."""
-        return _times_left(self._ask(_LIBRARY.hull_remove, _whole(x), _whole(y)))
+        return _times_left(self._call(_Kind.REMOVE, _whole(x), _whole(y)))
 
     def place(self, x, y):
         """Where the point lies: one of Place."""
-        return Place(self._ask(_LIBRARY.hull_place, _whole(x), _whole(y)).code)
+        return Place(self._call(_Kind.PLACE, _whole(x), _whole(y)).code)
 
     def tangents(self, x, y):
         """The left and the right point that bound the hull as it is seen from (x, y); None where no such are."""
-        return _tangents(self._ask(_LIBRARY.hull_tangents, _whole(x), _whole(y)))
+        return _tangents(self._call(_Kind.TANGENTS, _whole(x), _whole(y)))
 
     def extreme(self, x, y):
         """The point farthest in the direction (x, y), of several the first by x and then by y; None where none is."""
-        return _farthest(self._ask(_LIBRARY.hull_extreme, _whole(x), _whole(y)))
+        return _farthest(self._call(_Kind.EXTREME, _whole(x), _whole(y)))
 
     def multiplicity(self, x, y):
         """How often the point is held: 0 where it is not there."""
-        return self._ask(_LIBRARY.hull_multiplicity, _whole(x), _whole(y)).number
+        return self._call(_Kind.MULTIPLICITY, _whole(x), _whole(y)).number
 
     def doubled_area(self):
         """Twice the area, 0 for a point and a line."""
-        return _area(self._ask(_LIBRARY.hull_area))
+        return _area(self._call(_Kind.AREA))
 
     def limit(self):
         """How many different points the hull takes."""
@@ -325,7 +328,7 @@ class Hull:
 
     def __len__(self):
         """How many different points there are."""
-        return self._ask(_LIBRARY.hull_count).number
+        return self._call(_Kind.COUNT).number
 
     def __contains__(self, point):
         """Whether the hull holds the point (which may well lie inside and be no corner)."""

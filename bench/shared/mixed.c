@@ -51,7 +51,7 @@ static void by_mutex(unsigned me, uint32_t kind, int64_t x, int64_t y) {
 }
 
 static void by_seat(unsigned me, uint32_t kind, int64_t x, int64_t y) {
-    if (hull_shared_call(rooms[me], kind, x, y).told.code == HULL_SHARED_FULL) {
+    if (hull_shared_call(rooms[me], kind, x, y).told.code == HULL_FULL) {
         abort();
     }
 }
@@ -118,7 +118,7 @@ static double through_seats(unsigned threads, long points) {
     uint32_t capacity = (uint32_t)(points + threads * calls_of_each);
     desk = malloc(hull_shared_desk_size());
     hull_shared_make_desk(desk);
-    if (hull_shared_open(desk, HULL_SHARED_LIMIT_MAX, 0, capacity, threads) != HULL_SHARED_OPEN) {
+    if (hull_shared_open(desk, HULL_LIMIT_MAX, 0, capacity, threads) != HULL_OPEN) {
         abort();
     }
     for (unsigned k = 0; k < threads; k++) {

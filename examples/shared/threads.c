@@ -14,7 +14,7 @@ static void *insert(void *seat) {
     long number = (hull_shared_seat *)seat - rooms;
     for (long i = 0; i < ROUNDS; i++) {
         long x = i % 2 ? i : -i;
-        hull_shared_call(rooms[number], HULL_SHARED_KIND_ADD, x, number == 0 ? i : number == 1 ? -i : 0);
+        hull_shared_call(rooms[number], HULL_KIND_ADD, x, number == 0 ? i : number == 1 ? -i : 0);
     }
     return NULL;
 }
@@ -22,9 +22,9 @@ static void *insert(void *seat) {
 static void *ask(void *free_looks) {
     long *looks = free_looks;
     while (*looks < ROUNDS) {
-        hull_shared_reply reply = hull_shared_call(rooms[INSERTING], HULL_SHARED_KIND_PLACE, 5, 50);
+        hull_shared_reply reply = hull_shared_call(rooms[INSERTING], HULL_KIND_PLACE, 5, 50);
         ++*looks;
-        if (reply.told.code == HULL_SHARED_INSIDE) {
+        if (reply.told.code == HULL_INSIDE) {
             break;
         }
     }
@@ -33,13 +33,13 @@ static void *ask(void *free_looks) {
 
 /* The text of the closed desk, in an array of its own. */
 static int write_journal(hull_shared_desk desk) {
-    hull_shared_told told = hull_shared_text(desk, NULL, 0);
+    hull_reply told = hull_shared_text(desk, NULL, 0);
     uint8_t *text = malloc(told.number);
     if (text == NULL) {
         return 1;
     }
     told = hull_shared_text(desk, text, told.number);
-    int wrong = told.code != HULL_SHARED_TEXT || fwrite(text, 1, told.number, stdout) != told.number;
+    int wrong = told.code != HULL_TEXT || fwrite(text, 1, told.number, stdout) != told.number;
     free(text);
     return wrong;
 }
@@ -52,7 +52,7 @@ int main(void) {
         return 1;
     }
     hull_shared_make_desk(desk);
-    if (hull_shared_open(desk, 100000, 0, SEATS * ROUNDS, SEATS) != HULL_SHARED_OPEN) {
+    if (hull_shared_open(desk, 100000, 0, SEATS * ROUNDS, SEATS) != HULL_OPEN) {
         return 1;
     }
     for (unsigned i = 0; i < SEATS; i++) {
@@ -61,7 +61,7 @@ int main(void) {
             return 1;
         }
         hull_shared_make_seat(rooms[i]);
-        if (hull_shared_lend(desk, rooms[i], i) != HULL_SHARED_LENT) {
+        if (hull_shared_lend(desk, rooms[i], i) != HULL_LENT) {
             return 1;
         }
     }
@@ -71,12 +71,12 @@ int main(void) {
     pthread_create(&threads[INSERTING], NULL, ask, &looks);
     for (int i = 0; i < SEATS; i++) {
         pthread_join(threads[i], NULL);
-        if (hull_shared_give_back(desk, rooms[i]) != HULL_SHARED_RETURNED) {
+        if (hull_shared_give_back(desk, rooms[i]) != HULL_RETURNED) {
             return 1;
         }
         free(rooms[i]);
     }
-    int wrong = hull_shared_close(desk) != HULL_SHARED_CLOSED || write_journal(desk);
+    int wrong = hull_shared_close(desk) != HULL_CLOSED || write_journal(desk);
     hull_shared_end(desk);
     free(desk);
     return wrong;

@@ -61,9 +61,9 @@ static void limits(void) {
     hull h = room_of_one();
     unsigned char *before = malloc(hull_size());
     memcpy(before, h, hull_size());
-    CHECK(hull_init(0, h) == HULL_BAD_LIMIT);
-    CHECK(hull_init(HULL_LIMIT_MAX + 1, h) == HULL_BAD_LIMIT);
-    CHECK(hull_init(UINT32_MAX, h) == HULL_BAD_LIMIT);
+    CHECK(hull_init(0, h) == HULL_OUT_OF_LIMITS);
+    CHECK(hull_init(HULL_LIMIT_MAX + 1, h) == HULL_OUT_OF_LIMITS);
+    CHECK(hull_init(UINT32_MAX, h) == HULL_OUT_OF_LIMITS);
     CHECK(memcmp(before, h, hull_size()) == 0);
     free(before);
     static const uint32_t asked_for[] = {1, 2, HULL_LIMIT_MAX, 0, HULL_LIMIT_MAX + 1, UINT32_MAX};

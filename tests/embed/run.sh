@@ -131,11 +131,6 @@ in_python() {
     python -c 'import numpy' 2>/dev/null || skip "arrays of numpy" numpy
 }
 
-if is_there python3; then
-    try "the walks are what their patterns make" python3 "$top/crates/hull_c/walks/write.py" --check
-else
-    skip "the walks beside their patterns" python3
-fi
 what=
 if [ ! -x "$top/crates/hullbook/out/hullbook" ] || [ ! -x "$top/crates/hulldraw/out/hulldraw" ]; then
     what=--library

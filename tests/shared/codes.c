@@ -45,115 +45,116 @@ static uint32_t call(hull_shared_seat seat, uint32_t kind, int64_t x, int64_t y)
 
 /* Answers of calls by one seat. */
 static void calls(hull_shared_seat seat) {
-    int64_t far = HULL_SHARED_COORDINATE_MAX;
+    int64_t far = HULL_COORDINATE_MAX;
     hull_shared_reply reply;
-    is("extreme of none", call(seat, HULL_SHARED_KIND_EXTREME, 1, 0), HULL_SHARED_EMPTY);
-    is("no tangent", call(seat, HULL_SHARED_KIND_TANGENTS, 1, 0), HULL_SHARED_NO_TANGENT);
-    is("outside", call(seat, HULL_SHARED_KIND_PLACE, 0, 0), HULL_SHARED_OUTSIDE);
-    is("added", call(seat, HULL_SHARED_KIND_ADD, -far, -far), HULL_SHARED_ADDED);
-    is("again", call(seat, HULL_SHARED_KIND_ADD, -far, -far), HULL_SHARED_AGAIN);
-    is("added", call(seat, HULL_SHARED_KIND_ADD, far, -far), HULL_SHARED_ADDED);
-    is("added", call(seat, HULL_SHARED_KIND_ADD, 0, far), HULL_SHARED_ADDED);
-    is("too many", call(seat, HULL_SHARED_KIND_ADD, 1, 1), HULL_SHARED_TOO_MANY);
-    is("left", call(seat, HULL_SHARED_KIND_REMOVE, -far, -far), HULL_SHARED_LEFT);
-    is("absent", call(seat, HULL_SHARED_KIND_REMOVE, 1, 1), HULL_SHARED_ABSENT);
-    is("inside", call(seat, HULL_SHARED_KIND_PLACE, 0, 0), HULL_SHARED_INSIDE);
-    is("on", call(seat, HULL_SHARED_KIND_PLACE, 0, -far), HULL_SHARED_ON);
-    reply = hull_shared_call(seat, HULL_SHARED_KIND_AREA, 0, 0);
-    is("area", reply.told.code, HULL_SHARED_NUMBER);
+    is("extreme of none", call(seat, HULL_KIND_EXTREME, 1, 0), HULL_EMPTY);
+    is("no tangent", call(seat, HULL_KIND_TANGENTS, 1, 0), HULL_NO_TANGENT);
+    is("outside", call(seat, HULL_KIND_PLACE, 0, 0), HULL_OUTSIDE);
+    is("added", call(seat, HULL_KIND_ADD, -far, -far), HULL_ADDED);
+    is("again", call(seat, HULL_KIND_ADD, -far, -far), HULL_AGAIN);
+    is("added", call(seat, HULL_KIND_ADD, far, -far), HULL_ADDED);
+    is("added", call(seat, HULL_KIND_ADD, 0, far), HULL_ADDED);
+    is("too many", call(seat, HULL_KIND_ADD, 1, 1), HULL_TOO_MANY);
+    is("left", call(seat, HULL_KIND_REMOVE, -far, -far), HULL_LEFT);
+    is("absent", call(seat, HULL_KIND_REMOVE, 1, 1), HULL_ABSENT);
+    is("inside", call(seat, HULL_KIND_PLACE, 0, 0), HULL_INSIDE);
+    is("on", call(seat, HULL_KIND_PLACE, 0, -far), HULL_ON);
+    reply = hull_shared_call(seat, HULL_KIND_AREA, 0, 0);
+    is("area", reply.told.code, HULL_NUMBER);
     is("its upper half", reply.told.high, 1 << 18);
     is("its lower half", reply.told.number, 0);
-    reply = hull_shared_call(seat, HULL_SHARED_KIND_EXTREME, 0, 1);
-    is("point", reply.told.code, HULL_SHARED_POINT);
+    reply = hull_shared_call(seat, HULL_KIND_EXTREME, 0, 1);
+    is("point", reply.told.code, HULL_POINT);
     is("its y", (uint64_t)reply.told.y, (uint64_t)far);
-    reply = hull_shared_call(seat, HULL_SHARED_KIND_TANGENTS, far, far);
-    is("tangents", reply.told.code, HULL_SHARED_TANGENTS);
+    reply = hull_shared_call(seat, HULL_KIND_TANGENTS, far, far);
+    is("tangents", reply.told.code, HULL_TANGENTS);
     is("the right one", (uint64_t)reply.told.other_x, 0);
-    reply = hull_shared_call(seat, HULL_SHARED_KIND_VERTICES, 0, 0);
-    is("corners", reply.told.code, HULL_SHARED_CORNERS);
+    reply = hull_shared_call(seat, HULL_KIND_VERTICES, 0, 0);
+    is("corners", reply.told.code, HULL_CORNERS);
     is("how many", reply.told.number, 3);
-    is("removed", call(seat, HULL_SHARED_KIND_REMOVE, -far, -far), HULL_SHARED_REMOVED);
-    reply = hull_shared_call(seat, HULL_SHARED_KIND_COUNT, 0, 0);
+    is("removed", call(seat, HULL_KIND_REMOVE, -far, -far), HULL_REMOVED);
+    reply = hull_shared_call(seat, HULL_KIND_COUNT, 0, 0);
     is("count", reply.told.number, 2);
     is("its turn", reply.turn, UINT64_C(16));
-    is("out of range", call(seat, HULL_SHARED_KIND_ADD, far + 1, 0), HULL_SHARED_OUT_OF_RANGE);
-    is("direction out of range", call(seat, HULL_SHARED_KIND_EXTREME, 0, -far - 1), HULL_SHARED_OUT_OF_RANGE);
-    is("zero direction", call(seat, HULL_SHARED_KIND_EXTREME, 0, 0), HULL_SHARED_ZERO_DIRECTION);
-    is("kind 0", call(seat, 0, 0, 0), HULL_SHARED_UNKNOWN_KIND);
-    is("kind 9", call(seat, 9, 0, 0), HULL_SHARED_UNKNOWN_KIND);
+    is("out of range", call(seat, HULL_KIND_ADD, far + 1, 0), HULL_OUT_OF_RANGE);
+    is("direction out of range", call(seat, HULL_KIND_EXTREME, 0, -far - 1), HULL_OUT_OF_RANGE);
+    is("zero direction", call(seat, HULL_KIND_EXTREME, 0, 0), HULL_ZERO_DIRECTION);
+    is("kind 0", call(seat, 0, 0, 0), HULL_UNKNOWN_KIND);
+    is("multiplicity by a seat", call(seat, HULL_KIND_MULTIPLICITY, 0, 0), HULL_UNKNOWN_KIND);
+    is("kind 10", call(seat, 10, 0, 0), HULL_UNKNOWN_KIND);
 }
 
 static void codes(hull_shared_desk desk, hull_shared_seat one, hull_shared_seat two) {
     static uint8_t text[4096];
     uint64_t first = UINT64_C(18446744073709551613);
-    is("close of a fresh desk", hull_shared_close(desk), HULL_SHARED_NOT_OPEN);
-    is("end of a fresh desk", hull_shared_end(desk), HULL_SHARED_ENDED);
-    is("text of a fresh desk", hull_shared_text(desk, text, 1).code, HULL_SHARED_NOT_CLOSED);
-    is("lend of a fresh desk", hull_shared_lend(desk, one, 0), HULL_SHARED_NOT_OPEN);
-    is("limit 0", hull_shared_open(desk, 0, first, 20, 2), HULL_SHARED_OUT_OF_LIMITS);
-    is("limit", hull_shared_open(desk, HULL_SHARED_LIMIT_MAX + 1, first, 20, 2), HULL_SHARED_OUT_OF_LIMITS);
-    is("capacity 0", hull_shared_open(desk, 3, first, 0, 2), HULL_SHARED_OUT_OF_LIMITS);
-    is("capacity", hull_shared_open(desk, 3, first, HULL_SHARED_CAPACITY_MAX + 1, 2), HULL_SHARED_OUT_OF_LIMITS);
-    is("no seats", hull_shared_open(desk, 3, first, 21, 0), HULL_SHARED_OUT_OF_LIMITS);
-    is("seats", hull_shared_open(desk, 3, first, 21, HULL_SHARED_SEATS_MAX + 1), HULL_SHARED_OUT_OF_LIMITS);
-    is("open", hull_shared_open(desk, 3, first, 20, 2), HULL_SHARED_OPEN);
-    is("open again", hull_shared_open(desk, 3, first, 20, 2), HULL_SHARED_WAS_OPENED);
-    is("take of none", hull_shared_take(one, 1, 0, 0), HULL_SHARED_VACANT);
-    is("look of none", hull_shared_look(one).told.code, HULL_SHARED_VACANT);
-    is("return of none", hull_shared_give_back(desk, one), HULL_SHARED_VACANT);
-    is("seat 2", hull_shared_lend(desk, one, 2), HULL_SHARED_NO_SEAT);
-    is("seat 1", hull_shared_lend(desk, one, 1), HULL_SHARED_LENT);
-    is("into a room in use", hull_shared_lend(desk, one, 0), HULL_SHARED_ROOM_IN_USE);
-    is("seat 1 again", hull_shared_lend(desk, two, 1), HULL_SHARED_NO_SEAT);
-    is("seat 0", hull_shared_lend(desk, two, 0), HULL_SHARED_LENT);
-    is("look with no number", hull_shared_look(one).told.code, HULL_SHARED_NO_NUMBER);
-    is("take", hull_shared_take(one, HULL_SHARED_KIND_COUNT, 0, 0), HULL_SHARED_TAKEN);
-    is("take twice", hull_shared_take(one, HULL_SHARED_KIND_COUNT, 0, 0), HULL_SHARED_WAITING);
-    is("return while it waits", hull_shared_give_back(desk, one), HULL_SHARED_WAITING);
-    is("take behind it", hull_shared_take(two, HULL_SHARED_KIND_COUNT, 0, 0), HULL_SHARED_TAKEN);
-    is("not yet", hull_shared_look(two).told.code, HULL_SHARED_NOT_YET);
+    is("close of a fresh desk", hull_shared_close(desk), HULL_NOT_OPEN);
+    is("end of a fresh desk", hull_shared_end(desk), HULL_ENDED);
+    is("text of a fresh desk", hull_shared_text(desk, text, 1).code, HULL_NOT_CLOSED);
+    is("lend of a fresh desk", hull_shared_lend(desk, one, 0), HULL_NOT_OPEN);
+    is("limit 0", hull_shared_open(desk, 0, first, 20, 2), HULL_OUT_OF_LIMITS);
+    is("limit", hull_shared_open(desk, HULL_LIMIT_MAX + 1, first, 20, 2), HULL_OUT_OF_LIMITS);
+    is("capacity 0", hull_shared_open(desk, 3, first, 0, 2), HULL_OUT_OF_LIMITS);
+    is("capacity", hull_shared_open(desk, 3, first, HULL_SHARED_CAPACITY_MAX + 1, 2), HULL_OUT_OF_LIMITS);
+    is("no seats", hull_shared_open(desk, 3, first, 21, 0), HULL_OUT_OF_LIMITS);
+    is("seats", hull_shared_open(desk, 3, first, 21, HULL_SHARED_SEATS_MAX + 1), HULL_OUT_OF_LIMITS);
+    is("open", hull_shared_open(desk, 3, first, 20, 2), HULL_OPEN);
+    is("open again", hull_shared_open(desk, 3, first, 20, 2), HULL_WAS_OPENED);
+    is("take of none", hull_shared_take(one, 1, 0, 0), HULL_VACANT);
+    is("look of none", hull_shared_look(one).told.code, HULL_VACANT);
+    is("return of none", hull_shared_give_back(desk, one), HULL_VACANT);
+    is("seat 2", hull_shared_lend(desk, one, 2), HULL_NO_SEAT);
+    is("seat 1", hull_shared_lend(desk, one, 1), HULL_LENT);
+    is("into a room in use", hull_shared_lend(desk, one, 0), HULL_ROOM_IN_USE);
+    is("seat 1 again", hull_shared_lend(desk, two, 1), HULL_NO_SEAT);
+    is("seat 0", hull_shared_lend(desk, two, 0), HULL_LENT);
+    is("look with no number", hull_shared_look(one).told.code, HULL_NO_NUMBER);
+    is("take", hull_shared_take(one, HULL_KIND_COUNT, 0, 0), HULL_TAKEN);
+    is("take twice", hull_shared_take(one, HULL_KIND_COUNT, 0, 0), HULL_WAITING);
+    is("return while it waits", hull_shared_give_back(desk, one), HULL_WAITING);
+    is("take behind it", hull_shared_take(two, HULL_KIND_COUNT, 0, 0), HULL_TAKEN);
+    is("not yet", hull_shared_look(two).told.code, HULL_NOT_YET);
     is("served", hull_shared_look(one).turn, first);
     is("served", hull_shared_look(two).turn, first + 1);
     calls(one);
-    is("full", call(two, HULL_SHARED_KIND_COUNT, 0, 0), HULL_SHARED_FULL);
-    is("close with seats out", hull_shared_close(desk), HULL_SHARED_SEATS_OUT);
-    is("end while open", hull_shared_end(desk), HULL_SHARED_SEATS_OUT);
-    is("return", hull_shared_give_back(desk, two), HULL_SHARED_RETURNED);
-    is("close with a seat out", hull_shared_close(desk), HULL_SHARED_SEATS_OUT);
-    is("return", hull_shared_give_back(desk, one), HULL_SHARED_RETURNED);
-    is("text of an open desk", hull_shared_text(desk, text, sizeof text).code, HULL_SHARED_NOT_CLOSED);
-    is("close", hull_shared_close(desk), HULL_SHARED_CLOSED);
-    is("close again", hull_shared_close(desk), HULL_SHARED_NOT_OPEN);
-    is("lend of a closed desk", hull_shared_lend(desk, one, 0), HULL_SHARED_NOT_OPEN);
-    is("open of a closed desk", hull_shared_open(desk, 3, 0, 20, 2), HULL_SHARED_WAS_OPENED);
-    hull_shared_told told = hull_shared_text(desk, text, 10);
-    is("too small", told.code, HULL_SHARED_TOO_SMALL);
-    is("text", hull_shared_text(desk, text, sizeof text).code, HULL_SHARED_TEXT);
+    is("full", call(two, HULL_KIND_COUNT, 0, 0), HULL_FULL);
+    is("close with seats out", hull_shared_close(desk), HULL_SEATS_OUT);
+    is("end while open", hull_shared_end(desk), HULL_NOT_CLOSED);
+    is("return", hull_shared_give_back(desk, two), HULL_RETURNED);
+    is("close with a seat out", hull_shared_close(desk), HULL_SEATS_OUT);
+    is("return", hull_shared_give_back(desk, one), HULL_RETURNED);
+    is("text of an open desk", hull_shared_text(desk, text, sizeof text).code, HULL_NOT_CLOSED);
+    is("close", hull_shared_close(desk), HULL_CLOSED);
+    is("close again", hull_shared_close(desk), HULL_NOT_OPEN);
+    is("lend of a closed desk", hull_shared_lend(desk, one, 0), HULL_NOT_OPEN);
+    is("open of a closed desk", hull_shared_open(desk, 3, 0, 20, 2), HULL_WAS_OPENED);
+    hull_reply told = hull_shared_text(desk, text, 10);
+    is("too small", told.code, HULL_TOO_SMALL);
+    is("text", hull_shared_text(desk, text, sizeof text).code, HULL_TEXT);
     is("its end", text[told.number - 1], '\n');
     is("behind it", text[told.number], 0);
-    is("end", hull_shared_end(desk), HULL_SHARED_ENDED);
+    is("end", hull_shared_end(desk), HULL_ENDED);
 }
 
 /* A short run, in which any request may be refused. */
 static void short_run(hull_shared_desk desk, hull_shared_seat seat) {
     uint8_t text[256];
     uint32_t code = hull_shared_open(desk, 3, 0, 4, 1);
-    if (code == HULL_SHARED_NO_MEMORY) {
-        is("after a refusal", hull_shared_open(desk, 3, 0, 4, 1), HULL_SHARED_OPEN);
+    if (code == HULL_NO_MEMORY) {
+        is("after a refusal", hull_shared_open(desk, 3, 0, 4, 1), HULL_OPEN);
     }
-    is("lend", hull_shared_lend(desk, seat, 0), HULL_SHARED_LENT);
+    is("lend", hull_shared_lend(desk, seat, 0), HULL_LENT);
     for (int i = 0; i < 2; i++) {
-        code = call(seat, HULL_SHARED_KIND_ADD, i, 0);
-        is("added or refused", code == HULL_SHARED_ADDED || code == HULL_SHARED_NO_MEMORY, 1);
+        code = call(seat, HULL_KIND_ADD, i, 0);
+        is("added or refused", code == HULL_ADDED || code == HULL_NO_MEMORY, 1);
     }
-    is("return", hull_shared_give_back(desk, seat), HULL_SHARED_RETURNED);
-    is("close", hull_shared_close(desk), HULL_SHARED_CLOSED);
+    is("return", hull_shared_give_back(desk, seat), HULL_RETURNED);
+    is("close", hull_shared_close(desk), HULL_CLOSED);
     code = hull_shared_text(desk, text, sizeof text).code;
-    if (code == HULL_SHARED_NO_MEMORY) {
+    if (code == HULL_NO_MEMORY) {
         code = hull_shared_text(desk, text, sizeof text).code;
     }
-    is("text", code, HULL_SHARED_TEXT);
-    is("end", hull_shared_end(desk), HULL_SHARED_ENDED);
+    is("text", code, HULL_TEXT);
+    is("end", hull_shared_end(desk), HULL_ENDED);
 }
 
 int main(void) {

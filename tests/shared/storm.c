@@ -28,18 +28,18 @@ static int64_t coordinate(uint64_t *state) {
 /* Whether the code is one of the answers to a call of this kind. */
 static int answers(uint32_t kind, uint32_t code) {
     switch (kind) {
-    case HULL_SHARED_KIND_ADD:
-        return code >= HULL_SHARED_ADDED && code <= HULL_SHARED_NO_MEMORY;
-    case HULL_SHARED_KIND_REMOVE:
-        return code >= HULL_SHARED_REMOVED && code <= HULL_SHARED_ABSENT;
-    case HULL_SHARED_KIND_PLACE:
-        return code >= HULL_SHARED_INSIDE && code <= HULL_SHARED_OUTSIDE;
-    case HULL_SHARED_KIND_TANGENTS:
-        return code == HULL_SHARED_TANGENTS || code == HULL_SHARED_NO_TANGENT;
-    case HULL_SHARED_KIND_EXTREME:
-        return code == HULL_SHARED_POINT || code == HULL_SHARED_EMPTY;
+    case HULL_KIND_ADD:
+        return code >= HULL_ADDED && code <= HULL_NO_MEMORY;
+    case HULL_KIND_REMOVE:
+        return code >= HULL_REMOVED && code <= HULL_ABSENT;
+    case HULL_KIND_PLACE:
+        return code >= HULL_INSIDE && code <= HULL_OUTSIDE;
+    case HULL_KIND_TANGENTS:
+        return code == HULL_TANGENTS || code == HULL_NO_TANGENT;
+    case HULL_KIND_EXTREME:
+        return code == HULL_POINT || code == HULL_EMPTY;
     default:
-        return code == HULL_SHARED_NUMBER;
+        return code == HULL_NUMBER;
     }
 }
 
@@ -79,13 +79,13 @@ static int each_once(unsigned threads) {
 }
 
 static int write_text(void) {
-    hull_shared_told told = hull_shared_text(desk, NULL, 0);
+    hull_reply told = hull_shared_text(desk, NULL, 0);
     uint8_t *text = malloc(told.number);
-    if (told.code != HULL_SHARED_TOO_SMALL || text == NULL) {
+    if (told.code != HULL_TOO_SMALL || text == NULL) {
         return 0;
     }
     told = hull_shared_text(desk, text, told.number);
-    int written = told.code == HULL_SHARED_TEXT && fwrite(text, 1, told.number, stdout) == told.number;
+    int written = told.code == HULL_TEXT && fwrite(text, 1, told.number, stdout) == told.number;
     free(text);
     return written;
 }
@@ -105,14 +105,14 @@ int main(int count, char **words) {
     calls = count == 3 ? strtoul(words[2], NULL, 10) : 0;
     desk = room_of(hull_shared_desk_size());
     hull_shared_make_desk(desk);
-    if (hull_shared_open(desk, HULL_SHARED_LIMIT_MAX, 0, (uint32_t)(threads * calls), threads) != HULL_SHARED_OPEN) {
+    if (hull_shared_open(desk, HULL_LIMIT_MAX, 0, (uint32_t)(threads * calls), threads) != HULL_OPEN) {
         return 2;
     }
     for (unsigned k = 0; k < threads; k++) {
         turns[k] = room_of(calls * sizeof(uint64_t));
         rooms[k] = room_of(hull_shared_seat_size());
         hull_shared_make_seat(rooms[k]);
-        bad |= hull_shared_lend(desk, rooms[k], k) != HULL_SHARED_LENT;
+        bad |= hull_shared_lend(desk, rooms[k], k) != HULL_LENT;
     }
     for (unsigned k = 0; k < threads; k++) {
         bad |= pthread_create(&ids[k], NULL, work, &rooms[k]) != 0;
@@ -121,15 +121,15 @@ int main(int count, char **words) {
         bad |= pthread_join(ids[k], NULL) != 0 || wrong[k];
     }
     bad |= !each_once(threads);
-    bad |= hull_shared_call(rooms[0], HULL_SHARED_KIND_COUNT, 0, 0).told.code != HULL_SHARED_FULL;
+    bad |= hull_shared_call(rooms[0], HULL_KIND_COUNT, 0, 0).told.code != HULL_FULL;
     for (unsigned k = 0; k < threads; k++) {
-        bad |= hull_shared_close(desk) != HULL_SHARED_SEATS_OUT;
-        bad |= hull_shared_give_back(desk, rooms[k]) != HULL_SHARED_RETURNED;
+        bad |= hull_shared_close(desk) != HULL_SEATS_OUT;
+        bad |= hull_shared_give_back(desk, rooms[k]) != HULL_RETURNED;
         free(rooms[k]);
         free(turns[k]);
     }
-    bad |= hull_shared_close(desk) != HULL_SHARED_CLOSED || !write_text();
-    bad |= hull_shared_end(desk) != HULL_SHARED_ENDED;
+    bad |= hull_shared_close(desk) != HULL_CLOSED || !write_text();
+    bad |= hull_shared_end(desk) != HULL_ENDED;
     free(desk);
     return bad;
 }

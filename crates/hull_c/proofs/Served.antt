@@ -4,7 +4,7 @@ use Rattle.std.proofs.Common.{get_or, refl, sym, ap, subst, ◌∙◌}
 use Rattle.hull_tree.specs.Sets.{LimitedTree}
 use Rattle.hull_reply.specs.declared.reply.HullReply.{HullReply}
 use Rattle.hull_c.specs.declared.requests.HullRequest.{HullRequest}
-use Rattle.hull_c.specs.Requests.{AreServed, IsAnswered, IsBad}
+use Rattle.hull_c.specs.Requests.{AnswersRequest, AreServed, IsBad}
 use Rattle.std.proofs.lemmas.List.{drop_all, drop_more, drop-drop, drop-set, drop-set-lt, take-set, take_more_set}
 use Rattle.std.proofs.lemmas.List.{take-append-drop, append_assoc}
 
@@ -43,7 +43,7 @@ module _ (qs : List HullRequest) (before : List HullReply) (old now : LimitedTre
 
   module _ (mid : LimitedTree) (r : HullReply) (q : HullRequest) (within : i < length qs) (room : i < length before)
       (long : length out ≡ length before)
-      (next : drop i qs ≡ q ∷ drop (i + 1) qs) (answered : IsAnswered q now mid r) where
+      (next : drop i qs ≡ q ∷ drop (i + 1) qs) (answered : AnswersRequest q now mid r) where
     here : drop i before ≡ get_or before i r ∷ drop (i + 1) before
     here = drop_more before i r room
 

@@ -1,48 +1,14 @@
--- What the calls on a hull come to.
-use Rattle.std.specs.Prelude.{◌≡◌, ◌⊎◌, ◌≢◌, ◌≤◌, ◌<◌, ℕ, List, [], ◌++◌, drop, ℤ, length}
+-- What the calls on a hull come to that are its own.
+use Rattle.std.specs.Prelude.{◌≡◌, ◌⊎◌, ◌≢◌, ◌≤◌, ◌<◌, ℕ, List, [], ◌++◌, drop, length}
 use Rattle.lattice.specs.Plane.{Pair}
 use Rattle.lattice.specs.Vertices.{IsVertexList}
 use Rattle.hull_plain.specs.Held.{nothing_held}
-use Rattle.hull_plain.specs.Replies.{Answers, after}
 use Rattle.hull_plain.specs.declared.TheConstants.{POINT_LIMIT}
-use Rattle.hull_plain.specs.declared.rules.Rules.TheVariants.{Counted}
-use Rattle.hull_plain.specs.declared.call.Call.{Call}
-use Rattle.hull_plain.specs.declared.call.Call.TheVariants.{Extreme}
-use Rattle.hull_plain.specs.declared.reply.Reply.{Reply}
 use Rattle.hull_tree.specs.Roots.{held_by}
 use Rattle.hull_tree.specs.Sets.{LimitedTree}
-use Rattle.hull_reply.specs.Coordinates.{AreCoordinates, AreZero}
-use Rattle.hull_reply.specs.Told.{IsBare, IsNumber, Tells}
+use Rattle.hull_reply.specs.Told.{IsBare, IsNumber}
 use Rattle.hull_reply.specs.declared.code.Code.TheVariants as code
 use Rattle.hull_reply.specs.declared.reply.HullReply.{HullReply}
-
--- the call was made: the numbers tell a reply that is allowed for what the tree held, which has its effect, and the
--- limit stays
-pub record IsServed (call : Call) (old new : LimitedTree) (told : HullReply) : Type 0 where
-  pub reply : Reply
-  pub tells : Tells told reply
-  pub allowed : Answers Counted (held_by old.root) old.limit call reply
-  pub effect : held_by new.root ≡ after (held_by old.root) call reply
-  pub same_limit : new.limit ≡ old.limit
-
--- a call at a point was made, or a coordinate was out of range and nothing changed
-abbrev pub IsServedAt : (Pair → Call) → ℤ → ℤ → LimitedTree → LimitedTree → HullReply → Type 0
-IsServedAt call x y old new told =
-    (AreCoordinates x y × IsServed (call (record { x = x; y = y })) old new told)
-    ⊎ (¬ AreCoordinates x y × IsBare code.OutOfRange told × (new ≡ old))
-
--- a call along a direction was made; or a component was out of range, or both were 0, and nothing changed
-abbrev pub IsServedAlong : ℤ → ℤ → LimitedTree → LimitedTree → HullReply → Type 0
-IsServedAlong x y old new told =
-    (AreCoordinates x y × ¬ AreZero x y × IsServed (Extreme (record { x = x; y = y })) old new told)
-    ⊎ ((¬ AreCoordinates x y × IsBare code.OutOfRange told × (new ≡ old))
-    ⊎ (AreZero x y × IsBare code.ZeroDirection told × (new ≡ old)))
-
--- how often the point is held was told, or a coordinate was out of range; nothing changed
-abbrev pub IsMultiplicityAt : ℤ → ℤ → LimitedTree → LimitedTree → HullReply → Type 0
-IsMultiplicityAt x y old new told =
-    (new ≡ old) × ((AreCoordinates x y × IsNumber code.Number ((held_by old.root).times (record { x = x; y = y })) told)
-    ⊎ (¬ AreCoordinates x y × IsBare code.OutOfRange told))
 
 -- nothing is held any more, and the limit stays
 pub record IsCleared (old new : LimitedTree) (told : HullReply) : Type 0 where

@@ -1,22 +1,21 @@
 //! A convex hull for C: a static library over [`HullTree`](hull_tree::HullTree), whose header is `include/hull.h`.
 //!
-//! A hull lies in room that the caller gives. Each call of the header is one export, which lends the hull at the
-//! pointer to one plain function (`calls.rt`, `corners.rt`, `requests.rt`) and gives back its reply: what it promises
-//! is that function's contract, in the words of the trait `HullSet`.
-//!
-//! The walk of each export (`proofs/hull_*/Proof.antt`) shows that it lends the hull and takes it back; those of one
-//! shape are written from one pattern by `walks/write.py`, which is to be run after a change of a pattern.
+//! A hull lies in room that the caller gives. Changes and questions are one export, [`hull_call`], by their kind; the
+//! header has a function for each over it. An export lends the hull at the pointer to one plain function (`calls.rt`,
+//! `corners.rt`, `requests.rt`) and gives back its reply: what it promises is that function's contract. Its walk
+//! (`proofs/hull_*/Proof.antt`) shows that it lends the hull and takes it back.
 #![tactic(auto)]
 
 ghost use Rattle.std.specs.Prelude.{◌≡◌};
 ghost use Rattle.std.specs.Borrow.{full_share, sem};
 ghost use Rattle.std.specs.Ptr.{lies_at, room_at};
 ghost use Rattle.hull_tree.specs.contracts.tree.HullTree.{the_row};
+ghost use Rattle.hull_tree.specs.Sets.{hull_tree};
 ghost use Rattle.hull_reply.specs.Left.{leaves};
 ghost use Rattle.hull_reply.specs.Rooms.{room_alignment, room_size};
+ghost use Rattle.hull_reply.specs.Served.{IsAnswered};
 ghost use Rattle.hull_c.specs.Requests.{AreServed};
-ghost use Rattle.hull_c.specs.Calls.{AreCorners, IsCleared, IsFresh, IsLimitOf, IsMultiplicityAt, IsServed};
-ghost use Rattle.hull_c.specs.Calls.{IsServedAlong, IsServedAt};
+ghost use Rattle.hull_c.specs.Calls.{AreCorners, IsCleared, IsFresh, IsLimitOf};
 
 mod calls;
 mod corners;
@@ -25,130 +24,24 @@ mod requests;
 mod tests;
 
 pub use corners::HullPoint;
-use hull_plain::Call;
 use hull_reply::HullReply;
 use hull_tree::HullTree;
-pub use requests::{HullRequest, Kind};
+pub use requests::HullRequest;
 use std::alloc::Global;
 
-/// Holds the point (x, y) once more.
+/// Makes the call that a kind and two numbers ask for: a point or a direction, or nothing of them.
 ///
 /// # Safety
 ///
 /// A hull lies at `at`, and no other call on it is under way.
 #[unsafe(no_mangle)]
-pub unsafe extern "C" fn hull_add(at: *mut u8, x: i64, y: i64) -> HullReply
+pub unsafe extern "C" fn hull_call(at: *mut u8, kind: u32, x: i64, y: i64) -> HullReply
     ghost t: { the_row.Denot }
     requires* { sem 𝓛 (lies_at the_row full_share at t) }
-    ensures* { sem 𝓛 (leaves the_row at (λ new. IsServedAt Call.Add x y t new result)) }
+    ensures* { sem 𝓛 (leaves the_row at (λ new. IsAnswered hull_tree kind x y t new result)) }
 {
     let hull = at as *mut HullTree;
-    calls::add(unsafe { &mut *hull }, x, y)
-}
-
-/// Holds the point (x, y) once less.
-///
-/// # Safety
-///
-/// A hull lies at `at`, and no other call on it is under way.
-#[unsafe(no_mangle)]
-pub unsafe extern "C" fn hull_remove(at: *mut u8, x: i64, y: i64) -> HullReply
-    ghost t: { the_row.Denot }
-    requires* { sem 𝓛 (lies_at the_row full_share at t) }
-    ensures* { sem 𝓛 (leaves the_row at (λ new. IsServedAt Call.Remove x y t new result)) }
-{
-    let hull = at as *mut HullTree;
-    calls::remove(unsafe { &mut *hull }, x, y)
-}
-
-/// Where the point (x, y) lies.
-///
-/// # Safety
-///
-/// A hull lies at `at`, and no other call on it is under way.
-#[unsafe(no_mangle)]
-pub unsafe extern "C" fn hull_place(at: *mut u8, x: i64, y: i64) -> HullReply
-    ghost t: { the_row.Denot }
-    requires* { sem 𝓛 (lies_at the_row full_share at t) }
-    ensures* { sem 𝓛 (leaves the_row at (λ new. IsServedAt Call.Place x y t new result)) }
-{
-    let hull = at as *mut HullTree;
-    calls::place(unsafe { &mut *hull }, x, y)
-}
-
-/// The left and the right tangent point seen from (x, y).
-///
-/// # Safety
-///
-/// A hull lies at `at`, and no other call on it is under way.
-#[unsafe(no_mangle)]
-pub unsafe extern "C" fn hull_tangents(at: *mut u8, x: i64, y: i64) -> HullReply
-    ghost t: { the_row.Denot }
-    requires* { sem 𝓛 (lies_at the_row full_share at t) }
-    ensures* { sem 𝓛 (leaves the_row at (λ new. IsServedAt Call.Tangents x y t new result)) }
-{
-    let hull = at as *mut HullTree;
-    calls::tangents(unsafe { &mut *hull }, x, y)
-}
-
-/// The first of the farthest points in the direction (x, y).
-///
-/// # Safety
-///
-/// A hull lies at `at`, and no other call on it is under way.
-#[unsafe(no_mangle)]
-pub unsafe extern "C" fn hull_extreme(at: *mut u8, x: i64, y: i64) -> HullReply
-    ghost t: { the_row.Denot }
-    requires* { sem 𝓛 (lies_at the_row full_share at t) }
-    ensures* { sem 𝓛 (leaves the_row at (λ new. IsServedAlong x y t new result)) }
-{
-    let hull = at as *mut HullTree;
-    calls::extreme(unsafe { &mut *hull }, x, y)
-}
-
-/// How often the point (x, y) is held.
-///
-/// # Safety
-///
-/// A hull lies at `at`, and no other call on it is under way.
-#[unsafe(no_mangle)]
-pub unsafe extern "C" fn hull_multiplicity(at: *mut u8, x: i64, y: i64) -> HullReply
-    ghost t: { the_row.Denot }
-    requires* { sem 𝓛 (lies_at the_row full_share at t) }
-    ensures* { sem 𝓛 (leaves the_row at (λ new. IsMultiplicityAt x y t new result)) }
-{
-    let hull = at as *mut HullTree;
-    calls::multiplicity(unsafe { &mut *hull }, x, y)
-}
-
-/// The doubled area of the hull.
-///
-/// # Safety
-///
-/// A hull lies at `at`, and no other call on it is under way.
-#[unsafe(no_mangle)]
-pub unsafe extern "C" fn hull_area(at: *mut u8) -> HullReply
-    ghost t: { the_row.Denot }
-    requires* { sem 𝓛 (lies_at the_row full_share at t) }
-    ensures* { sem 𝓛 (leaves the_row at (λ new. IsServed Call.Area t new result)) }
-{
-    let hull = at as *mut HullTree;
-    calls::area(unsafe { &mut *hull })
-}
-
-/// How many points there are.
-///
-/// # Safety
-///
-/// A hull lies at `at`, and no other call on it is under way.
-#[unsafe(no_mangle)]
-pub unsafe extern "C" fn hull_count(at: *mut u8) -> HullReply
-    ghost t: { the_row.Denot }
-    requires* { sem 𝓛 (lies_at the_row full_share at t) }
-    ensures* { sem 𝓛 (leaves the_row at (λ new. IsServed Call.Count t new result)) }
-{
-    let hull = at as *mut HullTree;
-    calls::count(unsafe { &mut *hull })
+    calls::call(unsafe { &mut *hull }, kind, x, y)
 }
 
 /// Writes the corners of the hull to the front of the array, counterclockwise from the first by x and then y.

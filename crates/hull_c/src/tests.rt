@@ -31,7 +31,7 @@ fn goes_to_any_thread<H: Send>(_hull: &H) {}
 /// The square of side 10 with a point inside.
 fn square(rt: &impl Abort, hull: &mut HullTree) {
     for (x, y) in [(0, 0), (10, 0), (10, 10), (0, 10), (4, 4)] {
-        is_bare(rt, calls::add(hull, x, y), 3);
+        is_bare(rt, calls::call(hull, 1, x, y), 3);
     }
 }
 
@@ -45,7 +45,7 @@ fn limits(rt: HostRuntime) {
     ] {
         let mut hull = calls::fresh(rt.alloc(), asked);
         is_number(&rt, calls::limit(&mut hull), 17, u64::from(limit));
-        is_number(&rt, calls::count(&mut hull), 17, 0);
+        is_number(&rt, calls::call(&mut hull, 8, 0, 0), 17, 0);
         goes_to_any_thread(&hull);
         assert_eq!(rt; calls::finish(hull), 0);
     }
@@ -55,40 +55,40 @@ fn limits(rt: HostRuntime) {
 fn changes(rt: HostRuntime) {
     let mut hull = calls::fresh(rt.alloc(), 2);
     let far = COORDINATE_LIMIT;
-    is_bare(&rt, calls::add(&mut hull, 1, 2), 3);
-    is_number(&rt, calls::add(&mut hull, 1, 2), 4, 2);
-    is_bare(&rt, calls::add(&mut hull, far + 1, 0), 1);
-    is_bare(&rt, calls::add(&mut hull, -far, far), 3);
-    is_bare(&rt, calls::add(&mut hull, 5, 6), 5);
-    is_number(&rt, calls::multiplicity(&mut hull, 1, 2), 17, 2);
-    is_number(&rt, calls::multiplicity(&mut hull, 5, 6), 17, 0);
-    is_bare(&rt, calls::multiplicity(&mut hull, 0, -far - 1), 1);
-    is_number(&rt, calls::remove(&mut hull, 1, 2), 8, 1);
-    is_bare(&rt, calls::remove(&mut hull, 1, 2), 7);
-    is_bare(&rt, calls::remove(&mut hull, 1, 2), 9);
-    is_bare(&rt, calls::remove(&mut hull, 1, far + 1), 1);
+    is_bare(&rt, calls::call(&mut hull, 1, 1, 2), 3);
+    is_number(&rt, calls::call(&mut hull, 1, 1, 2), 4, 2);
+    is_bare(&rt, calls::call(&mut hull, 1, far + 1, 0), 1);
+    is_bare(&rt, calls::call(&mut hull, 1, -far, far), 3);
+    is_bare(&rt, calls::call(&mut hull, 1, 5, 6), 5);
+    is_number(&rt, calls::call(&mut hull, 9, 1, 2), 17, 2);
+    is_number(&rt, calls::call(&mut hull, 9, 5, 6), 17, 0);
+    is_bare(&rt, calls::call(&mut hull, 9, 0, -far - 1), 1);
+    is_number(&rt, calls::call(&mut hull, 2, 1, 2), 8, 1);
+    is_bare(&rt, calls::call(&mut hull, 2, 1, 2), 7);
+    is_bare(&rt, calls::call(&mut hull, 2, 1, 2), 9);
+    is_bare(&rt, calls::call(&mut hull, 2, 1, far + 1), 1);
     for times in 1..MULTIPLICITY_LIMIT {
         is_number(
             &rt,
-            calls::add(&mut hull, -far, far),
+            calls::call(&mut hull, 1, -far, far),
             4,
             u64::from(times) + 1,
         );
     }
-    is_bare(&rt, calls::add(&mut hull, -far, far), 5);
-    is_number(&rt, calls::count(&mut hull), 17, 1);
+    is_bare(&rt, calls::call(&mut hull, 1, -far, far), 5);
+    is_number(&rt, calls::call(&mut hull, 8, 0, 0), 17, 1);
     is_bare(&rt, calls::clear(rt.alloc(), &mut hull), 20);
-    is_number(&rt, calls::count(&mut hull), 17, 0);
+    is_number(&rt, calls::call(&mut hull, 8, 0, 0), 17, 0);
     is_number(&rt, calls::limit(&mut hull), 17, 2);
 }
 
 #[test]
 fn questions_of_none(rt: HostRuntime) {
     let mut hull = calls::fresh(rt.alloc(), 10);
-    is_bare(&rt, calls::place(&mut hull, 0, 0), 14);
-    is_bare(&rt, calls::extreme(&mut hull, 1, 0), 11);
-    is_bare(&rt, calls::tangents(&mut hull, 0, 0), 16);
-    is_number(&rt, calls::area(&mut hull), 17, 0);
+    is_bare(&rt, calls::call(&mut hull, 3, 0, 0), 14);
+    is_bare(&rt, calls::call(&mut hull, 5, 1, 0), 11);
+    is_bare(&rt, calls::call(&mut hull, 4, 0, 0), 16);
+    is_number(&rt, calls::call(&mut hull, 7, 0, 0), 17, 0);
 }
 
 #[test]
@@ -96,25 +96,25 @@ fn questions_of_a_square(rt: HostRuntime) {
     let mut hull = calls::fresh(rt.alloc(), 10);
     square(&rt, &mut hull);
     let far = COORDINATE_LIMIT;
-    is_bare(&rt, calls::place(&mut hull, 5, 5), 12);
-    is_bare(&rt, calls::place(&mut hull, 10, 5), 13);
-    is_bare(&rt, calls::place(&mut hull, 11, 5), 14);
-    is_bare(&rt, calls::place(&mut hull, far + 1, 5), 1);
-    is_told(&rt, calls::extreme(&mut hull, 1, 0), 10, (10, 0, 0, 0), 0);
-    is_told(&rt, calls::extreme(&mut hull, 0, 1), 10, (0, 10, 0, 0), 0);
-    is_bare(&rt, calls::extreme(&mut hull, 0, 0), 2);
-    is_bare(&rt, calls::extreme(&mut hull, 0, -far - 1), 1);
+    is_bare(&rt, calls::call(&mut hull, 3, 5, 5), 12);
+    is_bare(&rt, calls::call(&mut hull, 3, 10, 5), 13);
+    is_bare(&rt, calls::call(&mut hull, 3, 11, 5), 14);
+    is_bare(&rt, calls::call(&mut hull, 3, far + 1, 5), 1);
+    is_told(&rt, calls::call(&mut hull, 5, 1, 0), 10, (10, 0, 0, 0), 0);
+    is_told(&rt, calls::call(&mut hull, 5, 0, 1), 10, (0, 10, 0, 0), 0);
+    is_bare(&rt, calls::call(&mut hull, 5, 0, 0), 2);
+    is_bare(&rt, calls::call(&mut hull, 5, 0, -far - 1), 1);
     is_told(
         &rt,
-        calls::tangents(&mut hull, 20, 5),
+        calls::call(&mut hull, 4, 20, 5),
         15,
         (10, 0, 10, 10),
         0,
     );
-    is_bare(&rt, calls::tangents(&mut hull, 5, 5), 16);
-    is_bare(&rt, calls::tangents(&mut hull, far + 1, 5), 1);
-    is_number(&rt, calls::area(&mut hull), 17, 200);
-    is_number(&rt, calls::count(&mut hull), 17, 5);
+    is_bare(&rt, calls::call(&mut hull, 4, 5, 5), 16);
+    is_bare(&rt, calls::call(&mut hull, 4, far + 1, 5), 1);
+    is_number(&rt, calls::call(&mut hull, 7, 0, 0), 17, 200);
+    is_number(&rt, calls::call(&mut hull, 8, 0, 0), 17, 5);
 }
 
 #[test]
@@ -122,9 +122,9 @@ fn area_in_two_words(rt: HostRuntime) {
     let mut hull = calls::fresh(rt.alloc(), 10);
     let far = COORDINATE_LIMIT;
     for (x, y) in [(-far, -far), (far, -far), (far, far), (-far, far)] {
-        is_bare(&rt, calls::add(&mut hull, x, y), 3);
+        is_bare(&rt, calls::call(&mut hull, 1, x, y), 3);
     }
-    let told = calls::area(&mut hull);
+    let told = calls::call(&mut hull, 7, 0, 0);
     assert_eq!(rt; (told.code, told.number, told.high), (17, 0, 1 << 19));
 }
 
@@ -133,7 +133,11 @@ fn corners_of_a_square(rt: HostRuntime) {
     let mut hull = calls::fresh(rt.alloc(), 10);
     let mut out = [HullPoint { x: -1, y: -2 }; 6];
     is_number(&rt, vertices(&mut hull, &mut out), 18, 0);
+    is_number(&rt, calls::call(&mut hull, 6, 0, 0), 18, 0);
     square(&rt, &mut hull);
+    is_number(&rt, calls::call(&mut hull, 6, -1, 9), 18, 4);
+    is_bare(&rt, calls::call(&mut hull, 0, 0, 0), 22);
+    is_bare(&rt, calls::call(&mut hull, 10, 0, 0), 22);
     is_number(&rt, vertices(&mut hull, &mut out[..3]), 19, 4);
     for point in &out {
         assert_eq!(rt; (point.x, point.y), (-1, -2));
@@ -163,9 +167,9 @@ fn many_calls(rt: HostRuntime) {
         asked(7, -1, 9),
         asked(8, 7, 7),
         asked(5, 1, 1),
-        asked(6, 4, 0),
+        asked(9, 4, 0),
         asked(2, 4, 0),
-        asked(9, 0, 0),
+        asked(10, 0, 0),
         asked(2, 4, 0),
     ];
     let mut replies = [HullReply::bare(Code::Cleared); 14];

@@ -1,14 +1,21 @@
-//! Replies in numbers, for callers in C: a code, and what belongs to it.
+//! Requests and replies in numbers, for callers in C: a kind and two numbers, and a code and what belongs to it.
 //!
-//! The libraries for C tell by the same numbers: each of their headers names those that it needs. [`told`] makes a
+//! The libraries for C ask and tell by one table of numbers, which stands in `include/hull_common.h`. [`told`] makes a
 //! [`HullReply`] of a [`Reply`](hull_plain::Reply); its contract says that the numbers tell that reply and no other.
-//! [`point_of`] and [`direction_of`] read the two numbers that a call comes with.
+//! [`request_of`] makes a [`Request`] of a kind and two numbers, which [`point_of`] and [`direction_of`] read, and
+//! [`serve`] serves it to a set.
 #![tactic(auto)]
 
 mod code;
 mod coordinates;
+mod kind;
 mod reply;
+mod request;
+mod serving;
 
 pub use code::Code;
 pub use coordinates::{direction_of, point_of};
+pub use kind::Kind;
 pub use reply::{HullReply, told};
+pub use request::{Request, request_of};
+pub use serving::serve;

@@ -1,51 +1,18 @@
--- Which call a kind and two numbers ask for.
-use Rattle.std.specs.Prelude.{◌≡◌, ◌≢◌, ◌⊎◌, ℕ, ℤ, Result, Ok, Err, MatchResult}
-use Rattle.lattice.specs.Plane.{Pair}
-use Rattle.hull_plain.specs.declared.call.Call.{Call}
-use Rattle.hull_plain.specs.declared.call.Call.TheVariants as call
-use Rattle.hull_reply.specs.Coordinates.{AreCoordinates, AreZero}
+-- Which call a seat is asked for.
+use Rattle.std.specs.Prelude.{◌≡◌, ℕ, ℤ, Result, Ok, Err}
+use Rattle.hull_plain.specs.declared.call.Call as plain
+use Rattle.hull_reply.specs.Requests.{IsRequestOf}
 use Rattle.hull_reply.specs.declared.code.Code.{Code}
-use Rattle.hull_reply.specs.declared.code.Code.TheVariants.{OutOfRange, ZeroDirection, UnknownKind}
-use Rattle.hull_shared.specs.declared.calls.Kind.{Kind}
-use Rattle.hull_shared.specs.declared.calls.Kind.TheVariants as kind
+use Rattle.hull_reply.specs.declared.code.Code.TheVariants.{UnknownKind}
+use Rattle.hull_reply.specs.declared.request.Request.{Request}
+use Rattle.hull_reply.specs.declared.request.Request.TheVariants.{Call, Multiplicity}
 
--- the number of a kind in the header
-abbrev pub kind_number : Kind → ℕ
-kind_number kind.Add = 1
-kind_number kind.Remove = 2
-kind_number kind.Place = 3
-kind_number kind.Tangents = 4
-kind_number kind.Extreme = 5
-kind_number kind.Vertices = 6
-kind_number kind.Area = 7
-kind_number kind.Count = 8
+-- the call of a request, or why there is none; how often a point is held is no call of a journal
+abbrev pub call_in : Result Request Code → Result plain.Call Code
+call_in (Ok (Call call)) = Ok call
+call_in (Ok (Multiplicity p)) = Err UnknownKind
+call_in (Err fault) = Err fault
 
--- the call at the point of the two numbers, or why there is none
-abbrev pub IsPointCall : (Pair → Call) → ℤ → ℤ → Result Call Code → Type 0
-IsPointCall make x y r =
-    MatchResult r (λ c. AreCoordinates x y × (c ≡ make (record { x = x; y = y })))
-    (λ fault. ¬ AreCoordinates x y × (fault ≡ OutOfRange))
-
--- the question along the direction of the two numbers, or why there is none
-abbrev pub IsDirectionCall : ℤ → ℤ → Result Call Code → Type 0
-IsDirectionCall x y r = MatchResult r
-    (λ c. AreCoordinates x y × ¬ AreZero x y × (c ≡ call.Extreme (record { x = x; y = y })))
-    (λ fault. (¬ AreCoordinates x y × (fault ≡ OutOfRange)) ⊎ (AreZero x y × (fault ≡ ZeroDirection)))
-
--- the call of a kind, or why there is none; where the kind asks for no point and no direction, the two numbers are not
--- read
-abbrev pub IsCallOf : Kind → ℤ → ℤ → Result Call Code → Type 0
-IsCallOf kind.Add x y r = IsPointCall call.Add x y r
-IsCallOf kind.Remove x y r = IsPointCall call.Remove x y r
-IsCallOf kind.Place x y r = IsPointCall call.Place x y r
-IsCallOf kind.Tangents x y r = IsPointCall call.Tangents x y r
-IsCallOf kind.Extreme x y r = IsDirectionCall x y r
-IsCallOf kind.Vertices x y r = r ≡ Ok call.Vertices
-IsCallOf kind.Area x y r = r ≡ Ok call.Area
-IsCallOf kind.Count x y r = r ≡ Ok call.Count
-
--- the call of the kind with this number, or why there is none
-abbrev pub IsAsked : ℕ → ℤ → ℤ → Result Call Code → Type 0
-IsAsked number x y r =
-    ((k : Kind) × (kind_number k ≡ number) × IsCallOf k x y r)
-    ⊎ (((k : Kind) → kind_number k ≢ number) × (r ≡ Err UnknownKind))
+-- the call that a kind and two numbers ask a seat for, or why there is none
+abbrev pub IsAsked : ℕ → ℤ → ℤ → Result plain.Call Code → Type 0
+IsAsked kind x y r = (asked : Result Request Code) × IsRequestOf kind x y asked × (r ≡ call_in asked)

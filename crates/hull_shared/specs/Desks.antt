@@ -164,5 +164,5 @@ HasWritten old new before after told = (new ≡ old) × (after ≡ before) × Is
 
 -- an end: a closed desk is fresh again; an open one stays as it was
 abbrev pub HasEnded : Desk → Desk → ℕ → Type 0
-HasEnded (Open d) new told = (new ≡ Open d) × (told ≡ code_number code.SeatsOut)
+HasEnded (Open d) new told = (new ≡ Open d) × (told ≡ code_number code.NotClosed)
 HasEnded old new told = (new ≡ Fresh) × (told ≡ code_number code.Ended)

@@ -33,7 +33,6 @@ ghost use Rattle.hull_shared.specs.Looks.{HasReplied, HasTaken};
 ghost use Rattle.hull_shared.specs.declared.desk.Desk.TheVariants.{Fresh};
 ghost use Rattle.hull_shared.specs.declared.seat.SharedSeat.TheVariants.{Vacant};
 
-mod calls;
 mod closing;
 mod desk;
 mod lending;

@@ -44,6 +44,7 @@ fn calls_of_one_seat(rt: HostRuntime) {
     is_served(&rt, look(&mut room), 0, 45, 0);
     for (kind, x, y, code) in [
         (9, 0, 0, 22),
+        (10, 0, 0, 22),
         (5, 0, 0, 2),
         (1, i64::MAX, 0, 1),
         (1, 3, 4, 43),
@@ -56,7 +57,7 @@ fn calls_of_one_seat(rt: HostRuntime) {
     is_served(&rt, look(&mut room), 8, 4, 2);
     assert_eq!(rt; take(&mut room, 8, 0, 0), 43);
     is_served(&rt, look(&mut room), 9, 46, 0);
-    assert_eq!(rt; (close(&mut desk), end(&mut desk)), (47, 47));
+    assert_eq!(rt; (close(&mut desk), end(&mut desk)), (47, 49));
     let (_desk, _room) = unsafe {
         (
             ManuallyDrop::new_unchecked(desk),

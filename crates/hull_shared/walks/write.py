@@ -13,7 +13,7 @@ import os
 import sys
 
 HERE = os.path.dirname(os.path.abspath(__file__))
-sys.path.insert(0, os.path.join(HERE, "..", "..", "hull_reply", "walks"))
+sys.path.insert(0, HERE)
 sys.dont_write_bytecode = True
 from writing import put  # noqa: E402 (the folder has to be named first)
 

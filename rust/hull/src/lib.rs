@@ -19,7 +19,7 @@ mod raw;
 mod shared;
 
 use answer::fault_of;
-use raw::code;
+use raw::{code, kind, Reply};
 use std::alloc::{alloc, dealloc, Layout};
 use std::fmt;
 use std::ptr::NonNull;
@@ -33,6 +33,9 @@ pub const COORDINATE_LIMIT: i64 = 1 << 40;
 pub const POINT_LIMIT: u32 = 1 << 20;
 /// How often a point may be held.
 pub const MULTIPLICITY_LIMIT: u32 = 65535;
+
+/// The point of calls that ask for none.
+pub(crate) const NOWHERE: Point = Point { x: 0, y: 0 };
 
 /// Why a call was refused. The hull is as it was.
 #[derive(Clone, Copy, Debug, PartialEq, Eq)]
@@ -114,61 +117,53 @@ impl Hull {
         Layout::from_size_align(size, alignment).expect("the room of a hull has a layout")
     }
 
+    /// Makes a call by its kind. Those that change the hull are made by a `&mut self` alone.
+    fn call(&self, kind: u32, at: Point) -> Reply {
+        // SAFETY: a hull lies in the room, from `new` to `drop`; since `Hull` is not `Sync`, no other call is under way.
+        unsafe { raw::hull_call(self.room.as_ptr(), kind, at.x, at.y) }
+    }
+
     /// Holds a point once more, and tells how often it is held now: 1 where it is new.
     pub fn add(&mut self, point: Point) -> Result<u32, Fault> {
-        // SAFETY: a hull lies in the room, from `new` to `drop`, and `&mut self` keeps other calls away.
-        let reply = unsafe { raw::hull_add(self.room.as_ptr(), point.x, point.y) };
-        answer::times_added(reply)
+        answer::times_added(self.call(kind::ADD, point))
     }
 
     /// Holds a point once less, and tells how often it is still held: 0 where it is there no more; `None` where it was not
     /// there.
     pub fn remove(&mut self, point: Point) -> Result<Option<u32>, Fault> {
-        // SAFETY: as in `add`.
-        let reply = unsafe { raw::hull_remove(self.room.as_ptr(), point.x, point.y) };
-        answer::times_left(reply)
+        answer::times_left(self.call(kind::REMOVE, point))
     }
 
     /// Where a point lies.
     pub fn place(&self, point: Point) -> Result<Place, Fault> {
-        // SAFETY: a hull lies in the room; since `Hull` is not `Sync`, no other call is under way.
-        let reply = unsafe { raw::hull_place(self.room.as_ptr(), point.x, point.y) };
-        answer::place(reply)
+        answer::place(self.call(kind::PLACE, point))
     }
 
     /// The left and the right point that bound the hull as it is seen from `point`, of several on one line the farthest;
     /// `None` where there is no point, or the hull covers the one asked about.
     pub fn tangents(&self, point: Point) -> Result<Option<(Point, Point)>, Fault> {
-        // SAFETY: as in `place`.
-        let reply = unsafe { raw::hull_tangents(self.room.as_ptr(), point.x, point.y) };
-        answer::tangents(reply)
+        answer::tangents(self.call(kind::TANGENTS, point))
     }
 
     /// The point that lies farthest in a direction, of several the first by x and then by y; `None` where there is none.
     pub fn extreme(&self, direction: Point) -> Result<Option<Point>, Fault> {
-        // SAFETY: as in `place`.
-        let reply = unsafe { raw::hull_extreme(self.room.as_ptr(), direction.x, direction.y) };
-        answer::extreme(reply)
+        answer::extreme(self.call(kind::EXTREME, direction))
     }
 
     /// How often a point is held: 0 where it is not there.
     pub fn multiplicity(&self, point: Point) -> Result<u32, Fault> {
-        // SAFETY: as in `place`.
-        let reply = unsafe { raw::hull_multiplicity(self.room.as_ptr(), point.x, point.y) };
-        answer::number(reply).map(|times| times as u32)
+        answer::number(self.call(kind::MULTIPLICITY, point)).map(|times| times as u32)
     }
 
     /// Twice the area, 0 for a point and a line.
     pub fn doubled_area(&self) -> u128 {
-        // SAFETY: as in `place`.
-        let reply = unsafe { raw::hull_area(self.room.as_ptr()) };
+        let reply = self.call(kind::AREA, NOWHERE);
         u128::from(reply.high) << 64 | u128::from(reply.number)
     }
 
     /// How many different points there are.
     pub fn len(&self) -> usize {
-        // SAFETY: as in `place`.
-        unsafe { raw::hull_count(self.room.as_ptr()) }.number as usize
+        self.call(kind::COUNT, NOWHERE).number as usize
     }
 
     /// Whether there is no point.
@@ -178,13 +173,13 @@ impl Hull {
 
     /// How many different points the hull takes.
     pub fn limit(&self) -> u32 {
-        // SAFETY: as in `place`.
+        // SAFETY: as in `call`.
         unsafe { raw::hull_limit(self.room.as_ptr()) }.number as u32
     }
 
     /// Lets all points go. The limit stays.
     pub fn clear(&mut self) {
-        // SAFETY: as in `add`.
+        // SAFETY: as in `call`.
         unsafe { raw::hull_clear(self.room.as_ptr()) };
     }
 
@@ -192,7 +187,7 @@ impl Hull {
     pub fn vertices(&self) -> Result<Vertices, Fault> {
         let mut corners = Vec::new();
         loop {
-            // SAFETY: as in `place`; the array is the vector's own, and all of it was written.
+            // SAFETY: as in `call`; the array is the vector's own, and all of it was written.
             let reply = unsafe { raw::hull_vertices(self.room.as_ptr(), corners.as_mut_ptr(), corners.len()) };
             let number = reply.number as usize;
             match reply.code {

@@ -1,4 +1,4 @@
-//! The headers `include/hull.h` and `include/hull_shared.h`, declared for Rust: what they say of each call stands
+//! The headers `include/hull_common.h`, `hull.h` and `hull_shared.h`, declared for Rust: what they say of each call stands
 //! there.
 
 /// A point, or a direction, by its coordinates.
@@ -72,16 +72,19 @@ pub(crate) mod code {
     pub const SEATS_OUT: u32 = 47;
     pub const CLOSED: u32 = 48;
     pub const TEXT: u32 = 50;
+}
 
-    // the kinds of calls on a shared hull
-    pub const KIND_ADD: u32 = 1;
-    pub const KIND_REMOVE: u32 = 2;
-    pub const KIND_PLACE: u32 = 3;
-    pub const KIND_TANGENTS: u32 = 4;
-    pub const KIND_EXTREME: u32 = 5;
-    pub const KIND_VERTICES: u32 = 6;
-    pub const KIND_AREA: u32 = 7;
-    pub const KIND_COUNT: u32 = 8;
+/// The numbers of the kinds.
+pub(crate) mod kind {
+    pub const ADD: u32 = 1;
+    pub const REMOVE: u32 = 2;
+    pub const PLACE: u32 = 3;
+    pub const TANGENTS: u32 = 4;
+    pub const EXTREME: u32 = 5;
+    pub const VERTICES: u32 = 6;
+    pub const AREA: u32 = 7;
+    pub const COUNT: u32 = 8;
+    pub const MULTIPLICITY: u32 = 9;
 }
 
 #[link(name = "hull", kind = "static")]
@@ -90,14 +93,7 @@ extern "C" {
     pub(crate) fn hull_alignment() -> usize;
     pub(crate) fn hull_make(limit: u32, room: *mut u8);
     pub(crate) fn hull_end(hull: *mut u8) -> u32;
-    pub(crate) fn hull_add(hull: *mut u8, x: i64, y: i64) -> Reply;
-    pub(crate) fn hull_remove(hull: *mut u8, x: i64, y: i64) -> Reply;
-    pub(crate) fn hull_place(hull: *mut u8, x: i64, y: i64) -> Reply;
-    pub(crate) fn hull_tangents(hull: *mut u8, x: i64, y: i64) -> Reply;
-    pub(crate) fn hull_extreme(hull: *mut u8, x: i64, y: i64) -> Reply;
-    pub(crate) fn hull_multiplicity(hull: *mut u8, x: i64, y: i64) -> Reply;
-    pub(crate) fn hull_area(hull: *mut u8) -> Reply;
-    pub(crate) fn hull_count(hull: *mut u8) -> Reply;
+    pub(crate) fn hull_call(hull: *mut u8, kind: u32, x: i64, y: i64) -> Reply;
     pub(crate) fn hull_limit(hull: *mut u8) -> Reply;
     pub(crate) fn hull_clear(hull: *mut u8) -> Reply;
     pub(crate) fn hull_vertices(hull: *mut u8, out: *mut Point, room: usize) -> Reply;

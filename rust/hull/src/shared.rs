@@ -1,7 +1,7 @@
 //! One hull for many threads, each with a seat of its own: safe Rust over `libhull_shared.a`.
 use crate::answer;
-use crate::raw::{self, code, Reply};
-use crate::{Fault, Place, Point};
+use crate::raw::{self, code, kind, Reply};
+use crate::{Fault, Place, Point, NOWHERE};
 use std::alloc::{alloc, dealloc, Layout};
 use std::fmt;
 use std::hint::spin_loop;
@@ -194,44 +194,44 @@ impl Seat {
 
     /// Holds a point once more, and tells how often it is held now: 1 where it is new.
     pub fn add(&mut self, point: Point) -> Result<u32, Fault> {
-        self.call(code::KIND_ADD, point).and_then(answer::times_added)
+        self.call(kind::ADD, point).and_then(answer::times_added)
     }
 
     /// Holds a point once less, and tells how often it is still held: 0 where it is there no more; `None` where it was
     /// not there.
     pub fn remove(&mut self, point: Point) -> Result<Option<u32>, Fault> {
-        self.call(code::KIND_REMOVE, point).and_then(answer::times_left)
+        self.call(kind::REMOVE, point).and_then(answer::times_left)
     }
 
     /// Where a point lies.
     pub fn place(&mut self, point: Point) -> Result<Place, Fault> {
-        self.call(code::KIND_PLACE, point).and_then(answer::place)
+        self.call(kind::PLACE, point).and_then(answer::place)
     }
 
     /// The left and the right point that bound the hull as it is seen from `point`, as
     /// [`Hull::tangents`](crate::Hull::tangents).
     pub fn tangents(&mut self, point: Point) -> Result<Option<(Point, Point)>, Fault> {
-        self.call(code::KIND_TANGENTS, point).and_then(answer::tangents)
+        self.call(kind::TANGENTS, point).and_then(answer::tangents)
     }
 
     /// The point that lies farthest in a direction, as [`Hull::extreme`](crate::Hull::extreme).
     pub fn extreme(&mut self, direction: Point) -> Result<Option<Point>, Fault> {
-        self.call(code::KIND_EXTREME, direction).and_then(answer::extreme)
+        self.call(kind::EXTREME, direction).and_then(answer::extreme)
     }
 
     /// How many corners there are; they stand in the journal's line.
     pub fn corners(&mut self) -> Result<usize, Fault> {
-        self.call(code::KIND_VERTICES, NOWHERE).and_then(answer::number).map(|corners| corners as usize)
+        self.call(kind::VERTICES, NOWHERE).and_then(answer::number).map(|corners| corners as usize)
     }
 
     /// Twice the area, 0 for a point and a line.
     pub fn doubled_area(&mut self) -> Result<u128, Fault> {
-        self.call(code::KIND_AREA, NOWHERE).and_then(answer::number)
+        self.call(kind::AREA, NOWHERE).and_then(answer::number)
     }
 
     /// How many different points there are.
     pub fn count(&mut self) -> Result<usize, Fault> {
-        self.call(code::KIND_COUNT, NOWHERE).and_then(answer::number).map(|points| points as usize)
+        self.call(kind::COUNT, NOWHERE).and_then(answer::number).map(|points| points as usize)
     }
 
     /// Takes a number for a call, and looks until it is served.
@@ -257,9 +257,6 @@ impl Seat {
         }
     }
 }
-
-/// What calls go with that read no point.
-const NOWHERE: Point = Point { x: 0, y: 0 };
 
 /// Waits a little after so many looks: a pause at first, longer each time, and then the processor is yielded.
 fn pause(looks: u32) {

@@ -6,16 +6,16 @@ use Rattle.hull_c.proofs.requests.calls_of.Goals as goal
 pub returns-then-is_bad : goal.returns-then-is_bad
 returns-then-is_bad c =
     ends_bad _ _ _ _ _ _ c.loop-made.invariant.on c.loop-made.invariant.rest _ _ _ (search rules) (search rules)
-    (search rules) (drop_more c.args.requests.now c.loop-made.made _ (search rules)) c.serve-reply.ensures
+    (search rules) (drop_more c.args.requests.now c.loop-made.made _ (search rules)) c.answer-reply.ensures
     (search rules)
 
 pub loop-made-preserved : goal.loop-made-preserved
 loop-made-preserved c = record {
   on = one_more _ _ _ _ _ _ c.loop-made.invariant.on c.loop-made.invariant.rest _ _ _ (search rules) (search rules)
-      (search rules) (drop_more c.args.requests.now c.loop-made.made _ (search rules)) c.serve-reply.ensures
+      (search rules) (drop_more c.args.requests.now c.loop-made.made _ (search rules)) c.answer-reply.ensures
       (search rules);
   rest = rest_on _ _ _ _ _ _ c.loop-made.invariant.on c.loop-made.invariant.rest _ _ _ (search rules) (search rules)
-      (search rules) (drop_more c.args.requests.now c.loop-made.made _ (search rules)) c.serve-reply.ensures;
+      (search rules) (drop_more c.args.requests.now c.loop-made.made _ (search rules)) c.answer-reply.ensures;
   long = search rules;
 }
 

@@ -1,0 +1,45 @@
+ghost use Rattle.std.specs.Prelude.{◌≡◌, ◌≢◌, MatchOption};
+ghost use Rattle.hull_reply.specs.Requests.{kind_number};
+
+/// What a call of a library for C asks for. The headers name each by its number, which is the discriminant here.
+#[derive(Clone, Copy, PartialEq, Eq, Debug)]
+pub enum Kind {
+    /// Holds a point once more.
+    Add = 1,
+    /// Holds a point once less.
+    Remove = 2,
+    /// Where a point lies.
+    Place = 3,
+    /// The tangent points seen from a point.
+    Tangents = 4,
+    /// The first of the farthest points in a direction.
+    Extreme = 5,
+    /// How many corners there are.
+    Vertices = 6,
+    /// The doubled area.
+    Area = 7,
+    /// How many points there are.
+    Count = 8,
+    /// How often a point is held.
+    Multiplicity = 9,
+}
+
+impl Kind {
+    /// The kind of this number.
+    pub fn of(number: u32) -> Option<Kind>
+        ensures { MatchOption result ((kind : Kind) → kind_number kind ≢ number) (λ kind. kind_number kind ≡ number) }
+    {
+        match number {
+            1 => Some(Kind::Add),
+            2 => Some(Kind::Remove),
+            3 => Some(Kind::Place),
+            4 => Some(Kind::Tangents),
+            5 => Some(Kind::Extreme),
+            6 => Some(Kind::Vertices),
+            7 => Some(Kind::Area),
+            8 => Some(Kind::Count),
+            9 => Some(Kind::Multiplicity),
+            _ => None,
+        }
+    }
+}

@@ -1,0 +1,93 @@
+/* What hull.h and hull_shared.h have in common: the numbers of kinds and of codes, limits, points and replies. */
+#ifndef HULL_COMMON_H
+#define HULL_COMMON_H
+
+#include <stddef.h>
+#include <stdint.h>
+
+/* The greatest size of a coordinate, of a point and of a direction: 2^40. */
+#define HULL_COORDINATE_MAX INT64_C(1099511627776)
+/* The greatest limit of a hull: how many different points one may hold. */
+#define HULL_LIMIT_MAX 1048576
+/* How often a point may be held. */
+#define HULL_MULTIPLICITY_MAX 65535
+
+/* What a call asks for, with what it may be answered. The numbers will not change. */
+enum hull_kind {
+    HULL_KIND_ADD = 1,         /* holds the point once more: ADDED, AGAIN, TOO_MANY, NO_MEMORY */
+    HULL_KIND_REMOVE = 2,      /* holds the point once less: REMOVED, LEFT, ABSENT */
+    HULL_KIND_PLACE = 3,       /* where the point lies: INSIDE, ON, OUTSIDE */
+    HULL_KIND_TANGENTS = 4,    /* the tangent points seen from the point: TANGENTS, NO_TANGENT */
+    HULL_KIND_EXTREME = 5,     /* the first of the farthest points in the direction: POINT, EMPTY */
+    HULL_KIND_VERTICES = 6,    /* how many corners there are: CORNERS, NO_MEMORY; `x` and `y` are not read */
+    HULL_KIND_AREA = 7,        /* the doubled area: NUMBER; `x` and `y` are not read */
+    HULL_KIND_COUNT = 8,       /* how many different points there are: NUMBER; `x` and `y` are not read */
+    HULL_KIND_MULTIPLICITY = 9 /* how often the point is held, 0 where it is not there: NUMBER. A seat can't ask for it */
+};
+
+/* What a call was answered. The numbers will not change. Where nothing else is said, nothing changed. */
+enum hull_code {
+    HULL_OK = 0,             /* an empty hull lies in the room; or the hull was ended */
+    HULL_OUT_OF_RANGE = 1,   /* a coordinate is out of range */
+    HULL_ZERO_DIRECTION = 2, /* both components of the direction are 0 */
+    HULL_ADDED = 3,          /* the point is new, and is there now */
+    HULL_AGAIN = 4,          /* the point was there, and is now held `number` times, at least 2 */
+    HULL_TOO_MANY = 5,       /* the point is new and there are as many as the limit, or it is held as often as may be */
+    HULL_NO_MEMORY = 6,      /* malloc refused; the call may be made again */
+    HULL_REMOVED = 7,        /* the point was held once, and is no more */
+    HULL_LEFT = 8,           /* the point is still held `number` times, at least once */
+    HULL_ABSENT = 9,         /* the point is not there */
+    HULL_POINT = 10,         /* the point (`x`, `y`) */
+    HULL_EMPTY = 11,         /* the hull holds no point */
+    HULL_INSIDE = 12,        /* the hull covers the point, which is not on its boundary */
+    HULL_ON = 13,            /* the point is on the boundary: a corner, on an edge, or on a hull of one point or one line */
+    HULL_OUTSIDE = 14,       /* the hull does not cover the point */
+    HULL_TANGENTS = 15,      /* the left point (`x`, `y`) and the right one (`other_x`, `other_y`) */
+    HULL_NO_TANGENT = 16,    /* the hull holds no point, or covers the one asked about */
+    HULL_NUMBER = 17,        /* `number`; an area is 2^64 times `high` more */
+    HULL_CORNERS = 18,       /* there are `number` corners; hull_vertices wrote them to the front of the array, and of a
+                                seat's call they stand in the journal's line */
+    HULL_TOO_SMALL = 19,     /* `number` corners or bytes are to be written, more than the array has room for */
+    HULL_CLEARED = 20,       /* no point is held any more */
+    HULL_UNKNOWN_KIND = 22,  /* no kind that can be asked here has this number */
+
+    /* of desks and seats alone */
+    HULL_OPEN = 32,          /* the desk is open now */
+    HULL_OUT_OF_LIMITS = 33, /* a limit, a capacity or a number of seats is 0 or too great (a limit in hull_init, too) */
+    HULL_WAS_OPENED = 34,    /* the desk is open or closed */
+    HULL_LENT = 35,          /* the seat is in the room now */
+    HULL_NO_SEAT = 36,       /* no seat of this number is at the desk: it is out, or there never was one */
+    HULL_ROOM_IN_USE = 37,   /* the room has a seat already */
+    HULL_NOT_OPEN = 38,      /* the desk is not open */
+    HULL_RETURNED = 39,      /* the seat is at its desk again, and the room has none */
+    HULL_VACANT = 40,        /* the room has no seat */
+    HULL_WAITING = 41,       /* the seat has a number, whose call is still to be looked for */
+    HULL_PLACE_IN_USE = 42,  /* the seat's place at the desk is not free */
+    HULL_TAKEN = 43,         /* the seat has a number now */
+    HULL_NOT_YET = 44,       /* another number is served: look again */
+    HULL_NO_NUMBER = 45,     /* the seat has no number to look for */
+    HULL_FULL = 46,          /* the journal is full: the call was not made, and the seat has no number any more */
+    HULL_SEATS_OUT = 47,     /* a seat is out: the desk stays open */
+    HULL_CLOSED = 48,        /* the desk is closed, and has its journal */
+    HULL_NOT_CLOSED = 49,    /* the desk is not closed */
+    HULL_TEXT = 50,          /* the text was written to the front of the array: `number` bytes */
+    HULL_ENDED = 51          /* the desk holds nothing any more */
+};
+
+/* What a call was answered: a code, and what belongs to it (told above); all else is 0. */
+typedef struct {
+    uint32_t code;
+    int64_t x;
+    int64_t y;
+    int64_t other_x;
+    int64_t other_y;
+    uint64_t number;
+    uint64_t high;
+} hull_reply;
+
+typedef struct {
+    int64_t x;
+    int64_t y;
+} hull_point;
+
+#endif
