@@ -1,5 +1,5 @@
 #!/usr/bin/env python3
-"""The gate, part by part: every crate and its tests proved from nothing, wrong bodies refused, programs and libraries tried.
+"""The gate, part by part: crates and their tests proved from nothing, wrong bodies refused, programs and libraries tried.
 
     .ci/run [PART..]
 
@@ -7,8 +7,8 @@ Without words all parts run, in the order of `--list`; those of one row run besi
 own line 'N passed, M failed'. At the end stand the seconds and processor seconds of each part, what failed, and the sum
 in a line of that form; the status is 0 only where nothing failed.
 
-What the parts share is proved once beside `rt ci`, which keeps none of its work: the programs are those that `rt ci`
-linked from what it proved; the libraries are proved by the part `wrong-bodies`, which the libraries for C stand on.
+Nothing is proved twice: the part `proofs` keeps what it proves, so that the programs which the other parts run are those
+that it linked, and the libraries for C stand on what it built (tools/proofs.py says how).
 """
 import os
 import re
@@ -21,8 +21,7 @@ TOP = os.path.dirname(os.path.dirname(os.path.abspath(__file__)))
 PROGRAMS = ("hullbook", "hulldraw", "memory_trials")
 # the parts that run beside one another stand in one row
 ROWS = (
-    {"proofs": ["rt", "ci"]},
-    {"wrong-bodies": ["tools/wrong_bodies.py"]},
+    {"proofs": ["tools/proofs.py"]},
     {
         "cli": ["tests/cli/run.sh"],
         "memory": ["tests/memory/run.sh"],
@@ -37,6 +36,8 @@ ROWS = (
 )
 COUNTS = re.compile(r"(\d+) passed, (\d+) failed")
 FAILED = re.compile(r"FAILED|: failed|NOT REFUSED|NOT PROVED|BAD EDIT")
+# a refusal that says little of the contract
+BY_SHAPE = re.compile(r"\b(\w+/[\w-]+)\.edit: refused.*only (since|because) a proof")
 
 
 class Part:
@@ -65,13 +66,14 @@ class Part:
         if status and not self.failed:
             self.failed = 1
         self.faults = [it for it in lines if FAILED.search(it)] if self.failed else []
+        self.by_shape = [it[1] for it in map(BY_SHAPE.search, lines) if it]
         if not counts:
             self.faults.append(f"{self.name} told no counts")
         return self
 
 
 def keep_programs():
-    """Tells bin/hullbook and the others that the programs which `rt ci` linked are those of these sources."""
+    """Tells bin/hullbook and the others that the programs which the proofs linked are those of these sources."""
     for name in PROGRAMS:
         subprocess.run(["tools/become.sh", "--keep", name], cwd=TOP, check=False)
 
@@ -99,6 +101,9 @@ def main(words):
         print(f"{it.name:14}{it.passed:8}{it.failed:8}{it.seconds:9.0f}{it.processor:19.0f}")
     minutes = sum(it.processor for it in ended) / 60
     print(f"{minutes:.0f} processor minutes on {os.cpu_count()} processors")
+    by_shape = [name for it in ended for name in it.by_shape]
+    if by_shape:
+        print(f"refused only since a proof names what went: {' '.join(by_shape)}")
     for it in ended:
         for line in it.faults[:40]:
             print(f"{it.name}: {line[:300]}")

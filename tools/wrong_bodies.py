@@ -188,17 +188,23 @@ def groups_of(crate, edits):
     return grouped(crate, [it for it in edits if not it.is_alone()]) + [[it] for it in edits if it.is_alone()]
 
 
-def work(crate):
-    """The outcomes of a crate's wrong bodies, and how many seconds and groups they took."""
-    start, (edits, outcomes) = time.time(), edits_of(crate)
-    kept = f"{crate.folder}/out/incremental"
+def tried_in_groups(crate, kept):
+    """The outcomes of a crate's wrong bodies over what that folder keeps, and in how many groups they were tried."""
+    edits, outcomes = edits_of(crate)
     os.makedirs(kept, exist_ok=True)
     groups = groups_of(crate, edits)
     for group in groups:
         outcomes += tried(crate, group, kept)
     if edits and RT.checked(crate, {}, ["--jobs", "1"], kept).returncode:
         outcomes.append(Refusal("the crate itself", False, False, "it is not proved without any change"))
-    return outcomes, time.time() - start, len(groups)
+    return outcomes, len(groups)
+
+
+def work(crate):
+    """The outcomes of a crate's wrong bodies, and how many seconds and groups they took."""
+    start = time.time()
+    outcomes, groups = tried_in_groups(crate, f"{crate.folder}/out/incremental")
+    return outcomes, time.time() - start, groups
 
 
 def main():

@@ -24,7 +24,7 @@ trap 'rm -rf "$room"' EXIT
 kit=$(dirname "$(rt doc)")
 "$kit/toolchain/bin/clang" --target=x86_64-unknown-linux-gnu -O1 -fPIC -shared -nostdlib -fuse-ld=lld \
     -o "$room/refuse.so" "$here/refuse.c" || exit 1
-(cd "$top/crates/memory_trials" && rt run) >"$room/output" 2>"$room/error"
+"$top/tools/become.sh" memory_trials >"$room/output" 2>"$room/error"
 program="$top/crates/memory_trials/out/memory_trials"
 if ! cmp -s "$room/output" "$top/crates/memory_trials/stdout"; then
     tail -n 5 "$room/error"

@@ -21,4 +21,4 @@ pub use half::Half;
 pub use laws::depth_is_unique;
 pub use near::Near;
 pub use search::{upper_bridge, upper_bridge_counted};
-pub use turned::{Turned, lower_bridge};
+pub use turned::{Turned, lower_bridge, lower_bridge_counted};

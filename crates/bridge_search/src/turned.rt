@@ -1,10 +1,10 @@
-ghost use Rattle.std.specs.Prelude.{◌≡◌};
+ghost use Rattle.std.specs.Prelude.{◌≡◌, ◌≤◌, ◌+◌};
 ghost use Rattle.lattice.specs.Bridges.{IsAllBefore, IsLowerBridge};
-ghost use Rattle.bridge_search.specs.Trees.{On};
+ghost use Rattle.bridge_search.specs.Trees.{On, height_of};
 ghost use Rattle.bridge_search.specs.TurnedTrees.{turned_tree};
 
 use super::half::Half;
-use super::search::upper_bridge;
+use super::search::{upper_bridge, upper_bridge_counted};
 use lattice::Point;
 
 /// A half seen after a turn by 180 degrees about the origin: its points and edges are turned, its left half is the
@@ -79,6 +79,16 @@ impl<H: Half> Half for Turned<H> {
     ghost fits = { λ t. fits_turned H.Fits H.turned_fits (H.tree t.half) (H.fits t.half) };
 
     ghost turned_fits = { H.turned_fits };
+}
+
+/// The lower bridge of `u` and `w`, and how many turns the search took. All of `u` must stand before all of `w`.
+pub fn lower_bridge_counted<H: Half>(u: H, w: H) -> ((Point, Point), u32)
+    requires { IsAllBefore (On (H.tree u)) (On (H.tree w)) }
+    ensures bridge { IsLowerBridge (On (H.tree u)) (On (H.tree w)) result.0.0 result.0.1 }
+    ensures few { result.1 ≤ height_of (H.tree u) + height_of (H.tree w) }
+{
+    let ((first, last), turns) = upper_bridge_counted(Turned::new(w), Turned::new(u));
+    ((last.turned(), first.turned()), turns)
 }
 
 /// The lower bridge of `u` and `w`, from its end in `u` to its end in `w`: no point of either half lies right of the

@@ -8,7 +8,7 @@ use Rattle.bridge_search.proofs.Depths.{one_depth}
 use Rattle.hull_tree.specs.declared.node.Node as node
 use Rattle.hull_tree.specs.declared.node.Halves as halves
 use Rattle.hull_tree.specs.Nodes.{tree_of, halves_of}
-use Rattle.hull_tree.specs.Turns.{IsForkCost, IsPathCost, IsCostAtMost, IsDearerByAtMost}
+use Rattle.hull_tree.specs.Turns.{IsForkCost, IsPathCost, IsDearerByAtMost}
 
 -- two sums of the depths of the same ends are the same
 one_sum : (u w : Tree) (p q : Pair) (m n : ℕ) → IsBridged u → IsBridged w → IsDepthSum u w p q m
@@ -83,10 +83,3 @@ by_halves (node.Node' upper lower height near times
     parts : IsDearerByAtMost (Fork upper lower (tree_of left) (tree_of right)) v a
     parts p n (c, k, d, m, inl i) = let one = from_left p k i in (one.0, one.1, omega (arith, m, one.2))
     parts p n (c, k, d, m, inr i) = let one = from_right p k i in (one.0, one.1, omega (arith, m, one.2))
-
--- a point whose forks cost at most m in t costs at most n more in a tree that is dearer by n
-pub costs_more : (t v : Tree) (p : Pair) (m n k : ℕ) → IsCostAtMost t p m → IsDearerByAtMost t v n → m + n ≤ k
-    → IsCostAtMost v p k
-costs_more t v p m n k c h l =
-    let one = h p c.0 c.1 in
-    (one.0, one.1, omega (arith, l, c.2, one.2))

@@ -8,3 +8,8 @@ pub mod Renewed
 pub mod PartingPoints
 pub mod Multiplicities
 pub mod CountedTrees
+pub mod Halvings
+pub mod LoadedRows
+pub mod Counting
+pub mod AddedSets
+pub mod Standing

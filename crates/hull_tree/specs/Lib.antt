@@ -5,3 +5,5 @@ pub mod Roots
 pub mod Sets
 pub mod Turns
 pub mod Laws
+pub mod Loaded
+pub mod Behind

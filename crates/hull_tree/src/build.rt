@@ -1,6 +1,6 @@
-ghost use Rattle.std.specs.Prelude.{◌≡◌, ◌&&◌, Some, ◌≤◌, ◌+◌, ◌*◌, ◌++◌, max};
+ghost use Rattle.std.specs.Prelude.{◌≡◌, ◌&&◌, ◌↔◌, IsTrue, Some, ◌≤◌, ◌+◌, ◌*◌, ◌++◌, max};
 ghost use Rattle.lattice.specs.Plane.{Pair};
-ghost use Rattle.lattice.specs.Bridges.{IsUpperBridge, IsLowerBridge};
+ghost use Rattle.lattice.specs.Bridges.{IsUpperBridge, IsLowerBridge, IsNotBeyond};
 ghost use Rattle.bridge_search.specs.Near.{are_near};
 ghost use Rattle.bridge_search.specs.Search.{IsDepthSum};
 ghost use Rattle.bridge_search.specs.Trees.{On, IsFork, left_of, right_of, first_of as first_in, last_of as last_in};
@@ -9,11 +9,15 @@ ghost use Rattle.hull_tree.specs.Nodes.{after_parting, times_below, IsWellBuilt,
 ghost use Rattle.hull_tree.specs.Changes.{points_below, height_at, height_within, left_height, right_height, IsParted};
 ghost use Rattle.hull_tree.specs.Changes.{IsPartedAt, AreParted, IsAtMostOneMore, IsHeightOver};
 ghost use Rattle.hull_tree.specs.Turns.{IsForkCost, IsDearerByAtMost};
+ghost use Rattle.hull_tree.specs.Behind.{WereBridges, IsBehind, UpperStands, LowerStands};
+ghost use Rattle.lattice.specs.Standing.{IsUnderEdge, IsOverEdge};
 
 use super::node::{Halves, Node, height_of, near_of};
 use super::node_ref::NodeRef;
-use bridge_search::{Counted, Near, both_bridges_between};
-use lattice::Point;
+use bridge_search::{
+    Counted, Near, both_bridges_between, lower_bridge_counted, upper_bridge_counted,
+};
+use lattice::{Point, before, orient};
 use std::mem;
 
 /// Two halves that stand for nothing yet.
@@ -188,6 +192,182 @@ pub(crate) fn renew(node: &mut Node) -> u32
     turns
 }
 
+/// What happened to the points below a fork since its bridges were stored.
+#[derive(Clone, Copy)]
+pub(crate) enum Change {
+    /// The point came to one of the halves.
+    Came(Point),
+    /// The point went from one of them.
+    Went(Point),
+}
+
+/// Whether a point does not stand outside an edge.
+fn is_not_beyond(edge: &(Point, Point), p: Point) -> bool
+    ensures { IsTrue result ↔ IsNotBeyond edge.now.0 edge.now.1 p }
+{
+    !before(p, edge.0) && !before(edge.1, p)
+}
+
+/// Whether a point lies right of the line of an edge, or on that line and not outside the edge.
+fn is_under(edge: &(Point, Point), p: Point) -> bool
+    ensures { IsTrue result ↔ IsUnderEdge edge.now.0 edge.now.1 p }
+{
+    let side = orient(edge.0, edge.1, p);
+    side < 0 || side == 0 && is_not_beyond(edge, p)
+}
+
+/// Whether a point lies left of the line of an edge, or on that line and not outside the edge.
+fn is_over(edge: &(Point, Point), p: Point) -> bool
+    ensures { IsTrue result ↔ IsOverEdge edge.now.0 edge.now.1 p }
+{
+    let side = orient(edge.0, edge.1, p);
+    side > 0 || side == 0 && is_not_beyond(edge, p)
+}
+
+/// Whether the upper bridge is the one that it was before the change.
+fn upper_stands(edge: &(Point, Point), change: &Change) -> bool
+    ensures { IsTrue result ↔ UpperStands change.now edge.now }
+{
+    match *change {
+        Change::Came(p) => is_under(edge, p),
+        Change::Went(p) => edge.0 != p && edge.1 != p,
+    }
+}
+
+/// Whether the lower bridge is the one that it was before the change.
+fn lower_stands(edge: &(Point, Point), change: &Change) -> bool
+    ensures { IsTrue result ↔ LowerStands change.now edge.now }
+{
+    match *change {
+        Change::Came(p) => is_over(edge, p),
+        Change::Went(p) => edge.0 != p && edge.1 != p,
+    }
+}
+
+/// Searches the upper bridge between two halves alone.
+fn upper_bridge_of(halves: &Halves) -> Counted
+    requires parted { AreParted halves.now }
+    requires low { height_within halves.now ≤ 28 }
+    ensures bridge { IsUpperBridge (On (tree_of (left_half halves.now)))
+        (On (tree_of (right_half halves.now))) result.0.0 result.0.1 }
+    ensures few { result.1 ≤ height_at (left_half halves.now) + height_at (right_half halves.now) }
+{
+    let (u, w) = (NodeRef::new(&halves.left), NodeRef::new(&halves.right));
+    if near_of(&halves.right) && near_of(&halves.left) {
+        upper_bridge_counted(Near::new(u), Near::new(w))
+    } else {
+        upper_bridge_counted(u, w)
+    }
+}
+
+/// Searches the lower bridge between two halves alone.
+fn lower_bridge_of(halves: &Halves) -> Counted
+    requires parted { AreParted halves.now }
+    requires low { height_within halves.now ≤ 28 }
+    ensures bridge { IsLowerBridge (On (tree_of (left_half halves.now)))
+        (On (tree_of (right_half halves.now))) result.0.0 result.0.1 }
+    ensures few { result.1 ≤ height_at (left_half halves.now) + height_at (right_half halves.now) }
+{
+    let (u, w) = (NodeRef::new(&halves.left), NodeRef::new(&halves.right));
+    if near_of(&halves.right) && near_of(&halves.left) {
+        lower_bridge_counted(Near::new(u), Near::new(w))
+    } else {
+        lower_bridge_counted(u, w)
+    }
+}
+
+/// The upper bridge of two halves after a change: the edge that was stored where it stands, else it is searched.
+fn upper_after(halves: &Halves, edge: (Point, Point), change: &Change) -> Counted
+    requires parted { AreParted halves.now }
+    requires low { height_within halves.now ≤ 28 }
+    requires stands { UpperStands change.now edge → IsUpperBridge (On (tree_of (left_half halves.now)))
+        (On (tree_of (right_half halves.now))) edge.0 edge.1 }
+    ensures bridge { IsUpperBridge (On (tree_of (left_half halves.now)))
+        (On (tree_of (right_half halves.now))) result.0.0 result.0.1 }
+    ensures few { result.1 ≤ height_at (left_half halves.now) + height_at (right_half halves.now) }
+{
+    if upper_stands(&edge, change) {
+        (edge, 0)
+    } else {
+        upper_bridge_of(halves)
+    }
+}
+
+/// The lower bridge of two halves after a change: the edge that was stored where it stands, else it is searched.
+fn lower_after(halves: &Halves, edge: (Point, Point), change: &Change) -> Counted
+    requires parted { AreParted halves.now }
+    requires low { height_within halves.now ≤ 28 }
+    requires stands { LowerStands change.now edge → IsLowerBridge (On (tree_of (left_half halves.now)))
+        (On (tree_of (right_half halves.now))) edge.0 edge.1 }
+    ensures bridge { IsLowerBridge (On (tree_of (left_half halves.now)))
+        (On (tree_of (right_half halves.now))) result.0.0 result.0.1 }
+    ensures few { result.1 ≤ height_at (left_half halves.now) + height_at (right_half halves.now) }
+{
+    if lower_stands(&edge, change) {
+        (edge, 0)
+    } else {
+        lower_bridge_of(halves)
+    }
+}
+
+/// The bridges of two halves after a change: each that stands is kept, and each other is searched.
+fn found_after(
+    halves: &Halves,
+    above: (Point, Point),
+    under: (Point, Point),
+    change: Change,
+) -> Found
+    requires parted { AreParted halves.now }
+    requires low { height_within halves.now ≤ 28 }
+    requires were { WereBridges change (tree_of (left_half halves.now)) (tree_of (right_half halves.now)) above under }
+    ensures upper { IsUpperBridge (On (tree_of (left_half halves.now)))
+        (On (tree_of (right_half halves.now))) result.upper.0 result.upper.1 }
+    ensures lower { IsLowerBridge (On (tree_of (left_half halves.now)))
+        (On (tree_of (right_half halves.now))) result.lower.0 result.lower.1 }
+    ensures height { result.height ≡ height_within halves.now + 1 }
+    ensures near { result.near
+        ≡ (are_near (tree_of (left_half halves.now)) && are_near (tree_of (right_half halves.now))) }
+    ensures within { result.turns ≤ 2 * (height_at (left_half halves.now) + height_at (right_half halves.now)) }
+{
+    let (upper_edge, turns_above) = upper_after(halves, above, &change);
+    let (lower_edge, turns_under) = lower_after(halves, under, &change);
+    let near = near_of(&halves.left) && near_of(&halves.right);
+    let height = height_of(&halves.left).max(height_of(&halves.right)) + 1;
+    let turns = turns_above + turns_under;
+    Found {
+        upper: upper_edge,
+        lower: lower_edge,
+        height,
+        near,
+        turns,
+    }
+}
+
+/// Renews a fork to one of whose halves a point came, or from one of whose halves a point went, since its bridges were
+/// stored: keeps each that stands, and searches each other. Tells how many turns the searches took.
+pub(crate) fn renew_after(node: &mut Node, change: Change) -> u32
+    requires parted { IsParted node.old }
+    requires behind { IsBehind change node.old }
+    requires balanced { DifferByAtMost 1 (left_height node.old) (right_height node.old) }
+    requires low { max (left_height node.old) (right_height node.old) ≤ 28 }
+    ensures built { IsWellBuilt node.new }
+    ensures points { points_below node.new ≡ points_below node.old }
+    ensures times { (q : Pair) → times_below node.new q ≡ times_below node.old q }
+    ensures first { first_in (tree_of node.new) ≡ first_in (left_of (tree_of node.old)) }
+    ensures last { last_in (tree_of node.new) ≡ last_in (right_of (tree_of node.old)) }
+    ensures height { height_at node.new ≡ height_at node.old }
+    ensures within { result ≤ 2 * (left_height node.old + right_height node.old) }
+    ensures few { result ≤ 112 }
+{
+    let Some(halves) = &node.below else {
+        unreachable!()
+    };
+    let found = found_after(halves, node.upper, node.lower, change);
+    let turns = found.turns;
+    keep(node, found);
+    turns
+}
+
 /// The fork over two halves, in a box that keeps the points at their parting, and how many turns the searches for its
 /// bridges took.
 pub(crate) fn joined(mut spare: Box<Halves>, left: Node, right: Node) -> (Node, u32)
@@ -307,4 +487,27 @@ pub(crate) fn rebalance(node: &mut Node) -> u32
     };
     *node = whole;
     turns
+}
+
+/// Renews a fork as [`rebalance`] does, to one of whose halves a point came, or from one of whose halves a point went,
+/// since its bridges were stored: keeps them where they stand. The forks that a rotation makes are searched.
+pub(crate) fn rebalance_after(node: &mut Node, change: Change) -> u32
+    requires parted { IsParted node.old }
+    requires behind { IsBehind change node.old }
+    requires near { DifferByAtMost 2 (left_height node.old) (right_height node.old) }
+    requires low { max (left_height node.old) (right_height node.old) ≤ 28 }
+    ensures built { IsWellBuilt node.new }
+    ensures points { points_below node.new ≡ points_below node.old }
+    ensures times { (q : Pair) → times_below node.new q ≡ times_below node.old q }
+    ensures height { IsHeightOver (left_height node.old) (right_height node.old) (height_at node.new) }
+    ensures few { result ≤ 336 }
+{
+    let Some(halves) = &node.below else {
+        unreachable!()
+    };
+    let (on_left, on_right) = (height_of(&halves.left), height_of(&halves.right));
+    if on_left <= on_right + 1 && on_right <= on_left + 1 {
+        return renew_after(node, change);
+    }
+    rebalance(node)
 }

@@ -8,10 +8,12 @@ ghost use Rattle.hull_tree.specs.Nodes.{tree_of, left_half, right_half, before_p
 ghost use Rattle.hull_tree.specs.Nodes.{times_below, IsMultiplicity, IsWellBuilt};
 ghost use Rattle.hull_tree.specs.Changes.{points_below, height_at, points_within, times_within, height_within};
 ghost use Rattle.hull_tree.specs.Changes.{AreParted, IsAtMostOneMore};
+ghost use Rattle.hull_tree.specs.Behind.{HasGained, HasLost};
 ghost use Rattle.hull_tree.specs.Turns.{IsCostAtMost};
 
-use super::build::{joined, rebalance, take_halves};
+use super::build::{Change, joined, take_halves};
 use super::node::{Halves, Node, first_of, last_of};
+use super::renewal::Renewal;
 use hull_plain::MULTIPLICITY_LIMIT;
 use lattice::{Point, before};
 
@@ -145,11 +147,10 @@ fn reach(last: &mut Point, p: Point)
     }
 }
 
-/// Adds a point below a node; its halves lie in a box that is there. Both bridges of each fork on the way to the point
-/// are searched. Tells how many turns the searches took: at most 336 a level, and at least the cost of the forks above
-/// the point.
+/// Adds a point below a node; its halves lie in a box that is there. Each fork on the way to the point is renewed in
+/// the way `R`. Tells how many turns the searches took: at most 336 a level, and what is known of that way.
 #[cycle(insert)]
-pub(crate) fn insert(node: &mut Node, p: Point, spare: Box<Halves>) -> u32
+pub(crate) fn insert<R: Renewal>(node: &mut Node, p: Point, spare: Box<Halves>) -> u32
     requires built { IsWellBuilt node.old }
     requires absent { ¬ Contains (points_below node.old) p }
     requires low { height_at node.old ≤ 28 }
@@ -158,7 +159,7 @@ pub(crate) fn insert(node: &mut Node, p: Point, spare: Box<Halves>) -> u32
     ensures times { (q : Pair) → times_below node.new q ≡ times_below node.old q + once p q }
     ensures height { IsAtMostOneMore (height_at node.old) (height_at node.new) }
     ensures few { result ≤ 336 * height_at node.old }
-    ensures cost { IsCostAtMost (tree_of node.new) p result }
+    ensures cost { R.Cost (tree_of node.new) p result }
 {
     match &mut node.below {
         None => {
@@ -166,32 +167,33 @@ pub(crate) fn insert(node: &mut Node, p: Point, spare: Box<Halves>) -> u32
             0
         }
         Some(halves) => {
-            let below = insert_below(halves, p, spare);
-            below + rebalance(node)
+            let below = insert_below::<R>(halves, p, spare);
+            below + R::rebalance(node, Change::Came(p))
         }
     }
 }
 
 /// Adds a point to the half that it belongs to, and keeps the points at the parting.
 #[cycle(insert)]
-fn insert_below(halves: &mut Halves, p: Point, spare: Box<Halves>) -> u32
+fn insert_below<R: Renewal>(halves: &mut Halves, p: Point, spare: Box<Halves>) -> u32
     requires parted { AreParted halves.old }
     requires absent { ¬ Contains (points_within halves.old) p }
     requires low { height_within halves.old ≤ 28 }
     ensures parted { AreParted halves.new }
+    ensures gained { HasGained p halves.old halves.new }
     ensures points { points_within halves.new ≡ with_point p (points_within halves.old) }
     ensures times { (q : Pair) → times_within halves.new q ≡ times_within halves.old q + once p q }
     ensures left { IsAtMostOneMore (height_at (left_half halves.old)) (height_at (left_half halves.new)) }
     ensures right { IsAtMostOneMore (height_at (right_half halves.old)) (height_at (right_half halves.new)) }
     ensures few { result ≤ 336 * height_within halves.old }
-    ensures cost { IsCostAtMost (tree_of (left_half halves.new)) p result
-        ⊎ IsCostAtMost (tree_of (right_half halves.new)) p result }
+    ensures cost { R.Cost (tree_of (left_half halves.new)) p result
+        ⊎ R.Cost (tree_of (right_half halves.new)) p result }
 {
     if before(p, halves.first_right) {
         reach(&mut halves.last_left, p);
-        insert(&mut halves.left, p, spare)
+        insert::<R>(&mut halves.left, p, spare)
     } else {
-        insert(&mut halves.right, p, spare)
+        insert::<R>(&mut halves.right, p, spare)
     }
 }
 
@@ -221,10 +223,10 @@ fn other_half(halves: &mut Halves, p: Point) -> Node
     if is_leaf(&left, p) { right } else { left }
 }
 
-/// Takes a point that is held once from below a fork. Both bridges of each fork on the way to the point are searched,
-/// but for the last one: its other half takes its place. Tells how many turns the searches took: at most 336 a level.
+/// Takes a point that is held once from below a fork. Each fork on the way to the point is renewed in the way `R`, but
+/// for the last one: its other half takes its place. Tells how many turns the searches took: at most 336 a level.
 #[cycle(remove)]
-pub(crate) fn remove(node: &mut Node, p: Point) -> u32
+pub(crate) fn remove<R: Renewal>(node: &mut Node, p: Point) -> u32
     requires built { IsWellBuilt node.old }
     requires fork { IsFork (tree_of node.old) }
     requires once { times_below node.old p ≡ 1 }
@@ -242,19 +244,20 @@ pub(crate) fn remove(node: &mut Node, p: Point) -> u32
         *node = other_half(halves, p);
         return 0;
     }
-    let below = remove_below(halves, p);
-    below + rebalance(node)
+    let below = remove_below::<R>(halves, p);
+    below + R::rebalance(node, Change::Went(p))
 }
 
 /// Takes a point from the half that it belongs to, which has other points too, and keeps the points at the parting.
 #[cycle(remove)]
-fn remove_below(halves: &mut Halves, p: Point) -> u32
+fn remove_below<R: Renewal>(halves: &mut Halves, p: Point) -> u32
     requires parted { AreParted halves.old }
     requires once { times_within halves.old p ≡ 1 }
     requires more_left { ¬ (tree_of (left_half halves.old) ≡ Leaf p) }
     requires more_right { ¬ (tree_of (right_half halves.old) ≡ Leaf p) }
     requires low { height_within halves.old ≤ 28 }
     ensures parted { AreParted halves.new }
+    ensures lost { HasLost p halves.old halves.new }
     ensures points { points_within halves.new ≡ without_point p (points_within halves.old) }
     ensures times { (q : Pair) → times_within halves.new q + once p q ≡ times_within halves.old q }
     ensures left { IsAtMostOneMore (height_at (left_half halves.new)) (height_at (left_half halves.old)) }
@@ -262,11 +265,11 @@ fn remove_below(halves: &mut Halves, p: Point) -> u32
     ensures few { result ≤ 336 * height_within halves.old }
 {
     if before(p, halves.first_right) {
-        let turns = remove(&mut halves.left, p);
+        let turns = remove::<R>(&mut halves.left, p);
         draw_back_last(halves, p);
         turns
     } else {
-        let turns = remove(&mut halves.right, p);
+        let turns = remove::<R>(&mut halves.right, p);
         draw_back_first(halves, p);
         turns
     }

@@ -28,11 +28,16 @@
 mod build;
 mod change;
 mod laws;
+mod load;
 mod node;
 mod node_ref;
+mod renewal;
+mod sparing_tree;
 mod tree;
 
 pub use laws::path_cost_is_unique;
+pub use load::{LoadFault, entries_of};
 pub use node::Node;
 pub use node_ref::NodeRef;
+pub use sparing_tree::SparingTree;
 pub use tree::{HullTree, trees_are_sound};

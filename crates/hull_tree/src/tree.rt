@@ -1,15 +1,20 @@
-ghost use Rattle.std.specs.Prelude.{◌≡◌, ◌≢◌, ◌≤◌, Option, None, option_map, MatchOption};
+ghost use Rattle.std.specs.Prelude.{◌≡◌, ◌≢◌, ◌≤◌, Option, None, option_map, MatchOption, length, IfOk, IfErr, Err};
 ghost use Rattle.hull_plain.specs.Replies.{Answers, after, reply_to_add, reply_to_remove, reply_to_extreme};
 ghost use Rattle.std.specs.Borrow.{Bor};
 ghost use Rattle.hull_tree.specs.declared.node.Node.{Node};
-ghost use Rattle.hull_tree.specs.Roots.{held_by, IsWellBuiltRoot};
+ghost use Rattle.hull_tree.specs.Roots.{held_by, times_of_root, IsWellBuiltRoot};
 ghost use Rattle.hull_tree.specs.Sets.{LimitedTree, IsSound, IsWhole};
-ghost use Rattle.hull_tree.specs.Turns.{IsLeastCount, IsLeafDepth};
+ghost use Rattle.lattice.specs.Plane.{Pair};
+ghost use Rattle.hull_tree.specs.Loaded.{AreEntries, held_listed, times_among, held_after_adds, AreTooMany};
+ghost use Rattle.hull_plain.specs.Held.{nothing_held};
+ghost use Rattle.hull_tree.specs.Turns.{IsCountBy, IsLeastCount, IsLeafDepth};
 
 use super::build::blank;
 use super::change::{insert, is_leaf, lower, raise, remove, times_of};
+use super::load::{LoadFault, entries_of, node_over};
 use super::node::Node;
 use super::node_ref::NodeRef;
+use super::renewal::{Renewal, SearchesAll};
 use bridge_search::Half;
 use hull_plain::{
     AddReply, Call, HullSet, MULTIPLICITY_LIMIT, NoMemory, POINT_LIMIT, Place, RemoveReply, Rules,
@@ -62,6 +67,52 @@ impl HullTree {
         }
     }
 
+    /// The set of some points in order, each with how often it is held, with room for `limit` points. Each fork is built
+    /// once, from the points up: so this takes a small part of the time of adding them one by one. `NoMemory` comes
+    /// only for some points, and leaves nothing behind.
+    pub fn from_entries(
+        alloc: Global,
+        limit: u32,
+        entries: &[(Point, u32)],
+    ) -> Result<HullTree, NoMemory>
+        requires high { limit ≤ POINT_LIMIT }
+        requires low { 1 ≤ limit }
+        requires room { length entries.now ≤ limit }
+        requires entries { AreEntries entries.now }
+        ensures held { IfOk result (λ tree. held_by tree.root ≡ held_listed entries.now) }
+        ensures limit { IfOk result (λ tree. tree.limit ≡ limit) }
+        ensures sound { IfOk result (λ tree. IsSound tree.root) }
+        ensures refused { IfErr result (λ _. 1 ≤ length entries.now) }
+    {
+        let mut tree = HullTree::new(alloc, limit);
+        if entries.is_empty() {
+            return Ok(tree);
+        }
+        let root = node_over(alloc, entries)?;
+        tree.root = Some(root);
+        tree.count = entries.len() as u32;
+        Ok(tree)
+    }
+
+    /// The set of some points in any order, each held as often as it stands among them, with room for `limit` points:
+    /// what adding them one by one makes, in a small part of the time. `TooMany` comes where adding them would answer
+    /// it; a fault leaves nothing behind.
+    pub fn from_points(alloc: Global, limit: u32, points: &[Point]) -> Result<HullTree, LoadFault>
+        requires high { limit ≤ POINT_LIMIT }
+        requires low { 1 ≤ limit }
+        ensures held { IfOk result (λ tree. held_by tree.root ≡ held_after_adds nothing_held points.now) }
+        ensures times { IfOk result (λ tree. (q : Pair) → times_of_root tree.root q ≡ times_among points.now q) }
+        ensures limit { IfOk result (λ tree. tree.limit ≡ limit) }
+        ensures sound { IfOk result (λ tree. IsSound tree.root) }
+        ensures too_many { result ≡ Err LoadFault.TooMany → AreTooMany points.now limit }
+    {
+        let entries = entries_of(alloc, points)?;
+        if entries.len() > limit as usize {
+            return Err(LoadFault::TooMany);
+        }
+        Ok(HullTree::from_entries(alloc, limit, &entries)?)
+    }
+
     /// The tree's own root; `None` for the empty set.
     pub fn root(&self) -> Option<&Node>
         ensures own { option_map (λ (n : Bor Node). n.now) result ≡ self.now.root }
@@ -99,6 +150,34 @@ impl HullTree {
         ensures few { result.1 ≤ 10000 }
         ensures least { IsLeastCount result.0 self.new.root p result.1 }
     {
+        self.add_by::<SearchesAll>(p)
+    }
+
+    /// Holds `p` once less, as [`remove`](HullSet::remove), and tells how many turns the searches of bridges took: at
+    /// most 10,000, for the reason told at [`add_counted`](HullTree::add_counted), and none unless `p` left the set.
+    pub fn remove_counted(&mut self, p: Point) -> (RemoveReply, u32)
+        ensures reply { Answers Rules.Counted (held_by self.old.root) self.old.limit (Call.Remove p)
+            (reply_to_remove result.0) }
+        ensures effect { held_by self.new.root
+            ≡ after (held_by self.old.root) (Call.Remove p) (reply_to_remove result.0) }
+        ensures same_limit { self.new.limit ≡ self.old.limit }
+        ensures sound { IsSound self.new.root }
+        ensures few { result.1 ≤ 10000 }
+        ensures none { result.0 ≢ RemoveReply.Removed → result.1 ≡ 0 }
+    {
+        self.remove_by::<SearchesAll>(p)
+    }
+
+    /// Holds `p` once more, and renews the forks above a new point in the way `R`.
+    pub(crate) fn add_by<R: Renewal>(&mut self, p: Point) -> (AddReply, u32)
+        ensures reply { Answers Rules.Counted (held_by self.old.root) self.old.limit (Call.Add p)
+            (reply_to_add result.0) }
+        ensures effect { held_by self.new.root ≡ after (held_by self.old.root) (Call.Add p) (reply_to_add result.0) }
+        ensures same_limit { self.new.limit ≡ self.old.limit }
+        ensures sound { IsSound self.new.root }
+        ensures few { result.1 ≤ 10000 }
+        ensures turns { IsCountBy R.Cost result.0 self.new.root p result.1 }
+    {
         let Some(root) = &mut self.root else {
             self.root = Some(Node::leaf(p, 1));
             self.count = 1;
@@ -117,14 +196,13 @@ impl HullTree {
         let Ok(spare) = Box::new(self.alloc, blank(p)) else {
             return (AddReply::NoMemory, 0);
         };
-        let turns = insert(root, p, spare);
+        let turns = insert::<R>(root, p, spare);
         self.count += 1;
         (AddReply::Added, turns)
     }
 
-    /// Holds `p` once less, as [`remove`](HullSet::remove), and tells how many turns the searches of bridges took: at
-    /// most 10,000, for the reason told at [`add_counted`](HullTree::add_counted), and none unless `p` left the set.
-    pub fn remove_counted(&mut self, p: Point) -> (RemoveReply, u32)
+    /// Holds `p` once less, and renews the forks above a point that leaves the set in the way `R`.
+    pub(crate) fn remove_by<R: Renewal>(&mut self, p: Point) -> (RemoveReply, u32)
         ensures reply { Answers Rules.Counted (held_by self.old.root) self.old.limit (Call.Remove p)
             (reply_to_remove result.0) }
         ensures effect { held_by self.new.root
@@ -149,7 +227,7 @@ impl HullTree {
             self.root = None;
             return (RemoveReply::Removed, 0);
         }
-        (RemoveReply::Removed, remove(root, p))
+        (RemoveReply::Removed, remove::<R>(root, p))
     }
 
     /// The first of the farthest points in the direction `d`, as [`extreme`](HullSet::extreme), and how many forks lie

@@ -2,6 +2,7 @@
 use Rattle.std.specs.Prelude.{◌≡◌, ◌<◌, ℕ, ◌^◌, true, cond, List, [], ◌++◌, length, map, Option, Some, None, Ok}
 use Rattle.std.specs.Io.KnownBytes.{Appends}
 use Rattle.hull_book.specs.Books.{BookValue, opened_book}
+use Rattle.hull_plain.specs.declared.set.HullSet.{Ghosts}
 use Rattle.hull_tree.specs.Sets.{LimitedTree, hull_tree}
 use Rattle.hull_book.specs.Journals.{JournalValue}
 use Rattle.hull_book.specs.Scripts.{ScriptValue}
@@ -20,21 +21,25 @@ abbrev pub opening : Options → ℕ → BookValue LimitedTree
 opening o workers = opened_book (record { limit = o.limit; root = None }) o.first o.limit o.capacity workers
 
 -- the journal of a book
-abbrev pub journal_of : BookValue LimitedTree → JournalValue
-journal_of b = record { head = b.head.journal; lines = b.lines }
+abbrev pub journal_of : {S : Type 0} → BookValue S → JournalValue
+journal_of {S = S} b = record { head = b.head.journal; lines = b.lines }
 
--- The workers of the script ran all its phases on a book that was opened so: these are their answers, the counts of the
--- closed book's ledgers, and its journal.
-pub record IsRun (script : ScriptValue) (o : Options) (answers : List (List Answer)) (counts : List ℕ)
-    (journal : JournalValue) : Type 0 where
+-- The workers of the script ran all its phases on this book: these are their answers, the counts of the closed book's
+-- ledgers, and its journal.
+pub record IsRunOn {S : Type 0} (K : Ghosts S) (opened : BookValue S) (script : ScriptValue)
+    (answers : List (List Answer)) (counts : List ℕ) (journal : JournalValue) : Type 0 where
   pub before : WorkersValue
   pub after : WorkersValue
-  pub closed : BookValue LimitedTree
+  pub closed : BookValue S
   pub none : (k : ℕ) → k < script.workers → (answers_of before k).answers ≡ []
-  pub ran : Runs hull_tree (opening o script.workers) before script.phases closed after
+  pub ran : Runs K opened before script.phases closed after
   pub answers_are : answers ≡ map (λ a. a.answers) after.answers
   pub counts_are : counts ≡ map (λ l. l.count) after.ledgers
   pub journal_is : journal ≡ journal_of closed
+
+-- the run of a script on a book that was opened as the options say
+abbrev pub IsRun : ScriptValue → Options → List (List Answer) → List ℕ → JournalValue → Type 0
+IsRun script o answers counts journal = IsRunOn hull_tree (opening o script.workers) script answers counts journal
 
 -- the journal or the report, as the options ask
 abbrev pub output_text : Options → ScriptValue → List (List Answer) → List ℕ → JournalValue → List ℕ

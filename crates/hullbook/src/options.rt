@@ -15,6 +15,8 @@ pub struct Options {
     pub first: u64,
     /// Whether the journal is written in place of the report.
     pub journal: bool,
+    /// Whether the set is a tree that keeps the bridges which a change cannot alter: the same replies, sooner.
+    pub sparing: bool,
 }
 
 /// What is asked for.

@@ -24,6 +24,7 @@ const PLAIN: Options = Options {
     limit: 1048576,
     first: 0,
     journal: false,
+    sparing: false,
 };
 
 const FIVE: &str = "0 add 0 2\n0 add 2 2\n0 extreme 0 1\n0 remove 0 2\n0 extreme 0 1\n";
@@ -119,6 +120,7 @@ fn second_worker_first(rt: HostRuntime) -> Result<(), Fail> {
         limit: 4,
         first: 7,
         journal: true,
+        sparing: false,
     };
     let journal =
         "hullbook journal 3 first 7 limit 4 capacity 4\n7 1 count = count 0\n8 0 add 5 5 = added\nend 2\n";
@@ -133,6 +135,7 @@ fn full_journal(rt: HostRuntime) -> Result<(), Fail> {
         limit: 1048576,
         first: 0,
         journal: false,
+        sparing: false,
     };
     let wanted =
         "0 add 0 0 = added\n0 add 1 0 = added\n0 count = full\nledger 0 2\nsum 2 journal 2 capacity 2\n";
@@ -155,6 +158,7 @@ fn wrapping_journal(rt: HostRuntime) -> Result<(), Fail> {
         limit: 4,
         first: 18446744073709551615,
         journal: true,
+        sparing: false,
     };
     assert!(rt;
         runs_to(
@@ -248,6 +252,7 @@ fn words_that_are_taken(rt: HostRuntime) -> Result<(), Fail> {
         limit: 1,
         first: 18446744073709551615,
         journal: true,
+        sparing: false,
     };
     let Ok(Task::Run(path, numbers)) = options(rt.alloc(), &words) else {
         return Err(Fail::new("other words"));
@@ -258,6 +263,10 @@ fn words_that_are_taken(rt: HostRuntime) -> Result<(), Fail> {
         return Err(Fail::new("other words"));
     };
     assert_eq!(rt; numbers, PLAIN);
+    let Ok(Task::Run(_, numbers)) = options(rt.alloc(), &["run", "--sparing", "x"]) else {
+        return Err(Fail::new("other words"));
+    };
+    assert!(rt; numbers.sparing && !numbers.journal);
     let Ok(Task::Check(path)) = options(rt.alloc(), &["check", "x"]) else {
         return Err(Fail::new("other words"));
     };

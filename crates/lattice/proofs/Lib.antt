@@ -6,3 +6,4 @@ pub mod UniqueBridge
 pub mod Casts
 pub mod Weights
 pub mod Order
+pub mod Standing

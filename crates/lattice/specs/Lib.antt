@@ -1,6 +1,7 @@
 pub mod Plane
 pub mod Covers
 pub mod Bridges
+pub mod Standing
 pub mod Places
 pub mod Vertices
 pub mod Integers

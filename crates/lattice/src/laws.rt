@@ -2,6 +2,8 @@
 ghost use Rattle.std.specs.Prelude.{◌≡◌, pos};
 ghost use Rattle.lattice.specs.Plane.{Pair};
 ghost use Rattle.lattice.specs.Laws.{UpperBridgeIsUnique, LowerBridgeIsUnique, CrossingIsOnBothLines};
+ghost use Rattle.lattice.specs.Laws.{UpperBridgeStandsAsPointComes, UpperBridgeStandsAsPointGoes};
+ghost use Rattle.lattice.specs.Laws.{LowerBridgeStandsAsPointComes, LowerBridgeStandsAsPointGoes};
 
 use super::COORDINATE_LIMIT;
 use std::marker::Brand;
@@ -24,6 +26,26 @@ pub fn upper_bridge_is_unique<L: PointSet, R: PointSet>()
 /// Two sets of points, all of the one before all of the other, have one lower bridge at most.
 pub fn lower_bridge_is_unique<L: PointSet, R: PointSet>()
     ensures { LowerBridgeIsUnique L.has R.has }
+{}
+
+/// The upper bridge of two sets stands as a point comes to one of them, where that point lies under it and only there.
+pub fn upper_bridge_stands_as_point_comes<L: PointSet, R: PointSet>()
+    ensures { UpperBridgeStandsAsPointComes L.has R.has }
+{}
+
+/// The upper bridge of two sets stands as a point goes from one of them, unless that point is its end there.
+pub fn upper_bridge_stands_as_point_goes<L: PointSet, R: PointSet>()
+    ensures { UpperBridgeStandsAsPointGoes L.has R.has }
+{}
+
+/// The lower bridge of two sets stands as a point comes to one of them, where that point lies over it and only there.
+pub fn lower_bridge_stands_as_point_comes<L: PointSet, R: PointSet>()
+    ensures { LowerBridgeStandsAsPointComes L.has R.has }
+{}
+
+/// The lower bridge of two sets stands as a point goes from one of them, unless that point is its end there.
+pub fn lower_bridge_stands_as_point_goes<L: PointSet, R: PointSet>()
+    ensures { LowerBridgeStandsAsPointGoes L.has R.has }
 {}
 
 /// What [`crossing_at_or_before`](crate::crossing_at_or_before) compares is a point, and it lies on both lines.

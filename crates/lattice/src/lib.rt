@@ -29,7 +29,8 @@ pub use direction::Direction;
 pub use fault::LatticeFault;
 pub use laws::{
     PointSet, coordinate_limit_is_stated, crossing_is_on_both_lines, lower_bridge_is_unique,
-    upper_bridge_is_unique,
+    lower_bridge_stands_as_point_comes, lower_bridge_stands_as_point_goes, upper_bridge_is_unique,
+    upper_bridge_stands_as_point_comes, upper_bridge_stands_as_point_goes,
 };
 pub use near::{is_near, orient_near};
 pub use point::Point;

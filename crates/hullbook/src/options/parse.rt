@@ -38,12 +38,16 @@ fn run_command<'a>(alloc: Global) -> Result<Command<'a>, AllocError> {
     let journal = Arg::new(alloc, "journal")
         .long("journal")
         .action(ArgAction::SetTrue);
+    let sparing = Arg::new(alloc, "sparing")
+        .long("sparing")
+        .action(ArgAction::SetTrue);
     Command::new(alloc, "run")
         .arg(script)?
         .arg(capacity)?
         .arg(limit)?
         .arg(first)?
-        .arg(journal)
+        .arg(journal)?
+        .arg(sparing)
 }
 
 /// A command that has a journal as its one word.
@@ -83,6 +87,7 @@ fn options_of(matches: &ArgMatches<'_>) -> Option<Options>
         0
     };
     let journal = matches.get_flag("journal");
+    let sparing = matches.get_flag("sparing");
     if capacity == 0 || capacity > CAPACITY_LIMIT || limit == 0 || limit > POINT_LIMIT {
         return None;
     }
@@ -91,6 +96,7 @@ fn options_of(matches: &ArgMatches<'_>) -> Option<Options>
         limit,
         first,
         journal,
+        sparing,
     })
 }
 

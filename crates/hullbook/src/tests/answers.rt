@@ -180,6 +180,7 @@ fn limit_two(rt: HostRuntime) -> Result<(), Fail> {
         limit: 2,
         first: 0,
         journal: false,
+        sparing: false,
     };
     let rows = [
         ("add 0 0", "added"),

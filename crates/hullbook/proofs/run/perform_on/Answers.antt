@@ -3,7 +3,7 @@
 use Rattle.std.proofs.Common.{rules}
 use Rattle.hull_book.proofs.Counts.{all_in_order}
 use Rattle.hull_pool.proofs.Fronts.{few_each}
-use Rattle.hullbook.proofs.run.perform.Goals as goal
+use Rattle.hullbook.proofs.run.perform_on.Goals as goal
 
 pub run_phases-end-requires-after_bounds : goal.run_phases-end-requires-after_bounds
 run_phases-end-requires-after_bounds g c κs within = record {

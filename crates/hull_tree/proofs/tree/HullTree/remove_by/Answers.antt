@@ -14,23 +14,23 @@ use Rattle.hull_tree.proofs.CountedTrees.{counted, limited_after, sound_after, l
 use Rattle.hull_tree.proofs.CountedTrees.{answers_removed, dead, held_none}
 use Rattle.hull_tree.proofs.PartingPoints.{fork_of}
 use Rattle.bridge_search.proofs.Leaves.{on_of_contains}
-use Rattle.hull_tree.proofs.tree.HullTree.remove_counted.Goals as goal
+use Rattle.hull_tree.proofs.tree.HullTree.remove_by.Goals as goal
 
 pub returns-then-times-eq0-clause-reply : goal.returns-then-times-eq0-clause-reply
-returns-then-times-eq0-clause-reply c =
+returns-then-times-eq0-clause-reply g c =
     let k = counted c.self.invariant c.in-Some.is c.lower-times.ensures.was c.lower-times.ensures.built
     c.lower-times.ensures.same_tree in
     subst (λ (z : LimitedTree). AnswersRemove Counted (held_by z.root) c.args.p Absent) c.self.view_is
     (dead k c.if-times-eq0.true)
 
 pub returns-then-times-eq0-clause-sound : goal.returns-then-times-eq0-clause-sound
-returns-then-times-eq0-clause-sound c =
+returns-then-times-eq0-clause-sound g c =
     let k = counted c.self.invariant c.in-Some.is c.lower-times.ensures.was c.lower-times.ensures.built
     c.lower-times.ensures.same_tree in
     sound_after k
 
 pub returns-then-times-gt1-clause-reply : goal.returns-then-times-gt1-clause-reply
-returns-then-times-gt1-clause-reply c =
+returns-then-times-gt1-clause-reply g c =
     let k = counted c.self.invariant c.in-Some.is c.lower-times.ensures.was c.lower-times.ensures.built
     c.lower-times.ensures.same_tree in
     subst (λ (z : LimitedTree). AnswersRemove Counted (held_by z.root) c.args.p
@@ -38,13 +38,13 @@ returns-then-times-gt1-clause-reply c =
     (answers_left k c.if-times-gt1.true)
 
 pub returns-then-times-gt1-clause-sound : goal.returns-then-times-gt1-clause-sound
-returns-then-times-gt1-clause-sound c =
+returns-then-times-gt1-clause-sound g c =
     let k = counted c.self.invariant c.in-Some.is c.lower-times.ensures.was c.lower-times.ensures.built
     c.lower-times.ensures.same_tree in
     sound_after k
 
 pub overflow_sub-self : goal.overflow_sub-self
-overflow_sub-self c =
+overflow_sub-self g c =
     let k = counted c.self.invariant c.in-Some.is c.lower-times.ensures.was c.lower-times.ensures.built
     c.lower-times.ensures.same_tree in
     let m : Contains (points_below c.lower-times.new.node) c.args.p =
@@ -53,7 +53,7 @@ overflow_sub-self c =
     omega (arith, l, (limited_after k).counted)
 
 pub remove-requires-clause-fork : goal.remove-requires-clause-fork
-remove-requires-clause-fork c =
+remove-requires-clause-fork g c =
     let k = counted c.self.invariant c.in-Some.is c.lower-times.ensures.was c.lower-times.ensures.built
     c.lower-times.ensures.same_tree in
     let m : Contains (points_below c.lower-times.new.node) c.args.p =
@@ -61,14 +61,14 @@ remove-requires-clause-fork c =
     fork_of _ _ (on_of_contains _ _ m) (failed _ _ c.if-is_leaf.false c.is_leaf.ensures)
 
 pub remove-requires-clause-low : goal.remove-requires-clause-low
-remove-requires-clause-low c =
+remove-requires-clause-low g c =
     let k = counted c.self.invariant c.in-Some.is c.lower-times.ensures.was c.lower-times.ensures.built
     c.lower-times.ensures.same_tree in
     let h : height_at c.lower-times.new.node ≤ 28 = (sound_after k).low in
     omega (arith, h)
 
 pub invariant_of-self-2 : goal.invariant_of-self-2
-invariant_of-self-2 c =
+invariant_of-self-2 g c =
     let k = counted c.self.invariant c.in-Some.is c.lower-times.ensures.was c.lower-times.ensures.built
     c.lower-times.ensures.same_tree in
     let m : Contains (points_below c.lower-times.new.node) c.args.p =
@@ -76,7 +76,7 @@ invariant_of-self-2 c =
     limited_without _ _ _ _ _ (limited_after k) c.remove.ensures.built c.remove.ensures.points m
 
 pub returns-clause-reply : goal.returns-clause-reply
-returns-clause-reply c =
+returns-clause-reply g c =
     let k = counted c.self.invariant c.in-Some.is c.lower-times.ensures.was c.lower-times.ensures.built
     c.lower-times.ensures.same_tree in
     let o : c.lower-times.result ≡ 1 = omega (arith, c.if-times-eq0.false, c.if-times-gt1.false) in
@@ -84,14 +84,14 @@ returns-clause-reply c =
     (answers_removed k o)
 
 pub returns-clause-effect : goal.returns-clause-effect
-returns-clause-effect c =
+returns-clause-effect g c =
     let e = c.lower-times.ensures.few c.if-times-gt1.false in
     held_none _ (Some c.remove.new.node) _ _
     (sym (ap (λ (z : LimitedTree). z.root) c.self.view_is) ∙ c.in-Some.is
     ∙ ap Some (sym e)) c.remove.ensures.points c.remove.ensures.times
 
 pub returns-clause-sound : goal.returns-clause-sound
-returns-clause-sound c =
+returns-clause-sound g c =
     let k = counted c.self.invariant c.in-Some.is c.lower-times.ensures.was c.lower-times.ensures.built
     c.lower-times.ensures.same_tree in
     let m : Contains (points_below c.lower-times.new.node) c.args.p =
@@ -99,7 +99,7 @@ returns-clause-sound c =
     sound _ _ _ (limited_without _ _ _ _ _ (limited_after k) c.remove.ensures.built c.remove.ensures.points m)
 
 pub returns-clause-few : goal.returns-clause-few
-returns-clause-few c =
+returns-clause-few g c =
     let k = counted c.self.invariant c.in-Some.is c.lower-times.ensures.was c.lower-times.ensures.built
     c.lower-times.ensures.same_tree in
     let h : height_at c.lower-times.new.node ≤ 28 = (sound_after k).low in

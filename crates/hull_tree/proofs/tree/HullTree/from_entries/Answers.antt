@@ -1,0 +1,8 @@
+-- the node over some entries is the root of a set with their number of points
+use Rattle.hull_tree.proofs.LimitedTrees.{sound}
+use Rattle.hull_tree.proofs.LoadedRows.{limited_over}
+use Rattle.hull_tree.proofs.tree.HullTree.from_entries.Goals as goal
+
+pub returns-clause-sound : goal.returns-clause-sound
+returns-clause-sound c =
+    sound _ _ _ (limited_over _ _ _ c.in_ok-root.ensures c.requires.room c.requires.low c.requires.high)

@@ -1,0 +1,164 @@
+ghost use Rattle.std.specs.Prelude.{◌≡◌, ◌≤◌, length, IfOk, IfErr, Err, None};
+ghost use Rattle.hull_plain.specs.Held.{nothing_held};
+ghost use Rattle.hull_plain.specs.Replies.{Answers, after, reply_to_add, reply_to_remove};
+ghost use Rattle.hull_tree.specs.Loaded.{AreEntries, held_listed, held_after_adds, AreTooMany};
+ghost use Rattle.hull_tree.specs.Roots.{held_by};
+ghost use Rattle.hull_tree.specs.Sets.{IsSound};
+
+use super::load::LoadFault;
+use super::renewal::KeepsWhatStands;
+use super::tree::HullTree;
+use hull_plain::{AddReply, Call, HullSet, NoMemory, POINT_LIMIT, Place, RemoveReply, Rules};
+use lattice::{Direction, Point};
+use std::alloc::Global;
+use std::marker::Model;
+
+/// The set of points that a [`HullTree`] is, with changes that keep each stored bridge which they cannot have altered.
+///
+/// A point that comes alters the upper bridge of a fork only where it lies above that edge's line, or on the line and
+/// beyond its end; a point that goes only where the bridge ends at it. So a change tests the two bridges of each fork
+/// on its way and searches few. Answers and limits are those of `HullTree`; of the turns of a change only the greatest
+/// number is promised.
+#[derive(Drop)]
+pub struct SparingTree {
+    tree: HullTree,
+}
+
+impl Model for SparingTree {
+    ghost use Rattle.std.specs.Coded.{codes};
+    ghost use Rattle.hull_tree.specs.contracts.tree.HullTree as hull_tree;
+    ghost use Rattle.hull_tree.specs.Sets.{LimitedTree};
+
+    ghost Value = { LimitedTree };
+
+    ghost coded = { Prim.hlevel (codes, hull_tree.the_row.coded) };
+
+    ghost view = { λ t. t.tree };
+}
+
+impl SparingTree {
+    /// The empty set, which takes `limit` points at most. Asks for no memory; `add` and `vertices` ask `alloc`.
+    pub fn new(alloc: Global, limit: u32) -> SparingTree
+        requires low { 1 ≤ limit }
+        requires high { limit ≤ POINT_LIMIT }
+        ensures { result ≡ record { limit = limit; root = None } }
+    {
+        SparingTree {
+            tree: HullTree::new(alloc, limit),
+        }
+    }
+
+    /// The set of some points in order, each with how often it is held, as
+    /// [`HullTree::from_entries`](HullTree::from_entries) makes it.
+    pub fn from_entries(
+        alloc: Global,
+        limit: u32,
+        entries: &[(Point, u32)],
+    ) -> Result<SparingTree, NoMemory>
+        requires high { limit ≤ POINT_LIMIT }
+        requires low { 1 ≤ limit }
+        requires room { length entries.now ≤ limit }
+        requires entries { AreEntries entries.now }
+        ensures held { IfOk result (λ tree. held_by tree.root ≡ held_listed entries.now) }
+        ensures limit { IfOk result (λ tree. tree.limit ≡ limit) }
+        ensures sound { IfOk result (λ tree. IsSound tree.root) }
+        ensures refused { IfErr result (λ _. 1 ≤ length entries.now) }
+    {
+        let tree = HullTree::from_entries(alloc, limit, entries)?;
+        Ok(SparingTree { tree })
+    }
+
+    /// The set of some points in any order, each held as often as it stands among them, as
+    /// [`HullTree::from_points`](HullTree::from_points) makes it.
+    pub fn from_points(
+        alloc: Global,
+        limit: u32,
+        points: &[Point],
+    ) -> Result<SparingTree, LoadFault>
+        requires high { limit ≤ POINT_LIMIT }
+        requires low { 1 ≤ limit }
+        ensures held { IfOk result (λ tree. held_by tree.root ≡ held_after_adds nothing_held points.now) }
+        ensures limit { IfOk result (λ tree. tree.limit ≡ limit) }
+        ensures sound { IfOk result (λ tree. IsSound tree.root) }
+        ensures too_many { result ≡ Err LoadFault.TooMany → AreTooMany points.now limit }
+    {
+        let tree = HullTree::from_points(alloc, limit, points)?;
+        Ok(SparingTree { tree })
+    }
+
+    /// Holds `p` once more, as [`add`](HullSet::add), and tells how many turns the searches of bridges took: at most
+    /// 10,000, for the reason told at [`HullTree::add_counted`](HullTree::add_counted), and mostly none.
+    pub fn add_counted(&mut self, p: Point) -> (AddReply, u32)
+        ensures reply { Answers Rules.Counted (held_by self.old.root) self.old.limit (Call.Add p)
+            (reply_to_add result.0) }
+        ensures effect { held_by self.new.root ≡ after (held_by self.old.root) (Call.Add p) (reply_to_add result.0) }
+        ensures same_limit { self.new.limit ≡ self.old.limit }
+        ensures sound { IsSound self.new.root }
+        ensures few { result.1 ≤ 10000 }
+    {
+        self.tree.add_by::<KeepsWhatStands>(p)
+    }
+
+    /// Holds `p` once less, as [`remove`](HullSet::remove), and tells how many turns the searches of bridges took: at
+    /// most 10,000, and mostly none.
+    pub fn remove_counted(&mut self, p: Point) -> (RemoveReply, u32)
+        ensures reply { Answers Rules.Counted (held_by self.old.root) self.old.limit (Call.Remove p)
+            (reply_to_remove result.0) }
+        ensures effect { held_by self.new.root
+            ≡ after (held_by self.old.root) (Call.Remove p) (reply_to_remove result.0) }
+        ensures same_limit { self.new.limit ≡ self.old.limit }
+        ensures sound { IsSound self.new.root }
+        ensures few { result.1 ≤ 10000 }
+    {
+        self.tree.remove_by::<KeepsWhatStands>(p)
+    }
+}
+
+impl HullSet for SparingTree {
+    ghost held = { λ t. held_by t.root };
+
+    ghost bound = { λ t. t.limit };
+
+    // well built: each stored bridge is that of the points below it; the points in order; at most 28 high
+    ghost sound = { λ t. IsSound t.root };
+
+    fn limit(&self) -> u32 {
+        self.tree.limit()
+    }
+
+    fn count(&self) -> u32 {
+        self.tree.count()
+    }
+
+    fn multiplicity(&self, p: Point) -> u32 {
+        self.tree.multiplicity(p)
+    }
+
+    fn add(&mut self, p: Point) -> AddReply {
+        self.add_counted(p).0
+    }
+
+    fn remove(&mut self, p: Point) -> RemoveReply {
+        self.remove_counted(p).0
+    }
+
+    fn extreme(&self, d: Direction) -> Option<Point> {
+        self.tree.extreme(d)
+    }
+
+    fn place(&self, q: Point) -> Place {
+        self.tree.place(q)
+    }
+
+    fn tangents(&self, q: Point) -> Option<(Point, Point)> {
+        self.tree.tangents(q)
+    }
+
+    fn vertices(&self) -> Result<Vec<Point>, NoMemory> {
+        self.tree.vertices()
+    }
+
+    fn area2(&self) -> u128 {
+        self.tree.area2()
+    }
+}

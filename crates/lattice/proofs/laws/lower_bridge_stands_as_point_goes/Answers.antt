@@ -1,0 +1,6 @@
+-- fewer points lie on the same side
+use Rattle.lattice.proofs.Standing.{lower_as_goes}
+use Rattle.lattice.proofs.laws.lower_bridge_stands_as_point_goes.Goals as goal
+
+pub returns : goal.returns
+returns g c u v p b = lower_as_goes g.L.PointSet.has g.R.PointSet.has u v p b
