@@ -71,7 +71,8 @@ enum hull_code {
     HULL_CLOSED = 48,        /* the desk is closed, and has its journal */
     HULL_NOT_CLOSED = 49,    /* the desk is not closed */
     HULL_TEXT = 50,          /* the text was written to the front of the array: `number` bytes */
-    HULL_ENDED = 51          /* the desk holds nothing any more */
+    HULL_ENDED = 51,         /* the desk holds nothing any more */
+    HULL_IN_USE = 52         /* no seat is out, and yet a call on the desk or a seat is under way: the desk stays open */
 };
 
 /* What a call was answered: a code, and what belongs to it (told above); all else is 0. */

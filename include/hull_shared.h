@@ -76,7 +76,8 @@ uint32_t hull_shared_take(hull_shared_seat seat, uint32_t kind, int64_t x, int64
 /* Looks once whether the seat's number is served, and then makes the call: its answer, or FULL; NOT_YET, NO_NUMBER, VACANT. */
 hull_shared_reply hull_shared_look(hull_shared_seat seat);
 
-/* Closes the desk: CLOSED; SEATS_OUT, NOT_OPEN. */
+/* Closes the desk: CLOSED; SEATS_OUT where a seat is out, NOT_OPEN, and IN_USE, which is told only to a caller who lets another
+ * call on the desk or its seats go on. */
 uint32_t hull_shared_close(hull_shared_desk desk);
 
 /* Writes the text of a closed desk's journal to the front of the array: TEXT; TOO_SMALL, NO_MEMORY, NOT_CLOSED. It is a text of

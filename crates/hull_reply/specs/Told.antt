@@ -51,6 +51,7 @@ code_number code.Closed = 48
 code_number code.NotClosed = 49
 code_number code.Text = 50
 code_number code.Ended = 51
+code_number code.InUse = 52
 
 -- a code, and nothing beside it
 abbrev pub IsBare : Code → HullReply → Type 0

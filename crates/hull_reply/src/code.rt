@@ -86,6 +86,8 @@ pub enum Code {
     Text = 50,
     /// The desk holds nothing any more.
     Ended = 51,
+    /// No seat is out, and yet the lock has another owner: the desk stays open.
+    InUse = 52,
 }
 
 impl Code {

@@ -110,10 +110,14 @@ pub record HasCome (d e : OpenDesk) (i : IdleSeat) : Type 0 where
   pub was_out : slice_get d.places.list.items j ≡ Some None
   pub back : e.places.list.items ≡ slice_set d.places.list.items j (Some (record { seat = i.seat; ledger = i.ledger }))
 
--- a seat with no number was given back: it is there again; or its place is not free, and nothing changed
+-- a seat of this number is at the desk
+abbrev pub IsAtDesk : ℕ → OpenDesk → Type 0
+IsAtDesk number d = (j : ℕ) × (p : Place) × (number + j + 1 ≡ d.seats) × HasAt d.places.list.items j p
+
+-- a seat with no number was given back: it is there again; or its place has a seat, and nothing changed
 abbrev pub TakesBack : OpenDesk → IdleSeat → OpenDesk → Option IdleSeat → Type 0
 TakesBack d i e None = HasCome d e i
-TakesBack d i e (Some left) = (e ≡ d) × (left ≡ i)
+TakesBack d i e (Some left) = (e ≡ d) × (left ≡ i) × IsAtDesk i.number d
 
 -- the room is vacant, or has the seat still
 abbrev pub IsLeftWith : SharedSeat → ℕ → Option IdleSeat → Type 0
@@ -138,12 +142,18 @@ pub record IsJournalOf (d : OpenDesk) (c : ClosedDesk) : Type 0 where
   pub legal : IsLegal c.journal.head c.journal.lines
   pub seen : (j : ℕ) (p : Place) → HasAt d.places.list.items j p → IsPrefix (seat_seen p.seat) c.journal.lines
 
+-- why an open desk stays open: a seat is out; or none is, and yet the lock has another owner, which no caller who keeps
+-- the header's duties meets
+abbrev pub IsKeptOpen : OpenDesk → Code → Type 0
+IsKeptOpen d fault = (¬ All IsSome d.places.list.items × (fault ≡ code.SeatsOut))
+    ⊎ (All IsSome d.places.list.items × (fault ≡ code.InUse))
+
 -- a closing: all seats are at the desk, and it is closed; or it stays open
 abbrev pub HasClosed : Desk → Desk → ℕ → Type 0
 HasClosed (Open d) new told =
     (All IsSome d.places.list.items × ((c : ClosedDesk) × (new ≡ Closed c) × IsJournalOf d c)
     × (told ≡ code_number code.Closed))
-    ⊎ ((new ≡ Open d) × (told ≡ code_number code.SeatsOut))
+    ⊎ ((new ≡ Open d) × ((fault : Code) × IsKeptOpen d fault × (told ≡ code_number fault)))
 HasClosed old new told = (new ≡ old) × (told ≡ code_number code.NotOpen)
 
 -- the text stands at the front of the array, whose rest is as it was; or the array is too short for it, and is as it

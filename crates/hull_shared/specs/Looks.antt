@@ -1,5 +1,5 @@
 -- What taking a number, and looking whether it is served, come to.
-use Rattle.std.specs.Prelude.{◌≡◌, ℕ, ℤ, List, Result, Ok, Err}
+use Rattle.std.specs.Prelude.{◌≡◌, ◌+◌, ℕ, ℤ, List, Result, Ok, Err}
 use mathlib.Core.List.{IsPrefix}
 use Rattle.hull_book.specs.Answers.{Answer}
 use Rattle.hull_book.specs.declared.line.Line.{Line}
@@ -9,7 +9,7 @@ use Rattle.hull_reply.specs.Told.{code_number, IsBare, Tells}
 use Rattle.hull_reply.specs.declared.code.Code.{Code}
 use Rattle.hull_reply.specs.declared.code.Code.TheVariants as code
 use Rattle.hull_reply.specs.declared.reply.HullReply.{HullReply}
-use Rattle.ticket_lock.specs.Tokens.{seat_seen, ticket_number, ticket_seen}
+use Rattle.ticket_lock.specs.Tokens.{seat_seen, ticket_looks, ticket_number, ticket_seen}
 use Rattle.hull_shared.specs.Asked.{IsAsked}
 use Rattle.hull_shared.specs.Locks.{head_of, lock_of}
 use Rattle.hull_shared.specs.declared.looking.Looked.{Looked}
@@ -41,11 +41,12 @@ TakesAsked asked (Waiting w) new told = (new ≡ Waiting w) × (told ≡ code_nu
 abbrev pub HasTaken : ℕ → ℤ → ℤ → SharedSeat → SharedSeat → ℕ → Type 0
 HasTaken kind x y old new told = (asked : Result Call Code) × IsAsked kind x y asked × TakesAsked asked old new told
 
--- the seat waits on: the same seat of the same lock, with the same number and call, that has seen the same lines
+-- the seat looked once more and waits on: the same seat of the same lock, with the same number and call, that has seen
+-- the same lines
 abbrev pub WaitsOn : WaitingSeat → WaitingSeat → Type 0
 WaitsOn w v = (lock_of v.lock ≡ lock_of w.lock) × (v.number ≡ w.number) × (v.call ≡ w.call)
     × (ticket_number v.ticket ≡ ticket_number w.ticket) × (ticket_seen v.ticket ≡ ticket_seen w.ticket)
-    × (v.ledger ≡ w.ledger)
+    × (ticket_looks v.ticket ≡ ticket_looks w.ticket + 1) × (v.ledger ≡ w.ledger)
 
 -- The seat's call was served, with this answer, under the number that it had taken: it found a journal that begins
 -- with what it

@@ -50,7 +50,7 @@ fn return_to(desk: OpenDesk, idle: IdleSeat) -> (OpenDesk, Option<IdleSeat>)
     ensures { TakesBack desk idle result.0 result.1 }
 {
     let Some(j) = place_of(u32::from(idle.number), desk.seats) else {
-        return (desk, Some(idle));
+        unreachable!()
     };
     if desk.places.list[j].is_some() {
         return (desk, Some(idle));
