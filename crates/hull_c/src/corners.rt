@@ -4,7 +4,7 @@ ghost use Rattle.hull_c.specs.Calls.{AreCorners};
 
 use hull_plain::HullSet;
 use hull_reply::{Code, HullReply};
-use hull_tree::HullTree;
+use hull_tree::SparingTree;
 use lattice::Point;
 use std::marker::Model;
 
@@ -51,7 +51,7 @@ fn write_points(points: &[Point], out: &mut [HullPoint])
 }
 
 /// Writes the corners of the hull to the front of the array, if it has room for all of them.
-pub(crate) fn vertices(hull: &mut HullTree, out: &mut [HullPoint]) -> HullReply
+pub(crate) fn vertices(hull: &mut SparingTree, out: &mut [HullPoint]) -> HullReply
     ensures { AreCorners hull.old hull.new out.old out.new result }
 {
     let Ok(corners) = hull.vertices() else {

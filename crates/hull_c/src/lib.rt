@@ -1,4 +1,5 @@
-//! A convex hull for C: a static library over [`HullTree`](hull_tree::HullTree), whose header is `include/hull.h`.
+//! A convex hull for C: a static library over [`SparingTree`](hull_tree::SparingTree), whose header is
+//! `include/hull.h`.
 //!
 //! A hull lies in room that the caller gives. Changes and questions are one export, [`hull_call`], by their kind; the
 //! header has a function for each over it. An export lends the hull at the pointer to one plain function (`calls.rt`,
@@ -9,7 +10,7 @@
 ghost use Rattle.std.specs.Prelude.{◌≡◌};
 ghost use Rattle.std.specs.Borrow.{full_share, sem};
 ghost use Rattle.std.specs.Ptr.{lies_at, room_at};
-ghost use Rattle.hull_tree.specs.contracts.tree.HullTree.{the_row};
+ghost use Rattle.hull_tree.specs.contracts.sparing_tree.SparingTree.{the_row};
 ghost use Rattle.hull_tree.specs.Sets.{hull_tree};
 ghost use Rattle.hull_reply.specs.Left.{leaves};
 ghost use Rattle.hull_reply.specs.Rooms.{room_alignment, room_size};
@@ -26,7 +27,7 @@ mod tests;
 
 pub use corners::HullPoint;
 use hull_reply::HullReply;
-use hull_tree::HullTree;
+use hull_tree::SparingTree;
 pub use requests::HullRequest;
 use std::alloc::Global;
 
@@ -41,7 +42,7 @@ pub unsafe extern "C" fn hull_call(at: *mut u8, kind: u32, x: i64, y: i64) -> Hu
     requires* { sem 𝓛 (lies_at the_row full_share at t) }
     ensures* { sem 𝓛 (leaves the_row at (λ new. IsAnswered hull_tree kind x y t new result)) }
 {
-    let hull = at as *mut HullTree;
+    let hull = at as *mut SparingTree;
     calls::call(unsafe { &mut *hull }, kind, x, y)
 }
 
@@ -56,7 +57,7 @@ pub unsafe extern "C" fn hull_vertices(at: *mut u8, out: &mut [HullPoint]) -> Hu
     requires* { sem 𝓛 (lies_at the_row full_share at t) }
     ensures* { sem 𝓛 (leaves the_row at (λ new. AreCorners t new out.old out.new result)) }
 {
-    let hull = at as *mut HullTree;
+    let hull = at as *mut SparingTree;
     corners::vertices(unsafe { &mut *hull }, out)
 }
 
@@ -76,7 +77,7 @@ pub unsafe extern "C" fn hull_calls(
     requires* { sem 𝓛 (lies_at the_row full_share at t) }
     ensures* { sem 𝓛 (leaves the_row at (λ new. AreServed requests.now replies.old t new replies.new result)) }
 {
-    let hull = at as *mut HullTree;
+    let hull = at as *mut SparingTree;
     requests::calls_of(unsafe { &mut *hull }, requests, replies)
 }
 
@@ -91,7 +92,7 @@ pub unsafe extern "C" fn hull_clear(alloc: Global, at: *mut u8) -> HullReply
     requires* { sem 𝓛 (lies_at the_row full_share at t) }
     ensures* { sem 𝓛 (leaves the_row at (λ new. IsCleared t new result)) }
 {
-    let hull = at as *mut HullTree;
+    let hull = at as *mut SparingTree;
     calls::clear(alloc, unsafe { &mut *hull })
 }
 
@@ -106,7 +107,7 @@ pub unsafe extern "C" fn hull_limit(at: *mut u8) -> HullReply
     requires* { sem 𝓛 (lies_at the_row full_share at t) }
     ensures* { sem 𝓛 (leaves the_row at (λ new. IsLimitOf t new result)) }
 {
-    let hull = at as *mut HullTree;
+    let hull = at as *mut SparingTree;
     calls::limit(unsafe { &mut *hull })
 }
 
@@ -115,7 +116,7 @@ pub unsafe extern "C" fn hull_limit(at: *mut u8) -> HullReply
 pub extern "C" fn hull_size() -> usize
     ensures { result ≡ room_size the_row }
 {
-    size_of::<HullTree>()
+    size_of::<SparingTree>()
 }
 
 /// At which multiples of bytes the room of a hull begins.
@@ -123,7 +124,7 @@ pub extern "C" fn hull_size() -> usize
 pub extern "C" fn hull_alignment() -> usize
     ensures { result ≡ room_alignment the_row }
 {
-    align_of::<HullTree>()
+    align_of::<SparingTree>()
 }
 
 /// Makes an empty hull in a room: one that takes `limit` points, or the greatest number of points where `limit` is 0 or
@@ -137,7 +138,7 @@ pub unsafe extern "C" fn hull_make(alloc: Global, limit: u32, room: *mut u8)
     requires* { sem 𝓛 (room_at the_row room) }
     ensures* { sem 𝓛 (leaves the_row room (IsFresh limit)) }
 {
-    let at = room as *mut HullTree;
+    let at = room as *mut SparingTree;
     let hull = calls::fresh(alloc, limit);
     unsafe { at.write(hull) };
 }
@@ -153,6 +154,6 @@ pub unsafe extern "C" fn hull_end(at: *mut u8) -> u32
     requires* { sem 𝓛 (lies_at the_row full_share at t) }
     ensures* { sem 𝓛 (leaves_room the_row at (result ≡ 0)) }
 {
-    let hull = at as *mut HullTree;
+    let hull = at as *mut SparingTree;
     calls::finish(unsafe { hull.read() })
 }

@@ -4,7 +4,7 @@ use super::corners::{HullPoint, vertices};
 use super::requests::{HullRequest, calls_of};
 use hull_plain::{MULTIPLICITY_LIMIT, POINT_LIMIT};
 use hull_reply::{Code, HullReply};
-use hull_tree::HullTree;
+use hull_tree::SparingTree;
 use lattice::COORDINATE_LIMIT;
 use std::process::Abort;
 use std::test::Fail;
@@ -29,7 +29,7 @@ fn is_number(rt: &impl Abort, reply: HullReply, code: u32, number: u64) {
 fn goes_to_any_thread<H: Send>(_hull: &H) {}
 
 /// The square of side 10 with a point inside.
-fn square(rt: &impl Abort, hull: &mut HullTree) {
+fn square(rt: &impl Abort, hull: &mut SparingTree) {
     for (x, y) in [(0, 0), (10, 0), (10, 10), (0, 10), (4, 4)] {
         is_bare(rt, calls::call(hull, 1, x, y), 3);
     }

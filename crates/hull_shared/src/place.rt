@@ -1,11 +1,11 @@
 //! The seats at their desk.
 use hull_book::Ledger;
 use hull_pool::BookSeat;
-use hull_tree::HullTree;
+use hull_tree::SparingTree;
 
 /// A seat of the lock, with its ledger.
 pub(crate) struct Place {
-    pub(crate) seat: BookSeat<HullTree>,
+    pub(crate) seat: BookSeat<SparingTree>,
     pub(crate) ledger: Ledger,
 }
 
@@ -13,6 +13,6 @@ pub(crate) struct Place {
 /// room for all seats and all ledgers, so that closing asks for no memory.
 pub(crate) struct Places {
     pub(crate) list: Vec<Option<Place>>,
-    pub(crate) seats: Vec<BookSeat<HullTree>>,
+    pub(crate) seats: Vec<BookSeat<SparingTree>>,
     pub(crate) ledgers: Vec<Ledger>,
 }

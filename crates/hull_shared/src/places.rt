@@ -14,15 +14,15 @@ ghost use Rattle.ticket_lock.specs.Tokens.{AreNumbered, IsSeatOf, seat_count, se
 use crate::place::{Place, Places};
 use hull_book::{Book, Ledger};
 use hull_pool::{BookLock, BookSeat, close_book};
-use hull_tree::HullTree;
+use hull_tree::SparingTree;
 
 /// Lays all seats of a lock that was just opened out at a desk, each with its ledger.
 pub(crate) fn lay_out(
-    lock: BookLock<HullTree>,
-    mut seats: Vec<BookSeat<HullTree>>,
+    lock: BookLock<SparingTree>,
+    mut seats: Vec<BookSeat<SparingTree>>,
     mut ledgers: Vec<Ledger>,
     mut list: Vec<Option<Place>>,
-) -> (BookLock<HullTree>, Places)
+) -> (BookLock<SparingTree>, Places)
     requires all { (vec_len seats ≡ seat_count lock) × (seat_count lock ≡ workers_of (book_of lock)) }
     requires own { All (IsSeatOf book_head lock) seats.items }
     requires numbers { AreNumbered seats.items }
@@ -48,7 +48,7 @@ pub(crate) fn lay_out(
 }
 
 /// Closes the lock, all of whose seats are at the desk: its book, whose journal begins with what each seat has seen.
-pub(crate) fn close_lock(lock: BookLock<HullTree>, places: Places) -> Book<HullTree>
+pub(crate) fn close_lock(lock: BookLock<SparingTree>, places: Places) -> Book<SparingTree>
     requires laid_out { AreLaidOut lock (seat_count lock) places }
     requires all_in { All IsSome places.list.items }
     ensures lawful { IsLawful hull_tree result }

@@ -10,13 +10,13 @@ use crate::lock::SharedLock;
 use hull_book::{Book, Ledger};
 use hull_plain::Call;
 use hull_pool::BookSeat;
-use hull_tree::HullTree;
+use hull_tree::SparingTree;
 use ticket_lock::Ticket;
 
 /// A seat with no number.
 pub(crate) struct IdleSeat {
     pub(crate) lock: SharedLock,
-    pub(crate) seat: BookSeat<HullTree>,
+    pub(crate) seat: BookSeat<SparingTree>,
     pub(crate) ledger: Ledger,
     pub(crate) number: u8,
     ghost own: { IsSeatOf book_head (lock_of lock) seat },
@@ -28,7 +28,7 @@ pub(crate) struct IdleSeat {
 /// A seat with a number, and the call that it is to make.
 pub(crate) struct WaitingSeat {
     pub(crate) lock: SharedLock,
-    pub(crate) ticket: Ticket<Box<Book<HullTree>>>,
+    pub(crate) ticket: Ticket<Box<Book<SparingTree>>>,
     pub(crate) ledger: Ledger,
     pub(crate) number: u8,
     pub(crate) call: Call,

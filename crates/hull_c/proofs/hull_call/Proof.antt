@@ -12,7 +12,7 @@ use Rattle.hull_reply.proofs.Steps.{sint_vals, sint_Tells, sint_Lawful, Ptr, Raw
 use Rattle.hull_reply.proofs.Steps.{rawptr_vals, rawptr_Tells, MutRef, Body, plain, nothing, owned, heard, peeks}
 use Rattle.hull_reply.proofs.Steps.{calls_at, Lasts, lasts, on_entry, triple_of, Stays, walk_of, stay_dropped}
 use Rattle.hull_reply.proofs.Steps.{Goes-dropped, ends_at, framed}
-use Rattle.hull_tree.specs.contracts.tree.HullTree.{the_row as R}
+use Rattle.hull_tree.specs.contracts.sparing_tree.SparingTree.{the_row as R}
 use Rattle.hull_tree.specs.Sets.{hull_tree}
 use base.Fml.{fex, fsep}
 use Rattle.hull_reply.specs.Served.{IsAnswered}

@@ -13,7 +13,7 @@ use Rattle.hull_reply.proofs.Steps.{block_ptr, lies_at, in_a_block, rawptr_vals,
 use Rattle.hull_reply.proofs.Steps.{nothing}
 use Rattle.hull_reply.proofs.Steps.{heard, peeks, calls_at, Lasts, lasts, triple_of, Stays, walk_of, stay_dropped}
 use Rattle.hull_reply.proofs.Steps.{Goes-dropped, ends_at, framed}
-use Rattle.hull_tree.specs.contracts.tree.HullTree.{the_row as R}
+use Rattle.hull_tree.specs.contracts.sparing_tree.SparingTree.{the_row as R}
 use base.Fml.{fex, fsep}
 use Rattle.std.proofs.alloc.Global.TheLaws as heap_laws
 use Rattle.std.specs.contracts.alloc.Global.{the_row as Heap}

@@ -14,7 +14,7 @@ use Rattle.hull_reply.proofs.Steps.{nothing}
 use Rattle.hull_reply.proofs.Steps.{heard, peeks, calls_at, Lasts, lasts, on_entry, triple_of, Stays, walk_of}
 use Rattle.hull_reply.proofs.Steps.{stay_dropped}
 use Rattle.hull_reply.proofs.Steps.{Goes-dropped, ends_at, framed}
-use Rattle.hull_tree.specs.contracts.tree.HullTree.{the_row as R}
+use Rattle.hull_tree.specs.contracts.sparing_tree.SparingTree.{the_row as R}
 use base.Fml.{fex, fsep}
 use Rattle.hull_c.specs.Calls.{IsLimitOf}
 use Rattle.hull_reply.specs.contracts.reply.HullReply.{the_row as Out}

@@ -11,8 +11,8 @@ use Rattle.hull_reply.proofs.Steps.{uint_Lawful, fjoin, enter, of_opd, stop, fir
 use Rattle.hull_reply.proofs.Steps.{pass_all, free_all, look_at, get, through, sets, env, yes, Ptr, RawPtr, block_ptr}
 use Rattle.hull_reply.proofs.Steps.{lies_at, in_a_block, rawptr_vals, rawptr_Tells, plain, nothing, Stays, walk_of}
 use Rattle.hull_reply.proofs.Steps.{stay_dropped, Goes-dropped, ends_at}
-use Rattle.hull_tree.specs.contracts.tree.HullTree.{the_row as R}
-use Rattle.hull_tree.proofs.tree.HullTree.TheLaws.{the_row_laws as tree_laws}
+use Rattle.hull_tree.specs.contracts.sparing_tree.SparingTree.{the_row as R}
+use Rattle.hull_tree.proofs.sparing_tree.SparingTree.TheLaws.{the_row_laws as tree_laws}
 use denote.Laws.{Is, shows}
 use denote.Steps.{peeks}
 use Rattle.hull_c.specs.contracts.hull_make as f
