@@ -101,7 +101,8 @@ said() {
     fi
 }
 
-# tries NAME with a journal of this CAPACITY: the answers of its report, its ledgers' sum, and that its journal is legal
+# tries NAME with a journal of this CAPACITY: the answers of its report, that the sparing tree gives the same, its ledgers'
+# sum, and that its journal is legal
 try() {
     "$1" 0 >"$room/script"
     "$1" 1 >"$room/answers"
@@ -112,6 +113,8 @@ try() {
     else
         said "$1, answers" "$(grep -v '^ledger\|^sum' "$room/report" | diff - "$room/answers" | head -n 4)"
     fi
+    "$top/bin/hullbook" run "$room/script" --capacity "$2" --sparing >"$room/sparing"
+    cmp -s "$room/report" "$room/sparing" && said "$1, by the sparing tree" ok || said "$1, by the sparing tree" 'another report'
     sum=$(tail -n 1 "$room/report")
     [ "$sum" = "sum $calls journal $calls capacity $2" ] && said "$1, sum" ok || said "$1, sum" "$sum"
     "$top/bin/hullbook" run "$room/script" --capacity "$2" --journal >"$room/journal"
