@@ -6,6 +6,7 @@
 # grid       four workers put 20,000 points of a grid in at once, and take all but its frame out again
 # parabola   four workers put the 2,049 points (k, k * k) in, and all of them are vertices
 # origin     one worker puts a point in once more than it can be held
+# list       one worker puts the 70,001 points (k, k * k) in and lists them: the journal is written, read and written again
 set -u
 here=$(cd "$(dirname "$0")" && pwd)
 top=$(cd "$here/../.." && pwd)
@@ -100,7 +101,8 @@ said() {
     fi
 }
 
-# tries NAME with a journal of this CAPACITY: the answers of its report, its ledgers' sum, and that its journal is legal
+# tries NAME with a journal of this CAPACITY: the answers of its report, that the sparing tree gives the same, its ledgers'
+# sum, and that its journal is legal
 try() {
     "$1" 0 >"$room/script"
     "$1" 1 >"$room/answers"
@@ -111,12 +113,27 @@ try() {
     else
         said "$1, answers" "$(grep -v '^ledger\|^sum' "$room/report" | diff - "$room/answers" | head -n 4)"
     fi
+    "$top/bin/hullbook" run "$room/script" --capacity "$2" --sparing >"$room/sparing"
+    cmp -s "$room/report" "$room/sparing" && said "$1, by the sparing tree" ok || said "$1, by the sparing tree" 'another report'
     sum=$(tail -n 1 "$room/report")
     [ "$sum" = "sum $calls journal $calls capacity $2" ] && said "$1, sum" ok || said "$1, sum" "$sum"
     "$top/bin/hullbook" run "$room/script" --capacity "$2" --journal >"$room/journal"
     verdict=$("$top/bin/hullbook" check "$room/journal" 2>&1)
     [ "$verdict" = legal ] && said "$1, journal" ok || said "$1, journal" "$verdict"
 }
+
+# the one line of the journal that has the list: its number of corners, and of fields behind them
+list_of() {
+    awk '/ vertices = list / { print $6, NF - 6 }' "$1"
+}
+awk -v most=35000 'BEGIN {
+    for (k = -most; k <= most; k++) print "0 add " k " " sprintf("%.0f", k * k)
+    print "0 vertices" }' >"$room/script"
+"$top/bin/hullbook" run "$room/script" --capacity 131072 --journal >"$room/journal"
+corners=$(list_of "$room/journal")
+[ "$corners" = '70001 140002' ] && said 'list, written' ok || said 'list, written' "$corners"
+"$top/bin/hullbook" upgrade "$room/journal" >"$room/again"
+cmp -s "$room/journal" "$room/again" && said 'list, read back' ok || said 'list, read back' "$(list_of "$room/again")"
 
 try grid 65536
 try parabola 65536

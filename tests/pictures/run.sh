@@ -77,7 +77,36 @@ said 'its area' "$(grep -c '>doubled area 8000000000000<' "$room/large.svg")" 1
 "$top/bin/hulldraw" "$room/large" --line 2 >"$room/large.svg"
 said 'corners after two lines' "$(grep -c "points='0,1000000 2000000,1000000 '" "$room/large.svg")" 1
 
-# a film of its first 600 lines
+# N points far apart, two of which are held twice: their labels are written up to 400 points
+points() {
+    awk -v n="$1" 'BEGIN {
+        print "hullbook journal 3 first 0 limit 1048576 capacity 16777216"
+        for (k = 0; k < n; k++) print k " 0 add " 1000 * k " " (k * 7919) % 1009 " = added"
+        print n " 0 add 0 0 = again 2"
+        print n + 1 " 0 add " 1000 * (n - 1) " " ((n - 1) * 7919) % 1009 " = again 2"
+        print "end " n + 2 }' >"$room/points"
+}
+points 400
+"$top/bin/hulldraw" "$room/points" >"$room/large.svg"
+said 'the labels of 400 points' "$(count "class='t'")" 2
+points 401
+"$top/bin/hulldraw" "$room/points" >"$room/large.svg"
+said 'the labels of 401 points' "$(count "class='t'")" 0
+# the greatest picture, the empty set after no line, and bridges after some
+"$top/bin/hulldraw" "$here/journals/thirty.txt" --size 10000 >"$room/large.svg"
+said 'status of the greatest picture' $? 0
+said 'its width' "$(count "^<svg [^>]*width='10064'")" 1
+"$top/bin/hulldraw" "$here/journals/thirty.txt" --line 0 >"$room/large.svg"
+said 'status of no line' $? 0
+said 'the points after no line' "$(count '>points 0 ')" 1
+"$top/bin/hulldraw" "$here/journals/thirty.txt" --line 2 --bridges >"$room/large.svg"
+said 'status of bridges after two lines' $? 0
+said 'the bridges after two lines' "$(count "class='[ul] v[0-7]'")" 2
+
+# a small film, and one of its first 600 lines
+"$top/bin/hulldraw" "$here/journals/film.txt" --film --size 240 >"$room/large.svg"
+said 'status of a small film' $? 0
+said 'its width' "$(count "^<svg [^>]*width='304'")" 1
 "$top/bin/hulldraw" "$room/large" --film >"$room/large.svg"
 said 'status of the large film' $? 0
 said 'its frames' "$(grep -c '^<g><set' "$room/large.svg")" 600
@@ -107,6 +136,7 @@ printf 'hullbook journal 3 first 0 limit 4 capacity 9\n0 0 add 01 0 = added\nend
 refused 'hulldraw: usage' 2
 refused 'hulldraw: usage' 2 --help
 refused 'hulldraw: usage' 2 "$room/large" --size 239
+refused 'hulldraw: usage' 2 "$room/large" --size 10001
 refused 'hulldraw: usage' 2 "$room/large" --film --line 2
 refused 'hulldraw: usage' 2 "$room/large" --film --bridges
 refused 'hulldraw: open' 3 "$room/absent"

@@ -1,22 +1,23 @@
 -- Each sentence of the headline, from the good world that every schedule leads to.
 use Rattle.std.proofs.Common.{◌≡◌, ◌+◌, ◌%◌, ◌^◌, ℕ, zero, suc, List, [], ◌∷◌, Some, ap, subst, arith, length}
-use Rattle.std.specs.Prelude.{slice_get}
+use Rattle.std.specs.Prelude.{slice_get, box_value}
 use Rattle.hull_plain.specs.Held.{Held, nothing_held}
 use Rattle.hull_plain.specs.Replies.{after}
 use Rattle.hull_book.specs.declared.head.Head.{Head}
 use Rattle.hull_book.specs.declared.line.Line.{Line}
 use Rattle.hull_book.specs.History.{AreRight}
-use Rattle.hull_book.specs.Books.{says_book}
+use Rattle.hull_book.specs.Books.{says_boxed}
 use Rattle.hull_book.proofs.Counts.{all_counts}
 use Rattle.hull_tree.specs.Sets.{hull_tree}
 use Rattle.ticket_lock.specs.Forms.{partitioned_form}
 use Rattle.ticket_lock.specs.Schedule.{SchedulesHold}
 use Rattle.hull_headline.specs.Headline.{Always, WheneverFree, AtMostOneHolds, StoresBridgesOfLivePoints}
 use Rattle.hull_headline.specs.Headline.{HoldsEachPointAsOften, HasLegalJournal, IsInOrderOfNumbers, LedgersSumToLength}
+use Rattle.hull_headline.specs.Headline.{FirstComeFirstServed}
 
 -- the law of the lock, at a book over a tree
 abbrev pub Law : Type 0
-Law = SchedulesHold (says_book hull_tree) partitioned_form
+Law = SchedulesHold (says_boxed hull_tree) partitioned_form
 
 -- a right line has its number: of the lines that begin with line k, line i has the first number and k and i
 numbered : (head : Head) (k : ℕ) (S : Held) (lines : List Line) → AreRight head k S lines → (i : ℕ) (line : Line)
@@ -32,31 +33,35 @@ numbered head k S (m ∷ lines) right (suc i) line e =
 
 -- no two seats hold
 pub one_holder : Law → Always AtMostOneHolds
-one_holder law seats book opening now steps opened runs = (law seats book opening now steps opened runs).0.one_holder
+one_holder law seats book opening now steps led = (law seats book opening now steps led.0 led.1).0.one_holder
 
 -- the stored bridges are those of the live points
 pub bridges : Law → WheneverFree StoresBridgesOfLivePoints
-bridges law seats book opening now steps opened runs free = let lawful =
-    (law seats book opening now steps opened runs).0.lawful in
+bridges law seats book opening now steps led free = let lawful =
+    (law seats book opening now steps led.0 led.1).0.lawful in
     (lawful.sound.built, ap (λ (h : Held). h.points) lawful.set)
 
 -- each point is held as often as the journal's calls left it
 pub multiplicities : Law → WheneverFree HoldsEachPointAsOften
-multiplicities law seats book opening now steps opened runs free =
-    (law seats book opening now steps opened runs).0.lawful.set
+multiplicities law seats book opening now steps led free =
+    (law seats book opening now steps led.0 led.1).0.lawful.set
 
 -- the journal is legal
 pub legal : Law → WheneverFree HasLegalJournal
-legal law seats book opening now steps opened runs free = (law seats book opening now steps opened runs).0.lawful.legal
+legal law seats book opening now steps led free = (law seats book opening now steps led.0 led.1).0.lawful.legal
 
 -- and in the order of its numbers
 pub in_order : Law → WheneverFree IsInOrderOfNumbers
-in_order law seats book opening now steps opened runs free k line at =
-    subst (λ (n : ℕ). line.number ≡ (now.current.head.journal.first + n) % (2 ^ 64)) (omega arith)
-    (numbered now.current.head.journal 0 nothing_held now.current.lines
-    (law seats book opening now steps opened runs).0.lawful.legal k line at)
+in_order law seats book opening now steps led free k line at =
+    subst (λ (n : ℕ). line.number ≡ ((box_value now.current).head.journal.first + n) % (2 ^ 64)) (omega arith)
+    (numbered (box_value now.current).head.journal 0 nothing_held (box_value now.current).lines
+    (law seats book opening now steps led.0 led.1).0.lawful.legal k line at)
 
 -- the ledgers sum to its length
 pub ledgers : Law → WheneverFree LedgersSumToLength
-ledgers law seats book opening now steps opened runs free all are =
-    all_counts now.current all (law seats book opening now steps opened runs).0.lawful are
+ledgers law seats book opening now steps led free all are =
+    all_counts (box_value now.current) all (law seats book opening now steps led.0 led.1).0.lawful are
+
+-- entries are in the order of takes
+pub first_come : Law → FirstComeFirstServed
+first_come law seats book opening now steps led = (law seats book opening now steps led.0 led.1).1

@@ -1,9 +1,12 @@
 -- What is promised of a book over a tree that many seats share, sentence by sentence, whatever order their single
 -- steps fall in.
-use Rattle.std.specs.Prelude.{◌≡◌, ◌+◌, ◌%◌, ◌^◌, ℕ, true, List, length, slice_get, Some}
+use Rattle.std.specs.Prelude.{◌≡◌, ◌+◌, ◌%◌, ◌^◌, ℕ, true, List, length, slice_get, Some, Box, box_value}
+use Rattle.std.specs.Global.{Global}
+use mathlib.Core.Option.{some}
+use lib.ListN.{get_elem?}
 use Rattle.hull_book.specs.declared.head.BookHead.{BookHead}
 use Rattle.hull_book.specs.declared.line.Line.{Line}
-use Rattle.hull_book.specs.Books.{BookValue, says_book}
+use Rattle.hull_book.specs.Books.{BookValue, says_boxed}
 use Rattle.hull_book.specs.History.{IsLegal, held_after, live}
 use Rattle.hull_book.specs.Ledgers.{LedgerValue, AreAllLedgers, sum_of_counts}
 use Rattle.hull_tree.specs.Roots.{points_of_root, IsWellBuiltRoot}
@@ -11,26 +14,41 @@ use Rattle.hull_tree.specs.Sets.{LimitedTree, hull_tree}
 use Rattle.ticket_lock.specs.World.{World, Event}
 use Rattle.ticket_lock.specs.GoodWorld.{Holds}
 use Rattle.ticket_lock.specs.Forms.{partitioned_form}
-use Rattle.ticket_lock.specs.Schedule.{Opened, Runs}
+use Rattle.ticket_lock.specs.Schedule.{Opened, Runs, takers, enterers}
 
 -- a book over a tree
 abbrev pub TreeBook : Type 0
 TreeBook = BookValue LimitedTree
 
+-- such a book on the heap, as the lock that runs keeps it
+abbrev pub BoxedBook : Type 0
+BoxedBook = Box TreeBook Global
+
 -- a lock round such a book, at some moment
 abbrev pub Moment : Type 0
-Moment = World TreeBook BookHead Line
+Moment = World BoxedBook BookHead Line
+
+-- The steps, in this order, lead from the opened lock to this moment: of a lock that was opened for so many seats
+-- round this book
+abbrev pub Leads : ℕ → BoxedBook → Moment → List (Event BoxedBook) → Moment → Type 0
+Leads seats book opening steps now = Opened (says_boxed hull_tree) partitioned_form seats book opening
+    × Runs (says_boxed hull_tree) partitioned_form steps opening now
 
 -- It holds at every moment: however many seats a lock was opened for, round whatever lawful book, and whichever steps
 -- of its seats were made since, in whatever order.
 abbrev pub Always : (Moment → Type 0) → Type 0
-Always P = (seats : ℕ) (book : TreeBook) (opening now : Moment) (steps : List (Event TreeBook))
-    → Opened (says_book hull_tree) partitioned_form seats book opening
-    → Runs (says_book hull_tree) partitioned_form steps opening now → P now
+Always P = (seats : ℕ) (book : BoxedBook) (opening now : Moment) (steps : List (Event BoxedBook))
+    → Leads seats book opening steps now → P now
 
 -- The same whenever the lock is free, of the book that it keeps.
 abbrev pub WheneverFree : (TreeBook → Type 0) → Type 0
-WheneverFree P = Always (λ now. now.home ≡ true → P now.current)
+WheneverFree P = Always (λ now. now.home ≡ true → P (box_value now.current))
+
+-- First come, first served: the k-th entry is by the seat that made the k-th take.
+abbrev pub FirstComeFirstServed : Type 0
+FirstComeFirstServed = (seats : ℕ) (book : BoxedBook) (opening now : Moment) (steps : List (Event BoxedBook))
+    → Leads seats book opening steps now
+    → (k seat : ℕ) → get_elem? (enterers steps) k ≡ some seat → get_elem? (takers steps) k ≡ some seat
 
 -- No two seats hold the book.
 abbrev pub AtMostOneHolds : Moment → Type 0

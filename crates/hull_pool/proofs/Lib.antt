@@ -8,3 +8,4 @@ pub mod Reversed
 pub mod Chained
 pub mod Fronts
 pub mod Pushed
+pub mod Responses

@@ -3,3 +3,4 @@ pub mod Answers
 pub mod Crews
 pub mod Runs
 pub mod Scripts
+pub mod Responses

@@ -1,6 +1,7 @@
 -- What a worker has done: which lines are its, and what it was answered.
 use Rattle.std.specs.Prelude.{◌≡◌, ◌==◌, ◌-◌, ◌<◌, ◌≤◌, ℕ, List, [], ◌∷◌, ◌++◌, length, map, filter, take, replicate}
 use Rattle.std.specs.Prelude.{Ok, Err}
+use mathlib.Core.List.{IsPrefix}
 use Rattle.hull_plain.specs.declared.call.Call.{Call}
 use Rattle.hull_book.specs.declared.line.Line.{Line}
 use Rattle.hull_book.specs.Books.{BookValue}
@@ -60,3 +61,12 @@ HasServed head t k call found after (Ok reply) =
     (length found < head.capacity) × (after ≡ found ++ record { number = t; seat = k; call = call; reply = reply } ∷ [])
     × Answers Counted (held_after found) head.limit call reply × IsLegal head after
 HasServed head t k call found after (Err full) = (length found ≡ head.capacity) × (after ≡ found) × IsLegal head after
+
+-- One call of the seat k, which had seen the lines `before`, was served (`HasServed`) under some number at a journal
+-- that begins with those lines and has no other line in its name; what was handed on is `after`.
+pub record WasServed (head : Head) (k : ℕ) (call : Call) (before after : List Line) (answer : Answer) : Type 0 where
+  pub number : ℕ
+  pub found : List Line
+  pub begins : IsPrefix before found
+  pub own_lines : lines_of k found ≡ lines_of k before
+  pub served : HasServed head number k call found after answer

@@ -6,7 +6,7 @@ ghost use Rattle.ticket_lock.specs.Tokens.{guard_number, guard_seen, guard_book,
 ghost use Rattle.hull_book.specs.Books.{IsLawful};
 ghost use Rattle.hull_book.specs.Ledgers.{IsLedger, IsLedgerOf};
 ghost use Rattle.hull_pool.specs.Crews.{book_head};
-ghost use Rattle.hull_pool.specs.Work.{HasCalled, HasServed, capacity_of, workers_of};
+ghost use Rattle.hull_pool.specs.Work.{HasCalled, HasServed, WasServed, capacity_of, workers_of};
 
 use hull_book::{Answer, Book, Ledger};
 use hull_plain::{Call, HullSet};
@@ -58,8 +58,9 @@ pub fn serve_and_hand_on<S: HullSet + Drop>(
 /// Makes one call: it waits until the seat holds the book, has the call served, and hands the book on. `number` is the
 /// seat's number, and `ledger` the ledger of that seat.
 ///
-/// The answer is the reply, which has its line in the journal, in this seat's name; or that the journal is full. The
-/// seat that comes back has seen the journal as it handed it on, which begins with what it had seen before.
+/// The answer is the reply, which is allowed at what the seat found and has its line in the journal, in this seat's
+/// name; or that the journal is full. The seat that comes back has seen the journal as it handed it on, which is a
+/// legal history and begins with what it had seen before.
 pub fn make_call<R: Wait, S: HullSet + Drop>(
     rt: &R,
     lock: &BookLock<S>,
@@ -77,6 +78,8 @@ pub fn make_call<R: Wait, S: HullSet + Drop>(
     ensures ledger { IsLedgerOf number (seat_seen result.0) ledger.new }
     ensures begins { IsPrefix (seat_seen seat) (seat_seen result.0) }
     ensures called { HasCalled number (capacity_of (box_value (opening_book lock.now))) call (seat_seen seat)
+        (seat_seen result.0) result.1 }
+    ensures served { WasServed (box_value (opening_book lock.now)).head.journal number call (seat_seen seat)
         (seat_seen result.0) result.1 }
     ensures stays_full { capacity_of (box_value (opening_book lock.now)) ≤ length (seat_seen seat) → IsErr result.1 }
 {

@@ -6,7 +6,7 @@ ghost use Rattle.ticket_lock.specs.Tokens.{seat_count, opening_book, IsSeatOf, A
 ghost use Rattle.hull_book.specs.Books.{IsLawful};
 ghost use Rattle.hull_book.specs.Ledgers.{IsLedgerOf};
 ghost use Rattle.hull_pool.specs.Crews.{book_head};
-ghost use Rattle.hull_pool.specs.Work.{workers_of};
+ghost use Rattle.hull_pool.specs.Work.{lines_of, workers_of};
 
 use super::call::{BookLock, BookSeat};
 use hull_book::{Book, Ledger, gather};
@@ -14,7 +14,7 @@ use hull_plain::HullSet;
 
 /// Closes the lock and gathers the ledgers: the book, and how many calls have their line in its journal. It asks for
 /// all seats of the lock in the order of their numbers, and for the ledger of each, in the same order. The journal
-/// begins with what each seat has seen.
+/// begins with what each seat has seen, and holds in its name just the lines that it has seen in its name.
 pub fn close_book<S: HullSet + Drop>(
     lock: BookLock<S>,
     seats: Vec<BookSeat<S>>,
@@ -28,6 +28,8 @@ pub fn close_book<S: HullSet + Drop>(
     ensures head { result.0.head ≡ book_head (opening_book lock) }
     ensures sum { result.1 ≡ length result.0.lines }
     ensures seen { All (λ s. IsPrefix (seat_seen s) result.0.lines) seats.items }
+    ensures own_lines { All (λ s. lines_of (seat_number s) result.0.lines ≡ lines_of (seat_number s) (seat_seen s))
+        seats.items }
 {
     let book = Box::into_inner(lock.close(seats));
     let sum = gather(&book, ledgers);

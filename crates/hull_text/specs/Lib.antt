@@ -24,3 +24,4 @@ pub mod JournalReading
 pub mod OneProof
 pub mod JournalGrammar
 pub mod Upgrade
+pub mod Stopped

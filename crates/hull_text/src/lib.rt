@@ -32,4 +32,3 @@ pub use text_io::{Counted, Sink, Source, WriteFault};
 pub use upgrading::{UpgradeFault, upgrade};
 pub use version::{NEWEST, Version};
 pub use write::{call_after, points_after, reply_after, report_fits, write_journal, write_report};
-

@@ -224,13 +224,20 @@ fn is_over(edge: &(Point, Point), p: Point) -> bool
     side > 0 || side == 0 && is_not_beyond(edge, p)
 }
 
+/// Whether an edge ends at other points on both sides.
+fn ends_elsewhere(edge: &(Point, Point), p: Point) -> bool
+    ensures { IsTrue result ↔ ¬ (edge.now.0 ≡ p) × ¬ (edge.now.1 ≡ p) }
+{
+    edge.0 != p && edge.1 != p
+}
+
 /// Whether the upper bridge is the one that it was before the change.
 fn upper_stands(edge: &(Point, Point), change: &Change) -> bool
     ensures { IsTrue result ↔ UpperStands change.now edge.now }
 {
     match *change {
         Change::Came(p) => is_under(edge, p),
-        Change::Went(p) => edge.0 != p && edge.1 != p,
+        Change::Went(p) => ends_elsewhere(edge, p),
     }
 }
 
@@ -240,7 +247,7 @@ fn lower_stands(edge: &(Point, Point), change: &Change) -> bool
 {
     match *change {
         Change::Came(p) => is_over(edge, p),
-        Change::Went(p) => edge.0 != p && edge.1 != p,
+        Change::Went(p) => ends_elsewhere(edge, p),
     }
 }
 

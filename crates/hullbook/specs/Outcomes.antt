@@ -1,5 +1,5 @@
 -- What a run of a script comes to, and the text that is written of it.
-use Rattle.std.specs.Prelude.{◌≡◌, ◌<◌, ℕ, ◌^◌, true, cond, List, [], ◌++◌, length, map, Option, Some, None, Ok}
+use Rattle.std.specs.Prelude.{◌≡◌, ◌<◌, ℕ, true, cond, List, [], ◌++◌, map, Option, None, Ok}
 use Rattle.std.specs.Io.KnownBytes.{Appends}
 use Rattle.hull_book.specs.Books.{BookValue, opened_book}
 use Rattle.hull_plain.specs.declared.set.HullSet.{Ghosts}
@@ -13,7 +13,7 @@ use Rattle.hull_pool.specs.Scripts.{Runs}
 use Rattle.hull_text.specs.ReportText.{report_text}
 use Rattle.hull_text.specs.JournalText.{written_text}
 use Rattle.hull_text.specs.JournalGrammar.{IsJournalText}
-use Rattle.hull_text.specs.ScriptGrammar.{IsScriptText, ReadsKnownScript}
+use Rattle.hull_text.specs.ScriptGrammar.{ReadsKnownScript}
 use Rattle.hullbook.specs.declared.options.Options.{Options}
 
 -- the book over an empty tree that a run begins with
@@ -50,21 +50,17 @@ output_text o script answers counts journal =
 abbrev pub IsJournalWhereAsked : Options → List ℕ → JournalValue → Type 0
 IsJournalWhereAsked o text journal = o.journal ≡ true → IsJournalText text journal
 
--- The bytes were read as a script, it was run, and the bytes written have grown by the text of the run.
-pub record HasRunText (o : Options) (bytes : List ℕ) (old new : Option (List ℕ)) : Type 0 where
+-- The bytes, where they are known, were read as a script, it was run, and the bytes written have grown by the text of
+-- the run. Where they are not known some script was read all the same.
+pub record HasRunText (o : Options) (bytes old new : Option (List ℕ)) : Type 0 where
   pub script : ScriptValue
   pub answers : List (List Answer)
   pub counts : List ℕ
   pub journal : JournalValue
-  pub reads : IsScriptText bytes script
+  pub reads : ReadsKnownScript bytes (Ok script)
   pub runs : IsRun script o answers counts journal
   pub writes : Appends old new (output_text o script answers counts journal)
   pub said : IsJournalWhereAsked o (output_text o script answers counts journal) journal
-
--- the same for bytes that may be unknown; they have to be fewer than 2^63
-abbrev pub HasRunKnownText : Options → Option (List ℕ) → Option (List ℕ) → Option (List ℕ) → Type 0
-HasRunKnownText o None old new = Unit {0}
-HasRunKnownText o (Some bytes) old new = length bytes < 2 ^ 63 → HasRunText o bytes old new
 
 -- The bytes, where they are known, were read as a script, it was run, and what was written is a beginning of the text
 -- of the run.

@@ -6,6 +6,7 @@ pub mod Worlds
 pub mod Schedules
 pub mod Linear
 pub mod Steps
+pub mod Boards
 pub mod Guards
 pub mod Gather
 pub mod Tallies

@@ -4,8 +4,9 @@ use Rattle.std.proofs.Common.{refl, ap, ◌∙◌, subst, inl, inr, ⊎_elim, ar
 use mathlib.Core.Logic.{dite}
 use native.Mathlib.Decide.{dec_le}
 use mathlib.Core.Option.{none, some, some-injective, some-ne-none}
-use mathlib.Core.List.{append-nil, append_assoc}
+use mathlib.Core.List.{IsPrefix, append-nil, append_assoc}
 use lib.ListN.{get_elem?}
+use base.Growing.{prefix_refl, prefix_trans}
 use Rattle.atomic_table.proofs.Lists.{at_longer, at_last}
 use Rattle.ticket_lock.specs.declared.chronicle.Chronicle.{Ghosts}
 use Rattle.ticket_lock.specs.declared.seat_state.Memo.{Memo}
@@ -14,7 +15,7 @@ use Rattle.ticket_lock.specs.declared.seat_state.SeatState.TheVariants.{Idle, Wa
 use Rattle.ticket_lock.specs.World.{Form, World, Event, takes, misses, enters, hands_on, memo, shown, out, HandsOn}
 use Rattle.ticket_lock.specs.World.{taken, missed, entered, handed, Happens, Good}
 use Rattle.ticket_lock.specs.Schedule.{idle_from, Opened, Runs}
-use Rattle.ticket_lock.specs.Linearizable.{book_after, journal_after, Call, FoundFull, Linearizable}
+use Rattle.ticket_lock.specs.Linearizable.{book_after, journal_after, Call, FoundFull, HeadTellsCapacity, Linearizable}
 use Rattle.ticket_lock.specs.Standing.{seat_of}
 use Rattle.ticket_lock.proofs.Sums.{snoc_at, at_below}
 use Rattle.ticket_lock.proofs.Schedules.{good_opened}
@@ -134,10 +135,15 @@ module _ {B H L : Type 0} (K : Ghosts B H L) where
       }
 
   -- a full journal that was found is found also where more events follow
-  full_more : (b : B) (es more : List (Event B)) (k r : ℕ) → FoundFull K b es k r → FoundFull K b (es ++ more) k r
-  full_more b es more k r f =
+  full_more : (b : B) (es more : List (Event B)) (k i r : ℕ) → FoundFull K b es k i r
+      → FoundFull K b (es ++ more) k i r
+  full_more b es more k i r f =
       let c = f.full.0 in
       let ends : r < length es = at_below es r (hands_on k c) f.full.1 in record {
+        begins = at_longer es more i (takes k) f.begins;
+        later = f.later;
+        next_end = λ a d past before at. f.next_end a d past before
+            (at_shorter es more a (hands_on k d) (omega arith) at);
         same = after_some b es more (suc r) (omega arith) ∙ (f.same ∙ sym (after_some b es more r (omega arith)));
         full = (
           c,
@@ -146,6 +152,21 @@ module _ {B H L : Type 0} (K : Ghosts B H L) where
               K.capacity c ≤ length z) (sym (after_some b es more r (omega arith))) f.full.2,
         );
       }
+
+  -- and one that was found among the first events was found there
+  full_less : (b : B) (es more : List (Event B)) (k i r : ℕ) → r < length es → FoundFull K b (es ++ more) k i r
+      → FoundFull K b es k i r
+  full_less b es more k i r ends f = let later = f.later in record {
+    begins = at_shorter es more i (takes k) (omega arith) f.begins;
+    later = f.later;
+    next_end = λ a d past before at. f.next_end a d past before (at_longer es more a (hands_on k d) at);
+    same = sym (after_some b es more (suc r) (omega arith)) ∙ (f.same ∙ after_some b es more r (omega arith));
+    full = (
+      f.full.0,
+      at_shorter es more r (hands_on k f.full.0) ends f.full.1,
+      subst (λ (z : List L). K.capacity f.full.0 ≤ length z) (after_some b es more r (omega arith)) f.full.2,
+    );
+  }
 
 module _ {B H L : Type 0} (K : Ghosts B H L) (F : Form) (laws : FormLaws F) (n : ℕ) (b : B) where
   -- what is known of the events so far, which led from the opened world to the world w
@@ -159,9 +180,13 @@ module _ {B H L : Type 0} (K : Ghosts B H L) (F : Form) (laws : FormLaws F) (n :
     each_line : (p : ℕ) (l : L) → length (K.lines b) ≤ p → get_elem? (K.lines w.current) p ≡ some l → (k : ℕ)
         × (i : ℕ) × (r : ℕ) × Call K b es k i r p l
     each_end : (k r : ℕ) (c : B) → get_elem? es r ≡ some (hands_on k c) → ((i : ℕ) × (p : ℕ) × (l : L)
-        × Call K b es k i r p l) ⊎ FoundFull K b es k r
+        × Call K b es k i r p l) ⊎ ((i : ℕ) × FoundFull K b es k i r)
     in_order : (k i r p : ℕ) (l : L) (j a s q : ℕ) (m : L) → Call K b es k i r p l → Call K b es j a s q m → r < s
         → p < q
+    stays : IsPrefix (K.lines b) (K.lines w.current)
+    filled : HeadTellsCapacity K → (k i r : ℕ) → FoundFull K b es k i r → K.capacity b ≤ length (K.lines w.current)
+    full_last : HeadTellsCapacity K → (k i r j a s p : ℕ) (l : L) → FoundFull K b es k i r → Call K b es j a s p l
+        → s < r
 
   -- an event that is no hand on adds no call
   quiet : (es : List (Event B)) (e : Event B) (w v : World B H L) → ((k : ℕ) (c : B) → e ≡ hands_on k c → ⊥)
@@ -177,6 +202,12 @@ module _ {B H L : Type 0} (K : Ghosts B H L) (F : Form) (laws : FormLaws F) (n :
       absurd (none_given k c.ends.0 t.1)) (snoc_at es e (hands_on k c.ends.0) r c.ends.1) in
       let less : (k i r p : ℕ) (l : L) → Call K b (es ++ e ∷ []) k i r p l → Call K b es k i r p l =
       λ k i r p l c. call_less K b es more k i r p l (ends k i r p l c) c in
+      let full_ends : (k i r : ℕ) → FoundFull K b (es ++ e ∷ []) k i r → r < length es =
+      λ k i r f. ⊎_elim (λ old. at_below es r (hands_on k f.full.0) old)
+      (λ (t : (r ≡ length es) × (e ≡ hands_on k f.full.0)).
+      absurd (none_given k f.full.0 t.1)) (snoc_at es e (hands_on k f.full.0) r f.full.1) in
+      let fuller : (k i r : ℕ) → FoundFull K b (es ++ e ∷ []) k i r → FoundFull K b es k i r =
+      λ k i r f. full_less K b es more k i r (full_ends k i r f) f in
       let lines : K.lines v.current ≡ K.lines w.current = ap K.lines same in record {
         good = (q, good);
         book = last_more K b es e ∙ (still (last_book K b es) ∙ (p.book ∙ sym same));
@@ -195,11 +226,15 @@ module _ {B H L : Type 0} (K : Ghosts B H L) (F : Form) (laws : FormLaws F) (n :
               t.1,
               t.2,
               call_more K b es more k t.0 r t.1 t.2 t.3,
-            )) (λ f. inr (full_more K b es more k r f)) (p.each_end k r c old))
+            )) (λ f. inr (f.0, full_more K b es more k f.0 r f.1)) (p.each_end k r c old))
             (λ (t : (r ≡ length es) × (e ≡ hands_on k c)).
             absurd (none_given k c t.1)) (snoc_at es e (hands_on k c) r at);
         in_order = λ k i r a l j d s z m c o before. p.in_order k i r a l j d s z m (less k i r a l c)
             (less j d s z m o) before;
+        stays = subst (IsPrefix (K.lines b)) (sym lines) p.stays;
+        filled = λ tells k i r f. subst (λ (z : List L). K.capacity b ≤ length z) (sym lines)
+            (p.filled tells k i r (fuller k i r f));
+        full_last = λ tells k i r j a s q m f c. p.full_last tells k i r j a s q m (fuller k i r f) (less j a s q m c);
       }
 
   -- a seat keeps its number where another view of that seat stands in its place
@@ -263,6 +298,8 @@ module _ {B H L : Type 0} (K : Ghosts B H L) (F : Form) (laws : FormLaws F) (n :
     begun : Begun K es j
     now : ((l : L) × (K.lines c ≡ K.lines w.current ++ l ∷ []) × (K.line_seat l ≡ j))
         ⊎ ((K.lines c ≡ K.lines w.current) × (K.capacity c ≤ length (K.lines w.current)))
+    head : K.head c ≡ K.head b
+    room : (l : L) → K.lines c ≡ K.lines w.current ++ l ∷ [] → length (K.lines w.current) < K.capacity c
 
   module _ (es : List (Event B)) (w : World B H L) (j : ℕ) (c : B) (h : Handed es w j c) where
     -- the events with the hand on
@@ -360,7 +397,8 @@ module _ {B H L : Type 0} (K : Ghosts B H L) (F : Form) (laws : FormLaws F) (n :
         old (ap (λ (z : List L). get_elem? z p) (sym t.0) ∙ at)) h.now
 
     -- the last hand on ends a call, or found the journal full
-    last_end : ((i : ℕ) × (p : ℕ) × (l : L) × Call K b Longer j i (length es) p l) ⊎ FoundFull K b Longer j (length es)
+    last_end : ((i : ℕ) × (p : ℕ) × (l : L) × Call K b Longer j i (length es) p l)
+        ⊎ ((i : ℕ) × FoundFull K b Longer j i (length es))
     last_end = ⊎_elim
         (λ (t : (x : L) × (K.lines c ≡ K.lines w.current ++ x ∷ []) × (K.line_seat x ≡ j)). inl (
           h.begun.0,
@@ -368,29 +406,36 @@ module _ {B H L : Type 0} (K : Ghosts B H L) (F : Form) (laws : FormLaws F) (n :
           t.0,
           ended t.0 t.1,
         ))
-        (λ (t : (K.lines c ≡ K.lines w.current) × (K.capacity c ≤ length (K.lines w.current))). inr record {
-          same = after ∙ (t.0 ∙ sym before);
-          full = (
-            c,
-            at_last es (hands_on j c) (length es) refl,
-            subst (λ (z : List L).
-                K.capacity c ≤ length z) (sym before) t.1,
-          );
-        })
+        (λ (t : (K.lines c ≡ K.lines w.current) × (K.capacity c ≤ length (K.lines w.current))). inr (
+          h.begun.0,
+          record {
+            begins = at_longer es (hands_on j c ∷ []) h.begun.0 (takes j) h.begun.1;
+            later = at_below es h.begun.0 (takes j) h.begun.1;
+            next_end = λ a d past below at. h.begun.2 a d past
+                (at_shorter es (hands_on j c ∷ []) a (hands_on j d) below at);
+            same = after ∙ (t.0 ∙ sym before);
+            full = (
+              c,
+              at_last es (hands_on j c) (length es) refl,
+              subst (λ (z : List L).
+                  K.capacity c ≤ length z) (sym before) t.1,
+            );
+          },
+        ))
         h.now
 
     -- so does each
     ends : (k r : ℕ) (d : B) → get_elem? Longer r ≡ some (hands_on k d) → ((i : ℕ) × (p : ℕ) × (l : L)
-        × Call K b Longer k i r p l) ⊎ FoundFull K b Longer k r
+        × Call K b Longer k i r p l) ⊎ ((i : ℕ) × FoundFull K b Longer k i r)
     ends k r d at = ⊎_elim
         (λ old. ⊎_elim (λ (t : (i : ℕ) × (p : ℕ) × (l : L) × Call K b es k i r p l). inl (
           t.0,
           t.1,
           t.2,
           call_more K b es (hands_on j c ∷ []) k t.0 r t.1 t.2 t.3,
-        )) (λ f. inr (full_more K b es (hands_on j c ∷ []) k r f)) (h.past.each_end k r d old))
+        )) (λ f. inr (f.0, full_more K b es (hands_on j c ∷ []) k f.0 r f.1)) (h.past.each_end k r d old))
         (λ (t : (r ≡ length es) × (j ≡ k)). let Q : ℕ × ℕ → Type 0 = λ z. ((i : ℕ) × (p : ℕ) × (l : L)
-        × Call K b Longer z.0 i z.1 p l) ⊎ FoundFull K b Longer z.0 z.1 in
+        × Call K b Longer z.0 i z.1 p l) ⊎ ((i : ℕ) × FoundFull K b Longer z.0 i z.1) in
         subst Q (λ i. (t.1 i, sym t.0 i)) last_end) (which k r d at)
 
     -- a call that ended before another has its line before it
@@ -407,6 +452,58 @@ module _ {B H L : Type 0} (K : Ghosts B H L) (F : Form) (laws : FormLaws F) (n :
         (h.past.each_call k i r p l (shorter k i r p l (omega arith) x)).0 in omega arith)
         (which k' r' y.ends.0 y.ends.1)
 
+    -- the opening lines stay
+    opening_stays : IsPrefix (K.lines b) (K.lines c)
+    opening_stays = prefix_trans (K.lines b) (K.lines w.current) (K.lines c) h.past.stays (⊎_elim
+        (λ (t : (x : L) × (K.lines c ≡ K.lines w.current ++ x ∷ []) × (K.line_seat x ≡ j)). (t.0 ∷ [], sym t.1))
+        (λ (t : (K.lines c ≡ K.lines w.current) × (K.capacity c ≤ length (K.lines w.current))).
+        ([], append-nil (K.lines w.current) ∙ sym t.0)) h.now)
+
+    -- the journal does not shrink
+    grows : length (K.lines w.current) ≤ length (K.lines c)
+    grows = ⊎_elim
+        (λ (t : (x : L) × (K.lines c ≡ K.lines w.current ++ x ∷ []) × (K.line_seat x ≡ j)).
+        let long = ap length t.1 in let one = length-append (K.lines w.current) (t.0 ∷ []) in omega arith)
+        (λ (t : (K.lines c ≡ K.lines w.current) × (K.capacity c ≤ length (K.lines w.current))).
+        let long = ap length t.0 in omega arith) h.now
+
+    -- a full journal was found before this hand on, or by it
+    which_full : (k i r : ℕ) → FoundFull K b Longer k i r → FoundFull K b es k i r ⊎ (r ≡ length es)
+    which_full k i r f = ⊎_elim
+        (λ old. inl (full_less K b es (hands_on j c ∷ []) k i r (at_below es r (hands_on k f.full.0) old) f))
+        (λ (t : (r ≡ length es) × (j ≡ k)). inr t.0) (which k r f.full.0 f.full.1)
+
+    -- where it was found by this hand on, this added no line
+    found_now : (k i r : ℕ) → FoundFull K b Longer k i r → r ≡ length es → K.lines c ≡ K.lines w.current
+    found_now k i r f is = sym after ∙ (subst (λ (z : ℕ). journal_after K b Longer (suc z) ≡ journal_after K b Longer z)
+        is f.same ∙ before)
+
+    -- so the journal has its capacity
+    full_now : HeadTellsCapacity K → (k i r : ℕ) → FoundFull K b Longer k i r → K.capacity b ≤ length (K.lines c)
+    full_now tells k i r f = ⊎_elim
+        (λ old. let was = h.past.filled tells k i r old in let more = grows in omega arith)
+        (λ (is : r ≡ length es). let same = found_now k i r f is in
+        let big = tells c b h.head in ⊎_elim
+        (λ (t : (x : L) × (K.lines c ≡ K.lines w.current ++ x ∷ []) × (K.line_seat x ≡ j)).
+        absurd (no_longer (K.lines w.current) t.0 (sym same ∙ t.1)))
+        (λ (t : (K.lines c ≡ K.lines w.current) × (K.capacity c ≤ length (K.lines w.current))).
+        let more = grows in let enough = t.1 in omega arith) h.now) (which_full k i r f)
+
+    -- a call that has a line ended before one that found the journal full
+    full_after : HeadTellsCapacity K → (k i r k' i' r' p' : ℕ) (l' : L) → FoundFull K b Longer k i r
+        → Call K b Longer k' i' r' p' l' → r' < r
+    full_after tells k i r k' i' r' p' l' f y = ⊎_elim
+        (λ old. let below : r' < length es = at_below es r' (hands_on k' y.ends.0) old in
+        let was = call_less K b es (hands_on j c ∷ []) k' i' r' p' l' below y in ⊎_elim
+        (λ full. h.past.full_last tells k i r k' i' r' p' l' full was)
+        (λ (is : r ≡ length es). omega arith) (which_full k i r f))
+        (λ (t : (r' ≡ length es) × (j ≡ k')). let last = (last_line k' i' r' p' l' y t.0).0 in ⊎_elim
+        (λ full. let was = h.past.filled tells k i r full in let space = h.room l' last in
+        let same = tells c b h.head in absurd (omega arith))
+        (λ (is : r ≡ length es). absurd (no_longer (K.lines w.current) l' (sym (found_now k i r f is) ∙ last)))
+        (which_full k i r f))
+        (which k' r' y.ends.0 y.ends.1)
+
   -- after a hand on
   past_hand : (es : List (Event B)) (w : World B H L) (j : ℕ) (m : Memo H L) (t : ℕ) (c : B) → Past es w
       → get_elem? w.seats j ≡ some (Holding m t) → HandsOn K m t c
@@ -419,13 +516,22 @@ module _ {B H L : Type 0} (K : Ghosts B H L) (F : Form) (laws : FormLaws F) (n :
         past = p;
         begun = p.begun j (Holding m t) at refl;
         now = ⊎_elim
-            (λ (o : (l : L) × (K.lines c ≡ m.seen ++ l ∷ []) × (K.line_seat l ≡ m.seat) × (K.line_number l ≡ t)).
+            (λ (o : (l : L) × (K.lines c ≡ m.seen ++ l ∷ []) × (K.line_seat l ≡ m.seat) × (K.line_number l ≡ t)
+            × (length m.seen < K.capacity c)).
             inl (o.0, o.1 ∙ ap (λ (z : List L). z ++ o.0 ∷ []) mine.4, o.2 ∙ seat))
             (λ (o : (K.lines c ≡ m.seen) × (K.capacity c ≤ length m.seen)). inr (
               o.0 ∙ mine.4,
               subst (λ (z : List L).
                   K.capacity c ≤ length z) mine.4 o.1,
             ))
+            does.lines;
+        head = does.head ∙ mine.0.head;
+        room = λ x is. ⊎_elim
+            (λ (o : (l : L) × (K.lines c ≡ m.seen ++ l ∷ []) × (K.line_seat l ≡ m.seat) × (K.line_number l ≡ t)
+            × (length m.seen < K.capacity c)).
+            subst (λ (z : List L). length z < K.capacity c) mine.4 o.4)
+            (λ (o : (K.lines c ≡ m.seen) × (K.capacity c ≤ length m.seen)).
+            absurd (no_longer (K.lines w.current) x (sym (o.0 ∙ mine.4) ∙ is)))
             does.lines;
       } in record {
         good = (good.0, good.2);
@@ -437,6 +543,9 @@ module _ {B H L : Type 0} (K : Ghosts B H L) (F : Form) (laws : FormLaws F) (n :
         each_line = lines es w j c h;
         each_end = ends es w j c h;
         in_order = order es w j c h;
+        stays = opening_stays es w j c h;
+        filled = full_now es w j c h;
+        full_last = full_after es w j c h;
       }
 
   -- after an event
@@ -471,6 +580,9 @@ module _ {B H L : Type 0} (K : Ghosts B H L) (F : Form) (laws : FormLaws F) (n :
         length (K.lines z)) o.current in absurd (omega arith);
     each_end = λ k r c at. absurd (some-ne-none (hands_on k c) (sym at));
     in_order = λ k i r p l j a s q m c d less. absurd (some-ne-none (hands_on k c.ends.0) (sym c.ends.1));
+    stays = subst (λ (z : B). IsPrefix (K.lines b) (K.lines z)) (sym o.current) (prefix_refl (K.lines b));
+    filled = λ tells k i r f. absurd (some-ne-none (hands_on k f.full.0) (sym f.full.1));
+    full_last = λ tells k i r j a s p l f c. absurd (some-ne-none (hands_on k f.full.0) (sym f.full.1));
   }
 
 -- the law, in every form
@@ -478,6 +590,8 @@ pub linearizable : {B H L : Type 0} (K : Ghosts B H L) (F : Form) → FormLaws F
 linearizable K F laws n b w u es o r = let p = past_events K F laws n b [] es w u (past_none K F laws n b w o) r in (
   p.good.1.lawful,
   record {
+    opening = p.stays;
+    full_last = p.full_last;
     each_call = p.each_call;
     each_line = p.each_line;
     one_call = λ k i r p' l j a s m c d. dite (dec_le r s)

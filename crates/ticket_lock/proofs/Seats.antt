@@ -22,7 +22,7 @@ use Rattle.ticket_lock.proofs.Machine.{apart_from, queue_beside, holder_beside, 
 
 module _ {H L : Type 0} where
   -- the sum over two lists of views
-  total_append : (f : SeatState H L → ℕ) (vs ws : List (SeatState H L)) → total f (vs ++ ws) ≡ total f vs + total f ws
+  pub total_append : (f : SeatState H L → ℕ) (vs ws : List (SeatState H L)) → total f (vs ++ ws) ≡ total f vs + total f ws
   total_append f [] ws = omega arith
   total_append f (v ∷ vs) ws = let p = total_append f vs ws in omega arith
 
@@ -65,7 +65,7 @@ held_or d (std.Some b) = b
 held_or d std.None = d
 
 -- two values that are the same where wrapped are the same
-unwrapped : {B : Type 0} (x y : B) → ◌≡◌ {A = std.Option B} (std.Some x) (std.Some y) → x ≡ y
+pub unwrapped : {B : Type 0} (x y : B) → ◌≡◌ {A = std.Option B} (std.Some x) (std.Some y) → x ≡ y
 unwrapped x y e = ap (held_or x) e
 
 -- a queue with no first is empty
@@ -138,7 +138,7 @@ module _ {B H L : Type 0} (K : Ghosts B H L) (F : Form) (n : ℕ) (opened : B) w
   Rule = Standing K F n opened
 
   -- a keeper that gives its first seat away keeps the rule
-  pub splits_ok : (id : ℕ) (m : Memo H L) (ms : List (Memo H L)) → Splits Rule id (Keeper (m ∷ ms)) (Keeper ms) (Idle m)
+  abbrev pub splits_ok : (id : ℕ) (m : Memo H L) (ms : List (Memo H L)) → Splits Rule id (Keeper (m ∷ ms)) (Keeper ms) (Idle m)
   splits_ok id m ms s r at =
       let old : SeatState H L = Keeper (m ∷ ms) in
       let new : SeatState H L = Keeper ms in
@@ -178,40 +178,44 @@ module _ {B H L : Type 0} (K : Ghosts B H L) (F : Form) (n : ℕ) (opened : B) w
         shelved = r.shelved;
       }
 
+  -- the table with one seat of nobody more
+  abbrev pub WithNobody : State (std.Option B) (SeatState H L) → State (std.Option B) (SeatState H L)
+  WithNobody s = record { words = s.words; homes = s.homes; views = s.views ++ nobody ∷ [] }
+
+  -- it stands under the rule
+  abbrev pub nobody_stands : (s : State (std.Option B) (SeatState H L)) → Rule s → Rule (WithNobody s)
+  nobody_stands s r =
+      let g = r.good in
+      let new : List (SeatState H L) = nobody ∷ [] in record {
+        next = r.next;
+        serving = r.serving;
+        home = r.home;
+        current = r.current;
+        queue = r.queue;
+        good = record {
+          size = g.size;
+          shows = g.shows;
+          small = g.small;
+          next_is = g.next_is;
+          queued = λ i k e. let v = g.queued i k e in (v.0, at_longer s.views new k v.0 v.1, v.2);
+          counted = let q = total_append out s.views new in let c = g.counted in omega arith;
+          parts = λ h. let q = total_append (λ v. weigh h (memos v)) s.views new in let c = g.parts h in omega arith;
+          each_seat = λ j v e. ⊎_elim (g.each_seat j v)
+              (λ (t : (j ≡ length s.views) × (nobody ≡ v)). subst
+              (Knows K opened r.current r.home r.serving r.queue j) t.1
+              (λ a x none_there. absurd (some-ne-none x (sym none_there)))) (snoc_at s.views nobody v j e);
+          away = λ out. let a = g.away out in (a.0, a.1, a.2, at_longer s.views new a.0 (Holding a.1 a.2) a.3);
+          lawful = g.lawful;
+          head = g.head;
+          turn = g.turn;
+        };
+        shelved = r.shelved;
+      }
+
   -- a seat of nobody arrives
   pub arrives_ok : (slots i : ℕ)
       → Enters Rule slots i (λ found v. ◌≡◌ {A = Me (std.Option B) (SeatState H L)} (v, []) (nobody, []))
-  arrives_ok slots i s r _ _ =
-      let g = r.good in
-      let new : List (SeatState H L) = nobody ∷ [] in (
-        nobody,
-        record {
-          next = r.next;
-          serving = r.serving;
-          home = r.home;
-          current = r.current;
-          queue = r.queue;
-          good = record {
-            size = g.size;
-            shows = g.shows;
-            small = g.small;
-            next_is = g.next_is;
-            queued = λ i k e. let v = g.queued i k e in (v.0, at_longer s.views new k v.0 v.1, v.2);
-            counted = let q = total_append out s.views new in let c = g.counted in omega arith;
-            parts = λ h. let q = total_append (λ v. weigh h (memos v)) s.views new in let c = g.parts h in omega arith;
-            each_seat = λ j v e. ⊎_elim (g.each_seat j v)
-                (λ (t : (j ≡ length s.views) × (nobody ≡ v)). subst
-                (Knows K opened r.current r.home r.serving r.queue j) t.1
-                (λ a x none_there. absurd (some-ne-none x (sym none_there)))) (snoc_at s.views nobody v j e);
-            away = λ out. let a = g.away out in (a.0, a.1, a.2, at_longer s.views new a.0 (Holding a.1 a.2) a.3);
-            lawful = g.lawful;
-            head = g.head;
-            turn = g.turn;
-          };
-          shelved = r.shelved;
-        },
-        refl,
-      )
+  arrives_ok slots i s r _ _ = (nobody, nobody_stands s r, refl)
 
   -- the next seat of the keeper of those from k to c
   pub splits_from : (id k c : ℕ) (h : H) (xs : List L) (v : SeatState H L) → v ≡ keeper_of h xs k (c - k) → k < c
@@ -221,14 +225,14 @@ module _ {B H L : Type 0} (K : Ghosts B H L) (F : Form) (n : ℕ) (opened : B) w
       (splits_ok id (memo k h xs) (memos_from h xs (k + 1) (c - (k + 1))))
 
   -- one memo more is remembered
-  more : (m : Memo H L) (ms : List (Memo H L)) (current : B) → Remembers K opened current m
+  pub more : (m : Memo H L) (ms : List (Memo H L)) (current : B) → Remembers K opened current m
       → ((a : ℕ) (x : Memo H L) → get_elem? ms a ≡ some x → Remembers K opened current x)
       → (a : ℕ) (x : Memo H L) → get_elem? (m ∷ ms) a ≡ some x → Remembers K opened current x
   more m ms current one rest zero x e = subst (Remembers K opened current) (some-injective m x e) one
   more m ms current one rest (suc a) x e = rest a x e
 
   -- a keeper that takes in an idle seat keeps the rule
-  pub joins_ok : (id other : ℕ) (m : Memo H L) (ms : List (Memo H L))
+  abbrev pub joins_ok : (id other : ℕ) (m : Memo H L) (ms : List (Memo H L))
       → Joins Rule id (Keeper ms) other (Idle m) (Keeper (m ∷ ms)) (Keeper [])
   joins_ok id other m ms s r at apart there =
       let both : SeatState H L = Keeper (m ∷ ms) in

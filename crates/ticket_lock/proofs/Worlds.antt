@@ -94,7 +94,6 @@ module _ {B H L : Type 0} (K : Ghosts B H L) (F : Form) (laws : FormLaws F) wher
     none_out = λ j t o. let p = owner K F laws n opening e.0 [] e.1 j t o in some-ne-none j (sym p.1);
     home = e.2;
     current = e.3;
-    next = e.4;
   }
 
   -- whatever stands in the table under the rule shows a good world

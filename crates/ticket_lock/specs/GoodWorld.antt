@@ -48,7 +48,7 @@ module _ {B H L : Type 0} where
     pub own_lines : (j : ℕ) (m : Memo H L) → HasSeen w j m → own K m.seat (K.lines w.current) ≡ own K m.seat m.seen
 
   -- how a lock ends: in a good world whose seats are just those given back, none of which has a number, with the
-  -- book b at home, whose turn is the next number
+  -- book b at home
   pub record Shut (K : Ghosts B H L) (F : Form) (opening : B) (given : List (SeatState H L)) (b : B) : Type 0 where
     pub world : World B H L
     pub good : GoodWorld K F opening world
@@ -56,4 +56,3 @@ module _ {B H L : Type 0} where
     pub none_out : (j t : ℕ) → Owns world j t → ⊥
     pub home : world.home ≡ true
     pub current : world.current ≡ b
-    pub next : world.next ≡ K.turn b

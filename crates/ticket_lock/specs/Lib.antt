@@ -5,3 +5,4 @@ pub mod Schedule
 pub mod Linearizable
 pub mod Standing
 pub mod Tokens
+pub mod Boards

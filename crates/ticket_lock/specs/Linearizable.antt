@@ -1,6 +1,7 @@
 -- Linearizability (Herlihy and Wing, 1990) of the calls that seats make on the book.
 use Rattle.std.specs.Prelude.{◌≡◌, ℕ, zero, suc, ◌<◌, ◌≤◌, ◌⊎◌, List, [], ◌∷◌, ◌++◌, length}
 use mathlib.Core.Option.{some}
+use mathlib.Core.List.{IsPrefix}
 use lib.ListN.{get_elem?}
 use Rattle.ticket_lock.specs.declared.chronicle.Chronicle.{Ghosts}
 use Rattle.ticket_lock.specs.World.{Form, World, Event, takes, hands_on}
@@ -28,22 +29,34 @@ module _ {B H L : Type 0} (K : Ghosts B H L) where
     pub adds : journal_after b es (suc r) ≡ journal_after b es r ++ l ∷ []
     pub place : length (journal_after b es r) ≡ p
 
-  -- the hand on of the seat k at r left the journal as it was, which had no room
-  pub record FoundFull (b : B) (es : List (Event B)) (k r : ℕ) : Type 0 where
+  -- A call of the seat k that found the journal full: it begins with the take at i and ends with the event at r, the
+  -- seat's next hand on, which left the journal as it was and that had no room
+  pub record FoundFull (b : B) (es : List (Event B)) (k i r : ℕ) : Type 0 where
+    pub begins : get_elem? es i ≡ some (takes k)
+    pub later : i < r
+    pub next_end : (a : ℕ) (c : B) → i < a → a < r → get_elem? es a ≡ some (hands_on k c) → ⊥
     pub same : journal_after b es (suc r) ≡ journal_after b es r
     pub full : (c : B) × (get_elem? es r ≡ some (hands_on k c)) × (K.capacity c ≤ length (journal_after b es r))
 
-  -- The journal xs is a sequential history of the calls in the events es: each has its line, each line is that of just
-  -- one call, and where one call ended before another began, the line of the first stands before that of the second
+  -- books with one head have one capacity
+  abbrev pub HeadTellsCapacity : Type 0
+  HeadTellsCapacity = (b c : B) → K.head b ≡ K.head c → K.capacity b ≡ K.capacity c
+
+  -- The journal xs is a sequential history of the calls in the events es: it begins with the lines at opening; each call
+  -- has its line, or found the journal full; each line is that of just one call; where one call ended before another
+  -- began, the line of the first stands before that of the second; and a call that found the journal full comes after
+  -- every line, where the capacity is part of the head
   pub record IsSequentialHistory (b : B) (es : List (Event B)) (xs : List L) : Type 0 where
+    pub opening : IsPrefix (K.lines b) xs
     pub each_call : (k i r p : ℕ) (l : L) → Call b es k i r p l → (get_elem? xs p ≡ some l) × (K.line_seat l ≡ k)
     pub each_line : (p : ℕ) (l : L) → length (K.lines b) ≤ p → get_elem? xs p ≡ some l
         → (k : ℕ) × (i : ℕ) × (r : ℕ) × Call b es k i r p l
     pub one_call : (k i r p : ℕ) (l : L) (j a s : ℕ) (m : L) → Call b es k i r p l → Call b es j a s p m → r ≡ s
     pub each_end : (k r : ℕ) (c : B) → get_elem? es r ≡ some (hands_on k c)
-        → ((i : ℕ) × (p : ℕ) × (l : L) × Call b es k i r p l) ⊎ FoundFull b es k r
+        → ((i : ℕ) × (p : ℕ) × (l : L) × Call b es k i r p l) ⊎ ((i : ℕ) × FoundFull b es k i r)
     pub in_order : (k i r p : ℕ) (l : L) (j a s q : ℕ) (m : L) → Call b es k i r p l → Call b es j a s q m → r < a
         → p < q
+    pub full_last : HeadTellsCapacity → (k i r j a s p : ℕ) (l : L) → FoundFull b es k i r → Call b es j a s p l → s < r
 
   -- Every list of events from every opened world is linearizable: the journal that it leaves is lawful, and is a
   -- sequential history of its calls in an order that keeps the order of calls that do not overlap

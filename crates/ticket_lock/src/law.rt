@@ -1,8 +1,12 @@
 //! The laws of the lock, over every list of single steps.
+ghost use Rattle.std.specs.Prelude.{ℕ};
 ghost use Rattle.ticket_lock.specs.Schedule.{NeverStuck, SchedulesHold};
 ghost use Rattle.ticket_lock.specs.Linearizable.{Linearizable};
 ghost use Rattle.ticket_lock.specs.Forms.{first_form, partitioned_form};
 ghost use Rattle.ticket_lock.specs.Standing.{RestingTablesAreGood};
+ghost use Rattle.ticket_lock.specs.Boards.{TakesAreEvents, LooksAreEvents, HandOnsAreEvents, CutsComeBefore};
+ghost use Rattle.ticket_lock.specs.Boards.{JoinsComeAfter, NobodyComesIn, EventsStayInside, NothingHappensOutside};
+ghost use Rattle.ticket_lock.specs.Boards.{WordZeroIsTurn};
 
 use crate::chronicle::Chronicle;
 
@@ -18,9 +22,10 @@ pub fn partitioned_schedules_hold<B: Chronicle>()
 {}
 
 /// Linearizability (Herlihy and Wing, 1990) in the form that `TicketLock` runs: every list of events from every
-/// opened world leaves a lawful journal whose new lines are those of the calls, each in its seat's name, and where
-/// one seat's hand on stands before another seat's take, the line of the first stands before the line of the second.
-/// A hand on that adds no line found the journal full.
+/// opened world leaves a lawful journal that begins with the lines at opening and whose new lines are those of the
+/// calls, each in its seat's name, and where one seat's hand on stands before another seat's take, the line of the
+/// first stands before the line of the second. A hand on that adds no line found the journal full, and where the
+/// capacity is part of the head it comes after every line.
 pub fn partitioned_schedules_are_linearizable<B: Chronicle>()
     ensures { Linearizable B.Chronicle partitioned_form }
 {}
@@ -35,4 +40,31 @@ pub fn partitioned_schedules_are_never_stuck<B: Chronicle>()
 /// The rule under which the lock's table stands between any two steps says that the table shows a good world.
 pub fn resting_tables_are_good<B: Chronicle>()
     ensures { RestingTablesAreGood B.Chronicle partitioned_form }
+{}
+
+/// What `TicketLock::take`, `TicketLock::look` and `Guard::hand_on` do to the lock's table, from one that stands under
+/// its rule: each is one event, and no other, of the world that the table shows before and of one that it shows after.
+/// A take is the event take; a look is enter where its load found the number, and else miss; a hand on is the event
+/// hand on.
+pub fn steps_are_events<B: Chronicle>()
+    ensures takes { TakesAreEvents B.Chronicle partitioned_form }
+    ensures looks { LooksAreEvents B.Chronicle partitioned_form }
+    ensures hand_ons { HandOnsAreEvents B.Chronicle partitioned_form }
+{}
+
+/// The other steps on that table change no word, no number and no book, and lie outside the time in which the lock is
+/// open, that is, in which no keeper has a seat: a seat is cut off a keeper before that time, and joined to one after
+/// it. Every event of an open lock leaves it open, and where one keeper has all seats nothing happens.
+pub fn other_steps_are_outside<B: Chronicle>()
+    ensures before { CutsComeBefore B.Chronicle partitioned_form }
+    ensures after { JoinsComeAfter B.Chronicle partitioned_form }
+    ensures nobody { NobodyComesIn B.Chronicle partitioned_form }
+    ensures inside { EventsStayInside B.Chronicle partitioned_form }
+    ensures outside { NothingHappensOutside B.Chronicle partitioned_form }
+{}
+
+/// Where no seat of a standing table has a number, the book is at home, and word 0, where the next number is taken, is
+/// its turn.
+pub fn resting_turn_is_next<B: Chronicle>()
+    ensures { (n : ℕ) (opening : B) → WordZeroIsTurn B.Chronicle partitioned_form n opening }
 {}

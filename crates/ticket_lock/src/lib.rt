@@ -46,8 +46,9 @@ mod ticket;
 pub use chronicle::Chronicle;
 pub use guard::Guard;
 pub use law::{
-    partitioned_schedules_are_linearizable, partitioned_schedules_are_never_stuck,
-    partitioned_schedules_hold, resting_tables_are_good, schedules_hold,
+    other_steps_are_outside, partitioned_schedules_are_linearizable,
+    partitioned_schedules_are_never_stuck, partitioned_schedules_hold, resting_tables_are_good,
+    resting_turn_is_next, schedules_hold, steps_are_events,
 };
 pub use lock::TicketLock;
 pub use open::{OpenFault, SEAT_LIMIT};

@@ -1,6 +1,9 @@
 -- the law of the lock leads to a good world, which says each sentence
-use Rattle.hull_headline.proofs.Good.{one_holder, bridges, multiplicities, legal, in_order, ledgers}
+use Rattle.hull_headline.proofs.Good.{first_come, one_holder, bridges, multiplicities, legal, in_order, ledgers}
 use Rattle.hull_headline.proofs.headline_holds.Goals as goal
+
+pub returns-clause-first_come : goal.returns-clause-first_come
+returns-clause-first_come c = first_come c.partitioned_schedules_hold.ensures
 
 pub returns-clause-one_holder : goal.returns-clause-one_holder
 returns-clause-one_holder c = one_holder c.partitioned_schedules_hold.ensures

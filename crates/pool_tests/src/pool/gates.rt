@@ -10,6 +10,9 @@ use std::sync::atomic::{AtomicBool, AtomicU64, Ordering};
 use std::test::Fail;
 use std::thread;
 
+/// How often the two workers look for one another.
+const RACES: u32 = 100;
+
 /// How often a worker looks for the other's flag.
 const LOOKS: u32 = 10_000_000;
 
@@ -101,15 +104,17 @@ fn two_counts(alloc: Global) -> Result<Script, AllocError>
     Ok(Script::new(2, phases))
 }
 
-/// `run_phase` has both workers at work at once: each sees the other's flag before its call. A body that runs the
-/// workers one after another ends with a flag that was not seen, and fails here.
+/// `run_phase` has both workers at work at once, 100 times: each sees the other's flag before its call. A body that
+/// runs the workers one after another ends with a flag that was not seen, and fails here.
 #[test]
 fn two_flags_by_run_phase(rt: HostRuntime) -> Result<(), Fail> {
     let script = two_counts(rt.alloc())?;
-    let flags = Flags::new();
-    let end = run_first(&rt, rt.alloc(), &script, &flags);
-    assert_eq!(rt; end.sum, 2);
-    assert_eq!(rt; flags.met(), (true, true));
+    for _ in 0..RACES {
+        let flags = Flags::new();
+        let end = run_first(&rt, rt.alloc(), &script, &flags);
+        assert_eq!(rt; end.sum, 2);
+        assert_eq!(rt; flags.met(), (true, true));
+    }
     Ok(())
 }
 
@@ -117,10 +122,12 @@ fn two_flags_by_run_phase(rt: HostRuntime) -> Result<(), Fail> {
 #[test]
 fn two_flags_by_run_phases(rt: HostRuntime) -> Result<(), Fail> {
     let script = two_counts(rt.alloc())?;
-    let flags = Flags::new();
-    let end = run_script(&rt, rt.alloc(), 0, 8, &script, &flags);
-    assert_eq!(rt; end.sum, 2);
-    assert_eq!(rt; flags.met(), (true, true));
+    for _ in 0..RACES {
+        let flags = Flags::new();
+        let end = run_script(&rt, rt.alloc(), 0, 8, &script, &flags);
+        assert_eq!(rt; end.sum, 2);
+        assert_eq!(rt; flags.met(), (true, true));
+    }
     Ok(())
 }
 

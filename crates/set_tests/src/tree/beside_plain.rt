@@ -9,19 +9,24 @@ use std::test::Fail;
 
 /// Pseudo-random numbers: r becomes 1103515245 r + 12345 modulo 2^31, and gives its bits but for the last 16.
 #[derive(Drop)]
-struct Numbers {
+pub(super) struct Numbers {
     r: u32,
 }
 
 impl Numbers {
-    fn next(&mut self) -> u32 {
+    /// From the seed 1.
+    pub(super) fn new() -> Numbers {
+        Numbers { r: 1 }
+    }
+
+    pub(super) fn next(&mut self) -> u32 {
         self.r = ((1103515245 * self.r as u64 + 12345) % 2147483648) as u32;
         self.r / 65536
     }
 }
 
 /// The coordinate of a number below `2 * half + 1`, as far from 0 as `half` at most.
-fn centred(number: u32, half: u32) -> i64 {
+pub(super) fn centred(number: u32, half: u32) -> i64 {
     number as i64 - half as i64
 }
 
@@ -111,7 +116,7 @@ fn change_near(
 fn random_changes(rt: HostRuntime) -> Result<(), Fail> {
     let mut tree = HullTree::new(rt.alloc(), POINT_LIMIT);
     let mut plain = PlainSet::new(rt.alloc(), POINT_LIMIT);
-    let mut numbers = Numbers { r: 1 };
+    let mut numbers = Numbers::new();
     for _ in 0..300 {
         change_near(&rt, &mut tree, &mut plain, numbers.next())?;
         assert_same_points(&rt, rt.alloc(), &tree, &plain)?;
@@ -123,7 +128,7 @@ fn random_changes(rt: HostRuntime) -> Result<(), Fail> {
 fn same_answers(rt: HostRuntime) -> Result<(), Fail> {
     let mut tree = HullTree::new(rt.alloc(), POINT_LIMIT);
     let mut plain = PlainSet::new(rt.alloc(), POINT_LIMIT);
-    let mut numbers = Numbers { r: 1 };
+    let mut numbers = Numbers::new();
     for step in 0u32..300 {
         change_near(&rt, &mut tree, &mut plain, numbers.next())?;
         if step % 10 == 9 {
@@ -143,7 +148,7 @@ fn same_answers(rt: HostRuntime) -> Result<(), Fail> {
 fn change_on_grid(rt: &impl Abort, alloc: Global, apart: i64, steps: u32) -> Result<(), Fail> {
     let mut tree = HullTree::new(alloc, POINT_LIMIT);
     let mut plain = PlainSet::new(alloc, POINT_LIMIT);
-    let mut numbers = Numbers { r: 1 };
+    let mut numbers = Numbers::new();
     let (mut right, mut up) = (0, 0);
     for step in 0u32..steps {
         if numbers.next() % 2 == 0 {

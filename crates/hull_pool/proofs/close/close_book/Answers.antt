@@ -23,3 +23,7 @@ gather-sum-requires-clause-ledgers g c =
 -- the book that the lock gives back has what each seat has seen at its beginning
 pub returns-clause-seen : goal.returns-clause-seen
 returns-clause-seen g c = λ k d lt. rw c.into_inner-book.ensures (c.close.ensures.seen k d lt).begins
+
+-- and just its lines in its name
+pub returns-clause-own_lines : goal.returns-clause-own_lines
+returns-clause-own_lines g c = λ k d lt. rw c.into_inner-book.ensures (c.close.ensures.seen k d lt).own_lines

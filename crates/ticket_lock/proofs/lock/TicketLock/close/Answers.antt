@@ -9,6 +9,7 @@ use Rattle.ticket_lock.specs.Forms.{partitioned_form}
 use Rattle.ticket_lock.proofs.FormsKept.{partitioned_laws}
 use Rattle.ticket_lock.proofs.Seats.{arrives_ok, closes_from, closed_book}
 use Rattle.ticket_lock.proofs.Worlds.{shut}
+use Rattle.ticket_lock.proofs.Boards.{turn_is_next}
 use Rattle.ticket_lock.proofs.Gather.{as_many, all_stand}
 use Rattle.ticket_lock.proofs.lock.TicketLock.close.Goals as goal
 
@@ -39,7 +40,8 @@ returns g c =
     c.unwrap-book.ensures in record {
       lawful = book.0;
       head = book.1;
-      next = shut g.B.Chronicle partitioned_form partitioned_laws _ _ _ _ _ book.2 c.gather.ensures.memos;
+      next = turn_is_next g.B.Chronicle partitioned_form partitioned_laws _ _ _;
+      world = shut g.B.Chronicle partitioned_form partitioned_laws _ _ _ _ _ book.2 c.gather.ensures.memos;
       seen = λ k d l. let own = c.requires.own k d l in
           subst (λ (z : ℕ). Stands g.B.Chronicle z
           (seat_seen (slice_index_or c.args.seats.items k d)) c.unwrap-book.result) own.2.1

@@ -1,0 +1,212 @@
+// Points that come and go, one thread: this library (hull.h) beside CGAL's Delaunay hierarchy (Devillers, 2002), whose edges at
+// infinity are the hull, and beside corners kept in an array that is made anew where one of them changes.
+//
+//     changes SHAPE POINTS ROUNDS
+//
+// SHAPE is `square` (random points of a square) or `parabola` (every point a corner). Each round inserts the points in a random
+// order, and then makes steps of churn: one point goes, one place is asked, the point comes again. Each line tells nanoseconds a
+// change, the least of the rounds, the peers in turns with the library, in processor time of the thread; a ratio above 1 says
+// that the library is the faster one.
+#include <CGAL/Delaunay_triangulation_2.h>
+#include <CGAL/Exact_predicates_inexact_constructions_kernel.h>
+#include <CGAL/Triangulation_hierarchy_2.h>
+#include <algorithm>
+#include <cstdio>
+#include <cstdlib>
+#include <ctime>
+#include <random>
+#include <set>
+#include <string>
+#include <vector>
+
+#include "hull.h"
+
+namespace {
+
+using Kernel = CGAL::Exact_predicates_inexact_constructions_kernel;
+using Vertices = CGAL::Triangulation_hierarchy_vertex_base_2<CGAL::Triangulation_vertex_base_2<Kernel>>;
+using Faces = CGAL::Triangulation_data_structure_2<Vertices>;
+using Hierarchy = CGAL::Triangulation_hierarchy_2<CGAL::Delaunay_triangulation_2<Kernel, Faces>>;
+
+struct Point {
+    int64_t x, y;
+    bool operator<(const Point &other) const { return x != other.x ? x < other.x : y < other.y; }
+    bool operator==(const Point &other) const { return x == other.x && y == other.y; }
+};
+
+__int128 orient(const Point &a, const Point &b, const Point &c) {
+    return static_cast<__int128>(b.x - a.x) * (c.y - a.y) - static_cast<__int128>(b.y - a.y) * (c.x - a.x);
+}
+
+double now() {
+    timespec time;
+    clock_gettime(CLOCK_THREAD_CPUTIME_ID, &time);
+    return 1e9 * static_cast<double>(time.tv_sec) + static_cast<double>(time.tv_nsec);
+}
+
+class Ours {
+    hull place = std::aligned_alloc(hull_alignment(), hull_size());
+
+  public:
+    Ours() { hull_make(0, place); }
+    ~Ours() {
+        hull_end(place);
+        std::free(place);
+    }
+    void add(Point p) { hull_add(place, p.x, p.y); }
+    void remove(Point p) { hull_remove(place, p.x, p.y); }
+    bool covers(Point p) { return hull_place(place, p.x, p.y).code != HULL_OUTSIDE; }
+};
+
+class Cgal {
+    Hierarchy hierarchy;
+
+    static Hierarchy::Point of(Point p) { return {static_cast<double>(p.x), static_cast<double>(p.y)}; }
+
+  public:
+    void add(Point p) { hierarchy.insert(of(p)); }
+    void remove(Point p) {
+        Hierarchy::Locate_type type;
+        int index;
+        auto face = hierarchy.locate(of(p), type, index);
+        if (type == Hierarchy::VERTEX) {
+            hierarchy.remove(face->vertex(index));
+        }
+    }
+    bool covers(Point p) {
+        Hierarchy::Locate_type type;
+        int index;
+        hierarchy.locate(of(p), type, index);
+        return type != Hierarchy::OUTSIDE_CONVEX_HULL && type != Hierarchy::OUTSIDE_AFFINE_HULL;
+    }
+};
+
+// The corners of the ordered points, lower chain and upper chain, made anew where one comes or goes (Andrew, 1979).
+class Corners {
+    std::set<Point> points;
+    std::vector<Point> lower, upper;
+
+    template <class Side> void make(std::vector<Point> &chain, Side outside) {
+        chain.clear();
+        for (const Point &p : points) {
+            while (chain.size() > 1 && !outside(orient(chain[chain.size() - 2], chain.back(), p))) {
+                chain.pop_back();
+            }
+            chain.push_back(p);
+        }
+    }
+    void make() {
+        make(lower, [](__int128 turn) { return turn > 0; });
+        make(upper, [](__int128 turn) { return turn < 0; });
+    }
+    static bool holds(const std::vector<Point> &chain, Point p) { return std::binary_search(chain.begin(), chain.end(), p); }
+    // the sign of orient of the chain's edge over or under p, or 2 where none is
+    static int side(const std::vector<Point> &chain, Point p) {
+        auto right = std::lower_bound(chain.begin(), chain.end(), p);
+        if (right == chain.end()) {
+            return 2;
+        }
+        if (right == chain.begin()) {
+            return *right == p ? 0 : 2;
+        }
+        const __int128 turn = orient(*(right - 1), *right, p);
+        return turn > 0 ? 1 : turn < 0 ? -1 : 0;
+    }
+
+  public:
+    void add(Point p) {
+        const bool outside = !covers(p);
+        points.insert(p);
+        if (outside) {
+            make();
+        }
+    }
+    void remove(Point p) {
+        points.erase(p);
+        if (holds(lower, p) || holds(upper, p)) {
+            make();
+        }
+    }
+    bool covers(Point p) {
+        const int under = side(lower, p), over = side(upper, p);
+        return under != 2 && over != 2 && under >= 0 && over <= 0;
+    }
+};
+
+std::vector<Point> points_of(const std::string &shape, size_t count, std::mt19937_64 &random) {
+    std::vector<Point> points;
+    std::uniform_int_distribution<int64_t> any(-1'000'000'000, 1'000'000'000);
+    for (size_t i = 0; i < count; i++) {
+        const auto x = static_cast<int64_t>(i) - static_cast<int64_t>(count / 2);
+        points.push_back(shape == "square" ? Point{any(random), any(random)} : Point{x, x * x});
+    }
+    std::shuffle(points.begin(), points.end(), random);
+    return points;
+}
+
+struct Times {
+    double insert = 1e300, churn = 1e300;
+};
+
+// Inserts the points and churns them; returns how often the place was covered, which all have to agree on.
+template <class Set> size_t round_of(const std::vector<Point> &points, size_t steps, bool inserts, Times &least) {
+    Set set;
+    const double start = now();
+    for (const Point &p : points) {
+        set.add(p);
+    }
+    const double built = now();
+    size_t covered = 0;
+    for (size_t i = 0; i < steps; i++) {
+        const Point p = points[i * 7919 % points.size()];
+        set.remove(p);
+        covered += set.covers(p);
+        set.add(p);
+    }
+    const double end = now();
+    if (inserts) {
+        least.insert = std::min(least.insert, (built - start) / static_cast<double>(points.size()));
+    }
+    least.churn = std::min(least.churn, (end - built) / (2.0 * static_cast<double>(steps)));
+    return covered;
+}
+
+void tell(const char *name, const Times &ours, const Times &peer) {
+    std::printf("  %-24s insert %9.0f ns, ratio %7.2f   churn %9.0f ns, ratio %7.2f\n", name, peer.insert, peer.insert / ours.insert,
+                peer.churn, peer.churn / ours.churn);
+}
+
+} // namespace
+
+int main(int argc, char **argv) {
+    if (argc != 4) {
+        std::fprintf(stderr, "usage: changes square|parabola POINTS ROUNDS\n");
+        return 2;
+    }
+    const std::string shape = argv[1];
+    const size_t count = std::strtoull(argv[2], nullptr, 10);
+    const int rounds = std::atoi(argv[3]);
+    const size_t steps = std::min<size_t>(20000, count);
+    // corners that are all made anew at each change are tried on fewer steps
+    const size_t few = shape == "square" ? steps : std::min<size_t>(steps, 200);
+    const bool tries_corners = shape == "square" || count <= 10000;
+    std::mt19937_64 random(12345);
+    const std::vector<Point> points = points_of(shape, count, random);
+    Times ours, cgal, corners;
+    for (int round = 0; round < rounds; round++) {
+        const size_t covered = round_of<Ours>(points, steps, true, ours);
+        if (round_of<Cgal>(points, steps, true, cgal) != covered) {
+            std::printf("the peers do not agree\n");
+            return 1;
+        }
+        if (tries_corners) {
+            round_of<Corners>(points, few, true, corners);
+        }
+    }
+    std::printf("%s, %zu points: insert %.0f ns, churn %.0f ns a change\n", shape.c_str(), count, ours.insert, ours.churn);
+    tell("CGAL Delaunay hierarchy", ours, cgal);
+    if (tries_corners) {
+        tell("corners in an array", ours, corners);
+    }
+    return 0;
+}

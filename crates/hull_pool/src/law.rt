@@ -1,0 +1,17 @@
+//! What the lock's law over every list of steps says of calls and answers.
+ghost use Rattle.hull_pool.specs.Responses.{AnswersAreOfLines};
+
+use hull_book::Book;
+use hull_plain::HullSet;
+use ticket_lock::{partitioned_schedules_are_linearizable, partitioned_schedules_hold};
+
+/// Linearizability (Herlihy and Wing, 1990) of the calls that seats make on a shared book: after every list of single
+/// steps, in which each seat that held the book had a call served (`serve_and_hand_on`), the journal is a legal history
+/// in which each call stands in its seat's name with the reply that it was answered with, in an order that keeps the
+/// order of calls that do not overlap; and a call that was answered that the journal is full comes after every line.
+pub fn answers_are_of_lines<S: HullSet + Drop>()
+    ensures { AnswersAreOfLines S.HullSet }
+{
+    partitioned_schedules_hold::<Box<Book<S>>>();
+    partitioned_schedules_are_linearizable::<Box<Book<S>>>();
+}
