@@ -1,15 +1,17 @@
-//! How many turns of bridge search the changes of a tree take: the greatest number of one change, and the mean.
+//! How many turns of bridge search the changes of the two trees take: the greatest number of one change, and the mean.
 //!
-//! `turn_counts N..` puts N random points of the whole range into a tree (`build`), and then N times takes a random one
+//! `turn_counts N..` puts N random points of the whole range into each tree (`build`), and then N times takes a random one
 //! out and puts another in (`churn`), for each N from 1 to 1048576; 1000 where none is given. The points come from a
 //! fixed seed. The bound of one change is 10,000, by the contracts of `add_counted` and `remove_counted`.
 #![tactic(auto)]
 
+mod counted;
 mod random;
 mod tally;
 
-use hull_plain::{HullSet, POINT_LIMIT};
-use hull_tree::HullTree;
+use counted::CountedSet;
+use hull_plain::POINT_LIMIT;
+use hull_tree::{HullTree, SparingTree};
 use lattice::Point;
 use random::Random;
 use std::alloc::{AllocError, Global};
@@ -19,8 +21,8 @@ use std::rt::Env;
 use tally::Tally;
 
 /// Puts points into the set and into the list until there are so many, or until as many again were there already.
-fn build(
-    set: &mut HullTree,
+fn build<S: CountedSet>(
+    set: &mut S,
     points: &mut Vec<Point>,
     count: u32,
     random: &mut Random,
@@ -28,9 +30,8 @@ fn build(
     let mut tally = Tally::new();
     for _ in 0..count {
         let Some(p) = random.point() else { break };
-        let before = set.count();
-        let (_reply, turns) = set.add_counted(p);
-        if set.count() != before {
+        let (was_added, turns) = set.add_counted(p);
+        if was_added {
             points.push(p)?;
             tally.count(turns);
         }
@@ -39,7 +40,12 @@ fn build(
 }
 
 /// Takes a random point out and puts another in, so many times.
-fn churn(set: &mut HullTree, points: &mut Vec<Point>, count: u32, random: &mut Random) -> Tally {
+fn churn<S: CountedSet>(
+    set: &mut S,
+    points: &mut Vec<Point>,
+    count: u32,
+    random: &mut Random,
+) -> Tally {
     let mut tally = Tally::new();
     for _ in 0..count {
         let place = random.below(points.len());
@@ -47,23 +53,35 @@ fn churn(set: &mut HullTree, points: &mut Vec<Point>, count: u32, random: &mut R
         let Some(old) = points.get_mut(place) else {
             break;
         };
-        tally.count(set.remove_counted(*old).1);
+        tally.count(set.remove_counted(*old));
         tally.count(set.add_counted(p).1);
         *old = p;
     }
     tally
 }
 
-/// Counts the turns of so many points, and writes a line for the build and one for the churn.
-fn measure<R: Print>(rt: &R, alloc: Global, count: u32) -> Result<(), AllocError> {
+/// Counts the turns of so many points in a set, and writes a line for the build and one for the churn.
+fn measure<R: Print, S: CountedSet>(
+    rt: &R,
+    alloc: Global,
+    mut set: S,
+    count: u32,
+) -> Result<(), AllocError> {
     let mut random = Random::new();
-    let mut set = HullTree::new(alloc, POINT_LIMIT);
     let mut points = Vec::new(alloc);
     let built = build(&mut set, &mut points, count, &mut random)?;
     let _ = println!(rt; "build {count}: {built}");
     let churned = churn(&mut set, &mut points, count, &mut random);
     let _ = println!(rt; "churn {count}: {churned}");
     Ok(())
+}
+
+/// Counts the turns of so many points in both trees.
+fn measure_both<R: Print>(rt: &R, alloc: Global, count: u32) -> Result<(), AllocError> {
+    let _ = println!(rt; "each bridge searched");
+    measure(rt, alloc, HullTree::new(alloc, POINT_LIMIT), count)?;
+    let _ = println!(rt; "bridges kept that stand");
+    measure(rt, alloc, SparingTree::new(alloc, POINT_LIMIT), count)
 }
 
 fn main(rt: HostRuntime) -> ExitCode {
@@ -73,7 +91,7 @@ fn main(rt: HostRuntime) -> ExitCode {
             asked = true;
             match word.as_str().parse::<u32>() {
                 Ok(count) if count <= POINT_LIMIT => {
-                    if measure(&rt, rt.alloc(), count).is_err() {
+                    if measure_both(&rt, rt.alloc(), count).is_err() {
                         return ExitCode::from(4);
                     }
                 }
@@ -81,7 +99,7 @@ fn main(rt: HostRuntime) -> ExitCode {
             }
         }
     }
-    if !asked && measure(&rt, rt.alloc(), 1000).is_err() {
+    if !asked && measure_both(&rt, rt.alloc(), 1000).is_err() {
         return ExitCode::from(4);
     }
     ExitCode::SUCCESS
