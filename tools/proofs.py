@@ -4,7 +4,7 @@
 It runs the kit's own `rt ci`, with all that this refuses, and differs in two ways, so that no part of the gate proves
 anything again:
 
-- What a crate's proof checks is kept in its folder out/incremental, which is empty when the run begins, and its library
+- What a library's proof checks is kept in its folder out/incremental, which is empty when the run begins, and the library
   is built whole. The last line of such a proof says incremental=trusted: that whoever can write to that folder is
   trusted, which is this run alone. `rt ci` by itself proves the same and keeps nothing.
 - A crate's edits are tried over that folder: those of must-fail/ one by one, as `rt must-fail` does, and behind them
@@ -30,8 +30,8 @@ class Kept(RT.Crate):
     """A crate whose proof keeps its work, and whose library is whole, so that later commands take both."""
 
     def prove(self, *commands):
-        """As the kit's own. What the tests' proof, which runs beside, checks is not kept."""
-        kept = [it if "--test" in it else [*it, *LIB.KEPT] for it in commands]
+        """As the kit's own, keeping its work. Not of tests, whose proof runs beside, nor of a program, whose checked form can't."""
+        kept = [it if "--test" in it or self.is_program else [*it, *LIB.KEPT] for it in commands]
         return KITS_PROVE(self, *kept)
 
     def build_rlib(self, flags, anew):
