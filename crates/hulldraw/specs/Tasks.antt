@@ -3,12 +3,11 @@
 use Rattle.std.specs.Prelude.{◌≡◌, ◌≤◌, ℕ, List, map, slice_get, Some, None, true, false}
 use Rattle.std.specs.Borrow.{Bor}
 use Rattle.hulldraw.specs.declared.options.Task.{Task}
-use Rattle.hulldraw.specs.declared.options.TheConstants.{SIZE_LEAST, SIZE_LIMIT}
 
--- the side of the picture is within its limits, and a film is of the whole journal, without bridges
+-- the side of the picture is 240 to 10,000 points of the screen, and a film is of the whole journal, without bridges
 pub record IsWithinLimits (task : Task) : Type 0 where
-  pub low : SIZE_LEAST ≤ task.options.size
-  pub high : task.options.size ≤ SIZE_LIMIT
+  pub low : 240 ≤ task.options.size
+  pub high : task.options.size ≤ 10000
   pub whole : task.film ≡ true → task.options.line ≡ None
   pub plain : task.film ≡ true → task.options.bridges ≡ false
 

@@ -6,6 +6,8 @@ ghost use Rattle.hulldraw.specs.Tasks.{IsWithinLimits};
 
 mod fault;
 mod options;
+#[cfg(test)]
+mod tests;
 
 use fault::Fault;
 use hull_draw::{draw, film};
