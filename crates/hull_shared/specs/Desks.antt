@@ -16,7 +16,7 @@ use Rattle.hull_tree.specs.Sets.{LimitedTree}
 use Rattle.ticket_lock.specs.Tokens.{seat_seen}
 use Rattle.hull_shared.specs.Limits.{AreLimits}
 use Rattle.hull_shared.specs.Locks.{book_of, head_of, lock_of}
-use Rattle.hull_shared.specs.Places.{HasAt}
+use Rattle.hull_shared.specs.Places.{HasAt, HasOwnLines}
 use Rattle.hull_shared.specs.declared.desk.ClosedDesk.{ClosedDesk}
 use Rattle.hull_shared.specs.declared.desk.Desk.{Desk}
 use Rattle.hull_shared.specs.declared.desk.Desk.TheVariants.{Fresh, Open, Closed}
@@ -136,11 +136,13 @@ HasReturned old new was room told = (new ≡ old) × (room ≡ was) × (told ≡
 
 -- ---- closing
 
--- the journal of the desk: legal, with the head at opening, and beginning with what each seat has seen
+-- the journal of the desk: legal, with the head at opening, and beginning with what each seat has seen, in whose name it
+-- has no other lines than those
 pub record IsJournalOf (d : OpenDesk) (c : ClosedDesk) : Type 0 where
   pub head : c.journal.head ≡ head_of (lock_of d.lock)
   pub legal : IsLegal c.journal.head c.journal.lines
   pub seen : (j : ℕ) (p : Place) → HasAt d.places.list.items j p → IsPrefix (seat_seen p.seat) c.journal.lines
+  pub own_lines : (j : ℕ) (p : Place) → HasAt d.places.list.items j p → HasOwnLines c.journal.lines p
 
 -- why an open desk stays open: a seat is out; or none is, and yet the lock has another owner, which no caller who keeps
 -- the header's duties meets

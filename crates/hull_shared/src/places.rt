@@ -7,7 +7,7 @@ ghost use Rattle.hull_pool.specs.Crews.{book_head};
 ghost use Rattle.hull_pool.specs.Work.{workers_of};
 ghost use Rattle.hull_tree.specs.Sets.{hull_tree};
 ghost use Rattle.hull_shared.specs.Locks.{book_of};
-ghost use Rattle.hull_shared.specs.Places.{AreLaidOut, HasAt};
+ghost use Rattle.hull_shared.specs.Places.{AreLaidOut, HasAt, HasOwnLines};
 ghost use Rattle.hull_shared.specs.declared.place.Place.{Place as PlaceValue};
 ghost use Rattle.ticket_lock.specs.Tokens.{AreNumbered, IsSeatOf, seat_count, seat_seen};
 
@@ -47,13 +47,15 @@ pub(crate) fn lay_out(
     (lock, places)
 }
 
-/// Closes the lock, all of whose seats are at the desk: its book, whose journal begins with what each seat has seen.
+/// Closes the lock, all of whose seats are at the desk: its book, whose journal begins with what each seat has seen and
+/// has no other lines in its name.
 pub(crate) fn close_lock(lock: BookLock<SparingTree>, places: Places) -> Book<SparingTree>
     requires laid_out { AreLaidOut lock (seat_count lock) places }
     requires all_in { All IsSome places.list.items }
     ensures lawful { IsLawful hull_tree result }
     ensures head { result.head ≡ (book_of lock).head }
     ensures seen { (j : ℕ) (p : PlaceValue) → HasAt places.list.items j p → IsPrefix (seat_seen p.seat) result.lines }
+    ensures own_lines { (j : ℕ) (p : PlaceValue) → HasAt places.list.items j p → HasOwnLines result.lines p }
 {
     let Places {
         mut list,

@@ -5,6 +5,7 @@ use Rattle.std.specs.Prelude.{Option}
 use Rattle.std.proofs.lemmas.Option.{slice_get_within}
 use Rattle.hull_book.specs.Ledgers.{IsLedgerOf}
 use Rattle.hull_pool.specs.Crews.{book_head}
+use Rattle.hull_pool.specs.Work.{lines_of}
 use Rattle.hull_pool.proofs.Pushed.{numbered_push, zipped_push}
 use Rattle.ticket_lock.specs.Tokens.{IsSeatOf, seat_count, seat_number, seat_seen}
 use Rattle.ticket_lock.proofs.Gather.{all_push, at_place, front_of}
@@ -77,4 +78,16 @@ returns-clause-seen c = λ j p at.
     let back : (n - 1 - j) + j + 1 ≡ n = omega (arith, each, within, c.args.places.list.ok.0) in
     at_place (λ s. IsPrefix (seat_seen s) c.close_book-book.result.0.lines) c.loop-place.seats.items
     (n - 1 - j) p.seat c.close_book-book.ensures.seen
+    (inv.gathered (n - 1 - j) j p at (omega (arith, none)) back)
+
+pub returns-clause-own_lines : goal.returns-clause-own_lines
+returns-clause-own_lines c = λ j p at.
+    let inv = c.loop-place.invariant in let n = seat_count c.args.lock in
+    let within : j < length c.args.places.list.items = slice_get_within c.args.places.list.items j (Some p) at in
+    let each : vec_len c.args.places.list ≡ n = c.requires.laid_out.each in
+    let none : length c.loop-place.list.items ≡ 0 =
+    omega (arith, c.in_default.ensures.cases.0, c.loop-place.list.ok.0) in
+    let back : (n - 1 - j) + j + 1 ≡ n = omega (arith, each, within, c.args.places.list.ok.0) in
+    at_place (λ s. lines_of (seat_number s) c.close_book-book.result.0.lines ≡ lines_of (seat_number s) (seat_seen s))
+    c.loop-place.seats.items (n - 1 - j) p.seat c.close_book-book.ensures.own_lines
     (inv.gathered (n - 1 - j) j p at (omega (arith, none)) back)
