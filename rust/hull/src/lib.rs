@@ -94,7 +94,7 @@ pub struct Hull {
     room: NonNull<u8>,
 }
 
-// SAFETY: `HullTree` is `Send`, which the library's sources show by a bound: plain data, and boxes from `malloc`. It is not
+// SAFETY: `SparingTree` is `Send`, which the library's sources show by a bound: plain data, and boxes from `malloc`. It is not
 // `Sync`, since a question too lends the library the whole hull.
 unsafe impl Send for Hull {}
 
