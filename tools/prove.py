@@ -8,6 +8,7 @@ place in the count, and what it took. A program that is named is linked, by a ru
 archive or what crates above read of it is built. What earlier runs proved is kept in each crate's out/, so a second call
 takes seconds. The status is 0 where all was proved.
 """
+import contextlib
 import os
 import subprocess
 import sys
@@ -52,6 +53,9 @@ def prove(name):
     """Proves one crate, over those below it; a program is linked too. What went wrong, and the seconds."""
     start = time.time()
     command = ["rt", "run"] if is_program(name) else ["rt", "lib"]
+    if is_program(name):
+        with contextlib.suppress(FileNotFoundError):
+            os.remove(os.path.join(TOP, "crates", name, "out", name))
     done = subprocess.run(command, cwd=os.path.join(TOP, "crates", name), stdin=subprocess.DEVNULL,
                           stdout=subprocess.PIPE, stderr=subprocess.STDOUT, text=True)
     linked = os.path.exists(os.path.join(TOP, "crates", name, "out", name))

@@ -17,3 +17,15 @@ run_phases-end-requires-after_bounds g c κs within = record {
 
 pub gather-lines-requires-clause-ledgers : goal.gather-lines-requires-clause-ledgers
 gather-lines-requires-clause-ledgers g c = all_in_order _ _ (search rules)
+
+pub returns : goal.returns
+returns g c = record {
+  before = c.in-Ok-new.crew;
+  after = c.run_phases-end.result.workers;
+  closed = c.run_phases-end.result.book;
+  none = search rules;
+  ran = search rules;
+  answers_are = search rules;
+  counts_are = search rules;
+  journal_is = search rules;
+}
