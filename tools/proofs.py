@@ -51,6 +51,7 @@ def edits_of(crate):
 def refusals(crate, edits, flags):
     """Whether each edit was refused, and what to say of it."""
     kept = f"{crate.folder}/out/incremental"
+    os.makedirs(kept, exist_ok=True)
     told = {it: RT.must_fail(crate, it, flags, kept) for it in edits if "/must-fail/" in it}
     of_itself = False, "the crate is not proved over what it kept"
     for it in tried_in_groups(crate, kept)[0]:
