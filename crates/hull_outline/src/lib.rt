@@ -1,0 +1,4 @@
+//! Questions about a convex hull from the list of its corners.
+#![tactic(auto)]
+
+mod bisection;
