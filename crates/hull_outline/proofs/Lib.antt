@@ -1,2 +1,5 @@
 pub mod Sides
 pub mod Convex
+pub mod Corners
+pub mod EdgesOf
+pub mod Rings
