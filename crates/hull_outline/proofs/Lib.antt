@@ -3,3 +3,5 @@ pub mod Convex
 pub mod Corners
 pub mod EdgesOf
 pub mod Rings
+pub mod TwoChains
+pub mod Made
