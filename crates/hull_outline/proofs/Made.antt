@@ -285,9 +285,10 @@ round_from : (S : List Pair) (first u : Pair) (rest : List Pair)
     → IsLeftOf S (get_or (u ∷ rest) i first) (get_or (u ∷ rest) j first))
     → GoesRound S first u rest
 round_from S first u [] h = h 0 1 (omega arith) (omega arith)
-round_from S first u (v ∷ rest) h =
-    (h 0 1 (omega arith) (omega arith),
-    round_from S first v rest (λ i j e l. h (suc i) (suc j) (omega (arith, e)) (omega (arith, l))))
+round_from S first u (v ∷ rest) h = (
+  h 0 1 (omega arith) (omega arith),
+  round_from S first v rest (λ i j e l. h (suc i) (suc j) (omega (arith, e)) (omega (arith, l))),
+)
 
 -- the corners go round their set
 made_left : (V : List Pair) (top i j : ℕ) → IsRound V top → j ≡ i + 1 → i < length V
@@ -311,12 +312,18 @@ made_order V (v ∷ rest) top q r =
 
 -- a round of corners is an outline
 pub round_is_outline : (V : List Pair) (top : ℕ) → IsRound V top → IsOutline V
-round_is_outline V top r = (set_of V, (set_ordered V, record {
-  distinct = λ i j d h n e. made_apart V top i j r h n
-      (get_or_free V i _ d (omega (arith, h, n)) ∙ e ∙ get_or_free V j d _ n);
-  members = λ p. (
-    λ m. let c = corner_of V p m in subst (IsExtreme (set_of V)) (sym c.2) (made_extreme V top c.0 r c.1),
-    λ x. set_among V p x.0,
-  );
-  order = made_order V V top refl r;
-}))
+round_is_outline V top r = (
+  set_of V,
+  (
+    set_ordered V,
+    record {
+      distinct = λ i j d h n e. made_apart V top i j r h n
+          (get_or_free V i _ d (omega (arith, h, n)) ∙ e ∙ get_or_free V j d _ n);
+      members = λ p. (
+        λ m. let c = corner_of V p m in subst (IsExtreme (set_of V)) (sym c.2) (made_extreme V top c.0 r c.1),
+        λ x. set_among V p x.0,
+      );
+      order = made_order V V top refl r;
+    },
+  ),
+)

@@ -130,3 +130,32 @@ round_of S V top o s = record {
 
     back : (i j : ℕ) → j ≡ i + 1 → top ≤ i → i < length V → IsUpperEdge S (corner V i) (corner V j)
     back i j e k l = back_from_summit S V top (i - top) i j o.1 s (omega (arith, k)) e l
+
+-- where the corners go forward up to a place and not from it, it is a summit
+pub summit_of : (S V : List Pair) (top : ℕ) → IsOutlineOf S V → 1 < length V → top ≤ length V - 1
+    → (0 < top → IsBefore (corner V (top - 1)) (corner V (top - 1 + 1)))
+    → (top < length V - 1 → ¬ (IsBefore (corner V top) (corner V (top + 1)))) → IsSummit V top
+summit_of S V top o n l held fails = record {
+  starts = starts;
+  within = omega (arith, n, l);
+  forward = subst (λ (k : ℕ). IsBefore (corner V (top - 1)) (corner V k)) (omega (arith, starts)) (held starts);
+  backward = elim (cases_lt top (length V - 1)) [
+    | inl h ↦ elim (before_total (corner V top) (corner V (top + 1))) [
+      | inl b ↦ absurd (fails h b)
+      | inr (inl e) ↦ absurd (next_apart S V top (top + 1) o.1 refl (omega (arith, h)) n e)
+      | inr (inr b) ↦ b
+    ]
+    | inr h ↦ subst (λ (z : Pair). IsBefore z (corner V top))
+        (sym (corner_back V (top + 1) (omega (arith, h, l, n)) (omega (arith, n))))
+        (first_before S V top o.1 starts (omega (arith, n, l)))
+  ];
+}
+  where
+    starts : 0 < top
+    starts = elim (cases_lt 0 top) [
+      | inl h ↦ h
+      | inr h ↦ absurd (fails (omega (arith, h, n))
+          (subst (λ (k : ℕ). IsBefore (corner V k) (corner V (top + 1))) (omega (arith, h))
+          (subst (λ (k : ℕ). IsBefore (corner V 0) (corner V k)) (omega (arith, h))
+          (first_before S V 1 o.1 (omega arith) n))))
+    ]

@@ -24,3 +24,7 @@ pub record IsRound (V : List Pair) (last : ℕ) : Type 0 where
   pub within : last < length V
   pub steps : (i : ℕ) → i < length V → GoesOn V last i
   pub turns : (i : ℕ) → i < length V → TurnsLeft V last i
+
+-- a list of two corners and more is a round, parted at `last`; a shorter one is whole
+abbrev pub IsParted : List Pair → ℕ → Type 0
+IsParted V last = 1 < length V → IsRound V last
