@@ -28,10 +28,10 @@ mod requests;
 mod tests;
 
 pub use corners::HullPoint;
+use heap::Heap;
 use hull_reply::HullReply;
 use hull_tree::SparingTree;
 pub use requests::HullRequest;
-use std::alloc::Global;
 
 /// Makes the call that a kind and two numbers ask for: a point or a direction, or nothing of them.
 ///
@@ -90,7 +90,7 @@ pub unsafe extern "C" fn hull_calls(
 ///
 /// A hull lies at `at`, and no other call on it is under way.
 #[unsafe(no_mangle)]
-pub unsafe extern "C" fn hull_load(alloc: Global, at: *mut u8, points: &[HullPoint]) -> HullReply
+pub unsafe extern "C" fn hull_load(alloc: Heap, at: *mut u8, points: &[HullPoint]) -> HullReply
     ghost t: { the_row.Denot }
     requires* { sem 𝓛 (lies_at the_row full_share at t) }
     ensures* { sem 𝓛 (leaves the_row at (λ new. IsLoaded points.now t new result)) }
@@ -105,7 +105,7 @@ pub unsafe extern "C" fn hull_load(alloc: Global, at: *mut u8, points: &[HullPoi
 ///
 /// A hull lies at `at`, and no other call on it is under way.
 #[unsafe(no_mangle)]
-pub unsafe extern "C" fn hull_clear(alloc: Global, at: *mut u8) -> HullReply
+pub unsafe extern "C" fn hull_clear(alloc: Heap, at: *mut u8) -> HullReply
     ghost t: { the_row.Denot }
     requires* { sem 𝓛 (lies_at the_row full_share at t) }
     ensures* { sem 𝓛 (leaves the_row at (λ new. IsCleared t new result)) }
@@ -152,7 +152,7 @@ pub extern "C" fn hull_alignment() -> usize
 ///
 /// `room` has [`hull_size`] bytes at a multiple of [`hull_alignment`], which nothing else uses.
 #[unsafe(no_mangle)]
-pub unsafe extern "C" fn hull_make(alloc: Global, limit: u32, room: *mut u8)
+pub unsafe extern "C" fn hull_make(alloc: Heap, limit: u32, room: *mut u8)
     requires* { sem 𝓛 (room_at the_row room) }
     ensures* { sem 𝓛 (leaves the_row room (IsFresh limit)) }
 {

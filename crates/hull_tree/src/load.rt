@@ -7,9 +7,10 @@ ghost use Rattle.hull_tree.specs.Loaded.{AreEntries, IsOver, points_listed, time
 
 use super::build::joined;
 use super::node::{Halves, Node, first_of, last_of};
+use heap::Heap;
 use hull_plain::{MULTIPLICITY_LIMIT, NoMemory};
 use lattice::Point;
-use std::alloc::{AllocError, Global};
+use std::alloc::AllocError;
 use std::error::Error;
 use std::fmt;
 
@@ -55,7 +56,7 @@ impl From<NoMemory> for LoadFault {
 
 /// The node over some points in order, each with how often it is held: a leaf for one, and else the fork over its two
 /// halves, of which the right one has at most one point more.
-pub(crate) fn node_over(alloc: Global, entries: &[(Point, u32)]) -> Result<Node, NoMemory>
+pub(crate) fn node_over(alloc: Heap, entries: &[(Point, u32)]) -> Result<Node, NoMemory>
     requires entries { AreEntries entries.now }
     requires some { 1 ≤ length entries.now }
     requires few { length entries.now ≤ 1048576 }
@@ -82,7 +83,7 @@ pub(crate) fn node_over(alloc: Global, entries: &[(Point, u32)]) -> Result<Node,
 
 /// Counts a point in that stands before none of the entries, of which there is room for one more: the last one is held
 /// once more, or the point follows it. Tells whether a point may be held so often.
-fn count_in(entries: &mut Vec<(Point, u32)>, p: Point) -> bool
+fn count_in(entries: &mut Vec<(Point, u32), Heap>, p: Point) -> bool
     requires entries { AreEntries entries.old.items }
     requires last { (t : Pair) → Contains (points_listed entries.old.items) t → ¬ IsBefore p t }
     requires room { vec_len entries.old < vec_capacity entries.old }
@@ -114,7 +115,7 @@ fn count_in(entries: &mut Vec<(Point, u32)>, p: Point) -> bool
 
 /// Points in ascending order, each once and beside it how often it stands among them; `None` where that is more often
 /// than a point is held.
-fn counted(points: &[Point], entries: &mut Vec<(Point, u32)>) -> bool
+fn counted(points: &[Point], entries: &mut Vec<(Point, u32), Heap>) -> bool
     requires ascending { IsAscending points.now }
     requires none { vec_len entries.old ≡ 0 }
     requires room { length points.now ≤ vec_capacity entries.old }
@@ -131,7 +132,7 @@ fn counted(points: &[Point], entries: &mut Vec<(Point, u32)>) -> bool
 }
 
 /// Points in any order as entries: sorted, each once and beside it how often it stands among them.
-pub fn entries_of(alloc: Global, points: &[Point]) -> Result<Vec<(Point, u32)>, LoadFault>
+pub fn entries_of(alloc: Heap, points: &[Point]) -> Result<Vec<(Point, u32), Heap>, LoadFault>
     ensures entries { IfOk result (λ entries. AreEntries entries.items) }
     ensures times { IfOk result (λ entries. (q : Pair) → times_listed entries.items q ≡ times_among points.now q) }
     ensures too_often { result ≡ Err LoadFault.TooMany

@@ -8,9 +8,9 @@ ghost use Rattle.hull_tree.specs.Sets.{IsSound};
 use super::load::LoadFault;
 use super::renewal::KeepsWhatStands;
 use super::tree::HullTree;
+use heap::Heap;
 use hull_plain::{AddReply, Call, HullSet, NoMemory, POINT_LIMIT, Place, RemoveReply, Rules};
 use lattice::{Direction, Point};
-use std::alloc::Global;
 use std::marker::Model;
 
 /// The set of points that a [`HullTree`] is, with changes that keep each stored bridge which they cannot have altered.
@@ -38,7 +38,7 @@ impl Model for SparingTree {
 
 impl SparingTree {
     /// The empty set, which takes `limit` points at most. Asks for no memory; `add` and `vertices` ask `alloc`.
-    pub fn new(alloc: Global, limit: u32) -> SparingTree
+    pub fn new(alloc: Heap, limit: u32) -> SparingTree
         requires low { 1 ≤ limit }
         requires high { limit ≤ POINT_LIMIT }
         ensures { result ≡ record { limit = limit; root = None } }
@@ -51,7 +51,7 @@ impl SparingTree {
     /// The set of some points in order, each with how often it is held, as
     /// [`HullTree::from_entries`](HullTree::from_entries) makes it.
     pub fn from_entries(
-        alloc: Global,
+        alloc: Heap,
         limit: u32,
         entries: &[(Point, u32)],
     ) -> Result<SparingTree, NoMemory>
@@ -70,11 +70,7 @@ impl SparingTree {
 
     /// The set of some points in any order, each held as often as it stands among them, as
     /// [`HullTree::from_points`](HullTree::from_points) makes it.
-    pub fn from_points(
-        alloc: Global,
-        limit: u32,
-        points: &[Point],
-    ) -> Result<SparingTree, LoadFault>
+    pub fn from_points(alloc: Heap, limit: u32, points: &[Point]) -> Result<SparingTree, LoadFault>
         requires high { limit ≤ POINT_LIMIT }
         requires low { 1 ≤ limit }
         ensures held { IfOk result (λ tree. held_by tree.root ≡ held_after_adds nothing_held points.now) }
@@ -154,7 +150,7 @@ impl HullSet for SparingTree {
         self.tree.tangents(q)
     }
 
-    fn vertices(&self) -> Result<Vec<Point>, NoMemory> {
+    fn vertices(&self) -> Result<Vec<Point, Heap>, NoMemory> {
         self.tree.vertices()
     }
 

@@ -16,12 +16,12 @@ use super::node::Node;
 use super::node_ref::NodeRef;
 use super::renewal::{Renewal, SearchesAll};
 use bridge_search::Half;
+use heap::Heap;
 use hull_plain::{
     AddReply, Call, HullSet, MULTIPLICITY_LIMIT, NoMemory, POINT_LIMIT, Place, RemoveReply, Rules,
 };
 use hull_questions::{area2, extreme_counted, place, tangents, vertices};
 use lattice::{Direction, Point};
-use std::alloc::Global;
 use std::marker::Model;
 
 /// A set of points as a balanced leaf tree, whose forks keep the bridges of their two halves, and whose leaves keep how
@@ -35,7 +35,7 @@ pub struct HullTree {
     root: Option<Node>,
     count: u32,
     limit: u32,
-    alloc: Global,
+    alloc: Heap,
 }
 
 impl Model for HullTree {
@@ -54,7 +54,7 @@ impl Model for HullTree {
 
 impl HullTree {
     /// The empty set, which takes `limit` points at most. Asks for no memory; `add` and `vertices` ask `alloc`.
-    pub fn new(alloc: Global, limit: u32) -> HullTree
+    pub fn new(alloc: Heap, limit: u32) -> HullTree
         requires low { 1 ≤ limit }
         requires high { limit ≤ POINT_LIMIT }
         ensures { result ≡ record { limit = limit; root = None } }
@@ -71,7 +71,7 @@ impl HullTree {
     /// once, from the points up: so this takes a small part of the time of adding them one by one. `NoMemory` comes
     /// only for some points, and leaves nothing behind.
     pub fn from_entries(
-        alloc: Global,
+        alloc: Heap,
         limit: u32,
         entries: &[(Point, u32)],
     ) -> Result<HullTree, NoMemory>
@@ -97,7 +97,7 @@ impl HullTree {
     /// The set of some points in any order, each held as often as it stands among them, with room for `limit` points:
     /// what adding them one by one makes, in a small part of the time. `TooMany` comes where adding them would answer
     /// it; a fault leaves nothing behind.
-    pub fn from_points(alloc: Global, limit: u32, points: &[Point]) -> Result<HullTree, LoadFault>
+    pub fn from_points(alloc: Heap, limit: u32, points: &[Point]) -> Result<HullTree, LoadFault>
         requires high { limit ≤ POINT_LIMIT }
         requires low { 1 ≤ limit }
         ensures held { IfOk result (λ tree. held_by tree.root ≡ held_after_adds nothing_held points.now) }
@@ -293,7 +293,7 @@ impl HullSet for HullTree {
         tangents(self.half()?, q)
     }
 
-    fn vertices(&self) -> Result<Vec<Point>, NoMemory> {
+    fn vertices(&self) -> Result<Vec<Point, Heap>, NoMemory> {
         match self.half() {
             None => Ok(Vec::new(self.alloc)),
             Some(half) => Ok(vertices(self.alloc, half)?),

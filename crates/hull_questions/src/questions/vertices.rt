@@ -8,11 +8,12 @@ ghost use Rattle.hull_questions.specs.Walks.{IsLowerOutline};
 
 use crate::corners::{next_lower, next_upper};
 use bridge_search::Half;
+use heap::Heap;
 use lattice::{Point, before};
-use std::alloc::{AllocError, Global};
+use std::alloc::AllocError;
 
 /// Appends the vertices along the lower chain, from the first point to the last.
-fn push_lower_chain<H: Half>(half: H, out: &mut Vec<Point>) -> Result<(), AllocError>
+fn push_lower_chain<H: Half>(half: H, out: &mut Vec<Point, Heap>) -> Result<(), AllocError>
     requires empty { out.old.items ≡ [] }
     ensures { IfOk result (λ _. IsLowerOutline (H.tree half) (last_of (H.tree half)) out.new.items) }
 {
@@ -27,7 +28,7 @@ fn push_lower_chain<H: Half>(half: H, out: &mut Vec<Point>) -> Result<(), AllocE
 }
 
 /// Appends the vertices along the upper chain, strictly between the last point and the first.
-fn push_upper_chain<H: Half>(half: H, out: &mut Vec<Point>) -> Result<(), AllocError>
+fn push_upper_chain<H: Half>(half: H, out: &mut Vec<Point, Heap>) -> Result<(), AllocError>
     requires some { IsBefore (first_of (H.tree half)) (last_of (H.tree half)) }
     requires lower { IsLowerOutline (H.tree half) (last_of (H.tree half)) out.old.items }
     ensures { IfOk result (λ _. IsVertexList (points_of (H.tree half)) out.new.items) }
@@ -44,7 +45,7 @@ fn push_upper_chain<H: Half>(half: H, out: &mut Vec<Point>) -> Result<(), AllocE
 /// The vertices of the hull of a half, counterclockwise from the first point; no more than there are points.
 ///
 /// Each step to the next vertex is one way down the bridges. An `Err` comes only where `alloc` refuses memory.
-pub fn vertices<H: Half>(alloc: Global, half: H) -> Result<Vec<Point>, AllocError>
+pub fn vertices<H: Half>(alloc: Heap, half: H) -> Result<Vec<Point, Heap>, AllocError>
     ensures vertices { IfOk result (λ v. IsVertexList (points_of (H.tree half)) v.items) }
     ensures few { IfOk result (λ v. vec_len v ≤ size_of (H.tree half)) }
 {
