@@ -5,3 +5,6 @@ pub mod EdgesOf
 pub mod Rings
 pub mod TwoChains
 pub mod Made
+pub mod Slopes
+pub mod Ends
+pub mod FarthestOf

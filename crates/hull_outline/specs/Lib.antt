@@ -1,3 +1,4 @@
 pub mod Outlines
 pub mod Rounds
 pub mod OneWay
+pub mod Lent

@@ -2,4 +2,8 @@
 #![tactic(auto)]
 
 mod bisection;
+mod outline;
 mod rounds;
+
+pub use outline::Outline;
+pub use rounds::is_outline;
