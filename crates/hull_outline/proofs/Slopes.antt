@@ -155,4 +155,3 @@ goes_down d p q t down pq tq o f =
           (step_back d t q k)) in
           absurd (omega (arith, ints))
     ]
-

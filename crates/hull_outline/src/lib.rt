@@ -2,6 +2,7 @@
 #![tactic(auto)]
 
 mod bisection;
+mod extreme;
 mod outline;
 mod rounds;
 

@@ -15,8 +15,8 @@ use lattice::Point;
 /// Each question is answered as the set was at the moment when its corners were taken.
 #[derive(Clone, Copy)]
 pub struct Outline<'a> {
-    corners: &'a [Point],
-    last: usize,
+    pub(crate) corners: &'a [Point],
+    pub(crate) last: usize,
     ghost parted: { IsParted corners.now last } by { IsParted-prop corners.now last },
     ghost few: { length corners.now ≤ POINT_LIMIT },
 }
@@ -44,7 +44,11 @@ impl<'a> Outline<'a> {
         requires { IsShortOutline corners.now }
         ensures { corners_of result ≡ corners.now }
     {
-        let last = if corners.len() < 2 { 0 } else { summit(corners) };
+        let last = if corners.len() < 2 {
+            0
+        } else {
+            summit(corners)
+        };
         Outline { corners, last }
     }
 
