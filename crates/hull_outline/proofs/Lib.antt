@@ -8,3 +8,5 @@ pub mod Made
 pub mod Slopes
 pub mod Ends
 pub mod FarthestOf
+pub mod EdgesAt
+pub mod Tests

@@ -2,3 +2,4 @@ pub mod Outlines
 pub mod Rounds
 pub mod OneWay
 pub mod Lent
+pub mod Sights

@@ -4,7 +4,9 @@
 mod bisection;
 mod extreme;
 mod outline;
+mod place;
 mod rounds;
+mod sights;
 
 pub use outline::Outline;
 pub use rounds::is_outline;
