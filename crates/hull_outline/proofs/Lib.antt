@@ -10,3 +10,4 @@ pub mod Ends
 pub mod FarthestOf
 pub mod EdgesAt
 pub mod Tests
+pub mod Fans

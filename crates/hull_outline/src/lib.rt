@@ -1,6 +1,7 @@
 //! Questions about a convex hull from the list of its corners.
 #![tactic(auto)]
 
+mod area;
 mod bisection;
 mod extreme;
 mod outline;
