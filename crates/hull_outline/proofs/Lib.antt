@@ -11,3 +11,4 @@ pub mod FarthestOf
 pub mod EdgesAt
 pub mod Tests
 pub mod Fans
+pub mod Touching

@@ -1,5 +1,6 @@
 -- From where a point looks at the hull of a set S whose corners are V, the last one at `last`.
 use Rattle.std.specs.Prelude.{ℕ, ◌⊎◌, ℤ, pos, ◌<ℤ◌, ◌≤ℤ◌, List}
+use Rattle.std.specs.List.{Contains}
 use Rattle.lattice.specs.Plane.{Pair, orient, IsBefore}
 use Rattle.lattice.specs.Places.{IsInside, IsOnBoundary}
 use Rattle.hull_plain.specs.Edges.{IsLowerEdge, IsUpperEdge}
@@ -18,6 +19,16 @@ pub record IsUpperEdgeAt (S : List Pair) (q : Pair) (e : Pair × Pair) : Type 0 
   pub edge : IsUpperEdge S e.0 e.1
   pub starts : ¬ IsBefore e.0 q
   pub onward : IsBefore e.1 q
+
+-- q is no point of S, and lies below each segment from a point of S before it to one after it
+pub record IsBelow (S : List Pair) (q : Pair) : Type 0 where
+  pub absent : ¬ Contains S q
+  pub under : (s t : Pair) → Contains S s → Contains S t → IsBefore s q → IsBefore q t → orient s t q <ℤ pos 0
+
+-- q is no point of S, and lies above each such segment
+pub record IsAbove (S : List Pair) (q : Pair) : Type 0 where
+  pub absent : ¬ Contains S q
+  pub over : (s t : Pair) → Contains S s → Contains S t → IsBefore s q → IsBefore q t → pos 0 <ℤ orient s t q
 
 -- q lies below a lower edge
 abbrev pub IsBelowEdge : List Pair → Pair → Type 0
