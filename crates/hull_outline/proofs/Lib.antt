@@ -12,3 +12,5 @@ pub mod EdgesAt
 pub mod Tests
 pub mod Fans
 pub mod Touching
+pub mod TangentsOf
+pub mod Clear

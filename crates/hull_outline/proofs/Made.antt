@@ -29,7 +29,7 @@ abbrev behind : List Pair → ℕ → ℕ → Pair
 behind V top i = turned_point (corner V (top + i))
 
 -- a turn reverses the order
-turned_before : (p q : Pair) → IsBefore p q → IsBefore (turned_point q) (turned_point p)
+pub turned_before : (p q : Pair) → IsBefore p q → IsBefore (turned_point q) (turned_point p)
 turned_before p q (inl h) = inl (omega (arith, ints))
 turned_before p q (inr h) = inr (omega (arith, ints, h.0), omega (arith, ints, h.1))
 

@@ -12,6 +12,7 @@ use Rattle.lattice.proofs.Vectors.{minus, cross_swap, turn_trans, turn_trans_str
 use Rattle.hull_plain.proofs.EdgeSteps.{past_farther, past_farther_back}
 use Rattle.hull_plain.proofs.Orientation.{orient-cross, orient-cycle, orient_at_end, orient_swap_zero, above, at_least}
 use Rattle.hull_plain.proofs.Orientation.{ahead_of}
+use Rattle.hull_outline.specs.Touches.{IsPassed, IsToCome}
 use Rattle.hull_outline.proofs.Sides.{side_before, side_to_end, side_back, side_beyond}
 
 -- q is none of the points, and lies below each segment from one of them before it to one after it
@@ -138,14 +139,6 @@ pub record IsChainUnder (P : Pair → Type 0) (g : ℕ → Pair) (low high : ℕ
   pub last : (t : Pair) → P t → ¬ (IsBefore (g high) t)
   pub forward : (i j : ℕ) → j ≡ i + 1 → low ≤ i → i < high → IsBefore (g i) (g j)
   pub left : (i j : ℕ) → j ≡ i + 1 → low ≤ i → i < high → (t : Pair) → P t → pos 0 ≤ℤ orient (g i) (g j) t
-
--- the edge from a to b ends before q, which lies left of it
-abbrev pub IsPassed : Pair → Pair → Pair → Type 0
-IsPassed q a b = IsBefore b q × (pos 0 <ℤ orient a b q)
-
--- the edge from a to b begins after q, which lies left of it
-abbrev pub IsToCome : Pair → Pair → Pair → Type 0
-IsToCome q a b = IsBefore q a × (pos 0 <ℤ orient a b q)
 
 -- an edge that is not passed has q not on its left
 not_passed : (P : Pair → Type 0) (q a b : Pair) → IsClear P q → P a → P b → IsBefore a q → ¬ IsPassed q a b

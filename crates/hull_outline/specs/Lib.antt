@@ -3,3 +3,4 @@ pub mod Rounds
 pub mod OneWay
 pub mod Lent
 pub mod Sights
+pub mod Touches
