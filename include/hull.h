@@ -153,6 +153,13 @@ hull_reply hull_limit(const hull_set *h);
 size_t hull_calls(hull_set *h, const hull_request *requests, size_t request_count, hull_reply *replies,
                   size_t reply_room);
 
+/* Holds the points of the array, in any order, each as often as it stands there, in the place of all that was held: what adding
+ * them one by one to an empty hull makes, in a small part of the time. HULL_NUMBER, the number of different points; or the hull is as
+ * it was: HULL_OUT_OF_RANGE (of any of them), else HULL_TOO_MANY (more different points than the limit, or one of them more often
+ * than HULL_MULTIPLICITY_MAX) or HULL_NO_MEMORY (old and new points are both in memory for a while). The array is not null, even
+ * where it has no elements, and is aligned. */
+hull_reply hull_load(hull h, const hull_point *points, size_t count);
+
 /* Lets all points go, and their memory; the limit stays: HULL_CLEARED. */
 hull_reply hull_clear(hull_set *h);
 

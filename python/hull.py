@@ -1,8 +1,7 @@
 """A convex hull of points with whole coordinates, which takes points in and lets them go, exact and proved.
 
     from hull import Hull, Place
-    hull = Hull()
-    hull.add_all([(0, 0), (10, 0), (10, 10), (0, 10)])
+    hull = Hull([(0, 0), (10, 0), (10, 10), (0, 10)])
     hull.place(5, 5) is Place.INSIDE
     hull.place_all([(5, 5), (10, 5), (11, 5)])     # three of Place, as bytes
 
@@ -161,7 +160,7 @@ def _library():
     return _load("libhull.so", "HULL_LIBRARY", "hull_", [
         ("size", [], ctypes.c_size_t), ("alignment", [], ctypes.c_size_t), ("make", [ctypes.c_uint32, at], None),
         ("end", [at], ctypes.c_uint32), ("call", [at, ctypes.c_uint32, whole, whole], _Reply), ("limit", [at], _Reply),
-        ("clear", [at], _Reply),
+        ("clear", [at], _Reply), ("load", [at, at, ctypes.c_size_t], _Reply),
         ("vertices", [at, at, ctypes.c_size_t], _Reply),
         ("calls", [at, at, ctypes.c_size_t, at, ctypes.c_size_t], ctypes.c_size_t),
     ])
@@ -202,8 +201,8 @@ def _whole(coordinate):
     return coordinate
 
 
-def _columns(points):
-    """The first and the second coordinates of many points, all in range."""
+def _flat(points):
+    """The coordinates of many points, all in range, those of each point beside one another."""
     try:
         view = memoryview(points)
     except TypeError:
@@ -218,6 +217,12 @@ def _columns(points):
             raise _FAULTS[_Code.OUT_OF_RANGE]() from None
     if flat and not -COORDINATE_LIMIT <= min(flat) <= max(flat) <= COORDINATE_LIMIT:
         raise _FAULTS[_Code.OUT_OF_RANGE]()
+    return flat
+
+
+def _columns(points):
+    """The first and the second coordinates of many points, all in range."""
+    flat = _flat(points)
     return flat[0::2], flat[1::2]
 
 
@@ -255,17 +260,18 @@ def _area(reply):
 
 
 class Hull:
-    """A hull for at most `limit` different points, 1 to POINT_LIMIT. With no points at first."""
+    """A hull for at most `limit` different points, 1 to POINT_LIMIT, which holds the points given, as `load` takes them."""
 
     __slots__ = ("_at", "_lock", "__weakref__")
 
-    def __init__(self, limit=POINT_LIMIT):
+    def __init__(self, points=(), limit=POINT_LIMIT):
         if not 1 <= operator.index(limit) <= POINT_LIMIT:
             raise ValueError("the limit of a hull is out of range")
         room, self._at = _room(_LIBRARY.hull_size(), _LIBRARY.hull_alignment())
         self._lock = threading.RLock()
         _LIBRARY.hull_make(operator.index(limit), self._at)
         weakref.finalize(self, _end, room, self._at)
+        self.load(points)
 
     def __reduce__(self):
         raise TypeError("a hull lies in one place: it can't be copied")
@@ -316,6 +322,17 @@ class Hull:
     def clear(self):
         """Lets all points go. The limit stays."""
         self._ask(_LIBRARY.hull_clear)
+
+    def load(self, points):
+        """Holds just these points, in the place of all that was held; returns how many different points that are.
+
+        Each is held as often as it stands among them: what adding them one by one to an empty hull makes, in a small part
+        of the time. TooMany where there are more than the limit, or one of them stands there too often.
+        """
+        flat = _flat(points)
+        count = len(flat) // 2
+        flat.extend((0, 0))  # so that no points have a place in memory, too
+        return self._ask(_LIBRARY.hull_load, flat.buffer_info()[0], count).number
 
     def vertices(self):
         """The corners as pairs, counterclockwise from the first by x and then y, each once and none inside an edge."""

@@ -194,6 +194,56 @@ static void many_corners(void) {
     ended(h);
 }
 
+static int64_t place_in(int64_t i, int64_t n) { return i * 7 % n; }
+
+/* many points at once: the hull that adding them one by one makes, or the one that was */
+static void loads(void) {
+    enum { NUMBER = 2000 };
+    static hull_point points[HULL_MULTIPLICITY_MAX + 1];
+    hull h = made(NUMBER), slow = made(NUMBER);
+    for (int64_t i = 0; i < NUMBER; i++) {
+        int64_t x = place_in(i, NUMBER) % (NUMBER / 2);
+        points[i].x = x, points[i].y = x * x % 1009;
+        hull_add(slow, points[i].x, points[i].y);
+    }
+    hull_add(h, 5000, 5000);
+    CHECK(number(hull_load(h, points, NUMBER), HULL_NUMBER, NUMBER / 2));
+    CHECK(number(hull_count(h), HULL_NUMBER, NUMBER / 2) && number(hull_limit(h), HULL_NUMBER, NUMBER));
+    int same = hull_area(h).number == hull_area(slow).number && hull_multiplicity(h, 5000, 5000).number == 0;
+    for (int i = 0; i < NUMBER; i++) {
+        same &= number(hull_multiplicity(h, points[i].x, points[i].y), HULL_NUMBER, 2);
+    }
+    CHECK(same);
+    same = 1;
+    for (int i = 0; i < NUMBER; i++) {
+        same &= hull_remove(h, points[i].x, points[i].y).code == hull_remove(slow, points[i].x, points[i].y).code;
+        same &= hull_area(h).number == hull_area(slow).number;
+    }
+    CHECK(same && number(hull_count(h), HULL_NUMBER, 0));
+    ended(slow);
+    CHECK(number(hull_load(h, points, 0), HULL_NUMBER, 0) && number(hull_count(h), HULL_NUMBER, 0));
+    ended(h);
+
+    h = made(3);
+    hull_add(h, 1, 2), hull_add(h, 1, 2);
+    static const hull_point too_far[] = {{0, 0}, {1, 0}, {2, 0}, {3, 0}, {0, HULL_COORDINATE_MAX + 1}};
+    CHECK(bare(hull_load(h, too_far, 5), HULL_OUT_OF_RANGE));
+    CHECK(bare(hull_load(h, too_far, 4), HULL_TOO_MANY));
+    memset(points, 0, sizeof points);
+    CHECK(bare(hull_load(h, points, HULL_MULTIPLICITY_MAX + 1), HULL_TOO_MANY));
+    for (int from = 0; from < 2; from++) {
+        refused_from = from, asked = 0;
+        CHECK(bare(hull_load(h, too_far, 3), HULL_NO_MEMORY));
+        CHECK(bare(hull_load(h, too_far, 5), HULL_OUT_OF_RANGE));
+    }
+    refused_from = -1;
+    CHECK(number(hull_multiplicity(h, 1, 2), HULL_NUMBER, 2) && number(hull_count(h), HULL_NUMBER, 1));
+    CHECK(number(hull_load(h, points, HULL_MULTIPLICITY_MAX), HULL_NUMBER, 1));
+    CHECK(number(hull_multiplicity(h, 0, 0), HULL_NUMBER, HULL_MULTIPLICITY_MAX));
+    CHECK(number(hull_load(h, too_far, 3), HULL_NUMBER, 3));
+    ended(h);
+}
+
 static void calls(void) {
     hull_set *h = made(2);
     static const hull_request asked_for[] = {
@@ -293,6 +343,7 @@ int main(void) {
     questions();
     corners();
     many_corners();
+    loads();
     calls();
     refusals();
     printf("codes: %d passed, %d failed\n", passed, failed);

@@ -28,8 +28,8 @@ class Calls(unittest.TestCase):
 
     def test_limits(self):
         for limit in (0, -1, POINT_LIMIT + 1, 1 << 32):
-            self.assertRaises(ValueError, Hull, limit)
-        self.assertEqual((Hull().limit(), Hull(1).limit()), (POINT_LIMIT, 1))
+            self.assertRaises(ValueError, Hull, limit=limit)
+        self.assertEqual((Hull().limit(), Hull(limit=1).limit()), (POINT_LIMIT, 1))
 
     def test_changes(self):
         self.assertEqual(self.hull.add(4, 4), 2)
@@ -60,6 +60,20 @@ class Calls(unittest.TestCase):
         self.assertEqual((none.place(0, 0), none.extreme(1, 0), none.tangents(0, 0)), (Place.OUTSIDE, None, None))
         self.assertEqual((none.vertices(), none.doubled_area(), len(none)), ([], 0, 0))
         self.assertEqual((none.place_all([]), list(none.add_all([])), none.remove_all([])), (b"", [], 0))
+
+    def test_load(self):
+        hull = self.hull
+        self.assertEqual(hull.load([(9, 9), (1, 2), (9, 9)]), 2)
+        self.assertEqual((hull.multiplicity(9, 9), hull.multiplicity(1, 2), hull.multiplicity(4, 4)), (2, 1, 0))
+        far = COORDINATE_LIMIT + 1
+        for points, fault in (([(x, 0) for x in range(7)], TooMany), ([(0, 0)] * 65536, TooMany), ([(0, 0), (0, far)], OutOfRange)):
+            self.assertRaises(fault, hull.load, points)
+            self.assertEqual(hull.vertices(), [(1, 2), (9, 9)])
+        self.assertEqual((hull.load(columns(SQUARE)), hull.doubled_area(), hull.limit()), (5, 200, 6))
+        self.assertEqual((hull.load([]), len(hull)), (0, 0))
+        self.assertEqual(Hull(SQUARE).vertices(), [(0, 0), (10, 0), (10, 10), (0, 10)])
+        self.assertEqual(Hull([(0, 0)] * 65535, limit=1).multiplicity(0, 0), 65535)
+        self.assertRaises(TooMany, Hull, SQUARE, limit=4)
 
     def test_area_in_two_words(self):
         hull = Hull()

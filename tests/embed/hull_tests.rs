@@ -23,6 +23,24 @@ fn limits() {
 }
 
 #[test]
+fn loads() {
+    let mut hull = square();
+    let limit = hull.limit();
+    assert_eq!(hull.load(&[point(9, 9), point(1, 2), point(9, 9)]), Ok(2));
+    assert_eq!((hull.multiplicity(point(9, 9)), hull.multiplicity(point(1, 2)), hull.len()), (Ok(2), Ok(1), 2));
+    assert_eq!(hull.load(&[point(0, 0), point(0, COORDINATE_LIMIT + 1)]), Err(Fault::OutOfRange));
+    assert_eq!(hull.load(&[point(0, 0); 65536]), Err(Fault::TooMany));
+    assert_eq!((hull.len(), hull.limit(), hull.multiplicity(point(9, 9))), (2, limit, Ok(2)));
+    assert_eq!((hull.load(&[]), hull.len()), (Ok(0), 0));
+    let many: Vec<Point> = (0..1000).map(|i| point(i * 7 % 1000, i * i)).collect();
+    assert_eq!(Hull::from_points(999, &many).unwrap_err(), Fault::TooMany);
+    let mut slow = Hull::new(1000).unwrap();
+    many.iter().for_each(|&p| assert_eq!(slow.add(p), Ok(1)));
+    let fast = Hull::from_points(1000, &many).unwrap();
+    assert!(fast.vertices().unwrap().eq(slow.vertices().unwrap()));
+}
+
+#[test]
 fn changes() {
     let mut hull = Hull::new(2).unwrap();
     assert!(hull.is_empty());

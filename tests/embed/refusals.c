@@ -70,6 +70,7 @@ static hull_reply call(hull_set *h, uint64_t seed) {
     switch (seed / 1000 % 5) {
     case 0: return hull_remove(h, x, y);
     case 1: return hull_vertices(h, corners, CORNERS);
+    case 2: return seed / 5000 % 40 ? hull_add(h, x, y) : hull_load(h, (hull_point[]){{x, y}, {y, x}, {4, x}, {x, y}}, 4);
     default: return hull_add(h, x, y);
     }
 }

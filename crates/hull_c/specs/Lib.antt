@@ -1,3 +1,4 @@
 pub mod Calls
 pub mod Requests
 pub mod Left
+pub mod Loads

@@ -16,11 +16,13 @@ ghost use Rattle.hull_reply.specs.Left.{leaves};
 ghost use Rattle.hull_reply.specs.Rooms.{room_alignment, room_size};
 ghost use Rattle.hull_reply.specs.Served.{IsAnswered};
 ghost use Rattle.hull_c.specs.Left.{leaves_room};
+ghost use Rattle.hull_c.specs.Loads.{IsLoaded};
 ghost use Rattle.hull_c.specs.Requests.{AreServed};
 ghost use Rattle.hull_c.specs.Calls.{AreCorners, IsCleared, IsFresh, IsLimitOf};
 
 mod calls;
 mod corners;
+mod load;
 mod requests;
 #[cfg(test)]
 mod tests;
@@ -79,6 +81,22 @@ pub unsafe extern "C" fn hull_calls(
 {
     let hull = at as *mut SparingTree;
     requests::calls_of(unsafe { &mut *hull }, requests, replies)
+}
+
+/// Holds the points of the array, each as often as it stands there, in the place of all that the hull held; or leaves the
+/// hull as it was.
+///
+/// # Safety
+///
+/// A hull lies at `at`, and no other call on it is under way.
+#[unsafe(no_mangle)]
+pub unsafe extern "C" fn hull_load(alloc: Global, at: *mut u8, points: &[HullPoint]) -> HullReply
+    ghost t: { the_row.Denot }
+    requires* { sem 𝓛 (lies_at the_row full_share at t) }
+    ensures* { sem 𝓛 (leaves the_row at (λ new. IsLoaded points.now t new result)) }
+{
+    let hull = at as *mut SparingTree;
+    load::load(alloc, unsafe { &mut *hull }, points)
 }
 
 /// Takes all points out of the hull.

@@ -28,6 +28,7 @@ pub use laws::{
     texts_hold,
 };
 pub use read::{read_journal, read_script};
+pub use text_io::testing::{Pieces, Spout};
 pub use text_io::{Counted, Sink, Source, WriteFault};
 pub use upgrading::{UpgradeFault, upgrade};
 pub use version::{NEWEST, Version};

@@ -5,8 +5,9 @@ use super::COORDINATE_LIMIT;
 use super::fault::LatticeFault;
 use std::marker::Model;
 
-/// A point with two coordinates, each at most [`COORDINATE_LIMIT`] in size.
+/// A point with two coordinates, each at most [`COORDINATE_LIMIT`] in size. Laid out as in C, whose arrays of points are lent.
 #[derive(Clone, Copy, PartialEq, Eq, PartialOrd, Ord, Debug)]
+#[repr(C)]
 pub struct Point {
     x: i64,
     y: i64,

@@ -111,6 +111,22 @@ impl Hull {
         Ok(Hull { room })
     }
 
+    /// A hull of some points in any order, each held as often as it stands among them, for at most `limit` different points:
+    /// what adding them one by one makes, in a small part of the time.
+    pub fn from_points(limit: u32, points: &[Point]) -> Result<Hull, Fault> {
+        let mut hull = Hull::new(limit)?;
+        hull.load(points)?;
+        Ok(hull)
+    }
+
+    /// Holds just these points, each as often as it stands among them, in the place of all that was held, and tells how many
+    /// different points that are. A fault leaves the hull as it was.
+    pub fn load(&mut self, points: &[Point]) -> Result<usize, Fault> {
+        // SAFETY: as in `call`; the points are a slice's own, and a slice's pointer is not null.
+        let reply = unsafe { raw::hull_load(self.room.as_ptr(), points.as_ptr(), points.len()) };
+        answer::number(reply).map(|number| number as usize)
+    }
+
     fn layout() -> Layout {
         // SAFETY: these two read nothing.
         let (size, alignment) = unsafe { (raw::hull_size(), raw::hull_alignment()) };

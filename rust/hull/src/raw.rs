@@ -96,6 +96,7 @@ extern "C" {
     pub(crate) fn hull_call(hull: *mut u8, kind: u32, x: i64, y: i64) -> Reply;
     pub(crate) fn hull_limit(hull: *mut u8) -> Reply;
     pub(crate) fn hull_clear(hull: *mut u8) -> Reply;
+    pub(crate) fn hull_load(hull: *mut u8, points: *const Point, count: usize) -> Reply;
     pub(crate) fn hull_vertices(hull: *mut u8, out: *mut Point, room: usize) -> Reply;
 }
 

@@ -6,7 +6,7 @@ use Rattle.hull_reply.proofs.Steps.{ !, qed, done, move, keep, drop, use1, use3,
 use Rattle.hull_reply.proofs.Steps.{pick}
 use Rattle.hull_reply.proofs.Steps.{await, regoal, suffices, group, enter, of_opd, addr, stop, no_more, and_then, first}
 use Rattle.hull_reply.proofs.Steps.{blocks, exec, returns, alloc_all, pass_all, free_all, look_at, get, through, sets}
-use Rattle.hull_reply.proofs.Steps.{sets_last, lands_as, env, lft_new, lft_end, u32, u64, i64, yes, Is, shows, mem}
+use Rattle.hull_reply.proofs.Steps.{sets_last, lands_as, env, lft_new, lft_end, u32, i64, yes, Is, shows, mem}
 use Rattle.hull_reply.proofs.Steps.{lends_ref, ref_back, uint_Makes, uint_vals, uint_Tells, uint_Lawful, sint_Makes}
 use Rattle.hull_reply.proofs.Steps.{sint_vals, sint_Tells, sint_Lawful, Ptr, RawPtr, block_ptr, lies_at, in_a_block}
 use Rattle.hull_reply.proofs.Steps.{rawptr_vals, rawptr_Tells, MutRef, Body, plain, nothing, owned, heard, peeks}

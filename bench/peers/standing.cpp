@@ -1,0 +1,327 @@
+// A set that stands, one thread: loading it, its corners, and questions about it; this library (hull.h) beside the usual lines of
+// C++ (a sort, a monotone chain, an array of corners and bisection), CGAL, GEOS and Boost.Geometry.
+//
+//     standing SHAPE POINTS ROUNDS
+//
+// SHAPE is `square` (random points of a square) or `parabola` (every point a corner). Each line tells nanoseconds, a point for a
+// load and a corner list, a question for questions: the least of the rounds, in which the peers come in turns with the library, in
+// processor time of the thread. A ratio above 1 says that the library is the faster one. Places are those of random points in the
+// square round the set, and all peers have to agree on how many of them are covered.
+#include <CGAL/Delaunay_triangulation_2.h>
+#include <CGAL/Exact_predicates_inexact_constructions_kernel.h>
+#include <CGAL/Polygon_2_algorithms.h>
+#include <CGAL/Triangulation_hierarchy_2.h>
+#include <CGAL/convex_hull_2.h>
+#include <algorithm>
+#include <boost/geometry.hpp>
+#include <boost/geometry/geometries/point_xy.hpp>
+#include <boost/geometry/geometries/polygon.hpp>
+#include <cstdio>
+#include <cstdlib>
+#include <ctime>
+#include <functional>
+#include <geos_c.h>
+#include <map>
+#include <random>
+#include <string>
+#include <vector>
+
+#include "hull.h"
+
+namespace {
+
+using Kernel = CGAL::Exact_predicates_inexact_constructions_kernel;
+using VertexBase = CGAL::Triangulation_hierarchy_vertex_base_2<CGAL::Triangulation_vertex_base_2<Kernel>>;
+using Hierarchy =
+    CGAL::Triangulation_hierarchy_2<CGAL::Delaunay_triangulation_2<Kernel, CGAL::Triangulation_data_structure_2<VertexBase>>>;
+using BoostPoint = boost::geometry::model::d2::point_xy<double>;
+using BoostPolygon = boost::geometry::model::polygon<BoostPoint, false, false>;
+using Point = hull_point;
+using Points = std::vector<Point>;
+
+bool before(const Point &a, const Point &b) { return a.x != b.x ? a.x < b.x : a.y < b.y; }
+
+__int128 orient(const Point &a, const Point &b, const Point &c) {
+    return static_cast<__int128>(b.x - a.x) * (c.y - a.y) - static_cast<__int128>(b.y - a.y) * (c.x - a.x);
+}
+
+double now() {
+    timespec time;
+    clock_gettime(CLOCK_THREAD_CPUTIME_ID, &time);
+    return 1e9 * static_cast<double>(time.tv_sec) + static_cast<double>(time.tv_nsec);
+}
+
+// The corners counterclockwise from the first, and where the last of them stands (Andrew, 1979).
+struct Chain {
+    Points corners;
+    size_t last = 0;
+
+    static Chain of(Points points) {
+        std::sort(points.begin(), points.end(), before);
+        Chain chain;
+        chain.push(points.begin(), points.end(), 0);
+        chain.last = chain.corners.size() - 1;
+        chain.push(points.rbegin() + 1, points.rend(), chain.last);
+        chain.corners.pop_back();
+        return chain;
+    }
+    bool covers(Point q) const {
+        const auto middle = corners.begin() + static_cast<std::ptrdiff_t>(last);
+        if (before(q, corners[0]) || before(*middle, q)) {
+            return false;
+        }
+        const auto right = std::upper_bound(corners.begin(), middle, q, before);
+        if (orient(*(right - 1), *right, q) < 0) {
+            return false;
+        }
+        const auto left = std::upper_bound(middle, corners.end(), q, [](const Point &p, const Point &c) { return before(c, p); });
+        return orient(*(left - 1), left == corners.end() ? corners[0] : *left, q) >= 0;
+    }
+    Point extreme(int64_t x, int64_t y) const {
+        const bool up = y > 0 || (y == 0 && x < 0);
+        size_t low = up ? last : 0, high = up ? corners.size() : last;
+        while (low < high) {
+            const size_t middle = (low + high) / 2;
+            const Point &a = corners[middle], &b = corners[middle + 1 == corners.size() ? 0 : middle + 1];
+            if (static_cast<__int128>(b.x - a.x) * x + static_cast<__int128>(b.y - a.y) * y > 0) {
+                low = middle + 1;
+            } else {
+                high = middle;
+            }
+        }
+        return corners[low == corners.size() ? 0 : low];
+    }
+
+  private:
+    template <class Iterator> void push(Iterator begin, Iterator end, size_t from) {
+        for (; begin != end; ++begin) {
+            while (corners.size() > from + 1 && orient(corners[corners.size() - 2], corners.back(), *begin) <= 0) {
+                corners.pop_back();
+            }
+            corners.push_back(*begin);
+        }
+    }
+};
+
+struct Ours {
+    hull place = std::aligned_alloc(hull_alignment(), hull_size());
+
+    Ours() { hull_make(0, place); }
+    Ours(const Ours &) = delete;
+    ~Ours() {
+        hull_end(place);
+        std::free(place);
+    }
+};
+
+Kernel::Point_2 to_cgal(Point p) { return {static_cast<double>(p.x), static_cast<double>(p.y)}; }
+
+std::vector<Kernel::Point_2> to_cgal(const Points &points) {
+    std::vector<Kernel::Point_2> all;
+    for (Point p : points) {
+        all.push_back(to_cgal(p));
+    }
+    return all;
+}
+
+// A polygon of GEOS, prepared, and a point for each of the questions.
+class Geos {
+    GEOSContextHandle_t context = GEOS_init_r();
+    GEOSGeometry *polygon = nullptr;
+    const GEOSPreparedGeometry *prepared = nullptr;
+    std::vector<GEOSGeometry *> points;
+
+  public:
+    Geos(const Points &corners, const Points &asked) {
+        GEOSCoordSequence *ring = GEOSCoordSeq_create_r(context, static_cast<unsigned>(corners.size() + 1), 2);
+        for (size_t i = 0; i <= corners.size(); i++) {
+            const Point &p = corners[i % corners.size()];
+            GEOSCoordSeq_setXY_r(context, ring, static_cast<unsigned>(i), static_cast<double>(p.x), static_cast<double>(p.y));
+        }
+        polygon = GEOSGeom_createPolygon_r(context, GEOSGeom_createLinearRing_r(context, ring), nullptr, 0);
+        prepared = GEOSPrepare_r(context, polygon);
+        for (Point q : asked) {
+            points.push_back(GEOSGeom_createPointFromXY_r(context, static_cast<double>(q.x), static_cast<double>(q.y)));
+        }
+    }
+    Geos(const Geos &) = delete;
+    ~Geos() {
+        GEOSPreparedGeom_destroy_r(context, prepared);
+        GEOSGeom_destroy_r(context, polygon);
+        for (GEOSGeometry *point : points) {
+            GEOSGeom_destroy_r(context, point);
+        }
+        GEOS_finish_r(context);
+    }
+    bool covers(size_t i) const { return GEOSPreparedIntersects_r(context, prepared, points[i]) == 1; }
+};
+
+Points points_of(const std::string &shape, size_t count, std::mt19937_64 &random) {
+    Points points;
+    std::uniform_int_distribution<int64_t> any(-1'000'000'000, 1'000'000'000);
+    for (size_t i = 0; i < count; i++) {
+        const auto x = static_cast<int64_t>(i) - static_cast<int64_t>(count / 2);
+        points.push_back(shape == "square" ? Point{any(random), any(random)} : Point{x, x * x});
+    }
+    std::shuffle(points.begin(), points.end(), random);
+    return points;
+}
+
+// What is timed, by its row and its name: the least of the rounds, divided by how many points or questions it was for.
+class Table {
+    std::map<std::string, std::vector<std::pair<std::string, double>>> rows;
+    std::vector<std::string> order;
+
+  public:
+    // times the work, and returns what it gave back
+    size_t time(const std::string &row, const std::string &name, size_t parts, const std::function<size_t()> &work) {
+        if (rows.find(row) == rows.end()) {
+            order.push_back(row);
+        }
+        const double start = now();
+        const size_t result = work();
+        const double took = (now() - start) / static_cast<double>(parts);
+        for (auto &[known, least] : rows[row]) {
+            if (known == name) {
+                least = std::min(least, took);
+                return result;
+            }
+        }
+        rows[row].emplace_back(name, took);
+        return result;
+    }
+    // one line a name, beside the library's, which stands first in its row
+    void print() const {
+        for (const std::string &row : order) {
+            const auto &names = rows.at(row);
+            for (const auto &[name, took] : names) {
+                std::printf("  %-9s %-34s %10.1f ns  ratio %7.2f\n", row.c_str(), name.c_str(), took, took / names.front().second);
+            }
+        }
+    }
+};
+
+size_t load(const Points &points, hull place) { return hull_load(place, points.data(), points.size()).number; }
+
+void time_loads(Table &table, const Points &points, bool slow) {
+    const size_t n = points.size();
+    {
+        Ours ours;
+        table.time("load", "hull_load", n, [&] { return load(points, ours.place); });
+    }
+    table.time("load", "sort and monotone chain", n, [&] { return Chain::of(points).corners.size(); });
+    const auto all = to_cgal(points);
+    table.time("load", "CGAL convex_hull_2", n, [&] {
+        std::vector<Kernel::Point_2> corners;
+        CGAL::convex_hull_2(all.begin(), all.end(), std::back_inserter(corners));
+        return corners.size();
+    });
+    table.time("load", "Boost convex_hull", n, [&] {
+        boost::geometry::model::multi_point<BoostPoint> many;
+        for (const auto &p : all) {
+            many.emplace_back(p.x(), p.y());
+        }
+        BoostPolygon polygon;
+        boost::geometry::convex_hull(many, polygon);
+        return polygon.outer().size();
+    });
+    if (slow) {
+        table.time("load", "CGAL Delaunay hierarchy, a range", n, [&] {
+            Hierarchy hierarchy;
+            hierarchy.insert(all.begin(), all.end());
+            return hierarchy.number_of_vertices();
+        });
+    }
+}
+
+void time_corners(Table &table, const Ours &ours, const Chain &chain) {
+    const size_t count = chain.corners.size();
+    Points out(count), copy(count);
+    table.time("corners", "hull_vertices", count, [&] { return hull_vertices(ours.place, out.data(), count).number; });
+    table.time("corners", "a pass over an array", count, [&] {
+        std::copy(chain.corners.begin(), chain.corners.end(), copy.begin());
+        return copy.size();
+    });
+    if (!std::equal(out.begin(), out.end(), chain.corners.begin(), [](Point a, Point b) { return a.x == b.x && a.y == b.y; })) {
+        std::printf("the corners differ\n");
+        std::exit(1);
+    }
+}
+
+template <class Answer> size_t count_of(const Points &asked, Answer answer) {
+    size_t sum = 0;
+    for (size_t i = 0; i < asked.size(); i++) {
+        sum += answer(i);
+    }
+    return sum;
+}
+
+void time_places(Table &table, const Ours &ours, const Chain &chain, const Points &asked, bool all) {
+    const size_t n = asked.size();
+    const Geos geos(chain.corners, asked);
+    const auto polygon = to_cgal(chain.corners), points = to_cgal(asked);
+    std::vector<size_t> counts;
+    const auto time = [&](const char *name, const std::function<bool(size_t)> &covers) {
+        counts.push_back(table.time("place", name, n, [&] { return count_of(asked, covers); }));
+    };
+    time("hull_place", [&](size_t i) { return hull_place(ours.place, asked[i].x, asked[i].y).code != HULL_OUTSIDE; });
+    time("corners and bisection", [&](size_t i) { return chain.covers(asked[i]); });
+    time("GEOS prepared", [&](size_t i) { return geos.covers(i); });
+    if (all) {
+        time("CGAL bounded_side_2", [&](size_t i) {
+            return CGAL::bounded_side_2(polygon.begin(), polygon.end(), points[i], Kernel()) != CGAL::ON_UNBOUNDED_SIDE;
+        });
+    }
+    if (std::any_of(counts.begin(), counts.end(), [&](size_t count) { return count != counts[0]; })) {
+        std::printf("the peers do not agree on the places\n");
+        std::exit(1);
+    }
+}
+
+void time_extremes(Table &table, const Ours &ours, const Chain &chain, const Points &asked) {
+    const size_t n = asked.size();
+    const size_t ours_sum = table.time("extreme", "hull_extreme", n, [&] {
+        return count_of(asked, [&](size_t i) { return static_cast<size_t>(hull_extreme(ours.place, asked[i].x, asked[i].y).x); });
+    });
+    const size_t other = table.time("extreme", "corners and bisection", n, [&] {
+        return count_of(asked, [&](size_t i) { return static_cast<size_t>(chain.extreme(asked[i].x, asked[i].y).x); });
+    });
+    if (ours_sum != other) {
+        std::printf("the farthest points differ\n");
+        std::exit(1);
+    }
+}
+
+} // namespace
+
+int main(int argc, char **argv) {
+    if (argc != 4) {
+        std::fprintf(stderr, "usage: standing square|parabola POINTS ROUNDS\n");
+        return 2;
+    }
+    const std::string shape = argv[1];
+    const size_t count = std::strtoull(argv[2], nullptr, 10);
+    const int rounds = std::atoi(argv[3]);
+    std::mt19937_64 random(12345);
+    const Points points = points_of(shape, count, random);
+    const Chain chain = Chain::of(points);
+    const auto wide = static_cast<int64_t>(count / 2);
+    std::uniform_int_distribution<int64_t> x(shape == "square" ? -1'000'000'000 : -wide, shape == "square" ? 1'000'000'000 : wide);
+    std::uniform_int_distribution<int64_t> y(shape == "square" ? -1'000'000'000 : 0, shape == "square" ? 1'000'000'000 : wide * wide);
+    Points asked;
+    for (int i = 0; i < 100000; i++) {
+        asked.push_back({x(random), y(random)});
+    }
+    Ours ours;
+    load(points, ours.place);
+    Table table;
+    for (int round = 0; round < rounds; round++) {
+        time_loads(table, points, shape == "square");
+        time_corners(table, ours, chain);
+        time_places(table, ours, chain, asked, chain.corners.size() < 1000);
+        time_extremes(table, ours, chain, asked);
+    }
+    std::printf("%s, %zu points, %zu corners\n", shape.c_str(), count, chain.corners.size());
+    table.print();
+    return 0;
+}

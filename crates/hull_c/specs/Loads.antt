@@ -1,0 +1,42 @@
+-- What it comes to that a hull is loaded with an array of points.
+use Rattle.std.specs.Prelude.{◌≡◌, ◌⊎◌, ◌≢◌, List, [], length}
+use Rattle.std.specs.List.{All}
+use Rattle.lattice.specs.Plane.{Pair}
+use Rattle.hull_plain.specs.Held.{nothing_held}
+use Rattle.hull_tree.specs.Roots.{held_by}
+use Rattle.hull_tree.specs.Sets.{LimitedTree, IsSound}
+use Rattle.hull_tree.specs.Loaded.{AreTooMany, held_after_adds}
+use Rattle.hull_reply.specs.Coordinates.{AreCoordinates}
+use Rattle.hull_reply.specs.Told.{IsBare, IsNumber}
+use Rattle.hull_reply.specs.declared.code.Code.{Code}
+use Rattle.hull_reply.specs.declared.code.Code.TheVariants as code
+use Rattle.hull_reply.specs.declared.reply.HullReply.{HullReply}
+
+-- both numbers of a point are coordinates
+abbrev pub HasCoordinates : Pair → Type 0
+HasCoordinates p = AreCoordinates p.x p.y
+
+-- why points were not read: one of them is out of range, or memory was refused for those that are not
+abbrev pub IsUnread : List Pair → Code → Type 0
+IsUnread points fault =
+    (¬ All HasCoordinates points × (fault ≡ code.OutOfRange)) ⊎ (All HasCoordinates points × (fault ≡ code.NoMemory))
+
+-- what adding the points one by one to an empty hull would leave is held, the limit stays, and the number of different
+-- points was told
+pub record HoldsAll (points : List Pair) (old new : LimitedTree) (told : HullReply) : Type 0 where
+  pub held : held_by new.root ≡ held_after_adds nothing_held points
+  pub sound : IsSound new.root
+  pub same_limit : new.limit ≡ old.limit
+  pub tells : IsNumber code.Number (length (held_by new.root).points) told
+
+-- there are too many points, or memory was refused, which no points would not ask for
+abbrev pub IsRefused : List Pair → LimitedTree → HullReply → Type 0
+IsRefused points old told =
+    (AreTooMany points old.limit × IsBare code.TooMany told) ⊎ ((points ≢ []) × IsBare code.NoMemory told)
+
+-- all points were loaded; or the hull is as it was: some point is out of range, and only then is that told, or the points
+-- were refused
+abbrev pub IsLoaded : List Pair → LimitedTree → LimitedTree → HullReply → Type 0
+IsLoaded points old new told =
+    (¬ All HasCoordinates points × (new ≡ old) × IsBare code.OutOfRange told)
+    ⊎ (All HasCoordinates points × (HoldsAll points old new told ⊎ ((new ≡ old) × IsRefused points old told)))

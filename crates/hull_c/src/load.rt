@@ -1,0 +1,67 @@
+//! All points of a hull at once, from an array of the caller's.
+ghost use Rattle.std.specs.Prelude.{◌≡◌, ◌↔◌, IsTrue, IfOk, IfErr};
+ghost use Rattle.std.specs.List.{All};
+ghost use Rattle.hull_reply.specs.Coordinates.{IsPointOf};
+ghost use Rattle.hull_c.specs.Loads.{IsLoaded, IsUnread, HasCoordinates};
+
+use super::corners::HullPoint;
+use hull_plain::HullSet;
+use hull_reply::{Code, HullReply, point_of};
+use hull_tree::{LoadFault, SparingTree};
+use lattice::Point;
+use std::alloc::Global;
+
+/// The point of these coordinates; [`Code::OutOfRange`] where one of them is none.
+fn read(asked: HullPoint) -> Result<Point, Code>
+    ensures { IsPointOf asked.x asked.y result }
+{
+    point_of(asked.x, asked.y)
+}
+
+/// Whether all coordinates of an array are in range.
+fn are_points(array: &[HullPoint]) -> bool
+    ensures { IsTrue result ↔ All HasCoordinates array.now }
+{
+    array.iter().all(|asked| read(*asked).is_ok())
+}
+
+/// The points of an array: [`Code::OutOfRange`] exactly where one of them is none, and else [`Code::NoMemory`].
+fn points_of(alloc: Global, array: &[HullPoint]) -> Result<Vec<Point>, Code>
+    ensures all { IfOk result (λ points. (points.items ≡ array.now) × All HasCoordinates array.now) }
+    ensures fault { IfErr result (IsUnread array.now) }
+{
+    let Ok(mut points) = Vec::with_capacity(alloc, array.len()) else {
+        let readable = are_points(array);
+        return Err(if readable {
+            Code::NoMemory
+        } else {
+            Code::OutOfRange
+        });
+    };
+    for i in 0..array.len() {
+        points.push_reserved(read(array[i])?);
+    }
+    Ok(points)
+}
+
+/// Holds the points of an array, each as often as it stands there, in the place of all that was held.
+pub(crate) fn load(alloc: Global, hull: &mut SparingTree, array: &[HullPoint]) -> HullReply
+    ensures { IsLoaded array.now hull.old hull.new result }
+{
+    if array.is_empty() {
+        *hull = SparingTree::new(alloc, hull.limit());
+        return HullReply::numbered(Code::Number, 0);
+    }
+    let points = match points_of(alloc, array) {
+        Ok(points) => points,
+        Err(fault) => return HullReply::bare(fault),
+    };
+    match SparingTree::from_points(alloc, hull.limit(), &points) {
+        Ok(loaded) => {
+            *hull = loaded;
+            HullReply::numbered(Code::Number, u64::from(hull.count()))
+        }
+        Err(LoadFault::TooMany) => HullReply::bare(Code::TooMany),
+        Err(LoadFault::NoMemory) => HullReply::bare(Code::NoMemory),
+    }
+}

@@ -1,0 +1,161 @@
+-- The corners of a set by their places: the lower edges from the first to the last, and the upper edges back.
+use Rattle.std.proofs.Common.{◌≡◌, ℕ, zero, suc, ◌+◌, ◌-◌, ◌≤◌, ◌<◌, ◌⊎◌, List, length, inl, inr, refl, sym, subst, arith}
+use Rattle.std.proofs.lemmas.Bool.{cases_lt}
+use Rattle.lattice.specs.Plane.{Pair, IsBefore}
+use Rattle.lattice.specs.Vertices.{IsVertexList}
+use Rattle.lattice.proofs.Order.{before_total}
+use Rattle.hull_plain.specs.Edges.{IsLowerEdge, IsUpperEdge, IsFirst, IsLast}
+use Rattle.hull_outline.specs.Outlines.{IsOutlineOf}
+use Rattle.hull_outline.specs.Rounds.{corner, IsRound}
+use Rattle.hull_outline.proofs.Corners.{corner_back, corner_extreme, next_left, first_before, next_apart}
+use Rattle.hull_outline.proofs.EdgesOf.{edge_forward, edge_back, lower_turns, upper_turns, first_between, last_between}
+
+-- the edges of S are those between the corners, and its ends are the first corner and the one at `top`
+pub record IsRing (S V : List Pair) (top : ℕ) : Type 0 where
+  pub ahead : (i j : ℕ) → j ≡ i + 1 → i < top → IsLowerEdge S (corner V i) (corner V j)
+  pub back : (i j : ℕ) → j ≡ i + 1 → top ≤ i → i < length V → IsUpperEdge S (corner V i) (corner V j)
+  pub first : IsFirst S (corner V 0)
+  pub last : IsLast S (corner V top)
+
+-- from a corner forward to the next: a lower edge
+lower_at : (S V : List Pair) (i j : ℕ) → IsVertexList S V → j ≡ i + 1 → i < length V
+    → IsBefore (corner V i) (corner V j) → IsLowerEdge S (corner V i) (corner V j)
+lower_at S V i j h e l b =
+    edge_forward S (corner V i) (corner V j) (corner_extreme S V i h (omega (arith, l))).0
+    (corner_extreme S V j h (omega (arith, l))) (next_left S V i j h e l) b
+
+-- and back to the next: an upper edge
+upper_at : (S V : List Pair) (i j : ℕ) → IsVertexList S V → j ≡ i + 1 → i < length V
+    → IsBefore (corner V j) (corner V i) → IsUpperEdge S (corner V i) (corner V j)
+upper_at S V i j h e l b =
+    edge_back S (corner V i) (corner V j) (corner_extreme S V i h (omega (arith, l))).0
+    (corner_extreme S V j h (omega (arith, l))) (next_left S V i j h e l) b
+
+-- a next corner under another number
+next_to : (V : List Pair) (P : Pair → Type 0) (i j : ℕ) → j ≡ i + 1 → P (corner V (i + 1)) → P (corner V j)
+next_to V P i j e p = subst (λ (n : ℕ). P (corner V n)) (sym e) p
+
+-- a round of corners that are those of S goes along its edges
+pub ring_of : (S V : List Pair) (top : ℕ) → IsOutlineOf S V → IsRound V top → IsRing S V top
+ring_of S V top o r = record {
+  ahead = ahead;
+  back = back;
+  first = first_between S (corner V (length V - 1)) (corner V 0) (corner V 1)
+      (subst (λ (z : Pair). IsUpperEdge S (corner V (length V - 1)) z)
+      (corner_back V (length V) (omega arith) (omega (arith, r.within)))
+      (back (length V - 1) (length V) (omega (arith, r.within)) (omega (arith, r.within)) (omega (arith, r.within))))
+      (ahead 0 1 (omega arith) r.starts);
+  last = last_between S (corner V (top - 1)) (corner V top) (corner V (top + 1))
+      (ahead (top - 1) top (omega (arith, r.starts)) (omega (arith, r.starts)))
+      (back top (top + 1) refl (omega arith) r.within);
+}
+  where
+    ahead : (i j : ℕ) → j ≡ i + 1 → i < top → IsLowerEdge S (corner V i) (corner V j)
+    ahead i j e l =
+        lower_at S V i j o.1 e (omega (arith, l, r.within))
+        (next_to V (IsBefore (corner V i)) i j e ((r.steps i (omega (arith, l, r.within))).0 l))
+
+    back : (i j : ℕ) → j ≡ i + 1 → top ≤ i → i < length V → IsUpperEdge S (corner V i) (corner V j)
+    back i j e k l = upper_at S V i j o.1 e l (next_to V (λ z. IsBefore z (corner V i)) i j e ((r.steps i l).1 k))
+
+-- ---- a summit of the corners of a set parts them
+
+-- the corners go forward to the one at `top`, and back from it
+pub record IsSummit (V : List Pair) (top : ℕ) : Type 0 where
+  pub starts : 0 < top
+  pub within : top < length V
+  pub forward : IsBefore (corner V (top - 1)) (corner V top)
+  pub backward : IsBefore (corner V (top + 1)) (corner V top)
+
+-- from each corner to the next goes an edge
+edge_at : (S V : List Pair) (i j : ℕ) → IsVertexList S V → j ≡ i + 1 → i < length V → 1 < length V
+    → IsLowerEdge S (corner V i) (corner V j) ⊎ IsUpperEdge S (corner V i) (corner V j)
+edge_at S V i j h e l n = elim (before_total (corner V i) (corner V j)) [
+  | inl b ↦ inl (lower_at S V i j h e l b)
+  | inr (inl q) ↦ absurd (next_apart S V i j h e l n q)
+  | inr (inr b) ↦ inr (upper_at S V i j h e l b)
+]
+
+-- no upper edge comes before a lower one
+no_dip : (S V : List Pair) (i j k : ℕ) → IsVertexList S V → j ≡ i + 1 → j < length V
+    → IsUpperEdge S (corner V i) (corner V j) → IsLowerEdge S (corner V j) (corner V k) → ⊥
+no_dip S V i j k h e l up low =
+    first_between S (corner V i) (corner V j) (corner V k) up low (corner V 0)
+    (corner_extreme S V 0 h (omega (arith, l))).0 (first_before S V j h (omega (arith, e)) l)
+
+-- before the summit are lower edges
+ahead_of_summit : (S V : List Pair) (top d i j : ℕ) → IsVertexList S V → IsSummit V top → top ≡ i + suc d → j ≡ i + 1
+    → IsLowerEdge S (corner V i) (corner V j)
+ahead_of_summit S V top zero i j h s f e =
+    lower_at S V i j h e (omega (arith, f, s.within))
+    (subst (λ (n : ℕ). IsBefore (corner V n) (corner V j)) (omega (arith, f))
+    (subst (λ (n : ℕ). IsBefore (corner V (top - 1)) (corner V n)) (omega (arith, f, e)) s.forward))
+ahead_of_summit S V top (suc d) i j h s f e =
+    elim (edge_at S V i j h e (omega (arith, f, s.within)) (omega (arith, s.starts, s.within))) [
+      | inl low ↦ low
+      | inr up ↦ absurd (no_dip S V i j (j + 1) h e (omega (arith, f, e, s.within)) up
+          (ahead_of_summit S V top d j (j + 1) h s (omega (arith, f, e)) refl))
+    ]
+
+-- from the summit on are upper edges
+back_from_summit : (S V : List Pair) (top d i j : ℕ) → IsVertexList S V → IsSummit V top → i ≡ top + d → j ≡ i + 1
+    → i < length V → IsUpperEdge S (corner V i) (corner V j)
+back_from_summit S V top zero i j h s f e l =
+    upper_at S V i j h e l
+    (subst (λ (n : ℕ). IsBefore (corner V j) (corner V n)) (omega (arith, f))
+    (subst (λ (n : ℕ). IsBefore (corner V n) (corner V top)) (omega (arith, f, e)) s.backward))
+back_from_summit S V top (suc d) i j h s f e l =
+    elim (edge_at S V i j h e l (omega (arith, s.starts, s.within))) [
+      | inr up ↦ up
+      | inl low ↦ absurd (no_dip S V (i - 1) i j h (omega (arith, f)) l
+          (back_from_summit S V top d (i - 1) i h s (omega (arith, f)) (omega (arith, f)) (omega (arith, l))) low)
+    ]
+
+-- the corners of a set are a round, parted at each summit of theirs
+pub round_of : (S V : List Pair) (top : ℕ) → IsOutlineOf S V → IsSummit V top → IsRound V top
+round_of S V top o s = record {
+  starts = s.starts;
+  within = s.within;
+  steps = λ i l. (λ k. (ahead i (i + 1) refl k).forward, λ k. (back i (i + 1) refl k l).backward);
+  turns = λ i l apart n. elim (cases_lt i top) [
+    | inl k ↦ lower_turns S (corner V i) (corner V (i + 1)) (corner V (i + 2)) (ahead i (i + 1) refl k)
+        (ahead (i + 1) (i + 2) (omega arith) (omega (arith, k, apart)))
+    | inr k ↦ upper_turns S (corner V i) (corner V (i + 1)) (corner V (i + 2)) (back i (i + 1) refl k l)
+        (back (i + 1) (i + 2) (omega arith) (omega (arith, k)) n)
+  ];
+}
+  where
+    ahead : (i j : ℕ) → j ≡ i + 1 → i < top → IsLowerEdge S (corner V i) (corner V j)
+    ahead i j e l = ahead_of_summit S V top (top - i - 1) i j o.1 s (omega (arith, l)) e
+
+    back : (i j : ℕ) → j ≡ i + 1 → top ≤ i → i < length V → IsUpperEdge S (corner V i) (corner V j)
+    back i j e k l = back_from_summit S V top (i - top) i j o.1 s (omega (arith, k)) e l
+
+-- where the corners go forward up to a place and not from it, it is a summit
+pub summit_of : (S V : List Pair) (top : ℕ) → IsOutlineOf S V → 1 < length V → top ≤ length V - 1
+    → (0 < top → IsBefore (corner V (top - 1)) (corner V (top - 1 + 1)))
+    → (top < length V - 1 → ¬ (IsBefore (corner V top) (corner V (top + 1)))) → IsSummit V top
+summit_of S V top o n l held fails = record {
+  starts = starts;
+  within = omega (arith, n, l);
+  forward = subst (λ (k : ℕ). IsBefore (corner V (top - 1)) (corner V k)) (omega (arith, starts)) (held starts);
+  backward = elim (cases_lt top (length V - 1)) [
+    | inl h ↦ elim (before_total (corner V top) (corner V (top + 1))) [
+      | inl b ↦ absurd (fails h b)
+      | inr (inl e) ↦ absurd (next_apart S V top (top + 1) o.1 refl (omega (arith, h)) n e)
+      | inr (inr b) ↦ b
+    ]
+    | inr h ↦ subst (λ (z : Pair). IsBefore z (corner V top))
+        (sym (corner_back V (top + 1) (omega (arith, h, l, n)) (omega (arith, n))))
+        (first_before S V top o.1 starts (omega (arith, n, l)))
+  ];
+}
+  where
+    starts : 0 < top
+    starts = elim (cases_lt 0 top) [
+      | inl h ↦ h
+      | inr h ↦ absurd (fails (omega (arith, h, n))
+          (subst (λ (k : ℕ). IsBefore (corner V k) (corner V (top + 1))) (omega (arith, h))
+          (subst (λ (k : ℕ). IsBefore (corner V 0) (corner V k)) (omega (arith, h))
+          (first_before S V 1 o.1 (omega arith) n))))
+    ]

@@ -1,0 +1,14 @@
+-- each place that was passed goes on and turns left
+use Rattle.std.proofs.Common.{ℕ, ◌+◌, ◌<◌, inl, inr, subst, arith}
+use Rattle.std.proofs.lemmas.Bool.{cases_lt}
+use Rattle.hull_outline.proofs.rounds.is_round.Goals as goal
+
+-- what holds below a number and at it holds below the next
+one_more : (P : ℕ → Type 0) (n k : ℕ) → ((k : ℕ) → k < n → P k) → P n → k < n + 1 → P k
+one_more P n k h p l = elim (cases_lt k n) [ inl b ↦ h k b | inr b ↦ subst P (omega (arith, b, l)) p ]
+
+pub loop-i-preserved : goal.loop-i-preserved
+loop-i-preserved c = record {
+  steps = λ k l. one_more _ c.loop-i.i k c.loop-i.invariant.steps (c.goes_on.ensures.0 c.if-not-goes_on.false) l;
+  turns = λ k l. one_more _ c.loop-i.i k c.loop-i.invariant.turns (c.bends.ensures.0 c.if-not-bends.false) l;
+}

@@ -1,0 +1,22 @@
+-- a short list is the vertex list of itself; of a longer one it was tested that it is a round
+use Rattle.std.proofs.Common.{arith}
+use Rattle.hull_plain.proofs.Rounding.{small_list}
+use Rattle.hull_outline.proofs.Made.{round_is_outline}
+use Rattle.hull_outline.proofs.rounds.last_of.Goals as goal
+
+pub returns-then-corners-lt2 : goal.returns-then-corners-lt2
+returns-then-corners-lt2 c = (
+  (
+    c.args.corners.now,
+    (
+      (λ i j d h l. absurd (omega (arith, h, l, c.if-corners-lt2.true))),
+      small_list c.args.corners.now c.if-corners-lt2.true,
+    ),
+  ),
+  λ n. absurd (omega (arith, n, c.if-corners-lt2.true)),
+)
+
+pub returns-then-is_round : goal.returns-then-is_round
+returns-then-is_round c =
+    let r = c.is_round.ensures.0 c.if-is_round.true in
+    (round_is_outline c.args.corners.now c.summit-last.result r, λ n. r)

@@ -1,0 +1,3 @@
+pub mod Outlines
+pub mod Rounds
+pub mod OneWay

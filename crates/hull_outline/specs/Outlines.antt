@@ -1,0 +1,17 @@
+-- The outline of a finite set of points: the list of its corners, as its vertices are told.
+use Rattle.std.specs.Prelude.{List}
+use Rattle.lattice.specs.Plane.{Pair}
+use Rattle.lattice.specs.Covers.{IsPointSet}
+use Rattle.lattice.specs.Vertices.{IsVertexList}
+
+-- the corners are the vertices of the set S, counterclockwise from the first
+abbrev pub IsOutlineOf : List Pair → List Pair → Type 0
+IsOutlineOf S corners = IsPointSet S × IsVertexList S corners
+
+-- they are those of some set
+abbrev pub IsOutline : List Pair → Type 0
+IsOutline corners = (S : List Pair) × IsOutlineOf S corners
+
+-- P holds of each set whose corners these are
+abbrev pub HoldsOfSetsOf : List Pair → (List Pair → Type 0) → Type 0
+HoldsOfSetsOf corners P = (S : List Pair) → IsOutlineOf S corners → P S
