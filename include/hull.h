@@ -4,12 +4,13 @@
  * holds, each taken once. A coordinate is at least -HULL_COORDINATE_MAX and at most HULL_COORDINATE_MAX. Answers are exact:
  * an area is told doubled, so that it is a whole number.
  *
- * A hull lies in room that the caller gives: hull_size() bytes at a multiple of hull_alignment(). The room stays the
- * caller's. Between hull_init and hull_end a hull lies there, and the caller neither reads nor writes the room, nor moves
- * it. What a hull holds beyond its room comes from malloc and goes back to free: by hull_remove, hull_clear and hull_end.
+ * hull_new makes a hull in memory from malloc, and hull_free ends it. Or a hull lies in room that the caller gives: hull_size()
+ * bytes at a multiple of hull_alignment(). The room stays the caller's. Between hull_init and hull_end a hull lies there, and
+ * the caller neither reads nor writes the room, nor moves it. What a hull holds beyond its room comes from malloc and goes back
+ * to free: by hull_remove, hull_clear and hull_end.
  *
  * What the caller must keep, and nothing checks:
- * - each `hull` that is passed is one that hull_init (or hull_make) made and hull_end did not end;
+ * - each hull that is passed is one that hull_init (or hull_make, or hull_new) made and hull_end (or hull_free) did not end;
  * - on one hull there is one call at a time, a question too, in whatever thread: a lock, or a thread's start or join, stands
  *   between two calls from different threads. Two hulls have nothing in common;
  * - no call is made from a signal handler, nor in the child of a fork of a process with threads;
@@ -29,29 +30,28 @@ extern "C" {
 #endif
 
 /* A request of hull_calls: what hull_call takes. */
-typedef struct {
+typedef struct hull_request {
     uint32_t kind;
     int64_t x;
     int64_t y;
 } hull_request;
 
-/* The place of a hull: the room that it was made in. What lies there is nobody's but the library's. */
-typedef void *hull;
+/* A hull, by the room in which it lies. What lies there is nobody's but the library's. (It isn't called `hull`, so that a
+ * program in C++ may have a namespace of that name.) A call that is passed a `const hull_set *` leaves the hull as it is; one
+ * at a time is allowed of these, too. */
+typedef struct hull_set hull_set;
 
-/* How many bytes the room of a hull has, and at which multiples of bytes it begins; the same at each call.
- *
- *     hull h = aligned_alloc(hull_alignment(), hull_size());
- */
+/* How many bytes the room of a hull has, and at which multiples of bytes it begins; the same at each call. */
 size_t hull_size(void);
 size_t hull_alignment(void);
 
 /* Makes an empty hull in the room, which takes `limit` different points; HULL_LIMIT_MAX of them where `limit` is 0 or
  * above that. It asks for no memory. What lay in the room is written over: it must not be a hull that was not ended. */
-void hull_make(uint32_t limit, hull room);
+void hull_make(uint32_t limit, hull_set *room);
 
 /* The same for a caller who would know of a limit out of range: HULL_OK, and a hull lies in the room; or HULL_OUT_OF_LIMITS,
  * and it is a room still, which must not be ended. */
-static inline uint32_t hull_init(uint32_t limit, hull room) {
+static inline uint32_t hull_init(uint32_t limit, hull_set *room) {
     if (limit < 1 || limit > HULL_LIMIT_MAX) {
         return HULL_OUT_OF_LIMITS;
     }
@@ -60,71 +60,98 @@ static inline uint32_t hull_init(uint32_t limit, hull room) {
 }
 
 /* Ends the hull: all its memory goes to free, and the room is the caller's alone. It returns HULL_OK. */
-uint32_t hull_end(hull h);
+uint32_t hull_end(hull_set *h);
+
+/* An empty hull for 1 to HULL_LIMIT_MAX different points in a room from malloc; null where the limit is out of range or memory
+ * was refused. It is for hull_free, not for hull_end. */
+static inline hull_set *hull_new(uint32_t limit) {
+    hull_set *h = NULL;
+    if (limit >= 1 && limit <= HULL_LIMIT_MAX) {
+        h = (hull_set *)hull_room_new(hull_size(), hull_alignment());
+    }
+    if (h != NULL) {
+        hull_make(limit, h);
+    }
+    return h;
+}
+
+/* Ends a hull of hull_new, and gives its room back to free; nothing where it is null. */
+static inline void hull_free(hull_set *h) {
+    if (h != NULL) {
+        hull_end(h);
+        hull_room_free(h);
+    }
+}
 
 /* Makes a call by its kind (hull_kind), with the point or the direction (x, y): what the functions below do that have a kind's
  * name; HULL_UNKNOWN_KIND where no kind has the number. Only of HULL_KIND_ADD and HULL_KIND_VERTICES memory is asked for. */
-hull_reply hull_call(hull h, uint32_t kind, int64_t x, int64_t y);
+hull_reply hull_call(hull_set *h, uint32_t kind, int64_t x, int64_t y);
+
+/* The same for the kinds that change nothing: HULL_KIND_PLACE and those behind it. */
+static inline hull_reply hull_ask(const hull_set *h, uint32_t kind, int64_t x, int64_t y) {
+    return hull_call((hull_set *)h, kind, x, y);
+}
 
 /* Holds the point (x, y) once more: HULL_ADDED, HULL_AGAIN, HULL_TOO_MANY, HULL_NO_MEMORY (for a new point below the limit
  * alone) or HULL_OUT_OF_RANGE. */
-static inline hull_reply hull_add(hull h, int64_t x, int64_t y) {
+static inline hull_reply hull_add(hull_set *h, int64_t x, int64_t y) {
     return hull_call(h, HULL_KIND_ADD, x, y);
 }
 
 /* Holds the point (x, y) once less: HULL_REMOVED, HULL_LEFT, HULL_ABSENT or HULL_OUT_OF_RANGE. It asks for no memory. */
-static inline hull_reply hull_remove(hull h, int64_t x, int64_t y) {
+static inline hull_reply hull_remove(hull_set *h, int64_t x, int64_t y) {
     return hull_call(h, HULL_KIND_REMOVE, x, y);
 }
 
 /* Where the point (x, y) lies: HULL_INSIDE, HULL_ON, HULL_OUTSIDE (of an empty hull, too) or HULL_OUT_OF_RANGE. */
-static inline hull_reply hull_place(hull h, int64_t x, int64_t y) {
-    return hull_call(h, HULL_KIND_PLACE, x, y);
+static inline hull_reply hull_place(const hull_set *h, int64_t x, int64_t y) {
+    return hull_ask(h, HULL_KIND_PLACE, x, y);
 }
 
 /* Which points bound the hull as it is seen from (x, y): HULL_TANGENTS, HULL_NO_TANGENT or HULL_OUT_OF_RANGE. No point lies
  * left of the line from (x, y) through the left point, nor right of the one through the right point; of several points on
  * such a line it is the farthest. */
-static inline hull_reply hull_tangents(hull h, int64_t x, int64_t y) {
-    return hull_call(h, HULL_KIND_TANGENTS, x, y);
+static inline hull_reply hull_tangents(const hull_set *h, int64_t x, int64_t y) {
+    return hull_ask(h, HULL_KIND_TANGENTS, x, y);
 }
 
 /* The point that lies farthest in the direction (x, y), and of several the first by x and then by y: HULL_POINT, HULL_EMPTY,
  * HULL_OUT_OF_RANGE or HULL_ZERO_DIRECTION. */
-static inline hull_reply hull_extreme(hull h, int64_t x, int64_t y) {
-    return hull_call(h, HULL_KIND_EXTREME, x, y);
+static inline hull_reply hull_extreme(const hull_set *h, int64_t x, int64_t y) {
+    return hull_ask(h, HULL_KIND_EXTREME, x, y);
 }
 
 /* How often the point (x, y) is held, 0 where it is not there: HULL_NUMBER or HULL_OUT_OF_RANGE. */
-static inline hull_reply hull_multiplicity(hull h, int64_t x, int64_t y) {
-    return hull_call(h, HULL_KIND_MULTIPLICITY, x, y);
+static inline hull_reply hull_multiplicity(const hull_set *h, int64_t x, int64_t y) {
+    return hull_ask(h, HULL_KIND_MULTIPLICITY, x, y);
 }
 
 /* Writes the corners of the hull to the front of the array of `room` points: counterclockwise from the first by x and then
  * by y, each once, and no point inside an edge. HULL_CORNERS; HULL_TOO_SMALL, where the caller may ask again with `number`
  * points of room; or HULL_NO_MEMORY. A room of hull_count always suffices. `out` is not null, even for a room of 0, and is
  * aligned; its points have been written before, to whatever (calloc does that). */
-hull_reply hull_vertices(hull h, hull_point *out, size_t room);
+hull_reply hull_vertices(const hull_set *h, hull_point *out, size_t room);
 
 /* Twice the area of the hull, 0 for a point and a line: HULL_NUMBER with `number` and `high`. */
-static inline hull_reply hull_area(hull h) {
-    return hull_call(h, HULL_KIND_AREA, 0, 0);
+static inline hull_reply hull_area(const hull_set *h) {
+    return hull_ask(h, HULL_KIND_AREA, 0, 0);
 }
 
 /* How many different points there are: HULL_NUMBER. */
-static inline hull_reply hull_count(hull h) {
-    return hull_call(h, HULL_KIND_COUNT, 0, 0);
+static inline hull_reply hull_count(const hull_set *h) {
+    return hull_ask(h, HULL_KIND_COUNT, 0, 0);
 }
 
 /* How many different points the hull takes: HULL_NUMBER. */
-hull_reply hull_limit(hull h);
+hull_reply hull_limit(const hull_set *h);
 
 /* Makes the calls of the requests in their order, each on what those before it left, and writes a reply for each to the front of
  * `replies`; returns how many it wrote. It ends at the end of the shorter array, or with the first request that can't be served,
  * whose reply is HULL_UNKNOWN_KIND, HULL_OUT_OF_RANGE or HULL_ZERO_DIRECTION: those before it were served, it and those behind it
  * were not, and the replies behind its own are as they were. (HULL_TOO_MANY and HULL_NO_MEMORY end nothing.) Both arrays are not
  * null, even where they have no elements, do not overlap, and have been written before (calloc does that). */
-size_t hull_calls(hull h, const hull_request *requests, size_t request_count, hull_reply *replies, size_t reply_room);
+size_t hull_calls(hull_set *h, const hull_request *requests, size_t request_count, hull_reply *replies,
+                  size_t reply_room);
 
 /* Holds the points of the array, in any order, each as often as it stands there, in the place of all that was held: what adding
  * them one by one to an empty hull makes, in a small part of the time. HULL_NUMBER, the number of different points; or the hull is as
@@ -134,7 +161,7 @@ size_t hull_calls(hull h, const hull_request *requests, size_t request_count, hu
 hull_reply hull_load(hull h, const hull_point *points, size_t count);
 
 /* Lets all points go, and their memory; the limit stays: HULL_CLEARED. */
-hull_reply hull_clear(hull h);
+hull_reply hull_clear(hull_set *h);
 
 #ifdef __cplusplus
 }

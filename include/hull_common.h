@@ -4,6 +4,8 @@
 
 #include <stddef.h>
 #include <stdint.h>
+#include <stdlib.h>
+#include <string.h>
 
 /* The greatest size of a coordinate, of a point and of a direction: 2^40. */
 #define HULL_COORDINATE_MAX INT64_C(1099511627776)
@@ -13,7 +15,7 @@
 #define HULL_MULTIPLICITY_MAX 65535
 
 /* What a call asks for, with what it may be answered. The numbers will not change. */
-enum hull_kind {
+typedef enum hull_kind {
     HULL_KIND_ADD = 1,         /* holds the point once more: ADDED, AGAIN, TOO_MANY, NO_MEMORY */
     HULL_KIND_REMOVE = 2,      /* holds the point once less: REMOVED, LEFT, ABSENT */
     HULL_KIND_PLACE = 3,       /* where the point lies: INSIDE, ON, OUTSIDE */
@@ -23,10 +25,10 @@ enum hull_kind {
     HULL_KIND_AREA = 7,        /* the doubled area: NUMBER; `x` and `y` are not read */
     HULL_KIND_COUNT = 8,       /* how many different points there are: NUMBER; `x` and `y` are not read */
     HULL_KIND_MULTIPLICITY = 9 /* how often the point is held, 0 where it is not there: NUMBER. A seat can't ask for it */
-};
+} hull_kind;
 
 /* What a call was answered. The numbers will not change. Where nothing else is said, nothing changed. */
-enum hull_code {
+typedef enum hull_code {
     HULL_OK = 0,             /* an empty hull lies in the room; or the hull was ended */
     HULL_OUT_OF_RANGE = 1,   /* a coordinate is out of range */
     HULL_ZERO_DIRECTION = 2, /* both components of the direction are 0 */
@@ -45,8 +47,7 @@ enum hull_code {
     HULL_TANGENTS = 15,      /* the left point (`x`, `y`) and the right one (`other_x`, `other_y`) */
     HULL_NO_TANGENT = 16,    /* the hull holds no point, or covers the one asked about */
     HULL_NUMBER = 17,        /* `number`; an area is 2^64 times `high` more */
-    HULL_CORNERS = 18,       /* there are `number` corners; hull_vertices wrote them to the front of the array, and of a
-                                seat's call they stand in the journal's line */
+    HULL_CORNERS = 18,       /* there are `number` corners, which stand at the front of the array, if one was passed */
     HULL_TOO_SMALL = 19,     /* `number` corners or bytes are to be written, more than the array has room for */
     HULL_CLEARED = 20,       /* no point is held any more */
     HULL_UNKNOWN_KIND = 22,  /* no kind that can be asked here has this number */
@@ -73,10 +74,10 @@ enum hull_code {
     HULL_TEXT = 50,          /* the text was written to the front of the array: `number` bytes */
     HULL_ENDED = 51,         /* the desk holds nothing any more */
     HULL_IN_USE = 52         /* no seat is out, and yet a call on the desk or a seat is under way: the desk stays open */
-};
+} hull_code;
 
-/* What a call was answered: a code, and what belongs to it (told above); all else is 0. */
-typedef struct {
+/* What a call was answered: a code (hull_code), and what belongs to it (told above); all else is 0. */
+typedef struct hull_reply {
     uint32_t code;
     int64_t x;
     int64_t y;
@@ -86,9 +87,83 @@ typedef struct {
     uint64_t high;
 } hull_reply;
 
-typedef struct {
+typedef struct hull_point {
     int64_t x;
     int64_t y;
 } hull_point;
+
+/* The name of a code as it stands above, for messages: hull_code_name(9) is "HULL_ABSENT". "no code" where no code has the
+ * number. */
+static inline const char *hull_code_name(uint32_t code) {
+    switch (code) {
+    case HULL_OK: return "HULL_OK";
+    case HULL_OUT_OF_RANGE: return "HULL_OUT_OF_RANGE";
+    case HULL_ZERO_DIRECTION: return "HULL_ZERO_DIRECTION";
+    case HULL_ADDED: return "HULL_ADDED";
+    case HULL_AGAIN: return "HULL_AGAIN";
+    case HULL_TOO_MANY: return "HULL_TOO_MANY";
+    case HULL_NO_MEMORY: return "HULL_NO_MEMORY";
+    case HULL_REMOVED: return "HULL_REMOVED";
+    case HULL_LEFT: return "HULL_LEFT";
+    case HULL_ABSENT: return "HULL_ABSENT";
+    case HULL_POINT: return "HULL_POINT";
+    case HULL_EMPTY: return "HULL_EMPTY";
+    case HULL_INSIDE: return "HULL_INSIDE";
+    case HULL_ON: return "HULL_ON";
+    case HULL_OUTSIDE: return "HULL_OUTSIDE";
+    case HULL_TANGENTS: return "HULL_TANGENTS";
+    case HULL_NO_TANGENT: return "HULL_NO_TANGENT";
+    case HULL_NUMBER: return "HULL_NUMBER";
+    case HULL_CORNERS: return "HULL_CORNERS";
+    case HULL_TOO_SMALL: return "HULL_TOO_SMALL";
+    case HULL_CLEARED: return "HULL_CLEARED";
+    case HULL_UNKNOWN_KIND: return "HULL_UNKNOWN_KIND";
+    case HULL_OPEN: return "HULL_OPEN";
+    case HULL_OUT_OF_LIMITS: return "HULL_OUT_OF_LIMITS";
+    case HULL_WAS_OPENED: return "HULL_WAS_OPENED";
+    case HULL_LENT: return "HULL_LENT";
+    case HULL_NO_SEAT: return "HULL_NO_SEAT";
+    case HULL_ROOM_IN_USE: return "HULL_ROOM_IN_USE";
+    case HULL_NOT_OPEN: return "HULL_NOT_OPEN";
+    case HULL_RETURNED: return "HULL_RETURNED";
+    case HULL_VACANT: return "HULL_VACANT";
+    case HULL_WAITING: return "HULL_WAITING";
+    case HULL_PLACE_IN_USE: return "HULL_PLACE_IN_USE";
+    case HULL_TAKEN: return "HULL_TAKEN";
+    case HULL_NOT_YET: return "HULL_NOT_YET";
+    case HULL_NO_NUMBER: return "HULL_NO_NUMBER";
+    case HULL_FULL: return "HULL_FULL";
+    case HULL_SEATS_OUT: return "HULL_SEATS_OUT";
+    case HULL_CLOSED: return "HULL_CLOSED";
+    case HULL_NOT_CLOSED: return "HULL_NOT_CLOSED";
+    case HULL_TEXT: return "HULL_TEXT";
+    case HULL_ENDED: return "HULL_ENDED";
+    case HULL_IN_USE: return "HULL_IN_USE";
+    default: return "no code";
+    }
+}
+
+/* Memory from malloc of so many bytes, which begins at a multiple of the alignment (a power of 2), for hull_room_free; null
+ * where malloc refuses. It needs no aligned_alloc, which C99 and C++ need not have. */
+static inline void *hull_room_new(size_t size, size_t alignment) {
+    unsigned char *block = (unsigned char *)malloc(sizeof(void *) + alignment - 1 + size);
+    unsigned char *room;
+    if (block == NULL) {
+        return NULL;
+    }
+    room = block + sizeof(void *);
+    room += (alignment - (uintptr_t)room % alignment) % alignment;
+    memcpy(room - sizeof(void *), &block, sizeof(void *));
+    return room;
+}
+
+/* Gives memory of hull_room_new back to free; nothing where it is null. */
+static inline void hull_room_free(void *room) {
+    void *block;
+    if (room != NULL) {
+        memcpy(&block, (unsigned char *)room - sizeof(void *), sizeof(void *));
+        free(block);
+    }
+}
 
 #endif

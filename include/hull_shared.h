@@ -6,20 +6,32 @@
  *
  * A desk keeps the hull, and a seat for each thread. A thread has one room for a seat, gets a seat into it (hull_shared_lend),
  * makes its calls with it (hull_shared_call), and gives it back (hull_shared_give_back). When all seats are back, the desk is
- * closed (hull_shared_close), its journal is written (hull_shared_text), and the desk ends (hull_shared_end).
+ * closed (hull_shared_close), its journal is written (hull_shared_text), and the desk ends (hull_shared_end). Beside each desk
+ * stands a hull_shared_line, in which its calls wait.
  *
- * Desks and seats lie in rooms that the caller gives: of hull_shared_desk_size() bytes at a multiple of
- * hull_shared_desk_alignment(), and so for seats. hull_shared_make_desk and hull_shared_make_seat make them there, before any
- * other call. The caller neither reads, writes nor moves a room. A desk that is not open and a room with no seat hold
- * nothing beyond their rooms, which may be used for anything then.
+ *     hull_shared_desk *desk = hull_shared_desk_new();
+ *     hull_shared_seat *seat = hull_shared_seat_new();          // one for each thread
+ *     static hull_shared_line line;                             // all zero; one for the desk
+ *     hull_shared_open(desk, 1000, 0, 4096, 2);
+ *     hull_shared_lend(desk, seat, 0);
+ *     hull_shared_call(&line, seat, HULL_KIND_ADD, 3, 4);       // in the thread of that seat
+ *
+ * hull_shared_desk_new and hull_shared_seat_new make desks and seats in memory from malloc. Or they lie in rooms that the caller
+ * gives: of hull_shared_desk_size() bytes at a multiple of hull_shared_desk_alignment(), and so for seats; hull_shared_make_desk
+ * and hull_shared_make_seat make them there, before any other call. The caller neither reads, writes nor moves a room. A desk
+ * that is not open and a room with no seat hold nothing beyond their rooms, which may be used for anything then.
  *
  * What the caller must keep, and nothing checks:
  * - each desk and each seat that is passed was made, and lies where it was made;
  * - on one desk there is one call at a time, and so on one room for a seat. Different seats are independent: that is what they
  *   are for. A desk or a room may pass from thread to thread, if the threads order that between them (a start, a join, a lock);
- * - a seat is given back to the desk that it went out of;
+ * - a seat is given back to the desk that it went out of, and all calls of a desk's seats are passed that desk's line;
+ * - an array that is passed is not null, even where it has no elements, was written before (calloc does that), has the length
+ *   that is told, and overlaps nothing;
  * - no call is made from a signal handler, nor in the child of a fork of a process with threads;
- * - malloc, realloc and free are of one allocator, whose blocks are aligned as C says. */
+ * - malloc, realloc and free are of one allocator, whose blocks are aligned as C says.
+ *
+ * Where a call has several reasons to refuse, it tells the first of those listed at it. */
 #ifndef HULL_SHARED_H
 #define HULL_SHARED_H
 
@@ -28,25 +40,40 @@
 #if defined(__unix__) || defined(__APPLE__)
 #include <sched.h>
 #endif
+/* Threads sleep by futex, or by a mutex and a condition of pthreads where there is none. */
+#if defined(__linux__)
+#include <linux/futex.h>
+#include <sys/syscall.h>
+#include <unistd.h>
+#endif
+#if !defined(SYS_futex) && !defined(HULL_SHARED_BY_PTHREADS)
+#define HULL_SHARED_BY_PTHREADS
+#endif
+#if defined(HULL_SHARED_BY_PTHREADS)
+#include <pthread.h>
+#endif
 
 #ifdef __cplusplus
 extern "C" {
+#elif !defined(HULL_SHARED_BY_PTHREADS)
+long syscall(long number, ...); /* which unistd.h leaves out under -std=c99 */
 #endif
 
 /* How many calls and how many seats a desk may be opened with. */
 #define HULL_SHARED_CAPACITY_MAX 16777216
 #define HULL_SHARED_SEATS_MAX 64
 
-/* What a look came to: an answer, and the number under which the call was served: that of its line, or where the journal was full
- * (HULL_FULL) the number that was taken; 0 where nothing was served. */
-typedef struct {
+/* What a take or a look came to: an answer, and the number that the seat took: that of its line, or where the journal was full
+ * (HULL_FULL) the one that is passed over. It is told with each answer, with HULL_FULL, HULL_TAKEN, HULL_WAITING and
+ * HULL_NOT_YET, and is 0 where the seat has none. Behind an answer or HULL_FULL the number turn + 1 is served. */
+typedef struct hull_shared_reply {
     hull_reply told;
     uint64_t turn;
 } hull_shared_reply;
 
-/* The place of a desk, and of a room for a seat. */
-typedef void *hull_shared_desk;
-typedef void *hull_shared_seat;
+/* A desk, and a room for a seat, by where they lie. */
+typedef struct hull_shared_desk hull_shared_desk;
+typedef struct hull_shared_seat hull_shared_seat;
 
 /* How many bytes a room has, and at which multiples of bytes it begins. */
 size_t hull_shared_desk_size(void);
@@ -55,69 +82,354 @@ size_t hull_shared_seat_size(void);
 size_t hull_shared_seat_alignment(void);
 
 /* Make a desk that is not open, and a room with no seat. What lay there is written over. They ask for no memory. */
-void hull_shared_make_desk(hull_shared_desk room);
-void hull_shared_make_seat(hull_shared_seat room);
+void hull_shared_make_desk(hull_shared_desk *room);
+void hull_shared_make_seat(hull_shared_seat *room);
+
+/* The same in memory from malloc; null where it refuses. */
+static inline hull_shared_desk *hull_shared_desk_new(void) {
+    hull_shared_desk *desk =
+        (hull_shared_desk *)hull_room_new(hull_shared_desk_size(), hull_shared_desk_alignment());
+    if (desk != NULL) {
+        hull_shared_make_desk(desk);
+    }
+    return desk;
+}
+
+static inline hull_shared_seat *hull_shared_seat_new(void) {
+    hull_shared_seat *seat =
+        (hull_shared_seat *)hull_room_new(hull_shared_seat_size(), hull_shared_seat_alignment());
+    if (seat != NULL) {
+        hull_shared_make_seat(seat);
+    }
+    return seat;
+}
+
+/* Give the memory of a desk that is not open and holds nothing (behind hull_shared_end), and of a room with no seat, back to
+ * free; nothing where it is null. */
+static inline void hull_shared_desk_free(hull_shared_desk *desk) {
+    hull_room_free(desk);
+}
+
+static inline void hull_shared_seat_free(hull_shared_seat *seat) {
+    hull_room_free(seat);
+}
 
 /* Opens a desk round an empty hull of up to `limit` points, with room for `capacity` calls, which are numbered from `first` on,
- * and with seats 0 to `seats` - 1: OPEN; OUT_OF_LIMITS, WAS_OPENED, NO_MEMORY. All memory but that of points is asked for here. */
-uint32_t hull_shared_open(hull_shared_desk desk, uint32_t limit, uint64_t first, uint32_t capacity, uint32_t seats);
+ * and with seats 0 to `seats` - 1: OPEN; WAS_OPENED, OUT_OF_LIMITS, NO_MEMORY. All memory but that of points is asked for here. */
+uint32_t hull_shared_open(hull_shared_desk *desk, uint32_t limit, uint64_t first, uint32_t capacity, uint32_t seats);
 
-/* Moves seat `number` into the room: LENT; NO_SEAT, ROOM_IN_USE, NOT_OPEN, NO_MEMORY. */
-uint32_t hull_shared_lend(hull_shared_desk desk, hull_shared_seat room, uint32_t number);
+/* Moves seat `number` into the room: LENT; NOT_OPEN, ROOM_IN_USE, NO_SEAT, NO_MEMORY. */
+uint32_t hull_shared_lend(hull_shared_desk *desk, hull_shared_seat *room, uint32_t number);
 
-/* Moves the seat in the room back to the desk that it went out of: RETURNED; VACANT, WAITING, PLACE_IN_USE, NOT_OPEN. */
-uint32_t hull_shared_give_back(hull_shared_desk desk, hull_shared_seat room);
+/* Moves the seat in the room back to the desk that it went out of: RETURNED; NOT_OPEN, VACANT, WAITING, PLACE_IN_USE. */
+uint32_t hull_shared_give_back(hull_shared_desk *desk, hull_shared_seat *room);
 
 /* Takes a number for a call of a kind (hull_kind, but for HULL_KIND_MULTIPLICITY, which a journal has no line for): TAKEN; VACANT,
  * WAITING, UNKNOWN_KIND, OUT_OF_RANGE, ZERO_DIRECTION. Once a number is taken, the seat has to look until it is served: all calls
  * with later numbers wait for that. */
-uint32_t hull_shared_take(hull_shared_seat seat, uint32_t kind, int64_t x, int64_t y);
+hull_shared_reply hull_shared_take(hull_shared_seat *seat, uint32_t kind, int64_t x, int64_t y);
 
-/* Looks once whether the seat's number is served, and then makes the call: its answer, or FULL; NOT_YET, NO_NUMBER, VACANT. */
-hull_shared_reply hull_shared_look(hull_shared_seat seat);
+/* Looks once whether the seat's number is served, and then makes the call: its answer, or FULL; VACANT, NO_NUMBER, NOT_YET. Of a
+ * list of corners it tells how many they are. */
+hull_shared_reply hull_shared_look(hull_shared_seat *seat);
 
-/* Closes the desk: CLOSED; SEATS_OUT where a seat is out, NOT_OPEN, and IN_USE, which is told only to a caller who lets another
+/* The same; the corners, where the call asked for them, are written to the front of the array of `room` points, as hull_vertices
+ * writes them. TOO_SMALL where they have no room: the call was served all the same, and has its line, and the array is as it was.
+ * For all other calls and answers the array stays as it was. */
+hull_shared_reply hull_shared_look_into(hull_shared_seat *seat, hull_point *out, size_t room);
+
+/* Closes the desk: CLOSED; NOT_OPEN, SEATS_OUT where a seat is out, and IN_USE, which is told only to a caller who lets another
  * call on the desk or its seats go on. */
-uint32_t hull_shared_close(hull_shared_desk desk);
+uint32_t hull_shared_close(hull_shared_desk *desk);
 
-/* Writes the text of a closed desk's journal to the front of the array: TEXT; TOO_SMALL, NO_MEMORY, NOT_CLOSED. It is a text of
- * the program hullbook, whose `check` judges it. */
-hull_reply hull_shared_text(hull_shared_desk desk, uint8_t *out, size_t length);
+/* Writes the text of a closed desk's journal to the front of the array: TEXT; NOT_CLOSED, NO_MEMORY, TOO_SMALL with the `number` of
+ * bytes. It is a text of the program hullbook, whose `check` judges it. */
+hull_reply hull_shared_text(const hull_shared_desk *desk, uint8_t *out, size_t length);
 
 /* Ends a desk that is not open, so that it holds nothing: ENDED; NOT_CLOSED, where it is open. It may be opened again. */
-uint32_t hull_shared_end(hull_shared_desk desk);
+uint32_t hull_shared_end(hull_shared_desk *desk);
 
-/* Waits a little before the look with this number: a pause at first, longer each time, and then the processor is yielded. */
-static inline void hull_shared_pause(unsigned looks) {
-    if (looks < 7) {
-        for (unsigned i = 0; i < (1u << looks); i++) {
-#if defined(__x86_64__) || defined(__i386__)
-            __builtin_ia32_pause();
-#elif defined(__aarch64__)
-            __asm__ volatile("yield");
+/* ---- waiting
+ *
+ * The library neither sleeps nor wakes: a seat with a number looks, and in between this header waits, in a line that all seats of
+ * a desk share. What is proved of the library holds however its callers wait; that none of them sleeps for ever rests on what is
+ * said here.
+ *
+ * 1. A seat with a number sleeps at the place of its number (modulo 64: at most 64 numbers are out, so that no two seats have
+ *    one place). It announces itself there (waiters + 1), reads the place's epoch, and looks once more; only then it sleeps, unless
+ *    the epoch has changed since. Who was served has handed the next number on; where it then finds an announcement at that
+ *    number's place, it changes the epoch and wakes. All these steps have one order, in which each thread's keep theirs. If the last
+ *    look did not see the number handed on, then the hand-over came behind that look, and so behind the announcement and the
+ *    reading of the epoch: it finds the one and changes the other. Either the sleeper is asleep by then and is woken, or it finds
+ *    another epoch and does not fall asleep.
+ *
+ * 2. A number in other hands is waited for, and its thread may have no processor. So hull_shared_call stops at a door before it
+ *    takes a number: `beside` + 1 calls may be inside. Who finds the door shut looks for a moment, is counted as asleep outside, and
+ *    sleeps. Who leaves makes one of the sleepers the heir and wakes it, and wakes no other as long as an heir is awake. Calls that
+ *    begin now may pass the sleepers, which saves a wake-up for each call, but not for ever: behind HULL_SHARED_IN_A_ROW calls since
+ *    the last heir came in, the door is closed to all but the heir.
+ *    The door is one word, so that its changes have one order. As long as fewer are inside than may be, and some are asleep outside
+ *    or the door is closed, an heir is awake, who will look: who lies down finds the door full, or closed, where an heir is awake
+ *    already; an heir lies down only where it is full; and who leaves makes an heir where some are asleep and there is none.
+ *    (Dice and Kogan, 2019, restrict in this way how many threads contend for a lock.) */
+#define HULL_SHARED_IN_A_ROW 256
+
+/* A place to sleep; apart from the next one by a line of the cache. */
+typedef struct hull_shared_place {
+    uint32_t epoch;
+    uint32_t waiters;
+    unsigned char apart[56];
+} hull_shared_place;
+
+/* Where the calls of one desk wait. All zero, it is ready, as of `static hull_shared_line line;` or by hull_shared_line_init; it
+ * needs no end. It may be made anew only when no call waits in it. */
+typedef struct hull_shared_line {
+    uint32_t beside;     /* how many calls may be inside at once, less one */
+    uint32_t served;     /* the number served of late, in its lower bits; it only tells who is near its turn */
+    uint32_t in_a_row;   /* the calls since the last heir came in */
+    unsigned char apart[52];
+    uint32_t door;       /* calls inside; HULL_SHARED_HEIR, HULL_SHARED_CLOSED; HULL_SHARED_ASLEEP for each who sleeps outside */
+    uint32_t heirs;      /* who was made heir and is still to learn it: 0 or 1 */
+    unsigned char outside[56];
+    hull_shared_place places[HULL_SHARED_SEATS_MAX];
+#if defined(HULL_SHARED_BY_PTHREADS)
+    pthread_mutex_t lock;
+    pthread_cond_t changed;
 #endif
-        }
-        return;
-    }
-#if defined(__unix__) || defined(__APPLE__)
-    sched_yield();
+} hull_shared_line;
+
+enum {
+    HULL_SHARED_INSIDE = 255,        /* the bits of the door that count who is inside */
+    HULL_SHARED_HEIR = 256,          /* an heir is awake */
+    HULL_SHARED_CLOSED = 512,        /* only the heir may come in */
+    HULL_SHARED_ASLEEP = 1024,
+    HULL_SHARED_NEAR = 2,            /* so many numbers before its own a seat is near its turn */
+    HULL_SHARED_LOOKS = 20,          /* so often one looks near its turn, or outside, before it sleeps */
+    HULL_SHARED_HEIRS_LOOKS = 200    /* and an heir, since who leaves has to wake one again */
+};
+
+/* What tests put between two steps, to hold a thread up there. */
+#ifndef HULL_SHARED_STEP
+#define HULL_SHARED_STEP(name) ((void)0)
+#endif
+
+/* Makes a line in which `inside` calls may have numbers at once, 1 to 64. With 1, which is what all zero means, calls are fast
+ * and served as said above; with as many as there are seats each call is served in the order in which the calls began, and waits
+ * for every one before it to be made by its own thread. */
+static inline void hull_shared_line_init(hull_shared_line *line, uint32_t inside) {
+    memset(line, 0, sizeof *line);
+    line->beside = inside < 1 || inside > HULL_SHARED_SEATS_MAX ? 0 : inside - 1;
+#if defined(HULL_SHARED_BY_PTHREADS)
+    pthread_mutex_init(&line->lock, NULL);
+    pthread_cond_init(&line->changed, NULL);
 #endif
 }
 
-/* Makes a call and waits for its answer. Where no number was taken, the code is that of hull_shared_take. */
-static inline hull_shared_reply hull_shared_call(hull_shared_seat seat, uint32_t kind, int64_t x, int64_t y) {
-    hull_shared_reply reply = {{0, 0, 0, 0, 0, 0, 0}, 0};
-    reply.told.code = hull_shared_take(seat, kind, x, y);
-    if (reply.told.code != HULL_TAKEN) {
-        return reply;
+/* Sleeps until someone wakes who sleeps by this word, unless the word is no longer `seen`; it may return before. */
+static inline void hull_shared_sleep(hull_shared_line *line, uint32_t *word, uint32_t seen) {
+#if defined(HULL_SHARED_BY_PTHREADS)
+    pthread_mutex_lock(&line->lock);
+    if (__atomic_load_n(word, __ATOMIC_SEQ_CST) == seen) {
+        pthread_cond_wait(&line->changed, &line->lock);
     }
-    for (unsigned looks = 0;; looks += looks < 7) {
-        reply = hull_shared_look(seat);
-        if (reply.told.code != HULL_NOT_YET) {
-            return reply;
+    pthread_mutex_unlock(&line->lock);
+#else
+    (void)line;
+    syscall(SYS_futex, word, FUTEX_WAIT_PRIVATE, seen, NULL, NULL, 0);
+#endif
+}
+
+/* Wakes one who sleeps by this word, which was changed before. */
+static inline void hull_shared_wake(hull_shared_line *line, uint32_t *word) {
+#if defined(HULL_SHARED_BY_PTHREADS)
+    (void)word;
+    pthread_mutex_lock(&line->lock);
+    pthread_cond_broadcast(&line->changed);
+    pthread_mutex_unlock(&line->lock);
+#else
+    (void)line;
+    syscall(SYS_futex, word, FUTEX_WAKE_PRIVATE, 1, NULL, NULL, 0);
+#endif
+}
+
+/* Waits a little between two looks: a pause, longer each time up to 64. */
+static inline void hull_shared_pause(unsigned looks) {
+    unsigned i;
+    for (i = 0; i < (1u << (looks < 6 ? looks : 6)); i++) {
+#if defined(__x86_64__) || defined(__i386__)
+        __builtin_ia32_pause();
+#elif defined(__aarch64__)
+        __asm__ volatile("yield");
+#endif
+    }
+}
+
+/* Comes in by the door, if it is open: to an heir also where it is closed to others. It may fail where others change the door. */
+static inline int hull_shared_comes_in(hull_shared_line *line, int is_heir) {
+    uint32_t door = __atomic_load_n(&line->door, __ATOMIC_RELAXED), next = door + 1;
+    if ((door & HULL_SHARED_INSIDE) > line->beside || ((door & HULL_SHARED_CLOSED) != 0 && !is_heir)) {
+        return 0;
+    }
+    if (is_heir) {
+        next &= ~(uint32_t)(HULL_SHARED_HEIR | HULL_SHARED_CLOSED);
+    }
+    return __atomic_compare_exchange_n(&line->door, &door, next, 0, __ATOMIC_SEQ_CST, __ATOMIC_RELAXED);
+}
+
+/* Is counted as asleep outside, if the door is not open to it; an heir is none any more then. */
+static inline int hull_shared_lies_down(hull_shared_line *line, int is_heir) {
+    uint32_t door = __atomic_load_n(&line->door, __ATOMIC_RELAXED), next = door + HULL_SHARED_ASLEEP;
+    if ((door & HULL_SHARED_INSIDE) <= line->beside && ((door & HULL_SHARED_CLOSED) == 0 || is_heir)) {
+        return 0;
+    }
+    if (is_heir) {
+        next &= ~(uint32_t)HULL_SHARED_HEIR;
+    }
+    return __atomic_compare_exchange_n(&line->door, &door, next, 0, __ATOMIC_SEQ_CST, __ATOMIC_RELAXED);
+}
+
+/* Sleeps outside until it is made the heir. */
+static inline void hull_shared_become_heir(hull_shared_line *line) {
+    for (;;) {
+        uint32_t one = 1;
+        if (__atomic_compare_exchange_n(&line->heirs, &one, 0, 0, __ATOMIC_SEQ_CST, __ATOMIC_SEQ_CST)) {
+            return;
         }
-        hull_shared_pause(looks);
+        HULL_SHARED_STEP("no heir yet");
+        hull_shared_sleep(line, &line->heirs, 0);
     }
+}
+
+/* Waits at the door, and comes in. */
+static inline void hull_shared_enter(hull_shared_line *line) {
+    int is_heir = 0;
+    unsigned looks = 0;
+    while (!hull_shared_comes_in(line, is_heir)) {
+        if (looks < (is_heir ? HULL_SHARED_HEIRS_LOOKS : HULL_SHARED_LOOKS)) {
+            hull_shared_pause(looks++);
+            continue;
+        }
+        HULL_SHARED_STEP("the door was shut");
+        if (hull_shared_lies_down(line, is_heir)) {
+            HULL_SHARED_STEP("counted as asleep");
+            hull_shared_become_heir(line);
+            is_heir = 1;
+            looks = 0;
+        }
+    }
+    if (is_heir) {
+        __atomic_store_n(&line->in_a_row, 0, __ATOMIC_RELAXED);
+    }
+}
+
+/* Leaves by the door; wakes an heir where some sleep outside and none is awake. */
+static inline void hull_shared_leave(hull_shared_line *line) {
+    uint32_t row = __atomic_load_n(&line->in_a_row, __ATOMIC_RELAXED) + 1;
+    uint32_t door = __atomic_load_n(&line->door, __ATOMIC_RELAXED), next, wakes;
+    __atomic_store_n(&line->in_a_row, row, __ATOMIC_RELAXED);
+    do {
+        next = door - 1;
+        wakes = door >= HULL_SHARED_ASLEEP && (door & HULL_SHARED_HEIR) == 0;
+        if (wakes) {
+            next = (next - HULL_SHARED_ASLEEP) | HULL_SHARED_HEIR;
+        }
+        if (row >= HULL_SHARED_IN_A_ROW && (next & HULL_SHARED_HEIR) != 0) {
+            next |= HULL_SHARED_CLOSED;
+        }
+    } while (!__atomic_compare_exchange_n(&line->door, &door, next, 0, __ATOMIC_SEQ_CST, __ATOMIC_RELAXED));
+    if (wakes) {
+        HULL_SHARED_STEP("left, to wake");
+        __atomic_store_n(&line->heirs, 1, __ATOMIC_SEQ_CST);
+        hull_shared_wake(line, &line->heirs);
+    }
+}
+
+/* Wakes who sleeps with this number, which was handed on before. Who calls hull_shared_look on his own tells this number, the
+ * turn of the reply and one more, behind each answer and HULL_FULL. */
+static inline void hull_shared_handed_on(hull_shared_line *line, uint64_t number) {
+    hull_shared_place *place = &line->places[number % HULL_SHARED_SEATS_MAX];
+    __atomic_store_n(&line->served, (uint32_t)number, __ATOMIC_RELAXED);
+    if (__atomic_load_n(&place->waiters, __ATOMIC_SEQ_CST) != 0) {
+        HULL_SHARED_STEP("to wake");
+        __atomic_fetch_add(&place->epoch, 1, __ATOMIC_SEQ_CST);
+        hull_shared_wake(line, &place->epoch);
+    }
+}
+
+/* Looks once; where the number was served, who waits for the next is woken. */
+static inline hull_shared_reply hull_shared_look_and_wake(hull_shared_line *line, hull_shared_seat *seat, hull_point *out,
+                                                          size_t room) {
+    hull_shared_reply reply = out == NULL ? hull_shared_look(seat) : hull_shared_look_into(seat, out, room);
+    if (reply.told.code != HULL_NOT_YET && reply.told.code != HULL_NO_NUMBER && reply.told.code != HULL_VACANT) {
+        HULL_SHARED_STEP("served");
+        hull_shared_handed_on(line, reply.turn + 1);
+    }
+    return reply;
+}
+
+/* Sleeps at the place of the seat's number, unless a last look finds it served. */
+static inline hull_shared_reply hull_shared_sleep_and_look(hull_shared_line *line, hull_shared_seat *seat, uint64_t number,
+                                                           hull_point *out, size_t room) {
+    hull_shared_place *place = &line->places[number % HULL_SHARED_SEATS_MAX];
+    hull_shared_reply reply;
+    uint32_t epoch;
+    __atomic_fetch_add(&place->waiters, 1, __ATOMIC_SEQ_CST);
+    epoch = __atomic_load_n(&place->epoch, __ATOMIC_SEQ_CST);
+    HULL_SHARED_STEP("announced");
+    reply = hull_shared_look_and_wake(line, seat, out, room);
+    if (reply.told.code == HULL_NOT_YET) {
+        HULL_SHARED_STEP("looked");
+        hull_shared_sleep(line, &place->epoch, epoch);
+    }
+    __atomic_fetch_sub(&place->waiters, 1, __ATOMIC_SEQ_CST);
+    return reply;
+}
+
+/* Waits until the number that the seat has taken is served: the answer to its call, whose corners are written to `out` where that
+ * is not null. */
+static inline hull_shared_reply hull_shared_wait(hull_shared_line *line, hull_shared_seat *seat, hull_point *out,
+                                                 size_t room) {
+    hull_shared_reply reply = hull_shared_look_and_wake(line, seat, out, room);
+    unsigned looks = 0;
+    while (reply.told.code == HULL_NOT_YET) {
+        uint32_t before = (uint32_t)reply.turn - __atomic_load_n(&line->served, __ATOMIC_RELAXED);
+        if (before <= HULL_SHARED_NEAR && looks < HULL_SHARED_LOOKS) {
+            hull_shared_pause(looks++);
+            reply = hull_shared_look_and_wake(line, seat, out, room);
+        } else {
+            reply = hull_shared_sleep_and_look(line, seat, reply.turn, out, room);
+        }
+    }
+    return reply;
+}
+
+/* Makes a call whose corners are written to `out` where that is not null, and waits for its answer. */
+static inline hull_shared_reply hull_shared_call_into(hull_shared_line *line, hull_shared_seat *seat, uint32_t kind, int64_t x,
+                                                      int64_t y, hull_point *out, size_t room) {
+    hull_shared_reply reply;
+    hull_shared_enter(line);
+    reply = hull_shared_take(seat, kind, x, y);
+    if (reply.told.code == HULL_TAKEN) {
+        reply = hull_shared_wait(line, seat, out, room);
+    }
+    hull_shared_leave(line);
+    return reply;
+}
+
+/* Makes a call of a kind (hull_kind) and waits for its answer, which is the kind's, or FULL. Where no number was taken, the code
+ * is that of hull_shared_take: VACANT, WAITING, UNKNOWN_KIND, OUT_OF_RANGE, ZERO_DIRECTION. Of a list of corners it tells how many
+ * they are. */
+static inline hull_shared_reply hull_shared_call(hull_shared_line *line, hull_shared_seat *seat, uint32_t kind, int64_t x,
+                                                 int64_t y) {
+    return hull_shared_call_into(line, seat, kind, x, y, NULL, 0);
+}
+
+/* Asks for the corners, which are written to the front of the array as hull_vertices writes them: CORNERS; TOO_SMALL where the array
+ * has no room for all, with their `number`, and then it is as it was; NO_MEMORY, FULL, VACANT, WAITING. With each answer the call
+ * has its line, TOO_SMALL too. */
+static inline hull_shared_reply hull_shared_vertices(hull_shared_line *line, hull_shared_seat *seat, hull_point *out,
+                                                     size_t room) {
+    return hull_shared_call_into(line, seat, HULL_KIND_VERTICES, 0, 0, out, room);
 }
 
 #ifdef __cplusplus

@@ -29,7 +29,7 @@ static int64_t within(int64_t size) {
 }
 
 /* asks all, and returns a sum of the answers, so that none is left out */
-static uint64_t ask(hull h, int kind) {
+static uint64_t ask(hull_set *h, int kind) {
     uint64_t sum = 0;
     if (kind == KINDS - 1) {
         return hull_calls(h, requests, ASKED, replies, ASKED) + replies[ASKED - 1].code;
@@ -48,7 +48,7 @@ static uint64_t ask(hull h, int kind) {
 
 int main(int words, char **word) {
     long points = words > 1 ? atol(word[1]) : 16, rounds = words > 2 ? atol(word[2]) : 30;
-    hull h = aligned_alloc(hull_alignment(), hull_size());
+    hull_set *h = aligned_alloc(hull_alignment(), hull_size());
     if (h == NULL || hull_init(HULL_LIMIT_MAX, h) != HULL_OK) {
         return 1;
     }

@@ -1,27 +1,32 @@
-/* Mixed calls from 1, 2, 4 and 8 threads: through hull_shared, beside a mutex round a hull of one thread.
+/* Mixed calls from 1, 2, 4, 8 and 64 threads: through hull_shared, beside a mutex round a hull of one thread.
  *
- *     mixed POINTS CALLS ROUNDS
+ *     mixed POINTS CALLS ROUNDS BUSY
  *
- * Each round makes either hull anew, puts so many random points in, and has the threads make so many calls in all: half
- * of them questions, the others additions and removals of random points in turn. Both take turns; of each the least time
- * of the rounds. */
+ * Each round makes each hull anew, puts so many random points in, and has the threads make so many calls in all: half
+ * of them questions, the others additions and removals of random points in turn. The mutex, seats whose calls are made
+ * one inside at a time, and seats that all have numbers at once (first come, first served) take turns; of each the least
+ * and the median time of the rounds. Beside them BUSY processes spin. */
 #include "hull.h"
 #include "hull_shared.h"
 #include <pthread.h>
 #include <stdio.h>
+#include <signal.h>
 #include <stdlib.h>
+#include <sys/wait.h>
 #include <time.h>
+#include <unistd.h>
 
-enum { SIZE = 1 << 20, MOST_THREADS = 8, KINDS = 8 };
+enum { SIZE = 1 << 20, MOST_THREADS = 64, MOST_ROUNDS = 100, MOST_BUSY = 64, KINDS = 8 };
 
 /* what a thread calls: the numbers of both headers are the same for these */
 static const uint32_t KIND[KINDS] = {HULL_KIND_ADD,   HULL_KIND_PLACE,   HULL_KIND_REMOVE, HULL_KIND_EXTREME,
                                      HULL_KIND_ADD,   HULL_KIND_TANGENTS, HULL_KIND_REMOVE, HULL_KIND_PLACE};
 
 static pthread_mutex_t lock = PTHREAD_MUTEX_INITIALIZER;
-static hull plain;
-static hull_shared_desk desk;
-static hull_shared_seat rooms[MOST_THREADS];
+static hull_set *plain;
+static hull_shared_line line;
+static hull_shared_desk *desk;
+static hull_shared_seat *rooms[MOST_THREADS];
 static pthread_barrier_t start;
 static long calls_of_each;
 
@@ -51,7 +56,7 @@ static void by_mutex(unsigned me, uint32_t kind, int64_t x, int64_t y) {
 }
 
 static void by_seat(unsigned me, uint32_t kind, int64_t x, int64_t y) {
-    if (hull_shared_call(rooms[me], kind, x, y).told.code == HULL_FULL) {
+    if (hull_shared_call(&line, rooms[me], kind, x, y).told.code == HULL_FULL) {
         abort();
     }
 }
@@ -97,10 +102,11 @@ static double timed(unsigned threads, one_call call) {
     return end - begin;
 }
 
-static double through_mutex(unsigned threads, long points) {
+static double through_mutex(unsigned threads, long points, unsigned inside) {
+    (void)inside;
     uint64_t state = 7;
-    plain = aligned_alloc(hull_alignment(), hull_size());
-    if (plain == NULL || hull_init(HULL_LIMIT_MAX, plain) != HULL_OK) {
+    plain = hull_new(HULL_LIMIT_MAX);
+    if (plain == NULL) {
         abort();
     }
     for (long i = 0; i < points; i++) {
@@ -108,23 +114,23 @@ static double through_mutex(unsigned threads, long points) {
         hull_add(plain, x, coordinate(&state));
     }
     double took = timed(threads, by_mutex);
-    hull_end(plain);
-    free(plain);
+    hull_free(plain);
     return took;
 }
 
-static double through_seats(unsigned threads, long points) {
+static double through_seats(unsigned threads, long points, unsigned inside) {
     uint64_t state = 7;
     uint32_t capacity = (uint32_t)(points + threads * calls_of_each);
-    desk = malloc(hull_shared_desk_size());
-    hull_shared_make_desk(desk);
-    if (hull_shared_open(desk, HULL_LIMIT_MAX, 0, capacity, threads) != HULL_OPEN) {
+    hull_shared_line_init(&line, inside);
+    desk = hull_shared_desk_new();
+    if (desk == NULL || hull_shared_open(desk, HULL_LIMIT_MAX, 0, capacity, threads) != HULL_OPEN) {
         abort();
     }
     for (unsigned k = 0; k < threads; k++) {
-        rooms[k] = malloc(hull_shared_seat_size());
-        hull_shared_make_seat(rooms[k]);
-        hull_shared_lend(desk, rooms[k], k);
+        rooms[k] = hull_shared_seat_new();
+        if (rooms[k] == NULL || hull_shared_lend(desk, rooms[k], k) != HULL_LENT) {
+            abort();
+        }
     }
     for (long i = 0; i < points; i++) {
         int64_t x = coordinate(&state);
@@ -133,28 +139,76 @@ static double through_seats(unsigned threads, long points) {
     double took = timed(threads, by_seat);
     for (unsigned k = 0; k < threads; k++) {
         hull_shared_give_back(desk, rooms[k]);
-        free(rooms[k]);
+        hull_shared_seat_free(rooms[k]);
     }
     hull_shared_close(desk);
     hull_shared_end(desk);
-    free(desk);
+    hull_shared_desk_free(desk);
     return took;
 }
 
-int main(int words, char **word) {
-    long points = words > 1 ? atol(word[1]) : 1000, calls = words > 2 ? atol(word[2]) : 200000;
-    long rounds = words > 3 ? atol(word[3]) : 5;
-    printf("C: %ld points, %ld calls in all, the least of %ld rounds\n", points, calls, rounds);
-    for (unsigned threads = 1; threads <= MOST_THREADS; threads *= 2) {
-        double mutex = 0, seats = 0;
-        calls_of_each = calls / threads;
-        for (long round = 0; round < rounds; round++) {
-            double m = through_mutex(threads, points), s = through_seats(threads, points);
-            mutex = round == 0 || m < mutex ? m : mutex;
-            seats = round == 0 || s < seats ? s : seats;
+/* what is timed */
+static const struct {
+    const char *name;
+    double (*through)(unsigned threads, long points, unsigned inside);
+    unsigned inside;
+} ways[] = {{"mutex", through_mutex, 0}, {"seats", through_seats, 1}, {"first come", through_seats, MOST_THREADS}};
+enum { WAYS = sizeof ways / sizeof ways[0] };
+
+static int rises(const void *a, const void *b) {
+    double x = *(const double *)a, y = *(const double *)b;
+    return (x > y) - (x < y);
+}
+
+/* processes that spin */
+static void begin(pid_t *busy, long count) {
+    for (long i = 0; i < count; i++) {
+        busy[i] = fork();
+        if (busy[i] == 0) {
+            for (volatile unsigned long n = 0;; n++) {
+            }
         }
-        printf("%u threads: mutex %7.1f ns a call, seats %7.1f ns a call, speed of the mutex's: %.2f\n", threads,
-               mutex / (double)calls * 1e9, seats / (double)calls * 1e9, mutex / seats);
     }
+}
+
+static void end(const pid_t *busy, long count) {
+    for (long i = 0; i < count; i++) {
+        kill(busy[i], SIGKILL);
+        waitpid(busy[i], NULL, 0);
+    }
+}
+
+int main(int words, char **word) {
+    static const unsigned counts[] = {1, 2, 4, 8, 64};
+    long points = words > 1 ? atol(word[1]) : 1000, calls = words > 2 ? atol(word[2]) : 200000;
+    long rounds = words > 3 ? atol(word[3]) : 5, count = words > 4 ? atol(word[4]) : 0;
+    pid_t busy[MOST_BUSY];
+    if (rounds < 1 || rounds > MOST_ROUNDS || count < 0 || count > MOST_BUSY) {
+        return 2;
+    }
+    printf("C: %ld points, %ld calls in all, %ld rounds, beside %ld busy processes; ns a call, least and median\n", points,
+           calls, rounds, count);
+    begin(busy, count);
+    for (unsigned i = 0; i < sizeof counts / sizeof counts[0]; i++) {
+        double took[WAYS][MOST_ROUNDS];
+        calls_of_each = calls / counts[i];
+        for (long round = 0; round < rounds; round++) {
+            for (unsigned way = 0; way < WAYS; way++) {
+                took[way][round] = ways[way].through(counts[i], points, ways[way].inside) / (double)calls * 1e9;
+            }
+        }
+        printf("%2u threads:", counts[i]);
+        for (unsigned way = 0; way < WAYS; way++) {
+            qsort(took[way], (size_t)rounds, sizeof took[way][0], rises);
+            printf(" %s %6.0f %6.0f", ways[way].name, took[way][0], took[way][rounds / 2]);
+        }
+        for (unsigned way = 1; way < WAYS; way++) {
+            printf("; %s of the mutex's speed %.2f %.2f", ways[way].name, took[0][0] / took[way][0],
+                   took[0][rounds / 2] / took[way][rounds / 2]);
+        }
+        printf("\n");
+        fflush(stdout);
+    }
+    end(busy, count);
     return 0;
 }

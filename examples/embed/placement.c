@@ -28,7 +28,7 @@ static int is_beyond(const hull_point *from, const hull_point *to, const rectang
 }
 
 /* whether an edge of the hull has the rectangle beyond it, given room for all corners of the hull */
-static int is_beyond_an_edge(hull placed, const rectangle *r, hull_point *corners, size_t room) {
+static int is_beyond_an_edge(const hull_set *placed, const rectangle *r, hull_point *corners, size_t room) {
     hull_reply told = hull_vertices(placed, corners, room);
     for (size_t i = 0; told.code == HULL_CORNERS && i < told.number; i++) {
         if (is_beyond(&corners[i], &corners[(i + 1) % told.number], r)) {
@@ -39,7 +39,7 @@ static int is_beyond_an_edge(hull placed, const rectangle *r, hull_point *corner
 }
 
 /* whether the rectangle and the hull have no point in common; not where memory is refused */
-static int is_beside(hull placed, const rectangle *r) {
+static int is_beside(const hull_set *placed, const rectangle *r) {
     size_t room = hull_count(placed).number;
     if (room == 0 || hull_extreme(placed, 1, 0).x < r->left || hull_extreme(placed, -1, 0).x > r->right
         || hull_extreme(placed, 0, 1).y < r->low || hull_extreme(placed, 0, -1).y > r->high) {
@@ -52,7 +52,7 @@ static int is_beside(hull placed, const rectangle *r) {
 }
 
 /* adds the corners of the rectangle; where one is refused, those before it are taken back */
-static int put(hull placed, const rectangle *r) {
+static int put(hull_set *placed, const rectangle *r) {
     for (int i = 0; i < 4; i++) {
         hull_point p = corner(r, i);
         uint32_t code = hull_add(placed, p.x, p.y).code;
@@ -67,7 +67,7 @@ static int put(hull placed, const rectangle *r) {
     return 1;
 }
 
-static void take_back(hull placed, const rectangle *r) {
+static void take_back(hull_set *placed, const rectangle *r) {
     for (int i = 0; i < 4; i++) {
         hull_point p = corner(r, i);
         hull_remove(placed, p.x, p.y);
@@ -79,8 +79,8 @@ int main(void) {
         {0, 0, 40, 20},   {50, 0, 70, 30}, {30, 10, 60, 40},  {-5, -5, 90, 90},
         {10, 40, 45, 60}, {41, 1, 49, 19}, {-20, 5, 120, 8},  {80, 5, 95, 15},
     };
-    hull placed = aligned_alloc(hull_alignment(), hull_size());
-    if (placed == NULL || hull_init(1000, placed) != HULL_OK) {
+    hull_set *placed = hull_new(1000);
+    if (placed == NULL) {
         return 1;
     }
     for (size_t i = 0; i < sizeof wanted / sizeof *wanted; i++) {
@@ -94,7 +94,6 @@ int main(void) {
     take_back(placed, &wanted[7]);
     area = hull_area(placed);
     printf("without the last: %llu\n", (unsigned long long)area.number);
-    hull_end(placed);
-    free(placed);
+    hull_free(placed);
     return 0;
 }

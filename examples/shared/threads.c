@@ -8,13 +8,14 @@
 
 enum { INSERTING = 3, SEATS = INSERTING + 1, ROUNDS = 200 };
 
-static hull_shared_seat rooms[SEATS];
+static hull_shared_line line;
+static hull_shared_seat *rooms[SEATS];
 
 static void *insert(void *seat) {
-    long number = (hull_shared_seat *)seat - rooms;
+    long number = (hull_shared_seat **)seat - rooms;
     for (long i = 0; i < ROUNDS; i++) {
         long x = i % 2 ? i : -i;
-        hull_shared_call(rooms[number], HULL_KIND_ADD, x, number == 0 ? i : number == 1 ? -i : 0);
+        hull_shared_call(&line, rooms[number], HULL_KIND_ADD, x, number == 0 ? i : number == 1 ? -i : 0);
     }
     return NULL;
 }
@@ -22,7 +23,7 @@ static void *insert(void *seat) {
 static void *ask(void *free_looks) {
     long *looks = free_looks;
     while (*looks < ROUNDS) {
-        hull_shared_reply reply = hull_shared_call(rooms[INSERTING], HULL_KIND_PLACE, 5, 50);
+        hull_shared_reply reply = hull_shared_call(&line, rooms[INSERTING], HULL_KIND_PLACE, 5, 50);
         ++*looks;
         if (reply.told.code == HULL_INSIDE) {
             break;
@@ -32,9 +33,10 @@ static void *ask(void *free_looks) {
 }
 
 /* The text of the closed desk, in an array of its own. */
-static int write_journal(hull_shared_desk desk) {
-    hull_reply told = hull_shared_text(desk, NULL, 0);
-    uint8_t *text = malloc(told.number);
+static int write_journal(const hull_shared_desk *desk) {
+    uint8_t none = 0;
+    hull_reply told = hull_shared_text(desk, &none, 0);
+    uint8_t *text = calloc(told.number, 1);
     if (text == NULL) {
         return 1;
     }
@@ -45,23 +47,18 @@ static int write_journal(hull_shared_desk desk) {
 }
 
 int main(void) {
-    hull_shared_desk desk = malloc(hull_shared_desk_size());
+    hull_shared_desk *desk = hull_shared_desk_new();
     pthread_t threads[SEATS];
     long looks = 0;
     if (desk == NULL) {
         return 1;
     }
-    hull_shared_make_desk(desk);
     if (hull_shared_open(desk, 100000, 0, SEATS * ROUNDS, SEATS) != HULL_OPEN) {
         return 1;
     }
     for (unsigned i = 0; i < SEATS; i++) {
-        rooms[i] = malloc(hull_shared_seat_size());
-        if (rooms[i] == NULL) {
-            return 1;
-        }
-        hull_shared_make_seat(rooms[i]);
-        if (hull_shared_lend(desk, rooms[i], i) != HULL_LENT) {
+        rooms[i] = hull_shared_seat_new();
+        if (rooms[i] == NULL || hull_shared_lend(desk, rooms[i], i) != HULL_LENT) {
             return 1;
         }
     }
@@ -74,10 +71,10 @@ int main(void) {
         if (hull_shared_give_back(desk, rooms[i]) != HULL_RETURNED) {
             return 1;
         }
-        free(rooms[i]);
+        hull_shared_seat_free(rooms[i]);
     }
     int wrong = hull_shared_close(desk) != HULL_CLOSED || write_journal(desk);
     hull_shared_end(desk);
-    free(desk);
+    hull_shared_desk_free(desk);
     return wrong;
 }

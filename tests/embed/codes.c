@@ -36,9 +36,9 @@ static int point(hull_reply r, int64_t x, int64_t y) {
     return r.code == HULL_POINT && r.x == x && r.y == y && !r.other_x && !r.other_y && !r.number && !r.high;
 }
 
-static hull room_of_one(void) {
+static hull_set *room_of_one(void) {
     size_t size = (hull_size() + hull_alignment() - 1) / hull_alignment() * hull_alignment();
-    hull room = aligned_alloc(hull_alignment(), size);
+    hull_set *room = aligned_alloc(hull_alignment(), size);
     if (room == NULL) {
         exit(2);
     }
@@ -46,19 +46,19 @@ static hull room_of_one(void) {
     return room;
 }
 
-static hull made(uint32_t limit) {
-    hull h = room_of_one();
+static hull_set *made(uint32_t limit) {
+    hull_set *h = room_of_one();
     CHECK(hull_init(limit, h) == HULL_OK);
     return h;
 }
 
-static void ended(hull h) {
+static void ended(hull_set *h) {
     CHECK(hull_end(h) == HULL_OK);
     free(h);
 }
 
 static void limits(void) {
-    hull h = room_of_one();
+    hull_set *h = room_of_one();
     unsigned char *before = malloc(hull_size());
     memcpy(before, h, hull_size());
     CHECK(hull_init(0, h) == HULL_OUT_OF_LIMITS);
@@ -77,7 +77,7 @@ static void limits(void) {
 }
 
 static void changes(void) {
-    hull h = made(2);
+    hull_set *h = made(2);
     CHECK(bare(hull_add(h, 1, 2), HULL_ADDED));
     CHECK(number(hull_add(h, 1, 2), HULL_AGAIN, 2));
     CHECK(bare(hull_add(h, HULL_COORDINATE_MAX + 1, 0), HULL_OUT_OF_RANGE));
@@ -113,7 +113,7 @@ static void changes(void) {
 }
 
 static void questions(void) {
-    hull h = made(10);
+    hull_set *h = made(10);
     CHECK(bare(hull_place(h, 0, 0), HULL_OUTSIDE));
     CHECK(bare(hull_extreme(h, 1, 0), HULL_EMPTY));
     CHECK(bare(hull_tangents(h, 0, 0), HULL_NO_TANGENT));
@@ -148,7 +148,7 @@ static void questions(void) {
 }
 
 static void corners(void) {
-    hull h = made(100);
+    hull_set *h = made(100);
     hull_point out[6], mark = {-1, -2};
     for (int i = 0; i < 6; i++) {
         out[i] = mark;
@@ -178,7 +178,7 @@ static void corners(void) {
 /* a long list: the points of a parabola are all corners */
 static void many_corners(void) {
     enum { NUMBER = 10000 };
-    hull h = made(NUMBER);
+    hull_set *h = made(NUMBER);
     hull_point *out = calloc(NUMBER, sizeof *out);
     int right = out != NULL;
     for (int64_t i = 0; i < NUMBER; i++) {
@@ -245,7 +245,7 @@ static void loads(void) {
 }
 
 static void calls(void) {
-    hull h = made(2);
+    hull_set *h = made(2);
     static const hull_request asked_for[] = {
         {HULL_KIND_ADD, 0, 0},      {HULL_KIND_ADD, 4, 0},          {HULL_KIND_ADD, 4, 0},   {HULL_KIND_ADD, 0, 3},
         {HULL_KIND_PLACE, 2, 0},    {HULL_KIND_TANGENTS, 2, 2},     {HULL_KIND_AREA, -1, 9}, {HULL_KIND_COUNT, 7, 7},
@@ -284,7 +284,7 @@ static void calls(void) {
 
 /* many points come and go, with some of the memory refused: no call does more than its code says */
 static void refusals(void) {
-    hull h = made(1000);
+    hull_set *h = made(1000);
     uint64_t seed = 88172645463325252u, held = 0;
     int right = 1;
     for (int i = 0; i < 20000; i++) {
@@ -311,9 +311,33 @@ static void refusals(void) {
     ended(h);
 }
 
+/* a hull of malloc's, and the names of codes */
+static void new_ones(void) {
+    CHECK(hull_new(0) == NULL && hull_new(HULL_LIMIT_MAX + 1) == NULL);
+    hull_set *h = hull_new(HULL_LIMIT_MAX);
+    CHECK(h != NULL && (uintptr_t)h % hull_alignment() == 0);
+    CHECK(number(hull_limit(h), HULL_NUMBER, HULL_LIMIT_MAX));
+    CHECK(bare(hull_add(h, 1, 2), HULL_ADDED));
+    hull_free(h);
+    hull_free(NULL);
+    refused_from = asked;
+    CHECK(hull_new(1) == NULL);
+    refused_from = -1;
+    for (size_t alignment = 1; alignment <= 4096; alignment *= 2) {
+        unsigned char *room = hull_room_new(17, alignment);
+        CHECK(room != NULL && (uintptr_t)room % alignment == 0);
+        memset(room, 7, 17);
+        hull_room_free(room);
+    }
+    CHECK(strcmp(hull_code_name(HULL_ABSENT), "HULL_ABSENT") == 0);
+    CHECK(strcmp(hull_code_name(HULL_IN_USE), "HULL_IN_USE") == 0);
+    CHECK(strcmp(hull_code_name(21), "no code") == 0 && strcmp(hull_code_name(UINT32_MAX), "no code") == 0);
+}
+
 int main(void) {
     CHECK(hull_size() > 0);
     CHECK(hull_alignment() > 0 && (hull_alignment() & (hull_alignment() - 1)) == 0);
+    new_ones();
     limits();
     changes();
     questions();

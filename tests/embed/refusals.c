@@ -47,7 +47,7 @@ typedef struct {
     uint64_t times[SIDE * SIDE];
 } sight;
 
-static sight see(hull h) {
+static sight see(hull_set *h) {
     sight seen;
     memset(&seen, 0, sizeof seen);
     seen.area = hull_area(h), seen.count = hull_count(h);
@@ -65,7 +65,7 @@ static int is_same(const sight *a, const sight *b) {
 static hull_point corners[CORNERS];
 
 /* a change or a question of the grid, by its number */
-static hull_reply call(hull h, uint64_t seed) {
+static hull_reply call(hull_set *h, uint64_t seed) {
     int64_t x = (int64_t)(seed % SIDE), y = (int64_t)(seed / SIDE % SIDE);
     switch (seed / 1000 % 5) {
     case 0: return hull_remove(h, x, y);
@@ -76,7 +76,7 @@ static hull_reply call(hull h, uint64_t seed) {
 }
 
 /* makes all calls; where one tells of a refusal nothing has changed, and it is made again */
-static sight run(hull h) {
+static sight run(hull_set *h) {
     uint64_t seed = 88172645463325252u;
     for (int i = 0; i < CALLS; i++) {
         seed ^= seed << 13, seed ^= seed >> 7, seed ^= seed << 17;
@@ -97,7 +97,7 @@ static sight run(hull h) {
 }
 
 int main(void) {
-    hull h = aligned_alloc(hull_alignment(), hull_size());
+    hull_set *h = aligned_alloc(hull_alignment(), hull_size());
     if (h == NULL || hull_init(SIDE * SIDE, h) != HULL_OK) {
         return 2;
     }

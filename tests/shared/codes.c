@@ -30,6 +30,7 @@ void *__wrap_realloc(void *block, size_t size) {
     return refused() ? NULL : __real_realloc(block, size);
 }
 
+static hull_shared_line line;
 static int bad;
 
 static void is(const char *what, uint64_t got, uint64_t wanted) {
@@ -39,12 +40,31 @@ static void is(const char *what, uint64_t got, uint64_t wanted) {
     }
 }
 
-static uint32_t call(hull_shared_seat seat, uint32_t kind, int64_t x, int64_t y) {
-    return hull_shared_call(seat, kind, x, y).told.code;
+static uint32_t call(hull_shared_seat *seat, uint32_t kind, int64_t x, int64_t y) {
+    return hull_shared_call(&line, seat, kind, x, y).told.code;
+}
+
+/* Corners in an array: all of them, or none where it is too short; each has its line. */
+static void corners(hull_shared_seat *seat) {
+    hull_point out[4] = {{9, 9}, {9, 9}, {9, 9}, {9, 9}};
+    int64_t far = HULL_COORDINATE_MAX;
+    hull_shared_reply reply = hull_shared_vertices(&line, seat, out, 2);
+    is("corners without room", reply.told.code, HULL_TOO_SMALL);
+    is("how many have none", reply.told.number, 3);
+    is("the array is as it was", (uint64_t)out[0].x, 9);
+    uint64_t turn = reply.turn;
+    reply = hull_shared_vertices(&line, seat, out, 4);
+    is("corners with room", reply.told.code, HULL_CORNERS);
+    is("how many have it", reply.told.number, 3);
+    is("their turn", reply.turn, turn + 1);
+    is("the first", out[0].x == -far && out[0].y == -far, 1);
+    is("the second", out[1].x == far && out[1].y == -far, 1);
+    is("the third", out[2].x == 0 && out[2].y == far, 1);
+    is("behind them", out[3].x == 9 && out[3].y == 9, 1);
 }
 
 /* Answers of calls by one seat. */
-static void calls(hull_shared_seat seat) {
+static void calls(hull_shared_seat *seat) {
     int64_t far = HULL_COORDINATE_MAX;
     hull_shared_reply reply;
     is("extreme of none", call(seat, HULL_KIND_EXTREME, 1, 0), HULL_EMPTY);
@@ -59,23 +79,24 @@ static void calls(hull_shared_seat seat) {
     is("absent", call(seat, HULL_KIND_REMOVE, 1, 1), HULL_ABSENT);
     is("inside", call(seat, HULL_KIND_PLACE, 0, 0), HULL_INSIDE);
     is("on", call(seat, HULL_KIND_PLACE, 0, -far), HULL_ON);
-    reply = hull_shared_call(seat, HULL_KIND_AREA, 0, 0);
+    reply = hull_shared_call(&line, seat, HULL_KIND_AREA, 0, 0);
     is("area", reply.told.code, HULL_NUMBER);
     is("its upper half", reply.told.high, 1 << 18);
     is("its lower half", reply.told.number, 0);
-    reply = hull_shared_call(seat, HULL_KIND_EXTREME, 0, 1);
+    reply = hull_shared_call(&line, seat, HULL_KIND_EXTREME, 0, 1);
     is("point", reply.told.code, HULL_POINT);
     is("its y", (uint64_t)reply.told.y, (uint64_t)far);
-    reply = hull_shared_call(seat, HULL_KIND_TANGENTS, far, far);
+    reply = hull_shared_call(&line, seat, HULL_KIND_TANGENTS, far, far);
     is("tangents", reply.told.code, HULL_TANGENTS);
     is("the right one", (uint64_t)reply.told.other_x, 0);
-    reply = hull_shared_call(seat, HULL_KIND_VERTICES, 0, 0);
+    reply = hull_shared_call(&line, seat, HULL_KIND_VERTICES, 0, 0);
     is("corners", reply.told.code, HULL_CORNERS);
     is("how many", reply.told.number, 3);
+    corners(seat);
     is("removed", call(seat, HULL_KIND_REMOVE, -far, -far), HULL_REMOVED);
-    reply = hull_shared_call(seat, HULL_KIND_COUNT, 0, 0);
+    reply = hull_shared_call(&line, seat, HULL_KIND_COUNT, 0, 0);
     is("count", reply.told.number, 2);
-    is("its turn", reply.turn, UINT64_C(16));
+    is("its turn", reply.turn, UINT64_C(18));
     is("out of range", call(seat, HULL_KIND_ADD, far + 1, 0), HULL_OUT_OF_RANGE);
     is("direction out of range", call(seat, HULL_KIND_EXTREME, 0, -far - 1), HULL_OUT_OF_RANGE);
     is("zero direction", call(seat, HULL_KIND_EXTREME, 0, 0), HULL_ZERO_DIRECTION);
@@ -84,7 +105,7 @@ static void calls(hull_shared_seat seat) {
     is("kind 10", call(seat, 10, 0, 0), HULL_UNKNOWN_KIND);
 }
 
-static void codes(hull_shared_desk desk, hull_shared_seat one, hull_shared_seat two) {
+static void codes(hull_shared_desk *desk, hull_shared_seat *one, hull_shared_seat *two) {
     static uint8_t text[4096];
     uint64_t first = UINT64_C(18446744073709551613);
     is("close of a fresh desk", hull_shared_close(desk), HULL_NOT_OPEN);
@@ -97,9 +118,9 @@ static void codes(hull_shared_desk desk, hull_shared_seat one, hull_shared_seat 
     is("capacity", hull_shared_open(desk, 3, first, HULL_SHARED_CAPACITY_MAX + 1, 2), HULL_OUT_OF_LIMITS);
     is("no seats", hull_shared_open(desk, 3, first, 21, 0), HULL_OUT_OF_LIMITS);
     is("seats", hull_shared_open(desk, 3, first, 21, HULL_SHARED_SEATS_MAX + 1), HULL_OUT_OF_LIMITS);
-    is("open", hull_shared_open(desk, 3, first, 20, 2), HULL_OPEN);
+    is("open", hull_shared_open(desk, 3, first, 22, 2), HULL_OPEN);
     is("open again", hull_shared_open(desk, 3, first, 20, 2), HULL_WAS_OPENED);
-    is("take of none", hull_shared_take(one, 1, 0, 0), HULL_VACANT);
+    is("take of none", hull_shared_take(one, 1, 0, 0).told.code, HULL_VACANT);
     is("look of none", hull_shared_look(one).told.code, HULL_VACANT);
     is("return of none", hull_shared_give_back(desk, one), HULL_VACANT);
     is("seat 2", hull_shared_lend(desk, one, 2), HULL_NO_SEAT);
@@ -108,15 +129,19 @@ static void codes(hull_shared_desk desk, hull_shared_seat one, hull_shared_seat 
     is("seat 1 again", hull_shared_lend(desk, two, 1), HULL_NO_SEAT);
     is("seat 0", hull_shared_lend(desk, two, 0), HULL_LENT);
     is("look with no number", hull_shared_look(one).told.code, HULL_NO_NUMBER);
-    is("take", hull_shared_take(one, HULL_KIND_COUNT, 0, 0), HULL_TAKEN);
-    is("take twice", hull_shared_take(one, HULL_KIND_COUNT, 0, 0), HULL_WAITING);
+    is("take", hull_shared_take(one, HULL_KIND_COUNT, 0, 0).told.code, HULL_TAKEN);
+    is("take twice", hull_shared_take(one, HULL_KIND_COUNT, 0, 0).told.code, HULL_WAITING);
+    is("its number", hull_shared_take(one, HULL_KIND_COUNT, 0, 0).turn, first);
     is("return while it waits", hull_shared_give_back(desk, one), HULL_WAITING);
-    is("take behind it", hull_shared_take(two, HULL_KIND_COUNT, 0, 0), HULL_TAKEN);
+    is("take behind it", hull_shared_take(two, HULL_KIND_COUNT, 0, 0).turn, first + 1);
     is("not yet", hull_shared_look(two).told.code, HULL_NOT_YET);
+    is("its number", hull_shared_look(two).turn, first + 1);
     is("served", hull_shared_look(one).turn, first);
     is("served", hull_shared_look(two).turn, first + 1);
     calls(one);
-    is("full", call(two, HULL_KIND_COUNT, 0, 0), HULL_FULL);
+    hull_shared_reply full = hull_shared_call(&line, two, HULL_KIND_COUNT, 0, 0);
+    is("full", full.told.code, HULL_FULL);
+    is("the number that is passed over", full.turn, first + 22);
     is("close with seats out", hull_shared_close(desk), HULL_SEATS_OUT);
     is("end while open", hull_shared_end(desk), HULL_NOT_CLOSED);
     is("return", hull_shared_give_back(desk, two), HULL_RETURNED);
@@ -136,7 +161,7 @@ static void codes(hull_shared_desk desk, hull_shared_seat one, hull_shared_seat 
 }
 
 /* A short run, in which any request may be refused. */
-static void short_run(hull_shared_desk desk, hull_shared_seat seat) {
+static void short_run(hull_shared_desk *desk, hull_shared_seat *seat) {
     uint8_t text[256];
     uint32_t code = hull_shared_open(desk, 3, 0, 4, 1);
     if (code == HULL_NO_MEMORY) {
@@ -158,15 +183,12 @@ static void short_run(hull_shared_desk desk, hull_shared_seat seat) {
 }
 
 int main(void) {
-    hull_shared_desk desk = malloc(hull_shared_desk_size());
-    hull_shared_seat one = malloc(hull_shared_seat_size());
-    hull_shared_seat two = malloc(hull_shared_seat_size());
+    hull_shared_desk *desk = hull_shared_desk_new();
+    hull_shared_seat *one = hull_shared_seat_new();
+    hull_shared_seat *two = hull_shared_seat_new();
     if (desk == NULL || one == NULL || two == NULL) {
         return 1;
     }
-    hull_shared_make_desk(desk);
-    hull_shared_make_seat(one);
-    hull_shared_make_seat(two);
     is("alignment", (uintptr_t)desk % hull_shared_desk_alignment(), 0);
     is("alignment", (uintptr_t)one % hull_shared_seat_alignment(), 0);
     codes(desk, one, two);
@@ -178,8 +200,12 @@ int main(void) {
         left = -1;
     } while (met);
     is("requests, some of them refused", requests > 5, 1);
-    free(two);
-    free(one);
-    free(desk);
+    hull_shared_seat_free(two);
+    hull_shared_seat_free(one);
+    hull_shared_desk_free(desk);
+    left = 0;
+    is("no room for a desk", hull_shared_desk_new() == NULL, 1);
+    left = 0;
+    is("no room for a seat", hull_shared_seat_new() == NULL, 1);
     return bad;
 }

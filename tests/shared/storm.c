@@ -1,15 +1,21 @@
-/* storm THREADS CALLS: so many threads make so many mixed calls each over one hull, and the text of the journal goes to standard
- * output. The status is 0 only where each call had an answer of its kind, each thread's numbers rose, all numbers together
+/* storm THREADS CALLS INSIDE: so many threads make so many mixed calls each over one hull, of which so many may have numbers at once,
+ * and the text of the journal goes to standard output. With SLOW defined, threads are held up between the steps of waiting and of
+ * waking (steps.h). The status is 0 only where each call had an answer of its kind, each thread's numbers rose, all numbers together
  * were each served once, and every code at the end was as it should be. */
+#ifdef SLOW
+#include "steps.h"
+#endif
 #include "hull_shared.h"
 
 #include <pthread.h>
 #include <stdio.h>
 #include <stdlib.h>
+#include <string.h>
 
 static unsigned long calls;
-static hull_shared_desk desk;
-static hull_shared_seat rooms[HULL_SHARED_SEATS_MAX];
+static hull_shared_line line;
+static hull_shared_desk *desk;
+static hull_shared_seat *rooms[HULL_SHARED_SEATS_MAX];
 static uint64_t *turns[HULL_SHARED_SEATS_MAX];
 static int wrong[HULL_SHARED_SEATS_MAX];
 
@@ -38,14 +44,43 @@ static int answers(uint32_t kind, uint32_t code) {
         return code == HULL_TANGENTS || code == HULL_NO_TANGENT;
     case HULL_KIND_EXTREME:
         return code == HULL_POINT || code == HULL_EMPTY;
+    case HULL_KIND_VERTICES:
+        return code == HULL_CORNERS || code == HULL_TOO_SMALL;
     default:
         return code == HULL_NUMBER;
     }
 }
 
+/* Whether the corners turn left throughout, and begin with the first by x and then by y. */
+static int turn_left(const hull_point *corners, uint64_t count) {
+    for (uint64_t i = 0; i < count; i++) {
+        hull_point a = corners[i], b = corners[(i + 1) % count], c = corners[(i + 2) % count];
+        if (count > 2 && (b.x - a.x) * (c.y - b.y) <= (b.y - a.y) * (c.x - b.x)) {
+            return 0;
+        }
+        if (i > 0 && (a.x < corners[0].x || (a.x == corners[0].x && a.y < corners[0].y))) {
+            return 0;
+        }
+    }
+    return 1;
+}
+
+/* Asks for the corners, in an array that has room for some tens of them: they turn left, or the array is as it was. */
+static hull_shared_reply corners_of(hull_shared_seat *seat, int *wrong) {
+    hull_point corners[64];
+    memset(corners, 7, sizeof corners);
+    hull_shared_reply reply = hull_shared_vertices(&line, seat, corners, 40);
+    uint64_t written = reply.told.code == HULL_CORNERS ? reply.told.number : 0;
+    *wrong |= written > 40 || !turn_left(corners, written);
+    for (uint64_t i = written; i < 64; i++) {
+        *wrong |= corners[i].x != INT64_C(0x0707070707070707) || corners[i].y != INT64_C(0x0707070707070707);
+    }
+    return reply;
+}
+
 static void *work(void *place) {
-    static const uint32_t kinds[] = {1, 1, 1, 1, 2, 2, 3, 3, 3, 4, 4, 5, 5, 8, 7, 1};
-    unsigned me = (unsigned)((hull_shared_seat *)place - rooms);
+    static const uint32_t kinds[] = {1, 1, 1, 1, 2, 2, 3, 3, 3, 4, 4, 5, 6, 8, 7, 1};
+    unsigned me = (unsigned)((hull_shared_seat **)place - rooms);
     uint64_t state = 88172645463325252u ^ (me + 1) * UINT64_C(0x9E3779B97F4A7C15);
     for (unsigned long i = 0; i < calls; i++) {
         uint32_t kind = kinds[next(&state) % 16];
@@ -54,7 +89,8 @@ static void *work(void *place) {
         if (x == 0 && y == 0) {
             x = 1;
         }
-        hull_shared_reply reply = hull_shared_call(rooms[me], kind, x, y);
+        hull_shared_reply reply = kind == HULL_KIND_VERTICES ? corners_of(rooms[me], &wrong[me])
+                                                             : hull_shared_call(&line, rooms[me], kind, x, y);
         turns[me][i] = reply.turn;
         wrong[me] |= !answers(kind, reply.told.code) || (i > 0 && reply.turn <= turns[me][i - 1]);
     }
@@ -79,8 +115,9 @@ static int each_once(unsigned threads) {
 }
 
 static int write_text(void) {
-    hull_reply told = hull_shared_text(desk, NULL, 0);
-    uint8_t *text = malloc(told.number);
+    uint8_t none = 0;
+    hull_reply told = hull_shared_text(desk, &none, 0);
+    uint8_t *text = calloc(told.number, 1);
     if (told.code != HULL_TOO_SMALL || text == NULL) {
         return 0;
     }
@@ -99,20 +136,19 @@ static void *room_of(size_t size) {
 }
 
 int main(int count, char **words) {
-    unsigned threads = count == 3 ? (unsigned)strtoul(words[1], NULL, 10) : 0;
+    unsigned threads = count == 4 ? (unsigned)strtoul(words[1], NULL, 10) : 0;
     pthread_t ids[HULL_SHARED_SEATS_MAX];
     int bad = 0;
-    calls = count == 3 ? strtoul(words[2], NULL, 10) : 0;
-    desk = room_of(hull_shared_desk_size());
-    hull_shared_make_desk(desk);
-    if (hull_shared_open(desk, HULL_LIMIT_MAX, 0, (uint32_t)(threads * calls), threads) != HULL_OPEN) {
+    calls = count == 4 ? strtoul(words[2], NULL, 10) : 0;
+    hull_shared_line_init(&line, count == 4 ? (uint32_t)strtoul(words[3], NULL, 10) : 1);
+    desk = hull_shared_desk_new();
+    if (desk == NULL || hull_shared_open(desk, HULL_LIMIT_MAX, 0, (uint32_t)(threads * calls), threads) != HULL_OPEN) {
         return 2;
     }
     for (unsigned k = 0; k < threads; k++) {
         turns[k] = room_of(calls * sizeof(uint64_t));
-        rooms[k] = room_of(hull_shared_seat_size());
-        hull_shared_make_seat(rooms[k]);
-        bad |= hull_shared_lend(desk, rooms[k], k) != HULL_LENT;
+        rooms[k] = hull_shared_seat_new();
+        bad |= rooms[k] == NULL || hull_shared_lend(desk, rooms[k], k) != HULL_LENT;
     }
     for (unsigned k = 0; k < threads; k++) {
         bad |= pthread_create(&ids[k], NULL, work, &rooms[k]) != 0;
@@ -121,15 +157,15 @@ int main(int count, char **words) {
         bad |= pthread_join(ids[k], NULL) != 0 || wrong[k];
     }
     bad |= !each_once(threads);
-    bad |= hull_shared_call(rooms[0], HULL_KIND_COUNT, 0, 0).told.code != HULL_FULL;
+    bad |= hull_shared_call(&line, rooms[0], HULL_KIND_COUNT, 0, 0).told.code != HULL_FULL;
     for (unsigned k = 0; k < threads; k++) {
         bad |= hull_shared_close(desk) != HULL_SEATS_OUT;
         bad |= hull_shared_give_back(desk, rooms[k]) != HULL_RETURNED;
-        free(rooms[k]);
+        hull_shared_seat_free(rooms[k]);
         free(turns[k]);
     }
     bad |= hull_shared_close(desk) != HULL_CLOSED || !write_text();
     bad |= hull_shared_end(desk) != HULL_ENDED;
-    free(desk);
+    hull_shared_desk_free(desk);
     return bad;
 }

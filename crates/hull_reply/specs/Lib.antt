@@ -1,4 +1,5 @@
 pub mod Told
+pub mod Corners
 pub mod Coordinates
 pub mod Requests
 pub mod Served

@@ -1,11 +1,14 @@
 -- What taking a number, and looking whether it is served, come to.
-use Rattle.std.specs.Prelude.{◌≡◌, ◌+◌, ℕ, ℤ, List, Result, Ok, Err}
+use Rattle.std.specs.Prelude.{◌≡◌, ◌≢◌, ◌+◌, ℕ, ℤ, List, Result, Ok, Err, IfOk}
 use mathlib.Core.List.{IsPrefix}
+use Rattle.lattice.specs.Plane.{Pair}
 use Rattle.hull_book.specs.Answers.{Answer}
 use Rattle.hull_book.specs.declared.line.Line.{Line}
 use Rattle.hull_plain.specs.declared.call.Call.{Call}
+use Rattle.hull_plain.specs.declared.reply.Reply.TheVariants as reply
 use Rattle.hull_pool.specs.Work.{HasServed}
-use Rattle.hull_reply.specs.Told.{code_number, IsBare, Tells}
+use Rattle.hull_reply.specs.Corners.{TellsCorners}
+use Rattle.hull_reply.specs.Told.{IsBare, Tells}
 use Rattle.hull_reply.specs.declared.code.Code.{Code}
 use Rattle.hull_reply.specs.declared.code.Code.TheVariants as code
 use Rattle.hull_reply.specs.declared.reply.HullReply.{HullReply}
@@ -15,6 +18,8 @@ use Rattle.hull_shared.specs.Locks.{head_of, lock_of}
 use Rattle.hull_shared.specs.declared.looking.Looked.{Looked}
 use Rattle.hull_shared.specs.declared.looking.Looked.TheVariants as looked
 use Rattle.hull_shared.specs.declared.looking.SeatReply.{SeatReply}
+use Rattle.hull_shared.specs.declared.looking.Seen.{Seen}
+use Rattle.hull_shared.specs.declared.looking.Seen.TheVariants.{Unserved, Served}
 use Rattle.hull_shared.specs.declared.seat.IdleSeat.{IdleSeat}
 use Rattle.hull_shared.specs.declared.seat.SharedSeat.{SharedSeat}
 use Rattle.hull_shared.specs.declared.seat.SharedSeat.TheVariants.{Vacant, Idle, Waiting}
@@ -25,21 +30,28 @@ abbrev pub WaitsFor : IdleSeat → WaitingSeat → Call → Type 0
 WaitsFor i w call = (lock_of w.lock ≡ lock_of i.lock) × (w.number ≡ i.number) × (w.call ≡ call)
     × (ticket_seen w.ticket ≡ seat_seen i.seat) × (w.ledger ≡ i.ledger)
 
+-- the reply of a seat with no number: this code and nothing else
+abbrev pub IsBareReply : Code → SeatReply → Type 0
+IsBareReply c r = IsBare c r.told × (r.turn ≡ 0)
+
+-- the reply of a seat that waits: this code, and the number that it has
+abbrev pub IsReplyOf : Code → WaitingSeat → SeatReply → Type 0
+IsReplyOf c w r = IsBare c r.told × (r.turn ≡ ticket_number w.ticket)
+
 -- what a seat with no number comes to that is asked for a call, or for none
-abbrev pub TakesFor : IdleSeat → SharedSeat → ℕ → Result Call Code → Type 0
-TakesFor i new told (Ok call) =
-    (w : WaitingSeat) × (new ≡ Waiting w) × WaitsFor i w call × (told ≡ code_number code.Taken)
-TakesFor i new told (Err fault) = (new ≡ Idle i) × (told ≡ code_number fault)
+abbrev pub TakesFor : IdleSeat → SharedSeat → SeatReply → Result Call Code → Type 0
+TakesFor i new r (Ok call) = (w : WaitingSeat) × (new ≡ Waiting w) × WaitsFor i w call × IsReplyOf code.Taken w r
+TakesFor i new r (Err fault) = (new ≡ Idle i) × IsBareReply fault r
 
 -- only a seat with no number takes one; else nothing changes
-abbrev pub TakesAsked : Result Call Code → SharedSeat → SharedSeat → ℕ → Type 0
-TakesAsked asked Vacant new told = (new ≡ Vacant) × (told ≡ code_number code.Vacant)
-TakesAsked asked (Idle i) new told = TakesFor i new told asked
-TakesAsked asked (Waiting w) new told = (new ≡ Waiting w) × (told ≡ code_number code.Waiting)
+abbrev pub TakesAsked : Result Call Code → SharedSeat → SharedSeat → SeatReply → Type 0
+TakesAsked asked Vacant new r = (new ≡ Vacant) × IsBareReply code.Vacant r
+TakesAsked asked (Idle i) new r = TakesFor i new r asked
+TakesAsked asked (Waiting w) new r = (new ≡ Waiting w) × IsReplyOf code.Waiting w r
 
 -- a take, for the call that is asked for
-abbrev pub HasTaken : ℕ → ℤ → ℤ → SharedSeat → SharedSeat → ℕ → Type 0
-HasTaken kind x y old new told = (asked : Result Call Code) × IsAsked kind x y asked × TakesAsked asked old new told
+abbrev pub HasTaken : ℕ → ℤ → ℤ → SharedSeat → SharedSeat → SeatReply → Type 0
+HasTaken kind x y old new r = (asked : Result Call Code) × IsAsked kind x y asked × TakesAsked asked old new r
 
 -- the seat looked once more and waits on: the same seat of the same lock, with the same number and call, that has seen
 -- the same lines
@@ -69,16 +81,38 @@ abbrev pub TellsAnswer : HullReply → Answer → Type 0
 TellsAnswer told (Ok reply) = Tells told reply
 TellsAnswer told (Err full) = IsBare code.Full told
 
--- the reply is this code and nothing else
-abbrev pub IsBareReply : Code → SeatReply → Type 0
-IsBareReply c r = IsBare c r.told × (r.turn ≡ 0)
+-- the reply tells an answer: as `TellsAnswer`, but for a list of corners, which was written to the array
+abbrev pub PutsAnswer : List Pair → List Pair → HullReply → Answer → Type 0
+PutsAnswer before after told (Ok (reply.VertexList corners)) = TellsCorners corners before after told
+PutsAnswer before after told answer = (after ≡ before) × TellsAnswer told answer
 
--- a look: a seat with no number is as it was; one with a number waits on, or its call was served and the answer is
--- told with that number
+-- no answer of a set that counts its points is `already`
+abbrev pub IsCounted : Answer → Type 0
+IsCounted answer = IfOk answer (λ r. r ≢ reply.Already)
+
+-- a look: a seat with no number is as it was; one with a number waits on, or its call was served, under its number
+abbrev pub HasSeen : SharedSeat → SharedSeat → Seen → Type 0
+HasSeen Vacant new s = (new ≡ Vacant) × ((r : SeatReply) × (s ≡ Unserved r) × IsBareReply code.Vacant r)
+HasSeen (Idle i) new s = (new ≡ Idle i) × ((r : SeatReply) × (s ≡ Unserved r) × IsBareReply code.NoNumber r)
+HasSeen (Waiting w) (Waiting v) s = WaitsOn w v × ((r : SeatReply) × (s ≡ Unserved r) × IsReplyOf code.NotYet w r)
+HasSeen (Waiting w) (Idle i) s =
+    (answer : Answer) × WasServed w i answer × (s ≡ Served answer (ticket_number w.ticket))
+HasSeen (Waiting w) Vacant s = ⊥
+
+-- what was seen is told
+abbrev pub TellsSeen : Seen → SeatReply → Type 0
+TellsSeen (Unserved reply) r = r ≡ reply
+TellsSeen (Served answer turn) r = TellsAnswer r.told answer × (r.turn ≡ turn)
+
+-- what was seen is told, and corners are written to the array, which else is as it was
+abbrev pub PutsSeen : List Pair → List Pair → Seen → SeatReply → Type 0
+PutsSeen before after (Unserved reply) r = (after ≡ before) × (r ≡ reply)
+PutsSeen before after (Served answer turn) r = PutsAnswer before after r.told answer × (r.turn ≡ turn)
+
+-- a look, whose answer is told
 abbrev pub HasReplied : SharedSeat → SharedSeat → SeatReply → Type 0
-HasReplied Vacant new r = (new ≡ Vacant) × IsBareReply code.Vacant r
-HasReplied (Idle i) new r = (new ≡ Idle i) × IsBareReply code.NoNumber r
-HasReplied (Waiting w) (Waiting v) r = WaitsOn w v × IsBareReply code.NotYet r
-HasReplied (Waiting w) (Idle i) r =
-    (answer : Answer) × WasServed w i answer × TellsAnswer r.told answer × (r.turn ≡ ticket_number w.ticket)
-HasReplied (Waiting w) Vacant r = ⊥
+HasReplied old new r = (seen : Seen) × HasSeen old new seen × TellsSeen seen r
+
+-- a look, whose answer is told, and corners written to the array
+abbrev pub HasRepliedInto : SharedSeat → SharedSeat → List Pair → List Pair → SeatReply → Type 0
+HasRepliedInto old new before after r = (seen : Seen) × HasSeen old new seen × PutsSeen before after seen r

@@ -12,7 +12,7 @@
 //! open(alloc, &mut desk, 1000, 0, 64, 2); // up to 1000 points, numbers from 0, 64 calls, 2 seats
 //! lend(&mut desk, &mut room, 0); // seat 0, for the thread that has the room
 //! take(&mut room, 1, 3, 4); // a number for `add 3 4`
-//! let reply = look(&mut room); // until its code is not that of `NotYet`
+//! let reply = look(&mut room); // until its code is not that of `NotYet`; `look_into` writes corners to an array
 //! give_back(&mut desk, &mut room);
 //! close(&mut desk); // once all seats are back
 //! text(&mut desk, &mut out); // the journal, which `hullbook check` judges
@@ -29,7 +29,7 @@ ghost use Rattle.hull_shared.specs.Desks.{IsSeatOfDesk};
 ghost use Rattle.hull_reply.specs.Left.{leaves};
 ghost use Rattle.hull_reply.specs.Rooms.{room_alignment, room_size};
 ghost use Rattle.hull_shared.specs.Left.{leaves_both};
-ghost use Rattle.hull_shared.specs.Looks.{HasReplied, HasTaken};
+ghost use Rattle.hull_shared.specs.Looks.{HasReplied, HasRepliedInto, HasTaken};
 ghost use Rattle.hull_shared.specs.declared.desk.Desk.TheVariants.{Fresh};
 ghost use Rattle.hull_shared.specs.declared.seat.SharedSeat.TheVariants.{Vacant};
 
@@ -48,7 +48,7 @@ mod serving;
 mod tests;
 
 use desk::Desk;
-use hull_reply::HullReply;
+use hull_reply::{HullPoint, HullReply};
 pub use looking::SeatReply;
 use seat::SharedSeat;
 use std::alloc::Global;
@@ -195,7 +195,7 @@ pub unsafe extern "C" fn hull_shared_give_back(at: *mut u8, room: *mut u8) -> u3
 ///
 /// A room for a seat lies at `at`, and no other call on it is under way.
 #[unsafe(no_mangle)]
-pub unsafe extern "C" fn hull_shared_take(at: *mut u8, kind: u32, x: i64, y: i64) -> u32
+pub unsafe extern "C" fn hull_shared_take(at: *mut u8, kind: u32, x: i64, y: i64) -> SeatReply
     ghost t: { seat_row.Denot }
     requires* { sem 𝓛 (lies_at seat_row full_share at t) }
     ensures* { sem 𝓛 (leaves seat_row at (λ new. HasTaken kind x y t new result)) }
@@ -217,6 +217,22 @@ pub unsafe extern "C" fn hull_shared_look(at: *mut u8) -> SeatReply
 {
     let seat = at as *mut SharedSeat;
     looking::look(unsafe { &mut *seat })
+}
+
+/// Looks once, as [`hull_shared_look`] does; where the call asked for the corners, they are written to the front of an
+/// array.
+///
+/// # Safety
+///
+/// A room for a seat lies at `at`, and no other call on it is under way.
+#[unsafe(no_mangle)]
+pub unsafe extern "C" fn hull_shared_look_into(at: *mut u8, out: &mut [HullPoint]) -> SeatReply
+    ghost t: { seat_row.Denot }
+    requires* { sem 𝓛 (lies_at seat_row full_share at t) }
+    ensures* { sem 𝓛 (leaves seat_row at (λ new. HasRepliedInto t new out.old out.new result)) }
+{
+    let seat = at as *mut SharedSeat;
+    looking::look_into(unsafe { &mut *seat }, out)
 }
 
 /// Closes a desk, all of whose seats are back.

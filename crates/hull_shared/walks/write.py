@@ -7,7 +7,8 @@ Such exports differ in their numbers, in the type of what lies at the pointer an
 (proofs/*/Proof.antt) in nothing else. So each walk is made here from those; after a change those that differ are written anew,
 and rt fmt and tools/wrap.py lay them out. With --check nothing is written, and the status is 1 where a walk is not what is made
 here but for its layout. The walks of the other exports
-(hull_shared_make_*, hull_shared_lend, hull_shared_give_back, hull_shared_text) are written by hand.
+(hull_shared_make_*, hull_shared_lend, hull_shared_give_back) are written by hand. The walks of exports that are passed an array
+too are with_an_array.txt, in which the words in «» are put in.
 """
 import os
 import sys
@@ -33,8 +34,17 @@ WALKS = [
      True, ["u32", "u64", "u32", "u32"], NUMBER),
     ("close", DESK, "closing.close", "Desks.{HasClosed}", "HasClosed", False, [], NUMBER),
     ("end", DESK, "closing.end", "Desks.{HasEnded}", "HasEnded", False, [], NUMBER),
-    ("take", SEAT, "looking.take", "Looks.{HasTaken}", "HasTaken n₁ n₂ n₃", False, ["u32", "i64", "i64"], NUMBER),
+    ("take", SEAT, "looking.take", "Looks.{HasTaken}", "HasTaken n₁ n₂ n₃", False, ["u32", "i64", "i64"], REPLY),
     ("look", SEAT, "looking.look", "Looks.{HasReplied}", "HasReplied", False, [], REPLY),
+]
+# of the exports that are passed an array: the words that are put in
+WITH_AN_ARRAY = [
+    {"name": "text", "at": DESK, "module": "closing", "plain": "text", "law_file": "Desks", "law": "HasWritten",
+     "element": "denote.Builtin.{u8 as Element}", "reply": "hull_reply.specs.contracts.reply.HullReply",
+     "laws": "hull_reply.proofs.reply.HullReply"},
+    {"name": "look_into", "at": SEAT, "module": "looking", "plain": "look_into", "law_file": "Looks", "law": "HasRepliedInto",
+     "element": "Rattle.hull_reply.specs.contracts.corners.HullPoint.{the_row as Element}",
+     "reply": "hull_shared.specs.contracts.looking.SeatReply", "laws": "hull_shared.proofs.looking.SeatReply"},
 ]
 SUBSCRIPTS = "₀₁₂₃₄₅₆₇₈₉"
 
@@ -153,12 +163,21 @@ def walk(name, at, function, law_file, law, alloc, numbers, result):
     return "\n".join(line.rstrip() for line in lines)
 
 
+def walk_with_an_array(words):
+    with open(os.path.join(HERE, "with_an_array.txt"), encoding="utf-8") as file:
+        text = file.read()
+    for word, put_in in words.items():
+        text = text.replace(f"«{word}»", put_in)
+    return text
+
+
 def main():
     check = sys.argv[1:] == ["--check"]
     wrong = 0
-    for each in WALKS:
-        text = walk(*each)
-        path = os.path.join(HERE, "..", "proofs", "hull_shared_" + each[0], "Proof.antt")
+    walks = [(each[0], walk(*each)) for each in WALKS]
+    walks += [(words["name"], walk_with_an_array(words)) for words in WITH_AN_ARRAY]
+    for name, text in walks:
+        path = os.path.join(HERE, "..", "proofs", "hull_shared_" + name, "Proof.antt")
         if not put(path, text, check) and check:
             print(f"{path} is not what is made here")
             wrong = 1

@@ -1,4 +1,5 @@
 """What the writers of walks share: one walk is written, or compared with what is there."""
+import os
 import re
 
 
@@ -18,9 +19,12 @@ def canonical(text):
 
 def put(path, text, check):
     """Whether the file has this text but for its layout. Where it hasn't, it is written, unless it is only to be checked."""
-    with open(path, encoding="utf-8") as file:
-        same = canonical(file.read()) == canonical(text)
+    same = False
+    if os.path.exists(path):
+        with open(path, encoding="utf-8") as file:
+            same = canonical(file.read()) == canonical(text)
     if not same and not check:
+        os.makedirs(os.path.dirname(path), exist_ok=True)
         with open(path, "w", encoding="utf-8") as file:
             file.write(text)
     return same

@@ -1,14 +1,5 @@
--- `hull_shared_text` meets its contract: the desk at the pointer is lent for one call, and comes back with what that
--- call left.
-use Rattle.hull_reply.proofs.Steps.{ℕ, ◌++◌, List, [], ◌∷◌, refl, proved, full_share, id⊢, ftrue, flft, flent, named}
-use Rattle.hull_reply.proofs.Steps.{vptr, fact, tables, WpFn, ‵, raw, ◌⊛◌, some, later, prop, at_ret, ◌$◌, ◌∵◌, !, qed}
-use Rattle.hull_reply.proofs.Steps.{done, move, keep, drop, use1, use3, split, join, fsplit, fjoin, fpack, pick, await}
-use Rattle.hull_reply.proofs.Steps.{regoal, suffices, group, enter, of_opd, addr, stop, no_more, and_then, first}
-use Rattle.hull_reply.proofs.Steps.{blocks, exec, returns, alloc_all, pass_all, free_all, look_at, get, through, sets}
-use Rattle.hull_reply.proofs.Steps.{sets_last, lands_as, env, lft_new, lft_end, yes, Is, shows, mem, lends_ref}
-use Rattle.hull_reply.proofs.Steps.{ref_back, Ptr, RawPtr, block_ptr, lies_at, in_a_block, rawptr_vals, rawptr_Tells}
-use Rattle.hull_reply.proofs.Steps.{MutRef, Body, plain, nothing, heard, peeks, calls_at, Lasts, lasts, triple_of}
-use Rattle.hull_reply.proofs.Steps.{Stays, walk_of, stay_dropped, Goes-dropped, ends_at, framed}
+-- `hull_shared_text` meets its contract: what lies at the pointer is lent for one call, and comes back with what that call left.
+use Rattle.hull_reply.proofs.Steps.{ℕ, ◌++◌, List, [], ◌∷◌, refl, proved, full_share, id⊢, ftrue, flft, flent, named, vptr, fact, tables, WpFn, ‵, raw, ◌⊛◌, some, later, prop, at_ret, ◌$◌, ◌∵◌, !, qed, done, move, keep, drop, use1, use3, split, join, fsplit, fjoin, fpack, pick, await, regoal, suffices, group, enter, of_opd, addr, stop, no_more, and_then, first, blocks, exec, returns, alloc_all, pass_all, free_all, look_at, get, through, sets, sets_last, lands_as, env, lft_new, lft_end, yes, Is, shows, mem, lends_ref, ref_back, Ptr, RawPtr, block_ptr, lies_at, in_a_block, rawptr_vals, rawptr_Tells, MutRef, Body, plain, nothing, heard, peeks, calls_at, Lasts, lasts, triple_of, Stays, walk_of, stay_dropped, Goes-dropped, ends_at, framed}
 use Rattle.hull_shared.specs.contracts.desk.Desk.{the_row as R}
 use base.Fml.{fex, fsep}
 use types.Kit.{feq_l}
@@ -17,7 +8,7 @@ use types.Run.{fld, hop, from}
 use types.ByLocal.{get_in, look_in_at}
 use denote.Slice.{MutSlice, mut_slice_vals, mut_slice_Tells, mut_slice_Lawful}
 use denote.Triple.Walked.{gave_slice, Goes-gave_slice}
-use denote.Builtin.{u8 as Byte}
+use denote.Builtin.{u8 as Element}
 use Rattle.hull_shared.specs.Desks.{HasWritten}
 use Rattle.hull_reply.specs.contracts.reply.HullReply.{the_row as Out}
 use Rattle.hull_reply.proofs.reply.HullReply.TheLaws.{the_row_laws}
@@ -28,26 +19,26 @@ use Rattle.hull_shared.specs.contracts.closing.text as g
 use Rattle.hull_shared.proofs.closing.text.Met.{met}
 
 abbrev stayed : Stays f.ended.signature.params f.ended.kept
-stayed = (stay_dropped _ yes, (gave_slice (0 ∷ []) tt (plain (λ _. Byte)), tt))
+stayed = (stay_dropped _ yes, (gave_slice (0 ∷ []) tt (plain (λ _. Element)), tt))
 
 pub hull_shared_text_spec : {M : Type 1} → statement M
 hull_shared_text_spec 𝓤 𝓛 𝓜 𝓡 wired =
     let c = f.clauses 𝓛 𝓜.mem 𝓡.returns in let W = walk_of 𝓛 f.ended stayed c in let 𝓣 = tables 𝓤 𝓛.H 𝓜 𝓡 𝓡.env in
     proved 𝓛 f.ended stayed c 𝓜 𝓡 (
       Goes-dropped 𝓛 1 (plain (λ _. RawPtr)) yes (λ κs x w. refl),
-      (Goes-gave_slice 𝓛 1 0 tt (plain (λ _. Byte)), tt),
+      (Goes-gave_slice 𝓛 1 0 tt (plain (λ _. Element)), tt),
     )
     f.Key.name code.function (code.unfolded 𝓤 𝓛.H 𝓜 𝓡 wired)
-    (λ κs. (rawptr_vals, (mut_slice_vals, tt))) (λ κs. (rawptr_Tells, (mut_slice_Tells (named 0) κs.0 Byte, tt)))
+    (λ κs. (rawptr_vals, (mut_slice_vals, tt))) (λ κs. (rawptr_Tells, (mut_slice_Tells (named 0) κs.0 Element, tt)))
     (λ κs qs bounds a t are.
     let out = a.1.0 in let κ₀ = κs.0 in let q₀ = qs.0 in let ok =
-    ((mut_slice_Lawful 𝓛 (named 0) κ₀ Byte).typed out _ are.1.0).0 in
+    ((mut_slice_Lawful 𝓛 (named 0) κ₀ Element).typed out _ are.1.0).0 in
     let y : Ptr → W.Ghost = λ p. ((κs, qs, bounds, (p, (out, tt)), (rawptr_vals p, (mut_slice_vals out, tt))), t) in
     qed 𝓛 (((‵ (flft κ₀ q₀) ⊛ ‵ ftrue) ⊛ ‵ (RawPtr.own_val a.0 (rawptr_vals a.0)) ⊛ ‵
-    ((MutSlice (named 0) κ₀ Byte).own_val out (mut_slice_vals out)) ⊛ ‵ ftrue) ∷ ‵ (lies_at R full_share a.0 t)
+    ((MutSlice (named 0) κ₀ Element).own_val out (mut_slice_vals out)) ⊛ ‵ ftrue) ∷ ‵ (lies_at R full_share a.0 t)
     ∷ []) ∵ split ! $ split ! $ move ! (1 ∷ []) $ drop ! $
     move ! (1 ∷ []) $ split ! $ drop ! $ split ! $ move ! (1 ∷ []) $ drop ! $ move ! (2 ∷ []) $
-    -- [the desk; the array; its token]
+    -- [what lies there; the array; its token]
     in_a_block ! a.0 (λ p. lies_at R full_share p t) (id⊢ 𝓤 _) (λ b o e.
     regoal ! (λ p. prop (WpFn 𝓤 𝓛.H 𝓣.C 𝓣.Λ code.function (rawptr_vals p ++ (mut_slice_vals out ++ []))
     (W.post (y p)))) e refl $

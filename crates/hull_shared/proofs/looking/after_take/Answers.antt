@@ -4,4 +4,4 @@ use Rattle.hull_shared.proofs.looking.after_take.Goals as goal
 
 pub returns-in-Ok : goal.returns-in-Ok
 returns-in-Ok c = rw (c.in-Idle.is, c.in-Ok.is)
-    (c.with_number.result, refl, c.with_number.ensures, c.number-in-Ok.ensures)
+    (c.with_number-waiting.result, refl, c.with_number-waiting.ensures, c.of_waiting-reply-in-Ok.ensures)

@@ -1,0 +1,62 @@
+//! Corners, in an array of the caller's.
+ghost use Rattle.std.specs.Prelude.{◌≡◌, ◌≤◌, ◌++◌, length, drop};
+ghost use Rattle.hull_reply.specs.Corners.{TellsCorners};
+
+use crate::code::Code;
+use crate::reply::HullReply;
+use lattice::Point;
+use std::marker::Model;
+
+/// A point, by its coordinates.
+#[repr(C)]
+#[derive(Clone, Copy)]
+pub struct HullPoint {
+    /// The first coordinate.
+    pub x: i64,
+    /// The second coordinate.
+    pub y: i64,
+}
+
+impl Model for HullPoint {
+    ghost use Rattle.lattice.specs.Plane.{Pair};
+
+    ghost Value = { Pair };
+
+    ghost view = { λ p. record { x = p.x; y = p.y } };
+
+    ghost inverse = { λ p. record { x = p.x; y = p.y } };
+}
+
+impl HullPoint {
+    /// The point, with its coordinates open.
+    fn of(point: Point) -> HullPoint
+        ensures { result ≡ point }
+    {
+        HullPoint {
+            x: point.x(),
+            y: point.y(),
+        }
+    }
+}
+
+/// Writes the points to the front of the array.
+fn write_points(points: &[Point], out: &mut [HullPoint])
+    requires { length points.now ≤ length out.now }
+    ensures { out.new ≡ points.now ++ drop (length points.now) out.old }
+{
+    for i in 0..points.len() {
+        out[i] = HullPoint::of(points[i]);
+    }
+}
+
+/// Writes corners to the front of the array, if it has room for all of them, and tells how many they are.
+pub fn put_corners(corners: &[Point], out: &mut [HullPoint]) -> HullReply
+    ensures { TellsCorners corners.now out.old out.new result }
+{
+    let number = corners.len();
+    if number > out.len() {
+        return HullReply::numbered(Code::TooSmall, number as u64);
+    }
+    write_points(corners, out);
+    HullReply::numbered(Code::Corners, number as u64)
+}

@@ -1,0 +1,129 @@
+/* Points from doubles and back, and corners as well-known text. It needs no library but that of C.
+ *
+ * Whoever has coordinates in doubles names a power of two: a double v becomes the coordinate v * 2^power. With power 20, say, a
+ * lattice of steps of 2^-20 covers -2^20 to 2^20. What was not on the lattice is rounded to the nearest coordinate, and that is
+ * told: answers are exact for the points after rounding. */
+#ifndef HULL_EXCHANGE_H
+#define HULL_EXCHANGE_H
+
+#include "hull_common.h"
+
+#include <stdio.h>
+
+#ifdef __cplusplus
+extern "C" {
+#endif
+
+/* What came of a double. */
+typedef enum hull_rounding {
+    HULL_EXACT = 0,        /* the coordinate is v * 2^power */
+    HULL_ROUNDED = 1,      /* the nearest coordinate to it; of two as near the even one */
+    HULL_NO_COORDINATE = 2 /* none is: v is not finite, or too great for a coordinate with this power */
+} hull_rounding;
+
+/* The coordinate v * 2^power of a double, by way of `coordinate`, which stays as it was where there is none. The power may be
+ * any. */
+static inline hull_rounding hull_from_double(double v, int power, int64_t *coordinate) {
+    uint64_t bits, size, rest, half;
+    int shift;
+    memcpy(&bits, &v, sizeof bits);
+    /* |v| is size * 2^shift */
+    size = bits & (((uint64_t)1 << 52) - 1);
+    shift = (int)(bits >> 52 & 2047);
+    if (shift == 2047) {
+        return HULL_NO_COORDINATE;
+    }
+    size |= shift == 0 ? 0 : (uint64_t)1 << 52;
+    shift = (shift == 0 ? 1 : shift) - 1075;
+    if (size == 0) {
+        *coordinate = 0;
+        return HULL_EXACT;
+    }
+    /* beyond these all is too great, or rounds to 0 */
+    shift += power > 2048 ? 2048 : power < -2048 ? -2048 : power;
+    rest = half = 0;
+    if (shift > 40) {
+        return HULL_NO_COORDINATE;
+    } else if (shift >= 0) {
+        if (size > (uint64_t)HULL_COORDINATE_MAX >> shift) {
+            return HULL_NO_COORDINATE;
+        }
+        size <<= shift;
+    } else if (shift > -55) {
+        half = (uint64_t)1 << (-shift - 1);
+        rest = size & (2 * half - 1);
+        size >>= -shift;
+        size += rest > half || (rest == half && size % 2 == 1);
+    } else {
+        rest = 1;
+        size = 0;
+    }
+    if (size > (uint64_t)HULL_COORDINATE_MAX) {
+        return HULL_NO_COORDINATE;
+    }
+    *coordinate = bits >> 63 ? -(int64_t)size : (int64_t)size;
+    return rest == 0 ? HULL_EXACT : HULL_ROUNDED;
+}
+
+/* The double of a coordinate, which is coordinate / 2^power: exact for powers from -960 to 1000. */
+static inline double hull_to_double(int64_t coordinate, int power) {
+    double v = (double)coordinate;
+    int i;
+    for (i = 0; i < power && v != 0; i++) {
+        v /= 2;
+    }
+    for (i = 0; i > power && v != 0 && v - v == 0; i--) {
+        v *= 2;
+    }
+    return v;
+}
+
+/* A number as text: a whole one as it is, else with as few digits as tell that double from all others. Returns its length. */
+static inline size_t hull_number_text(int64_t coordinate, int power, char text[32]) {
+    double v = hull_to_double(coordinate, power);
+    int digits, length;
+    if (power == 0) {
+        return (size_t)snprintf(text, 32, "%lld", (long long)coordinate);
+    }
+    digits = 15;
+    do {
+        length = snprintf(text, 32, "%.*g", digits, v);
+    } while (strtod(text, NULL) != v && digits++ < 17);
+    return (size_t)length;
+}
+
+/* Writes the corners that hull_vertices tells as well-known text (OGC 06-103r4), which GEOS, PostGIS and QGIS read: POLYGON EMPTY,
+ * a POINT, a LINESTRING, or a POLYGON whose ring is closed and runs counterclockwise. Coordinates are divided by 2^power. As
+ * snprintf, it writes what has room with a 0 behind it, and returns how long the whole text is without that; `out` may be null
+ * where `room` is 0. It takes the decimal point of the locale, as printf does: leave the locale for numbers at "C". */
+static inline size_t hull_wkt(const hull_point *corners, size_t count, int power, char *out, size_t room) {
+    const char *begin = count == 0 ? "POLYGON EMPTY" : count == 1 ? "POINT (" : count == 2 ? "LINESTRING (" : "POLYGON ((";
+    const char *end = count == 0 ? "" : count < 3 ? ")" : "))";
+    size_t points = count < 3 ? count : count + 1, length = 0, i, j, k;
+    for (i = 0; i < points + 2; i++) {
+        char text[72];
+        const char *piece = i == 0 ? begin : i == points + 1 ? end : text;
+        if (piece == text) {
+            hull_point p = corners[i - 1 < count ? i - 1 : 0];
+            j = i == 1 ? 0 : (memcpy(text, ", ", 2), (size_t)2);
+            j += hull_number_text(p.x, power, text + j);
+            text[j++] = ' ';
+            j += hull_number_text(p.y, power, text + j);
+            text[j] = 0;
+        }
+        for (k = 0; piece[k] != 0; k++, length++) {
+            if (length + 1 < room) {
+                out[length] = piece[k];
+            }
+        }
+    }
+    if (room > 0) {
+        out[length < room ? length : room - 1] = 0;
+    }
+    return length;
+}
+
+#ifdef __cplusplus
+}
+#endif
+#endif

@@ -1,0 +1,26 @@
+/* Holds a thread up between two steps of waiting or of waking, so that steps of other threads fall between: mostly for some tens of
+ * microseconds, and at times for a millisecond. */
+#ifndef STEPS_H
+#define STEPS_H
+
+#include <stdint.h>
+#include <time.h>
+
+static inline void held_up(void) {
+    static __thread uint64_t state;
+    if (state == 0) {
+        state = (uint64_t)(uintptr_t)&state | 1;
+    }
+    state ^= state << 13, state ^= state >> 7, state ^= state << 17; /* Marsaglia, 2003 */
+    if (state % 64 == 0) {
+        struct timespec pause = {0, 1000000};
+        nanosleep(&pause, NULL);
+        return;
+    }
+    for (volatile uint64_t i = 0; i < state % 20000; i++) {
+    }
+}
+
+#define HULL_SHARED_STEP(name) held_up()
+
+#endif
