@@ -8,8 +8,9 @@ ghost use Rattle.hull_questions.specs.Walks.{IsListed, upright};
 
 use crate::stretches::{Course, course_of};
 use bridge_search::{Half, Turned};
+use heap::Heap;
 use lattice::{Point, before};
-use std::alloc::{AllocError, Global};
+use std::alloc::AllocError;
 
 /// Which chain of a hull the lower chain of a half is.
 #[derive(Clone, Copy)]
@@ -36,7 +37,7 @@ fn push_stretch<H: Half>(
     from: Point,
     to: Point,
     side: Side,
-    out: &mut Vec<Point>,
+    out: &mut Vec<Point, Heap>,
 ) -> Result<(), AllocError>
     requires { IsStretch (H.tree half) from to }
     ensures { IfOk result (λ _. IsListed (H.tree half) from to side out.old.items out.new.items) }
@@ -54,7 +55,7 @@ fn push_stretch<H: Half>(
 }
 
 /// Appends the corners of the lower chain of a half but the last.
-fn push_chain<H: Half>(half: H, side: Side, out: &mut Vec<Point>) -> Result<(), AllocError>
+fn push_chain<H: Half>(half: H, side: Side, out: &mut Vec<Point, Heap>) -> Result<(), AllocError>
     ensures { IfOk result (λ _. IsListed (H.tree half) (first_of (H.tree half))
         (last_of (H.tree half)) side out.old.items out.new.items) }
 {
@@ -66,7 +67,7 @@ fn push_chain<H: Half>(half: H, side: Side, out: &mut Vec<Point>) -> Result<(), 
 /// Each chain is one way through the stored bridges that goes only where its corners are: through the forks above those
 /// whose bridges are its edges, each once. In a balanced half of n points with h vertices these are O(h log(n / h +
 /// 1)). An `Err` comes only where `alloc` refuses memory.
-pub fn vertices<H: Half>(alloc: Global, half: H) -> Result<Vec<Point>, AllocError>
+pub fn vertices<H: Half>(alloc: Heap, half: H) -> Result<Vec<Point, Heap>, AllocError>
     ensures vertices { IfOk result (λ v. IsVertexList (points_of (H.tree half)) v.items) }
     ensures few { IfOk result (λ v. vec_len v ≤ size_of (H.tree half)) }
 {
