@@ -8,6 +8,7 @@ mod outline;
 mod place;
 mod rounds;
 mod sights;
+mod tangents;
 
 pub use outline::Outline;
 pub use rounds::is_outline;
