@@ -17,12 +17,15 @@ ghost use Rattle.hull_reply.specs.Rooms.{room_alignment, room_size};
 ghost use Rattle.hull_reply.specs.Served.{IsAnswered};
 ghost use Rattle.hull_c.specs.Left.{leaves_room};
 ghost use Rattle.hull_c.specs.Loads.{IsLoaded};
+ghost use Rattle.hull_c.specs.Outlines.{IsOutlineAnswer, TellsOutline};
+ghost use Rattle.hull_outline.specs.Outlines.{IsShortOutline};
 ghost use Rattle.hull_c.specs.Requests.{AreServed};
 ghost use Rattle.hull_c.specs.Calls.{AreCorners, IsCleared, IsFresh, IsLimitOf};
 
 mod calls;
 mod corners;
 mod load;
+mod outline;
 mod requests;
 #[cfg(test)]
 mod tests;
@@ -31,6 +34,7 @@ pub use corners::HullPoint;
 use heap::Heap;
 use hull_reply::HullReply;
 use hull_tree::SparingTree;
+use lattice::Point;
 pub use requests::HullRequest;
 
 /// Makes the call that a kind and two numbers ask for: a point or a direction, or nothing of them.
@@ -127,6 +131,24 @@ pub unsafe extern "C" fn hull_limit(at: *mut u8) -> HullReply
 {
     let hull = at as *mut SparingTree;
     calls::limit(unsafe { &mut *hull })
+}
+
+/// Asks an array of corners, as [`hull_vertices`] writes them, what a kind and two numbers ask of the set that they are of.
+/// Nothing is written, so that any number of threads may ask one array at once.
+#[unsafe(no_mangle)]
+pub extern "C" fn hull_outline_call(corners: &[Point], kind: u32, x: i64, y: i64) -> HullReply
+    requires { IsShortOutline corners.now }
+    ensures { IsOutlineAnswer corners.now kind x y result }
+{
+    outline::ask(corners, kind, x, y)
+}
+
+/// Tells whether points are the corners of a set in the order in which [`hull_vertices`] writes them: 1, or 0.
+#[unsafe(no_mangle)]
+pub extern "C" fn hull_is_outline(alloc: Heap, points: &[HullPoint]) -> HullReply
+    ensures { TellsOutline points.now result }
+{
+    outline::judge(alloc, points)
 }
 
 /// How many bytes the room of a hull has.

@@ -26,7 +26,7 @@ fn are_points(array: &[HullPoint]) -> bool
 }
 
 /// The points of an array: [`Code::OutOfRange`] exactly where one of them is none, and else [`Code::NoMemory`].
-fn points_of(alloc: Heap, array: &[HullPoint]) -> Result<Vec<Point, Heap>, Code>
+pub(crate) fn points_of(alloc: Heap, array: &[HullPoint]) -> Result<Vec<Point, Heap>, Code>
     ensures all { IfOk result (λ points. (points.items ≡ array.now) × All HasCoordinates array.now) }
     ensures fault { IfErr result (IsUnread array.now) }
 {
