@@ -33,8 +33,7 @@ use core::rt::Memory;
 '''
 # what the crate `heap` of the repository says of its allocator
 ROWS = "-- The heap as a type.\npub use Rattle.heap.specs.contracts.Heap.{the_row as heap_row}\n"
-LAWS = """-- What is known of the heap as a type, and the type of its values.
-pub use Rattle.heap.specs.declared.Heap.{Heap}
+LAWS = """-- What is known of the heap as a type.
 pub use Rattle.heap.proofs.Heap.TheLaws.{lowered, lowers, the_row_laws}
 """
 
