@@ -1,4 +1,4 @@
-ghost use Rattle.std.specs.Prelude.{◌≡◌, ◌≤◌, length, IfOk, IfErr, Err, None};
+ghost use Rattle.std.specs.Prelude.{◌≡◌, ◌≢◌, ◌≤◌, length, IfOk, IfErr, Err, None};
 ghost use Rattle.hull_plain.specs.Held.{nothing_held};
 ghost use Rattle.hull_plain.specs.Replies.{Answers, after, reply_to_add, reply_to_remove};
 ghost use Rattle.hull_tree.specs.Loaded.{AreEntries, held_listed, held_after_adds, AreTooMany};
@@ -76,10 +76,31 @@ impl SparingTree {
         ensures held { IfOk result (λ tree. held_by tree.root ≡ held_after_adds nothing_held points.now) }
         ensures limit { IfOk result (λ tree. tree.limit ≡ limit) }
         ensures sound { IfOk result (λ tree. IsSound tree.root) }
-        ensures too_many { result ≡ Err LoadFault.TooMany → AreTooMany points.now limit }
+        ensures too_many { result ≡ Err LoadFault.TooMany → AreTooMany nothing_held points.now limit }
     {
         let tree = HullTree::from_points(alloc, limit, points)?;
         Ok(SparingTree { tree })
+    }
+
+    /// The points in order, each with how often it is held, as [`HullTree::entries`](HullTree::entries).
+    pub fn entries(&self) -> Result<Vec<(Point, u32), Heap>, NoMemory>
+        ensures entries { IfOk result (λ entries. AreEntries entries.items) }
+        ensures held { IfOk result (λ entries. held_listed entries.items ≡ held_by self.now.root) }
+        ensures refused { IfErr result (λ _. self.now.root ≢ None) }
+    {
+        self.tree.entries()
+    }
+
+    /// Adds points in any order, all or none of them, as [`HullTree::extend`](HullTree::extend).
+    pub fn extend(&mut self, points: &[Point]) -> Result<(), LoadFault>
+        ensures held { IfOk result (λ _. held_by self.new.root ≡ held_after_adds (held_by self.old.root) points.now) }
+        ensures fault { IfErr result (λ _. self.new ≡ self.old) }
+        ensures too_many { result ≡ Err LoadFault.TooMany
+            → AreTooMany (held_by self.old.root) points.now self.old.limit }
+        ensures limit { self.new.limit ≡ self.old.limit }
+        ensures sound { IsSound self.new.root }
+    {
+        self.tree.extend(points)
     }
 
     /// Holds `p` once more, as [`add`](HullSet::add), and tells how many turns the searches of bridges took: at most

@@ -11,7 +11,7 @@ ghost use Rattle.hull_tree.specs.Turns.{IsCountBy, IsLeastCount, IsLeafDepth};
 
 use super::build::blank;
 use super::change::{insert, is_leaf, lower, raise, remove, times_of};
-use super::load::{LoadFault, entries_of, node_over};
+use super::load::{LoadFault, entries_of, merged_entries, node_over, push_entries};
 use super::node::Node;
 use super::node_ref::NodeRef;
 use super::renewal::{Renewal, SearchesAll};
@@ -104,13 +104,48 @@ impl HullTree {
         ensures times { IfOk result (λ tree. (q : Pair) → times_of_root tree.root q ≡ times_among points.now q) }
         ensures limit { IfOk result (λ tree. tree.limit ≡ limit) }
         ensures sound { IfOk result (λ tree. IsSound tree.root) }
-        ensures too_many { result ≡ Err LoadFault.TooMany → AreTooMany points.now limit }
+        ensures too_many { result ≡ Err LoadFault.TooMany → AreTooMany nothing_held points.now limit }
     {
         let entries = entries_of(alloc, points)?;
         if entries.len() > limit as usize {
             return Err(LoadFault::TooMany);
         }
         Ok(HullTree::from_entries(alloc, limit, &entries)?)
+    }
+
+    /// The points in order, each with how often it is held. `NoMemory` comes only for some points.
+    pub fn entries(&self) -> Result<Vec<(Point, u32), Heap>, NoMemory>
+        ensures entries { IfOk result (λ entries. AreEntries entries.items) }
+        ensures held { IfOk result (λ entries. held_listed entries.items ≡ held_by self.now.root) }
+        ensures refused { IfErr result (λ _. self.now.root ≢ None) }
+    {
+        let Some(root) = &self.root else {
+            return Ok(Vec::new(self.alloc));
+        };
+        let mut entries = Vec::with_capacity(self.alloc, self.count as usize)?;
+        push_entries(root, &mut entries);
+        Ok(entries)
+    }
+
+    /// Adds points in any order, all or none of them: what adding them one by one makes. The tree is built anew beside the
+    /// old one, from the points of both. `TooMany` comes where adding them would answer it; after a fault the set holds what
+    /// it held.
+    pub fn extend(&mut self, points: &[Point]) -> Result<(), LoadFault>
+        ensures held { IfOk result (λ _. held_by self.new.root ≡ held_after_adds (held_by self.old.root) points.now) }
+        ensures fault { IfErr result (λ _. self.new ≡ self.old) }
+        ensures too_many { result ≡ Err LoadFault.TooMany
+            → AreTooMany (held_by self.old.root) points.now self.old.limit }
+        ensures limit { self.new.limit ≡ self.old.limit }
+        ensures sound { IsSound self.new.root }
+    {
+        let added = entries_of(self.alloc, points)?;
+        let held = self.entries()?;
+        let entries = merged_entries(self.alloc, &held, &added)?;
+        if entries.len() > self.limit as usize {
+            return Err(LoadFault::TooMany);
+        }
+        *self = HullTree::from_entries(self.alloc, self.limit, &entries)?;
+        Ok(())
     }
 
     /// The tree's own root; `None` for the empty set.
