@@ -1,6 +1,6 @@
 -- The edges between whose ends a point stands, and what its sides of them tell.
-use Rattle.std.proofs.Common.{◌≡◌, ℕ, ◌+◌, ◌-◌, ◌≤◌, ◌<◌, ℤ, pos, ◌≤ℤ◌, ◌<ℤ◌, ◌⊎◌, List, length, inl, inr, sym, ap, ◌∙◌}
-use Rattle.std.proofs.Common.{subst, arith}
+use Rattle.std.proofs.Common.{◌≡◌, ℕ, ◌+◌, ◌-◌, ◌≤◌, ◌<◌, ℤ, pos, ◌≤ℤ◌, ◌<ℤ◌, ◌⊎◌, List, length, inl, inr, refl, sym, ap}
+use Rattle.std.proofs.Common.{◌∙◌, subst, arith}
 use Rattle.std.specs.List.{All, Contains}
 use Rattle.std.proofs.lemmas.Bool.{cases_lt}
 use Rattle.std.proofs.lemmas.Int.{ints}
@@ -48,39 +48,51 @@ ends_apart V last q from to = elim (cases_lt 0 last) [
   | inr h ↦ absurd (from (subst (λ (k : ℕ). IsBefore q (corner V k)) (omega (arith, h)) to))
 ]
 
--- where the corners up to one stand not after q, and that one after it, the edge to it is the lower edge at q
-pub lower_found : (S V : List Pair) (last end : ℕ) (q : Pair) → IsOutlineOf S V → IsParted V last → 0 < length V
-    → ¬ (IsBefore q (corner V 0)) → IsBefore q (corner V last) → 1 ≤ end → end ≤ last
-    → (1 < end → ¬ (IsBefore q (corner V (end - 1)))) → (end < last → IsBefore q (corner V end))
-    → IsLowerEdgeAt S q (corner V (end - 1), corner V end)
-lower_found S V last end q o p n from to low high held fails = record {
-  edge = (ring_of S V last o (p.1 (omega (arith, low, high, p.0 n)))).ahead (end - 1) end (omega (arith, low))
-      (omega (arith, low, high));
-  starts = elim (cases_lt 1 end) [
-    | inl h ↦ held h
-    | inr h ↦ subst (λ (k : ℕ). ¬ (IsBefore q (corner V k))) (omega (arith, h, low)) from
-  ];
-  onward = elim (cases_lt end last) [
-    | inl h ↦ fails h
-    | inr h ↦ subst (λ (k : ℕ). IsBefore q (corner V k)) (omega (arith, h, high)) to
-  ];
-}
+-- a point between the ends, seen from the last corner: there are two corners
+pub two_apart : (V : List Pair) (last : ℕ) (q : Pair) → IsParted V last → 0 < length V → ¬ (IsBefore (corner V last) q)
+    → IsBefore (corner V 0) q → 1 < length V
+two_apart V last q p n from to = elim (cases_lt 0 last) [
+  | inl h ↦ omega (arith, h, p.0 n)
+  | inr h ↦ absurd (from (subst (λ (k : ℕ). IsBefore (corner V k) q) (omega (arith, h)) to))
+]
+
+-- where the edges up to one end not after q, and that one does, it is the lower edge at q
+pub lower_found : (S V : List Pair) (last start : ℕ) (q : Pair) → IsOutlineOf S V → IsParted V last → 0 < length V
+    → ¬ (IsBefore q (corner V 0)) → IsBefore q (corner V last) → start ≤ last - 1
+    → (0 < start → ¬ (IsBefore q (corner V (start - 1 + 1))))
+    → (start < last - 1 → IsBefore q (corner V (start + 1)))
+    → IsLowerEdgeAt S q (corner V start, corner V (start + 1))
+lower_found S V last start q o p n from to high held fails =
+    let more : 0 < last = ends_apart V last q from to in
+    record {
+      edge = (ring_of S V last o (p.1 (omega (arith, more, p.0 n)))).ahead start (start + 1) refl
+          (omega (arith, more, high));
+      starts = elim (cases_lt 0 start) [
+        | inl h ↦ subst (λ (k : ℕ). ¬ (IsBefore q (corner V k))) (omega (arith, h)) (held h)
+        | inr h ↦ subst (λ (k : ℕ). ¬ (IsBefore q (corner V k))) (omega (arith, h)) from
+      ];
+      onward = elim (cases_lt start (last - 1)) [
+        | inl h ↦ fails h
+        | inr h ↦ subst (λ (k : ℕ). IsBefore q (corner V k)) (omega (arith, h, high, more)) to
+      ];
+    }
 
 -- the same of the upper edge
-pub upper_found : (S V : List Pair) (last end : ℕ) (q : Pair) → IsOutlineOf S V → IsParted V last → 1 < length V
-    → ¬ (IsBefore (corner V last) q) → IsBefore (corner V 0) q → last + 1 ≤ end → end ≤ length V
-    → (last + 1 < end → ¬ (IsBefore (corner V (end - 1)) q)) → (end < length V → IsBefore (corner V end) q)
-    → IsUpperEdgeAt S q (corner V (end - 1), corner V end)
-upper_found S V last end q o p n from to low high held fails = record {
-  edge = (ring_of S V last o (p.1 n)).back (end - 1) end (omega (arith, low)) (omega (arith, low))
-      (omega (arith, low, high));
-  starts = elim (cases_lt (last + 1) end) [
-    | inl h ↦ held h
+pub upper_found : (S V : List Pair) (last start : ℕ) (q : Pair) → IsOutlineOf S V → IsParted V last → 0 < length V
+    → ¬ (IsBefore (corner V last) q) → IsBefore (corner V 0) q → last ≤ start → start ≤ length V - 1
+    → (last < start → ¬ (IsBefore (corner V (start - 1 + 1)) q))
+    → (start < length V - 1 → IsBefore (corner V (start + 1)) q)
+    → IsUpperEdgeAt S q (corner V start, corner V (start + 1))
+upper_found S V last start q o p n from to low high held fails = record {
+  edge = (ring_of S V last o (p.1 (two_apart V last q p n from to))).back start (start + 1) refl low
+      (omega (arith, high, n));
+  starts = elim (cases_lt last start) [
+    | inl h ↦ subst (λ (k : ℕ). ¬ (IsBefore (corner V k) q)) (omega (arith, h)) (held h)
     | inr h ↦ subst (λ (k : ℕ). ¬ (IsBefore (corner V k) q)) (omega (arith, h, low)) from
   ];
-  onward = elim (cases_lt end (length V)) [
+  onward = elim (cases_lt start (length V - 1)) [
     | inl h ↦ fails h
-    | inr h ↦ subst (λ (z : Pair). IsBefore z q) (sym (corner_back V end h (omega (arith, n)))) to
+    | inr h ↦ subst (λ (z : Pair). IsBefore z q) (sym (corner_back V (start + 1) (omega (arith, h)) n)) to
   ];
 }
 
@@ -199,11 +211,3 @@ seen_by S V last q e f Below i k l h = absurd h
 seen_by S V last q e f Above i k l h = (i, (f.0, f.1, l.edge, h))
 seen_by S V last q e f Touching i k l h = (covered_at S q e f k l h.0 h.1, outer_at S q e f k l h.0 h.1 h.2)
 seen_by S V last q e f Within i k l h = inside_at S q e f k l h.0 h.1
-
--- a point between the ends, seen from the last corner: there are two corners
-pub two_apart : (V : List Pair) (last : ℕ) (q : Pair) → IsParted V last → 0 < length V → ¬ (IsBefore (corner V last) q)
-    → IsBefore (corner V 0) q → 1 < length V
-two_apart V last q p n from to = elim (cases_lt 0 last) [
-  | inl h ↦ omega (arith, h, p.0 n)
-  | inr h ↦ absurd (from (subst (λ (k : ℕ). IsBefore (corner V k) q) (omega (arith, h)) to))
-]

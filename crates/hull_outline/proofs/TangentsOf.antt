@@ -7,13 +7,15 @@ use Rattle.std.proofs.lemmas.Int.{ints}
 use Rattle.std.proofs.lemmas.List.Elements.{All-contains}
 use Rattle.lattice.specs.Plane.{Pair, orient, distance_squared, IsBefore, turned_point}
 use Rattle.lattice.specs.Polynomials.{difference-eq, as_difference, difference-add, difference-neg, difference-mul}
+use Rattle.lattice.proofs.Order.{equal_by}
 use Rattle.lattice.proofs.TurnedBridges.{turned_twice, before_turned, before_turned_back}
+use Rattle.hull_plain.specs.Edges.{IsFirst, IsLast}
 use Rattle.hull_plain.specs.Tangents.{IsLeftTangent, IsRightTangent}
 use Rattle.hull_plain.proofs.Orientation.{orient_other}
 use Rattle.hull_outline.specs.Outlines.{IsOutlineOf}
 use Rattle.hull_outline.specs.Rounds.{corner, IsParted}
 use Rattle.hull_outline.specs.Sights.{IsBelow, IsAbove}
-use Rattle.hull_outline.specs.Touches.{IsPassed, IsToCome, IsPassedBack, IsToComeBack, IsUpperEnd}
+use Rattle.hull_outline.specs.Touches.{IsPassed, IsToCome, IsPassedBack, IsToComeBack}
 use Rattle.hull_outline.proofs.Corners.{corner_back, corner_extreme}
 use Rattle.hull_outline.proofs.EdgesOf.{all_of}
 use Rattle.hull_outline.proofs.Ends.{ends_of}
@@ -21,6 +23,7 @@ use Rattle.hull_outline.proofs.Made.{turned_before}
 use Rattle.hull_outline.proofs.Rings.{IsRing, ring_of}
 use Rattle.hull_outline.proofs.Sides.{side_turned}
 use Rattle.hull_outline.proofs.Touching.{IsClear, IsChainUnder, IsNotLefter, IsNotRighter, left_found, right_found}
+use Rattle.hull_outline.proofs.Touching.{left_itself, right_itself}
 
 -- ---- the lower chain
 
@@ -100,35 +103,34 @@ unfolding distance_squared
 distance_turned a b = rw (as_difference a.x, as_difference a.y, as_difference b.x, as_difference b.y)
     (simp (difference-add, difference-neg, difference-mul) (difference-eq _ _ _ _ (omega arith)))
 
--- the last place of the upper chain has the first corner
-end_first : (V : List Pair) (end : ℕ) → IsUpperEnd V end → 0 < length V → corner V end ≡ corner V 0
-end_first V end u n = elim (cases_lt 1 (length V)) [
-  | inl l ↦ corner_back V end (omega (arith, u.0 l)) n
-  | inr l ↦ ap (corner V) (u.1 l)
-]
-
 -- the corners from `last` on, after a turn, are a chain under the turned S
-upper_chain : (S V : List Pair) (last end : ℕ) → IsOutlineOf S V → IsParted V last → 0 < length V → IsUpperEnd V end
-    → IsChainUnder (TurnedIn S) (turned_corner V) last end
-upper_chain S V last end o p n u = record {
-  on = λ i. subst (Contains S) (sym (turned_twice (corner V i))) (corner_extreme S V i o.1 n).0;
-  first = λ t m b. (ends_of S V last o p n).1 (turned_point t) m (before_turned_back t (corner V last) b);
-  last = λ t m b. (ends_of S V last o p n).0 (turned_point t) m
-      (subst (IsBefore (turned_point t)) (end_first V end u n) (before_turned t (corner V end) b));
-  forward = λ i j e k l. turned_before (corner V j) (corner V i) ((ring i k l).back i j e k (inside i k l)).backward;
-  left = λ i j e k l t m. subst (λ (z : ℤ). pos 0 ≤ℤ z) (sym (side_of_turned (corner V i) (corner V j) t))
-      (All-contains (λ t. pos 0 ≤ℤ orient (corner V i) (corner V j) t) S (turned_point t)
-      ((ring i k l).back i j e k (inside i k l)).left m);
-}
-  where
-    two : (i : ℕ) → last ≤ i → i < end → 1 < length V
-    two i k l = elim (cases_lt 1 (length V)) [ inl h ↦ h | inr h ↦ absurd (omega (arith, l, u.1 h)) ]
+upper_chain : (S V : List Pair) (last : ℕ) → IsOutlineOf S V → IsParted V last → 1 < length V
+    → IsChainUnder (TurnedIn S) (turned_corner V) last (length V)
+upper_chain S V last o p n =
+    let ring : IsRing S V last = ring_of S V last o (p.1 n) in
+    record {
+      on = λ i. subst (Contains S) (sym (turned_twice (corner V i))) (corner_extreme S V i o.1 (omega (arith, n))).0;
+      first = λ t m b. ring.last (turned_point t) m (before_turned_back t (corner V last) b);
+      last = λ t m b. ring.first (turned_point t) m
+          (subst (IsBefore (turned_point t)) (corner_back V (length V) (omega arith) (omega (arith, n)))
+          (before_turned t (corner V (length V)) b));
+      forward = λ i j e k l. turned_before (corner V j) (corner V i) (ring.back i j e k l).backward;
+      left = λ i j e k l t m. subst (λ (z : ℤ). pos 0 ≤ℤ z) (sym (side_of_turned (corner V i) (corner V j) t))
+          (All-contains (λ t. pos 0 ≤ℤ orient (corner V i) (corner V j) t) S (turned_point t)
+          (ring.back i j e k l).left m);
+    }
 
-    inside : (i : ℕ) → last ≤ i → i < end → i < length V
-    inside i k l = omega (arith, l, u.0 (two i k l))
-
-    ring : (i : ℕ) → last ≤ i → i < end → IsRing S V last
-    ring i k l = ring_of S V last o (p.1 (two i k l))
+-- a single corner is each point
+alone : (S V : List Pair) (last at : ℕ) (t : Pair) → IsOutlineOf S V → IsParted V last → 0 < length V → length V ≤ 1
+    → Contains S t → t ≡ corner V at
+alone S V last at t o p n one m =
+    let ends : IsFirst S (corner V 0) × IsLast S (corner V last) = ends_of S V last o p n in
+    let same : corner V last ≡ corner V 0 = ap (corner V) (omega (arith, one, p.0 n)) in
+    equal_by t (corner V 0) (ends.0 t m) (λ b. ends.1 t m (subst (λ (z : Pair). IsBefore z t) (sym same) b))
+    ∙ elim (cases_lt at (length V)) [
+      | inl h ↦ ap (corner V) (omega (arith, h, one))
+      | inr h ↦ sym (corner_back V at h n)
+    ]
 
 -- above S nothing is in the way after a turn
 clear_above : (S : List Pair) (q : Pair) → IsAbove S q → IsClear (TurnedIn S) (turned_point q)
@@ -172,38 +174,45 @@ side_above_back : (a b q : Pair) → pos 0 <ℤ orient (turned_point a) (turned_
 side_above_back a b q h = subst (λ (z : ℤ). pos 0 <ℤ z) (side_turned a b q) h
 
 -- the left tangent from above
-pub left_above : (S V : List Pair) (last end at : ℕ) (q : Pair) → IsOutlineOf S V → IsParted V last → 0 < length V
-    → IsUpperEnd V end → IsAbove S q → IsBefore q (corner V last) → last ≤ at → at ≤ end
+pub left_above : (S V : List Pair) (last at : ℕ) (q : Pair) → IsOutlineOf S V → IsParted V last → 0 < length V
+    → IsAbove S q → IsBefore q (corner V last) → last ≤ at → at ≤ length V
     → (last < at → IsPassedBack q (corner V (at - 1)) (corner V (at - 1 + 1)))
-    → (at < end → ¬ (IsPassedBack q (corner V at) (corner V (at + 1)))) → IsLeftTangent S q (corner V at)
-left_above S V last end at q o p n u h from k l held fails = (
+    → (at < length V → ¬ (IsPassedBack q (corner V at) (corner V (at + 1)))) → IsLeftTangent S q (corner V at)
+left_above S V last at q o p n h from k l held fails = (
   (corner_extreme S V at o.1 n).0,
-  all_of (IsNotLefter q (corner V at)) S (λ t m. left_unturned q (corner V at) t
-      (left_found (TurnedIn S) (turned_corner V) last end at (turned_point q) (upper_chain S V last end o p n u)
-      (clear_above S q h) (turned_before q (corner V last) from) k l
-      (λ b. (
-        turned_before q (corner V (at - 1 + 1)) (held b).0,
-        side_above (corner V (at - 1)) (corner V (at - 1 + 1)) q (held b).1,
-      ))
-      (λ b x. fails b (unturned q (corner V (at + 1)) x.0, side_above_back (corner V at) (corner V (at + 1)) q x.1))
-      (turned_point t) (subst (Contains S) (sym (turned_twice t)) m))),
+  all_of (IsNotLefter q (corner V at)) S (λ t m. elim (cases_lt 1 (length V)) [
+    | inr one ↦ left_itself q (corner V at) t (alone S V last at t o p n one m)
+    | inl two ↦ left_unturned q (corner V at) t
+        (left_found (TurnedIn S) (turned_corner V) last (length V) at (turned_point q) (upper_chain S V last o p two)
+        (clear_above S q h) (turned_before q (corner V last) from) k l
+        (λ b. (
+          turned_before q (corner V (at - 1 + 1)) (held b).0,
+          side_above (corner V (at - 1)) (corner V (at - 1 + 1)) q (held b).1,
+        ))
+        (λ b x. fails b (unturned q (corner V (at + 1)) x.0, side_above_back (corner V at) (corner V (at + 1)) q x.1))
+        (turned_point t) (subst (Contains S) (sym (turned_twice t)) m))
+  ]),
 )
 
 -- the right tangent from above
-pub right_above : (S V : List Pair) (last end at : ℕ) (q : Pair) → IsOutlineOf S V → IsParted V last → 0 < length V
-    → IsUpperEnd V end → IsAbove S q → IsBefore (corner V 0) q → last ≤ at → at ≤ end
+pub right_above : (S V : List Pair) (last at : ℕ) (q : Pair) → IsOutlineOf S V → IsParted V last → 0 < length V
+    → IsAbove S q → IsBefore (corner V 0) q → last ≤ at → at ≤ length V
     → (last < at → ¬ (IsToComeBack q (corner V (at - 1)) (corner V (at - 1 + 1))))
-    → (at < end → IsToComeBack q (corner V at) (corner V (at + 1))) → IsRightTangent S q (corner V at)
-right_above S V last end at q o p n u h to k l held fails = (
+    → (at < length V → IsToComeBack q (corner V at) (corner V (at + 1))) → IsRightTangent S q (corner V at)
+right_above S V last at q o p n h to k l held fails = (
   (corner_extreme S V at o.1 n).0,
-  all_of (IsNotRighter q (corner V at)) S (λ t m. right_unturned q (corner V at) t
-      (right_found (TurnedIn S) (turned_corner V) last end at (turned_point q) (upper_chain S V last end o p n u)
-      (clear_above S q h)
-      (turned_before (corner V end) q (subst (λ (z : Pair). IsBefore z q) (sym (end_first V end u n)) to)) k l
-      (λ b x. held b (
-        unturned (corner V (at - 1)) q x.0,
-        side_above_back (corner V (at - 1)) (corner V (at - 1 + 1)) q x.1,
-      ))
-      (λ b. (turned_before (corner V at) q (fails b).0, side_above (corner V at) (corner V (at + 1)) q (fails b).1))
-      (turned_point t) (subst (Contains S) (sym (turned_twice t)) m))),
+  all_of (IsNotRighter q (corner V at)) S (λ t m. elim (cases_lt 1 (length V)) [
+    | inr one ↦ right_itself q (corner V at) t (alone S V last at t o p n one m)
+    | inl two ↦ right_unturned q (corner V at) t
+        (right_found (TurnedIn S) (turned_corner V) last (length V) at (turned_point q) (upper_chain S V last o p two)
+        (clear_above S q h)
+        (turned_before (corner V (length V)) q
+        (subst (λ (z : Pair). IsBefore z q) (sym (corner_back V (length V) (omega arith) n)) to)) k l
+        (λ b x. held b (
+          unturned (corner V (at - 1)) q x.0,
+          side_above_back (corner V (at - 1)) (corner V (at - 1 + 1)) q x.1,
+        ))
+        (λ b. (turned_before (corner V at) q (fails b).0, side_above (corner V at) (corner V (at + 1)) q (fails b).1))
+        (turned_point t) (subst (Contains S) (sym (turned_twice t)) m))
+  ]),
 )

@@ -111,7 +111,7 @@ right_before_edge P a r q t c mr mt ar qr tr ht hq = (
     no_less x y e f h = omega (arith, ints)
 
 -- a corner itself
-left_itself : (q l t : Pair) → t ≡ l → IsNotLefter q l t
+pub left_itself : (q l t : Pair) → t ≡ l → IsNotLefter q l t
 left_itself q l t e = subst (IsNotLefter q l) (sym e) (zero _ (orient_end q l), λ z. same _)
   where
     zero : (x : ℤ) → x ≡ pos 0 → x ≤ℤ pos 0
@@ -121,7 +121,7 @@ left_itself q l t e = subst (IsNotLefter q l) (sym e) (zero _ (orient_end q l), 
     same x = omega (arith, ints)
 
 -- and on the other side
-right_itself : (q r t : Pair) → t ≡ r → IsNotRighter q r t
+pub right_itself : (q r t : Pair) → t ≡ r → IsNotRighter q r t
 right_itself q r t e = subst (IsNotRighter q r) (sym e) (zero _ (orient_end q r), λ z. same _)
   where
     zero : (x : ℤ) → x ≡ pos 0 → pos 0 ≤ℤ x

@@ -1,5 +1,5 @@
 -- The edges beside the corners where the tangents from a point touch.
-use Rattle.std.specs.Prelude.{◌≡◌, ℕ, pos, ◌<◌, ◌≤◌, ◌<ℤ◌, List, length}
+use Rattle.std.specs.Prelude.{pos, ◌<ℤ◌}
 use Rattle.lattice.specs.Plane.{Pair, orient, IsBefore}
 
 -- the lower edge from a to b ends before q, which lies left of it
@@ -17,7 +17,3 @@ IsPassedBack q a b = IsBefore q b × (pos 0 <ℤ orient a b q)
 -- it begins before q, which lies left of it
 abbrev pub IsToComeBack : Pair → Pair → Pair → Type 0
 IsToComeBack q a b = IsBefore a q × (pos 0 <ℤ orient a b q)
-
--- the upper chain ends at this place: behind the last corner, and a single corner at itself
-abbrev pub IsUpperEnd : List Pair → ℕ → Type 0
-IsUpperEnd V end = (1 < length V → end ≡ length V) × (length V ≤ 1 → end ≡ 0)

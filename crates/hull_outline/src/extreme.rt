@@ -1,13 +1,13 @@
 //! The first of the points that lie farthest in a direction.
-ghost use Rattle.std.specs.Prelude.{◌↔◌, IsTrue, ◌+◌, ◌<◌, length, pos, ◌<ℤ◌, ◌≤ℤ◌};
+ghost use Rattle.std.specs.Prelude.{◌↔◌, IsTrue, ◌<◌, length, pos, ◌<ℤ◌, ◌≤ℤ◌};
 ghost use Rattle.lattice.specs.Plane as plane;
 ghost use Rattle.hull_plain.specs.Replies.{AnswersExtreme, reply_to_extreme};
 ghost use Rattle.hull_plain.specs.Tangents.{IsFirstFarthest};
 ghost use Rattle.hull_outline.specs.Outlines.{HoldsOfSetsOf};
-ghost use Rattle.hull_outline.specs.Rounds.{corner, IsParted};
+ghost use Rattle.hull_outline.specs.Rounds.{IsParted};
 ghost use Rattle.hull_outline.specs.Lent.{corners_of};
 
-use super::bisection::first_failing;
+use super::bisection::{first_failing, first_failing_back};
 use super::outline::Outline;
 use super::rounds::corner_at;
 use lattice::{Direction, Point, product};
@@ -19,24 +19,6 @@ fn is_nearer(d: Direction, p: Point, q: Point) -> bool
     product(d, p) < product(d, q)
 }
 
-/// Whether the corner at `i` lies less far than the next one.
-fn rises(corners: &[Point], d: Direction, i: usize) -> bool
-    requires { i < length corners.now }
-    ensures { IsTrue result
-        ↔ (plane.product d (corner corners.now i) <ℤ plane.product d (corner corners.now (i + 1))) }
-{
-    is_nearer(d, corner_at(corners, i), corner_at(corners, i + 1))
-}
-
-/// Whether the next corner lies less far than the one at `i`.
-fn falls(corners: &[Point], d: Direction, i: usize) -> bool
-    requires { i < length corners.now }
-    ensures { IsTrue result
-        ↔ (plane.product d (corner corners.now (i + 1)) <ℤ plane.product d (corner corners.now i)) }
-{
-    is_nearer(d, corner_at(corners, i + 1), corner_at(corners, i))
-}
-
 /// The first of the farthest in a direction that does not go up: the corner up to which the lower chain rises.
 fn farthest_below(corners: &[Point], last: usize, d: Direction) -> Point
     requires some { 0 < length corners.now }
@@ -44,7 +26,7 @@ fn farthest_below(corners: &[Point], last: usize, d: Direction) -> Point
     requires down { d.y ≤ℤ pos 0 }
     ensures { HoldsOfSetsOf corners.now (λ S. IsFirstFarthest S d result) }
 {
-    corners[first_failing(0, last, |i| rises(corners, d, i))]
+    corners[first_failing(corners, 0, last, &|p, q| is_nearer(d, p, q))]
 }
 
 /// The first of the farthest in a direction that goes up: the corner from which the upper chain falls.
@@ -54,10 +36,8 @@ fn farthest_above(corners: &[Point], last: usize, d: Direction) -> Point
     requires up { pos 0 <ℤ d.y }
     ensures { HoldsOfSetsOf corners.now (λ S. IsFirstFarthest S d result) }
 {
-    corner_at(
-        corners,
-        first_failing(last, corners.len(), |i| !falls(corners, d, i)),
-    )
+    let place = first_failing_back(corners, last, &|p, q| !is_nearer(d, q, p));
+    corner_at(corners, place)
 }
 
 impl<'a> Outline<'a> {

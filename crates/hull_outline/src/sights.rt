@@ -34,8 +34,8 @@ fn lower_edge_at(corners: &[Point], last: usize, q: Point) -> (Point, Point)
     requires to { IsBefore q (corner corners.now last) }
     ensures { HoldsOfSetsOf corners.now (λ S. IsLowerEdgeAt S q result) }
 {
-    let end = first_failing(1, last, |i| !before(q, corner_at(corners, i)));
-    (corner_at(corners, end - 1), corner_at(corners, end))
+    let start = first_failing(corners, 0, last - 1, &|_, end| !before(q, end));
+    (corners[start], corners[start + 1])
 }
 
 /// The upper edge that goes back from `q`, or the one that goes back from a point after `q` to one before it.
@@ -46,12 +46,8 @@ fn upper_edge_at(corners: &[Point], last: usize, q: Point) -> (Point, Point)
     requires to { IsBefore (corner corners.now 0) q }
     ensures { HoldsOfSetsOf corners.now (λ S. IsUpperEdgeAt S q result) }
 {
-    let end = first_failing(
-        last + 1,
-        corners.len(),
-        |i| !before(corner_at(corners, i), q),
-    );
-    (corner_at(corners, end - 1), corner_at(corners, end))
+    let start = first_failing(corners, last, corners.len() - 1, &|_, end| !before(end, q));
+    (corners[start], corner_at(corners, start + 1))
 }
 
 /// From where a point looks that has the lower edge at it on its side `lower`, not outside of it, and the upper edge on

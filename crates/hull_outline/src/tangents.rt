@@ -1,61 +1,46 @@
 //! Where the tangents from a point touch.
-ghost use Rattle.std.specs.Prelude.{◌↔◌, IsTrue, ◌+◌, ◌<◌, length};
+ghost use Rattle.std.specs.Prelude.{◌↔◌, IsTrue, ◌<◌, length};
 ghost use Rattle.lattice.specs.Plane.{IsBefore};
 ghost use Rattle.hull_plain.specs.Replies.{AnswersTangents, reply_to_tangents};
 ghost use Rattle.hull_plain.specs.Tangents.{IsLeftTangent, IsRightTangent};
 ghost use Rattle.hull_outline.specs.Outlines.{HoldsOfSetsOf};
 ghost use Rattle.hull_outline.specs.Rounds.{corner, IsParted};
 ghost use Rattle.hull_outline.specs.Sights.{IsBelow, IsAbove};
-ghost use Rattle.hull_outline.specs.Touches.{IsPassed, IsToCome, IsPassedBack, IsToComeBack, IsUpperEnd};
+ghost use Rattle.hull_outline.specs.Touches.{IsPassed, IsToCome, IsPassedBack, IsToComeBack};
 ghost use Rattle.hull_outline.specs.Lent.{corners_of};
 
-use super::bisection::first_failing;
+use super::bisection::{first_failing, first_failing_back};
 use super::outline::Outline;
 use super::rounds::{corner_at, is_left};
 use super::sights::{Sight, look};
 use lattice::{Point, before};
 
-/// Whether the lower edge from the corner at `i` ends before `q`, which lies left of it.
-fn is_passed(corners: &[Point], i: usize, q: Point) -> bool
-    requires { i < length corners.now }
-    ensures { IsTrue result ↔ IsPassed q (corner corners.now i) (corner corners.now (i + 1)) }
+/// Whether a lower edge ends before `q`, which lies left of it.
+fn is_passed(start: Point, end: Point, q: Point) -> bool
+    ensures { IsTrue result ↔ IsPassed q start end }
 {
-    let (start, end) = (corner_at(corners, i), corner_at(corners, i + 1));
     before(end, q) && is_left(start, end, q)
 }
 
 /// Whether it begins after `q`, which lies left of it.
-fn is_to_come(corners: &[Point], i: usize, q: Point) -> bool
-    requires { i < length corners.now }
-    ensures { IsTrue result ↔ IsToCome q (corner corners.now i) (corner corners.now (i + 1)) }
+fn is_to_come(start: Point, end: Point, q: Point) -> bool
+    ensures { IsTrue result ↔ IsToCome q start end }
 {
-    let (start, end) = (corner_at(corners, i), corner_at(corners, i + 1));
     before(q, start) && is_left(start, end, q)
 }
 
-/// Whether the upper edge from the corner at `i` ends after `q`, which lies left of it.
-fn is_passed_back(corners: &[Point], i: usize, q: Point) -> bool
-    requires { i < length corners.now }
-    ensures { IsTrue result ↔ IsPassedBack q (corner corners.now i) (corner corners.now (i + 1)) }
+/// Whether an upper edge ends after `q`, which lies left of it.
+fn is_passed_back(start: Point, end: Point, q: Point) -> bool
+    ensures { IsTrue result ↔ IsPassedBack q start end }
 {
-    let (start, end) = (corner_at(corners, i), corner_at(corners, i + 1));
     before(q, end) && is_left(start, end, q)
 }
 
 /// Whether it begins before `q`, which lies left of it.
-fn is_to_come_back(corners: &[Point], i: usize, q: Point) -> bool
-    requires { i < length corners.now }
-    ensures { IsTrue result ↔ IsToComeBack q (corner corners.now i) (corner corners.now (i + 1)) }
+fn is_to_come_back(start: Point, end: Point, q: Point) -> bool
+    ensures { IsTrue result ↔ IsToComeBack q start end }
 {
-    let (start, end) = (corner_at(corners, i), corner_at(corners, i + 1));
     before(start, q) && is_left(start, end, q)
-}
-
-/// Where the upper chain ends: behind the last corner, and a single corner at itself.
-fn upper_end(corners: &[Point]) -> usize
-    ensures { IsUpperEnd corners.now result }
-{
-    if corners.len() > 1 { corners.len() } else { 0 }
 }
 
 /// The left tangent point seen from `q`, which lies below the hull and after its first corner.
@@ -66,10 +51,8 @@ fn left_from_below(corners: &[Point], last: usize, q: Point) -> Point
     requires after { IsBefore (corner corners.now 0) q }
     ensures { HoldsOfSetsOf corners.now (λ S. IsLeftTangent S q result) }
 {
-    corner_at(
-        corners,
-        first_failing(0, last, |i| is_passed(corners, i, q)),
-    )
+    let place = first_failing(corners, 0, last, &|start, end| is_passed(start, end, q));
+    corners[place]
 }
 
 /// The right tangent point seen from `q`, which lies below the hull and before its last corner.
@@ -80,10 +63,8 @@ fn right_from_below(corners: &[Point], last: usize, q: Point) -> Point
     requires before { IsBefore q (corner corners.now last) }
     ensures { HoldsOfSetsOf corners.now (λ S. IsRightTangent S q result) }
 {
-    corner_at(
-        corners,
-        first_failing(0, last, |i| !is_to_come(corners, i, q)),
-    )
+    let place = first_failing(corners, 0, last, &|start, end| !is_to_come(start, end, q));
+    corners[place]
 }
 
 /// The left tangent point seen from `q`, which lies above the hull and before its last corner.
@@ -94,10 +75,8 @@ fn left_from_above(corners: &[Point], last: usize, q: Point) -> Point
     requires before { IsBefore q (corner corners.now last) }
     ensures { HoldsOfSetsOf corners.now (λ S. IsLeftTangent S q result) }
 {
-    corner_at(
-        corners,
-        first_failing(last, upper_end(corners), |i| is_passed_back(corners, i, q)),
-    )
+    let place = first_failing_back(corners, last, &|start, end| is_passed_back(start, end, q));
+    corner_at(corners, place)
 }
 
 /// The right tangent point seen from `q`, which lies above the hull and after its first corner.
@@ -108,14 +87,8 @@ fn right_from_above(corners: &[Point], last: usize, q: Point) -> Point
     requires after { IsBefore (corner corners.now 0) q }
     ensures { HoldsOfSetsOf corners.now (λ S. IsRightTangent S q result) }
 {
-    corner_at(
-        corners,
-        first_failing(
-            last,
-            upper_end(corners),
-            |i| !is_to_come_back(corners, i, q),
-        ),
-    )
+    let place = first_failing_back(corners, last, &|start, end| !is_to_come_back(start, end, q));
+    corner_at(corners, place)
 }
 
 impl<'a> Outline<'a> {

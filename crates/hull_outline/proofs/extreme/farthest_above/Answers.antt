@@ -6,9 +6,8 @@ use Rattle.hull_outline.proofs.extreme.farthest_above.Goals as goal
 
 pub returns : goal.returns
 returns c = λ S o.
-    let at = c.first_failing.result in
     subst (IsFirstFarthest S c.args.d) (sym c.corner_at.ensures)
-    (of.farthest_above S c.args.corners.now c.args.last at c.args.d o c.requires.parted c.requires.some c.requires.up
-    c.first_failing.ensures.from c.first_failing.ensures.to
-    (λ h b. let k = c.first_failing.ensures.held h in search (rules, of_calls))
-    (λ h. let k = c.first_failing.ensures.fails h in search (rules, of_calls)))
+    (of.farthest_above S c.args.corners.now c.args.last c.first_failing_back-place.result c.args.d o c.requires.parted c.requires.some
+    c.requires.up c.first_failing_back-place.ensures.from c.first_failing_back-place.ensures.to
+    (λ h b. let k = c.first_failing_back-place.ensures.held h in search (rules, of_calls))
+    (λ h. let k = c.first_failing_back-place.ensures.fails h in search (rules, of_calls)))
