@@ -158,7 +158,7 @@ size_t hull_calls(hull_set *h, const hull_request *requests, size_t request_coun
  * it was: HULL_OUT_OF_RANGE (of any of them), else HULL_TOO_MANY (more different points than the limit, or one of them more often
  * than HULL_MULTIPLICITY_MAX) or HULL_NO_MEMORY (old and new points are both in memory for a while). The array is not null, even
  * where it has no elements, and is aligned. */
-hull_reply hull_load(hull h, const hull_point *points, size_t count);
+hull_reply hull_load(hull_set *h, const hull_point *points, size_t count);
 
 /* Lets all points go, and their memory; the limit stays: HULL_CLEARED. */
 hull_reply hull_clear(hull_set *h);

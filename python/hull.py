@@ -6,9 +6,11 @@
     hull.place_all([(5, 5), (10, 5), (11, 5)])     # three of Place, as bytes
 
 A hull holds points, each at least once; questions are over the points, each taken once. A coordinate is a whole number
-from -COORDINATE_LIMIT to COORDINATE_LIMIT. Many points at once are a list of pairs, or an array of 64-bit integers in
-two columns: one of numpy, or any other that shows its memory so (the buffer protocol). A call that raises leaves the
-hull as it was. Calls on one hull from several threads wait for each other.
+from -COORDINATE_LIMIT to COORDINATE_LIMIT. Many points at once are a list of pairs, or an array of integers in two
+columns, a point in each row: one of numpy, whose answers are then arrays of numpy too, or any other that shows its
+memory so (the buffer protocol). Arrays of floats and bools, masked ones, and those of two rows and another number of
+columns than two are refused. A call that raises leaves the hull as it was. Calls on one hull from several threads wait
+for each other.
 
     from hull import SharedHull
     with SharedHull(capacity=1000, seats=2) as shared:
@@ -16,21 +18,34 @@ hull as it was. Calls on one hull from several threads wait for each other.
             seat.add(3, 4)
         text = shared.close()                      # the journal of all calls, which `hullbook check` judges
 
+Coordinates that are floats come to the lattice by a power of two that the caller names:
+
+    from hull import from_floats, to_floats
+    points, rounded = from_floats([(0.5, 1.25), (0.1, 3)], power=20)     # rounded is 1: 0.1 is between two
+    to_floats(Hull(points).vertices(), power=20)                         # pairs of floats again
+    Hull(points).wkt(power=20)                                           # "LINESTRING (..)", "POLYGON ((..))"
+
 The calls go to the shared objects `libhull.so` and `libhull_shared.so` (loaded for the first SharedHull), which
 `bin/install` links from the archives and puts beside this file; the variables HULL_LIBRARY and HULL_SHARED_LIBRARY of
-the environment may name others.
+the environment may name others. It runs under Python 3.8 and later.
 """
 import ctypes
 import enum
 import functools
 import itertools
+import math
 import operator
 import os
 import sys
 import threading
-import time
 import weakref
 from array import array
+from typing import NamedTuple
+
+if sys.version_info < (3, 8):
+    raise ImportError("the module hull needs Python 3.8 or later")
+
+__version__ = "1.0.0"
 
 #: The greatest size of a coordinate, of a point and of a direction: 2^40.
 COORDINATE_LIMIT = 1 << 40
@@ -91,12 +106,11 @@ class _Code(enum.IntEnum):
     ABSENT = 9
     EMPTY = 11
     NO_TANGENT = 16
+    TOO_SMALL = 19
     OUT_OF_LIMITS = 33
     NO_SEAT = 36
     NOT_OPEN = 38
     VACANT = 40
-    WAITING = 41
-    NOT_YET = 44
     FULL = 46
     SEATS_OUT = 47
 
@@ -138,6 +152,10 @@ _FAULTS = {
 }
 
 
+#: What a call of a seat may be answered with no line in the journal.
+_UNSERVED = frozenset((_Code.OUT_OF_RANGE, _Code.ZERO_DIRECTION, _Code.VACANT, _Code.FULL))
+
+
 def _told(code):
     """Raises the fault of a code that is one's."""
     fault = _FAULTS.get(code)
@@ -166,15 +184,17 @@ def _library():
     ])
 
 
-@functools.cache
+@functools.lru_cache(maxsize=None)
 def _shared_library():
     at, whole, number, size = ctypes.c_void_p, ctypes.c_int64, ctypes.c_uint32, ctypes.c_size_t
     return _load("libhull_shared.so", "HULL_SHARED_LIBRARY", "hull_shared_", [
         ("desk_size", [], size), ("desk_alignment", [], size), ("seat_size", [], size), ("seat_alignment", [], size),
         ("make_desk", [at], None), ("make_seat", [at], None),
         ("open", [at, number, ctypes.c_uint64, number, number], number), ("lend", [at, at, number], number),
-        ("give_back", [at, at], number), ("take", [at, number, whole, whole], number), ("look", [at], _SeatReply),
-        ("close", [at], number), ("text", [at, at, size], _Reply), ("end", [at], number),
+        ("give_back", [at, at], number), ("close", [at], number), ("text", [at, at, size], _Reply),
+        ("end", [at], number),
+        ("line_size", [], size), ("make_line", [at], None), ("ask", [at, at, number, whole, whole], _SeatReply),
+        ("ask_vertices", [at, at, at, size], _SeatReply),
     ])
 
 
@@ -193,28 +213,85 @@ def _end(room, at):
     del room
 
 
+def _index(number):
+    """A whole number; True and False are none."""
+    if isinstance(number, bool):
+        raise TypeError("a coordinate is a whole number, and not a bool")
+    return operator.index(number)
+
+
 def _whole(coordinate):
     """A coordinate that is in range: ctypes would cut a larger one off."""
-    coordinate = operator.index(coordinate)
+    coordinate = _index(coordinate)
     if not -COORDINATE_LIMIT <= coordinate <= COORDINATE_LIMIT:
         raise _FAULTS[_Code.OUT_OF_RANGE]()
     return coordinate
 
 
+def _of_numpy(points):
+    """The module numpy where the points are an array of its, else None."""
+    numpy = sys.modules.get("numpy")
+    return numpy if numpy is not None and isinstance(points, numpy.ndarray) else None
+
+
+def _check_shape(shape, kind):
+    """Raises unless an array of this shape has a point in each row; of one with no element any shape will do."""
+    if 0 in shape or (len(shape) == 2 and shape[1] == 2):
+        return
+    turned = "; its transpose has" if len(shape) == 2 and shape[0] == 2 else ""
+    raise ValueError("an array of points has shape (n, 2), a point in each row, "
+                     f"and this one of {kind} has {tuple(shape)}{turned}")
+
+
+def _numpy_rows(numpy, points, kinds="iu", wanted="integers", help="; from_floats takes floats"):
+    """The array, if it has one point in each row, and its numbers are of these kinds."""
+    if isinstance(points, numpy.ma.MaskedArray):
+        raise TypeError("an array of points has no mask: fill or compress it first")
+    if points.dtype.kind not in kinds:
+        raise TypeError(f"an array of points is one of {wanted}, "
+                        f"and this one of shape {points.shape} is of {points.dtype}{help}")
+    _check_shape(points.shape, points.dtype)
+    return points.reshape(-1, 2)
+
+
+def _flat_of_numpy(numpy, points):
+    """The coordinates of an array of numpy, as `_flat` tells them, before any is cut off by a cast."""
+    rows = _numpy_rows(numpy, points)
+    if rows.size and not -COORDINATE_LIMIT <= int(rows.min()) <= int(rows.max()) <= COORDINATE_LIMIT:
+        raise _FAULTS[_Code.OUT_OF_RANGE]()
+    return array("q", rows.astype(numpy.int64).tobytes())
+
+
+def _flat_of_memory(view):
+    """The coordinates of an array that shows its memory, none of them looked at yet; None where it shows no numbers."""
+    if view.format in ("q", "l") and view.itemsize == 8:
+        _check_shape(view.shape, "integers")
+        return array("q", view.tobytes())
+    if view.ndim < 2 and 0 not in view.shape:
+        return None
+    if view.format not in tuple("bBhHiIlLqQ"):
+        raise TypeError("an array of points is one of integers, "
+                        f"and this one of shape {view.shape} is of format {view.format!r}")
+    _check_shape(view.shape, "integers")
+    return array("q", itertools.chain.from_iterable(view.tolist()))
+
+
 def _flat(points):
     """The coordinates of many points, all in range, those of each point beside one another."""
+    numpy = _of_numpy(points)
+    if numpy is not None:
+        return _flat_of_numpy(numpy, points)
     try:
         view = memoryview(points)
     except TypeError:
         view = None
-    if view is not None and view.ndim == 2 and view.shape[1] == 2 and view.format in ("q", "l") and view.itemsize == 8:
-        flat = array("q", view.tobytes())
-    else:
-        pairs = ((operator.index(x), operator.index(y)) for x, y in points)
-        try:
+    try:
+        flat = None if view is None else _flat_of_memory(view)
+        if flat is None:
+            pairs = ((_index(x), _index(y)) for x, y in points)
             flat = array("q", itertools.chain.from_iterable(pairs))
-        except OverflowError:
-            raise _FAULTS[_Code.OUT_OF_RANGE]() from None
+    except OverflowError:
+        raise _FAULTS[_Code.OUT_OF_RANGE]() from None
     if flat and not -COORDINATE_LIMIT <= min(flat) <= max(flat) <= COORDINATE_LIMIT:
         raise _FAULTS[_Code.OUT_OF_RANGE]()
     return flat
@@ -228,10 +305,72 @@ def _columns(points):
 
 def _like(points, numbers):
     """The numbers, as an array of numpy where the points were one."""
-    numpy = sys.modules.get("numpy")
-    if numpy is not None and isinstance(points, numpy.ndarray):
+    numpy = _of_numpy(points)
+    if numpy is not None:
         return numpy.frombuffer(numbers, dtype=numpy.uint8 if isinstance(numbers, bytes) else numpy.uint32)
     return numbers
+
+
+class Lattice(NamedTuple):
+    """What `from_floats` makes: the points, and how many of their coordinates had to be rounded."""
+
+    points: object
+    rounded: int
+
+
+def _from_float(number, power):
+    """The coordinate next to number * 2**power, of two as near the even one; and whether it was rounded."""
+    try:
+        scaled = math.ldexp(number, power)
+        near = round(scaled)
+    except (OverflowError, ValueError):  # too great, or not finite
+        raise _FAULTS[_Code.OUT_OF_RANGE]() from None
+    return _whole(near), near != scaled or (near == 0) != (number == 0)
+
+
+def from_floats(points, power):
+    """The points of the lattice next to x * 2**power, y * 2**power, of two as near the even one: a Lattice.
+
+    The points are pairs of numbers, or an array of numpy with a point in each row, and come back as such. All answers
+    are exact for the points after rounding. OutOfRange where a number is not finite, or too great for the lattice.
+    """
+    power = operator.index(power)
+    numpy = _of_numpy(points)
+    if numpy is None:
+        flat = [_from_float(number, power) for x, y in points for number in (x, y)]
+        return Lattice([(x[0], y[0]) for x, y in zip(flat[0::2], flat[1::2])], sum(rounded for _, rounded in flat))
+    rows = _numpy_rows(numpy, points, "fiu", "numbers", "").astype(numpy.float64)
+    with numpy.errstate(over="ignore", under="ignore"):
+        scaled = numpy.ldexp(rows, power)
+    near = numpy.rint(scaled)
+    if not (numpy.abs(near) <= COORDINATE_LIMIT).all():  # nor is it where one is no number
+        raise _FAULTS[_Code.OUT_OF_RANGE]()
+    return Lattice(near.astype(numpy.int64), int(((near != scaled) | ((near == 0) != (rows == 0))).sum()))
+
+
+def to_floats(points, power):
+    """The pairs (x / 2**power, y / 2**power), as floats or as an array of them: exact for powers from -960 to 1000."""
+    power = operator.index(power)
+    numpy = _of_numpy(points)
+    if numpy is not None:
+        return numpy.ldexp(_numpy_rows(numpy, points).astype(numpy.float64), -power)
+    return [(math.ldexp(_whole(x), -power), math.ldexp(_whole(y), -power)) for x, y in points]
+
+
+def wkt(corners, power=0):
+    """Corners, as `vertices` tells them, as well-known text (OGC 06-103r4), which GEOS, PostGIS and QGIS read.
+
+    POLYGON EMPTY, a POINT, a LINESTRING, or a POLYGON whose ring is closed and runs counterclockwise. Coordinates are
+    divided by 2**power, and are written with as few digits as tell the float from all others.
+    """
+    corners = [(int(x), int(y)) for x, y in corners]
+    pairs = corners if power == 0 else to_floats(corners, power)
+    texts = [f"{x!r} {y!r}" for x, y in pairs]
+    if not texts:
+        return "POLYGON EMPTY"
+    if len(texts) < 3:
+        return f"{'POINT' if len(texts) == 1 else 'LINESTRING'} ({', '.join(texts)})"
+    return f"POLYGON (({', '.join(texts + texts[:1])}))"
 
 
 def _times_added(reply):
@@ -260,7 +399,7 @@ def _area(reply):
 
 
 class Hull:
-    """A hull for at most `limit` different points, 1 to POINT_LIMIT, which holds the points given, as `load` takes them."""
+    """A hull for at most `limit` different points, 1 to POINT_LIMIT, which holds the points given, as by `load`."""
 
     __slots__ = ("_at", "_lock", "__weakref__")
 
@@ -275,6 +414,9 @@ class Hull:
 
     def __reduce__(self):
         raise TypeError("a hull lies in one place: it can't be copied")
+
+    def __repr__(self):
+        return f"<Hull of {len(self)} points, limit {self.limit()}>"
 
     def _ask(self, function, *words):
         """The reply of a function of the library, or the fault that it told."""
@@ -326,8 +468,8 @@ class Hull:
     def load(self, points):
         """Holds just these points, in the place of all that was held; returns how many different points that are.
 
-        Each is held as often as it stands among them: what adding them one by one to an empty hull makes, in a small part
-        of the time. TooMany where there are more than the limit, or one of them stands there too often.
+        Each is held as often as it stands among them: what adding them one by one to an empty hull makes, in a small
+        part of the time. TooMany where there are more than the limit, or one of them stands there too often.
         """
         flat = _flat(points)
         count = len(flat) // 2
@@ -343,28 +485,79 @@ class Hull:
             self._ask(_LIBRARY.hull_vertices, room.buffer_info()[0], reply.number)
         return list(zip(room[0:2 * reply.number:2], room[1:2 * reply.number:2]))
 
+    def vertex_array(self):
+        """The corners as `vertices` tells them, as an array of numpy of shape (n, 2)."""
+        import numpy  # so that the module needs none
+
+        return numpy.array(self.vertices(), dtype=numpy.int64).reshape(-1, 2)
+
+    def wkt(self, power=0):
+        """The hull as well-known text, its coordinates divided by 2**power: see the function `wkt`."""
+        return wkt(self.vertices(), power)
+
     def __len__(self):
         """How many different points there are."""
         return self._call(_Kind.COUNT).number
 
     def __contains__(self, point):
-        """Whether the hull holds the point (which may well lie inside and be no corner)."""
-        return self.multiplicity(*point) > 0
+        """Whether the hull holds the point, which may well lie inside and be no corner. None out of range is held."""
+        x, y = point
+        try:
+            return self.multiplicity(x, y) > 0
+        except OutOfRange:
+            return False
 
-    def _ask_all(self, kind, points):
-        """The replies to one kind of call at each of the points, as words of 32 bits, 14 a reply."""
-        first, second = _columns(points)
+    def _replies(self, kind, first, second):
+        """The replies to one kind of call at each point of two columns, as an array that shows its memory."""
         count = len(first)
         requests = array("q", (kind, 0, 0)) * max(count, 1)
         requests[1:3 * count:3], requests[2:3 * count:3] = first, second
         replies = (_Reply * max(count, 1))()
         with self._lock:
             _LIBRARY.hull_calls(self._at, requests.buffer_info()[0], count, ctypes.addressof(replies), count)
-        return memoryview(replies).cast("B").cast("I")[:14 * count]
+        return memoryview(replies).cast("B")[:ctypes.sizeof(_Reply) * count]
+
+    def _ask_all(self, kind, points):
+        """The replies to one kind of call at each of the points, as words of 32 bits, 14 a reply."""
+        return self._replies(kind, *_columns(points)).cast("I")
 
     def place_all(self, points):
         """Where each of the points lies, as bytes with the numbers of Place."""
         return _like(points, bytes(self._ask_all(_Kind.PLACE, points)[0::14].tolist()))
+
+    def extreme_all(self, directions):
+        """The point farthest in each of the directions, of several the first by x and then by y.
+
+        Pairs in a list, or an array of numpy of shape (n, 2) where the directions were one. Where the hull holds no
+        point, None for each, and for an array ValueError.
+        """
+        first, second = _columns(directions)
+        if any(x == 0 == y for x, y in zip(first, second)):
+            raise _FAULTS[_Code.ZERO_DIRECTION]()
+        memory = self._replies(_Kind.EXTREME, first, second)
+        numpy = _of_numpy(directions)
+        found = memory.cast("I")[0:1].tolist() != [_Code.EMPTY]
+        if numpy is not None:
+            if not found:
+                raise ValueError("the hull holds no point: none is the farthest")
+            return numpy.frombuffer(memory, dtype=numpy.int64).reshape(-1, 7)[:, 1:3].copy()
+        words = memory.cast("q")
+        return list(zip(words[1::7].tolist(), words[2::7].tolist())) if found else [None] * len(first)
+
+    def tangents_all(self, points):
+        """The left and the right tangent point seen from each of the points, None where no such are.
+
+        Pairs of points in a list; or where the points were an array of numpy, two arrays: the tangent points, of shape
+        (n, 2, 2), and which of them are there, of shape (n,): those that are not are 0.
+        """
+        memory = self._replies(_Kind.TANGENTS, *_columns(points))
+        numpy = _of_numpy(points)
+        if numpy is not None:
+            seen = numpy.frombuffer(memory, dtype=numpy.uint32)[0::14] != _Code.NO_TANGENT
+            return numpy.frombuffer(memory, dtype=numpy.int64).reshape(-1, 7)[:, 1:5].reshape(-1, 2, 2).copy(), seen
+        words, codes = memory.cast("q"), memory.cast("I")[0::14].tolist()
+        pairs = zip(*(words[at::7].tolist() for at in range(1, 5)))
+        return [None if code == _Code.NO_TANGENT else ((a, b), (c, d)) for code, (a, b, c, d) in zip(codes, pairs)]
 
     def add_all(self, points):
         """Holds each of the points once more, in their order; returns for each how often it was held then.
@@ -392,13 +585,16 @@ def _end_desk(room, at):
 class _Desk:
     """A desk, on which there is one call at a time. The hull and each seat that is out keep it."""
 
-    __slots__ = ("at", "lock", "__weakref__")
+    __slots__ = ("at", "line", "lock", "out", "_line_room", "__weakref__")
 
     def __init__(self):
         library = _shared_library()
         room, self.at = _room(library.hull_shared_desk_size(), library.hull_shared_desk_alignment())
+        self._line_room, self.line = _room(library.hull_shared_line_size(), 64)
         self.lock = threading.Lock()
+        self.out = set()  # the numbers of the seats that are out
         library.hull_shared_make_desk(self.at)
+        library.hull_shared_make_line(self.line)
         weakref.finalize(self, _end_desk, room, self.at)
 
 
@@ -410,25 +606,35 @@ class SharedHull:
     numbers.
     """
 
-    __slots__ = ("_desk",)
+    __slots__ = ("_desk", "_words")
 
     def __init__(self, capacity, seats, limit=POINT_LIMIT, first=0):
         words = operator.index(limit), operator.index(first), operator.index(capacity), operator.index(seats)
         if not all(0 <= word < 1 << bits for word, bits in zip(words, (32, 64, 32, 32))):
             _told(_Code.OUT_OF_LIMITS)
         self._desk = _Desk()
+        self._words = words
         _told(_shared_library().hull_shared_open(self._desk.at, *words))
 
     def __reduce__(self):
         raise TypeError("a hull lies in one place: it can't be copied")
 
+    def __repr__(self):
+        limit, first, capacity, seats = self._words
+        with self._desk.lock:
+            out = len(self._desk.out)
+        return f"<SharedHull for {capacity} calls from {first}, limit {limit}, {out} of {seats} seats out>"
+
     def __enter__(self):
         return self
 
-    def __exit__(self, *_):
-        """Closes the hull; what is told then is lost, as where a seat is out."""
-        with self._desk.lock:
-            _shared_library().hull_shared_close(self._desk.at)
+    def __exit__(self, fault, *_):
+        """Closes the hull. SeatsOut, which names them, where seats are out, unless another exception is under way."""
+        try:
+            self._close()
+        except SeatsOut:
+            if fault is None:
+                raise
 
     def lend(self, number):
         """Lends the seat of a number, 0 and up, for one thread; NoSeat where it is out or there is none."""
@@ -437,59 +643,54 @@ class SharedHull:
             _told(_Code.NO_SEAT)
         return Seat(self._desk, number)
 
+    def _close(self):
+        """Closes the hull, unless it is closed."""
+        with self._desk.lock:
+            code = _shared_library().hull_shared_close(self._desk.at)
+            if code == _Code.SEATS_OUT:
+                raise SeatsOut(f"seats of the hull are out: {', '.join(map(str, sorted(self._desk.out)))}")
+        if code != _Code.NOT_OPEN:
+            _told(code)
+
     def close(self):
         """Closes the hull, unless it is closed, and returns the text of its journal; SeatsOut where a seat is out."""
+        self._close()
         library, at = _shared_library(), self._desk.at
         with self._desk.lock:
-            code = library.hull_shared_close(at)
-            if code != _Code.NOT_OPEN:
-                _told(code)
-            length = library.hull_shared_text(at, None, 0).number
+            none = ctypes.create_string_buffer(1)
+            length = library.hull_shared_text(at, ctypes.addressof(none), 0).number
             text = ctypes.create_string_buffer(length)
             _told(library.hull_shared_text(at, ctypes.addressof(text), length).code)
         return text.raw.decode("ascii")
 
 
-def _return_seat(desk, room, at):
-    """Gives the seat in a room back, which is kept until then. A number that it has taken is waited for first."""
-    library = _shared_library()
-    code = _Code.WAITING
-    while code == _Code.WAITING:
-        with desk.lock:
-            code = library.hull_shared_give_back(desk.at, at)
-        if code == _Code.WAITING:
-            _wait(at)
+def _return_seat(desk, room, at, number):
+    """Gives the seat in a room back, which is kept until then."""
+    with desk.lock:
+        _shared_library().hull_shared_give_back(desk.at, at)
+        desk.out.discard(number)
     del room
-
-
-def _wait(at):
-    """Looks until the number of a seat is served: what was answered."""
-    look = _shared_library().hull_shared_look
-    answer = look(at)
-    while answer.told.code == _Code.NOT_YET:
-        time.sleep(0)
-        answer = look(at)
-    return answer
 
 
 class Seat:
     """A seat at a shared hull, for one thread at a time: calls on one seat from several threads wait for each other.
 
-    Each call waits until those that took their numbers before are served; it raises JournalFull where the journal has no
-    room. A seat goes back to its hull by `give_back`, at the end of a `with`, and when it is let go.
+    Each call waits for its turn, and other threads of Python run meanwhile; it raises JournalFull where the journal has
+    no room. A seat goes back to its hull by `give_back`, at the end of a `with`, and when it is let go.
     """
 
-    __slots__ = ("_at", "_lock", "_return", "_turn", "__weakref__")
+    __slots__ = ("_at", "_corners", "_desk", "_lock", "_number", "_return", "_turn", "__weakref__")
 
     def __init__(self, desk, number):
         library = _shared_library()
         room, self._at = _room(library.hull_shared_seat_size(), library.hull_shared_seat_alignment())
         self._lock = threading.Lock()
-        self._turn = None
+        self._desk, self._number, self._turn, self._corners = desk, number, None, 64
         library.hull_shared_make_seat(self._at)
         with desk.lock:
             _told(library.hull_shared_lend(desk.at, self._at, number))
-        self._return = weakref.finalize(self, _return_seat, desk, room, self._at)
+            desk.out.add(number)
+        self._return = weakref.finalize(self, _return_seat, desk, room, self._at, number)
 
     def __reduce__(self):
         raise TypeError("a seat lies in one place: it can't be copied")
@@ -505,20 +706,23 @@ class Seat:
         with self._lock:
             self._return()
 
-    def _ask(self, kind, x=0, y=0):
-        """The reply of a call, or the fault that it told."""
+    def _served(self, function, *words):
+        """The reply of a function that waits for the seat's turn, or the fault that it told."""
         with self._lock:
             if not self._return.alive:
                 _told(_Code.VACANT)
-            code = _shared_library().hull_shared_take(self._at, kind, x, y)
-            if code == _Code.WAITING:  # an exception, as KeyboardInterrupt, ended the last call while it waited
-                _wait(self._at)
-                code = _shared_library().hull_shared_take(self._at, kind, x, y)
-            _told(code)
-            answer = _wait(self._at)
-            self._turn = answer.turn if answer.told.code != _Code.FULL else self._turn
+            answer = function(self._desk.line, self._at, *words)
+            if answer.told.code not in _UNSERVED:
+                self._turn = answer.turn
         _told(answer.told.code)
         return answer.told
+
+    def _ask(self, kind, x=0, y=0):
+        """The reply of a call, or the fault that it told."""
+        return self._served(_shared_library().hull_shared_ask, kind, x, y)
+
+    def __repr__(self):
+        return f"<Seat {self._number}, {'out' if self._return.alive else 'given back'}, last turn {self._turn}>"
 
     def turn(self):
         """The number of the last call that was served, under which it has its line; None where none was."""
@@ -545,8 +749,21 @@ class Seat:
         return _farthest(self._ask(_Kind.EXTREME, _whole(x), _whole(y)))
 
     def corners(self):
-        """How many corners there are; they stand in the journal's line."""
+        """How many corners there are."""
         return self._ask(_Kind.VERTICES).number
+
+    def vertices(self):
+        """The corners as pairs, as those of a Hull.
+
+        They are asked for with room for as many as there were before, and again where there are more: each asking has
+        its line in the journal.
+        """
+        while True:
+            room = array("q", (0, 0)) * self._corners
+            reply = self._served(_shared_library().hull_shared_ask_vertices, room.buffer_info()[0], self._corners)
+            if reply.code != _Code.TOO_SMALL:
+                return list(zip(room[0:2 * reply.number:2], room[1:2 * reply.number:2]))
+            self._corners = reply.number + reply.number // 8
 
     def doubled_area(self):
         """Twice the area, 0 for a point and a line."""

@@ -200,7 +200,7 @@ static int64_t place_in(int64_t i, int64_t n) { return i * 7 % n; }
 static void loads(void) {
     enum { NUMBER = 2000 };
     static hull_point points[HULL_MULTIPLICITY_MAX + 1];
-    hull h = made(NUMBER), slow = made(NUMBER);
+    hull_set *h = made(NUMBER), *slow = made(NUMBER);
     for (int64_t i = 0; i < NUMBER; i++) {
         int64_t x = place_in(i, NUMBER) % (NUMBER / 2);
         points[i].x = x, points[i].y = x * x % 1009;

@@ -1,4 +1,5 @@
 """Each method of python/hull.py, each of its answers and each of its faults."""
+import ast
 import copy
 import threading
 import time
@@ -12,6 +13,7 @@ except ImportError:
 
 import hull as hull_module
 from hull import COORDINATE_LIMIT, MULTIPLICITY_LIMIT, POINT_LIMIT, Hull, OutOfRange, Place, TooMany, ZeroDirection
+from hull import from_floats, to_floats, wkt
 
 SQUARE = [(0, 0), (10, 0), (10, 10), (0, 10), (4, 4)]
 
@@ -74,6 +76,58 @@ class Calls(unittest.TestCase):
         self.assertEqual(Hull(SQUARE).vertices(), [(0, 0), (10, 0), (10, 10), (0, 10)])
         self.assertEqual(Hull([(0, 0)] * 65535, limit=1).multiplicity(0, 0), 65535)
         self.assertRaises(TooMany, Hull, SQUARE, limit=4)
+
+    def test_many_questions(self):
+        self.assertEqual(self.hull.extreme_all([(1, 0), (0, 1), (-1, -1)]), [(10, 0), (0, 10), (0, 0)])
+        seen = [((10, 0), (10, 10)), None, ((0, 10), (0, 0))]
+        self.assertEqual(self.hull.tangents_all([(20, 5), (5, 5), (-9, 5)]), seen)
+        self.assertEqual(self.hull.tangents_all(columns([(20, 5), (5, 5), (-9, 5)])), seen)
+        self.assertRaises(ZeroDirection, self.hull.extreme_all, [(1, 0), (0, 0)])
+        none = Hull()
+        self.assertEqual((none.extreme_all([(1, 0)] * 2), none.tangents_all([(1, 0)] * 2)), ([None] * 2, [None] * 2))
+        self.assertEqual((self.hull.extreme_all([]), self.hull.tangents_all([])), ([], []))
+
+    def test_what_is_held(self):
+        self.assertTrue((4, 4) in self.hull and (5, 4) not in self.hull and (COORDINATE_LIMIT + 1, 0) not in self.hull)
+        for wrong in (3, (1, 2, 3), "ab", (0.5, 1), (True, 0)):
+            self.assertRaises((TypeError, ValueError), self.hull.__contains__, wrong)
+
+    def test_what_is_printed(self):
+        self.assertEqual(repr(self.hull), "<Hull of 5 points, limit 6>")
+        self.assertEqual(repr(Hull()), "<Hull of 0 points, limit 1048576>")
+
+    def test_version(self):
+        self.assertRegex(hull_module.__version__, r"^\d+\.\d+\.\d+$")
+        with open(hull_module.__file__, encoding="utf-8") as file:
+            ast.parse(file.read(), feature_version=(3, 8))
+
+    def test_other_arrays(self):
+        for code in "bBhHiIlLqQ":
+            numbers = array(code, [number for point in SQUARE for number in point])
+            points = memoryview(numbers).cast("B").cast(code, (5, 2))
+            self.assertEqual(list(self.hull.place_all(points)), [13] * 4 + [12], code)
+        too_great = memoryview(array("Q", [0, 1 << 63])).cast("B").cast("Q", (1, 2))
+        self.assertRaises(OutOfRange, self.hull.place_all, too_great)
+        floats = memoryview(array("d", [0.0, 1.0])).cast("B").cast("d", (1, 2))
+        self.assertRaisesRegex(TypeError, r"shape \(1, 2\) is of format 'd'", self.hull.place_all, floats)
+        turned = memoryview(array("q", range(6))).cast("B").cast("q", (2, 3))
+        self.assertRaisesRegex(ValueError, r"\(n, 2\).*\(2, 3\); its transpose has", self.hull.place_all, turned)
+        for wrong in ([(True, False)], [(0, 1.0)], [0, 1], array("q", (0, 1)), b"abcd", [(0, 1, 2)], 7, None):
+            self.assertRaises((TypeError, ValueError), self.hull.place_all, wrong)
+
+    def test_floats(self):
+        self.assertEqual(from_floats([(0.5, -3), (0.1, 2.0)], 20), ([(1 << 19, -3 << 20), (104858, 2 << 20)], 1))
+        self.assertEqual(from_floats([(2.5, 3.5), (-0.5, -1.5)], 0), ([(2, 4), (0, -2)], 4))
+        self.assertEqual(from_floats([(5e-324, 1e-300)], -5), ([(0, 0)], 2))
+        self.assertEqual(from_floats([(5e-324, 0)], 1100), ([(1 << 26, 0)], 0))
+        for wrong in (float("nan"), float("inf"), -1e308, 1.0000001):
+            self.assertRaises(OutOfRange, from_floats, [(0, wrong)], 40)
+        self.assertEqual(to_floats([(1, -3)], 2), [(0.25, -0.75)])
+
+    def test_text(self):
+        self.assertEqual((wkt([]), wkt([(1, -2)]), wkt([(0, 0), (3, 4)], 2)),
+                         ("POLYGON EMPTY", "POINT (1 -2)", "LINESTRING (0.0 0.0, 0.75 1.0)"))
+        self.assertEqual(self.hull.wkt(), "POLYGON ((0 0, 10 0, 10 10, 0 10, 0 0))")
 
     def test_area_in_two_words(self):
         hull = Hull()
@@ -188,13 +242,59 @@ class Locks(unittest.TestCase):
 
 @unittest.skipIf(numpy is None, "there is no numpy")
 class Arrays(unittest.TestCase):
-    def test_numpy(self):
+    def setUp(self):
+        self.hull = Hull(SQUARE)
+        self.square = numpy.array(SQUARE, dtype=numpy.int64)
+
+    def test_points(self):
         hull = Hull()
-        square = numpy.array(SQUARE, dtype=numpy.int64)
-        self.assertEqual(hull.add_all(square).tolist(), [1] * 5)
-        self.assertEqual(hull.place_all(square).tolist(), [13, 13, 13, 13, 12])
-        self.assertEqual(hull.place_all(square.astype(numpy.int32)).tolist(), [13, 13, 13, 13, 12])
-        self.assertEqual(hull.place_all(square[::-1]).tolist(), [12, 13, 13, 13, 13])
+        self.assertEqual(hull.add_all(self.square).tolist(), [1] * 5)
+        self.assertEqual(hull.place_all(self.square[::-1]).tolist(), [12, 13, 13, 13, 13])
+        self.assertEqual(hull.place_all(numpy.asfortranarray(self.square)).tolist(), [13, 13, 13, 13, 12])
+        self.assertEqual(Hull(self.square[:0]).vertices(), [])
+        self.assertEqual((hull.load(self.square), hull.remove_all(self.square)), (5, 5))
+
+    def test_types(self):
+        for kind in "int8 int16 int32 int64 uint8 uint16 uint32 uint64 >i4 >i8 <u2".split():
+            points = self.square.astype(kind)
+            self.assertEqual(self.hull.place_all(points).tolist(), [13, 13, 13, 13, 12], kind)
+        for points in (numpy.array([[0, 1 << 63]], dtype=numpy.uint64), numpy.array([[-(1 << 63), 0]])):
+            self.assertRaises(OutOfRange, self.hull.place_all, points)
+
+    def test_refused(self):
+        for points, message in (
+                (self.square.astype(float), r"shape \(5, 2\) is of float64; from_floats takes floats"),
+                (self.square > 3, r"shape \(5, 2\) is of bool"), (self.square.astype(object), "is of object"),
+                (numpy.ma.masked_equal(self.square, 10), "no mask")):
+            self.assertRaisesRegex(TypeError, message, self.hull.place_all, points)
+        for points, message in (
+                (self.square.T, r"of int64 has \(2, 5\); its transpose has"), (self.square[0], r"has \(2,\)"),
+                (self.square.reshape(5, 2, 1), r"has \(5, 2, 1\)"), (self.square[:, :1], r"has \(5, 1\)")):
+            self.assertRaisesRegex(ValueError, message, self.hull.place_all, points)
+
+    def test_questions(self):
+        corners = self.hull.vertex_array()
+        self.assertEqual((corners.tolist(), corners.dtype), ([[0, 0], [10, 0], [10, 10], [0, 10]], numpy.int64))
+        self.assertEqual(Hull().vertex_array().shape, (0, 2))
+        farthest = self.hull.extreme_all(numpy.array([[1, 0], [0, 1]], dtype=numpy.int32))
+        self.assertEqual((farthest.tolist(), farthest.dtype), ([[10, 0], [0, 10]], numpy.int64))
+        self.assertRaises(ValueError, Hull().extreme_all, self.square[1:])
+        self.assertEqual(Hull().extreme_all(self.square[:0]).shape, (0, 2))
+        points, seen = self.hull.tangents_all(numpy.array([[20, 5], [5, 5]]))
+        self.assertEqual((points.tolist(), seen.tolist()), ([[[10, 0], [10, 10]], [[0, 0], [0, 0]]], [True, False]))
+
+    def test_floats(self):
+        points, rounded = from_floats(numpy.array([[0.5, -3], [0.1, 2]]), 20)
+        self.assertEqual((points.tolist(), rounded), ([[1 << 19, -3 << 20], [104858, 2 << 20]], 1))
+        self.assertEqual(points.dtype, numpy.int64)
+        self.assertEqual(to_floats(points[:1], 20).tolist(), [[0.5, -3]])
+        numbers = numpy.array([(-1) ** n * n * 2.0 ** (n % 70 - 60) + n % 3 / 2 for n in range(3000)]).reshape(-1, 2)
+        listed = from_floats(numbers.tolist(), 7)
+        points, rounded = from_floats(numbers, 7)
+        self.assertEqual(([tuple(point) for point in points.tolist()], rounded), listed)
+        for wrong in (numpy.nan, numpy.inf, -1e308):
+            self.assertRaises(OutOfRange, from_floats, numpy.array([[0, wrong]]), 40)
+        self.assertRaises(TypeError, from_floats, numpy.array([[True, False]]), 1)
 
 
 if __name__ == "__main__":

@@ -1,5 +1,5 @@
 //! Each function of `rust/hull`, each of its answers and each of its faults.
-use hull::{Fault, Hull, Place, Point, COORDINATE_LIMIT, MULTIPLICITY_LIMIT, POINT_LIMIT};
+use hull::{wkt, Fault, Hull, Lattice, Place, Point, COORDINATE_LIMIT, MULTIPLICITY_LIMIT, POINT_LIMIT};
 
 fn point(x: i64, y: i64) -> Point {
     Point { x, y }
@@ -99,6 +99,67 @@ fn corners() {
     assert_eq!(corners.rev().next(), Some(point(0, 10)));
     hull.remove(point(10, 10)).unwrap();
     assert_eq!(hull.vertices().unwrap().len(), 3);
+}
+
+#[test]
+fn many_at_once() {
+    let mut hull = Hull::new(1001).unwrap();
+    let points: Vec<Point> = (0..1000).map(|i| point(i, i * i)).collect();
+    assert_eq!(hull.add_all(&points).unwrap(), vec![1; 1000]);
+    assert_eq!(hull.add_all(&[point(0, 0), point(-1, 0), point(-2, 0), point(1, 1)]), Ok(vec![2, 1, 0, 2]));
+    assert_eq!(hull.place_all(&[point(5, 30), point(0, 0), point(-3, 0)]), Ok(vec![Place::Inside, Place::On, Place::Outside]));
+    assert_eq!(hull.extreme_all(&[point(1, 0), point(-1, 0)]), Ok(vec![Some(point(999, 999 * 999)), Some(point(-1, 0))]));
+    let seen = hull.tangents_all(&[point(5, 30), point(-1, -5)]).unwrap();
+    assert_eq!((seen[0], seen[1].is_some()), (None, true));
+    assert_eq!(seen[1], hull.tangents(point(-1, -5)).unwrap());
+    assert_eq!(hull.place_all(&[point(0, 0), point(i64::MAX, 0)]), Err(Fault::OutOfRange));
+    assert_eq!(hull.extreme_all(&[point(0, 0)]), Err(Fault::ZeroDirection));
+    let before = (hull.len(), hull.multiplicity(point(5, 25)));
+    let far = [point(5, 25), point(0, COORDINATE_LIMIT + 1)];
+    assert_eq!((hull.add_all(&far), hull.remove_all(&far)), (Err(Fault::OutOfRange), Err(Fault::OutOfRange)));
+    assert_eq!((hull.len(), hull.multiplicity(point(5, 25))), before);
+    assert_eq!((hull.remove_all(&points), hull.remove_all(&points), hull.remove_all(&[])), (Ok(1000), Ok(2), Ok(0)));
+    assert_eq!(hull.len(), 1);
+}
+
+#[test]
+fn extended() {
+    let mut hull = Hull::new(2).unwrap();
+    hull.extend([point(1, 2), point(1, 2)]);
+    hull.extend(&[point(3, 4)]);
+    assert_eq!((hull.len(), hull.multiplicity(point(1, 2))), (2, Ok(2)));
+    let full = std::panic::catch_unwind(std::panic::AssertUnwindSafe(|| hull.extend([point(5, 6)])));
+    assert!(full.unwrap_err().downcast_ref::<String>().unwrap().starts_with("(5, 6): there are as many"));
+    assert_eq!(hull.len(), 2);
+}
+
+#[test]
+fn floats() {
+    let lattice = Lattice { power: 20 };
+    let made = lattice.point(0.5, -3.0).unwrap();
+    assert_eq!((made.point, made.is_exact), (point(1 << 19, -3 << 20), true));
+    assert_eq!(lattice.floats(made.point), (0.5, -3.0));
+    let made = lattice.point(0.1, 2.0).unwrap();
+    assert_eq!((made.point, made.is_exact), (point(104858, 2 << 20), false));
+    let whole = Lattice { power: 0 };
+    for (v, near) in [(2.5, 2), (3.5, 4), (-2.5, -2), (-0.5, 0), (0.49999999999999994, 0), (-1.5, -2), (1e-320, 0)] {
+        let made = whole.point(v, 0.0).unwrap();
+        assert_eq!((made.point.x, made.is_exact), (near, false), "{v}");
+    }
+    assert_eq!(Lattice { power: 1100 }.point(5e-324, 0.0).unwrap().point.x, 1 << 26);
+    assert!(!Lattice { power: -2000 }.point(1e300, 0.0).unwrap().is_exact);
+    assert_eq!(Lattice { power: 40 }.point(1.0, -1.0).unwrap().point, point(COORDINATE_LIMIT, -COORDINATE_LIMIT));
+    for wrong in [f64::NAN, f64::INFINITY, -1e308, 1.0000001] {
+        assert_eq!(Lattice { power: 40 }.point(0.0, wrong), Err(Fault::OutOfRange));
+    }
+}
+
+#[test]
+fn text() {
+    assert_eq!((wkt(&[], 3).as_str(), wkt(&[point(1, -2)], 0).as_str()), ("POLYGON EMPTY", "POINT (1 -2)"));
+    assert_eq!(wkt(&[point(0, 0), point(3, 4)], 2), "LINESTRING (0 0, 0.75 1)");
+    assert_eq!(square().wkt(0).unwrap(), "POLYGON ((0 0, 10 0, 10 10, 0 10, 0 0))");
+    assert_eq!(square().wkt(-1).unwrap(), "POLYGON ((0 0, 20 0, 20 20, 0 20, 0 0))");
 }
 
 #[test]

@@ -1,5 +1,5 @@
 #!/bin/sh
-# Shows that the library does in C, Rust and Python what it says: installs it into a temporary folder, compiles the programs
+# Shows that the library does in C, C++, Rust and Python what it says: installs it into a temporary folder, compiles the programs
 # of this folder and of examples/embed against what is there, and runs them, those in C with valgrind's memory check too. The
 # gate runs it. What is missing here (a compiler, python3, valgrind) is told and skipped, and counts nothing. The last line
 # counts, and the status is not 0 where something failed.
@@ -82,14 +82,37 @@ in_c() {
     try "every code of every function" "$room/codes"
     try "refusals.c compiles" compile refusals -Wl,--wrap=malloc,--wrap=realloc,--wrap=free
     try "each request for memory refused in turn" "$room/refusals"
-    for standard in c99 c11; do
-        try "the header is $standard" \
-            cc -x c -std=$standard -pedantic -Wall -Wextra -Werror -fsyntax-only "$prefix/include/hull.h"
+    for header in hull hull_shared hull_exchange; do
+        for standard in c99 c11; do
+            try "$header.h is $standard" \
+                cc -x c -std=$standard -pedantic -Wall -Wextra -Werror -fsyntax-only "$prefix/include/$header.h"
+        done
     done
-    if is_there c++; then
-        try "the header is C++" c++ -x c++ -Wall -Wextra -Werror -fsyntax-only "$prefix/include/hull.h"
+    sed -n '/^```c$/,/^```$/{/^```/!p;}' "$top/README.md" >"$room/readme.c"
+    for standard in c99 c11; do
+        # shellcheck disable=SC2046 # the flags stand apart by spaces
+        try "the README's program is $standard" \
+            cc -std=$standard -pedantic -Wall -Wextra -Werror "$room/readme.c" $(flags) -o "$room/readme"
+        try "the README's program says that (5, 5) is inside" sh -c "'$room/readme' | grep -qx '(5, 5) is inside: 1'"
+    done
+}
+
+in_cplusplus() {
+    for header in hull.h hull_shared.h hull_exchange.h hull.hpp; do
+        try "$header is C++17" c++ -x c++ -std=c++17 -pedantic -Wall -Wextra -Werror -fsyntax-only "$prefix/include/$header"
+    done
+    # shellcheck disable=SC2046 # the flags stand apart by spaces
+    try "the README's program is C++17" \
+        c++ -x c++ -std=c++17 -pedantic -Wall -Wextra -Werror "$room/readme.c" -x none $(flags) -o "$room/readme"
+    # shellcheck disable=SC2046
+    try "the tests of hull.hpp compile" c++ -std=c++17 -pedantic -Wall -Wextra -Werror -O2 -g "$here/hull_tests.cpp" \
+        $(flags) -lhull_shared -lpthread -o "$room/hull_tests_cpp"
+    try "the tests of hull.hpp" "$room/hull_tests_cpp"
+    if is_there valgrind; then
+        try "valgrind finds nothing in the tests of hull.hpp" valgrind -q --error-exitcode=9 --leak-check=full \
+            --show-leak-kinds=all --errors-for-leak-kinds=all "$room/hull_tests_cpp" "$room/threads_journal"
     else
-        skip "the header in C++" c++
+        skip "memory by valgrind in C++" valgrind
     fi
 }
 
@@ -121,20 +144,66 @@ in_rust() {
         cp -r "$top/rust/hull" "$room/crate"
         try "cargo builds rust/hull" \
             env HULL_PREFIX="$prefix" cargo build --offline --quiet --manifest-path "$room/crate/Cargo.toml"
+        try "cargo builds a program over the crate that is installed" by_cargo
+        try "cargo is told where the archives are not" tells_missing_archives
     else
         skip "rust/hull by cargo" cargo
     fi
 }
 
-# python3 with the module that is installed, and no compiled files beside the sources
+# a program that depends on the crate where bin/install has put it
+by_cargo() {
+    mkdir -p "$room/program/src"
+    cat >"$room/program/Cargo.toml" <<END
+[package]
+name = "program"
+version = "0.1.0"
+edition = "2021"
+
+[dependencies]
+hull = { path = "$prefix/lib/rust/hull" }
+END
+    cp "$examples/collision.rs" "$room/program/src/main.rs"
+    env -u HULL_PREFIX CARGO_TARGET_DIR="$room/target" cargo build --offline --quiet --manifest-path "$room/program/Cargo.toml" &&
+        writes "$examples/collision.txt" "$room/target/debug/program"
+}
+
+# whether a build with no archives fails, and names what is missing and what to do
+tells_missing_archives() {
+    ! env HULL_PREFIX="$room/none" CARGO_TARGET_DIR="$room/target" \
+        cargo build --offline --quiet --manifest-path "$prefix/lib/rust/hull/Cargo.toml" >"$room/said" 2>&1 &&
+        grep -q "libhull.a and libhull_shared.a are not both in $room/none/lib" "$room/said" && grep -q "bin/install" "$room/said"
+}
+
+# an interpreter with the module that is installed, and no compiled files beside the sources
 python() {
-    PYTHONDONTWRITEBYTECODE=1 PYTHONPATH=$prefix/lib/hull python3 "$@"
+    PYTHONDONTWRITEBYTECODE=1 PYTHONPATH=$prefix/lib/hull ${interpreter:-python3} "$@"
+}
+
+# an interpreter that has numpy
+with_numpy() {
+    for interpreter in python3 /usr/bin/python3; do
+        ! "$interpreter" -c 'import numpy' 2>/dev/null || return 0
+    done
+    return 1
 }
 
 in_python() {
     try "the tests of python/hull.py" python "$here/hull_tests.py"
     try "examples/embed/places.py writes examples/embed/places.txt" writes "$examples/places.txt" python "$examples/places.py"
-    python -c 'import numpy' 2>/dev/null || skip "arrays of numpy" numpy
+    if with_numpy; then
+        try "the tests of python/hull.py with numpy, by $interpreter" python "$here/hull_tests.py"
+        try "examples/embed/places.py with numpy" writes "$examples/places.txt" python "$examples/places.py"
+    else
+        skip "arrays of numpy" "python3 with numpy"
+    fi
+    interpreter=
+    if is_there python3.8 && python3.8 --version >/dev/null 2>&1; then
+        interpreter=python3.8
+        try "the tests of python/hull.py by Python 3.8" python "$here/hull_tests.py"
+    else
+        skip "Python 3.8 itself (its syntax is tried)" python3.8
+    fi
 }
 
 what=
@@ -148,6 +217,7 @@ try "bin/install" "$top/bin/install" $what "$prefix"
 
 if is_there cc; then in_c; else skip "C" cc; fi
 if is_there cc && is_there valgrind; then by_valgrind; else skip "memory by valgrind" "cc or no valgrind"; fi
+if is_there cc && is_there c++; then in_cplusplus; else skip "C++" c++; fi
 if is_there cc && is_there rustc; then in_rust; else skip "Rust" "cc or no rustc"; fi
 if is_there cc && is_there python3; then in_python; else skip "Python" "cc or no python3"; fi
 end

@@ -1,8 +1,9 @@
 #!/bin/sh
-# Shows that a hull that threads share does in C, Rust and Python what it says: installs the libraries into a
+# Shows that a hull that threads share does in C, C++, Rust and Python what it says: installs the libraries into a
 # temporary folder, compiles the programs of this folder and of examples/shared against what is there, and runs them:
-# threads that make 100000 mixed calls each (64 of them a tenth, and eight in Rust and in Python a tenth), whose
-# journal `bin/hullbook check` judges, every code, and each request for memory refused in turn. The gate runs it. What
+# threads that make 100000 mixed calls each (64 of them a tenth, and eight in Rust and in Python a tenth), with one, two or
+# all of them inside the door, also with threads held up between the steps of waiting, whose journal `bin/hullbook check`
+# judges, every code, each request for memory refused in turn, and wake-ups out of order (wakeups.sh). The gate runs it. What
 # is missing here (a compiler, python3, valgrind) is told and skipped, and counts nothing. The last line counts, and
 # the status is not 0 where something failed. With a number, that many calls a thread.
 set -u
@@ -42,10 +43,12 @@ is_there() {
     command -v "$1" >/dev/null 2>&1
 }
 
-# builds a program in C: its source, and further flags of the linker
+# builds a program in C: its source, and further flags
 build() {
-    cc -std=c11 -Wall -Wextra -Werror -O2 -g -I"$prefix/include" "$1" -L"$prefix/lib" -lhull_shared -lpthread ${2:-} \
-        -o "$room/$(basename "$1" .c)"
+    source=$1
+    shift
+    cc -std=c11 -Wall -Wextra -Werror -O2 -g -I"$prefix/include" "$source" -L"$prefix/lib" -lhull_shared -lpthread "$@" \
+        -o "$room/$(basename "$source" .c)"
 }
 
 # rustc with the edition of the wrapper, and warnings refused
@@ -83,12 +86,32 @@ in_c() {
     build "$here/storm.c"
     count "storm.c compiles" $?
     for threads in 2 4 8 64; do
-        each=$calls
-        [ "$threads" -ne 64 ] || each=$((calls / 10))
-        "$room/storm" "$threads" "$each" >"$room/journal" &&
-            [ "$(wc -l <"$room/journal")" -eq $((threads * each + 2)) ] && legal "$room/journal"
-        count "$threads threads of $each calls: each number once and rising, and the journal legal" $?
+        for inside in 1 2 "$threads"; do
+            each=$calls
+            [ "$threads" -ne 64 ] || each=$((calls / 10))
+            [ "$inside" -eq 1 ] || each=$((each / 10))
+            storm "$threads" "$each" "$inside"
+        done
     done
+    build "$here/storm.c" -std=gnu11 -DSLOW
+    count "storm.c compiles with threads that are held up" $?
+    for inside in 1 2 8; do
+        storm 8 $((calls / 100)) "$inside"
+    done
+    build "$here/storm.c" -DHULL_SHARED_BY_PTHREADS
+    count "storm.c compiles without futex" $?
+    for inside in 1 8; do
+        storm 8 $((calls / 100)) "$inside"
+    done
+    "$here/wakeups.sh" "$prefix" >"$room/told" 2>&1
+    count "no wake-up is lost, and a line that loses one is found: $(tail -n 1 "$room/told")" $?
+}
+
+# threads over one hull: how many, of how many calls each, and how many inside at once
+storm() {
+    "$room/storm" "$1" "$2" "$3" >"$room/journal" && [ "$(wc -l <"$room/journal")" -eq $(($1 * $2 + 2)) ] &&
+        legal "$room/journal"
+    count "$1 threads of $2 calls, $3 inside: each number once and rising, and the journal legal" $?
 }
 
 by_valgrind() {
@@ -112,6 +135,11 @@ in_rust() {
     else
         skip "memory by valgrind in Rust" valgrind
     fi
+    mkdir -p "$room/slow"
+    rust --cfg hull_steps --out-dir "$room/slow" --crate-type rlib --crate-name hull "$top/rust/hull/src/lib.rs" &&
+        rust --test -L "$room/slow" --extern hull="$room/slow/libhull.rlib" --crate-name slow_tests "$here/shared_tests.rs" &&
+        passes "$room/slow_tests"
+    count "the same with threads that are held up between the steps of waiting" $?
     rust --extern hull --crate-name threads_rust "$examples/threads.rs" &&
         writes "$examples/threads.txt" "$room/threads_rust"
     count "examples/shared/threads.rs writes examples/shared/threads.txt and a legal journal" $?
@@ -141,11 +169,11 @@ fi
 in_c
 if is_there valgrind; then by_valgrind; else skip "memory by valgrind" valgrind; fi
 if is_there c++; then
-    echo '#include "hull_shared.h"' >"$room/header.cc"
-    c++ -Wall -Wextra -Werror -I"$prefix/include" -c "$room/header.cc" -o "$room/header.o"
-    count "the header is C++, too" $?
+    c++ -std=c++17 -Wall -Wextra -Werror -O2 -I"$prefix/include" "$here/../embed/hull_tests.cpp" -L"$prefix/lib" -lhull \
+        -lhull_shared -lpthread -o "$room/hull_tests" && "$room/hull_tests" "$room/journal" >"$room/told" && legal "$room/journal"
+    count "threads in C++ leave a legal journal" $?
 else
-    skip "the header in C++" c++
+    skip "C++" c++
 fi
 if is_there rustc; then in_rust; else skip "Rust" rustc; fi
 if is_there python3; then in_python; else skip "Python" python3; fi

@@ -69,25 +69,40 @@ class Calls(unittest.TestCase):
         with SharedHull(capacity=10, seats=1) as hull:
             hull.lend(0).give_back()
         self.assertRaises(ValueError, hull.lend, 0)
+        with SharedHull(capacity=10, seats=1) as hull:
+            hull.close()
 
+    def test_the_end_of_a_with_tells_seats_that_are_out(self):
+        with self.assertRaisesRegex(SeatsOut, "seats of the hull are out: 1, 3"):
+            with SharedHull(capacity=10, seats=4) as hull:
+                seats = [hull.lend(number) for number in (3, 0, 1)]
+                seats[1].give_back()
+        seats[0].give_back()
+        self.assertRaisesRegex(SeatsOut, "are out: 1$", hull.close)
+        with self.assertRaises(ZeroDivisionError):
+            with hull:
+                1 // 0
+        seats[2].give_back()
+        self.assertIn("capacity 10", hull.close())
 
-class Interrupted(unittest.TestCase):
-    """Seats whose last call was ended by an exception while it waited: they have a number."""
+    def test_corners(self):
+        hull = SharedHull(capacity=2000, seats=1)
+        with hull.lend(0) as seat:
+            self.assertEqual((seat.vertices(), seat.turn()), ([], 0))
+            for x in range(100):
+                seat.add(x, x * x)
+            self.assertEqual(seat.vertices(), [(x, x * x) for x in range(100)])
+            self.assertEqual(seat.turn(), 102)  # there was no room at first
+            self.assertEqual((len(seat.vertices()), seat.turn()), (100, 103))
 
-    def setUp(self):
-        self.hull = SharedHull(capacity=10, seats=1)
-        self.seat = self.hull.lend(0)
-        taken = hull_module._shared_library().hull_shared_take(self.seat._at, hull_module._Kind.ADD, 3, 4)
-        self.assertEqual(taken, 43)
-
-    def test_given_back(self):
-        self.seat.give_back()
-        self.assertIn("0 add 3 4 = added", self.hull.close())
-
-    def test_asked(self):
-        self.assertEqual((self.seat.count(), self.seat.turn()), (1, 1))
-        self.seat.give_back()
-        self.assertIn("count = count 1", self.hull.close())
+    def test_what_is_printed(self):
+        hull = SharedHull(capacity=9, seats=2, limit=5, first=7)
+        seat = hull.lend(1)
+        seat.count()
+        self.assertEqual(repr(hull), "<SharedHull for 9 calls from 7, limit 5, 1 of 2 seats out>")
+        self.assertEqual(repr(seat), "<Seat 1, out, last turn 7>")
+        seat.give_back()
+        self.assertEqual(repr(seat), "<Seat 1, given back, last turn 7>")
 
 
 class OneAtATime:
@@ -149,7 +164,8 @@ class Locks(unittest.TestCase):
         self.race(lambda: self.seat.add(1, 2), self.seat.count)
 
     def test_one_desk(self):
-        self.race(lambda: self.hull.lend(1).give_back(), self.close, lambda: self.hull.__exit__(None, None, None))
+        self.race(lambda: self.hull.lend(1).give_back(), self.close,
+                  lambda: self.assertRaises(SeatsOut, self.hull.__exit__, None, None, None), lambda: repr(self.hull))
 
     def test_a_seat_given_back_while_it_is_asked(self):
         calls = iter([self.seat.give_back])

@@ -46,6 +46,19 @@ fn calls() {
 }
 
 #[test]
+fn corners() {
+    let hull = SharedHull::open(Limits { points: 1000, capacity: 2000, first: 0, seats: 1 }).unwrap();
+    let mut seat = hull.lend(0).unwrap();
+    assert_eq!((seat.vertices().unwrap().len(), seat.corners(), seat.turn()), (0, Ok(0), Some(1)));
+    for x in 0..100 {
+        seat.add(point(x, x * x)).unwrap();
+    }
+    assert!(seat.vertices().unwrap().eq((0..100).map(|x| point(x, x * x))));
+    assert_eq!(seat.turn(), Some(103)); // there was no room at first
+    assert_eq!((seat.vertices().unwrap().len(), seat.corners(), seat.turn()), (100, Ok(100), Some(105)));
+}
+
+#[test]
 fn faults_of_calls() {
     let hull = SharedHull::open(Limits { points: 1, capacity: 3, ..SMALL }).unwrap();
     let mut seat = hull.lend(0).unwrap();

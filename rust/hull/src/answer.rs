@@ -46,10 +46,10 @@ pub(crate) fn extreme(reply: Reply) -> Result<Option<Point>, Fault> {
     }
 }
 
-/// A number that is told: of points, of corners, or the doubled area.
+/// A number that is told: of points, of corners, also where those have no room, or the doubled area.
 pub(crate) fn number(reply: Reply) -> Result<u128, Fault> {
     match reply.code {
-        code::NUMBER | code::CORNERS => Ok(u128::from(reply.high) << 64 | u128::from(reply.number)),
+        code::NUMBER | code::CORNERS | code::TOO_SMALL => Ok(u128::from(reply.high) << 64 | u128::from(reply.number)),
         other => Err(fault_of(other)),
     }
 }

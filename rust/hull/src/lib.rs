@@ -15,15 +15,18 @@
 //! A [`Hull`] may go to another thread (`Send`), but be used by one at a time: share it as `Mutex<Hull>`, or open a
 //! [`SharedHull`] (over `libhull_shared.a`), at which each thread has a [`Seat`] and whose calls are kept in a journal.
 mod answer;
+mod door;
+mod exchange;
 mod raw;
 mod shared;
 
 use answer::fault_of;
-use raw::{code, kind, Reply};
+use raw::{code, kind, Reply, Request};
 use std::alloc::{alloc, dealloc, Layout};
 use std::fmt;
 use std::ptr::NonNull;
 
+pub use exchange::{wkt, Lattice, Rounded};
 pub use raw::Point;
 pub use shared::{Limits, Seat, SharedHull, CAPACITY_LIMIT, SEAT_LIMIT};
 
@@ -193,6 +196,80 @@ impl Hull {
         unsafe { raw::hull_limit(self.room.as_ptr()) }.number as u32
     }
 
+    /// Makes one kind of call at each of the points, in their order, and hands each reply on; up to the first point that is refused
+    /// for itself, which says why.
+    fn call_all(&self, kind: u32, points: &[Point], mut each: impl FnMut(Reply) -> Result<(), Fault>) -> Result<(), Fault> {
+        const AT_ONCE: usize = 256;
+        let mut requests = [Request { kind, x: 0, y: 0 }; AT_ONCE];
+        let mut replies = [Reply::NONE; AT_ONCE];
+        for some in points.chunks(AT_ONCE) {
+            for (request, point) in requests.iter_mut().zip(some) {
+                (request.x, request.y) = (point.x, point.y);
+            }
+            // SAFETY: as in `call`; both arrays were written, and are as long as is told.
+            let made = unsafe {
+                raw::hull_calls(self.room.as_ptr(), requests.as_ptr(), some.len(), replies.as_mut_ptr(), some.len())
+            };
+            replies[..made].iter().try_for_each(|&reply| each(reply))?;
+        }
+        Ok(())
+    }
+
+    fn ask_all<T>(
+        &self,
+        kind: u32,
+        points: &[Point],
+        told: impl Fn(Reply) -> Result<T, Fault>,
+    ) -> Result<Vec<T>, Fault> {
+        let mut answers = Vec::new();
+        answers.try_reserve_exact(points.len()).map_err(|_| Fault::NoMemory)?;
+        self.call_all(kind, points, |reply| told(reply).map(|answer| answers.push(answer)))?;
+        Ok(answers)
+    }
+
+    /// Where each of the points lies.
+    pub fn place_all(&self, points: &[Point]) -> Result<Vec<Place>, Fault> {
+        self.ask_all(kind::PLACE, points, answer::place)
+    }
+
+    /// The tangent points seen from each of the points, as by [`tangents`](Hull::tangents).
+    pub fn tangents_all(&self, points: &[Point]) -> Result<Vec<Option<(Point, Point)>>, Fault> {
+        self.ask_all(kind::TANGENTS, points, answer::tangents)
+    }
+
+    /// The farthest point in each of the directions, as by [`extreme`](Hull::extreme).
+    pub fn extreme_all(&self, directions: &[Point]) -> Result<Vec<Option<Point>>, Fault> {
+        self.ask_all(kind::EXTREME, directions, answer::extreme)
+    }
+
+    /// Holds each of the points once more, in their order, and tells for each how often it is held then: 0 where it was refused,
+    /// since there are too many or for want of memory; those behind it are added still. [`Fault::OutOfRange`] of any of them leaves
+    /// the hull as it was.
+    pub fn add_all(&mut self, points: &[Point]) -> Result<Vec<u32>, Fault> {
+        check_all(points)?;
+        self.ask_all(kind::ADD, points, |reply| match answer::times_added(reply) {
+            Err(Fault::TooMany | Fault::NoMemory) => Ok(0),
+            told => told,
+        })
+    }
+
+    /// Holds each of the points once less, in their order, and tells how many of them were there. [`Fault::OutOfRange`] of any of
+    /// them leaves the hull as it was.
+    pub fn remove_all(&mut self, points: &[Point]) -> Result<usize, Fault> {
+        check_all(points)?;
+        let mut there = 0;
+        self.call_all(kind::REMOVE, points, |reply| {
+            there += usize::from(answer::times_left(reply)?.is_some());
+            Ok(())
+        })?;
+        Ok(there)
+    }
+
+    /// The hull as well-known text, its coordinates divided by 2^`power`: see [`wkt`].
+    pub fn wkt(&self, power: i32) -> Result<String, Fault> {
+        Ok(wkt(self.vertices()?.as_slice(), power))
+    }
+
     /// Lets all points go. The limit stays.
     pub fn clear(&mut self) {
         // SAFETY: as in `call`.
@@ -209,7 +286,7 @@ impl Hull {
             match reply.code {
                 code::CORNERS => {
                     corners.truncate(number);
-                    return Ok(Vertices(corners.into_iter()));
+                    return Ok(Vertices::of(corners));
                 }
                 code::TOO_SMALL => {
                     corners.try_reserve_exact(number).map_err(|_| Fault::NoMemory)?;
@@ -218,6 +295,33 @@ impl Hull {
                 other => return Err(fault_of(other)),
             }
         }
+    }
+}
+
+/// Whether all coordinates are in range.
+fn check_all(points: &[Point]) -> Result<(), Fault> {
+    let is_in_range = |c: i64| (-COORDINATE_LIMIT..=COORDINATE_LIMIT).contains(&c);
+    if points.iter().all(|point| is_in_range(point.x) && is_in_range(point.y)) {
+        Ok(())
+    } else {
+        Err(Fault::OutOfRange)
+    }
+}
+
+/// Adds points one by one. Panics where one is refused: [`Hull::add`] tells why as a [`Fault`].
+impl Extend<Point> for Hull {
+    fn extend<I: IntoIterator<Item = Point>>(&mut self, points: I) {
+        for point in points {
+            if let Err(fault) = self.add(point) {
+                panic!("({}, {}): {fault}", point.x, point.y);
+            }
+        }
+    }
+}
+
+impl<'a> Extend<&'a Point> for Hull {
+    fn extend<I: IntoIterator<Item = &'a Point>>(&mut self, points: I) {
+        self.extend(points.into_iter().copied());
     }
 }
 
@@ -240,6 +344,17 @@ impl fmt::Debug for Hull {
 /// The corners of a hull as it was when it was asked.
 #[derive(Clone, Debug)]
 pub struct Vertices(std::vec::IntoIter<Point>);
+
+impl Vertices {
+    pub(crate) fn of(corners: Vec<Point>) -> Vertices {
+        Vertices(corners.into_iter())
+    }
+
+    /// The corners that are left to be told.
+    pub fn as_slice(&self) -> &[Point] {
+        self.0.as_slice()
+    }
+}
 
 impl Iterator for Vertices {
     type Item = Point;

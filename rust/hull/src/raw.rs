@@ -24,6 +24,9 @@ pub(crate) struct Reply {
 }
 
 impl Reply {
+    /// A reply before it is written.
+    pub const NONE: Reply = Reply { code: 0, x: 0, y: 0, other_x: 0, other_y: 0, number: 0, high: 0 };
+
     pub fn point(self) -> Point {
         Point { x: self.x, y: self.y }
     }
@@ -31,6 +34,14 @@ impl Reply {
     pub fn other_point(self) -> Point {
         Point { x: self.other_x, y: self.other_y }
     }
+}
+
+#[repr(C)]
+#[derive(Clone, Copy)]
+pub(crate) struct Request {
+    pub kind: u32,
+    pub x: i64,
+    pub y: i64,
 }
 
 #[repr(C)]
@@ -97,6 +108,13 @@ extern "C" {
     pub(crate) fn hull_limit(hull: *mut u8) -> Reply;
     pub(crate) fn hull_clear(hull: *mut u8) -> Reply;
     pub(crate) fn hull_load(hull: *mut u8, points: *const Point, count: usize) -> Reply;
+    pub(crate) fn hull_calls(
+        hull: *mut u8,
+        requests: *const Request,
+        request_count: usize,
+        replies: *mut Reply,
+        reply_room: usize,
+    ) -> usize;
     pub(crate) fn hull_vertices(hull: *mut u8, out: *mut Point, room: usize) -> Reply;
 }
 
@@ -111,8 +129,8 @@ extern "C" {
     pub(crate) fn hull_shared_open(desk: *mut u8, limit: u32, first: u64, capacity: u32, seats: u32) -> u32;
     pub(crate) fn hull_shared_lend(desk: *mut u8, room: *mut u8, number: u32) -> u32;
     pub(crate) fn hull_shared_give_back(desk: *mut u8, room: *mut u8) -> u32;
-    pub(crate) fn hull_shared_take(seat: *mut u8, kind: u32, x: i64, y: i64) -> u32;
-    pub(crate) fn hull_shared_look(seat: *mut u8) -> SeatReply;
+    pub(crate) fn hull_shared_take(seat: *mut u8, kind: u32, x: i64, y: i64) -> SeatReply;
+    pub(crate) fn hull_shared_look_into(seat: *mut u8, out: *mut Point, room: usize) -> SeatReply;
     pub(crate) fn hull_shared_close(desk: *mut u8) -> u32;
     pub(crate) fn hull_shared_text(desk: *mut u8, out: *mut u8, length: usize) -> Reply;
     pub(crate) fn hull_shared_end(desk: *mut u8) -> u32;

@@ -1,13 +1,13 @@
 //! One hull for many threads, each with a seat of its own: safe Rust over `libhull_shared.a`.
 use crate::answer;
+use crate::door::Door;
 use crate::raw::{self, code, kind, Reply};
-use crate::{Fault, Place, Point, NOWHERE};
+use crate::{Fault, Place, Point, Vertices, NOWHERE};
 use std::alloc::{alloc, dealloc, Layout};
 use std::fmt;
 use std::hint::spin_loop;
 use std::ptr::NonNull;
 use std::sync::{Arc, Mutex, MutexGuard, PoisonError};
-use std::thread::yield_now;
 
 /// The greatest capacity of a shared hull: how many calls its journal may have room for.
 pub const CAPACITY_LIMIT: u32 = 1 << 24;
@@ -56,8 +56,12 @@ impl Drop for Room {
     }
 }
 
-/// A desk, on which there is one call at a time. The hull and each seat that is out own it together.
-struct Desk(Mutex<Room>);
+/// A desk, on which there is one call at a time, and the door for calls of its seats. The hull and each seat that is out own it
+/// together.
+struct Desk {
+    room: Mutex<Room>,
+    door: Door,
+}
 
 impl Desk {
     fn new() -> Result<Desk, Fault> {
@@ -65,12 +69,12 @@ impl Desk {
         unsafe {
             let room = Room::new(raw::hull_shared_desk_size(), raw::hull_shared_desk_alignment())?;
             raw::hull_shared_make_desk(room.at());
-            Ok(Desk(Mutex::new(room)))
+            Ok(Desk { room: Mutex::new(room), door: Door::new() })
         }
     }
 
     fn lock(&self) -> MutexGuard<'_, Room> {
-        self.0.lock().unwrap_or_else(PoisonError::into_inner)
+        self.room.lock().unwrap_or_else(PoisonError::into_inner)
     }
 }
 
@@ -123,7 +127,7 @@ impl SharedHull {
             let room = Room::new(raw::hull_shared_seat_size(), raw::hull_shared_seat_alignment())?;
             raw::hull_shared_make_seat(room.at());
             match raw::hull_shared_lend(self.desk.lock().at(), room.at(), number) {
-                code::LENT => Ok(Seat { room, desk: Arc::clone(&self.desk), number, turn: None }),
+                code::LENT => Ok(Seat { room, desk: Arc::clone(&self.desk), number, turn: None, corners: 64 }),
                 other => Err(answer::fault_of(other)),
             }
         }
@@ -169,13 +173,14 @@ impl fmt::Debug for SharedHull {
 /// A seat at a shared hull, by which one thread at a time makes calls. It may go to another thread (`Send`), and goes
 /// back to its hull when it is dropped.
 ///
-/// Each call waits for its turn: the numbers that were taken before are served first. [`Fault::Full`] where the journal
-/// has no room for the call, which is not made then.
+/// Each call waits for its turn: one that others pass comes in after at most some hundred of theirs for each that waits.
+/// [`Fault::Full`] where the journal has no room for the call, which is not made then.
 pub struct Seat {
     room: Room,
     desk: Arc<Desk>,
     number: u32,
     turn: Option<u64>,
+    corners: usize,
 }
 
 impl Seat {
@@ -219,7 +224,27 @@ impl Seat {
         self.call(kind::EXTREME, direction).and_then(answer::extreme)
     }
 
-    /// How many corners there are; they stand in the journal's line.
+    /// The corners, as [`Hull::vertices`](crate::Hull::vertices). They are asked for with room for as many as there were before,
+    /// and again where there are more: each asking has its line in the journal.
+    pub fn vertices(&mut self) -> Result<Vertices, Fault> {
+        let mut corners = Vec::new();
+        loop {
+            corners.try_reserve_exact(self.corners).map_err(|_| Fault::NoMemory)?;
+            corners.resize(self.corners, NOWHERE);
+            let reply = self.call_into(kind::VERTICES, NOWHERE, &mut corners)?;
+            let number = reply.number as usize;
+            match reply.code {
+                code::CORNERS => {
+                    corners.truncate(number);
+                    return Ok(Vertices::of(corners));
+                }
+                code::TOO_SMALL => self.corners = number + number / 8,
+                other => return Err(answer::fault_of(other)),
+            }
+        }
+    }
+
+    /// How many corners there are.
     pub fn corners(&mut self) -> Result<usize, Fault> {
         self.call(kind::VERTICES, NOWHERE).and_then(answer::number).map(|corners| corners as usize)
     }
@@ -234,38 +259,30 @@ impl Seat {
         self.call(kind::COUNT, NOWHERE).and_then(answer::number).map(|points| points as usize)
     }
 
-    /// Takes a number for a call, and looks until it is served.
     fn call(&mut self, kind: u32, at: Point) -> Result<Reply, Fault> {
+        self.call_into(kind, at, &mut [])
+    }
+
+    /// Comes in by the door, takes a number for a call, and looks until it is served; corners are written to the array.
+    fn call_into(&mut self, kind: u32, at: Point, out: &mut [Point]) -> Result<Reply, Fault> {
+        let _inside = self.desk.door.enter();
         // SAFETY: a seat lies in the room, and `&mut self` keeps other calls away.
-        let taken = unsafe { raw::hull_shared_take(self.room.at(), kind, at.x, at.y) };
+        let taken = unsafe { raw::hull_shared_take(self.room.at(), kind, at.x, at.y) }.told.code;
         if taken != code::TAKEN {
             return Err(answer::fault_of(taken));
         }
-        let mut looks = 0;
         loop {
-            // SAFETY: as above.
-            let reply = unsafe { raw::hull_shared_look(self.room.at()) };
+            // SAFETY: as above; the array is the caller's, and all of it was written.
+            let reply = unsafe { raw::hull_shared_look_into(self.room.at(), out.as_mut_ptr(), out.len()) };
             match reply.told.code {
-                code::NOT_YET => pause(looks),
+                code::NOT_YET => spin_loop(), // by no call: who is inside is alone
                 code::FULL => return Err(Fault::Full),
                 _ => {
                     self.turn = Some(reply.turn);
                     return Ok(reply.told);
                 }
             }
-            looks += 1;
         }
-    }
-}
-
-/// Waits a little after so many looks: a pause at first, longer each time, and then the processor is yielded.
-fn pause(looks: u32) {
-    if looks < 7 {
-        for _ in 0..1 << looks {
-            spin_loop();
-        }
-    } else {
-        yield_now();
     }
 }
 

@@ -1,0 +1,427 @@
+// A convex hull of points with whole coordinates, for C++17: the classes over hull.h and hull_shared.h.
+//
+//     hull::Hull zone;                                  // for HULL_LIMIT_MAX points; ends itself, and can be moved
+//     zone.add({0, 0});
+//     zone.place({5, 5}) == hull::Place::outside;
+//     for (hull::Point corner : zone.vertices()) ..
+//
+//     hull::SharedHull shared({1000, 0, 4096, 2});      // points, first number, calls, seats
+//     hull::Seat seat = shared.lend(0);                 // one for each thread
+//     seat.add({3, 4});
+//
+// What a call answers is its value: std::optional where there may be none. What refuses it is an exception, hull::Fault, whose
+// code() tells why; the hull is as it was then. Link with libhull.a, and with libhull_shared.a and the library of threads where
+// SharedHull is used.
+#ifndef HULL_HPP
+#define HULL_HPP
+
+#include "hull.h"
+#include "hull_exchange.h"
+#include "hull_shared.h"
+
+#include <memory>
+#include <mutex>
+#include <optional>
+#include <stdexcept>
+#include <string>
+#include <utility>
+#include <vector>
+
+constexpr bool operator==(const hull_point &a, const hull_point &b) noexcept { return a.x == b.x && a.y == b.y; }
+constexpr bool operator!=(const hull_point &a, const hull_point &b) noexcept { return !(a == b); }
+
+namespace hull {
+
+using Point = hull_point;
+
+// Twice an area may take 84 bits.
+__extension__ typedef unsigned __int128 Area;
+
+// Why a call was refused.
+enum class Refusal : std::uint32_t {
+    out_of_range = HULL_OUT_OF_RANGE,       // a coordinate is larger than HULL_COORDINATE_MAX in size
+    zero_direction = HULL_ZERO_DIRECTION,   // both components of a direction are 0
+    too_many = HULL_TOO_MANY,               // there are as many points as the limit, or the point is held as often as may be
+    no_memory = HULL_NO_MEMORY,             // memory was refused
+    out_of_limits = HULL_OUT_OF_LIMITS,     // a limit, a capacity or a number of seats is 0 or too great
+    no_seat = HULL_NO_SEAT,                 // the seat is out, or there is none of this number
+    not_open = HULL_NOT_OPEN,               // the shared hull is closed
+    seats_out = HULL_SEATS_OUT,             // a seat of the shared hull is out: it stays open
+    full = HULL_FULL,                       // the journal is full: the call was not made
+    vacant = HULL_VACANT                    // the seat was given back, or moved away
+};
+
+class Fault : public std::runtime_error {
+public:
+    explicit Fault(Refusal code) : std::runtime_error(words(code)), code_(code) {}
+    Refusal code() const noexcept { return code_; }
+
+private:
+    static const char *words(Refusal code) noexcept {
+        switch (code) {
+        case Refusal::out_of_range: return "a coordinate is out of range";
+        case Refusal::zero_direction: return "a direction is zero";
+        case Refusal::too_many: return "there are as many points as the limit, or the point is held as often as may be";
+        case Refusal::no_memory: return "memory was refused";
+        case Refusal::out_of_limits: return "a limit of a hull is out of range";
+        case Refusal::no_seat: return "there is no such seat at the hull";
+        case Refusal::not_open: return "the hull is closed";
+        case Refusal::seats_out: return "a seat of the hull is out";
+        case Refusal::full: return "the journal of the hull is full";
+        case Refusal::vacant: return "the seat was given back";
+        }
+        return "the call was refused";
+    }
+
+    Refusal code_;
+};
+
+// Where a point lies.
+enum class Place : std::uint32_t {
+    inside = HULL_INSIDE,  // the hull covers the point, which is not on its boundary
+    on = HULL_ON,          // a corner, on an edge, or on a hull of one point or one line
+    outside = HULL_OUTSIDE // the hull does not cover the point
+};
+
+// The points that bound a hull as it is seen from a point.
+struct Tangents {
+    Point left, right;
+};
+
+// What a reply tells, as a value; what refuses the call is thrown.
+namespace told {
+
+[[noreturn]] inline void fault(std::uint32_t code) { throw Fault(static_cast<Refusal>(code)); }
+
+inline std::uint32_t times_added(const hull_reply &r) {
+    switch (r.code) {
+    case HULL_ADDED: return 1;
+    case HULL_AGAIN: return static_cast<std::uint32_t>(r.number);
+    default: fault(r.code);
+    }
+}
+
+inline std::optional<std::uint32_t> times_left(const hull_reply &r) {
+    switch (r.code) {
+    case HULL_REMOVED: return 0;
+    case HULL_LEFT: return static_cast<std::uint32_t>(r.number);
+    case HULL_ABSENT: return std::nullopt;
+    default: fault(r.code);
+    }
+}
+
+inline Place place(const hull_reply &r) {
+    switch (r.code) {
+    case HULL_INSIDE:
+    case HULL_ON:
+    case HULL_OUTSIDE: return static_cast<Place>(r.code);
+    default: fault(r.code);
+    }
+}
+
+inline std::optional<Tangents> tangents(const hull_reply &r) {
+    switch (r.code) {
+    case HULL_TANGENTS: return Tangents{{r.x, r.y}, {r.other_x, r.other_y}};
+    case HULL_NO_TANGENT: return std::nullopt;
+    default: fault(r.code);
+    }
+}
+
+inline std::optional<Point> extreme(const hull_reply &r) {
+    switch (r.code) {
+    case HULL_POINT: return Point{r.x, r.y};
+    case HULL_EMPTY: return std::nullopt;
+    default: fault(r.code);
+    }
+}
+
+inline Area number(const hull_reply &r) {
+    if (r.code != HULL_NUMBER && r.code != HULL_CORNERS) {
+        fault(r.code);
+    }
+    return static_cast<Area>(r.high) << 64 | r.number;
+}
+
+// The corners that `ask`, a call with an array and its length, writes; asked again with room for all where there are more.
+template <class Ask> std::vector<Point> corners(std::size_t room, Ask ask) {
+    std::vector<Point> out(room > 0 ? room : 1);
+    for (;;) {
+        const hull_reply r = ask(out.data(), out.size());
+        if (r.code != HULL_TOO_SMALL) {
+            out.resize(static_cast<std::size_t>(number(r)));
+            return out;
+        }
+        out.resize(static_cast<std::size_t>(r.number + r.number / 8));
+    }
+}
+
+} // namespace told
+
+// A hull, which holds each of its points at least once; questions are over the points, each taken once. It may go to another
+// thread, and be used by one at a time; that goes for const calls, too. One that was moved from can be assigned to or end.
+class Hull {
+public:
+    // An empty hull for at most `limit` different points, 1 to HULL_LIMIT_MAX.
+    explicit Hull(std::uint32_t limit = HULL_LIMIT_MAX) : at_(hull_new(limit)) {
+        if (!at_) {
+            const bool is_limit = limit >= 1 && limit <= HULL_LIMIT_MAX;
+            throw Fault(is_limit ? Refusal::no_memory : Refusal::out_of_limits);
+        }
+    }
+
+    // Holds a point once more; how often it is held now: 1 where it is new.
+    std::uint32_t add(Point p) { return told::times_added(hull_add(get(), p.x, p.y)); }
+
+    // Holds a point once less; how often it is still held, none where it was not there.
+    std::optional<std::uint32_t> remove(Point p) { return told::times_left(hull_remove(get(), p.x, p.y)); }
+
+    // Holds just these points, each as often as it stands there, in the place of all that was held, in a small part of the time that
+    // adding them takes; how many different points that are.
+    std::size_t load(const std::vector<Point> &points) {
+        const Point none{0, 0};
+        const Point *first = points.empty() ? &none : points.data();
+        return static_cast<std::size_t>(told::number(hull_load(get(), first, points.size())));
+    }
+
+    // Lets all points go. The limit stays.
+    void clear() { hull_clear(get()); }
+
+    Place place(Point p) const { return told::place(hull_place(get(), p.x, p.y)); }
+
+    // The tangent points seen from a point, of several on one line the farthest; none where there is no point, or the hull covers
+    // the one asked about.
+    std::optional<Tangents> tangents(Point p) const { return told::tangents(hull_tangents(get(), p.x, p.y)); }
+
+    // The point that lies farthest in a direction, of several the first by x and then by y; none where there is none.
+    std::optional<Point> extreme(Point direction) const {
+        return told::extreme(hull_extreme(get(), direction.x, direction.y));
+    }
+
+    // How often a point is held: 0 where it is not there.
+    std::uint32_t multiplicity(Point p) const {
+        return static_cast<std::uint32_t>(told::number(hull_multiplicity(get(), p.x, p.y)));
+    }
+
+    // The corners, counterclockwise from the first by x and then by y, each once and none inside an edge.
+    std::vector<Point> vertices() const {
+        return told::corners(64, [this](Point *out, std::size_t room) { return hull_vertices(get(), out, room); });
+    }
+
+    // Twice the area, 0 for a point and a line.
+    Area doubled_area() const { return told::number(hull_area(get())); }
+
+    // How many different points there are.
+    std::size_t size() const { return static_cast<std::size_t>(hull_count(get()).number); }
+    bool empty() const { return size() == 0; }
+
+    // How many different points the hull takes.
+    std::uint32_t limit() const { return static_cast<std::uint32_t>(hull_limit(get()).number); }
+
+    // The hull of hull.h.
+    hull_set *get() noexcept { return at_.get(); }
+    const hull_set *get() const noexcept { return at_.get(); }
+
+private:
+    struct End {
+        void operator()(hull_set *h) const noexcept { hull_free(h); }
+    };
+    std::unique_ptr<hull_set, End> at_;
+};
+
+// What a shared hull is opened with.
+struct Limits {
+    std::uint32_t points;   // how many different points it may hold, 1 to HULL_LIMIT_MAX
+    std::uint64_t first;    // the number of the first call
+    std::uint32_t capacity; // how many calls have room in the journal, 1 to HULL_SHARED_CAPACITY_MAX
+    std::uint32_t seats;    // how many seats there are, 1 to HULL_SHARED_SEATS_MAX
+};
+
+// A desk with its line: it ends when the hull and all seats that are out let it go.
+class Desk {
+public:
+    Desk() : at_(hull_shared_desk_new()) {
+        if (at_ == nullptr) {
+            throw Fault(Refusal::no_memory);
+        }
+        hull_shared_line_init(&line_, 1);
+    }
+    ~Desk() {
+        hull_shared_close(at_);
+        hull_shared_end(at_);
+        hull_shared_desk_free(at_);
+    }
+    Desk(const Desk &) = delete;
+    Desk &operator=(const Desk &) = delete;
+
+private:
+    friend class SharedHull;
+    friend class Seat;
+    std::mutex lock_; // one call at a time on the desk; calls of seats don't take it
+    hull_shared_desk *at_;
+    hull_shared_line line_;
+};
+
+// A seat at a shared hull, by which one thread at a time makes calls. It goes back to its hull when it ends.
+class Seat {
+public:
+    Seat(Seat &&) noexcept = default;
+    Seat &operator=(Seat &&other) noexcept {
+        if (this != &other) {
+            give_back();
+            desk_ = std::move(other.desk_);
+            at_ = std::move(other.at_);
+            number_ = other.number_, turn_ = other.turn_, corners_ = other.corners_;
+        }
+        return *this;
+    }
+    ~Seat() { give_back(); }
+
+    // Gives the seat back to its hull, as its end does; calls throw from then on.
+    void give_back() noexcept {
+        if (desk_ && at_) {
+            const std::lock_guard<std::mutex> lock(desk_->lock_);
+            hull_shared_give_back(desk_->at_, at_.get());
+        }
+        at_.reset();
+        desk_.reset();
+    }
+
+    std::uint32_t number() const noexcept { return number_; }
+
+    // The number of the seat's last call that was served, under which it has its line in the journal.
+    std::optional<std::uint64_t> turn() const noexcept { return turn_; }
+
+    std::uint32_t add(Point p) { return told::times_added(call(HULL_KIND_ADD, p)); }
+    std::optional<std::uint32_t> remove(Point p) { return told::times_left(call(HULL_KIND_REMOVE, p)); }
+    Place place(Point p) { return told::place(call(HULL_KIND_PLACE, p)); }
+    std::optional<Tangents> tangents(Point p) { return told::tangents(call(HULL_KIND_TANGENTS, p)); }
+    std::optional<Point> extreme(Point direction) { return told::extreme(call(HULL_KIND_EXTREME, direction)); }
+    Area doubled_area() { return told::number(call(HULL_KIND_AREA, {0, 0})); }
+    std::size_t count() { return static_cast<std::size_t>(told::number(call(HULL_KIND_COUNT, {0, 0}))); }
+
+    // The corners. They are asked for with room for as many as there were before, and again where there are more: each asking has
+    // its line in the journal.
+    std::vector<Point> vertices() {
+        std::vector<Point> all = told::corners(corners_, [this](Point *out, std::size_t room) {
+            corners_ = room;
+            return call(HULL_KIND_VERTICES, {0, 0}, out, room);
+        });
+        return all;
+    }
+
+private:
+    friend class SharedHull;
+    struct Free {
+        void operator()(hull_shared_seat *at) const noexcept { hull_shared_seat_free(at); }
+    };
+
+    Seat(std::shared_ptr<Desk> desk, std::uint32_t number) : desk_(std::move(desk)), number_(number) {
+        std::unique_ptr<hull_shared_seat, Free> at(hull_shared_seat_new());
+        if (!at) {
+            throw Fault(Refusal::no_memory);
+        }
+        const std::lock_guard<std::mutex> lock(desk_->lock_);
+        const std::uint32_t code = hull_shared_lend(desk_->at_, at.get(), number);
+        if (code != HULL_LENT) {
+            told::fault(code);
+        }
+        at_ = std::move(at);
+    }
+
+    hull_reply call(std::uint32_t kind, Point p, Point *out = nullptr, std::size_t room = 0) {
+        if (!at_) {
+            throw Fault(Refusal::vacant);
+        }
+        const hull_shared_reply r = hull_shared_call_into(&desk_->line_, at_.get(), kind, p.x, p.y, out, room);
+        switch (r.told.code) {
+        case HULL_FULL:
+        case HULL_OUT_OF_RANGE:
+        case HULL_ZERO_DIRECTION: told::fault(r.told.code);
+        default: turn_ = r.turn; return r.told;
+        }
+    }
+
+    std::shared_ptr<Desk> desk_;
+    std::unique_ptr<hull_shared_seat, Free> at_;
+    std::uint32_t number_;
+    std::optional<std::uint64_t> turn_;
+    std::size_t corners_ = 64;
+};
+
+// One hull that up to HULL_SHARED_SEATS_MAX threads change and question at once, each by a seat of its own. Each call takes effect at
+// one moment between its beginning and its end, in the order of the calls' numbers, and has its line in a journal. The hull may be
+// moved, and used by several threads at once.
+class SharedHull {
+public:
+    explicit SharedHull(Limits limits) : desk_(std::make_shared<Desk>()) {
+        const std::uint32_t code =
+            hull_shared_open(desk_->at_, limits.points, limits.first, limits.capacity, limits.seats);
+        if (code != HULL_OPEN) {
+            told::fault(code);
+        }
+    }
+    SharedHull(SharedHull &&) noexcept = default;
+    SharedHull &operator=(SharedHull &&) noexcept = default;
+
+    // Lends the seat of a number, 0 and up.
+    Seat lend(std::uint32_t number) { return Seat(desk_, number); }
+
+    // Closes the hull, unless it is closed; the text of its journal, which the program hullbook judges. Refusal::seats_out where a
+    // seat is out: the hull stays open.
+    std::string close() {
+        const std::lock_guard<std::mutex> lock(desk_->lock_);
+        const std::uint32_t code = hull_shared_close(desk_->at_);
+        if (code != HULL_CLOSED && code != HULL_NOT_OPEN) {
+            told::fault(code);
+        }
+        std::vector<std::uint8_t> text(1);
+        for (;;) {
+            const hull_reply r = hull_shared_text(desk_->at_, text.data(), text.size());
+            if (r.code == HULL_TEXT) {
+                return std::string(text.begin(), text.begin() + static_cast<std::ptrdiff_t>(r.number));
+            }
+            if (r.code != HULL_TOO_SMALL) {
+                told::fault(r.code);
+            }
+            text.resize(static_cast<std::size_t>(r.number));
+        }
+    }
+
+private:
+    std::shared_ptr<Desk> desk_;
+};
+
+// The lattice of steps of 2^-power: a double v becomes the coordinate v * 2^power.
+struct Lattice {
+    int power;
+
+    // The point next to two doubles, of two coordinates as near the even one; `rounded`, if it is not null, is set where one was
+    // rounded, and left as it is else. Refusal::out_of_range where one is not finite, or too great.
+    Point point(double x, double y, bool *rounded = nullptr) const {
+        Point p{0, 0};
+        const hull_rounding at_x = hull_from_double(x, power, &p.x), at_y = hull_from_double(y, power, &p.y);
+        if (at_x == HULL_NO_COORDINATE || at_y == HULL_NO_COORDINATE) {
+            throw Fault(Refusal::out_of_range);
+        }
+        if (rounded != nullptr && (at_x == HULL_ROUNDED || at_y == HULL_ROUNDED)) {
+            *rounded = true;
+        }
+        return p;
+    }
+
+    // The doubles of a point: exact for powers from -960 to 1000.
+    std::pair<double, double> doubles(Point p) const {
+        return {hull_to_double(p.x, power), hull_to_double(p.y, power)};
+    }
+};
+
+// Corners as well-known text, their coordinates divided by 2^power: as hull_wkt tells it.
+inline std::string wkt(const std::vector<Point> &corners, int power = 0) {
+    std::string text(hull_wkt(corners.data(), corners.size(), power, nullptr, 0), ' ');
+    hull_wkt(corners.data(), corners.size(), power, &text[0], text.size() + 1);
+    return text;
+}
+
+} // namespace hull
+
+#endif

@@ -1,0 +1,91 @@
+//! Points from floats and back, and corners as well-known text.
+use crate::{Fault, Point, COORDINATE_LIMIT};
+use std::fmt::Write;
+
+/// The lattice of steps of 2^-`power`: a float `v` becomes the coordinate `v * 2^power`.
+///
+/// ```
+/// # use hull::{Lattice, Point};
+/// let lattice = Lattice { power: 20 };
+/// let made = lattice.point(0.5, 0.1)?;
+/// assert_eq!((made.point.x, made.is_exact), (1 << 19, false)); // 0.1 is between two
+/// assert_eq!(lattice.floats(made.point).0, 0.5);
+/// # Ok::<(), hull::Fault>(())
+/// ```
+#[derive(Clone, Copy, Debug, PartialEq, Eq)]
+pub struct Lattice {
+    /// The power of two.
+    pub power: i32,
+}
+
+/// What came of two floats.
+#[derive(Clone, Copy, Debug, PartialEq, Eq)]
+pub struct Rounded {
+    /// The point of the lattice next to them, of two coordinates as near the even one.
+    pub point: Point,
+    /// Whether both were on the lattice, so that nothing was rounded.
+    pub is_exact: bool,
+}
+
+/// The float times 2^power, without a rounding wherever that is a coordinate's size or is near a half.
+fn scaled(v: f64, power: i32) -> f64 {
+    let mut v = v;
+    let mut left = power.clamp(-2200, 2200);
+    while left != 0 {
+        let step = left.clamp(-500, 500);
+        v *= f64::from_bits(((1023 + step) as u64) << 52); // 2^step
+        left -= step;
+    }
+    v
+}
+
+impl Lattice {
+    fn coordinate(self, v: f64) -> Result<(i64, bool), Fault> {
+        let at = scaled(v, self.power);
+        let mut near = at.round();
+        if (at - at.trunc()).abs() == 0.5 && near % 2.0 != 0.0 {
+            near -= at.signum();
+        }
+        // not where it is no number, either
+        if near.abs() <= COORDINATE_LIMIT as f64 {
+            Ok((near as i64, near == at && (near == 0.0) == (v == 0.0)))
+        } else {
+            Err(Fault::OutOfRange)
+        }
+    }
+
+    /// The point of two floats; [`Fault::OutOfRange`] where one is not finite, or too great for the lattice.
+    pub fn point(self, x: f64, y: f64) -> Result<Rounded, Fault> {
+        let (x, y) = (self.coordinate(x)?, self.coordinate(y)?);
+        Ok(Rounded { point: Point { x: x.0, y: y.0 }, is_exact: x.1 && y.1 })
+    }
+
+    /// The floats of a point: exact for powers from -960 to 1000.
+    pub fn floats(self, point: Point) -> (f64, f64) {
+        (scaled(point.x as f64, -self.power), scaled(point.y as f64, -self.power))
+    }
+}
+
+/// Corners as well-known text (OGC 06-103r4), which GEOS, PostGIS and QGIS read: `POLYGON EMPTY`, a `POINT`, a `LINESTRING`, or a
+/// `POLYGON` whose ring is closed and runs counterclockwise, as the corners do. Coordinates are divided by 2^`power`, and written
+/// with as few digits as tell the float from all others.
+pub fn wkt(corners: &[Point], power: i32) -> String {
+    let (begin, end, points) = match corners.len() {
+        0 => return "POLYGON EMPTY".to_owned(),
+        1 => ("POINT (", ")", 1),
+        2 => ("LINESTRING (", ")", 2),
+        more => ("POLYGON ((", "))", more + 1),
+    };
+    let mut text = begin.to_owned();
+    for (i, &point) in corners.iter().cycle().take(points).enumerate() {
+        text.push_str(if i == 0 { "" } else { ", " });
+        let written = if power == 0 {
+            write!(text, "{} {}", point.x, point.y)
+        } else {
+            let (x, y) = Lattice { power }.floats(point);
+            write!(text, "{x} {y}")
+        };
+        written.expect("a String takes all text");
+    }
+    text + end
+}

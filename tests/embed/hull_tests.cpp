@@ -1,0 +1,175 @@
+// Each function of include/hull.hpp, each of its answers and each of its faults. Prints what is wrong, and how many checks passed and
+// failed. With a file named, threads make calls at once, and their journal goes there.
+#include "hull.hpp"
+
+#include <cmath>
+#include <fstream>
+#include <iostream>
+#include <limits>
+#include <thread>
+#include <type_traits>
+
+using hull::Hull;
+using hull::Place;
+using hull::Point;
+using hull::Refusal;
+using hull::Seat;
+using hull::SharedHull;
+
+static int passed, failed;
+
+#define CHECK(...) check((__VA_ARGS__), #__VA_ARGS__, __LINE__)
+static void check(bool truth, const char *text, int line) {
+    if (truth) {
+        passed++;
+    } else {
+        failed++;
+        std::cout << "hull_tests.cpp:" << line << ": " << text << '\n';
+    }
+}
+
+// whether a call is refused for this reason
+template <class Call> static bool refuses(Refusal code, Call call) {
+    try {
+        call();
+    } catch (const std::runtime_error &fault) {
+        const auto *told = dynamic_cast<const hull::Fault *>(&fault);
+        return told != nullptr && told->code() == code && std::string(told->what()).size() > 10;
+    }
+    return false;
+}
+
+static_assert(!std::is_copy_constructible_v<Hull> && !std::is_copy_assignable_v<Hull>);
+static_assert(std::is_nothrow_move_constructible_v<Hull> && std::is_nothrow_move_assignable_v<Hull>);
+static_assert(!std::is_copy_constructible_v<Seat> && std::is_nothrow_move_constructible_v<Seat>);
+static_assert(!std::is_copy_constructible_v<SharedHull> && std::is_nothrow_move_assignable_v<SharedHull>);
+
+static const std::vector<Point> square = {{0, 0}, {10, 0}, {10, 10}, {0, 10}};
+constexpr std::int64_t far = HULL_COORDINATE_MAX;
+
+static void one_thread() {
+    CHECK(refuses(Refusal::out_of_limits, [] { Hull h(0); }) && refuses(Refusal::out_of_limits, [] { Hull h(HULL_LIMIT_MAX + 1); }));
+    Hull h(6);
+    CHECK(h.empty() && h.limit() == 6 && Hull().limit() == HULL_LIMIT_MAX);
+    CHECK(h.vertices().empty() && !h.extreme({1, 0}) && !h.tangents({1, 0}) && h.place({0, 0}) == Place::outside);
+    for (Point p : square) {
+        CHECK(h.add(p) == 1);
+    }
+    CHECK(h.add({4, 4}) == 1 && h.add({4, 4}) == 2 && h.multiplicity({4, 4}) == 2 && h.multiplicity({9, 9}) == 0);
+    CHECK(h.size() == 5 && !h.empty() && h.vertices() == square && h.doubled_area() == 200);
+    CHECK(h.place({5, 5}) == Place::inside && h.place({10, 5}) == Place::on && h.place({11, 5}) == Place::outside);
+    CHECK(h.extreme({0, 1}) == Point{0, 10});
+    const auto seen = h.tangents({20, 5});
+    CHECK(seen && seen->left == Point{10, 0} && seen->right == Point{10, 10} && !h.tangents({5, 5}));
+    CHECK(h.remove({4, 4}) == 1u && h.remove({4, 4}) == 0u && h.remove({4, 4}) == std::nullopt);
+    CHECK(refuses(Refusal::out_of_range, [&] { h.add({far + 1, 0}); }) && refuses(Refusal::out_of_range, [&] { h.remove({0, -far - 1}); }));
+    CHECK(refuses(Refusal::out_of_range, [&] { h.place({far + 1, 0}); }) && refuses(Refusal::out_of_range, [&] { h.tangents({far + 1, 0}); }));
+    CHECK(refuses(Refusal::zero_direction, [&] { h.extreme({0, 0}); }) && refuses(Refusal::out_of_range, [&] { h.multiplicity({0, far + 1}); }));
+    h.add({1, 1}), h.add({2, 1});
+    CHECK(refuses(Refusal::too_many, [&] { h.add({3, 1}); }) && h.size() == 6);
+    CHECK(h.load({{9, 9}, {1, 2}, {9, 9}}) == 2 && h.multiplicity({9, 9}) == 2 && h.load({}) == 0 && h.empty());
+    CHECK(refuses(Refusal::out_of_range, [&] { h.load({{0, far + 1}}); }));
+    std::vector<Point> many;
+    for (std::int64_t i = 0; i < 500; i++) {
+        many.push_back({i, i * i});
+    }
+    Hull wide;
+    CHECK(wide.load(many) == 500 && wide.vertices() == many);
+    wide.clear();
+    CHECK(wide.empty() && wide.limit() == HULL_LIMIT_MAX);
+    wide.load({{-far, -far}, {far, -far}, {far, far}, {-far, far}});
+    CHECK(wide.doubled_area() == static_cast<hull::Area>(1) << 83);
+    Hull moved(std::move(wide));
+    CHECK(moved.size() == 4);
+    moved = std::move(h);
+    CHECK(moved.limit() == 6);
+    h = Hull(7);
+    CHECK(h.limit() == 7);
+}
+
+static void exchange() {
+    const hull::Lattice lattice{20};
+    bool rounded = false;
+    CHECK(lattice.point(0.5, -3, &rounded) == Point{1 << 19, -3 * (1 << 20)} && !rounded);
+    CHECK(lattice.point(0.1, 0, &rounded) == Point{104858, 0} && rounded);
+    CHECK(lattice.doubles({1 << 19, -3 * (1 << 20)}) == std::make_pair(0.5, -3.0));
+    CHECK(hull::Lattice{0}.point(2.5, 3.5) == Point{2, 4} && hull::Lattice{0}.point(-2.5, -0.5) == Point{-2, 0});
+    CHECK(hull::Lattice{40}.point(1, -1) == Point{far, -far} && hull::Lattice{-1000}.point(1e300, 0).x == 0);
+    CHECK(hull::Lattice{1100}.point(std::ldexp(1, -1074), 0) == Point{1 << 26, 0});
+    for (double wrong : {1.0000001, std::nan(""), std::numeric_limits<double>::infinity(), -1e308}) {
+        CHECK(refuses(Refusal::out_of_range, [&] { hull::Lattice{40}.point(0, wrong); }));
+    }
+    CHECK(hull::wkt({}) == "POLYGON EMPTY" && hull::wkt({{1, -2}}) == "POINT (1 -2)");
+    CHECK(hull::wkt({{0, 0}, {3, 4}}, 2) == "LINESTRING (0 0, 0.75 1)");
+    CHECK(hull::wkt(square) == "POLYGON ((0 0, 10 0, 10 10, 0 10, 0 0))");
+    CHECK(hull::wkt({{0, 0}, {far, 1}, {0, far}}, 40) == "POLYGON ((0 0, 1 9.094947017729282e-13, 0 1, 0 0))");
+}
+
+static void shared() {
+    for (hull::Limits wrong : {hull::Limits{0, 0, 1, 1}, {1, 0, 0, 1}, {1, 0, 1, 0}, {1, 0, 1, 65}}) {
+        CHECK(refuses(Refusal::out_of_limits, [&] { SharedHull h(wrong); }));
+    }
+    SharedHull h({4, 7, 20, 2});
+    CHECK(refuses(Refusal::no_seat, [&] { h.lend(2); }));
+    Seat seat = h.lend(1);
+    CHECK(refuses(Refusal::no_seat, [&] { h.lend(1); }) && refuses(Refusal::seats_out, [&] { h.close(); }));
+    CHECK(seat.number() == 1 && !seat.turn() && !seat.extreme({1, 0}) && seat.turn() == 7u);
+    for (Point p : square) {
+        CHECK(seat.add(p) == 1);
+    }
+    CHECK(seat.vertices() == square && seat.doubled_area() == 200 && seat.count() == 4);
+    CHECK(seat.place({5, 5}) == Place::inside && seat.tangents({20, 5})->right == Point{10, 10});
+    CHECK(seat.add({0, 0}) == 2 && seat.remove({0, 0}) == 1u && seat.remove({9, 9}) == std::nullopt);
+    CHECK(seat.turn() == 19u && refuses(Refusal::too_many, [&] { seat.add({1, 1}); }) && seat.turn() == 20u);
+    CHECK(refuses(Refusal::out_of_range, [&] { seat.add({far + 1, 0}); }) && seat.turn() == 20u);
+    CHECK(refuses(Refusal::zero_direction, [&] { seat.extreme({0, 0}); }));
+    Seat other = std::move(seat);
+    CHECK(refuses(Refusal::vacant, [&] { seat.count(); }) && other.count() == 4);
+    seat = h.lend(0);
+    other = std::move(seat);
+    CHECK(other.number() == 0 && h.lend(1).number() == 1);
+    for (int i = 0; i < 5; i++) {
+        other.count();
+    }
+    CHECK(refuses(Refusal::full, [&] { other.count(); }) && other.turn() == 26u);
+    other.give_back();
+    CHECK(refuses(Refusal::vacant, [&] { other.count(); }));
+    SharedHull moved = std::move(h);
+    const std::string journal = moved.close();
+    CHECK(journal.size() > 100 && journal.back() == '\n' && moved.close() == journal);
+    CHECK(refuses(Refusal::not_open, [&] { moved.lend(0); }));
+    Seat late = SharedHull({4, 0, 4, 1}).lend(0);
+    CHECK(late.add({1, 1}) == 1); // the desk is there until its last seat is back
+}
+
+// threads at once, of which one asks for more corners than it had room for
+static void threads(const char *file) {
+    SharedHull h({HULL_LIMIT_MAX, 0, 100000, 4});
+    std::vector<std::thread> all;
+    for (std::uint32_t k = 0; k < 4; k++) {
+        all.emplace_back([k, seat = h.lend(k)]() mutable {
+            for (std::int64_t i = 0; i < 1000; i++) {
+                seat.add({4 * i + k, (4 * i + k) * (4 * i + k)});
+                if (k == 0 && i % 100 == 99) {
+                    CHECK(seat.vertices().size() >= static_cast<std::size_t>(i));
+                }
+            }
+        });
+    }
+    for (std::thread &thread : all) {
+        thread.join();
+    }
+    CHECK(h.lend(0).count() == 4000);
+    std::ofstream(file) << h.close();
+}
+
+int main(int words, char **word) {
+    one_thread();
+    exchange();
+    shared();
+    if (words > 1) {
+        threads(word[1]);
+    }
+    std::cout << "hull_tests.cpp: " << passed << " passed, " << failed << " failed\n";
+    return failed != 0;
+}
