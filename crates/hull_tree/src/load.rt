@@ -6,9 +6,9 @@ ghost use Rattle.hull_tree.specs.Nodes.{several, IsMultiplicity};
 ghost use Rattle.hull_tree.specs.Changes.{points_below};
 ghost use Rattle.hull_tree.specs.Loaded.{AreEntries, IsOver, entries_below, points_listed, times_listed, times_among, IsAscending, Precedes};
 
-use heap::Heap;
 use super::build::joined;
 use super::node::{Halves, Node, first_of, last_of};
+use heap::Heap;
 use hull_plain::{MULTIPLICITY_LIMIT, NoMemory};
 use lattice::{Point, before};
 use std::alloc::AllocError;
@@ -167,7 +167,11 @@ fn is_next(first: &[(Point, u32)], i: usize, second: &[(Point, u32)], j: usize) 
 
 /// Merges two lists of entries: a point of both is held as often as by both together. Tells whether a point may be held
 /// so often.
-fn merged(first: &[(Point, u32)], second: &[(Point, u32)], entries: &mut Vec<(Point, u32), Heap>) -> bool
+fn merged(
+    first: &[(Point, u32)],
+    second: &[(Point, u32)],
+    entries: &mut Vec<(Point, u32), Heap>,
+) -> bool
     requires first { AreEntries first.now }
     requires second { AreEntries second.now }
     requires none { vec_len entries.old ≡ 0 }
