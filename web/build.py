@@ -3,9 +3,9 @@
 
 The sources are those of the repository, copied as they stand with no test; one crate is another: `heap`, which names the
 allocator. The kit's own heap calls C's malloc, and for wasm64 a call of C can only be an import of the host. So the `heap`
-of the page is the kit's crate std_heap with its proofs, made here by replacement of names, over three imports in the place of
-libc's three functions and under the same contracts. All is checked again for wasm64, and its last line says so. FOLDER
-(web/out where none is given) keeps what was proved for the next run, and has hull.wasm in the end.
+of the page names that of a crate `web_heap`: the kit's crate std_heap with its proofs, made here by replacement of names, over
+three imports in the place of libc's three functions and under the same contracts. All is checked again for wasm64, and its
+last line says so. FOLDER (web/out where none is given) keeps what was proved for the next run, and has hull.wasm in the end.
 """
 import os
 import re
@@ -14,7 +14,7 @@ import subprocess
 import sys
 
 TOP = os.path.dirname(os.path.dirname(os.path.abspath(__file__)))
-LIBRARY, HEAP = "hull_c", "heap"
+LIBRARY, HEAP, HOST = "hull_c", "heap", "web_heap"
 TESTS = re.compile(r"(?m)^#\[cfg\(test\)\]\nmod (\w+);\n")
 
 IMPORTS = '''// What the module's host gives in the place of C's heap: the contracts of libc's three functions.
@@ -31,11 +31,14 @@ use core::rt::Memory;
 
 #[link(wasm_import_module = "heap")]
 '''
-# what the crate `heap` of the repository says of its allocator
-ROWS = "-- The heap as a type.\npub use Rattle.heap.specs.contracts.Heap.{the_row as heap_row}\n"
-LAWS = """-- What is known of the heap as a type.
-pub use Rattle.heap.proofs.Heap.TheLaws.{lowered, lowers, the_row_laws}
-"""
+# the crate `heap` of a page, in the place of the one that names malloc
+NAMED = {
+    "src/lib.rt": "//! The heap that hulls take their memory from: the host's.\n#![tactic(auto)]\n\npub use web_heap::Heap;\n",
+    "specs/Lib.antt": "pub mod Rows\n",
+    "specs/Rows.antt": "pub use Rattle.web_heap.specs.contracts.Heap.{the_row as heap_row}\n",
+    "proofs/Lib.antt": "pub mod Laws\n",
+    "proofs/Laws.antt": "pub use Rattle.web_heap.proofs.Heap.TheLaws.{lowered, lowers, the_row_laws}\n",
+}
 
 
 def read(file):
@@ -84,7 +87,7 @@ def imports_of(libc):
 
 
 def heap_of_the_host(kit):
-    """The crate `heap` for a page: the kit's std_heap by other names, over imports of the host."""
+    """The kit's std_heap by other names, over imports of the host."""
     texts = {}
     for name in sources_of(f"{kit}/std_heap"):
         if name == "src/impls.rt":
@@ -92,38 +95,36 @@ def heap_of_the_host(kit):
         text = re.sub(r"\bGlobal|(?<=\.)Global|Global(?=[A-Z])", "Heap", read(f"{kit}/std_heap/{name}"))
         text = text.replace("pub mod impls;", "pub mod host;").replace("libc::heap::rattle_", "crate::host::web_")
         if name.endswith(".antt"):
-            text = re.sub(r"Rattle\.libc\.(proofs|specs\.contracts)\.heap\.rattle_", r"Rattle.heap.\1.host.web_", text)
-            text = text.replace("calls-crate::host::", "calls-heap::host::").replace("rattle_", "web_")
-            text = text.replace("Rattle.std_heap", "Rattle.heap")
+            text = re.sub(r"Rattle\.libc\.(proofs|specs\.contracts)\.heap\.rattle_", rf"Rattle.{HOST}.\1.host.web_", text)
+            text = text.replace("calls-crate::host::", f"calls-{HOST}::host::").replace("rattle_", "web_")
+            text = text.replace("Rattle.std_heap", f"Rattle.{HOST}")
         texts[name.replace("Global", "Heap")] = text
     texts["src/host.rt"] = imports_of(read(f"{kit}/libc/src/heap.rt"))
-    for part, mine, text in (("specs", "Rows", ROWS), ("proofs", "Laws", LAWS)):
-        texts[f"{part}/Lib.antt"] = texts.get(f"{part}/Lib.antt", "") + f"pub mod {mine}\n"
-        texts[f"{part}/{mine}.antt"] = text
     return texts
 
 
 def lay_out(room, kit):
     """Writes the crates for wasm64 to a folder, and takes away what they no longer have."""
-    lines = []
-    for name, below in crates_below(LIBRARY).items():
-        texts = heap_of_the_host(kit) if name == HEAP else texts_of(f"{TOP}/crates/{name}")
+    below = crates_below(LIBRARY)
+    lines = {HOST: "core libc", HEAP: HOST} | {it: " ".join(low) for it, low in below.items() if it != HEAP}
+    for name in lines:
+        texts = heap_of_the_host(kit) if name == HOST else NAMED if name == HEAP else texts_of(f"{TOP}/crates/{name}")
         crate = f"{room}/crates/{name}"
         for gone in set(sources_of(crate)) - set(texts):
             os.remove(f"{crate}/{gone}")
         for file, text in texts.items():
             write(f"{crate}/{file}", text)
-        lines.append(f"{name}{' wasm64' if name == LIBRARY else ''}: {'core libc' if name == HEAP else ' '.join(below)}")
     # rt has a crate with imports say where its C lies: there is none
-    os.makedirs(f"{room}/crates/{HEAP}/c", exist_ok=True)
-    write(f"{room}/crates.txt", "\n".join(lines) + "\n")
+    os.makedirs(f"{room}/crates/{HOST}/c", exist_ok=True)
+    listed = (f"{it}{' wasm64' if it == LIBRARY else ''}: {low}\n" for it, low in lines.items())
+    write(f"{room}/crates.txt", "".join(listed))
 
 
 def main(words):
     room = os.path.abspath(words[0]) if words else f"{TOP}/web/out"
     page = subprocess.run(["rt", "doc"], stdout=subprocess.PIPE, text=True, check=True).stdout.strip()
     lay_out(room, os.path.join(os.path.dirname(page), "rattle"))
-    ran = subprocess.run(["rt", "lib"], cwd=f"{room}/crates/{LIBRARY}", env={**os.environ, "RT_ALLOW_C": HEAP}, check=False)
+    ran = subprocess.run(["rt", "lib"], cwd=f"{room}/crates/{LIBRARY}", env={**os.environ, "RT_ALLOW_C": HOST}, check=False)
     if ran.returncode == 0:
         shutil.copyfile(f"{room}/crates/{LIBRARY}/out/{LIBRARY}.wasm", f"{room}/hull.wasm")
     return ran.returncode
