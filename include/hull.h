@@ -145,19 +145,20 @@ static inline hull_reply hull_count(const hull_set *h) {
 /* How many different points the hull takes: HULL_NUMBER. */
 hull_reply hull_limit(const hull_set *h);
 
-/* Makes the calls of the requests in their order, each on what those before it left, and writes a reply for each to the front of
- * `replies`; returns how many it wrote. It ends at the end of the shorter array, or with the first request that can't be served,
- * whose reply is HULL_UNKNOWN_KIND, HULL_OUT_OF_RANGE or HULL_ZERO_DIRECTION: those before it were served, it and those behind it
- * were not, and the replies behind its own are as they were. (HULL_TOO_MANY and HULL_NO_MEMORY end nothing.) Both arrays are not
- * null, even where they have no elements, do not overlap, and have been written before (calloc does that). */
+/* Makes the calls of the requests in their order, each on what those before it left, and writes a reply for each to the front
+ * of `replies`; returns how many it wrote. It ends at the end of the shorter array, or with the first request that can't be
+ * served, whose reply is HULL_UNKNOWN_KIND, HULL_OUT_OF_RANGE or HULL_ZERO_DIRECTION: those before it were served, it and
+ * those behind it were not, and the replies behind its own are as they were. (HULL_TOO_MANY and HULL_NO_MEMORY end nothing.)
+ * Both arrays are not null, even where they have no elements, do not overlap, and have been written before (calloc does
+ * that). */
 size_t hull_calls(hull_set *h, const hull_request *requests, size_t request_count, hull_reply *replies,
                   size_t reply_room);
 
-/* Holds the points of the array, in any order, each as often as it stands there, in the place of all that was held: what adding
- * them one by one to an empty hull makes, in a small part of the time. HULL_NUMBER, the number of different points; or the hull is as
- * it was: HULL_OUT_OF_RANGE (of any of them), else HULL_TOO_MANY (more different points than the limit, or one of them more often
- * than HULL_MULTIPLICITY_MAX) or HULL_NO_MEMORY (old and new points are both in memory for a while). The array is not null, even
- * where it has no elements, and is aligned. */
+/* Holds the points of the array, in any order, each as often as it stands there, in the place of all that was held: what
+ * adding them one by one to an empty hull makes, in a small part of the time. HULL_NUMBER, the number of different points; or
+ * the hull is as it was: HULL_OUT_OF_RANGE (of any of them), else HULL_TOO_MANY (more different points than the limit, or one
+ * of them more often than HULL_MULTIPLICITY_MAX) or HULL_NO_MEMORY (old and new points are both in memory for a while). The
+ * array is not null, even where it has no elements, and is aligned. */
 hull_reply hull_load(hull_set *h, const hull_point *points, size_t count);
 
 /* Lets all points go, and their memory; the limit stays: HULL_CLEARED. */

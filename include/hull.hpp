@@ -175,8 +175,8 @@ public:
     // Holds a point once less; how often it is still held, none where it was not there.
     std::optional<std::uint32_t> remove(Point p) { return told::times_left(hull_remove(get(), p.x, p.y)); }
 
-    // Holds just these points, each as often as it stands there, in the place of all that was held, in a small part of the time that
-    // adding them takes; how many different points that are.
+    // Holds just these points, each as often as it stands there, in the place of all that was held, in a small part of the
+    // time that adding them takes; how many different points that are.
     std::size_t load(const std::vector<Point> &points) {
         const Point none{0, 0};
         const Point *first = points.empty() ? &none : points.data();
@@ -188,8 +188,8 @@ public:
 
     Place place(Point p) const { return told::place(hull_place(get(), p.x, p.y)); }
 
-    // The tangent points seen from a point, of several on one line the farthest; none where there is no point, or the hull covers
-    // the one asked about.
+    // The tangent points seen from a point, of several on one line the farthest; none where there is no point, or the hull
+    // covers the one asked about.
     std::optional<Tangents> tangents(Point p) const { return told::tangents(hull_tangents(get(), p.x, p.y)); }
 
     // The point that lies farthest in a direction, of several the first by x and then by y; none where there is none.
@@ -299,8 +299,8 @@ public:
     Area doubled_area() { return told::number(call(HULL_KIND_AREA, {0, 0})); }
     std::size_t count() { return static_cast<std::size_t>(told::number(call(HULL_KIND_COUNT, {0, 0}))); }
 
-    // The corners. They are asked for with room for as many as there were before, and again where there are more: each asking has
-    // its line in the journal.
+    // The corners. They are asked for with room for as many as there were before, and again where there are more: each asking
+    // has its line in the journal.
     std::vector<Point> vertices() {
         std::vector<Point> all = told::corners(corners_, [this](Point *out, std::size_t room) {
             corners_ = room;
@@ -348,9 +348,9 @@ private:
     std::size_t corners_ = 64;
 };
 
-// One hull that up to HULL_SHARED_SEATS_MAX threads change and question at once, each by a seat of its own. Each call takes effect at
-// one moment between its beginning and its end, in the order of the calls' numbers, and has its line in a journal. The hull may be
-// moved, and used by several threads at once.
+// One hull that up to HULL_SHARED_SEATS_MAX threads change and question at once, each by a seat of its own. Each call takes
+// effect at one moment between its beginning and its end, in the order of the calls' numbers, and has its line in a journal.
+// The hull may be moved, and used by several threads at once.
 class SharedHull {
 public:
     explicit SharedHull(Limits limits) : desk_(std::make_shared<Desk>()) {
@@ -366,8 +366,8 @@ public:
     // Lends the seat of a number, 0 and up.
     Seat lend(std::uint32_t number) { return Seat(desk_, number); }
 
-    // Closes the hull, unless it is closed; the text of its journal, which the program hullbook judges. Refusal::seats_out where a
-    // seat is out: the hull stays open.
+    // Closes the hull, unless it is closed; the text of its journal, which the program hullbook judges. Refusal::seats_out
+    // where a seat is out: the hull stays open.
     std::string close() {
         const std::lock_guard<std::mutex> lock(desk_->lock_);
         const std::uint32_t code = hull_shared_close(desk_->at_);
@@ -395,8 +395,8 @@ private:
 struct Lattice {
     int power;
 
-    // The point next to two doubles, of two coordinates as near the even one; `rounded`, if it is not null, is set where one was
-    // rounded, and left as it is else. Refusal::out_of_range where one is not finite, or too great.
+    // The point next to two doubles, of two coordinates as near the even one; `rounded`, if it is not null, is set where one
+    // was rounded, and left as it is else. Refusal::out_of_range where one is not finite, or too great.
     Point point(double x, double y, bool *rounded = nullptr) const {
         Point p{0, 0};
         const hull_rounding at_x = hull_from_double(x, power, &p.x), at_y = hull_from_double(y, power, &p.y);

@@ -92,10 +92,11 @@ static inline size_t hull_number_text(int64_t coordinate, int power, char text[3
     return (size_t)length;
 }
 
-/* Writes the corners that hull_vertices tells as well-known text (OGC 06-103r4), which GEOS, PostGIS and QGIS read: POLYGON EMPTY,
- * a POINT, a LINESTRING, or a POLYGON whose ring is closed and runs counterclockwise. Coordinates are divided by 2^power. As
- * snprintf, it writes what has room with a 0 behind it, and returns how long the whole text is without that; `out` may be null
- * where `room` is 0. It takes the decimal point of the locale, as printf does: leave the locale for numbers at "C". */
+/* Writes the corners that hull_vertices tells as well-known text (OGC 06-103r4), which GEOS, PostGIS and QGIS read: POLYGON
+ * EMPTY, a POINT, a LINESTRING, or a POLYGON whose ring is closed and runs counterclockwise. Coordinates are divided by
+ * 2^power. As snprintf, it writes what has room with a 0 behind it, and returns how long the whole text is without that;
+ * `out` may be null where `room` is 0. It takes the decimal point of the locale, as printf does: leave the locale for numbers
+ * at "C". */
 static inline size_t hull_wkt(const hull_point *corners, size_t count, int power, char *out, size_t room) {
     const char *begin = count == 0 ? "POLYGON EMPTY" : count == 1 ? "POINT (" : count == 2 ? "LINESTRING (" : "POLYGON ((";
     const char *end = count == 0 ? "" : count < 3 ? ")" : "))";

@@ -1,13 +1,13 @@
 /* One convex hull for up to 64 threads: the header of libhull_shared.a.
  *
- * A hull holds points (x, y) with whole coordinates, each at least once, and answers questions over all of them. Threads change
- * and question it at once; each call takes effect at one moment between its beginning and its end, in the order of the numbers
- * that the calls took, and has its line in a journal, which is a legal history from the empty hull.
+ * A hull holds points (x, y) with whole coordinates, each at least once, and answers questions over all of them. Threads
+ * change and question it at once; each call takes effect at one moment between its beginning and its end, in the order of the
+ * numbers that the calls took, and has its line in a journal, which is a legal history from the empty hull.
  *
- * A desk keeps the hull, and a seat for each thread. A thread has one room for a seat, gets a seat into it (hull_shared_lend),
- * makes its calls with it (hull_shared_call), and gives it back (hull_shared_give_back). When all seats are back, the desk is
- * closed (hull_shared_close), its journal is written (hull_shared_text), and the desk ends (hull_shared_end). Beside each desk
- * stands a hull_shared_line, in which its calls wait.
+ * A desk keeps the hull, and a seat for each thread. A thread has one room for a seat, gets a seat into it
+ * (hull_shared_lend), makes its calls with it (hull_shared_call), and gives it back (hull_shared_give_back). When all seats
+ * are back, the desk is closed (hull_shared_close), its journal is written (hull_shared_text), and the desk ends
+ * (hull_shared_end). Beside each desk stands a hull_shared_line, in which its calls wait.
  *
  *     hull_shared_desk *desk = hull_shared_desk_new();
  *     hull_shared_seat *seat = hull_shared_seat_new();          // one for each thread
@@ -16,15 +16,17 @@
  *     hull_shared_lend(desk, seat, 0);
  *     hull_shared_call(&line, seat, HULL_KIND_ADD, 3, 4);       // in the thread of that seat
  *
- * hull_shared_desk_new and hull_shared_seat_new make desks and seats in memory from malloc. Or they lie in rooms that the caller
- * gives: of hull_shared_desk_size() bytes at a multiple of hull_shared_desk_alignment(), and so for seats; hull_shared_make_desk
- * and hull_shared_make_seat make them there, before any other call. The caller neither reads, writes nor moves a room. A desk
- * that is not open and a room with no seat hold nothing beyond their rooms, which may be used for anything then.
+ * hull_shared_desk_new and hull_shared_seat_new make desks and seats in memory from malloc. Or they lie in rooms that the
+ * caller gives: of hull_shared_desk_size() bytes at a multiple of hull_shared_desk_alignment(), and so for seats;
+ * hull_shared_make_desk and hull_shared_make_seat make them there, before any other call. The caller neither reads, writes
+ * nor moves a room. A desk that is not open and a room with no seat hold nothing beyond their rooms, which may be used for
+ * anything then.
  *
  * What the caller must keep, and nothing checks:
  * - each desk and each seat that is passed was made, and lies where it was made;
- * - on one desk there is one call at a time, and so on one room for a seat. Different seats are independent: that is what they
- *   are for. A desk or a room may pass from thread to thread, if the threads order that between them (a start, a join, a lock);
+ * - on one desk there is one call at a time, and so on one room for a seat. Different seats are independent: that is what
+ *   they are for. A desk or a room may pass from thread to thread, if the threads order that between them (a start, a join, a
+ *   lock);
  * - a seat is given back to the desk that it went out of, and all calls of a desk's seats are passed that desk's line;
  * - an array that is passed is not null, even where it has no elements, was written before (calloc does that), has the length
  *   that is told, and overlaps nothing;
@@ -63,9 +65,10 @@ long syscall(long number, ...); /* which unistd.h leaves out under -std=c99 */
 #define HULL_SHARED_CAPACITY_MAX 16777216
 #define HULL_SHARED_SEATS_MAX 64
 
-/* What a take or a look came to: an answer, and the number that the seat took: that of its line, or where the journal was full
- * (HULL_FULL) the one that is passed over. It is told with each answer, with HULL_FULL, HULL_TAKEN, HULL_WAITING and
- * HULL_NOT_YET, and is 0 where the seat has none. Behind an answer or HULL_FULL the number turn + 1 is served. */
+/* What a take or a look came to: an answer, and the number that the seat took: that of its line, or where the journal was
+ * full (HULL_FULL) the one that is passed over. It is told with each answer, with HULL_FULL, HULL_TAKEN, HULL_WAITING and
+ * HULL_NOT_YET, and is 0 where the seat has none. Behind an answer or HULL_FULL the number turn + 1 is served. Behind an
+ * answer the journal has turn + 1 - first lines, so that a seat knows how much room is left. */
 typedef struct hull_shared_reply {
     hull_reply told;
     uint64_t turn;
@@ -114,8 +117,9 @@ static inline void hull_shared_seat_free(hull_shared_seat *seat) {
     hull_room_free(seat);
 }
 
-/* Opens a desk round an empty hull of up to `limit` points, with room for `capacity` calls, which are numbered from `first` on,
- * and with seats 0 to `seats` - 1: OPEN; WAS_OPENED, OUT_OF_LIMITS, NO_MEMORY. All memory but that of points is asked for here. */
+/* Opens a desk round an empty hull of up to `limit` points, with room for `capacity` calls, which are numbered from `first`
+ * on, and with seats 0 to `seats` - 1: OPEN; WAS_OPENED, OUT_OF_LIMITS, NO_MEMORY. All memory but that of points is asked for
+ * here. */
 uint32_t hull_shared_open(hull_shared_desk *desk, uint32_t limit, uint64_t first, uint32_t capacity, uint32_t seats);
 
 /* Moves seat `number` into the room: LENT; NOT_OPEN, ROOM_IN_USE, NO_SEAT, NO_MEMORY. */
@@ -124,26 +128,26 @@ uint32_t hull_shared_lend(hull_shared_desk *desk, hull_shared_seat *room, uint32
 /* Moves the seat in the room back to the desk that it went out of: RETURNED; NOT_OPEN, VACANT, WAITING, PLACE_IN_USE. */
 uint32_t hull_shared_give_back(hull_shared_desk *desk, hull_shared_seat *room);
 
-/* Takes a number for a call of a kind (hull_kind, but for HULL_KIND_MULTIPLICITY, which a journal has no line for): TAKEN; VACANT,
- * WAITING, UNKNOWN_KIND, OUT_OF_RANGE, ZERO_DIRECTION. Once a number is taken, the seat has to look until it is served: all calls
- * with later numbers wait for that. */
+/* Takes a number for a call of a kind (hull_kind, but for HULL_KIND_MULTIPLICITY, which a journal has no line for): TAKEN;
+ * VACANT, WAITING, UNKNOWN_KIND, OUT_OF_RANGE, ZERO_DIRECTION. Once a number is taken, the seat has to look until it is
+ * served: all calls with later numbers wait for that. */
 hull_shared_reply hull_shared_take(hull_shared_seat *seat, uint32_t kind, int64_t x, int64_t y);
 
-/* Looks once whether the seat's number is served, and then makes the call: its answer, or FULL; VACANT, NO_NUMBER, NOT_YET. Of a
- * list of corners it tells how many they are. */
+/* Looks once whether the seat's number is served, and then makes the call: its answer, or FULL; VACANT, NO_NUMBER, NOT_YET.
+ * Of a list of corners it tells how many they are. */
 hull_shared_reply hull_shared_look(hull_shared_seat *seat);
 
-/* The same; the corners, where the call asked for them, are written to the front of the array of `room` points, as hull_vertices
- * writes them. TOO_SMALL where they have no room: the call was served all the same, and has its line, and the array is as it was.
- * For all other calls and answers the array stays as it was. */
+/* The same; the corners, where the call asked for them, are written to the front of the array of `room` points, as
+ * hull_vertices writes them. TOO_SMALL where they have no room: the call was served all the same, and has its line, and the
+ * array is as it was. For all other calls and answers the array stays as it was. */
 hull_shared_reply hull_shared_look_into(hull_shared_seat *seat, hull_point *out, size_t room);
 
 /* Closes the desk: CLOSED; NOT_OPEN, SEATS_OUT where a seat is out, and IN_USE, which is told only to a caller who lets another
  * call on the desk or its seats go on. */
 uint32_t hull_shared_close(hull_shared_desk *desk);
 
-/* Writes the text of a closed desk's journal to the front of the array: TEXT; NOT_CLOSED, NO_MEMORY, TOO_SMALL with the `number` of
- * bytes. It is a text of the program hullbook, whose `check` judges it. */
+/* Writes the text of a closed desk's journal to the front of the array: TEXT; NOT_CLOSED, NO_MEMORY, TOO_SMALL with the
+ * `number` of bytes. It is a text of the program hullbook, whose `check` judges it. */
 hull_reply hull_shared_text(const hull_shared_desk *desk, uint8_t *out, size_t length);
 
 /* Ends a desk that is not open, so that it holds nothing: ENDED; NOT_CLOSED, where it is open. It may be opened again. */
@@ -151,27 +155,27 @@ uint32_t hull_shared_end(hull_shared_desk *desk);
 
 /* ---- waiting
  *
- * The library neither sleeps nor wakes: a seat with a number looks, and in between this header waits, in a line that all seats of
- * a desk share. What is proved of the library holds however its callers wait; that none of them sleeps for ever rests on what is
- * said here.
+ * The library neither sleeps nor wakes: a seat with a number looks, and in between this header waits, in a line that all
+ * seats of a desk share. What is proved of the library holds however its callers wait; that none of them sleeps for ever
+ * rests on what is said here.
  *
  * 1. A seat with a number sleeps at the place of its number (modulo 64: at most 64 numbers are out, so that no two seats have
- *    one place). It announces itself there (waiters + 1), reads the place's epoch, and looks once more; only then it sleeps, unless
- *    the epoch has changed since. Who was served has handed the next number on; where it then finds an announcement at that
- *    number's place, it changes the epoch and wakes. All these steps have one order, in which each thread's keep theirs. If the last
- *    look did not see the number handed on, then the hand-over came behind that look, and so behind the announcement and the
- *    reading of the epoch: it finds the one and changes the other. Either the sleeper is asleep by then and is woken, or it finds
- *    another epoch and does not fall asleep.
+ *    one place). It announces itself there (waiters + 1), reads the place's epoch, and looks once more; only then it sleeps,
+ *    unless the epoch has changed since. Who was served has handed the next number on; where it then finds an announcement at
+ *    that number's place, it changes the epoch and wakes. All these steps have one order, in which each thread's keep theirs.
+ *    If the last look did not see the number handed on, then the hand-over came behind that look, and so behind the
+ *    announcement and the reading of the epoch: it finds the one and changes the other. Either the sleeper is asleep by then
+ *    and is woken, or it finds another epoch and does not fall asleep.
  *
- * 2. A number in other hands is waited for, and its thread may have no processor. So hull_shared_call stops at a door before it
- *    takes a number: `beside` + 1 calls may be inside. Who finds the door shut looks for a moment, is counted as asleep outside, and
- *    sleeps. Who leaves makes one of the sleepers the heir and wakes it, and wakes no other as long as an heir is awake. Calls that
- *    begin now may pass the sleepers, which saves a wake-up for each call, but not for ever: behind HULL_SHARED_IN_A_ROW calls since
- *    the last heir came in, the door is closed to all but the heir.
- *    The door is one word, so that its changes have one order. As long as fewer are inside than may be, and some are asleep outside
- *    or the door is closed, an heir is awake, who will look: who lies down finds the door full, or closed, where an heir is awake
- *    already; an heir lies down only where it is full; and who leaves makes an heir where some are asleep and there is none.
- *    (Dice and Kogan, 2019, restrict in this way how many threads contend for a lock.) */
+ * 2. A number in other hands is waited for, and its thread may have no processor. So hull_shared_call stops at a door before
+ *    it takes a number: `beside` + 1 calls may be inside. Who finds the door shut looks for a moment, is counted as asleep
+ *    outside, and sleeps. Who leaves makes one of the sleepers the heir and wakes it, and wakes no other as long as an heir
+ *    is awake. Calls that begin now may pass the sleepers, which saves a wake-up for each call, but not for ever: behind
+ *    HULL_SHARED_IN_A_ROW calls since the last heir came in, the door is closed to all but the heir. The door is one word, so
+ *    that its changes have one order. As long as fewer are inside than may be, and some are asleep outside or the door is
+ *    closed, an heir is awake, who will look: who lies down finds the door full, or closed, where an heir is awake already;
+ *    an heir lies down only where it is full; and who leaves makes an heir where some are asleep and there is none. (Dice and
+ *    Kogan, 2019, restrict in this way how many threads contend for a lock.) */
 #define HULL_SHARED_IN_A_ROW 256
 
 /* A place to sleep; apart from the next one by a line of the cache. */
@@ -181,14 +185,14 @@ typedef struct hull_shared_place {
     unsigned char apart[56];
 } hull_shared_place;
 
-/* Where the calls of one desk wait. All zero, it is ready, as of `static hull_shared_line line;` or by hull_shared_line_init; it
- * needs no end. It may be made anew only when no call waits in it. */
+/* Where the calls of one desk wait. All zero, it is ready, as of `static hull_shared_line line;` (where there is no futex by
+ * hull_shared_line_init alone); it needs no end. It may be made anew only when no call waits in it. */
 typedef struct hull_shared_line {
     uint32_t beside;     /* how many calls may be inside at once, less one */
     uint32_t served;     /* the number served of late, in its lower bits; it only tells who is near its turn */
     uint32_t in_a_row;   /* the calls since the last heir came in */
     unsigned char apart[52];
-    uint32_t door;       /* calls inside; HULL_SHARED_HEIR, HULL_SHARED_CLOSED; HULL_SHARED_ASLEEP for each who sleeps outside */
+    uint32_t door;       /* calls inside; HULL_SHARED_HEIR and _CLOSED; HULL_SHARED_ASLEEP for each who sleeps outside */
     uint32_t heirs;      /* who was made heir and is still to learn it: 0 or 1 */
     unsigned char outside[56];
     hull_shared_place places[HULL_SHARED_SEATS_MAX];
@@ -213,9 +217,9 @@ enum {
 #define HULL_SHARED_STEP(name) ((void)0)
 #endif
 
-/* Makes a line in which `inside` calls may have numbers at once, 1 to 64. With 1, which is what all zero means, calls are fast
- * and served as said above; with as many as there are seats each call is served in the order in which the calls began, and waits
- * for every one before it to be made by its own thread. */
+/* Makes a line in which `inside` calls may have numbers at once, 1 to 64. With 1, which is what all zero means, calls are
+ * fast and served as said above; with as many as there are seats each call is served in the order in which the calls began,
+ * and waits for every one before it to be made by its own thread. */
 static inline void hull_shared_line_init(hull_shared_line *line, uint32_t inside) {
     memset(line, 0, sizeof *line);
     line->beside = inside < 1 || inside > HULL_SHARED_SEATS_MAX ? 0 : inside - 1;
@@ -264,7 +268,8 @@ static inline void hull_shared_pause(unsigned looks) {
     }
 }
 
-/* Comes in by the door, if it is open: to an heir also where it is closed to others. It may fail where others change the door. */
+/* Comes in by the door, if it is open: to an heir also where it is closed to others. It may fail where others change the
+ * door. */
 static inline int hull_shared_comes_in(hull_shared_line *line, int is_heir) {
     uint32_t door = __atomic_load_n(&line->door, __ATOMIC_RELAXED), next = door + 1;
     if ((door & HULL_SHARED_INSIDE) > line->beside || ((door & HULL_SHARED_CLOSED) != 0 && !is_heir)) {
@@ -385,8 +390,8 @@ static inline hull_shared_reply hull_shared_sleep_and_look(hull_shared_line *lin
     return reply;
 }
 
-/* Waits until the number that the seat has taken is served: the answer to its call, whose corners are written to `out` where that
- * is not null. */
+/* Waits until the number that the seat has taken is served: the answer to its call, whose corners are written to `out` where
+ * that is not null. */
 static inline hull_shared_reply hull_shared_wait(hull_shared_line *line, hull_shared_seat *seat, hull_point *out,
                                                  size_t room) {
     hull_shared_reply reply = hull_shared_look_and_wake(line, seat, out, room);
@@ -416,17 +421,17 @@ static inline hull_shared_reply hull_shared_call_into(hull_shared_line *line, hu
     return reply;
 }
 
-/* Makes a call of a kind (hull_kind) and waits for its answer, which is the kind's, or FULL. Where no number was taken, the code
- * is that of hull_shared_take: VACANT, WAITING, UNKNOWN_KIND, OUT_OF_RANGE, ZERO_DIRECTION. Of a list of corners it tells how many
- * they are. */
+/* Makes a call of a kind (hull_kind) and waits for its answer, which is the kind's, or FULL. Where no number was taken, the
+ * code is that of hull_shared_take: VACANT, WAITING, UNKNOWN_KIND, OUT_OF_RANGE, ZERO_DIRECTION. Of a list of corners it
+ * tells how many they are. */
 static inline hull_shared_reply hull_shared_call(hull_shared_line *line, hull_shared_seat *seat, uint32_t kind, int64_t x,
                                                  int64_t y) {
     return hull_shared_call_into(line, seat, kind, x, y, NULL, 0);
 }
 
-/* Asks for the corners, which are written to the front of the array as hull_vertices writes them: CORNERS; TOO_SMALL where the array
- * has no room for all, with their `number`, and then it is as it was; NO_MEMORY, FULL, VACANT, WAITING. With each answer the call
- * has its line, TOO_SMALL too. */
+/* Asks for the corners, which are written to the front of the array as hull_vertices writes them: CORNERS; TOO_SMALL where
+ * the array has no room for all, with their `number`, and then it is as it was; NO_MEMORY, FULL, VACANT, WAITING. With each
+ * answer the call has its line, TOO_SMALL too. */
 static inline hull_shared_reply hull_shared_vertices(hull_shared_line *line, hull_shared_seat *seat, hull_point *out,
                                                      size_t room) {
     return hull_shared_call_into(line, seat, HULL_KIND_VERTICES, 0, 0, out, room);

@@ -1,12 +1,13 @@
-//! Mixed calls from 1, 2, 4 and 8 threads: through a shared hull, beside a `Mutex<Hull>`.
+//! Mixed calls from 1, 2, 4, 8 and 64 threads: through a shared hull, beside a `Mutex<Hull>`.
 //!
-//!     mixed POINTS CALLS ROUNDS
+//!     mixed POINTS CALLS ROUNDS BUSY
 //!
 //! Each round makes either hull anew, puts so many random points in, and has the threads make so many calls in all:
 //! half of them questions, the others additions and removals of random points in turn. Both take turns; of each the
-//! least time of the rounds.
+//! least and the median time of the rounds. Beside them BUSY processes spin.
 use hull::{Fault, Hull, Limits, Point, Seat, SharedHull, POINT_LIMIT};
-use std::hint::black_box;
+use std::hint::{black_box, spin_loop};
+use std::process::{Child, Command};
 use std::sync::{Barrier, Mutex};
 use std::thread;
 use std::time::Instant;
@@ -114,23 +115,51 @@ fn through_seats(threads: u32, points: usize, calls: usize) -> f64 {
     })
 }
 
+/// The least and the median of the rounds' times.
+fn least_and_median(mut times: Vec<f64>) -> (f64, f64) {
+    times.sort_by(f64::total_cmp);
+    (times[0], times[times.len() / 2])
+}
+
+/// A process that spins.
+fn busy() -> Child {
+    Command::new(std::env::current_exe().unwrap()).arg("spin").spawn().unwrap()
+}
+
 fn main() {
+    if std::env::args().nth(1).as_deref() == Some("spin") {
+        loop {
+            spin_loop();
+        }
+    }
     let mut words = std::env::args().skip(1).map(|word| word.parse::<usize>().unwrap());
     let mut word = |usual| words.next().unwrap_or(usual);
-    let (points, calls, rounds) = (word(1000), word(200_000), word(5));
-    println!("Rust: {points} points, {calls} calls in all, the least of {rounds} rounds");
-    for threads in [1, 2, 4, 8] {
-        let (mut mutex, mut seats) = (f64::INFINITY, f64::INFINITY);
+    let (points, calls, rounds, count) = (word(1000), word(200_000), word(5), word(0));
+    println!(
+        "Rust: {points} points, {calls} calls in all, {rounds} rounds, beside {count} busy processes; \
+         ns a call, least and median"
+    );
+    let mut spinning: Vec<Child> = (0..count).map(|_| busy()).collect();
+    for threads in [1, 2, 4, 8, 64] {
+        let (mut mutex, mut seats) = (Vec::new(), Vec::new());
         for _ in 0..rounds {
-            mutex = mutex.min(through_mutex(threads, points, calls / threads as usize));
-            seats = seats.min(through_seats(threads, points, calls / threads as usize));
+            let each = 1e9 / calls as f64;
+            mutex.push(through_mutex(threads, points, calls / threads as usize) * each);
+            seats.push(through_seats(threads, points, calls / threads as usize) * each);
         }
-        let each = 1e9 / calls as f64;
+        let (m, s) = (least_and_median(mutex), least_and_median(seats));
         println!(
-            "{threads} threads: mutex {:7.1} ns a call, seats {:7.1} ns a call, speed of the mutex's: {:.2}",
-            mutex * each,
-            seats * each,
-            mutex / seats
+            "{threads:2} threads: mutex {:6.0} {:6.0} seats {:6.0} {:6.0}; seats of the mutex's speed {:.2} {:.2}",
+            m.0,
+            m.1,
+            s.0,
+            s.1,
+            m.0 / s.0,
+            m.1 / s.1
         );
+    }
+    for child in &mut spinning {
+        child.kill().unwrap();
+        child.wait().unwrap();
     }
 }

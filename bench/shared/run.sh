@@ -1,9 +1,9 @@
 #!/bin/sh
-# One hull for several threads, timed: mixed calls from 1, 2, 4 and 8 threads through a shared hull, beside a mutex
+# One hull for several threads, timed: mixed calls from 1, 2, 4, 8 and 64 threads through a shared hull, beside a mutex
 # round a hull of one thread, in C and in Rust. Wants cc and rustc, and a quiet machine.
 #
-# run.sh [POINTS [CALLS [ROUNDS]]]: so many points at first (1000), so many calls in all (200000), and the least of so
-# many rounds taken in turn (5)
+# run.sh [POINTS [CALLS [ROUNDS [BUSY]]]]: so many points at first (1000), so many calls in all (200000), so many rounds
+# taken in turn (5), beside so many processes that spin (0)
 set -eu
 here=$(cd "$(dirname "$0")" && pwd)
 top=$(cd "$here/../.." && pwd)

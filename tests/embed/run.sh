@@ -188,6 +188,14 @@ with_numpy() {
     return 1
 }
 
+# an interpreter of the least version
+of_3_8() {
+    for interpreter in python3.8 "$HOME"/.pyenv/versions/3.8.*/bin/python3; do
+        ! "$interpreter" --version >/dev/null 2>&1 || return 0
+    done
+    return 1
+}
+
 in_python() {
     try "the tests of python/hull.py" python "$here/hull_tests.py"
     try "examples/embed/places.py writes examples/embed/places.txt" writes "$examples/places.txt" python "$examples/places.py"
@@ -197,9 +205,7 @@ in_python() {
     else
         skip "arrays of numpy" "python3 with numpy"
     fi
-    interpreter=
-    if is_there python3.8 && python3.8 --version >/dev/null 2>&1; then
-        interpreter=python3.8
+    if of_3_8; then
         try "the tests of python/hull.py by Python 3.8" python "$here/hull_tests.py"
     else
         skip "Python 3.8 itself (its syntax is tried)" python3.8

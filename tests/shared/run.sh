@@ -135,9 +135,8 @@ in_rust() {
     else
         skip "memory by valgrind in Rust" valgrind
     fi
-    mkdir -p "$room/slow"
-    rust --cfg hull_steps --out-dir "$room/slow" --crate-type rlib --crate-name hull "$top/rust/hull/src/lib.rs" &&
-        rust --test -L "$room/slow" --extern hull="$room/slow/libhull.rlib" --crate-name slow_tests "$here/shared_tests.rs" &&
+    rust --cfg hull_steps -C extra-filename=_slow --crate-type rlib --crate-name hull "$top/rust/hull/src/lib.rs" &&
+        rust --test --extern hull="$room/libhull_slow.rlib" --crate-name slow_tests "$here/shared_tests.rs" &&
         passes "$room/slow_tests"
     count "the same with threads that are held up between the steps of waiting" $?
     rust --extern hull --crate-name threads_rust "$examples/threads.rs" &&

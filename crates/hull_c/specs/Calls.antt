@@ -1,11 +1,12 @@
 -- What the calls on a hull come to that are its own.
-use Rattle.std.specs.Prelude.{◌≡◌, ◌⊎◌, ◌≢◌, ◌≤◌, ◌<◌, ℕ, List, [], ◌++◌, drop, length}
+use Rattle.std.specs.Prelude.{◌≡◌, ◌⊎◌, ◌≢◌, ◌≤◌, ℕ, List, []}
 use Rattle.lattice.specs.Plane.{Pair}
 use Rattle.lattice.specs.Vertices.{IsVertexList}
 use Rattle.hull_plain.specs.Held.{nothing_held}
 use Rattle.hull_plain.specs.declared.TheConstants.{POINT_LIMIT}
 use Rattle.hull_tree.specs.Roots.{held_by}
 use Rattle.hull_tree.specs.Sets.{LimitedTree}
+use Rattle.hull_reply.specs.Corners.{TellsCorners}
 use Rattle.hull_reply.specs.Told.{IsBare, IsNumber}
 use Rattle.hull_reply.specs.declared.code.Code.TheVariants as code
 use Rattle.hull_reply.specs.declared.reply.HullReply.{HullReply}
@@ -26,27 +27,11 @@ pub record IsFresh (limit : ℕ) (hull : LimitedTree) : Type 0 where
   pub within : 1 ≤ limit → limit ≤ POINT_LIMIT → hull.limit ≡ limit
   pub beyond : ¬ ((1 ≤ limit) × (limit ≤ POINT_LIMIT)) → hull.limit ≡ POINT_LIMIT
 
--- the corners of the points stand at the front of the array, whose rest is as it was
-pub record HasCorners (points before after : List Pair) (told : HullReply) : Type 0 where
-  pub corners : List Pair
-  pub all : IsVertexList points corners
-  pub room : length corners ≤ length before
-  pub written : after ≡ corners ++ drop (length corners) before
-  pub tells : IsNumber code.Corners (length corners) told
-
--- the array, which is as it was, is too short for the corners of the points
-pub record IsTooSmall (points before after : List Pair) (told : HullReply) : Type 0 where
-  pub corners : List Pair
-  pub all : IsVertexList points corners
-  pub no_room : length before < length corners
-  pub same : after ≡ before
-  pub tells : IsNumber code.TooSmall (length corners) told
-
--- the hull stays; its corners were written, or the array is too short for them, or memory was refused, which nothing
--- held would not ask for
+-- the hull stays; its corners were written to the array, or it is too short for them, or memory was refused, which
+-- nothing held would not ask for
 abbrev pub AreCorners : LimitedTree → LimitedTree → List Pair → List Pair → HullReply → Type 0
 AreCorners old new before after told =
     (new ≡ old)
-    × (HasCorners (held_by old.root).points before after told
-    ⊎ (IsTooSmall (held_by old.root).points before after told
-    ⊎ (((held_by old.root).points ≢ []) × (after ≡ before) × IsBare code.NoMemory told)))
+    × (((corners : List Pair) × IsVertexList (held_by old.root).points corners
+    × TellsCorners corners before after told)
+    ⊎ (((held_by old.root).points ≢ []) × (after ≡ before) × IsBare code.NoMemory told))

@@ -34,8 +34,8 @@ abbrev pub IsRefused : List Pair → LimitedTree → HullReply → Type 0
 IsRefused points old told =
     (AreTooMany nothing_held points old.limit × IsBare code.TooMany told) ⊎ ((points ≢ []) × IsBare code.NoMemory told)
 
--- all points were loaded; or the hull is as it was: some point is out of range, and only then is that told, or the points
--- were refused
+-- all points were loaded; or the hull is as it was: some point is out of range, and only then is that told, or the
+-- points were refused
 abbrev pub IsLoaded : List Pair → LimitedTree → LimitedTree → HullReply → Type 0
 IsLoaded points old new told =
     (¬ All HasCoordinates points × (new ≡ old) × IsBare code.OutOfRange told)

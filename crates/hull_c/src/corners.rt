@@ -1,54 +1,9 @@
 //! The corners of a hull, in an array of the caller's.
-ghost use Rattle.std.specs.Prelude.{◌≡◌, ◌≤◌, ◌++◌, length, drop};
 ghost use Rattle.hull_c.specs.Calls.{AreCorners};
 
 use hull_plain::HullSet;
-use hull_reply::{Code, HullReply};
+use hull_reply::{Code, HullPoint, HullReply, put_corners};
 use hull_tree::SparingTree;
-use lattice::Point;
-use std::marker::Model;
-
-/// A point, by its coordinates.
-#[repr(C)]
-#[derive(Clone, Copy)]
-pub struct HullPoint {
-    /// The first coordinate.
-    pub x: i64,
-    /// The second coordinate.
-    pub y: i64,
-}
-
-impl Model for HullPoint {
-    ghost use Rattle.lattice.specs.Plane.{Pair};
-
-    ghost Value = { Pair };
-
-    ghost view = { λ p. record { x = p.x; y = p.y } };
-
-    ghost inverse = { λ p. record { x = p.x; y = p.y } };
-}
-
-impl HullPoint {
-    /// The point, with its coordinates open.
-    fn of(point: Point) -> HullPoint
-        ensures { result ≡ point }
-    {
-        HullPoint {
-            x: point.x(),
-            y: point.y(),
-        }
-    }
-}
-
-/// Writes the points to the front of the array.
-fn write_points(points: &[Point], out: &mut [HullPoint])
-    requires { length points.now ≤ length out.now }
-    ensures { out.new ≡ points.now ++ drop (length points.now) out.old }
-{
-    for i in 0..points.len() {
-        out[i] = HullPoint::of(points[i]);
-    }
-}
 
 /// Writes the corners of the hull to the front of the array, if it has room for all of them.
 pub(crate) fn vertices(hull: &mut SparingTree, out: &mut [HullPoint]) -> HullReply
@@ -57,10 +12,5 @@ pub(crate) fn vertices(hull: &mut SparingTree, out: &mut [HullPoint]) -> HullRep
     let Ok(corners) = hull.vertices() else {
         return HullReply::bare(Code::NoMemory);
     };
-    let number = corners.len();
-    if number > out.len() {
-        return HullReply::numbered(Code::TooSmall, number as u64);
-    }
-    write_points(&corners, out);
-    HullReply::numbered(Code::Corners, number as u64)
+    put_corners(&corners, out)
 }

@@ -30,8 +30,8 @@ mod requests;
 #[cfg(test)]
 mod tests;
 
-pub use corners::HullPoint;
 use heap::Heap;
+pub use hull_reply::HullPoint;
 use hull_reply::HullReply;
 use hull_tree::SparingTree;
 use lattice::Point;
@@ -87,8 +87,8 @@ pub unsafe extern "C" fn hull_calls(
     requests::calls_of(unsafe { &mut *hull }, requests, replies)
 }
 
-/// Holds the points of the array, each as often as it stands there, in the place of all that the hull held; or leaves the
-/// hull as it was.
+/// Holds the points of the array, each as often as it stands there, in the place of all that the hull held; or leaves
+/// the hull as it was.
 ///
 /// # Safety
 ///

@@ -4,10 +4,9 @@ ghost use Rattle.std.specs.List.{All};
 ghost use Rattle.hull_reply.specs.Coordinates.{IsPointOf};
 ghost use Rattle.hull_c.specs.Loads.{IsLoaded, IsUnread, HasCoordinates};
 
-use super::corners::HullPoint;
 use heap::Heap;
 use hull_plain::HullSet;
-use hull_reply::{Code, HullReply, point_of};
+use hull_reply::{Code, HullPoint, HullReply, point_of};
 use hull_tree::{LoadFault, SparingTree};
 use lattice::Point;
 

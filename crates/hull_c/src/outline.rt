@@ -5,12 +5,11 @@ ghost use Rattle.hull_outline.specs.Lent.{corners_of};
 ghost use Rattle.hull_c.specs.Outlines.{IsAllowedFor, IsAskedOf, IsOutlineAnswer, TellsOutline};
 ghost use Rattle.hull_reply.specs.declared.request.Request.TheVariants as request;
 
-use super::corners::HullPoint;
 use super::load::points_of;
 use heap::Heap;
 use hull_outline::Outline;
 use hull_plain::{Call, Reply};
-use hull_reply::{Code, HullReply, Request, extreme_reply, request_of, tangents_reply, told};
+use hull_reply::{Code, HullPoint, HullReply, Request, extreme_reply, request_of, tangents_reply, told};
 use lattice::{Direction, Point};
 
 /// Where a point lies.

@@ -1,9 +1,9 @@
 //! The calls on a hull, with the number of each code and what stands beside it.
 use super::calls;
-use super::corners::{HullPoint, vertices};
+use super::corners::vertices;
 use super::requests::{HullRequest, calls_of};
 use hull_plain::{MULTIPLICITY_LIMIT, POINT_LIMIT};
-use hull_reply::{Code, HullReply};
+use hull_reply::{Code, HullPoint, HullReply};
 use hull_tree::SparingTree;
 use lattice::COORDINATE_LIMIT;
 use std::process::Abort;

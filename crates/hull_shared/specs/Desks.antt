@@ -136,8 +136,8 @@ HasReturned old new was room told = (new ≡ old) × (room ≡ was) × (told ≡
 
 -- ---- closing
 
--- the journal of the desk: legal, with the head at opening, and beginning with what each seat has seen, in whose name it
--- has no other lines than those
+-- the journal of the desk: legal, with the head at opening, and beginning with what each seat has seen, in whose name
+-- it has no other lines than those
 pub record IsJournalOf (d : OpenDesk) (c : ClosedDesk) : Type 0 where
   pub head : c.journal.head ≡ head_of (lock_of d.lock)
   pub legal : IsLegal c.journal.head c.journal.lines

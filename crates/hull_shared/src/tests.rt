@@ -9,6 +9,14 @@ use core::mem::ManuallyDrop;
 use hull_reply::HullPoint;
 use std::process::Abort;
 
+/// The array has these points.
+fn are_points(rt: &impl Abort, out: &[HullPoint; 3], wanted: [(i64, i64); 3]) {
+    for i in 0..3 {
+        let point = out[i];
+        assert_eq!(rt; (point.x, point.y), wanted[i]);
+    }
+}
+
 /// The seat has this number, and was told this code with this number beside it.
 fn is_told(rt: &impl Abort, reply: SeatReply, turn: u64, code: u32, number: u64) {
     assert_eq!(rt; reply.turn, turn);
@@ -81,11 +89,10 @@ fn corners_of_one_seat(rt: HostRuntime) {
     }
     is_told(&rt, take(&mut room, 6, 0, 0), 2, 43, 0);
     is_told(&rt, look_into(&mut room, &mut out[..1]), 2, 19, 2);
-    assert_eq!(rt; (out[0].x, out[0].y), (9, 9));
+    are_points(&rt, &out, [(9, 9); 3]);
     is_told(&rt, take(&mut room, 6, 0, 0), 3, 43, 0);
     is_told(&rt, look_into(&mut room, &mut out), 3, 18, 2);
-    assert_eq!(rt; (out[0].x, out[1].x, out[2].x), (-5, 5, 9));
-    assert_eq!(rt; (out[0].y, out[1].y, out[2].y), (4, 4, 9));
+    are_points(&rt, &out, [(-5, 4), (5, 4), (9, 9)]);
     let (_desk, _room) = unsafe {
         (
             ManuallyDrop::new_unchecked(desk),

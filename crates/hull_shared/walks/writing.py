@@ -10,7 +10,7 @@ def canonical(text):
     for line in text.splitlines():
         use = re.fullmatch(r"use (\S+)\.\{(.*)\}", line)
         if use:
-            names.setdefault(use.group(1), set()).update(use.group(2).split(", "))
+            names.setdefault(use.group(1), set()).update(name.strip() for name in use.group(2).split(","))
         else:
             body.append(line.replace("--", ""))
     uses = [f"{module}: {sorted(of_it)}" for module, of_it in sorted(names.items())]

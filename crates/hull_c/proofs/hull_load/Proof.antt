@@ -19,7 +19,7 @@ use Rattle.heap.proofs.Laws as heap_laws
 use Rattle.heap.specs.Rows.{heap_row as Heap}
 use denote.Builtin.{SliceRefOf}
 use denote.Slice.{ShrSlice, shr_slice_vals, shr_slice_Tells, shr_slice_Lawful}
-use Rattle.hull_c.specs.contracts.corners.HullPoint.{the_row as Pt}
+use Rattle.hull_reply.specs.contracts.corners.HullPoint.{the_row as Pt}
 use Rattle.hull_c.specs.Loads.{IsLoaded}
 use Rattle.hull_reply.specs.contracts.reply.HullReply.{the_row as Out}
 use Rattle.hull_reply.proofs.reply.HullReply.TheLaws.{the_row_laws}
@@ -49,7 +49,8 @@ hull_load_spec 𝓤 𝓛 𝓜 𝓡 wired =
     let x = a.0 in let hv = heap_laws.lowered x in
     let asks = a.1.1.0 in let κ₀ = κs.0 in let q₀ = qs.0 in
     let given = ((shr_slice_Lawful 𝓛 (named 0) κ₀ Pt).typed asks _ are.1.1.0).0 in
-    let y : Ptr → W.Ghost = λ p. ((κs, qs, bounds, (x, (p, (asks, tt))), (hv ∷ [], (rawptr_vals p, (shr_slice_vals asks, tt)))), t) in
+    let y : Ptr → W.Ghost =
+    λ p. ((κs, qs, bounds, (x, (p, (asks, tt))), (hv ∷ [], (rawptr_vals p, (shr_slice_vals asks, tt)))), t) in
     qed 𝓛 (((‵ (flft κ₀ q₀) ⊛ ‵ ftrue) ⊛ ‵ (Heap.own_val x (hv ∷ [])) ⊛ ‵ (RawPtr.own_val a.1.0 (rawptr_vals a.1.0)) ⊛ ‵
     ((ShrSlice (named 0) κ₀ Pt).own_val asks (shr_slice_vals asks)) ⊛ ‵ ftrue) ∷ ‵ (lies_at R full_share a.1.0 t)
     ∷ []) ∵ split ! $
@@ -58,7 +59,8 @@ hull_load_spec 𝓤 𝓛 𝓜 𝓡 wired =
     -- [the points; what the allocator owns; their token; the hull]
     move ! (3 ∷ []) $
     in_a_block ! a.1.0 (λ p. lies_at R full_share p t) (id⊢ 𝓤 _) (λ b o e.
-    regoal ! (λ p. prop (WpFn 𝓤 𝓛.H 𝓣.C 𝓣.Λ code.function ((hv ∷ []) ++ (rawptr_vals p ++ (shr_slice_vals asks ++ []))) (W.post (y p)))) e refl $
+    regoal ! (λ p. prop (WpFn 𝓤 𝓛.H 𝓣.C 𝓣.Λ code.function ((hv ∷ []) ++ (rawptr_vals p ++ (shr_slice_vals asks ++ [])))
+    (W.post (y p)))) e refl $
     enter ! _ _ _ _ _ $ alloc_all !
     (λ l. pass_all ! refl (((heap_laws.the_row_laws.lawful 𝓛).typed x _ are.0).0, ((tt, tt), (given, tt))) $
     sets ! (of_opd ! (get ! refl)) refl (tt, tt) $
@@ -91,14 +93,16 @@ hull_load_spec 𝓤 𝓛 𝓜 𝓡 wired =
     (raw (G.pre z)) (id⊢ 𝓤 _) $
     calls_at ! (framed 𝓤 𝓛.H 𝓜 (tables 𝓤 𝓛.H 𝓜 𝓡 𝓡.env)) G (met 𝓤 𝓛 𝓜 𝓡 (code.calls-hull_c::load::load 𝓡.env wired)) z
     (and_then ! (get ! refl) (and_then ! (get ! refl) (and_then ! (get ! refl) (no_more !)))) (λ v.
-    use1 𝓛 (later (some (λ (u : Out.Denot). ((‵ (flft κ full_share) ⊛ (‵ (flft κ₀ q₀) ⊛ ‵ ftrue)) ⊛ ‵ (Out.own_val u (v ∷ []))) ⊛
+    use1 𝓛 (later (some (λ (u : Out.Denot).
+    ((‵ (flft κ full_share) ⊛ (‵ (flft κ₀ q₀) ⊛ ‵ ftrue)) ⊛ ‵ (Out.own_val u (v ∷ []))) ⊛
     some (λ (ws : Lasts g.ended z.0.0 z.0.3). ‵ (lasts g.ended z.0.0 z.0.3 ws) ⊛ raw
     (fact 𝓤 (IsLoaded asks.now t ws.1.0 u)))))) (id⊢ 𝓤 _) $
     await ! tt $ pick ! (λ u. split ! $ split ! $ split ! $ lft_end ! tt $ move ! (2 ∷ []) $
     peeks ! Out (Is Out) (shows 𝓛 Out) u (v ∷ []) (λ is. lands_as ! refl refl ((the_row_laws.lawful 𝓛).typed u _ is).0 $
     move ! (3 ∷ []) $ pick !
     (λ ws. split ! $ move ! (1 ∷ []) $ heard ! _ (λ low. fsplit ! $ drop ! $ fsplit ! $ fsplit ! $
-    -- [the loan's last value; its borrow; nothing; the result; the token is over; the other token; what the lender keeps]
+    -- [the loan's last value; its borrow; nothing; the result; the token is over; the other token; what the lender
+    -- keeps]
     move ! (4 ∷ 6 ∷ 0 ∷ []) $ use3 𝓛 (later (‵ ((mem R).own_at ws.1.0 b o)))
     (ref_back 𝓛 R κ γ ws.1.0 b o) $ await ! tt $
     nothing ! $ fpack ! (IsLoaded asks.now t ws.1.0 u) (λ _. ftrue) low $ move ! (1 ∷ 0 ∷ []) $ fjoin ! $
@@ -106,4 +110,5 @@ hull_load_spec 𝓤 𝓛 𝓜 𝓡 wired =
     (fex (IsLoaded asks.now t t' u) (λ _. ftrue))) ws.1.0 $
     returns ! (look_at ! 0 refl) $ free_all ! refl $ keep ! (3 ∷ 0 ∷ 4 ∷ []) $
     suffices ! _ (ends_at 𝓛 f.ended stayed c (y (block_ptr b o)) v u (tt, (tt, (tt, tt))) (tt, (tt, (tt, tt)))) $
-    nothing ! $ nothing ! $ join ! $ nothing ! $ join ! $ nothing ! $ join ! $ move ! (3 ∷ []) $ group ! 3 $ done !))))))))))
+    nothing ! $ nothing ! $ join ! $ nothing ! $ join ! $ nothing ! $ join ! $ move !
+    (3 ∷ []) $ group ! 3 $ done !))))))))))

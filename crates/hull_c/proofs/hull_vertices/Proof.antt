@@ -21,7 +21,7 @@ use types.Run.{fld, hop, from}
 use types.ByLocal.{get_in, look_in_at}
 use denote.Slice.{MutSlice, mut_slice_vals, mut_slice_Tells, mut_slice_Lawful}
 use denote.Triple.Walked.{gave_slice, Goes-gave_slice}
-use Rattle.hull_c.specs.contracts.corners.HullPoint.{the_row as Pt}
+use Rattle.hull_reply.specs.contracts.corners.HullPoint.{the_row as Pt}
 use Rattle.hull_c.specs.Calls.{AreCorners}
 use Rattle.hull_reply.specs.contracts.reply.HullReply.{the_row as Out}
 use Rattle.hull_reply.proofs.reply.HullReply.TheLaws.{the_row_laws}

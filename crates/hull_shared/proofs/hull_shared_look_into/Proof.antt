@@ -1,5 +1,14 @@
--- `hull_shared_look_into` meets its contract: what lies at the pointer is lent for one call, and comes back with what that call left.
-use Rattle.hull_reply.proofs.Steps.{ℕ, ◌++◌, List, [], ◌∷◌, refl, proved, full_share, id⊢, ftrue, flft, flent, named, vptr, fact, tables, WpFn, ‵, raw, ◌⊛◌, some, later, prop, at_ret, ◌$◌, ◌∵◌, !, qed, done, move, keep, drop, use1, use3, split, join, fsplit, fjoin, fpack, pick, await, regoal, suffices, group, enter, of_opd, addr, stop, no_more, and_then, first, blocks, exec, returns, alloc_all, pass_all, free_all, look_at, get, through, sets, sets_last, lands_as, env, lft_new, lft_end, yes, Is, shows, mem, lends_ref, ref_back, Ptr, RawPtr, block_ptr, lies_at, in_a_block, rawptr_vals, rawptr_Tells, MutRef, Body, plain, nothing, heard, peeks, calls_at, Lasts, lasts, triple_of, Stays, walk_of, stay_dropped, Goes-dropped, ends_at, framed}
+-- `hull_shared_look_into` meets its contract: what lies at the pointer is lent for one call, and comes back with what
+-- that call left.
+use Rattle.hull_reply.proofs.Steps.{ℕ, ◌++◌, List, [], ◌∷◌, refl, proved, full_share, id⊢, ftrue, flft, flent, named}
+use Rattle.hull_reply.proofs.Steps.{vptr, fact, tables, WpFn, ‵, raw, ◌⊛◌, some, later, prop, at_ret, ◌$◌, ◌∵◌, !, qed}
+use Rattle.hull_reply.proofs.Steps.{done, move, keep, drop, use1, use3, split, join, fsplit, fjoin, fpack, pick, await}
+use Rattle.hull_reply.proofs.Steps.{regoal, suffices, group, enter, of_opd, addr, stop, no_more, and_then, first}
+use Rattle.hull_reply.proofs.Steps.{blocks, exec, returns, alloc_all, pass_all, free_all, look_at, get, through, sets}
+use Rattle.hull_reply.proofs.Steps.{sets_last, lands_as, env, lft_new, lft_end, yes, Is, shows, mem, lends_ref}
+use Rattle.hull_reply.proofs.Steps.{ref_back, Ptr, RawPtr, block_ptr, lies_at, in_a_block, rawptr_vals, rawptr_Tells}
+use Rattle.hull_reply.proofs.Steps.{MutRef, Body, plain, nothing, heard, peeks, calls_at, Lasts, lasts, triple_of}
+use Rattle.hull_reply.proofs.Steps.{Stays, walk_of, stay_dropped, Goes-dropped, ends_at, framed}
 use Rattle.hull_shared.specs.contracts.seat.SharedSeat.{the_row as R}
 use base.Fml.{fex, fsep}
 use types.Kit.{feq_l}
