@@ -9,7 +9,9 @@ use super::load::points_of;
 use heap::Heap;
 use hull_outline::Outline;
 use hull_plain::{Call, Reply};
-use hull_reply::{Code, HullPoint, HullReply, Request, extreme_reply, request_of, tangents_reply, told};
+use hull_reply::{
+    Code, HullPoint, HullReply, Request, extreme_reply, request_of, tangents_reply, told,
+};
 use lattice::{Direction, Point};
 
 /// Where a point lies.
