@@ -164,6 +164,35 @@ hull_reply hull_load(hull_set *h, const hull_point *points, size_t count);
 /* Lets all points go, and their memory; the limit stays: HULL_CLEARED. */
 hull_reply hull_clear(hull_set *h);
 
+/* An outline is an array of corners as hull_vertices wrote it. The functions below ask it what those above ask the hull that it was
+ * taken of, as that hull was then, in a number of steps that grows with the logarithm of the corners' number (hull_outline_area: in
+ * one pass). They write nothing and ask for no memory, so any number of threads may ask one array at once.
+ *
+ * What the caller must keep, and nothing checks: the array is an outline of at most HULL_LIMIT_MAX corners, one that hull_vertices
+ * wrote or hull_is_outline said 1 of, is aligned, is not null, even where it has no corners, and nobody writes it during a call. */
+hull_reply hull_outline_call(const hull_point *corners, size_t count, uint32_t kind, int64_t x, int64_t y);
+
+static inline hull_reply hull_outline_place(const hull_point *corners, size_t count, int64_t x, int64_t y) {
+    return hull_outline_call(corners, count, HULL_KIND_PLACE, x, y);
+}
+
+static inline hull_reply hull_outline_tangents(const hull_point *corners, size_t count, int64_t x, int64_t y) {
+    return hull_outline_call(corners, count, HULL_KIND_TANGENTS, x, y);
+}
+
+static inline hull_reply hull_outline_extreme(const hull_point *corners, size_t count, int64_t x, int64_t y) {
+    return hull_outline_call(corners, count, HULL_KIND_EXTREME, x, y);
+}
+
+static inline hull_reply hull_outline_area(const hull_point *corners, size_t count) {
+    return hull_outline_call(corners, count, HULL_KIND_AREA, 0, 0);
+}
+
+/* Whether the points of any array are an outline: HULL_NUMBER with 1 or 0; HULL_OUT_OF_RANGE or HULL_NO_MEMORY (it copies the points
+ * for the time of the call). They are where they go from the first point by x and then y counterclockwise round a convex polygon,
+ * with no point inside an edge; of no point, of one, and of two points in order, too. */
+hull_reply hull_is_outline(const hull_point *points, size_t count);
+
 #ifdef __cplusplus
 }
 #endif

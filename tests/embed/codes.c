@@ -244,6 +244,45 @@ static void loads(void) {
     ended(h);
 }
 
+/* the outline answers as the hull does, at all points round it */
+static void outlines(void) {
+    hull_set *h = made(50);
+    hull_point out[50];
+    memset(out, 0, sizeof out);
+    for (int step = 0; step < 12; step++) {
+        size_t count = hull_vertices(h, out, 50).number;
+        int same = number(hull_is_outline(out, count), HULL_NUMBER, 1);
+        for (int64_t x = -6; x <= 6; x++) {
+            for (int64_t y = -6; y <= 6; y++) {
+                for (uint32_t kind = HULL_KIND_PLACE; kind <= HULL_KIND_AREA; kind++) {
+                    hull_reply asked = hull_outline_call(out, count, kind, x, y), wanted = hull_call(h, kind, x, y);
+                    same &= memcmp(&asked, &wanted, sizeof asked) == 0;
+                }
+            }
+        }
+        CHECK(same);
+        hull_add(h, step * 7 % 11 - 5, step * step % 11 - 5);
+    }
+    size_t count = hull_vertices(h, out, 50).number;
+    CHECK(count > 4);
+    static const uint32_t none[] = {0, HULL_KIND_ADD, HULL_KIND_REMOVE, HULL_KIND_COUNT, HULL_KIND_MULTIPLICITY, 10};
+    for (int i = 0; i < 6; i++) {
+        CHECK(bare(hull_outline_call(out, count, none[i], 0, 0), HULL_UNKNOWN_KIND));
+    }
+    CHECK(bare(hull_outline_place(out, count, HULL_COORDINATE_MAX + 1, 0), HULL_OUT_OF_RANGE));
+    CHECK(bare(hull_outline_extreme(out, count, 0, 0), HULL_ZERO_DIRECTION));
+    refused_from = 0, asked = 0;
+    CHECK(bare(hull_is_outline(out, count), HULL_NO_MEMORY) && number(hull_is_outline(out, 0), HULL_NUMBER, 1));
+    CHECK(bare(hull_outline_tangents(out, count, 0, 0), HULL_NO_TANGENT) && hull_outline_area(out, count).number > 0);
+    refused_from = -1;
+    hull_point first = out[0];
+    out[0] = out[1];
+    CHECK(number(hull_is_outline(out, count), HULL_NUMBER, 0));
+    out[0] = first, out[1].x = INT64_MIN;
+    CHECK(bare(hull_is_outline(out, count), HULL_OUT_OF_RANGE));
+    ended(h);
+}
+
 static void calls(void) {
     hull_set *h = made(2);
     static const hull_request asked_for[] = {
@@ -344,6 +383,7 @@ int main(void) {
     corners();
     many_corners();
     loads();
+    outlines();
     calls();
     refusals();
     printf("codes: %d passed, %d failed\n", passed, failed);
