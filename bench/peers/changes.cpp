@@ -45,7 +45,7 @@ double now() {
 }
 
 class Ours {
-    hull place = std::aligned_alloc(hull_alignment(), hull_size());
+    hull_set *place = static_cast<hull_set *>(std::aligned_alloc(hull_alignment(), hull_size()));
 
   public:
     Ours() { hull_make(0, place); }

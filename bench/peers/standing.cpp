@@ -1,4 +1,4 @@
-// A set that stands, one thread: loading it, its corners, and questions about it; this library (hull.h) beside the usual lines of
+// A set that stands: loading it, its corners, and questions about it, and of its outline, the last by several threads at once; this library (hull.h) beside the usual lines of
 // C++ (a sort, a monotone chain, an array of corners and bisection), CGAL, GEOS and Boost.Geometry.
 //
 //     standing SHAPE POINTS ROUNDS
@@ -16,6 +16,7 @@
 #include <boost/geometry.hpp>
 #include <boost/geometry/geometries/point_xy.hpp>
 #include <boost/geometry/geometries/polygon.hpp>
+#include <chrono>
 #include <cstdio>
 #include <cstdlib>
 #include <ctime>
@@ -24,6 +25,7 @@
 #include <map>
 #include <random>
 #include <string>
+#include <thread>
 #include <vector>
 
 #include "hull.h"
@@ -104,7 +106,7 @@ struct Chain {
 };
 
 struct Ours {
-    hull place = std::aligned_alloc(hull_alignment(), hull_size());
+    hull_set *place = static_cast<hull_set *>(std::aligned_alloc(hull_alignment(), hull_size()));
 
     Ours() { hull_make(0, place); }
     Ours(const Ours &) = delete;
@@ -201,7 +203,7 @@ class Table {
     }
 };
 
-size_t load(const Points &points, hull place) { return hull_load(place, points.data(), points.size()).number; }
+size_t load(const Points &points, hull_set *place) { return hull_load(place, points.data(), points.size()).number; }
 
 void time_loads(Table &table, const Points &points, bool slow) {
     const size_t n = points.size();
@@ -264,6 +266,9 @@ void time_places(Table &table, const Ours &ours, const Chain &chain, const Point
     const auto time = [&](const char *name, const std::function<bool(size_t)> &covers) {
         counts.push_back(table.time("place", name, n, [&] { return count_of(asked, covers); }));
     };
+    const Point *corners = chain.corners.data();
+    const size_t h = chain.corners.size();
+    time("hull_outline_place", [&](size_t i) { return hull_outline_place(corners, h, asked[i].x, asked[i].y).code != HULL_OUTSIDE; });
     time("hull_place", [&](size_t i) { return hull_place(ours.place, asked[i].x, asked[i].y).code != HULL_OUTSIDE; });
     time("corners and bisection", [&](size_t i) { return chain.covers(asked[i]); });
     time("GEOS prepared", [&](size_t i) { return geos.covers(i); });
@@ -278,15 +283,43 @@ void time_places(Table &table, const Ours &ours, const Chain &chain, const Point
     }
 }
 
+// The places of an outline by so many threads at once, in time of the clock: the least of the rounds for one question, over all.
+double place_time(const Chain &chain, const Points &asked, size_t threads, int rounds) {
+    double least = 1e300;
+    for (int round = 0; round < rounds; round++) {
+        std::vector<std::thread> all;
+        const auto start = std::chrono::steady_clock::now();
+        for (size_t thread = 0; thread < threads; thread++) {
+            all.emplace_back([&] {
+                volatile size_t covered = count_of(asked, [&](size_t i) {
+                    return hull_outline_place(chain.corners.data(), chain.corners.size(), asked[i].x, asked[i].y).code != HULL_OUTSIDE;
+                });
+                (void)covered;
+            });
+        }
+        for (std::thread &thread : all) {
+            thread.join();
+        }
+        const std::chrono::duration<double, std::nano> took = std::chrono::steady_clock::now() - start;
+        least = std::min(least, took.count() / static_cast<double>(threads * asked.size()));
+    }
+    return least;
+}
+
 void time_extremes(Table &table, const Ours &ours, const Chain &chain, const Points &asked) {
     const size_t n = asked.size();
+    const Point *corners = chain.corners.data();
+    const size_t h = chain.corners.size();
+    const size_t outline_sum = table.time("extreme", "hull_outline_extreme", n, [&] {
+        return count_of(asked, [&](size_t i) { return static_cast<size_t>(hull_outline_extreme(corners, h, asked[i].x, asked[i].y).x); });
+    });
     const size_t ours_sum = table.time("extreme", "hull_extreme", n, [&] {
         return count_of(asked, [&](size_t i) { return static_cast<size_t>(hull_extreme(ours.place, asked[i].x, asked[i].y).x); });
     });
     const size_t other = table.time("extreme", "corners and bisection", n, [&] {
         return count_of(asked, [&](size_t i) { return static_cast<size_t>(chain.extreme(asked[i].x, asked[i].y).x); });
     });
-    if (ours_sum != other) {
+    if (ours_sum != other || outline_sum != other) {
         std::printf("the farthest points differ\n");
         std::exit(1);
     }
@@ -332,5 +365,7 @@ int main(int argc, char **argv) {
     }
     std::printf("%s, %zu points, %zu corners\n", shape.c_str(), count, chain.corners.size());
     table.print();
+    const double one = place_time(chain, asked, 1, 5 * rounds), four = place_time(chain, asked, 4, 5 * rounds);
+    std::printf("  %-9s %-34s %10.1f ns  of one thread's speed %.2f\n", "place", "hull_outline_place by 4 threads", four, one / four);
     return 0;
 }
