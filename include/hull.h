@@ -188,6 +188,12 @@ static inline hull_reply hull_outline_area(const hull_point *corners, size_t cou
     return hull_outline_call(corners, count, HULL_KIND_AREA, 0, 0);
 }
 
+/* Asks the outline what each of the requests asks for, and writes a reply for each to the front of `replies`, up to the end of the
+ * shorter array; returns how many it wrote. One that can't be asked has its fault for a reply, and ends nothing. The arrays are those
+ * of hull_calls. */
+size_t hull_outline_calls(const hull_point *corners, size_t count, const hull_request *requests, size_t request_count,
+                          hull_reply *replies, size_t reply_room);
+
 /* Whether the points of any array are an outline: HULL_NUMBER with 1 or 0; HULL_OUT_OF_RANGE or HULL_NO_MEMORY (it copies the points
  * for the time of the call). They are where they go from the first point by x and then y counterclockwise round a convex polygon,
  * with no point inside an edge; of no point, of one, and of two points in order, too. */

@@ -270,6 +270,13 @@ static void outlines(void) {
         CHECK(bare(hull_outline_call(out, count, none[i], 0, 0), HULL_UNKNOWN_KIND));
     }
     CHECK(bare(hull_outline_place(out, count, HULL_COORDINATE_MAX + 1, 0), HULL_OUT_OF_RANGE));
+    static const hull_request many[] = {{HULL_KIND_PLACE, 0, 0}, {HULL_KIND_ADD, 1, 1}, {HULL_KIND_EXTREME, 0, 0}, {HULL_KIND_AREA, 0, 0}};
+    hull_reply told[6], mark;
+    memset(told, 5, sizeof told), memset(&mark, 5, sizeof mark);
+    CHECK(hull_outline_calls(out, count, many, 4, told, 2) == 2 && memcmp(&told[2], &mark, sizeof mark) == 0);
+    CHECK(hull_outline_calls(out, count, many, 4, told, 6) == 4 && memcmp(&told[4], &mark, sizeof mark) == 0);
+    CHECK(told[0].code == hull_place(h, 0, 0).code && bare(told[1], HULL_UNKNOWN_KIND) && bare(told[2], HULL_ZERO_DIRECTION));
+    CHECK(number(told[3], HULL_NUMBER, hull_area(h).number));
     CHECK(bare(hull_outline_extreme(out, count, 0, 0), HULL_ZERO_DIRECTION));
     refused_from = 0, asked = 0;
     CHECK(bare(hull_is_outline(out, count), HULL_NO_MEMORY) && number(hull_is_outline(out, 0), HULL_NUMBER, 1));

@@ -1,5 +1,5 @@
 -- What asking an outline comes to, in numbers.
-use Rattle.std.specs.Prelude.{◌≡◌, ◌≢◌, ◌⊎◌, ℕ, ℤ, List, [], length, Result, Ok, Err}
+use Rattle.std.specs.Prelude.{◌≡◌, ◌≢◌, ◌⊎◌, ◌<◌, ℕ, ℤ, List, [], length, drop, min, slice_index_or, Result, Ok, Err}
 use Rattle.std.specs.List.{All}
 use Rattle.lattice.specs.Plane.{Pair}
 use Rattle.hull_plain.specs.Held.{Held}
@@ -17,6 +17,7 @@ use Rattle.hull_reply.specs.declared.reply.HullReply.{HullReply}
 use Rattle.hull_reply.specs.declared.request.Request.{Request}
 use Rattle.hull_reply.specs.declared.request.Request.TheVariants as request
 use Rattle.hull_c.specs.Loads.{HasCoordinates}
+use Rattle.hull_c.specs.declared.requests.HullRequest.{HullRequest}
 
 -- the numbers tell a reply to the call that is allowed for whatever is held that has these corners
 pub record IsAllowedFor (corners : List Pair) (call : Call) (told : HullReply) : Type 0 where
@@ -39,6 +40,20 @@ IsAskedOf corners (Err fault) told = IsBare fault told
 abbrev pub IsOutlineAnswer : List Pair → ℕ → ℤ → ℤ → HullReply → Type 0
 IsOutlineAnswer corners kind x y told =
     (asked : Result Request Code) × IsRequestOf kind x y asked × IsAskedOf corners asked told
+
+-- what the request at i asks for was asked of the corners
+abbrev pub AnswersAt : List Pair → List HullRequest → ℕ → HullReply → Type 0
+AnswersAt corners qs i told =
+    (q : HullRequest) → let asked = slice_index_or qs i q in IsOutlineAnswer corners asked.kind asked.x asked.y told
+
+-- so many requests as the shorter array has were asked of the corners, and the replies stand at the front of the array, whose
+-- rest is as it was
+pub record AreOutlineAnswers (corners : List Pair) (qs : List HullRequest) (before after : List HullReply) (made : ℕ) : Type 0
+  where
+    pub all : made ≡ min (length qs) (length before)
+    pub answered : (i : ℕ) (r : HullReply) → i < made → AnswersAt corners qs i (slice_index_or after i r)
+    pub rest : drop made after ≡ drop made before
+    pub long : length after ≡ length before
 
 -- 1 was told of an outline, 0 of other points, or why neither: one of them is out of range, or memory was refused, which
 -- no points would not ask for

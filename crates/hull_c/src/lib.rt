@@ -17,7 +17,7 @@ ghost use Rattle.hull_reply.specs.Rooms.{room_alignment, room_size};
 ghost use Rattle.hull_reply.specs.Served.{IsAnswered};
 ghost use Rattle.hull_c.specs.Left.{leaves_room};
 ghost use Rattle.hull_c.specs.Loads.{IsLoaded};
-ghost use Rattle.hull_c.specs.Outlines.{IsOutlineAnswer, TellsOutline};
+ghost use Rattle.hull_c.specs.Outlines.{AreOutlineAnswers, IsOutlineAnswer, TellsOutline};
 ghost use Rattle.hull_outline.specs.Outlines.{IsShortOutline};
 ghost use Rattle.hull_c.specs.Requests.{AreServed};
 ghost use Rattle.hull_c.specs.Calls.{AreCorners, IsCleared, IsFresh, IsLimitOf};
@@ -141,6 +141,20 @@ pub extern "C" fn hull_outline_call(corners: &[Point], kind: u32, x: i64, y: i64
     ensures { IsOutlineAnswer corners.now kind x y result }
 {
     outline::ask(corners, kind, x, y)
+}
+
+/// Asks an array of corners what each of the requests asks for, up to the end of the shorter array, and tells how many replies
+/// were written.
+#[unsafe(no_mangle)]
+pub extern "C" fn hull_outline_calls(
+    corners: &[Point],
+    requests: &[HullRequest],
+    replies: &mut [HullReply],
+) -> usize
+    requires { IsShortOutline corners.now }
+    ensures { AreOutlineAnswers corners.now requests.now replies.old replies.new result }
+{
+    outline::ask_all(corners, requests, replies)
 }
 
 /// Tells whether points are the corners of a set in the order in which [`hull_vertices`] writes them: 1, or 0.

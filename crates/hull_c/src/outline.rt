@@ -1,11 +1,12 @@
 //! Questions about an array of corners.
-ghost use Rattle.std.specs.Prelude.{◌≡◌, Ok};
+ghost use Rattle.std.specs.Prelude.{◌≡◌, ◌<◌, length, Ok};
 ghost use Rattle.hull_outline.specs.Outlines.{IsShortOutline};
 ghost use Rattle.hull_outline.specs.Lent.{corners_of};
-ghost use Rattle.hull_c.specs.Outlines.{IsAllowedFor, IsAskedOf, IsOutlineAnswer, TellsOutline};
+ghost use Rattle.hull_c.specs.Outlines.{AnswersAt, AreOutlineAnswers, IsAllowedFor, IsAskedOf, IsOutlineAnswer, TellsOutline};
 ghost use Rattle.hull_reply.specs.declared.request.Request.TheVariants as request;
 
 use super::load::points_of;
+use super::requests::HullRequest;
 use heap::Heap;
 use hull_outline::Outline;
 use hull_plain::{Call, Reply};
@@ -42,20 +43,37 @@ fn area(outline: &Outline) -> HullReply
     told(Reply::DoubledArea(outline.area2()))
 }
 
-/// Asks the corners what a call asks of the set that they are of.
-fn answer(corners: &[Point], call: Call) -> HullReply
-    requires { IsShortOutline corners.now }
-    ensures { IsAskedOf corners.now (Ok (request.Call call)) result }
+/// Asks an outline what a call asks of the set that it is of.
+fn answer(outline: &Outline, call: Call) -> HullReply
+    ensures { IsAskedOf (corners_of outline.now) (Ok (request.Call call)) result }
 {
-    let outline = Outline::of_vertices(corners);
     match call {
-        Call::Place(q) => place(&outline, q),
-        Call::Tangents(q) => tangents(&outline, q),
-        Call::Extreme(d) => extreme(&outline, d),
-        Call::Area => area(&outline),
-        Call::Vertices => HullReply::numbered(Code::Corners, corners.len() as u64),
+        Call::Place(q) => place(outline, q),
+        Call::Tangents(q) => tangents(outline, q),
+        Call::Extreme(d) => extreme(outline, d),
+        Call::Area => area(outline),
+        Call::Vertices => HullReply::numbered(Code::Corners, outline.corners().len() as u64),
         _ => HullReply::bare(Code::UnknownKind),
     }
+}
+
+/// Asks an outline what a kind and two numbers ask for.
+fn answer_to(outline: &Outline, asked: HullRequest) -> HullReply
+    ensures { IsOutlineAnswer (corners_of outline.now) asked.kind asked.x asked.y result }
+{
+    match request_of(asked.kind, asked.x, asked.y) {
+        Ok(Request::Call(call)) => answer(outline, call),
+        Ok(Request::Multiplicity(_)) => HullReply::bare(Code::UnknownKind),
+        Err(fault) => HullReply::bare(fault),
+    }
+}
+
+/// Asks an outline what the request at a place asks for.
+fn answer_at(outline: &Outline, requests: &[HullRequest], i: usize) -> HullReply
+    requires { i < length requests.now }
+    ensures { AnswersAt (corners_of outline.now) requests.now i result }
+{
+    answer_to(outline, requests[i])
 }
 
 /// Asks the corners what a kind and two numbers ask for.
@@ -63,11 +81,25 @@ pub(crate) fn ask(corners: &[Point], kind: u32, x: i64, y: i64) -> HullReply
     requires { IsShortOutline corners.now }
     ensures { IsOutlineAnswer corners.now kind x y result }
 {
-    match request_of(kind, x, y) {
-        Ok(Request::Call(call)) => answer(corners, call),
-        Ok(Request::Multiplicity(_)) => HullReply::bare(Code::UnknownKind),
-        Err(fault) => HullReply::bare(fault),
+    answer_to(&Outline::of_vertices(corners), HullRequest { kind, x, y })
+}
+
+/// Asks the corners what each of the requests asks for, up to the end of the shorter array, and tells how many replies were
+/// written.
+pub(crate) fn ask_all(
+    corners: &[Point],
+    requests: &[HullRequest],
+    replies: &mut [HullReply],
+) -> usize
+    requires { IsShortOutline corners.now }
+    ensures { AreOutlineAnswers corners.now requests.now replies.old replies.new result }
+{
+    let outline = Outline::of_vertices(corners);
+    let count = requests.len().min(replies.len());
+    for i in 0..count {
+        replies[i] = answer_at(&outline, requests, i);
     }
+    count
 }
 
 /// Tells whether the points of an array are an outline.

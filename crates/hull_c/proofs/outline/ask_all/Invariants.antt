@@ -1,0 +1,12 @@
+-- the first i requests are answered, and what lies behind their replies is as it was
+use Rattle.std.proofs.Common.{ℕ, ◌≡◌, ◌<◌, length, drop, get_or}
+use Rattle.hull_reply.specs.declared.reply.HullReply.{HullReply}
+use Rattle.hull_c.specs.Outlines.{AnswersAt}
+use Rattle.hull_c.proofs.outline.ask_all.Given as goal
+
+abbrev pub invariant-loop-i : goal.invariant-loop-i
+invariant-loop-i l = record {
+  answered : (k : ℕ) → k < l.i → (r : HullReply) → AnswersAt l.corners l.requests k (get_or l.replies k r);
+  rest : drop l.i l.replies ≡ drop l.i l.fn.replies;
+  long : length l.replies ≡ length l.fn.replies;
+}

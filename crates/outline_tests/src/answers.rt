@@ -1,0 +1,111 @@
+//! An outline and the set whose corners it has are asked the same.
+use hull_outline::Outline;
+use hull_plain::{AddReply, HullSet, PlainSet};
+use lattice::{Direction, Point};
+use std::alloc::Global;
+use std::process::Abort;
+use std::test::Fail;
+
+/// The greatest limit of a set, by its number.
+const LIMIT: u32 = 1048576;
+
+/// The points and directions that are asked of have coordinates of so many units at most.
+const REACH: i64 = 3;
+
+/// Both answer alike of the farthest points.
+fn assert_same_extremes<S: HullSet>(
+    rt: &impl Abort,
+    set: &S,
+    outline: Outline<'_>,
+) -> Result<(), Fail> {
+    for x in -REACH..REACH + 1 {
+        for y in -REACH..REACH + 1 {
+            if x != 0 || y != 0 {
+                let d = Direction::new(x, y)?;
+                assert_eq!(rt; outline.extreme(d), set.extreme(d), "towards {x} {y}");
+            }
+        }
+    }
+    Ok(())
+}
+
+/// Both see alike each point of a grid with such a mesh, as far as points go.
+fn assert_same_sights<S: HullSet>(rt: &impl Abort, set: &S, outline: Outline<'_>, mesh: i64) {
+    for right in -REACH..REACH + 1 {
+        for up in -REACH..REACH + 1 {
+            if let Ok(q) = Point::new(right.wrapping_mul(mesh), up.wrapping_mul(mesh)) {
+                assert_eq!(rt; outline.place(q), set.place(q), "place of {q:?}");
+                assert_eq!(rt; outline.tangents(q), set.tangents(q), "tangents from {q:?}");
+            }
+        }
+    }
+}
+
+/// A set and the outline of its corners answer alike, whether that was made with a look at them or without.
+fn assert_same_answers<S: HullSet>(rt: &impl Abort, set: &S, mesh: i64) -> Result<(), Fail> {
+    let _known = (set.count(), set.limit());
+    let corners = set.vertices()?;
+    let outline = Outline::of_vertices(&corners);
+    assert_eq!(rt; outline.corners(), corners.as_slice());
+    assert_eq!(rt; outline.area2(), set.area2());
+    assert_same_extremes(rt, set, outline)?;
+    assert_same_sights(rt, set, outline, mesh);
+    match Outline::new(&corners) {
+        Some(looked_at) => assert_same_sights(rt, set, looked_at, mesh),
+        None => assert!(rt; false, "corners of a set are an outline"),
+    }
+    Ok(())
+}
+
+/// The set of the points of a grid of 3 by 3, two meshes apart and round the origin, whose bits are set.
+fn grid_set(rt: &impl Abort, alloc: Global, bits: u32, mesh: i64) -> Result<PlainSet, Fail> {
+    let mut set = PlainSet::new(alloc, LIMIT);
+    for place in 0u32..9 {
+        if bits >> place & 1 == 1 {
+            let right = (place % 3) as i64 - 1;
+            let up = (place / 3) as i64 - 1;
+            let p = Point::new(
+                right.wrapping_mul(2).wrapping_mul(mesh),
+                up.wrapping_mul(2).wrapping_mul(mesh),
+            )?;
+            assert_eq!(rt; set.add(p), AddReply::Added);
+        }
+    }
+    Ok(set)
+}
+
+#[test]
+fn all_sets_of_a_small_grid(rt: HostRuntime) -> Result<(), Fail> {
+    for bits in 0u32..512 {
+        let set = grid_set(&rt, rt.alloc(), bits, 1)?;
+        assert_same_answers(&rt, &set, 1)?;
+    }
+    Ok(())
+}
+
+// The outermost points of the grid are at the limit of coordinates.
+#[test]
+fn all_sets_at_the_limit(rt: HostRuntime) -> Result<(), Fail> {
+    for bits in 0u32..512 {
+        let set = grid_set(&rt, rt.alloc(), bits, 549755813888)?;
+        assert_same_answers(&rt, &set, 549755813888)?;
+    }
+    Ok(())
+}
+
+// The corners are points of two parabolas, so that each is a corner.
+#[test]
+fn many_corners(rt: HostRuntime) -> Result<(), Fail> {
+    let mut set = PlainSet::new(rt.alloc(), LIMIT);
+    for x in -20i64..21 {
+        assert_eq!(rt; set.add(Point::new(x, x.wrapping_mul(x))?), AddReply::Added);
+        assert_eq!(rt;
+            set.add(Point::new(x, 900i64.wrapping_sub(x.wrapping_mul(x)))?),
+            AddReply::Added
+        );
+    }
+    assert_eq!(rt; set.vertices()?.len(), 82);
+    assert_same_answers(&rt, &set, 7)?;
+    assert_same_answers(&rt, &set, 10)?;
+    assert_same_answers(&rt, &set, 300)
+}

@@ -1,0 +1,7 @@
+//! Tests of outlines beside the plain set, over what these crates show everybody.
+#![tactic(auto)]
+
+#[cfg(test)]
+mod answers;
+#[cfg(test)]
+mod lists;
