@@ -312,6 +312,15 @@ int main(int argc, char **argv) {
     for (int i = 0; i < 100000; i++) {
         asked.push_back({x(random), y(random)});
     }
+    // as many directions to each side of the set
+    Points directions;
+    std::uniform_int_distribution<int64_t> any(-1000, 1000), slope(-2 * wide, 2 * wide);
+    while (directions.size() < asked.size()) {
+        const Point d = shape == "square" ? Point{any(random), any(random)} : Point{slope(random), -1};
+        if (d.x != 0 || d.y != 0) {
+            directions.push_back(d);
+        }
+    }
     Ours ours;
     load(points, ours.place);
     Table table;
@@ -319,7 +328,7 @@ int main(int argc, char **argv) {
         time_loads(table, points, shape == "square");
         time_corners(table, ours, chain);
         time_places(table, ours, chain, asked, chain.corners.size() < 1000);
-        time_extremes(table, ours, chain, asked);
+        time_extremes(table, ours, chain, directions);
     }
     std::printf("%s, %zu points, %zu corners\n", shape.c_str(), count, chain.corners.size());
     table.print();

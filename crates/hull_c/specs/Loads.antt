@@ -32,7 +32,7 @@ pub record HoldsAll (points : List Pair) (old new : LimitedTree) (told : HullRep
 -- there are too many points, or memory was refused, which no points would not ask for
 abbrev pub IsRefused : List Pair → LimitedTree → HullReply → Type 0
 IsRefused points old told =
-    (AreTooMany points old.limit × IsBare code.TooMany told) ⊎ ((points ≢ []) × IsBare code.NoMemory told)
+    (AreTooMany nothing_held points old.limit × IsBare code.TooMany told) ⊎ ((points ≢ []) × IsBare code.NoMemory told)
 
 -- all points were loaded; or the hull is as it was: some point is out of range, and only then is that told, or the
 -- points were refused

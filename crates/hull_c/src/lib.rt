@@ -17,21 +17,25 @@ ghost use Rattle.hull_reply.specs.Rooms.{room_alignment, room_size};
 ghost use Rattle.hull_reply.specs.Served.{IsAnswered};
 ghost use Rattle.hull_c.specs.Left.{leaves_room};
 ghost use Rattle.hull_c.specs.Loads.{IsLoaded};
+ghost use Rattle.hull_c.specs.Outlines.{IsOutlineAnswer, TellsOutline};
+ghost use Rattle.hull_outline.specs.Outlines.{IsShortOutline};
 ghost use Rattle.hull_c.specs.Requests.{AreServed};
 ghost use Rattle.hull_c.specs.Calls.{AreCorners, IsCleared, IsFresh, IsLimitOf};
 
 mod calls;
 mod corners;
 mod load;
+mod outline;
 mod requests;
 #[cfg(test)]
 mod tests;
 
+use heap::Heap;
 pub use hull_reply::HullPoint;
 use hull_reply::HullReply;
 use hull_tree::SparingTree;
+use lattice::Point;
 pub use requests::HullRequest;
-use std::alloc::Global;
 
 /// Makes the call that a kind and two numbers ask for: a point or a direction, or nothing of them.
 ///
@@ -90,7 +94,7 @@ pub unsafe extern "C" fn hull_calls(
 ///
 /// A hull lies at `at`, and no other call on it is under way.
 #[unsafe(no_mangle)]
-pub unsafe extern "C" fn hull_load(alloc: Global, at: *mut u8, points: &[HullPoint]) -> HullReply
+pub unsafe extern "C" fn hull_load(alloc: Heap, at: *mut u8, points: &[HullPoint]) -> HullReply
     ghost t: { the_row.Denot }
     requires* { sem 𝓛 (lies_at the_row full_share at t) }
     ensures* { sem 𝓛 (leaves the_row at (λ new. IsLoaded points.now t new result)) }
@@ -105,7 +109,7 @@ pub unsafe extern "C" fn hull_load(alloc: Global, at: *mut u8, points: &[HullPoi
 ///
 /// A hull lies at `at`, and no other call on it is under way.
 #[unsafe(no_mangle)]
-pub unsafe extern "C" fn hull_clear(alloc: Global, at: *mut u8) -> HullReply
+pub unsafe extern "C" fn hull_clear(alloc: Heap, at: *mut u8) -> HullReply
     ghost t: { the_row.Denot }
     requires* { sem 𝓛 (lies_at the_row full_share at t) }
     ensures* { sem 𝓛 (leaves the_row at (λ new. IsCleared t new result)) }
@@ -127,6 +131,24 @@ pub unsafe extern "C" fn hull_limit(at: *mut u8) -> HullReply
 {
     let hull = at as *mut SparingTree;
     calls::limit(unsafe { &mut *hull })
+}
+
+/// Asks an array of corners, as [`hull_vertices`] writes them, what a kind and two numbers ask of the set that they are of.
+/// Nothing is written, so that any number of threads may ask one array at once.
+#[unsafe(no_mangle)]
+pub extern "C" fn hull_outline_call(corners: &[Point], kind: u32, x: i64, y: i64) -> HullReply
+    requires { IsShortOutline corners.now }
+    ensures { IsOutlineAnswer corners.now kind x y result }
+{
+    outline::ask(corners, kind, x, y)
+}
+
+/// Tells whether points are the corners of a set in the order in which [`hull_vertices`] writes them: 1, or 0.
+#[unsafe(no_mangle)]
+pub extern "C" fn hull_is_outline(alloc: Heap, points: &[HullPoint]) -> HullReply
+    ensures { TellsOutline points.now result }
+{
+    outline::judge(alloc, points)
 }
 
 /// How many bytes the room of a hull has.
@@ -152,7 +174,7 @@ pub extern "C" fn hull_alignment() -> usize
 ///
 /// `room` has [`hull_size`] bytes at a multiple of [`hull_alignment`], which nothing else uses.
 #[unsafe(no_mangle)]
-pub unsafe extern "C" fn hull_make(alloc: Global, limit: u32, room: *mut u8)
+pub unsafe extern "C" fn hull_make(alloc: Heap, limit: u32, room: *mut u8)
     requires* { sem 𝓛 (room_at the_row room) }
     ensures* { sem 𝓛 (leaves the_row room (IsFresh limit)) }
 {

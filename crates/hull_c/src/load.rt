@@ -4,11 +4,11 @@ ghost use Rattle.std.specs.List.{All};
 ghost use Rattle.hull_reply.specs.Coordinates.{IsPointOf};
 ghost use Rattle.hull_c.specs.Loads.{IsLoaded, IsUnread, HasCoordinates};
 
+use heap::Heap;
 use hull_plain::HullSet;
 use hull_reply::{Code, HullPoint, HullReply, point_of};
 use hull_tree::{LoadFault, SparingTree};
 use lattice::Point;
-use std::alloc::Global;
 
 /// The point of these coordinates; [`Code::OutOfRange`] where one of them is none.
 fn read(asked: HullPoint) -> Result<Point, Code>
@@ -25,7 +25,7 @@ fn are_points(array: &[HullPoint]) -> bool
 }
 
 /// The points of an array: [`Code::OutOfRange`] exactly where one of them is none, and else [`Code::NoMemory`].
-fn points_of(alloc: Global, array: &[HullPoint]) -> Result<Vec<Point>, Code>
+pub(crate) fn points_of(alloc: Heap, array: &[HullPoint]) -> Result<Vec<Point, Heap>, Code>
     ensures all { IfOk result (λ points. (points.items ≡ array.now) × All HasCoordinates array.now) }
     ensures fault { IfErr result (IsUnread array.now) }
 {
@@ -44,7 +44,7 @@ fn points_of(alloc: Global, array: &[HullPoint]) -> Result<Vec<Point>, Code>
 }
 
 /// Holds the points of an array, each as often as it stands there, in the place of all that was held.
-pub(crate) fn load(alloc: Global, hull: &mut SparingTree, array: &[HullPoint]) -> HullReply
+pub(crate) fn load(alloc: Heap, hull: &mut SparingTree, array: &[HullPoint]) -> HullReply
     ensures { IsLoaded array.now hull.old hull.new result }
 {
     if array.is_empty() {

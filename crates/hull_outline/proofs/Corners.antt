@@ -70,3 +70,7 @@ next_apart S V i j h e l n = elim (cases_lt j (length V)) [
   | inr k ↦ λ q. h.distinct 0 i (point_at V 0) (omega (arith, k, e, n)) l
       (sym (q ∙ corner_back V j k (omega (arith, n))))
 ]
+
+-- a member that was read at a place is the corner there
+pub read_corner : (V : List Pair) (i : ℕ) (x : Pair) → i < length V → x ≡ get_or V i x → x ≡ corner V i
+read_corner V i x l e = e ∙ get_or_free V i x (point_at V 0) l

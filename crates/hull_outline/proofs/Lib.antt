@@ -5,3 +5,12 @@ pub mod EdgesOf
 pub mod Rings
 pub mod TwoChains
 pub mod Made
+pub mod Slopes
+pub mod Ends
+pub mod FarthestOf
+pub mod EdgesAt
+pub mod Tests
+pub mod Fans
+pub mod Touching
+pub mod TangentsOf
+pub mod Clear

@@ -12,9 +12,10 @@ use Rattle.lattice.proofs.TurnedBridges.{turned_twice}
 use Rattle.hull_plain.specs.Edges.{IsLowerEdge, IsUpperEdge, IsFirst}
 use Rattle.hull_plain.proofs.Chains.{first_extreme, last_extreme, lower_corner, upper_corner, no_common_corner}
 use Rattle.hull_plain.proofs.PointLists.{AllPairs-none, get_or_free}
+use Rattle.hull_plain.proofs.Rounding.{small_list}
 use Rattle.hull_plain.proofs.SetLaws.{ordered_with, members_with}
 use Rattle.hull_outline.specs.Outlines.{IsOutline}
-use Rattle.hull_outline.specs.Rounds.{corner, IsRound}
+use Rattle.hull_outline.specs.Rounds.{corner, IsRound, IsParted}
 use Rattle.hull_outline.proofs.Convex.{IsConvex, IsLeftOrEnd, later_after, left_or_end, not_right}
 use Rattle.hull_outline.proofs.Corners.{corner_back, corner_there, corner_of}
 use Rattle.hull_outline.proofs.EdgesOf.{all_of, last_between}
@@ -28,7 +29,7 @@ abbrev behind : List Pair → ℕ → ℕ → Pair
 behind V top i = turned_point (corner V (top + i))
 
 -- a turn reverses the order
-turned_before : (p q : Pair) → IsBefore p q → IsBefore (turned_point q) (turned_point p)
+pub turned_before : (p q : Pair) → IsBefore p q → IsBefore (turned_point q) (turned_point p)
 turned_before p q (inl h) = inl (omega (arith, ints))
 turned_before p q (inr h) = inr (omega (arith, ints, h.0), omega (arith, ints, h.1))
 
@@ -327,3 +328,12 @@ round_is_outline V top r = (
     },
   ),
 )
+
+-- a list of fewer than two points is its own vertex list
+pub small_outline : (V : List Pair) → length V < 2 → IsOutline V
+small_outline V l = (V, (λ i j d h n. absurd (omega (arith, h, n, l)), small_list V l))
+
+-- a list that is parted is an outline
+pub parted_is_outline : (V : List Pair) (last : ℕ) → IsParted V last → IsOutline V
+parted_is_outline V last p = elim (cases_lt (length V) 2)
+    [ inl l ↦ small_outline V l | inr l ↦ round_is_outline V last (p.1 (omega (arith, l))) ]

@@ -34,4 +34,4 @@ round_prop V last = hlevel (before_prop, lt_prop, less_prop)
 
 -- that a list is parted has one proof
 pub IsParted-prop : (V : List Pair) (last : ℕ) → IsProp (IsParted V last)
-IsParted-prop V last = hlevel (round_prop)
+IsParted-prop V last = hlevel (round_prop, less_prop)

@@ -1,8 +1,9 @@
 -- The outline of a finite set of points: the list of its corners, as its vertices are told.
-use Rattle.std.specs.Prelude.{List}
+use Rattle.std.specs.Prelude.{◌≤◌, List, length}
 use Rattle.lattice.specs.Plane.{Pair}
 use Rattle.lattice.specs.Covers.{IsPointSet}
 use Rattle.lattice.specs.Vertices.{IsVertexList}
+use Rattle.hull_plain.specs.declared.TheConstants.{POINT_LIMIT}
 
 -- the corners are the vertices of the set S, counterclockwise from the first
 abbrev pub IsOutlineOf : List Pair → List Pair → Type 0
@@ -11,6 +12,10 @@ IsOutlineOf S corners = IsPointSet S × IsVertexList S corners
 -- they are those of some set
 abbrev pub IsOutline : List Pair → Type 0
 IsOutline corners = (S : List Pair) × IsOutlineOf S corners
+
+-- and no more than a set may have
+abbrev pub IsShortOutline : List Pair → Type 0
+IsShortOutline corners = IsOutline corners × (length corners ≤ POINT_LIMIT)
 
 -- P holds of each set whose corners these are
 abbrev pub HoldsOfSetsOf : List Pair → (List Pair → Type 0) → Type 0

@@ -25,6 +25,6 @@ pub record IsRound (V : List Pair) (last : ℕ) : Type 0 where
   pub steps : (i : ℕ) → i < length V → GoesOn V last i
   pub turns : (i : ℕ) → i < length V → TurnsLeft V last i
 
--- a list of two corners and more is a round, parted at `last`; a shorter one is whole
+-- the last of the corners stands at `last`, and two corners or more are a round
 abbrev pub IsParted : List Pair → ℕ → Type 0
-IsParted V last = 1 < length V → IsRound V last
+IsParted V last = (0 < length V → last < length V) × (1 < length V → IsRound V last)

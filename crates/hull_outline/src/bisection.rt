@@ -1,24 +1,61 @@
-//! Bisection: the one search that all questions share.
-ghost use Rattle.std.specs.Prelude.{◌<◌, ◌≤◌, ◌-◌, ◌+◌, ℕ, true, false};
+//! Bisection of a chain: the one search that all questions share.
+ghost use Rattle.std.specs.Prelude.{◌+◌, ◌-◌, ◌<◌, ◌≤◌, length, true, false};
+ghost use Rattle.hull_outline.specs.Rounds.{corner};
 
-/// A place from `low` to `high` before which `holds` is true and at which it is false: the ends count as such.
-pub(crate) fn first_failing<F: Fn(usize) -> bool>(low: usize, high: usize, holds: F) -> usize
+use lattice::Point;
+
+/// A place from `low` to `high` such that `holds` is true of the edge before it and false of the edge from it: of the
+/// corners there and the next ones. The ends count as such.
+pub(crate) fn first_failing<F: Fn(Point, Point) -> bool>(
+    corners: &[Point],
+    low: usize,
+    high: usize,
+    holds: &F,
+) -> usize
     requires ordered { low ≤ high }
-    requires callable { (i : ℕ) → low ≤ i → i < high → F.pre holds i }
+    requires within { high < length corners.now }
+    requires callable { F.IsAlwaysCallable holds.now }
     ensures from { low ≤ result }
     ensures to { result ≤ high }
-    ensures held { low < result → F.post holds (result - 1) true }
-    ensures fails { result < high → F.post holds result false }
+    ensures held { low < result
+        → F.post holds.now (corner corners.now (result - 1)) (corner corners.now (result - 1 + 1)) true }
+    ensures fails { result < high
+        → F.post holds.now (corner corners.now result) (corner corners.now (result + 1)) false }
 {
     let mut low = low;
     let mut high = high;
     while low < high {
         let middle = low + (high - low) / 2;
-        if holds(middle) {
+        if holds(corners[middle], corners[middle + 1]) {
             low = middle + 1;
         } else {
             high = middle;
         }
     }
     low
+}
+
+/// The same on the chain back, from the corner at `last` to the end of the list, behind which the first corner stands
+/// again.
+pub(crate) fn first_failing_back<F: Fn(Point, Point) -> bool>(
+    corners: &[Point],
+    last: usize,
+    holds: &F,
+) -> usize
+    requires within { last < length corners.now }
+    requires callable { F.IsAlwaysCallable holds.now }
+    ensures from { last ≤ result }
+    ensures to { result ≤ length corners.now }
+    ensures held { last < result
+        → F.post holds.now (corner corners.now (result - 1)) (corner corners.now (result - 1 + 1)) true }
+    ensures fails { result < length corners.now
+        → F.post holds.now (corner corners.now result) (corner corners.now (result + 1)) false }
+{
+    let end = corners.len() - 1;
+    let place = first_failing(corners, last, end, holds);
+    if place == end && holds(corners[end], corners[0]) {
+        corners.len()
+    } else {
+        place
+    }
 }

@@ -63,7 +63,12 @@ pub(crate) fn summit(corners: &[Point]) -> usize
     ensures within { result < length corners.now }
     ensures parts { IsOutline corners.now → IsRound corners.now result }
 {
-    first_failing(0, corners.len() - 1, |i| is_forward(corners, i))
+    first_failing(
+        corners,
+        0,
+        corners.len() - 1,
+        &|here, next| before(here, next),
+    )
 }
 
 /// Whether the next corner lies forward up to the one at `last`, and back from there on.

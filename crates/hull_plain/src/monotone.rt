@@ -7,6 +7,7 @@ ghost use Rattle.lattice.specs.Covers.{IsPointSet};
 ghost use Rattle.hull_plain.specs.Monotone as monotone;
 ghost use Rattle.hull_plain.specs.Monotone.{IsInner, EndsInwards};
 
+use heap::Heap;
 use lattice::{Point, orient};
 
 /// On which side of a hull a chain of edges lies.
@@ -36,7 +37,7 @@ fn ends_inwards(side: Side, chain: &[Point], c: Point) -> bool
 }
 
 /// Puts a point at the end of a chain, in the place of those last points that do not lie outwards of it then.
-fn extend(side: Side, chain: &mut Vec<Point>, c: Point)
+fn extend(side: Side, chain: &mut Vec<Point, Heap>, c: Point)
     requires set { IsPointSet (chain.old.items ++ c ∷ []) }
     requires room { vec_len chain.old < vec_capacity chain.old }
     ensures set { IsPointSet chain.new.items }
@@ -52,7 +53,7 @@ fn extend(side: Side, chain: &mut Vec<Point>, c: Point)
 }
 
 /// The chain of a set of points, in a list that has room for all of them.
-pub(crate) fn chain_of(side: Side, points: &[Point], chain: &mut Vec<Point>)
+pub(crate) fn chain_of(side: Side, points: &[Point], chain: &mut Vec<Point, Heap>)
     requires set { IsPointSet points.now }
     requires room { length points.now ≤ vec_capacity chain.old }
     ensures set { IsPointSet chain.new.items }

@@ -13,8 +13,9 @@ use super::around::place_of;
 use super::monotone::{Side, chain_of};
 use super::positions::position_of;
 use super::set::Place;
+use heap::Heap;
 use lattice::Point;
-use std::alloc::{AllocError, Global};
+use std::alloc::AllocError;
 use std::collections::BTreeMap;
 use std::mem;
 
@@ -24,10 +25,10 @@ const FEW: usize = 64;
 /// The corners of the hull of a set, and points that were corners when they came.
 #[derive(Drop)]
 pub(crate) struct Outline {
-    corners: Vec<Point>,
-    spare: Vec<Point>,
-    lower: Vec<Point>,
-    upper: Vec<Point>,
+    corners: Vec<Point, Heap>,
+    spare: Vec<Point, Heap>,
+    lower: Vec<Point, Heap>,
+    upper: Vec<Point, Heap>,
     thinned: usize,
 }
 
@@ -49,7 +50,7 @@ fn is_end(lower: &[Point], upper: &[Point], p: Point) -> bool
 }
 
 /// The points of both chains of a set, in order, into a list that has room for them.
-fn put_ends(points: &[Point], lower: &[Point], upper: &[Point], out: &mut Vec<Point>)
+fn put_ends(points: &[Point], lower: &[Point], upper: &[Point], out: &mut Vec<Point, Heap>)
     requires set { IsPointSet points.now }
     requires lower_set { IsPointSet lower.now }
     requires lower_among { (t : Pair) → Contains lower.now t → Contains points.now t }
@@ -84,7 +85,7 @@ fn is_covered(points: &[Point], q: Point) -> bool
 }
 
 /// Puts a point that is none of them among points in order, where there is room.
-fn put_in_order(points: &mut Vec<Point>, p: Point)
+fn put_in_order(points: &mut Vec<Point, Heap>, p: Point)
     requires set { IsPointSet points.old.items }
     requires absent { ¬ Contains points.old.items p }
     requires room { vec_len points.old < vec_capacity points.old }
@@ -101,7 +102,7 @@ fn put_in_order(points: &mut Vec<Point>, p: Point)
 }
 
 /// The points of a set in order, in a list that has room for them.
-fn copy_into(points: &BTreeMap<Point, u16>, out: &mut Vec<Point>)
+fn copy_into(points: &BTreeMap<Point, u16, Heap>, out: &mut Vec<Point, Heap>)
     requires { length (keys_of points.now.entries) ≤ vec_capacity out.old }
     ensures points { out.new.items ≡ keys_of points.now.entries }
     ensures capacity { vec_capacity out.new ≡ vec_capacity out.old }
@@ -114,7 +115,7 @@ fn copy_into(points: &BTreeMap<Point, u16>, out: &mut Vec<Point>)
 
 impl Outline {
     /// The outline of the empty set. Asks for no memory.
-    pub(crate) fn new(alloc: Global) -> Outline
+    pub(crate) fn new(alloc: Heap) -> Outline
         ensures { result.corners.items ≡ [] }
     {
         Outline {
@@ -134,7 +135,7 @@ impl Outline {
     }
 
     /// What `vertices` asks for memory.
-    pub(crate) fn allocator(&self) -> Global {
+    pub(crate) fn allocator(&self) -> Heap {
         *self.corners.allocator()
     }
 
@@ -192,7 +193,7 @@ impl Outline {
     }
 
     /// The outline after `p` left the set, of which `points` are left.
-    pub(crate) fn remove(&mut self, p: Point, points: &BTreeMap<Point, u16>)
+    pub(crate) fn remove(&mut self, p: Point, points: &BTreeMap<Point, u16, Heap>)
         requires set { IsPointSet self.old.corners.items }
         requires left { IsPointSet (keys_of points.now.entries) }
         requires room { HasRoom self.old (length (keys_of points.now.entries)) }

@@ -9,8 +9,8 @@ use super::outline::Outline;
 use super::set::{AddReply, HullSet, NoMemory, Place, RemoveReply};
 use super::wrapping::{doubled_area_of, vertices_of};
 use super::{MULTIPLICITY_LIMIT, POINT_LIMIT};
+use heap::Heap;
 use lattice::{Direction, Point};
-use std::alloc::Global;
 use std::collections::BTreeMap;
 use std::marker::Model;
 
@@ -24,7 +24,7 @@ use std::marker::Model;
 #[derive(Drop)]
 pub struct PlainSet {
     limit: u32,
-    points: BTreeMap<Point, u16>,
+    points: BTreeMap<Point, u16, Heap>,
     outline: Outline,
 }
 
@@ -41,7 +41,7 @@ impl Model for PlainSet {
 
 impl PlainSet {
     /// The empty set, which takes `limit` points at most. Asks for no memory; `add` and `vertices` ask `alloc`.
-    pub fn new(alloc: Global, limit: u32) -> PlainSet
+    pub fn new(alloc: Heap, limit: u32) -> PlainSet
         requires low { 1 ≤ limit }
         requires high { limit ≤ POINT_LIMIT }
         ensures { result ≡ record { limit = limit; entries = [] } }
@@ -141,7 +141,7 @@ impl HullSet for PlainSet {
         tangents_from(self.outline.points(), q)
     }
 
-    fn vertices(&self) -> Result<Vec<Point>, NoMemory> {
+    fn vertices(&self) -> Result<Vec<Point, Heap>, NoMemory> {
         Ok(vertices_of(self.outline.allocator(), self.outline.points())?)
     }
 

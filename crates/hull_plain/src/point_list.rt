@@ -5,13 +5,14 @@ ghost use Rattle.std.specs.Cmp.Lexicographic.{pointwise};
 ghost use Rattle.hull_plain.specs.PointLists.{is_same_pair};
 ghost use Rattle.hull_plain.specs.declared.TheConstants.{POINT_LIMIT};
 
+use heap::Heap;
 use lattice::Point;
 use std::marker::Model;
 
 /// A list of at most [`POINT_LIMIT`](crate::POINT_LIMIT) points, as a reply has it.
 #[derive(Debug, Drop)]
 pub struct PointList {
-    points: Vec<Point>,
+    points: Vec<Point, Heap>,
 }
 
 impl Model for PointList {
@@ -42,7 +43,7 @@ impl Eq for PointList {
 
 impl PointList {
     /// The list of these points.
-    pub fn new(points: Vec<Point>) -> PointList
+    pub fn new(points: Vec<Point, Heap>) -> PointList
         requires { vec_len points ≤ POINT_LIMIT }
         ensures { result ≡ points.items }
     {
@@ -58,7 +59,7 @@ impl PointList {
     }
 
     /// The points in their order, with the memory that they lie in.
-    pub fn into_vec(self) -> Vec<Point>
+    pub fn into_vec(self) -> Vec<Point, Heap>
         ensures points { result.items ≡ self }
         ensures few { length self ≤ POINT_LIMIT }
     {

@@ -9,6 +9,7 @@ use super::call::Call;
 use super::reply::Reply;
 use super::rules::Rules;
 use super::{MULTIPLICITY_LIMIT, POINT_LIMIT};
+use heap::Heap;
 use lattice::{Direction, Point};
 use std::alloc::AllocError;
 use std::error::Error;
@@ -135,7 +136,7 @@ pub trait HullSet {
         ensures { Answers Rules.Counted (held self.now) (bound self.now) (Call.Tangents q) (reply_to_tangents result) };
 
     /// The vertices, counterclockwise from the first in the order "before". `NoMemory` comes only for a nonempty set.
-    fn vertices(&self) -> Result<Vec<Point>, NoMemory>
+    fn vertices(&self) -> Result<Vec<Point, Heap>, NoMemory>
         ensures reply { Answers Rules.Counted (held self.now) (bound self.now) Call.Vertices
             (reply_to_vertices result) }
         ensures few { IfOk result (λ v. vec_len v ≤ bound self.now) };

@@ -10,8 +10,9 @@ ghost use Rattle.hull_plain.specs.Walks.{IsLowerReached, IsUpperReached, IsLower
 
 use super::POINT_LIMIT;
 use super::seen::rightmost;
+use heap::Heap;
 use lattice::{Point, orient};
-use std::alloc::{AllocError, Global};
+use std::alloc::AllocError;
 
 /// The place of the vertex after the one at `i`, along the lower chain.
 fn next_lower(points: &[Point], i: usize) -> usize
@@ -39,7 +40,7 @@ fn next_upper(points: &[Point], i: usize) -> usize
 }
 
 /// Appends the vertices along the lower chain, from the first point to the last.
-fn push_lower_chain(points: &[Point], out: &mut Vec<Point>) -> Result<(), AllocError>
+fn push_lower_chain(points: &[Point], out: &mut Vec<Point, Heap>) -> Result<(), AllocError>
     requires set { IsPointSet points.now }
     requires some { 1 < length points.now }
     requires empty { out.old.items ≡ [] }
@@ -55,7 +56,7 @@ fn push_lower_chain(points: &[Point], out: &mut Vec<Point>) -> Result<(), AllocE
 }
 
 /// Appends the vertices along the upper chain, strictly between the last point and the first.
-fn push_upper_chain(points: &[Point], out: &mut Vec<Point>) -> Result<(), AllocError>
+fn push_upper_chain(points: &[Point], out: &mut Vec<Point, Heap>) -> Result<(), AllocError>
     requires set { IsPointSet points.now }
     requires some { 1 < length points.now }
     requires lower { IsLowerOutline points.now (length points.now - 1) out.old.items }
@@ -70,7 +71,7 @@ fn push_upper_chain(points: &[Point], out: &mut Vec<Point>) -> Result<(), AllocE
 }
 
 /// The vertices of a set of points. Memory is asked for only where there is a point.
-pub(crate) fn vertices_of(alloc: Global, points: &[Point]) -> Result<Vec<Point>, AllocError>
+pub(crate) fn vertices_of(alloc: Heap, points: &[Point]) -> Result<Vec<Point, Heap>, AllocError>
     requires { IsPointSet points.now }
     ensures vertices { IfOk result (λ v. IsVertexList points.now v.items) }
     ensures refused { OnErr result (points.now ≢ []) }

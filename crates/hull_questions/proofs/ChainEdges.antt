@@ -1,5 +1,5 @@
 -- A lower edge of one half is one of both, where it stands clear of the lower bridge.
-use Rattle.std.proofs.Common.{◌≡◌, ℤ, pos, ◌≤ℤ◌, ◌<ℤ◌, neg_ℤ, inl, inr, sym, subst, List, arith, ◌++◌, Some}
+use Rattle.std.proofs.Common.{◌≡◌, ℤ, pos, ◌≤ℤ◌, ◌<ℤ◌, inl, inr, sym, subst, arith, ◌++◌, Some}
 use Rattle.std.proofs.lemmas.Int.{ints}
 use Rattle.std.proofs.lemmas.List.Elements.{All-contains, All-append, Contains-append_left, Contains-append_right}
 use Rattle.lattice.specs.Plane.{Pair, orient, IsBefore}
@@ -9,13 +9,13 @@ use Rattle.lattice.proofs.Vectors.{minus, cross, Ahead, turn_trans_strict, turn_
 use Rattle.bridge_search.specs.Trees.{Tree, Leaf, Fork, On, IsBridged, lower_of}
 use Rattle.bridge_search.specs.Leaves.{points_of}
 use Rattle.bridge_search.proofs.Leaves.{all_of, on_of_contains, contains_of_on}
-use Rattle.hull_plain.specs.Edges.{IsLowerEdge, IsUpperEdge}
+use Rattle.hull_plain.specs.Edges.{IsLowerEdge}
 use Rattle.lattice.proofs.Order.{before_trans, before_total}
-use Rattle.hull_plain.proofs.Orientation.{orient-cross, orient_swap, at_least, above, ahead_of}
-use Rattle.hull_questions.proofs.Sides.{side_by_start, side_by_end, side_before, side_after, side_to_end, side_back}
-use Rattle.hull_questions.proofs.Sides.{side_beyond, sum_above, weak}
+use Rattle.hull_plain.proofs.Orientation.{orient-cross, at_least, above, ahead_of}
+use Rattle.hull_questions.proofs.Sides.{side_by_start, side_by_end, side_before, side_after, side_to_end}
+use Rattle.hull_questions.proofs.Sides.{sum_above, weak}
 use Rattle.hull_questions.proofs.StoredEdges.{same_ends}
-use Rattle.hull_questions.specs.Chains.{IsLowerEdgeAt, IsUpperEdgeAt, IsLowerCorner, IsUpperCorner}
+use Rattle.hull_questions.specs.Chains.{IsLowerEdgeAt}
 
 -- an edge cd that begins before a, where the edge ab is steeper: what lies over ab, after a, lies over cd
 over_from_left : (a b c d t : Pair) → IsBefore a b → IsBefore c d → IsBefore c a → IsBefore a t → pos 0 ≤ℤ orient c d a
@@ -60,7 +60,7 @@ on_from v a d h n = elim (before_total a d)
     [ inl k ↦ before_trans v a d h k | inr (inl e) ↦ subst (IsBefore v) e h | inr (inr k) ↦ absurd (n k) ]
 
 -- a number at least 0 that is not 0
-not_zero : (z : ℤ) → pos 0 ≤ℤ z → ¬ (z ≡ pos 0) → pos 0 <ℤ z
+pub not_zero : (z : ℤ) → pos 0 ≤ℤ z → ¬ (z ≡ pos 0) → pos 0 <ℤ z
 not_zero z h n = elim (le_or_lt z (pos 0)) [ inl k ↦ absurd (n (omega (arith, ints))) | inr k ↦ k ]
 
 -- a number above 0 is no 0
@@ -161,70 +161,3 @@ edge_here (Fork e f u w) v a b h g n m =
       starts = n;
       onward = m;
     }
-
--- ---- the edge at a corner begins there
-
--- no lower edge spans the end of another
-no_span : (S : List Pair) (u v c d : Pair) → IsLowerEdge S u v → IsLowerEdge S c d → IsBefore c v → IsBefore v d → ⊥
-no_span S u v c d e f cv vd =
-    let hC : Ahead (minus v c) = ahead_of c v cv in
-    let hU : Ahead (minus v u) = ahead_of u v e.forward in
-    let hD : Ahead (minus d v) = ahead_of v d vd in
-    let a : pos 0 ≤ℤ cross (minus v c) (minus v u) =
-    at_least _ _ (side_to_end u v c) (All-contains (λ t. pos 0 ≤ℤ orient u v t) S c e.left f.from) in
-    let b : pos 0 <ℤ cross (minus v u) (minus d v) =
-    above _ _ (side_after u v d)
-    (not_zero _ (All-contains (λ t. pos 0 ≤ℤ orient u v t) S d e.left f.to)
-    (λ z. All-contains (λ t. orient u v t ≡ pos 0 → ¬ (IsBefore v t)) S d e.last f.to z vd)) in
-    let k : pos 0 <ℤ cross (minus v c) (minus d v) =
-    turn_trans_strict_right (minus v c) (minus v u) (minus d v) hC hU hD a b in
-    let m : pos 0 ≤ℤ orient c d v = All-contains (λ t. pos 0 ≤ℤ orient c d t) S v f.left e.to in
-    clash _ _ _ (side_after c v d) (orient_swap c v d) k m
-  where
-    clash : (x y z : ℤ) → x ≡ y → x ≡ neg_ℤ z → pos 0 <ℤ y → pos 0 ≤ℤ z → ⊥
-    clash x y z e f h k = omega (arith, ints)
-
--- the edge at a corner begins there
-pub from_corner : (S : List Pair) (v : Pair) (e : Pair × Pair) → IsLowerCorner S v → IsLowerEdgeAt S v e → e.0 ≡ v
-from_corner S v e corner k =
-    elim (before_total e.0 v) [
-      | inl b ↦ absurd (no_start corner b)
-      | inr (inl q) ↦ q
-      | inr (inr b) ↦ absurd (k.starts b)
-    ]
-  where
-    no_start : IsLowerCorner S v → IsBefore e.0 v → ⊥
-    no_start (inl first) b = first.1 e.0 k.edge.from b
-    no_start (inr p) b = no_span S p.0 v e.0 e.1 p.1 k.edge b k.onward
-
--- no upper edge spans the end of another
-no_span_back : (S : List Pair) (u v c d : Pair) → IsUpperEdge S u v → IsUpperEdge S c d → IsBefore v c
-    → IsBefore d v → ⊥
-no_span_back S u v c d e f vc dv =
-    let a : pos 0 ≤ℤ cross (minus c v) (minus u v) =
-    at_least _ _ (side_back u v c) (All-contains (λ t. pos 0 ≤ℤ orient u v t) S c e.left f.from) in
-    let b : pos 0 <ℤ cross (minus u v) (minus v d) =
-    above _ _ (side_beyond u v d)
-    (not_zero _ (All-contains (λ t. pos 0 ≤ℤ orient u v t) S d e.left f.to)
-    (λ z. All-contains (λ t. orient u v t ≡ pos 0 → ¬ (IsBefore t v)) S d e.last f.to z dv)) in
-    let k : pos 0 <ℤ cross (minus c v) (minus v d) =
-    turn_trans_strict_right (minus c v) (minus u v) (minus v d) (ahead_of v c vc) (ahead_of v u e.backward)
-    (ahead_of d v dv) a b in
-    let m : pos 0 ≤ℤ orient c d v = All-contains (λ t. pos 0 ≤ℤ orient c d t) S v f.left e.to in
-    clash _ _ _ (side_beyond c v d) (orient_swap c v d) k m
-  where
-    clash : (x y z : ℤ) → x ≡ y → x ≡ neg_ℤ z → pos 0 <ℤ y → pos 0 ≤ℤ z → ⊥
-    clash x y z e f h k = omega (arith, ints)
-
--- the upper edge at a corner begins there
-pub from_upper_corner : (S : List Pair) (v : Pair) (e : Pair × Pair) → IsUpperCorner S v → IsUpperEdgeAt S v e → e.0 ≡ v
-from_upper_corner S v e corner k =
-    elim (before_total v e.0) [
-      | inl b ↦ absurd (no_start corner b)
-      | inr (inl q) ↦ sym q
-      | inr (inr b) ↦ absurd (k.starts b)
-    ]
-  where
-    no_start : IsUpperCorner S v → IsBefore v e.0 → ⊥
-    no_start (inl last) b = last.1 e.0 k.edge.from b
-    no_start (inr p) b = no_span_back S p.0 v e.0 e.1 p.1 k.edge b k.onward

@@ -1,60 +1,132 @@
 -- The triangles between the first point of a half and the edges of its chains: their doubled areas add up to that of
 -- the hull.
-use Rattle.std.proofs.Common.{◌≡◌, ℕ, pos, ◌+ℤ◌, refl, sym, ap, ◌∙◌, subst, arith, ◌+◌, [], ◌∷◌, ◌++◌}
+use Rattle.std.proofs.Common.{◌≡◌, ℤ, pos, ◌+ℤ◌, ◌≤ℤ◌, refl, sym, ap, ◌∙◌, subst, arith, inl, inr}
+use Rattle.std.proofs.Common.{List, [], ◌∷◌, ◌++◌, map}
+use Rattle.std.specs.List.{Contains}
 use Rattle.std.proofs.lemmas.Int.{ints}
-use Rattle.lattice.specs.Plane.{Pair, orient, IsBefore}
+use Rattle.lattice.specs.Plane.{Pair, orient, IsBefore, turned_point}
+use Rattle.lattice.specs.Polynomials.{difference-eq, as_difference, difference-add, difference-neg, difference-mul}
 use Rattle.lattice.specs.Vertices.{fan, IsDoubledArea}
+use Rattle.lattice.proofs.Order.{before_total, before_irrefl}
+use Rattle.lattice.proofs.TurnedBridges.{turned_twice}
 use Rattle.bridge_search.specs.Trees.{Tree, IsBridged, first_of, last_of}
+use Rattle.bridge_search.specs.TurnedTrees.{turned_tree, first_turned, last_turned}
 use Rattle.bridge_search.specs.Leaves.{points_of}
+use Rattle.bridge_search.proofs.Ends.{last_by, on_last}
+use Rattle.bridge_search.proofs.Leaves.{contains_of_on}
+use Rattle.bridge_search.proofs.Turns.{on_first}
 use Rattle.hull_plain.specs.Edges.{IsLowerEdge, IsUpperEdge, IsChain, end_of}
-use Rattle.lattice.proofs.Order.{before_irrefl}
-use Rattle.hull_plain.proofs.Rounding.{front_of, fan-append, fan-back, fan-push}
-use Rattle.hull_questions.specs.Walks.{IsLowerFan, IsUpperFan}
-use Rattle.hull_questions.proofs.Walked.{walk_none, walk_more, vertices_alone, round}
+use Rattle.hull_plain.proofs.Rounding.{fan-append, fan-back, lower_triangle}
+use Rattle.hull_questions.specs.Walks.{IsWalk, IsFan}
+use Rattle.hull_questions.proofs.Stretched.{not_back}
+use Rattle.hull_questions.proofs.Walked.{walk_turned, upper_front, round, vertices_alone}
 
--- the doubled area of one point is 0
-pub area_alone : (t : Tree) → IsBridged t → ¬ (IsBefore (first_of t) (last_of t)) → IsDoubledArea (points_of t) (pos 0)
-area_alone t h n = (first_of t ∷ [], vertices_alone t h n, refl)
+-- a stretch of the left half, the bridge, and a stretch of the right half
+pub fan_over : (t u w : Tree) (apex from a b to : Pair) (m n k : ℤ)
+    → ((xs ys : List Pair) → IsWalk u from xs a → IsWalk w b ys to → IsWalk t from (xs ++ b ∷ ys) to)
+    → IsFan u apex from a m → n ≡ orient apex a b → IsFan w apex b to k → IsFan t apex from to (m +ℤ n +ℤ k)
+fan_over t u w apex from a b to m n k walks (xs, p, e) z (ys, q, g) =
+    let s = fan-append apex from xs (b ∷ ys) in
+    let x : orient apex (end_of from xs) b ≡ orient apex a b = ap (λ (y : Pair). orient apex y b) p.ends in
+    (xs ++ b ∷ ys, walks xs ys p q, omega (arith, ints))
 
--- no triangle yet under the lower chain
-pub lower_fan_none : (t : Tree) → IsLowerFan t (first_of t) 0
-lower_fan_none t = ([], walk_none (IsLowerEdge (points_of t)) (first_of t), refl)
+-- ---- signs
 
--- no triangle yet over the upper chain
-pub upper_fan_none : (t : Tree) → IsUpperFan t (last_of t) 0
-upper_fan_none t = ([], walk_none (IsUpperEdge (points_of t)) (last_of t), refl)
+-- seen from a point, a chain of lower edges does not turn right
+fan_above : (S : List Pair) (f v : Pair) (vs : List Pair) → IsChain (IsLowerEdge S) v vs → Contains S f
+    → pos 0 ≤ℤ fan f v vs
+fan_above S f v [] c m = omega (arith, ints)
+fan_above S f v (x ∷ xs) c m =
+    let a = lower_triangle S v x f c.0 m in
+    let b = fan_above S f x xs c.1 m in
+    omega (arith, ints)
 
--- one more triangle under the lower chain
-pub lower_fan_more : (t : Tree) (v w : Pair) (m n : ℕ) → IsLowerFan t v m → IsLowerEdge (points_of t) v w
-    → pos n ≡ orient (first_of t) v w → IsLowerFan t w (m + n)
-lower_fan_more t v w m n (passed, k, f) e z =
-    let g = fan-push (first_of t) (first_of t) w passed in
-    let x : orient (first_of t) (end_of (first_of t) passed) w ≡ orient (first_of t) v w =
-    ap (λ (y : Pair). orient (first_of t) y w) k.ends in
-    (passed ++ w ∷ [], walk_more (IsLowerEdge (points_of t)) (first_of t) passed v w k e, omega (arith, ints))
+-- nor does a walk along the lower chain, seen from the first point
+pub lower_above : (t : Tree) (z : ℤ) → IsFan t (first_of t) (first_of t) (last_of t) z → pos 0 ≤ℤ z
+lower_above t z (passed, k, e) =
+    subst (λ (x : ℤ). pos 0 ≤ℤ x) (sym e)
+    (fan_above (points_of t) (first_of t) (first_of t) passed k.chain
+    (contains_of_on t (first_of t) (on_first t)))
 
--- one more triangle over the upper chain
-pub upper_fan_more : (t : Tree) (v w : Pair) (m n : ℕ) → IsUpperFan t v m → IsUpperEdge (points_of t) v w
-    → pos n ≡ orient (first_of t) v w → IsUpperFan t w (m + n)
-upper_fan_more t v w m n (passed, k, f) e z =
-    let g = fan-push (first_of t) (last_of t) w passed in
-    let x : orient (first_of t) (end_of (last_of t) passed) w ≡ orient (first_of t) v w =
-    ap (λ (y : Pair). orient (first_of t) y w) k.ends in
-    (passed ++ w ∷ [], walk_more (IsUpperEdge (points_of t)) (last_of t) passed v w k e, omega (arith, ints))
+-- nor one along the upper chain
+pub upper_above : (t : Tree) (z : ℤ)
+    → IsFan (turned_tree t) (turned_point (first_of t)) (first_of (turned_tree t)) (last_of (turned_tree t)) z
+    → pos 0 ≤ℤ z
+upper_above t z (passed, k, e) =
+    let v : Tree = turned_tree t in
+    subst (λ (x : ℤ). pos 0 ≤ℤ x) (sym e)
+    (fan_above (points_of v) (turned_point (first_of t)) (first_of v) passed k.chain
+    (subst (Contains (points_of v)) (last_turned t) (contains_of_on v (last_of v) (on_last v))))
 
--- the doubled area is the sum of the two fans
-pub fans_sum : (t : Tree) (m n : ℕ) → IsBridged t → IsBefore (first_of t) (last_of t) → IsLowerFan t (last_of t) m
-    → IsUpperFan t (first_of t) n → IsDoubledArea (points_of t) (pos (m + n))
-fans_sum t m n h b (lower, l, e) ([], u, g) =
-    absurd (before_irrefl (last_of t) (subst (λ (z : Pair). IsBefore z (last_of t)) (sym u.ends) b))
-fans_sum t m n h b (lower, l, e) (v ∷ vs, u, g) =
-    let first : Pair = first_of t in
-    let last : Pair = last_of t in
-    let f = front_of v first vs u.ends in
-    let back : fan first last (v ∷ vs) ≡ fan first last f.0 = ap (fan first last) f.1 ∙ fan-back first last f.0 in
-    let both : fan first first (lower ++ f.0) ≡ fan first first lower +ℤ fan first last f.0 =
-    fan-append first first lower f.0 ∙ ap (λ (z : Pair). fan first first lower +ℤ fan first z f.0) l.ends in (
-      first ∷ (lower ++ f.0),
-      round t lower f.0 h b l (subst (IsChain (IsUpperEdge (points_of t)) last) f.1 u.chain),
-      omega (arith, ints),
-    )
+-- ---- the doubled area
+
+-- a triangle turned by 180 degrees
+triangle_turned : (f u v : Pair) → orient f (turned_point u) (turned_point v) ≡ orient (turned_point f) u v
+unfolding orient
+triangle_turned f u v = rw (
+  as_difference f.x,
+  as_difference f.y,
+  as_difference u.x,
+  as_difference u.y,
+  as_difference v.x,
+  as_difference v.y,
+) (simp (difference-add, difference-neg, difference-mul) (difference-eq _ _ _ _ (omega arith)))
+
+-- a fan turned by 180 degrees
+fan_turned : (f v : Pair) (vs : List Pair)
+    → fan f (turned_point v) (map turned_point vs) ≡ fan (turned_point f) v vs
+fan_turned f v [] = refl
+fan_turned f v (x ∷ xs) =
+    let a = triangle_turned f v x in
+    let b = fan_turned f x xs in
+    omega (arith, ints)
+
+-- a walk from a point to itself has no steps
+no_steps : (t : Tree) (v w : Pair) (passed : List Pair) → v ≡ w → IsWalk t v passed w → passed ≡ []
+no_steps t v w [] e k = refl
+no_steps t v w (x ∷ xs) e k =
+    absurd (not_back (points_of t) x xs k.chain.1
+    (subst (λ (z : Pair). IsBefore z x) (e ∙ sym k.ends) k.chain.0.forward))
+
+-- so that its fan is 0
+fan_still : (t : Tree) (apex v w : Pair) (z : ℤ) → v ≡ w → IsFan t apex v w z → z ≡ pos 0
+fan_still t apex v w z e (passed, k, g) = g ∙ ap (fan apex v) (no_steps t v w passed e k)
+
+-- the doubled area is the sum of the fans of both chains, seen from the first point
+pub fans_sum : (t : Tree) (m n : ℤ) → IsBridged t → IsFan t (first_of t) (first_of t) (last_of t) m
+    → IsFan (turned_tree t) (turned_point (first_of t)) (first_of (turned_tree t)) (last_of (turned_tree t)) n
+    → IsDoubledArea (points_of t) (m +ℤ n)
+fans_sum t m n h l u = elim (before_total (first_of t) (last_of t)) [
+  | inl b ↦ sum b l u
+  | inr (inl e) ↦
+      let x : m ≡ pos 0 = fan_still t (first_of t) (first_of t) (last_of t) m e l in
+      let y : n ≡ pos 0 =
+      fan_still (turned_tree t) (turned_point (first_of t)) (first_of (turned_tree t)) (last_of (turned_tree t)) n
+      (first_turned t ∙ ap turned_point (sym e) ∙ sym (last_turned t)) u in (
+        first_of t ∷ [],
+        vertices_alone t h (λ b. before_irrefl (last_of t) (subst (λ (z : Pair). IsBefore z (last_of t)) e b)),
+        omega (arith, ints),
+      )
+  | inr (inr b) ↦ absurd (last_by t h (first_of t) (on_first t) b)
+]
+  where
+    sum : IsBefore (first_of t) (last_of t) → IsFan t (first_of t) (first_of t) (last_of t) m
+        → IsFan (turned_tree t) (turned_point (first_of t)) (first_of (turned_tree t)) (last_of (turned_tree t)) n
+        → IsDoubledArea (points_of t) (m +ℤ n)
+    sum b (lower, k, e) (passed, q, g) =
+        let first : Pair = first_of t in
+        let last : Pair = last_of t in
+        let back : List Pair = map turned_point passed in
+        let w = walk_turned t passed q in
+        let f = upper_front t back b w in
+        let begin : turned_point (first_of (turned_tree t)) ≡ last =
+        ap turned_point (first_turned t) ∙ turned_twice last in
+        let upper : n ≡ fan first last f.0 =
+        g ∙ sym (fan_turned first (first_of (turned_tree t)) passed) ∙ ap (λ (z : Pair). fan first z back) begin
+        ∙ ap (fan first last) f.1 ∙ fan-back first last f.0 in
+        let both : fan first first (lower ++ f.0) ≡ fan first first lower +ℤ fan first last f.0 =
+        fan-append first first lower f.0 ∙ ap (λ (z : Pair). fan first first lower +ℤ fan first z f.0) k.ends in (
+          first ∷ (lower ++ f.0),
+          round t lower f.0 h b k (subst (IsChain (IsUpperEdge (points_of t)) last) f.1 w.chain),
+          omega (arith, ints),
+        )

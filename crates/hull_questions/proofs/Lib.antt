@@ -5,8 +5,10 @@ pub mod ChainEdges
 pub mod SlabParts
 pub mod TurnedEdges
 pub mod Sighted
-pub mod Counted
+pub mod Corners
+pub mod Stretched
 pub mod Walked
+pub mod FanSizes
 pub mod Fans
 pub mod Views
 pub mod TangentParts

@@ -73,30 +73,6 @@ side_to_end a b t = rw (
   as_difference t.y,
 ) (simp (difference-add, difference-neg, difference-mul) (difference-eq _ _ _ _ (omega arith)))
 
--- the side of a point after the start of a line that goes back, by the step to its end
-pub side_back : (u v c : Pair) → orient u v c ≡ cross (minus c v) (minus u v)
-unfolding orient
-side_back u v c = rw (
-  as_difference u.x,
-  as_difference u.y,
-  as_difference v.x,
-  as_difference v.y,
-  as_difference c.x,
-  as_difference c.y,
-) (simp (difference-add, difference-neg, difference-mul) (difference-eq _ _ _ _ (omega arith)))
-
--- and of a point before its end
-pub side_beyond : (u v d : Pair) → orient u v d ≡ cross (minus u v) (minus v d)
-unfolding orient
-side_beyond u v d = rw (
-  as_difference u.x,
-  as_difference u.y,
-  as_difference v.x,
-  as_difference v.y,
-  as_difference d.x,
-  as_difference d.y,
-) (simp (difference-add, difference-neg, difference-mul) (difference-eq _ _ _ _ (omega arith)))
-
 -- the side of one point less that of another, by the step to the first
 pub side_more : (c d q t : Pair) → orient c d t -ℤ orient c d q ≡ cross (minus d c) (minus t q)
 unfolding orient

@@ -11,6 +11,7 @@ use Rattle.bridge_search.specs.TurnedTrees.{turned_tree, turned_on, on_turned, f
 use Rattle.bridge_search.specs.Leaves.{points_of}
 use Rattle.bridge_search.proofs.Leaves.{all_of, on_of_contains, contains_of_on}
 use Rattle.hull_plain.proofs.Orientation.{at_least}
+use Rattle.hull_plain.specs.Edges.{IsLowerEdge, IsUpperEdge}
 use Rattle.hull_questions.specs.Chains.{IsBeforeEnd, IsAfterStart, IsLowerEdgeAt, IsUpperEdgeAt}
 
 -- a turn keeps the side
@@ -47,30 +48,32 @@ pub turned_before : (p q : Pair) → IsBefore (turned_point p) q → IsBefore (t
 turned_before p q (inl h) = inl (omega (arith, ints))
 turned_before p q (inr h) = inr (omega (arith, ints, h.0), omega (arith, ints, h.1))
 
+-- a lower edge of the turned half is, turned, an upper edge
+pub upper_edge_of_turned : (t : Tree) (c d : Pair) → IsLowerEdge (points_of (turned_tree t)) c d
+    → IsUpperEdge (points_of t) (turned_point c) (turned_point d)
+upper_edge_of_turned t c d k = record {
+  from = turned_member t c k.from;
+  to = turned_member t d k.to;
+  backward = turned_order c d k.forward;
+  left = All-weaker (λ s. pos 0 ≤ℤ orient c d (turned_point s))
+      (λ s. pos 0 ≤ℤ orient (turned_point c) (turned_point d) s) (λ s h. at_least _ _ (turned_side c d s) h)
+      (points_of t)
+      (turned_all t (λ s. pos 0 ≤ℤ orient c d s) k.left);
+  last = All-weaker (λ s. orient c d (turned_point s) ≡ pos 0 → ¬ (IsBefore d (turned_point s)))
+      (λ s. orient (turned_point c) (turned_point d) s ≡ pos 0 → ¬ (IsBefore s (turned_point d)))
+      (λ s h z b. h (turned_side c d s ∙ z) (before_turned_back s d b)) (points_of t)
+      (turned_all t (λ s. orient c d s ≡ pos 0 → ¬ (IsBefore d s)) k.last);
+}
+
 -- the lower edge of the turned half at a turned point is, turned, the upper edge at the point
 pub upper_of_turned : (t : Tree) (v : Pair) (e : Pair × Pair)
     → IsLowerEdgeAt (points_of (turned_tree t)) (turned_point v) e
     → IsUpperEdgeAt (points_of t) v (turned_point e.0, turned_point e.1)
-upper_of_turned t v e k =
-    let c : Pair = e.0 in
-    let d : Pair = e.1 in
-    record {
-      edge = record {
-        from = turned_member t c k.edge.from;
-        to = turned_member t d k.edge.to;
-        backward = turned_order c d k.edge.forward;
-        left = All-weaker (λ s. pos 0 ≤ℤ orient c d (turned_point s))
-            (λ s. pos 0 ≤ℤ orient (turned_point c) (turned_point d) s) (λ s h. at_least _ _ (turned_side c d s) h)
-            (points_of t)
-            (turned_all t (λ s. pos 0 ≤ℤ orient c d s) k.edge.left);
-        last = All-weaker (λ s. orient c d (turned_point s) ≡ pos 0 → ¬ (IsBefore d (turned_point s)))
-            (λ s. orient (turned_point c) (turned_point d) s ≡ pos 0 → ¬ (IsBefore s (turned_point d)))
-            (λ s h z b. h (turned_side c d s ∙ z) (before_turned_back s d b)) (points_of t)
-            (turned_all t (λ s. orient c d s ≡ pos 0 → ¬ (IsBefore d s)) k.edge.last);
-      };
-      starts = λ b. k.starts (turned_before c v b);
-      onward = turned_before v d k.onward;
-    }
+upper_of_turned t v e k = record {
+  edge = upper_edge_of_turned t e.0 e.1 k.edge;
+  starts = λ b. k.starts (turned_before e.0 v b);
+  onward = turned_before v e.1 k.onward;
+}
 
 -- before the end of the turned half is after the start of the half
 pub inside_turned : (t : Tree) (v : Pair) → IsAfterStart t v → IsBeforeEnd (turned_tree t) (turned_point v)

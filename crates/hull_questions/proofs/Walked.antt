@@ -1,133 +1,119 @@
--- Walks along the chains of a half's hull: their steps, that they end, and what they leave.
-use Rattle.std.proofs.Common.{◌≡◌, inl, inr, refl, sym, ap, ◌∙◌, subst, List, arith, [], ◌∷◌, ◌++◌}
-use Rattle.std.specs.List.{Contains}
-use Rattle.lattice.specs.Plane.{Pair, IsBefore}
+-- Walks along the chains of a half's hull, the lists that they leave, and the vertex list that those make.
+use Rattle.std.proofs.Common.{◌≡◌, refl, sym, ap, ◌∙◌, subst, List, [], ◌∷◌, ◌++◌, map, arith, append_assoc}
+use Rattle.std.proofs.lemmas.List.{map-append, same_from_push}
+use Rattle.lattice.specs.Plane.{Pair, IsBefore, turned_point}
 use Rattle.lattice.specs.Vertices.{IsVertexList}
+use Rattle.lattice.proofs.Order.{before_irrefl}
+use Rattle.lattice.proofs.TurnedBridges.{turned_twice}
 use Rattle.bridge_search.specs.Trees.{Tree, Leaf, Fork, IsBridged, first_of, last_of}
+use Rattle.bridge_search.specs.TurnedTrees.{turned_tree, first_turned, last_turned}
 use Rattle.bridge_search.specs.Leaves.{points_of}
 use Rattle.bridge_search.proofs.Ends.{last_by, on_last}
-use Rattle.bridge_search.proofs.Leaves.{on_of_contains, contains_of_on, points_in_order}
+use Rattle.bridge_search.proofs.Leaves.{on_of_contains, points_in_order}
 use Rattle.bridge_search.proofs.Turns.{first_by, on_first}
-use Rattle.hull_plain.specs.Edges.{IsLowerEdge, IsUpperEdge, IsChain, IsFirst, IsLast}
-use Rattle.lattice.proofs.Order.{before_irrefl, equal_by}
-use Rattle.hull_plain.proofs.PointLists.{append_none, append_twice}
-use Rattle.hull_plain.proofs.Rounding.{small_list}
-use Rattle.hull_plain.proofs.VertexLists.{chain_push, end_push, vertex_list}
-use Rattle.hull_questions.specs.Chains.{IsLowerCorner, IsUpperCorner}
-use Rattle.hull_questions.specs.Walks.{IsWalk, IsLowerWalk, IsUpperWalk, IsLowerOutline}
+use Rattle.hull_plain.specs.Edges.{IsLowerEdge, IsUpperEdge, IsChain, end_of}
+use Rattle.hull_plain.proofs.Rounding.{front_of, small_list}
+use Rattle.hull_plain.proofs.VertexLists.{vertex_list}
+use Rattle.hull_questions.specs.declared.questions.vertices.Side.{Side}
+use Rattle.hull_questions.specs.declared.questions.vertices.Side.TheVariants.{Lower, Upper}
+use Rattle.hull_questions.specs.Walks.{IsWalk, IsListed, upright}
+use Rattle.hull_questions.proofs.TurnedEdges.{upper_edge_of_turned}
 
--- ---- the ends of a half
+-- ---- lists
 
--- the first point is the first of the list
-pub first_is : (t : Tree) → IsBridged t → IsFirst (points_of t) (first_of t)
-first_is t h s m b = first_by t h s (on_of_contains t s m) b
-
--- the last point is the last of the list
-pub last_is : (t : Tree) → IsBridged t → IsLast (points_of t) (last_of t)
-last_is t h s m b = last_by t h s (on_of_contains t s m) b
-
--- the first point is in the list
-pub first_in : (t : Tree) → Contains (points_of t) (first_of t)
-first_in t = contains_of_on t (first_of t) (on_first t)
-
--- the last point is in the list
-pub last_in : (t : Tree) → Contains (points_of t) (last_of t)
-last_in t = contains_of_on t (last_of t) (on_last t)
-
--- a corner of the lower chain is a point
-pub lower_in : (S : List Pair) (v : Pair) → IsLowerCorner S v → Contains S v
-lower_in S v (inl h) = h.0
-lower_in S v (inr p) = p.1.to
-
--- a corner of the upper chain is a point
-pub upper_in : (S : List Pair) (v : Pair) → IsUpperCorner S v → Contains S v
-upper_in S v (inl h) = h.0
-upper_in S v (inr p) = p.1.to
-
--- a corner that is not before the last point is the last point
-pub at_last : (t : Tree) (v : Pair) → IsBridged t → Contains (points_of t) v → ¬ (IsBefore v (last_of t))
-    → v ≡ last_of t
-at_last t v h m n = equal_by v (last_of t) n (last_is t h v m)
-
--- a corner that is not after the first point is the first point
-pub at_first : (t : Tree) (v : Pair) → IsBridged t → Contains (points_of t) v → ¬ (IsBefore (first_of t) v)
-    → v ≡ first_of t
-at_first t v h m n = equal_by v (first_of t) (first_is t h v m) n
-
--- ---- steps
-
--- a walk begins
-pub walk_none : (E : Pair → Pair → Type 0) (s : Pair) → IsWalk E s [] s
-walk_none E s = record { chain = tt; ends = refl }
-
--- one more step
-pub walk_more : (E : Pair → Pair → Type 0) (s : Pair) (passed : List Pair) (v w : Pair) → IsWalk E s passed v → E v w
-    → IsWalk E s (passed ++ w ∷ []) w
-walk_more E s passed v w k e = record {
-  chain = chain_push E s passed w k.chain (subst (λ (z : Pair). E z w) (sym k.ends) e);
-  ends = end_push s passed w;
-}
-
--- the outline begins
-pub outline_none : (t : Tree) → IsLowerOutline t (first_of t) (first_of t ∷ [])
-outline_none t = ([], walk_none (IsLowerEdge (points_of t)) (first_of t), refl)
-
--- the outline goes on
-pub outline_more : (t : Tree) (v w : Pair) (out : List Pair) → IsLowerOutline t v out → IsLowerEdge (points_of t) v w
-    → IsLowerOutline t w (out ++ w ∷ [])
-outline_more t v w out (passed, k, o) e = (
-  passed ++ w ∷ [],
-  walk_more (IsLowerEdge (points_of t)) (first_of t) passed v w k e,
-  ap (λ (z : List Pair). z ++ w ∷ []) o,
+-- a stretch of the left half, the start of the bridge, and a stretch of the right half
+pub listed_over : (t u w : Tree) (from a b to : Pair) (side : Side) (before one two after : List Pair)
+    → ((xs ys : List Pair) → IsWalk u from xs a → IsWalk w b ys to → IsWalk t from (xs ++ b ∷ ys) to)
+    → IsListed u from a side before one → two ≡ one ++ upright side a ∷ [] → IsListed w b to side two after
+    → IsListed t from to side before after
+listed_over t u w from a b to side before one two after walks (xs, k, e) p (ys, q, g) = (
+  xs ++ b ∷ ys,
+  walks xs ys k q,
+  g ∙ ap (λ z. z ++ map s (b ∷ ys)) (p ∙ e) ∙ append_assoc before (map s (from ∷ xs)) (map s (b ∷ ys))
+      ∙ ap (λ z. before ++ z) (sym (map-append s (from ∷ xs) (b ∷ ys))),
 )
+  where
+    s : Pair → Pair
+    s = upright side
+
+-- ---- the upper chain
+
+-- a chain of lower edges of the turned half is, turned, a chain of upper edges
+pub chain_turned : (t : Tree) (v : Pair) (vs : List Pair) → IsChain (IsLowerEdge (points_of (turned_tree t))) v vs
+    → IsChain (IsUpperEdge (points_of t)) (turned_point v) (map turned_point vs)
+chain_turned t v [] c = tt
+chain_turned t v (x ∷ xs) c = (upper_edge_of_turned t v x c.0, chain_turned t x xs c.1)
+
+-- which ends at the turned end
+pub end_turned : (v : Pair) (vs : List Pair)
+    → end_of (turned_point v) (map turned_point vs) ≡ turned_point (end_of v vs)
+end_turned v [] = refl
+end_turned v (x ∷ xs) = end_turned x xs
+
+-- a walk along the lower chain of the turned half is, turned, a walk along the upper chain
+pub record IsUpperWalk (t : Tree) (passed : List Pair) : Type 0 where
+  pub chain : IsChain (IsUpperEdge (points_of t)) (last_of t) passed
+  pub ends : end_of (last_of t) passed ≡ first_of t
+
+pub walk_turned : (t : Tree) (passed : List Pair)
+    → IsWalk (turned_tree t) (first_of (turned_tree t)) passed (last_of (turned_tree t))
+    → IsUpperWalk t (map turned_point passed)
+walk_turned t passed k =
+    let begin : turned_point (first_of (turned_tree t)) ≡ last_of t =
+    ap turned_point (first_turned t) ∙ turned_twice (last_of t) in
+    let end : turned_point (last_of (turned_tree t)) ≡ first_of t =
+    ap turned_point (last_turned t) ∙ turned_twice (first_of t) in
+    record {
+      chain = subst (λ (z : Pair). IsChain (IsUpperEdge (points_of t)) z (map turned_point passed)) begin
+          (chain_turned t (first_of (turned_tree t)) passed k.chain);
+      ends = ap (λ (z : Pair). end_of z (map turned_point passed)) (sym begin)
+          ∙ end_turned (first_of (turned_tree t)) passed ∙ ap turned_point k.ends ∙ end;
+    }
+
+-- the points of an upper walk but the last
+pub upper_front : (t : Tree) (passed : List Pair) → IsBefore (first_of t) (last_of t) → IsUpperWalk t passed
+    → (upper : List Pair) × (passed ≡ upper ++ first_of t ∷ [])
+upper_front t [] b k = absurd (before_irrefl (last_of t) (subst (λ (z : Pair). IsBefore z (last_of t)) (sym k.ends) b))
+upper_front t (v ∷ vs) b k = front_of v (first_of t) vs k.ends
 
 -- ---- the vertex list
 
--- the list is the lower chain and the part of the upper chain that comes before v
-abbrev pub IsHalfRound : Tree → List Pair → Pair → Type 0
-IsHalfRound t out v =
-    (lower : List Pair) × (upper : List Pair) × IsLowerWalk t lower (last_of t) × IsUpperWalk t (upper ++ v ∷ []) v
-    × (out ≡ first_of t ∷ (lower ++ upper))
-
--- with the first upper edge
-pub half_start : (t : Tree) (out : List Pair) (v : Pair) → IsLowerOutline t (last_of t) out
-    → IsUpperEdge (points_of t) (last_of t) v → IsHalfRound t out v
-half_start t out v (lower, w, o) e = (
-  lower,
-  [],
-  w,
-  walk_more (IsUpperEdge (points_of t)) (last_of t) [] (last_of t) v
-      (walk_none (IsUpperEdge (points_of t)) (last_of t)) e,
-  o ∙ ap (λ (z : List Pair). first_of t ∷ z) (append_none lower),
-)
-
--- one more upper edge
-pub half_more : (t : Tree) (out : List Pair) (v w : Pair) → IsHalfRound t out v → IsUpperEdge (points_of t) v w
-    → IsHalfRound t (out ++ v ∷ []) w
-half_more t out v w (lower, upper, l, u, o) e = (
-  lower,
-  upper ++ v ∷ [],
-  l,
-  walk_more (IsUpperEdge (points_of t)) (last_of t) (upper ++ v ∷ []) v w u e,
-  ap (λ (z : List Pair). z ++ v ∷ []) o ∙ ap (λ (z : List Pair). first_of t ∷ z) (append_twice lower upper (v ∷ [])),
-)
-
 -- a whole lower walk and a whole upper walk make the vertex list
 pub round : (t : Tree) (lower upper : List Pair) → IsBridged t → IsBefore (first_of t) (last_of t)
-    → IsLowerWalk t lower (last_of t) → IsChain (IsUpperEdge (points_of t)) (last_of t) (upper ++ first_of t ∷ [])
+    → IsWalk t (first_of t) lower (last_of t)
+    → IsChain (IsUpperEdge (points_of t)) (last_of t) (upper ++ first_of t ∷ [])
     → IsVertexList (points_of t) (first_of t ∷ (lower ++ upper))
 round t [] upper h b w c = absurd (before_irrefl (last_of t) (subst (λ (z : Pair). IsBefore z (last_of t)) w.ends b))
 round t (v ∷ vs) upper h b w c =
-    vertex_list (points_of t) (first_of t) (last_of t) v vs upper (points_in_order t h) w.chain w.ends c (first_is t h)
-    (last_is t h)
+    vertex_list (points_of t) (first_of t) (last_of t) v vs upper (points_in_order t h) w.chain w.ends c
+    (λ s m k. first_by t h s (on_of_contains t s m) k) (λ s m k. last_by t h s (on_of_contains t s m) k)
 
--- back at the first point the list is whole
-pub half_done : (t : Tree) (out : List Pair) (v : Pair) → IsBridged t → IsBefore (first_of t) (last_of t)
-    → v ≡ first_of t → IsHalfRound t out v → IsVertexList (points_of t) out
-half_done t out v h b e (lower, upper, l, u, o) =
-    subst (IsVertexList (points_of t)) (sym o)
-    (round t lower upper h b l
-    (subst (λ (z : Pair). IsChain (IsUpperEdge (points_of t)) (last_of t) (upper ++ z ∷ [])) e u.chain))
+-- seen as it is, a list stays as it is
+map_lower : (xs : List Pair) → map (upright Lower) xs ≡ xs
+map_lower [] = refl
+map_lower (x ∷ xs) = ap (λ (z : List Pair). x ∷ z) (map_lower xs)
+
+-- both chains listed, each without its last point, are the vertex list
+pub both_listed : (t : Tree) (one two : List Pair) → IsBridged t → IsBefore (first_of t) (last_of t)
+    → IsListed t (first_of t) (last_of t) Lower [] one
+    → IsListed (turned_tree t) (first_of (turned_tree t)) (last_of (turned_tree t)) Upper one two
+    → IsVertexList (points_of t) two
+both_listed t one two h b (lower, k, e) (turned, q, g) =
+    let first : Pair = first_of t in
+    let last : Pair = last_of t in
+    let back : List Pair = map turned_point turned in
+    let w = walk_turned t turned q in
+    let f = upper_front t back b w in
+    let begin : turned_point (first_of (turned_tree t)) ≡ last = ap turned_point (first_turned t) ∙ turned_twice last in
+    let end : turned_point (last_of (turned_tree t)) ≡ first = ap turned_point (last_turned t) ∙ turned_twice first in
+    let low : one ++ last ∷ [] ≡ first ∷ lower = e ∙ map_lower (first ∷ lower) in
+    let whole : two ++ first ∷ [] ≡ (first ∷ (lower ++ f.0)) ++ first ∷ [] =
+    ap (λ (z : Pair). two ++ z ∷ []) (sym end) ∙ g ∙ ap (λ (z : Pair). one ++ z ∷ back) begin
+    ∙ sym (append_assoc one (last ∷ []) back) ∙ ap (λ (z : List Pair). z ++ back) low
+    ∙ ap (λ (z : List Pair). (first ∷ lower) ++ z) f.1
+    ∙ sym (append_assoc (first ∷ lower) f.0 (first ∷ [])) in
+    subst (IsVertexList (points_of t)) (sym (same_from_push two (first ∷ (lower ++ f.0)) first first whole).0)
+    (round t lower f.0 h b k (subst (IsChain (IsUpperEdge (points_of t)) last) f.1 w.chain))
 
 -- a half whose first point is not before the last is one point
 alone : (t : Tree) → IsBridged t → ¬ (IsBefore (first_of t) (last_of t)) → points_of t ≡ first_of t ∷ []

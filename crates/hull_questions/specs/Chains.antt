@@ -1,9 +1,9 @@
--- The edges of the two chains, by a point below or above which they lie, and the corners where they meet.
-use Rattle.std.specs.Prelude.{◌⊎◌, List}
+-- The edges of the two chains, by a point below or above which they lie, and the corners of the lower one.
+use Rattle.std.specs.Prelude.{pos, ◌<ℤ◌, List}
 use Rattle.std.specs.List.{Contains}
-use Rattle.lattice.specs.Plane.{Pair, IsBefore}
+use Rattle.lattice.specs.Plane.{Pair, orient, IsBefore}
 use Rattle.bridge_search.specs.Trees.{Tree, first_of, last_of}
-use Rattle.hull_plain.specs.Edges.{IsLowerEdge, IsUpperEdge, IsFirst, IsLast}
+use Rattle.hull_plain.specs.Edges.{IsLowerEdge, IsUpperEdge}
 
 -- v stands before the last point of the half, and not before the first
 abbrev pub IsBeforeEnd : Tree → Pair → Type 0
@@ -25,10 +25,7 @@ pub record IsUpperEdgeAt (S : List Pair) (v : Pair) (e : Pair × Pair) : Type 0 
   pub starts : ¬ IsBefore e.0 v
   pub onward : IsBefore e.1 v
 
--- a lower edge ends at v, or v is the first point
-abbrev pub IsLowerCorner : List Pair → Pair → Type 0
-IsLowerCorner S v = (Contains S v × IsFirst S v) ⊎ ((p : Pair) × IsLowerEdge S p v)
-
--- an upper edge ends at v, or v is the last point
-abbrev pub IsUpperCorner : List Pair → Pair → Type 0
-IsUpperCorner S v = (Contains S v × IsLast S v) ⊎ ((p : Pair) × IsUpperEdge S p v)
+-- v is a point of S, and lies below each segment from a point of S before it to one after it
+pub record IsLowerCorner (S : List Pair) (v : Pair) : Type 0 where
+  pub there : Contains S v
+  pub under : (s t : Pair) → Contains S s → Contains S t → IsBefore s v → IsBefore v t → orient s t v <ℤ pos 0

@@ -3,4 +3,5 @@ pub mod Chains
 pub mod Slabs
 pub mod Sights
 pub mod Walks
+pub mod Stretches
 pub mod Shapes

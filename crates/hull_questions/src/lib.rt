@@ -2,14 +2,15 @@
 //!
 //! Each question is over any [`Half`](bridge_search::Half), and its answer is one that the definitions allow for the
 //! points of that half. [`extreme`], [`place`] and [`tangents`] go down once or a few times, with one or two
-//! comparisons at each fork, and ask for no memory; [`vertices`] and [`area2`] go down once for each corner.
+//! comparisons at each fork, and ask for no memory; [`vertices`] and [`area2`] go down once, and only where
+//! corners are.
 #![tactic(auto)]
 
-mod corners;
 mod edges;
 mod questions;
 mod sights;
 mod slabs;
+mod stretches;
 
 pub use questions::area::area2;
 pub use questions::extreme::{extreme, extreme_counted};

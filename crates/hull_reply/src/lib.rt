@@ -20,4 +20,4 @@ pub use corners::{HullPoint, put_corners};
 pub use kind::Kind;
 pub use reply::{HullReply, told};
 pub use request::{Request, request_of};
-pub use serving::serve;
+pub use serving::{extreme_reply, serve, tangents_reply};

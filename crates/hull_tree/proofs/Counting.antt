@@ -1,31 +1,41 @@
 -- A point that is counted in at the end of entries.
 use Rattle.std.proofs.Common.{◌≡◌, ℕ, ◌+◌, ◌<◌, ◌≤◌, inl, inr, refl, sym, ◌∙◌, ap, subst, List, [], ◌∷◌, ◌++◌, length}
-use Rattle.std.proofs.Common.{take, get_or, arith, zero, suc, Bool, true, false, if◌then◌else◌}
+use Rattle.std.proofs.Common.{take, drop, get_or, arith, zero, suc, Bool, true, false, if◌then◌else◌, Some, ◌⊎◌}
 use Rattle.std.specs.Ordering.{int_cmp, is_lt}
 use Rattle.std.specs.declared.cmp.Ordering.TheVariants.{Less, Equal}
 use Rattle.std.specs.Prelude.{not}
 use Rattle.std.specs.List.{All, Contains}
 use Rattle.std.specs.List.Sorted.{IsSorted, IsPermutation}
 use Rattle.std.proofs.lemmas.Int.{ints}
-use Rattle.std.proofs.lemmas.List.{map-append}
+use Rattle.std.proofs.Math.ListN.{get_or-map}
+use Rattle.std.proofs.Math.Nat.{eq-or-lt_of_le}
+use Rattle.std.proofs.lemmas.List.{map-append, take-append-drop}
 use Rattle.std.proofs.lemmas.List.Elements.{All-append, All-cons, All-contains, Contains-push_cases, Contains-append_right}
 use Rattle.std.proofs.lemmas.List.Elements.{Contains-append_left, Contains-get_or, All-head, All-tail}
 use Rattle.std.proofs.lemmas.List.Sorted.{sorted_far, ranks_by, sum_by-IsPermutation}
-use Rattle.std.proofs.lemmas.List.Sums.{sum_by_push, sum_by_more, sum_by_more_le, sum_by-cons}
+use Rattle.std.proofs.lemmas.List.Elements.{All-get_or}
+use Rattle.std.proofs.lemmas.List.Sums.{sum_by_push, sum_by_more, sum_by_more_le, sum_by-cons, sum_by-append}
 use Rattle.std.proofs.lemmas.Map.Entries.{length-keys_of}
 use Rattle.lattice.specs.Plane.{Pair, IsBefore}
 use Rattle.lattice.specs.Covers.{IsPointSet}
-use Rattle.lattice.proofs.Order.{before_trans, before_total}
-use Rattle.bridge_search.proofs.Leaves.{sets_in_row}
+use Rattle.lattice.proofs.Order.{before_trans, before_total, before_not}
+use Rattle.bridge_search.proofs.Leaves.{sets_in_row, points_in_order}
 use Rattle.hull_plain.specs.Held.{once}
 use Rattle.hull_plain.specs.PointLists.{is_same_pair}
 use Rattle.hull_plain.proofs.OrderedMaps.{point_cmp, total}
-use Rattle.hull_plain.proofs.PointLists.{AllPairs-none, AllPairs-cons, get_or_free}
-use Rattle.hull_plain.proofs.Times.{same_true, once_same}
-use Rattle.hull_tree.specs.Nodes.{several, IsMultiplicity}
-use Rattle.hull_tree.specs.Loaded.{points_listed, times_listed, times_among, AreEntries, IsAscending, AreTooMany}
+use Rattle.hull_plain.proofs.Multiplicities.{same_held}
+use Rattle.hull_plain.proofs.PointLists.{AllPairs-none, AllPairs-cons, get_or_free, later}
+use Rattle.hull_plain.proofs.Times.{same_true, same_or_other, once_same}
+use Rattle.hull_tree.specs.declared.node.Node as node
+use Rattle.hull_tree.specs.declared.node.Halves as halves
+use Rattle.hull_tree.specs.Nodes.{tree_of, below_of, left_half, right_half, several, times_below, IsLabelled, IsMultiplicity, IsWellBuilt}
+use Rattle.hull_tree.specs.Changes.{points_below, height_at, height_within}
+use Rattle.hull_tree.specs.Roots.{held_by}
+use Rattle.hull_tree.specs.Loaded.{points_listed, times_listed, times_among, AreEntries, IsAscending, entries_below}
+use Rattle.hull_tree.specs.Loaded.{held_listed, Precedes}
+use Rattle.hull_tree.proofs.HalfRows.{same_below}
 use Rattle.hull_tree.proofs.PointRows.{set_across}
-use Rattle.hull_tree.proofs.Multiplicities.{several_there}
+use Rattle.hull_tree.proofs.Multiplicities.{several_there, several_elsewhere}
 
 -- the points of entries with one more behind them
 points_pushed : (es : List (Pair × ℕ)) (e : Pair × ℕ) → points_listed (es ++ e ∷ []) ≡ points_listed es ++ e.0 ∷ []
@@ -98,33 +108,33 @@ set_pushed xs p s h =
     only b (k, l, e) = elim (Contains-push_cases [] p b (k, l, e)) [ inl i ↦ absurd (omega (arith, i.1)) | inr i ↦ i ]
 
 -- a new point behind entries
-pub followed : (es : List (Pair × ℕ)) (e : Pair × ℕ) (p : Pair) → AreEntries (es ++ e ∷ []) → ¬ IsBefore p e.0
-    → ¬ (e.0 ≡ p) → AreEntries ((es ++ e ∷ []) ++ (p, 1) ∷ [])
-followed es e p h n d =
+pub followed : (es : List (Pair × ℕ)) (e f : Pair × ℕ) → AreEntries (es ++ e ∷ []) → ¬ IsBefore f.0 e.0
+    → ¬ (e.0 ≡ f.0) → IsMultiplicity f.1 → AreEntries ((es ++ e ∷ []) ++ f ∷ [])
+followed es e f h n d m =
     let s : IsPointSet (points_listed es ++ e.0 ∷ []) = subst IsPointSet (points_pushed es e) h.in_order in
     record {
-      in_order = rw (points_pushed (es ++ e ∷ []) (p, 1), points_pushed es e)
-          (set_pushed (points_listed es ++ e.0 ∷ []) p s
-          (λ t m. after_all (points_listed es) e.0 p t s n d m));
-      held = All-append (λ (e : Pair × ℕ). IsMultiplicity e.1) (es ++ e ∷ []) ((p, 1) ∷ []) h.held
-          (one_held p 1 (omega arith, omega arith));
+      in_order = rw (points_pushed (es ++ e ∷ []) f, points_pushed es e)
+          (set_pushed (points_listed es ++ e.0 ∷ []) f.0 s
+          (λ t i. after_all (points_listed es) e.0 f.0 t s n d i));
+      held = All-append (λ (e : Pair × ℕ). IsMultiplicity e.1) (es ++ e ∷ []) (f ∷ []) h.held
+          (one_held f.0 f.1 m);
     }
 
--- n + 1 times is n times and once more
-one_more : (b : Bool) (n : ℕ) → (if b then n + 1 else 0) ≡ (if b then n else 0) + (if b then 1 else 0)
-one_more true n = refl
-one_more false n = refl
+-- m + n times is m times and n times more
+more_times : (b : Bool) (m n : ℕ) → (if b then m + n else 0) ≡ (if b then m else 0) + (if b then n else 0)
+more_times true m n = refl
+more_times false m n = refl
 
--- the last point once more
-pub times_recounted : (es : List (Pair × ℕ)) (e : Pair × ℕ) (p q : Pair) → e.0 ≡ p
-    → times_listed (es ++ (p, e.1 + 1) ∷ []) q ≡ times_listed (es ++ e ∷ []) q + once p q
-times_recounted es e p q s =
+-- the last point so many times more
+pub times_recounted : (es : List (Pair × ℕ)) (e : Pair × ℕ) (p q : Pair) (n : ℕ) → e.0 ≡ p
+    → times_listed (es ++ (p, e.1 + n) ∷ []) q ≡ times_listed (es ++ e ∷ []) q + several n p q
+times_recounted es e p q n s =
     rw (
-      sum_by_push (λ (e : Pair × ℕ). several e.1 e.0 q) es (p, e.1 + 1),
+      sum_by_push (λ (e : Pair × ℕ). several e.1 e.0 q) es (p, e.1 + n),
       sum_by_push (λ (e : Pair × ℕ). several e.1 e.0 q) es e,
       s,
     )
-    (omega (arith, one_more (is_same_pair p q) e.1))
+    (omega (arith, more_times (is_same_pair p q) e.1 n))
 
 -- the last point is held as often at least as the number beside it says
 pub times_last : (es : List (Pair × ℕ)) (e : Pair × ℕ) (p : Pair) → e.0 ≡ p → e.1 ≤ times_listed (es ++ e ∷ []) p
@@ -161,7 +171,7 @@ pub at_place : (xs : List Pair) (i : ℕ) (p t : Pair) → p ≡ get_or xs i p �
 at_place xs i p t e l = e ∙ get_or_free xs i p t l
 
 -- each of the points of entries is held at least once
-live_of : (es : List (Pair × ℕ)) (t : Pair) → All (λ (e : Pair × ℕ). IsMultiplicity e.1) es
+pub live_of : (es : List (Pair × ℕ)) (t : Pair) → All (λ (e : Pair × ℕ). IsMultiplicity e.1) es
     → Contains (points_listed es) t → 1 ≤ times_listed es t
 live_of [] t h (k, l, e) = absurd (omega (arith, l))
 live_of (x ∷ es) t h (zero, l, e) =
@@ -173,16 +183,175 @@ live_of (x ∷ es) t h (suc k, l, e) =
     live_of es t (All-tail (λ (e : Pair × ℕ). IsMultiplicity e.1) x es h) (k, omega (arith, l), e) in
     rw (sum_by-cons (λ (e : Pair × ℕ). several e.1 e.0 t) x es) (omega (arith, r))
 
--- so entries that are more than a limit are points that are too many
-pub too_many : (es : List (Pair × ℕ)) (xs : List Pair) (limit : ℕ) → AreEntries es
-    → ((q : Pair) → times_listed es q ≡ times_among xs q) → limit < length es → AreTooMany xs limit
-too_many es xs limit h t l =
-    inr (
-      points_listed es,
-      h.in_order,
-      λ q m. omega (arith, live_of es q h.held m, t q),
-      omega (arith, l, length-keys_of es),
+-- and a point that is held at least once is one of them
+pub listed_live : (es : List (Pair × ℕ)) (t : Pair) → 1 ≤ times_listed es t → Contains (points_listed es) t
+listed_live [] t h = absurd (omega (arith, h))
+listed_live (x ∷ es) t h =
+    elim (same_or_other x.0 t) [
+      | inl e ↦ (0, omega arith, e)
+      | inr d ↦
+          let z : several x.1 x.0 t ≡ 0 = several_elsewhere x.1 x.0 t d in
+          let r : 1 ≤ times_listed es t =
+          omega (arith, h, z, sum_by-cons (λ (e : Pair × ℕ). several e.1 e.0 t) x es) in
+          later x.0 t (points_listed es) (listed_live es t r)
+    ]
+
+-- ---- the points below a node
+
+-- they are those of the tree
+pub points_of_entries : (n : node.Node) → points_listed (entries_below n) ≡ points_below n
+points_of_entries (node.Node' upper lower height near times node.None') = refl
+points_of_entries (node.Node' upper lower height near times
+    (node.Some' i (halves.Halves' left right last_left first_right))) =
+    map-append (λ (e : Pair × ℕ). e.0) (entries_below left) (entries_below right)
+    ∙ ap (λ (z : List Pair). z ++ points_listed (entries_below right)) (points_of_entries left)
+    ∙ ap (λ (z : List Pair). points_below left ++ z) (points_of_entries right)
+
+-- and as many
+pub length_of_entries : (n : node.Node) → length (entries_below n) ≡ length (points_below n)
+length_of_entries n = sym (length-keys_of (entries_below n)) ∙ ap (λ (z : List Pair). length z) (points_of_entries n)
+
+-- each held as often
+pub times_of_entries : (n : node.Node) (q : Pair) → times_listed (entries_below n) q ≡ times_below n q
+times_of_entries (node.Node' upper lower height near times node.None') q = omega arith
+times_of_entries (node.Node' upper lower height near times
+    (node.Some' i (halves.Halves' left right last_left first_right))) q =
+    omega (
+      arith,
+      sum_by-append (λ (e : Pair × ℕ). several e.1 e.0 q) (entries_below left) (entries_below right),
+      times_of_entries left q,
+      times_of_entries right q,
     )
+
+-- as often as a point may be
+held_of_entries : (n : node.Node) → IsLabelled n → All (λ (e : Pair × ℕ). IsMultiplicity e.1) (entries_below n)
+held_of_entries (node.Node' upper lower height near times node.None') l = one_held upper.0 times l.1
+held_of_entries (node.Node' upper lower height near times
+    (node.Some' i (halves.Halves' left right last_left first_right))) l =
+    All-append (λ (e : Pair × ℕ). IsMultiplicity e.1) (entries_below left) (entries_below right)
+    (held_of_entries left l.3) (held_of_entries right l.4)
+
+-- what a node has by its two halves
+pub record IsListedOver (n : node.Node) (h : halves.Halves) : Type 0 where
+  pub entries : entries_below n ≡ entries_below (left_half h) ++ entries_below (right_half h)
+  pub points : points_below n ≡ points_below (left_half h) ++ points_below (right_half h)
+  pub height : height_at n ≡ height_within h + 1
+
+-- the entries of a fork are those of its halves in a row
+pub listed_halves : (n : node.Node) (h : halves.Halves) → below_of n ≡ Some h → IsListedOver n h
+unfolding node.out-Node halves.out-Halves denote.Hole.Carrier.out
+listed_halves (node.Node' upper lower height near times node.None') h e = absurd (cc)
+listed_halves (node.Node' upper lower height near times
+    (node.Some' i (halves.Halves' left right last_left first_right))) h e =
+    subst (λ (z : halves.Halves). IsListedOver
+    (node.Node' upper lower height near times (node.Some' i (halves.Halves' left right last_left first_right))) z)
+    (same_below e) record { entries = refl; points = refl; height = refl }
+
+-- so they are entries
+pub entries_are : (n : node.Node) → IsWellBuilt n → AreEntries (entries_below n)
+entries_are n h = record {
+  in_order = subst IsPointSet (sym (points_of_entries n)) (points_in_order (tree_of n) h.bridged);
+  held = held_of_entries n h.labelled;
+}
+
+-- which hold what the tree holds
+pub entries_hold : (n : node.Node) → held_listed (entries_below n) ≡ held_by (Some n)
+entries_hold n =
+    same_held (points_listed (entries_below n)) (points_below n) (λ q. times_listed (entries_below n) q) (times_below n)
+    (points_of_entries n) (λ q. times_of_entries n q)
+
+-- ---- two lists of entries
+
+-- an entry, so many times more among the first ones than before its place
+pub listed_more : (es : List (Pair × ℕ)) (i : ℕ) (e : Pair × ℕ) (q : Pair) → e ≡ get_or es i e → i < length es
+    → times_listed (take (i + 1) es) q ≡ times_listed (take i es) q + several e.1 e.0 q
+listed_more es i e q h l =
+    sum_by_more (λ (e : Pair × ℕ). several e.1 e.0 q) es i e l
+    ∙ ap (λ (z : Pair × ℕ). times_listed (take i es) q + several z.1 z.0 q) (sym h)
+
+-- and at least so often among all of them
+pub listed_past : (es : List (Pair × ℕ)) (i : ℕ) (e : Pair × ℕ) → e ≡ get_or es i e → i < length es
+    → times_listed (take i es) e.0 + e.1 ≤ times_listed es e.0
+listed_past es i e h l =
+    let a : times_listed (take i es) e.0 + several (get_or es i e).1 (get_or es i e).0 e.0 ≤ times_listed es e.0 =
+    sum_by_more_le (λ (z : Pair × ℕ). several z.1 z.0 e.0) es i e l in
+    let b : several (get_or es i e).1 (get_or es i e).0 e.0 ≡ e.1 =
+    subst (λ (z : Pair × ℕ). several z.1 z.0 e.0 ≡ e.1) h (several_there e.1 e.0) in
+    omega (arith, a, b)
+
+-- so often at most among the first ones
+pub listed_few : (es : List (Pair × ℕ)) (i : ℕ) (q : Pair) → times_listed (take i es) q ≤ times_listed es q
+listed_few es i q =
+    let a = sum_by-append (λ (e : Pair × ℕ). several e.1 e.0 q) (take i es) (drop i es) in
+    let b : times_listed (take i es ++ drop i es) q ≡ times_listed es q =
+    ap (λ z. times_listed z q) (take-append-drop i es) in
+    omega (arith, a, b)
+
+-- the entry at a place
+pub entry_there : (es : List (Pair × ℕ)) (i : ℕ) (e : Pair × ℕ) → AreEntries es → e ≡ get_or es i e → i < length es
+    → IsMultiplicity e.1
+entry_there es i e h g l =
+    subst (λ (z : Pair × ℕ). IsMultiplicity z.1) (sym g)
+    (All-get_or (λ (z : Pair × ℕ). IsMultiplicity z.1) es i e l h.held)
+
+-- no entry behind a place stands before the one there
+pub entry_behind : (es : List (Pair × ℕ)) (i k : ℕ) (d : Pair × ℕ) → AreEntries es → i < k → k < length es
+    → IsBefore (get_or es i d).0 (get_or es k d).0
+entry_behind es i k d h l m =
+    subst (λ (z : Pair). IsBefore z (get_or es k d).0) (get_or-map (λ (e : Pair × ℕ). e.0) es i d)
+    (subst (λ (z : Pair). IsBefore (get_or (points_listed es) i d.0) z) (get_or-map (λ (e : Pair × ℕ). e.0) es k d)
+    (h.in_order i k d.0 l (omega (arith, m, length-keys_of es))))
+
+-- the entry at a place, whatever stands for a missing one
+same_entry : (es : List (Pair × ℕ)) (i : ℕ) (d e : Pair × ℕ) → i < length es → get_or es i d ≡ get_or es i e
+same_entry [] i d e l = absurd (omega (arith, l))
+same_entry (x ∷ es) zero d e l = refl
+same_entry (x ∷ es) (suc i) d e l = same_entry es i d e (omega (arith, l))
+
+-- none of the entries from a place on stands before one of the points
+abbrev pub AreBehind : List (Pair × ℕ) → ℕ → List Pair → Type 0
+AreBehind es i points =
+    (t : Pair) → Contains points t → (k : ℕ) (d : Pair × ℕ) → i ≤ k → k < length es → ¬ IsBefore (get_or es k d).0 t
+
+-- the entry there came to the points: those behind it stand before none of them
+behind_taken : (es : List (Pair × ℕ)) (i : ℕ) (e : Pair × ℕ) (before after : List Pair) → AreEntries es
+    → e ≡ get_or es i e → i < length es → AreBehind es i before
+    → ((t : Pair) → Contains after t → Contains before t ⊎ (t ≡ e.0)) → AreBehind es (i + 1) after
+behind_taken es i e before after h g l b among t m k d n o p =
+    elim (among t m) [
+      | inl c ↦ b t c k d (omega (arith, n)) o p
+      | inr q ↦
+          let same : t ≡ (get_or es i d).0 = q ∙ ap (λ (z : Pair × ℕ). z.0) (g ∙ same_entry es i e d l) in
+          before_not (get_or es i d).0 (get_or es k d).0 (entry_behind es i k d h (omega (arith, n)) o)
+          (subst (IsBefore (get_or es k d).0) same p)
+    ]
+
+-- an entry came to them before which none of another list's stands that are left
+behind_other : (es fs : List (Pair × ℕ)) (i j : ℕ) (e : Pair × ℕ) (before after : List Pair) → AreEntries fs
+    → e ≡ get_or es i e → Precedes es i fs j → AreBehind fs j before
+    → ((t : Pair) → Contains after t → Contains before t ⊎ (t ≡ e.0)) → AreBehind fs j after
+behind_other es fs i j e before after h g s b among t m k d n o p =
+    elim (among t m) [
+      | inl c ↦ b t c k d n o p
+      | inr q ↦
+          let same : t ≡ (get_or es i d).0 = q ∙ ap (λ (z : Pair × ℕ). z.0) (g ∙ same_entry es i e d s.there) in
+          s.first d (omega (arith, n, o)) (reaches (subst (IsBefore (get_or fs k d).0) same p))
+    ]
+  where
+    reaches : IsBefore (get_or fs k d).0 (get_or es i d).0 → IsBefore (get_or fs j d).0 (get_or es i d).0
+    reaches a = elim (eq-or-lt_of_le n) [
+      | inl w ↦ rw w a
+      | inr c ↦ before_trans _ _ _ (entry_behind fs j k d h c o) a
+    ]
+
+-- so after a turn of the merging
+pub behind_both : (es fs : List (Pair × ℕ)) (i j : ℕ) (e : Pair × ℕ) (before after : List Pair) → AreEntries es
+    → AreEntries fs → e ≡ get_or es i e → Precedes es i fs j → AreBehind es i before → AreBehind fs j before
+    → ((t : Pair) → Contains after t → Contains before t ⊎ (t ≡ e.0)) → AreBehind es (i + 1) after × AreBehind fs j after
+behind_both es fs i j e before after h k g s a b among = (
+  behind_taken es i e before after h g s.there a among,
+  behind_other es fs i j e before after k g s b among,
+)
 
 -- ---- points in order
 -- a point that stands before another one

@@ -1,5 +1,5 @@
 -- Bridges that a change cannot have altered are those of the halves as they are.
-use Rattle.std.proofs.Common.{◌≡◌, ℕ, Bool, Box, Global, ◌⊎◌, sym, ap, subst, inl, inr, Some}
+use Rattle.std.proofs.Common.{◌≡◌, ℕ, Bool, Box, ◌⊎◌, sym, ap, subst, inl, inr, Some}
 use Rattle.std.specs.Prelude.{◌↔◌}
 use Rattle.std.specs.List.{Contains}
 use Rattle.std.proofs.lemmas.List.Elements.{Contains-append_left, Contains-append_right}
@@ -93,7 +93,7 @@ behind_fork c (node.Node' upper lower height near times
     }
 
 -- so is one that is rolled up of such parts
-pub rolled_behind : (c : Change) (e f : Pair × Pair) (k : ℕ) (s : Bool) (n : ℕ) (b : Box halves.Halves Global)
+pub rolled_behind : (c : Change) (e f : Pair × Pair) (k : ℕ) (s : Bool) (n : ℕ) (b : Box halves.Halves _)
     → WereBridges c (tree_of (left_half b.value)) (tree_of (right_half b.value)) e f
     → IsBehind c (node.roll-Node record { upper = e; lower = f; height = k; near = s; times = n; below = Some b })
 unfolding node.roll-Node node.out-Node denote.Hole.Carrier.out denote.Hole.Carrier.roll

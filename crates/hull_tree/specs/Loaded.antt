@@ -1,12 +1,14 @@
 -- What a tree is loaded with at once: points in order, each with how often it is held.
-use Rattle.std.specs.Prelude.{◌≡◌, ◌⊎◌, ℕ, ◌*◌, ◌^◌, ◌<◌, ◌≤◌, List, [], ◌∷◌, length, slice_index_or}
-use Rattle.std.specs.List.{All, Contains, sum_by}
+use Rattle.std.specs.Prelude.{◌≡◌, ◌⊎◌, ℕ, ◌*◌, ◌^◌, ◌<◌, ◌≤◌, List, [], ◌∷◌, ◌++◌, length, slice_index_or}
+use Rattle.std.specs.List.{All, sum_by}
 use Rattle.std.specs.Map.{keys_of}
 use Rattle.lattice.specs.Plane.{Pair, IsBefore}
 use Rattle.lattice.specs.Covers.{IsPointSet}
 use Rattle.hull_plain.specs.Held.{Held, once, with_new}
 use Rattle.hull_plain.specs.declared.TheConstants.{MULTIPLICITY_LIMIT}
 use Rattle.hull_tree.specs.declared.node.Node.{Node}
+use Rattle.hull_tree.specs.declared.node.Node as node
+use Rattle.hull_tree.specs.declared.node.Halves as halves
 use Rattle.hull_tree.specs.Nodes.{several, times_below, IsMultiplicity, IsWellBuilt}
 use Rattle.hull_tree.specs.Changes.{points_below, height_at}
 
@@ -26,6 +28,12 @@ held_listed entries = record { points = points_listed entries; times = λ q. tim
 pub record AreEntries (entries : List (Pair × ℕ)) : Type 0 where
   pub in_order : IsPointSet (points_listed entries)
   pub held : All (λ (e : Pair × ℕ). IsMultiplicity e.1) entries
+
+-- the points below a node in order, each with how often it is held
+abbrev pub entries_below : Node → List (Pair × ℕ)
+entries_below (node.Node' upper lower height near times node.None') = (upper.0, times) ∷ []
+entries_below (node.Node' upper lower height near times
+    (node.Some' i (halves.Halves' left right last_left first_right))) = entries_below left ++ entries_below right
 
 -- so often n is halved, rounded up, until one is left
 abbrev pub IsHalvings : ℕ → ℕ → Type 0
@@ -53,8 +61,13 @@ abbrev pub IsAscending : List Pair → Type 0
 IsAscending points = (i j : ℕ) (d : Pair) → i ≤ j → j < length points
     → ¬ IsBefore (slice_index_or points j d) (slice_index_or points i d)
 
--- one of the points stands among them more often than a point may be held, or more points than the limit do
-abbrev pub AreTooMany : List Pair → ℕ → Type 0
-AreTooMany points limit =
-    ((q : Pair) × (MULTIPLICITY_LIMIT < times_among points q))
-    ⊎ ((S : List Pair) × IsPointSet S × ((t : Pair) → Contains S t → 1 ≤ times_among points t) × (limit < length S))
+-- the entry at i of one list does not stand after that at j of another, if one is there
+pub record Precedes (xs : List (Pair × ℕ)) (i : ℕ) (ys : List (Pair × ℕ)) (j : ℕ) : Type 0 where
+  pub there : i < length xs
+  pub first : (d : Pair × ℕ) → j < length ys → ¬ IsBefore (slice_index_or ys j d).0 (slice_index_or xs i d).0
+
+-- with the points added one by one, a point would be held more often than one may be, or more points than the limit
+abbrev pub AreTooMany : Held → List Pair → ℕ → Type 0
+AreTooMany held points limit =
+    ((q : Pair) × (MULTIPLICITY_LIMIT < (held_after_adds held points).times q))
+    ⊎ (limit < length (held_after_adds held points).points)

@@ -17,6 +17,7 @@ use super::node_ref::NodeRef;
 use bridge_search::{
     Counted, Near, both_bridges_between, lower_bridge_counted, upper_bridge_counted,
 };
+use heap::Heap;
 use lattice::{Point, before, orient};
 use std::mem;
 
@@ -44,7 +45,7 @@ pub(crate) fn take_halves(halves: &mut Halves) -> (Node, Node)
 }
 
 /// A fork taken apart: its left and its right half, and their box, which keeps the points at their parting.
-fn taken_apart(node: Node) -> (Node, Node, Box<Halves>)
+fn taken_apart(node: Node) -> (Node, Node, Box<Halves, Heap>)
     requires built { IsWellBuilt node }
     requires fork { IsFork (tree_of node) }
     ensures halves { halves_of node ≡ Some (result.0, result.1) }
@@ -377,7 +378,7 @@ pub(crate) fn renew_after(node: &mut Node, change: Change) -> u32
 
 /// The fork over two halves, in a box that keeps the points at their parting, and how many turns the searches for its
 /// bridges took.
-pub(crate) fn joined(mut spare: Box<Halves>, left: Node, right: Node) -> (Node, u32)
+pub(crate) fn joined(mut spare: Box<Halves, Heap>, left: Node, right: Node) -> (Node, u32)
     requires parted { IsPartedAt left right (before_parting spare.value) (after_parting spare.value) }
     requires balanced { DifferByAtMost 1 (height_at left) (height_at right) }
     requires low { max (height_at left) (height_at right) ≤ 28 }
@@ -409,7 +410,7 @@ pub(crate) fn joined(mut spare: Box<Halves>, left: Node, right: Node) -> (Node, 
 
 /// The fork over two halves of which the left one is two higher, after a rotation to the right, double where the left
 /// half leans to the right.
-fn rotated_right(spare: Box<Halves>, left: Node, right: Node) -> (Node, u32)
+fn rotated_right(spare: Box<Halves, Heap>, left: Node, right: Node) -> (Node, u32)
     requires parted { IsPartedAt left right (before_parting spare.value) (after_parting spare.value) }
     requires two_higher { height_at left ≡ height_at right + 2 }
     requires low { height_at left ≤ 28 }
@@ -436,7 +437,7 @@ fn rotated_right(spare: Box<Halves>, left: Node, right: Node) -> (Node, u32)
 
 /// The fork over two halves of which the right one is two higher, after a rotation to the left, double where the right
 /// half leans to the left.
-fn rotated_left(spare: Box<Halves>, left: Node, right: Node) -> (Node, u32)
+fn rotated_left(spare: Box<Halves, Heap>, left: Node, right: Node) -> (Node, u32)
     requires parted { IsPartedAt left right (before_parting spare.value) (after_parting spare.value) }
     requires two_higher { height_at right ≡ height_at left + 2 }
     requires low { height_at right ≤ 28 }

@@ -14,6 +14,7 @@ ghost use Rattle.hull_tree.specs.Turns.{IsCostAtMost};
 use super::build::{Change, joined, take_halves};
 use super::node::{Halves, Node, first_of, last_of};
 use super::renewal::Renewal;
+use heap::Heap;
 use hull_plain::MULTIPLICITY_LIMIT;
 use lattice::{Point, before};
 
@@ -99,7 +100,7 @@ pub(crate) fn lower(node: &mut Node, p: Point) -> u32
 }
 
 /// The fork over two points, each of them held so many times, whose halves lie in a box that is there.
-fn parted(mut spare: Box<Halves>, first: (Point, u32), last: (Point, u32)) -> Node
+fn parted(mut spare: Box<Halves, Heap>, first: (Point, u32), last: (Point, u32)) -> Node
     requires in_order { IsBefore first.0 last.0 }
     requires times_first { IsMultiplicity first.1 }
     requires times_last { IsMultiplicity last.1 }
@@ -121,7 +122,7 @@ fn parted(mut spare: Box<Halves>, first: (Point, u32), last: (Point, u32)) -> No
 }
 
 /// The fork over a point that is held so many times and a new one, whose halves lie in a box that is there.
-fn beside(point: Point, times: u32, p: Point, spare: Box<Halves>) -> Node
+fn beside(point: Point, times: u32, p: Point, spare: Box<Halves, Heap>) -> Node
     requires new { ¬ (p ≡ point) }
     requires times { IsMultiplicity times }
     ensures built { IsWellBuilt result }
@@ -150,7 +151,7 @@ fn reach(last: &mut Point, p: Point)
 /// Adds a point below a node; its halves lie in a box that is there. Each fork on the way to the point is renewed in
 /// the way `R`. Tells how many turns the searches took: at most 336 a level, and what is known of that way.
 #[cycle(insert)]
-pub(crate) fn insert<R: Renewal>(node: &mut Node, p: Point, spare: Box<Halves>) -> u32
+pub(crate) fn insert<R: Renewal>(node: &mut Node, p: Point, spare: Box<Halves, Heap>) -> u32
     requires built { IsWellBuilt node.old }
     requires absent { ¬ Contains (points_below node.old) p }
     requires low { height_at node.old ≤ 28 }
@@ -175,7 +176,7 @@ pub(crate) fn insert<R: Renewal>(node: &mut Node, p: Point, spare: Box<Halves>) 
 
 /// Adds a point to the half that it belongs to, and keeps the points at the parting.
 #[cycle(insert)]
-fn insert_below<R: Renewal>(halves: &mut Halves, p: Point, spare: Box<Halves>) -> u32
+fn insert_below<R: Renewal>(halves: &mut Halves, p: Point, spare: Box<Halves, Heap>) -> u32
     requires parted { AreParted halves.old }
     requires absent { ¬ Contains (points_within halves.old) p }
     requires low { height_within halves.old ≤ 28 }

@@ -8,6 +8,7 @@ ghost use Rattle.hull_tree.specs.declared.node.Node.{Node};
 ghost use Rattle.hull_tree.specs.Nodes.{tree_of, halves_of, point_of, multiplicity_of, several, times_below};
 ghost use Rattle.hull_tree.specs.Nodes.{IsMultiplicity, IsLabelled};
 
+use heap::Heap;
 use lattice::{Point, is_near};
 
 /// A part of the tree: one point, or a fork over two parts.
@@ -24,7 +25,7 @@ pub struct Node {
     pub(crate) height: u16,
     pub(crate) near: bool,
     pub(crate) times: u32,
-    pub(crate) below: Option<Box<Halves>>,
+    pub(crate) below: Option<Box<Halves, Heap>>,
 }
 
 /// The two halves of a fork, all of the left one before all of the right one, and the two points at their parting.

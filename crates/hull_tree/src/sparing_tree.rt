@@ -1,4 +1,4 @@
-ghost use Rattle.std.specs.Prelude.{◌≡◌, ◌≤◌, length, IfOk, IfErr, Err, None};
+ghost use Rattle.std.specs.Prelude.{◌≡◌, ◌≢◌, ◌≤◌, length, IfOk, IfErr, Err, None};
 ghost use Rattle.hull_plain.specs.Held.{nothing_held};
 ghost use Rattle.hull_plain.specs.Replies.{Answers, after, reply_to_add, reply_to_remove};
 ghost use Rattle.hull_tree.specs.Loaded.{AreEntries, held_listed, held_after_adds, AreTooMany};
@@ -8,9 +8,9 @@ ghost use Rattle.hull_tree.specs.Sets.{IsSound};
 use super::load::LoadFault;
 use super::renewal::KeepsWhatStands;
 use super::tree::HullTree;
+use heap::Heap;
 use hull_plain::{AddReply, Call, HullSet, NoMemory, POINT_LIMIT, Place, RemoveReply, Rules};
 use lattice::{Direction, Point};
-use std::alloc::Global;
 use std::marker::Model;
 
 /// The set of points that a [`HullTree`] is, with changes that keep each stored bridge which they cannot have altered.
@@ -38,7 +38,7 @@ impl Model for SparingTree {
 
 impl SparingTree {
     /// The empty set, which takes `limit` points at most. Asks for no memory; `add` and `vertices` ask `alloc`.
-    pub fn new(alloc: Global, limit: u32) -> SparingTree
+    pub fn new(alloc: Heap, limit: u32) -> SparingTree
         requires low { 1 ≤ limit }
         requires high { limit ≤ POINT_LIMIT }
         ensures { result ≡ record { limit = limit; root = None } }
@@ -51,7 +51,7 @@ impl SparingTree {
     /// The set of some points in order, each with how often it is held, as
     /// [`HullTree::from_entries`](HullTree::from_entries) makes it.
     pub fn from_entries(
-        alloc: Global,
+        alloc: Heap,
         limit: u32,
         entries: &[(Point, u32)],
     ) -> Result<SparingTree, NoMemory>
@@ -70,20 +70,37 @@ impl SparingTree {
 
     /// The set of some points in any order, each held as often as it stands among them, as
     /// [`HullTree::from_points`](HullTree::from_points) makes it.
-    pub fn from_points(
-        alloc: Global,
-        limit: u32,
-        points: &[Point],
-    ) -> Result<SparingTree, LoadFault>
+    pub fn from_points(alloc: Heap, limit: u32, points: &[Point]) -> Result<SparingTree, LoadFault>
         requires high { limit ≤ POINT_LIMIT }
         requires low { 1 ≤ limit }
         ensures held { IfOk result (λ tree. held_by tree.root ≡ held_after_adds nothing_held points.now) }
         ensures limit { IfOk result (λ tree. tree.limit ≡ limit) }
         ensures sound { IfOk result (λ tree. IsSound tree.root) }
-        ensures too_many { result ≡ Err LoadFault.TooMany → AreTooMany points.now limit }
+        ensures too_many { result ≡ Err LoadFault.TooMany → AreTooMany nothing_held points.now limit }
     {
         let tree = HullTree::from_points(alloc, limit, points)?;
         Ok(SparingTree { tree })
+    }
+
+    /// The points in order, each with how often it is held, as [`HullTree::entries`](HullTree::entries).
+    pub fn entries(&self) -> Result<Vec<(Point, u32), Heap>, NoMemory>
+        ensures entries { IfOk result (λ entries. AreEntries entries.items) }
+        ensures held { IfOk result (λ entries. held_listed entries.items ≡ held_by self.now.root) }
+        ensures refused { IfErr result (λ _. self.now.root ≢ None) }
+    {
+        self.tree.entries()
+    }
+
+    /// Adds points in any order, all or none of them, as [`HullTree::extend`](HullTree::extend).
+    pub fn extend(&mut self, points: &[Point]) -> Result<(), LoadFault>
+        ensures held { IfOk result (λ _. held_by self.new.root ≡ held_after_adds (held_by self.old.root) points.now) }
+        ensures fault { IfErr result (λ _. self.new ≡ self.old) }
+        ensures too_many { result ≡ Err LoadFault.TooMany
+            → AreTooMany (held_by self.old.root) points.now self.old.limit }
+        ensures limit { self.new.limit ≡ self.old.limit }
+        ensures sound { IsSound self.new.root }
+    {
+        self.tree.extend(points)
     }
 
     /// Holds `p` once more, as [`add`](HullSet::add), and tells how many turns the searches of bridges took: at most
@@ -154,7 +171,7 @@ impl HullSet for SparingTree {
         self.tree.tangents(q)
     }
 
-    fn vertices(&self) -> Result<Vec<Point>, NoMemory> {
+    fn vertices(&self) -> Result<Vec<Point, Heap>, NoMemory> {
         self.tree.vertices()
     }
 

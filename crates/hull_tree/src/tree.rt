@@ -11,17 +11,17 @@ ghost use Rattle.hull_tree.specs.Turns.{IsCountBy, IsLeastCount, IsLeafDepth};
 
 use super::build::blank;
 use super::change::{insert, is_leaf, lower, raise, remove, times_of};
-use super::load::{LoadFault, entries_of, node_over};
+use super::load::{LoadFault, entries_of, merged_entries, node_over, push_entries};
 use super::node::Node;
 use super::node_ref::NodeRef;
 use super::renewal::{Renewal, SearchesAll};
 use bridge_search::Half;
+use heap::Heap;
 use hull_plain::{
     AddReply, Call, HullSet, MULTIPLICITY_LIMIT, NoMemory, POINT_LIMIT, Place, RemoveReply, Rules,
 };
 use hull_questions::{area2, extreme_counted, place, tangents, vertices};
 use lattice::{Direction, Point};
-use std::alloc::Global;
 use std::marker::Model;
 
 /// A set of points as a balanced leaf tree, whose forks keep the bridges of their two halves, and whose leaves keep how
@@ -35,7 +35,7 @@ pub struct HullTree {
     root: Option<Node>,
     count: u32,
     limit: u32,
-    alloc: Global,
+    alloc: Heap,
 }
 
 impl Model for HullTree {
@@ -54,7 +54,7 @@ impl Model for HullTree {
 
 impl HullTree {
     /// The empty set, which takes `limit` points at most. Asks for no memory; `add` and `vertices` ask `alloc`.
-    pub fn new(alloc: Global, limit: u32) -> HullTree
+    pub fn new(alloc: Heap, limit: u32) -> HullTree
         requires low { 1 ≤ limit }
         requires high { limit ≤ POINT_LIMIT }
         ensures { result ≡ record { limit = limit; root = None } }
@@ -71,7 +71,7 @@ impl HullTree {
     /// once, from the points up: so this takes a small part of the time of adding them one by one. `NoMemory` comes
     /// only for some points, and leaves nothing behind.
     pub fn from_entries(
-        alloc: Global,
+        alloc: Heap,
         limit: u32,
         entries: &[(Point, u32)],
     ) -> Result<HullTree, NoMemory>
@@ -97,20 +97,55 @@ impl HullTree {
     /// The set of some points in any order, each held as often as it stands among them, with room for `limit` points:
     /// what adding them one by one makes, in a small part of the time. `TooMany` comes where adding them would answer
     /// it; a fault leaves nothing behind.
-    pub fn from_points(alloc: Global, limit: u32, points: &[Point]) -> Result<HullTree, LoadFault>
+    pub fn from_points(alloc: Heap, limit: u32, points: &[Point]) -> Result<HullTree, LoadFault>
         requires high { limit ≤ POINT_LIMIT }
         requires low { 1 ≤ limit }
         ensures held { IfOk result (λ tree. held_by tree.root ≡ held_after_adds nothing_held points.now) }
         ensures times { IfOk result (λ tree. (q : Pair) → times_of_root tree.root q ≡ times_among points.now q) }
         ensures limit { IfOk result (λ tree. tree.limit ≡ limit) }
         ensures sound { IfOk result (λ tree. IsSound tree.root) }
-        ensures too_many { result ≡ Err LoadFault.TooMany → AreTooMany points.now limit }
+        ensures too_many { result ≡ Err LoadFault.TooMany → AreTooMany nothing_held points.now limit }
     {
         let entries = entries_of(alloc, points)?;
         if entries.len() > limit as usize {
             return Err(LoadFault::TooMany);
         }
         Ok(HullTree::from_entries(alloc, limit, &entries)?)
+    }
+
+    /// The points in order, each with how often it is held. `NoMemory` comes only for some points.
+    pub fn entries(&self) -> Result<Vec<(Point, u32), Heap>, NoMemory>
+        ensures entries { IfOk result (λ entries. AreEntries entries.items) }
+        ensures held { IfOk result (λ entries. held_listed entries.items ≡ held_by self.now.root) }
+        ensures refused { IfErr result (λ _. self.now.root ≢ None) }
+    {
+        let Some(root) = &self.root else {
+            return Ok(Vec::new(self.alloc));
+        };
+        let mut entries = Vec::with_capacity(self.alloc, self.count as usize)?;
+        push_entries(root, &mut entries);
+        Ok(entries)
+    }
+
+    /// Adds points in any order, all or none of them: what adding them one by one makes. The tree is built anew beside the
+    /// old one, from the points of both. `TooMany` comes where adding them would answer it; after a fault the set holds what
+    /// it held.
+    pub fn extend(&mut self, points: &[Point]) -> Result<(), LoadFault>
+        ensures held { IfOk result (λ _. held_by self.new.root ≡ held_after_adds (held_by self.old.root) points.now) }
+        ensures fault { IfErr result (λ _. self.new ≡ self.old) }
+        ensures too_many { result ≡ Err LoadFault.TooMany
+            → AreTooMany (held_by self.old.root) points.now self.old.limit }
+        ensures limit { self.new.limit ≡ self.old.limit }
+        ensures sound { IsSound self.new.root }
+    {
+        let added = entries_of(self.alloc, points)?;
+        let held = self.entries()?;
+        let entries = merged_entries(self.alloc, &held, &added)?;
+        if entries.len() > self.limit as usize {
+            return Err(LoadFault::TooMany);
+        }
+        *self = HullTree::from_entries(self.alloc, self.limit, &entries)?;
+        Ok(())
     }
 
     /// The tree's own root; `None` for the empty set.
@@ -293,7 +328,7 @@ impl HullSet for HullTree {
         tangents(self.half()?, q)
     }
 
-    fn vertices(&self) -> Result<Vec<Point>, NoMemory> {
+    fn vertices(&self) -> Result<Vec<Point, Heap>, NoMemory> {
         match self.half() {
             None => Ok(Vec::new(self.alloc)),
             Some(half) => Ok(vertices(self.alloc, half)?),

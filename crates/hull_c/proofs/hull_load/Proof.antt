@@ -15,8 +15,8 @@ use Rattle.hull_reply.proofs.Steps.{heard, peeks, calls_at, Lasts, lasts, triple
 use Rattle.hull_reply.proofs.Steps.{Goes-dropped, ends_at, framed}
 use Rattle.hull_tree.specs.contracts.sparing_tree.SparingTree.{the_row as R}
 use base.Fml.{fex, fsep}
-use Rattle.std.proofs.alloc.Global.TheLaws as heap_laws
-use Rattle.std.specs.contracts.alloc.Global.{the_row as Heap}
+use Rattle.heap.proofs.Laws as heap_laws
+use Rattle.heap.specs.Rows.{heap_row as Heap}
 use denote.Builtin.{SliceRefOf}
 use denote.Slice.{ShrSlice, shr_slice_vals, shr_slice_Tells, shr_slice_Lawful}
 use Rattle.hull_reply.specs.contracts.corners.HullPoint.{the_row as Pt}

@@ -27,8 +27,8 @@ use mir.Val.{vunit}
 use borrow.Table.OneValue.{part_in}
 use denote.RawPtr.{room_at}
 use base.Fml.{fex, fsep}
-use Rattle.std.proofs.alloc.Global.TheLaws as heap_laws
-use Rattle.std.specs.contracts.alloc.Global.{the_row as Heap}
+use Rattle.heap.proofs.Laws as heap_laws
+use Rattle.heap.specs.Rows.{heap_row as Heap}
 
 abbrev stayed : Stays f.ended.signature.params f.ended.kept
 stayed = (stay_dropped _ yes, (stay_dropped _ yes, (stay_dropped _ yes, tt)))

@@ -1,57 +1,80 @@
 //! The vertices of a hull.
-ghost use Rattle.std.specs.Prelude.{◌≡◌, ◌≤◌, [], IfOk, vec_len};
-ghost use Rattle.lattice.specs.Plane.{IsBefore};
+ghost use Rattle.std.specs.Prelude.{◌≡◌, ◌≤◌, IfOk, vec_len};
 ghost use Rattle.lattice.specs.Vertices.{IsVertexList};
 ghost use Rattle.bridge_search.specs.Trees.{first_of, last_of, size_of};
 ghost use Rattle.bridge_search.specs.Leaves.{points_of};
-ghost use Rattle.hull_questions.specs.Walks.{IsLowerOutline};
+ghost use Rattle.hull_questions.specs.Stretches.{IsStretch};
+ghost use Rattle.hull_questions.specs.Walks.{IsListed, upright};
 
-use crate::corners::{next_lower, next_upper};
-use bridge_search::Half;
+use crate::stretches::{Course, course_of};
+use bridge_search::{Half, Turned};
+use heap::Heap;
 use lattice::{Point, before};
-use std::alloc::{AllocError, Global};
+use std::alloc::AllocError;
 
-/// Appends the vertices along the lower chain, from the first point to the last.
-fn push_lower_chain<H: Half>(half: H, out: &mut Vec<Point>) -> Result<(), AllocError>
-    requires empty { out.old.items ≡ [] }
-    ensures { IfOk result (λ _. IsLowerOutline (H.tree half) (last_of (H.tree half)) out.new.items) }
-{
-    let last = half.last();
-    let mut v = half.first();
-    out.push(v)?;
-    while before(v, last) {
-        v = next_lower(half, v);
-        out.push(v)?;
-    }
-    Ok(())
+/// Which chain of a hull the lower chain of a half is.
+#[derive(Clone, Copy)]
+enum Side {
+    /// The lower one.
+    Lower,
+    /// The upper one: the half is turned by 180 degrees.
+    Upper,
 }
 
-/// Appends the vertices along the upper chain, strictly between the last point and the first.
-fn push_upper_chain<H: Half>(half: H, out: &mut Vec<Point>) -> Result<(), AllocError>
-    requires some { IsBefore (first_of (H.tree half)) (last_of (H.tree half)) }
-    requires lower { IsLowerOutline (H.tree half) (last_of (H.tree half)) out.old.items }
-    ensures { IfOk result (λ _. IsVertexList (points_of (H.tree half)) out.new.items) }
+/// A corner of the half's lower chain as the corner of the hull that it is.
+fn seen_from(side: Side, corner: Point) -> Point
+    ensures { result ≡ upright side corner }
 {
-    let first = half.first();
-    let mut v = next_upper(half, half.last());
-    while before(first, v) {
-        out.push(v)?;
-        v = next_upper(half, v);
+    match side {
+        Side::Lower => corner,
+        Side::Upper => corner.turned(),
     }
-    Ok(())
+}
+
+/// Appends the corners of the lower chain of a half from one corner to another, which is left out.
+fn push_stretch<H: Half>(
+    half: H,
+    from: Point,
+    to: Point,
+    side: Side,
+    out: &mut Vec<Point, Heap>,
+) -> Result<(), AllocError>
+    requires { IsStretch (H.tree half) from to }
+    ensures { IfOk result (λ _. IsListed (H.tree half) from to side out.old.items out.new.items) }
+{
+    match course_of(half, from, to) {
+        Course::Nowhere => Ok(()),
+        Course::Left => push_stretch(half.left(), from, to, side, out),
+        Course::Right => push_stretch(half.right(), from, to, side, out),
+        Course::Across(bridge) => {
+            push_stretch(half.left(), from, bridge.0, side, out)?;
+            out.push(seen_from(side, bridge.0))?;
+            push_stretch(half.right(), bridge.1, to, side, out)
+        }
+    }
+}
+
+/// Appends the corners of the lower chain of a half but the last.
+fn push_chain<H: Half>(half: H, side: Side, out: &mut Vec<Point, Heap>) -> Result<(), AllocError>
+    ensures { IfOk result (λ _. IsListed (H.tree half) (first_of (H.tree half))
+        (last_of (H.tree half)) side out.old.items out.new.items) }
+{
+    push_stretch(half, half.first(), half.last(), side, out)
 }
 
 /// The vertices of the hull of a half, counterclockwise from the first point; no more than there are points.
 ///
-/// Each step to the next vertex is one way down the bridges. An `Err` comes only where `alloc` refuses memory.
-pub fn vertices<H: Half>(alloc: Global, half: H) -> Result<Vec<Point>, AllocError>
+/// Each chain is one way through the stored bridges that goes only where its corners are: through the forks above those
+/// whose bridges are its edges, each once. In a balanced half of n points with h vertices these are O(h log(n / h +
+/// 1)). An `Err` comes only where `alloc` refuses memory.
+pub fn vertices<H: Half>(alloc: Heap, half: H) -> Result<Vec<Point, Heap>, AllocError>
     ensures vertices { IfOk result (λ v. IsVertexList (points_of (H.tree half)) v.items) }
     ensures few { IfOk result (λ v. vec_len v ≤ size_of (H.tree half)) }
 {
     let mut out = Vec::new(alloc);
     if before(half.first(), half.last()) {
-        push_lower_chain(half, &mut out)?;
-        push_upper_chain(half, &mut out)?;
+        push_chain(half, Side::Lower, &mut out)?;
+        push_chain(Turned::new(half), Side::Upper, &mut out)?;
     } else {
         out.push(half.first())?;
     }

@@ -13,10 +13,10 @@ returns-then-corners-lt2 c = (
       small_list c.args.corners.now c.if-corners-lt2.true,
     ),
   ),
-  λ n. absurd (omega (arith, n, c.if-corners-lt2.true)),
+  (λ n. n, λ n. absurd (omega (arith, n, c.if-corners-lt2.true))),
 )
 
 pub returns-then-is_round : goal.returns-then-is_round
 returns-then-is_round c =
     let r = c.is_round.ensures.0 c.if-is_round.true in
-    (round_is_outline c.args.corners.now c.summit-last.result r, λ n. r)
+    (round_is_outline c.args.corners.now c.summit-last.result r, (λ n. c.summit-last.ensures.within, λ n. r))

@@ -16,7 +16,8 @@ count_in-requires-clause-last c = λ t m b.
 pub returns-then-not-count_in-clause-too_often : goal.returns-then-not-count_in-clause-too_often
 returns-then-not-count_in-clause-too_often c = λ _.
     let p = c.index-points-i.result in
-    let a : MULTIPLICITY_LIMIT ≤ times_listed c.loop-i.entries.items p = c.if-not-count_in.ensures.too_often refl in
+    let a : MULTIPLICITY_LIMIT < times_listed c.loop-i.entries.items p + 1 =
+    c.if-not-count_in.ensures.too_often refl in
     let b : times_listed c.loop-i.entries.items p ≡ times_among (take c.loop-i.i c.args.points.now) p =
     c.loop-i.invariant.times p in
     let d : times_among (take c.loop-i.i c.args.points.now) p + 1 ≤ times_among c.args.points.now p =

@@ -1,20 +1,24 @@
--- the lower chain and then the upper chain, without the points where they meet again, are the vertex list
+-- the lower chain and then the upper chain, each without its last corner, are the vertex list
 use Rattle.std.proofs.Common.{arith}
 use Rattle.bridge_search.specs.Trees.{Tree}
 use Rattle.bridge_search.specs.Leaves.{points_of}
 use Rattle.bridge_search.proofs.Leaves.{size_is_length}
-use Rattle.bridge_search.proofs.Signs.{failed}
+use Rattle.bridge_search.proofs.Signs.{passed, failed}
 use Rattle.hull_plain.proofs.FewVertices.{vertices_few}
-use Rattle.hull_questions.proofs.Walked.{vertices_alone}
+use Rattle.hull_questions.proofs.Walked.{both_listed, vertices_alone}
 use Rattle.hull_questions.proofs.questions.vertices.vertices.Goals as goal
-use Rattle.hull_questions.proofs.questions.vertices.vertices.Goals.{then-before+in_ok-push_lower_chain+in_ok-push_upper_chain}
+use Rattle.hull_questions.proofs.questions.vertices.vertices.Goals.{then-before+in_ok-push_chain+in_ok-push_chain-2}
 use Rattle.hull_questions.proofs.questions.vertices.vertices.Goals.{else-before+in_ok-push}
 
 pub returns-clause-vertices : goal.returns-clause-vertices
 returns-clause-vertices g c =
     let t : Tree = g.H.Half.tree c.args.half in
     elim c.if-before.branch [
-      | then-before+in_ok-push_lower_chain+in_ok-push_upper_chain w ↦ rw w.out-is w.in_ok-push_upper_chain.ensures
+      | then-before+in_ok-push_chain+in_ok-push_chain-2 w ↦
+          both_listed t _ _ (g.met.H.Half.bridged c.args.half)
+          (rw (c.first.ensures, c.last.ensures) at (passed c.before-2.result _ w.if-before.true c.before-2.ensures))
+          (rw c.new-out.ensures.items at w.in_ok-push_chain.ensures)
+          (rw (w.new.ensures, ← w.out-is) at w.in_ok-push_chain-2.ensures)
       | else-before+in_ok-push w ↦
           rw (w.out-is, w.in_ok-push.ensures.items, c.new-out.ensures.items, w.first-else-before.ensures)
           (vertices_alone t (g.met.H.Half.bridged c.args.half)

@@ -1,20 +1,39 @@
 -- more entries than the limit are more points; and what is held as often as it stands among the points is what adding
 -- them leaves
-use Rattle.std.proofs.Common.{ap, ◌∙◌}
-use Rattle.hull_plain.specs.Held.{Held}
-use Rattle.hull_tree.specs.Loaded.{times_listed}
-use Rattle.hull_tree.proofs.AddedSets.{loaded_is_added}
-use Rattle.hull_tree.proofs.Counting.{too_many}
-use Rattle.std.proofs.Common.{arith}
+use Rattle.std.proofs.Common.{ap, ◌∙◌, arith, inl, inr, length, rules, ◌<◌}
+use Rattle.lattice.specs.Plane.{Pair}
+use Rattle.hull_plain.specs.declared.TheConstants.{MULTIPLICITY_LIMIT}
+use Rattle.std.proofs.lemmas.Map.Entries.{length-keys_of}
+use Rattle.hull_plain.specs.Held.{Held, nothing_held}
+use Rattle.hull_tree.specs.Loaded.{times_listed, times_among, held_listed}
+use Rattle.hull_tree.specs.Roots.{held_by}
+use Rattle.hull_tree.proofs.AddedSets.{same_as_added, nothing_is_held, entries_held, root_held, after_times}
 use Rattle.hull_tree.proofs.tree.HullTree.from_points.Goals as goal
 
 pub returns-then-len-limit-clause-too_many : goal.returns-then-len-limit-clause-too_many
 returns-then-len-limit-clause-too_many c = λ _.
-    too_many c.in_ok-entries.entries.items c.args.points.now c.args.limit c.in_ok-entries.ensures.entries c.in_ok-entries.ensures.times
-    (omega (arith, c.if-len-limit.true, c.len.ensures))
+    inr (omega (
+      arith,
+      c.if-len-limit.true,
+      c.len.ensures,
+      length-keys_of c.in_ok-entries.entries.items,
+      ap (λ (h : Held). length h.points)
+          (same_as_added nothing_held (held_listed c.in_ok-entries.entries.items) c.args.points.now nothing_is_held
+          (entries_held _ c.in_ok-entries.ensures.entries)
+          (λ q. omega (arith, c.in_ok-entries.ensures.times q))),
+    ))
 
 pub returns-clause-held : goal.returns-clause-held
 returns-clause-held c =
-    loaded_is_added c.in_ok-from_entries.field-0.root c.args.points.now c.in_ok-from_entries.ensures.sound
-    (λ q. ap (λ (z : Held). z.times q) c.in_ok-from_entries.ensures.held
-    ∙ ap (λ z. times_listed z q) c.deref.ensures.value ∙ c.in_ok-entries.ensures.times q)
+    same_as_added nothing_held (held_by c.in_ok-from_entries.field-0.root) c.args.points.now nothing_is_held
+    (root_held c.in_ok-from_entries.field-0.root c.in_ok-from_entries.ensures.sound)
+    (λ q. omega (
+      arith,
+      ap (λ (z : Held). z.times q) c.in_ok-from_entries.ensures.held
+          ∙ ap (λ z. times_listed z q) c.deref.ensures.value ∙ c.in_ok-entries.ensures.times q,
+    ))
+
+pub returns-in_err-entries-clause-too_many : goal.returns-in_err-entries-clause-too_many
+returns-in_err-entries-clause-too_many c = λ e.
+    let f : (q : Pair) × (MULTIPLICITY_LIMIT < times_among c.args.points.now q) = search rules in
+    inl (f.0, omega (arith, f.1, after_times c.args.points.now nothing_held f.0))

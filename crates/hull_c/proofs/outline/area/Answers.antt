@@ -1,0 +1,10 @@
+-- What the outline answers is allowed for each set with its corners.
+use Rattle.hull_plain.specs.declared.reply.Reply.TheVariants.{DoubledArea}
+use Rattle.hull_c.proofs.outline.area.Goals as goal
+
+pub returns : goal.returns
+returns c = record {
+  reply = DoubledArea c.area2.result;
+  tells = c.told.ensures;
+  allowed = λ held limit of. c.area2.ensures held.points of;
+}

@@ -1,0 +1,10 @@
+-- What the outline answers is allowed for each set with its corners.
+use Rattle.hull_plain.specs.declared.reply.Reply.TheVariants.{Lies}
+use Rattle.hull_c.proofs.outline.place.Goals as goal
+
+pub returns : goal.returns
+returns c = record {
+  reply = Lies c.place.result;
+  tells = c.told.ensures;
+  allowed = λ held limit of. c.place.ensures held.points of;
+}

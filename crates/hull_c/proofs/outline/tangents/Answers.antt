@@ -1,0 +1,12 @@
+-- What the outline answers is allowed for each set with its corners.
+use Rattle.std.proofs.Common.{subst}
+use Rattle.hull_reply.specs.Told.{Tells}
+use Rattle.hull_plain.specs.Replies.{reply_to_tangents}
+use Rattle.hull_c.proofs.outline.tangents.Goals as goal
+
+pub returns : goal.returns
+returns c = record {
+  reply = reply_to_tangents c.tangents.result;
+  tells = subst (Tells c.told.result) c.tangents_reply.ensures c.told.ensures;
+  allowed = λ held limit of. c.tangents.ensures held.points of;
+}

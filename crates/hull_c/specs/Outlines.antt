@@ -1,0 +1,49 @@
+-- What asking an outline comes to, in numbers.
+use Rattle.std.specs.Prelude.{◌≡◌, ◌≢◌, ◌⊎◌, ℕ, ℤ, List, [], length, Result, Ok, Err}
+use Rattle.std.specs.List.{All}
+use Rattle.lattice.specs.Plane.{Pair}
+use Rattle.hull_plain.specs.Held.{Held}
+use Rattle.hull_plain.specs.Replies.{Answers}
+use Rattle.hull_plain.specs.declared.call.Call.{Call}
+use Rattle.hull_plain.specs.declared.call.Call.TheVariants.{Place, Tangents, Extreme, Area, Vertices}
+use Rattle.hull_plain.specs.declared.reply.Reply.{Reply}
+use Rattle.hull_plain.specs.declared.rules.Rules.TheVariants.{Counted}
+use Rattle.hull_outline.specs.Outlines.{IsOutlineOf, IsShortOutline}
+use Rattle.hull_reply.specs.Requests.{IsRequestOf}
+use Rattle.hull_reply.specs.Told.{IsBare, IsNumber, Tells}
+use Rattle.hull_reply.specs.declared.code.Code.{Code}
+use Rattle.hull_reply.specs.declared.code.Code.TheVariants as code
+use Rattle.hull_reply.specs.declared.reply.HullReply.{HullReply}
+use Rattle.hull_reply.specs.declared.request.Request.{Request}
+use Rattle.hull_reply.specs.declared.request.Request.TheVariants as request
+use Rattle.hull_c.specs.Loads.{HasCoordinates}
+
+-- the numbers tell a reply to the call that is allowed for whatever is held that has these corners
+pub record IsAllowedFor (corners : List Pair) (call : Call) (told : HullReply) : Type 0 where
+  pub reply : Reply
+  pub tells : Tells told reply
+  pub allowed : (held : Held) (limit : ℕ) → IsOutlineOf held.points corners → Answers Counted held limit call reply
+
+-- the corners were asked: a place, the tangents, a farthest point, the area, or how many they are; all else is no kind for
+-- them
+abbrev pub IsAskedOf : List Pair → Result Request Code → HullReply → Type 0
+IsAskedOf corners (Ok (request.Call (Place q))) told = IsAllowedFor corners (Place q) told
+IsAskedOf corners (Ok (request.Call (Tangents q))) told = IsAllowedFor corners (Tangents q) told
+IsAskedOf corners (Ok (request.Call (Extreme d))) told = IsAllowedFor corners (Extreme d) told
+IsAskedOf corners (Ok (request.Call Area)) told = IsAllowedFor corners Area told
+IsAskedOf corners (Ok (request.Call Vertices)) told = IsNumber code.Corners (length corners) told
+IsAskedOf corners (Ok _) told = IsBare code.UnknownKind told
+IsAskedOf corners (Err fault) told = IsBare fault told
+
+-- what the kind of this number and two numbers ask for was asked of the corners
+abbrev pub IsOutlineAnswer : List Pair → ℕ → ℤ → ℤ → HullReply → Type 0
+IsOutlineAnswer corners kind x y told =
+    (asked : Result Request Code) × IsRequestOf kind x y asked × IsAskedOf corners asked told
+
+-- 1 was told of an outline, 0 of other points, or why neither: one of them is out of range, or memory was refused, which
+-- no points would not ask for
+abbrev pub TellsOutline : List Pair → HullReply → Type 0
+TellsOutline points told =
+    (¬ All HasCoordinates points × IsBare code.OutOfRange told)
+    ⊎ (All HasCoordinates points × ((IsShortOutline points × IsNumber code.Number 1 told)
+    ⊎ ((¬ IsShortOutline points × IsNumber code.Number 0 told) ⊎ ((points ≢ []) × IsBare code.NoMemory told))))

@@ -1,0 +1,16 @@
+-- no triangle between the first corner and an edge turns right, and each is a part of the fan
+use Rattle.std.proofs.Common.{◌-◌, ◌<◌, arith, length}
+use Rattle.hull_outline.proofs.Corners.{read_corner}
+use Rattle.hull_outline.proofs.Fans.{triangle_left}
+use Rattle.hull_outline.proofs.area.doubled_area_of.Goals as goal
+
+pub doubled_triangle-doubled-requires : goal.doubled_triangle-doubled-requires
+doubled_triangle-doubled-requires c =
+    let V = c.args.corners.now in
+    let n : c.loop-i.i < length V = c.loop-i-test.true in
+    rw (
+      read_corner V 0 _ (omega (arith, n)) c.index-corners-0.is,
+      read_corner V (c.loop-i.i - 1) _ (omega (arith, n)) c.index-corners-i.is,
+      read_corner V c.loop-i.i _ n c.index-corners-i-in-loop-i.is,
+    )
+    (triangle_left V c.loop-i.i c.requires.0 c.loop-i.auto.i n)

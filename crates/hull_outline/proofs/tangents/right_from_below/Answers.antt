@@ -1,0 +1,17 @@
+-- the bisection found the corner from which the lower edges are to come
+use Rattle.std.proofs.Common.{rules, of_calls, sym, subst, arith}
+use Rattle.hull_plain.specs.Tangents.{IsRightTangent}
+use Rattle.hull_outline.proofs.Corners.{read_corner}
+use Rattle.hull_outline.proofs.TangentsOf.{right_below}
+use Rattle.hull_outline.proofs.tangents.right_from_below.Goals as goal
+
+pub returns : goal.returns
+returns c = λ S o.
+    let at = c.first_failing-place.result in
+    subst (IsRightTangent S c.args.q)
+    (sym (read_corner c.args.corners.now at _
+    (omega (arith, c.first_failing-place.ensures.to, c.requires.parted.0 c.requires.some)) c.index-corners-place.is))
+    (right_below S c.args.corners.now c.args.last at c.args.q o c.requires.parted c.requires.some
+    (c.requires.below S o) c.requires.before c.first_failing-place.ensures.to
+    (λ h b. let k = c.first_failing-place.ensures.held h in search (rules, of_calls))
+    (λ h. let k = c.first_failing-place.ensures.fails h in search (rules, of_calls)))

@@ -1,0 +1,29 @@
+//! Where a point lies.
+ghost use Rattle.hull_plain.specs.Replies.{LiesAt};
+ghost use Rattle.hull_outline.specs.Outlines.{HoldsOfSetsOf};
+ghost use Rattle.hull_outline.specs.Lent.{corners_of};
+
+use super::outline::Outline;
+use super::sights::{Sight, look};
+use hull_plain::Place;
+use lattice::Point;
+
+impl<'a> Outline<'a> {
+    /// Where `q` lies: by its sides of the lower and of the upper edge between whose ends it stands, each found by a
+    /// bisection of its chain (Preparata and Shamos, 1985).
+    pub fn place(&self, q: Point) -> Place
+        ensures { HoldsOfSetsOf (corners_of self.now) (λ S. LiesAt S q result) }
+    {
+        if self.corners.is_empty() {
+            return Place::Outside;
+        }
+        match look(self.corners, self.last, q) {
+            Sight::Before => Place::Outside,
+            Sight::After => Place::Outside,
+            Sight::Below => Place::Outside,
+            Sight::Above => Place::Outside,
+            Sight::Touching => Place::On,
+            Sight::Within => Place::Inside,
+        }
+    }
+}

@@ -1,0 +1,113 @@
+-- The corners of a half's lower chain, and those of its two halves.
+use Rattle.std.proofs.Common.{◌≡◌, ℤ, pos, ◌≤ℤ◌, ◌<ℤ◌, neg_ℤ, inl, inr, List, arith, ◌++◌}
+use Rattle.std.specs.List.{Contains}
+use Rattle.std.proofs.lemmas.Int.{ints}
+use Rattle.std.proofs.lemmas.List.Elements.{Contains-append_left, Contains-append_right, Contains-append_cases}
+use Rattle.lattice.specs.Plane.{Pair, orient, IsBefore}
+use Rattle.lattice.specs.Bridges.{IsAllBefore, IsLowerBridge}
+use Rattle.lattice.proofs.Vectors.{minus, turn_trans_strict, turn_trans_strict_right}
+use Rattle.bridge_search.specs.Trees.{Tree, IsBridged, On, first_of, last_of}
+use Rattle.bridge_search.specs.Leaves.{points_of}
+use Rattle.bridge_search.proofs.Ends.{last_by, on_last}
+use Rattle.bridge_search.proofs.Leaves.{on_of_contains, contains_of_on}
+use Rattle.bridge_search.proofs.Turns.{first_by, on_first}
+use Rattle.hull_plain.proofs.Orientation.{orient-cross, orient_swap, at_least, above, ahead_of}
+use Rattle.hull_questions.specs.Chains.{IsLowerCorner}
+use Rattle.hull_questions.proofs.ChainEdges.{not_zero}
+use Rattle.hull_questions.proofs.Sides.{side_before, side_after, side_to_end}
+
+-- the first point is a corner: nothing stands before it
+pub first_corner : (t : Tree) → IsBridged t → IsLowerCorner (points_of t) (first_of t)
+first_corner t h = record {
+  there = contains_of_on t (first_of t) (on_first t);
+  under = λ s r m n b k. absurd (first_by t h s (on_of_contains t s m) b);
+}
+
+-- the last point is a corner: nothing stands after it
+pub last_corner : (t : Tree) → IsBridged t → IsLowerCorner (points_of t) (last_of t)
+last_corner t h = record {
+  there = contains_of_on t (last_of t) (on_last t);
+  under = λ s r m n b k. absurd (last_by t h r (on_of_contains t r n) k);
+}
+
+-- the negative of a number above 0
+negative : (x y z : ℤ) → x ≡ neg_ℤ y → y ≡ z → pos 0 <ℤ z → x <ℤ pos 0
+negative x y z e f h = omega (arith, ints)
+
+-- the start of the bridge is a corner of the left half, each point of which before it lies over the bridge's line
+pub bridge_start : (u w : Tree) (a b : Pair) → IsAllBefore (On u) (On w) → IsLowerBridge (On u) (On w) a b
+    → IsLowerCorner (points_of u) a
+bridge_start u w a b o h = record {
+  there = contains_of_on u a h.from_left;
+  under = λ s t m n sa at.
+      let i : On u s = on_of_contains u s m in
+      let turn : pos 0 <ℤ orient a b s = not_zero _ (h.above_left s i) (λ z. (h.tie_left s i z).0 sa) in
+      negative _ _ _ (orient_swap s t a) (side_after s a t)
+      (turn_trans_strict (minus a s) (minus b a) (minus t a) (ahead_of s a sa)
+      (ahead_of a b (o a b h.from_left h.to_right)) (ahead_of a t at) (above _ _ (side_before a b s) turn)
+      (at_least _ _ (orient-cross a b t) (h.above_left t (on_of_contains u t n))));
+}
+
+-- the end of the bridge is a corner of the right half, each point of which after it lies over the bridge's line
+pub bridge_end : (u w : Tree) (a b : Pair) → IsAllBefore (On u) (On w) → IsLowerBridge (On u) (On w) a b
+    → IsLowerCorner (points_of w) b
+bridge_end u w a b o h = record {
+  there = contains_of_on w b h.to_right;
+  under = λ s t m n sb bt.
+      let i : On w t = on_of_contains w t n in
+      let turn : pos 0 <ℤ orient a b t = not_zero _ (h.above_right t i) (λ z. (h.tie_right t i z).1 bt) in
+      negative _ _ _ (orient_swap s t b) (side_after s b t)
+      (turn_trans_strict_right (minus b s) (minus b a) (minus t b) (ahead_of s b sb)
+      (ahead_of a b (o a b h.from_left h.to_right)) (ahead_of b t bt)
+      (at_least _ _ (side_to_end a b s) (h.above_right s (on_of_contains w s m)))
+      (above _ _ (side_after a b t) turn));
+}
+
+-- a corner of both halves that is a point of the left one is a corner of that
+pub corner_left : (xs ys : List Pair) (v : Pair) → IsLowerCorner (xs ++ ys) v → Contains xs v → IsLowerCorner xs v
+corner_left xs ys v c m = record {
+  there = m;
+  under = λ s t i j. c.under s t (Contains-append_left xs ys s i) (Contains-append_left xs ys t j);
+}
+
+-- and one that is a point of the right half a corner of that
+pub corner_right : (xs ys : List Pair) (v : Pair) → IsLowerCorner (xs ++ ys) v → Contains ys v → IsLowerCorner ys v
+corner_right xs ys v c m = record {
+  there = m;
+  under = λ s t i j. c.under s t (Contains-append_right xs ys s i) (Contains-append_right xs ys t j);
+}
+
+-- a number is not below 0 and at least 0
+clash : (x : ℤ) → x <ℤ pos 0 → pos 0 ≤ℤ x → ⊥
+clash x h k = omega (arith, ints)
+
+-- no corner of both halves stands between the ends of the bridge, over whose line all points lie
+pub none_between : (u w : Tree) (a b v : Pair) → IsLowerBridge (On u) (On w) a b
+    → IsLowerCorner (points_of u ++ points_of w) v → IsBefore a v → IsBefore v b → ⊥
+none_between u w a b v h c k l =
+    clash _
+    (c.under a b (Contains-append_left (points_of u) (points_of w) a (contains_of_on u a h.from_left))
+    (Contains-append_right (points_of u) (points_of w) b (contains_of_on w b h.to_right)) k l)
+    (elim (Contains-append_cases (points_of u) (points_of w) v c.there) [
+      | inl m ↦
+          h.above_left v (on_of_contains u v m)
+      | inr m ↦ h.above_right v (on_of_contains w v m)
+    ])
+
+-- a point of both halves not after the start of the bridge is one of the left half
+pub in_left : (u w : Tree) (a v : Pair) → IsAllBefore (On u) (On w) → On u a → Contains (points_of u ++ points_of w) v
+    → ¬ (IsBefore a v) → Contains (points_of u) v
+in_left u w a v o i m n =
+    elim (Contains-append_cases (points_of u) (points_of w) v m) [
+      | inl k ↦ k
+      | inr k ↦ absurd (n (o a v i (on_of_contains w v k)))
+    ]
+
+-- a point of both halves not before the end of the bridge is one of the right half
+pub in_right : (u w : Tree) (b v : Pair) → IsAllBefore (On u) (On w) → On w b → Contains (points_of u ++ points_of w) v
+    → ¬ (IsBefore v b) → Contains (points_of w) v
+in_right u w b v o i m n =
+    elim (Contains-append_cases (points_of u) (points_of w) v m) [
+      | inl k ↦ absurd (n (o v b (on_of_contains u v k) i))
+      | inr k ↦ k
+    ]
