@@ -2,8 +2,10 @@
  * status is 0 only where each code is the one of the header, and nothing was lost. */
 #include "hull_shared.h"
 
+#include <pthread.h>
 #include <stdio.h>
 #include <stdlib.h>
+#include <time.h>
 
 /* The linker sends malloc and realloc here (--wrap). */
 void *__real_malloc(size_t size);
@@ -160,6 +162,36 @@ static void codes(hull_shared_desk *desk, hull_shared_seat *one, hull_shared_sea
     is("end", hull_shared_end(desk), HULL_ENDED);
 }
 
+static void *count_points(void *seat) {
+    is("a call behind a number that is looked for later", call(seat, HULL_KIND_COUNT, 0, 0), HULL_NUMBER);
+    return NULL;
+}
+
+/* Whoever sleeps behind a number is woken by its seat, which looks on its own and tells the line. */
+static void own_looks(hull_shared_desk *desk, hull_shared_seat *one, hull_shared_seat *two) {
+    struct timespec moment = {0, 2000000};
+    is("open", hull_shared_open(desk, 3, 7, 100, 2), HULL_OPEN);
+    is("lend", hull_shared_lend(desk, one, 0), HULL_LENT);
+    is("lend", hull_shared_lend(desk, two, 1), HULL_LENT);
+    for (int i = 0; i < 20; i++) {
+        pthread_t thread;
+        is("take", hull_shared_take(one, HULL_KIND_COUNT, 0, 0).told.code, HULL_TAKEN);
+        if (pthread_create(&thread, NULL, count_points, two) != 0) {
+            exit(1);
+        }
+        nanosleep(&moment, NULL); /* it sleeps by now */
+        hull_shared_reply reply = hull_shared_look(one);
+        is("look", reply.told.code, HULL_NUMBER);
+        is("its number", reply.turn, 7 + 2 * (uint64_t)i);
+        hull_shared_handed_on(&line, reply.turn + 1);
+        pthread_join(thread, NULL);
+    }
+    is("return", hull_shared_give_back(desk, one), HULL_RETURNED);
+    is("return", hull_shared_give_back(desk, two), HULL_RETURNED);
+    is("close", hull_shared_close(desk), HULL_CLOSED);
+    is("end", hull_shared_end(desk), HULL_ENDED);
+}
+
 /* A short run, in which any request may be refused. */
 static void short_run(hull_shared_desk *desk, hull_shared_seat *seat) {
     uint8_t text[256];
@@ -192,6 +224,7 @@ int main(void) {
     is("alignment", (uintptr_t)desk % hull_shared_desk_alignment(), 0);
     is("alignment", (uintptr_t)one % hull_shared_seat_alignment(), 0);
     codes(desk, one, two);
+    own_looks(desk, one, two);
     long requests = 0;
     do {
         met = 0;

@@ -47,7 +47,7 @@ is_there() {
 build() {
     source=$1
     shift
-    cc -std=c11 -Wall -Wextra -Werror -O2 -g -I"$prefix/include" "$source" -L"$prefix/lib" -lhull_shared -lpthread "$@" \
+    cc -std=gnu11 -Wall -Wextra -Werror -O2 -g -I"$prefix/include" "$source" -L"$prefix/lib" -lhull_shared -lpthread "$@" \
         -o "$room/$(basename "$source" .c)"
 }
 
@@ -93,7 +93,7 @@ in_c() {
             storm "$threads" "$each" "$inside"
         done
     done
-    build "$here/storm.c" -std=gnu11 -DSLOW
+    build "$here/storm.c" -DSLOW
     count "storm.c compiles with threads that are held up" $?
     for inside in 1 2 8; do
         storm 8 $((calls / 100)) "$inside"

@@ -1,8 +1,8 @@
 #!/bin/sh
-# Shows that no wake-up of the header's line is lost, and that a line that loses one is found: storm.c runs with threads held
-# up between the steps of going to sleep and of waking (steps.h), as the header stands, and on copies of it in which one
-# step is out of its order or left out. Each right one has to end; each wrong one has to hang, and is killed after LIMIT
-# seconds. Run by run.sh:
+# Shows that no wake-up of the header's line is lost, nor one of the door in rust/hull, and that a line or a door that loses
+# one is found: storm.c runs with threads held up between the steps of going to sleep and of waking (steps.h), as the header
+# stands, and on copies of it in which one step is out of its order or left out; and so do eight threads in Rust, where there is
+# rustc. Each right one has to end; each wrong one has to hang, and is killed after LIMIT seconds. Run by run.sh:
 #
 #     wakeups.sh PREFIX [LIMIT]
 #
@@ -35,17 +35,27 @@ try() {
     cc -std=gnu11 -O2 -DSLOW ${4:-} -I"$room" "$here/storm.c" -L"$prefix/lib" -lhull_shared -lpthread \
         -o "$room/storm" || exit 1
     # shellcheck disable=SC2016 # the words are the inner shell's
-    timeout -k 1 "$limit" sh -c 'for _ in $(seq 60); do "$0" 8 20 "$1" || exit 1; done' "$room/storm" "$3" >/dev/null 2>&1
-    case $? in
+    timeout -k 1 "$(within "$2")" sh -c 'for _ in $(seq 60); do "$0" 8 20 "$1" || exit 1; done' "$room/storm" "$3" >/dev/null 2>&1
+    came $? "$1" "$2"
+}
+
+# how long a run may take: what has to end has longer, on a busy machine
+within() {
+    if [ "$1" = end ]; then echo $((12 * limit)); else echo "$limit"; fi
+}
+
+# counts a run: its status, its NAME, and whether it had to end or to hang
+came() {
+    case $1 in
     0) came=end ;;
     124 | 137) came=hang ;;
     *) came="fail" ;;
     esac
-    if [ "$came" = "$2" ]; then
-        echo "$1: ok, they $came"
+    if [ "$came" = "$3" ]; then
+        echo "$2: ok, they $came"
         passed=$((passed + 1))
     else
-        echo "$1: they have to $2, and $came"
+        echo "$2: they have to $3, and $came"
         failed=$((failed + 1))
     fi
 }
@@ -86,6 +96,50 @@ try 'who leaves wakes no heir' hang 1
 copy
 change '/atomic_store_n\(&line->heirs, 1/d; s/^( +)hull_shared_wake\(line, &line->heirs\);/&\n\1HULL_SHARED_STEP("woken");\n\1__atomic_store_n(\&line->heirs, 1, __ATOMIC_SEQ_CST);/'
 try 'who leaves wakes the heir before it is one' hang 1
+
+copy
+change '/^ +next &= ~\(uint32_t\)HULL_SHARED_HEIR;/d'
+try 'an heir that lies down is one still' hang 1
+
+# the door in Rust
+copy_crate() {
+    rm -rf "$room/src"
+    cp -r "$here/../../rust/hull/src" "$room/"
+}
+
+change_door() {
+    cp "$room/src/door.rs" "$room/before.rs"
+    sed -i -E "$1" "$room/src/door.rs"
+    ! cmp -s "$room/before.rs" "$room/src/door.rs" || echo "nothing is changed by $1"
+}
+
+rust() {
+    rustc --edition 2021 -O -A warnings --cfg hull_steps -L "native=$prefix/lib" --out-dir "$room" "$@"
+}
+
+# runs eight threads in Rust over the copy of the crate: NAME, and whether they have to end or to hang
+try_in_rust() {
+    rust --crate-type rlib --crate-name hull "$room/src/lib.rs" &&
+        rust --test --extern hull="$room/libhull.rlib" --crate-name storm_rust "$here/shared_tests.rs" || exit 1
+    # shellcheck disable=SC2016 # the words are the inner shell's
+    timeout -k 1 "$(within "$2")" sh -c 'for _ in $(seq 60); do CALLS=60 "$0" -q --exact eight_threads || exit 1; done' \
+        "$room/storm_rust" >/dev/null 2>&1
+    came $? "$1" "$2"
+}
+
+if command -v rustc >/dev/null 2>&1; then
+    copy_crate
+    try_in_rust "the door in Rust as it stands" end
+    copy_crate
+    change_door '/heir_is_made.notify_one/d'
+    try_in_rust 'who leaves wakes no heir, in Rust' hang
+    copy_crate
+    change_door 's/^( +)!Door::is_open\(state, is_heir\) && self/\1self/'
+    try_in_rust 'a call lies down without the door, in Rust' hang
+    copy_crate
+    change_door 's/if is_heir \{ HEIR \} else/if is_heir { 0 } else/'
+    try_in_rust 'an heir that lies down is one still, in Rust' hang
+fi
 
 echo "$passed passed, $failed failed"
 [ "$failed" -eq 0 ]
