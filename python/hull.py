@@ -179,6 +179,9 @@ def _library():
         ("size", [], ctypes.c_size_t), ("alignment", [], ctypes.c_size_t), ("make", [ctypes.c_uint32, at], None),
         ("end", [at], ctypes.c_uint32), ("call", [at, ctypes.c_uint32, whole, whole], _Reply), ("limit", [at], _Reply),
         ("clear", [at], _Reply), ("load", [at, at, ctypes.c_size_t], _Reply),
+        ("is_outline", [at, ctypes.c_size_t], _Reply),
+        ("outline_call", [at, ctypes.c_size_t, ctypes.c_uint32, whole, whole], _Reply),
+        ("outline_calls", [at, ctypes.c_size_t, at, ctypes.c_size_t, at, ctypes.c_size_t], ctypes.c_size_t),
         ("vertices", [at, at, ctypes.c_size_t], _Reply),
         ("calls", [at, at, ctypes.c_size_t, at, ctypes.c_size_t], ctypes.c_size_t),
     ])
@@ -398,44 +401,10 @@ def _area(reply):
     return reply.high << 64 | reply.number
 
 
-class Hull:
-    """A hull for at most `limit` different points, 1 to POINT_LIMIT, which holds the points given, as by `load`."""
+class _Questions:
+    """What a hull and an outline can be asked. Each tells how one call is made, how many are, and its corners."""
 
-    __slots__ = ("_at", "_lock", "__weakref__")
-
-    def __init__(self, points=(), limit=POINT_LIMIT):
-        if not 1 <= operator.index(limit) <= POINT_LIMIT:
-            raise ValueError("the limit of a hull is out of range")
-        room, self._at = _room(_LIBRARY.hull_size(), _LIBRARY.hull_alignment())
-        self._lock = threading.RLock()
-        _LIBRARY.hull_make(operator.index(limit), self._at)
-        weakref.finalize(self, _end, room, self._at)
-        self.load(points)
-
-    def __reduce__(self):
-        raise TypeError("a hull lies in one place: it can't be copied")
-
-    def __repr__(self):
-        return f"<Hull of {len(self)} points, limit {self.limit()}>"
-
-    def _ask(self, function, *words):
-        """The reply of a function of the library, or the fault that it told."""
-        with self._lock:
-            reply = function(self._at, *words)
-        _told(reply.code)
-        return reply
-
-    def _call(self, kind, x=0, y=0):
-        """The reply of a call, or the fault that it told."""
-        return self._ask(_LIBRARY.hull_call, kind, x, y)
-
-    def add(self, x, y):
-        """Holds the point once more, and returns how often it is held now: 1 where it is new."""
-        return _times_added(self._call(_Kind.ADD, _whole(x), _whole(y)))
-
-    def remove(self, x, y):
-        """Holds the point once less, and returns how often it is still held; None where it was not there."""
-        return _times_left(self._call(_Kind.REMOVE, _whole(x), _whole(y)))
+    __slots__ = ()
 
     def place(self, x, y):
         """Where the point lies: one of Place."""
@@ -449,41 +418,9 @@ class Hull:
         """The point farthest in the direction (x, y), of several the first by x and then by y; None where none is."""
         return _farthest(self._call(_Kind.EXTREME, _whole(x), _whole(y)))
 
-    def multiplicity(self, x, y):
-        """How often the point is held: 0 where it is not there."""
-        return self._call(_Kind.MULTIPLICITY, _whole(x), _whole(y)).number
-
     def doubled_area(self):
         """Twice the area, 0 for a point and a line."""
         return _area(self._call(_Kind.AREA))
-
-    def limit(self):
-        """How many different points the hull takes."""
-        return self._ask(_LIBRARY.hull_limit).number
-
-    def clear(self):
-        """Lets all points go. The limit stays."""
-        self._ask(_LIBRARY.hull_clear)
-
-    def load(self, points):
-        """Holds just these points, in the place of all that was held; returns how many different points that are.
-
-        Each is held as often as it stands among them: what adding them one by one to an empty hull makes, in a small
-        part of the time. TooMany where there are more than the limit, or one of them stands there too often.
-        """
-        flat = _flat(points)
-        count = len(flat) // 2
-        flat.extend((0, 0))  # so that no points have a place in memory, too
-        return self._ask(_LIBRARY.hull_load, flat.buffer_info()[0], count).number
-
-    def vertices(self):
-        """The corners as pairs, counterclockwise from the first by x and then y, each once and none inside an edge."""
-        with self._lock:
-            room = array("q", (0, 0))
-            reply = self._ask(_LIBRARY.hull_vertices, room.buffer_info()[0], 0)
-            room = array("q", (0, 0)) * max(reply.number, 1)
-            self._ask(_LIBRARY.hull_vertices, room.buffer_info()[0], reply.number)
-        return list(zip(room[0:2 * reply.number:2], room[1:2 * reply.number:2]))
 
     def vertex_array(self):
         """The corners as `vertices` tells them, as an array of numpy of shape (n, 2)."""
@@ -495,26 +432,13 @@ class Hull:
         """The hull as well-known text, its coordinates divided by 2**power: see the function `wkt`."""
         return wkt(self.vertices(), power)
 
-    def __len__(self):
-        """How many different points there are."""
-        return self._call(_Kind.COUNT).number
-
-    def __contains__(self, point):
-        """Whether the hull holds the point, which may well lie inside and be no corner. None out of range is held."""
-        x, y = point
-        try:
-            return self.multiplicity(x, y) > 0
-        except OutOfRange:
-            return False
-
     def _replies(self, kind, first, second):
         """The replies to one kind of call at each point of two columns, as an array that shows its memory."""
         count = len(first)
         requests = array("q", (kind, 0, 0)) * max(count, 1)
         requests[1:3 * count:3], requests[2:3 * count:3] = first, second
         replies = (_Reply * max(count, 1))()
-        with self._lock:
-            _LIBRARY.hull_calls(self._at, requests.buffer_info()[0], count, ctypes.addressof(replies), count)
+        self._serve(requests.buffer_info()[0], ctypes.addressof(replies), count)
         return memoryview(replies).cast("B")[:ctypes.sizeof(_Reply) * count]
 
     def _ask_all(self, kind, points):
@@ -559,6 +483,99 @@ class Hull:
         pairs = zip(*(words[at::7].tolist() for at in range(1, 5)))
         return [None if code == _Code.NO_TANGENT else ((a, b), (c, d)) for code, (a, b, c, d) in zip(codes, pairs)]
 
+
+class Hull(_Questions):
+    """A hull for at most `limit` different points, 1 to POINT_LIMIT, which holds the points given, as by `load`."""
+
+    __slots__ = ("_at", "_lock", "__weakref__")
+
+    def __init__(self, points=(), limit=POINT_LIMIT):
+        if not 1 <= operator.index(limit) <= POINT_LIMIT:
+            raise ValueError("the limit of a hull is out of range")
+        room, self._at = _room(_LIBRARY.hull_size(), _LIBRARY.hull_alignment())
+        self._lock = threading.RLock()
+        _LIBRARY.hull_make(operator.index(limit), self._at)
+        weakref.finalize(self, _end, room, self._at)
+        self.load(points)
+
+    def __reduce__(self):
+        raise TypeError("a hull lies in one place: it can't be copied")
+
+    def __repr__(self):
+        return f"<Hull of {len(self)} points, limit {self.limit()}>"
+
+    def _ask(self, function, *words):
+        """The reply of a function of the library, or the fault that it told."""
+        with self._lock:
+            reply = function(self._at, *words)
+        _told(reply.code)
+        return reply
+
+    def _call(self, kind, x=0, y=0):
+        """The reply of a call, or the fault that it told."""
+        return self._ask(_LIBRARY.hull_call, kind, x, y)
+
+    def add(self, x, y):
+        """Holds the point once more, and returns how often it is held now: 1 where it is new."""
+        return _times_added(self._call(_Kind.ADD, _whole(x), _whole(y)))
+
+    def remove(self, x, y):
+        """Holds the point once less, and returns how often it is still held; None where it was not there."""
+        return _times_left(self._call(_Kind.REMOVE, _whole(x), _whole(y)))
+
+    def multiplicity(self, x, y):
+        """How often the point is held: 0 where it is not there."""
+        return self._call(_Kind.MULTIPLICITY, _whole(x), _whole(y)).number
+
+    def limit(self):
+        """How many different points the hull takes."""
+        return self._ask(_LIBRARY.hull_limit).number
+
+    def clear(self):
+        """Lets all points go. The limit stays."""
+        self._ask(_LIBRARY.hull_clear)
+
+    def load(self, points):
+        """Holds just these points, in the place of all that was held; returns how many different points that are.
+
+        Each is held as often as it stands among them: what adding them one by one to an empty hull makes, in a small
+        part of the time. TooMany where there are more than the limit, or one of them stands there too often.
+        """
+        flat = _flat(points)
+        count = len(flat) // 2
+        flat.extend((0, 0))  # so that no points have a place in memory, too
+        return self._ask(_LIBRARY.hull_load, flat.buffer_info()[0], count).number
+
+    def outline(self):
+        """The outline that the hull has now."""
+        return Outline(self.vertices())
+
+    def vertices(self):
+        """The corners as pairs, counterclockwise from the first by x and then y, each once and none inside an edge."""
+        with self._lock:
+            room = array("q", (0, 0))
+            reply = self._ask(_LIBRARY.hull_vertices, room.buffer_info()[0], 0)
+            room = array("q", (0, 0)) * max(reply.number, 1)
+            self._ask(_LIBRARY.hull_vertices, room.buffer_info()[0], reply.number)
+        return list(zip(room[0:2 * reply.number:2], room[1:2 * reply.number:2]))
+
+    def __len__(self):
+        """How many different points there are."""
+        return self._call(_Kind.COUNT).number
+
+    def __contains__(self, point):
+        """Whether the hull holds the point, which may well lie inside and be no corner. None out of range is held."""
+        x, y = point
+        try:
+            return self.multiplicity(x, y) > 0
+        except OutOfRange:
+            return False
+
+    def _serve(self, requests, replies, count):
+        """Makes so many calls, whose requests and replies stand at these places."""
+        with self._lock:
+            _LIBRARY.hull_calls(self._at, requests, count, replies, count)
+
     def add_all(self, points):
         """Holds each of the points once more, in their order; returns for each how often it was held then.
 
@@ -573,6 +590,43 @@ class Hull:
         """Holds each of the points once less, in their order; returns how many of them were there."""
         codes = self._ask_all(_Kind.REMOVE, points)[0::14].tolist()
         return len(codes) - codes.count(_Code.ABSENT)
+
+
+class Outline(_Questions):
+    """The corners of a hull, as `vertices` tells them, to be asked as that hull was when they were taken.
+
+    Nothing of it is ever written: any number of threads ask one outline at once, with no lock. ValueError where the points
+    are not the corners of a hull: counterclockwise from the first by x and then y, and none inside an edge.
+    """
+
+    __slots__ = ("_corners", "_count")
+
+    def __init__(self, corners):
+        corners = _flat(corners)
+        self._count = len(corners) // 2
+        corners.extend((0, 0))  # so that no corners have a place in memory, too
+        self._corners = corners
+        told = _LIBRARY.hull_is_outline(corners.buffer_info()[0], self._count)
+        _told(told.code)
+        if told.number != 1:
+            raise ValueError("the points are not the corners of a hull, in their order")
+
+    def __repr__(self):
+        return f"<Outline of {self._count} corners>"
+
+    def _call(self, kind, x=0, y=0):
+        """The reply of a call, or the fault that it told."""
+        reply = _LIBRARY.hull_outline_call(self._corners.buffer_info()[0], self._count, kind, x, y)
+        _told(reply.code)
+        return reply
+
+    def _serve(self, requests, replies, count):
+        """Makes so many calls, whose requests and replies stand at these places."""
+        _LIBRARY.hull_outline_calls(self._corners.buffer_info()[0], self._count, requests, count, replies, count)
+
+    def vertices(self):
+        """The corners as pairs."""
+        return list(zip(self._corners[0:2 * self._count:2], self._corners[1:2 * self._count:2]))
 
 
 def _end_desk(room, at):

@@ -129,6 +129,38 @@ class Calls(unittest.TestCase):
                          ("POLYGON EMPTY", "POINT (1 -2)", "LINESTRING (0.0 0.0, 0.75 1.0)"))
         self.assertEqual(self.hull.wkt(), "POLYGON ((0 0, 10 0, 10 10, 0 10, 0 0))")
 
+    def test_outline(self):
+        corners = []
+        for step in range(20):
+            hull, outline = Hull(corners), Hull(corners).outline()
+            self.assertEqual(outline.vertices(), hull.vertices())
+            grid = [(x, y) for x in range(-6, 7) for y in range(-6, 7)]
+            self.assertEqual(outline.place_all(grid), hull.place_all(grid))
+            self.assertEqual(outline.tangents_all(grid), hull.tangents_all(grid))
+            grid.remove((0, 0))
+            self.assertEqual(outline.extreme_all(grid), hull.extreme_all(grid))
+            self.assertEqual((outline.doubled_area(), outline.wkt()), (hull.doubled_area(), hull.wkt()))
+            corners.append((step * 7 % 11 - 5, step * step % 11 - 5))
+        self.assertEqual(outline.place(0, 0), hull.place(0, 0))
+        self.assertEqual(outline.extreme(1, 0), hull.extreme(1, 0))
+        self.assertEqual(outline.tangents(9, 9), hull.tangents(9, 9))
+        for points in ([(1, 0), (0, 0)], [(0, 0), (2, 0), (1, 0)], [(0, 0), (0, 1), (1, 0)], [(1, 1), (1, 1)]):
+            self.assertRaises(ValueError, hull_module.Outline, points)
+        self.assertRaises(OutOfRange, hull_module.Outline, [(0, COORDINATE_LIMIT + 1)])
+        self.assertRaises(ZeroDirection, outline.extreme, 0, 0)
+        self.assertRaises(OutOfRange, outline.place, COORDINATE_LIMIT + 1, 0)
+
+    def test_outline_by_threads(self):
+        outline = Hull([(x, x * x) for x in range(-500, 500)]).outline()
+        asked = [(x, 250000 - 900 * x) for x in range(-500, 500)]
+        wanted, told = outline.place_all(asked), []
+        threads = [threading.Thread(target=lambda: told.append([outline.place_all(asked) for _ in range(20)])) for _ in range(4)]
+        for thread in threads:
+            thread.start()
+        for thread in threads:
+            thread.join()
+        self.assertEqual(told, [[wanted] * 20] * 4)
+
     def test_area_in_two_words(self):
         hull = Hull()
         hull.add_all([(x * COORDINATE_LIMIT, y * COORDINATE_LIMIT) for x in (-1, 1) for y in (-1, 1)])

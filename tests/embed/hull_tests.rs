@@ -1,5 +1,5 @@
 //! Each function of `rust/hull`, each of its answers and each of its faults.
-use hull::{wkt, Fault, Hull, Lattice, Place, Point, COORDINATE_LIMIT, MULTIPLICITY_LIMIT, POINT_LIMIT};
+use hull::{wkt, Fault, Hull, Lattice, Outline, Place, Point, COORDINATE_LIMIT, MULTIPLICITY_LIMIT, POINT_LIMIT};
 
 fn point(x: i64, y: i64) -> Point {
     Point { x, y }
@@ -38,6 +38,34 @@ fn loads() {
     many.iter().for_each(|&p| assert_eq!(slow.add(p), Ok(1)));
     let fast = Hull::from_points(1000, &many).unwrap();
     assert!(fast.vertices().unwrap().eq(slow.vertices().unwrap()));
+}
+
+#[test]
+fn outlines() {
+    let mut hull = Hull::new(100).unwrap();
+    for step in 0..30 {
+        let outline = hull.outline().unwrap();
+        assert!(outline.corners().iter().copied().eq(hull.vertices().unwrap()));
+        for at in (0..169).map(|i| point(i % 13 - 6, i / 13 - 6)) {
+            assert_eq!(outline.place(at), hull.place(at));
+            assert_eq!(outline.tangents(at), hull.tangents(at));
+            assert_eq!(outline.extreme(at), hull.extreme(at));
+        }
+        assert_eq!(outline.doubled_area(), hull.doubled_area());
+        hull.add(point(step * 7 % 11 - 5, step * step % 11 - 5)).unwrap();
+    }
+    let outline = hull.outline().unwrap();
+    assert_eq!(outline.clone(), outline);
+    let (asked, wanted) = (point(20, 3), hull.tangents(point(20, 3)));
+    std::thread::scope(|threads| {
+        for _ in 0..4 {
+            threads.spawn(|| assert_eq!(outline.tangents(asked), wanted));
+        }
+    });
+    assert_eq!(Outline::new(&[point(1, 0), point(0, 0)]), Err(Fault::NoOutline));
+    assert_eq!(Outline::new(&[point(0, 0), point(1, 0), point(2, 0)]), Err(Fault::NoOutline));
+    assert_eq!(Outline::new(&[point(0, COORDINATE_LIMIT + 1)]), Err(Fault::OutOfRange));
+    assert_eq!(outline.place(point(0, COORDINATE_LIMIT + 1)), Err(Fault::OutOfRange));
 }
 
 #[test]

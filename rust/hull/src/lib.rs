@@ -17,6 +17,7 @@
 mod answer;
 mod door;
 mod exchange;
+mod outline;
 mod raw;
 mod shared;
 
@@ -27,6 +28,7 @@ use std::fmt;
 use std::ptr::NonNull;
 
 pub use exchange::{wkt, Lattice, Rounded};
+pub use outline::Outline;
 pub use raw::Point;
 pub use shared::{Limits, Seat, SharedHull, CAPACITY_LIMIT, SEAT_LIMIT};
 
@@ -55,6 +57,8 @@ pub enum Fault {
     BadLimit,
     /// The seat is out, or the shared hull has none of this number.
     NoSeat,
+    /// The points are not the corners of a hull, in their order.
+    NoOutline,
     /// The shared hull is closed.
     NotOpen,
     /// A seat of the shared hull is out.
@@ -71,6 +75,7 @@ impl fmt::Display for Fault {
             Fault::TooMany => "there are as many points as the limit, or the point is held as often as may be",
             Fault::NoMemory => "memory was refused",
             Fault::BadLimit => "a limit of a hull is out of range",
+            Fault::NoOutline => "the points are not the corners of a hull, in their order",
             Fault::NoSeat => "there is no such seat at the hull",
             Fault::NotOpen => "the hull is closed",
             Fault::SeatsOut => "a seat of the hull is out",
@@ -295,6 +300,11 @@ impl Hull {
                 other => return Err(fault_of(other)),
             }
         }
+    }
+
+    /// The outline that the hull has now, which any number of threads may ask at once.
+    pub fn outline(&self) -> Result<Outline, Fault> {
+        Outline::new(&self.vertices()?.collect::<Vec<Point>>())
     }
 }
 

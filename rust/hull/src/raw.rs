@@ -107,6 +107,8 @@ extern "C" {
     pub(crate) fn hull_call(hull: *mut u8, kind: u32, x: i64, y: i64) -> Reply;
     pub(crate) fn hull_limit(hull: *mut u8) -> Reply;
     pub(crate) fn hull_clear(hull: *mut u8) -> Reply;
+    pub(crate) fn hull_is_outline(points: *const Point, count: usize) -> Reply;
+    pub(crate) fn hull_outline_call(corners: *const Point, count: usize, kind: u32, x: i64, y: i64) -> Reply;
     pub(crate) fn hull_load(hull: *mut u8, points: *const Point, count: usize) -> Reply;
     pub(crate) fn hull_calls(
         hull: *mut u8,

@@ -1,0 +1,56 @@
+//! The corners of a hull, which any number of threads ask at once.
+use crate::answer;
+use crate::raw::{self, kind, Reply};
+use crate::{Fault, Place, Point, NOWHERE};
+use std::sync::Arc;
+
+/// The corners of a hull, as [`Hull::vertices`](crate::Hull::vertices) tells them, to be asked as that hull was when they were
+/// taken. Nothing of it is ever written, so threads share it with no lock; a clone is the same corners.
+#[derive(Clone, Debug, PartialEq, Eq)]
+pub struct Outline {
+    corners: Arc<[Point]>,
+}
+
+impl Outline {
+    /// The outline of these corners: counterclockwise from the first by x and then by y, and none inside an edge;
+    /// [`Fault::NoOutline`] where they are not.
+    pub fn new(corners: &[Point]) -> Result<Outline, Fault> {
+        // SAFETY: the points are a slice's own, and a slice's pointer is not null.
+        let told = unsafe { raw::hull_is_outline(corners.as_ptr(), corners.len()) };
+        match answer::number(told)? {
+            1 => Ok(Outline { corners: corners.into() }),
+            _ => Err(Fault::NoOutline),
+        }
+    }
+
+    /// The corners.
+    pub fn corners(&self) -> &[Point] {
+        &self.corners
+    }
+
+    fn ask(&self, kind: u32, at: Point) -> Reply {
+        // SAFETY: the corners are an outline, as `new` saw, and nobody writes them.
+        unsafe { raw::hull_outline_call(self.corners.as_ptr(), self.corners.len(), kind, at.x, at.y) }
+    }
+
+    /// Where a point lies.
+    pub fn place(&self, point: Point) -> Result<Place, Fault> {
+        answer::place(self.ask(kind::PLACE, point))
+    }
+
+    /// The left and the right tangent point seen from `point`; `None` where there is no point, or the outline covers it.
+    pub fn tangents(&self, point: Point) -> Result<Option<(Point, Point)>, Fault> {
+        answer::tangents(self.ask(kind::TANGENTS, point))
+    }
+
+    /// The farthest point in a direction, of several the first by x and then by y; `None` where there is none.
+    pub fn extreme(&self, direction: Point) -> Result<Option<Point>, Fault> {
+        answer::extreme(self.ask(kind::EXTREME, direction))
+    }
+
+    /// Twice the area, 0 for a point and a line.
+    pub fn doubled_area(&self) -> u128 {
+        let reply = self.ask(kind::AREA, NOWHERE);
+        u128::from(reply.high) << 64 | u128::from(reply.number)
+    }
+}
