@@ -157,6 +157,45 @@ template <class Ask> std::vector<Point> corners(std::size_t room, Ask ask) {
 
 } // namespace told
 
+// The corners of a hull, as Hull::vertices tells them, to be asked as that hull was when they were taken. Nothing of it is written by
+// a question: any number of threads ask one outline at once.
+class Outline {
+public:
+    // The outline of no point.
+    Outline() = default;
+
+    // The outline of these corners: counterclockwise from the first by x and then by y, none inside an edge, at most
+    // HULL_LIMIT_MAX; std::invalid_argument where they are not.
+    explicit Outline(std::vector<Point> corners) : corners_(std::move(corners)) {
+        if (told::number(hull_is_outline(data(), corners_.size())) != 1) {
+            throw std::invalid_argument("the points are not the corners of a hull, in their order");
+        }
+    }
+
+    const std::vector<Point> &corners() const noexcept { return corners_; }
+
+    Place place(Point p) const { return told::place(hull_outline_place(data(), corners_.size(), p.x, p.y)); }
+
+    std::optional<Tangents> tangents(Point p) const {
+        return told::tangents(hull_outline_tangents(data(), corners_.size(), p.x, p.y));
+    }
+
+    std::optional<Point> extreme(Point direction) const {
+        return told::extreme(hull_outline_extreme(data(), corners_.size(), direction.x, direction.y));
+    }
+
+    // Twice the area, 0 for a point and a line.
+    Area doubled_area() const { return told::number(hull_outline_area(data(), corners_.size())); }
+
+private:
+    // an array of no corners has a place in memory, too
+    const Point *data() const noexcept {
+        static constexpr Point none{0, 0};
+        return corners_.empty() ? &none : corners_.data();
+    }
+    std::vector<Point> corners_;
+};
+
 // A hull, which holds each of its points at least once; questions are over the points, each taken once. It may go to another
 // thread, and be used by one at a time; that goes for const calls, too. One that was moved from can be assigned to or end.
 class Hull {
@@ -206,6 +245,9 @@ public:
     std::vector<Point> vertices() const {
         return told::corners(64, [this](Point *out, std::size_t room) { return hull_vertices(get(), out, room); });
     }
+
+    // The outline that the hull has now.
+    Outline outline() const { return Outline(vertices()); }
 
     // Twice the area, 0 for a point and a line.
     Area doubled_area() const { return told::number(hull_area(get())); }

@@ -47,6 +47,34 @@ static_assert(!std::is_copy_constructible_v<SharedHull> && std::is_nothrow_move_
 static const std::vector<Point> square = {{0, 0}, {10, 0}, {10, 10}, {0, 10}};
 constexpr std::int64_t far = HULL_COORDINATE_MAX;
 
+static void outlines() {
+    Hull h;
+    for (std::int64_t step = 0; step < 25; step++) {
+        const hull::Outline outline = h.outline();
+        bool same = outline.corners() == h.vertices() && outline.doubled_area() == h.doubled_area();
+        for (Point p{-6, -6}; p.x <= 6; p.y < 6 ? p.y++ : (p.x++, p.y = -6)) {
+            same = same && outline.place(p) == h.place(p);
+            const auto seen = outline.tangents(p), wanted = h.tangents(p);
+            same = same && seen.has_value() == wanted.has_value();
+            same = same && (!seen || (seen->left == wanted->left && seen->right == wanted->right));
+            same = same && ((p.x == 0 && p.y == 0) || outline.extreme(p) == h.extreme(p));
+        }
+        CHECK(same);
+        h.add({step * 7 % 11 - 5, step * step % 11 - 5});
+    }
+    const hull::Outline outline = h.outline();
+    CHECK(refuses(Refusal::zero_direction, [&] { outline.extreme({0, 0}); }));
+    CHECK(refuses(Refusal::out_of_range, [&] { outline.place({far + 1, 0}); }));
+    CHECK(refuses(Refusal::out_of_range, [] { hull::Outline({{0, far + 1}}); }));
+    bool refused = false;
+    try {
+        hull::Outline({{1, 0}, {0, 0}});
+    } catch (const std::invalid_argument &) {
+        refused = true;
+    }
+    CHECK(refused && hull::Outline().place({0, 0}) == Place::outside);
+}
+
 static void one_thread() {
     CHECK(refuses(Refusal::out_of_limits, [] { Hull h(0); }) && refuses(Refusal::out_of_limits, [] { Hull h(HULL_LIMIT_MAX + 1); }));
     Hull h(6);
@@ -165,6 +193,7 @@ static void threads(const char *file) {
 
 int main(int words, char **word) {
     one_thread();
+    outlines();
     exchange();
     shared();
     if (words > 1) {
