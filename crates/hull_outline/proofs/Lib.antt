@@ -10,7 +10,7 @@ pub mod Ends
 pub mod FarthestOf
 pub mod EdgesAt
 pub mod Tests
-pub mod Fans
+pub mod Triangles
 pub mod Touching
 pub mod TangentsOf
 pub mod Clear

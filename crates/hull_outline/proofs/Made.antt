@@ -131,7 +131,8 @@ left_back : (V : List Pair) (top i j k : ℕ) → IsRound V top → j ≡ i + 1 
     → IsLeftOrEnd (corner V i) (corner V j) (corner V k)
 left_back V top i j k r e f l n =
     renumbered V (λ z. IsLeftOrEnd z (corner V j) (corner V k)) (top + (i - top)) i (omega (arith, f))
-    (renumbered V (λ z. IsLeftOrEnd (corner V (top + (i - top))) z (corner V k)) (top + (j - top)) j (omega (arith, e, f))
+    (renumbered V (λ z. IsLeftOrEnd (corner V (top + (i - top))) z (corner V k)) (top + (j - top)) j
+    (omega (arith, e, f))
     (left_back_from V top (i - top) (j - top) k r (omega (arith, e, f)) (omega (arith, e, f, l)) n))
 
 -- ---- the set of the corners

@@ -54,7 +54,8 @@ pub left_below : (S V : List Pair) (last at : ℕ) (q : Pair) → IsOutlineOf S 
 left_below S V last at q o p n h from l held fails = (
   (corner_extreme S V at o.1 n).0,
   all_of (IsNotLefter q (corner V at)) S
-      (left_found (Contains S) (corner V) 0 last at q (lower_chain S V last o p n) (clear_below S q h) from (omega arith) l
+      (left_found (Contains S) (corner V) 0 last at q (lower_chain S V last o p n) (clear_below S q h) from
+      (omega arith) l
       held fails),
 )
 
@@ -66,7 +67,8 @@ pub right_below : (S V : List Pair) (last at : ℕ) (q : Pair) → IsOutlineOf S
 right_below S V last at q o p n h to l held fails = (
   (corner_extreme S V at o.1 n).0,
   all_of (IsNotRighter q (corner V at)) S
-      (right_found (Contains S) (corner V) 0 last at q (lower_chain S V last o p n) (clear_below S q h) to (omega arith) l
+      (right_found (Contains S) (corner V) 0 last at q (lower_chain S V last o p n) (clear_below S q h) to
+      (omega arith) l
       held fails),
 )
 
