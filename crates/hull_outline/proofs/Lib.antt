@@ -4,6 +4,8 @@ pub mod Corners
 pub mod EdgesOf
 pub mod Rings
 pub mod TwoChains
+pub mod RoundChains
+pub mod MadeEdges
 pub mod Made
 pub mod Slopes
 pub mod Ends

@@ -19,7 +19,7 @@ use Rattle.hull_outline.specs.Touches.{IsPassed, IsToCome, IsPassedBack, IsToCom
 use Rattle.hull_outline.proofs.Corners.{corner_back, corner_extreme}
 use Rattle.hull_outline.proofs.EdgesOf.{all_of}
 use Rattle.hull_outline.proofs.Ends.{ends_of}
-use Rattle.hull_outline.proofs.Made.{turned_before}
+use Rattle.hull_outline.proofs.RoundChains.{turned_before}
 use Rattle.hull_outline.proofs.Rings.{IsRing, ring_of}
 use Rattle.hull_outline.proofs.Sides.{side_turned}
 use Rattle.hull_outline.proofs.Touching.{IsClear, IsChainUnder, IsNotLefter, IsNotRighter, left_found, right_found}
