@@ -10,11 +10,11 @@ use Rattle.lattice.proofs.Vectors.{minus, cross, cross_swap, turn_trans_strict}
 use Rattle.hull_plain.proofs.Orientation.{orient_at_end, orient_other, orient_swap, ahead_of}
 use Rattle.hull_outline.specs.Outlines.{IsOutlineOf}
 use Rattle.hull_outline.specs.Rounds.{corner, IsParted}
-use Rattle.hull_outline.specs.Sights.{IsBelow, IsAbove, IsBelowEdge, IsAboveEdge}
+use Rattle.hull_outline.specs.Sights.{IsBelow, IsAbove, IsBelowEdge, IsAboveEdge, IsBetweenEnds}
+use Rattle.hull_outline.specs.Sights.{SeesLeftBelow, SeesRightBelow, SeesLeftAbove, SeesRightAbove}
 use Rattle.hull_outline.proofs.Corners.{corner_extreme}
 use Rattle.hull_outline.proofs.EdgesAt.{before_all, after_all}
 use Rattle.hull_outline.proofs.Ends.{ends_of}
-use Rattle.hull_outline.proofs.Made.{parted_is_outline}
 use Rattle.hull_outline.proofs.Sides.{side_more}
 
 -- before all
@@ -117,34 +117,32 @@ above_of_edge S q (c, d, e, h) = record {
     turned_over : (x y a b : ℤ) → x ≡ neg_ℤ y → y ≡ a → a ≡ neg_ℤ b → pos 0 <ℤ b → pos 0 <ℤ x
     turned_over x y a b e f g k = omega (arith, ints)
 
--- ---- before or after all corners
+-- ---- which chains the tangents touch
 
--- before the first corner nothing is in the way, below or above
-pub clear_before : (S V : List Pair) (last : ℕ) (q : Pair) → IsOutlineOf S V → IsParted V last → 0 < length V
-    → IsBefore q (corner V 0) → IsBelow S q × IsAbove S q
-clear_before S V last q o p n b =
+-- from before the first corner, the upper one on the left and the lower one on the right
+pub seen_before : (S V : List Pair) (last : ℕ) (q : Pair) → IsOutlineOf S V → IsParted V last → 0 < length V
+    → IsBefore q (corner V 0) → SeesLeftAbove V last q S × SeesRightBelow V last q S
+seen_before S V last q o p n b =
     let h : All (IsBefore q) S = before_all S (corner V 0) q (ends_of S V last o p n).0 b in
-    (below_before S q h, above_before S q h)
+    let k : IsBefore q (corner V last) =
+    All-contains (IsBefore q) S (corner V last) h (corner_extreme S V last o.1 n).0 in
+    ((k, above_before S q h), (k, below_before S q h))
 
--- nor after the last
-pub clear_after : (S V : List Pair) (last : ℕ) (q : Pair) → IsOutlineOf S V → IsParted V last → 0 < length V
-    → IsBefore (corner V last) q → IsBelow S q × IsAbove S q
-clear_after S V last q o p n b =
+-- from after the last corner the other way round
+pub seen_after : (S V : List Pair) (last : ℕ) (q : Pair) → IsOutlineOf S V → IsParted V last → 0 < length V
+    → IsBefore (corner V last) q → SeesLeftBelow V q S × SeesRightAbove V q S
+seen_after S V last q o p n b =
     let h : All (λ t. IsBefore t q) S = after_all S (corner V last) q (ends_of S V last o p n).1 b in
-    (below_after S q h, above_after S q h)
+    let k : IsBefore (corner V 0) q =
+    All-contains (λ t. IsBefore t q) S (corner V 0) h (corner_extreme S V 0 o.1 n).0 in
+    ((k, below_after S q h), (k, above_after S q h))
 
--- before the first corner is before the last
-pub before_last : (V : List Pair) (last : ℕ) (q : Pair) → IsParted V last → 0 < length V → IsBefore q (corner V 0)
-    → IsBefore q (corner V last)
-before_last V last q p n b =
-    let o = parted_is_outline V last p in
-    All-contains (IsBefore q) o.0 (corner V last) (before_all o.0 (corner V 0) q (ends_of o.0 V last o.1 p n).0 b)
-    (corner_extreme o.0 V last o.1.1 n).0
+-- from below a lower edge both touch the lower one
+pub seen_below : (S V : List Pair) (last : ℕ) (q : Pair) → IsBetweenEnds V last q × IsBelowEdge S q
+    → SeesLeftBelow V q S × SeesRightBelow V last q S
+seen_below S V last q h = let b : IsBelow S q = below_of_edge S q h.1 in ((h.0.0, b), (h.0.1, b))
 
--- after the last corner is after the first
-pub after_first : (V : List Pair) (last : ℕ) (q : Pair) → IsParted V last → 0 < length V → IsBefore (corner V last) q
-    → IsBefore (corner V 0) q
-after_first V last q p n b =
-    let o = parted_is_outline V last p in
-    All-contains (λ t. IsBefore t q) o.0 (corner V 0)
-    (after_all o.0 (corner V last) q (ends_of o.0 V last o.1 p n).1 b) (corner_extreme o.0 V 0 o.1.1 n).0
+-- from above an upper edge both touch the upper one
+pub seen_above : (S V : List Pair) (last : ℕ) (q : Pair) → IsBetweenEnds V last q × IsAboveEdge S q
+    → SeesLeftAbove V last q S × SeesRightAbove V q S
+seen_above S V last q h = let b : IsAbove S q = above_of_edge S q h.1 in ((h.0.1, b), (h.0.0, b))

@@ -1,5 +1,6 @@
 -- The edges between whose ends a point stands, and what its sides of them tell.
-use Rattle.std.proofs.Common.{◌≡◌, ℕ, ◌+◌, ◌-◌, ◌≤◌, ◌<◌, ℤ, pos, ◌≤ℤ◌, ◌<ℤ◌, ◌⊎◌, List, length, inl, inr, refl, sym, ap}
+use Rattle.std.proofs.Common.{◌≡◌, ℕ, ◌+◌, ◌-◌, ◌≤◌, ◌<◌, ℤ, pos, ◌≤ℤ◌, ◌<ℤ◌, ◌⊎◌, List, length, inl, inr, refl, sym}
+use Rattle.std.proofs.Common.{ap}
 use Rattle.std.proofs.Common.{◌∙◌, subst, arith}
 use Rattle.std.specs.List.{All, Contains}
 use Rattle.std.proofs.lemmas.Bool.{cases_lt}
@@ -42,7 +43,8 @@ on_from v a d h n = elim (before_total a d)
 -- ---- the edges at a point
 
 -- a point between the ends: there are two corners
-pub ends_apart : (V : List Pair) (last : ℕ) (q : Pair) → ¬ (IsBefore q (corner V 0)) → IsBefore q (corner V last) → 0 < last
+pub ends_apart : (V : List Pair) (last : ℕ) (q : Pair) → ¬ (IsBefore q (corner V 0))
+    → IsBefore q (corner V last) → 0 < last
 ends_apart V last q from to = elim (cases_lt 0 last) [
   | inl h ↦ h
   | inr h ↦ absurd (from (subst (λ (k : ℕ). IsBefore q (corner V k)) (omega (arith, h)) to))

@@ -49,7 +49,8 @@ ends_of S V last o p n = elim (cases_lt 1 (length V)) [
             (first_extreme S (point_at S 0) o.0 (first_there S some) (least S o.0)))
             (least S o.0),
         subst (IsLast S) (only_corner S V (point_at S (length S - 1)) o one
-            (last_extreme S (point_at S (length S - 1)) o.0 (last_there S some) (greatest S o.0)) ∙ ap (corner V) (sym at))
+            (last_extreme S (point_at S (length S - 1)) o.0 (last_there S some) (greatest S o.0))
+            ∙ ap (corner V) (sym at))
             (greatest S o.0),
       )
 ]

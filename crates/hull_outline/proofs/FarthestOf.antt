@@ -1,5 +1,6 @@
 -- The first of the farthest points, by the corners beside it on the chain that the direction faces.
-use Rattle.std.proofs.Common.{◌≡◌, ℕ, ◌+◌, ◌-◌, ◌≤◌, ◌<◌, ℤ, pos, ◌≤ℤ◌, ◌<ℤ◌, List, length, inl, inr, refl, sym, ap, ◌∙◌}
+use Rattle.std.proofs.Common.{◌≡◌, ℕ, ◌+◌, ◌-◌, ◌≤◌, ◌<◌, ℤ, pos, ◌≤ℤ◌, ◌<ℤ◌, List, length, inl, inr, refl, sym, ap}
+use Rattle.std.proofs.Common.{◌∙◌}
 use Rattle.std.proofs.Common.{subst, arith, neg_ℤ}
 use Rattle.std.specs.List.{Contains}
 use Rattle.std.specs.Prelude.{◌≢◌}
@@ -141,7 +142,8 @@ farthest_above S V last at d o p n up k l held fails =
     fall = elim (cases_lt last at) [
       | inl h ↦ elim (cases_lt 1 (length V)) [
         | inl two ↦ upper_falls S d (corner V (at - 1)) (corner V at) up
-            ((ring_of S V last o (p.1 two)).back (at - 1) at (omega (arith, h)) (omega (arith, h)) (omega (arith, h, l)))
+            ((ring_of S V last o (p.1 two)).back (at - 1) at (omega (arith, h)) (omega (arith, h))
+            (omega (arith, h, l)))
             (subst (λ (i : ℕ). ¬ (product d (corner V i) <ℤ product d (corner V (at - 1)))) (omega (arith, h)) (held h))
         | inr one ↦ λ t m b. absurd ((ends_of S V last o p n).1 t m
             (subst (λ (z : Pair). IsBefore z t) (only_one one) b))

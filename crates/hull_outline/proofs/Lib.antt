@@ -4,13 +4,15 @@ pub mod Corners
 pub mod EdgesOf
 pub mod Rings
 pub mod TwoChains
+pub mod RoundChains
+pub mod MadeEdges
 pub mod Made
 pub mod Slopes
 pub mod Ends
 pub mod FarthestOf
 pub mod EdgesAt
 pub mod Tests
-pub mod Fans
+pub mod Triangles
 pub mod Touching
 pub mod TangentsOf
 pub mod Clear

@@ -19,7 +19,7 @@ use Rattle.hull_outline.specs.Touches.{IsPassed, IsToCome, IsPassedBack, IsToCom
 use Rattle.hull_outline.proofs.Corners.{corner_back, corner_extreme}
 use Rattle.hull_outline.proofs.EdgesOf.{all_of}
 use Rattle.hull_outline.proofs.Ends.{ends_of}
-use Rattle.hull_outline.proofs.Made.{turned_before}
+use Rattle.hull_outline.proofs.RoundChains.{turned_before}
 use Rattle.hull_outline.proofs.Rings.{IsRing, ring_of}
 use Rattle.hull_outline.proofs.Sides.{side_turned}
 use Rattle.hull_outline.proofs.Touching.{IsClear, IsChainUnder, IsNotLefter, IsNotRighter, left_found, right_found}
@@ -54,7 +54,8 @@ pub left_below : (S V : List Pair) (last at : ℕ) (q : Pair) → IsOutlineOf S 
 left_below S V last at q o p n h from l held fails = (
   (corner_extreme S V at o.1 n).0,
   all_of (IsNotLefter q (corner V at)) S
-      (left_found (Contains S) (corner V) 0 last at q (lower_chain S V last o p n) (clear_below S q h) from (omega arith) l
+      (left_found (Contains S) (corner V) 0 last at q (lower_chain S V last o p n) (clear_below S q h) from
+      (omega arith) l
       held fails),
 )
 
@@ -66,7 +67,8 @@ pub right_below : (S V : List Pair) (last at : ℕ) (q : Pair) → IsOutlineOf S
 right_below S V last at q o p n h to l held fails = (
   (corner_extreme S V at o.1 n).0,
   all_of (IsNotRighter q (corner V at)) S
-      (right_found (Contains S) (corner V) 0 last at q (lower_chain S V last o p n) (clear_below S q h) to (omega arith) l
+      (right_found (Contains S) (corner V) 0 last at q (lower_chain S V last o p n) (clear_below S q h) to
+      (omega arith) l
       held fails),
 )
 

@@ -1,5 +1,5 @@
--- Where a line from a point touches a chain that lies above it. The points are given by what it means to be one of them,
--- so that the chain above them is one of these too, after a turn by 180 degrees.
+-- Where a line from a point touches a chain that lies above it. The points are given by what it means to be one of
+-- them, so that the chain above them is one of these too, after a turn by 180 degrees.
 use Rattle.std.proofs.Common.{◌≡◌, ℕ, ◌+◌, ◌-◌, ◌≤◌, ◌<◌, ℤ, pos, ◌≤ℤ◌, ◌<ℤ◌, neg_ℤ, inl, inr, refl, sym}
 use Rattle.std.proofs.Common.{subst, arith}
 use Rattle.std.proofs.lemmas.Bool.{cases_lt}

@@ -60,3 +60,21 @@ IsSightBy lower upper Below = ⊥
 IsSightBy lower upper Above = upper <ℤ pos 0
 IsSightBy lower upper Touching = (pos 0 ≤ℤ lower) × (pos 0 ≤ℤ upper) × ((lower ≤ℤ pos 0) ⊎ (upper ≤ℤ pos 0))
 IsSightBy lower upper Within = (pos 0 <ℤ lower) × (pos 0 <ℤ upper)
+
+-- ---- from where a tangent touches which chain
+
+-- q lies below S and after the first corner: the left tangent touches the lower chain
+abbrev pub SeesLeftBelow : List Pair → Pair → List Pair → Type 0
+SeesLeftBelow V q S = IsBefore (corner V 0) q × IsBelow S q
+
+-- q lies below S and before the last corner: so does the right one
+abbrev pub SeesRightBelow : List Pair → ℕ → Pair → List Pair → Type 0
+SeesRightBelow V last q S = IsBefore q (corner V last) × IsBelow S q
+
+-- q lies above S and before the last corner: the left tangent touches the upper chain
+abbrev pub SeesLeftAbove : List Pair → ℕ → Pair → List Pair → Type 0
+SeesLeftAbove V last q S = IsBefore q (corner V last) × IsAbove S q
+
+-- q lies above S and after the first corner: so does the right one
+abbrev pub SeesRightAbove : List Pair → Pair → List Pair → Type 0
+SeesRightAbove V q S = IsBefore (corner V 0) q × IsAbove S q

@@ -1,11 +1,10 @@
 //! Where the tangents from a point touch.
 ghost use Rattle.std.specs.Prelude.{◌↔◌, IsTrue, ◌<◌, length};
-ghost use Rattle.lattice.specs.Plane.{IsBefore};
 ghost use Rattle.hull_plain.specs.Replies.{AnswersTangents, reply_to_tangents};
 ghost use Rattle.hull_plain.specs.Tangents.{IsLeftTangent, IsRightTangent};
 ghost use Rattle.hull_outline.specs.Outlines.{HoldsOfSetsOf};
-ghost use Rattle.hull_outline.specs.Rounds.{corner, IsParted};
-ghost use Rattle.hull_outline.specs.Sights.{IsBelow, IsAbove};
+ghost use Rattle.hull_outline.specs.Rounds.{IsParted};
+ghost use Rattle.hull_outline.specs.Sights.{SeesLeftBelow, SeesRightBelow, SeesLeftAbove, SeesRightAbove};
 ghost use Rattle.hull_outline.specs.Touches.{IsPassed, IsToCome, IsPassedBack, IsToComeBack};
 ghost use Rattle.hull_outline.specs.Lent.{corners_of};
 
@@ -47,8 +46,7 @@ fn is_to_come_back(start: Point, end: Point, q: Point) -> bool
 fn left_from_below(corners: &[Point], last: usize, q: Point) -> Point
     requires some { 0 < length corners.now }
     requires parted { IsParted corners.now last }
-    requires below { HoldsOfSetsOf corners.now (λ S. IsBelow S q) }
-    requires after { IsBefore (corner corners.now 0) q }
+    requires seen { HoldsOfSetsOf corners.now (SeesLeftBelow corners.now q) }
     ensures { HoldsOfSetsOf corners.now (λ S. IsLeftTangent S q result) }
 {
     let place = first_failing(corners, 0, last, &|start, end| is_passed(start, end, q));
@@ -59,8 +57,7 @@ fn left_from_below(corners: &[Point], last: usize, q: Point) -> Point
 fn right_from_below(corners: &[Point], last: usize, q: Point) -> Point
     requires some { 0 < length corners.now }
     requires parted { IsParted corners.now last }
-    requires below { HoldsOfSetsOf corners.now (λ S. IsBelow S q) }
-    requires before { IsBefore q (corner corners.now last) }
+    requires seen { HoldsOfSetsOf corners.now (SeesRightBelow corners.now last q) }
     ensures { HoldsOfSetsOf corners.now (λ S. IsRightTangent S q result) }
 {
     let place = first_failing(corners, 0, last, &|start, end| !is_to_come(start, end, q));
@@ -71,8 +68,7 @@ fn right_from_below(corners: &[Point], last: usize, q: Point) -> Point
 fn left_from_above(corners: &[Point], last: usize, q: Point) -> Point
     requires some { 0 < length corners.now }
     requires parted { IsParted corners.now last }
-    requires above { HoldsOfSetsOf corners.now (λ S. IsAbove S q) }
-    requires before { IsBefore q (corner corners.now last) }
+    requires seen { HoldsOfSetsOf corners.now (SeesLeftAbove corners.now last q) }
     ensures { HoldsOfSetsOf corners.now (λ S. IsLeftTangent S q result) }
 {
     let place = first_failing_back(corners, last, &|start, end| is_passed_back(start, end, q));
@@ -83,8 +79,7 @@ fn left_from_above(corners: &[Point], last: usize, q: Point) -> Point
 fn right_from_above(corners: &[Point], last: usize, q: Point) -> Point
     requires some { 0 < length corners.now }
     requires parted { IsParted corners.now last }
-    requires above { HoldsOfSetsOf corners.now (λ S. IsAbove S q) }
-    requires after { IsBefore (corner corners.now 0) q }
+    requires seen { HoldsOfSetsOf corners.now (SeesRightAbove corners.now q) }
     ensures { HoldsOfSetsOf corners.now (λ S. IsRightTangent S q result) }
 {
     let place = first_failing_back(corners, last, &|start, end| !is_to_come_back(start, end, q));

@@ -1,7 +1,7 @@
--- no triangle between the first corner and an edge turns right, and each is a part of the fan
+-- no triangle between the first corner and an edge turns right
 use Rattle.std.proofs.Common.{◌-◌, ◌<◌, arith, length}
 use Rattle.hull_outline.proofs.Corners.{read_corner}
-use Rattle.hull_outline.proofs.Fans.{triangle_left}
+use Rattle.hull_outline.proofs.Triangles.{triangle_left}
 use Rattle.hull_outline.proofs.area.doubled_area_of.Goals as goal
 
 pub doubled_triangle-doubled-requires : goal.doubled_triangle-doubled-requires

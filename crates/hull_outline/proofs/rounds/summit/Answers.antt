@@ -7,4 +7,5 @@ pub returns-clause-parts : goal.returns-clause-parts
 returns-clause-parts c = λ o.
     round_of o.0 c.args.corners.now c.first_failing.result o.1
     (summit_of o.0 c.args.corners.now c.first_failing.result o.1 c.requires c.first_failing.ensures.to
-    (λ h. let k = c.first_failing.ensures.held h in search (rules, of_calls)) (λ h b. let k = c.first_failing.ensures.fails h in search (rules, of_calls)))
+    (λ h. let k = c.first_failing.ensures.held h in search (rules, of_calls))
+    (λ h b. let k = c.first_failing.ensures.fails h in search (rules, of_calls)))

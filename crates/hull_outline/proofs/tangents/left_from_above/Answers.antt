@@ -8,7 +8,7 @@ pub returns : goal.returns
 returns c = λ S o.
     subst (IsLeftTangent S c.args.q) (sym c.corner_at.ensures)
     (left_above S c.args.corners.now c.args.last c.first_failing_back-place.result c.args.q o c.requires.parted
-    c.requires.some (c.requires.above S o) c.requires.before c.first_failing_back-place.ensures.from
+    c.requires.some (c.requires.seen S o).1 (c.requires.seen S o).0 c.first_failing_back-place.ensures.from
     c.first_failing_back-place.ensures.to
     (λ h. let k = c.first_failing_back-place.ensures.held h in search (rules, of_calls))
     (λ h b. let k = c.first_failing_back-place.ensures.fails h in search (rules, of_calls)))

@@ -12,6 +12,6 @@ returns c = λ S o.
     (sym (read_corner c.args.corners.now at _
     (omega (arith, c.first_failing-place.ensures.to, c.requires.parted.0 c.requires.some)) c.index-corners-place.is))
     (left_below S c.args.corners.now c.args.last at c.args.q o c.requires.parted c.requires.some
-    (c.requires.below S o) c.requires.after c.first_failing-place.ensures.to
+    (c.requires.seen S o).1 (c.requires.seen S o).0 c.first_failing-place.ensures.to
     (λ h. let k = c.first_failing-place.ensures.held h in search (rules, of_calls))
     (λ h b. let k = c.first_failing-place.ensures.fails h in search (rules, of_calls)))

@@ -1,0 +1,101 @@
+-- The set of the corners of a round, and its edges.
+use Rattle.std.proofs.Common.{◌≡◌, ℕ, zero, suc, ◌+◌, ◌≤◌, ◌<◌, pos, ◌≤ℤ◌, ◌⊎◌, List, [], ◌∷◌, length}
+use Rattle.std.proofs.Common.{inl, inr, sym, subst, arith}
+use Rattle.std.specs.List.{Contains}
+use Rattle.std.proofs.lemmas.Int.{ints}
+use Rattle.lattice.specs.Covers.{IsPointSet, with_point}
+use Rattle.lattice.specs.Plane.{Pair, orient, IsBefore}
+use Rattle.lattice.proofs.Order.{before_irrefl, before_not}
+use Rattle.hull_plain.specs.Edges.{IsLowerEdge, IsUpperEdge}
+use Rattle.hull_plain.proofs.PointLists.{AllPairs-none}
+use Rattle.hull_plain.proofs.SetLaws.{ordered_with, members_with}
+use Rattle.hull_outline.specs.Rounds.{corner, IsRound}
+use Rattle.hull_outline.proofs.Convex.{IsLeftOrEnd, not_right}
+use Rattle.hull_outline.proofs.Corners.{corner_there, corner_of}
+use Rattle.hull_outline.proofs.EdgesOf.{all_of}
+use Rattle.hull_outline.proofs.RoundChains.{renumbered, front_convex, left_ahead}
+use Rattle.hull_outline.proofs.RoundChains.{left_back}
+
+-- ---- the set of the corners
+
+-- the points of a list in the order "before"
+abbrev pub set_of : List Pair → List Pair
+set_of [] = []
+set_of (v ∷ vs) = with_point v (set_of vs)
+
+-- they are in that order
+pub set_ordered : (V : List Pair) → IsPointSet (set_of V)
+set_ordered [] = AllPairs-none
+set_ordered (v ∷ vs) = ordered_with v (set_of vs) (set_ordered vs)
+
+-- each of them is a member of the list
+pub set_among : (V : List Pair) (t : Pair) → Contains (set_of V) t → Contains V t
+set_among [] t m = m
+set_among (v ∷ vs) t m = elim ((members_with v t (set_of vs)).0 m) [
+  | inl e ↦ (0, omega arith, sym e)
+  | inr k ↦ let n = set_among vs t k in (suc n.0, omega (arith, n.1), n.2)
+]
+
+-- and each member is one of them
+pub set_all : (V : List Pair) (t : Pair) → Contains V t → Contains (set_of V) t
+set_all [] t m = m
+set_all (v ∷ vs) t (zero, l, e) = (members_with v t (set_of vs)).1 (inl (sym e))
+set_all (v ∷ vs) t (suc k, l, e) = (members_with v t (set_of vs)).1 (inr (set_all vs t (k, omega (arith, l), e)))
+
+-- ---- the edges of that set
+
+-- what holds of each corner holds of each point of the set
+pub of_corners : (V : List Pair) (P : Pair → Type 0) → ((k : ℕ) → k < length V → P (corner V k)) → (t : Pair)
+    → Contains (set_of V) t → P t
+of_corners V P h t m = let c = corner_of V t (set_among V t m) in subst P (sym c.2) (h c.0 c.1)
+
+-- a point on the line of an edge is one of its ends
+ends_alone : (u v t : Pair) → IsLeftOrEnd u v t → orient u v t ≡ pos 0 → (t ≡ u) ⊎ (t ≡ v)
+ends_alone u v t (inl h) z = absurd (omega (arith, ints))
+ends_alone u v t (inr e) z = e
+
+-- from a corner forward to the next
+pub made_ahead : (V : List Pair) (top i j : ℕ) → IsRound V top → j ≡ i + 1 → i < top
+    → IsLowerEdge (set_of V) (corner V i) (corner V j)
+made_ahead V top i j r e l =
+    let b : IsBefore (corner V i) (corner V j) = (front_convex V top r).ascends i j e (omega (arith, e, l)) in
+    let side : (t : Pair) → Contains (set_of V) t → IsLeftOrEnd (corner V i) (corner V j) t =
+    of_corners V (IsLeftOrEnd (corner V i) (corner V j)) (λ k n. left_ahead V top i j k r e l n) in
+    record {
+      from = set_all V (corner V i) (corner_there V i (omega (arith, r.within)));
+      to = set_all V (corner V j) (corner_there V j (omega (arith, r.within)));
+      forward = b;
+      left = all_of (λ t. pos 0 ≤ℤ orient (corner V i) (corner V j) t) (set_of V)
+          (λ t m. not_right (corner V i) (corner V j) t (side t m));
+      last = all_of (λ t. orient (corner V i) (corner V j) t ≡ pos 0 → ¬ (IsBefore (corner V j) t)) (set_of V)
+          (λ t m z. elim (ends_alone (corner V i) (corner V j) t (side t m) z) [
+            | inl q ↦ λ k. before_not (corner V i) (corner V j) b (subst (IsBefore (corner V j)) q k)
+            | inr q ↦ λ k. before_irrefl (corner V j) (subst (IsBefore (corner V j)) q k)
+          ]);
+    }
+
+-- the step back from a corner
+step_back : (V : List Pair) (top i j : ℕ) → IsRound V top → j ≡ i + 1 → top ≤ i → i < length V
+    → IsBefore (corner V j) (corner V i)
+step_back V top i j r e f l =
+    renumbered V (λ z. IsBefore z (corner V i)) (i + 1) j (sym e) ((r.steps i l).1 f)
+
+-- from a corner back to the next
+pub made_back : (V : List Pair) (top i j : ℕ) → IsRound V top → j ≡ i + 1 → top ≤ i → i < length V
+    → IsUpperEdge (set_of V) (corner V i) (corner V j)
+made_back V top i j r e f l =
+    let b : IsBefore (corner V j) (corner V i) = step_back V top i j r e f l in
+    let side : (t : Pair) → Contains (set_of V) t → IsLeftOrEnd (corner V i) (corner V j) t =
+    of_corners V (IsLeftOrEnd (corner V i) (corner V j)) (λ k n. left_back V top i j k r e f l n) in
+    record {
+      from = set_all V (corner V i) (corner_there V i (omega (arith, r.within)));
+      to = set_all V (corner V j) (corner_there V j (omega (arith, r.within)));
+      backward = b;
+      left = all_of (λ t. pos 0 ≤ℤ orient (corner V i) (corner V j) t) (set_of V)
+          (λ t m. not_right (corner V i) (corner V j) t (side t m));
+      last = all_of (λ t. orient (corner V i) (corner V j) t ≡ pos 0 → ¬ (IsBefore t (corner V j))) (set_of V)
+          (λ t m z. elim (ends_alone (corner V i) (corner V j) t (side t m) z) [
+            | inl q ↦ λ k. before_not (corner V j) (corner V i) b (subst (λ (y : Pair). IsBefore y (corner V j)) q k)
+            | inr q ↦ λ k. before_irrefl (corner V j) (subst (λ (y : Pair). IsBefore y (corner V j)) q k)
+          ]);
+    }

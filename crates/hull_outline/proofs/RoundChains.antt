@@ -1,0 +1,125 @@
+-- The two chains of a round of corners, and that each corner lies left of each edge or is one of its ends.
+use Rattle.std.proofs.Common.{◌≡◌, ℕ, ◌+◌, ◌-◌, ◌≤◌, ◌<◌, ℤ, pos, ◌<ℤ◌, List, length}
+use Rattle.std.proofs.Common.{inl, inr, sym, ap, ◌∙◌, subst, arith}
+use Rattle.std.proofs.lemmas.Bool.{cases_lt}
+use Rattle.std.proofs.lemmas.Int.{ints}
+use Rattle.lattice.specs.Plane.{Pair, orient, IsBefore, turned_point}
+use Rattle.lattice.proofs.TurnedBridges.{turned_twice}
+use Rattle.hull_outline.specs.Rounds.{corner, IsRound}
+use Rattle.hull_outline.proofs.Convex.{IsConvex, IsLeftOrEnd, left_or_end}
+use Rattle.hull_outline.proofs.Corners.{corner_back}
+use Rattle.hull_outline.proofs.Sides.{side_turned}
+use Rattle.hull_outline.proofs.TwoChains.{IsCounterpart, edge_left}
+
+-- ---- the two chains of a round
+
+-- the round from `top` on, after a turn
+abbrev pub behind : List Pair → ℕ → ℕ → Pair
+behind V top i = turned_point (corner V (top + i))
+
+-- a turn reverses the order
+pub turned_before : (p q : Pair) → IsBefore p q → IsBefore (turned_point q) (turned_point p)
+turned_before p q (inl h) = inl (omega (arith, ints))
+turned_before p q (inr h) = inr (omega (arith, ints, h.0), omega (arith, ints, h.1))
+
+-- a corner under another number
+pub renumbered : (V : List Pair) (P : Pair → Type 0) (i j : ℕ) → i ≡ j → P (corner V i) → P (corner V j)
+renumbered V P i j e p = subst (λ (n : ℕ). P (corner V n)) e p
+
+-- the corners up to `top` are convex
+pub front_convex : (V : List Pair) (top : ℕ) → IsRound V top → IsConvex (corner V) top
+front_convex V top r = record {
+  ascends = λ i j e l. renumbered V (IsBefore (corner V i)) (i + 1) j (sym e)
+      ((r.steps i (omega (arith, e, l, r.within))).0 (omega (arith, e, l)));
+  turns = λ i j k e f l. renumbered V (λ z. pos 0 <ℤ orient (corner V i) z (corner V k)) (i + 1) j (sym e)
+      (renumbered V (λ z. pos 0 <ℤ orient (corner V i) (corner V (i + 1)) z) (i + 2) k (omega (arith, e, f))
+      (r.turns i (omega (arith, e, f, l, r.within)) (λ q. absurd (omega (arith, e, f, l, q)))
+      (omega (arith, e, f, l, r.within))));
+}
+
+-- and those from there on, after a turn
+pub behind_convex : (V : List Pair) (top : ℕ) → IsRound V top → IsConvex (behind V top) (length V - top)
+behind_convex V top r = record {
+  ascends = λ i j e l. turned_before (corner V (top + j)) (corner V (top + i))
+      (renumbered V (λ z. IsBefore z (corner V (top + i))) (top + i + 1) (top + j) (omega (arith, e))
+      ((r.steps (top + i) (omega (arith, e, l, r.within))).1 (omega arith)));
+  turns = λ i j k e f l.
+      subst (λ (n : ℤ). pos 0 <ℤ n) (sym (side_turned (corner V (top + i)) (corner V (top + j)) (corner V (top + k))))
+      (renumbered V (λ z. pos 0 <ℤ orient (corner V (top + i)) z (corner V (top + k))) (top + i + 1) (top + j)
+      (omega (arith, e))
+      (renumbered V (λ z. pos 0 <ℤ orient (corner V (top + i)) (corner V (top + i + 1)) z) (top + i + 2) (top + k)
+      (omega (arith, e, f))
+      (r.turns (top + i) (omega (arith, e, f, l, r.within)) (λ q. absurd (omega (arith, q)))
+      (omega (arith, e, f, l, r.within)))));
+}
+
+-- the first corner is the end of the chain behind
+back_at_first : (V : List Pair) (top : ℕ) → IsRound V top → behind V top (length V - top) ≡ turned_point (corner V 0)
+back_at_first V top r =
+    ap turned_point (corner_back V (top + (length V - top)) (omega (arith, r.within)) (omega (arith, r.within)))
+
+-- the chain behind is the counterpart of the one in front
+pub behind_front : (V : List Pair) (top : ℕ) → IsRound V top
+    → IsCounterpart (corner V) top (behind V top) (length V - top)
+behind_front V top r = record {
+  convex = behind_convex V top r;
+  starts = ap (λ (n : ℕ). turned_point (corner V n)) (omega arith);
+  ends = back_at_first V top r;
+}
+
+-- and the other way round
+front_behind : (V : List Pair) (top : ℕ) → IsRound V top
+    → IsCounterpart (behind V top) (length V - top) (corner V) top
+front_behind V top r = record {
+  convex = front_convex V top r;
+  starts = sym (turned_twice (corner V 0)) ∙ ap turned_point (sym (back_at_first V top r));
+  ends = sym (turned_twice (corner V top))
+      ∙ ap (λ (n : ℕ). turned_point (turned_point (corner V n))) (omega arith);
+}
+
+-- ---- each corner lies left of each edge, or is one of its ends
+
+-- an edge forward
+pub left_ahead : (V : List Pair) (top i j k : ℕ) → IsRound V top → j ≡ i + 1 → i < top → k < length V
+    → IsLeftOrEnd (corner V i) (corner V j) (corner V k)
+left_ahead V top i j k r e l n = elim (cases_lt top k) [
+  | inr h ↦ left_or_end (corner V) top i j k (front_convex V top r) e (omega (arith, e, l)) h
+  | inl h ↦ inl (subst (λ (z : Pair). pos 0 <ℤ orient (corner V i) (corner V j) z)
+      (turned_twice (corner V (top + (k - top))) ∙ ap (corner V) (omega (arith, h)))
+      (edge_left (corner V) top (behind V top) (length V - top) i j (k - top) (front_convex V top r)
+      (behind_front V top r) e (omega (arith, e, l)) (omega (arith, h)) (omega (arith, h, n))))
+]
+
+-- left of an edge or one of its ends, seen after a turn
+turned_left : (u v t : Pair) → IsLeftOrEnd (turned_point u) (turned_point v) (turned_point t) → IsLeftOrEnd u v t
+turned_left u v t (inl h) = inl (subst (λ (n : ℤ). pos 0 <ℤ n) (side_turned u v t) h)
+turned_left u v t (inr (inl e)) = inr (inl (sym (turned_twice t) ∙ ap turned_point e ∙ turned_twice u))
+turned_left u v t (inr (inr e)) = inr (inr (sym (turned_twice t) ∙ ap turned_point e ∙ turned_twice v))
+
+-- an edge back, by the numbers from `top` on
+left_back_from : (V : List Pair) (top a b k : ℕ) → IsRound V top → b ≡ a + 1 → b ≤ length V - top → k < length V
+    → IsLeftOrEnd (corner V (top + a)) (corner V (top + b)) (corner V k)
+left_back_from V top a b k r e l n =
+    let c : IsConvex (behind V top) (length V - top) = behind_convex V top r in
+    turned_left (corner V (top + a)) (corner V (top + b)) (corner V k)
+    (elim (cases_lt k top) [
+      | inr h ↦ renumbered V (λ z. IsLeftOrEnd (behind V top a) (behind V top b) (turned_point z)) (top + (k - top)) k
+          (omega (arith, h))
+          (left_or_end (behind V top) (length V - top) a b (k - top) c e l (omega (arith, h, n)))
+      | inl h ↦ elim (cases_lt 0 k) [
+        | inl p ↦ inl (edge_left (behind V top) (length V - top) (corner V) top a b k c (front_behind V top r) e l p h)
+        | inr p ↦ renumbered V (λ z. IsLeftOrEnd (behind V top a) (behind V top b) (turned_point z)) 0 k
+            (omega (arith, p))
+            (subst (IsLeftOrEnd (behind V top a) (behind V top b)) (back_at_first V top r)
+            (left_or_end (behind V top) (length V - top) a b (length V - top) c e l (omega arith)))
+      ]
+    ])
+
+-- an edge back
+pub left_back : (V : List Pair) (top i j k : ℕ) → IsRound V top → j ≡ i + 1 → top ≤ i → i < length V → k < length V
+    → IsLeftOrEnd (corner V i) (corner V j) (corner V k)
+left_back V top i j k r e f l n =
+    renumbered V (λ z. IsLeftOrEnd z (corner V j) (corner V k)) (top + (i - top)) i (omega (arith, f))
+    (renumbered V (λ z. IsLeftOrEnd (corner V (top + (i - top))) z (corner V k)) (top + (j - top)) j
+    (omega (arith, e, f))
+    (left_back_from V top (i - top) (j - top) k r (omega (arith, e, f)) (omega (arith, e, f, l)) n))
