@@ -13,7 +13,6 @@ use Rattle.std.proofs.lemmas.List.{map-append, take-append-drop}
 use Rattle.std.proofs.lemmas.List.Elements.{All-append, All-cons, All-contains, Contains-push_cases, Contains-append_right}
 use Rattle.std.proofs.lemmas.List.Elements.{Contains-append_left, Contains-get_or, All-head, All-tail}
 use Rattle.std.proofs.lemmas.List.Sorted.{sorted_far, ranks_by, sum_by-IsPermutation}
-use Rattle.std.proofs.lemmas.List.Elements.{All-get_or}
 use Rattle.std.proofs.lemmas.List.Sums.{sum_by_push, sum_by_more, sum_by_more_le, sum_by-cons, sum_by-append}
 use Rattle.std.proofs.lemmas.Map.Entries.{length-keys_of}
 use Rattle.lattice.specs.Plane.{Pair, IsBefore}
@@ -286,13 +285,6 @@ listed_few es i q =
     let b : times_listed (take i es ++ drop i es) q ≡ times_listed es q =
     ap (λ z. times_listed z q) (take-append-drop i es) in
     omega (arith, a, b)
-
--- the entry at a place
-pub entry_there : (es : List (Pair × ℕ)) (i : ℕ) (e : Pair × ℕ) → AreEntries es → e ≡ get_or es i e → i < length es
-    → IsMultiplicity e.1
-entry_there es i e h g l =
-    subst (λ (z : Pair × ℕ). IsMultiplicity z.1) (sym g)
-    (All-get_or (λ (z : Pair × ℕ). IsMultiplicity z.1) es i e l h.held)
 
 -- no entry behind a place stands before the one there
 pub entry_behind : (es : List (Pair × ℕ)) (i k : ℕ) (d : Pair × ℕ) → AreEntries es → i < k → k < length es

@@ -27,6 +27,7 @@
 
 mod build;
 mod change;
+mod extend;
 mod laws;
 mod load;
 mod node;

@@ -91,16 +91,17 @@ impl SparingTree {
         self.tree.entries()
     }
 
-    /// Adds points in any order, all or none of them, as [`HullTree::extend`](HullTree::extend).
+    /// Adds points in any order, all or none of them, as [`HullTree::extend`](HullTree::extend), but builds the tree anew
+    /// only where they are half of the points at least: they are added one by one in less time.
     pub fn extend(&mut self, points: &[Point]) -> Result<(), LoadFault>
         ensures held { IfOk result (λ _. held_by self.new.root ≡ held_after_adds (held_by self.old.root) points.now) }
-        ensures fault { IfErr result (λ _. self.new ≡ self.old) }
+        ensures fault { IfErr result (λ _. held_by self.new.root ≡ held_by self.old.root) }
         ensures too_many { result ≡ Err LoadFault.TooMany
             → AreTooMany (held_by self.old.root) points.now self.old.limit }
         ensures limit { self.new.limit ≡ self.old.limit }
         ensures sound { IsSound self.new.root }
     {
-        self.tree.extend(points)
+        self.tree.extend_by::<KeepsWhatStands>(points, 2)
     }
 
     /// Holds `p` once more, as [`add`](HullSet::add), and tells how many turns the searches of bridges took: at most

@@ -11,6 +11,7 @@ ghost use Rattle.hull_tree.specs.Turns.{IsCountBy, IsLeastCount, IsLeafDepth};
 
 use super::build::blank;
 use super::change::{insert, is_leaf, lower, raise, remove, times_of};
+use super::extend::add_each;
 use super::load::{LoadFault, entries_of, merged_entries, node_over, push_entries};
 use super::node::Node;
 use super::node_ref::NodeRef;
@@ -127,10 +128,44 @@ impl HullTree {
         Ok(entries)
     }
 
-    /// Adds points in any order, all or none of them: what adding them one by one makes. The tree is built anew beside the
-    /// old one, from the points of both. `TooMany` comes where adding them would answer it; after a fault the set holds what
-    /// it held.
+    /// Adds points in any order, all or none of them: what adding them one by one makes. Where they are a sixteenth of the
+    /// points at least, the tree is built anew beside the old one, and else they are added one by one. `TooMany` comes where
+    /// adding them would answer it; after a fault the set holds what it held.
     pub fn extend(&mut self, points: &[Point]) -> Result<(), LoadFault>
+        ensures held { IfOk result (λ _. held_by self.new.root ≡ held_after_adds (held_by self.old.root) points.now) }
+        ensures fault { IfErr result (λ _. held_by self.new.root ≡ held_by self.old.root) }
+        ensures too_many { result ≡ Err LoadFault.TooMany
+            → AreTooMany (held_by self.old.root) points.now self.old.limit }
+        ensures limit { self.new.limit ≡ self.old.limit }
+        ensures sound { IsSound self.new.root }
+    {
+        self.extend_by::<SearchesAll>(points, 16)
+    }
+
+    /// Adds points, all or none of them: by building the tree anew where so many times their number is no less than that of
+    /// its points, and else one by one in the way `R`.
+    pub(crate) fn extend_by<R: Renewal>(
+        &mut self,
+        points: &[Point],
+        share: usize,
+    ) -> Result<(), LoadFault>
+        requires { 1 ≤ share }
+        ensures held { IfOk result (λ _. held_by self.new.root ≡ held_after_adds (held_by self.old.root) points.now) }
+        ensures fault { IfErr result (λ _. held_by self.new.root ≡ held_by self.old.root) }
+        ensures too_many { result ≡ Err LoadFault.TooMany
+            → AreTooMany (held_by self.old.root) points.now self.old.limit }
+        ensures limit { self.new.limit ≡ self.old.limit }
+        ensures sound { IsSound self.new.root }
+    {
+        if points.len() < self.count as usize / share {
+            add_each::<R>(self, points)
+        } else {
+            self.extend_anew(points)
+        }
+    }
+
+    /// Adds points, all or none of them: builds the tree anew beside the old one, from the points of both.
+    fn extend_anew(&mut self, points: &[Point]) -> Result<(), LoadFault>
         ensures held { IfOk result (λ _. held_by self.new.root ≡ held_after_adds (held_by self.old.root) points.now) }
         ensures fault { IfErr result (λ _. self.new ≡ self.old) }
         ensures too_many { result ≡ Err LoadFault.TooMany

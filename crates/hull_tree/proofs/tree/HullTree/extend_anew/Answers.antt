@@ -9,7 +9,7 @@ use Rattle.hull_tree.specs.Roots.{held_by}
 use Rattle.hull_tree.specs.Sets.{LimitedTree, IsSound}
 use Rattle.hull_tree.proofs.LimitedTrees.{sound}
 use Rattle.hull_tree.proofs.AddedSets.{merged_is_added, root_held, after_times}
-use Rattle.hull_tree.proofs.tree.HullTree.extend.Goals as goal
+use Rattle.hull_tree.proofs.tree.HullTree.extend_anew.Goals as goal
 
 pub returns-in_err-added-clause-sound : goal.returns-in_err-added-clause-sound
 returns-in_err-added-clause-sound c = subst IsSound (ap (λ (z : LimitedTree). z.root) c.self.view_is) (sound _ _ _ c.self.invariant)
