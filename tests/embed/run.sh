@@ -108,6 +108,10 @@ in_cplusplus() {
     try "the tests of hull.hpp compile" c++ -std=c++17 -pedantic -Wall -Wextra -Werror -O2 -g "$here/hull_tests.cpp" \
         $(flags) -lhull_shared -lpthread -o "$room/hull_tests_cpp"
     try "the tests of hull.hpp" "$room/hull_tests_cpp"
+    # shellcheck disable=SC2046
+    try "examples/embed/planner.cpp compiles by what is installed" c++ -std=c++17 -pedantic -Wall -Wextra -Werror -O2 \
+        "$examples/planner.cpp" $(flags) -lhull_shared -lpthread -o "$room/planner"
+    try "examples/embed/planner.cpp writes examples/embed/planner.txt" writes "$examples/planner.txt" "$room/planner"
     if is_there valgrind; then
         try "valgrind finds nothing in the tests of hull.hpp" valgrind -q --error-exitcode=9 --leak-check=full \
             --show-leak-kinds=all --errors-for-leak-kinds=all "$room/hull_tests_cpp" "$room/threads_journal"
