@@ -37,7 +37,7 @@ impl Model for SparingTree {
 }
 
 impl SparingTree {
-    /// The empty set, which takes `limit` points at most. Asks for no memory; `add` and `vertices` ask `alloc`.
+    /// The empty set, which takes `limit` points at most. Asks for no memory; what asks for some later asks `alloc`.
     pub fn new(alloc: Heap, limit: u32) -> SparingTree
         requires low { 1 ≤ limit }
         requires high { limit ≤ POINT_LIMIT }

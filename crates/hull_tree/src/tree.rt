@@ -30,7 +30,8 @@ use std::marker::Model;
 ///
 /// `add` of a new point and `remove` of one that is held once renew the forks on the way to the point and those that a
 /// rotation makes; every other change is one way down, to the number in the point's leaf. Each question goes down the
-/// stored bridges. Only `add` and `vertices` ask for memory: `add` of a new point for one box, and none for the first.
+/// stored bridges. Only `add`, `vertices`, `entries` and `extend` ask for memory: `add` of a new point for one box, and
+/// none for the first.
 #[derive(Drop)]
 pub struct HullTree {
     root: Option<Node>,
@@ -54,7 +55,7 @@ impl Model for HullTree {
 }
 
 impl HullTree {
-    /// The empty set, which takes `limit` points at most. Asks for no memory; `add` and `vertices` ask `alloc`.
+    /// The empty set, which takes `limit` points at most. Asks for no memory; what asks for some later asks `alloc`.
     pub fn new(alloc: Heap, limit: u32) -> HullTree
         requires low { 1 ≤ limit }
         requires high { limit ≤ POINT_LIMIT }

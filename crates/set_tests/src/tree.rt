@@ -1,5 +1,6 @@
 //! Worked examples, and memory that is refused. The tree beside the plain set is in `tests/beside_plain.rt`.
 mod beside_plain;
+mod extends;
 mod loads;
 mod sparing;
 mod turns;
