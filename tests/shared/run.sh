@@ -139,7 +139,7 @@ in_rust() {
         rust --test --extern hull="$room/libhull_slow.rlib" --crate-name slow_tests "$here/shared_tests.rs" &&
         passes "$room/slow_tests"
     count "the same with threads that are held up between the steps of waiting" $?
-    rust --extern hull --crate-name threads_rust "$examples/threads.rs" &&
+    rust --extern hull="$room/libhull.rlib" --crate-name threads_rust "$examples/threads.rs" &&
         writes "$examples/threads.txt" "$room/threads_rust"
     count "examples/shared/threads.rs writes examples/shared/threads.txt and a legal journal" $?
 }
