@@ -1,0 +1,115 @@
+// The heap that the module of hull.wasm takes its memory from: it stands where malloc, realloc and free stand for programs in C.
+//
+// No proof reads it. A block has a whole number of sixteens of bytes up to 512, or else a power of two of them; which of these
+// stands in the 16 bytes before it. A block that was given back is the first of the list of its size, and the next taken.
+
+const HEAD = 16;
+const SMALL = 512;
+const PAGE = 65536;
+const PAGES_AT_ONCE = 64;
+// no block is greater: sizes above are not told apart from faults
+const GREATEST = 2 ** 40;
+
+/** Which size a block of so many bytes has: 1 to 32 for the sixteens, and then one for each power of two. */
+function class_of(bytes) {
+    return bytes <= SMALL ? Math.max(1, Math.ceil(bytes / 16)) : 23 + Math.ceil(Math.log2(bytes));
+}
+
+function size_of(its) {
+    return its <= SMALL / 16 ? 16 * its : 2 ** (its - 23);
+}
+
+/** Blocks of a module's memory, of which at most `limit` bytes are used. An address is a Number; 0 is no block. */
+export class Heap {
+    #memory;
+    #top;
+    #limit;
+    #given_back = new Float64Array(64);
+    #view;
+
+    constructor(limit = Infinity) {
+        this.#limit = limit;
+    }
+
+    /** Begins behind what the module's own data and stack take. */
+    begin(memory, base) {
+        this.#memory = memory;
+        this.#top = Math.ceil(base / 16) * 16;
+        this.#view = new DataView(memory.buffer);
+    }
+
+    /** The memory as it is now: its buffer is another one once it has grown. */
+    get view() {
+        if (this.#view.buffer !== this.#memory.buffer) this.#view = new DataView(this.#memory.buffer);
+        return this.#view;
+    }
+
+    /** A block of so many bytes at a multiple of 16, or 0. */
+    take(bytes) {
+        if (bytes > GREATEST) return 0;
+        const its = class_of(bytes), kept = this.#given_back[its];
+        if (kept) {
+            this.#given_back[its] = this.view.getFloat64(kept, true);
+            return kept;
+        }
+        const end = this.#top + HEAD + size_of(its);
+        if (end > this.#limit || !this.#reaches(end)) return 0;
+        const at = this.#top + HEAD;
+        this.view.setUint32(this.#top, its, true);
+        this.#top = end;
+        return at;
+    }
+
+    /** Gives a block back. */
+    give(at) {
+        const its = this.view.getUint32(at - HEAD, true);
+        this.view.setFloat64(at, this.#given_back[its], true);
+        this.#given_back[its] = at;
+    }
+
+    /** A block of another size that begins with the first `kept` bytes of the one given, which is gone; or 0, and it is as it was. */
+    resize(at, kept, bytes) {
+        if (class_of(bytes) === this.view.getUint32(at - HEAD, true)) return at;
+        const to = this.take(bytes);
+        if (to) {
+            new Uint8Array(this.#memory.buffer).copyWithin(to, at, at + Math.min(kept, bytes));
+            this.give(at);
+        }
+        return to;
+    }
+
+    /** The three imports of the module. */
+    imports() {
+        return {
+            web_alloc: (answer, bytes) => this.#tell(answer, this.take(Number(bytes))),
+            web_realloc: (answer, at, kept, bytes) =>
+                this.#tell(answer, this.resize(Number(at), Number(kept), Number(bytes))),
+            web_dealloc: (at) => this.give(Number(at)),
+        };
+    }
+
+    /** Writes whether there is a block, and its address: one that is not null where there is none. */
+    #tell(answer, at) {
+        const to = Number(answer);
+        this.view.setUint32(to, at ? 1 : 0, true);
+        this.view.setBigUint64(to + 8, BigInt(at || 16), true);
+    }
+
+    #reaches(end) {
+        const missing = Math.ceil((end - this.#memory.buffer.byteLength) / PAGE);
+        return missing <= 0 || this.#grows(Math.max(missing, PAGES_AT_ONCE)) || this.#grows(missing);
+    }
+
+    #grows(pages) {
+        // (engines took a Number until 2024, and take a BigInt since)
+        for (const more of [BigInt(pages), pages]) {
+            try {
+                this.#memory.grow(more);
+                return true;
+            } catch (error) {
+                if (!(error instanceof TypeError)) return false;
+            }
+        }
+        return false;
+    }
+}

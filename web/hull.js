@@ -1,0 +1,437 @@
+// The hull for pages and Node: hull.wasm, whose calls are proved, with numbers in and values out.
+//
+//     const { Hull } = await load();
+//     const hull = new Hull();
+//     hull.addAll([[0, 0], [10, 0], [10, 10]]);
+//     hull.place(5, 5); // "on"
+//
+// A coordinate is a whole Number from -2^40 to 2^40, so that each is exact; an area is a BigInt, since it may pass 2^53.
+import { Heap } from "./heap.js";
+
+/** The greatest size of a coordinate, of a point and of a direction. */
+export const COORDINATE_LIMIT = 2 ** 40;
+/** How many different points a hull takes at most. */
+export const POINT_LIMIT = 2 ** 20;
+/** How often a point may be held. */
+export const MULTIPLICITY_LIMIT = 65535;
+
+/** What a call may be refused with. The hull is as it was. */
+export class HullError extends Error {
+    get name() {
+        return this.constructor.name;
+    }
+}
+/** A coordinate is no whole Number from -2^40 to 2^40, or a limit none from 1 to 2^20. */
+export class OutOfRange extends HullError {}
+/** Both components of a direction are 0. */
+export class ZeroDirection extends HullError {}
+/** The point is new and there are as many as the limit, or it is held as often as may be. */
+export class TooMany extends HullError {}
+/** The heap has no block of the size that is needed; the call may be made again. */
+export class NoMemory extends HullError {}
+/** The hull or outline was freed. */
+export class Ended extends HullError {}
+/** The points are not the corners of a hull in their order. */
+export class NoOutline extends HullError {}
+/** The module stopped in the middle of a call: it and all its hulls serve none any more. */
+export class Trapped extends HullError {}
+/** The engine can't load the module: it has no 64-bit memory, or the bytes are not hull.wasm. */
+export class Unsupported extends HullError {}
+
+const ADD = 1, REMOVE = 2, PLACE = 3, TANGENTS = 4, EXTREME = 5, AREA = 7, COUNT = 8, MULTIPLICITY = 9;
+const CODE = {
+    outOfRange: 1, zeroDirection: 2, added: 3, tooMany: 5, noMemory: 6, absent: 9, point: 10, inside: 12, on: 13, outside: 14,
+    tangents: 15, tooSmall: 19,
+};
+const FAULTS = new Map([
+    [CODE.outOfRange, () => new OutOfRange("a coordinate is out of range")],
+    [CODE.zeroDirection, () => new ZeroDirection("both components of the direction are 0")],
+    [CODE.tooMany, () => new TooMany("the hull takes no more points, or this one no more often")],
+    [CODE.noMemory, () => new NoMemory("the heap has no room for it")],
+]);
+const PLACES = { [CODE.inside]: "inside", [CODE.on]: "on", [CODE.outside]: "outside" };
+// the structs of hull.h, in bytes
+const REPLY = { size: 56, x: 8, y: 16, otherX: 24, otherY: 32, number: 40, high: 48 };
+const REQUEST = { size: 24, x: 8, y: 16 };
+const POINT = { size: 16, y: 8 };
+const REQUESTS_AT_ONCE = 1024;
+const HALF = 2 ** 32;
+
+const disposal = Symbol.dispose ?? Symbol.for("Symbol.dispose");
+
+function isWhole(value) {
+    return Number.isInteger(value) && Math.abs(value) <= COORDINATE_LIMIT;
+}
+
+function checked(value) {
+    if (!isWhole(value)) {
+        throw new OutOfRange(`a coordinate is a whole Number from -2^40 to 2^40, and not ${typeof value} ${String(value)}`);
+    }
+    return value;
+}
+
+/** The coordinates of pairs, or of an array that has those of each point beside one another; all of them checked. */
+function flat(points) {
+    const numbers = numbersOf(points);
+    if (numbers.length % 2 !== 0) throw new OutOfRange("a point has two coordinates, and the array an odd number of them");
+    for (const value of numbers) checked(value);
+    return numbers instanceof Float64Array ? numbers : Float64Array.from(numbers);
+}
+
+/** A copy of what an array tells: nobody writes it during a call. */
+function numbersOf(points) {
+    if (points instanceof Float64Array) return points.slice();
+    if (points instanceof BigInt64Array || points instanceof BigUint64Array) return Float64Array.from(points, Number);
+    return ArrayBuffer.isView(points) ? Float64Array.from(points) : Array.from(points, pairOf).flat();
+}
+
+function pairOf(point) {
+    if (point?.length !== 2) throw new OutOfRange("a point is a pair of coordinates");
+    return [point[0], point[1]];
+}
+
+/** Writes a whole number in two halves: quicker than a BigInt. */
+function writeWhole(view, at, value) {
+    view.setInt32(at, value | 0, true);
+    view.setInt32(at + 4, Math.floor(value / HALF), true);
+}
+
+function readWhole(view, at) {
+    return view.getInt32(at + 4, true) * HALF + view.getUint32(at, true);
+}
+
+/** One instance of the module, its heap, and the rooms that all calls share. */
+class Instance {
+    #cause = null;
+
+    constructor(exports, heap) {
+        this.wasm = exports;
+        this.heap = heap;
+        this.reply = this.take(REPLY.size);
+        this.requests = this.take(REQUESTS_AT_ONCE * REQUEST.size);
+        this.replies = this.take(REQUESTS_AT_ONCE * REPLY.size);
+        this.replyAddress = BigInt(this.reply);
+        this.corners = { at: this.take(POINT.size), room: 1 };
+    }
+
+    /** Calls an export. A trap ends the instance: what lies in its memory is not to be used again. */
+    call(name, ...words) {
+        if (this.#cause !== null) {
+            throw new Trapped("the module stopped in a call before, and serves none any more: load it anew", { cause: this.#cause });
+        }
+        try {
+            return this.wasm[name](...words);
+        } catch (error) {
+            this.#cause = error;
+            throw new Trapped(`the module stopped in ${name}, and serves no call any more: load it anew`, { cause: error });
+        }
+    }
+
+    /** Makes a call that gives memory back, for which there is no need after a trap. */
+    end(name, ...words) {
+        if (this.#cause === null) this.call(name, ...words);
+    }
+
+    /** Makes a call that replies, and returns its code; a fault is thrown. */
+    ask(name, ...words) {
+        this.call(name, this.replyAddress, ...words);
+        const code = this.heap.view.getUint32(this.reply, true);
+        if (FAULTS.has(code)) throw FAULTS.get(code)();
+        return code;
+    }
+
+    take(bytes) {
+        const at = this.heap.take(bytes);
+        if (at === 0) throw FAULTS.get(CODE.noMemory)();
+        return at;
+    }
+
+    whole(offset) {
+        return readWhole(this.heap.view, this.reply + offset);
+    }
+
+    /** What the last reply tells as `number`. */
+    number() {
+        return this.whole(REPLY.number);
+    }
+
+    /** `number` and `high` of the last reply. */
+    wide() {
+        const { view } = this.heap;
+        return (view.getBigUint64(this.reply + REPLY.high, true) << 64n) + view.getBigUint64(this.reply + REPLY.number, true);
+    }
+
+    /** A block with the points in it. */
+    placed(coordinates) {
+        const at = this.take(Math.max(1, coordinates.length / 2) * POINT.size), { view } = this.heap;
+        coordinates.forEach((value, i) => writeWhole(view, at + 8 * i, value));
+        return at;
+    }
+
+    /** So many points from an address, as [x0, y0, x1, y1, ..]. */
+    points(at, count) {
+        const { view } = this.heap;
+        const coordinates = new Float64Array(2 * count);
+        for (let i = 0; i < coordinates.length; i++) coordinates[i] = readWhole(view, at + 8 * i);
+        return coordinates;
+    }
+}
+
+/** Ends what nothing refers to any more and was not freed: the engine calls it at a time of its own. */
+const forgotten = new FinalizationRegistry((end) => end());
+
+/** What a hull and an outline have in common: the questions, and the end. */
+class Questions {
+    #instance;
+    #end;
+    #ended = false;
+
+    constructor(instance, end) {
+        this.#instance = instance;
+        this.#end = end;
+        forgotten.register(this, end, this);
+    }
+
+    /** The instance, of what was not freed. */
+    _live() {
+        if (this.#ended) throw new Ended("it was freed");
+        return this.#instance;
+    }
+
+    place(x, y) {
+        return PLACES[this._ask(PLACE, checked(x), checked(y))];
+    }
+
+    tangents(x, y) {
+        if (this._ask(TANGENTS, checked(x), checked(y)) !== CODE.tangents) return null;
+        const { reply, heap: { view } } = this.#instance;
+        return {
+            left: [readWhole(view, reply + REPLY.x), readWhole(view, reply + REPLY.y)],
+            right: [readWhole(view, reply + REPLY.otherX), readWhole(view, reply + REPLY.otherY)],
+        };
+    }
+
+    extreme(x, y) {
+        if (this._ask(EXTREME, checked(x), checked(y)) !== CODE.point) return null;
+        return [this.#instance.whole(REPLY.x), this.#instance.whole(REPLY.y)];
+    }
+
+    doubledArea() {
+        this._ask(AREA, 0, 0);
+        return this.#instance.wide();
+    }
+
+    vertices() {
+        const coordinates = this.vertexArray();
+        return Array.from({ length: coordinates.length / 2 }, (_, i) => [coordinates[2 * i], coordinates[2 * i + 1]]);
+    }
+
+    free() {
+        if (this.#ended) return;
+        this.#ended = true;
+        forgotten.unregister(this);
+        this.#end();
+    }
+
+    [disposal]() {
+        this.free();
+    }
+}
+
+class HullOfInstance extends Questions {
+    #at;
+
+    constructor(instance, limit) {
+        if (!Number.isInteger(limit) || limit < 1 || limit > POINT_LIMIT) {
+            throw new OutOfRange(`a limit is a whole Number from 1 to ${POINT_LIMIT}, and not ${String(limit)}`);
+        }
+        const room = instance.take(Number(instance.call("hull_size"))), at = BigInt(room);
+        super(instance, () => {
+            instance.end("hull_end", at);
+            instance.heap.give(room);
+        });
+        this.#at = at;
+        instance.call("hull_make", limit, at);
+    }
+
+    _ask(kind, x, y) {
+        return this._live().ask("hull_call", this.#at, kind, BigInt(x), BigInt(y));
+    }
+
+    add(x, y) {
+        return this._ask(ADD, checked(x), checked(y)) === CODE.added ? 1 : this._live().number();
+    }
+
+    remove(x, y) {
+        return this._ask(REMOVE, checked(x), checked(y)) === CODE.absent ? null : this._live().number();
+    }
+
+    multiplicity(x, y) {
+        this._ask(MULTIPLICITY, checked(x), checked(y));
+        return this._live().number();
+    }
+
+    count() {
+        this._ask(COUNT, 0, 0);
+        return this._live().number();
+    }
+
+    limit() {
+        this._live().ask("hull_limit", this.#at);
+        return this._live().number();
+    }
+
+    clear() {
+        this._live().ask("hull_clear", this.#at);
+    }
+
+    load(points) {
+        const coordinates = flat(points), instance = this._live(), array = instance.placed(coordinates);
+        try {
+            instance.ask("hull_load", this.#at, BigInt(array), BigInt(coordinates.length / 2));
+        } finally {
+            instance.heap.give(array);
+        }
+        return instance.number();
+    }
+
+    vertexArray() {
+        const instance = this._live(), { corners } = instance;
+        for (;;) {
+            const code = instance.ask("hull_vertices", this.#at, BigInt(corners.at), BigInt(corners.room));
+            const count = instance.number();
+            if (code !== CODE.tooSmall) return instance.points(corners.at, count);
+            const wider = instance.take(2 * count * POINT.size);
+            instance.heap.give(corners.at);
+            corners.at = wider;
+            corners.room = 2 * count;
+        }
+    }
+
+    addAll(points) {
+        const times = new Uint32Array(flat(points).length / 2), refused = [CODE.tooMany, CODE.noMemory];
+        this.#serve(ADD, points, (i, code, number) => {
+            times[i] = code === CODE.added ? 1 : refused.includes(code) ? 0 : number;
+        });
+        return times;
+    }
+
+    removeAll(points) {
+        let there = 0;
+        this.#serve(REMOVE, points, (_, code) => (there += code === CODE.absent ? 0 : 1));
+        return there;
+    }
+
+    placeAll(points) {
+        const places = [];
+        this.#serve(PLACE, points, (_, code) => places.push(PLACES[code]));
+        return places;
+    }
+
+    /** Makes one kind of call at each of the points, and tells the index, the code and the number of each reply. */
+    #serve(kind, points, tell) {
+        const coordinates = flat(points), count = coordinates.length / 2;
+        for (let from = 0; from < count; from += REQUESTS_AT_ONCE) {
+            this.#serveSome(kind, coordinates, from, Math.min(REQUESTS_AT_ONCE, count - from), tell);
+        }
+    }
+
+    #serveSome(kind, coordinates, from, count, tell) {
+        const instance = this._live(), { requests, replies } = instance;
+        let { view } = instance.heap;
+        for (let i = 0; i < count; i++) {
+            const at = requests + i * REQUEST.size;
+            view.setUint32(at, kind, true);
+            writeWhole(view, at + REQUEST.x, coordinates[2 * (from + i)]);
+            writeWhole(view, at + REQUEST.y, coordinates[2 * (from + i) + 1]);
+        }
+        instance.call("hull_calls", this.#at, BigInt(requests), BigInt(count), BigInt(replies), BigInt(count));
+        view = instance.heap.view;
+        for (let i = 0; i < count; i++) {
+            const at = replies + i * REPLY.size;
+            tell(from + i, view.getUint32(at, true), view.getUint32(at + REPLY.number, true));
+        }
+    }
+}
+
+class OutlineOfInstance extends Questions {
+    #at;
+    #count;
+
+    constructor(instance, corners) {
+        const coordinates = flat(corners), count = coordinates.length / 2;
+        if (count > POINT_LIMIT) throw new TooMany("an outline has more corners than a hull may have");
+        const room = instance.placed(coordinates);
+        super(instance, () => instance.heap.give(room));
+        this.#at = room;
+        this.#count = count;
+        try {
+            instance.ask("hull_is_outline", BigInt(room), BigInt(count));
+            if (instance.number() !== 1) throw new NoOutline("the points are not the corners of a hull in their order");
+        } catch (error) {
+            this.free();
+            throw error;
+        }
+    }
+
+    _ask(kind, x, y) {
+        return this._live().ask("hull_outline_call", BigInt(this.#at), BigInt(this.#count), kind, BigInt(x), BigInt(y));
+    }
+
+    count() {
+        this._live();
+        return this.#count;
+    }
+
+    vertexArray() {
+        return this._live().points(this.#at, this.#count);
+    }
+}
+
+/** The bytes of what `load` is passed. Node's fetch reads no files. */
+async function bytesOf(source) {
+    const given = await source;
+    if (given instanceof ArrayBuffer || ArrayBuffer.isView(given)) return given;
+    if (typeof Response !== "undefined" && given instanceof Response) return given.arrayBuffer();
+    const url = new URL(given, import.meta.url);
+    if (url.protocol === "file:" && globalThis.process?.versions?.node) {
+        return (await import("node:fs/promises")).readFile(url);
+    }
+    const response = await fetch(url);
+    if (!response.ok) throw new Unsupported(`${url} was not found: ${response.status}`);
+    return response.arrayBuffer();
+}
+
+/**
+ * Loads the module: from its bytes, a URL, or a Response (or a promise of one), or else from out/hull.wasm beside this file.
+ * At most `memory` bytes of its memory are used, where that is given.
+ */
+export async function load(source = new URL("./out/hull.wasm", import.meta.url), { memory = Infinity } = {}) {
+    const bytes = await bytesOf(source), heap = new Heap(memory);
+    let wasm;
+    try {
+        wasm = (await WebAssembly.instantiate(bytes, { heap: heap.imports() })).instance.exports;
+    } catch (error) {
+        throw new Unsupported(`this engine can't load hull.wasm, which has a 64-bit memory: ${error.message}`, { cause: error });
+    }
+    heap.begin(wasm.memory, Number(wasm.__heap_base.value));
+    return classesOf(new Instance(wasm, heap));
+}
+
+function classesOf(instance) {
+    class Outline extends OutlineOfInstance {
+        constructor(corners) {
+            super(instance, corners);
+        }
+    }
+    class Hull extends HullOfInstance {
+        constructor(limit = POINT_LIMIT) {
+            super(instance, limit);
+        }
+
+        outline() {
+            return new Outline(this.vertexArray());
+        }
+    }
+    return { Hull, Outline };
+}
