@@ -1,6 +1,7 @@
 #!/bin/sh
-# Changes of this library beside those of CGAL's Delaunay hierarchy and of corners kept in an array, in one process, in turns.
-# Wants c++ and CGAL's headers (Debian: libcgal-dev), and says so where they are not there.
+# This library in C++ beside its peers, in one process, in turns: changes beside CGAL's Delaunay hierarchy and corners kept in an
+# array, and what a set that stands is asked beside sort and chain, CGAL, GEOS and Boost. Wants c++ and the headers of the peers
+# (Debian: libcgal-dev libgeos-dev libboost-dev), and says so where they are not there.
 #
 # run.sh [ROUNDS]: the least of so many rounds (3 where none is given)
 set -eu
@@ -19,4 +20,16 @@ for points in 1000 100000 1000000; do
 done
 for points in 1000 10000; do
     "$room/changes" parabola "$points" "${1:-3}"
+done
+if ! printf '%s\n' '#include <boost/geometry.hpp>' '#include <geos_c.h>' | c++ -fsyntax-only -x c++ - 2>/dev/null; then
+    echo 'skipped: a set that stands, since there are no headers of GEOS and Boost'
+    exit 0
+fi
+c++ -std=c++17 -O2 -DNDEBUG -frounding-math -I"$room/include" "$here/standing.cpp" -L"$room/lib" -lhull -lgmp -lmpfr -lgeos_c \
+    -lpthread -o "$room/standing"
+for points in 1000 100000 1000000; do
+    "$room/standing" square "$points" "${1:-3}"
+done
+for points in 1000 100000; do
+    "$room/standing" parabola "$points" "${1:-3}"
 done
