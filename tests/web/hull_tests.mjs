@@ -1,0 +1,160 @@
+// hull.js and journal.js in Node: each answer beside the program's stored ones and the plain way's, and each refusal.
+import { strict as assert } from "node:assert";
+import { readFileSync, readdirSync } from "node:fs";
+import * as faults from "../../web/hull.js";
+import { TextError, judge, readJournal, serve } from "../../web/journal.js";
+import { Plain, random_of } from "./plain.mjs";
+
+const { load } = faults, FAR = 2 ** 40, MEMORY = 2 ** 24;
+const module = new URL("../../web/out/hull.wasm", import.meta.url), cases = new URL("../cli/cases/", import.meta.url);
+const { Hull, Outline } = await load();
+let passed = 0, failed = 0;
+async function tried(name, run) {
+    try {
+        const said = await run();
+        passed++;
+        console.log(`${name}: ok${said ? `, ${said}` : ""}`);
+    } catch (error) {
+        failed++;
+        console.log(`${name}: FAILED, ${String(error.stack).split("\n").slice(0, 12).join(" ")}`);
+    }
+}
+
+/** A case of tests/cli: its words, its status, and the texts of its parts. */
+function caseOf(file) {
+    const parts = { input: "", output: "" }, heads = {};
+    let inside = "";
+    for (const line of readFileSync(new URL(file, cases), "utf8").split("\n")) {
+        const head = /^([a-z]+):(.*)/.exec(line);
+        if (line.startsWith("|")) parts[inside] += `${line.slice(1)}\n`;
+        else if (line.startsWith("\\")) parts[inside] += line.slice(1);
+        else if (head) [inside, heads[head[1]]] = [head[1], head[2].trim()];
+    }
+    return { ...heads, ...parts };
+}
+const stored = readdirSync(cases).filter((it) => it.endsWith(".case")).map((it) => ({ name: it, ...caseOf(it) }));
+
+await tried("the program's stored reports", () => {
+    let compared = 0;
+    // one worker, whose calls stand in the report in the order in which they were made
+    for (const { name, output } of stored.filter((it) => it.words === "run INPUT" && it.status === "0")) {
+        const hull = new Hull(), lines = output.split("\n").filter((it) => / = /.test(it));
+        if (lines.some((it) => !it.startsWith("0 "))) continue;
+        for (const line of lines) {
+            const [call, reply] = line.slice(2).split(" = ");
+            assert.equal(serve(hull, call), reply, `${name}: ${call}`);
+            compared++;
+        }
+    }
+    assert.ok(compared > 50, `${compared} answers`);
+    return `${compared} answers`;
+});
+await tried("the program's stored verdicts", () => {
+    let judged = 0;
+    for (const { name, words, status, input, output } of stored) {
+        if (words !== "check INPUT" || !["0", "1"].includes(status)) continue;
+        const journal = readJournal(input), { word, index } = judge(new Hull(journal.limit), journal);
+        assert.equal(word === "legal" ? "legal\n" : `illegal ${index + 2}\n`, output, name);
+        judged++;
+    }
+    assert.ok(judged > 10);
+    return `${judged} journals`;
+});
+await tried("each refusal of a number", () => {
+    const hull = new Hull(3);
+    hull.addAll([[0, 0], [1, 0]]);
+    for (const bad of [0.5, FAR + 1, -FAR - 1, NaN, Infinity, "1", 1n, null, undefined]) {
+        for (const call of ["add", "remove", "place", "extreme", "tangents", "multiplicity"]) {
+            assert.throws(() => hull[call](bad, 0), faults.OutOfRange);
+            assert.throws(() => hull[call](0, bad), faults.OutOfRange);
+        }
+    }
+    for (const bad of [Float64Array.of(5, 5, 0.5, 1), Float64Array.of(1, 2, 3), BigInt64Array.of(5n, 2n ** 41n), [[5, 5], [1]]]) {
+        for (const call of ["addAll", "removeAll", "placeAll", "load"]) assert.throws(() => hull[call](bad), faults.OutOfRange);
+    }
+    for (const bad of [0, -1, 2 ** 20 + 1, 1.5, "3"]) assert.throws(() => new Hull(bad), faults.OutOfRange);
+    assert.throws(() => hull.extreme(0, 0), faults.ZeroDirection);
+    assert.throws(() => new Outline([[0, 0], [1, 0], [2, 0]]), faults.NoOutline);
+    assert.deepEqual(hull.vertices(), [[0, 0], [1, 0]]);
+});
+await tried("too many, and the ends of the range", () => {
+    const hull = new Hull(3), points = [[-FAR, -FAR], [FAR, -FAR], [FAR, FAR]];
+    assert.deepEqual([...hull.addAll([...points, [0, 0], points[0]])], [1, 1, 1, 0, 2]);
+    assert.throws(() => hull.add(0, 0), faults.TooMany);
+    assert.throws(() => hull.load([[0, 0], [1, 0], [2, 0], [3, 0]]), faults.TooMany);
+    assert.deepEqual([hull.vertices(), hull.doubledArea(), hull.limit()], [points, 2n ** 82n, 3]);
+    hull.addAll(Array(65533).fill(points[0]));
+    assert.equal(hull.multiplicity(...points[0]), 65535);
+    assert.throws(() => hull.add(...points[0]), faults.TooMany);
+    assert.equal(hull.load(BigInt64Array.of(1n, 2n, 1n, 2n)), 1);
+    hull.clear();
+    assert.deepEqual([hull.count(), hull.extreme(1, 0), hull.remove(1, 2)], [0, null, null]);
+});
+await tried("a freed hull serves nothing", () => {
+    const hull = new Hull(), outline = hull.outline();
+    hull.free();
+    hull[Symbol.dispose]?.();
+    outline.free();
+    for (const call of ["add", "remove", "place", "tangents", "extreme", "multiplicity"]) assert.throws(() => hull[call](1, 1), faults.Ended);
+    for (const call of ["vertices", "count", "limit", "clear", "doubledArea"]) assert.throws(() => hull[call](), faults.Ended);
+    assert.throws(() => outline.place(0, 0), faults.Ended);
+});
+await tried("ten thousand calls beside the plain way", () => {
+    let calls = 0;
+    for (let seed = 1; seed <= 10; seed++) {
+        const random = random_of(seed), apart = [3, 8, 40, 2 ** 41][seed % 4], limit = [5, 30, 60][seed % 3];
+        const hull = new Hull(limit), plain = new Plain(limit), any = () => random(apart) - Math.floor(apart / 2);
+        for (let i = 0; i < 1000; i++, calls++) {
+            const word = ["add", "add", "remove", "place", "tangents", "extreme", "multiplicity", "vertices", "doubledArea", "count"][random(10)];
+            const [x, y] = [any(), any()];
+            if (word === "extreme" && x === 0 && y === 0) continue;
+            const answer = word === "add" ? hull.addAll([[x, y]])[0] : hull[word](x, y);
+            assert.deepEqual(answer, plain[word](x, y), `${word} ${x} ${y}, seed ${seed}`);
+            if (i % 100 === 99) assert.deepEqual(hull.outline().tangents(x, y), plain.tangents(x, y));
+        }
+        hull.free();
+    }
+    return `${calls} calls`;
+});
+await tried("many points at once", () => {
+    const hull = new Hull(), random = random_of(3), points = Float64Array.from({ length: 8000 }, () => random(60));
+    const pairs = Array.from({ length: 4000 }, (_, i) => [points[2 * i], points[2 * i + 1]]), plain = new Plain(2 ** 20);
+    assert.deepEqual([...hull.addAll(points)], pairs.map((it) => plain.add(...it)));
+    assert.deepEqual(hull.placeAll(Int32Array.from(points.subarray(0, 40))), pairs.slice(0, 20).map((it) => plain.place(...it)));
+    assert.equal(hull.removeAll([...pairs, [99, 99]]), 4000);
+    assert.equal(hull.count(), 0);
+});
+await tried("refused memory leaves the hull as it was", async () => {
+    const small = await load(readFileSync(module), { memory: MEMORY }), hull = new small.Hull();
+    let added = 0;
+    assert.throws(() => {
+        for (;; added++) hull.add(added, (added * added) % 1009);
+    }, faults.NoMemory);
+    assert.ok(added > 1000);
+    assert.deepEqual([hull.count(), hull.multiplicity(added, (added * added) % 1009)], [added, 0]);
+    assert.equal(hull.add(0, 0), 2);
+    hull.clear();
+    assert.equal(hull.add(7, 7), 1);
+    return `${added} points in ${MEMORY} bytes`;
+});
+await tried("bytes that are no module, and texts that are no journal", async () => {
+    await assert.rejects(load(new Uint8Array(8)), faults.Unsupported);
+    for (const text of ["", "end 0\n", "hullbook journal 3 first 0 limit 1 capacity 1\nend 1\n"]) assert.throws(() => readJournal(text), TextError);
+});
+await tried("after a trap nothing is served", async () => {
+    const bytes = readFileSync(module), instantiate = WebAssembly.instantiate;
+    WebAssembly.instantiate = async (...words) => {
+        const { instance } = await instantiate(...words), { hull_call } = instance.exports;
+        // a hull at an address beyond the memory
+        const stray = (reply, at, ...rest) => hull_call(reply, rest[1] === 666n ? 1n << 60n : at, ...rest);
+        return { instance: { exports: { ...instance.exports, hull_call: stray } } };
+    };
+    const { Hull: Other } = await load(bytes).finally(() => (WebAssembly.instantiate = instantiate)), hull = new Other();
+    assert.equal(hull.add(1, 1), 1);
+    assert.throws(() => hull.add(666, 1), faults.Trapped);
+    assert.throws(() => hull.place(1, 1), faults.Trapped);
+    assert.throws(() => new Other(), faults.Trapped);
+    hull.free();
+});
+console.log(`${passed} passed, ${failed} failed`);
+process.exit(failed ? 1 : 0);

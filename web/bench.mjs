@@ -1,0 +1,91 @@
+// What calls cost beside a plain chain in JavaScript, made anew at each change: node web/bench.mjs [POINTS]. Calls a second.
+import { load } from "./hull.js";
+
+const number = Number(process.argv[2] ?? 10000), ROUNDS = 5;
+const { Hull } = await load();
+
+/** Points in a disc or on a circle, in order neither by x nor by y. */
+function pointsOf(shape) {
+    return Array.from({ length: number }, () => {
+        const angle = 2 * Math.PI * Math.random(), far = 1e6 * (shape === "circle" ? 1 : Math.sqrt(Math.random()));
+        return [Math.round(far * Math.cos(angle)), Math.round(far * Math.sin(angle))];
+    });
+}
+
+const turn = (a, b, c) => (b[0] - a[0]) * (c[1] - a[1]) - (b[1] - a[1]) * (c[0] - a[0]);
+
+function half(points) {
+    const chain = [];
+    for (const point of points) {
+        while (chain.length > 1 && turn(chain.at(-2), chain.at(-1), point) <= 0) chain.pop();
+        chain.push(point);
+    }
+    return chain.slice(0, -1);
+}
+
+/** The corners, by the chain of Andrew (1979). Numbers are exact for points of this size. */
+function chainOf(points) {
+    const sorted = [...points].sort((a, b) => a[0] - b[0] || a[1] - b[1]);
+    return [...half(sorted), ...half(sorted.reverse())];
+}
+
+/** Whether a point is left of the diagonals from the first corner, and then of one edge. */
+function plainPlace(corners, point) {
+    let low = 1, high = corners.length - 1;
+    if (turn(corners[0], corners[low], point) < 0 || turn(corners[0], corners[high], point) > 0) return false;
+    while (high - low > 1) {
+        const middle = (low + high) >> 1;
+        if (turn(corners[0], corners[middle], point) >= 0) low = middle;
+        else high = middle;
+    }
+    return turn(corners[low], corners[high], point) >= 0;
+}
+
+/** Calls a second, of the quickest of some rounds. */
+function rate(calls, run) {
+    const seconds = Array.from({ length: ROUNDS }, () => {
+        const began = performance.now();
+        run(calls);
+        return (performance.now() - began) / 1000;
+    });
+    return calls / Math.min(...seconds);
+}
+
+function row(name, ours, plain) {
+    console.log(`${name.padEnd(34)} ${Math.round(ours).toString().padStart(10)} ${Math.round(plain).toString().padStart(10)} ${(ours / plain).toFixed(2).padStart(9)}`);
+}
+
+for (const shape of ["disc", "circle"]) {
+    const points = pointsOf(shape), others = pointsOf(shape), hull = new Hull(), list = [...points], kept = chainOf(points);
+    const flat = Float64Array.from(others.flat());
+    let sum = 0;
+    const change = (n, after) => {
+        for (let i = 0; i < n; i++) sum += i & 1 ? hull.remove(...others[i >> 1]) : hull.add(...others[i >> 1]);
+        after?.();
+    };
+    const plain = rate(20, (n) => {
+        for (let i = 0; i < n; i++) {
+            if (i & 1) list.pop();
+            else list.push(others[i]);
+            sum += chainOf(list).length;
+        }
+    });
+    console.log(`${`${shape}, ${number} points, ${kept.length} corners`.padEnd(34)}    hull.js      plain     ratio`);
+    row("add, from nothing", rate(number, () => {
+        hull.clear();
+        for (const point of points) sum += hull.add(...point);
+    }), plain);
+    row("add or remove", rate(2000, change), plain);
+    row("add or remove, and all corners", rate(200, (n) => {
+        for (let i = 0; i < n; i++) change(1, () => (sum += hull.vertexArray().length));
+    }), plain);
+    const plainPlaces = rate(number, () => {
+        for (const point of others) sum += plainPlace(kept, point) ? 1 : 0;
+    });
+    row("place", rate(number, () => {
+        for (const [x, y] of others) sum += hull.place(x, y).length;
+    }), plainPlaces);
+    row("placeAll", rate(number, () => (sum += hull.placeAll(flat).length)), plainPlaces);
+    if (!Number.isFinite(sum)) throw new Error("a point was not there");
+    hull.free();
+}
