@@ -1,4 +1,5 @@
-// What calls cost beside a plain chain in JavaScript, made anew at each change: node web/bench.mjs [POINTS]. Calls a second.
+// What calls cost beside plain JavaScript: points kept in order, whose corners a chain makes anew at each change of all points (so
+// that is what each row of changes is beside), and places by bisection over the corners: node web/bench.mjs [POINTS]. Calls a second.
 import { load } from "./hull.js";
 
 const number = Number(process.argv[2] ?? 10000), ROUNDS = 5;
@@ -23,10 +24,22 @@ function half(points) {
     return chain.slice(0, -1);
 }
 
-/** The corners, by the chain of Andrew (1979). Numbers are exact for points of this size. */
-function chainOf(points) {
-    const sorted = [...points].sort((a, b) => a[0] - b[0] || a[1] - b[1]);
-    return [...half(sorted), ...half(sorted.reverse())];
+const order = (a, b) => a[0] - b[0] || a[1] - b[1];
+
+/** The corners of points in order, by the chain of Andrew (1979). Numbers are exact for points of this size. */
+function chainOf(sorted) {
+    return [...half(sorted), ...half(sorted.toReversed())];
+}
+
+/** Where a point stands among points in order, or would stand. */
+function placeIn(sorted, point) {
+    let low = 0, high = sorted.length;
+    while (low < high) {
+        const middle = (low + high) >> 1;
+        if (order(sorted[middle], point) < 0) low = middle + 1;
+        else high = middle;
+    }
+    return low;
 }
 
 /** Whether a point is left of the diagonals from the first corner, and then of one edge. */
@@ -56,17 +69,20 @@ function row(name, ours, plain) {
 }
 
 for (const shape of ["disc", "circle"]) {
-    const points = pointsOf(shape), others = pointsOf(shape), hull = new Hull(), list = [...points], kept = chainOf(points);
+    const points = pointsOf(shape), others = pointsOf(shape), hull = new Hull(), list = points.toSorted(order), kept = chainOf(list);
     const flat = Float64Array.from(others.flat());
     let sum = 0;
     const change = (n, after) => {
-        for (let i = 0; i < n; i++) sum += i & 1 ? hull.remove(...others[i >> 1]) : hull.add(...others[i >> 1]);
-        after?.();
-    };
-    const plain = rate(20, (n) => {
         for (let i = 0; i < n; i++) {
-            if (i & 1) list.pop();
-            else list.push(others[i]);
+            sum += i & 1 ? hull.remove(...others[i >> 1]) : hull.add(...others[i >> 1]);
+            after?.();
+        }
+    };
+    const plain = rate(200, (n) => {
+        for (let i = 0; i < n; i++) {
+            const at = placeIn(list, others[i >> 1]);
+            if (i & 1) list.splice(at, 1);
+            else list.splice(at, 0, others[i >> 1]);
             sum += chainOf(list).length;
         }
     });
@@ -75,10 +91,8 @@ for (const shape of ["disc", "circle"]) {
         hull.clear();
         for (const point of points) sum += hull.add(...point);
     }), plain);
-    row("add or remove", rate(2000, change), plain);
-    row("add or remove, and all corners", rate(200, (n) => {
-        for (let i = 0; i < n; i++) change(1, () => (sum += hull.vertexArray().length));
-    }), plain);
+    row("add or remove", rate(2000, (n) => change(n)), plain);
+    row("add or remove, and all corners", rate(200, (n) => change(n, () => (sum += hull.vertexArray().length))), plain);
     const plainPlaces = rate(number, () => {
         for (const point of others) sum += plainPlace(kept, point) ? 1 : 0;
     });
