@@ -1,6 +1,6 @@
 -- What one pass over points in order makes of a chain.
 use Rattle.std.proofs.Common.{◌≡◌, ℕ, pos, ◌≤ℤ◌, ◌⊎◌, inl, inr, refl, sym, ap, ◌∙◌, subst, List, arith, zero, suc, []}
-use Rattle.std.proofs.Common.{◌∷◌, ◌++◌, ◌<◌, ◌+◌, ◌-◌, length, get_or, take}
+use Rattle.std.proofs.Common.{◌∷◌, ◌++◌, ◌<◌, ◌+◌, ◌-◌, length, get_or, take, length-append}
 use Rattle.std.specs.List.{All, Contains}
 use Rattle.std.proofs.lemmas.Int.{ints}
 use Rattle.std.proofs.lemmas.List.Elements.{All-cons, All-head, All-tail, Contains-append_left, Contains-append_right}
@@ -103,7 +103,7 @@ set_right [] ys s = s
 set_right (x ∷ xs) ys s = set_right xs ys (AllPairs-tail x (xs ++ ys) s)
 
 -- a set without one of its points is a set
-set_less : (xs : List Pair) (b : Pair) (ys : List Pair) → IsPointSet (xs ++ b ∷ ys) → IsPointSet (xs ++ ys)
+pub set_less : (xs : List Pair) (b : Pair) (ys : List Pair) → IsPointSet (xs ++ b ∷ ys) → IsPointSet (xs ++ ys)
 set_less [] b ys s = AllPairs-tail b ys s
 set_less (x ∷ xs) b ys s =
     let h : All (IsBefore x) (xs ++ b ∷ ys) = AllPairs-head x (xs ++ b ∷ ys) s in
@@ -155,6 +155,15 @@ module _ {side : Side} {chain : List Pair} {c : Pair} (e : EndsInwards side chai
       subst (λ (z : List Pair). Contains z t) (append_twice e.front (e.a ∷ []) (e.b ∷ []) ∙ sym e.whole)
       (Contains-append_left (e.front ++ e.a ∷ []) (e.b ∷ []) t (subst (λ (z : List Pair). Contains z t) e.kept m))
 
+  -- it is shorter
+  pub popped_short : length (take (length chain - 1) chain) < length chain
+  popped_short =
+      let k : length (take (length chain - 1) chain) ≡ length (e.front ++ e.a ∷ []) = ap length e.kept in
+      let w : length chain ≡ length (e.front ++ e.a ∷ e.b ∷ []) = ap length e.whole in
+      let m = length-append e.front (e.a ∷ []) in
+      let n = length-append e.front (e.a ∷ e.b ∷ []) in
+      omega (arith, k, w, m, n)
+
 -- a member of part of a chain and its new end is one of the chain and that end
 pub with_end : (part chain : List Pair) (c : Pair) → ((t : Pair) → Contains part t → Contains chain t) → (t : Pair)
     → Contains (part ++ c ∷ []) t → Contains (chain ++ c ∷ []) t
@@ -193,7 +202,7 @@ take_suc (x ∷ xs) zero d l = refl
 take_suc (x ∷ xs) (suc i) d l = ap (λ (z : List Pair). x ∷ z) (take_suc xs i d (omega arith))
 
 -- the points up to a place and the one there
-take_next : (S : List Pair) (i : ℕ) (p : Pair) → i < length S → p ≡ get_or S i p → take (i + 1) S ≡ take i S ++ p ∷ []
+pub take_next : (S : List Pair) (i : ℕ) (p : Pair) → i < length S → p ≡ get_or S i p → take (i + 1) S ≡ take i S ++ p ∷ []
 take_next S i p l e = let n : i + 1 ≡ suc i = omega arith in
     ap (λ (k : ℕ). take k S) n ∙ take_suc S i p l ∙ ap (λ (z : Pair). take i S ++ z ∷ []) (sym e)
 

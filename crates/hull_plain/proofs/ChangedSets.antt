@@ -1,9 +1,9 @@
 -- What `with_point` and `without_point` make of a set.
-use Rattle.std.proofs.Common.{◌≡◌, ℕ, inl, inr, refl, sym, ap, ◌∙◌, subst, List, arith, zero, suc, ◌<◌, [], ◌∷◌, ◌++◌}
+use Rattle.std.proofs.Common.{◌≡◌, ℕ, inl, inr, refl, sym, ◌∙◌, subst, List, arith, zero, suc, ◌<◌, [], ◌∷◌, ◌++◌}
 use Rattle.std.proofs.Common.{length, get_or}
 use Rattle.std.specs.List.{All, Contains}
 use Rattle.std.proofs.lemmas.List.Elements.{All-contains, All-weaker, All-cons, All-head, All-tail}
-use Rattle.lattice.specs.Covers.{IsPointSet, with_point, without_point}
+use Rattle.lattice.specs.Covers.{IsPointSet, without_point}
 use Rattle.lattice.specs.Plane.{Pair, IsBefore}
 use Rattle.lattice.proofs.Order.{before_trans, before_irrefl, before_total, is_before-true, is_before-false, before_not}
 use Rattle.hull_plain.proofs.PointLists.{AllPairs-cons, AllPairs-head, AllPairs-tail, all_append_right, left_part}
@@ -19,25 +19,6 @@ set-insert p (x ∷ xs) ys s a b =
     (All-cons (IsBefore x) p ys (All-head (λ t. IsBefore t p) x xs a)
     (right_part (IsBefore x) xs ys (AllPairs-head x (xs ++ ys) s))))
     (set-insert p xs ys (AllPairs-tail x (xs ++ ys) s) (All-tail (λ t. IsBefore t p) x xs a) b)
-
--- `with_point` puts p between the points before it and those after it
-pub with_point-at : (p : Pair) (xs ys : List Pair) → All (λ t. IsBefore t p) xs → All (IsBefore p) ys
-    → with_point p (xs ++ ys) ≡ xs ++ p ∷ ys
-with_point-at p [] [] a b = refl
-with_point-at p [] (y ∷ ys) a b =
-    let h : IsBefore p y = All-head (IsBefore p) y ys b in
-    rw (is_before-false y p (before_not p y h), is_before-true p y h) refl
-with_point-at p (x ∷ xs) ys a b =
-    rw (is_before-true x p (All-head (λ t. IsBefore t p) x xs a))
-    (ap (λ (z : List Pair). x ∷ z) (with_point-at p xs ys (All-tail (λ t. IsBefore t p) x xs a) b))
-
--- `without_point` takes p from between them
-pub without_point-at : (p : Pair) (xs ys : List Pair) → All (λ t. IsBefore t p) xs
-    → without_point p (xs ++ p ∷ ys) ≡ xs ++ ys
-without_point-at p [] ys a = rw (is_before-false p p (before_irrefl p)) refl
-without_point-at p (x ∷ xs) ys a =
-    rw (is_before-true x p (All-head (λ t. IsBefore t p) x xs a))
-    (ap (λ (z : List Pair). x ∷ z) (without_point-at p xs ys (All-tail (λ t. IsBefore t p) x xs a)))
 
 -- p is not among the points before it and after it
 pub absent_between : (p : Pair) (xs ys : List Pair) → All (λ t. IsBefore t p) xs → All (IsBefore p) ys

@@ -1,21 +1,12 @@
 -- One step round the hull: the rightmost of the points still ahead makes the next edge.
-use Rattle.std.proofs.Common.{◌≡◌, ℤ, pos, negsuc, ◌+ℤ◌, ◌-ℤ◌, ◌*ℤ◌, ◌≤ℤ◌, ◌<ℤ◌, inl, inr, refl, sym, ◌∙◌, List, arith}
-use Rattle.std.proofs.Common.{zero, suc, ◌∷◌, ◌++◌, get_or}
-use Rattle.std.specs.List.{All, Contains}
+use Rattle.std.proofs.Common.{◌≡◌, ℤ, pos, negsuc, ◌+ℤ◌, ◌-ℤ◌, ◌*ℤ◌, ◌≤ℤ◌, ◌<ℤ◌, inl, inr, ◌∙◌, arith}
+use Rattle.std.proofs.Common.{zero, suc}
 use Rattle.std.proofs.lemmas.Int.{ints}
-use Rattle.std.proofs.lemmas.List.Elements.{All-contains, All-append, All-cons, Contains-append_left}
-use Rattle.std.proofs.lemmas.List.Elements.{Contains-append_right}
 use Rattle.lattice.specs.Plane.{Pair, orient, distance_squared, IsBefore}
 use Rattle.lattice.specs.Polynomials.{difference-eq, as_difference, difference-add, difference-neg, difference-mul}
 use Rattle.lattice.specs.Signs.{product_nn, product_pp}
-use Rattle.lattice.proofs.Vectors.{minus, opp, cross, Ahead, cross-opp_left, cross-opp_right, cross-opp, ahead_nn}
-use Rattle.lattice.proofs.Vectors.{turn_trans}
-use Rattle.hull_plain.specs.Edges.{IsLowerEdge, IsUpperEdge}
-use Rattle.hull_plain.specs.Tangents.{IsRightTangent}
-use Rattle.lattice.proofs.Order.{before_trans, before_not}
-use Rattle.hull_plain.proofs.Orientation.{orient_at_end, at_least, above, zero_nn, ahead_of, behind_of, along}
-use Rattle.lattice.proofs.LineCrossings.{orient_start}
-use Rattle.hull_plain.proofs.PointLists.{get_or_free}
+use Rattle.lattice.proofs.Vectors.{minus, opp, cross, Ahead, cross-opp, ahead_nn}
+use Rattle.hull_plain.proofs.Orientation.{orient_at_end, at_least, above, ahead_of, behind_of, along}
 
 -- the square of a number above 0
 square_above : (x : ℤ) → pos 0 <ℤ x → pos 0 <ℤ (x *ℤ x)
@@ -87,85 +78,3 @@ past_farther_back u v t b c e =
     (at_least _ _ (dot-opp (minus v u) (minus t v))
     (dot_nn (opp (minus v u)) (opp (minus t v)) (behind_of v u b) (behind_of t v c)
     (cross-opp (minus v u) (minus t v) ∙ orient_at_end u v t ∙ e)))
-
--- the edge from p to u keeps t on its left and turns left into the edge from u to v: then t is left of that too
-pub left_before : (p u v t : Pair) → IsBefore p u → IsBefore u v → IsBefore t u → pos 0 ≤ℤ orient p u t
-    → pos 0 ≤ℤ orient p u v → pos 0 ≤ℤ orient u v t
-unfolding orient
-left_before p u v t pu uv tu pt pv =
-    at_least _ _ (cross-opp_left (minus t u) (minus v u))
-    (turn_trans (opp (minus t u)) (minus u p) (minus v u) (behind_of t u tu) (ahead_of p u pu) (ahead_of u v uv)
-    (at_least _ _ (sym (orient_at_end p u t) ∙ sym (cross-opp_left (minus t u) (minus u p))) pt)
-    (at_least _ _ (sym (orient_at_end p u v)) pv))
-
--- the same of an upper edge
-pub left_after : (p u v t : Pair) → IsBefore u p → IsBefore v u → IsBefore u t → pos 0 ≤ℤ orient p u t
-    → pos 0 ≤ℤ orient p u v → pos 0 ≤ℤ orient u v t
-unfolding orient
-left_after p u v t pu uv tu pt pv =
-    at_least _ _ (cross-opp_right (minus t u) (minus v u))
-    (turn_trans (minus t u) (opp (minus u p)) (opp (minus v u)) (ahead_of u t tu) (behind_of u p pu) (behind_of v u uv)
-    (at_least _ _ (sym (orient_at_end p u t) ∙ sym (cross-opp_right (minus t u) (minus u p))) pt)
-    (at_least _ _ (sym (orient_at_end p u v) ∙ sym (cross-opp (minus u p) (minus v u))) pv))
-
--- v is the rightmost of the points R after u; a lower edge ends at u, or no point stands before u: u to v is a lower
--- edge
-pub lower_step : (L R : List Pair) (u v : Pair) → All (λ t. IsBefore t u) L → All (IsBefore u) R → IsRightTangent R u v
-    → ((t : Pair) → Contains L t → (p : Pair) × IsLowerEdge (L ++ (u ∷ R)) p u) → IsLowerEdge (L ++ (u ∷ R)) u v
-lower_step L R u v hl hr r prior =
-    let forward : IsBefore u v = All-contains (IsBefore u) R v hr r.0 in
-    let P : Pair → Type 0 = λ t. pos 0 ≤ℤ orient u v t in
-    let Q : Pair → Type 0 = λ t. orient u v t ≡ pos 0 → ¬ (IsBefore v t) in
-    record {
-      from = Contains-append_right L (u ∷ R) u (0, omega arith, refl);
-      to = Contains-append_right L (u ∷ R) v (suc r.0.0, omega (arith, r.0.1), r.0.2);
-      forward = forward;
-      left = All-append P L (u ∷ R) (λ k d l. before_it forward (get_or L k d) (k, l, get_or_free L k _ d l) (hl k d l))
-          (All-cons P u R (zero_nn _ (orient_start u v)) (λ k d l. (r.1 k d l).0));
-      last = All-append Q L (u ∷ R) (λ k d l e b. before_not u v forward (before_trans v _ u b (hl k d l)))
-          (All-cons Q u R (λ e b. before_not u v forward b) (λ k d l e b. beyond forward _ b e ((r.1 k d l).1 e)));
-    }
-  where
-    before_it : IsBefore u v → (t : Pair) → Contains L t → IsBefore t u → pos 0 ≤ℤ orient u v t
-    before_it forward t m b =
-        let p = prior t m in
-        left_before p.0 u v t p.1.forward forward b
-        (All-contains (λ z. pos 0 ≤ℤ orient p.0 u z) (L ++ (u ∷ R)) t p.1.left (Contains-append_left L (u ∷ R) t m))
-        (All-contains (λ z. pos 0 ≤ℤ orient p.0 u z) (L ++ (u ∷ R)) v p.1.left
-        (Contains-append_right L (u ∷ R) v (suc r.0.0, omega (arith, r.0.1), r.0.2)))
-
-    beyond : IsBefore u v → (t : Pair) → IsBefore v t → orient u v t ≡ pos 0
-        → distance_squared u t ≤ℤ distance_squared u v → ⊥
-    beyond forward t b e d = let f = past_farther u v t forward b e in omega (arith, ints)
-
--- v is the rightmost of the points L before u; an upper edge ends at u, or no point stands after u: u to v is an upper
--- edge
-pub upper_step : (L R : List Pair) (u v : Pair) → All (λ t. IsBefore t u) L → All (IsBefore u) R → IsRightTangent L u v
-    → ((t : Pair) → Contains R t → (p : Pair) × IsUpperEdge (L ++ (u ∷ R)) p u) → IsUpperEdge (L ++ (u ∷ R)) u v
-upper_step L R u v hl hr r prior =
-    let backward : IsBefore v u = All-contains (λ t. IsBefore t u) L v hl r.0 in
-    let P : Pair → Type 0 = λ t. pos 0 ≤ℤ orient u v t in
-    let Q : Pair → Type 0 = λ t. orient u v t ≡ pos 0 → ¬ (IsBefore t v) in
-    record {
-      from = Contains-append_right L (u ∷ R) u (0, omega arith, refl);
-      to = Contains-append_left L (u ∷ R) v r.0;
-      backward = backward;
-      left = All-append P L (u ∷ R) (λ k d l. (r.1 k d l).0)
-          (All-cons P u R (zero_nn _ (orient_start u v))
-          (λ k d l. after_it backward (get_or R k d) (k, l, get_or_free R k _ d l) (hr k d l)));
-      last = All-append Q L (u ∷ R) (λ k d l e b. beyond backward _ b e ((r.1 k d l).1 e))
-          (All-cons Q u R (λ e b. before_not v u backward b)
-          (λ k d l e b. before_not v u backward (before_trans u _ v (hr k d l) b)));
-    }
-  where
-    after_it : IsBefore v u → (t : Pair) → Contains R t → IsBefore u t → pos 0 ≤ℤ orient u v t
-    after_it backward t m b =
-        let p = prior t m in
-        let mt : Contains (L ++ (u ∷ R)) t = Contains-append_right L (u ∷ R) t (suc m.0, omega (arith, m.1), m.2) in
-        left_after p.0 u v t p.1.backward backward b
-        (All-contains (λ z. pos 0 ≤ℤ orient p.0 u z) (L ++ (u ∷ R)) t p.1.left mt)
-        (All-contains (λ z. pos 0 ≤ℤ orient p.0 u z) (L ++ (u ∷ R)) v p.1.left (Contains-append_left L (u ∷ R) v r.0))
-
-    beyond : IsBefore v u → (t : Pair) → IsBefore t v → orient u v t ≡ pos 0
-        → distance_squared u t ≤ℤ distance_squared u v → ⊥
-    beyond backward t b e d = let f = past_farther_back u v t backward b e in omega (arith, ints)

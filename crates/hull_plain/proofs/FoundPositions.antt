@@ -6,28 +6,13 @@ use Rattle.std.specs.List.Sorted.{IsPartitionPoint, IsPartitionedBy}
 use Rattle.std.proofs.lemmas.Bool.{cases_lt}
 use Rattle.std.proofs.lemmas.List.{get_or-drop, get_or-take}
 use Rattle.std.proofs.lemmas.List.Elements.{All-weaker, All-cons, All-head}
-use Rattle.lattice.specs.Covers.{IsPointSet, is_before, with_point}
+use Rattle.lattice.specs.Covers.{IsPointSet, is_before}
 use Rattle.lattice.specs.Plane.{Pair, IsBefore}
 use Rattle.hull_plain.specs.Positions.{IsPositionOf}
-use Rattle.hull_plain.proofs.ChangedSets.{with_point-at, absent_between}
+use Rattle.hull_plain.proofs.ChangedSets.{absent_between}
 use Rattle.lattice.proofs.Order.{before_trans, before_irrefl, before_total, is_before-true, is_before-holds}
 use Rattle.lattice.proofs.Order.{is_before-fails}
 use Rattle.hull_plain.proofs.PointLists.{AllPairs-head, AllPairs-tail, get_or_free, cut, cut_at}
-
--- where the first of a set is not before p, none is
-none_from_first : (x : Pair) (xs : List Pair) (p : Pair) → IsPointSet (x ∷ xs) → ¬ (IsBefore x p)
-    → All (λ t. ¬ (IsBefore t p)) (x ∷ xs)
-none_from_first x xs p s n =
-    All-cons (λ t. ¬ (IsBefore t p)) x xs n
-    (All-weaker (IsBefore x) (λ t. ¬ (IsBefore t p)) (λ t h k. n (before_trans x t p h k)) xs
-    (AllPairs-head x xs s))
-
--- where the point at i is not before p, none from there on is
-pub none_before : (S : List Pair) (p : Pair) (i : ℕ) (d : Pair) → IsPointSet S → i < length S
-    → ¬ (IsBefore (get_or S i d) p) → All (λ t. ¬ (IsBefore t p)) (drop i S)
-none_before [] p i d s l n = absurd (omega arith)
-none_before (x ∷ xs) p zero d s l n = none_from_first x xs p s n
-none_before (x ∷ xs) p (suc i) d s l n = none_before xs p i d (AllPairs-tail x xs s) (omega arith) n
 
 -- where the first is not before p and not p, all stand after p
 all_after : (x : Pair) (xs : List Pair) (p : Pair) → IsPointSet (x ∷ xs) → ¬ (IsBefore x p) → ¬ (x ≡ p)
@@ -45,19 +30,10 @@ drop_after [] p i d s l a n = absurd (omega arith)
 drop_after (x ∷ xs) p zero d s l a n = all_after x xs p s (All-head (λ t. ¬ (IsBefore t p)) x xs a) n
 drop_after (x ∷ xs) p (suc i) d s l a n = drop_after xs p i d (AllPairs-tail x xs s) (omega arith) a n
 
--- a point that was found is there
-pub found_contains : (S : List Pair) (p : Pair) (i : ℕ) → IsPositionOf S p (Ok i) → Contains S p
-found_contains S p i h = (i, h.0, h.1 p)
-
 -- a point that was not found is not there
 pub found_absent : (S : List Pair) (p : Pair) (i : ℕ) → IsPositionOf S p (Err i) → ¬ (Contains S p)
 found_absent S p i h m =
     absent_between p (take i S) (drop i S) h.1 h.2 (subst (λ (z : List Pair). Contains z p) (cut S i h.0) m)
-
--- and it is S with p
-pub inserted_is : (S : List Pair) (p : Pair) (i : ℕ) → IsPositionOf S p (Err i)
-    → take i S ++ p ∷ drop i S ≡ with_point p S
-inserted_is S p i h = sym (ap (with_point p) (cut S i h.0) ∙ with_point-at p (take i S) (drop i S) h.1 h.2)
 
 -- the first point that is not before p stands after it: p is not there
 pub place_before : (S : List Pair) (p : Pair) (i : ℕ) (x : Pair) → IsPointSet S → i < length S

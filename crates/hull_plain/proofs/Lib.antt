@@ -11,7 +11,6 @@ pub mod Surrounded
 pub mod Chains
 pub mod VertexLists
 pub mod VertexOrder
-pub mod BestOf
 pub mod SameSide
 pub mod Sightings
 pub mod Rounds
@@ -25,9 +24,17 @@ pub mod UniqueVertices
 pub mod UniqueReplies
 pub mod EdgePlaces
 pub mod Decided
-pub mod Spanning
+pub mod Turns
+pub mod ChainEdges
 pub mod ChainPasses
-pub mod Ends
+pub mod Passes
+pub mod Between
+pub mod Mended
+pub mod Looks
+pub mod Touches
+pub mod Slopes
+pub mod Farthest
+pub mod TwoChains
 pub mod OrderedMaps
 pub mod Times
 pub mod Multiplicities

@@ -34,12 +34,12 @@ cmp_equal : (a b : ℤ) → a ≡ b → int_cmp a b ≡ Equal
 cmp_equal a b h = grind (arith, ints)
 
 -- a point that stands before another
-less : (p q : Pair) → IsBefore p q → point_cmp p q ≡ Less
+pub less : (p q : Pair) → IsBefore p q → point_cmp p q ≡ Less
 less p q (inl h) = rw (cmp_less p.x q.x h) refl
 less p q (inr h) = rw (cmp_equal p.x q.x h.0, cmp_less p.y q.y h.1) refl
 
 -- a point that stands after another
-greater : (p q : Pair) → IsBefore q p → point_cmp p q ≡ Greater
+pub greater : (p q : Pair) → IsBefore q p → point_cmp p q ≡ Greater
 greater p q (inl h) = rw (cmp_greater p.x q.x h) refl
 greater p q (inr h) = rw (cmp_equal p.x q.x (sym h.0), cmp_greater p.y q.y h.1) refl
 

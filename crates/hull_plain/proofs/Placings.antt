@@ -3,7 +3,7 @@ use Rattle.std.proofs.Common.{◌≡◌, ℤ, pos, negsuc, ◌≤ℤ◌, ◌<ℤ
 use Rattle.std.proofs.Common.{◌++◌, length, true, false, Bool, cond}
 use Rattle.std.specs.List.{All, Contains}
 use Rattle.std.proofs.lemmas.Int.{ints}
-use Rattle.std.proofs.lemmas.List.Elements.{All-weaker, All-append, All-cons, Contains-append_left}
+use Rattle.std.proofs.lemmas.List.Elements.{All-weaker, All-cons, Contains-append_left}
 use Rattle.std.proofs.lemmas.List.Elements.{Contains-append_right}
 use Rattle.lattice.specs.Covers.{Covers, Member}
 use Rattle.lattice.specs.Places.{IsOuter}
@@ -13,8 +13,7 @@ use Rattle.hull_plain.specs.Replies.{LiesAt, AnswersTangents}
 use Rattle.hull_plain.specs.Seen.{IsRound, joined, IsPlaceBy}
 use Rattle.hull_plain.specs.Tangents.{IsLeftTangent, IsRightTangent}
 use Rattle.hull_plain.proofs.NotCovered.{not_covered}
-use Rattle.hull_plain.proofs.OneSided.{ahead_separated, behind_separated}
-use Rattle.lattice.proofs.Order.{before_irrefl, before_not}
+use Rattle.hull_plain.proofs.OneSided.{behind_separated}
 use Rattle.hull_plain.proofs.PointLists.{append_none}
 use Rattle.hull_plain.proofs.Rounds.{round_covered, round_inside, round_above, round_below, round_on_low, round_on_high}
 use Rattle.hull_plain.proofs.Rounds.{tangents_above, tangents_below}
@@ -56,41 +55,6 @@ outer_last S q h = (
   All-weaker (λ t. ¬ (IsBefore q t)) (λ t. product rightwards t ≤ℤ product rightwards q)
       (λ t n. right_unit t q n) S h,
 )
-
--- q present, and no point before it
-pub first_on : (L R : List Pair) (q : Pair) → length L ≡ 0 → All (IsBefore q) R → LiesAt (joined L true q R) q On
-first_on [] R q e h = (
-  Member (0, omega arith, refl),
-  outer_first (q ∷ R) q
-      (All-cons (λ t. ¬ (IsBefore t q)) q R (before_irrefl q)
-      (All-weaker (IsBefore q) (λ t. ¬ (IsBefore t q)) (λ t k. before_not q t k) R h)),
-)
-first_on (x ∷ L) R q e h = absurd (omega arith)
-
--- q absent, and no point before it
-pub first_outside : (L R : List Pair) (q : Pair) → length L ≡ 0 → All (IsBefore q) R
-    → LiesAt (joined L false q R) q Outside
-first_outside [] R q e h = not_covered R q (ahead_separated R q h)
-first_outside (x ∷ L) R q e h = absurd (omega arith)
-
--- q present, and no point after it
-pub last_on : (L R : List Pair) (q : Pair) → length R ≡ 0 → All (λ t. IsBefore t q) L → LiesAt (joined L true q R) q On
-last_on L [] q e h = (
-  Member (Contains-append_right L (q ∷ []) q (0, omega arith, refl)),
-  outer_last (L ++ (q ∷ [])) q
-      (All-append (λ t. ¬ (IsBefore q t)) L (q ∷ [])
-      (All-weaker (λ t. IsBefore t q) (λ t. ¬ (IsBefore q t)) (λ t k. before_not t q k) L h)
-      (All-cons (λ t. ¬ (IsBefore q t)) q [] (before_irrefl q) (λ k d l. absurd (omega arith)))),
-)
-last_on L (x ∷ R) q e h = absurd (omega arith)
-
--- q absent, and no point after it
-pub last_outside : (L R : List Pair) (q : Pair) → length R ≡ 0 → All (λ t. IsBefore t q) L
-    → LiesAt (joined L false q R) q Outside
-last_outside L [] q e h =
-    not_covered (L ++ []) q
-    (behind_separated (L ++ []) q (All-append (λ t. IsBefore t q) L [] h (λ k d l. absurd (omega arith))))
-last_outside L (x ∷ R) q e h = absurd (omega arith)
 
 -- points on both sides of q
 module _ {q : Pair} {L R : List Pair} {a b c d : Pair} (r : IsRound q L R a b c d) where
@@ -137,12 +101,6 @@ module _ {q : Pair} {L R : List Pair} {a b c d : Pair} (r : IsRound q L R a b c 
   pub around_none : pos 0 ≤ℤ orient q a b → pos 0 ≤ℤ orient q c d → AnswersTangents (L ++ R) q NoTangent
   around_none h k = inr
       (round_covered r (L ++ R) (λ t m. Contains-append_left L R t m) (λ t m. Contains-append_right L R t m) h k)
-
--- no point before q: the tangents to the points after it
-pub ahead_alone : (L R : List Pair) (q l r : Pair) → length L ≡ 0 → All (IsBefore q) R → IsLeftTangent R q l
-    → IsRightTangent R q r → AnswersTangents (L ++ R) q (TangentPoints l r)
-ahead_alone [] R q l r e h hl hr = (not_covered R q (ahead_separated R q h), hl, hr)
-ahead_alone (x ∷ L) R q l r e h hl hr = absurd (omega arith)
 
 -- no point after q: the tangents to the points before it
 pub behind_alone : (L R : List Pair) (q l r : Pair) → length R ≡ 0 → All (λ t. IsBefore t q) L → IsLeftTangent L q l

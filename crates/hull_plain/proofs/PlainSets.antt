@@ -10,12 +10,22 @@ use Rattle.std.proofs.lemmas.Map.Views.{All-values-insert_entry, All-values-set_
 use Rattle.lattice.specs.Covers.{IsPointSet, with_point, without_point}
 use Rattle.lattice.specs.Plane.{Pair}
 use Rattle.lattice.proofs.Order.{before_irrefl, before_total, before_not, is_before-true, is_before-false}
-use Rattle.hull_plain.specs.Outlines.{HasRoom, IsPlainSet}
-use Rattle.hull_plain.specs.Spans.{IsSpannedBy}
+use Rattle.hull_plain.specs.Monotone.{IsChainOf, AreChainsOf}
+use Rattle.hull_plain.specs.Outlines.{HasRoom, IsOutlineOf, IsPlainSet}
+use Rattle.hull_plain.specs.declared.monotone.Side.{Side}
 use Rattle.hull_plain.specs.declared.outline.Outline.{Outline}
+use Rattle.hull_plain.proofs.Between.{set_few}
 use Rattle.hull_plain.proofs.OrderedMaps.{point_cmp, insert_is, remove_is}
 use Rattle.hull_plain.proofs.SetLaws.{ordered_with, ordered_without}
-use Rattle.hull_plain.proofs.Spanning.{has_less}
+
+-- room for more points is room for fewer
+pub has_less : {o : Outline} {m n : ℕ} → HasRoom o n → m ≤ n → HasRoom o m
+has_less {o} {m} {n} h l =
+    record { lower = omega (arith, h.lower); upper = omega (arith, h.upper); spare = omega (arith, h.spare) }
+
+-- the chain of a set has no more points than the set
+pub chain_few : (side : Side) (S chain : List Pair) → IsChainOf side S chain → length chain ≤ length S
+chain_few side S chain c = set_few chain S c.strict.ordered c.among
 
 -- one point more at most
 length_with : (p : Pair) (S : List Pair) → length (with_point p S) ≤ length S + 1
@@ -47,37 +57,44 @@ written {limit} {es} {o} k p n fs e above = subst (λ (z : List (Pair × ℕ)). 
   few = subst (λ (z : List Pair). length z ≤ limit) same k.few;
   in_order = subst IsPointSet same k.in_order;
   each_held = All-values-set_value (is_at (point_cmp p)) (λ m. 1 ≤ m) es n k.each_held above;
-  spanned = subst (λ (z : List Pair). IsSpannedBy z o.corners.items) same k.spanned;
+  outline = subst (λ (z : List Pair). IsOutlineOf z o) same k.outline;
   room = subst (λ (z : List Pair). HasRoom o (length z)) same k.room;
 })
   where
     same : keys_of es ≡ keys_of (set_value (is_at (point_cmp p)) es n)
     same = sym (keys-set_value (is_at (point_cmp p)) es n)
 
+-- an outline stays that of a set where its chains stay
+pub same_outline : (S : List Pair) (o new : Outline) → new.lower.items ≡ o.lower.items → new.upper.items ≡ o.upper.items
+    → IsOutlineOf S o → IsOutlineOf S new
+same_outline S o new e f k =
+    subst (λ (z : List Pair). AreChainsOf S z new.upper.items) (sym e) (subst (AreChainsOf S o.lower.items) (sym f) k)
+
 -- and where its outline has the same points, and room for as many at least
 pub reserved : {limit : ℕ} {es : List (Pair × ℕ)} {o : Outline} → IsPlainSet limit es o → (new : Outline)
-    → new.corners.items ≡ o.corners.items → ((n : ℕ) → HasRoom o n → HasRoom new n) → IsPlainSet limit es new
-reserved {limit} {es} {o} k new e kept = record {
+    → new.lower.items ≡ o.lower.items → new.upper.items ≡ o.upper.items → ((n : ℕ) → HasRoom o n → HasRoom new n)
+    → IsPlainSet limit es new
+reserved {limit} {es} {o} k new e f kept = record {
   low = k.low;
   high = k.high;
   few = k.few;
   in_order = k.in_order;
   each_held = k.each_held;
-  spanned = subst (IsSpannedBy (keys_of es)) (sym e) k.spanned;
+  outline = same_outline (keys_of es) o new e f k.outline;
   room = kept _ k.room;
 }
 
 -- and where a point that was not there is put in, once
 pub put_in : {limit : ℕ} {es : List (Pair × ℕ)} {o : Outline} → IsPlainSet limit es o → (p : Pair) (new : Outline)
-    → length (keys_of es) < limit → IsSpannedBy (with_point p (keys_of es)) new.corners.items
+    → length (keys_of es) < limit → IsOutlineOf (with_point p (keys_of es)) new
     → HasRoom new (length (keys_of es) + 1) → IsPlainSet limit (insert_entry point_cmp es p 1) new
-put_in {limit} {es} {o} k p new l spanned room = record {
+put_in {limit} {es} {o} k p new l outline room = record {
   low = k.low;
   high = k.high;
   few = omega (arith, few);
   in_order = subst IsPointSet (sym same) (ordered_with p (keys_of es) k.in_order);
   each_held = All-values-insert_entry point_cmp p 1 (λ m. 1 ≤ m) es k.each_held (omega arith);
-  spanned = subst (λ (z : List Pair). IsSpannedBy z new.corners.items) (sym same) spanned;
+  outline = subst (λ (z : List Pair). IsOutlineOf z new) (sym same) outline;
   room = has_less room few;
 }
   where
@@ -90,14 +107,14 @@ put_in {limit} {es} {o} k p new l spanned room = record {
 -- and where a point is taken out
 pub taken_out : {limit : ℕ} {es : List (Pair × ℕ)} {o : Outline} → IsPlainSet limit es o
     → (p : Pair) (fs : List (Pair × ℕ)) (new : Outline) → fs ≡ remove_entry (is_at (point_cmp p)) es
-    → IsSpannedBy (keys_of fs) new.corners.items → ((n : ℕ) → HasRoom o n → HasRoom new n) → IsPlainSet limit fs new
-taken_out {limit} {es} {o} k p fs new e spanned kept = record {
+    → IsOutlineOf (keys_of fs) new → ((n : ℕ) → HasRoom o n → HasRoom new n) → IsPlainSet limit fs new
+taken_out {limit} {es} {o} k p fs new e outline kept = record {
   low = k.low;
   high = k.high;
   few = omega (arith, few, k.few);
   in_order = subst IsPointSet (sym same) (ordered_without p (keys_of es) k.in_order);
   each_held = rw e (All-map-remove_entry (is_at (point_cmp p)) (λ e. e.1) (λ m. 1 ≤ m) es k.each_held);
-  spanned = spanned;
+  outline = outline;
   room = kept _ (has_less k.room few);
 }
   where
@@ -106,6 +123,14 @@ taken_out {limit} {es} {o} k p fs new e spanned kept = record {
 
     few : length (keys_of fs) ≤ length (keys_of es)
     few = rw same (length_without p (keys_of es))
+
+-- the room of a set is room for what is left of it
+pub left_room : {limit : ℕ} {es : List (Pair × ℕ)} {o : Outline} → IsPlainSet limit es o → (p : Pair)
+    (fs : List (Pair × ℕ)) → fs ≡ remove_entry (is_at (point_cmp p)) es → HasRoom o (length (keys_of fs))
+left_room {limit} {es} {o} k p fs e =
+    let same : keys_of fs ≡ without_point p (keys_of es) = ap keys_of e ∙ remove_is es p k.in_order in
+    let few : length (keys_of fs) ≤ length (keys_of es) = rw same (length_without p (keys_of es)) in
+    has_less k.room few
 
 -- the length of a map that is another is the number of its points
 pub count_is : {m n : BTreeMap Pair ℕ} {count : ℕ} → n ≡ m → count ≡ length n.entries

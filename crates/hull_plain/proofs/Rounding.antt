@@ -1,24 +1,24 @@
 -- The walk round the hull: what it has passed so far, and that at its end this is the vertex list, and its fan the
 -- doubled area.
 use Rattle.std.proofs.Common.{◌≡◌, ℕ, pos, ◌+ℤ◌, ◌≤ℤ◌, inl, inr, refl, sym, ap, ◌∙◌, subst, List, arith, zero, suc, ◌+◌}
-use Rattle.std.proofs.Common.{◌<◌, [], ◌∷◌, ◌++◌, length, get_or, ◌-◌, length-drop, ◌≢◌}
+use Rattle.std.proofs.Common.{◌<◌, [], ◌∷◌, ◌++◌, length, get_or, ◌-◌}
 use Rattle.std.specs.List.{Contains}
 use Rattle.std.proofs.lemmas.Bool.{cases_lt}
 use Rattle.std.proofs.lemmas.Int.{ints}
 use Rattle.std.proofs.lemmas.List.Elements.{All-contains, All-cons}
 use Rattle.lattice.specs.Covers.{IsPointSet, IsExtreme}
 use Rattle.lattice.specs.Plane.{Pair, orient, IsBefore}
-use Rattle.lattice.specs.Vertices.{IsVertexList, fan, IsDoubledArea}
-use Rattle.hull_plain.specs.Edges.{IsLowerEdge, IsUpperEdge, IsChain, end_of, IsFirst, IsLast}
+use Rattle.lattice.specs.Vertices.{IsVertexList, fan}
+use Rattle.hull_plain.specs.Edges.{IsLowerEdge, IsUpperEdge, end_of, IsFirst, IsLast}
 use Rattle.hull_plain.specs.Positions.{origin, point_at}
-use Rattle.hull_plain.specs.Walks.{IsLowerWalk, IsUpperWalk, IsLowerOutline, IsLowerFan, IsUpperFan}
+use Rattle.hull_plain.specs.Walks.{IsLowerWalk, IsUpperWalk, IsLowerFan, IsUpperFan}
 use Rattle.hull_plain.proofs.ChainWalks.{same_point}
 use Rattle.hull_plain.proofs.Chains.{first_extreme}
-use Rattle.lattice.proofs.Order.{before_irrefl, before_not, after_apart}
+use Rattle.lattice.proofs.Order.{before_irrefl, before_not}
 use Rattle.hull_plain.proofs.Orientation.{orient-cycle, at_least, zero_nn}
 use Rattle.lattice.proofs.LineCrossings.{orient_start}
-use Rattle.hull_plain.proofs.PointLists.{AllPairs-cons, AllPairs-none, get_or_free, append_none, append_twice}
-use Rattle.hull_plain.proofs.VertexLists.{chain_push, end_push, vertex_list}
+use Rattle.hull_plain.proofs.PointLists.{AllPairs-cons, AllPairs-none, get_or_free, append_twice}
+use Rattle.hull_plain.proofs.VertexLists.{chain_push, end_push}
 
 -- one more lower edge
 pub lower_more : (S passed : List Pair) (i j : ℕ) → IsLowerWalk S passed i → IsLowerEdge S (point_at S i) (point_at S j)
@@ -30,11 +30,6 @@ lower_more S passed i j w e =
       ends = end_push (point_at S 0) passed (point_at S j);
       reached = λ t m. (point_at S i, e);
     }
-
--- the walk along the upper chain begins
-pub upper_start : (S : List Pair) → 0 < length S → IsUpperWalk S [] (length S - 1)
-upper_start S l = record
-    { chain = tt; ends = refl; reached = λ t m. absurd (omega (arith, m.1, length-drop (length S - 1 + 1) S)) }
 
 -- one more upper edge
 pub upper_more : (S passed : List Pair) (i j : ℕ) → IsUpperWalk S passed i → IsUpperEdge S (point_at S i) (point_at S j)
@@ -65,29 +60,10 @@ greatest S s p (k, l, e) b =
           before_irrefl p (subst (λ (z : Pair). IsBefore z p) (ap (λ (z : ℕ). point_at S z) n ∙ q) b)
     ]
 
--- of two points or more, the first stands before the last
-first_last : (S : List Pair) → IsPointSet S → 1 < length S → IsBefore (point_at S 0) (point_at S (length S - 1))
-first_last S s l = s 0 (length S - 1) origin (omega arith) (omega arith)
-
--- a whole lower walk, and the points of a whole upper walk but the first point of S where it ends
-pub walked : (S lower upper : List Pair) → IsPointSet S → 1 < length S → IsLowerWalk S lower (length S - 1)
-    → IsChain (IsUpperEdge S) (point_at S (length S - 1)) (upper ++ point_at S 0 ∷ [])
-    → IsVertexList S (point_at S 0 ∷ (lower ++ upper))
-walked S [] upper s l w c =
-    absurd (before_irrefl (point_at S (length S - 1))
-    (subst (λ (z : Pair). IsBefore z (point_at S (length S - 1))) w.ends (first_last S s l)))
-walked S (v ∷ vs) upper s l w c =
-    vertex_list S (point_at S 0) (point_at S (length S - 1)) v vs upper s w.chain w.ends c (least S s) (greatest S s)
-
 -- the points of a walk but the last, with the one where it began
 pub front_of : (v w : Pair) (vs : List Pair) → end_of v vs ≡ w → (front : List Pair) × (v ∷ vs ≡ front ++ w ∷ [])
 front_of v w [] e = ([], ap (λ (z : Pair). z ∷ []) e)
 front_of v w (x ∷ xs) e = let r = front_of x w xs e in (v ∷ r.0, ap (λ (z : List Pair). v ∷ z) r.1)
-
--- the points of a walk that goes on, but the last
-front_after : (u w : Pair) (vs : List Pair) → end_of u vs ≡ w → u ≢ w → (front : List Pair) × (vs ≡ front ++ w ∷ [])
-front_after u w [] e n = absurd (n e)
-front_after u w (v ∷ vs) e n = front_of v w vs e
 
 -- two walks, one after the other: the sum of their fans
 pub fan-append : (f u : Pair) (xs ys : List Pair) → fan f u (xs ++ ys) ≡ fan f u xs +ℤ fan f (end_of u xs) ys
@@ -105,45 +81,15 @@ fan-back f u xs =
 pub fan-push : (f u w : Pair) (xs : List Pair) → fan f u (xs ++ w ∷ []) ≡ fan f u xs +ℤ orient f (end_of u xs) w
 fan-push f u w xs = let e = fan-append f u xs (w ∷ []) in omega (arith, ints)
 
--- the doubled area is the sum of the fans of a whole lower walk and a whole upper walk
-pub fans_sum : (S : List Pair) (m n : ℕ) → IsPointSet S → 1 < length S → IsLowerFan S (length S - 1) m
-    → IsUpperFan S 0 n → IsDoubledArea S (pos (m + n))
-fans_sum S m n s l (lower, w, e) (upper, x, g) =
-    let first : Pair = point_at S 0 in
-    let last : Pair = point_at S (length S - 1) in
-    let f = front_after last first upper x.ends (after_apart last first (first_last S s l)) in
-    let back : fan first last upper ≡ fan first last f.0 = ap (fan first last) f.1 ∙ fan-back first last f.0 in
-    let both : fan first first (lower ++ f.0) ≡ fan first first lower +ℤ fan first last f.0 =
-    fan-append first first lower f.0 ∙ ap (λ (z : Pair). fan first first lower +ℤ fan first z f.0) w.ends in (
-      first ∷ (lower ++ f.0),
-      walked S lower f.0 s l w (subst (IsChain (IsUpperEdge S) last) f.1 x.chain),
-      omega (arith, ints),
-    )
-
 -- the triangle from the first point to a lower edge does not turn right
 pub lower_triangle : (S : List Pair) (u v t : Pair) → IsLowerEdge S u v → Contains S t → pos 0 ≤ℤ orient t u v
 lower_triangle S u v t e m = at_least _ _ (orient-cycle u v t) (All-contains (λ z. pos 0 ≤ℤ orient u v z) S t e.left m)
-
--- nor that to an upper edge
-pub upper_triangle : (S : List Pair) (u v t : Pair) → IsUpperEdge S u v → Contains S t → pos 0 ≤ℤ orient t u v
-upper_triangle S u v t e m = at_least _ _ (orient-cycle u v t) (All-contains (λ z. pos 0 ≤ℤ orient u v z) S t e.left m)
 
 -- the list is the lower chain of S and the part of the upper chain that comes before the point at i
 abbrev pub IsHalfRound : List Pair → List Pair → ℕ → Type 0
 IsHalfRound S out i =
     (lower : List Pair) × (upper : List Pair) × IsLowerWalk S lower (length S - 1)
     × IsUpperWalk S (upper ++ point_at S i ∷ []) i × (out ≡ point_at S 0 ∷ (lower ++ upper))
-
--- with the first upper edge
-pub half_start : (S out : List Pair) (i : ℕ) → 1 < length S → IsLowerOutline S (length S - 1) out
-    → IsUpperEdge S (point_at S (length S - 1)) (point_at S i) → IsHalfRound S out i
-half_start S out i l (lower, w, o) e = (
-  lower,
-  [],
-  w,
-  upper_more S [] (length S - 1) i (upper_start S (omega arith)) e,
-  o ∙ ap (λ (z : List Pair). point_at S 0 ∷ z) (append_none lower),
-)
 
 -- one more upper edge
 pub half_more : (S out : List Pair) (i j : ℕ) → IsHalfRound S out i → IsUpperEdge S (point_at S i) (point_at S j)
@@ -156,16 +102,6 @@ half_more S out i j (lower, upper, w, x, o) e = (
   ap (λ (z : List Pair). z ++ point_at S i ∷ []) o
       ∙ ap (λ (z : List Pair). point_at S 0 ∷ z) (append_twice lower upper (point_at S i ∷ [])),
 )
-
--- back at the first point the list is whole
-pub half_done : (S out : List Pair) → IsPointSet S → 1 < length S → IsHalfRound S out 0 → IsVertexList S out
-half_done S out s l (lower, upper, w, x, o) = subst (IsVertexList S) (sym o) (walked S lower upper s l w x.chain)
-
--- with one more lower edge the outline goes on
-pub outline_more : (S out : List Pair) (i j : ℕ) → IsLowerOutline S i out → IsLowerEdge S (point_at S i) (point_at S j)
-    → IsLowerOutline S j (out ++ point_at S j ∷ [])
-outline_more S out i j (passed, w, o) e =
-    (passed ++ point_at S j ∷ [], lower_more S passed i j w e, ap (λ (z : List Pair). z ++ point_at S j ∷ []) o)
 
 -- the sides of three points that were read
 pub read_side : (S : List Pair) (i j : ℕ) (a b d : Pair) → 0 < length S → i < length S → j < length S → a ≡ get_or S 0 a
@@ -233,17 +169,6 @@ one_list [] x l e = absurd (omega (arith, l))
 one_list (v ∷ []) x l e =
     subst (λ (z : Pair). IsVertexList (v ∷ []) (z ∷ [])) (sym e) (small_list (v ∷ []) (omega (arith, l)))
 one_list (v ∷ w ∷ vs) x l e = absurd (omega (arith, l))
-
--- the empty list of no points
-pub no_list : (S out : List Pair) → length S ≡ 0 → out ≡ [] → IsVertexList S out
-no_list [] out l e = subst (IsVertexList []) (sym e) (small_list [] (omega arith))
-no_list (v ∷ vs) out l e = absurd (omega (arith, l))
-
--- and its doubled area is zero
-pub small_area : (S : List Pair) → length S < 2 → IsDoubledArea S (pos 0)
-small_area [] l = ([], small_list [] l, refl)
-small_area (v ∷ []) l = (v ∷ [], small_list (v ∷ []) l, refl)
-small_area (v ∷ w ∷ vs) l = absurd (omega (arith, l))
 
 -- the first point is there
 pub first_there : (S : List Pair) → 0 < length S → Contains S (point_at S 0)

@@ -76,12 +76,6 @@ apart_cons x xs a s i zero d lt l = absurd (omega arith)
 apart_none : Apart []
 apart_none i j d lt l = absurd (omega arith)
 
--- a lower edge ends at each point of a lower chain after its start
-lower_ends : (S : List Pair) (u : Pair) (ls : List Pair) → IsChain (IsLowerEdge S) u ls
-    → All (λ t. (p : Pair) × IsLowerEdge S p t) ls
-lower_ends S u [] c = λ k d l. absurd (omega arith)
-lower_ends S u (v ∷ ls) c = All-cons (λ t. (p : Pair) × IsLowerEdge S p t) v ls (u, c.0) (lower_ends S v ls c.1)
-
 -- an upper edge ends at each point of an upper chain after its start
 upper_ends : (S : List Pair) (u : Pair) (ms : List Pair) → IsChain (IsUpperEdge S) u ms
     → All (λ t. (p : Pair) × IsUpperEdge S p t) ms

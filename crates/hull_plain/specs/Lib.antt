@@ -3,12 +3,12 @@ pub mod Held
 pub mod Replies
 pub mod Edges
 pub mod Positions
-pub mod Farthest
 pub mod Seen
 pub mod Walks
 pub mod Sets
 pub mod Outlines
 pub mod Monotone
-pub mod Spans
+pub mod Mending
+pub mod ChainEdges
 pub mod Laws
 pub mod PointLists

@@ -1,6 +1,9 @@
 -- The chains of a hull as one pass over points in order makes them.
-use Rattle.std.specs.Prelude.{◌≡◌, ◌⊎◌, ℤ, pos, ◌≤ℤ◌, List, [], ◌∷◌, ◌++◌, ◌-◌, length, take}
+use Rattle.std.specs.Prelude.{◌≡◌, ◌⊎◌, ℤ, pos, ◌+ℤ◌, ◌≤ℤ◌, ◌<ℤ◌, ◌≤◌, List, [], ◌∷◌, ◌++◌, ◌-◌, length, take}
+use Rattle.std.specs.List.{Contains}
+use Rattle.lattice.specs.Covers.{IsPointSet}
 use Rattle.lattice.specs.Plane.{Pair, orient, IsBefore}
+use Rattle.hull_plain.specs.Edges.{end_of}
 use Rattle.hull_plain.specs.declared.monotone.Side.{Side}
 use Rattle.hull_plain.specs.declared.monotone.Side.TheVariants.{Lower, Upper}
 
@@ -23,6 +26,46 @@ abbrev pub IsInner : Side → List Pair → Pair → Type 0
 IsInner side [] u = ⊥
 IsInner side (a ∷ rest) u = (u ≡ a) ⊎ IsInnerFrom side a rest u
 
+-- b lies outwards of the segment from a to the next point, where there is one
+abbrev pub IsCorner : Side → Pair → Pair → List Pair → Type 0
+IsCorner side a b [] = Unit {0}
+IsCorner side a b (c ∷ rest) = pos 0 <ℤ turn side a b c
+
+-- each point behind a but the last lies outwards of the segment between its neighbours
+abbrev pub IsTurningFrom : Side → Pair → List Pair → Type 0
+IsTurningFrom side a [] = Unit {0}
+IsTurningFrom side a (b ∷ rest) = IsCorner side a b rest × IsTurningFrom side b rest
+
+-- each point but the first and the last lies outwards of the segment between its neighbours
+abbrev pub IsTurning : Side → List Pair → Type 0
+IsTurning side [] = Unit {0}
+IsTurning side (a ∷ rest) = IsTurningFrom side a rest
+
+-- points in order, at each of which but the ends the chain turns
+pub record IsStrict (side : Side) (chain : List Pair) : Type 0 where
+  pub ordered : IsPointSet chain
+  pub turning : IsTurning side chain
+
+-- the list ends with c
+abbrev pub EndsWith : Pair → List Pair → Type 0
+EndsWith c [] = ⊥
+EndsWith c (a ∷ rest) = end_of a rest ≡ c
+
+-- what one pass over the points of a list in order leaves of them (Andrew, 1979): a strict chain of some of them, with
+-- the same end, to which is inner what is inner to the list
+pub record IsPassed (side : Side) (points chain : List Pair) : Type 0 where
+  pub strict : IsStrict side chain
+  pub among : (t : Pair) → Contains chain t → Contains points t
+  pub inner : (u : Pair) → IsInner side points u → IsInner side chain u
+  pub ends : (c : Pair) → EndsWith c points → EndsWith c chain
+  pub short : length chain ≤ length points
+
+-- the chain of the hull of a set S: a strict chain of some of its points, to which each point of S is inner
+pub record IsChainOf (side : Side) (S chain : List Pair) : Type 0 where
+  pub strict : IsStrict side chain
+  pub among : (t : Pair) → Contains chain t → Contains S t
+  pub inner : (u : Pair) → Contains S u → IsInner side chain u
+
 -- the chain ends with a and b, and b does not lie outwards of the segment from a to c
 pub record EndsInwards (side : Side) (chain : List Pair) (c : Pair) : Type 0 where
   pub front : List Pair
@@ -31,3 +74,26 @@ pub record EndsInwards (side : Side) (chain : List Pair) (c : Pair) : Type 0 whe
   pub whole : chain ≡ front ++ a ∷ b ∷ []
   pub kept : take (length chain - 1) chain ≡ front ++ a ∷ []
   pub inwards : turn side a b c ≤ℤ pos 0
+
+-- the chain of some set on a side
+abbrev pub IsSomeChain : Side → List Pair → Type 0
+IsSomeChain side chain = (S : List Pair) × IsChainOf side S chain
+
+-- the two chains of the hull of a set S
+pub record AreChainsOf (S lower upper : List Pair) : Type 0 where
+  pub below : IsChainOf Lower S lower
+  pub above : IsChainOf Upper S upper
+
+-- the two chains of some set
+abbrev pub AreChains : List Pair → List Pair → Type 0
+AreChains lower upper = (S : List Pair) × AreChainsOf S lower upper
+
+-- the doubled areas of the triangles between c and the steps of a chain behind a
+abbrev pub fan_from : Side → Pair → Pair → List Pair → ℤ
+fan_from side c a [] = pos 0
+fan_from side c a (b ∷ rest) = turn side a b c +ℤ fan_from side c b rest
+
+-- the doubled area between a chain and the segment from its first point to its last
+abbrev pub fan_of : Side → List Pair → ℤ
+fan_of side [] = pos 0
+fan_of side (a ∷ rest) = fan_from side a a rest

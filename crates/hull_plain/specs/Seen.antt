@@ -1,7 +1,6 @@
 -- What is seen from a point: the points that are most to the right and to the left of those on one side of it.
 use Rattle.std.specs.List.{All}
-use Rattle.std.specs.Prelude.{◌≡◌, ℕ, ℤ, pos, ◌≤ℤ◌, ◌<ℤ◌, ◌⊎◌, List, [], ◌∷◌, ◌++◌, true, false, Bool, cond}
-use Rattle.std.specs.Prelude.{slice_index_or}
+use Rattle.std.specs.Prelude.{◌≡◌, ℤ, pos, ◌≤ℤ◌, ◌<ℤ◌, ◌⊎◌, List, [], ◌∷◌, ◌++◌, true, false, Bool, cond}
 use Rattle.lattice.specs.Plane.{Pair, orient, distance_squared, IsBefore}
 use Rattle.hull_plain.specs.Tangents.{IsLeftTangent, IsRightTangent}
 use Rattle.hull_plain.specs.declared.set.Place.{Place}
@@ -14,18 +13,6 @@ IsMoreRight q u v = (pos 0 <ℤ orient q u v) ⊎ ((orient q u v ≡ pos 0) × (
 -- the same with left for right
 abbrev pub IsMoreLeft : Pair → Pair → Pair → Type 0
 IsMoreLeft q u v = (pos 0 <ℤ orient q v u) ⊎ ((orient q v u ≡ pos 0) × (distance_squared q v <ℤ distance_squared q u))
-
--- all of S stands after q, or all of it before
-abbrev pub IsOneSided : List Pair → Pair → Type 0
-IsOneSided S q = All (IsBefore q) S ⊎ All (λ t. IsBefore t q) S
-
--- no point of S is more to the right than the one at i
-abbrev pub IsRightmostAt : List Pair → Pair → ℕ → Type 0
-IsRightmostAt S q i = (e : Pair) → All (λ t. ¬ (IsMoreRight q t (slice_index_or S i e))) S
-
--- no point of S is more to the left than the one at i
-abbrev pub IsLeftmostAt : List Pair → Pair → ℕ → Type 0
-IsLeftmostAt S q i = (e : Pair) → All (λ t. ¬ (IsMoreLeft q t (slice_index_or S i e))) S
 
 -- round q: of the points `behind`, all before q, and `ahead`, all after it, the lowest and the highest as seen from q
 pub record IsRound (q : Pair) (behind ahead : List Pair)

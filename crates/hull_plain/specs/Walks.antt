@@ -1,6 +1,6 @@
 -- A walk round the hull by places in a list of points in the order "before".
 use Rattle.std.specs.List.{Contains}
-use Rattle.std.specs.Prelude.{◌≡◌, ℕ, pos, List, ◌+◌, ◌∷◌, length, take, ◌-◌, drop}
+use Rattle.std.specs.Prelude.{◌≡◌, ℕ, pos, List, ◌+◌, length, take, ◌-◌, drop}
 use Rattle.lattice.specs.Plane.{Pair}
 use Rattle.lattice.specs.Vertices.{fan}
 use Rattle.hull_plain.specs.Edges.{IsLowerEdge, IsUpperEdge, IsChain, end_of}
@@ -25,10 +25,6 @@ pub record IsUpperWalk (S passed : List Pair) (i : ℕ) : Type 0 where
   pub chain : IsChain (IsUpperEdge S) (point_at S (length S - 1)) passed
   pub ends : end_of (point_at S (length S - 1)) passed ≡ point_at S i
   pub reached : IsUpperReached S i
-
--- the list is the lower chain of S up to the point at i
-abbrev pub IsLowerOutline : List Pair → ℕ → List Pair → Type 0
-IsLowerOutline S i outline = (passed : List Pair) × IsLowerWalk S passed i × (outline ≡ point_at S 0 ∷ passed)
 
 -- n is the doubled area between the lower chain of S up to the point at i and the first point
 abbrev pub IsLowerFan : List Pair → ℕ → ℕ → Type 0

@@ -1,9 +1,8 @@
 //! Sets of lattice points that answer questions about their convex hull: what such a set promises, and a plain one.
 //!
 //! [`HullSet`] is the promise: each call answers by the allowed-reply relation of `specs/Replies.antt`, which speaks of
-//! the live points, and of how often each is held, alone. [`PlainSet`] keeps it with an ordered map of std and plain
-//! questions, which pass over the few points that span the set: it is what faster sets are compared with, and what a
-//! checker replays on.
+//! the live points, and of how often each is held, alone. [`PlainSet`] keeps it with an ordered map of std and the two
+//! chains of the hull, each a list: it is what faster sets are compared with, and what a checker replays on.
 //!
 //! # A worked example
 //!
@@ -22,10 +21,12 @@
 //! ```
 #![tactic(auto)]
 
-mod around;
+mod bisection;
 mod call;
-mod farthest;
+mod corners;
+mod extremes;
 mod laws;
+mod mending;
 mod monotone;
 mod outline;
 mod plain_set;
@@ -33,9 +34,9 @@ mod point_list;
 mod positions;
 mod reply;
 mod rules;
-mod seen;
 mod set;
-mod wrapping;
+mod sights;
+mod tangents;
 
 pub use call::Call;
 pub use laws::{

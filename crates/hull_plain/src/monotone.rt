@@ -1,11 +1,10 @@
-//! The two chains of a hull, each in one pass over points in order (the monotone chain: Andrew, 1979).
-ghost use Rattle.std.specs.Prelude.{◌≡◌, ◌+◌, ◌-◌, ◌<◌, ◌≤◌, ◌≤ℤ◌, ◌++◌, ◌∷◌, [], pos, length, take, IsTrue, vec_len};
-ghost use Rattle.std.specs.Prelude.{vec_capacity};
-ghost use Rattle.std.specs.List.{Contains};
-ghost use Rattle.lattice.specs.Plane.{Pair, IsWithin, widest_side};
+//! The chain of a hull on one side, by a pass over points in order (the monotone chain: Andrew, 1979).
+ghost use Rattle.std.specs.Prelude.{◌≡◌, ◌+◌, ◌<◌, ◌≤◌, ◌++◌, ◌∷◌, [], ◌↔◌, pos, ◌<ℤ◌, length, IsTrue, false};
+ghost use Rattle.std.specs.Prelude.{vec_len, vec_capacity};
+ghost use Rattle.lattice.specs.Plane.{IsWithin, widest_side};
 ghost use Rattle.lattice.specs.Covers.{IsPointSet};
 ghost use Rattle.hull_plain.specs.Monotone as monotone;
-ghost use Rattle.hull_plain.specs.Monotone.{IsInner, EndsInwards};
+ghost use Rattle.hull_plain.specs.Monotone.{EndsInwards, IsTurning, IsPassed};
 
 use heap::Heap;
 use lattice::{Point, orient};
@@ -17,8 +16,9 @@ pub(crate) enum Side {
     Upper,
 }
 
-/// Positive where `b`, between `a` and `c` in the order, lies outwards of the segment from `a` to `c`.
-fn turn(side: Side, a: Point, b: Point, c: Point) -> i128
+/// Positive where `b`, between `a` and `c` in the order, lies outwards of the segment from `a` to `c`: where `c` lies
+/// inwards of the line from `a` forward to `b`.
+pub(crate) fn turn(side: Side, a: Point, b: Point, c: Point) -> i128
     ensures value { result ≡ monotone.turn side a b c }
     ensures size { IsWithin widest_side result }
 {
@@ -28,22 +28,29 @@ fn turn(side: Side, a: Point, b: Point, c: Point) -> i128
     }
 }
 
+/// Whether `c` lies inwards of the line from `a` forward to `b`.
+pub(crate) fn is_inner(side: Side, a: Point, b: Point, c: Point) -> bool
+    ensures { IsTrue result ↔ (pos 0 <ℤ monotone.turn side a b c) }
+{
+    turn(side, a, b, c) > 0
+}
+
 /// Whether the last point of a chain does not lie outwards of the segment from the one before it to `c`.
 fn ends_inwards(side: Side, chain: &[Point], c: Point) -> bool
-    ensures { IsTrue result → EndsInwards side chain.now c }
+    ensures inwards { IsTrue result → EndsInwards side chain.now c }
+    ensures turning { result ≡ false → IsTurning side chain.now → IsTurning side (chain.now ++ c ∷ []) }
 {
     let n = chain.len();
     n > 1 && turn(side, chain[n - 2], chain[n - 1], c) <= 0
 }
 
 /// Puts a point at the end of a chain, in the place of those last points that do not lie outwards of it then.
-fn extend(side: Side, chain: &mut Vec<Point, Heap>, c: Point)
+pub(crate) fn extend(side: Side, chain: &mut Vec<Point, Heap>, c: Point)
     requires set { IsPointSet (chain.old.items ++ c ∷ []) }
+    requires turning { IsTurning side chain.old.items }
     requires room { vec_len chain.old < vec_capacity chain.old }
-    ensures set { IsPointSet chain.new.items }
-    ensures among { (t : Pair) → Contains chain.new.items t → Contains (chain.old.items ++ c ∷ []) t }
-    ensures inner { (u : Pair) → IsInner side (chain.old.items ++ c ∷ []) u → IsInner side chain.new.items u }
-    ensures short { vec_len chain.new ≤ vec_len chain.old + 1 }
+    ensures passed { IsPassed side (chain.old.items ++ c ∷ []) chain.new.items }
+    ensures kept { vec_len chain.old < vec_len chain.new → chain.new.items ≡ chain.old.items ++ c ∷ [] }
     ensures capacity { vec_capacity chain.new ≡ vec_capacity chain.old }
 {
     while ends_inwards(side, chain, c) {
@@ -52,17 +59,33 @@ fn extend(side: Side, chain: &mut Vec<Point, Heap>, c: Point)
     chain.push_reserved(c);
 }
 
-/// The chain of a set of points, in a list that has room for all of them.
-pub(crate) fn chain_of(side: Side, points: &[Point], chain: &mut Vec<Point, Heap>)
-    requires set { IsPointSet points.now }
-    requires room { length points.now ≤ vec_capacity chain.old }
-    ensures set { IsPointSet chain.new.items }
-    ensures among { (t : Pair) → Contains chain.new.items t → Contains points.now t }
-    ensures inner { (u : Pair) → Contains points.now u → IsInner side chain.new.items u }
-    ensures capacity { vec_capacity chain.new ≡ vec_capacity chain.old }
+/// Puts points behind a list that has room for them.
+fn put_behind(chain: &mut Vec<Point, Heap>, rest: &[Point])
+    requires room { vec_len chain.old + length rest.now ≤ vec_capacity chain.old }
+    ensures items { chain.new.items ≡ chain.old.items ++ rest.now }
+    ensures capacity { vec_capacity chain.old ≤ vec_capacity chain.new }
 {
-    chain.clear();
-    for i in 0..points.len() {
-        extend(side, chain, points[i]);
+    let Ok(()) = chain.extend_from_slice(rest) else {
+        unreachable!()
+    };
+}
+
+/// Takes the pass on over a chain that turns. It ends as soon as it stands on two of its points in a row: from there on
+/// all turns are as they were.
+pub(crate) fn take_up(side: Side, chain: &mut Vec<Point, Heap>, rest: &[Point])
+    requires set { IsPointSet (chain.old.items ++ rest.now) }
+    requires turning { IsTurning side chain.old.items }
+    requires rest_turning { IsTurning side rest.now }
+    requires room { vec_len chain.old + length rest.now ≤ vec_capacity chain.old }
+    ensures passed { IsPassed side (chain.old.items ++ rest.now) chain.new.items }
+    ensures capacity { vec_capacity chain.old ≤ vec_capacity chain.new }
+{
+    for i in 0..rest.len() {
+        let before = chain.len();
+        extend(side, chain, rest[i]);
+        if i > 0 && chain.len() > before {
+            put_behind(chain, &rest[i + 1..]);
+            return;
+        }
     }
 }

@@ -1,26 +1,25 @@
 ghost use Rattle.std.specs.Prelude.{◌≡◌, ◌≤◌, []};
-ghost use Rattle.std.specs.Map.{keys_of};
 ghost use Rattle.hull_plain.specs.Sets.{LimitedSet};
-ghost use Rattle.hull_plain.specs.Spans.{IsSpannedBy};
 
-use super::around::{place_of, tangents_from};
-use super::farthest::farthest;
 use super::outline::Outline;
 use super::set::{AddReply, HullSet, NoMemory, Place, RemoveReply};
-use super::wrapping::{doubled_area_of, vertices_of};
 use super::{MULTIPLICITY_LIMIT, POINT_LIMIT};
 use heap::Heap;
 use lattice::{Direction, Point};
 use std::collections::BTreeMap;
 use std::marker::Model;
 
-/// A set of points in order, with an outline: points of the set whose hull is that of the whole set.
+/// A set of points in order, with the two chains of its hull.
 ///
 /// `add` and `remove` go by an ordered map of std, from each live point to how often it is held: of a point that was
-/// live and stays so they change that number in place, and nothing else. `add` keeps the outline where it covers the
-/// new point, and else puts the point there; `remove` makes it anew, in one pass over all points (Andrew, 1979), where
-/// the point was one of it. `extreme`, `place` and `tangents` are passes over the outline; `vertices` and `area2` are a
-/// pass for each vertex (gift wrapping: Jarvis, 1973). Only `add` of a new point and `vertices` ask for memory.
+/// live and stays so they change that number in place, and nothing else. A new point that a chain does not hide goes to
+/// its place there, and those beside it go that it hides; where a corner leaves, its chain is made anew from the points
+/// between its neighbours, found by a range of the map, in one pass over them (Andrew, 1979). So a change costs a
+/// logarithm of the points, what it passes over between two corners, and the move of a chain's rest in memory. A corner
+/// in front of many points that leaves and comes back again and again passes over them each time.
+///
+/// `extreme`, `place` and `tangents` are bisections of the chains; `vertices` and `area2` go along them once. Only `add`
+/// of a new point and `vertices` ask for memory.
 #[derive(Drop)]
 pub struct PlainSet {
     limit: u32,
@@ -51,14 +50,6 @@ impl PlainSet {
             points: BTreeMap::new(alloc),
             outline: Outline::new(alloc),
         }
-    }
-
-    /// Points of the set, in order, whose hull is that of the whole set: what a question passes over. The corners are
-    /// among them, and beside them points that were corners when they came.
-    pub fn outline(&self) -> &[Point]
-        ensures spans { IsSpannedBy (keys_of self.now.entries) result.now }
-    {
-        self.outline.points()
     }
 }
 
@@ -125,27 +116,22 @@ impl HullSet for PlainSet {
     }
 
     fn extreme(&self, d: Direction) -> Option<Point> {
-        let outline = self.outline.points();
-        if outline.is_empty() {
-            None
-        } else {
-            Some(outline[farthest(outline, d)])
-        }
+        self.outline.extreme(d)
     }
 
     fn place(&self, q: Point) -> Place {
-        place_of(self.outline.points(), q)
+        self.outline.place(q)
     }
 
     fn tangents(&self, q: Point) -> Option<(Point, Point)> {
-        tangents_from(self.outline.points(), q)
+        self.outline.tangents(q)
     }
 
     fn vertices(&self) -> Result<Vec<Point, Heap>, NoMemory> {
-        Ok(vertices_of(self.outline.allocator(), self.outline.points())?)
+        Ok(self.outline.vertices()?)
     }
 
     fn area2(&self) -> u128 {
-        doubled_area_of(self.outline.points())
+        self.outline.area2()
     }
 }

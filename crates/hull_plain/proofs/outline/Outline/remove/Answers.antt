@@ -1,15 +1,11 @@
--- a point that is no corner may leave: the corners are still points, and span those that are left
-use Rattle.std.proofs.Common.{sym, ◌∙◌, subst, List}
-use Rattle.std.specs.List.{Contains}
-use Rattle.std.proofs.lemmas.Bool.{false≢true}
-use Rattle.lattice.specs.Plane.{Pair}
-use Rattle.hull_plain.specs.Spans.{IsSpannedBy}
-use Rattle.hull_plain.proofs.Spanning.{spans_without}
+-- the points of the chains were points of the set, so they are left or are the one that left
+use Rattle.hull_plain.proofs.Mended.{left_or_gone}
 use Rattle.hull_plain.proofs.outline.Outline.remove.Goals as goal
 
-pub returns-else-is_on-clause-spans : goal.returns-else-is_on-clause-spans
-returns-else-is_on-clause-spans c = λ S o s e.
-    subst (λ (z : List Pair). IsSpannedBy z c.args.self.now.corners.items) (sym e)
-    (spans_without c.args.p o s
-    (λ m. false≢true (sym c.if-is_on.false
-    ∙ c.is_on.ensures.1 (subst (λ (z : List Pair). Contains z c.args.p) (sym c.deref.ensures.value) m))))
+pub take_out-requires-clause-among : goal.take_out-requires-clause-among
+take_out-requires-clause-among c = λ t m.
+    left_or_gone c.args.p _ c.requires.outline.0 t c.requires.outline.3 (c.requires.outline.2.below.among t m)
+
+pub take_out-requires-2-clause-among : goal.take_out-requires-2-clause-among
+take_out-requires-2-clause-among c = λ t m.
+    left_or_gone c.args.p _ c.requires.outline.0 t c.requires.outline.3 (c.requires.outline.2.above.among t m)

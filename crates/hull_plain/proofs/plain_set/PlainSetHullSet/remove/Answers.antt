@@ -1,5 +1,5 @@
 -- a point that is held more than once is held once less, in its place in the map; else its key goes, and the outline
--- is made to span those that are left
+-- is mended
 use Rattle.std.proofs.Common.{◌≡◌, ℕ, sym, ap, ◌∙◌, subst, refl, List, arith, ◌-◌, ◌+◌, ◌≤◌, Some, None}
 use Rattle.std.specs.Prelude.{IsSome}
 use Rattle.std.specs.List.{Contains}
@@ -13,7 +13,7 @@ use Rattle.hull_plain.specs.Sets.{LimitedSet, held_in, times_in}
 use Rattle.hull_plain.specs.declared.rules.Rules.TheVariants.{Counted}
 use Rattle.hull_plain.proofs.Multiplicities.{times_found, live, not_live, held_found, PutsAt, lowered_is, same_held}
 use Rattle.hull_plain.proofs.OrderedMaps.{point_cmp, remove_is}
-use Rattle.hull_plain.proofs.PlainSets.{written, taken_out, left_entries}
+use Rattle.hull_plain.proofs.PlainSets.{written, taken_out, left_entries, left_room}
 use Rattle.hull_plain.proofs.SetLaws.{ordered_without}
 use Rattle.hull_plain.proofs.plain_set.PlainSetHullSet.remove.Goals as goal
 
@@ -55,15 +55,31 @@ remove-requires-2-clause-left c =
     subst IsPointSet (sym (ap keys_of entries ∙ remove_is _ c.args.p c.self.invariant.in_order))
     (ordered_without c.args.p _ c.self.invariant.in_order)
 
+pub remove-requires-2-clause-outline : goal.remove-requires-2-clause-outline
+remove-requires-2-clause-outline c =
+    let entries : c.remove.new.self.entries ≡ remove_entry (is_at (point_cmp c.args.p)) c.self.inside.points.entries =
+    left_entries _ _ _ c.args.p c.in-Some.times.now c.in-Some.ensures.value
+    (c.get_mut.follows.holds c.in-Some.times.now).0 c.remove.ensures.entries in (
+      keys_of c.self.inside.points.entries,
+      c.self.invariant.in_order,
+      c.self.invariant.outline,
+      ap keys_of entries ∙ remove_is _ c.args.p c.self.invariant.in_order,
+    )
+
+pub remove-requires-2-clause-room : goal.remove-requires-2-clause-room
+remove-requires-2-clause-room c =
+    let entries : c.remove.new.self.entries ≡ remove_entry (is_at (point_cmp c.args.p)) c.self.inside.points.entries =
+    left_entries _ _ _ c.args.p c.in-Some.times.now c.in-Some.ensures.value
+    (c.get_mut.follows.holds c.in-Some.times.now).0 c.remove.ensures.entries in
+    left_room c.self.invariant c.args.p _ entries
+
 pub invariant_of-self-2 : goal.invariant_of-self-2
 invariant_of-self-2 c =
     let entries : c.remove.new.self.entries ≡ remove_entry (is_at (point_cmp c.args.p)) c.self.inside.points.entries =
     left_entries _ _ _ c.args.p c.in-Some.times.now c.in-Some.ensures.value
     (c.get_mut.follows.holds c.in-Some.times.now).0 c.remove.ensures.entries in
     taken_out c.self.invariant c.args.p _ _ entries
-    (c.remove-2.ensures.spans _ c.self.invariant.in_order c.self.invariant.spanned
-    (ap keys_of entries ∙ remove_is _ c.args.p c.self.invariant.in_order))
-    c.remove-2.ensures.kept
+    c.remove-2.ensures.outline c.remove-2.ensures.kept
 
 pub returns-clause-reply : goal.returns-clause-reply
 returns-clause-reply c =

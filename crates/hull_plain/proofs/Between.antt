@@ -1,0 +1,286 @@
+-- The points of a set between a chain and the rest of it.
+use Rattle.std.proofs.Common.{◌≡◌, ℕ, inl, inr, refl, sym, ap, ◌∙◌, subst, List, arith, zero, suc, [], ◌∷◌, ◌++◌, ◌<◌}
+use Rattle.std.proofs.Common.{◌≤◌, ◌-◌, ◌+◌, length, length-append, get_or, take, Bool, true, false, cond, not, ◌&&◌}
+use Rattle.std.specs.BTreeMap.Range.{entries_between, range_contains, is_from_start, is_past_end, IsLeBy, IsLtBy}
+use Rattle.std.specs.Bound.{IsForward}
+use Rattle.std.specs.Ordering.{is_lt, is_le}
+use Rattle.std.specs.List.{All, Contains, filter}
+use Rattle.std.specs.Map.{keys_of}
+use Rattle.std.specs.declared.ops.Bound.{Bound}
+use Rattle.std.specs.declared.ops.Bound.TheVariants.{Included, Excluded, Unbounded}
+use Rattle.std.proofs.lemmas.Bool.{false≢true}
+use Rattle.std.proofs.lemmas.Grind.{common_steps}
+use Rattle.std.proofs.lemmas.List.Elements.{All-contains, All-filter, filter_passes, Contains-append_right, Contains-append_cases}
+use Rattle.std.proofs.lemmas.List.Elements.{Contains-append_left}
+use Rattle.lattice.specs.Covers.{IsPointSet}
+use Rattle.lattice.specs.Plane.{Pair, IsBefore}
+use Rattle.lattice.proofs.Order.{before_total, before_trans, before_irrefl}
+use Rattle.hull_plain.specs.Mending.{IsBehind, IsAhead, IsBetween}
+use Rattle.hull_plain.specs.Monotone.{EndsWith, IsPassed}
+use Rattle.hull_plain.specs.Edges.{end_of}
+use Rattle.hull_plain.specs.declared.monotone.Side.{Side}
+use Rattle.hull_plain.proofs.FewVertices.{distinct_few}
+use Rattle.hull_plain.proofs.OrderedMaps.{point_cmp, less, greater, equal}
+use Rattle.hull_plain.proofs.Passes.{ends_take, ends_cut, set_append, set_left, set_right, set_apart, passed_set}
+use Rattle.hull_plain.proofs.Passes.{passed_through, from_front}
+use Rattle.hull_plain.proofs.PointLists.{AllPairs-cons, AllPairs-head, AllPairs-tail, append_twice}
+use Rattle.hull_plain.proofs.PointLists.{get_or_free}
+
+-- the point in the last place is the end
+pub last_ends : (xs : List Pair) (c : Pair) → 0 < length xs → c ≡ get_or xs (length xs - 1) c → EndsWith c xs
+last_ends xs c some e =
+    let l : length xs - 1 < length xs = omega (arith, some) in
+    let whole : take (length xs - 1 + 1) xs ≡ xs = grind (arith, common_steps, some) in
+    subst (λ (z : Pair). EndsWith z xs) (sym (e ∙ get_or_free xs (length xs - 1) c _ l))
+    (subst (EndsWith _) whole (ends_take xs (length xs - 1) l))
+
+-- the end of a list is a member
+pub end_in : (c : Pair) (xs : List Pair) → EndsWith c xs → Contains xs c
+end_in c xs e = let r = ends_cut c xs e in
+    subst (λ (z : List Pair). Contains z c) (sym r.1) (Contains-append_right r.0 (c ∷ []) c (0, omega arith, refl))
+
+-- what stands after the end of a set stands after each of its points
+after_end : (x : Pair) (xs : List Pair) (t q : Pair) → IsPointSet (x ∷ xs) → Contains (x ∷ xs) t
+    → IsBefore (end_of x xs) q → IsBefore t q
+after_end x [] t q s (zero, l, e) b = subst (λ (z : Pair). IsBefore z q) e b
+after_end x [] t q s (suc k, l, e) b = absurd (omega (arith, l))
+after_end x (y ∷ ys) t q s (zero, l, e) b =
+    let xy : IsBefore x y = All-contains (IsBefore x) (y ∷ ys) y (AllPairs-head x (y ∷ ys) s) (0, omega arith, refl) in
+    subst (λ (z : Pair). IsBefore z q) e
+    (before_trans x y q xy (after_end y ys y q (AllPairs-tail x (y ∷ ys) s) (0, omega arith, refl) b))
+after_end x (y ∷ ys) t q s (suc k, l, e) b =
+    after_end y ys t q (AllPairs-tail x (y ∷ ys) s) (k, omega (arith, l), e) b
+
+-- the same of a list that ends with d
+pub after_ends : (d : Pair) (xs : List Pair) (t q : Pair) → IsPointSet xs → EndsWith d xs → Contains xs t
+    → IsBefore d q → IsBefore t q
+after_ends d [] t q s e m b = absurd e
+after_ends d (x ∷ xs) t q s e m b = after_end x xs t q s m (subst (λ (z : Pair). IsBefore z q) (sym e) b)
+
+-- ---- filters of a set
+
+-- the keys that pass a test
+keys_filter : (P : Pair → Bool) (es : List (Pair × ℕ)) → keys_of (filter (λ e. P e.0) es) ≡ filter P (keys_of es)
+keys_filter P [] = refl
+keys_filter P (e ∷ es) = elim (P e.0) as (λ b. keys_of (cond b (e ∷ filter (λ e. P e.0) es) (filter (λ e. P e.0) es))
+    ≡ cond b (e.0 ∷ filter P (keys_of es)) (filter P (keys_of es)))
+    [ true ↦ ap (λ (z : List Pair). e.0 ∷ z) (keys_filter P es) | false ↦ keys_filter P es ]
+
+-- what is left of a set is a set
+filter_set : (P : Pair → Bool) (S : List Pair) → IsPointSet S → IsPointSet (filter P S)
+filter_set P [] s = s
+filter_set P (x ∷ xs) s = elim (P x) as (λ b. IsPointSet (cond b (x ∷ filter P xs) (filter P xs))) [
+  | true ↦ AllPairs-cons x (filter P xs) (All-filter P (IsBefore x) xs (AllPairs-head x xs s))
+      (filter_set P xs (AllPairs-tail x xs s))
+  | false ↦ filter_set P xs (AllPairs-tail x xs s)
+]
+
+-- its members are members
+filter_among : (P : Pair → Bool) (S : List Pair) (t : Pair) → Contains (filter P S) t → Contains S t
+filter_among P S t m =
+    All-contains (Contains S) (filter P S) t
+    (All-filter P (Contains S) S (λ k d l. (k, l, get_or_free S k _ d l))) m
+
+-- a member that passes it is left
+filter_kept : (P : Pair → Bool) (S : List Pair) (t : Pair) → Contains S t → P t ≡ true → Contains (filter P S) t
+filter_kept P [] t m p = m
+filter_kept P (x ∷ xs) t (zero, l, e) p =
+    let q : P x ≡ true = ap P e ∙ p in
+    subst (λ b. Contains (cond b (x ∷ filter P xs) (filter P xs)) t) (sym q) (0, omega arith, e)
+filter_kept P (x ∷ xs) t (suc k, l, e) p =
+    elim (P x) as (λ b. Contains (cond b (x ∷ filter P xs) (filter P xs)) t) [
+      | true ↦ let r = filter_kept P xs t (k, omega (arith, l), e) p in (suc r.0, omega (arith, r.1), r.2)
+      | false ↦ filter_kept P xs t (k, omega (arith, l), e) p
+    ]
+
+-- ---- bounds
+
+-- true is not false
+true_false : {A : Type 0} → false ≡ true → A
+true_false e = absurd (false≢true e)
+
+-- a point that compares as less stands before
+less_told : (a q : Pair) → is_lt (point_cmp a q) ≡ true → IsBefore a q
+less_told a q h =
+    elim (before_total a q) [
+      | inl b ↦ b
+      | inr (inl e) ↦ true_false (sym (ap is_lt (ap (point_cmp a) (sym e) ∙ equal a)) ∙ h)
+      | inr (inr b) ↦ true_false (sym (ap is_lt (greater a q b)) ∙ h)
+    ]
+
+-- a point that does not compare as at most another stands after it
+not_le_told : (b q : Pair) → is_le (point_cmp b q) ≡ false → IsBefore q b
+not_le_told b q h =
+    elim (before_total b q) [
+      | inl k ↦ true_false (sym h ∙ ap is_le (less b q k))
+      | inr (inl e) ↦ true_false (sym h ∙ ap is_le (ap (point_cmp b) (sym e) ∙ equal b))
+      | inr (inr k) ↦ k
+    ]
+
+-- what a bound behind a chain lets through stands after the chain
+after_start : (left : List Pair) (start : Bound Pair) (t q : Pair) → IsPointSet left → IsBehind left start
+    → is_from_start point_cmp start q ≡ true → Contains left t → IsBefore t q
+after_start left (Included a) t q s b h m = absurd b
+after_start left (Excluded a) t q s b h m = after_ends a left t q s b m (less_told a q h)
+after_start left Unbounded t q s b h m = absurd (no_member t (subst (λ (z : List Pair). Contains z t) b m))
+  where
+    no_member : (t : Pair) → Contains [] t → ⊥
+    no_member t m = omega (arith, m.1)
+
+-- and it lets through what does
+from_start : (left : List Pair) (start : Bound Pair) (q : Pair) → IsBehind left start
+    → All (λ u. IsBefore u q) left → is_from_start point_cmp start q ≡ true
+from_start left (Included a) q b h = absurd b
+from_start left (Excluded a) q b h =
+    ap is_lt (less a q (All-contains (λ u. IsBefore u q) left a h (end_in a left b)))
+from_start left Unbounded q b h = refl
+
+-- the first of a list is a member
+pub first_in : (a : Pair) (xs rest : List Pair) → xs ≡ a ∷ rest → Contains xs a
+first_in a xs rest e = subst (λ (z : List Pair). Contains z a) (sym e) (0, omega arith, refl)
+
+-- what a bound ahead of a chain lets through stands before the chain
+before_end : (right : List Pair) (end : Bound Pair) (t q : Pair) → IsPointSet right → IsAhead right end
+    → is_past_end point_cmp end q ≡ false → Contains right t → IsBefore q t
+before_end right (Included a) t q s b h m = absurd b
+before_end right (Excluded a) t q s b h m = go (subst (λ (z : List Pair). Contains z t) b.1 m)
+  where
+    go : Contains (a ∷ b.0) t → IsBefore q t
+    go (zero, l, e) = subst (IsBefore q) e (not_le_told a q h)
+    go (suc k, l, e) =
+        before_trans q a t (not_le_told a q h)
+        (All-contains (IsBefore a) b.0 t (AllPairs-head a b.0 (subst IsPointSet b.1 s)) (k, omega (arith, l), e))
+before_end right Unbounded t q s b h m = absurd (no_member t (subst (λ (z : List Pair). Contains z t) b m))
+  where
+    no_member : (t : Pair) → Contains [] t → ⊥
+    no_member t m = omega (arith, m.1)
+
+-- and it lets through what does
+to_end : (right : List Pair) (end : Bound Pair) (q : Pair) → IsAhead right end → All (IsBefore q) right
+    → is_past_end point_cmp end q ≡ false
+to_end right (Included a) q b h = absurd b
+to_end right (Excluded a) q b h =
+    ap is_le (greater a q (All-contains (IsBefore q) right a h (first_in a right b.0 b.1)))
+to_end right Unbounded q b h = refl
+
+-- the bounds on the two sides of a set run forward
+pub runs_forward : (left right : List Pair) (start end : Bound Pair) → IsPointSet (left ++ right) → IsBehind left start
+    → IsAhead right end → IsForward (IsLeBy point_cmp) (IsLtBy point_cmp) start end
+runs_forward left right (Included a) end s b e = absurd b
+runs_forward left right Unbounded end s b e = tt
+runs_forward left right (Excluded a) (Included c) s b e = absurd e
+runs_forward left right (Excluded a) (Excluded c) s b e =
+    less a c (set_apart left right a c s (end_in a left b) (first_in c right e.0 e.1))
+runs_forward left right (Excluded a) Unbounded s b e = tt
+
+-- ---- what stands between
+
+-- both tests hold
+both : (a b : Bool) → (a && b) ≡ true → (a ≡ true) × (b ≡ true)
+both true b h = (refl, h)
+both false b h = true_false h
+
+-- and back
+and_true : (a b : Bool) → a ≡ true → b ≡ true → (a && b) ≡ true
+and_true a b h k = ap (λ z. z && b) h ∙ k
+
+-- a negation that holds
+negated : (b : Bool) → not b ≡ true → b ≡ false
+negated true h = true_false h
+negated false h = refl
+
+-- the points of a set between two bounds
+abbrev between : Bound Pair → Bound Pair → List Pair → List Pair
+between start end S = filter (range_contains point_cmp start end) S
+
+-- each passes both tests
+passes_both : (start end : Bound Pair) (S : List Pair) (t : Pair) → Contains (between start end S) t
+    → (is_from_start point_cmp start t ≡ true) × (is_past_end point_cmp end t ≡ false)
+passes_both start end S t m =
+    let h = both _ _ (All-contains (λ x. range_contains point_cmp start end x ≡ true) (between start end S) t
+    (filter_passes (range_contains point_cmp start end) S) m) in
+    (h.0, negated _ h.1)
+
+-- the points of a set between the bounds on the two sides of a chain are all that stand between
+all_between : (S left right : List Pair) (start end : Bound Pair) → IsPointSet S → IsPointSet (left ++ right)
+    → IsBehind left start → IsAhead right end → IsBetween S left right (between start end S)
+all_between S left right start end s sides b e = record {
+  ordered = set_append (left ++ between start end S) right
+      (set_append left (between start end S) ls (filter_set (range_contains point_cmp start end) S s) after_left) rs
+      (λ t u m n. elim (Contains-append_cases left (between start end S) t m)
+      [ inl k ↦ set_apart left right t u sides k n | inr k ↦ before_right t u k n ]);
+  among = filter_among (range_contains point_cmp start end) S;
+  all = λ t m h k. filter_kept (range_contains point_cmp start end) S t m
+      (and_true _ _ (from_start left start t b h) (ap not (to_end right end t e k)));
+}
+  where
+    ls : IsPointSet left
+    ls = set_left left right sides
+
+    rs : IsPointSet right
+    rs = set_right left right sides
+
+    after_left : (t u : Pair) → Contains left t → Contains (between start end S) u → IsBefore t u
+    after_left t u m n = after_start left start t u ls b (passes_both start end S u n).0 m
+
+    before_right : (t u : Pair) → Contains (between start end S) t → Contains right u → IsBefore t u
+    before_right t u m n = before_end right end u t rs e (passes_both start end S t m).1 n
+
+-- the keys of a map between these bounds
+pub keys_between : (entries es : List (Pair × ℕ)) (left right : List Pair) (start end : Bound Pair)
+    → es ≡ entries_between point_cmp start end entries → IsPointSet (keys_of entries) → IsPointSet (left ++ right)
+    → IsBehind left start → IsAhead right end → IsBetween (keys_of entries) left right (keys_of es)
+keys_between entries es left right start end is s sides b e =
+    subst (IsBetween (keys_of entries) left right)
+    (sym (ap keys_of is ∙ keys_filter (range_contains point_cmp start end) entries))
+    (all_between (keys_of entries) left right start end s sides b e)
+
+-- ---- one step of the pass over them
+
+-- a set of points of another has no more points
+pub set_few : (C S : List Pair) → IsPointSet C → ((t : Pair) → Contains C t → Contains S t) → length C ≤ length S
+set_few C S o among = distinct_few C S
+    (λ i j d l b e. before_irrefl _ (subst (λ (z : Pair). IsBefore z (get_or C j d)) e (o i j d l b)))
+    (λ k d l. among _ (k, l, get_or_free C k _ d l))
+
+-- the front of a set between, with one more point
+module _ (side : Side) (S left right chain seen rest whole : List Pair) (p : Pair) (w : seen ++ p ∷ rest ≡ whole)
+    (k : IsBetween S left right whole) (h : IsPassed side (left ++ seen) chain) where
+  -- the points so far, the next one, and the others
+  parts : left ++ seen ++ p ∷ [] ++ rest ≡ left ++ whole
+  parts =
+      append_twice (left ++ seen) (p ∷ []) rest ∙ append_twice left seen (p ∷ rest)
+      ∙ ap (λ (z : List Pair). left ++ z) w
+
+  -- the points so far and the next one
+  front : IsPointSet (left ++ seen ++ p ∷ [])
+  front = set_left (left ++ seen ++ p ∷ []) rest
+      (subst IsPointSet (sym parts) (set_left (left ++ whole) right k.ordered))
+
+  -- the chain and the next one are a set
+  pub next_set : IsPointSet (chain ++ p ∷ [])
+  next_set = passed_set side (left ++ seen) chain (p ∷ []) h front
+
+  -- there is room for it
+  pub next_room : ((t : Pair) → Contains (left ++ right) t → Contains S t) → length chain + 1 ≤ length S
+  next_room among = let l : length (chain ++ p ∷ []) ≤ length S = set_few (chain ++ p ∷ []) S next_set in_S in
+      let m = length-append chain (p ∷ []) in omega (arith, l, m)
+    where
+      in_whole : (t : Pair) → Contains (left ++ whole) t → Contains S t
+      in_whole t m = elim (Contains-append_cases left whole t m)
+          [ inl n ↦ among t (Contains-append_left left right t n) | inr n ↦ k.among t n ]
+
+      in_S : (t : Pair) → Contains (chain ++ p ∷ []) t → Contains S t
+      in_S t m = in_whole t (subst (λ (z : List Pair). Contains z t) parts
+          (Contains-append_left (left ++ seen ++ p ∷ []) rest t
+          (from_front (left ++ seen) chain (p ∷ []) h.among t m)))
+
+  -- it is passed
+  pub next_passed : (new : List Pair) → IsPassed side (chain ++ p ∷ []) new
+      → (seen : List Pair) × (seen ++ rest ≡ whole) × IsPassed side (left ++ seen) new
+  next_passed new q = (
+    seen ++ p ∷ [],
+    append_twice seen (p ∷ []) rest ∙ w,
+    subst (λ (z : List Pair). IsPassed side z new) (append_twice left seen (p ∷ []))
+        (passed_through side (left ++ seen) chain (p ∷ []) new h q),
+  )

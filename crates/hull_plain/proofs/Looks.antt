@@ -1,0 +1,260 @@
+-- Where a point lies, by what one chain of a hull tells of it.
+use Rattle.std.proofs.Common.{◌≡◌, ℕ, ℤ, pos, neg_ℤ, ◌<ℤ◌, inl, inr, refl, sym, ap, ◌∙◌, subst, List, arith, zero}
+use Rattle.std.proofs.Common.{suc, [], ◌∷◌, ◌<◌, ◌-◌, ◌+◌, length, get_or, take, drop, Ok, Err}
+use Rattle.std.proofs.lemmas.Bool.{cases_lt}
+use Rattle.std.proofs.lemmas.Grind.{common_steps}
+use Rattle.std.proofs.lemmas.Int.{ints}
+use Rattle.std.proofs.lemmas.List.{drop_more}
+use Rattle.std.proofs.lemmas.List.Elements.{All-contains}
+use Rattle.std.specs.List.{All, Contains}
+use Rattle.lattice.specs.Covers.{Covers, Member, OnSegment}
+use Rattle.lattice.specs.Places.{IsOuter, IsOnBoundary, IsInside}
+use Rattle.lattice.specs.Plane.{Pair, orient, IsBefore}
+use Rattle.lattice.proofs.Order.{before_total, before_trans, before_not}
+use Rattle.hull_plain.specs.ChainEdges.{IsEdge, IsEdgeAt, IsSeen}
+use Rattle.hull_plain.specs.Edges.{IsChain, end_of, IsFirst, IsLast}
+use Rattle.hull_plain.specs.Monotone.{turn, IsInner, EndsWith, IsChainOf}
+use Rattle.hull_plain.specs.Positions.{IsPositionOf, point_at, origin}
+use Rattle.hull_plain.specs.declared.monotone.Side.{Side}
+use Rattle.hull_plain.specs.declared.monotone.Side.TheVariants.{Lower, Upper}
+use Rattle.hull_plain.specs.declared.sights.Sight.{Sight}
+use Rattle.hull_plain.specs.declared.sights.Sight.TheVariants.{Before, After, Outwards, Touching, Inwards}
+use Rattle.hull_plain.proofs.Between.{end_in, first_in}
+use Rattle.hull_plain.proofs.ChainEdges.{chain_edges, chain_first, chain_last, lower_edge, upper_edge, all_of}
+use Rattle.hull_plain.proofs.CoveredByEdges.{on_segment}
+use Rattle.hull_plain.proofs.EdgePlaces.{right_outside, on_line_outer, between_inside}
+use Rattle.hull_plain.proofs.NotCovered.{not_covered}
+use Rattle.hull_plain.proofs.OneSided.{ahead_separated, behind_separated}
+use Rattle.hull_plain.proofs.Orientation.{orient-cycle, orient_swap}
+use Rattle.hull_plain.proofs.Passes.{ends_take}
+use Rattle.hull_plain.proofs.Placings.{outer_first}
+use Rattle.hull_plain.proofs.PointLists.{get_or_free}
+use Rattle.hull_plain.proofs.Turns.{turn_at_end}
+
+-- ---- edges by their places
+
+-- a relation along a list holds at each place of it
+along_at : (E : Pair → Pair → Type 0) (x : Pair) (rest : List Pair) (i : ℕ) → IsChain E x rest → i < length rest
+    → E (point_at (x ∷ rest) i) (point_at rest i)
+along_at E x [] i c l = absurd (omega (arith, l))
+along_at E x (y ∷ ys) zero c l = c.0
+along_at E x (y ∷ ys) (suc i) c l = along_at E y ys i c.1 (omega (arith, l))
+
+-- the points of a chain at a place and the next one are the ends of an edge
+pub chain_edge : (side : Side) (S chain : List Pair) (i : ℕ) → IsChainOf side S chain → i + 1 < length chain
+    → IsEdge side S (point_at chain i) (point_at chain (i + 1))
+chain_edge side S [] i c l = absurd (omega (arith, l))
+chain_edge side S (x ∷ rest) i c l =
+    let n : suc i ≡ i + 1 = omega arith in
+    subst (λ (k : ℕ). IsEdge side S (point_at (x ∷ rest) i) (point_at (x ∷ rest) k)) n
+    (along_at (IsEdge side S) x rest i (chain_edges side S x rest c) (omega (arith, l)))
+
+-- a point of S at a place of its chain
+pub chain_in : (side : Side) (S chain : List Pair) (i : ℕ) → IsChainOf side S chain → i < length chain
+    → Contains S (point_at chain i)
+chain_in side S chain i c l = c.among (point_at chain i) (i, l, get_or_free chain i _ _ l)
+
+-- no point of S stands before the first of its chain
+pub first_of : (side : Side) (S chain : List Pair) → IsChainOf side S chain → IsFirst S (point_at chain 0)
+first_of side S [] c t m = absurd (none (c.inner t m))
+  where
+    none : IsInner side [] t → ⊥
+    none k = elim k [ ]
+first_of side S (x ∷ rest) c t m = chain_first side S x rest c t m
+
+-- the end of a list is in its last place
+pub end_at : (x : Pair) (rest : List Pair) → end_of x rest ≡ point_at (x ∷ rest) (length rest)
+end_at x [] = refl
+end_at x (y ∷ ys) = end_at y ys
+
+-- nor after the last one
+pub last_of : (side : Side) (S chain : List Pair) → IsChainOf side S chain
+    → IsLast S (point_at chain (length chain - 1))
+last_of side S [] c t m b = absurd (none (c.inner t m))
+  where
+    none : IsInner side [] t → ⊥
+    none k = elim k [ ]
+last_of side S (x ∷ rest) c t m b =
+    let n : length rest ≡ length (x ∷ rest) - 1 = omega arith in
+    chain_last side S x rest c t m
+    (subst (λ (z : Pair). IsBefore z t) (sym (end_at x rest ∙ ap (λ (k : ℕ). point_at (x ∷ rest) k) n)) b)
+
+-- ---- from before all and from after all
+
+-- what stands before the first point stands before all
+pub before_all : (side : Side) (S chain : List Pair) (q : Pair) → IsChainOf side S chain → 0 < length chain
+    → IsBefore q (point_at chain 0) → (t : Pair) → Contains S t → IsBefore q t
+before_all side S chain q c some b t m = elim (before_total q t) [
+  | inl h ↦ h
+  | inr (inl e) ↦ absurd (first_of side S chain c t m (subst (λ (z : Pair). IsBefore z (point_at chain 0)) e b))
+  | inr (inr h) ↦ absurd (first_of side S chain c t m (before_trans t q (point_at chain 0) h b))
+]
+
+-- what stands after the last one stands after all
+pub after_all : (side : Side) (S chain : List Pair) (q : Pair) → IsChainOf side S chain → 0 < length chain
+    → IsBefore (point_at chain (length chain - 1)) q → (t : Pair) → Contains S t → IsBefore t q
+after_all side S chain q c some b t m = elim (before_total t q) [
+  | inl h ↦ h
+  | inr (inl e) ↦ absurd (last_of side S chain c t m (subst (IsBefore (point_at chain (length chain - 1))) (sym e) b))
+  | inr (inr h) ↦ absurd (last_of side S chain c t m (before_trans (point_at chain (length chain - 1)) q t b h))
+]
+
+-- no chain, no points
+pub no_chain : (side : Side) (S chain : List Pair) → IsChainOf side S chain → length chain ≡ 0 → (t : Pair)
+    → ¬ (Contains S t)
+no_chain side S [] c e t m = absurd (none (c.inner t m))
+  where
+    none : IsInner side [] t → ⊥
+    none k = elim k [ ]
+no_chain side S (x ∷ rest) c e t m = absurd (omega (arith, e))
+
+-- a point with the first position stands before all
+pub seen_first : (side : Side) (S chain : List Pair) (q : Pair) → IsPositionOf chain q (Err 0) → IsChainOf side S chain
+    → (t : Pair) → Contains S t → IsBefore q t
+seen_first side S [] q at c t m = absurd (no_chain side S [] c refl t m)
+seen_first side S (x ∷ rest) q at c t m =
+    before_all side S (x ∷ rest) q c (omega arith) (at.2 0 origin (omega arith)) t m
+
+-- a point with the position behind the last stands after all
+pub seen_last : (side : Side) (S chain : List Pair) (q : Pair) → IsPositionOf chain q (Err (length chain))
+    → IsChainOf side S chain → (t : Pair) → Contains S t → IsBefore t q
+seen_last side S chain q at c t m =
+    elim (cases_lt 0 (length chain)) [
+      | inr h ↦ absurd (no_chain side S chain c (omega (arith, h)) t m)
+      | inl h ↦ let l : length chain - 1 < length chain = omega (arith, h) in
+          let whole : take (length chain) chain ≡ chain = grind (arith, common_steps) in
+          after_all side S chain q c h
+          (All-contains (λ t. IsBefore t q) chain (point_at chain (length chain - 1))
+          (subst (All (λ t. IsBefore t q)) whole at.1) (length chain - 1, l, get_or_free chain (length chain - 1) _ _ l)) t m
+    ]
+
+-- a point with another position stands between the ends of an edge
+pub edge_at : (side : Side) (S chain : List Pair) (q a b : Pair) (i : ℕ) → IsPositionOf chain q (Err i) → 0 < i
+    → i < length chain → a ≡ get_or chain (i - 1) a → b ≡ get_or chain i b → IsChainOf side S chain
+    → IsEdgeAt side S q a b
+edge_at side S chain q a b i at some l ea eb c = record {
+  edge = subst (λ (z : Pair). IsEdge side S z b) (sym a-is) (subst (IsEdge side S (point_at chain (i - 1))) (sym b-is)
+      (subst (λ (k : ℕ). IsEdge side S (point_at chain (i - 1)) (point_at chain k)) n
+      (chain_edge side S chain (i - 1) c l')));
+  after = subst (λ (z : Pair). IsBefore z q) (sym a-is)
+      (All-contains (λ t. IsBefore t q) (take i chain) (point_at chain (i - 1)) at.1
+      (end_in (point_at chain (i - 1)) (take i chain)
+      (subst (λ (k : ℕ). EndsWith (point_at chain (i - 1)) (take k chain)) n (ends_take chain (i - 1) l''))));
+  before = subst (IsBefore q) (sym b-is)
+      (All-contains (IsBefore q) (drop i chain) (point_at chain i) at.2
+      (first_in (point_at chain i) (drop i chain) (drop (i + 1) chain) (drop_more chain i origin l)));
+}
+  where
+    n : i - 1 + 1 ≡ i
+    n = omega (arith, some)
+
+    l' : i - 1 + 1 < length chain
+    l' = omega (arith, some, l)
+
+    l'' : i - 1 < length chain
+    l'' = omega (arith, l)
+
+    a-is : a ≡ point_at chain (i - 1)
+    a-is = ea ∙ get_or_free chain (i - 1) a origin l''
+
+    b-is : b ≡ point_at chain i
+    b-is = eb ∙ get_or_free chain i b origin l
+
+-- ---- from the boundary
+
+-- a point on the line of an edge is outer
+on_edge_line : (side : Side) (S : List Pair) (q a b : Pair) → IsEdge side S a b → turn side a b q ≡ pos 0 → IsOuter S q
+on_edge_line Lower S q a b e z = on_line_outer S a b q (inl e.forward) (lower_edge e).left z
+on_edge_line Upper S q a b e z = on_line_outer S b a q (inr e.forward) (upper_edge e).left z
+
+-- a turn that is 0 is a side that is 0
+level : (side : Side) (a b q : Pair) → turn side a b q ≡ pos 0 → orient q a b ≡ pos 0
+level Lower a b q z = sym (orient-cycle a b q) ∙ z
+level Upper a b q z = swapped _ _ (orient_swap q a b) (sym (orient-cycle b a q) ∙ z)
+  where
+    swapped : (x y : ℤ) → x ≡ neg_ℤ y → y ≡ pos 0 → x ≡ pos 0
+    swapped x y e h = omega (arith, ints)
+
+-- a point on an edge is on the boundary
+pub on_edge : (side : Side) (S : List Pair) (q a b : Pair) → IsEdgeAt side S q a b → turn side a b q ≡ pos 0
+    → IsOnBoundary S q
+on_edge side S q a b e z = (
+  OnSegment a b e.edge.from e.edge.to (on_segment a b q e.after e.before (level side a b q z)),
+  on_edge_line side S q a b e.edge z,
+)
+
+-- a point of the chain is on the boundary
+pub on_chain : (side : Side) (S chain : List Pair) (q : Pair) (i : ℕ) → IsPositionOf chain q (Ok i)
+    → IsChainOf side S chain → IsOnBoundary S q
+on_chain side S chain q i at c = (
+  Member (subst (Contains S) (at.1 origin) (chain_in side S chain i c at.0)),
+  elim (cases_lt 0 i) [
+    | inr h ↦ let none : i ≡ 0 = omega (arith, h) in
+        let e : point_at chain 0 ≡ q = ap (λ (k : ℕ). point_at chain k) (sym none) ∙ at.1 origin in
+        outer_first S q (all_of (λ t. ¬ (IsBefore t q)) S
+        (λ t m. subst (λ (z : Pair). ¬ (IsBefore t z)) e (first_of side S chain c t m)))
+    | inl h ↦ let n : i - 1 + 1 ≡ i = omega (arith, h) in
+        let e : point_at chain (i - 1 + 1) ≡ q = ap (λ (k : ℕ). point_at chain k) n ∙ at.1 origin in
+        on_edge_line side S q (point_at chain (i - 1)) q
+        (subst (IsEdge side S (point_at chain (i - 1))) e (chain_edge side S chain (i - 1) c (edge_within h)))
+        (turn_at_end side (point_at chain (i - 1)) q)
+  ],
+)
+  where
+    edge_within : 0 < i → i - 1 + 1 < length chain
+    edge_within h = omega (arith, h, at.0)
+
+-- ---- where it lies
+
+-- a point outwards of an edge lies outside
+pub outwards_outside : (side : Side) (S : List Pair) (q a b : Pair) → IsEdge side S a b → turn side a b q <ℤ pos 0
+    → ¬ Covers S q
+outwards_outside Lower S q a b e h = right_outside S a b q (lower_edge e).left h
+outwards_outside Upper S q a b e h = right_outside S b a q (upper_edge e).left h
+
+-- a point before all lies outside
+pub before_outside : (S : List Pair) (q : Pair) → ((t : Pair) → Contains S t → IsBefore q t) → ¬ Covers S q
+before_outside S q h = not_covered S q (ahead_separated S q (all_of (IsBefore q) S h))
+
+-- a point after all lies outside
+pub after_outside : (S : List Pair) (q : Pair) → ((t : Pair) → Contains S t → IsBefore t q) → ¬ Covers S q
+after_outside S q h = not_covered S q (behind_separated S q (all_of (λ t. IsBefore t q) S h))
+
+-- a point that is not seen from the boundary or the inner side lies outside
+pub sight_outside : (side : Side) (S : List Pair) (q : Pair) (s : Sight) → IsSeen side S q s → ¬ (s ≡ Touching)
+    → ¬ (s ≡ Inwards) → ¬ Covers S q
+sight_outside side S q Before h n k = before_outside S q h
+sight_outside side S q After h n k = after_outside S q h
+sight_outside side S q Outwards (a, b, e, h) n k = outwards_outside side S q a b e.edge h
+sight_outside side S q Touching h n k = absurd (n refl)
+sight_outside side S q Inwards h n k = absurd (k refl)
+
+-- a point on the inner side of both chains lies inside
+pub sights_inside : (S : List Pair) (q : Pair) → IsSeen Lower S q Inwards → IsSeen Upper S q Inwards → IsInside S q
+sights_inside S q (a, b, e, h) (c, d, f, k) =
+    between_inside S q a b d c (lower_edge e.edge) (upper_edge f.edge) e.after e.before f.before f.after h k
+
+-- a point on the inner side of a lower edge that is not outwards of an upper one is covered
+pub over_covered : (S : List Pair) (q : Pair) (s : Sight) → IsSeen Lower S q Inwards → IsSeen Upper S q s
+    → ¬ (s ≡ Outwards) → Covers S q
+over_covered S q Before (a, b, e, h) k n = absurd (before_not a q e.after (k a e.edge.from))
+over_covered S q After (a, b, e, h) k n = absurd (before_not q b e.before (k b e.edge.to))
+over_covered S q Outwards h k n = absurd (n refl)
+over_covered S q Touching h k n = k.0
+over_covered S q Inwards h k n = (sights_inside S q h k).0
+
+-- where S has a point, its chain has one
+pub some_chain : (side : Side) (S chain : List Pair) (t : Pair) → IsChainOf side S chain → Contains S t
+    → 0 < length chain
+some_chain side S chain t c m = elim (cases_lt 0 (length chain))
+    [ inl h ↦ h | inr h ↦ absurd (no_chain side S chain c (omega (arith, h)) t m) ]
+
+-- where its chain has none, S has none
+pub none_of : (side : Side) (S chain : List Pair) → IsChainOf side S chain → length chain ≡ 0 → S ≡ []
+none_of side [] chain c e = refl
+none_of side (x ∷ xs) chain c e = absurd (no_chain side (x ∷ xs) chain c e x (0, omega arith, refl))
+
+-- where one chain has a point, so has the other
+pub other_chain : (side other : Side) (S chain others : List Pair) → IsChainOf side S chain → IsChainOf other S others
+    → 0 < length chain → 0 < length others
+other_chain side other S chain others c o h = some_chain other S others (point_at chain 0) o (chain_in side S chain 0 c h)

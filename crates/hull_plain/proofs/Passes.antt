@@ -1,0 +1,371 @@
+-- What a pass over points in order leaves: how two passes compose, and where one may stop.
+use Rattle.std.proofs.Common.{◌≡◌, ◌<ℤ◌, pos, ◌⊎◌, inl, inr, refl, sym, ap, ◌∙◌, subst, List, arith, zero, suc}
+use Rattle.std.proofs.Common.{[], ◌∷◌, ◌++◌, ◌<◌, ◌+◌, ◌-◌, length, length-append, get_or, take, drop, ℕ}
+use Rattle.std.specs.List.{Contains}
+use Rattle.std.proofs.lemmas.List.Elements.{All-contains, Contains-append_left, Contains-append_right}
+use Rattle.std.proofs.lemmas.List.Elements.{Contains-append_cases}
+use Rattle.std.proofs.lemmas.Bool.{cases_lt}
+use Rattle.std.proofs.lemmas.Grind.{common_steps}
+use Rattle.lattice.specs.Covers.{IsPointSet}
+use Rattle.lattice.specs.Plane.{Pair, IsBefore}
+use Rattle.hull_plain.specs.Edges.{end_of}
+use Rattle.hull_plain.specs.Monotone.{turn, IsInwards, IsInnerFrom, IsInner, IsTurningFrom, IsTurning, IsStrict}
+use Rattle.hull_plain.specs.Monotone.{EndsWith, IsPassed}
+use Rattle.hull_plain.specs.Positions.{point_at, origin}
+use Rattle.hull_plain.specs.declared.monotone.Side.{Side}
+use Rattle.hull_plain.proofs.ChainPasses.{take_next}
+use Rattle.hull_plain.proofs.PointLists.{AllPairs-cons, AllPairs-head, AllPairs-tail, all_append_right, left_part}
+use Rattle.hull_plain.proofs.PointLists.{right_part, append_none, append_twice, get_or_free, cut, cut_at}
+
+-- ---- the parts of a set
+
+-- its front is a set
+pub set_left : (xs ys : List Pair) → IsPointSet (xs ++ ys) → IsPointSet xs
+set_left [] ys s = λ i j d l b. absurd (omega arith)
+set_left (x ∷ xs) ys s =
+    AllPairs-cons x xs (left_part (IsBefore x) xs ys (AllPairs-head x (xs ++ ys) s))
+    (set_left xs ys (AllPairs-tail x (xs ++ ys) s))
+
+-- its rest is a set
+pub set_right : (xs ys : List Pair) → IsPointSet (xs ++ ys) → IsPointSet ys
+set_right [] ys s = s
+set_right (x ∷ xs) ys s = set_right xs ys (AllPairs-tail x (xs ++ ys) s)
+
+-- each point of the front stands before each point of the rest
+pub set_apart : (xs ys : List Pair) (t u : Pair) → IsPointSet (xs ++ ys) → Contains xs t → Contains ys u → IsBefore t u
+set_apart [] ys t u s m n = absurd (omega (arith, m.1))
+set_apart (x ∷ xs) ys t u s (zero, l, e) n =
+    subst (λ (z : Pair). IsBefore z u) e
+    (All-contains (IsBefore x) ys u (right_part (IsBefore x) xs ys (AllPairs-head x (xs ++ ys) s)) n)
+set_apart (x ∷ xs) ys t u s (suc k, l, e) n =
+    set_apart xs ys t u (AllPairs-tail x (xs ++ ys) s) (k, omega (arith, l), e) n
+
+-- two sets in a row, the one before the other
+pub set_append : (xs ys : List Pair) → IsPointSet xs → IsPointSet ys
+    → ((t u : Pair) → Contains xs t → Contains ys u → IsBefore t u) → IsPointSet (xs ++ ys)
+set_append [] ys s r h = r
+set_append (x ∷ xs) ys s r h =
+    AllPairs-cons x (xs ++ ys)
+    (all_append_right (IsBefore x) xs ys (AllPairs-head x xs s)
+    (λ k d l. h x _ (0, omega arith, refl) (k, l, get_or_free ys k _ d l)))
+    (set_append xs ys (AllPairs-tail x xs s) r (λ t u m n. h t u (suc m.0, omega (arith, m.1), m.2) n))
+
+-- ---- what is inner to two lists in a row
+
+-- the list ends with d, and u is inwards of the segment from d to y
+abbrev Across : Side → List Pair → Pair → Pair → Type 0
+Across side xs y u = (d : Pair) × EndsWith d xs × IsInwards side d y u
+
+-- behind a point
+cut_from : (side : Side) (x : Pair) (xs : List Pair) (y : Pair) (rest : List Pair) (u : Pair)
+    → IsInnerFrom side x (xs ++ y ∷ rest) u
+    → IsInnerFrom side x xs u ⊎ (Across side (x ∷ xs) y u ⊎ IsInner side (y ∷ rest) u)
+cut_from side x [] y rest u (inl e) = inr (inr (inl e))
+cut_from side x [] y rest u (inr (inl k)) = inr (inl (x, refl, k))
+cut_from side x [] y rest u (inr (inr k)) = inr (inr (inr k))
+cut_from side x (z ∷ zs) y rest u (inl e) = inl (inl e)
+cut_from side x (z ∷ zs) y rest u (inr (inl k)) = inl (inr (inl k))
+cut_from side x (z ∷ zs) y rest u (inr (inr k)) = elim (cut_from side z zs y rest u k)
+    [ inl m ↦ inl (inr (inr m)) | inr m ↦ inr m ]
+
+-- it is inner to the front, or to the rest, or inwards of the segment between them
+pub inner_cut : (side : Side) (xs : List Pair) (y : Pair) (rest : List Pair) (u : Pair)
+    → IsInner side (xs ++ y ∷ rest) u → IsInner side xs u ⊎ (Across side xs y u ⊎ IsInner side (y ∷ rest) u)
+inner_cut side [] y rest u k = inr (inr k)
+inner_cut side (x ∷ xs) y rest u (inl e) = inl (inl e)
+inner_cut side (x ∷ xs) y rest u (inr k) = elim (cut_from side x xs y rest u k)
+    [ inl m ↦ inl (inr m) | inr m ↦ inr m ]
+
+-- behind a point, what is inner to the front
+left_from : (side : Side) (x : Pair) (xs ys : List Pair) (u : Pair) → IsInnerFrom side x xs u
+    → IsInnerFrom side x (xs ++ ys) u
+left_from side x [] ys u k = elim k [ ]
+left_from side x (z ∷ zs) ys u (inl e) = inl e
+left_from side x (z ∷ zs) ys u (inr (inl k)) = inr (inl k)
+left_from side x (z ∷ zs) ys u (inr (inr k)) = inr (inr (left_from side z zs ys u k))
+
+-- what is inner to the front is inner to both
+pub inner_left : (side : Side) (xs ys : List Pair) (u : Pair) → IsInner side xs u → IsInner side (xs ++ ys) u
+inner_left side [] ys u k = elim k [ ]
+inner_left side (x ∷ xs) ys u (inl e) = inl e
+inner_left side (x ∷ xs) ys u (inr k) = inr (left_from side x xs ys u k)
+
+-- behind a point, what is inner to the rest
+right_from : (side : Side) (x : Pair) (xs ys : List Pair) (u : Pair) → IsInner side ys u
+    → IsInnerFrom side x (xs ++ ys) u
+right_from side x [] [] u k = elim k [ ]
+right_from side x [] (y ∷ ys) u (inl e) = inl e
+right_from side x [] (y ∷ ys) u (inr k) = inr (inr k)
+right_from side x (z ∷ zs) ys u k = inr (inr (right_from side z zs ys u k))
+
+-- what is inner to the rest is inner to both
+pub inner_right : (side : Side) (xs ys : List Pair) (u : Pair) → IsInner side ys u → IsInner side (xs ++ ys) u
+inner_right side [] ys u k = k
+inner_right side (x ∷ xs) ys u k = inr (right_from side x xs ys u k)
+
+-- behind a point, what is inwards of the segment between them
+across_from : (side : Side) (x : Pair) (xs : List Pair) (y : Pair) (rest : List Pair) (u : Pair)
+    → IsInwards side (end_of x xs) y u → IsInnerFrom side x (xs ++ y ∷ rest) u
+across_from side x [] y rest u k = inr (inl k)
+across_from side x (z ∷ zs) y rest u k = inr (inr (across_from side z zs y rest u k))
+
+-- what is inwards of the segment between them is inner to both
+pub inner_across : (side : Side) (xs : List Pair) (d y : Pair) (rest : List Pair) (u : Pair) → EndsWith d xs
+    → IsInwards side d y u → IsInner side (xs ++ y ∷ rest) u
+inner_across side [] d y rest u e k = absurd e
+inner_across side (x ∷ xs) d y rest u e k =
+    inr (across_from side x xs y rest u (subst (λ (z : Pair). IsInwards side z y u) (sym e) k))
+
+-- a member is inner
+pub member_inner : (side : Side) (xs : List Pair) (u : Pair) → Contains xs u → IsInner side xs u
+member_inner side [] u m = absurd (omega (arith, m.1))
+member_inner side (x ∷ xs) u (zero, l, e) = inl (sym e)
+member_inner side (x ∷ xs) u (suc k, l, e) =
+    inr (right_from side x [] xs u (member_inner side xs u (k, omega (arith, l), e)))
+
+-- ---- ends
+
+-- the end of two lists in a row, behind a point
+end_from : (x : Pair) (xs : List Pair) (y : Pair) (rest : List Pair) → end_of x (xs ++ y ∷ rest) ≡ end_of y rest
+end_from x [] y rest = refl
+end_from x (z ∷ zs) y rest = end_from z zs y rest
+
+-- the end of the rest is that of both
+pub ends_right : (c : Pair) (xs ys : List Pair) → EndsWith c ys → EndsWith c (xs ++ ys)
+ends_right c xs [] e = absurd e
+ends_right c [] (y ∷ ys) e = e
+ends_right c (x ∷ xs) (y ∷ ys) e = end_from x xs y ys ∙ e
+
+-- and the end of both is that of the rest, where it has a point
+ends_back : (c : Pair) (xs : List Pair) (y : Pair) (rest : List Pair) → EndsWith c (xs ++ y ∷ rest)
+    → EndsWith c (y ∷ rest)
+ends_back c [] y rest e = e
+ends_back c (x ∷ xs) y rest e = sym (end_from x xs y rest) ∙ e
+
+-- two lists with one more point have the same end
+pub pushed_ends : (xs ys : List Pair) (p c : Pair) → EndsWith c (xs ++ p ∷ []) → EndsWith c (ys ++ p ∷ [])
+pushed_ends xs ys p c e = ends_right c ys (p ∷ []) (ends_back c xs p [] e)
+
+-- ---- turns
+
+-- behind a point the front turns
+turning_left_from : (side : Side) (x : Pair) (xs ys : List Pair) → IsTurningFrom side x (xs ++ ys)
+    → IsTurningFrom side x xs
+turning_left_from side x [] ys h = tt
+turning_left_from side x (z ∷ []) ys h = (tt, tt)
+turning_left_from side x (z ∷ w ∷ ws) ys h = (h.0, turning_left_from side z (w ∷ ws) ys h.1)
+
+-- the front of a turning list turns
+pub turning_left : (side : Side) (xs ys : List Pair) → IsTurning side (xs ++ ys) → IsTurning side xs
+turning_left side [] ys h = tt
+turning_left side (x ∷ xs) ys h = turning_left_from side x xs ys h
+
+-- its first points turn
+pub turning_take : (side : Side) (n : ℕ) (xs : List Pair) → IsTurning side xs → IsTurning side (take n xs)
+turning_take side n xs h = elim (cases_lt n (length xs)) [
+  | inl l ↦ turning_left side (take n xs) (drop n xs) (subst (IsTurning side) (cut xs n (omega (arith, l))) h)
+  | inr l ↦ let e : take n xs ≡ xs = grind (arith, common_steps, l) in subst (IsTurning side) (sym e) h
+]
+
+-- behind a point the rest turns
+turning_right_from : (side : Side) (x : Pair) (xs ys : List Pair) → IsTurningFrom side x (xs ++ ys) → IsTurning side ys
+turning_right_from side x [] [] h = tt
+turning_right_from side x [] (y ∷ ys) h = h.1
+turning_right_from side x (z ∷ zs) ys h = turning_right_from side z zs ys h.1
+
+-- the rest of a turning list turns
+pub turning_right : (side : Side) (xs ys : List Pair) → IsTurning side (xs ++ ys) → IsTurning side ys
+turning_right side [] ys h = h
+turning_right side (x ∷ xs) ys h = turning_right_from side x xs ys h
+
+-- its last points turn
+pub turning_drop : (side : Side) (n : ℕ) (xs : List Pair) → IsTurning side xs → IsTurning side (drop n xs)
+turning_drop side n xs h = elim (cases_lt n (length xs)) [
+  | inl l ↦ turning_right side (take n xs) (drop n xs) (subst (IsTurning side) (cut xs n (omega (arith, l))) h)
+  | inr l ↦ let e : drop n xs ≡ [] = grind (arith, common_steps, l) in subst (IsTurning side) (sym e) tt
+]
+
+-- behind a point: two turning lists of which the second begins with the two last points of the first
+turning_join_from : (side : Side) (x : Pair) (front : List Pair) (a b : Pair) (rest : List Pair)
+    → IsTurningFrom side x (front ++ a ∷ b ∷ []) → IsTurning side (a ∷ b ∷ rest)
+    → IsTurningFrom side x (front ++ a ∷ b ∷ rest)
+turning_join_from side x [] a b rest h k = (h.0, k)
+turning_join_from side x (y ∷ []) a b rest h k = (h.0, turning_join_from side y [] a b rest h.1 k)
+turning_join_from side x (y ∷ z ∷ zs) a b rest h k = (h.0, turning_join_from side y (z ∷ zs) a b rest h.1 k)
+
+-- two turning lists of which the second begins with the two last points of the first are one
+pub turning_join : (side : Side) (front : List Pair) (a b : Pair) (rest : List Pair)
+    → IsTurning side (front ++ a ∷ b ∷ []) → IsTurning side (a ∷ b ∷ rest) → IsTurning side (front ++ a ∷ b ∷ rest)
+turning_join side [] a b rest h k = k
+turning_join side (x ∷ front) a b rest h k = turning_join_from side x front a b rest h k
+
+-- a point is put behind a turning list whose last point lies outwards of it
+pub turning_push : (side : Side) (chain : List Pair) (a b c : Pair) → 1 < length chain
+    → a ≡ get_or chain (length chain - 2) a → b ≡ get_or chain (length chain - 1) b → IsTurning side chain
+    → pos 0 <ℤ turn side a b c → IsTurning side (chain ++ c ∷ [])
+turning_push side chain a b c l ea eb h k =
+    let front = take (length chain - 2) chain in
+    let e : chain ≡ front ++ a ∷ b ∷ [] = last_two chain a b l ea eb in
+    subst (IsTurning side) (sym (append_twice front (a ∷ b ∷ []) (c ∷ [])) ∙ ap (λ (z : List Pair). z ++ c ∷ []) (sym e))
+    (turning_join side front a b (c ∷ []) (subst (IsTurning side) e h) (k, (tt, tt)))
+  where
+    last_two : (xs : List Pair) (a b : Pair) → 1 < length xs → a ≡ get_or xs (length xs - 2) a
+        → b ≡ get_or xs (length xs - 1) b → xs ≡ take (length xs - 2) xs ++ a ∷ b ∷ []
+    last_two xs a b l ea eb = grind (arith, common_steps, ea, eb)
+
+-- ---- passes
+
+-- a member of either of two lists in a row, of which the front has its members from another
+pub from_front : (xs ys zs : List Pair) → ((t : Pair) → Contains ys t → Contains xs t) → (t : Pair)
+    → Contains (ys ++ zs) t → Contains (xs ++ zs) t
+from_front xs ys zs h t m = elim (Contains-append_cases ys zs t m)
+    [ inl k ↦ Contains-append_left xs zs t (h t k) | inr k ↦ Contains-append_right xs zs t k ]
+
+-- a strict chain is what a pass over it leaves
+pub passed_itself : (side : Side) (xs : List Pair) → IsStrict side xs → IsPassed side xs xs
+passed_itself side xs s =
+    record { strict = s; among = λ t m. m; inner = λ u k. k; ends = λ c e. e; short = omega arith }
+
+-- what is inner to a list and more is inner to what a pass left of the list and more
+inner_with : (side : Side) (xs ys zs : List Pair) (u : Pair) → IsPassed side xs ys → IsInner side (xs ++ zs) u
+    → IsInner side (ys ++ zs) u
+inner_with side xs ys [] u p k =
+    inner_left side ys [] u (p.inner u (subst (λ (l : List Pair). IsInner side l u) (sym (append_none xs)) k))
+inner_with side xs ys (z ∷ zs) u p k =
+    elim (inner_cut side xs z zs u k) [
+      | inl m ↦ inner_left side ys (z ∷ zs) u (p.inner u m)
+      | inr (inl (d, e, m)) ↦ inner_across side ys d z zs u (p.ends d e) m
+      | inr (inr m) ↦ inner_right side ys (z ∷ zs) u m
+    ]
+
+-- and so the end
+ends_with : (side : Side) (xs ys zs : List Pair) (c : Pair) → IsPassed side xs ys → EndsWith c (xs ++ zs)
+    → EndsWith c (ys ++ zs)
+ends_with side xs ys [] c p e =
+    subst (EndsWith c) (append_none ys) (p.ends c (subst (EndsWith c) (sym (append_none xs)) e))
+ends_with side xs ys (z ∷ zs) c p e = ends_right c ys (z ∷ zs) (ends_back c xs z zs e)
+
+-- a pass over what another left of a list, and more, is one over the list and more
+pub passed_through : (side : Side) (xs ys zs ws : List Pair) → IsPassed side xs ys → IsPassed side (ys ++ zs) ws
+    → IsPassed side (xs ++ zs) ws
+passed_through side xs ys zs ws p q = record {
+  strict = q.strict;
+  among = λ t m. from_front xs ys zs p.among t (q.among t m);
+  inner = λ u k. q.inner u (inner_with side xs ys zs u p k);
+  ends = λ c e. q.ends c (ends_with side xs ys zs c p e);
+  short = let a = q.short in let b = p.short in let m = length-append ys zs in let n = length-append xs zs in
+      omega (arith, a, b, m, n);
+}
+
+-- what a pass leaves of the front of a set makes a set with the rest
+pub passed_set : (side : Side) (xs ys zs : List Pair) → IsPassed side xs ys → IsPointSet (xs ++ zs)
+    → IsPointSet (ys ++ zs)
+passed_set side xs ys zs p s =
+    set_append ys zs p.strict.ordered (set_right xs zs s) (λ t u m n. set_apart xs zs t u s (p.among t m) n)
+
+-- where what a pass left turns on into the points behind it, these may stay as they are
+pub passed_copied : (side : Side) (xs ys zs : List Pair) → IsPassed side xs ys → IsPointSet (xs ++ zs)
+    → IsTurning side (ys ++ zs) → IsPassed side (xs ++ zs) (ys ++ zs)
+passed_copied side xs ys zs p s h =
+    record {
+      strict = record {
+        ordered = passed_set side xs ys zs p s;
+        turning = h;
+      };
+      among = from_front xs ys zs p.among;
+      inner = λ u k. inner_with side xs ys zs u p k;
+      ends = λ c e. ends_with side xs ys zs c p e;
+      short = let b = p.short in let m = length-append ys zs in let n = length-append xs zs in omega (arith, b, m, n);
+    }
+
+-- ---- a pass that goes on over a turning list
+
+-- the place before
+before_place : (i : ℕ) → 0 < i → i - 1 + 1 ≡ i
+before_place i h = omega (arith, h)
+
+-- a list is its first points, the one at a place, and the rest
+parted_at : (xs : List Pair) (i : ℕ) (p : Pair) → i < length xs → p ≡ get_or xs i p
+    → xs ≡ take (i + 1) xs ++ drop (i + 1) xs
+parted_at xs i p l e = cut xs (i + 1) (omega (arith, l))
+
+-- the points behind a chain and the one at a place, as one more
+one_on : (old rest : List Pair) (i : ℕ) (p : Pair) → i < length rest → p ≡ get_or rest i p
+    → old ++ take i rest ++ p ∷ [] ≡ old ++ take (i + 1) rest
+one_on old rest i p l e =
+    append_twice old (take i rest) (p ∷ []) ∙ ap (λ (z : List Pair). old ++ z) (sym (take_next rest i p l e))
+
+-- the point at a place goes behind what the pass left
+pub take_up_set : (side : Side) (old rest chain : List Pair) (i : ℕ) (p : Pair) → i < length rest → p ≡ get_or rest i p
+    → IsPointSet (old ++ rest) → IsPassed side (old ++ take i rest) chain → IsPointSet (chain ++ p ∷ [])
+take_up_set side old rest chain i p l e s h =
+    passed_set side (old ++ take i rest) chain (p ∷ []) h
+    (subst IsPointSet (sym (one_on old rest i p l e))
+    (set_left (old ++ take (i + 1) rest) (drop (i + 1) rest)
+    (subst IsPointSet
+    (ap (λ (z : List Pair). old ++ z) (parted_at rest i p l e)
+    ∙ sym (append_twice old (take (i + 1) rest) (drop (i + 1) rest))) s)))
+
+-- one more point is passed
+pub take_up_step : (side : Side) (old rest chain new : List Pair) (i : ℕ) (p : Pair) → i < length rest
+    → p ≡ get_or rest i p → IsPassed side (old ++ take i rest) chain → IsPassed side (chain ++ p ∷ []) new
+    → IsPassed side (old ++ take (i + 1) rest) new
+take_up_step side old rest chain new i p l e h k =
+    subst (λ (z : List Pair). IsPassed side z new) (one_on old rest i p l e)
+    (passed_through side (old ++ take i rest) chain (p ∷ []) new h k)
+
+-- a list that ends with a point
+ends_cut_from : (x : Pair) (xs : List Pair) → (front : List Pair) × (x ∷ xs ≡ front ++ end_of x xs ∷ [])
+ends_cut_from x [] = ([], refl)
+ends_cut_from x (y ∷ ys) = let r = ends_cut_from y ys in (x ∷ r.0, ap (λ (z : List Pair). x ∷ z) r.1)
+
+-- is a front and that point
+pub ends_cut : (c : Pair) (xs : List Pair) → EndsWith c xs → (front : List Pair) × (xs ≡ front ++ c ∷ [])
+ends_cut c [] e = absurd e
+ends_cut c (x ∷ xs) e = let r = ends_cut_from x xs in
+    (r.0, r.1 ∙ ap (λ (z : Pair). r.0 ++ z ∷ []) e)
+
+-- the end of the first points of a list
+pub ends_take : (xs : List Pair) (i : ℕ) → i < length xs → EndsWith (point_at xs i) (take (i + 1) xs)
+ends_take xs i l =
+    subst (EndsWith (point_at xs i))
+    (sym (take_next xs i (point_at xs i) l (get_or_free xs i _ _ l)))
+    (ends_right (point_at xs i) (take i xs) (point_at xs i ∷ []) refl)
+
+-- the rest from a place on, with its point in front
+pub rest_at : (xs : List Pair) (i : ℕ) (p : Pair) → i < length xs → p ≡ get_or xs i p → drop i xs ≡ p ∷ drop (i + 1) xs
+rest_at xs i p l e = grind (arith, common_steps, e)
+
+-- where a point stays behind the one before it, the rest may stay as it is
+pub take_up_stop : (side : Side) (old rest chain new : List Pair) (i : ℕ) (p : Pair) → 0 < i → i < length rest
+    → p ≡ get_or rest i p → IsPointSet (old ++ rest) → IsTurning side rest → IsPassed side (old ++ take i rest) chain
+    → IsPassed side (chain ++ p ∷ []) new → new ≡ chain ++ p ∷ []
+    → IsPassed side (old ++ rest) (new ++ drop (i + 1) rest)
+take_up_stop side old rest chain new i p some l e s t h k same =
+    subst (λ (z : List Pair). IsPassed side z (new ++ drop (i + 1) rest)) whole
+    (passed_copied side (old ++ take (i + 1) rest) new (drop (i + 1) rest) (take_up_step side old rest chain new i p l e h k)
+    (subst IsPointSet (sym whole) s) turns)
+  where
+    whole : old ++ take (i + 1) rest ++ drop (i + 1) rest ≡ old ++ rest
+    whole = append_twice old (take (i + 1) rest) (drop (i + 1) rest)
+        ∙ ap (λ (z : List Pair). old ++ z) (sym (parted_at rest i p l e))
+
+    turns : IsTurning side (new ++ drop (i + 1) rest)
+    turns =
+        let a : Pair = point_at rest (i - 1) in
+        let l' : i - 1 < length rest = omega (arith, l) in
+        let ends : EndsWith a chain = h.ends a (ends_right a old (take i rest)
+        (subst (λ (n : ℕ). EndsWith a (take n rest)) (before_place i some) (ends_take rest (i - 1) l'))) in
+        let c = ends_cut a chain ends in
+        let is : new ≡ c.0 ++ a ∷ p ∷ [] =
+        same ∙ ap (λ (z : List Pair). z ++ p ∷ []) c.1 ∙ append_twice c.0 (a ∷ []) (p ∷ []) in
+        let behind : suc (i - 1) ≡ i = omega (arith, some) in
+        let parts : rest ≡ take (i - 1) rest ++ a ∷ p ∷ drop (i + 1) rest =
+        cut_at rest (i - 1) origin l'
+        ∙ ap (λ (n : ℕ). take (i - 1) rest ++ a ∷ drop n rest) behind
+        ∙ ap (λ (z : List Pair). take (i - 1) rest ++ a ∷ z) (rest_at rest i p l e) in
+        subst (IsTurning side)
+        (sym (append_twice c.0 (a ∷ p ∷ []) (drop (i + 1) rest))
+        ∙ ap (λ (z : List Pair). z ++ drop (i + 1) rest) (sym is))
+        (turning_join side c.0 a p (drop (i + 1) rest) (subst (IsTurning side) is k.strict.turning)
+        (turning_right side (take (i - 1) rest) (a ∷ p ∷ drop (i + 1) rest) (subst (IsTurning side) parts t)))

@@ -1,0 +1,16 @@
+-- the test was true of the edge before `low`, and is false of the edge from `high`
+use Rattle.std.proofs.Common.{◌<◌, ◌≤◌, ◌+◌, ◌-◌, length, true, false}
+use Rattle.hull_plain.specs.Positions.{point_at}
+use Rattle.hull_plain.proofs.bisection.first_failing.Given as goal
+
+abbrev pub invariant-loop-low : goal.invariant-loop-low
+invariant-loop-low g l = record {
+  ordered : l.low ≤ l.high;
+  within : l.high < length l.chain;
+  held : 0 < l.low → goal.F-post g l.holds (point_at l.chain (l.low - 1)) (point_at l.chain (l.low - 1 + 1)) true;
+  fails : l.high + 1 < length l.chain
+      → goal.F-post g l.holds (point_at l.chain l.high) (point_at l.chain (l.high + 1)) false;
+}
+
+abbrev pub decreases-loop-low : goal.decreases-loop-low
+decreases-loop-low g l = l.high - l.low

@@ -1,0 +1,21 @@
+-- behind the lower chain stand the points of the upper one from its end back to the place before `i`, but for the end
+use Rattle.std.proofs.Common.{◌≡◌, ◌<◌, ◌≤◌, ◌-◌, ◌++◌, [], List, length}
+use Rattle.lattice.specs.Plane.{Pair}
+use Rattle.hull_plain.specs.Edges.{IsUpperEdge, IsChain, end_of}
+use Rattle.hull_plain.specs.Monotone.{IsChainOf}
+use Rattle.hull_plain.specs.Positions.{point_at}
+use Rattle.hull_plain.specs.declared.monotone.Side.TheVariants.{Upper}
+use Rattle.hull_plain.proofs.corners.vertices_of.Given as goal
+
+abbrev pub invariant-loop-i : goal.invariant-loop-i
+invariant-loop-i l = record {
+  within : l.i ≤ length l.upper;
+  low : 1 < length l.upper → 1 < l.i;
+  walk : (passed : List Pair) × (l.out.items ≡ l.lower ++ passed) × (length l.upper < 2 → passed ≡ [])
+      × (end_of (point_at l.upper (length l.upper - 1)) passed ≡ point_at l.upper (l.i - 1))
+      × ((S : List Pair) → IsChainOf Upper S l.upper
+      → IsChain (IsUpperEdge S) (point_at l.upper (length l.upper - 1)) passed);
+}
+
+abbrev pub decreases-loop-i : goal.decreases-loop-i
+decreases-loop-i l = l.i

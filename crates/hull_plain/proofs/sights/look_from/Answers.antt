@@ -1,0 +1,46 @@
+-- before the first position and behind the last the point stands before all or after all; else its side of the edge
+-- there tells
+use Rattle.std.proofs.Common.{◌∙◌, subst, arith, ℕ, Err}
+use Rattle.std.proofs.lemmas.Int.{ints}
+use Rattle.lattice.proofs.Casts.{cast_side}
+use Rattle.hull_plain.specs.Positions.{IsPositionOf}
+use Rattle.hull_plain.proofs.Looks.{seen_first, seen_last, edge_at, on_edge}
+use Rattle.hull_plain.proofs.sights.look_from.Goals as goal
+
+pub returns-then-i-eq0 : goal.returns-then-i-eq0
+returns-then-i-eq0 c = λ S k.
+    seen_first c.args.side S c.args.chain.now c.args.q
+    (subst (λ (n : ℕ). IsPositionOf c.args.chain.now c.args.q (Err n)) c.if-i-eq0.true c.requires) k
+
+pub returns-then-i-chain : goal.returns-then-i-chain
+returns-then-i-chain c = λ S k.
+    seen_last c.args.side S c.args.chain.now c.args.q
+    (subst (λ (n : ℕ). IsPositionOf c.args.chain.now c.args.q (Err n)) c.if-i-chain.true c.requires) k
+
+pub returns-then-inwards-lt0 : goal.returns-then-inwards-lt0
+returns-then-inwards-lt0 c = λ S k. (
+  c.index-chain-i.result,
+  c.index-chain-i-2.result,
+  edge_at c.args.side S c.args.chain.now c.args.q _ _ c.args.i c.requires (omega (arith, c.if-i-eq0.false))
+      (omega (arith, c.if-i-eq0.false, c.if-i-chain.false, c.requires.0)) c.index-chain-i.is c.index-chain-i-2.is k,
+  let e = cast_side _ c.turn-inwards.ensures.size ∙ c.turn-inwards.ensures.value in
+      omega (arith, ints, e, c.if-inwards-lt0.true),
+)
+
+pub returns-then-inwards-gt0 : goal.returns-then-inwards-gt0
+returns-then-inwards-gt0 c = λ S k. (
+  c.index-chain-i.result,
+  c.index-chain-i-2.result,
+  edge_at c.args.side S c.args.chain.now c.args.q _ _ c.args.i c.requires (omega (arith, c.if-i-eq0.false))
+      (omega (arith, c.if-i-eq0.false, c.if-i-chain.false, c.requires.0)) c.index-chain-i.is c.index-chain-i-2.is k,
+  let e = cast_side _ c.turn-inwards.ensures.size ∙ c.turn-inwards.ensures.value in
+      omega (arith, ints, e, c.if-inwards-gt0.true),
+)
+
+pub returns-else-inwards-gt0 : goal.returns-else-inwards-gt0
+returns-else-inwards-gt0 c = λ S k.
+    on_edge c.args.side S c.args.q c.index-chain-i.result c.index-chain-i-2.result
+    (edge_at c.args.side S c.args.chain.now c.args.q _ _ c.args.i c.requires (omega (arith, c.if-i-eq0.false))
+    (omega (arith, c.if-i-eq0.false, c.if-i-chain.false, c.requires.0)) c.index-chain-i.is c.index-chain-i-2.is k)
+    (let e = cast_side _ c.turn-inwards.ensures.size ∙ c.turn-inwards.ensures.value in
+    omega (arith, ints, e, c.if-inwards-lt0.false, c.if-inwards-gt0.false))

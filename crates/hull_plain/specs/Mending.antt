@@ -1,0 +1,38 @@
+-- What a chain is made of anew where its set changed.
+use Rattle.std.specs.Prelude.{◌≡◌, ℕ, ◌<◌, ◌-◌, pos, ◌≤ℤ◌, List, [], ◌∷◌, ◌++◌, length}
+use Rattle.std.specs.List.{All, Contains}
+use Rattle.std.specs.declared.ops.Bound.{Bound}
+use Rattle.std.specs.declared.ops.Bound.TheVariants.{Included, Excluded, Unbounded}
+use Rattle.lattice.specs.Covers.{IsPointSet}
+use Rattle.lattice.specs.Plane.{Pair, IsBefore}
+use Rattle.hull_plain.specs.Monotone.{turn, EndsWith, IsPassed}
+use Rattle.hull_plain.specs.Positions.{point_at}
+use Rattle.hull_plain.specs.declared.monotone.Side.{Side}
+
+-- what stands after the end of a chain: everything where it has no point
+abbrev pub IsBehind : List Pair → Bound Pair → Type 0
+IsBehind chain (Included a) = ⊥
+IsBehind chain (Excluded a) = EndsWith a chain
+IsBehind chain Unbounded = chain ≡ []
+
+-- what stands before the first point of a chain
+abbrev pub IsAhead : List Pair → Bound Pair → Type 0
+IsAhead chain (Included a) = ⊥
+IsAhead chain (Excluded a) = (rest : List Pair) × (chain ≡ a ∷ rest)
+IsAhead chain Unbounded = chain ≡ []
+
+-- p, with the position i in a chain, stands between two of its points, and not outwards of their segment
+abbrev pub IsOverEdge : Side → List Pair → ℕ → Pair → Type 0
+IsOverEdge side chain i p =
+    (0 < i) × (i < length chain) × (turn side (point_at chain (i - 1)) p (point_at chain i) ≤ℤ pos 0)
+
+-- `middle` has all points of S that stand after `left` and before `right`, and is in order between them
+pub record IsBetween (S left right middle : List Pair) : Type 0 where
+  pub ordered : IsPointSet (left ++ middle ++ right)
+  pub among : (t : Pair) → Contains middle t → Contains S t
+  pub all : (t : Pair) → Contains S t → All (λ u. IsBefore u t) left → All (IsBefore t) right → Contains middle t
+
+-- the chain is what a pass over `left` and all points of S between it and `right` leaves
+abbrev pub PassesBetween : Side → List Pair → List Pair → List Pair → List Pair → Type 0
+PassesBetween side S left right chain =
+    (middle : List Pair) × IsBetween S left right middle × IsPassed side (left ++ middle) chain

@@ -1,0 +1,39 @@
+//! The first of the points that lie farthest in a direction.
+ghost use Rattle.std.specs.Prelude.{◌↔◌, ◌<◌, List, IsTrue, length, ◌<ℤ◌};
+ghost use Rattle.lattice.specs.Plane as plane;
+ghost use Rattle.lattice.specs.Plane.{Pair};
+ghost use Rattle.hull_plain.specs.ChainEdges.{Faces};
+ghost use Rattle.hull_plain.specs.Monotone.{IsChainOf};
+ghost use Rattle.hull_plain.specs.Replies.{AnswersExtreme, reply_to_extreme};
+ghost use Rattle.hull_plain.specs.Tangents.{IsFirstFarthest};
+
+use super::bisection::first_failing;
+use super::monotone::Side;
+use lattice::{Direction, Point, product};
+
+/// Whether `p` lies less far than `q` in the direction `d`.
+fn is_nearer(d: Direction, p: Point, q: Point) -> bool
+    ensures { IsTrue result ↔ (plane.product d p <ℤ plane.product d q) }
+{
+    product(d, p) < product(d, q)
+}
+
+/// The first of the farthest points in a direction that faces this chain: the corner up to which it rises.
+fn farthest(chain: &[Point], d: Direction) -> Point
+    requires { 0 < length chain.now }
+    ensures { (side : Side) (S : List Pair) → Faces side d → IsChainOf side S chain.now → IsFirstFarthest S d result }
+{
+    chain[first_failing(chain, &|p, q| is_nearer(d, p, q))]
+}
+
+/// The same, or `None` where there is no point.
+pub(crate) fn extreme_of(chain: &[Point], d: Direction) -> Option<Point>
+    ensures { (side : Side) (S : List Pair) → Faces side d → IsChainOf side S chain.now
+        → AnswersExtreme S d (reply_to_extreme result) }
+{
+    if chain.is_empty() {
+        None
+    } else {
+        Some(farthest(chain, d))
+    }
+}
