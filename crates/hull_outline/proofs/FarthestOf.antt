@@ -19,7 +19,7 @@ use Rattle.hull_outline.proofs.Corners.{corner_back, corner_extreme}
 use Rattle.hull_outline.proofs.EdgesOf.{all_of}
 use Rattle.hull_outline.proofs.Ends.{ends_of}
 use Rattle.hull_outline.proofs.Rings.{IsRing, ring_of}
-use Rattle.hull_outline.proofs.Slopes.{stays_up, goes_up, stays_down, goes_down}
+use Rattle.hull_plain.proofs.Slopes.{stays_up, goes_up, stays_down, goes_down}
 
 -- each point before p lies less far
 abbrev IsRising : List Pair → Pair → Pair → Type 0

@@ -7,7 +7,6 @@ pub mod TwoChains
 pub mod RoundChains
 pub mod MadeEdges
 pub mod Made
-pub mod Slopes
 pub mod Ends
 pub mod FarthestOf
 pub mod EdgesAt
@@ -16,3 +15,14 @@ pub mod Triangles
 pub mod Touching
 pub mod TangentsOf
 pub mod Clear
+pub mod Parted
+pub mod Turns
+pub mod Boxed
+pub mod Shields
+pub mod Cones
+pub mod NearestOf
+pub mod Separated
+pub mod Distances
+pub mod Differences
+pub mod Passing
+pub mod Together

@@ -4,3 +4,9 @@ pub mod OneWay
 pub mod Lent
 pub mod Sights
 pub mod Touches
+pub mod Meetings
+pub mod Steps
+pub mod Boxes
+pub mod Encounters
+pub mod Nearest
+pub mod Separations

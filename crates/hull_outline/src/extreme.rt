@@ -10,17 +10,18 @@ ghost use Rattle.hull_outline.specs.Lent.{corners_of};
 use super::bisection::{first_failing, first_failing_back};
 use super::outline::Outline;
 use super::rounds::corner_at;
-use lattice::{Direction, Point, product};
+use super::vector::Vector;
+use lattice::{Direction, Point};
 
 /// Whether `p` lies less far than `q` in the direction `d`.
-fn is_nearer(d: Direction, p: Point, q: Point) -> bool
+fn is_nearer(d: Vector, p: Point, q: Point) -> bool
     ensures { IsTrue result ↔ (plane.product d p <ℤ plane.product d q) }
 {
-    product(d, p) < product(d, q)
+    d.product(p) < d.product(q)
 }
 
 /// The first of the farthest in a direction that does not go up: the corner up to which the lower chain rises.
-fn farthest_below(corners: &[Point], last: usize, d: Direction) -> Point
+fn farthest_below(corners: &[Point], last: usize, d: Vector) -> Point
     requires some { 0 < length corners.now }
     requires parted { IsParted corners.now last }
     requires down { d.y ≤ℤ pos 0 }
@@ -30,7 +31,7 @@ fn farthest_below(corners: &[Point], last: usize, d: Direction) -> Point
 }
 
 /// The first of the farthest in a direction that goes up: the corner from which the upper chain falls.
-fn farthest_above(corners: &[Point], last: usize, d: Direction) -> Point
+fn farthest_above(corners: &[Point], last: usize, d: Vector) -> Point
     requires some { 0 < length corners.now }
     requires parted { IsParted corners.now last }
     requires up { pos 0 <ℤ d.y }
@@ -38,6 +39,19 @@ fn farthest_above(corners: &[Point], last: usize, d: Direction) -> Point
 {
     let place = first_failing_back(corners, last, &|p, q| !is_nearer(d, q, p));
     corner_at(corners, place)
+}
+
+/// The first of the points that lie farthest in a direction, which may be zero: then all lie as far.
+pub(crate) fn farthest(corners: &[Point], last: usize, d: Vector) -> Point
+    requires some { 0 < length corners.now }
+    requires parted { IsParted corners.now last }
+    ensures { HoldsOfSetsOf corners.now (λ S. IsFirstFarthest S d result) }
+{
+    if d.y() > 0 {
+        farthest_above(corners, last, d)
+    } else {
+        farthest_below(corners, last, d)
+    }
 }
 
 impl<'a> Outline<'a> {
@@ -49,10 +63,8 @@ impl<'a> Outline<'a> {
     {
         if self.corners.is_empty() {
             None
-        } else if d.y() > 0 {
-            Some(farthest_above(self.corners, self.last, d))
         } else {
-            Some(farthest_below(self.corners, self.last, d))
+            Some(farthest(self.corners, self.last, Vector::along(d)))
         }
     }
 }

@@ -3,8 +3,10 @@
 //! An [`Outline`] borrows the corners that [`HullSet::vertices`](hull_plain::HullSet::vertices) gave, or any list that
 //! is the corners of some set ([`is_outline`]). Nothing of it is ever written, so any number of threads may ask one at
 //! once, with no lock; each answer is the one that is right for every set with these corners (`specs/Outlines.antt`).
-//! [`Outline::place`], [`Outline::extreme`] and [`Outline::tangents`] take a number of steps that grows with the
-//! logarithm of the corners' number, [`Outline::area2`] and [`is_outline`] one pass. No memory is asked for.
+//! [`Outline::place`], [`Outline::extreme`], [`Outline::tangents`], [`Outline::meets_segment`] and
+//! [`Outline::bounding_box`] take a number of steps that grows with the logarithm of the corners' number,
+//! [`Outline::contains`] and [`Outline::meets`] as many for each corner of the other hull, and [`Outline::area2`],
+//! [`Outline::nearest`], [`Outline::apart_from_segment`] and [`is_outline`] one pass. No memory is asked for.
 //!
 //! # A worked example
 //!
@@ -14,17 +16,30 @@
 //! assert!(outline.place(Point::new(2, 1)?) == Place::Inside);
 //! assert!(outline.extreme(Direction::new(0, 1)?) == Some(Point::new(2, 3)?));
 //! assert!(outline.area2() == 12); // the doubled area
+//! assert!(outline.meets_segment(Point::new(0, 3)?, Point::new(4, 1)?));
+//! assert!(outline.nearest(Point::new(2, -5)?) == Some(Nearest::Edge(corners[0], corners[1])));
 //! ```
 #![tactic(auto)]
 
 mod area;
 mod bisection;
+mod encounters;
+mod extents;
 mod extreme;
+mod laws;
+mod meetings;
+mod nearest;
 mod outline;
 mod place;
 mod rounds;
+mod separations;
 mod sights;
 mod tangents;
+mod vector;
 
+pub use laws::{never_both, none_nearer_than_corner, none_nearer_than_edge};
+pub use nearest::Nearest;
 pub use outline::Outline;
 pub use rounds::is_outline;
+pub use separations::Separation;
+pub use vector::Vector;

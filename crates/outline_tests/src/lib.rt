@@ -5,3 +5,5 @@
 mod answers;
 #[cfg(test)]
 mod lists;
+#[cfg(test)]
+mod meetings;

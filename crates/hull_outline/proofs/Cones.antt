@@ -1,0 +1,232 @@
+-- Three corners in a row: what lies left of both edges lies no farther than the middle one in each direction in which
+-- the others lie no farther.
+use Rattle.std.proofs.Common.{◌≡◌, ℤ, pos, negsuc, ◌+ℤ◌, ◌-ℤ◌, ◌*ℤ◌, ◌≤ℤ◌, ◌<ℤ◌, ◌⊎◌, inl, inr, sym, ap, ◌∙◌, arith}
+use Rattle.std.proofs.lemmas.Int.{ints}
+use Rattle.lattice.specs.Plane.{Pair, orient, product}
+use Rattle.lattice.specs.Polynomials.{difference-eq, as_difference, difference-add, difference-neg, difference-mul}
+use Rattle.lattice.specs.Signs.{le_or_lt, product_nn, product_pp}
+use Rattle.hull_outline.specs.Nearest.{IsOnward}
+use Rattle.hull_outline.specs.Steps.{step}
+use Rattle.hull_outline.proofs.Parted.{product_mm, product_ns, product_mp}
+
+-- ---- identities
+
+-- the step from c to x by those to n and to p, by x
+cone_x : (p c n x : Pair) → orient p c n *ℤ (x.x -ℤ c.x) ≡ orient p c x *ℤ (n.x -ℤ c.x) +ℤ orient c n x *ℤ (p.x -ℤ c.x)
+unfolding orient
+cone_x p c n x =
+    rw (
+      as_difference p.x,
+      as_difference p.y,
+      as_difference c.x,
+      as_difference c.y,
+      as_difference n.x,
+      as_difference n.y,
+      as_difference x.x,
+      as_difference x.y,
+    ) (simp (difference-add, difference-neg, difference-mul) (difference-eq _ _ _ _ (omega arith)))
+
+-- and by y
+cone_y : (p c n x : Pair) → orient p c n *ℤ (x.y -ℤ c.y) ≡ orient p c x *ℤ (n.y -ℤ c.y) +ℤ orient c n x *ℤ (p.y -ℤ c.y)
+unfolding orient
+cone_y p c n x =
+    rw (
+      as_difference p.x,
+      as_difference p.y,
+      as_difference c.x,
+      as_difference c.y,
+      as_difference n.x,
+      as_difference n.y,
+      as_difference x.x,
+      as_difference x.y,
+    ) (simp (difference-add, difference-neg, difference-mul) (difference-eq _ _ _ _ (omega arith)))
+
+-- a step along a direction, by its coordinates
+step_along : (f c x : Pair) → product f x -ℤ product f c ≡ f.x *ℤ (x.x -ℤ c.x) +ℤ f.y *ℤ (x.y -ℤ c.y)
+unfolding product
+step_along f c x =
+    rw (
+      as_difference f.x,
+      as_difference f.y,
+      as_difference c.x,
+      as_difference c.y,
+      as_difference x.x,
+      as_difference x.y,
+    ) (simp (difference-add, difference-neg, difference-mul) (difference-eq _ _ _ _ (omega arith)))
+
+-- a weight of both coordinates
+weigh : (k u v x y : ℤ) → k *ℤ (u *ℤ x +ℤ v *ℤ y) ≡ u *ℤ (k *ℤ x) +ℤ v *ℤ (k *ℤ y)
+weigh k u v x y =
+    rw (as_difference k, as_difference u, as_difference v, as_difference x, as_difference y)
+    (simp (difference-add, difference-mul) (difference-eq _ _ _ _ (omega arith)))
+
+-- two weights of both coordinates
+weigh_two : (b a u v w z x y : ℤ)
+    → u *ℤ (b *ℤ w +ℤ a *ℤ x) +ℤ v *ℤ (b *ℤ z +ℤ a *ℤ y) ≡ b *ℤ (u *ℤ w +ℤ v *ℤ z) +ℤ a *ℤ (u *ℤ x +ℤ v *ℤ y)
+weigh_two b a u v w z x y =
+    rw (
+      as_difference b,
+      as_difference a,
+      as_difference u,
+      as_difference v,
+      as_difference w,
+      as_difference z,
+      as_difference x,
+      as_difference y,
+    ) (simp (difference-add, difference-mul) (difference-eq _ _ _ _ (omega arith)))
+
+-- how far x lies beyond c in a direction, by how far n and p do
+pub cone : (f p c n x : Pair)
+    → orient p c n *ℤ (product f x -ℤ product f c)
+    ≡ orient p c x *ℤ (product f n -ℤ product f c) +ℤ orient c n x *ℤ (product f p -ℤ product f c)
+cone f p c n x =
+    ap (λ (z : ℤ). orient p c n *ℤ z) (step_along f c x)
+    ∙ weigh (orient p c n) f.x f.y (x.x -ℤ c.x) (x.y -ℤ c.y)
+    ∙ ap (λ (z : ℤ). f.x *ℤ z +ℤ f.y *ℤ (orient p c n *ℤ (x.y -ℤ c.y))) (cone_x p c n x)
+    ∙ ap (λ (z : ℤ). f.x *ℤ (orient p c x *ℤ (n.x -ℤ c.x) +ℤ orient c n x *ℤ (p.x -ℤ c.x)) +ℤ f.y *ℤ z) (cone_y p c n x)
+    ∙ weigh_two (orient p c x) (orient c n x) f.x f.y (n.x -ℤ c.x) (n.y -ℤ c.y) (p.x -ℤ c.x) (p.y -ℤ c.y)
+    ∙ ap (λ (z : ℤ). orient p c x *ℤ z +ℤ orient c n x *ℤ (f.x *ℤ (p.x -ℤ c.x) +ℤ f.y *ℤ (p.y -ℤ c.y)))
+    (sym (step_along f c n))
+    ∙ ap (λ (z : ℤ). orient p c x *ℤ (product f n -ℤ product f c) +ℤ orient c n x *ℤ z) (sym (step_along f c p))
+
+-- ---- signs
+
+-- weights that are not negative of what is not positive
+within_cone : (d b a x n p : ℤ) → pos 0 <ℤ d → pos 0 ≤ℤ b → pos 0 ≤ℤ a → n ≤ℤ pos 0 → p ≤ℤ pos 0
+    → d *ℤ x ≡ b *ℤ n +ℤ a *ℤ p → x ≤ℤ pos 0
+within_cone d b a x n p hd hb ha hn hp e = elim (le_or_lt x (pos 0)) [
+  | inl h ↦ h
+  | inr h ↦
+      let u = product_pp d x hd h in let v = product_ns b n hb hn in let w = product_ns a p ha hp in
+      absurd (omega (arith, ints))
+]
+
+-- a negative weight of what completes a sum: that is not positive
+away : (d b a x n p : ℤ) → pos 0 <ℤ d → pos 0 ≤ℤ b → a <ℤ pos 0 → n ≤ℤ pos 0 → pos 0 ≤ℤ x
+    → d *ℤ x ≡ b *ℤ n +ℤ a *ℤ p → p ≤ℤ pos 0
+away d b a x n p hd hb ha hn hx e = elim (le_or_lt p (pos 0)) [
+  | inl h ↦ h
+  | inr h ↦
+      let u = product_nn d x (omega (arith, ints)) hx in let v = product_ns b n hb hn in let w = product_mp a p ha h in
+      absurd (omega (arith, ints))
+]
+
+-- a square
+pub square_nn : (x : ℤ) → pos 0 ≤ℤ (x *ℤ x)
+square_nn (pos n) = product_nn (pos n) (pos n) (omega (arith, ints)) (omega (arith, ints))
+square_nn (negsuc n) = omega (arith, ints)
+
+-- a square of what is not nothing
+pub square_above : (x : ℤ) → (pos 0 <ℤ x) ⊎ (x <ℤ pos 0) → pos 0 <ℤ (x *ℤ x)
+square_above x (inl h) = product_pp x x h h
+square_above x (inr h) = product_mm x x h h
+
+-- ---- the way from c to q
+
+-- how far q lies on the way to n is how far n lies on the way to q
+on_the_way : (c n q : Pair)
+    → product (step c n) q -ℤ product (step c n) c ≡ product (step c q) n -ℤ product (step c q) c
+unfolding product
+on_the_way c n q =
+    rw (
+      as_difference c.x,
+      as_difference c.y,
+      as_difference n.x,
+      as_difference n.y,
+      as_difference q.x,
+      as_difference q.y,
+    ) (simp (difference-add, difference-neg, difference-mul) (difference-eq _ _ _ _ (omega arith)))
+
+-- q lies onward to n where n lies onward to q
+pub seen_onward : (c n q : Pair) → product (step c q) c <ℤ product (step c q) n → IsOnward c n q
+seen_onward c n q h = more _ _ _ _ (on_the_way c n q) h
+  where
+    more : (x y z w : ℤ) → x -ℤ y ≡ z -ℤ w → w <ℤ z → y <ℤ x
+    more x y z w e h = omega (arith, ints)
+
+-- and only there
+pub not_onward : (c n q : Pair) → ¬ IsOnward c n q → (product (step c q) n -ℤ product (step c q) c) ≤ℤ pos 0
+not_onward c n q h = elim (le_or_lt (product (step c q) n -ℤ product (step c q) c) (pos 0))
+    [ inl k ↦ k | inr k ↦ absurd (h (seen_onward c n q (omega (arith, ints)))) ]
+
+-- the same told of q
+pub onward_not : (c n q : Pair) → (product (step c q) n -ℤ product (step c q) c) ≤ℤ pos 0 → ¬ IsOnward c n q
+onward_not c n q h k =
+    clash (product (step c n) q) (product (step c n) c) (product (step c q) n) (product (step c q) c)
+    (on_the_way c n q) h k
+  where
+    clash : (x y z w : ℤ) → x -ℤ y ≡ z -ℤ w → (z -ℤ w) ≤ℤ pos 0 → y <ℤ x → ⊥
+    clash x y z w e h k = omega (arith, ints)
+
+-- how far the way goes
+pub way_square : (c q : Pair) → product (step c q) q -ℤ product (step c q) c
+    ≡ (q.x -ℤ c.x) *ℤ (q.x -ℤ c.x) +ℤ (q.y -ℤ c.y) *ℤ (q.y -ℤ c.y)
+unfolding product
+way_square c q =
+    rw (as_difference c.x, as_difference c.y, as_difference q.x, as_difference q.y)
+    (simp (difference-add, difference-neg, difference-mul) (difference-eq _ _ _ _ (omega arith)))
+
+-- not back
+pub way_forward : (c q : Pair) → pos 0 ≤ℤ (product (step c q) q -ℤ product (step c q) c)
+way_forward c q =
+    rw (way_square c q)
+    (sum _ _ (square_nn (q.x -ℤ c.x)) (square_nn (q.y -ℤ c.y)))
+  where
+    sum : (x y : ℤ) → pos 0 ≤ℤ x → pos 0 ≤ℤ y → pos 0 ≤ℤ (x +ℤ y)
+    sum x y h k = omega (arith, ints)
+
+-- ---- a left turn from p by c to n
+
+-- what lies left of both edges is no farther than c where p and n are not
+pub no_farther_in_cone : (f p c n x : Pair) → pos 0 <ℤ orient p c n → pos 0 ≤ℤ orient p c x → pos 0 ≤ℤ orient c n x
+    → (product f n -ℤ product f c) ≤ℤ pos 0 → (product f p -ℤ product f c) ≤ℤ pos 0
+    → (product f x -ℤ product f c) ≤ℤ pos 0
+no_farther_in_cone f p c n x t hp hn fn fp = within_cone _ _ _ _ _ _ t hp hn fn fp (cone f p c n x)
+
+-- q lies right of the second edge, not of the first, and not onward on the second: not back on the first
+pub turned_to_second : (p c n q : Pair) → pos 0 <ℤ orient p c n → pos 0 ≤ℤ orient p c q → orient c n q <ℤ pos 0
+    → ¬ IsOnward c n q → ¬ IsOnward c p q
+turned_to_second p c n q t hp hn o =
+    onward_not c p q (away _ _ _ _ _ _ t hp hn (not_onward c n q o) (way_forward c q) (cone (step c q) p c n q))
+
+-- q lies right of the first edge, not of the second, and not back on the first: not onward on the second
+pub turned_to_first : (p c n q : Pair) → pos 0 <ℤ orient p c n → orient p c q <ℤ pos 0 → pos 0 ≤ℤ orient c n q
+    → ¬ IsOnward c p q → ¬ IsOnward c n q
+turned_to_first p c n q t hp hn o =
+    onward_not c n q (away _ _ _ _ _ _ t hn hp (not_onward c p q o) (way_forward c q)
+    (swapped _ (orient p c q *ℤ (product (step c q) n -ℤ product (step c q) c))
+    (orient c n q *ℤ (product (step c q) p -ℤ product (step c q) c)) (cone (step c q) p c n q)))
+  where
+    swapped : (x y z : ℤ) → x ≡ y +ℤ z → x ≡ z +ℤ y
+    swapped x y z e = omega (arith, ints)
+
+-- ---- which of two corners is nearer
+
+-- q lies onward from c to n, and not from n to c: it is nearer to n
+square_between : (c n q : Pair)
+    → (product (step c q) q -ℤ product (step c q) c) -ℤ (product (step n q) q -ℤ product (step n q) n)
+    ≡ (product (step c n) q -ℤ product (step c n) c) -ℤ (product (step n c) q -ℤ product (step n c) n)
+unfolding product
+square_between c n q =
+    rw (
+      as_difference c.x,
+      as_difference c.y,
+      as_difference n.x,
+      as_difference n.y,
+      as_difference q.x,
+      as_difference q.y,
+    ) (simp (difference-add, difference-neg, difference-mul) (difference-eq _ _ _ _ (omega arith)))
+
+-- how far q is from c, squared
+abbrev pub far : Pair → Pair → ℤ
+far c q = product (step c q) q -ℤ product (step c q) c
+
+-- q lies onward from c to n, and not back from n to c: it is nearer to n
+pub nearer_to_next : (c n q : Pair) → IsOnward c n q → ¬ IsOnward n c q → far n q <ℤ far c q
+nearer_to_next c n q h k = less _ _ _ _ _ _ (square_between c n q) h (le_of k)
+  where
+    less : (u v w x y z : ℤ) → u -ℤ v ≡ (w -ℤ x) -ℤ (y -ℤ z) → x <ℤ w → y ≤ℤ z → v <ℤ u
+    less u v w x y z e h k = omega (arith, ints)
+
+    le_of : {x y : ℤ} → ¬ (x <ℤ y) → y ≤ℤ x
+    le_of {x} {y} n = elim (le_or_lt y x) [ inl h ↦ h | inr h ↦ absurd (n h) ]

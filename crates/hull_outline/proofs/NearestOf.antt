@@ -1,0 +1,405 @@
+-- Seen from a point outside, some corner or some edge is the nearest.
+use Rattle.std.proofs.Common.{◌≡◌, ℕ, zero, suc, ◌+◌, ◌-◌, ◌≤◌, ◌<◌, ℤ, pos, negsuc, ◌-ℤ◌, ◌≤ℤ◌, ◌<ℤ◌, neg_ℤ, ◌⊎◌, inl}
+use Rattle.std.proofs.Common.{inr}
+use Rattle.std.proofs.Common.{refl, sym, ap, ◌∙◌, subst, List, length, arith}
+use Rattle.std.specs.List.{Contains}
+use Rattle.std.proofs.lemmas.Bool.{cases_lt}
+use Rattle.std.proofs.lemmas.Int.{ints}
+use Rattle.std.proofs.lemmas.List.Elements.{All-contains}
+use Rattle.lattice.specs.Covers.{Covers, OnSegment, IsOnSegment}
+use Rattle.lattice.specs.Places.{IsFarthest}
+use Rattle.lattice.specs.Plane.{Pair, orient, product}
+use Rattle.lattice.specs.Polynomials.{difference-eq, as_difference, difference-add, difference-neg, difference-mul}
+use Rattle.lattice.specs.Signs.{le_or_lt}
+use Rattle.lattice.specs.Vertices.{IsLeftOf, IsVertexList}
+use Rattle.lattice.proofs.Vectors.{opp}
+use Rattle.hull_plain.specs.Positions.{point_at}
+use Rattle.hull_plain.proofs.Decided.{covers_or_separated}
+use Rattle.hull_plain.proofs.NotCovered.{not_covered}
+use Rattle.hull_plain.proofs.Orientation.{orient_other, orient_swap_zero}
+use Rattle.hull_plain.proofs.VertexOrder.{not_in_line}
+use Rattle.hull_outline.specs.Meetings.{segment}
+use Rattle.hull_outline.specs.Nearest.{IsOnward, IsBeside, IsTurnedFrom, previous}
+use Rattle.hull_outline.specs.Outlines.{IsOutlineOf}
+use Rattle.hull_outline.specs.Rounds.{corner, IsParted}
+use Rattle.hull_outline.specs.Steps.{step}
+use Rattle.hull_outline.proofs.Cones.{no_farther_in_cone, turned_to_first, turned_to_second, nearer_to_next, not_onward}
+use Rattle.hull_outline.proofs.Cones.{far, way_forward}
+use Rattle.hull_outline.proofs.Corners.{corner_back, corner_extreme, next_left}
+use Rattle.hull_outline.proofs.EdgesOf.{all_of}
+use Rattle.hull_outline.proofs.Parted.{farther_back}
+use Rattle.hull_outline.proofs.Shields.{among_on_segment, third_among, one_of_two, start_there, end_there}
+use Rattle.hull_outline.proofs.Turns.{farthest_corner, placed, less_told}
+
+-- ---- the corners beside a corner
+
+-- i comes before j round a list of so many corners
+abbrev IsStep : ℕ → ℕ → ℕ → Type 0
+IsStep n i j = (j ≡ i + 1) ⊎ ((j ≡ 0) × (i + 1 ≡ n))
+
+-- the place of the corner before
+pub previous_at : (V : List Pair) (j : ℕ) → j < length V
+    → (i : ℕ) × (i < length V) × IsStep (length V) i j × (previous V j ≡ corner V i) × (corner V (i + 1) ≡ corner V j)
+previous_at V zero l = (
+  length V - 1,
+  omega (arith, l),
+  inr (refl, omega (arith, l)),
+  refl,
+  ap (corner V) (omega (arith, l)) ∙ corner_back V (length V) (omega arith) l,
+)
+previous_at V (suc j) l = (j, omega (arith, l), inl (omega arith), refl, ap (corner V) (omega arith))
+
+-- the place of the one behind
+pub next_at : (V : List Pair) (j : ℕ) → j < length V
+    → (i : ℕ) × (i < length V) × IsStep (length V) j i × (corner V (j + 1) ≡ corner V i) × (previous V i ≡ corner V j)
+next_at V j l = elim (cases_lt (j + 1) (length V)) [
+  | inl k ↦ (j + 1, k, inl refl, refl, let e : j + 1 ≡ suc j = omega arith in ap (previous V) e)
+  | inr k ↦ (
+    0,
+    omega (arith, l),
+    inr (refl, omega (arith, l, k)),
+    corner_back V (j + 1) k (omega (arith, l)),
+    ap (corner V) (omega (arith, l, k)),
+  )
+]
+
+-- corners at two places are apart
+corners_apart : (S V : List Pair) (i j : ℕ) → IsVertexList S V → i < length V → j < length V → ¬ (i ≡ j)
+    → ¬ (corner V i ≡ corner V j)
+corners_apart S V i j h li lj n e = elim (cases_lt i j) [
+  | inl k ↦ h.distinct i j (point_at V 0) k lj e
+  | inr k ↦ h.distinct j i (point_at V 0) (omega (arith, k, n)) li (sym e)
+]
+
+-- no point lies right of the edge to a corner
+pub left_before : (S V : List Pair) (j : ℕ) → IsVertexList S V → j < length V → IsLeftOf S (previous V j) (corner V j)
+left_before S V j h l =
+    let b = previous_at V j l in
+    subst (λ (z : Pair). IsLeftOf S z (corner V j)) (sym b.3)
+    (subst (IsLeftOf S (corner V b.0)) b.4 (next_left S V b.0 (b.0 + 1) h refl b.1))
+
+-- a side that is not right, and is not zero
+positive : (x : ℤ) → pos 0 ≤ℤ x → ¬ (x ≡ pos 0) → pos 0 <ℤ x
+positive x h n = elim (le_or_lt x (pos 0)) [ inl k ↦ absurd (n (omega (arith, ints))) | inr k ↦ k ]
+
+-- three corners or more turn left at each
+pub turn_at : (S V : List Pair) (j : ℕ) → IsVertexList S V → j < length V → 2 < length V
+    → pos 0 <ℤ orient (previous V j) (corner V j) (corner V (j + 1))
+turn_at S V j h l many =
+    let b = previous_at V j l in
+    let a = next_at V j l in
+    let left : pos 0 ≤ℤ orient (previous V j) (corner V j) (corner V (j + 1)) =
+    All-contains (λ t. pos 0 ≤ℤ orient (previous V j) (corner V j) t) S (corner V (j + 1)) (left_before S V j h l)
+    (corner_extreme S V (j + 1) h (omega (arith, l))).0 in
+    positive _ left (rw (b.3, a.3)
+    (not_in_line S (corner V b.0) (corner V j) (corner V a.0) (corner_extreme S V b.0 h (omega (arith, l)))
+    (corner_extreme S V j h (omega (arith, l))) (corner_extreme S V a.0 h (omega (arith, l)))
+    (corners_apart S V b.0 j h b.1 l (omega (arith, b.2, many)))
+    (corners_apart S V b.0 a.0 h b.1 a.1 (omega (arith, b.2, a.2, many)))
+    (corners_apart S V j a.0 h l a.1 (omega (arith, a.2, many)))))
+
+-- of two corners, or of one, the one before is the one behind
+same_beside : (V : List Pair) (j : ℕ) → j < length V → length V ≤ 2 → previous V j ≡ corner V (j + 1)
+same_beside V j l few =
+    let b = previous_at V j l in
+    let a = next_at V j l in
+    b.3 ∙ ap (corner V) (omega (arith, b.1, b.2, a.1, a.2, l, few)) ∙ sym a.3
+
+-- ---- a corner that is turned from is the nearest
+
+-- a difference that is not positive
+no_more : (x y : ℤ) → (x -ℤ y) ≤ℤ pos 0 → x ≤ℤ y
+no_more x y h = omega (arith, ints)
+
+-- no farther than what is no farther
+no_more_than : (x y z : ℤ) → x ≤ℤ y → y ≤ℤ z → x ≤ℤ z
+no_more_than x y z h k = omega (arith, ints)
+
+-- on the way from there to q no point lies farther
+pub farthest_from : (S V : List Pair) (last j : ℕ) (q : Pair) → IsOutlineOf S V → IsParted V last → j < length V
+    → IsTurnedFrom (previous V j) (corner V j) (corner V (j + 1)) q
+    → IsFarthest S (step (corner V j) q) (corner V j)
+farthest_from S V last j q o p l t = elim (cases_lt 2 (length V)) [
+  | inl many ↦ all_of (λ s. product f s ≤ℤ product f c) S (λ s m. no_more _ _
+      (no_farther_in_cone f (previous V j) c (corner V (j + 1)) s (turn_at S V j o.1 l many)
+      (All-contains (λ u. pos 0 ≤ℤ orient (previous V j) c u) S s (left_before S V j o.1 l) m)
+      (All-contains (λ u. pos 0 ≤ℤ orient c (corner V (j + 1)) u) S s (next_left S V j (j + 1) o.1 refl l) m)
+      (not_onward c (corner V (j + 1)) q t.1) (not_onward c (previous V j) q t.0)))
+  | inr few ↦
+      let r = farthest_corner S V last f o p (omega (arith, l)) in
+      all_of (λ s. product f s ≤ℤ product f c) S (λ s m. no_more_than _ _ _
+      (All-contains (λ u. product f u ≤ℤ product f (corner V r.0)) S s r.1.1 m) (one r.0 few))
+]
+  where
+    c : Pair
+    c = corner V j
+
+    f : Pair
+    f = step (corner V j) q
+
+    behind : (i k : ℕ) → corner V i ≡ corner V k → k ≡ (next_at V j l).0 → product f (corner V i) ≤ℤ product f c
+    behind i k e g =
+        subst (λ (z : Pair). product f z ≤ℤ product f c) (sym (e ∙ ap (corner V) g ∙ sym (next_at V j l).3))
+        (no_more _ _ (not_onward c (corner V (j + 1)) q t.1))
+
+    same : (x : ℤ) → x ≤ℤ x
+    same x = omega (arith, ints)
+
+    one : (i : ℕ) → length V ≤ 2 → product f (corner V i) ≤ℤ product f c
+    one i few =
+        let k = placed V i (omega (arith, l)) in
+        let a = next_at V j l in
+        elim (cases_lt k.0 j) [
+          | inl h ↦ behind i k.0 k.2 (omega (arith, h, a.1, a.2, few, l))
+          | inr h ↦ elim (cases_lt j k.0) [
+            | inl g ↦ behind i k.0 k.2 (omega (arith, g, a.1, a.2, few, k.1))
+            | inr g ↦ subst (λ (z : Pair). product f z ≤ℤ product f c) (sym (k.2 ∙ ap (corner V) (omega (arith, g, h))))
+                (same (product f c))
+          ]
+        ]
+
+-- ---- where no edge is seen, q is covered
+
+-- whether one of the first n can be told
+pub search_below : (P : ℕ → Type 0) → ((i : ℕ) → P i ⊎ ¬ P i) → (n : ℕ)
+    → ((k : ℕ) × (k < n) × P k) ⊎ ((k : ℕ) → k < n → ¬ P k)
+search_below P told zero = inr (λ k l. absurd (omega (arith, l)))
+search_below P told (suc n) = elim (search_below P told n) [
+  | inl r ↦ inl (r.0, omega (arith, r.1), r.2)
+  | inr h ↦ elim (told n) [
+    | inl p ↦ inl (n, omega arith, p)
+    | inr f ↦ inr (λ k l. elim (cases_lt k n) [
+      | inl m ↦ h k m
+      | inr m ↦ λ p. f (subst P (omega (arith, l, m)) p)
+    ])
+  ]
+]
+
+-- a number that is not below 0
+not_below : (x : ℤ) → ¬ (x <ℤ pos 0) → pos 0 ≤ℤ x
+not_below x n = elim (le_or_lt (pos 0) x) [ inl h ↦ h | inr h ↦ absurd (n h) ]
+
+-- three corners or more, and q right of none of the edges: it is covered
+unseen_many : (S V : List Pair) (last : ℕ) (q : Pair) → IsOutlineOf S V → IsParted V last → 2 < length V → ¬ Covers S q
+    → ((j : ℕ) → j < length V → ¬ (orient (corner V j) (corner V (j + 1)) q <ℤ pos 0)) → ⊥
+unseen_many S V last q o p many out h = elim (covers_or_separated S q o.0) [
+  | inl c ↦ out c
+  | inr a ↦
+      let d : Pair = a.0 in
+      let r = farthest_corner S V last d o p (omega (arith, many)) in
+      let k = placed V r.0 (omega (arith, many)) in
+      let j : ℕ = k.0 in
+      let top : IsFarthest S d (corner V j) = subst (IsFarthest S d) k.2 r.1.1 in
+      let b = previous_at V j k.1 in
+      clash _ _ (All-contains (λ t. product d t <ℤ product d q) S (corner V j) a.1
+      (corner_extreme S V j o.1 (omega (arith, many))).0)
+      (no_farther_in_cone d (previous V j) (corner V j) (corner V (j + 1)) q (turn_at S V j o.1 k.1 many)
+      (not_below _ (rw (b.3, ← b.4) (h b.0 b.1))) (not_below _ (h j k.1))
+      (less _ _ (All-contains (λ t. product d t ≤ℤ product d (corner V j)) S (corner V (j + 1)) top
+      (corner_extreme S V (j + 1) o.1 (omega (arith, many))).0))
+      (less _ _ (All-contains (λ t. product d t ≤ℤ product d (corner V j)) S (previous V j) top
+      (subst (Contains S) (sym b.3) (corner_extreme S V b.0 o.1 (omega (arith, many))).0))))
+]
+  where
+    clash : (x y : ℤ) → x <ℤ y → (y -ℤ x) ≤ℤ pos 0 → ⊥
+    clash x y h k = omega (arith, ints)
+
+    less : (x y : ℤ) → x ≤ℤ y → (x -ℤ y) ≤ℤ pos 0
+    less x y h = omega (arith, ints)
+
+-- ---- on the line of two corners
+
+-- no point of a segment is farther than both its ends
+not_over : (d u v t : Pair) → product d u <ℤ product d t → product d v <ℤ product d t → IsOnSegment u v t → ⊥
+not_over d u v t h k s =
+    not_covered (segment u v) t (
+      d,
+      all_of (λ z. product d z <ℤ product d t) (segment u v) (λ z m. elim (one_of_two u v z m) [
+        | inl e ↦ subst (λ (y : Pair). product d y <ℤ product d t) (sym e) h
+        | inr e ↦ subst (λ (y : Pair). product d y <ℤ product d t) (sym e) k
+      ]),
+    )
+    (OnSegment u v (start_there u v) (end_there u v) s)
+
+-- the way back
+pub step_back : (a b t : Pair) → product (step b a) t ≡ neg_ℤ (product (step a b) t)
+unfolding product
+step_back a b t =
+    rw (
+      as_difference a.x,
+      as_difference a.y,
+      as_difference b.x,
+      as_difference b.y,
+      as_difference t.x,
+      as_difference t.y,
+    ) (simp (difference-add, difference-neg, difference-mul) (difference-eq _ _ _ _ (omega arith)))
+
+-- a point of the line of a and b that lies onward from both is on their segment
+between_both : (a b q : Pair) → orient a b q ≡ pos 0 → IsOnward a b q → IsOnward b a q → IsOnSegment a b q
+between_both a b q z h k =
+    among_on_segment a q b z (third_among b q a
+    (λ m. not_over (opp f) b q a (farther_back f a b (less_trans _ _ _ h short)) (farther_back f a q h)
+    (among_on_segment b a q (orient_swap_zero b a q (orient_other a b q ∙ ap neg_ℤ z)) m))
+    (λ m. not_over f a q b (less_trans _ _ _ h short) short
+    (among_on_segment a b q (orient_swap_zero a b q z) m)))
+  where
+    f : Pair
+    f = step a b
+
+    short : product f q <ℤ product f b
+    short = turned _ _ _ _ (step_back a b b) (step_back a b q) k
+      where
+        turned : (x y u v : ℤ) → x ≡ neg_ℤ u → y ≡ neg_ℤ v → x <ℤ y → v <ℤ u
+        turned x y u v e g h = omega (arith, ints)
+
+    less_trans : (x y w : ℤ) → x <ℤ y → y <ℤ w → x <ℤ w
+    less_trans x y w h k = omega (arith, ints)
+
+-- ---- where no corner and no edge is the nearest: there is none nearer to go on to
+
+-- none of the corners is the nearest, and none of the edges
+abbrev pub NoneNearest : List Pair → Pair → Type 0
+NoneNearest V q =
+    (k : ℕ) → k < length V
+    → ¬ IsTurnedFrom (previous V k) (corner V k) (corner V (k + 1)) q × ¬ IsBeside (corner V k) (corner V (k + 1)) q
+
+-- q lies right of an edge to the corner at j or from it
+abbrev IsSeenAt : List Pair → Pair → ℕ → Type 0
+IsSeenAt V q j =
+    (orient (previous V j) (corner V j) q <ℤ pos 0) ⊎ (orient (corner V j) (corner V (j + 1)) q <ℤ pos 0)
+
+-- no corner at an edge that is seen is nearer than so much
+abbrev NoneWithin : List Pair → Pair → ℕ → Type 0
+NoneWithin V q m = (j : ℕ) → j < length V → IsSeenAt V q j → far (corner V j) q <ℤ pos m → ⊥
+
+-- whether q lies onward can be told
+onward_told : (a b q : Pair) → IsOnward a b q ⊎ ¬ IsOnward a b q
+onward_told a b q = less_told (product (step a b) a) (product (step a b) q)
+
+-- a number less than one that is at most so much
+one_less : (m : ℕ) (x y : ℤ) → x <ℤ y → y <ℤ pos (suc m) → x <ℤ pos m
+one_less m x y h k = omega (arith, ints)
+
+module _ (S V : List Pair) (q : Pair) (o : IsOutlineOf S V) (none : NoneNearest V q) where
+  -- from an edge that is seen, with q onward on it, one goes on to its end
+  go_on : (m j : ℕ) → NoneWithin V q m → j < length V → orient (corner V j) (corner V (j + 1)) q <ℤ pos 0
+      → IsOnward (corner V j) (corner V (j + 1)) q → far (corner V j) q <ℤ pos (suc m) → ⊥
+  go_on m j ih l s h b = elim (onward_told (corner V (j + 1)) (corner V j) q) [
+    | inl k ↦ (none j l).1 (s, h, k)
+    | inr k ↦
+        let a = next_at V j l in
+        ih a.0 a.1
+        (inl (rw (a.4) (subst (λ (z : Pair). orient (corner V j) z q <ℤ pos 0) a.3 s)))
+        (one_less m _ _ (subst (λ (z : Pair). far z q <ℤ far (corner V j) q) a.3
+        (nearer_to_next (corner V j) (corner V (j + 1)) q h k)) b)
+  ]
+
+  -- from one with q back on it, one goes back to its start
+  go_back : (m j : ℕ) → NoneWithin V q m → j < length V → orient (previous V j) (corner V j) q <ℤ pos 0
+      → IsOnward (corner V j) (previous V j) q → far (corner V j) q <ℤ pos (suc m) → ⊥
+  go_back m j ih l s h b =
+      let p = previous_at V j l in
+      elim (onward_told (previous V j) (corner V j) q) [
+        | inl k ↦ (none p.0 p.1).1 (rw (← p.3, p.4) (s, k, h))
+        | inr k ↦
+            ih p.0 p.1
+            (inr (rw (← p.3, p.4) s))
+            (one_less m _ _ (subst (λ (z : Pair). far z q <ℤ far (corner V j) q) p.3
+            (nearer_to_next (corner V j) (previous V j) q h k)) b)
+      ]
+
+  -- q right of the edge from a corner alone, and not onward on it: not back on the other
+  not_back : (j : ℕ) → j < length V → pos 0 ≤ℤ orient (previous V j) (corner V j) q
+      → orient (corner V j) (corner V (j + 1)) q <ℤ pos 0 → ¬ IsOnward (corner V j) (corner V (j + 1)) q
+      → ¬ IsOnward (corner V j) (previous V j) q
+  not_back j l h k n = elim (cases_lt 2 (length V)) [
+    | inl many ↦ turned_to_second (previous V j) (corner V j) (corner V (j + 1)) q (turn_at S V j o.1 l many) h k n
+    | inr few ↦ subst (λ (z : Pair). ¬ IsOnward (corner V j) z q) (sym (same_beside V j l few)) n
+  ]
+
+  -- right of the edge to it alone, and not back on that: not onward on the other
+  not_on : (j : ℕ) → j < length V → orient (previous V j) (corner V j) q <ℤ pos 0
+      → pos 0 ≤ℤ orient (corner V j) (corner V (j + 1)) q → ¬ IsOnward (corner V j) (previous V j) q
+      → ¬ IsOnward (corner V j) (corner V (j + 1)) q
+  not_on j l h k n = elim (cases_lt 2 (length V)) [
+    | inl many ↦ turned_to_first (previous V j) (corner V j) (corner V (j + 1)) q (turn_at S V j o.1 l many) h k n
+    | inr few ↦ subst (λ (z : Pair). ¬ IsOnward (corner V j) z q) (same_beside V j l few) n
+  ]
+
+  -- from a corner where the edge from it is seen
+  step_out : (m j : ℕ) → NoneWithin V q m → j < length V → orient (corner V j) (corner V (j + 1)) q <ℤ pos 0
+      → far (corner V j) q <ℤ pos (suc m) → ⊥
+  step_out m j ih l s b = elim (onward_told (corner V j) (corner V (j + 1)) q) [
+    | inl on ↦ go_on m j ih l s on b
+    | inr off ↦ elim (le_or_lt (pos 0) (orient (previous V j) (corner V j) q)) [
+      | inl h ↦ (none j l).0 (not_back j l h s off, off)
+      | inr h ↦ elim (onward_told (corner V j) (previous V j) q) [
+        | inl back ↦ go_back m j ih l h back b
+        | inr stay ↦ (none j l).0 (stay, off)
+      ]
+    ]
+  ]
+
+  -- from one where only the edge to it is seen
+  step_in : (m j : ℕ) → NoneWithin V q m → j < length V → orient (previous V j) (corner V j) q <ℤ pos 0
+      → pos 0 ≤ℤ orient (corner V j) (corner V (j + 1)) q → far (corner V j) q <ℤ pos (suc m) → ⊥
+  step_in m j ih l s h b = elim (onward_told (corner V j) (previous V j) q) [
+    | inl back ↦ go_back m j ih l s back b
+    | inr stay ↦ (none j l).0 (stay, not_on j l s h stay)
+  ]
+
+  -- no corner at an edge that is seen is near
+  none_within : (m : ℕ) → NoneWithin V q m
+  none_within zero j l s b = negative _ (way_forward (corner V j) q) b
+    where
+      negative : (x : ℤ) → pos 0 ≤ℤ x → x <ℤ pos 0 → ⊥
+      negative x h k = omega (arith, ints)
+  none_within (suc m) j l s b = elim (le_or_lt (pos 0) (orient (corner V j) (corner V (j + 1)) q)) [
+    | inr out ↦ step_out m j (none_within m) l out b
+    | inl h ↦ elim s [
+      | inl to ↦ step_in m j (none_within m) l to h b
+      | inr out ↦ step_out m j (none_within m) l out b
+    ]
+  ]
+
+  -- a number above a whole number
+  above_it : (z : ℤ) → (m : ℕ) × (z <ℤ pos m)
+  above_it (pos n) = (suc n, omega (arith, ints))
+  above_it (negsuc n) = (0, omega (arith, ints))
+
+  -- one or two corners, and q right of no edge: it is covered
+  none_few : (length V ≤ 2) → 0 < length V → ¬ Covers S q
+      → ((j : ℕ) → j < length V → ¬ (orient (corner V j) (corner V (j + 1)) q <ℤ pos 0)) → ⊥
+  none_few few n out h =
+      let a = next_at V 0 n in
+      let back : corner V (a.0 + 1) ≡ corner V 0 = sym (same_beside V a.0 a.1 few) ∙ a.4 in
+      let there : pos 0 ≤ℤ orient (corner V 0) (corner V 1) q = not_below _ (h 0 n) in
+      let here : pos 0 ≤ℤ orient (corner V 1) (corner V 0) q = not_below _ (rw (a.3, ← back) (h a.0 a.1)) in
+      let line : orient (corner V 0) (corner V 1) q ≡ pos 0 =
+      both _ _ (orient_other (corner V 0) (corner V 1) q) there here in
+      elim (onward_told (corner V 0) (corner V 1) q) [
+        | inr off ↦ (none 0 n).0
+            (subst (λ (z : Pair). ¬ IsOnward (corner V 0) z q) (sym (same_beside V 0 n few)) off, off)
+        | inl on ↦ elim (onward_told (corner V 1) (corner V 0) q) [
+          | inr off ↦ (none a.0 a.1).0 (rw (← a.3, a.4, back) (off, off))
+          | inl back_on ↦ out (OnSegment (corner V 0) (corner V 1) (corner_extreme S V 0 o.1 n).0
+              (corner_extreme S V 1 o.1 n).0 (between_both (corner V 0) (corner V 1) q line on back_on))
+        ]
+      ]
+    where
+      both : (x y : ℤ) → y ≡ neg_ℤ x → pos 0 ≤ℤ x → pos 0 ≤ℤ y → x ≡ pos 0
+      both x y e h k = omega (arith, ints)
+
+  -- some corner or some edge is the nearest to a point that is not covered
+  pub never_none : (last : ℕ) → IsParted V last → 0 < length V → ¬ Covers S q → ⊥
+  never_none last p n out =
+      elim (search_below (λ k. orient (corner V k) (corner V (k + 1)) q <ℤ pos 0)
+      (λ k. less_told (orient (corner V k) (corner V (k + 1)) q) (pos 0)) (length V)) [
+        | inl r ↦
+            let m = above_it (far (corner V r.0) q) in
+            none_within m.0 r.0 r.1 (inr r.2) m.1
+        | inr h ↦ elim (cases_lt 2 (length V)) [
+          | inl many ↦ unseen_many S V last q o p many out h
+          | inr few ↦ none_few few n out h
+        ]
+      ]

@@ -1,0 +1,134 @@
+-- Directions that part a set from another, with a farthest point.
+use Rattle.std.proofs.Common.{◌≡◌, zero, suc, ℤ, pos, ◌+ℤ◌, ◌-ℤ◌, ◌*ℤ◌, ◌≤ℤ◌, ◌<ℤ◌, neg_ℤ, inl, inr, sym, subst}
+use Rattle.std.proofs.Common.{List, [], ◌∷◌, arith}
+use Rattle.std.specs.List.{All, Contains}
+use Rattle.std.proofs.lemmas.Int.{ints}
+use Rattle.std.proofs.lemmas.List.Elements.{All-contains}
+use Rattle.lattice.specs.Covers.{Member}
+use Rattle.lattice.specs.Places.{IsFarthest}
+use Rattle.lattice.specs.Plane.{Pair, orient, product, IsBefore}
+use Rattle.lattice.proofs.Order.{before_total}
+use Rattle.hull_plain.proofs.Orientation.{orient_other}
+use Rattle.hull_outline.specs.Encounters.{IsShielded, IsLeftmost}
+use Rattle.hull_outline.specs.Meetings.{Parts, segment}
+use Rattle.hull_outline.specs.Nearest.{IsNearestCorner, IsNearestEdge}
+use Rattle.hull_outline.specs.Separations.{IsSeparation}
+use Rattle.hull_outline.specs.declared.separations.Separation.{Separation}
+use Rattle.hull_outline.specs.Steps.{step, left_of}
+use Rattle.hull_outline.proofs.Cones.{way_square, square_nn, square_above}
+use Rattle.hull_outline.proofs.EdgesOf.{all_of}
+use Rattle.hull_outline.proofs.Shields.{product_left, parted_right, parts_turned}
+
+-- a direction that parts them, and a farthest point in it
+pub separation_of : (S T : List Pair) (w : Separation) → Contains S w.farthest → IsFarthest S w.direction w.farthest
+    → Parts w.direction S T → IsSeparation S T w
+separation_of S T w m f p = record {
+  there = m;
+  farthest = f;
+  beyond = all_of (λ t. product w.direction w.farthest <ℤ product w.direction t) T (λ t n. p w.farthest t m n);
+}
+
+-- a direction that parts S from a point
+pub separation_parts : (S : List Pair) (q : Pair) (w : Separation) → IsSeparation S (q ∷ []) w
+    → Parts w.direction S (q ∷ [])
+separation_parts S q w h s t ms mt =
+    below _ _ _ (All-contains (λ u. product w.direction u ≤ℤ product w.direction w.farthest) S s h.farthest ms)
+    (All-contains (λ u. product w.direction w.farthest <ℤ product w.direction u) (q ∷ []) t h.beyond mt)
+  where
+    below : (x y z : ℤ) → x ≤ℤ y → y <ℤ z → x <ℤ z
+    below x y z h k = omega (arith, ints)
+
+-- what lies beyond a point lies beyond for all of one
+pub beyond_one : (d p q : Pair) → product d p <ℤ product d q → All (λ t. product d p <ℤ product d t) (q ∷ [])
+beyond_one d p q h = all_of (λ t. product d p <ℤ product d t) (q ∷ []) (λ t m. only t m)
+  where
+    only : (t : Pair) → Contains (q ∷ []) t → product d p <ℤ product d t
+    only t (zero, l, e) = subst (λ (z : Pair). product d p <ℤ product d z) e h
+    only t (suc i, l, e) = absurd (omega (arith, l))
+
+-- the way from one point to another goes on
+pub way_on : (c q : Pair) → ¬ (c ≡ q) → product (step c q) c <ℤ product (step c q) q
+way_on c q n = elim (before_total c q) [
+  | inr (inl e) ↦ absurd (n e)
+  | inl b ↦ forward b
+  | inr (inr b) ↦ backward b
+]
+  where
+    apart_x : (x y u v : ℤ) → x -ℤ y ≡ u +ℤ v → pos 0 <ℤ u → pos 0 ≤ℤ v → y <ℤ x
+    apart_x x y u v e h k = omega (arith, ints)
+
+    apart_y : (x y u v : ℤ) → x -ℤ y ≡ u +ℤ v → pos 0 ≤ℤ u → pos 0 <ℤ v → y <ℤ x
+    apart_y x y u v e h k = omega (arith, ints)
+
+    forward : IsBefore c q → product (step c q) c <ℤ product (step c q) q
+    forward (inl h) = apart_x _ _ ((q.x -ℤ c.x) *ℤ (q.x -ℤ c.x)) ((q.y -ℤ c.y) *ℤ (q.y -ℤ c.y)) (way_square c q)
+        (square_above _ (inl (omega (arith, ints)))) (square_nn _)
+    forward (inr h) = apart_y _ _ ((q.x -ℤ c.x) *ℤ (q.x -ℤ c.x)) ((q.y -ℤ c.y) *ℤ (q.y -ℤ c.y)) (way_square c q)
+        (square_nn _) (square_above _ (inl (omega (arith, ints, h.1))))
+
+    backward : IsBefore q c → product (step c q) c <ℤ product (step c q) q
+    backward (inl h) = apart_x _ _ ((q.x -ℤ c.x) *ℤ (q.x -ℤ c.x)) ((q.y -ℤ c.y) *ℤ (q.y -ℤ c.y)) (way_square c q)
+        (square_above _ (inr (omega (arith, ints)))) (square_nn _)
+    backward (inr h) = apart_y _ _ ((q.x -ℤ c.x) *ℤ (q.x -ℤ c.x)) ((q.y -ℤ c.y) *ℤ (q.y -ℤ c.y)) (way_square c q)
+        (square_nn _) (square_above _ (inr (omega (arith, ints, h.1))))
+
+-- a direction under another name, and a point
+abbrev pub apart_by : Pair → Pair → Separation
+apart_by d p = record { direction = d; farthest = p }
+
+-- the way from the nearest corner parts
+pub from_corner : (S : List Pair) (q c d : Pair) → IsNearestCorner S q c → d ≡ step c q
+    → IsSeparation S (q ∷ []) (apart_by d c)
+from_corner S q c d h e =
+    subst (λ (z : Pair). IsSeparation S (q ∷ []) (apart_by z c)) (sym e)
+    record {
+      there = h.corner.0;
+      farthest = h.nearest;
+      beyond = beyond_one (step c q) c q (way_on c q (λ e. h.outside (Member (subst (Contains S) e h.corner.0))));
+    }
+
+-- so does the normal of the nearest edge
+pub from_edge : (S : List Pair) (q a b d : Pair) → IsNearestEdge S q a b → d ≡ left_of b a
+    → IsSeparation S (q ∷ []) (apart_by d b)
+from_edge S q a b d h e =
+    subst (λ (z : Pair). IsSeparation S (q ∷ []) (apart_by z b)) (sym e)
+    record {
+      there = h.end.0;
+      farthest = all_of (λ t. product (left_of b a) t ≤ℤ product (left_of b a) b) S
+          (λ t m. no_farther _ _ _ _ (product_left b a t) (orient_other a b t)
+          (All-contains (λ u. pos 0 ≤ℤ orient a b u) S t h.left m));
+      beyond = beyond_one (left_of b a) b q (farther _ _ _ _ (product_left b a q) (orient_other a b q) h.beside.0);
+    }
+  where
+    no_farther : (x y u v : ℤ) → x -ℤ y ≡ u → u ≡ neg_ℤ v → pos 0 ≤ℤ v → x ≤ℤ y
+    no_farther x y u v e f h = omega (arith, ints)
+
+    farther : (x y u v : ℤ) → x -ℤ y ≡ u → u ≡ neg_ℤ v → v <ℤ pos 0 → y <ℤ x
+    farther x y u v e f h = omega (arith, ints)
+
+-- what parts S from the nearer end of a segment parts it from the segment
+pub from_start : (S : List Pair) (a b : Pair) (w : Separation) → IsShielded S a b → IsSeparation S (a ∷ []) w
+    → IsSeparation S (segment a b) w
+from_start S a b w h s = separation_of S (segment a b) w s.there s.farthest
+    (h.1 w.direction (separation_parts S a w s))
+
+-- and the same from the other end
+pub from_end : (S : List Pair) (a b : Pair) (w : Separation) → IsShielded S b a → IsSeparation S (b ∷ []) w
+    → IsSeparation S (segment a b) w
+from_end S a b w h s = separation_of S (segment a b) w s.there s.farthest
+    (parts_turned S w.direction a b (h.1 w.direction (separation_parts S b w s)))
+
+-- a set right of the segment's line is parted by its normal
+pub from_right : (S : List Pair) (a b p d : Pair) → IsLeftmost S a b p → orient a b p <ℤ pos 0 → d ≡ left_of a b
+    → IsSeparation S (segment a b) (apart_by d p)
+from_right S a b p d l h e =
+    subst (λ (z : Pair). IsSeparation S (segment a b) (apart_by z p)) (sym e)
+    (separation_of S (segment a b) (apart_by (left_of a b) p) l.0 l.1 (parted_right S a b p l h))
+
+-- so is one left of it
+pub from_left : (S : List Pair) (a b p d : Pair) → IsLeftmost S b a p → orient b a p <ℤ pos 0 → d ≡ left_of b a
+    → IsSeparation S (segment a b) (apart_by d p)
+from_left S a b p d l h e =
+    subst (λ (z : Pair). IsSeparation S (segment a b) (apart_by z p)) (sym e)
+    (separation_of S (segment a b) (apart_by (left_of b a) p) l.0 l.1
+    (parts_turned S (left_of b a) a b (parted_right S b a p l h)))

@@ -1,0 +1,130 @@
+-- A place in a range where a test turns from true to false; and so, in each direction, a corner that is farthest.
+use Rattle.std.proofs.Common.{◌≡◌, ℕ, zero, suc, ◌+◌, ◌-◌, ◌≤◌, ◌<◌, ℤ, pos, ◌≤ℤ◌, ◌<ℤ◌, ◌⊎◌, inl, inr, List, length}
+use Rattle.std.proofs.Common.{refl}
+use Rattle.std.proofs.Common.{sym, subst, arith}
+use Rattle.std.specs.List.{Contains}
+use Rattle.std.proofs.lemmas.Int.{ints}
+use Rattle.std.proofs.lemmas.Bool.{cases_lt}
+use Rattle.std.specs.List.{All}
+use Rattle.std.proofs.lemmas.List.Elements.{All-contains, All-weaker}
+use Rattle.lattice.specs.Covers.{Covers, IsPointSet}
+use Rattle.hull_plain.proofs.Decided.{covers_or_separated}
+use Rattle.hull_plain.proofs.NotCovered.{Separated, not_covered}
+use Rattle.hull_outline.specs.Boxes.{Holds}
+use Rattle.hull_outline.proofs.Corners.{corner_back}
+use Rattle.hull_outline.proofs.EdgesOf.{all_of}
+use Rattle.hull_outline.proofs.Ends.{no_corners}
+use Rattle.lattice.specs.Plane.{Pair, product}
+use Rattle.lattice.specs.Signs.{le_or_lt}
+use Rattle.hull_plain.specs.Tangents.{IsFirstFarthest}
+use Rattle.hull_outline.specs.Outlines.{IsOutlineOf}
+use Rattle.hull_outline.specs.Rounds.{corner, IsParted}
+use Rattle.hull_outline.proofs.FarthestOf.{farthest_below, farthest_above}
+
+-- P is true before the place and false at it; the ends count as such
+pub record IsTurn (P : ℕ → Type 0) (low high at : ℕ) : Type 0 where
+  pub from : low ≤ at
+  pub to : at ≤ high
+  pub held : low < at → P (at - 1)
+  pub fails : at < high → ¬ P at
+
+-- there is such a place
+pub turn_of : (P : ℕ → Type 0) → ((i : ℕ) → P i ⊎ ¬ P i) → (n low high : ℕ) → high ≡ low + n
+    → (at : ℕ) × IsTurn P low high at
+turn_of P told zero low high e = (
+  low,
+  record {
+    from = omega arith;
+    to = omega (arith, e);
+    held = λ h. absurd (omega (arith, h));
+    fails = λ h. absurd (omega (arith, h, e));
+  },
+)
+turn_of P told (suc n) low high e = elim (told low) [
+  | inr f ↦ (
+    low,
+    record
+        { from = omega arith; to = omega (arith, e); held = λ h. absurd (omega (arith, h)); fails = λ h. f },
+  )
+  | inl p ↦ let r = turn_of P told n (low + 1) high (omega (arith, e)) in (
+    r.0,
+    record {
+      from = omega (arith, r.1.from);
+      to = r.1.to;
+      held = λ h. elim (cases_lt (low + 1) r.0) [
+        | inl k ↦ r.1.held k
+        | inr k ↦ subst P (omega (arith, k, r.1.from)) p
+      ];
+      fails = r.1.fails;
+    },
+  )
+]
+
+-- whether one number is less than another can be told
+pub less_told : (a b : ℤ) → (a <ℤ b) ⊎ ¬ (a <ℤ b)
+less_told a b = elim (le_or_lt b a) [ inl h ↦ inr (λ k. omega (arith, ints)) | inr h ↦ inl h ]
+
+-- whether one is not can be told
+not_less_told : (a b : ℤ) → ¬ (a <ℤ b) ⊎ ¬ (¬ (a <ℤ b))
+not_less_told a b = elim (less_told a b) [ inl h ↦ inr (λ n. n h) | inr h ↦ inl h ]
+
+-- in each direction a corner is the first of the farthest
+pub farthest_corner : (S V : List Pair) (last : ℕ) (d : Pair) → IsOutlineOf S V → IsParted V last → 0 < length V
+    → (i : ℕ) × IsFirstFarthest S d (corner V i)
+farthest_corner S V last d o p n = elim (le_or_lt d.y (pos 0)) [
+  | inl down ↦ let r = turn_of (λ i. product d (corner V i) <ℤ product d (corner V (i + 1)))
+      (λ i. less_told (product d (corner V i)) (product d (corner V (i + 1)))) last 0 last (omega arith) in
+      (r.0, farthest_below S V last r.0 d o p n down r.1.to r.1.held r.1.fails)
+  | inr up ↦ let r = turn_of (λ i. ¬ (product d (corner V (i + 1)) <ℤ product d (corner V i)))
+      (λ i. not_less_told (product d (corner V (i + 1))) (product d (corner V i))) (length V - last) last (length V)
+      (omega (arith, p.0 n)) in
+      (r.0, farthest_above S V last r.0 d o p n up r.1.from r.1.to r.1.held (λ h. double _ _ (r.1.fails h)))
+]
+  where
+    double : (a b : ℤ) → ¬ (¬ (a <ℤ b)) → a <ℤ b
+    double a b h = elim (le_or_lt b a) [ inl k ↦ absurd (h (λ l. omega (arith, ints))) | inr k ↦ k ]
+
+-- each corner has a place in the list
+pub placed : (V : List Pair) (i : ℕ) → 0 < length V → (j : ℕ) × (j < length V) × (corner V i ≡ corner V j)
+placed V i n = elim (cases_lt i (length V)) [ inl h ↦ (i, h, refl) | inr h ↦ (0, n, corner_back V i h n) ]
+
+-- a direction in which all corners lie less far than m: so do all points
+pub all_nearer : (S V : List Pair) (last : ℕ) (d : Pair) (m : ℤ) → IsOutlineOf S V → IsParted V last → 0 < length V
+    → ((i : ℕ) → i < length V → product d (corner V i) <ℤ m) → (s : Pair) → Contains S s → product d s <ℤ m
+all_nearer S V last d m o p n h s ms =
+    let r = farthest_corner S V last d o p n in
+    let j = placed V r.0 n in
+    below _ _ _ (All-contains (λ t. product d t ≤ℤ product d (corner V r.0)) S s r.1.1 ms)
+    (subst (λ (z : Pair). product d z <ℤ m) (sym j.2) (h j.0 j.1))
+  where
+    below : (x y z : ℤ) → x ≤ℤ y → y <ℤ z → x <ℤ z
+    below x y z h k = omega (arith, ints)
+
+-- what covers each corner covers whatever the set covers
+pub holds_by_corners : (S T W : List Pair) (last : ℕ) → IsPointSet S → IsOutlineOf T W → IsParted W last
+    → ((i : ℕ) → i < length W → Covers S (corner W i)) → Holds S T
+holds_by_corners S T W last o t p h q c = elim (covers_or_separated S q o) [
+  | inl k ↦ k
+  | inr a ↦ absurd (not_covered T q (
+    a.0,
+    elim (cases_lt 0 (length W)) [
+      | inl n ↦ all_of (λ s. product a.0 s <ℤ product a.0 q) T
+          (all_nearer T W last a.0 (product a.0 q) t p n (λ i l. nearer a i l))
+      | inr n ↦ subst (All (λ s. product a.0 s <ℤ product a.0 q)) (sym (no_corners T W t (omega (arith, n))))
+          (λ i d l. absurd (omega (arith, l)))
+    ],
+  ) c)
+]
+  where
+    nearer : (a : Separated S q) (i : ℕ) → i < length W → product a.0 (corner W i) <ℤ product a.0 q
+    nearer a i l = elim (le_or_lt (product a.0 q) (product a.0 (corner W i))) [
+      | inr k ↦ k
+      | inl k ↦ absurd (not_covered S (corner W i) (
+        a.0,
+        All-weaker (λ s. product a.0 s <ℤ product a.0 q) (λ s. product a.0 s <ℤ product a.0 (corner W i))
+            (λ s b. below _ _ _ b k) S a.1,
+      ) (h i l))
+    ]
+      where
+        below : (x y z : ℤ) → x <ℤ y → y ≤ℤ z → x <ℤ z
+        below x y z h k = omega (arith, ints)

@@ -1,0 +1,68 @@
+-- the sides of the two points tell how the set stands to the segment
+use Rattle.std.proofs.Common.{◌≡◌, ℤ, pos, neg_ℤ, ◌≤ℤ◌, ◌<ℤ◌, inl, inr, arith}
+use Rattle.std.proofs.lemmas.Int.{ints}
+use Rattle.lattice.specs.Plane.{Pair, orient}
+use Rattle.lattice.specs.Signs.{le_or_lt}
+use Rattle.hull_plain.proofs.Orientation.{orient_other}
+use Rattle.hull_outline.proofs.Shields.{side_back, shielded_across, crossed}
+use Rattle.hull_outline.proofs.Tests.{passed, failed}
+use Rattle.hull_outline.proofs.encounters.encounter_between.Goals as goal
+
+-- a point on neither side
+on_line : (a b t : Pair) → ¬ (pos 0 <ℤ orient b a t) → ¬ (pos 0 <ℤ orient a b t) → orient a b t ≡ pos 0
+on_line a b t m n = elim (le_or_lt (orient a b t) (pos 0)) [
+  | inr h ↦ absurd (n h)
+  | inl h ↦ elim (le_or_lt (orient b a t) (pos 0)) [ inr k ↦ absurd (m k) | inl k ↦ both _ _ (orient_other a b t) h k ]
+]
+  where
+    both : (x y : ℤ) → y ≡ neg_ℤ x → x ≤ℤ pos 0 → y ≤ℤ pos 0 → x ≡ pos 0
+    both x y e h k = omega (arith, ints)
+
+-- one that is not above 0
+not_above : (x : ℤ) → ¬ (pos 0 <ℤ x) → x ≤ℤ pos 0
+not_above x n = elim (le_or_lt x (pos 0)) [ inl h ↦ h | inr h ↦ absurd (n h) ]
+
+pub returns-then-is_left : goal.returns-then-is_left
+returns-then-is_left c = λ S f.
+    (f.leftmost, side_back c.args.b c.args.a c.args.left (passed _ _ c.if-is_left.true c.is_left.ensures))
+
+pub returns-then-is_left-2 : goal.returns-then-is_left-2
+returns-then-is_left-2 c = λ S f. (
+  f.rightmost,
+  side_back c.args.a c.args.b c.args.right
+      (passed _ _ c.if-is_left-2.true c.is_left-else-is_left.ensures),
+)
+
+pub returns-then-not-is_left : goal.returns-then-not-is_left
+returns-then-not-is_left c = λ S f.
+    c.encounter_in_line.ensures S f.leftmost.0 f.start f.end
+    (on_line c.args.a c.args.b c.args.left (failed _ _ c.if-is_left.false c.is_left.ensures)
+    (failed _ _ c.if-not-is_left.true c.is_left-else-is_left-2.ensures))
+
+pub returns-then-not-is_left-2 : goal.returns-then-not-is_left-2
+returns-then-not-is_left-2 c = λ S f.
+    c.encounter_in_line-then-not-is_left-2.ensures S f.rightmost.0 f.start f.end
+    (on_line c.args.a c.args.b c.args.right (failed _ _ c.if-not-is_left-2.true c.is_left-else-not-is_left.ensures)
+    (failed _ _ c.if-is_left-2.false c.is_left-else-is_left.ensures))
+
+pub returns-then-is_left-3 : goal.returns-then-is_left-3
+returns-then-is_left-3 c = λ S f.
+    shielded_across S c.args.b c.args.a c.args.right c.args.left f.rightmost.0 f.leftmost.0 f.end
+    (passed _ _ c.if-not-is_left-2.false c.is_left-else-not-is_left.ensures)
+    (passed _ _ c.if-not-is_left.false c.is_left-else-is_left-2.ensures)
+    (passed _ _ c.if-is_left-3.true c.is_left-else-not-is_left-2.ensures)
+
+pub returns-then-is_left-4 : goal.returns-then-is_left-4
+returns-then-is_left-4 c = λ S f.
+    shielded_across S c.args.a c.args.b c.args.left c.args.right f.leftmost.0 f.rightmost.0 f.start
+    (passed _ _ c.if-not-is_left.false c.is_left-else-is_left-2.ensures)
+    (passed _ _ c.if-not-is_left-2.false c.is_left-else-not-is_left.ensures)
+    (passed _ _ c.if-is_left-4.true c.is_left-else-is_left-3.ensures)
+
+pub returns-else-is_left-4 : goal.returns-else-is_left-4
+returns-else-is_left-4 c = λ S f.
+    crossed S c.args.a c.args.b c.args.left c.args.right f.leftmost.0 f.rightmost.0
+    (passed _ _ c.if-not-is_left.false c.is_left-else-is_left-2.ensures)
+    (passed _ _ c.if-not-is_left-2.false c.is_left-else-not-is_left.ensures)
+    (not_above _ (failed _ _ c.if-is_left-3.false c.is_left-else-not-is_left-2.ensures))
+    (not_above _ (failed _ _ c.if-is_left-4.false c.is_left-else-is_left-3.ensures))

@@ -1,0 +1,34 @@
+-- the segment's normal parts a set beside its line, and the way to the nearer end any other
+use Rattle.std.proofs.Common.{arith, inl, inr}
+use Rattle.hull_outline.proofs.Ends.{no_corners}
+use Rattle.hull_outline.proofs.Separated.{from_right, from_left, from_start, from_end}
+use Rattle.hull_outline.proofs.outline.Outline.apart_from_segment.Goals as goal
+
+pub returns-then-is_empty : goal.returns-then-is_empty
+returns-then-is_empty c = λ S o. inl (no_corners S c.args.self.now.corners.now o
+    (grind (arith, c.is_empty.ensures, c.if-is_empty.true)))
+
+pub separation_from-requires-clause-outside : goal.separation_from-requires-clause-outside
+separation_from-requires-clause-outside c = λ S o. (c.in-Behind.ensures S o).0
+
+pub separation_from-requires-in-Beyond-clause-outside : goal.separation_from-requires-in-Beyond-clause-outside
+separation_from-requires-in-Beyond-clause-outside c = λ S o. (c.in-Beyond.ensures S o).0
+
+pub returns-in-Meeting : goal.returns-in-Meeting
+returns-in-Meeting c = λ S o. inr (c.in-Meeting.ensures S o)
+
+pub returns-in-OnRight : goal.returns-in-OnRight
+returns-in-OnRight c = λ S o.
+    let h = c.in-OnRight.ensures S o in from_right S c.args.a c.args.b _ _ h.0 h.1 c.left_of.ensures
+
+pub returns-in-OnLeft : goal.returns-in-OnLeft
+returns-in-OnLeft c = λ S o.
+    let h = c.in-OnLeft.ensures S o in from_left S c.args.a c.args.b _ _ h.0 h.1 c.left_of-in-OnLeft.ensures
+
+pub returns-in-Behind : goal.returns-in-Behind
+returns-in-Behind c = λ S o.
+    from_start S c.args.a c.args.b _ (c.in-Behind.ensures S o) (c.separation_from.ensures S o)
+
+pub returns-in-Beyond : goal.returns-in-Beyond
+returns-in-Beyond c = λ S o.
+    from_end S c.args.a c.args.b _ (c.in-Beyond.ensures S o) (c.separation_from-in-Beyond.ensures S o)

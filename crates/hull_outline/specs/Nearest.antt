@@ -1,0 +1,62 @@
+-- The point of a hull that is nearest to a point outside of it: a corner, or the foot on an edge.
+use Rattle.std.specs.Prelude.{ℕ, zero, suc, ◌-◌, pos, ◌*ℤ◌, ◌≤ℤ◌, ◌<ℤ◌, List, length}
+use Rattle.lattice.specs.Plane.{Pair, orient, product, distance_squared}
+use Rattle.lattice.specs.Covers.{Covers, IsExtreme}
+use Rattle.lattice.specs.Places.{IsFarthest}
+use Rattle.lattice.specs.Vertices.{IsLeftOf}
+use Rattle.hull_outline.specs.Rounds.{corner}
+use Rattle.hull_outline.specs.Steps.{step}
+use Rattle.hull_outline.specs.declared.nearest.Nearest.{Nearest}
+use Rattle.hull_outline.specs.declared.nearest.Nearest.TheVariants.{Covered, Corner, Edge}
+
+-- on the way from a to b, q lies farther than a: its foot on their line is beyond a
+abbrev pub IsOnward : Pair → Pair → Pair → Type 0
+IsOnward a b q = product (step a b) a <ℤ product (step a b) q
+
+-- q lies right of the line from a to b, and its foot lies strictly between them
+abbrev pub IsBeside : Pair → Pair → Pair → Type 0
+IsBeside a b q = (orient a b q <ℤ pos 0) × IsOnward a b q × IsOnward b a q
+
+-- c is a corner, and on the way from there to q, which is not covered, no point of S lies farther
+pub record IsNearestCorner (S : List Pair) (q c : Pair) : Type 0 where
+  pub outside : ¬ Covers S q
+  pub corner : IsExtreme S c
+  pub nearest : IsFarthest S (step c q) c
+
+-- a and b are corners with all of S on the left of the edge from a to b, and q lies beside it on the right
+pub record IsNearestEdge (S : List Pair) (q a b : Pair) : Type 0 where
+  pub start : IsExtreme S a
+  pub end : IsExtreme S b
+  pub left : IsLeftOf S a b
+  pub beside : IsBeside a b q
+
+-- where the nearest point to q is
+abbrev pub IsNearest : List Pair → Pair → Nearest → Type 0
+IsNearest S q Covered = Covers S q
+IsNearest S q (Corner c) = IsNearestCorner S q c
+IsNearest S q (Edge a b) = IsNearestEdge S q a b
+
+-- ---- in one pass over the corners
+
+-- the corner before the one at i, round the list
+abbrev pub previous : List Pair → ℕ → Pair
+previous V zero = corner V (length V - 1)
+previous V (suc i) = corner V i
+
+-- from c, q lies on the way neither to p nor to n
+abbrev pub IsTurnedFrom : Pair → Pair → Pair → Pair → Type 0
+IsTurnedFrom p c n q = ¬ IsOnward c p q × ¬ IsOnward c n q
+
+-- ---- that they are the nearest
+
+-- no point that S covers is nearer to q than its nearest corner
+abbrev pub NoneNearerThanCorner : Type 0
+NoneNearerThanCorner =
+    (S : List Pair) (q c p : Pair) → IsNearestCorner S q c → Covers S p → distance_squared q c ≤ℤ distance_squared q p
+
+-- nor than its nearest edge: the square of the side of q, by the square of the edge's length, is no more than the
+-- square of the distance
+abbrev pub NoneNearerThanEdge : Type 0
+NoneNearerThanEdge =
+    (S : List Pair) (q a b p : Pair) → IsNearestEdge S q a b → Covers S p
+    → (orient a b q *ℤ orient a b q) ≤ℤ (distance_squared a b *ℤ distance_squared q p)

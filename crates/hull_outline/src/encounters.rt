@@ -1,0 +1,108 @@
+//! How a hull stands to a segment: they meet, or the hull lies beside its line, behind its start or beyond its end.
+ghost use Rattle.std.specs.Prelude.{◌≡◌, ◌↔◌, IsTrue, ◌<◌, length, pos, List};
+ghost use Rattle.std.specs.List.{Contains};
+ghost use Rattle.lattice.specs.Plane.{Pair, orient};
+ghost use Rattle.lattice.specs.Covers.{Covers};
+ghost use Rattle.hull_outline.specs.Encounters.{IsAmong, IsEncounter, IsFlanked, IsLeftmost};
+ghost use Rattle.hull_outline.specs.Meetings.{TellsMeeting, segment};
+ghost use Rattle.hull_outline.specs.Outlines.{HoldsOfSetsOf};
+ghost use Rattle.hull_outline.specs.Lent.{corners_of};
+
+use super::extreme::farthest;
+use super::outline::Outline;
+use super::rounds::is_left;
+use super::vector::Vector;
+use lattice::{Point, before};
+
+/// How a hull stands to a segment.
+#[derive(Clone, Copy)]
+pub(crate) enum Encounter {
+    /// They have a point in common.
+    Meeting,
+    /// The hull lies right of the segment's line; this is one of its points nearest to the line.
+    OnRight(Point),
+    /// The hull lies left of the line.
+    OnLeft(Point),
+    /// The hull lies behind the start of the segment.
+    Behind,
+    /// The hull lies beyond its end.
+    Beyond,
+}
+
+/// Whether `q` stands between `p` and `r` in the order of points, or is one of them.
+fn is_among(p: Point, q: Point, r: Point) -> bool
+    ensures { IsTrue result ↔ IsAmong p q r }
+{
+    !before(q, p) && !before(r, q) || !before(q, r) && !before(p, q)
+}
+
+/// How a hull stands to the segment from `a` to `b`, neither of which it covers, by a point of it on their line.
+fn encounter_in_line(a: Point, b: Point, u: Point) -> Encounter
+    ensures { (S : List Pair) → Contains S u → ¬ Covers S a → ¬ Covers S b → orient a b u ≡ pos 0
+        → IsEncounter S a b result }
+{
+    if is_among(a, u, b) {
+        Encounter::Meeting
+    } else if is_among(u, a, b) {
+        Encounter::Behind
+    } else {
+        Encounter::Beyond
+    }
+}
+
+/// How a hull stands to the segment from `a` to `b`, neither of which it covers, by its points farthest to the left and
+/// to the right of their line.
+fn encounter_between(a: Point, b: Point, left: Point, right: Point) -> Encounter
+    ensures { (S : List Pair) → IsFlanked S a b left right → IsEncounter S a b result }
+{
+    if is_left(b, a, left) {
+        Encounter::OnRight(left)
+    } else if is_left(a, b, right) {
+        Encounter::OnLeft(right)
+    } else if !is_left(a, b, left) {
+        encounter_in_line(a, b, left)
+    } else if !is_left(b, a, right) {
+        encounter_in_line(a, b, right)
+    } else if is_left(right, left, b) {
+        Encounter::Beyond
+    } else if is_left(left, right, a) {
+        Encounter::Behind
+    } else {
+        Encounter::Meeting
+    }
+}
+
+impl<'a> Outline<'a> {
+    /// How the hull, of one corner at least, stands to the segment from `a` to `b`.
+    pub(crate) fn encounter(&self, a: Point, b: Point) -> Encounter
+        requires { 0 < length (corners_of self.now) }
+        ensures { HoldsOfSetsOf (corners_of self.now) (λ S. IsEncounter S a b result) }
+    {
+        if self.covers(a) {
+            return Encounter::Meeting;
+        }
+        if self.covers(b) {
+            return Encounter::Meeting;
+        }
+        let left = farthest(self.corners, self.last, Vector::left_of(a, b));
+        let right = farthest(self.corners, self.last, Vector::left_of(b, a));
+        encounter_between(a, b, left, right)
+    }
+
+    /// Whether the hull and the segment from `a` to `b` have a point in common, ends and boundary included; `a` and `b`
+    /// may be one point. A bisection for the place of each end, and one for each side of the segment.
+    pub fn meets_segment(&self, a: Point, b: Point) -> bool
+        ensures { HoldsOfSetsOf (corners_of self.now) (λ S. TellsMeeting result S (segment a b)) }
+    {
+        if self.corners.is_empty() {
+            return false;
+        }
+        match self.encounter(a, b) {
+            Encounter::Meeting => true,
+            Encounter::OnRight(_) => false,
+            Encounter::OnLeft(_) => false,
+            Encounter::Behind => false,
+            Encounter::Beyond => false,
+        }
+    }
+}

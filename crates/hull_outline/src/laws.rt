@@ -1,0 +1,19 @@
+//! Laws of the definitions: each function has an empty body, and its contract is the law.
+ghost use Rattle.hull_outline.specs.Meetings.{NeverBoth};
+ghost use Rattle.hull_outline.specs.Nearest.{NoneNearerThanCorner, NoneNearerThanEdge};
+
+/// No two sets of points both meet and are apart.
+pub fn never_both()
+    ensures { NeverBoth }
+{}
+
+/// No point that is covered is nearer than the nearest corner, where a corner is the nearest.
+pub fn none_nearer_than_corner()
+    ensures { NoneNearerThanCorner }
+{}
+
+/// Nor than the nearest edge, where an edge is: the quotient that [`Outline::nearest`](crate::Outline::nearest) names
+/// is at most the squared distance.
+pub fn none_nearer_than_edge()
+    ensures { NoneNearerThanEdge }
+{}

@@ -1,0 +1,125 @@
+//! The nearest point of a hull: one of its corners, or a point of one of its edges.
+ghost use Rattle.std.specs.Prelude.{◌≡◌, ◌↔◌, IsTrue, ◌<◌, ◌+◌, length, pos, ◌<ℤ◌, MatchOption, []};
+ghost use Rattle.lattice.specs.Plane as plane;
+ghost use Rattle.lattice.specs.Covers.{Covers};
+ghost use Rattle.hull_outline.specs.Nearest.{IsOnward, IsBeside, IsTurnedFrom, IsNearest, previous};
+ghost use Rattle.hull_outline.specs.Outlines.{HoldsOfSetsOf};
+ghost use Rattle.hull_outline.specs.Rounds.{corner, IsParted};
+ghost use Rattle.hull_outline.specs.Lent.{corners_of};
+
+use super::outline::Outline;
+use super::rounds::corner_at;
+use super::vector::Vector;
+use lattice::{Point, orient};
+
+/// Where the point of a hull is that is nearest to a point `q`.
+#[derive(Clone, Copy, PartialEq, Eq, Debug)]
+pub enum Nearest {
+    /// The hull covers `q`: it is its own nearest point.
+    Covered,
+    /// At a corner.
+    Corner(Point),
+    /// On the edge from one corner to the next, counterclockwise, strictly between them: the foot of `q` on their line.
+    Edge(Point, Point),
+}
+
+/// Whether `t` lies right of the line from `a` to `b`.
+fn is_right(a: Point, b: Point, t: Point) -> bool
+    ensures { IsTrue result ↔ (plane.orient a b t <ℤ pos 0) }
+{
+    orient(a, b, t) < 0
+}
+
+/// Whether `q` lies farther than `a` on the way from there to `b`.
+fn is_onward(a: Point, b: Point, q: Point) -> bool
+    ensures { IsTrue result ↔ IsOnward a b q }
+{
+    let way = Vector::step(a, b);
+    way.product(a) < way.product(q)
+}
+
+/// Whether `q` lies right of the edge from `a` to `b`, with its foot strictly between them.
+fn is_beside(a: Point, b: Point, q: Point) -> bool
+    ensures { IsTrue result ↔ IsBeside a b q }
+{
+    is_right(a, b, q) && is_onward(a, b, q) && is_onward(b, a, q)
+}
+
+/// Whether `q`, seen from `c`, lies on the way neither to `p` nor to `n`.
+fn is_turned_from(p: Point, c: Point, n: Point, q: Point) -> bool
+    ensures { IsTrue result ↔ IsTurnedFrom p c n q }
+{
+    !is_onward(c, p, q) && !is_onward(c, n, q)
+}
+
+/// The corner before the one at `i`, round the list.
+fn corner_before(corners: &[Point], i: usize) -> Point
+    requires { i < length corners.now }
+    ensures { result ≡ previous corners.now i }
+{
+    if i == 0 {
+        corners[corners.len() - 1]
+    } else {
+        corners[i - 1]
+    }
+}
+
+/// Whether the corner at `i` is the nearest to `q`, which the hull does not cover.
+fn is_nearest_at(corners: &[Point], i: usize, q: Point) -> bool
+    requires { i < length corners.now }
+    ensures { IsTrue result
+        ↔ IsTurnedFrom (previous corners.now i) (corner corners.now i) (corner corners.now (i + 1)) q }
+{
+    is_turned_from(
+        corner_before(corners, i),
+        corner_at(corners, i),
+        corner_at(corners, i + 1),
+        q,
+    )
+}
+
+/// Whether `q` lies beside the edge from the corner at `i`.
+fn is_beside_at(corners: &[Point], i: usize, q: Point) -> bool
+    requires { i < length corners.now }
+    ensures { IsTrue result ↔ IsBeside (corner corners.now i) (corner corners.now (i + 1)) q }
+{
+    is_beside(corner_at(corners, i), corner_at(corners, i + 1), q)
+}
+
+/// The corner or the edge nearest to `q`, which the hull does not cover.
+pub(crate) fn nearest_outside(corners: &[Point], last: usize, q: Point) -> Nearest
+    requires some { 0 < length corners.now }
+    requires parted { IsParted corners.now last }
+    requires outside { HoldsOfSetsOf corners.now (λ S. ¬ Covers S q) }
+    ensures { HoldsOfSetsOf corners.now (λ S. IsNearest S q result) }
+{
+    for i in 0..corners.len() {
+        if is_nearest_at(corners, i, q) {
+            return Nearest::Corner(corner_at(corners, i));
+        }
+        if is_beside_at(corners, i, q) {
+            return Nearest::Edge(corner_at(corners, i), corner_at(corners, i + 1));
+        }
+    }
+    unreachable!()
+}
+
+impl<'a> Outline<'a> {
+    /// Where the point of the hull is that is nearest to `q`; `None` for the empty set. One pass over the corners.
+    ///
+    /// Of `Corner(c)` the squared distance is [`distance_squared`](lattice::distance_squared) of `q` and `c`; of
+    /// `Edge(a, b)` it is the square of [`orient`](lattice::orient) of `a`, `b` and `q`, divided by the squared
+    /// distance of `a` and `b`.
+    pub fn nearest(&self, q: Point) -> Option<Nearest>
+        ensures { HoldsOfSetsOf (corners_of self.now)
+            (λ S. MatchOption result (S ≡ []) (λ place. IsNearest S q place)) }
+    {
+        if self.corners.is_empty() {
+            return None;
+        }
+        if self.covers(q) {
+            return Some(Nearest::Covered);
+        }
+        Some(nearest_outside(self.corners, self.last, q))
+    }
+}

@@ -1,0 +1,72 @@
+//! What parts a hull from a point or a segment, as a caller can test it.
+ghost use Rattle.std.specs.Prelude.{◌≡◌, ◌⊎◌, ◌<◌, length, [], ◌∷◌, MatchOption};
+ghost use Rattle.lattice.specs.Covers.{Covers};
+ghost use Rattle.hull_outline.specs.Meetings.{Meets, segment};
+ghost use Rattle.hull_outline.specs.Outlines.{HoldsOfSetsOf};
+ghost use Rattle.hull_outline.specs.Rounds.{IsParted};
+ghost use Rattle.hull_outline.specs.Separations.{IsSeparation};
+ghost use Rattle.hull_outline.specs.Lent.{corners_of};
+
+use super::encounters::Encounter;
+use super::nearest::{Nearest, nearest_outside};
+use super::outline::Outline;
+use super::vector::Vector;
+use lattice::Point;
+
+/// A direction that parts a set from another: no point of the set has a greater [`Vector::product`] with it than
+/// `farthest`, and each point of the other set has.
+#[derive(Clone, Copy, PartialEq, Eq, Debug)]
+pub struct Separation {
+    /// The direction from the set to the other.
+    pub direction: Vector,
+    /// A point of the set, none of which lies farther in that direction.
+    pub farthest: Point,
+}
+
+/// What parts the hull of these corners from `q`, which it does not cover: the way from its nearest point.
+fn separation_from(corners: &[Point], last: usize, q: Point) -> Separation
+    requires some { 0 < length corners.now }
+    requires parted { IsParted corners.now last }
+    requires outside { HoldsOfSetsOf corners.now (λ S. ¬ Covers S q) }
+    ensures { HoldsOfSetsOf corners.now (λ S. IsSeparation S (q ∷ []) result) }
+{
+    match nearest_outside(corners, last, q) {
+        Nearest::Covered => unreachable!(),
+        Nearest::Corner(c) => Separation {
+            direction: Vector::step(c, q),
+            farthest: c,
+        },
+        Nearest::Edge(a, b) => Separation {
+            direction: Vector::left_of(b, a),
+            farthest: b,
+        },
+    }
+}
+
+impl<'a> Outline<'a> {
+    /// A direction that parts the hull from the segment from `a` to `b`, which may be one point; `None` where they have
+    /// a point in common, and for the empty set. One pass over the corners at most.
+    ///
+    /// It is a normal of the segment or of an edge, or the way from a corner to an end of the segment.
+    pub fn apart_from_segment(&self, a: Point, b: Point) -> Option<Separation>
+        ensures { HoldsOfSetsOf (corners_of self.now)
+            (λ S. MatchOption result ((S ≡ []) ⊎ Meets S (segment a b)) (λ found. IsSeparation S (segment a b) found)) }
+    {
+        if self.corners.is_empty() {
+            return None;
+        }
+        match self.encounter(a, b) {
+            Encounter::Meeting => None,
+            Encounter::OnRight(farthest) => Some(Separation {
+                direction: Vector::left_of(a, b),
+                farthest,
+            }),
+            Encounter::OnLeft(farthest) => Some(Separation {
+                direction: Vector::left_of(b, a),
+                farthest,
+            }),
+            Encounter::Behind => Some(separation_from(self.corners, self.last, a)),
+            Encounter::Beyond => Some(separation_from(self.corners, self.last, b)),
+        }
+    }
+}

@@ -1,0 +1,130 @@
+//! Steps from one point to another, as directions with components up to 2^41.
+ghost use Rattle.std.specs.Prelude.{◌≡◌, ◌*◌, ◌^◌, ◌*ℤ◌, ◌+ℤ◌, ◌-ℤ◌, pos, neg_ℤ};
+ghost use Rattle.lattice.specs.Plane as plane;
+ghost use Rattle.lattice.specs.Plane.{IsWithin, widest, widest_side};
+ghost use Rattle.hull_outline.specs.Steps.{step, left_of};
+
+use lattice::{Direction, Point};
+use std::marker::Model;
+
+/// A direction: two components, each at most 2^41 in size, as the differences of coordinates are.
+#[derive(Clone, Copy, PartialEq, Eq, Debug)]
+pub struct Vector {
+    dx: i64,
+    dy: i64,
+}
+
+impl Model for Vector {
+    ghost use Rattle.std.specs.Prelude.{◌*◌};
+    ghost use Rattle.lattice.specs.Plane.{Pair, IsWithin, widest};
+
+    ghost Value = { Pair };
+
+    ghost view = { λ v. record { x = v.dx; y = v.dy } };
+
+    ghost inverse = { λ v. record { dx = v.x; dy = v.y } };
+
+    ghost invariant = { λ v. IsWithin (2 * widest) v.dx × IsWithin (2 * widest) v.dy };
+}
+
+/// The difference of two coordinates.
+fn difference(a: i64, b: i64) -> i64
+    requires first { IsWithin widest a }
+    requires second { IsWithin widest b }
+    ensures value { result ≡ a -ℤ b }
+    ensures size { IsWithin (2 * widest) result }
+{
+    a - b
+}
+
+/// The product of two numbers, which fits.
+fn multiplied(a: i128, b: i128) -> i128
+    requires { IsWithin (2 ^ 125) (a *ℤ b) }
+    ensures value { result ≡ a *ℤ b }
+    ensures size { IsWithin (2 ^ 125) result }
+{
+    a * b
+}
+
+/// u * p + v * q, of two components and two coordinates.
+fn sum_of_products(u: i64, p: i64, v: i64, q: i64) -> i128
+    requires first { IsWithin (2 * widest) u }
+    requires second { IsWithin widest p }
+    requires third { IsWithin (2 * widest) v }
+    requires fourth { IsWithin widest q }
+    ensures value { result ≡ u *ℤ p +ℤ v *ℤ q }
+    ensures size { IsWithin widest_side result }
+{
+    multiplied(u as i128, p as i128) + multiplied(v as i128, q as i128)
+}
+
+impl Vector {
+    /// The same direction.
+    pub(crate) fn along(d: Direction) -> Vector
+        ensures { result ≡ d }
+    {
+        Vector {
+            dx: d.x(),
+            dy: d.y(),
+        }
+    }
+
+    /// The direction down.
+    pub(crate) fn down() -> Vector
+        ensures { result ≡ record { x = pos 0; y = neg_ℤ (pos 1) } }
+    {
+        Vector { dx: 0, dy: -1 }
+    }
+
+    /// The direction up.
+    pub(crate) fn up() -> Vector
+        ensures { result ≡ record { x = pos 0; y = pos 1 } }
+    {
+        Vector { dx: 0, dy: 1 }
+    }
+
+    /// The step from `a` to `b`.
+    pub(crate) fn step(a: Point, b: Point) -> Vector
+        ensures { result ≡ step a b }
+    {
+        Vector {
+            dx: difference(b.x(), a.x()),
+            dy: difference(b.y(), a.y()),
+        }
+    }
+
+    /// The same, turned to the left by 90 degrees.
+    pub(crate) fn left_of(a: Point, b: Point) -> Vector
+        ensures { result ≡ left_of a b }
+    {
+        Vector {
+            dx: difference(a.y(), b.y()),
+            dy: difference(b.x(), a.x()),
+        }
+    }
+
+    /// The first component.
+    pub fn x(self) -> i64
+        ensures value { result ≡ self.x }
+        ensures size { IsWithin (2 * widest) result }
+    {
+        self.dx
+    }
+
+    /// The second component.
+    pub fn y(self) -> i64
+        ensures value { result ≡ self.y }
+        ensures size { IsWithin (2 * widest) result }
+    {
+        self.dy
+    }
+
+    /// How far `p` lies in this direction: the sum of the products of their components.
+    #[tactic(auto, unfolding(lattice::specs::Plane::product))]
+    pub fn product(self, p: Point) -> i128
+        ensures value { result ≡ plane.product self p }
+        ensures size { IsWithin widest_side result }
+    {
+        sum_of_products(self.x(), p.x(), self.y(), p.y())
+    }
+}

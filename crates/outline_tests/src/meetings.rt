@@ -1,0 +1,407 @@
+//! Segments, boxes and nearest points beside slow answers by their definitions.
+use hull_outline::{Nearest, Outline, Separation};
+use hull_plain::{AddReply, HullSet, PlainSet};
+use lattice::{Point, distance_squared, orient};
+use std::alloc::Global;
+use std::process::Abort;
+use std::test::Fail;
+
+/// The greatest limit of a set, by its number.
+const LIMIT: u32 = 1048576;
+
+/// The points of a grid of 3 by 3 whose bits are set, a mesh apart and round the origin.
+fn grid_points(alloc: Global, bits: u32, mesh: i64) -> Result<Vec<Point>, Fail> {
+    let mut points = Vec::new(alloc);
+    for place in 0u32..9 {
+        if bits >> place & 1 == 1 {
+            let right = (place % 3) as i64 - 1;
+            let up = (place / 3) as i64 - 1;
+            points.push(Point::new(right.wrapping_mul(mesh), up.wrapping_mul(mesh))?)?;
+        }
+    }
+    Ok(points)
+}
+
+/// The corners of the set of these points.
+fn corners_of(rt: &impl Abort, alloc: Global, points: &[Point]) -> Result<Vec<Point>, Fail> {
+    let mut set = PlainSet::new(alloc, LIMIT);
+    for p in points {
+        assert_eq!(rt; set.add(*p), AddReply::Added);
+    }
+    Ok(set.vertices()?)
+}
+
+/// Whether `v` lies between `a` and `b`.
+fn is_between(a: i64, b: i64, v: i64) -> bool {
+    a <= v && v <= b || b <= v && v <= a
+}
+
+/// Whether `q` lies on the segment from `a` to `b`.
+fn is_on_segment(a: Point, b: Point, q: Point) -> bool {
+    orient(a, b, q) == 0 && is_between(a.x(), b.x(), q.x()) && is_between(a.y(), b.y(), q.y())
+}
+
+/// Whether `q` lies in the triangle, which turns left.
+fn is_in_triangle(a: Point, b: Point, c: Point, q: Point) -> bool {
+    orient(a, b, c) > 0 && orient(a, b, q) >= 0 && orient(b, c, q) >= 0 && orient(c, a, q) >= 0
+}
+
+/// Whether the points cover `q`, by the definition.
+fn slow_covers(points: &[Point], q: Point) -> bool {
+    for a in points {
+        for b in points {
+            if is_on_segment(*a, *b, q) {
+                return true;
+            }
+            for c in points {
+                if is_in_triangle(*a, *b, *c, q) {
+                    return true;
+                }
+            }
+        }
+    }
+    false
+}
+
+/// Whether the segments cross between their ends, either way.
+fn is_crossing(a: Point, b: Point, c: Point, d: Point) -> bool {
+    orient(a, b, c) < 0 && orient(a, b, d) > 0 && orient(c, d, a) > 0 && orient(c, d, b) < 0
+}
+
+/// Whether the points and the segment meet, neither end being covered, by the definition.
+fn slow_crosses(points: &[Point], a: Point, b: Point) -> bool {
+    for s in points {
+        if is_on_segment(a, b, *s) {
+            return true;
+        }
+        for t in points {
+            if is_crossing(*s, *t, a, b) || is_crossing(*s, *t, b, a) {
+                return true;
+            }
+        }
+    }
+    false
+}
+
+/// The separation parts the points from both ends, and one of them is its farthest.
+fn assert_parts(rt: &impl Abort, points: &[Point], a: Point, b: Point, found: Separation) {
+    let reach = found.direction.product(found.farthest);
+    let mut there = false;
+    for p in points {
+        assert!(rt; found.direction.product(*p) <= reach, "{found:?} of {p:?}");
+        there = there || *p == found.farthest;
+    }
+    assert!(rt; there, "{found:?} of {points:?}");
+    assert!(rt; found.direction.product(a) > reach, "{found:?} of {a:?}");
+    assert!(rt; found.direction.product(b) > reach, "{found:?} of {b:?}");
+}
+
+/// The outline of corners that are one.
+fn outline_of<'a>(rt: &impl Abort, corners: &'a [Point]) -> Outline<'a> {
+    match Outline::new(corners) {
+        Some(outline) => outline,
+        None => panic!(rt; "the corners of a set are an outline"),
+    }
+}
+
+/// A point, and whether the points cover it, by the definition.
+#[derive(Clone, Copy)]
+struct Seen {
+    point: Point,
+    covered: bool,
+}
+
+/// The points of a grid so far round the origin, and whether the points cover them.
+fn seen_grid(alloc: Global, points: &[Point], reach: i64, mesh: i64) -> Result<Vec<Seen>, Fail> {
+    let mut seen = Vec::new(alloc);
+    for x in reach.wrapping_neg()..reach.wrapping_add(1) {
+        for y in reach.wrapping_neg()..reach.wrapping_add(1) {
+            let point = Point::new(x.wrapping_mul(mesh), y.wrapping_mul(mesh))?;
+            let covered = slow_covers(points, point);
+            seen.push(Seen { point, covered })?;
+        }
+    }
+    Ok(seen)
+}
+
+/// The answer of a segment is that of the definition, and a separation is one.
+fn assert_segment(rt: &impl Abort, points: &[Point], outline: Outline<'_>, a: &Seen, b: &Seen) {
+    let meets = a.covered || b.covered || slow_crosses(points, a.point, b.point);
+    assert_eq!(rt;
+        outline.meets_segment(a.point, b.point),
+        meets,
+        "{points:?}"
+    );
+    match outline.apart_from_segment(a.point, b.point) {
+        Some(found) => {
+            assert!(rt; !meets, "{points:?} and {found:?}");
+            assert_parts(rt, points, a.point, b.point, found);
+        }
+        None => assert!(rt; meets || points.is_empty(), "{points:?}"),
+    }
+}
+
+/// All segments of a grid so far round the origin are answered as by the definition.
+fn assert_segments(
+    rt: &impl Abort,
+    alloc: Global,
+    points: &[Point],
+    reach: i64,
+    mesh: i64,
+) -> Result<(), Fail> {
+    let corners = corners_of(rt, alloc, points)?;
+    let outline = outline_of(rt, &corners);
+    let seen = seen_grid(alloc, points, reach, mesh)?;
+    for a in &seen {
+        for b in &seen {
+            assert_segment(rt, points, outline, a, b);
+        }
+    }
+    Ok(())
+}
+
+#[test]
+fn all_segments_of_a_small_grid(rt: HostRuntime) -> Result<(), Fail> {
+    for bits in 0u32..512 {
+        let points = grid_points(rt.alloc(), bits, 1)?;
+        assert_segments(&rt, rt.alloc(), &points, 2, 1)?;
+    }
+    Ok(())
+}
+
+// The outermost points of the sets and of the segments are at the limit of coordinates.
+#[test]
+fn segments_at_the_limit(rt: HostRuntime) -> Result<(), Fail> {
+    for bits in 0u32..512 {
+        let points = grid_points(rt.alloc(), bits, 1099511627776)?;
+        assert_segments(&rt, rt.alloc(), &points, 1, 1099511627776)?;
+    }
+    Ok(())
+}
+
+/// A number of whole units over another, at least 1.
+#[derive(Clone, Copy, Debug)]
+struct Fraction {
+    above: i128,
+    below: i128,
+}
+
+/// Whether one is less than the other.
+fn is_less(u: Fraction, v: Fraction) -> bool {
+    u.above.wrapping_mul(v.below) < v.above.wrapping_mul(u.below)
+}
+
+/// The squared distance of two points.
+fn to_point(a: Point, q: Point) -> Fraction {
+    Fraction {
+        above: distance_squared(a, q),
+        below: 1,
+    }
+}
+
+/// The squared distance of `q` from the line from `a` to `b`.
+fn to_line(a: Point, b: Point, q: Point) -> Fraction {
+    let side = orient(a, b, q);
+    Fraction {
+        above: side.wrapping_mul(side),
+        below: distance_squared(a, b),
+    }
+}
+
+/// Whether the angle at `a` between `b` and `q` is acute, by the law of cosines.
+fn is_acute(a: Point, b: Point, q: Point) -> bool {
+    distance_squared(a, b).wrapping_add(distance_squared(a, q)) > distance_squared(b, q)
+}
+
+/// The squared distance of `q` from points that do not cover it, from each of them and each segment between two.
+fn slow_distance(points: &[Point], first: Point, q: Point) -> Fraction {
+    let mut least = to_point(first, q);
+    for a in points {
+        if is_less(to_point(*a, q), least) {
+            least = to_point(*a, q);
+        }
+        for b in points {
+            if is_acute(*a, *b, q) && is_acute(*b, *a, q) && is_less(to_line(*a, *b, q), least) {
+                least = to_line(*a, *b, q);
+            }
+        }
+    }
+    least
+}
+
+/// The squared distance that an answer tells.
+fn told_distance(place: Nearest, q: Point) -> Fraction {
+    match place {
+        Nearest::Covered => to_point(q, q),
+        Nearest::Corner(c) => to_point(c, q),
+        Nearest::Edge(a, b) => to_line(a, b, q),
+    }
+}
+
+/// The nearest place is as near as the nearest of all.
+fn assert_nearest(rt: &impl Abort, points: &[Point], outline: Outline<'_>, seen: &Seen) {
+    match (outline.nearest(seen.point), points.first()) {
+        (Some(Nearest::Covered), Some(_)) => assert!(rt; seen.covered, "{points:?}"),
+        (Some(place), Some(first)) => {
+            assert!(rt; !seen.covered, "{points:?} and {place:?}");
+            let told = told_distance(place, seen.point);
+            let least = slow_distance(points, *first, seen.point);
+            assert!(rt;
+                !is_less(least, told) && !is_less(told, least),
+                "{points:?} and {place:?}"
+            );
+        }
+        (place, first) => assert!(rt; place.is_none() && first.is_none(), "{points:?}"),
+    }
+}
+
+#[test]
+fn nearest_of_all_sets_of_a_small_grid(rt: HostRuntime) -> Result<(), Fail> {
+    for bits in 0u32..512 {
+        let points = grid_points(rt.alloc(), bits, 2)?;
+        let corners = corners_of(&rt, rt.alloc(), &points)?;
+        let outline = outline_of(&rt, &corners);
+        for seen in &seen_grid(rt.alloc(), &points, 3, 1)? {
+            assert_nearest(&rt, &points, outline, seen);
+        }
+    }
+    Ok(())
+}
+
+/// The box is that of the least and the greatest coordinates.
+fn assert_box(rt: &impl Abort, points: &[Point], outline: Outline<'_>) {
+    match (outline.bounding_box(), points.first()) {
+        (Some((least, greatest)), Some(first)) => {
+            let mut left = first.x();
+            let mut right = first.x();
+            let mut bottom = first.y();
+            let mut top = first.y();
+            for p in points {
+                left = left.min(p.x());
+                right = right.max(p.x());
+                bottom = bottom.min(p.y());
+                top = top.max(p.y());
+            }
+            assert_eq!(rt; (least.x(), least.y()), (left, bottom), "{points:?}");
+            assert_eq!(rt; (greatest.x(), greatest.y()), (right, top), "{points:?}");
+        }
+        (found, first) => assert!(rt; found.is_none() && first.is_none(), "{points:?}"),
+    }
+}
+
+#[test]
+fn boxes_of_all_sets_of_a_small_grid(rt: HostRuntime) -> Result<(), Fail> {
+    for bits in 0u32..512 {
+        let points = grid_points(rt.alloc(), bits, 1099511627776)?;
+        let corners = corners_of(&rt, rt.alloc(), &points)?;
+        assert_box(&rt, &points, outline_of(&rt, &corners));
+    }
+    Ok(())
+}
+
+/// One of all sets of the small grid: its corners, and which points of the grid it covers, by their bits.
+#[derive(Drop)]
+struct Known {
+    corners: Vec<Point>,
+    covered: u32,
+}
+
+/// The bits of the points of the small grid that the points cover, by the definition.
+fn covered_bits(points: &[Point], grid: &[Point]) -> u32 {
+    let mut bits = 0u32;
+    for q in grid {
+        bits = bits << 1;
+        if slow_covers(points, *q) {
+            bits |= 1;
+        }
+    }
+    bits
+}
+
+#[test]
+fn all_sets_of_a_small_grid_within_each_other(rt: HostRuntime) -> Result<(), Fail> {
+    let grid = grid_points(rt.alloc(), 511, 1)?;
+    let mut all = Vec::new(rt.alloc());
+    for bits in 0u32..512 {
+        let points = grid_points(rt.alloc(), bits, 1)?;
+        let covered = covered_bits(&points, &grid);
+        let corners = corners_of(&rt, rt.alloc(), &points)?;
+        all.push(Known { corners, covered })?;
+    }
+    for one in &all {
+        let outline = outline_of(&rt, &one.corners);
+        for other in &all {
+            let within = one.covered & other.covered == other.covered;
+            assert_eq!(rt;
+                outline.contains(&outline_of(&rt, &other.corners)),
+                within
+            );
+        }
+    }
+    Ok(())
+}
+
+/// Whether two sets meet, by the definition: the points that each covers of a grid, and crossings of their segments.
+fn slow_meet(one: &[Point], other: &[Point]) -> bool {
+    for p in other {
+        if slow_covers(one, *p) {
+            return true;
+        }
+    }
+    for p in one {
+        if slow_covers(other, *p) {
+            return true;
+        }
+    }
+    for a in other {
+        for b in other {
+            if slow_crosses(one, *a, *b) {
+                return true;
+            }
+        }
+    }
+    false
+}
+
+/// The sets of so many points at most of the small grid, each with so much added to its coordinates.
+fn small_sets(alloc: Global, most: u32, right: i64, up: i64) -> Result<Vec<Vec<Point>>, Fail> {
+    let mut sets = Vec::new(alloc);
+    for bits in 0u32..512 {
+        if bits.count_ones() <= most {
+            let mut set = Vec::new(alloc);
+            for p in &grid_points(alloc, bits, 2)? {
+                set.push(Point::new(p.x().wrapping_add(right), p.y().wrapping_add(up))?)?;
+            }
+            sets.push(set)?;
+        }
+    }
+    Ok(sets)
+}
+
+/// Each of the ones is answered with each of the others as by the definition, and the same the other way round.
+fn assert_meetings(
+    rt: &impl Abort,
+    alloc: Global,
+    ones: &[Vec<Point>],
+    others: &[Vec<Point>],
+) -> Result<(), Fail> {
+    for one in ones {
+        let one_corners = corners_of(rt, alloc, one)?;
+        let outline = outline_of(rt, &one_corners);
+        for other in others {
+            let other_corners = corners_of(rt, alloc, other)?;
+            let against = outline_of(rt, &other_corners);
+            let meet = slow_meet(&one_corners, &other_corners);
+            assert_eq!(rt; outline.meets(&against), meet, "{one:?} and {other:?}");
+            assert_eq!(rt; against.meets(&outline), meet, "{one:?} and {other:?}");
+        }
+    }
+    Ok(())
+}
+
+#[test]
+fn all_small_sets_beside_each_other(rt: HostRuntime) -> Result<(), Fail> {
+    let ones = small_sets(rt.alloc(), 3, 0, 0)?;
+    assert_meetings(&rt, rt.alloc(), &ones, &small_sets(rt.alloc(), 3, 1, 0)?)?;
+    assert_meetings(&rt, rt.alloc(), &ones, &small_sets(rt.alloc(), 3, 1, 3)?)
+}
