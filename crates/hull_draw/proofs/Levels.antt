@@ -1,7 +1,8 @@
 -- The levels of a tree, one by one.
 use Rattle.std.proofs.Common.{◌≡◌, ◌++◌, ◌+◌, ℕ, [], refl, add-one}
 use Rattle.bridge_search.specs.Trees.{Tree}
-use Rattle.hull_draw.specs.Bridges.{level_of, levels_of}
+use Rattle.hull_tree.specs.Levels.{level_of}
+use Rattle.hull_draw.specs.Bridges.{levels_of}
 
 -- no levels store nothing
 pub levels_none : (t : Tree) → levels_of 0 t ≡ []

@@ -5,11 +5,11 @@ ghost use Rattle.hull_draw.specs.Legends.{wrong_text, lines_text, bridges_told_t
 ghost use Rattle.hull_draw.specs.Legends.{legend_text};
 ghost use Rattle.hull_draw.specs.Shapes.{step_of};
 
-use super::bridges::Bridge;
 use super::frame::Frame;
 use super::marks::DRAWN_LIMIT;
 use super::scene::Scene;
 use super::shapes::{Done, told_after};
+use hull_tree::Bridge;
 use lattice::Point;
 use text_io::{Sink, number_after, put_after};
 

@@ -30,9 +30,10 @@ mod scene;
 mod shapes;
 mod shots;
 
-pub use bridges::{Bridge, LEVEL_LIMIT};
+pub use bridges::LEVEL_LIMIT;
 pub use drawing::{DrawFault, DrawOptions, draw};
 pub use filming::film;
+pub use hull_tree::Bridge;
 pub use laws::label_limits_are_stated;
 pub use marks::Mark;
 pub use scene::{Scene, scene_of};

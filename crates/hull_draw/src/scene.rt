@@ -2,13 +2,13 @@ ghost use Rattle.std.specs.Prelude.{◌≡◌, IfOk};
 ghost use Rattle.hull_draw.specs.Replays.{asked_lines};
 ghost use Rattle.hull_draw.specs.Scenes.{IsScene};
 
-use super::bridges::{Bridge, bridges};
+use super::bridges::bridges;
 use super::drawing::DrawOptions;
 use super::marks::{Mark, marks};
 use super::replaying::replay_right_lines;
 use hull_book::{Journal, Line};
 use hull_plain::{HullSet, NoMemory};
-use hull_tree::trees_are_sound;
+use hull_tree::{Bridge, trees_are_sound};
 use lattice::Point;
 use std::alloc::Global;
 use std::marker::Model;

@@ -4,10 +4,10 @@ ghost use Rattle.hull_draw.specs.Texts.{texts};
 ghost use Rattle.hull_draw.specs.Shapes.{corner_text, polygon_text, dot_text, corner_dots_text, every, mark_dot_text};
 ghost use Rattle.hull_draw.specs.Shapes.{all_dots_text, bridge_line_text, bridge_text, square_text, shapes_text};
 
-use super::bridges::Bridge;
 use super::frame::Frame;
 use super::marks::{DRAWN_LIMIT, Mark};
 use super::scene::Scene;
+use hull_tree::Bridge;
 use itoa::Integer;
 use lattice::Point;
 use text_io::{Sink, WriteFault, number_after, put_after};

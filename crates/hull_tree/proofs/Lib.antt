@@ -10,6 +10,7 @@ pub mod Multiplicities
 pub mod CountedTrees
 pub mod Halvings
 pub mod LoadedRows
+pub mod Stretches
 pub mod Counting
 pub mod AddedSets
 pub mod Standing

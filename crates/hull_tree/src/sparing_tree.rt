@@ -4,7 +4,10 @@ ghost use Rattle.hull_plain.specs.Replies.{Answers, after, reply_to_add, reply_t
 ghost use Rattle.hull_tree.specs.Loaded.{AreEntries, held_listed, held_after_adds, AreTooMany};
 ghost use Rattle.hull_tree.specs.Roots.{held_by};
 ghost use Rattle.hull_tree.specs.Sets.{IsSound};
+ghost use Rattle.hull_tree.specs.Levels.{bridges_at};
+ghost use Rattle.hull_tree.specs.Stretches.{IsStretch};
 
+use super::levels::Bridge;
 use super::load::LoadFault;
 use super::renewal::KeepsWhatStands;
 use super::tree::HullTree;
@@ -89,6 +92,26 @@ impl SparingTree {
         ensures refused { IfErr result (λ _. self.now.root ≢ None) }
     {
         self.tree.entries()
+    }
+
+    /// The first `most` points that do not stand before `start`, as [`HullTree::entries_from`](HullTree::entries_from).
+    pub fn entries_from(
+        &self,
+        start: Point,
+        most: usize,
+    ) -> Result<Vec<(Point, u32), Heap>, NoMemory>
+        ensures stretch { IfOk result (λ entries. IsStretch (held_by self.now.root) start most entries.items) }
+        ensures refused { IfErr result (λ _. self.now.root ≢ None) }
+    {
+        self.tree.entries_from(start, most)
+    }
+
+    /// The bridges that the forks of a level store, as [`HullTree::bridges_at`](HullTree::bridges_at).
+    pub fn bridges_at(&self, level: u32) -> Result<Vec<Bridge, Heap>, NoMemory>
+        ensures bridges { IfOk result (λ bridges. bridges.items ≡ bridges_at level self.now.root) }
+        ensures refused { IfErr result (λ _. self.now.root ≢ None) }
+    {
+        self.tree.bridges_at(level)
     }
 
     /// Adds points in any order, all or none of them, as [`HullTree::extend`](HullTree::extend), but builds the tree anew

@@ -7,15 +7,19 @@ ghost use Rattle.hull_tree.specs.Sets.{LimitedTree, IsSound, IsWhole};
 ghost use Rattle.lattice.specs.Plane.{Pair};
 ghost use Rattle.hull_tree.specs.Loaded.{AreEntries, held_listed, times_among, held_after_adds, AreTooMany};
 ghost use Rattle.hull_plain.specs.Held.{nothing_held};
+ghost use Rattle.hull_tree.specs.Levels.{bridges_at};
+ghost use Rattle.hull_tree.specs.Stretches.{IsStretch};
 ghost use Rattle.hull_tree.specs.Turns.{IsCountBy, IsLeastCount, IsLeafDepth};
 
 use super::build::blank;
 use super::change::{insert, is_leaf, lower, raise, remove, times_of};
 use super::extend::add_each;
+use super::levels::{Bridge, push_level};
 use super::load::{LoadFault, entries_of, merged_entries, node_over, push_entries};
 use super::node::Node;
 use super::node_ref::NodeRef;
 use super::renewal::{Renewal, SearchesAll};
+use super::stretch::push_from;
 use bridge_search::Half;
 use heap::Heap;
 use hull_plain::{
@@ -30,7 +34,7 @@ use std::marker::Model;
 ///
 /// `add` of a new point and `remove` of one that is held once renew the forks on the way to the point and those that a
 /// rotation makes; every other change is one way down, to the number in the point's leaf. Each question goes down the
-/// stored bridges. Only `add`, `vertices`, `entries` and `extend` ask for memory: `add` of a new point for one box, and
+/// stored bridges. Only `add`, `vertices`, the entries and `extend` ask for memory: `add` of a new point for one box, and
 /// none for the first.
 #[derive(Drop)]
 pub struct HullTree {
@@ -127,6 +131,39 @@ impl HullTree {
         let mut entries = Vec::with_capacity(self.alloc, self.count as usize)?;
         push_entries(root, &mut entries);
         Ok(entries)
+    }
+
+    /// The first `most` points that do not stand before `start`, in order, each with how often it is held: all points a
+    /// piece at a time, where each piece starts behind the last point of the one before. `NoMemory` comes only for some
+    /// points.
+    pub fn entries_from(
+        &self,
+        start: Point,
+        most: usize,
+    ) -> Result<Vec<(Point, u32), Heap>, NoMemory>
+        ensures stretch { IfOk result (λ entries. IsStretch (held_by self.now.root) start most entries.items) }
+        ensures refused { IfErr result (λ _. self.now.root ≢ None) }
+    {
+        let Some(root) = &self.root else {
+            return Ok(Vec::new(self.alloc));
+        };
+        let room = most.min(self.count as usize);
+        let mut entries = Vec::with_capacity(self.alloc, room)?;
+        push_from(root, start, room, &mut entries);
+        Ok(entries)
+    }
+
+    /// The bridges that the forks of a level store, from left to right; the root stands on level 0. `NoMemory` comes only for
+    /// some points.
+    pub fn bridges_at(&self, level: u32) -> Result<Vec<Bridge, Heap>, NoMemory>
+        ensures bridges { IfOk result (λ bridges. bridges.items ≡ bridges_at level self.now.root) }
+        ensures refused { IfErr result (λ _. self.now.root ≢ None) }
+    {
+        let mut bridges = Vec::new(self.alloc);
+        if let Some(root) = &self.root {
+            push_level(root, level, 0, &mut bridges)?;
+        }
+        Ok(bridges)
     }
 
     /// Adds points in any order, all or none of them: what adding them one by one makes. Where they are a sixteenth of the
