@@ -2,11 +2,12 @@
 # Runs the built program on each case of cases/ and compares what it wrote, byte for byte, and its status.
 #
 # A case is a text in parts. `words:` are the program's words, where INPUT stands for a file with the bytes of the part
-# `input:`, ABSENT for a path where nothing is, and FOLDER for a folder. `status:` is the exit status. `output:` and
-# `error:` are standard output and standard error, both empty where the part is left out; `or:` is another output that
-# may come. A line of a part begins with `|`, or with `\` where no newline ends it. `device: full` lets the output fail.
-# A line that begins with `#` is a remark. Each run of a script is made by both trees, with `--sparing` and without, and has
-# to come out the same. The last line counts, and the status is not 0 where a case came out otherwise.
+# `input:`, JOURNAL for one with those of the part `journal:`, ABSENT for a path where nothing is, and FOLDER for a folder.
+# `status:` is the exit status. `output:` and `error:` are standard output and standard error, both empty where the part is
+# left out; `or:` is another output that may come. A line of a part begins with `|`, or with `\` where no newline ends it.
+# `device: full` lets the output fail. A line that begins with `#` is a remark. Each run of a script is made by both trees,
+# with `--sparing` and without, and has to come out the same. A journal that a run or `compact` wrote has to pass `check`.
+# The last line counts, and the status is not 0 where a case came out otherwise.
 set -uf
 here=$(cd "$(dirname "$0")" && pwd)
 top=$(cd "$here/../.." && pwd)
@@ -30,10 +31,11 @@ head_of() {
 # runs a case, with the words of $2 behind its first one; says nothing where it came out as it says
 outcome() {
     part "$1" input >"$room/input"
+    part "$1" journal >"$room/journal"
     for name in output or error; do
         part "$1" "$name" >"$room/wanted.$name"
     done
-    words=$(head_of "$1" words | sed "s#INPUT#$room/input#; s#ABSENT#$room/absent#; s#FOLDER#$room/folder#")
+    words=$(head_of "$1" words | sed "s#INPUT#$room/input#; s#JOURNAL#$room/journal#; s#ABSENT#$room/absent#; s#FOLDER#$room/folder#")
     words="${words%% *} $2 ${words#"${words%% *}"}"
     told="$room/told.output"
     if [ "$(head_of "$1" device)" = full ]; then
@@ -54,6 +56,11 @@ outcome() {
     else
         echo "wrote: $(head -n 20 "$room/told.output")"
     fi
+    case "$(head_of "$1" device) $status $words" in
+        ' 0 compact '* | ' 0 run '*--journal*)
+            "$top/bin/hullbook" check "$told" >"$room/told.check" 2>&1 || echo "check: $(head -n 3 "$room/told.check")"
+            ;;
+    esac
 }
 
 # The first call builds the program where it is not built for this commit.

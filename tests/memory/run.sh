@@ -4,6 +4,7 @@
 #
 #   words      memory was refused while the words were read:    `hullbook: memory`, status 4
 #   text       .. to the reader:                                `hullbook: line L: fault 10`, status 4, L never falling
+#              .. to the reader of a journal behind a script:   `hullbook: journal: line L: fault 10`, counted on from there
 #   engine     .. behind the text:                              `hullbook: memory`, status 4
 #   answers    .. to one call of the script, or to its list:    status 0, and one reply is `nomemory`
 #   whole      to nothing that the run needs:                   what comes with ample memory
@@ -23,11 +24,16 @@ program="$top/crates/hullbook/out/hullbook"
 
 # how many runs in a row have to come out whole: then no request is left
 enough=20
+# the line of a script behind which a journal is read
+behind=0
 
 # the stage of a run that has ended with this status
 stage_of() {
     if [ "$1" = 4 ] && [ ! -s "$room/output" ]; then
-        sed -n 's/^hullbook: memory$/memory/p; s/^hullbook: line \([0-9]*\): fault 10$/text \1/p' "$room/error"
+        awk -v behind="$behind" '
+            /^hullbook: memory$/ { print "memory" }
+            /^hullbook: line [0-9]+: fault 10$/ { print "text " $3 + 0 }
+            /^hullbook: journal: line [0-9]+: fault 10$/ { print "text " behind + $4 }' "$room/error"
     elif [ "$1" = 0 ] && [ ! -s "$room/error" ]; then
         if cmp -s "$room/output" "$room/whole"; then
             echo whole
@@ -99,6 +105,10 @@ try report 8 01234 run "$room/script"
 try journal 8 01234 run "$room/script" --journal
 try check 7 0124 check "$room/journal"
 try upgrade 7 014 upgrade "$room/journal"
+try compact 7 0124 compact "$room/journal"
+behind=8
+try after 15 01234 run "$room/script" --after "$room/journal"
+try 'journal after' 15 01234 run "$room/script" --after "$room/journal" --journal
 # What is put together behind a last line without a newline stands in the line after it.
 printf '0 count' >"$room/short"
 try unfinished 2 0124 run "$room/short"

@@ -11,6 +11,8 @@ mod devices;
 #[cfg(test)]
 mod pictures;
 #[cfg(test)]
+mod reopened;
+#[cfg(test)]
 mod replies;
 #[cfg(test)]
 mod texts;

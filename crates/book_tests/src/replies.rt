@@ -13,7 +13,7 @@ fn is_told(rt: &impl Abort, reply: HullReply, code: u32, ends: (i64, i64, i64, i
 }
 
 /// The codes of calls on a hull, by the numbers of the headers.
-const CODES_OF_CALLS: [(Code, u32); 21] = [
+const CODES_OF_CALLS: [(Code, u32); 22] = [
     (Code::OutOfRange, 1),
     (Code::ZeroDirection, 2),
     (Code::Added, 3),
@@ -34,6 +34,7 @@ const CODES_OF_CALLS: [(Code, u32); 21] = [
     (Code::Corners, 18),
     (Code::TooSmall, 19),
     (Code::Cleared, 20),
+    (Code::OutOfOrder, 21),
     (Code::UnknownKind, 22),
 ];
 

@@ -1,3 +1,4 @@
+mod compacts;
 mod journals;
 mod long;
 mod reports;

@@ -3,3 +3,6 @@ pub mod Counts
 pub mod Vertices
 pub mod Proper
 pub mod Disagreement
+pub mod Compacts
+pub mod SeatCounts
+pub mod Idle

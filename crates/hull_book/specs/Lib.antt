@@ -5,5 +5,6 @@ pub mod Books
 pub mod Ledgers
 pub mod Copies
 pub mod Verdicts
+pub mod Compacts
 pub mod Answers
 pub mod Laws

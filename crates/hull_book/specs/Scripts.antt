@@ -1,5 +1,6 @@
 -- Scripts as contracts see them.
-use Rattle.std.specs.Prelude.{◌≡◌, ◌≤◌, ℕ, List, [], ◌∷◌, length, map, sum_by, slice_index_or, ◌++◌, Vec}
+use Rattle.std.specs.Prelude.{◌≡◌, ◌≤◌, ℕ, List, [], ◌∷◌, length, map, max, replicate, sum_by}
+use Rattle.std.specs.Prelude.{slice_index_or, ◌++◌, ◌-◌, Vec}
 use Rattle.std.specs.List.{All}
 use Rattle.hull_plain.specs.declared.call.Call.{Call}
 use Rattle.hull_book.specs.declared.limits.TheConstants.{SEAT_LIMIT, TEXT_LINE_LIMIT}
@@ -32,6 +33,15 @@ pub record IsScript (workers : ℕ) (phases : List PhaseValue) : Type 0 where
   pub workers_high : workers ≤ SEAT_LIMIT
   pub jobs : All (λ phase. length phase ≡ workers) phases
   pub calls : calls_in_all phases ≤ TEXT_LINE_LIMIT
+
+-- the calls of a phase, with an empty list for each worker more
+abbrev pub with_idle : ℕ → PhaseValue → PhaseValue
+with_idle workers phase = phase ++ replicate (workers - length phase) []
+
+-- the same calls for so many workers, where that is more: those who come have no calls
+abbrev pub widened : ℕ → ScriptValue → ScriptValue
+widened workers script =
+    record { workers = max script.workers workers; phases = map (with_idle (max script.workers workers)) script.phases }
 
 -- the calls of a worker over all phases, in their order
 abbrev pub calls_of : ℕ → List PhaseValue → List Call

@@ -1,8 +1,10 @@
-ghost use Rattle.std.specs.Prelude.{◌≡◌, ◌<◌, ◌≤◌, List, length, map, slice_index_or, [], IfSome, IfNone};
+ghost use Rattle.std.specs.Prelude.{◌≡◌, ◌<◌, ◌≤◌, List, length, map, slice_index_or, [], IfOk, IfSome, IfNone, OnOk};
 ghost use Rattle.std.specs.List.{All};
-ghost use Rattle.hull_book.specs.Scripts.{IsScript, lists_of};
+ghost use Rattle.hull_book.specs.Scripts.{IsScript, lists_of, widened, with_idle};
+ghost use Rattle.hull_book.specs.declared.limits.TheConstants.{SEAT_LIMIT};
 
 use hull_plain::Call;
+use std::alloc::{AllocError, Global};
 use std::marker::Model;
 
 /// What the workers do between two meetings: a list of calls for each of them.
@@ -27,6 +29,16 @@ impl Phase {
         ensures { result ≡ lists_of jobs.items }
     {
         Phase { jobs }
+    }
+
+    /// Gives the phase an empty list of calls for each worker more, up to so many.
+    fn widen(&mut self, alloc: Global, workers: u8) -> Result<(), AllocError>
+        ensures { OnOk result (self.new ≡ with_idle workers self.old) }
+    {
+        for _ in self.jobs.len()..usize::from(workers) {
+            self.jobs.push(Vec::new(alloc))?;
+        }
+        Ok(())
     }
 
     /// How many lists of calls the phase has.
@@ -71,6 +83,26 @@ impl Script {
         ensures { result ≡ record { workers = workers; phases = phases.items } }
     {
         Script { workers, phases }
+    }
+
+    /// The same calls for so many workers, where that is more: those who come have no calls. Refused memory lets the
+    /// script go.
+    pub fn widened(self, alloc: Global, workers: u8) -> Result<Script, AllocError>
+        requires { workers ≤ SEAT_LIMIT }
+        ensures { IfOk result (λ script. script ≡ widened workers self) }
+    {
+        let Script {
+            workers: own,
+            mut phases,
+        } = self;
+        let wide = own.max(workers);
+        for i in 0..phases.len() {
+            phases[i].widen(alloc, wide)?;
+        }
+        Ok(Script {
+            workers: wide,
+            phases,
+        })
     }
 
     /// How many workers the script has, from 1 to 64.

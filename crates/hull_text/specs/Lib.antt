@@ -24,4 +24,5 @@ pub mod JournalReading
 pub mod OneProof
 pub mod JournalGrammar
 pub mod Upgrade
+pub mod Compact
 pub mod Stopped

@@ -1,8 +1,9 @@
 //! Scripts, journals and reports as texts.
 //!
 //! A script is read by `read_script`, a journal by `read_journal`, from a counted reader; `write_journal` and
-//! `write_report` write to a counted writer; `upgrade` writes a journal in the newest version that has its rules. A
-//! text that is no script or journal has a `TextFault`: what is wrong with it, and in which line.
+//! `write_report` write to a counted writer; `upgrade` writes a journal in the newest version that has its rules, and
+//! `compact` one that is short and leaves the same points. A text that is no script or journal has a `TextFault`: what
+//! is wrong with it, and in which line.
 //!
 //! # A worked example
 //!
@@ -14,6 +15,7 @@
 //! ```
 #![tactic(auto)]
 
+mod compacting;
 mod fault;
 mod laws;
 mod read;
@@ -22,6 +24,7 @@ mod version;
 mod words;
 mod write;
 
+pub use compacting::{CompactFault, compact};
 pub use fault::{FaultKind, TextFault};
 pub use laws::{
     calls_are_read_again, faults_hold, numbers_have_one_spelling, replies_are_read_again,

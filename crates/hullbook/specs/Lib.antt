@@ -1,5 +1,6 @@
 pub mod Tasks
 pub mod Outcomes
 pub mod Reads
+pub mod Afters
 pub mod Checks
 pub mod Faults

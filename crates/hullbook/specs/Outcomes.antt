@@ -1,5 +1,5 @@
 -- What a run of a script comes to, and the text that is written of it.
-use Rattle.std.specs.Prelude.{◌≡◌, ◌<◌, ℕ, true, cond, List, [], ◌++◌, map, Option, None, Ok}
+use Rattle.std.specs.Prelude.{◌≡◌, ◌<◌, ℕ, Bool, true, cond, List, [], ◌++◌, map, Option, None, Ok}
 use Rattle.std.specs.Io.KnownBytes.{Appends}
 use Rattle.hull_book.specs.Books.{BookValue, opened_book}
 use Rattle.hull_plain.specs.declared.set.HullSet.{Ghosts}
@@ -41,14 +41,14 @@ pub record IsRunOn {S : Type 0} (K : Ghosts S) (opened : BookValue S) (script : 
 abbrev pub IsRun : ScriptValue → Options → List (List Answer) → List ℕ → JournalValue → Type 0
 IsRun script o answers counts journal = IsRunOn hull_tree (opening o script.workers) script answers counts journal
 
--- the journal or the report, as the options ask
-abbrev pub output_text : Options → ScriptValue → List (List Answer) → List ℕ → JournalValue → List ℕ
-output_text o script answers counts journal =
-    cond o.journal (written_text journal) (report_text script answers counts journal)
+-- the journal where it is asked for, and else the report
+abbrev pub output_text : Bool → ScriptValue → List (List Answer) → List ℕ → JournalValue → List ℕ
+output_text asked script answers counts journal =
+    cond asked (written_text journal) (report_text script answers counts journal)
 
 -- where the journal is asked for, the text is one of this journal
-abbrev pub IsJournalWhereAsked : Options → List ℕ → JournalValue → Type 0
-IsJournalWhereAsked o text journal = o.journal ≡ true → IsJournalText text journal
+abbrev pub IsJournalWhereAsked : Bool → List ℕ → JournalValue → Type 0
+IsJournalWhereAsked asked text journal = asked ≡ true → IsJournalText text journal
 
 -- The bytes, where they are known, were read as a script, it was run, and the bytes written have grown by the text of
 -- the run. Where they are not known some script was read all the same.
@@ -59,8 +59,8 @@ pub record HasRunText (o : Options) (bytes old new : Option (List ℕ)) : Type 0
   pub journal : JournalValue
   pub reads : ReadsKnownScript bytes (Ok script)
   pub runs : IsRun script o answers counts journal
-  pub writes : Appends old new (output_text o script answers counts journal)
-  pub said : IsJournalWhereAsked o (output_text o script answers counts journal) journal
+  pub writes : Appends old new (output_text o.journal script answers counts journal)
+  pub said : IsJournalWhereAsked o.journal (output_text o.journal script answers counts journal) journal
 
 -- The bytes, where they are known, were read as a script, it was run, and what was written is a beginning of the text
 -- of the run.
@@ -73,5 +73,5 @@ pub record HasWrittenFront (o : Options) (bytes old new : Option (List ℕ)) : T
   pub back : List ℕ
   pub reads : ReadsKnownScript bytes (Ok script)
   pub runs : IsRun script o answers counts journal
-  pub text : output_text o script answers counts journal ≡ front ++ back
+  pub text : output_text o.journal script answers counts journal ≡ front ++ back
   pub writes : Appends old new front

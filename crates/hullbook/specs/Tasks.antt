@@ -1,11 +1,12 @@
 -- What an accepted command line asks for: only numbers within their limits.
-use Rattle.std.specs.Prelude.{◌≡◌, ◌≤◌, ℕ, List, map, slice_get, Some, string_bytes}
+use Rattle.std.specs.Prelude.{◌≡◌, ◌≤◌, ℕ, List, map, slice_get, IfSome, Some, string_bytes}
 use Rattle.std.specs.Borrow.{Bor}
 use Rattle.hull_plain.specs.declared.TheConstants.{POINT_LIMIT}
 use Rattle.hull_book.specs.declared.limits.TheConstants.{CAPACITY_LIMIT}
 use Rattle.hullbook.specs.declared.options.Options.{Options}
+use Rattle.hullbook.specs.declared.options.Stated.{Stated}
 use Rattle.hullbook.specs.declared.options.Task.{Task}
-use Rattle.hullbook.specs.declared.options.Task.TheVariants.{Run, Check, Upgrade}
+use Rattle.hullbook.specs.declared.options.Task.TheVariants.{Run, RunAfter, Check, Upgrade, Compact}
 
 -- the numbers of a run are within their limits
 pub record AreWithinLimits (o : Options) : Type 0 where
@@ -14,11 +15,18 @@ pub record AreWithinLimits (o : Options) : Type 0 where
   pub limit_low : 1 ≤ o.limit
   pub limit_high : o.limit ≤ POINT_LIMIT
 
+-- so are those that are stated
+pub record AreStatedWithinLimits (s : Stated) : Type 0 where
+  pub capacity : IfSome s.capacity (λ n. (1 ≤ n) × (n ≤ CAPACITY_LIMIT))
+  pub limit : IfSome s.limit (λ n. (1 ≤ n) × (n ≤ POINT_LIMIT))
+
 -- a task has no other numbers
 abbrev pub IsWithinLimits : Task → Type 0
 IsWithinLimits (Run path o) = AreWithinLimits o
+IsWithinLimits (RunAfter script journal s) = AreStatedWithinLimits s
 IsWithinLimits (Check path) = Unit {0}
 IsWithinLimits (Upgrade path) = Unit {0}
+IsWithinLimits (Compact path) = Unit {0}
 
 -- the words as texts
 abbrev pub texts_of : List (Bor (List ℕ)) → List (List ℕ)
@@ -28,8 +36,10 @@ texts_of words = map (λ w. w.now) words
 abbrev pub IsOneOf : List (List ℕ) → List ℕ → Type 0
 IsOneOf texts text = (k : ℕ) × (slice_get texts k ≡ Some text)
 
--- the path that a task names
-abbrev pub path_in : Task → List ℕ
-path_in (Run path o) = string_bytes path
-path_in (Check path) = string_bytes path
-path_in (Upgrade path) = string_bytes path
+-- each path that a task names is one of these texts
+abbrev pub NamesWords : List (List ℕ) → Task → Type 0
+NamesWords texts (Run path o) = IsOneOf texts (string_bytes path)
+NamesWords texts (RunAfter script journal s) = IsOneOf texts (string_bytes script) × IsOneOf texts (string_bytes journal)
+NamesWords texts (Check path) = IsOneOf texts (string_bytes path)
+NamesWords texts (Upgrade path) = IsOneOf texts (string_bytes path)
+NamesWords texts (Compact path) = IsOneOf texts (string_bytes path)

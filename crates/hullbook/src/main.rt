@@ -1,10 +1,11 @@
-//! `hullbook`: runs a script of calls on a shared convex hull, checks a journal of such a run, and upgrades old
-//! journals.
+//! `hullbook`: runs a script of calls on a shared convex hull, checks a journal of such a run, makes it short, and
+//! upgrades old journals.
 #![tactic(auto)]
 
 ghost use Rattle.std.specs.Prelude.{IfOk};
-ghost use Rattle.hullbook.specs.Tasks.{AreWithinLimits, IsWithinLimits};
+ghost use Rattle.hullbook.specs.Tasks.{AreStatedWithinLimits, AreWithinLimits, IsWithinLimits};
 
+mod after;
 mod check;
 mod fault;
 mod options;
@@ -12,10 +13,11 @@ mod run;
 #[cfg(test)]
 mod tests;
 
+use after::run_after;
 use check::check_text;
 use fault::Fault;
-use hull_text::upgrade;
-use options::{OptionFault, Options, Task, options};
+use hull_text::{compact, upgrade};
+use options::{OptionFault, Options, Stated, Task, options};
 use run::run;
 use std::alloc::Global;
 use std::io::{BufWriter, Printer};
@@ -64,6 +66,23 @@ fn run_file<R: Threads + Wait + Sync + Files + Print + AllocGlobal>(
     run(rt, rt.alloc(), &mut input, &mut output, options).map_err(Fault::from)
 }
 
+/// Runs the script at the path on the book that goes on with the journal at the other, and writes to standard output.
+fn run_files<R: Threads + Wait + Sync + Files + Print + AllocGlobal>(
+    rt: &R,
+    path: &str,
+    journal: &str,
+    stated: &Stated,
+) -> Result<(), Fault>
+    requires { AreStatedWithinLimits stated.now }
+{
+    let file = fs::open(rt, path).map_err(|error| Fault::of_system(&error, Fault::Open))?;
+    let old = fs::open(rt, journal).map_err(|error| Fault::of_system(&error, Fault::Open))?;
+    let mut input = Counted::new(file);
+    let mut before = Counted::new(old);
+    let mut output = Counted::new(block_writer(rt)?);
+    run_after(rt, rt.alloc(), &mut input, &mut before, &mut output, stated).map_err(Fault::from)
+}
+
 /// Checks the journal at the path and writes to standard output. `true` for legal.
 fn check_file<R: Files + Print + AllocGlobal>(rt: &R, path: &str) -> Result<bool, Fault> {
     let file = fs::open(rt, path).map_err(|error| Fault::of_system(&error, Fault::Open))?;
@@ -80,6 +99,14 @@ fn upgrade_file<R: Files + Print + AllocGlobal>(rt: &R, path: &str) -> Result<()
     upgrade(rt.alloc(), &mut input, &mut output).map_err(Fault::from)
 }
 
+/// Writes to standard output a short journal that leaves the same points as the journal at the path.
+fn compact_file<R: Files + Print + AllocGlobal>(rt: &R, path: &str) -> Result<(), Fault> {
+    let file = fs::open(rt, path).map_err(|error| Fault::of_system(&error, Fault::Open))?;
+    let mut input = Counted::new(file);
+    let mut output = Counted::new(block_writer(rt)?);
+    compact(rt.alloc(), &mut input, &mut output).map_err(Fault::from)
+}
+
 /// Does what the words after the program's name ask for. `false` for an illegal journal.
 fn work<R: Threads + Wait + Sync + Env + Files + Print + AllocGlobal>(
     rt: &R,
@@ -89,9 +116,17 @@ fn work<R: Threads + Wait + Sync + Env + Files + Print + AllocGlobal>(
             run_file(rt, &path, &options)?;
             Ok(true)
         }
+        Task::RunAfter(path, journal, stated) => {
+            run_files(rt, &path, &journal, &stated)?;
+            Ok(true)
+        }
         Task::Check(path) => check_file(rt, &path),
         Task::Upgrade(path) => {
             upgrade_file(rt, &path)?;
+            Ok(true)
+        }
+        Task::Compact(path) => {
+            compact_file(rt, &path)?;
             Ok(true)
         }
     }

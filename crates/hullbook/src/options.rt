@@ -19,15 +19,34 @@ pub struct Options {
     pub sparing: bool,
 }
 
+/// What the words say of the numbers of a run: `None` where they say nothing.
+#[derive(Clone, Copy, PartialEq, Eq, Debug)]
+pub struct Stated {
+    /// How many lines the journal may have: 1 to 16777216.
+    pub capacity: Option<u32>,
+    /// How many points the set may have: 1 to 1048576.
+    pub limit: Option<u32>,
+    /// The number of the first line.
+    pub first: Option<u64>,
+    /// Whether the journal is written in place of the report.
+    pub journal: bool,
+    /// Whether the set is a tree that keeps the bridges which a change cannot alter.
+    pub sparing: bool,
+}
+
 /// What is asked for.
 #[derive(Debug, Drop)]
 pub enum Task {
     /// To run the script at this path.
     Run(String, Options),
+    /// To run the script at the first path on the book that goes on with the journal at the second.
+    RunAfter(String, String, Stated),
     /// To check the journal at this path.
     Check(String),
     /// To write the journal at this path in the newest version that has its rules.
     Upgrade(String),
+    /// To write a short journal that leaves the same points as the journal at this path.
+    Compact(String),
 }
 
 /// Why the words were refused.

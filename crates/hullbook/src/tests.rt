@@ -1,13 +1,14 @@
 //! The program's engines over texts, and the words that it takes.
 ghost use Rattle.hullbook.specs.Tasks.{AreWithinLimits};
 
+mod afters;
 mod answers;
 mod checks;
 mod refused;
 
 use crate::check::check_text;
 use crate::fault::Fault;
-use crate::options::{OptionFault, Options, Task, options};
+use crate::options::{OptionFault, Options, Stated, Task, options};
 use crate::run::{RunFault, run};
 use hull_text::{TextFault, UpgradeFault, WriteFault};
 use std::alloc::Global;
@@ -275,6 +276,29 @@ fn words_that_are_taken(rt: HostRuntime) -> Result<(), Fail> {
         return Err(Fail::new("other words"));
     };
     assert_eq!(rt; path.as_str(), "a b");
+    let Ok(Task::Compact(path)) = options(rt.alloc(), &["compact", "a b"]) else {
+        return Err(Fail::new("other words"));
+    };
+    assert_eq!(rt; path.as_str(), "a b");
+    Ok(())
+}
+
+/// What is not said of a run after a journal is left to that.
+#[test]
+fn words_of_a_run_after_a_journal(rt: HostRuntime) -> Result<(), Fail> {
+    let words = ["run", "--after", "j", "s", "--limit", "7", "--sparing"];
+    let Ok(Task::RunAfter(script, journal, stated)) = options(rt.alloc(), &words) else {
+        return Err(Fail::new("other words"));
+    };
+    assert_eq!(rt; (script.as_str(), journal.as_str()), ("s", "j"));
+    let wanted = Stated {
+        capacity: None,
+        limit: Some(7),
+        first: None,
+        journal: false,
+        sparing: true,
+    };
+    assert_eq!(rt; stated, wanted);
     Ok(())
 }
 
@@ -291,6 +315,12 @@ fn words_that_are_refused(rt: HostRuntime) -> Result<(), Fail> {
     assert!(rt; is_refused(rt.alloc(), &["check", "x", "--journal"]));
     assert!(rt; is_refused(rt.alloc(), &["upgrade"]));
     assert!(rt; is_refused(rt.alloc(), &["upgrade", "x", "--journal"]));
+    assert!(rt; is_refused(rt.alloc(), &["compact"]));
+    assert!(rt; is_refused(rt.alloc(), &["compact", "x", "--journal"]));
+    assert!(rt; is_refused(rt.alloc(), &["run", "x", "--after"]));
+    assert!(rt; is_refused(rt.alloc(), &["run", "--after", "x"]));
+    assert!(rt; is_refused(rt.alloc(), &["run", "x", "--after", "y", "--capacity", "0"]));
+    assert!(rt; is_refused(rt.alloc(), &["check", "x", "--after", "y"]));
     assert!(rt; is_refused(rt.alloc(), &["downgrade", "x"]));
     Ok(())
 }
@@ -350,6 +380,18 @@ fn faults_have_their_words(rt: HostRuntime) -> Result<(), Fail> {
         (Fault::Memory, "hullbook: memory"),
         (Fault::Write, "hullbook: write"),
         (Fault::Text(text), "hullbook: line 2: fault 3"),
+        (Fault::Journal(text), "hullbook: journal: line 2: fault 3"),
+        (
+            Fault::Rules,
+            "hullbook: points are not counted before version 3, and upgrade keeps that",
+        ),
+        (Fault::Illegal(4294967297), "hullbook: illegal 4294967297"),
+        (
+            Fault::First(18446744073709551615),
+            "hullbook: the journal's first number is 18446744073709551615",
+        ),
+        (Fault::Limit(4), "hullbook: the journal's limit is 4"),
+        (Fault::Lines(3), "hullbook: the journal has 3 lines"),
     ] {
         let told = format!(in rt.alloc(); "{fault}")?;
         assert_eq!(rt; told.as_str(), words);
@@ -363,6 +405,14 @@ fn faults_have_their_statuses(rt: HostRuntime) -> Result<(), Fail> {
     assert_eq!(rt; Fault::Open.status(), 3);
     assert_eq!(rt; Fault::Write.status(), 3);
     assert_eq!(rt; Fault::Memory.status(), 4);
+    assert_eq!(rt; Fault::Illegal(2).status(), 1);
+    assert_eq!(rt; Fault::Rules.status(), 2);
+    assert_eq!(rt; Fault::First(0).status(), 2);
+    assert_eq!(rt; Fault::Limit(4).status(), 2);
+    assert_eq!(rt; Fault::Lines(3).status(), 2);
+    assert_eq!(rt; Fault::Journal(TextFault { number: 7, line: 1 }).status(), 2);
+    assert_eq!(rt; Fault::Journal(TextFault { number: 8, line: 1 }).status(), 3);
+    assert_eq!(rt; Fault::Journal(TextFault { number: 10, line: 1 }).status(), 4);
     assert_eq!(rt; Fault::Text(TextFault { number: 7, line: 1 }).status(), 2);
     assert_eq!(rt; Fault::Text(TextFault { number: 8, line: 1 }).status(), 3);
     assert_eq!(rt;

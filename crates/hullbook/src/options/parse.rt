@@ -1,7 +1,8 @@
-ghost use Rattle.std.specs.Prelude.{IfOk, IfSome, string_bytes};
-ghost use Rattle.hullbook.specs.Tasks.{AreWithinLimits, IsWithinLimits, IsOneOf, path_in, texts_of};
+ghost use Rattle.std.specs.Prelude.{◌≤◌, ◌↔◌, IfOk, IfSome, IsTrue, string_bytes};
+ghost use Rattle.hullbook.specs.Tasks.{AreStatedWithinLimits, AreWithinLimits, IsWithinLimits, IsOneOf, NamesWords};
+ghost use Rattle.hullbook.specs.Tasks.{texts_of};
 
-use super::{OptionFault, Options, Task};
+use super::{OptionFault, Options, Stated, Task};
 use clap::error::ErrorKind;
 use clap::{Arg, ArgAction, ArgMatches, Command, Error};
 use hull_book::CAPACITY_LIMIT;
@@ -41,13 +42,17 @@ fn run_command<'a>(alloc: Global) -> Result<Command<'a>, AllocError> {
     let sparing = Arg::new(alloc, "sparing")
         .long("sparing")
         .action(ArgAction::SetTrue);
+    let after = Arg::new(alloc, "after")
+        .long("after")
+        .action(ArgAction::Set);
     Command::new(alloc, "run")
         .arg(script)?
         .arg(capacity)?
         .arg(limit)?
         .arg(first)?
         .arg(journal)?
-        .arg(sparing)
+        .arg(sparing)?
+        .arg(after)
 }
 
 /// A command that has a journal as its one word.
@@ -64,40 +69,65 @@ fn command<'a>(alloc: Global) -> Result<Command<'a>, AllocError> {
         .subcommand_required(true)
         .subcommand(run_command(alloc)?)?
         .subcommand(journal_command(alloc, "check")?)?
-        .subcommand(journal_command(alloc, "upgrade")?)
+        .subcommand(journal_command(alloc, "upgrade")?)?
+        .subcommand(journal_command(alloc, "compact")?)
 }
 
-/// The numbers that were given; `None` where one could not be read or lies outside the limits.
-fn options_of(matches: &ArgMatches<'_>) -> Option<Options>
-    ensures { IfSome result AreWithinLimits }
+/// Whether a number, where one is stated, is from 1 to the limit.
+fn is_within(number: Option<u32>, limit: u32) -> bool
+    ensures { IsTrue result ↔ IfSome number (λ n. (1 ≤ n) × (n ≤ limit)) }
+{
+    match number {
+        Some(n) => n > 0 && n <= limit,
+        None => true,
+    }
+}
+
+/// The numbers that are stated; `None` where one could not be read or lies outside the limits.
+fn stated_of(matches: &ArgMatches<'_>) -> Option<Stated>
+    ensures { IfSome result AreStatedWithinLimits }
 {
     let capacity = if matches.contains_id("capacity") {
-        matches.get_one::<u32>("capacity")?
+        Some(matches.get_one::<u32>("capacity")?)
     } else {
-        DEFAULT_CAPACITY
+        None
     };
     let limit = if matches.contains_id("limit") {
-        matches.get_one::<u32>("limit")?
+        Some(matches.get_one::<u32>("limit")?)
     } else {
-        POINT_LIMIT
+        None
     };
     let first = if matches.contains_id("first") {
-        matches.get_one::<u64>("first")?
+        Some(matches.get_one::<u64>("first")?)
     } else {
-        0
+        None
     };
     let journal = matches.get_flag("journal");
     let sparing = matches.get_flag("sparing");
-    if capacity == 0 || capacity > CAPACITY_LIMIT || limit == 0 || limit > POINT_LIMIT {
+    if !is_within(capacity, CAPACITY_LIMIT) || !is_within(limit, POINT_LIMIT) {
         return None;
     }
-    Some(Options {
+    Some(Stated {
         capacity,
         limit,
         first,
         journal,
         sparing,
     })
+}
+
+/// The numbers of a run, with those that are not stated.
+fn options_of(stated: &Stated) -> Options
+    requires { AreStatedWithinLimits stated.now }
+    ensures { AreWithinLimits result }
+{
+    Options {
+        capacity: stated.capacity.unwrap_or(DEFAULT_CAPACITY),
+        limit: stated.limit.unwrap_or(POINT_LIMIT),
+        first: stated.first.unwrap_or(0),
+        journal: stated.journal,
+        sparing: stated.sparing,
+    }
 }
 
 /// The path that was given under this id, as it was written: it is found among the words, so that the contract can say
@@ -121,14 +151,30 @@ fn path_of(
     Err(OptionFault::Usage)
 }
 
-/// What the words after the program's name ask for: `run SCRIPT` with its options, `check JOURNAL`, or `upgrade
-/// JOURNAL`.
+/// What the words behind `run` ask for.
+fn run_task(alloc: Global, given: &ArgMatches<'_>, words: &[&str]) -> Result<Task, OptionFault>
+    ensures limits { IfOk result IsWithinLimits }
+    ensures paths { IfOk result (NamesWords (texts_of words.now)) }
+{
+    let Some(stated) = stated_of(given) else {
+        return Err(OptionFault::Usage);
+    };
+    let script = path_of(alloc, given, "script", words)?;
+    if !given.contains_id("after") {
+        return Ok(Task::Run(script, options_of(&stated)));
+    }
+    let journal = path_of(alloc, given, "after", words)?;
+    Ok(Task::RunAfter(script, journal, stated))
+}
+
+/// What the words after the program's name ask for: `run SCRIPT` with its options, `check JOURNAL`, `upgrade JOURNAL`, or
+/// `compact JOURNAL`.
 ///
-/// The path is one of the words, as it was written. `Usage` for any other words and for a number outside its limits; a
+/// Each path is one of the words, as it was written. `Usage` for any other words and for a number outside its limits; a
 /// question for help counts as one. `Memory` where memory was refused.
 pub fn options(alloc: Global, words: &[&str]) -> Result<Task, OptionFault>
     ensures limits { IfOk result IsWithinLimits }
-    ensures path { IfOk result (λ task. IsOneOf (texts_of words.now) (path_in task)) }
+    ensures paths { IfOk result (NamesWords (texts_of words.now)) }
 {
     let Ok(command) = command(alloc) else {
         return Err(OptionFault::Memory);
@@ -138,14 +184,10 @@ pub fn options(alloc: Global, words: &[&str]) -> Result<Task, OptionFault>
         Err(error) => return Err(fault_of(&error)),
     };
     match matches.subcommand() {
-        Some(("run", given)) => {
-            let Some(numbers) = options_of(given) else {
-                return Err(OptionFault::Usage);
-            };
-            Ok(Task::Run(path_of(alloc, given, "script", words)?, numbers))
-        }
+        Some(("run", given)) => run_task(alloc, given, words),
         Some(("check", given)) => Ok(Task::Check(path_of(alloc, given, "journal", words)?)),
         Some(("upgrade", given)) => Ok(Task::Upgrade(path_of(alloc, given, "journal", words)?)),
+        Some(("compact", given)) => Ok(Task::Compact(path_of(alloc, given, "journal", words)?)),
         _ => Err(OptionFault::Usage),
     }
 }

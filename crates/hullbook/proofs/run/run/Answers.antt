@@ -15,7 +15,7 @@ returns-clause-write g c told =
         front = w.0.0;
         back = w.0.1;
         reads = c.in-Ok.ensures.read;
-        runs = c.in-Some.ensures;
+        runs = c.in-Some.ensures.ran;
         text = w.0.2;
         writes = w.0.3;
       },

@@ -7,7 +7,7 @@ use Rattle.hull_text.specs.declared.fault.FaultKind.TheVariants.{Read, NoMemory}
 use Rattle.hull_text.specs.declared.fault.TextFault.{TextFault}
 use Rattle.hull_text.specs.Fault.{fault_number}
 use Rattle.hullbook.specs.Faults.{text_status}
-use Rattle.hullbook.proofs.fault.Fault.status.Goals as goal
+use Rattle.hullbook.proofs.fault.text_status.Goals as goal
 
 -- a fault of no kind has the status of a fault of the text
 unknown_status : (f : TextFault) → ((kind : FaultKind) → fault_number kind ≢ f.number) → 2 ≡ text_status f
@@ -17,4 +17,4 @@ unknown_status f none =
     rw (read, memory) refl
 
 pub returns-in-None : goal.returns-in-None
-returns-in-None c = rw (c.in-Text.is) (unknown_status c.in-Text.fault (c.kind.ensures.none c.in-None.is))
+returns-in-None c = unknown_status c.args.fault.now (c.kind.ensures.none c.in-None.is)

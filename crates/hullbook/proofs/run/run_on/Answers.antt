@@ -3,7 +3,8 @@
 use Rattle.std.proofs.Common.{rules}
 use Rattle.hull_book.proofs.Counts.{all_in_order}
 use Rattle.hull_pool.proofs.Fronts.{few_each}
-use Rattle.hullbook.proofs.run.perform_on.Goals as goal
+use Rattle.hullbook.proofs.Fits.{run_fits}
+use Rattle.hullbook.proofs.run.run_on.Goals as goal
 
 pub run_phases-end-requires-after_bounds : goal.run_phases-end-requires-after_bounds
 run_phases-end-requires-after_bounds g c κs within = record {
@@ -11,15 +12,15 @@ run_phases-end-requires-after_bounds g c κs within = record {
   ledgers = search rules;
   answers = search rules;
   jobs = search rules;
-  few = λ k below. few_each c.args.script.now.phases k (c.workers-workers.ensures.limits.calls);
+  few = λ k below. few_each c.args.script.now.phases k (c.workers.ensures.limits.calls);
   room = search rules;
 }
 
 pub gather-lines-requires-clause-ledgers : goal.gather-lines-requires-clause-ledgers
 gather-lines-requires-clause-ledgers g c = all_in_order _ _ (search rules)
 
-pub returns : goal.returns
-returns g c = record {
+pub returns-clause-ran : goal.returns-clause-ran
+returns-clause-ran g c = record {
   before = c.in-Ok-new.crew;
   after = c.run_phases-end.result.workers;
   closed = c.run_phases-end.result.book;
@@ -29,3 +30,6 @@ returns g c = record {
   counts_are = search rules;
   journal_is = search rules;
 }
+
+pub returns-clause-fits : goal.returns-clause-fits
+returns-clause-fits g c = run_fits g.S.HullSet c.args.book c.args.script.now _ _ _ c.requires.workers (returns-clause-ran g c)

@@ -1,0 +1,102 @@
+//! How a run after a journal ends where an input or the output is at fault.
+use crate::after::{AfterFault, run_after};
+use crate::options::Stated;
+use hull_text::TextFault;
+use std::alloc::Global;
+use std::sync::Wait;
+use std::test::Fail;
+use std::thread::Threads;
+use text_io::Counted;
+use text_io::testing::{Pieces, Spout};
+
+const OWN: Stated = Stated {
+    capacity: None,
+    limit: None,
+    first: None,
+    journal: false,
+    sparing: false,
+};
+
+const SCRIPT: &str = "0 remove 5 5\n1 count\n";
+
+const BEFORE: &str =
+    "hullbook journal 3 first 18446744073709551615 limit 4 capacity 8\n18446744073709551615 0 add 5 5 = added\n0 2 add 5 5 = again 2\nend 2\n";
+
+const REPORT: &str =
+    "0 remove 5 5 = left 1\n1 count = count 1\nledger 0 2\nledger 1 1\nledger 2 1\nsum 4 journal 4 capacity 8\n";
+
+// How a run after the journal ends, what it wrote, how often the output failed, and how often the journal was read.
+fn ends<R: Threads + Wait + Sync>(
+    rt: &R,
+    alloc: Global,
+    journal: &str,
+    reads: (u64, u64),
+    writes: u64,
+) -> Result<(Result<(), AfterFault>, Vec<u8>, u64, u64), Fail> {
+    let mut input = Counted::new(Pieces::new(SCRIPT.as_bytes(), 7).failing_at(reads.0));
+    let mut before = Counted::new(Pieces::new(journal.as_bytes(), 7).failing_at(reads.1));
+    let mut output = Counted::new(Spout::new(alloc, 4096, 5)?.failing_at(writes));
+    let ended = run_after(rt, alloc, &mut input, &mut before, &mut output, &OWN);
+    let failures = output.failures();
+    let read = before.failures();
+    let written = output.get_ref().bytes().to_vec(alloc)?;
+    Ok((ended, written, failures, read))
+}
+
+#[test]
+fn a_report_is_that_of_the_whole(rt: HostRuntime) -> Result<(), Fail> {
+    let (ended, written, failures, _) = ends(&rt, rt.alloc(), BEFORE, (0, 0), 0)?;
+    assert_eq!(rt; ended, Ok(()));
+    assert_eq!(rt; failures, 0);
+    assert!(rt; written.as_slice() == REPORT.as_bytes());
+    Ok(())
+}
+
+/// A fault of the script is told before the journal is touched, and one of the journal as its own.
+#[test]
+fn a_failing_read_tells_which_input(rt: HostRuntime) -> Result<(), Fail> {
+    let fault = TextFault { number: 8, line: 1 };
+    let (ended, written, failures, read) = ends(&rt, rt.alloc(), BEFORE, (1, 1), 0)?;
+    assert_eq!(rt; ended, Err(AfterFault::Script(fault)));
+    assert_eq!(rt; (written.len(), failures, read), (0, 0, 0));
+    let (ended, written, failures, read) = ends(&rt, rt.alloc(), BEFORE, (0, 1), 0)?;
+    assert_eq!(rt; ended, Err(AfterFault::Journal(fault)));
+    assert_eq!(rt; (written.len(), failures, read), (0, 0, 1));
+    Ok(())
+}
+
+/// A journal that is not gone on with is told, and nothing is written.
+#[test]
+fn a_journal_that_is_not_gone_on_with(rt: HostRuntime) -> Result<(), Fail> {
+    let rows = [
+        (
+            "hullbook journal 2 first 0 limit 4 capacity 8\n9 0 add 5 5 = added\nend 1\n",
+            AfterFault::Rules,
+        ),
+        (
+            "hullbook journal 3 first 0 limit 4 capacity 8\n0 0 add 5 5 = added\n2 0 count = count 1\nend 2\n",
+            AfterFault::Wrong(1),
+        ),
+        (
+            "hullbook journal 3 first 0 limit 4 capacity 8\n0 0 add 5 5 = added\n",
+            AfterFault::Journal(TextFault { number: 6, line: 3 }),
+        ),
+    ];
+    for (journal, fault) in rows {
+        let (ended, written, failures, _) = ends(&rt, rt.alloc(), journal, (0, 0), 0)?;
+        assert_eq!(rt; ended, Err(fault));
+        assert_eq!(rt; (written.len(), failures), (0, 0));
+    }
+    Ok(())
+}
+
+#[test]
+fn each_failing_write_of_the_whole_leaves_a_beginning(rt: HostRuntime) -> Result<(), Fail> {
+    for call in 1..=(REPORT.len() / 5) as u64 {
+        let (ended, written, failures, _) = ends(&rt, rt.alloc(), BEFORE, (0, 0), call)?;
+        assert_eq!(rt; ended, Err(AfterFault::Write));
+        assert_eq!(rt; failures, 1);
+        assert!(rt; REPORT.as_bytes().starts_with(&written));
+    }
+    Ok(())
+}
