@@ -161,6 +161,65 @@ size_t hull_calls(hull_set *h, const hull_request *requests, size_t request_coun
  * array is not null, even where it has no elements, and is aligned. */
 hull_reply hull_load(hull_set *h, const hull_point *points, size_t count);
 
+/* Writes the held points from (x, y) on, in order by x and then y, each with how often it is held, to the front of the array of
+ * `room` points, until it is full or there are no more: HULL_NUMBER, how many were written; HULL_OUT_OF_RANGE or HULL_NO_MEMORY.
+ * All points are those from (-HULL_COORDINATE_MAX, -HULL_COORDINATE_MAX) on, into a room of hull_count, or a piece at a time, each
+ * from hull_held_behind the last point of the one before; the hull may change between two pieces. The array is one as for
+ * hull_vertices. */
+hull_reply hull_held_from(const hull_set *h, int64_t x, int64_t y, hull_held *out, size_t room);
+
+/* The first place behind a point: where the next piece begins. The last place of all has none behind it, and stays. */
+static inline hull_point hull_held_behind(hull_held last) {
+    hull_point next = {last.x, last.y};
+    if (last.y < HULL_COORDINATE_MAX) {
+        next.y++;
+    } else if (last.x < HULL_COORDINATE_MAX) {
+        next.x++, next.y = -HULL_COORDINATE_MAX;
+    }
+    return next;
+}
+
+/* Holds the points of the array, which stand in order by x and then y, each once and as often as it says, in the place of all that
+ * was held: HULL_NUMBER, the number of points; or the hull is as it was: HULL_OUT_OF_RANGE (a coordinate of any of them, or how
+ * often it is held is 0 or above HULL_MULTIPLICITY_MAX), else HULL_OUT_OF_ORDER, else HULL_TOO_MANY (more points than the limit) or
+ * HULL_NO_MEMORY. The array is one as for hull_load. */
+hull_reply hull_load_held(hull_set *h, const hull_held *held, size_t count);
+
+/* Holds in `to` just what `from` holds, each point as often, in the place of all that `to` held: HULL_NUMBER, the number of
+ * different points; or `to` is as it was: HULL_TOO_MANY (more points than its limit) or HULL_NO_MEMORY. Both are used by one call
+ * at a time, as ever. */
+static inline hull_reply hull_copy(hull_set *to, const hull_set *from) {
+    hull_reply reply = hull_count(from);
+    size_t count = (size_t)reply.number;
+    hull_held *held = (hull_held *)calloc(count + 1, sizeof *held);
+    if (held == NULL) {
+        memset(&reply, 0, sizeof reply);
+        reply.code = HULL_NO_MEMORY;
+        return reply;
+    }
+    reply = hull_held_from(from, -HULL_COORDINATE_MAX, -HULL_COORDINATE_MAX, held, count);
+    if (reply.code == HULL_NUMBER) {
+        reply = hull_load_held(to, held, count);
+    }
+    free(held);
+    return reply;
+}
+
+/* What a fork of the tree that a hull is stores: the upper and the lower bridge of its two halves, each from its end in the left
+ * half to its end in the right one. `level` forks stand above it. */
+typedef struct hull_bridge {
+    uint32_t level;
+    hull_point upper_left;
+    hull_point upper_right;
+    hull_point lower_left;
+    hull_point lower_right;
+} hull_bridge;
+
+/* Writes the bridges of the forks on a level to the front of the array of `room` bridges, from left to right: HULL_NUMBER, how many
+ * they are, at most 2^level; HULL_TOO_SMALL, where the caller may ask again with `number` of room; or HULL_NO_MEMORY. It is for
+ * pictures of the tree; no question needs it. The array is one as for hull_vertices. */
+hull_reply hull_bridges(const hull_set *h, uint32_t level, hull_bridge *out, size_t room);
+
 /* Lets all points go, and their memory; the limit stays: HULL_CLEARED. */
 hull_reply hull_clear(hull_set *h);
 
@@ -193,6 +252,27 @@ static inline hull_reply hull_outline_area(const hull_point *corners, size_t cou
  * of hull_calls. */
 size_t hull_outline_calls(const hull_point *corners, size_t count, const hull_request *requests, size_t request_count,
                           hull_reply *replies, size_t reply_room);
+
+/* What a planner or a collision check asks an outline. None of them asks for memory, and each may be asked by any number of threads at
+ * once. A coordinate out of range is told by HULL_OUT_OF_RANGE; an outline of no corners is apart from everything: HULL_EMPTY, and of
+ * hull_outline_meets_segment 0.
+ *
+ * Whether the outline and the segment from (ax, ay) to (bx, by) have a point in common, its ends and the boundary included:
+ * HULL_NUMBER with 1 or 0. The ends may be one point. It takes as many steps as a question does. */
+hull_reply hull_outline_meets_segment(const hull_point *corners, size_t count, int64_t ax, int64_t ay, int64_t bx, int64_t by);
+
+/* What parts the outline from that segment, as a caller can see by itself: HULL_APART with a corner (x, y) and a direction (other_x,
+ * other_y) whose product with any corner is at most that with (x, y), and whose products with both ends are greater (products of
+ * 128 bits: a component takes 42). HULL_MEETING where nothing parts them. One pass over the corners at most. */
+hull_reply hull_outline_apart(const hull_point *corners, size_t count, int64_t ax, int64_t ay, int64_t bx, int64_t by);
+
+/* Where the point of the outline is that is nearest to (x, y): HULL_COVERED, HULL_CORNER or HULL_EDGE. The squared distance is that of
+ * the corner; or the square of the side of (x, y) at the edge, (bx - ax) (y - ay) - (by - ay) (x - ax) of up to 84 bits, divided
+ * by the squared length of the edge. One pass over the corners. */
+hull_reply hull_outline_nearest(const hull_point *corners, size_t count, int64_t x, int64_t y);
+
+/* The smallest box with sides along the axes that holds the outline: HULL_BOX. It takes as many steps as a question does. */
+hull_reply hull_outline_box(const hull_point *corners, size_t count);
 
 /* Whether the points of any array are an outline: HULL_NUMBER with 1 or 0; HULL_OUT_OF_RANGE or HULL_NO_MEMORY (it copies the points
  * for the time of the call). They are where they go from the first point by x and then y counterclockwise round a convex polygon,

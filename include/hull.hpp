@@ -34,6 +34,9 @@ namespace hull {
 
 using Point = hull_point;
 
+// A point that is held, and how often.
+using Held = hull_held;
+
 // Twice an area may take 84 bits.
 __extension__ typedef unsigned __int128 Area;
 
@@ -43,6 +46,7 @@ enum class Refusal : std::uint32_t {
     zero_direction = HULL_ZERO_DIRECTION,   // both components of a direction are 0
     too_many = HULL_TOO_MANY,               // there are as many points as the limit, or the point is held as often as may be
     no_memory = HULL_NO_MEMORY,             // memory was refused
+    out_of_order = HULL_OUT_OF_ORDER,       // a held point does not stand behind the one before it, by x and then y
     out_of_limits = HULL_OUT_OF_LIMITS,     // a limit, a capacity or a number of seats is 0 or too great
     no_seat = HULL_NO_SEAT,                 // the seat is out, or there is none of this number
     not_open = HULL_NOT_OPEN,               // the shared hull is closed
@@ -63,6 +67,7 @@ private:
         case Refusal::zero_direction: return "a direction is zero";
         case Refusal::too_many: return "there are as many points as the limit, or the point is held as often as may be";
         case Refusal::no_memory: return "memory was refused";
+        case Refusal::out_of_order: return "the held points are not in order";
         case Refusal::out_of_limits: return "a limit of a hull is out of range";
         case Refusal::no_seat: return "there is no such seat at the hull";
         case Refusal::not_open: return "the hull is closed";
@@ -86,6 +91,28 @@ enum class Place : std::uint32_t {
 // The points that bound a hull as it is seen from a point.
 struct Tangents {
     Point left, right;
+};
+
+// A direction that parts an outline from a segment: no corner has a greater product with it than `farthest`, a corner, and both ends
+// of the segment have. Its components are at most 2^41 in size, so a product takes 128 bits.
+struct Separation {
+    Point farthest, direction;
+};
+
+// Where the point of an outline is that is nearest to another point.
+struct Nearest {
+    enum class Where : std::uint32_t {
+        covered = HULL_COVERED, // the outline covers the point: it is its own nearest
+        corner = HULL_CORNER,   // at the corner `from`, which `to` is, too
+        edge = HULL_EDGE        // at its foot on the edge from `from` to the next corner, `to`, strictly between them
+    };
+    Where where;
+    Point from, to;
+};
+
+// The smallest box with sides along the axes.
+struct Box {
+    Point least, greatest;
 };
 
 // What a reply tells, as a value; what refuses the call is thrown.
@@ -142,6 +169,33 @@ inline Area number(const hull_reply &r) {
     return static_cast<Area>(r.high) << 64 | r.number;
 }
 
+inline std::optional<Separation> separation(const hull_reply &r) {
+    switch (r.code) {
+    case HULL_APART: return Separation{{r.x, r.y}, {r.other_x, r.other_y}};
+    case HULL_MEETING:
+    case HULL_EMPTY: return std::nullopt;
+    default: fault(r.code);
+    }
+}
+
+inline std::optional<Nearest> nearest(const hull_reply &r, Point asked) {
+    switch (r.code) {
+    case HULL_COVERED: return Nearest{Nearest::Where::covered, asked, asked};
+    case HULL_CORNER: return Nearest{Nearest::Where::corner, {r.x, r.y}, {r.x, r.y}};
+    case HULL_EDGE: return Nearest{Nearest::Where::edge, {r.x, r.y}, {r.other_x, r.other_y}};
+    case HULL_EMPTY: return std::nullopt;
+    default: fault(r.code);
+    }
+}
+
+inline std::optional<Box> box(const hull_reply &r) {
+    switch (r.code) {
+    case HULL_BOX: return Box{{r.x, r.y}, {r.other_x, r.other_y}};
+    case HULL_EMPTY: return std::nullopt;
+    default: fault(r.code);
+    }
+}
+
 // The corners that `ask`, a call with an array and its length, writes; asked again with room for all where there are more.
 template <class Ask> std::vector<Point> corners(std::size_t room, Ask ask) {
     std::vector<Point> out(room > 0 ? room : 1);
@@ -187,6 +241,24 @@ public:
     // Twice the area, 0 for a point and a line.
     Area doubled_area() const { return told::number(hull_outline_area(data(), corners_.size())); }
 
+    // Whether the outline and the segment from `a` to `b`, which may be one point, have a point in common.
+    bool meets_segment(Point a, Point b) const {
+        return told::number(hull_outline_meets_segment(data(), corners_.size(), a.x, a.y, b.x, b.y)) == 1;
+    }
+
+    // What parts the outline from the segment; none where they meet, and for an outline of no corners.
+    std::optional<Separation> apart_from_segment(Point a, Point b) const {
+        return told::separation(hull_outline_apart(data(), corners_.size(), a.x, a.y, b.x, b.y));
+    }
+
+    // Where the nearest point is; none for an outline of no corners.
+    std::optional<Nearest> nearest(Point p) const {
+        return told::nearest(hull_outline_nearest(data(), corners_.size(), p.x, p.y), p);
+    }
+
+    // The smallest box; none for an outline of no corners.
+    std::optional<Box> bounding_box() const { return told::box(hull_outline_box(data(), corners_.size())); }
+
 private:
     // an array of no corners has a place in memory, too
     const Point *data() const noexcept {
@@ -220,6 +292,28 @@ public:
         const Point none{0, 0};
         const Point *first = points.empty() ? &none : points.data();
         return static_cast<std::size_t>(told::number(hull_load(get(), first, points.size())));
+    }
+
+    // Holds just these points, which stand in order by x and then y, each as often as it says, in the place of all that was held:
+    // what `held` told, of this hull or another.
+    void load_held(const std::vector<Held> &points) {
+        const Held none{0, 0, 1};
+        told::number(hull_load_held(get(), points.empty() ? &none : points.data(), points.size()));
+    }
+
+    // The points that are held, in order by x and then y, each with how often.
+    std::vector<Held> held() const {
+        std::vector<Held> all(size() + 1);
+        all.resize(static_cast<std::size_t>(
+            told::number(hull_held_from(get(), -HULL_COORDINATE_MAX, -HULL_COORDINATE_MAX, all.data(), all.size()))));
+        return all;
+    }
+
+    // Another hull that holds the same, each point as often, with the same limit.
+    Hull copy() const {
+        Hull other(limit());
+        told::number(hull_copy(other.get(), get()));
+        return other;
     }
 
     // Lets all points go. The limit stays.

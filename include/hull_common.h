@@ -50,7 +50,17 @@ typedef enum hull_code {
     HULL_CORNERS = 18,       /* there are `number` corners, which stand at the front of the array, if one was passed */
     HULL_TOO_SMALL = 19,     /* `number` corners or bytes are to be written, more than the array has room for */
     HULL_CLEARED = 20,       /* no point is held any more */
+    HULL_OUT_OF_ORDER = 21,  /* a point of an array in order does not stand behind the one before it, by x and then y */
     HULL_UNKNOWN_KIND = 22,  /* no kind that can be asked here has this number */
+
+    /* of outlines alone */
+    HULL_MEETING = 23,       /* they have a point in common */
+    HULL_APART = 24,         /* a direction (`other_x`, `other_y`), at most 2^41 in size, parts them: no corner lies farther in it than
+                              * (`x`, `y`), and each of the others does */
+    HULL_COVERED = 25,       /* the outline covers the point: it is its own nearest */
+    HULL_CORNER = 26,        /* the corner (`x`, `y`) is the nearest */
+    HULL_EDGE = 27,          /* the foot on the edge from (`x`, `y`) to the next corner, (`other_x`, `other_y`), is the nearest */
+    HULL_BOX = 28,           /* the box from its least point (`x`, `y`) to its greatest, (`other_x`, `other_y`) */
 
     /* of desks and seats alone */
     HULL_OPEN = 32,          /* the desk is open now */
@@ -92,6 +102,13 @@ typedef struct hull_point {
     int64_t y;
 } hull_point;
 
+/* A point that is held, and how often. */
+typedef struct hull_held {
+    int64_t x;
+    int64_t y;
+    uint32_t times;
+} hull_held;
+
 /* The name of a code as it stands above, for messages: hull_code_name(9) is "HULL_ABSENT". "no code" where no code has the
  * number. */
 static inline const char *hull_code_name(uint32_t code) {
@@ -117,7 +134,14 @@ static inline const char *hull_code_name(uint32_t code) {
     case HULL_CORNERS: return "HULL_CORNERS";
     case HULL_TOO_SMALL: return "HULL_TOO_SMALL";
     case HULL_CLEARED: return "HULL_CLEARED";
+    case HULL_OUT_OF_ORDER: return "HULL_OUT_OF_ORDER";
     case HULL_UNKNOWN_KIND: return "HULL_UNKNOWN_KIND";
+    case HULL_MEETING: return "HULL_MEETING";
+    case HULL_APART: return "HULL_APART";
+    case HULL_COVERED: return "HULL_COVERED";
+    case HULL_CORNER: return "HULL_CORNER";
+    case HULL_EDGE: return "HULL_EDGE";
+    case HULL_BOX: return "HULL_BOX";
     case HULL_OPEN: return "HULL_OPEN";
     case HULL_OUT_OF_LIMITS: return "HULL_OUT_OF_LIMITS";
     case HULL_WAS_OPENED: return "HULL_WAS_OPENED";

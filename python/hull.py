@@ -107,6 +107,11 @@ class _Code(enum.IntEnum):
     EMPTY = 11
     NO_TANGENT = 16
     TOO_SMALL = 19
+    OUT_OF_ORDER = 21
+    APART = 24
+    CORNER = 26
+    EDGE = 27
+    BOX = 28
     OUT_OF_LIMITS = 33
     NO_SEAT = 36
     NOT_OPEN = 38
@@ -134,6 +139,10 @@ class _Reply(ctypes.Structure):
                 ("other_y", ctypes.c_int64), ("number", ctypes.c_uint64), ("high", ctypes.c_uint64)]
 
 
+class _Held(ctypes.Structure):
+    _fields_ = [("x", ctypes.c_int64), ("y", ctypes.c_int64), ("times", ctypes.c_uint32)]
+
+
 class _SeatReply(ctypes.Structure):
     _fields_ = [("told", _Reply), ("turn", ctypes.c_uint64)]
 
@@ -143,6 +152,7 @@ _FAULTS = {
     _Code.ZERO_DIRECTION: lambda: ZeroDirection("a direction is zero"),
     _Code.TOO_MANY: lambda: TooMany("there are as many points as the limit, or the point is held as often as may be"),
     _Code.NO_MEMORY: lambda: MemoryError("memory was refused"),
+    _Code.OUT_OF_ORDER: lambda: ValueError("the held points are not in order"),
     _Code.OUT_OF_LIMITS: lambda: ValueError("a limit, a capacity or a number of seats is out of range"),
     _Code.NO_SEAT: lambda: NoSeat("there is no such seat at the hull"),
     _Code.NOT_OPEN: lambda: ValueError("the hull is closed"),
@@ -179,8 +189,12 @@ def _library():
         ("size", [], ctypes.c_size_t), ("alignment", [], ctypes.c_size_t), ("make", [ctypes.c_uint32, at], None),
         ("end", [at], ctypes.c_uint32), ("call", [at, ctypes.c_uint32, whole, whole], _Reply), ("limit", [at], _Reply),
         ("clear", [at], _Reply), ("load", [at, at, ctypes.c_size_t], _Reply),
+        ("held_from", [at, whole, whole, at, ctypes.c_size_t], _Reply), ("load_held", [at, at, ctypes.c_size_t], _Reply),
         ("is_outline", [at, ctypes.c_size_t], _Reply),
         ("outline_call", [at, ctypes.c_size_t, ctypes.c_uint32, whole, whole], _Reply),
+        ("outline_meets_segment", [at, ctypes.c_size_t, whole, whole, whole, whole], _Reply),
+        ("outline_apart", [at, ctypes.c_size_t, whole, whole, whole, whole], _Reply),
+        ("outline_nearest", [at, ctypes.c_size_t, whole, whole], _Reply), ("outline_box", [at, ctypes.c_size_t], _Reply),
         ("outline_calls", [at, ctypes.c_size_t, at, ctypes.c_size_t, at, ctypes.c_size_t], ctypes.c_size_t),
         ("vertices", [at, at, ctypes.c_size_t], _Reply),
         ("calls", [at, at, ctypes.c_size_t, at, ctypes.c_size_t], ctypes.c_size_t),
@@ -401,6 +415,11 @@ def _area(reply):
     return reply.high << 64 | reply.number
 
 
+def _two_pairs(reply):
+    """The two points of a reply."""
+    return (reply.x, reply.y), (reply.other_x, reply.other_y)
+
+
 class _Questions:
     """What a hull and an outline can be asked. Each tells how one call is made, how many are, and its corners."""
 
@@ -499,7 +518,12 @@ class Hull(_Questions):
         self.load(points)
 
     def __reduce__(self):
-        raise TypeError("a hull lies in one place: it can't be copied")
+        """Copies and pickles hold the same points, each as often, with the same limit."""
+        return _hull_of, (list(self.items()), self.limit())
+
+    def copy(self):
+        """Another hull that holds the same points, each as often, with the same limit."""
+        return _hull_of(list(self.items()), self.limit())
 
     def __repr__(self):
         return f"<Hull of {len(self)} points, limit {self.limit()}>"
@@ -545,6 +569,39 @@ class Hull(_Questions):
         count = len(flat) // 2
         flat.extend((0, 0))  # so that no points have a place in memory, too
         return self._ask(_LIBRARY.hull_load, flat.buffer_info()[0], count).number
+
+    def load_items(self, items):
+        """Holds just these points, in the place of all that was held; returns how many they are.
+
+        An item is a point and how often it is held, as `items` tells them: ((x, y), times). They stand in order by x and then
+        y, each point once, or it is a ValueError.
+        """
+        items = [(_whole(x), _whole(y), _index(times)) for (x, y), times in items]
+        if any(not 1 <= times <= MULTIPLICITY_LIMIT for _, _, times in items):
+            raise ValueError("how often a point is held is out of range")
+        room = (_Held * max(len(items), 1))(*items)
+        return self._ask(_LIBRARY.hull_load_held, ctypes.addressof(room), len(items)).number
+
+    def items(self):
+        """The points that are held, in order by x and then y, each with how often: ((x, y), times), one after another.
+
+        They are taken a piece at a time: where the hull changes meanwhile, what lies behind the piece is as it is then.
+        """
+        room = (_Held * 1024)()
+        x = y = -COORDINATE_LIMIT
+        while True:
+            with self._lock:
+                count = self._ask(_LIBRARY.hull_held_from, x, y, ctypes.addressof(room), len(room)).number
+                piece = [((held.x, held.y), held.times) for held in room[:count]]
+            yield from piece
+            if count < len(room) or piece[-1][0] == (COORDINATE_LIMIT, COORDINATE_LIMIT):
+                return
+            (x, y), _ = piece[-1]
+            x, y = (x, y + 1) if y < COORDINATE_LIMIT else (x + 1, -COORDINATE_LIMIT)
+
+    def __iter__(self):
+        """The points that are held, in order by x and then y, each once."""
+        return (point for point, _ in self.items())
 
     def outline(self):
         """The outline that the hull has now."""
@@ -592,6 +649,13 @@ class Hull(_Questions):
         return len(codes) - codes.count(_Code.ABSENT)
 
 
+def _hull_of(items, limit):
+    """The hull with these items."""
+    hull = Hull(limit=limit)
+    hull.load_items(items)
+    return hull
+
+
 class Outline(_Questions):
     """The corners of a hull, as `vertices` tells them, to be asked as that hull was when they were taken.
 
@@ -623,6 +687,41 @@ class Outline(_Questions):
     def _serve(self, requests, replies, count):
         """Makes so many calls, whose requests and replies stand at these places."""
         _LIBRARY.hull_outline_calls(self._corners.buffer_info()[0], self._count, requests, count, replies, count)
+
+    def _found(self, ask, *words):
+        """The reply of a call with some whole numbers, or the fault that it told."""
+        reply = ask(self._corners.buffer_info()[0], self._count, *map(_whole, words))
+        _told(reply.code)
+        return reply
+
+    def meets_segment(self, ax, ay, bx, by):
+        """Whether the outline and the segment from (ax, ay) to (bx, by), which may be one point, have a point in common."""
+        return self._found(_LIBRARY.hull_outline_meets_segment, ax, ay, bx, by).number == 1
+
+    def apart_from_segment(self, ax, ay, bx, by):
+        """A corner and a direction that parts the outline from the segment; None where they meet, or there is no corner.
+
+        No corner has a greater product with the direction than that one, and both ends of the segment have.
+        """
+        reply = self._found(_LIBRARY.hull_outline_apart, ax, ay, bx, by)
+        return _two_pairs(reply) if reply.code == _Code.APART else None
+
+    def nearest(self, x, y):
+        """Where the point is that is nearest to (x, y): None where there is no corner.
+
+        Of one pair it is at that corner; of two, at the foot on the edge between them; of none the outline covers (x, y).
+        """
+        reply = self._found(_LIBRARY.hull_outline_nearest, x, y)
+        if reply.code == _Code.EMPTY:
+            return None
+        if reply.code == _Code.EDGE:
+            return _two_pairs(reply)
+        return ((reply.x, reply.y),) if reply.code == _Code.CORNER else ()
+
+    def bounding_box(self):
+        """The least and the greatest point of the smallest box with sides along the axes; None where there is no corner."""
+        reply = self._found(_LIBRARY.hull_outline_box)
+        return _two_pairs(reply) if reply.code == _Code.BOX else None
 
     def vertices(self):
         """The corners as pairs."""

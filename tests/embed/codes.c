@@ -244,6 +244,112 @@ static void loads(void) {
     ended(h);
 }
 
+/* what is held comes out in order, whole and in pieces, and goes in again */
+static void held_points(void) {
+    enum { NUMBER = 3000 };
+    const int64_t far = HULL_COORDINATE_MAX;
+    static hull_held all[NUMBER], piece[7];
+    hull_set *h = made(NUMBER), *other = made(NUMBER);
+    CHECK(number(hull_held_from(h, 0, 0, all, NUMBER), HULL_NUMBER, 0) && number(hull_copy(other, h), HULL_NUMBER, 0));
+    for (int64_t i = 0; i < NUMBER; i++) {
+        int64_t x = place_in(i, NUMBER) % (NUMBER / 2);
+        hull_add(h, x % 40 - 20, x / 40);
+    }
+    hull_add(h, -far, -far), hull_add(h, far, far), hull_add(h, 3, far), hull_add(h, 4, -far);
+    size_t count = (size_t)hull_count(h).number;
+    CHECK(number(hull_held_from(h, -far, -far, all, NUMBER), HULL_NUMBER, count) && count == NUMBER / 2 + 4);
+    int right = 1;
+    for (size_t i = 0; i < count; i++) {
+        right &= number(hull_multiplicity(h, all[i].x, all[i].y), HULL_NUMBER, all[i].times);
+        right &= i == 0 || all[i - 1].x < all[i].x || (all[i - 1].x == all[i].x && all[i - 1].y < all[i].y);
+    }
+    CHECK(right && all[0].x == -far && all[1].times == 2);
+
+    size_t seen = 0;
+    hull_point from = {-far, -far};
+    for (size_t more = 7; more == 7;) {
+        memset(piece, 0, sizeof piece);
+        more = (size_t)hull_held_from(h, from.x, from.y, piece, 7).number;
+        right &= seen + more <= count && memcmp(piece, all + seen, more * sizeof *piece) == 0;
+        for (size_t i = more; i < 7; i++) {
+            right &= piece[i].x == 0 && piece[i].y == 0 && piece[i].times == 0;
+        }
+        seen += more;
+        from = more > 0 ? hull_held_behind(piece[more - 1]) : from;
+    }
+    CHECK(right && seen == count && from.x == far && from.y == far);
+    CHECK(number(hull_held_from(h, 3, far, piece, 1), HULL_NUMBER, 1) && piece[0].x == 3 && piece[0].y == far);
+    from = hull_held_behind(piece[0]);
+    CHECK(from.x == 4 && from.y == -far && number(hull_held_from(h, 0, 0, piece, 0), HULL_NUMBER, 0));
+    CHECK(bare(hull_held_from(h, far + 1, 0, piece, 1), HULL_OUT_OF_RANGE) && piece[0].x == 3);
+
+    hull_add(other, 5000, 5000);
+    CHECK(number(hull_copy(other, h), HULL_NUMBER, count) && number(hull_multiplicity(other, 5000, 5000), HULL_NUMBER, 0));
+    for (size_t i = 0; i < count; i++) {
+        right &= hull_remove(h, all[i].x, all[i].y).code == hull_remove(other, all[i].x, all[i].y).code;
+        right &= i % 97 != 0 || hull_area(h).number == hull_area(other).number;
+    }
+    CHECK(right);
+    CHECK(number(hull_load_held(h, all, count), HULL_NUMBER, count) && number(hull_load_held(other, all, 0), HULL_NUMBER, 0));
+    CHECK(number(hull_multiplicity(h, all[1].x, all[1].y), HULL_NUMBER, 2) && number(hull_count(other), HULL_NUMBER, 0));
+    ended(other);
+    ended(h);
+
+    h = made(2);
+    hull_add(h, 1, 2);
+    hull_held some[] = {{0, 0, 1}, {0, 1, HULL_MULTIPLICITY_MAX}, {1, -5, 3}};
+    CHECK(number(hull_load_held(h, some, 2), HULL_NUMBER, 2) && bare(hull_load_held(h, some, 3), HULL_TOO_MANY));
+    CHECK(number(hull_multiplicity(h, 0, 1), HULL_NUMBER, HULL_MULTIPLICITY_MAX));
+    for (int from_request = 0; from_request < 2; from_request++) {
+        refused_from = from_request, asked = 0;
+        CHECK(bare(hull_load_held(h, some + 1, 2), HULL_NO_MEMORY));
+    }
+    refused_from = 0, asked = 0;
+    CHECK(bare(hull_held_from(h, 0, 0, piece, 2), HULL_NO_MEMORY));
+    refused_from = -1;
+    some[1].times++;
+    CHECK(bare(hull_load_held(h, some, 2), HULL_OUT_OF_RANGE));
+    some[1].times = 0;
+    CHECK(bare(hull_load_held(h, some, 2), HULL_OUT_OF_RANGE));
+    some[1].times = 1, some[1].y = 0;
+    CHECK(bare(hull_load_held(h, some, 2), HULL_OUT_OF_ORDER));
+    some[1].y = -1;
+    CHECK(bare(hull_load_held(h, some, 3), HULL_OUT_OF_ORDER));
+    some[2].x = far + 1;
+    CHECK(bare(hull_load_held(h, some, 3), HULL_OUT_OF_RANGE));
+    CHECK(number(hull_count(h), HULL_NUMBER, 2) && number(hull_multiplicity(h, 0, 0), HULL_NUMBER, 1));
+    ended(h);
+}
+
+/* the stored bridges of a level, of which the root's are edges of the hull */
+static void bridges(void) {
+    hull_set *h = made(10);
+    hull_bridge out[4];
+    memset(out, 0, sizeof out);
+    CHECK(number(hull_bridges(h, 0, out, 4), HULL_NUMBER, 0));
+    for (int64_t x = 0; x < 4; x++) {
+        hull_add(h, x, x % 2);
+        hull_add(h, x, -3);
+    }
+    CHECK(number(hull_bridges(h, 0, out, 4), HULL_NUMBER, 1) && out[0].level == 0 && out[1].lower_right.y == 0);
+    CHECK(out[0].upper_left.x == 1 && out[0].upper_left.y == 1 && out[0].upper_right.x == 3 && out[0].upper_right.y == 1);
+    CHECK(out[0].lower_left.x == 0 && out[0].lower_left.y == -3 && out[0].lower_right.x == 3 && out[0].lower_right.y == -3);
+    uint64_t forks = 0;
+    for (uint32_t level = 0; level < 8; level++) {
+        hull_reply reply = hull_bridges(h, level, out, 4);
+        forks += reply.number;
+        CHECK(reply.code == HULL_NUMBER && reply.number <= 4 && (reply.number == 0 || out[0].level == level));
+    }
+    CHECK(forks == 7);
+    memset(out, 0, sizeof out);
+    CHECK(number(hull_bridges(h, 2, out, 1), HULL_TOO_SMALL, 4) && out[0].upper_right.x == 0);
+    refused_from = 0, asked = 0;
+    CHECK(bare(hull_bridges(h, 1, out, 4), HULL_NO_MEMORY));
+    refused_from = -1;
+    CHECK(number(hull_bridges(h, UINT32_MAX, out, 4), HULL_NUMBER, 0));
+    ended(h);
+}
+
 /* the outline answers as the hull does, at all points round it */
 static void outlines(void) {
     hull_set *h = made(50);
@@ -288,6 +394,58 @@ static void outlines(void) {
     out[0] = first, out[1].x = INT64_MIN;
     CHECK(bare(hull_is_outline(out, count), HULL_OUT_OF_RANGE));
     ended(h);
+}
+
+/* the reply is this code with two points, or a point and a direction */
+static int two(hull_reply r, uint32_t code, int64_t x, int64_t y, int64_t other_x, int64_t other_y) {
+    return r.code == code && r.x == x && r.y == y && r.other_x == other_x && r.other_y == other_y && !r.number && !r.high;
+}
+
+static __int128 product(int64_t x, int64_t y, int64_t px, int64_t py) { return (__int128)x * px + (__int128)y * py; }
+
+/* a segment that is parted is told so that a caller sees it, and one that is not has a point of the outline */
+static int parted(const hull_point *out, size_t count, const int64_t s[4]) {
+    hull_reply meets = hull_outline_meets_segment(out, count, s[0], s[1], s[2], s[3]);
+    hull_reply r = hull_outline_apart(out, count, s[0], s[1], s[2], s[3]);
+    if (r.code == HULL_MEETING) {
+        return bare(r, HULL_MEETING) && number(meets, HULL_NUMBER, 1);
+    }
+    __int128 reach = product(r.other_x, r.other_y, r.x, r.y);
+    int same = r.code == HULL_APART && number(meets, HULL_NUMBER, 0), there = 0;
+    for (size_t i = 0; i < count; i++) {
+        same &= product(r.other_x, r.other_y, out[i].x, out[i].y) <= reach;
+        there |= out[i].x == r.x && out[i].y == r.y;
+    }
+    return same && there && product(r.other_x, r.other_y, s[0], s[1]) > reach && product(r.other_x, r.other_y, s[2], s[3]) > reach;
+}
+
+/* segments, nearest points and boxes of a triangle, a line, a point and of nothing */
+static void encounters(void) {
+    static const hull_point corners[] = {{0, 0}, {8, 0}, {0, 6}};
+    int meeting = 0, same = 1;
+    for (int64_t i = 0; i < 14641; i++) {
+        const int64_t s[] = {i % 11 - 1, i / 11 % 11 - 2, i / 121 % 11 - 1, i / 1331 - 2};
+        same &= parted(corners, 3, s) && parted(corners, 2, s) && parted(corners, 1, s);
+        meeting += hull_outline_meets_segment(corners, 3, s[0], s[1], s[2], s[3]).number == 1;
+    }
+    CHECK(same && meeting > 1000 && meeting < 14000);
+    CHECK(number(hull_outline_meets_segment(corners, 3, 8, 6, 0, 6), HULL_NUMBER, 1));
+    CHECK(number(hull_outline_meets_segment(corners, 3, 8, 1, 1, 6), HULL_NUMBER, 0));
+    CHECK(number(hull_outline_meets_segment(corners, 3, -1, 3, 9, 3), HULL_NUMBER, 1));
+    CHECK(two(hull_outline_apart(corners, 3, -1, -2, 9, -2), HULL_APART, 0, 0, 0, -10));
+    CHECK(bare(hull_outline_nearest(corners, 3, 1, 1), HULL_COVERED) && bare(hull_outline_nearest(corners, 3, 4, 3), HULL_COVERED));
+    CHECK(two(hull_outline_nearest(corners, 3, -1, -1), HULL_CORNER, 0, 0, 0, 0));
+    CHECK(two(hull_outline_nearest(corners, 3, 8, -5), HULL_CORNER, 8, 0, 0, 0));
+    CHECK(two(hull_outline_nearest(corners, 3, 8, 6), HULL_EDGE, 8, 0, 0, 6));
+    CHECK(two(hull_outline_nearest(corners, 2, 4, 1), HULL_EDGE, 8, 0, 0, 0));
+    CHECK(two(hull_outline_box(corners, 3), HULL_BOX, 0, 0, 8, 6) && two(hull_outline_box(corners, 1), HULL_BOX, 0, 0, 0, 0));
+    CHECK(bare(hull_outline_box(corners, 0), HULL_EMPTY) && bare(hull_outline_nearest(corners, 0, 1, 1), HULL_EMPTY));
+    CHECK(bare(hull_outline_apart(corners, 0, 0, 0, 1, 1), HULL_EMPTY));
+    CHECK(number(hull_outline_meets_segment(corners, 0, 0, 0, 1, 1), HULL_NUMBER, 0));
+    static const int64_t over = HULL_COORDINATE_MAX + 1;
+    CHECK(bare(hull_outline_meets_segment(corners, 3, over, 0, 0, 0), HULL_OUT_OF_RANGE));
+    CHECK(bare(hull_outline_apart(corners, 3, 0, 0, 0, -over), HULL_OUT_OF_RANGE));
+    CHECK(bare(hull_outline_nearest(corners, 3, INT64_MIN, 0), HULL_OUT_OF_RANGE));
 }
 
 static void calls(void) {
@@ -377,7 +535,7 @@ static void new_ones(void) {
     }
     CHECK(strcmp(hull_code_name(HULL_ABSENT), "HULL_ABSENT") == 0);
     CHECK(strcmp(hull_code_name(HULL_IN_USE), "HULL_IN_USE") == 0);
-    CHECK(strcmp(hull_code_name(21), "no code") == 0 && strcmp(hull_code_name(UINT32_MAX), "no code") == 0);
+    CHECK(strcmp(hull_code_name(21), "HULL_OUT_OF_ORDER") == 0 && strcmp(hull_code_name(29), "no code") == 0 && strcmp(hull_code_name(UINT32_MAX), "no code") == 0);
 }
 
 int main(void) {
@@ -390,7 +548,10 @@ int main(void) {
     corners();
     many_corners();
     loads();
+    held_points();
+    bridges();
     outlines();
+    encounters();
     calls();
     refusals();
     printf("codes: %d passed, %d failed\n", passed, failed);

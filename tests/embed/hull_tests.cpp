@@ -75,6 +75,24 @@ static void outlines() {
     CHECK(refused && hull::Outline().place({0, 0}) == Place::outside);
 }
 
+static void encounters() {
+    const hull::Outline outline(square), none;
+    CHECK(outline.meets_segment({-5, 5}, {5, 15}) && !outline.meets_segment({-5, 6}, {5, 16}) && outline.meets_segment({10, 10}, {11, 11}));
+    CHECK(!outline.apart_from_segment({-5, 5}, {5, 15}));
+    const auto found = outline.apart_from_segment({-5, 6}, {5, 16});
+    CHECK(found && found->farthest == (Point{0, 10}) && found->direction == (Point{-10, 10}));
+    const auto corner = outline.nearest({12, -3}), edge = outline.nearest({3, -3}), inside = outline.nearest({3, 10});
+    CHECK(corner && corner->where == hull::Nearest::Where::corner && corner->from == (Point{10, 0}) && corner->to == corner->from);
+    CHECK(edge && edge->where == hull::Nearest::Where::edge && edge->from == (Point{0, 0}) && edge->to == (Point{10, 0}));
+    CHECK(inside && inside->where == hull::Nearest::Where::covered && inside->from == (Point{3, 10}));
+    const auto box = outline.bounding_box();
+    CHECK(box && box->least == (Point{0, 0}) && box->greatest == (Point{10, 10}));
+    CHECK(!none.meets_segment({0, 0}, {1, 1}) && !none.apart_from_segment({0, 0}, {1, 1}) && !none.nearest({0, 0}) && !none.bounding_box());
+    CHECK(refuses(Refusal::out_of_range, [&] { outline.meets_segment({0, 0}, {0, far + 1}); }));
+    CHECK(refuses(Refusal::out_of_range, [&] { outline.apart_from_segment({far + 1, 0}, {0, 0}); }));
+    CHECK(refuses(Refusal::out_of_range, [&] { outline.nearest({far + 1, 0}); }));
+}
+
 static void one_thread() {
     CHECK(refuses(Refusal::out_of_limits, [] { Hull h(0); }) && refuses(Refusal::out_of_limits, [] { Hull h(HULL_LIMIT_MAX + 1); }));
     Hull h(6);
@@ -97,6 +115,16 @@ static void one_thread() {
     CHECK(refuses(Refusal::too_many, [&] { h.add({3, 1}); }) && h.size() == 6);
     CHECK(h.load({{9, 9}, {1, 2}, {9, 9}}) == 2 && h.multiplicity({9, 9}) == 2 && h.load({}) == 0 && h.empty());
     CHECK(refuses(Refusal::out_of_range, [&] { h.load({{0, far + 1}}); }));
+    h.load({{9, 9}, {1, 2}, {9, 9}});
+    std::vector<hull::Held> held = h.held();
+    CHECK(held.size() == 2 && held[0].x == 1 && held[0].times == 1 && held[1].y == 9 && held[1].times == 2);
+    hull::Hull twin = h.copy();
+    h.load({});
+    CHECK(twin.size() == 2 && twin.multiplicity({9, 9}) == 2 && twin.limit() == h.limit() && h.held().empty());
+    std::swap(held[0], held[1]);
+    CHECK(refuses(Refusal::out_of_order, [&] { twin.load_held(held); }) && twin.size() == 2);
+    twin.load_held({});
+    CHECK(twin.empty());
     std::vector<Point> many;
     for (std::int64_t i = 0; i < 500; i++) {
         many.push_back({i, i * i});
@@ -194,6 +222,7 @@ static void threads(const char *file) {
 int main(int words, char **word) {
     one_thread();
     outlines();
+    encounters();
     exchange();
     shared();
     if (words > 1) {

@@ -1,6 +1,7 @@
 """Each method of python/hull.py, each of its answers and each of its faults."""
 import ast
 import copy
+import pickle
 import threading
 import time
 import unittest
@@ -77,6 +78,24 @@ class Calls(unittest.TestCase):
         self.assertEqual(Hull([(0, 0)] * 65535, limit=1).multiplicity(0, 0), 65535)
         self.assertRaises(TooMany, Hull, SQUARE, limit=4)
 
+    def test_items(self):
+        hull, far = self.hull, COORDINATE_LIMIT
+        hull.add(4, 4)
+        self.assertEqual(list(hull), sorted(SQUARE))
+        self.assertEqual(dict(hull.items()), {point: 2 if point == (4, 4) else 1 for point in SQUARE})
+        for other in (hull.copy(), copy.copy(hull), copy.deepcopy(hull), pickle.loads(pickle.dumps(hull))):
+            self.assertEqual((list(other.items()), other.limit(), other.vertices()), (list(hull.items()), 6, hull.vertices()))
+            other.clear()
+        self.assertEqual(len(hull), 5)
+        wide = Hull([(x, y * far) for x in range(-700, 700) for y in (-1, 1)] + [(far, far)])
+        self.assertEqual((len(list(wide)), list(wide)[-1], list(Hull())), (2801, (far, far), []))
+        self.assertEqual((hull.load_items([((0, 0), 3), ((0, 1), 1)]), hull.multiplicity(0, 0)), (2, 3))
+        for wrong in ([((0, 1), 1), ((0, 0), 1)], [((0, 0), 1)] * 2, [((0, 0), 0)], [((0, 0), 65536)], [((far + 1, 0), 1)]):
+            self.assertRaises(ValueError, hull.load_items, wrong)
+            self.assertEqual(list(hull.items()), [((0, 0), 3), ((0, 1), 1)])
+        self.assertRaises(TooMany, hull.load_items, [((x, 0), 1) for x in range(7)])
+        self.assertEqual((hull.load_items([]), len(hull)), (0, 0))
+
     def test_many_questions(self):
         self.assertEqual(self.hull.extreme_all([(1, 0), (0, 1), (-1, -1)]), [(10, 0), (0, 10), (0, 0)])
         seen = [((10, 0), (10, 10)), None, ((0, 10), (0, 0))]
@@ -150,6 +169,24 @@ class Calls(unittest.TestCase):
         self.assertRaises(ZeroDirection, outline.extreme, 0, 0)
         self.assertRaises(OutOfRange, outline.place, COORDINATE_LIMIT + 1, 0)
 
+    def test_encounters(self):
+        outline = hull_module.Outline([(0, 0), (10, 0), (10, 10), (0, 10)])
+        self.assertTrue(outline.meets_segment(-5, 5, 5, 15))
+        self.assertFalse(outline.meets_segment(-5, 6, 5, 16))
+        self.assertIsNone(outline.apart_from_segment(-5, 5, 5, 15))
+        self.assertEqual(outline.apart_from_segment(-5, 6, 5, 16), ((0, 10), (-10, 10)))
+        self.assertEqual(outline.nearest(12, -3), ((10, 0),))
+        self.assertEqual(outline.nearest(3, -3), ((0, 0), (10, 0)))
+        self.assertEqual(outline.nearest(3, 10), ())
+        self.assertEqual(outline.bounding_box(), ((0, 0), (10, 10)))
+        none = hull_module.Outline([])
+        self.assertFalse(none.meets_segment(0, 0, 1, 1))
+        self.assertEqual((none.apart_from_segment(0, 0, 1, 1), none.nearest(0, 0), none.bounding_box()), (None, None, None))
+        far = COORDINATE_LIMIT + 1
+        self.assertRaises(OutOfRange, outline.meets_segment, 0, 0, far, 0)
+        self.assertRaises(OutOfRange, outline.apart_from_segment, far, 0, 0, 0)
+        self.assertRaises(OutOfRange, outline.nearest, 0, 1 << 70)
+
     def test_outline_by_threads(self):
         outline = Hull([(x, x * x) for x in range(-500, 500)]).outline()
         asked = [(x, 250000 - 900 * x) for x in range(-500, 500)]
@@ -178,7 +215,6 @@ class Calls(unittest.TestCase):
             for call in (self.hull.add_all, self.hull.remove_all, self.hull.place_all):
                 self.assertRaises(OutOfRange, call, points)
         self.assertNotIn((1, 1), self.hull)
-        self.assertRaises(TypeError, copy.copy, self.hull)
 
     def test_arrays(self):
         points = [(x, y) for x in range(-2, 13) for y in range(-2, 13)]

@@ -1,5 +1,6 @@
 //! Each function of `rust/hull`, each of its answers and each of its faults.
-use hull::{wkt, Fault, Hull, Lattice, Outline, Place, Point, COORDINATE_LIMIT, MULTIPLICITY_LIMIT, POINT_LIMIT};
+use hull::{wkt, Fault, Held, Hull, Lattice, Nearest, Outline, Place, Point, Separation};
+use hull::{COORDINATE_LIMIT, MULTIPLICITY_LIMIT, POINT_LIMIT};
 
 fn point(x: i64, y: i64) -> Point {
     Point { x, y }
@@ -32,6 +33,16 @@ fn loads() {
     assert_eq!(hull.load(&[point(0, 0); 65536]), Err(Fault::TooMany));
     assert_eq!((hull.len(), hull.limit(), hull.multiplicity(point(9, 9))), (2, limit, Ok(2)));
     assert_eq!((hull.load(&[]), hull.len()), (Ok(0), 0));
+    hull.load(&[point(9, 9), point(1, 2), point(9, 9)]).unwrap();
+    let mut held = hull.held().unwrap();
+    assert_eq!(held, [Held { point: point(1, 2), times: 1 }, Held { point: point(9, 9), times: 2 }]);
+    let mut twin = hull.try_clone().unwrap();
+    assert_eq!((hull.load(&[]), hull.held(), twin.limit()), (Ok(0), Ok(vec![]), hull.limit()));
+    let mut one = [Held { point: point(0, 0), times: 0 }];
+    assert_eq!((twin.held_from(point(1, 3), &mut one), one[0]), (Ok(1), held[1]));
+    held.swap(0, 1);
+    assert_eq!((twin.load_held(&held), twin.len()), (Err(Fault::OutOfOrder), 2));
+    assert_eq!((twin.load_held(&[]), twin.len()), (Ok(()), 0));
     let many: Vec<Point> = (0..1000).map(|i| point(i * 7 % 1000, i * i)).collect();
     assert_eq!(Hull::from_points(999, &many).unwrap_err(), Fault::TooMany);
     let mut slow = Hull::new(1000).unwrap();
@@ -66,6 +77,28 @@ fn outlines() {
     assert_eq!(Outline::new(&[point(0, 0), point(1, 0), point(2, 0)]), Err(Fault::NoOutline));
     assert_eq!(Outline::new(&[point(0, COORDINATE_LIMIT + 1)]), Err(Fault::OutOfRange));
     assert_eq!(outline.place(point(0, COORDINATE_LIMIT + 1)), Err(Fault::OutOfRange));
+}
+
+#[test]
+fn encounters() {
+    let outline = Outline::new(&[point(0, 0), point(10, 0), point(10, 10), point(0, 10)]).unwrap();
+    assert_eq!(outline.meets_segment(point(-5, 5), point(5, 15)), Ok(true));
+    assert_eq!(outline.meets_segment(point(-5, 6), point(5, 16)), Ok(false));
+    assert_eq!(outline.apart_from_segment(point(-5, 5), point(5, 15)), Ok(None));
+    let parted = Separation { farthest: point(0, 10), direction: point(-10, 10) };
+    assert_eq!(outline.apart_from_segment(point(-5, 6), point(5, 16)), Ok(Some(parted)));
+    assert_eq!(outline.nearest(point(12, -3)), Ok(Some(Nearest::Corner(point(10, 0)))));
+    assert_eq!(outline.nearest(point(3, -3)), Ok(Some(Nearest::Edge(point(0, 0), point(10, 0)))));
+    assert_eq!(outline.nearest(point(3, 10)), Ok(Some(Nearest::Covered)));
+    assert_eq!(outline.bounding_box(), Some((point(0, 0), point(10, 10))));
+    let none = Outline::new(&[]).unwrap();
+    assert_eq!(none.meets_segment(point(0, 0), point(1, 1)), Ok(false));
+    assert_eq!(none.apart_from_segment(point(0, 0), point(1, 1)), Ok(None));
+    assert_eq!((none.nearest(point(0, 0)), none.bounding_box()), (Ok(None), None));
+    let far = point(0, COORDINATE_LIMIT + 1);
+    assert_eq!(outline.meets_segment(far, point(0, 0)), Err(Fault::OutOfRange));
+    assert_eq!(outline.apart_from_segment(point(0, 0), far), Err(Fault::OutOfRange));
+    assert_eq!(outline.nearest(far), Err(Fault::OutOfRange));
 }
 
 #[test]

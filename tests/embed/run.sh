@@ -74,7 +74,7 @@ compile() {
 }
 
 in_c() {
-    for name in first placement; do
+    for name in first placement motions; do
         try "examples/embed/$name.c compiles by what is installed" compile "$name"
         try "examples/embed/$name.c writes examples/embed/$name.txt" writes "$examples/$name.txt" "$room/$name"
     done
@@ -121,7 +121,7 @@ in_cplusplus() {
 }
 
 by_valgrind() {
-    for name in first placement codes; do
+    for name in first placement motions codes; do
         try "valgrind finds nothing in $name" \
             valgrind -q --error-exitcode=9 --leak-check=full --show-leak-kinds=all --errors-for-leak-kinds=all "$room/$name"
     done

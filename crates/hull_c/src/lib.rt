@@ -15,6 +15,9 @@ ghost use Rattle.hull_tree.specs.Sets.{hull_tree};
 ghost use Rattle.hull_reply.specs.Left.{leaves};
 ghost use Rattle.hull_reply.specs.Rooms.{room_alignment, room_size};
 ghost use Rattle.hull_reply.specs.Served.{IsAnswered};
+ghost use Rattle.hull_c.specs.Bridges.{AreBridges};
+ghost use Rattle.hull_c.specs.Findings.{IsToldOf, TellsBox, TellsNearest, TellsParting, TellsWhether};
+ghost use Rattle.hull_c.specs.Held.{AreLoaded, IsListed};
 ghost use Rattle.hull_c.specs.Left.{leaves_room};
 ghost use Rattle.hull_c.specs.Loads.{IsLoaded};
 ghost use Rattle.hull_c.specs.Outlines.{AreOutlineAnswers, IsOutlineAnswer, TellsOutline};
@@ -22,15 +25,20 @@ ghost use Rattle.hull_outline.specs.Outlines.{IsShortOutline};
 ghost use Rattle.hull_c.specs.Requests.{AreServed};
 ghost use Rattle.hull_c.specs.Calls.{AreCorners, IsCleared, IsFresh, IsLimitOf};
 
+mod bridges;
 mod calls;
 mod corners;
+mod findings;
+mod held;
 mod load;
 mod outline;
 mod requests;
 #[cfg(test)]
 mod tests;
 
+pub use bridges::HullBridge;
 use heap::Heap;
+pub use held::HullHeld;
 pub use hull_reply::HullPoint;
 use hull_reply::HullReply;
 use hull_tree::SparingTree;
@@ -103,6 +111,63 @@ pub unsafe extern "C" fn hull_load(alloc: Heap, at: *mut u8, points: &[HullPoint
     load::load(alloc, unsafe { &mut *hull }, points)
 }
 
+/// Holds the points of the array, which are in order by x and then y, each as often as it says, in the place of all that the
+/// hull held; or leaves the hull as it was.
+///
+/// # Safety
+///
+/// A hull lies at `at`, and no other call on it is under way.
+#[unsafe(no_mangle)]
+pub unsafe extern "C" fn hull_load_held(alloc: Heap, at: *mut u8, held: &[HullHeld]) -> HullReply
+    ghost t: { the_row.Denot }
+    requires* { sem 𝓛 (lies_at the_row full_share at t) }
+    ensures* { sem 𝓛 (leaves the_row at (λ new. AreLoaded held.now t new result)) }
+{
+    let hull = at as *mut SparingTree;
+    held::load(alloc, unsafe { &mut *hull }, held)
+}
+
+/// Writes the points from (`x`, `y`) on by x and then y, each with how often it is held, to the front of the array, until
+/// it is full or there are no more.
+///
+/// # Safety
+///
+/// A hull lies at `at`, and no other call on it is under way.
+#[unsafe(no_mangle)]
+pub unsafe extern "C" fn hull_held_from(
+    at: *mut u8,
+    x: i64,
+    y: i64,
+    out: &mut [HullHeld],
+) -> HullReply
+    ghost t: { the_row.Denot }
+    requires* { sem 𝓛 (lies_at the_row full_share at t) }
+    ensures* { sem 𝓛 (leaves the_row at (λ new. IsListed t new x y out.old out.new result)) }
+{
+    let hull = at as *mut SparingTree;
+    held::list(unsafe { &mut *hull }, x, y, out)
+}
+
+/// Writes the bridges that the forks of a level of the tree store to the front of the array, from left to right; the root
+/// stands on level 0.
+///
+/// # Safety
+///
+/// A hull lies at `at`, and no other call on it is under way.
+#[unsafe(no_mangle)]
+pub unsafe extern "C" fn hull_bridges(
+    at: *mut u8,
+    level: u32,
+    out: &mut [HullBridge],
+) -> HullReply
+    ghost t: { the_row.Denot }
+    requires* { sem 𝓛 (lies_at the_row full_share at t) }
+    ensures* { sem 𝓛 (leaves the_row at (λ new. AreBridges t new level out.old out.new result)) }
+{
+    let hull = at as *mut SparingTree;
+    bridges::bridges(unsafe { &mut *hull }, level, out)
+}
+
 /// Takes all points out of the hull.
 ///
 /// # Safety
@@ -155,6 +220,55 @@ pub extern "C" fn hull_outline_calls(
     ensures { AreOutlineAnswers corners.now requests.now replies.old replies.new result }
 {
     outline::ask_all(corners, requests, replies)
+}
+
+/// Tells whether the hull of these corners and the segment from (ax, ay) to (bx, by) have a point in common: 1, or 0.
+#[unsafe(no_mangle)]
+pub extern "C" fn hull_outline_meets_segment(
+    corners: &[Point],
+    ax: i64,
+    ay: i64,
+    bx: i64,
+    by: i64,
+) -> HullReply
+    requires { IsShortOutline corners.now }
+    ensures { IsToldOf ax ay (λ a. IsToldOf bx by (TellsWhether corners.now a)) result }
+{
+    findings::meets_segment(corners, ax, ay, bx, by)
+}
+
+/// A direction that parts the hull of these corners from the segment from (ax, ay) to (bx, by), with the farthest of the
+/// corners in it; or that they meet.
+#[unsafe(no_mangle)]
+pub extern "C" fn hull_outline_apart(
+    corners: &[Point],
+    ax: i64,
+    ay: i64,
+    bx: i64,
+    by: i64,
+) -> HullReply
+    requires { IsShortOutline corners.now }
+    ensures { IsToldOf ax ay (λ a. IsToldOf bx by (TellsParting corners.now a)) result }
+{
+    findings::apart(corners, ax, ay, bx, by)
+}
+
+/// The corner or the edge of these corners' hull that is nearest to (x, y); or that it covers that point.
+#[unsafe(no_mangle)]
+pub extern "C" fn hull_outline_nearest(corners: &[Point], x: i64, y: i64) -> HullReply
+    requires { IsShortOutline corners.now }
+    ensures { IsToldOf x y (TellsNearest corners.now) result }
+{
+    findings::nearest(corners, x, y)
+}
+
+/// The least and the greatest point of the smallest box, with sides along the axes, that holds the corners.
+#[unsafe(no_mangle)]
+pub extern "C" fn hull_outline_box(corners: &[Point]) -> HullReply
+    requires { IsShortOutline corners.now }
+    ensures { TellsBox corners.now result }
+{
+    findings::bounding_box(corners)
 }
 
 /// Tells whether points are the corners of a set in the order in which [`hull_vertices`] writes them: 1, or 0.

@@ -30,6 +30,7 @@ code_number code.Number = 17
 code_number code.Corners = 18
 code_number code.TooSmall = 19
 code_number code.Cleared = 20
+code_number code.OutOfOrder = 21
 code_number code.UnknownKind = 22
 code_number code.Open = 32
 code_number code.OutOfLimits = 33

@@ -44,6 +44,8 @@ pub enum Code {
     TooSmall = 19,
     /// The hull has no point any more.
     Cleared = 20,
+    /// A point of an array in order does not stand behind the one before it. Nothing changed.
+    OutOfOrder = 21,
     /// No kind of request has this number. Nothing changed.
     UnknownKind = 22,
     /// The desk is open now.

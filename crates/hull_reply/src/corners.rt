@@ -29,7 +29,7 @@ impl Model for HullPoint {
 
 impl HullPoint {
     /// The point, with its coordinates open.
-    fn of(point: Point) -> HullPoint
+    pub fn of(point: Point) -> HullPoint
         ensures { result ≡ point }
     {
         HullPoint {

@@ -1,6 +1,6 @@
 //! What a reply in numbers tells, in types of Rust. Both libraries tell by the same numbers.
 use crate::raw::{code, Reply};
-use crate::{Fault, Place, Point};
+use crate::{Fault, Nearest, Place, Point, Separation};
 
 /// How often a point is held that was added.
 pub(crate) fn times_added(reply: Reply) -> Result<u32, Fault> {
@@ -46,6 +46,29 @@ pub(crate) fn extreme(reply: Reply) -> Result<Option<Point>, Fault> {
     }
 }
 
+pub(crate) fn separation(reply: Reply) -> Result<Option<Separation>, Fault> {
+    match reply.code {
+        code::APART => Ok(Some(Separation { farthest: reply.point(), direction: reply.other_point() })),
+        code::MEETING | code::EMPTY => Ok(None),
+        other => Err(fault_of(other)),
+    }
+}
+
+pub(crate) fn nearest(reply: Reply) -> Result<Option<Nearest>, Fault> {
+    match reply.code {
+        code::COVERED => Ok(Some(Nearest::Covered)),
+        code::CORNER => Ok(Some(Nearest::Corner(reply.point()))),
+        code::EDGE => Ok(Some(Nearest::Edge(reply.point(), reply.other_point()))),
+        code::EMPTY => Ok(None),
+        other => Err(fault_of(other)),
+    }
+}
+
+/// The least and the greatest point of a box.
+pub(crate) fn bounds(reply: Reply) -> Option<(Point, Point)> {
+    (reply.code == code::BOX).then(|| (reply.point(), reply.other_point()))
+}
+
 /// A number that is told: of points, of corners, also where those have no room, or the doubled area.
 pub(crate) fn number(reply: Reply) -> Result<u128, Fault> {
     match reply.code {
@@ -61,6 +84,7 @@ pub(crate) fn fault_of(code: u32) -> Fault {
         code::ZERO_DIRECTION => Fault::ZeroDirection,
         code::TOO_MANY => Fault::TooMany,
         code::NO_MEMORY => Fault::NoMemory,
+        code::OUT_OF_ORDER => Fault::OutOfOrder,
         code::OUT_OF_LIMITS => Fault::BadLimit,
         code::NO_SEAT => Fault::NoSeat,
         code::NOT_OPEN => Fault::NotOpen,

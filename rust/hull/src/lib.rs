@@ -28,8 +28,8 @@ use std::fmt;
 use std::ptr::NonNull;
 
 pub use exchange::{wkt, Lattice, Rounded};
-pub use outline::Outline;
-pub use raw::Point;
+pub use outline::{Nearest, Outline, Separation};
+pub use raw::{Held, Point};
 pub use shared::{Limits, Seat, SharedHull, CAPACITY_LIMIT, SEAT_LIMIT};
 
 /// The greatest size of a coordinate, of a point and of a direction: 2^40.
@@ -53,6 +53,8 @@ pub enum Fault {
     TooMany,
     /// Memory was refused.
     NoMemory,
+    /// A held point does not stand behind the one before it, by x and then y.
+    OutOfOrder,
     /// A limit, a capacity or a number of seats is 0 or too great.
     BadLimit,
     /// The seat is out, or the shared hull has none of this number.
@@ -74,6 +76,7 @@ impl fmt::Display for Fault {
             Fault::ZeroDirection => "a direction is zero",
             Fault::TooMany => "there are as many points as the limit, or the point is held as often as may be",
             Fault::NoMemory => "memory was refused",
+            Fault::OutOfOrder => "the held points are not in order",
             Fault::BadLimit => "a limit of a hull is out of range",
             Fault::NoOutline => "the points are not the corners of a hull, in their order",
             Fault::NoSeat => "there is no such seat at the hull",
@@ -133,6 +136,42 @@ impl Hull {
         // SAFETY: as in `call`; the points are a slice's own, and a slice's pointer is not null.
         let reply = unsafe { raw::hull_load(self.room.as_ptr(), points.as_ptr(), points.len()) };
         answer::number(reply).map(|number| number as usize)
+    }
+
+    /// Holds just these points, which stand in order by x and then y, each once and as often as it says, in the place of all that
+    /// was held. A fault leaves the hull as it was; how often a point is held is out of range at 0 and above
+    /// [`MULTIPLICITY_LIMIT`].
+    pub fn load_held(&mut self, held: &[Held]) -> Result<(), Fault> {
+        // SAFETY: as in `load`.
+        let reply = unsafe { raw::hull_load_held(self.room.as_ptr(), held.as_ptr(), held.len()) };
+        answer::number(reply).map(|_| ())
+    }
+
+    /// Writes the held points that do not stand before `start`, in order by x and then y, to the front of the array until it is
+    /// full, and tells how many they are.
+    pub fn held_from(&self, start: Point, out: &mut [Held]) -> Result<usize, Fault> {
+        // SAFETY: as in `call`; the array is a slice's own.
+        let reply =
+            unsafe { raw::hull_held_from(self.room.as_ptr(), start.x, start.y, out.as_mut_ptr(), out.len()) };
+        answer::number(reply).map(|number| number as usize)
+    }
+
+    /// The points that are held, in order by x and then y, each with how often.
+    pub fn held(&self) -> Result<Vec<Held>, Fault> {
+        let mut all = Vec::new();
+        all.try_reserve_exact(self.len()).map_err(|_| Fault::NoMemory)?;
+        all.resize(self.len(), Held { point: NOWHERE, times: 0 });
+        let first = Point { x: -COORDINATE_LIMIT, y: -COORDINATE_LIMIT };
+        let count = self.held_from(first, &mut all)?;
+        all.truncate(count);
+        Ok(all)
+    }
+
+    /// Another hull that holds the same, each point as often, with the same limit.
+    pub fn try_clone(&self) -> Result<Hull, Fault> {
+        let mut other = Hull::new(self.limit())?;
+        other.load_held(&self.held()?)?;
+        Ok(other)
     }
 
     fn layout() -> Layout {

@@ -11,6 +11,27 @@ pub struct Outline {
     corners: Arc<[Point]>,
 }
 
+/// A direction that parts an outline from a segment: no corner has a greater product with it than `farthest`, a corner, and both
+/// ends of the segment have.
+#[derive(Clone, Copy, Debug, PartialEq, Eq)]
+pub struct Separation {
+    /// A corner that lies farthest in the direction.
+    pub farthest: Point,
+    /// The direction, each component at most 2^41 in size: a product takes 128 bits.
+    pub direction: Point,
+}
+
+/// Where the point of an outline is that is nearest to another point.
+#[derive(Clone, Copy, Debug, PartialEq, Eq)]
+pub enum Nearest {
+    /// The outline covers the point: it is its own nearest.
+    Covered,
+    /// At a corner.
+    Corner(Point),
+    /// At its foot on the edge from one corner to the next, strictly between them.
+    Edge(Point, Point),
+}
+
 impl Outline {
     /// The outline of these corners: counterclockwise from the first by x and then by y, and none inside an edge;
     /// [`Fault::NoOutline`] where they are not.
@@ -52,5 +73,34 @@ impl Outline {
     pub fn doubled_area(&self) -> u128 {
         let reply = self.ask(kind::AREA, NOWHERE);
         u128::from(reply.high) << 64 | u128::from(reply.number)
+    }
+
+    /// Whether the outline and the segment from `a` to `b`, which may be one point, have a point in common.
+    pub fn meets_segment(&self, a: Point, b: Point) -> Result<bool, Fault> {
+        let corners = &self.corners;
+        // SAFETY: the corners are an outline, as `new` saw, and nobody writes them.
+        let told = unsafe { raw::hull_outline_meets_segment(corners.as_ptr(), corners.len(), a.x, a.y, b.x, b.y) };
+        answer::number(told).map(|number| number == 1)
+    }
+
+    /// What parts the outline from the segment from `a` to `b`; `None` where they meet, and for an outline of no corners.
+    pub fn apart_from_segment(&self, a: Point, b: Point) -> Result<Option<Separation>, Fault> {
+        let corners = &self.corners;
+        // SAFETY: the same.
+        let told = unsafe { raw::hull_outline_apart(corners.as_ptr(), corners.len(), a.x, a.y, b.x, b.y) };
+        answer::separation(told)
+    }
+
+    /// Where the point is that is nearest to `point`; `None` for an outline of no corners.
+    pub fn nearest(&self, point: Point) -> Result<Option<Nearest>, Fault> {
+        // SAFETY: the same.
+        let told = unsafe { raw::hull_outline_nearest(self.corners.as_ptr(), self.corners.len(), point.x, point.y) };
+        answer::nearest(told)
+    }
+
+    /// The least and the greatest point of the smallest box with sides along the axes; `None` for an outline of no corners.
+    pub fn bounding_box(&self) -> Option<(Point, Point)> {
+        // SAFETY: the same.
+        answer::bounds(unsafe { raw::hull_outline_box(self.corners.as_ptr(), self.corners.len()) })
     }
 }

@@ -11,6 +11,16 @@ pub struct Point {
     pub y: i64,
 }
 
+/// A point that is held, and how often.
+#[repr(C)]
+#[derive(Clone, Copy, Debug, PartialEq, Eq, PartialOrd, Ord, Hash)]
+pub struct Held {
+    /// The point.
+    pub point: Point,
+    /// How often it is held.
+    pub times: u32,
+}
+
 #[repr(C)]
 #[derive(Clone, Copy)]
 pub(crate) struct Reply {
@@ -72,6 +82,13 @@ pub(crate) mod code {
     pub const NUMBER: u32 = 17;
     pub const CORNERS: u32 = 18;
     pub const TOO_SMALL: u32 = 19;
+    pub const OUT_OF_ORDER: u32 = 21;
+    pub const MEETING: u32 = 23;
+    pub const APART: u32 = 24;
+    pub const COVERED: u32 = 25;
+    pub const CORNER: u32 = 26;
+    pub const EDGE: u32 = 27;
+    pub const BOX: u32 = 28;
     pub const OPEN: u32 = 32;
     pub const OUT_OF_LIMITS: u32 = 33;
     pub const LENT: u32 = 35;
@@ -109,7 +126,27 @@ extern "C" {
     pub(crate) fn hull_clear(hull: *mut u8) -> Reply;
     pub(crate) fn hull_is_outline(points: *const Point, count: usize) -> Reply;
     pub(crate) fn hull_outline_call(corners: *const Point, count: usize, kind: u32, x: i64, y: i64) -> Reply;
+    pub(crate) fn hull_outline_meets_segment(
+        corners: *const Point,
+        count: usize,
+        ax: i64,
+        ay: i64,
+        bx: i64,
+        by: i64,
+    ) -> Reply;
+    pub(crate) fn hull_outline_apart(
+        corners: *const Point,
+        count: usize,
+        ax: i64,
+        ay: i64,
+        bx: i64,
+        by: i64,
+    ) -> Reply;
+    pub(crate) fn hull_outline_nearest(corners: *const Point, count: usize, x: i64, y: i64) -> Reply;
+    pub(crate) fn hull_outline_box(corners: *const Point, count: usize) -> Reply;
     pub(crate) fn hull_load(hull: *mut u8, points: *const Point, count: usize) -> Reply;
+    pub(crate) fn hull_held_from(hull: *mut u8, x: i64, y: i64, out: *mut Held, room: usize) -> Reply;
+    pub(crate) fn hull_load_held(hull: *mut u8, held: *const Held, count: usize) -> Reply;
     pub(crate) fn hull_calls(
         hull: *mut u8,
         requests: *const Request,

@@ -1,0 +1,36 @@
+-- where there are corners, what is not parted meets
+use Rattle.std.proofs.Common.{◌≡◌, ◌<◌, ◌⊎◌, List, [], length, sym, subst, arith, inl, inr}
+use Rattle.lattice.specs.Plane.{Pair}
+use Rattle.hull_outline.specs.Meetings.{Meets, segment}
+use Rattle.hull_outline.specs.Outlines.{HoldsOfSetsOf, IsOutlineOf}
+use Rattle.hull_outline.proofs.Corners.{corner_extreme}
+use Rattle.hull_c.proofs.findings.parting.Goals as goal
+
+-- a set with corners is not empty
+not_empty : (S V : List Pair) → IsOutlineOf S V → 0 < length V → S ≡ [] → ⊥
+not_empty S V o n e =
+    let m = (corner_extreme S V 0 o.1 n).0 in
+    let l : 0 < length S = omega (arith, m.1) in
+    absurd (omega (arith, subst (λ (z : List Pair). 0 < length z) e l))
+
+-- so what is said of it or of an empty one is said of it
+said_of : (V : List Pair) (P : List Pair → Type 0) → 0 < length V
+    → HoldsOfSetsOf V (λ S. (S ≡ []) ⊎ P S) → HoldsOfSetsOf V P
+said_of V P n h S o = elim (h S o) [ inl e ↦ absurd (not_empty S V o n e) | inr p ↦ p ]
+
+pub returns-in-Some : goal.returns-in-Some
+returns-in-Some c = inr (inr (
+  c.in-Some.found,
+  c.parted.ensures,
+  λ S o. c.in-Some.ensures S (subst (IsOutlineOf S) (sym c.of_vertices.ensures) o),
+))
+
+pub returns-in-None : goal.returns-in-None
+returns-in-None c =
+    let V = c.args.corners.now in
+    inr (inl (
+      c.bare-in-None.ensures,
+      said_of V (λ S. Meets S (segment c.args.a c.args.b)) (grind (arith, c.is_empty.ensures, c.if-is_empty.false))
+          (subst (λ (W : List Pair). HoldsOfSetsOf W (λ S. (S ≡ []) ⊎ Meets S (segment c.args.a c.args.b)))
+          c.of_vertices.ensures c.in-None.ensures),
+    ))

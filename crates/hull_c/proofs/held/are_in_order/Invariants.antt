@@ -1,0 +1,11 @@
+-- the points so far are in order
+use Rattle.std.proofs.Common.{◌≤◌}
+use Rattle.hull_tree.specs.Loaded.{points_listed}
+use Rattle.hull_c.proofs.InOrder.{AreInOrderTo}
+use Rattle.hull_c.proofs.held.are_in_order.Given as goal
+
+abbrev pub invariant-loop-i : goal.invariant-loop-i
+invariant-loop-i l = record {
+  some : 1 ≤ l.i;
+  in_order : AreInOrderTo l.i (points_listed l.array);
+}

@@ -1,0 +1,201 @@
+//! Segments, boxes and nearest points of an array of corners.
+ghost use Rattle.std.specs.Prelude.{◌≡◌, Some};
+ghost use Rattle.lattice.specs.Plane.{Pair};
+ghost use Rattle.hull_plain.specs.Positions.{origin};
+ghost use Rattle.hull_outline.specs.Outlines.{IsShortOutline};
+ghost use Rattle.hull_c.specs.Findings.{finding_number, IsBoxTold, IsFound, IsNearestTold, IsToldOf};
+ghost use Rattle.hull_c.specs.Findings.{TellsBox, TellsNearest, TellsParting, TellsWhether};
+
+use hull_outline::{Nearest, Outline, Separation};
+use hull_reply::{Code, HullReply, point_of};
+use lattice::Point;
+
+/// What was found. The header names each by its number, among those of [`Code`].
+#[derive(Clone, Copy)]
+pub(crate) enum Finding {
+    /// They have a point in common.
+    Meeting = 23,
+    /// They are parted: by a direction, with the farthest point in it.
+    Apart = 24,
+    /// The point is covered.
+    Covered = 25,
+    /// A corner.
+    Corner = 26,
+    /// An edge, from one corner to the next.
+    Edge = 27,
+    /// A box, from its least point to its greatest.
+    Bounds = 28,
+}
+
+impl Finding {
+    /// The number of the header.
+    fn number(self) -> u32
+        ensures { result ≡ finding_number self }
+    {
+        self as u32
+    }
+}
+
+/// A finding alone.
+fn bare(finding: Finding) -> HullReply
+    ensures { IsFound finding origin origin result }
+{
+    let mut reply = HullReply::bare(Code::Empty);
+    reply.code = finding.number();
+    reply
+}
+
+/// A finding with a point.
+fn with_point(finding: Finding, p: Point) -> HullReply
+    ensures { IsFound finding p origin result }
+{
+    let mut reply = bare(finding);
+    reply.x = p.x();
+    reply.y = p.y();
+    reply
+}
+
+/// A finding with two points.
+fn with_points(finding: Finding, p: Point, q: Point) -> HullReply
+    ensures { IsFound finding p q result }
+{
+    let mut reply = with_point(finding, p);
+    reply.other_x = q.x();
+    reply.other_y = q.y();
+    reply
+}
+
+/// A direction that parts, with the farthest point in it.
+fn parted(found: Separation) -> HullReply
+    ensures { IsFound Finding.Apart found.farthest found.direction result }
+{
+    let mut reply = with_point(Finding::Apart, found.farthest);
+    reply.other_x = found.direction.x();
+    reply.other_y = found.direction.y();
+    reply
+}
+
+/// Whether the outline and the segment from `a` to `b` meet.
+fn whether(corners: &[Point], a: Point, b: Point) -> HullReply
+    requires { IsShortOutline corners.now }
+    ensures { TellsWhether corners.now a b result }
+{
+    let meets = Outline::of_vertices(corners).meets_segment(a, b);
+    HullReply::numbered(Code::Number, u64::from(meets))
+}
+
+/// What parts the outline from the segment from `a` to `b`.
+fn parting(corners: &[Point], a: Point, b: Point) -> HullReply
+    requires { IsShortOutline corners.now }
+    ensures { TellsParting corners.now a b result }
+{
+    if corners.is_empty() {
+        return HullReply::bare(Code::Empty);
+    }
+    match Outline::of_vertices(corners).apart_from_segment(a, b) {
+        Some(found) => parted(found),
+        None => bare(Finding::Meeting),
+    }
+}
+
+/// Whether the corners and the segment from `a` to the point of two numbers meet.
+fn whether_to(corners: &[Point], a: Point, x: i64, y: i64) -> HullReply
+    requires { IsShortOutline corners.now }
+    ensures { IsToldOf x y (TellsWhether corners.now a) result }
+{
+    match point_of(x, y) {
+        Ok(b) => whether(corners, a, b),
+        Err(fault) => HullReply::bare(fault),
+    }
+}
+
+/// What parts the corners from the segment from `a` to the point of two numbers.
+fn parting_to(corners: &[Point], a: Point, x: i64, y: i64) -> HullReply
+    requires { IsShortOutline corners.now }
+    ensures { IsToldOf x y (TellsParting corners.now a) result }
+{
+    match point_of(x, y) {
+        Ok(b) => parting(corners, a, b),
+        Err(fault) => HullReply::bare(fault),
+    }
+}
+
+/// Whether the corners and the segment between the points of four numbers meet.
+pub(crate) fn meets_segment(corners: &[Point], ax: i64, ay: i64, bx: i64, by: i64) -> HullReply
+    requires { IsShortOutline corners.now }
+    ensures { IsToldOf ax ay (λ a. IsToldOf bx by (TellsWhether corners.now a)) result }
+{
+    match point_of(ax, ay) {
+        Ok(a) => whether_to(corners, a, bx, by),
+        Err(fault) => HullReply::bare(fault),
+    }
+}
+
+/// What parts the corners from the segment between the points of four numbers.
+pub(crate) fn apart(corners: &[Point], ax: i64, ay: i64, bx: i64, by: i64) -> HullReply
+    requires { IsShortOutline corners.now }
+    ensures { IsToldOf ax ay (λ a. IsToldOf bx by (TellsParting corners.now a)) result }
+{
+    match point_of(ax, ay) {
+        Ok(a) => parting_to(corners, a, bx, by),
+        Err(fault) => HullReply::bare(fault),
+    }
+}
+
+/// Where a nearest point is, in numbers.
+fn place_told(place: Nearest) -> HullReply
+    ensures { IsNearestTold (Some place) result }
+{
+    match place {
+        Nearest::Covered => bare(Finding::Covered),
+        Nearest::Corner(c) => with_point(Finding::Corner, c),
+        Nearest::Edge(a, b) => with_points(Finding::Edge, a, b),
+    }
+}
+
+/// Where the nearest point is, if there is one.
+fn nearest_told(place: Option<Nearest>) -> HullReply
+    ensures { IsNearestTold place result }
+{
+    match place {
+        None => HullReply::bare(Code::Empty),
+        Some(found) => place_told(found),
+    }
+}
+
+/// Where the point is that is nearest to `q`.
+fn nearest_to(corners: &[Point], q: Point) -> HullReply
+    requires { IsShortOutline corners.now }
+    ensures { TellsNearest corners.now q result }
+{
+    nearest_told(Outline::of_vertices(corners).nearest(q))
+}
+
+/// Where the point is that is nearest to the point of two numbers.
+pub(crate) fn nearest(corners: &[Point], x: i64, y: i64) -> HullReply
+    requires { IsShortOutline corners.now }
+    ensures { IsToldOf x y (TellsNearest corners.now) result }
+{
+    match point_of(x, y) {
+        Ok(q) => nearest_to(corners, q),
+        Err(fault) => HullReply::bare(fault),
+    }
+}
+
+/// A box, in numbers.
+fn box_told(ends: Option<(Point, Point)>) -> HullReply
+    ensures { IsBoxTold ends result }
+{
+    match ends {
+        None => HullReply::bare(Code::Empty),
+        Some((least, greatest)) => with_points(Finding::Bounds, least, greatest),
+    }
+}
+
+/// The box of the corners.
+pub(crate) fn bounding_box(corners: &[Point]) -> HullReply
+    requires { IsShortOutline corners.now }
+    ensures { TellsBox corners.now result }
+{
+    box_told(Outline::of_vertices(corners).bounding_box())
+}

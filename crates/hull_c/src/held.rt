@@ -1,0 +1,183 @@
+//! The points that a hull holds, with how often, out of it and into it.
+ghost use Rattle.std.specs.Prelude.{◌≡◌, ◌↔◌, ◌⊎◌, ◌≤◌, ◌++◌, IsTrue, IfOk, IfErr, [], length, drop};
+ghost use Rattle.std.specs.List.{All};
+ghost use Rattle.lattice.specs.Covers.{IsPointSet};
+ghost use Rattle.lattice.specs.Plane.{IsBefore};
+ghost use Rattle.hull_tree.specs.Loaded.{AreEntries, points_listed};
+ghost use Rattle.hull_reply.specs.Told.{IsBare};
+ghost use Rattle.hull_c.specs.Held.{AreLoaded, HoldsListed, IsEntry, IsListed, IsWritten};
+
+use heap::Heap;
+use hull_plain::{HullSet, MULTIPLICITY_LIMIT};
+use hull_reply::{Code, HullReply, point_of};
+use hull_tree::SparingTree;
+use lattice::Point;
+use std::marker::Model;
+
+/// A point that is held, and how often.
+#[repr(C)]
+#[derive(Clone, Copy)]
+pub struct HullHeld {
+    /// The first coordinate.
+    pub x: i64,
+    /// The second coordinate.
+    pub y: i64,
+    /// How often it is held.
+    pub times: u32,
+}
+
+impl Model for HullHeld {
+    ghost use Rattle.std.specs.Prelude.{ℕ};
+    ghost use Rattle.lattice.specs.Plane.{Pair};
+
+    ghost Value = { Pair × ℕ };
+
+    ghost view = { λ h. (record { x = h.x; y = h.y }, h.times) };
+
+    ghost inverse = { λ e. record { x = e.0.x; y = e.0.y; times = e.1 } };
+}
+
+impl HullHeld {
+    /// The entry, with its coordinates open.
+    fn of(entry: (Point, u32)) -> HullHeld
+        ensures { result ≡ entry }
+    {
+        HullHeld {
+            x: entry.0.x(),
+            y: entry.0.y(),
+            times: entry.1,
+        }
+    }
+}
+
+/// Writes the entries to the front of the array.
+fn write_entries(entries: &[(Point, u32)], out: &mut [HullHeld])
+    requires { length entries.now ≤ length out.now }
+    ensures { out.new ≡ entries.now ++ drop (length entries.now) out.old }
+{
+    for i in 0..entries.len() {
+        out[i] = HullHeld::of(entries[i]);
+    }
+}
+
+/// Writes the points from a start on, in order, until the array is full, and tells how many they are.
+fn list_from(hull: &SparingTree, start: Point, out: &mut [HullHeld]) -> HullReply
+    ensures { IsWritten hull.now start out.old out.new result }
+{
+    let Ok(entries) = hull.entries_from(start, out.len()) else {
+        return HullReply::bare(Code::NoMemory);
+    };
+    write_entries(&entries, out);
+    HullReply::numbered(Code::Number, entries.len() as u64)
+}
+
+/// The same from a start that two numbers are.
+pub(crate) fn list(hull: &mut SparingTree, x: i64, y: i64, out: &mut [HullHeld]) -> HullReply
+    ensures { IsListed hull.old hull.new x y out.old out.new result }
+{
+    match point_of(x, y) {
+        Ok(start) => list_from(hull, start, out),
+        Err(fault) => HullReply::bare(fault),
+    }
+}
+
+/// The entry of these numbers; [`Code::OutOfRange`] where one of them is none.
+fn entry_of(asked: HullHeld) -> Result<(Point, u32), Code>
+    ensures entry { IfOk result (λ entry. (entry ≡ asked) × IsEntry asked) }
+    ensures fault { IfErr result (λ fault. ¬ IsEntry asked × (fault ≡ Code.OutOfRange)) }
+{
+    let point = point_of(asked.x, asked.y)?;
+    if asked.times == 0 || asked.times > MULTIPLICITY_LIMIT {
+        return Err(Code::OutOfRange);
+    }
+    Ok((point, asked.times))
+}
+
+/// Whether all numbers of an array are in range.
+fn are_entries(array: &[HullHeld]) -> bool
+    ensures { IsTrue result ↔ All IsEntry array.now }
+{
+    array.iter().all(|asked| entry_of(*asked).is_ok())
+}
+
+/// Whether a point stands before another.
+fn stands_before(first: HullHeld, second: HullHeld) -> bool
+    ensures { IsTrue result ↔ IsBefore first.0 second.0 }
+{
+    first.x < second.x || (first.x == second.x && first.y < second.y)
+}
+
+/// Whether each point of an array stands before the next one.
+fn are_in_order(array: &[HullHeld]) -> bool
+    ensures { IsTrue result ↔ IsPointSet (points_listed array.now) }
+{
+    for i in 1..array.len() {
+        if !stands_before(array[i - 1], array[i]) {
+            return false;
+        }
+    }
+    true
+}
+
+/// The entries of an array; memory may be refused.
+fn entries_of(alloc: Heap, array: &[HullHeld]) -> Result<Vec<(Point, u32), Heap>, Code>
+    requires { All IsEntry array.now }
+    ensures all { IfOk result (λ entries. entries.items ≡ array.now) }
+    ensures fault { IfErr result (λ fault. fault ≡ Code.NoMemory) }
+{
+    let Ok(mut entries) = Vec::with_capacity(alloc, array.len()) else {
+        return Err(Code::NoMemory);
+    };
+    for i in 0..array.len() {
+        let Ok(entry) = entry_of(array[i]) else {
+            unreachable!()
+        };
+        entries.push_reserved(entry);
+    }
+    Ok(entries)
+}
+
+/// Lets all points go.
+fn load_nothing(alloc: Heap, hull: &mut SparingTree) -> HullReply
+    ensures { HoldsListed [] hull.old hull.new result }
+{
+    *hull = SparingTree::new(alloc, hull.limit());
+    HullReply::numbered(Code::Number, 0)
+}
+
+/// Holds the points of an array that fits, in the place of all that was held; or memory was refused.
+fn load_fitting(alloc: Heap, hull: &mut SparingTree, array: &[HullHeld]) -> HullReply
+    requires read { All IsEntry array.now }
+    requires entries { AreEntries array.now }
+    requires few { length array.now ≤ hull.old.limit }
+    ensures { HoldsListed array.now hull.old hull.new result
+        ⊎ ((hull.new ≡ hull.old) × IsBare Code.NoMemory result) }
+{
+    let Ok(entries) = entries_of(alloc, array) else {
+        return HullReply::bare(Code::NoMemory);
+    };
+    let Ok(loaded) = SparingTree::from_entries(alloc, hull.limit(), &entries) else {
+        return HullReply::bare(Code::NoMemory);
+    };
+    *hull = loaded;
+    HullReply::numbered(Code::Number, array.len() as u64)
+}
+
+/// Holds the points of an array, each as often as it says, in the place of all that was held.
+pub(crate) fn load(alloc: Heap, hull: &mut SparingTree, array: &[HullHeld]) -> HullReply
+    ensures { AreLoaded array.now hull.old hull.new result }
+{
+    if array.is_empty() {
+        return load_nothing(alloc, hull);
+    }
+    if !are_entries(array) {
+        return HullReply::bare(Code::OutOfRange);
+    }
+    if !are_in_order(array) {
+        return HullReply::bare(Code::OutOfOrder);
+    }
+    if array.len() > hull.limit() as usize {
+        return HullReply::bare(Code::TooMany);
+    }
+    load_fitting(alloc, hull, array)
+}
