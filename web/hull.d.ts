@@ -41,10 +41,23 @@ export interface Tangents {
     right: Point;
 }
 
+/** A point, and how often it is held. */
+export interface Held {
+    point: Point;
+    times: number;
+}
+/** What a fork of the tree stores: the bridges of its two halves, each by its left and its right end. */
+export interface Bridges {
+    upper: [Point, Point];
+    lower: [Point, Point];
+}
+
 /** What a hull and an outline can be asked: OutOfRange and Ended may be thrown by each call. */
 export interface Questions {
     /** Where the point lies. */
     place(x: number, y: number): Place;
+    /** Where each of the points lies. */
+    placeAll(points: Points): Place[];
     /** Which points bound the hull as it is seen from (x, y), of several on a line the farthest; null where none do. */
     tangents(x: number, y: number): Tangents | null;
     /** The point farthest in the direction, of several the first by x and then y; null where none is held. ZeroDirection. */
@@ -70,8 +83,6 @@ export interface Hull extends Questions {
     addAll(points: Points): Uint32Array;
     /** Removes each of the points in their order; returns how many of them were there. */
     removeAll(points: Points): number;
-    /** Where each of the points lies. */
-    placeAll(points: Points): Place[];
     /** How often the point is held, 0 where it is not there. */
     multiplicity(x: number, y: number): number;
     /** How many different points there are. */
@@ -80,6 +91,10 @@ export interface Hull extends Questions {
     limit(): number;
     /** Holds just these points, each as often as it stands there; returns how many different ones. TooMany, NoMemory. */
     load(points: Points): number;
+    /** The points that are held, in order by x and then y, each with how often. NoMemory. */
+    held(): Held[];
+    /** The bridges that the forks on a level of the tree store, from left to right; the root is level 0. NoMemory. */
+    bridges(level: number): Bridges[];
     /** Lets all points go; the limit stays. */
     clear(): void;
     /** The corners that the hull has now, to be asked as it is now. NoMemory. */

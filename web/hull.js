@@ -54,6 +54,8 @@ const PLACES = { [CODE.inside]: "inside", [CODE.on]: "on", [CODE.outside]: "outs
 const REPLY = { size: 56, x: 8, y: 16, otherX: 24, otherY: 32, number: 40, high: 48 };
 const REQUEST = { size: 24, x: 8, y: 16 };
 const POINT = { size: 16, y: 8 };
+const HELD = { size: 24, y: 8, times: 16 };
+const BRIDGE = { size: 72, upper: 8, lower: 40 };
 const REQUESTS_AT_ONCE = 1024;
 const HALF = 2 ** 32;
 
@@ -111,7 +113,7 @@ class Instance {
         this.requests = this.take(REQUESTS_AT_ONCE * REQUEST.size);
         this.replies = this.take(REQUESTS_AT_ONCE * REPLY.size);
         this.replyAddress = BigInt(this.reply);
-        this.corners = { at: this.take(POINT.size), room: 1 };
+        this.out = { at: this.take(BRIDGE.size), bytes: BRIDGE.size };
     }
 
     /** Calls an export. A trap ends the instance: what lies in its memory is not to be used again. */
@@ -144,6 +146,32 @@ class Instance {
         const at = this.heap.take(bytes);
         if (at === 0) throw FAULTS.get(CODE.noMemory)();
         return at;
+    }
+
+    /** The array that calls write to, with so many bytes at least. */
+    outOf(bytes) {
+        if (bytes > this.out.bytes) {
+            const at = this.take(2 * bytes);
+            this.heap.give(this.out.at);
+            this.out = { at, bytes: 2 * bytes };
+        }
+        return this.out.at;
+    }
+
+    /** Makes a call that writes to an array, with room for all that it has to tell; returns how many elements those are. */
+    filled(size, name, ...words) {
+        for (;;) {
+            const { at, bytes } = this.out;
+            const code = this.ask(name, ...words, BigInt(at), BigInt(Math.floor(bytes / size)));
+            const count = this.number();
+            if (code !== CODE.tooSmall) return count;
+            this.outOf(count * size);
+        }
+    }
+
+    point(at) {
+        const { view } = this.heap;
+        return [readWhole(view, at), readWhole(view, at + POINT.y)];
     }
 
     whole(offset) {
@@ -214,6 +242,37 @@ class Questions {
     extreme(x, y) {
         if (this._ask(EXTREME, checked(x), checked(y)) !== CODE.point) return null;
         return [this.#instance.whole(REPLY.x), this.#instance.whole(REPLY.y)];
+    }
+
+    placeAll(points) {
+        const places = [];
+        this._serve(PLACE, points, (_, code) => places.push(PLACES[code]));
+        return places;
+    }
+
+    /** Makes one kind of call at each of the points, and tells the index, the code and the number of each reply. */
+    _serve(kind, points, tell) {
+        const coordinates = flat(points), count = coordinates.length / 2;
+        for (let from = 0; from < count; from += REQUESTS_AT_ONCE) {
+            this.#serveSome(kind, coordinates, from, Math.min(REQUESTS_AT_ONCE, count - from), tell);
+        }
+    }
+
+    #serveSome(kind, coordinates, from, count, tell) {
+        const instance = this._live(), { requests, replies } = instance;
+        let { view } = instance.heap;
+        for (let i = 0; i < count; i++) {
+            const at = requests + i * REQUEST.size;
+            view.setUint32(at, kind, true);
+            writeWhole(view, at + REQUEST.x, coordinates[2 * (from + i)]);
+            writeWhole(view, at + REQUEST.y, coordinates[2 * (from + i) + 1]);
+        }
+        this._callAll(BigInt(requests), BigInt(count), BigInt(replies), BigInt(count));
+        view = instance.heap.view;
+        for (let i = 0; i < count; i++) {
+            const at = replies + i * REPLY.size;
+            tell(from + i, view.getUint32(at, true), view.getUint32(at + REPLY.number, true));
+        }
     }
 
     doubledArea() {
@@ -296,21 +355,34 @@ class HullOfInstance extends Questions {
     }
 
     vertexArray() {
-        const instance = this._live(), { corners } = instance;
-        for (;;) {
-            const code = instance.ask("hull_vertices", this.#at, BigInt(corners.at), BigInt(corners.room));
-            const count = instance.number();
-            if (code !== CODE.tooSmall) return instance.points(corners.at, count);
-            const wider = instance.take(2 * count * POINT.size);
-            instance.heap.give(corners.at);
-            corners.at = wider;
-            corners.room = 2 * count;
-        }
+        const instance = this._live();
+        const count = instance.filled(POINT.size, "hull_vertices", this.#at);
+        return instance.points(instance.out.at, count);
+    }
+
+    held() {
+        const instance = this._live(), least = BigInt(-COORDINATE_LIMIT), room = this.count();
+        const at = instance.outOf(room * HELD.size);
+        instance.ask("hull_held_from", this.#at, least, least, BigInt(at), BigInt(room));
+        return Array.from({ length: instance.number() }, (_, i) => {
+            const here = at + i * HELD.size;
+            return { point: instance.point(here), times: instance.heap.view.getUint32(here + HELD.times, true) };
+        });
+    }
+
+    bridges(level) {
+        if (!Number.isInteger(level) || level < 0 || level >= HALF) throw new OutOfRange("a level is a whole Number from 0 to 2^32 - 1");
+        const instance = this._live(), count = instance.filled(BRIDGE.size, "hull_bridges", this.#at, level);
+        return Array.from({ length: count }, (_, i) => {
+            const at = instance.out.at + i * BRIDGE.size;
+            const ends = (from) => [instance.point(at + from), instance.point(at + from + POINT.size)];
+            return { upper: ends(BRIDGE.upper), lower: ends(BRIDGE.lower) };
+        });
     }
 
     addAll(points) {
         const times = new Uint32Array(flat(points).length / 2), refused = [CODE.tooMany, CODE.noMemory];
-        this.#serve(ADD, points, (i, code, number) => {
+        this._serve(ADD, points, (i, code, number) => {
             times[i] = code === CODE.added ? 1 : refused.includes(code) ? 0 : number;
         });
         return times;
@@ -318,39 +390,12 @@ class HullOfInstance extends Questions {
 
     removeAll(points) {
         let there = 0;
-        this.#serve(REMOVE, points, (_, code) => (there += code === CODE.absent ? 0 : 1));
+        this._serve(REMOVE, points, (_, code) => (there += code === CODE.absent ? 0 : 1));
         return there;
     }
 
-    placeAll(points) {
-        const places = [];
-        this.#serve(PLACE, points, (_, code) => places.push(PLACES[code]));
-        return places;
-    }
-
-    /** Makes one kind of call at each of the points, and tells the index, the code and the number of each reply. */
-    #serve(kind, points, tell) {
-        const coordinates = flat(points), count = coordinates.length / 2;
-        for (let from = 0; from < count; from += REQUESTS_AT_ONCE) {
-            this.#serveSome(kind, coordinates, from, Math.min(REQUESTS_AT_ONCE, count - from), tell);
-        }
-    }
-
-    #serveSome(kind, coordinates, from, count, tell) {
-        const instance = this._live(), { requests, replies } = instance;
-        let { view } = instance.heap;
-        for (let i = 0; i < count; i++) {
-            const at = requests + i * REQUEST.size;
-            view.setUint32(at, kind, true);
-            writeWhole(view, at + REQUEST.x, coordinates[2 * (from + i)]);
-            writeWhole(view, at + REQUEST.y, coordinates[2 * (from + i) + 1]);
-        }
-        instance.call("hull_calls", this.#at, BigInt(requests), BigInt(count), BigInt(replies), BigInt(count));
-        view = instance.heap.view;
-        for (let i = 0; i < count; i++) {
-            const at = replies + i * REPLY.size;
-            tell(from + i, view.getUint32(at, true), view.getUint32(at + REPLY.number, true));
-        }
+    _callAll(...words) {
+        this._live().call("hull_calls", this.#at, ...words);
     }
 }
 
@@ -376,6 +421,10 @@ class OutlineOfInstance extends Questions {
 
     _ask(kind, x, y) {
         return this._live().ask("hull_outline_call", BigInt(this.#at), BigInt(this.#count), kind, BigInt(x), BigInt(y));
+    }
+
+    _callAll(...words) {
+        this._live().call("hull_outline_calls", BigInt(this.#at), BigInt(this.#count), ...words);
     }
 
     count() {

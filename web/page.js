@@ -66,10 +66,11 @@ class Picture {
         return this.style.getPropertyValue(`--${name}`);
     }
 
-    draw({ corners, held, cursor, seen }) {
+    draw({ corners, held, cursor, seen, levels }) {
         this.pen.clearRect(0, 0, ...this.view.size);
         this.grid();
         this.polygon(corners);
+        levels.forEach((bridges, level) => this.bridges(bridges, level));
         for (const [key, times] of held) this.point(pointOf(key), times, held.size <= LABELS);
         this.pen.fillStyle = this.color("hull");
         for (const corner of corners) this.dot(corner, 4.5);
@@ -103,6 +104,17 @@ class Picture {
         pen.strokeStyle = this.color("hull");
         pen.lineWidth = 2;
         pen.stroke();
+    }
+
+    /** The stored bridges of a level: the deeper, the thinner. */
+    bridges(bridges, level) {
+        for (const side of ["upper", "lower"]) {
+            this.pen.beginPath();
+            for (const bridge of bridges) this.across(...bridge[side]);
+            this.pen.strokeStyle = this.color(side);
+            this.pen.lineWidth = Math.max(0.5, 3 - level / 3);
+            this.pen.stroke();
+        }
     }
 
     point(at, times, labelled) {
@@ -232,7 +244,7 @@ export class Page {
         const { hull, cursor } = this, corners = hull.vertices();
         const place = cursor === null ? null : hull.place(...cursor);
         const seen = cursor === null ? null : hull.tangents(...cursor);
-        this.picture.draw({ corners, held: this.replay.held, cursor, seen });
+        this.picture.draw({ corners, held: this.replay.held, cursor, seen, levels: this.levels() });
         element("count").textContent = `${hull.count()}, ${corners.length} of them corners`;
         const doubled = hull.doubledArea();
         element("area").textContent = `${doubled / 2n}${doubled % 2n ? ".5" : ""}`;
@@ -240,6 +252,18 @@ export class Page {
         for (const side of ["left", "right"]) element(side).textContent = seen === null ? "" : `${side} (${seen[side].join(", ")})`;
         element("last").textContent = this.told;
         this.showJournal();
+    }
+
+    /** The stored bridges of as many levels as are asked for and there are. */
+    levels() {
+        const asked = Number(element("levels").value), levels = [];
+        for (let level = 0; level < asked; level++) {
+            const bridges = this.hull.bridges(level);
+            if (bridges.length === 0) break;
+            levels.push(bridges);
+        }
+        element("leveled").textContent = `${levels.length} level${levels.length === 1 ? "" : "s"}`;
+        return levels;
     }
 
     showJournal() {
@@ -280,6 +304,7 @@ export class Page {
         plane.addEventListener("wheel", (event) => this.turned(event), { passive: false });
         plane.addEventListener("keydown", (event) => this.keyed(event));
         element("step").addEventListener("input", (event) => this.go(Number(event.target.value)));
+        element("levels").addEventListener("input", () => this.show());
         element("open").addEventListener("change", async ({ target }) => {
             if (target.files[0]) this.open(await target.files[0].text());
             target.value = "";

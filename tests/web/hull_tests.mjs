@@ -49,6 +49,35 @@ await tried("the program's stored reports", () => {
     assert.ok(compared > 50, `${compared} answers`);
     return `${compared} answers`;
 });
+await tried("what is held, and the stored bridges", () => {
+    const hull = new Hull(), random = random_of(7), wanted = new Map();
+    assert.deepEqual([hull.held(), hull.bridges(0)], [[], []]);
+    for (let i = 0; i < 700; i++) {
+        const point = [random(40) - 20, random(40) - 20];
+        wanted.set(point.join(), hull.add(...point));
+    }
+    hull.add(-FAR, FAR);
+    wanted.set(`${-FAR},${FAR}`, 1);
+    const held = hull.held(), isBefore = ([a, b], [c, d]) => a < c || (a === c && b < d);
+    assert.deepEqual(new Map(held.map(({ point, times }) => [point.join(), times])), wanted);
+    assert.ok(held.every(({ point }, i) => i === 0 || isBefore(held[i - 1].point, point)));
+    let forks = 0;
+    for (let level = 0, bridges; (bridges = hull.bridges(level)).length > 0; level++) {
+        assert.ok(bridges.length <= 2 ** level && level < 28);
+        assert.ok(bridges.every(({ upper: [a, b], lower: [c, d] }) => isBefore(a, b) && isBefore(c, d)));
+        forks += bridges.length;
+    }
+    assert.equal(forks, held.length - 1);
+    const [{ upper: [a, b], lower: [c, d] }] = hull.bridges(0);
+    const side = ([x, y], [u, v], [p, q]) => BigInt(u - x) * BigInt(q - y) - BigInt(v - y) * BigInt(p - x);
+    assert.ok(held.every(({ point }) => side(a, b, point) <= 0n && side(c, d, point) >= 0n));
+    for (const level of [-1, 0.5, 2 ** 32, "1", 1n]) assert.throws(() => hull.bridges(level), faults.OutOfRange);
+    const outline = new Outline(hull.vertices()), asked = held.map(({ point }) => point).concat([[FAR, FAR]]);
+    assert.deepEqual(outline.placeAll(asked), hull.placeAll(asked));
+    hull.free();
+    assert.throws(() => hull.held(), faults.Ended);
+    return `${forks} forks`;
+});
 await tried("the program's stored verdicts", () => {
     let judged = 0;
     for (const { name, words, status, input, output } of stored) {

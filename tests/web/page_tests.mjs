@@ -55,6 +55,18 @@ await tried("a drag moves a point, and undo takes it back", async () => {
     await press("undo");
     assert.deepEqual([await tab.value("page.hull.multiplicity(-20, 10)"), await tab.value("page.hull.count()")], [1, 3]);
 });
+await tried("stored bridges are drawn level by level", async () => {
+    const levels = (value) => tab.value(`(document.getElementById("levels").value = ${value}, document.getElementById("levels").dispatchEvent(new Event("input")))`);
+    const drawn = async () => (await settled(), tab.value('document.getElementById("plane").toDataURL()'));
+    const without = await drawn();
+    await levels(1);
+    assert.equal(await text("leveled"), "1 level");
+    assert.notEqual(await drawn(), without);
+    await levels(20); // there are as many levels as three points need
+    assert.equal(await text("leveled"), "2 levels");
+    await levels(0);
+    assert.equal(await drawn(), without);
+});
 await tried("keys move the cross, add, remove and take back", async () => {
     await tab.value("(page.cursor = null, document.getElementById('plane').focus())");
     await tab.key("ArrowRight");
