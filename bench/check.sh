@@ -5,7 +5,7 @@
 calls=${1:-200000}
 rounds=${2:-3}
 echo "kind        run s   check s   ratio   check peak MB"
-for kind in build churn ask mixed small; do
+for kind in build churn ask mixed small parabola circle squares comb seesaw; do
     "$room/generate" "$kind" "$calls" 1 7 >"$room/script"
     "$hullbook" run "$room/script" --capacity "$calls" --journal >"$room/journal"
     [ "$("$hullbook" check "$room/journal")" = legal ]

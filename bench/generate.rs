@@ -4,8 +4,10 @@
 //!
 //! Kinds: `count` (counts alone), `small` (all calls on a grid of 8 by 8 points), `build` (adds alone), `churn` (adds,
 //! removes, extreme and place), `ask` (few adds, many questions), `mixed` (all calls but vertices). The last four take
-//! coordinates of at most 2^BITS in size (20 where none is given; the program takes 40). The calls are dealt out to the
-//! workers in turn.
+//! coordinates of at most 2^BITS in size (20 where none is given; the program takes 40). And those that are hard on who keeps
+//! corners: `parabola` (all points are corners, added and then removed in any order), `circle` (the same, and each one that
+//! goes comes again), `squares` (one within the other, removed from the outermost in), `comb` (points on two lines), `seesaw` (a
+//! corner in front of all points that comes and goes). The calls are dealt out to the workers in turn.
 use std::io::Write;
 
 /// A xorshift generator (Marsaglia, 2003).
@@ -99,6 +101,56 @@ fn call(kind: &str, i: u64, random: &mut Random, live: &mut Live, limit: i64) ->
     }
 }
 
+fn shuffled(mut points: Vec<(i64, i64)>, random: &mut Random) -> Vec<(i64, i64)> {
+    for i in (1..points.len()).rev() {
+        points.swap(i, random.below(i as u64 + 1) as usize);
+    }
+    points
+}
+
+fn say<'a>(word: &'a str, points: &'a [(i64, i64)]) -> impl Iterator<Item = String> + 'a {
+    points.iter().map(move |(x, y)| format!("{word} {x} {y}"))
+}
+
+/// Points on a circle of radius 2^39, in any order.
+fn circle(number: u64, random: &mut Random) -> Vec<(i64, i64)> {
+    let radius = (1i64 << 39) as f64;
+    let angles = (0..number).map(|k| std::f64::consts::TAU * k as f64 / number as f64);
+    shuffled(angles.map(|a| ((radius * a.cos()) as i64, (radius * a.sin()) as i64)).collect(), random)
+}
+
+/// The calls of a kind that is hard on who keeps corners.
+fn hostile(kind: &str, calls: u64, random: &mut Random) -> Option<Vec<String>> {
+    let number = calls as i64;
+    Some(match kind {
+        "parabola" => {
+            let points = shuffled((0..number / 2).map(|k| (k, k * k)).collect(), random);
+            let again = shuffled(points.clone(), random);
+            say("add", &points).chain(say("remove", &again)).collect()
+        }
+        "circle" => {
+            let points = circle(calls / 4, random);
+            let churned = points.iter().flat_map(|(x, y)| ["remove", "place", "add"].map(|word| format!("{word} {x} {y}")));
+            say("add", &points).chain(churned).collect()
+        }
+        "squares" => {
+            let points: Vec<_> = (1..=number / 8).flat_map(|s| [(-s, -s), (s, -s), (s, s), (-s, s)]).collect();
+            let outermost: Vec<_> = points.iter().rev().copied().collect();
+            say("add", &points).chain(say("remove", &outermost)).collect()
+        }
+        "comb" => {
+            let points: Vec<_> = (0..number / 2).map(|k| (k, k % 2)).collect();
+            say("add", &points).chain(say("remove", &points)).collect()
+        }
+        "seesaw" => {
+            let points: Vec<_> = (0..number / 2).map(|_| random.point(1 << 19)).collect();
+            let corner = ["add 1000000 0", "remove 1000000 0"].map(String::from);
+            say("add", &points).chain(corner.into_iter().cycle().take(number as usize / 2)).collect()
+        }
+        _ => return None,
+    })
+}
+
 fn main() {
     let words: Vec<String> = std::env::args().skip(1).collect();
     let (kind, numbers) = words.split_first().expect("generate KIND CALLS WORKERS SEED [BITS]");
@@ -107,8 +159,13 @@ fn main() {
     let limit = 1i64 << numbers.get(3).unwrap_or(&20);
     let mut random = Random(seed.wrapping_mul(0x9e37_79b9_7f4a_7c15) | 1);
     let mut live = Live(Vec::new());
+    let hostile = hostile(kind, calls, &mut random);
     let mut out = std::io::BufWriter::new(std::io::stdout().lock());
-    for i in 0..calls {
-        writeln!(out, "{} {}", i % workers, call(kind, i, &mut random, &mut live, limit)).unwrap();
+    for i in 0..hostile.as_ref().map_or(calls, |said| said.len() as u64) {
+        let said = match &hostile {
+            Some(said) => said[i as usize].clone(),
+            None => call(kind, i, &mut random, &mut live, limit),
+        };
+        writeln!(out, "{} {said}", i % workers).unwrap();
     }
 }

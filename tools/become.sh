@@ -23,4 +23,6 @@ if [ ! -x "$program" ] || [ "$(cat "$kept" 2>/dev/null || true)" != "$state" ]; 
     python3 "$top/tools/prove.py" "$name"
     printf '%s\n' "$state" >"$kept"
 fi
+# memory in huge pages, where the system gives them on request and nobody asked for something else
+export GLIBC_TUNABLES="${GLIBC_TUNABLES:-glibc.malloc.hugetlb=1}"
 exec "$program" "$@"

@@ -1,7 +1,7 @@
 #!/usr/bin/env python3
 """Tries the wrong bodies of crates, many in one check, and tells of each which goal refused it.
 
-    tools/wrong_bodies.py [--jobs N] [--list] [CRATE..]
+    tools/wrong_bodies.py [--jobs N] [--list] [CRATE | CRATE/NAME..]
 
 A wrong body is a file crates/CRATE/wrong-bodies/NAME.edit in the form of `rt must-fail`: lines `file: src/x.rt`, then
 pairs of lines `old: TEXT` and `new: TEXT`. A function is proved from the contracts of what it calls and not from their
@@ -171,11 +171,12 @@ def tried(crate, group, kept):
     return outcomes
 
 
-def edits_of(crate):
-    """The wrong bodies of a crate, and outcomes for those that cannot be applied."""
+def edits_of(crate, names=()):
+    """The wrong bodies of a crate, or those of these names, and outcomes for those that cannot be applied."""
     folder, edits, bad = f"{crate.folder}/wrong-bodies", [], []
-    for name in sorted(os.listdir(folder)) if os.path.isdir(folder) else []:
-        edit, why = read(crate, name) if name.endswith(".edit") else (None, "its name does not end in .edit")
+    files = os.listdir(folder) if os.path.isdir(folder) else []
+    for name in sorted({f"{it}.edit" for it in names} or files):
+        edit, why = read(crate, name) if name.endswith(".edit") and name in files else (None, "no file NAME.edit")
         if why:
             bad.append(Refusal(name, False, False, f"BAD EDIT: {why}"))
         else:
@@ -188,9 +189,9 @@ def groups_of(crate, edits):
     return grouped(crate, [it for it in edits if not it.is_alone()]) + [[it] for it in edits if it.is_alone()]
 
 
-def tried_in_groups(crate, kept):
+def tried_in_groups(crate, kept, names=()):
     """The outcomes of a crate's wrong bodies over what that folder keeps, and in how many groups they were tried."""
-    edits, outcomes = edits_of(crate)
+    edits, outcomes = edits_of(crate, names)
     os.makedirs(kept, exist_ok=True)
     groups = groups_of(crate, edits)
     for group in groups:
@@ -200,25 +201,28 @@ def tried_in_groups(crate, kept):
     return outcomes, len(groups)
 
 
-def work(crate):
-    """The outcomes of a crate's wrong bodies, and how many seconds and groups they took."""
+def work(crate, names):
+    """The outcomes of a crate's wrong bodies, or those of these names, and how many seconds and groups they took."""
     start = time.time()
-    outcomes, groups = tried_in_groups(crate, f"{crate.folder}/out/incremental")
+    outcomes, groups = tried_in_groups(crate, f"{crate.folder}/out/incremental", names)
     return outcomes, time.time() - start, groups
 
 
 def main():
-    words = argparse.ArgumentParser(usage="tools/wrong_bodies.py [--jobs N] [--list] [CRATE..]")
+    words = argparse.ArgumentParser(usage="tools/wrong_bodies.py [--jobs N] [--list] [CRATE | CRATE/NAME..]")
     words.add_argument("--jobs", type=int, default=0)
     words.add_argument("--list", action="store_true")
     words.add_argument("crates", nargs="*")
     given = words.parse_args()
     os.chdir(TOP)
-    crates = [it for it in RT.rtlib.crates_below(TOP) if not given.crates or it.name in given.crates]
+    names = {}  # of each crate that is asked for the names, none where all of its wrong bodies are
+    for crate, _, name in (it.partition("/") for it in given.crates):
+        names.setdefault(crate, []).extend([name] if name else [])
+    crates = [it for it in RT.rtlib.crates_below(TOP) if not names or it.name in names]
     crates = [it for it in crates if os.path.isdir(f"{it.folder}/wrong-bodies")]
     if given.list:
         for crate in crates:
-            for group in groups_of(crate, edits_of(crate)[0]):
+            for group in groups_of(crate, edits_of(crate, names.get(crate.name, ()))[0]):
                 print(f"{crate.name}: {' '.join(it.name.removesuffix('.edit') for it in group)}")
         return 0
     libraries = [it.name for it in crates if not it.is_program]
@@ -231,7 +235,8 @@ def main():
     # the crates with the most wrong bodies first, so that none of them is left alone at the end
     crates.sort(key=lambda it: -len(os.listdir(f"{it.folder}/wrong-bodies")))
     with ThreadPoolExecutor(lanes) as pool:
-        for crate, (outcomes, seconds, groups) in zip(crates, pool.map(work, crates)):
+        chosen = [names.get(it.name, ()) for it in crates]
+        for crate, (outcomes, seconds, groups) in zip(crates, pool.map(work, crates, chosen)):
             print(f"== {crate.name}: {len(outcomes)} wrong bodies in {groups} groups, {seconds:.0f} s", flush=True)
             for it in outcomes:
                 name = f"{crate.name}/{it.edit.removesuffix('.edit')}"
