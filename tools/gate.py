@@ -35,7 +35,7 @@ ROWS = (
     {"readme": ["tests/readme/run.sh"]},
 )
 COUNTS = re.compile(r"(\d+) passed, (\d+) failed")
-FAILED = re.compile(r"FAILED|: failed|NOT REFUSED|NOT PROVED|BAD EDIT")
+FAILED = re.compile(r"FAILED|: failed|NOT REFUSED|NOT PROVED|NOT TRIED|BAD EDIT")
 # a refusal that says little of the contract
 BY_SHAPE = re.compile(r"\b(\w+/[\w-]+)\.edit: refused.*only (since|because) a proof")
 

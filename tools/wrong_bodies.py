@@ -22,6 +22,7 @@ import os
 import re
 import subprocess
 import sys
+import tempfile
 import time
 from concurrent.futures import ThreadPoolExecutor
 from dataclasses import dataclass
@@ -62,13 +63,23 @@ class Edit:
 
 
 @dataclass(frozen=True)
-class Refusal:
-    """What came of a wrong body: whether it was refused, whether by a goal, and what was told."""
+class Outcome:
+    """What came of a wrong body: its kind, as the kit's `rt` has kinds, whether a goal refused it, and what was told."""
 
     edit: str
-    refused: bool
+    kind: str
     by_goal: bool
     told: str
+
+    def is_refused(self):
+        """Whether the prover refused it, if only by a limit of its own."""
+        return self.kind in (RT.REFUSED, RT.AT_LIMIT)
+
+    def line(self, crate):
+        """What to say of it."""
+        by = " (only since a proof names what went)" if self.is_refused() and not self.by_goal else ""
+        how = f"refused{by}" if self.is_refused() else "NOT REFUSED"
+        return f"wrong body {crate.name}/{self.edit}: {how}: {self.told[:160]}"
 
 
 def functions_at(text, old):
@@ -147,9 +158,19 @@ def goals_of(output):
 
 def tried_alone(crate, edit, kept):
     """The outcome of one wrong body in a check of its own, as `rt must-fail` gives it."""
-    refused, told = RT.must_fail(crate, edit.path, ["--jobs", "1"], kept)
-    by_goal = refused and "only because a proof file" not in told
-    return Refusal(edit.name, refused, by_goal, told.partition(": ")[2])
+    kind, told = RT.must_fail(crate, edit.path, ["--jobs", "1"], kept)
+    by_goal = kind == RT.REFUSED and "only because a proof file" not in told
+    return Outcome(edit.name, kind, by_goal, told.partition(": ")[2])
+
+
+def refuses_the_crate_itself(crate, kept):
+    """Whether the crate is refused over what is kept though a line only gets a comment, so that no refusal tells anything."""
+    top = "src/main.rt" if crate.is_program else "src/lib.rt"
+    with tempfile.TemporaryDirectory() as room:
+        path = os.path.join(room, "nothing-but-a-comment.edit")
+        with open(path, "w", encoding="utf-8") as text:
+            text.write(f"file: {top}\nold: #![tactic(auto)]\nnew: #![tactic(auto)] // as it stands\n")
+        return RT.must_fail(crate, path, ["--jobs", "1"], kept)[0] != RT.MISSED
 
 
 def tried(crate, group, kept):
@@ -167,7 +188,7 @@ def tried(crate, group, kept):
         if told is None:
             outcomes.append(tried_alone(crate, edit, kept))
         else:
-            outcomes.append(Refusal(edit.name, True, True, told))
+            outcomes.append(Outcome(edit.name, RT.REFUSED, True, told))
     return outcomes
 
 
@@ -178,7 +199,7 @@ def edits_of(crate, names=()):
     for name in sorted({f"{it}.edit" for it in names} or files):
         edit, why = read(crate, name) if name.endswith(".edit") and name in files else (None, "no file NAME.edit")
         if why:
-            bad.append(Refusal(name, False, False, f"BAD EDIT: {why}"))
+            bad.append(Outcome(name, RT.UNSURE, False, f"BAD EDIT: {why}"))
         else:
             edits.append(edit)
     return edits, bad
@@ -196,8 +217,8 @@ def tried_in_groups(crate, kept, names=()):
     groups = groups_of(crate, edits)
     for group in groups:
         outcomes += tried(crate, group, kept)
-    if edits and RT.checked(crate, {}, ["--jobs", "1"], kept).returncode:
-        outcomes.append(Refusal("the crate itself", False, False, "it is not proved without any change"))
+    if edits and refuses_the_crate_itself(crate, kept):
+        outcomes.append(Outcome("the crate itself", RT.UNSURE, False, "it is refused though nothing was changed"))
     return outcomes, len(groups)
 
 
@@ -240,10 +261,10 @@ def main():
             print(f"== {crate.name}: {len(outcomes)} wrong bodies in {groups} groups, {seconds:.0f} s", flush=True)
             for it in outcomes:
                 name = f"{crate.name}/{it.edit.removesuffix('.edit')}"
-                print(f"{name}: {'refused' if it.refused else 'NOT REFUSED'}: {it.told[:160]}", flush=True)
-                passed += it.refused
-                failed += [name] * (not it.refused)
-                by_shape += [name] * (it.refused and not it.by_goal)
+                print(it.line(crate), flush=True)
+                passed += it.is_refused()
+                failed += [name] * (not it.is_refused())
+                by_shape += [name] * (it.is_refused() and not it.by_goal)
     print(f"refused by a goal: {passed - len(by_shape)}; only since a proof names what went: {len(by_shape)}"
           f"{': ' + ' '.join(by_shape) if by_shape else ''}")
     if failed:

@@ -155,11 +155,7 @@ pub unsafe extern "C" fn hull_held_from(
 ///
 /// A hull lies at `at`, and no other call on it is under way.
 #[unsafe(no_mangle)]
-pub unsafe extern "C" fn hull_bridges(
-    at: *mut u8,
-    level: u32,
-    out: &mut [HullBridge],
-) -> HullReply
+pub unsafe extern "C" fn hull_bridges(at: *mut u8, level: u32, out: &mut [HullBridge]) -> HullReply
     ghost t: { the_row.Denot }
     requires* { sem 𝓛 (lies_at the_row full_share at t) }
     ensures* { sem 𝓛 (leaves the_row at (λ new. AreBridges t new level out.old out.new result)) }

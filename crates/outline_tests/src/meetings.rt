@@ -332,10 +332,7 @@ fn all_sets_of_a_small_grid_within_each_other(rt: HostRuntime) -> Result<(), Fai
         let outline = outline_of(&rt, &one.corners);
         for other in &all {
             let within = one.covered & other.covered == other.covered;
-            assert_eq!(rt;
-                outline.contains(&outline_of(&rt, &other.corners)),
-                within
-            );
+            assert_eq!(rt; outline.contains(&outline_of(&rt, &other.corners)), within);
         }
     }
     Ok(())
