@@ -12,8 +12,8 @@ use Rattle.bridge_search.proofs.Leaves.{all_of, on_of_contains, contains_of_on}
 use Rattle.hull_plain.specs.Edges.{IsLowerEdge}
 use Rattle.lattice.proofs.Order.{before_trans, before_total}
 use Rattle.hull_plain.proofs.Orientation.{orient-cross, at_least, above, ahead_of}
-use Rattle.hull_questions.proofs.Sides.{side_by_start, side_by_end, side_before, side_after, side_to_end}
-use Rattle.hull_questions.proofs.Sides.{sum_above, weak}
+use Rattle.lattice.proofs.Sides.{side_by_start, side_by_end, side_before, side_after, side_to_end}
+use Rattle.hull_questions.proofs.Sums.{sum_above, weak}
 use Rattle.hull_questions.proofs.StoredEdges.{same_ends}
 use Rattle.hull_questions.specs.Chains.{IsLowerEdgeAt}
 

@@ -14,7 +14,7 @@ use Rattle.bridge_search.proofs.Turns.{first_by, on_first}
 use Rattle.hull_plain.proofs.Orientation.{orient-cross, orient_swap, at_least, above, ahead_of}
 use Rattle.hull_questions.specs.Chains.{IsLowerCorner}
 use Rattle.hull_questions.proofs.ChainEdges.{not_zero}
-use Rattle.hull_questions.proofs.Sides.{side_before, side_after, side_to_end}
+use Rattle.lattice.proofs.Sides.{side_before, side_after, side_to_end}
 
 -- the first point is a corner: nothing stands before it
 pub first_corner : (t : Tree) → IsBridged t → IsLowerCorner (points_of t) (first_of t)

@@ -5,8 +5,9 @@ use Rattle.std.proofs.Common.{List, [], ◌∷◌, ◌++◌, map}
 use Rattle.std.specs.List.{Contains}
 use Rattle.std.proofs.lemmas.Int.{ints}
 use Rattle.lattice.specs.Plane.{Pair, orient, IsBefore, turned_point}
-use Rattle.lattice.specs.Polynomials.{difference-eq, as_difference, difference-add, difference-neg, difference-mul}
+use Rattle.lattice.specs.Polynomials.{difference-eq, difference-add, difference-neg, difference-mul}
 use Rattle.lattice.specs.Vertices.{fan, IsDoubledArea}
+use Rattle.lattice.proofs.Vectors.{as_pair}
 use Rattle.lattice.proofs.Order.{before_total, before_irrefl}
 use Rattle.lattice.proofs.TurnedBridges.{turned_twice}
 use Rattle.bridge_search.specs.Trees.{Tree, IsBridged, first_of, last_of}
@@ -64,12 +65,9 @@ upper_above t z (passed, k, e) =
 triangle_turned : (f u v : Pair) → orient f (turned_point u) (turned_point v) ≡ orient (turned_point f) u v
 unfolding orient
 triangle_turned f u v = rw (
-  as_difference f.x,
-  as_difference f.y,
-  as_difference u.x,
-  as_difference u.y,
-  as_difference v.x,
-  as_difference v.y,
+  as_pair f,
+  as_pair u,
+  as_pair v,
 ) (simp (difference-add, difference-neg, difference-mul) (difference-eq _ _ _ _ (omega arith)))
 
 -- a fan turned by 180 degrees

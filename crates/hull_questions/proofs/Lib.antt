@@ -1,4 +1,4 @@
-pub mod Sides
+pub mod Sums
 pub mod StoredEdges
 pub mod Extremes
 pub mod ChainEdges

@@ -24,7 +24,7 @@ use Rattle.hull_plain.proofs.Sightings.{left_tangent, right_tangent, left_irrefl
 use Rattle.hull_questions.proofs.StoredEdges.{same_ends}
 use Rattle.hull_questions.specs.Parts.{IsLeftPart, IsRightPart}
 use Rattle.hull_questions.specs.Sights.{IsBelow}
-use Rattle.hull_questions.proofs.Sides.{side_before, side_after, side_to_end}
+use Rattle.lattice.proofs.Sides.{side_before, side_after, side_to_end}
 
 -- ---- the order in which q sees the points that lie above it
 

@@ -4,7 +4,8 @@ use Rattle.std.specs.List.{All, Contains}
 use Rattle.std.proofs.lemmas.Int.{ints}
 use Rattle.std.proofs.lemmas.List.Elements.{All-contains, All-weaker}
 use Rattle.lattice.specs.Plane.{Pair, orient, IsBefore, turned_point}
-use Rattle.lattice.specs.Polynomials.{difference-eq, as_difference, difference-add, difference-neg, difference-mul}
+use Rattle.lattice.specs.Polynomials.{difference-eq, difference-add, difference-neg, difference-mul}
+use Rattle.lattice.proofs.Vectors.{as_pair}
 use Rattle.bridge_search.specs.Trees.{Tree, first_of, last_of}
 use Rattle.lattice.proofs.TurnedBridges.{before_turned_back}
 use Rattle.bridge_search.specs.TurnedTrees.{turned_tree, turned_on, on_turned, first_turned, last_turned}
@@ -18,12 +19,9 @@ use Rattle.hull_questions.specs.Chains.{IsBeforeEnd, IsAfterStart, IsLowerEdgeAt
 pub turned_side : (a b t : Pair) → orient a b (turned_point t) ≡ orient (turned_point a) (turned_point b) t
 unfolding orient
 turned_side a b t = rw (
-  as_difference a.x,
-  as_difference a.y,
-  as_difference b.x,
-  as_difference b.y,
-  as_difference t.x,
-  as_difference t.y,
+  as_pair a,
+  as_pair b,
+  as_pair t,
 ) (simp (difference-add, difference-neg, difference-mul) (difference-eq _ _ _ _ (omega arith)))
 
 -- what holds of all points of the turned half holds of each point of the half, turned

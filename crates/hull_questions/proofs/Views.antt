@@ -5,12 +5,13 @@ use Rattle.std.specs.List.{All, Contains}
 use Rattle.std.proofs.lemmas.Int.{ints}
 use Rattle.std.proofs.lemmas.List.Elements.{All-contains}
 use Rattle.lattice.specs.Plane.{Pair, orient, IsBefore}
-use Rattle.lattice.specs.Polynomials.{difference-eq, as_difference, difference-add, difference-neg, difference-mul}
-use Rattle.lattice.proofs.Vectors.{minus, cross, cross_swap, turn_trans_strict}
+use Rattle.lattice.specs.Polynomials.{difference-eq, difference-add, difference-neg, difference-mul}
+use Rattle.lattice.proofs.Vectors.{as_pair, minus, cross, cross_swap, turn_trans_strict}
 use Rattle.lattice.proofs.Order.{before_irrefl, before_not}
 use Rattle.hull_plain.proofs.Orientation.{orient_swap, ahead_of}
 use Rattle.hull_questions.specs.Sights.{IsBelow, IsAbove, IsBelowEdge, IsAboveEdge}
-use Rattle.hull_questions.proofs.Sides.{side_more, side_less, side_after, weak}
+use Rattle.lattice.proofs.Sides.{side_more, side_less, side_after}
+use Rattle.hull_questions.proofs.Sums.{weak}
 
 -- before all: below
 pub below_before : (S : List Pair) (q : Pair) → All (IsBefore q) S → IsBelow S q
@@ -75,14 +76,10 @@ below_by_edge S q (c, d, e, h) = record {
 back_more : (c d q t : Pair) → orient c d t -ℤ orient c d q ≡ cross (minus t q) (minus c d)
 unfolding orient
 back_more c d q t = rw (
-  as_difference c.x,
-  as_difference c.y,
-  as_difference d.x,
-  as_difference d.y,
-  as_difference q.x,
-  as_difference q.y,
-  as_difference t.x,
-  as_difference t.y,
+  as_pair c,
+  as_pair d,
+  as_pair q,
+  as_pair t,
 )
     (simp (difference-add, difference-neg, difference-mul) (difference-eq _ _ _ _ (omega arith)))
 
@@ -90,14 +87,10 @@ back_more c d q t = rw (
 back_less : (c d q s : Pair) → orient c d s -ℤ orient c d q ≡ cross (minus c d) (minus q s)
 unfolding orient
 back_less c d q s = rw (
-  as_difference c.x,
-  as_difference c.y,
-  as_difference d.x,
-  as_difference d.y,
-  as_difference q.x,
-  as_difference q.y,
-  as_difference s.x,
-  as_difference s.y,
+  as_pair c,
+  as_pair d,
+  as_pair q,
+  as_pair s,
 )
     (simp (difference-add, difference-neg, difference-mul) (difference-eq _ _ _ _ (omega arith)))
 

@@ -1,4 +1,5 @@
 pub mod Vectors
+pub mod Sides
 pub mod Lines
 pub mod LineCrossings
 pub mod TurnedBridges

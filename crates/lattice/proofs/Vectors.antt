@@ -1,9 +1,14 @@
 -- Vectors of the plane.
-use Rattle.std.proofs.Common.{◌≡◌, ℤ, pos, ◌+ℤ◌, ◌-ℤ◌, ◌*ℤ◌, ◌≤ℤ◌, ◌<ℤ◌, neg_ℤ, ◌⊎◌, inl, inr, sym, subst, arith}
+use Rattle.std.proofs.Common.{◌≡◌, ℤ, pos, ◌+ℤ◌, ◌-ℤ◌, ◌*ℤ◌, ◌≤ℤ◌, ◌<ℤ◌, neg_ℤ, ◌⊎◌, inl, inr, refl, sym, subst, arith}
 use Rattle.std.proofs.lemmas.Int.{ints}
 use Rattle.lattice.specs.Plane.{Pair}
-use Rattle.lattice.specs.Polynomials.{as_difference, difference-add, difference-neg, difference-mul, difference-eq}
+use Rattle.lattice.specs.Polynomials.{difference, as_difference, difference-add, difference-neg, difference-mul, difference-eq}
+use borrow.Author.Differences.{up, down}
 use Rattle.lattice.specs.Signs.{le_or_lt, product_nn, product_pp, cancel_nn}
+
+-- a pair of whole numbers is one of differences of naturals, for identities over coordinates
+pub as_pair : (p : Pair) → p ≡ record { x = difference (up p.x) (down p.x); y = difference (up p.y) (down p.y) }
+as_pair p = rw (← as_difference p.x, ← as_difference p.y) refl
 
 -- the step from q to p
 abbrev pub minus : Pair → Pair → Pair
@@ -23,35 +28,28 @@ Ahead u = (pos 0 <ℤ u.x) ⊎ ((u.x ≡ pos 0) × (pos 0 <ℤ u.y))
 
 -- the identity of three vectors
 plucker : (u v w : Pair) → cross u w *ℤ v.x ≡ cross u v *ℤ w.x +ℤ cross v w *ℤ u.x
-plucker u v w = rw (
-  as_difference u.x,
-  as_difference u.y,
-  as_difference v.x,
-  as_difference v.y,
-  as_difference w.x,
-  as_difference w.y,
-) (simp (difference-add, difference-neg, difference-mul) (difference-eq _ _ _ _ (omega arith)))
+plucker u v w = rw (as_pair u, as_pair v, as_pair w) (simp (difference-add, difference-neg, difference-mul) (difference-eq _ _ _ _ (omega arith)))
 
 -- the first vector backwards
 pub cross-opp_left : (u v : Pair) → cross (opp u) v ≡ cross v u
 cross-opp_left u v =
-    rw (as_difference u.x, as_difference u.y, as_difference v.x, as_difference v.y)
+    rw (as_pair u, as_pair v)
     (simp (difference-add, difference-neg, difference-mul) (difference-eq _ _ _ _ (omega arith)))
 
 -- the second vector backwards
 pub cross-opp_right : (u v : Pair) → cross u (opp v) ≡ cross v u
 cross-opp_right u v =
-    rw (as_difference u.x, as_difference u.y, as_difference v.x, as_difference v.y)
+    rw (as_pair u, as_pair v)
     (simp (difference-add, difference-neg, difference-mul) (difference-eq _ _ _ _ (omega arith)))
 
 -- both vectors backwards
 pub cross-opp : (u v : Pair) → cross (opp u) (opp v) ≡ cross u v
-cross-opp u v = rw (as_difference u.x, as_difference u.y, as_difference v.x, as_difference v.y)
+cross-opp u v = rw (as_pair u, as_pair v)
     (simp (difference-add, difference-neg, difference-mul) (difference-eq _ _ _ _ (omega arith)))
 
 -- the vectors exchanged
 pub cross_swap : (u v : Pair) → cross u v ≡ neg_ℤ (cross v u)
-cross_swap u v = rw (as_difference u.x, as_difference u.y, as_difference v.x, as_difference v.y)
+cross_swap u v = rw (as_pair u, as_pair v)
     (simp (difference-add, difference-neg, difference-mul) (difference-eq _ _ _ _ (omega arith)))
 
 -- a vector ahead does not go left
