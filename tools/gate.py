@@ -1,5 +1,6 @@
 #!/usr/bin/env python3
-"""The gate, part by part: crates and their tests proved from nothing, wrong bodies refused, programs and libraries tried.
+"""The gate, part by part: files in their layout, crates and their tests proved from nothing, wrong bodies refused, programs
+and libraries tried.
 
     .ci/run [PART..]
 
@@ -8,7 +9,8 @@ own line 'N passed, M failed'. At the end stand the seconds and processor second
 in a line of that form; the status is 0 only where nothing failed.
 
 Nothing is proved twice: the part `proofs` keeps what it proves, so that the programs which the other parts run are those
-that it linked, and the libraries for C stand on what it built (tools/proofs.py says how).
+that it linked, and the libraries for C stand on what it built (tools/proofs.py says how). Where the layout fails, which takes
+seconds, nothing else is run.
 """
 import os
 import re
@@ -21,6 +23,7 @@ TOP = os.path.dirname(os.path.dirname(os.path.abspath(__file__)))
 PROGRAMS = ("hullbook", "hulldraw", "memory_trials")
 # the parts that run beside one another stand in one row
 ROWS = (
+    {"layout": ["tools/layout.py"]},
     {"proofs": ["tools/proofs.py"]},
     {
         "cli": ["tests/cli/run.sh"],
@@ -95,7 +98,11 @@ def main(words):
     if any(it not in known for it in words):
         print(f"usage: .ci/run [PART..], where a part is one of {' '.join(known)}\n0 passed, 1 failed")
         return 2
-    ended = [part for row in ROWS for part in run(row, words or known)]
+    ended = []
+    for row in ROWS:
+        ended += run(row, words or known)
+        if "layout" in row and any(it.failed for it in ended):
+            break
     print(f"{'part':14}{'passed':>8}{'failed':>8}{'seconds':>9}{'processor seconds':>19}")
     for it in ended:
         print(f"{it.name:14}{it.passed:8}{it.failed:8}{it.seconds:9.0f}{it.processor:19.0f}")
