@@ -2,11 +2,11 @@
 use Rattle.std.specs.Prelude.{◌≡◌, ℕ, ◌≤◌, pos, neg_ℤ, ◌≤ℤ◌, Option, Some, None}
 use Rattle.std.proofs.Common.{refl, ap, subst, ◌∙◌, arith, inl, inr}
 use Rattle.lattice.specs.Plane.{Pair, orient, IsBefore, turned_point}
-use Rattle.lattice.specs.Bridges.{IsAllBefore, IsUpperBridge, IsLowerBridge, IsNotBeyond}
+use Rattle.lattice.specs.Bridges.{IsAllBefore, IsUpperBridge, IsLowerBridge}
 use Rattle.bridge_search.specs.Trees.{Tree, Leaf, Fork, On, IsBridged}
 use Rattle.bridge_search.specs.Trees.{first_of, last_of, height_of, IsAtDepth, highest}
 use Rattle.lattice.specs.Integers.{linear}
-use Rattle.lattice.proofs.TurnedBridges.{turned_twice, orient_turned, before_turned, before_turned_back}
+use Rattle.lattice.proofs.TurnedBridges.{turned_twice, IsTurn, order_turned, upper_from_lower, lower_from_upper}
 
 -- an edge turned: its ends turned, in the other order
 abbrev pub turned_pair : Pair × Pair → Pair × Pair
@@ -39,90 +39,30 @@ pub last_turned : (t : Tree) → last_of (turned_tree t) ≡ turned_point (first
 last_turned (Leaf x) = refl
 last_turned (Fork e f u w) = last_turned u
 
+-- the points of a half, after a turn, are those of the turned half
+pub turn_of : (t : Tree) → IsTurn (On t) (On (turned_tree t))
+turn_of t = record { onto = turned_on t; back = on_turned t }
+
+-- and those of the turned half, after another, are those of the half
+pub turn_back : (t : Tree) → IsTurn (On (turned_tree t)) (On t)
+turn_back t = record { onto = on_turned t; back = turned_on t }
+
 -- the order of two halves, after a turn
-pub order_turned : (u w : Tree) → IsAllBefore (On u) (On w) → IsAllBefore (On (turned_tree w)) (On (turned_tree u))
-order_turned u w o p q i j = before_swap p q (o (turned_point q) (turned_point p) (on_turned u q j) (on_turned w p i))
-  where
-    before_swap : (p q : Pair) → IsBefore (turned_point q) (turned_point p) → IsBefore p q
-    before_swap p q (inl h) = inl (omega (arith, linear))
-    before_swap p q (inr h) = inr (omega (arith, linear))
+pub halves_turned : (u w : Tree) → IsAllBefore (On u) (On w) → IsAllBefore (On (turned_tree w)) (On (turned_tree u))
+halves_turned u w = order_turned (On u) (On w) _ _ (turn_of u) (turn_of w)
 
--- the lower bridge, turned, is the upper one of the turned halves
-pub upper_turned : (u w : Tree) (p q : Pair) → IsLowerBridge (On u) (On w) p q
-    → IsUpperBridge (On (turned_tree w)) (On (turned_tree u)) (turned_point q) (turned_point p)
-upper_turned u w p q h = record {
-  from_left = turned_on w q h.to_right;
-  to_right = turned_on u p h.from_left;
-  below_left = λ t i. below t (h.above_right (turned_point t) (on_turned w t i));
-  below_right = λ t i. below t (h.above_left (turned_point t) (on_turned u t i));
-  tie_left = λ t i e. tie t (h.tie_right (turned_point t) (on_turned w t i) (zero t e));
-  tie_right = λ t i e. tie t (h.tie_left (turned_point t) (on_turned u t i) (zero t e));
-}
-  where
-    below : (t : Pair) → pos 0 ≤ℤ orient p q (turned_point t) → orient (turned_point q) (turned_point p) t ≤ℤ pos 0
-    below t g = let e : orient (turned_point q) (turned_point p) t ≡ neg_ℤ (orient p q (turned_point t)) =
-        orient_turned p q t in omega (arith, linear)
-
-    zero : (t : Pair) → orient (turned_point q) (turned_point p) t ≡ pos 0 → orient p q (turned_point t) ≡ pos 0
-    zero t g = let e : orient (turned_point q) (turned_point p) t ≡ neg_ℤ (orient p q (turned_point t)) =
-        orient_turned p q t in omega (arith, linear)
-
-    tie : (t : Pair) → IsNotBeyond p q (turned_point t) → IsNotBeyond (turned_point q) (turned_point p) t
-    tie t k = (λ b. k.1 (before_turned_back t q b), λ b. k.0 (before_turned t p b))
-
--- the upper bridge, turned, is the lower one of the turned halves
-pub lower_turned : (u w : Tree) (p q : Pair) → IsUpperBridge (On u) (On w) p q
-    → IsLowerBridge (On (turned_tree w)) (On (turned_tree u)) (turned_point q) (turned_point p)
-lower_turned u w p q h = record {
-  from_left = turned_on w q h.to_right;
-  to_right = turned_on u p h.from_left;
-  above_left = λ t i. above t (h.below_right (turned_point t) (on_turned w t i));
-  above_right = λ t i. above t (h.below_left (turned_point t) (on_turned u t i));
-  tie_left = λ t i e. tie t (h.tie_right (turned_point t) (on_turned w t i) (zero t e));
-  tie_right = λ t i e. tie t (h.tie_left (turned_point t) (on_turned u t i) (zero t e));
-}
-  where
-    above : (t : Pair) → orient p q (turned_point t) ≤ℤ pos 0 → pos 0 ≤ℤ orient (turned_point q) (turned_point p) t
-    above t g = let e : orient (turned_point q) (turned_point p) t ≡ neg_ℤ (orient p q (turned_point t)) =
-        orient_turned p q t in omega (arith, linear)
-
-    zero : (t : Pair) → orient (turned_point q) (turned_point p) t ≡ pos 0 → orient p q (turned_point t) ≡ pos 0
-    zero t g = let e : orient (turned_point q) (turned_point p) t ≡ neg_ℤ (orient p q (turned_point t)) =
-        orient_turned p q t in omega (arith, linear)
-
-    tie : (t : Pair) → IsNotBeyond p q (turned_point t) → IsNotBeyond (turned_point q) (turned_point p) t
-    tie t k = (λ b. k.1 (before_turned_back t q b), λ b. k.0 (before_turned t p b))
-
--- and back: the upper bridge of the turned halves gives the lower one
+-- the upper bridge of the turned halves gives the lower one
 pub lower_from_turned : (u w : Tree) (p q : Pair) → IsUpperBridge (On (turned_tree w)) (On (turned_tree u)) p q
     → IsLowerBridge (On u) (On w) (turned_point q) (turned_point p)
-lower_from_turned u w p q h = record {
-  from_left = on_turned u q h.to_right;
-  to_right = on_turned w p h.from_left;
-  above_left = λ t i. above t (h.below_right (turned_point t) (turned_on u t i));
-  above_right = λ t i. above t (h.below_left (turned_point t) (turned_on w t i));
-  tie_left = λ t i e. tie t (h.tie_right (turned_point t) (turned_on u t i) (zero t e));
-  tie_right = λ t i e. tie t (h.tie_left (turned_point t) (turned_on w t i) (zero t e));
-}
-  where
-    above : (t : Pair) → orient p q (turned_point t) ≤ℤ pos 0 → pos 0 ≤ℤ orient (turned_point q) (turned_point p) t
-    above t g = let e : orient (turned_point q) (turned_point p) t ≡ neg_ℤ (orient p q (turned_point t)) =
-        orient_turned p q t in omega (arith, linear)
-
-    zero : (t : Pair) → orient (turned_point q) (turned_point p) t ≡ pos 0 → orient p q (turned_point t) ≡ pos 0
-    zero t g = let e : orient (turned_point q) (turned_point p) t ≡ neg_ℤ (orient p q (turned_point t)) =
-        orient_turned p q t in omega (arith, linear)
-
-    tie : (t : Pair) → IsNotBeyond p q (turned_point t) → IsNotBeyond (turned_point q) (turned_point p) t
-    tie t k = (λ b. k.1 (before_turned_back t q b), λ b. k.0 (before_turned t p b))
+lower_from_turned u w p q = lower_from_upper (On (turned_tree w)) (On (turned_tree u)) _ _ p q (turn_back w) (turn_back u)
 
 -- a half that keeps the law keeps it after a turn
 pub bridged_turned : (t : Tree) → IsBridged t → IsBridged (turned_tree t)
 bridged_turned (Leaf x) h = tt
 bridged_turned (Fork e f u w) h = (
-  order_turned u w h.0,
-  upper_turned u w f.0 f.1 h.2,
-  lower_turned u w e.0 e.1 h.1,
+  halves_turned u w h.0,
+  upper_from_lower (On u) (On w) _ _ f.0 f.1 (turn_of u) (turn_of w) h.2,
+  lower_from_upper (On u) (On w) _ _ e.0 e.1 (turn_of u) (turn_of w) h.1,
   bridged_turned w h.4,
   bridged_turned u h.3,
 )

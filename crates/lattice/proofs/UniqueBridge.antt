@@ -5,7 +5,7 @@ use lib.IntN.{pos, ◌-ℤ◌, ◌*ℤ◌}
 use lib.Signed.{◌<ℤ◌, ◌≤ℤ◌}
 use Rattle.lattice.specs.Plane.{Pair, orient, IsBefore, turned_point}
 use Rattle.lattice.proofs.Order.{equal_by}
-use Rattle.lattice.proofs.TurnedBridges.{Turned, order_turned, upper_from_lower, turned_twice}
+use Rattle.lattice.proofs.TurnedBridges.{Turned, is_turn, order_turned, upper_from_lower, turned_twice}
 use Rattle.lattice.specs.Bridges.{IsAllBefore, IsUpperBridge, IsLowerBridge}
 use Rattle.lattice.specs.Integers.{linear}
 use Rattle.lattice.proofs.Lines.{IsPositive, no_sum, bend, bend_step, bend_strict, slope_x, slope_y, step_positive}
@@ -73,7 +73,8 @@ pub one_lower_bridge : (l r : Pair → Type 0) (p q a b : Pair) → IsAllBefore 
     → IsLowerBridge l r a b → (p ≡ a) × (q ≡ b)
 one_lower_bridge l r p q a b o h k =
     let e = one_bridge (Turned r) (Turned l) (turned_point q) (turned_point p) (turned_point b) (turned_point a)
-    (order_turned l r o) (upper_from_lower l r p q h) (upper_from_lower l r a b k) in
+    (order_turned l r _ _ (is_turn l) (is_turn r) o) (upper_from_lower l r _ _ p q (is_turn l) (is_turn r) h)
+    (upper_from_lower l r _ _ a b (is_turn l) (is_turn r) k) in
     (unturned p a e.1, unturned q b e.0)
   where
     unturned : (u v : Pair) → turned_point u ≡ turned_point v → u ≡ v

@@ -3,7 +3,7 @@ use Rattle.std.proofs.lemmas.Bool.{or_parts}
 use Rattle.std.proofs.Common.{◌≤◌, arith}
 use Rattle.bridge_search.specs.Trees.{height_of, highest}
 use Rattle.std.proofs.Common.{sym}
-use Rattle.bridge_search.specs.TurnedTrees.{first_turned, order_turned, lower_from_turned, height_turned}
+use Rattle.bridge_search.specs.TurnedTrees.{first_turned, halves_turned, lower_from_turned, height_turned}
 use Rattle.bridge_search.proofs.Turns as turns
 use Rattle.bridge_search.proofs.Depths.{sum_within, sum_turned}
 use Rattle.bridge_search.proofs.both.both_bridges_between.Goals as goal
@@ -11,7 +11,7 @@ use Rattle.bridge_search.proofs.both.both_bridges_between.Goals as goal
 pub new-lower-requires-clause-in_order : goal.new-lower-requires-clause-in_order
 new-lower-requires-clause-in_order g c =
     rw (c.new.ensures, c.new-2.ensures)
-    (order_turned (g.H.Half.tree c.args.u) (g.H.Half.tree c.args.w) c.requires.in_order)
+    (halves_turned (g.H.Half.tree c.args.u) (g.H.Half.tree c.args.w) c.requires.in_order)
 
 pub new-lower-requires-clause-parting : goal.new-lower-requires-clause-parting
 new-lower-requires-clause-parting g c =

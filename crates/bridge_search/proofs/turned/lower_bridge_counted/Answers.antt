@@ -1,11 +1,11 @@
 -- the upper bridge of the two halves turned by 180 degrees is their lower bridge, and a turn keeps the heights
 use Rattle.std.proofs.Common.{arith}
-use Rattle.bridge_search.specs.TurnedTrees.{order_turned, lower_from_turned, height_turned}
+use Rattle.bridge_search.specs.TurnedTrees.{halves_turned, lower_from_turned, height_turned}
 use Rattle.bridge_search.proofs.turned.lower_bridge_counted.Goals as goal
 
 pub upper_bridge_counted-first-requires : goal.upper_bridge_counted-first-requires
 upper_bridge_counted-first-requires g c =
-    rw (c.new.ensures, c.new-2.ensures) (order_turned (g.H.Half.tree c.args.u) (g.H.Half.tree c.args.w) c.requires)
+    rw (c.new.ensures, c.new-2.ensures) (halves_turned (g.H.Half.tree c.args.u) (g.H.Half.tree c.args.w) c.requires)
 
 pub returns-clause-bridge : goal.returns-clause-bridge
 returns-clause-bridge g c =
