@@ -20,39 +20,35 @@ fn fault_of(error: &Error) -> OptionFault {
     }
 }
 
+/// An option that takes a value.
+fn valued<'a>(alloc: Global, name: &'a str) -> Arg<'a> {
+    Arg::new(alloc, name).long(name).action(ArgAction::Set)
+}
+
+/// An option that takes none.
+fn flag<'a>(alloc: Global, name: &'a str) -> Arg<'a> {
+    Arg::new(alloc, name).long(name).action(ArgAction::SetTrue)
+}
+
+/// The options of a run that are numbers.
+fn with_numbers<'a>(alloc: Global, command: Command<'a>) -> Result<Command<'a>, AllocError> {
+    let capacity = clap::value_parser!(u32).range(1..=16777216);
+    let limit = clap::value_parser!(u32).range(1..=1048576);
+    command
+        .arg(valued(alloc, "capacity").value_parser(capacity))?
+        .arg(valued(alloc, "limit").value_parser(limit))?
+        .arg(valued(alloc, "first").value_parser(clap::value_parser!(u64)))
+}
+
 fn run_command<'a>(alloc: Global) -> Result<Command<'a>, AllocError> {
     let script = Arg::new(alloc, "script")
         .required(true)
         .action(ArgAction::Set);
-    let capacity = Arg::new(alloc, "capacity")
-        .long("capacity")
-        .action(ArgAction::Set)
-        .value_parser(clap::value_parser!(u32).range(1..=16777216));
-    let limit = Arg::new(alloc, "limit")
-        .long("limit")
-        .action(ArgAction::Set)
-        .value_parser(clap::value_parser!(u32).range(1..=1048576));
-    let first = Arg::new(alloc, "first")
-        .long("first")
-        .action(ArgAction::Set)
-        .value_parser(clap::value_parser!(u64));
-    let journal = Arg::new(alloc, "journal")
-        .long("journal")
-        .action(ArgAction::SetTrue);
-    let sparing = Arg::new(alloc, "sparing")
-        .long("sparing")
-        .action(ArgAction::SetTrue);
-    let after = Arg::new(alloc, "after")
-        .long("after")
-        .action(ArgAction::Set);
-    Command::new(alloc, "run")
-        .arg(script)?
-        .arg(capacity)?
-        .arg(limit)?
-        .arg(first)?
-        .arg(journal)?
-        .arg(sparing)?
-        .arg(after)
+    let command = Command::new(alloc, "run").arg(script)?;
+    with_numbers(alloc, command)?
+        .arg(flag(alloc, "journal"))?
+        .arg(flag(alloc, "sparing"))?
+        .arg(valued(alloc, "after"))
 }
 
 /// A command that has a journal as its one word.
