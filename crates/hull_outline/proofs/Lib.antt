@@ -26,3 +26,6 @@ pub mod Distances
 pub mod Differences
 pub mod Passing
 pub mod Together
+pub mod Axes
+pub mod EdgeAxes
+pub mod Witnessed

@@ -10,3 +10,4 @@ pub mod Boxes
 pub mod Encounters
 pub mod Nearest
 pub mod Separations
+pub mod Witnesses

@@ -5,8 +5,9 @@
 //! once, with no lock; each answer is the one that is right for every set with these corners (`specs/Outlines.antt`).
 //! [`Outline::place`], [`Outline::extreme`], [`Outline::tangents`], [`Outline::meets_segment`] and
 //! [`Outline::bounding_box`] take a number of steps that grows with the logarithm of the corners' number,
-//! [`Outline::contains`] and [`Outline::meets`] as many for each corner of the other hull, and [`Outline::area2`],
-//! [`Outline::nearest`], [`Outline::apart_from_segment`] and [`is_outline`] one pass. No memory is asked for.
+//! [`Outline::contains`], [`Outline::meets`] and [`Outline::witness`] as many for each corner of the two hulls at most,
+//! and [`Outline::area2`], [`Outline::nearest`], [`Outline::apart_from_segment`] and [`is_outline`] one pass. No memory is
+//! asked for.
 //!
 //! # A worked example
 //!
@@ -36,10 +37,13 @@ mod separations;
 mod sights;
 mod tangents;
 mod vector;
+mod witnesses;
 
 pub use laws::{never_both, none_nearer_than_corner, none_nearer_than_edge};
+pub use meetings::Meeting;
 pub use nearest::Nearest;
 pub use outline::Outline;
 pub use rounds::is_outline;
 pub use separations::Separation;
 pub use vector::Vector;
+pub use witnesses::Witness;
