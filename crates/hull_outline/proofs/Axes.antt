@@ -9,15 +9,15 @@ use Rattle.lattice.proofs.Vectors.{cross, cross_swap}
 -- ---- numbers
 
 -- of three numbers that sum to nothing, none below 0, the first is nothing
-first_of_three : (x y z : ℤ) → x +ℤ (y +ℤ z) ≡ pos 0 → pos 0 ≤ℤ x → pos 0 ≤ℤ y → pos 0 ≤ℤ z → x ≡ pos 0
+pub first_of_three : (x y z : ℤ) → x +ℤ (y +ℤ z) ≡ pos 0 → pos 0 ≤ℤ x → pos 0 ≤ℤ y → pos 0 ≤ℤ z → x ≡ pos 0
 first_of_three x y z e hx hy hz = omega (arith, ints)
 
 -- and so is the second
-second_of_three : (x y z : ℤ) → x +ℤ (y +ℤ z) ≡ pos 0 → pos 0 ≤ℤ x → pos 0 ≤ℤ y → pos 0 ≤ℤ z → y ≡ pos 0
+pub second_of_three : (x y z : ℤ) → x +ℤ (y +ℤ z) ≡ pos 0 → pos 0 ≤ℤ x → pos 0 ≤ℤ y → pos 0 ≤ℤ z → y ≡ pos 0
 second_of_three x y z e hx hy hz = omega (arith, ints)
 
 -- and so is the third
-third_of_three : (x y z : ℤ) → x +ℤ (y +ℤ z) ≡ pos 0 → pos 0 ≤ℤ x → pos 0 ≤ℤ y → pos 0 ≤ℤ z → z ≡ pos 0
+pub third_of_three : (x y z : ℤ) → x +ℤ (y +ℤ z) ≡ pos 0 → pos 0 ≤ℤ x → pos 0 ≤ℤ y → pos 0 ≤ℤ z → z ≡ pos 0
 third_of_three x y z e hx hy hz = omega (arith, ints)
 
 -- a product with nothing
@@ -55,7 +55,7 @@ no_more p q r s t cf ce x y z a b e f g hp hq hr hs ht hcf hce hy = elim (le_or_
 -- ---- vectors
 
 -- the identity of three vectors, in a direction
-three : (d a b c : Pair)
+pub three : (d a b c : Pair)
     → product d a *ℤ cross b c +ℤ (product d b *ℤ cross c a +ℤ product d c *ℤ cross a b) ≡ pos 0
 unfolding product
 three d a b c =

@@ -25,7 +25,7 @@ use Rattle.hull_outline.proofs.Turns.{farthest_corner, placed}
 -- ---- identities
 
 -- how far a step goes in a direction
-product_minus : (d p q : Pair) → product d (minus p q) ≡ product d p -ℤ product d q
+pub product_minus : (d p q : Pair) → product d (minus p q) ≡ product d p -ℤ product d q
 unfolding product
 product_minus d p q =
     rw (as_difference d.x, as_difference d.y, as_difference p.x, as_difference p.y, as_difference q.x, as_difference q.y)
@@ -82,7 +82,7 @@ side_off_more c n v t =
     ) (simp (difference-add, difference-neg, difference-mul) (difference-eq _ _ _ _ (omega arith)))
 
 -- both steps backwards
-both_back : (a b c d : Pair) → cross (minus a b) (minus c d) ≡ cross (minus b a) (minus d c)
+pub both_back : (a b c d : Pair) → cross (minus a b) (minus c d) ≡ cross (minus b a) (minus d c)
 both_back a b c d =
     rw (
       as_difference a.x,
@@ -181,7 +181,7 @@ bend_at S V last j o p many l = record {
 }
 
 -- in each direction a corner is farthest, that has a place in the list
-top_of : (S V : List Pair) (last : ℕ) (d : Pair) → IsOutlineOf S V → IsParted V last → 0 < length V
+pub top_of : (S V : List Pair) (last : ℕ) (d : Pair) → IsOutlineOf S V → IsParted V last → 0 < length V
     → (j : ℕ) × (j < length V) × IsFirstFarthest S d (corner V j)
 top_of S V last d o p n =
     let r = farthest_corner S V last d o p n in

@@ -29,3 +29,5 @@ pub mod Together
 pub mod Axes
 pub mod EdgeAxes
 pub mod Witnessed
+pub mod Diameters
+pub mod ExtentsOf

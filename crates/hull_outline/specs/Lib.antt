@@ -11,3 +11,4 @@ pub mod Encounters
 pub mod Nearest
 pub mod Separations
 pub mod Witnesses
+pub mod Extents
