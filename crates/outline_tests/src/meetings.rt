@@ -1,7 +1,7 @@
-//! Segments, boxes and nearest points beside slow answers by their definitions.
-use hull_outline::{Nearest, Outline, Separation};
+//! Segments, other hulls, extents and nearest points beside slow answers by their definitions.
+use hull_outline::{Meeting, Nearest, Outline, Separation, Witness};
 use hull_plain::{AddReply, HullSet, PlainSet};
-use lattice::{Point, distance_squared, orient};
+use lattice::{Direction, Point, distance_squared, orient, product};
 use std::alloc::Global;
 use std::process::Abort;
 use std::test::Fail;
@@ -83,17 +83,16 @@ fn slow_crosses(points: &[Point], a: Point, b: Point) -> bool {
     false
 }
 
-/// The separation parts the points from both ends, and one of them is its farthest.
-fn assert_parts(rt: &impl Abort, points: &[Point], a: Point, b: Point, found: Separation) {
+/// The separation parts the points from the others, and one of them is its farthest.
+fn assert_parts(rt: &impl Abort, points: &[Point], others: &[Point], found: Separation) {
     let reach = found.direction.product(found.farthest);
-    let mut there = false;
     for p in points {
         assert!(rt; found.direction.product(*p) <= reach, "{found:?} of {p:?}");
-        there = there || *p == found.farthest;
     }
-    assert!(rt; there, "{found:?} of {points:?}");
-    assert!(rt; found.direction.product(a) > reach, "{found:?} of {a:?}");
-    assert!(rt; found.direction.product(b) > reach, "{found:?} of {b:?}");
+    for q in others {
+        assert!(rt; found.direction.product(*q) > reach, "{found:?} of {q:?}");
+    }
+    assert!(rt; points.contains(&found.farthest), "{found:?} of {points:?}");
 }
 
 /// The outline of corners that are one.
@@ -135,7 +134,7 @@ fn assert_segment(rt: &impl Abort, points: &[Point], outline: Outline<'_>, a: &S
     match outline.apart_from_segment(a.point, b.point) {
         Some(found) => {
             assert!(rt; !meets, "{points:?} and {found:?}");
-            assert_parts(rt, points, a.point, b.point, found);
+            assert_parts(rt, points, &[a.point, b.point], found);
         }
         None => assert!(rt; meets || points.is_empty(), "{points:?}"),
     }
@@ -289,12 +288,56 @@ fn assert_box(rt: &impl Abort, points: &[Point], outline: Outline<'_>) {
     }
 }
 
+/// The two points that are told are as far apart as any two.
+fn assert_diameter(rt: &impl Abort, points: &[Point], outline: Outline<'_>) {
+    match outline.diameter() {
+        Some((p, q)) => {
+            assert!(rt; points.contains(&p) && points.contains(&q), "{points:?}");
+            for a in points {
+                for b in points {
+                    assert!(rt;
+                        distance_squared(*a, *b) <= distance_squared(p, q),
+                        "{points:?}"
+                    );
+                }
+            }
+        }
+        None => assert!(rt; points.is_empty()),
+    }
+}
+
+/// The width along a direction is the most that one point lies farther than another.
+fn assert_width(rt: &impl Abort, points: &[Point], outline: Outline<'_>, d: Direction) {
+    let mut widest = 0;
+    for a in points {
+        for b in points {
+            widest = widest.max(product(d, *a).wrapping_sub(product(d, *b)));
+        }
+    }
+    match outline.width_along(d) {
+        Some(width) => assert_eq!(rt; i128::try_from(width), Ok(widest), "{points:?} along {d:?}"),
+        None => assert!(rt; points.is_empty()),
+    }
+}
+
+// The outermost points of the sets are at the limit of coordinates.
 #[test]
-fn boxes_of_all_sets_of_a_small_grid(rt: HostRuntime) -> Result<(), Fail> {
+fn extents_of_all_sets_of_a_small_grid(rt: HostRuntime) -> Result<(), Fail> {
     for bits in 0u32..512 {
         let points = grid_points(rt.alloc(), bits, 1099511627776)?;
         let corners = corners_of(&rt, rt.alloc(), &points)?;
-        assert_box(&rt, &points, outline_of(&rt, &corners));
+        let outline = outline_of(&rt, &corners);
+        assert_box(&rt, &points, outline);
+        assert_diameter(&rt, &points, outline);
+        for (dx, dy) in [
+            (1, 0),
+            (0, -1),
+            (3, 1),
+            (-2, 3),
+            (1099511627776, -1099511627776),
+        ] {
+            assert_width(&rt, &points, outline, Direction::new(dx, dy)?);
+        }
     }
     Ok(())
 }
@@ -332,10 +375,7 @@ fn all_sets_of_a_small_grid_within_each_other(rt: HostRuntime) -> Result<(), Fai
         let outline = outline_of(&rt, &one.corners);
         for other in &all {
             let within = one.covered & other.covered == other.covered;
-            assert_eq!(rt;
-                outline.contains(&outline_of(&rt, &other.corners)),
-                within
-            );
+            assert_eq!(rt; outline.contains(&outline_of(&rt, &other.corners)), within);
         }
     }
     Ok(())
@@ -378,6 +418,46 @@ fn small_sets(alloc: Global, most: u32, right: i64, up: i64) -> Result<Vec<Vec<P
     Ok(sets)
 }
 
+/// What shows how two sets stand to each other does show it.
+fn assert_witness(
+    rt: &impl Abort,
+    one: &[Point],
+    other: &[Point],
+    meet: bool,
+    found: Option<Witness>,
+) {
+    match found {
+        None => assert!(rt; one.is_empty() || other.is_empty()),
+        Some(Witness::Apart(separation)) => {
+            assert!(rt; !meet, "{one:?} and {other:?}");
+            assert_parts(rt, one, other, separation);
+        }
+        Some(Witness::Meets(Meeting::OfOther(t))) => {
+            assert!(rt;
+                other.contains(&t) && slow_covers(one, t),
+                "{one:?} and {other:?}"
+            );
+        }
+        Some(Witness::Meets(Meeting::OfThis(s))) => {
+            assert!(rt;
+                one.contains(&s) && slow_covers(other, s),
+                "{one:?} and {other:?}"
+            );
+        }
+        Some(Witness::Meets(Meeting::Crossing(a, b, c, d))) => {
+            assert!(rt;
+                one.contains(&a) && one.contains(&b),
+                "{one:?} and {other:?}"
+            );
+            assert!(rt;
+                other.contains(&c) && other.contains(&d),
+                "{one:?} and {other:?}"
+            );
+            assert!(rt; is_crossing(a, b, c, d), "{one:?} and {other:?}");
+        }
+    }
+}
+
 /// Each of the ones is answered with each of the others as by the definition, and the same the other way round.
 fn assert_meetings(
     rt: &impl Abort,
@@ -394,6 +474,8 @@ fn assert_meetings(
             let meet = slow_meet(&one_corners, &other_corners);
             assert_eq!(rt; outline.meets(&against), meet, "{one:?} and {other:?}");
             assert_eq!(rt; against.meets(&outline), meet, "{one:?} and {other:?}");
+            assert_witness(rt, one, other, meet, outline.witness(&against));
+            assert_witness(rt, other, one, meet, against.witness(&outline));
         }
     }
     Ok(())
