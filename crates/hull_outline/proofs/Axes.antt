@@ -1,5 +1,5 @@
 -- Four vectors that do not go down, seen in a direction: the outermost on each side, and a vector that goes up.
-use Rattle.std.proofs.Common.{◌≡◌, ℤ, pos, ◌+ℤ◌, ◌*ℤ◌, ◌≤ℤ◌, ◌<ℤ◌, neg_ℤ, ◌⊎◌, inl, inr, ap, ◌∙◌, arith}
+use Rattle.std.proofs.Common.{◌≡◌, ℤ, pos, ◌+ℤ◌, ◌*ℤ◌, ◌≤ℤ◌, ◌<ℤ◌, neg_ℤ, ◌⊎◌, inl, inr, refl, ap, ◌∙◌, arith}
 use Rattle.std.proofs.lemmas.Int.{ints}
 use Rattle.lattice.specs.Plane.{Pair, product}
 use Rattle.lattice.specs.Polynomials.{difference-eq, as_difference, difference-add, difference-neg, difference-mul}
@@ -218,3 +218,115 @@ axis_of d w l r m s e f up = elim (le_or_lt (cross l m) (pos 0)) [
         right_beside = j;
       }))
     ]
+
+-- ---- the outermost of both wedges
+
+-- where the left one of the first wedge and the right one of the second are in line and the outermost, the first is level
+level_of : (d l r m s : Pair) → IsWedge d l r → IsWedge d m s → pos 0 ≤ℤ cross m l → cross l s ≡ pos 0
+    → product d l ≡ pos 0
+level_of d l r m s e f h flat =
+    cancel_zero (product d l) (cross s m) f.turns
+    (third_of_three _ _ _ (three d s m l) (product_nn _ _ f.right_up h) (none _ (times_nothing (product d m) _ flat))
+    (product_nn _ _ e.left_up (weak _ f.turns)))
+  where
+    weak : (x : ℤ) → pos 0 <ℤ x → pos 0 ≤ℤ x
+    weak x h = omega (arith, ints)
+
+    none : (x : ℤ) → x ≡ pos 0 → pos 0 ≤ℤ x
+    none x h = omega (arith, ints)
+
+    times_nothing : (k z : ℤ) → z ≡ pos 0 → k *ℤ z ≡ pos 0
+    times_nothing k z e = ap (λ (x : ℤ). k *ℤ x) e ∙ omega (arith, ints)
+
+-- g is the left one of two wedges that is farther left, h the right one that is farther right
+pub record IsSpan (d l r m s g h : Pair) : Type 0 where
+  pub left_one : ((g ≡ l) × (cross l m ≤ℤ pos 0) × (cross l s ≤ℤ pos 0))
+      ⊎ ((g ≡ m) × (cross m l ≤ℤ pos 0) × (cross m r ≤ℤ pos 0))
+  pub right_one : ((h ≡ r) × (pos 0 ≤ℤ cross r m) × (pos 0 ≤ℤ cross r s))
+      ⊎ ((h ≡ s) × (pos 0 ≤ℤ cross s l) × (pos 0 ≤ℤ cross s r))
+  pub left_up : pos 0 ≤ℤ product d g
+  pub right_up : pos 0 ≤ℤ product d h
+  pub turns : (pos 0 <ℤ cross h g) ⊎ (product d g ≡ pos 0)
+
+-- of two wedges there are such two
+pub span_of : (d w l r m s : Pair) → IsWedge d l r → IsWedge d m s → pos 0 <ℤ product d w
+    → (g : Pair) × (h : Pair) × IsSpan d l r m s g h
+span_of d w l r m s e f up = elim (le_or_lt (cross l m) (pos 0)) [
+  | inl a ↦
+      let k : cross l s ≤ℤ pos 0 = left_of_both d w l r m s e f up (over _ _ (cross_swap m l) a) in
+      elim (le_or_lt (pos 0) (cross r s)) [
+        | inl b ↦ (
+          l,
+          r,
+          record {
+            left_one = inl (refl, a, k);
+            right_one = inl (refl, over _ _ (cross_swap r m) (right_of_both d w l r m s e f up b), b);
+            left_up = e.left_up;
+            right_up = e.right_up;
+            turns = inl e.turns;
+          },
+        )
+        | inr b ↦ (
+          l,
+          s,
+          record {
+            left_one = inl (refl, a, k);
+            right_one =
+                let j : pos 0 ≤ℤ cross s r = over _ _ (cross_swap s r) (weak _ b) in
+                inr (refl, over _ _ (cross_swap s l) (right_of_both d w m s l r f e up j), j);
+            left_up = e.left_up;
+            right_up = f.right_up;
+            turns = told (cross s l) (over _ _ (cross_swap s l) k)
+                (λ z. level_of d l r m s e f (over _ _ (cross_swap m l) a) (none _ _ (cross_swap l s) z));
+          },
+        )
+      ]
+  | inr a ↦
+      let k : cross m r ≤ℤ pos 0 = left_of_both d w m s l r f e up (more _ a) in
+      let i : cross m l ≤ℤ pos 0 = under _ _ (cross_swap m l) a in
+      elim (le_or_lt (pos 0) (cross r s)) [
+        | inl b ↦ (
+          m,
+          r,
+          record {
+            left_one = inr (refl, i, k);
+            right_one = inl (refl, over _ _ (cross_swap r m) (right_of_both d w l r m s e f up b), b);
+            left_up = f.left_up;
+            right_up = e.right_up;
+            turns = told (cross r m) (over _ _ (cross_swap r m) k)
+                (λ z. level_of d m s l r f e (more _ a) (none _ _ (cross_swap m r) z));
+          },
+        )
+        | inr b ↦ (
+          m,
+          s,
+          record {
+            left_one = inr (refl, i, k);
+            right_one =
+                let j : pos 0 ≤ℤ cross s r = over _ _ (cross_swap s r) (weak _ b) in
+                inr (refl, over _ _ (cross_swap s l) (right_of_both d w m s l r f e up j), j);
+            left_up = f.left_up;
+            right_up = f.right_up;
+            turns = inl f.turns;
+          },
+        )
+      ]
+]
+  where
+    over : (x y : ℤ) → x ≡ neg_ℤ y → y ≤ℤ pos 0 → pos 0 ≤ℤ x
+    over x y e h = omega (arith, ints)
+
+    under : (x y : ℤ) → x ≡ neg_ℤ y → pos 0 <ℤ y → x ≤ℤ pos 0
+    under x y e h = omega (arith, ints)
+
+    weak : (x : ℤ) → x <ℤ pos 0 → x ≤ℤ pos 0
+    weak x h = omega (arith, ints)
+
+    more : (x : ℤ) → pos 0 <ℤ x → pos 0 ≤ℤ x
+    more x h = omega (arith, ints)
+
+    none : (x y : ℤ) → x ≡ neg_ℤ y → y ≡ pos 0 → x ≡ pos 0
+    none x y e h = omega (arith, ints)
+
+    told : {P : Type 0} (x : ℤ) → pos 0 ≤ℤ x → (x ≡ pos 0 → P) → (pos 0 <ℤ x) ⊎ P
+    told x h f = elim (le_or_lt x (pos 0)) [ inr k ↦ inl k | inl k ↦ inr (f (omega (arith, ints))) ]

@@ -108,14 +108,14 @@ distance_more p q t =
     (simp (difference-add, difference-neg, difference-mul) (difference-eq _ _ _ _ (omega arith)))
 
 -- two points are apart
-distance_above : (q t : Pair) → ¬ (t ≡ q) → pos 0 <ℤ distance_squared q t
+pub distance_above : (q t : Pair) → ¬ (t ≡ q) → pos 0 <ℤ distance_squared q t
 distance_above q t n = above _ _ _ (distance_way q t) (way_on q t (λ e. n (sym e)))
   where
     above : (x y z : ℤ) → x ≡ y -ℤ z → z <ℤ y → pos 0 <ℤ x
     above x y z e h = omega (arith, ints)
 
 -- a distance is not below 0
-distance_nn : (q t : Pair) → pos 0 ≤ℤ distance_squared q t
+pub distance_nn : (q t : Pair) → pos 0 ≤ℤ distance_squared q t
 distance_nn q t = elim (before_total t q) [
   | inl b ↦ weak _ (distance_above q t (before_apart t q b))
   | inr (inl e) ↦ level _ _ _ (distance_way q t) (ap (product (step q t)) e)

@@ -53,21 +53,21 @@ turn_from p c n =
     (simp (difference-add, difference-neg, difference-mul) (difference-eq _ _ _ _ (omega arith)))
 
 -- the side of a point at the line from p to c, by the steps to c and from there
-side_on : (p c v : Pair) → orient p c v ≡ cross (minus c p) (minus v c)
+pub side_on : (p c v : Pair) → orient p c v ≡ cross (minus c p) (minus v c)
 unfolding orient
 side_on p c v =
     rw (as_difference p.x, as_difference p.y, as_difference c.x, as_difference c.y, as_difference v.x, as_difference v.y)
     (simp (difference-add, difference-neg, difference-mul) (difference-eq _ _ _ _ (omega arith)))
 
 -- the side of a point at the line from c to n, by the steps from n to c and from c
-side_off : (c n v : Pair) → orient c n v ≡ neg_ℤ (cross (minus c n) (minus v c))
+pub side_off : (c n v : Pair) → orient c n v ≡ neg_ℤ (cross (minus c n) (minus v c))
 unfolding orient
 side_off c n v =
     rw (as_difference c.x, as_difference c.y, as_difference n.x, as_difference n.y, as_difference v.x, as_difference v.y)
     (simp (difference-add, difference-neg, difference-mul) (difference-eq _ _ _ _ (omega arith)))
 
 -- the side of one point less that of another, by the step from n to c
-side_off_more : (c n v t : Pair) → orient c n t -ℤ orient c n v ≡ neg_ℤ (cross (minus c n) (minus t v))
+pub side_off_more : (c n v t : Pair) → orient c n t -ℤ orient c n v ≡ neg_ℤ (cross (minus c n) (minus t v))
 unfolding orient
 side_off_more c n v t =
     rw (
@@ -98,28 +98,37 @@ both_back a b c d =
 -- ---- a corner and the edges at it
 
 -- all of T lies left of the edges from p to v and from v to n, which turn left
-record IsBend (T : List Pair) (p v n : Pair) : Type 0 where
-  turns : pos 0 <ℤ orient p v n
-  to : IsLeftOf T p v
-  from : IsLeftOf T v n
+pub record IsBend (T : List Pair) (p v n : Pair) : Type 0 where
+  pub turns : pos 0 <ℤ orient p v n
+  pub to : IsLeftOf T p v
+  pub from : IsLeftOf T v n
 
--- v and the corners beside it lie right of a line, the others no less than v: so does all of T
-bend_right : (T : List Pair) (a b p v n : Pair) → IsBend T p v n → orient a b v <ℤ pos 0
+-- the corners beside v lie no farther to the left of a line than v: so does all of T
+pub bend_at_most : (T : List Pair) (a b p v n : Pair) → IsBend T p v n
     → (orient a b p -ℤ orient a b v) ≤ℤ pos 0 → (orient a b n -ℤ orient a b v) ≤ℤ pos 0
-    → (t : Pair) → Contains T t → orient a b t <ℤ pos 0
-bend_right T a b p v n h k hp hn t m =
+    → (t : Pair) → Contains T t → orient a b t ≤ℤ orient a b v
+bend_at_most T a b p v n h hp hn t m =
     let f : Pair → ℤ = product (left_of a b) in
-    under (f t) (f v) (f a) _ _ (product_left a b t) (product_left a b v) k
+    at_most (f t) (f v) (f a) _ _ (product_left a b t) (product_left a b v)
     (no_farther_in_cone (left_of a b) p v n t h.turns (All-contains (λ u. pos 0 ≤ℤ orient p v u) T t h.to m)
     (All-contains (λ u. pos 0 ≤ℤ orient v n u) T t h.from m)
     (same (f n) (f v) (f a) _ _ (product_left a b n) (product_left a b v) hn)
     (same (f p) (f v) (f a) _ _ (product_left a b p) (product_left a b v) hp))
   where
-    under : (x y z u w : ℤ) → x -ℤ z ≡ u → y -ℤ z ≡ w → w <ℤ pos 0 → (x -ℤ y) ≤ℤ pos 0 → u <ℤ pos 0
-    under x y z u w e f h k = omega (arith, ints)
+    at_most : (x y z u w : ℤ) → x -ℤ z ≡ u → y -ℤ z ≡ w → (x -ℤ y) ≤ℤ pos 0 → u ≤ℤ w
+    at_most x y z u w e f h = omega (arith, ints)
 
     same : (x y z u w : ℤ) → x -ℤ z ≡ u → y -ℤ z ≡ w → (u -ℤ w) ≤ℤ pos 0 → (x -ℤ y) ≤ℤ pos 0
     same x y z u w e f h = omega (arith, ints)
+
+-- where v lies right of the line, all of T does
+bend_right : (T : List Pair) (a b p v n : Pair) → IsBend T p v n → orient a b v <ℤ pos 0
+    → (orient a b p -ℤ orient a b v) ≤ℤ pos 0 → (orient a b n -ℤ orient a b v) ≤ℤ pos 0
+    → (t : Pair) → Contains T t → orient a b t <ℤ pos 0
+bend_right T a b p v n h k hp hn t m = less _ _ (bend_at_most T a b p v n h hp hn t m) k
+  where
+    less : (x y : ℤ) → x ≤ℤ y → y <ℤ pos 0 → x <ℤ pos 0
+    less x y h k = omega (arith, ints)
 
 -- the edge to c has T on its right, where the bend and v are right of it
 right_of_edge_to : (T : List Pair) (b c p v n : Pair) → IsBend T p v n
@@ -168,11 +177,11 @@ right_axis_back n v b d c a = record {
 -- ---- the corners farthest in a direction
 
 -- a corner of a set, and those beside it
-abbrev IsBendAt : List Pair → List Pair → ℕ → Type 0
+abbrev pub IsBendAt : List Pair → List Pair → ℕ → Type 0
 IsBendAt S V j = IsBend S (previous V j) (corner V j) (corner V (j + 1))
 
 -- three corners or more bend at each
-bend_at : (S V : List Pair) (last j : ℕ) → IsOutlineOf S V → IsParted V last → 2 < length V → j < length V
+pub bend_at : (S V : List Pair) (last j : ℕ) → IsOutlineOf S V → IsParted V last → 2 < length V → j < length V
     → IsBendAt S V j
 bend_at S V last j o p many l = record {
   turns = turn_at S V j o.1 l many;
@@ -189,7 +198,7 @@ top_of S V last d o p n =
     (j.0, j.1, subst (IsFirstFarthest S d) j.2 r.1)
 
 -- the steps to a farthest corner from those beside it do not go down
-wedge_to : (S V : List Pair) (d : Pair) (j : ℕ) → IsOutlineOf S V → j < length V → IsBendAt S V j
+pub wedge_to : (S V : List Pair) (d : Pair) (j : ℕ) → IsOutlineOf S V → j < length V → IsBendAt S V j
     → IsFirstFarthest S d (corner V j)
     → IsWedge d (minus (corner V j) (previous V j)) (minus (corner V j) (corner V (j + 1)))
 wedge_to S V d j o l h f =
@@ -208,7 +217,7 @@ wedge_to S V d j o l h f =
     up x y z e h = omega (arith, ints)
 
 -- the steps from a corner that is farthest backwards do not go down
-wedge_from : (T W : List Pair) (d : Pair) (j : ℕ) → IsOutlineOf T W → j < length W → IsBendAt T W j
+pub wedge_from : (T W : List Pair) (d : Pair) (j : ℕ) → IsOutlineOf T W → j < length W → IsBendAt T W j
     → IsFirstFarthest T (opp d) (corner W j)
     → IsWedge d (minus (previous W j) (corner W j)) (minus (corner W (j + 1)) (corner W j))
 wedge_from T W d j o l h f =

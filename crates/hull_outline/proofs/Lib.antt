@@ -31,3 +31,5 @@ pub mod EdgeAxes
 pub mod Witnessed
 pub mod Diameters
 pub mod ExtentsOf
+pub mod Fractions
+pub mod LeastWidths

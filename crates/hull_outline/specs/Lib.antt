@@ -12,3 +12,4 @@ pub mod Nearest
 pub mod Separations
 pub mod Witnesses
 pub mod Extents
+pub mod Wide
