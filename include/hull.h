@@ -284,6 +284,24 @@ hull_reply hull_outline_width(const hull_point *corners, size_t count, int64_t d
  * for each corner. */
 hull_reply hull_outline_diameter(const hull_point *corners, size_t count);
 
+/* What shows how outlines stand, as a caller can see by itself: a code, and the points of it. What a code does not name is 0. */
+typedef struct hull_witness {
+    uint32_t code; /* HULL_COVERED: the first outline covers a, a corner of the second. HULL_WITHIN: the second covers a, a corner of
+                    * the first. HULL_CROSSING: the segment from a to b, corners of the first, crosses the one from c to d, corners of
+                    * the second. HULL_APART: no corner of the first has a greater product with b, a direction with components of
+                    * at most 2^41 in size, than a, one of them, and each corner of the second has. HULL_EDGE: a strip between
+                    * the line of an edge, from a to b, and its parallel through c. HULL_EMPTY: there are too few corners */
+    hull_point a;
+    hull_point b;
+    hull_point c;
+    hull_point d;
+} hull_witness;
+
+/* Where the outline is least wide: HULL_EDGE with an edge from a to b, counterclockwise, and a corner c farthest from it; no direction
+ * has a narrower strip. The width squared is the square of (bx - ax) (cy - ay) - (by - ay) (cx - ax), of up to 84 bits, divided by
+ * the squared length of the edge. HULL_EMPTY where there are fewer than two corners. A question for each corner. */
+hull_witness hull_outline_least_width(const hull_point *corners, size_t count);
+
 /* Two outlines. Both arrays are as the caller must keep one, and may be the same; either may be of no corners. They take a question
  * for each corner of the second outline, and hull_outline_witness, where they are apart, one for each corner of the first, too.
  *
@@ -293,18 +311,7 @@ hull_reply hull_outline_meets(const hull_point *corners, size_t count, const hul
 /* Whether the first covers whatever the second covers, boundaries included: HULL_NUMBER with 1 or 0. */
 hull_reply hull_outline_contains(const hull_point *corners, size_t count, const hull_point *others, size_t other_count);
 
-/* What shows that two outlines meet or are apart, as a caller can see by itself. What a code does not name is 0. */
-typedef struct hull_witness {
-    uint32_t code; /* HULL_COVERED: the first outline covers a, a corner of the second. HULL_WITHIN: the second covers a, a corner of
-                    * the first. HULL_CROSSING: the segment from a to b, corners of the first, crosses the one from c to d, corners of
-                    * the second. HULL_APART: no corner of the first has a greater product with b, a direction with components of
-                    * at most 2^41 in size, than a, one of them, and each corner of the second has. HULL_EMPTY: one has no corners */
-    hull_point a;
-    hull_point b;
-    hull_point c;
-    hull_point d;
-} hull_witness;
-
+/* Where they meet, or what parts them: HULL_COVERED, HULL_WITHIN, HULL_CROSSING, HULL_APART; or HULL_EMPTY where one has no corners. */
 hull_witness hull_outline_witness(const hull_point *corners, size_t count, const hull_point *others, size_t other_count);
 
 /* A support function for callers with directions in doubles: the first of the farthest points in the direction (dx, dy), taken to

@@ -128,6 +128,12 @@ struct Witness {
     Point a, b, c, d;
 };
 
+// A strip that holds an outline: the outline lies left of the line of the edge from `from` to `to`, and `farthest` is a corner farthest
+// from it. Its width is the side of that corner, up to 84 bits, divided by the length of the edge.
+struct Strip {
+    Point from, to, farthest;
+};
+
 // What a reply tells, as a value; what refuses the call is thrown.
 namespace told {
 
@@ -303,6 +309,12 @@ public:
     // The two corners that are farthest from one another; none for an outline of no corners.
     std::optional<std::pair<Point, Point>> diameter() const {
         return told::points(hull_outline_diameter(data(), corners_.size()));
+    }
+
+    // Where the outline is least wide: no direction has a narrower strip; none where there are fewer than two corners.
+    std::optional<Strip> least_width() const {
+        const hull_witness w = hull_outline_least_width(data(), corners_.size());
+        return w.code == HULL_EDGE ? std::optional<Strip>(Strip{w.a, w.b, w.c}) : std::nullopt;
     }
 
     // Whether the two outlines have a point in common, boundaries included.

@@ -204,6 +204,7 @@ def _library():
         ("outline_width", [at, ctypes.c_size_t, whole, whole], _Reply), ("outline_diameter", [at, ctypes.c_size_t], _Reply),
         ("outline_meets", [at, ctypes.c_size_t, at, ctypes.c_size_t], _Reply),
         ("outline_contains", [at, ctypes.c_size_t, at, ctypes.c_size_t], _Reply),
+        ("outline_least_width", [at, ctypes.c_size_t], _Witness),
         ("outline_witness", [at, ctypes.c_size_t, at, ctypes.c_size_t], _Witness),
         ("outline_calls", [at, ctypes.c_size_t, at, ctypes.c_size_t, at, ctypes.c_size_t], ctypes.c_size_t),
         ("vertices", [at, at, ctypes.c_size_t], _Reply),
@@ -787,6 +788,14 @@ class Outline(_Questions):
         """The two corners that are farthest from one another; None where there is no corner."""
         reply = self._found(_LIBRARY.hull_outline_diameter)
         return _two_pairs(reply) if reply.code == _Code.POINTS else None
+
+    def least_width(self):
+        """Where the outline is least wide: the ends of an edge and a corner farthest from it; None where there is no edge.
+
+        No direction has a narrower strip. The width is the side of that corner at the edge by the edge's length.
+        """
+        told = self._found(_LIBRARY.hull_outline_least_width)
+        return (tuple(told.a), tuple(told.b), tuple(told.c)) if told.code == _Code.EDGE else None
 
     def _beside(self, ask, other):
         """What a call with another outline tells."""

@@ -495,6 +495,26 @@ static void two_outlines(void) {
     refused_from = -1;
 }
 
+/* where corners are least wide is no wider than along any direction of a grid, and no narrower than the strip of each edge */
+static int is_least(const hull_point *corners, size_t count) {
+    hull_witness w = hull_outline_least_width(corners, count);
+    if (w.code != HULL_EDGE || !is_among(corners, count, w.a) || !is_among(corners, count, w.b) || !is_among(corners, count, w.c)) {
+        return 0;
+    }
+    const hull_point step = {w.b.x - w.a.x, w.b.y - w.a.y};
+    __int128 told = (__int128)side(w.a, w.b, w.c) * side(w.a, w.b, w.c), edge = step.x * step.x + step.y * step.y;
+    int same = edge > 0;
+    for (int64_t i = 0; i < 41 * 41; i++) {
+        int64_t dx = i % 41 - 20, dy = i / 41 - 20;
+        if (dx != 0 || dy != 0) {
+            __int128 wide = hull_outline_width(corners, count, dx, dy).number;
+            same &= told * (dx * dx + dy * dy) <= wide * wide * edge;
+        }
+    }
+    hull_reply along = hull_outline_width(corners, count, -step.y, step.x);
+    return same && (int64_t)along.number == side(w.a, w.b, w.c);
+}
+
 /* the farthest two of a few corners, and how far they reach, by trying all */
 static void extents(void) {
     static const hull_point corners[] = {{-7, 2}, {-5, -6}, {1, -9}, {8, -3}, {9, 4}, {3, 10}, {-4, 9}};
@@ -517,8 +537,15 @@ static void extents(void) {
             hull_reply width = hull_outline_width(corners, count, dx, dy);
             same &= dx == 0 && dy == 0 ? bare(width, HULL_ZERO_DIRECTION) : number(width, HULL_NUMBER, (uint64_t)(most - least));
         }
-        CHECK(same);
+        CHECK(same && (count < 2 || is_least(corners, count)));
     }
+    CHECK(hull_outline_least_width(corners, 0).code == HULL_EMPTY && hull_outline_least_width(corners, 1).code == HULL_EMPTY);
+    static const hull_point largest[] = {{-HULL_COORDINATE_MAX, -HULL_COORDINATE_MAX},
+                                         {HULL_COORDINATE_MAX, -HULL_COORDINATE_MAX + 1},
+                                         {HULL_COORDINATE_MAX, HULL_COORDINATE_MAX},
+                                         {-HULL_COORDINATE_MAX, HULL_COORDINATE_MAX - 1}};
+    hull_witness at_limit = hull_outline_least_width(largest, 4);
+    CHECK(at_limit.code == HULL_EDGE && at_limit.a.x == at_limit.b.x - 2 * HULL_COORDINATE_MAX);
     CHECK(bare(hull_outline_diameter(corners, 0), HULL_EMPTY) && bare(hull_outline_width(corners, 0, 1, 0), HULL_EMPTY));
     CHECK(bare(hull_outline_width(corners, 3, HULL_COORDINATE_MAX + 1, 0), HULL_OUT_OF_RANGE));
     static const int64_t far = HULL_COORDINATE_MAX;

@@ -103,6 +103,9 @@ static void two_outlines() {
     CHECK(apart && apart->shows == Shows::apart && apart->a == (Point{10, 10}) && apart->b == (Point{10, 0}));
     CHECK(crossing && crossing->shows == Shows::crossing && crossing->c == (Point{-5, 5}) && crossing->d == (Point{15, 6}));
     CHECK(!none.witness(outline) && !outline.witness(none) && !none.meets(outline) && outline.contains(none));
+    const auto strip = beside.least_width();
+    CHECK(strip && strip->from == (Point{12, 6}) && strip->to == (Point{12, 0}) && strip->farthest == (Point{15, 3}));
+    CHECK(!none.least_width() && !hull::Outline({{3, 4}}).least_width());
     const auto ends = outline.diameter();
     CHECK(ends && (ends->first.x - ends->second.x) * (ends->first.y - ends->second.y) != 0 && !none.diameter());
     CHECK(outline.width_along({3, 4}) == hull::Area(70) && !none.width_along({1, 0}));

@@ -202,6 +202,8 @@ class Calls(unittest.TestCase):
         self.assertEqual((crossing.shows, crossing.points[2:]), (Shows.CROSSING, ((-5, 5), (15, 6))))
         self.assertEqual(outline.witness(beside), (Shows.APART, ((10, 10), (10, 0))))
         self.assertEqual((outline.witness(none), none.witness(outline), none.diameter(), none.width_along(1, 0)), (None,) * 4)
+        self.assertEqual(beside.least_width(), ((12, 6), (12, 0), (15, 3)))
+        self.assertEqual((none.least_width(), Outline([(3, 4)]).least_width()), (None, None))
         (px, py), (qx, qy) = outline.diameter()
         self.assertEqual((px - qx) ** 2 + (py - qy) ** 2, 200)
         self.assertEqual(outline.width_along(3, 4), 70)

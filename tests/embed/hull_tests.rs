@@ -1,5 +1,5 @@
 //! Each function of `rust/hull`, each of its answers and each of its faults.
-use hull::{direction_of, wkt, Fault, Held, Hull, Lattice, Nearest, Outline, Place, Point, Separation, Witness};
+use hull::{direction_of, wkt, Fault, Held, Hull, Lattice, Nearest, Outline, Place, Point, Separation, Strip, Witness};
 use hull::{COORDINATE_LIMIT, MULTIPLICITY_LIMIT, POINT_LIMIT};
 
 fn point(x: i64, y: i64) -> Point {
@@ -116,6 +116,8 @@ fn two_outlines() {
     assert!(matches!(outline.witness(&across), Some(Witness::Crossing(_, [p, q])) if across.corners() == [p, q]));
     assert_eq!((outline.witness(&none), none.witness(&outline), none.diameter()), (None, None, None));
     assert!(!none.meets(&outline) && outline.contains(&none) && !none.contains(&outline));
+    let strip = Strip { from: point(12, 6), to: point(12, 0), farthest: point(15, 3) };
+    assert_eq!((beside.least_width(), none.least_width()), (Some(strip), None));
     let (p, q) = outline.diameter().unwrap();
     assert_eq!((p.x - q.x).pow(2) + (p.y - q.y).pow(2), 200);
     assert_eq!((outline.width_along(point(3, 4)), none.width_along(point(1, 0))), (Ok(Some(70)), Ok(None)));

@@ -1,12 +1,14 @@
--- What asking an outline about another one comes to, in numbers.
+-- What asking an outline about another one comes to, or where it is least wide, in numbers.
 use Rattle.std.specs.Prelude.{◌≡◌, ◌⊎◌, ◌↔◌, ℕ, List, [], Bool, cond, IsTrue, Option, Some, None, MatchOption}
 use Rattle.lattice.specs.Plane.{Pair}
 use Rattle.hull_plain.specs.Positions.{origin}
 use Rattle.hull_outline.specs.Boxes.{Holds}
+use Rattle.hull_outline.specs.Extents.{IsLeastWidth, IsOnePoint}
 use Rattle.hull_outline.specs.Meetings.{TellsMeeting}
 use Rattle.hull_outline.specs.Outlines.{HoldsOfSetsOf}
 use Rattle.hull_outline.specs.Witnesses.{IsWitness}
 use Rattle.hull_outline.specs.declared.meetings.Meeting.TheVariants as meeting
+use Rattle.hull_outline.specs.declared.strips.Strip.{Strip}
 use Rattle.hull_outline.specs.declared.witnesses.Witness.{Witness}
 use Rattle.hull_outline.specs.declared.witnesses.Witness.TheVariants as witness
 use Rattle.hull_reply.specs.Told.{code_number, IsNumber}
@@ -63,3 +65,14 @@ abbrev pub TellsWitness : List Pair → List Pair → HullWitness → Type 0
 TellsWitness corners others told =
     (found : Option Witness) × IsWitnessTold found told
     × HoldsOfBoth corners others (λ S T. MatchOption found ((S ≡ []) ⊎ (T ≡ [])) (λ w. IsWitness S T w))
+
+-- an edge and the point farthest from it, if there is an edge
+abbrev pub IsStripTold : Option Strip → HullWitness → Type 0
+IsStripTold None told = IsShown (code_number code.Empty) origin origin origin origin told
+IsStripTold (Some w) told = IsShown (finding_number finding.Edge) w.from w.to w.farthest origin told
+
+-- that is where each set with these corners is least wide
+abbrev pub TellsLeastWidth : List Pair → HullWitness → Type 0
+TellsLeastWidth corners told =
+    (found : Option Strip) × IsStripTold found told
+    × HoldsOfSetsOf corners (λ S. MatchOption found (IsOnePoint S) (λ w. IsLeastWidth S w))

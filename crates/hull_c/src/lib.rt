@@ -18,7 +18,7 @@ ghost use Rattle.hull_reply.specs.Served.{IsAnswered};
 ghost use Rattle.hull_c.specs.Bridges.{AreBridges};
 ghost use Rattle.hull_c.specs.Findings.{IsToldAlong, IsToldOf, TellsBox, TellsDiameter, TellsNearest, TellsParting, TellsWhether};
 ghost use Rattle.hull_c.specs.Findings.{TellsWidth};
-ghost use Rattle.hull_c.specs.Pairs.{TellsContains, TellsMeets, TellsWitness};
+ghost use Rattle.hull_c.specs.Pairs.{TellsContains, TellsLeastWidth, TellsMeets, TellsWitness};
 ghost use Rattle.hull_c.specs.Held.{AreLoaded, IsListed};
 ghost use Rattle.hull_c.specs.Left.{leaves_room};
 ghost use Rattle.hull_c.specs.Loads.{IsLoaded};
@@ -287,6 +287,15 @@ pub extern "C" fn hull_outline_diameter(corners: &[Point]) -> HullReply
     ensures { TellsDiameter corners.now result }
 {
     findings::diameter(corners)
+}
+
+/// The edge and the corner between whose parallels the hull of these corners is least wide.
+#[unsafe(no_mangle)]
+pub extern "C" fn hull_outline_least_width(corners: &[Point]) -> HullWitness
+    requires { IsShortOutline corners.now }
+    ensures { TellsLeastWidth corners.now result }
+{
+    pairs::least_width(corners)
 }
 
 /// Tells whether the hulls of two arrays of corners have a point in common: 1, or 0.

@@ -1,13 +1,14 @@
-//! Two arrays of corners.
+//! Two arrays of corners, and strips round one.
 ghost use Rattle.std.specs.Prelude.{◌≡◌, Some};
 ghost use Rattle.hull_plain.specs.Positions.{origin};
 ghost use Rattle.hull_outline.specs.Outlines.{IsShortOutline};
 ghost use Rattle.hull_outline.specs.declared.witnesses.Witness.TheVariants as witness;
 ghost use Rattle.hull_c.specs.Findings.{finding_number};
-ghost use Rattle.hull_c.specs.Pairs.{IsShown, IsWitnessTold, TellsContains, TellsMeets, TellsWitness};
+ghost use Rattle.hull_c.specs.Pairs.{IsShown, IsStripTold, IsWitnessTold};
+ghost use Rattle.hull_c.specs.Pairs.{TellsContains, TellsLeastWidth, TellsMeets, TellsWitness};
 
 use super::findings::Finding;
-use hull_outline::{Meeting, Outline, Separation, Witness};
+use hull_outline::{Meeting, Outline, Separation, Strip, Witness};
 use hull_reply::{Code, HullReply};
 use lattice::Point;
 
@@ -145,4 +146,34 @@ pub(crate) fn contains(corners: &[Point], others: &[Point]) -> HullReply
 {
     let holds = Outline::of_vertices(corners).contains(&Outline::of_vertices(others));
     HullReply::numbered(Code::Number, u64::from(holds))
+}
+
+/// The strip of an edge.
+fn strip(found: Strip) -> HullWitness
+    ensures { IsStripTold (Some found) result }
+{
+    let mut shown = at(Finding::Edge, found.from);
+    shown.other_x = found.to.x();
+    shown.other_y = found.to.y();
+    shown.third_x = found.farthest.x();
+    shown.third_y = found.farthest.y();
+    shown
+}
+
+/// A strip, if there is one.
+fn strip_of(found: Option<Strip>) -> HullWitness
+    ensures { IsStripTold found result }
+{
+    match found {
+        None => bare(Code::Empty.number()),
+        Some(thinnest) => strip(thinnest),
+    }
+}
+
+/// Where the corners are least wide.
+pub(crate) fn least_width(corners: &[Point]) -> HullWitness
+    requires { IsShortOutline corners.now }
+    ensures { TellsLeastWidth corners.now result }
+{
+    strip_of(Outline::of_vertices(corners).least_width())
 }

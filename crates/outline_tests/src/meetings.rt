@@ -1,5 +1,5 @@
 //! Segments, other hulls, extents and nearest points beside slow answers by their definitions.
-use hull_outline::{Meeting, Nearest, Outline, Separation, Witness};
+use hull_outline::{Meeting, Nearest, Outline, Separation, Strip, Witness};
 use hull_plain::{AddReply, HullSet, PlainSet};
 use lattice::{Direction, Point, distance_squared, orient, product};
 use std::alloc::Global;
@@ -254,12 +254,66 @@ fn assert_nearest(rt: &impl Abort, points: &[Point], outline: Outline<'_>, seen:
     }
 }
 
+/// The width of the strip that begins at the line from `a` to `b`, squared, if all points lie left of that.
+fn slow_strip(points: &[Point], a: Point, b: Point) -> Option<Fraction> {
+    let mut farthest = b;
+    for t in points {
+        if orient(a, b, *t) < 0 {
+            return None;
+        }
+        if orient(a, b, *t) > orient(a, b, farthest) {
+            farthest = *t;
+        }
+    }
+    Some(to_line(a, b, farthest))
+}
+
+/// The strip is as narrow as the narrowest of all that begin at the line of two points.
+fn assert_thinnest(rt: &impl Abort, points: &[Point], strip: Strip) {
+    let told = to_line(strip.from, strip.to, strip.farthest);
+    let mut found = false;
+    for a in points {
+        for b in points {
+            if a != b {
+                if let Some(width) = slow_strip(points, *a, *b) {
+                    assert!(rt; !is_less(width, told), "{points:?} and {strip:?}");
+                    found = found || !is_less(told, width);
+                }
+            }
+        }
+    }
+    assert!(rt; found, "{points:?} and {strip:?}");
+}
+
+/// No direction of a small grid has a narrower strip.
+fn assert_least(rt: &impl Abort, outline: Outline<'_>, strip: Strip) -> Result<(), Fail> {
+    let told = to_line(strip.from, strip.to, strip.farthest);
+    for dx in -3i64..4 {
+        for dy in 0i64..4 {
+            if dx != 0 || dy != 0 {
+                let reach = outline.width_along(Direction::new(dx, dy)?).unwrap_or(0);
+                let above = i128::try_from(reach.wrapping_mul(reach)).unwrap_or(0);
+                let below = dx.wrapping_mul(dx).wrapping_add(dy.wrapping_mul(dy)) as i128;
+                assert!(rt; !is_less(Fraction { above, below }, told), "{strip:?}");
+            }
+        }
+    }
+    Ok(())
+}
+
 #[test]
-fn nearest_of_all_sets_of_a_small_grid(rt: HostRuntime) -> Result<(), Fail> {
+fn nearest_and_least_width_of_all_sets_of_a_small_grid(rt: HostRuntime) -> Result<(), Fail> {
     for bits in 0u32..512 {
         let points = grid_points(rt.alloc(), bits, 2)?;
         let corners = corners_of(&rt, rt.alloc(), &points)?;
         let outline = outline_of(&rt, &corners);
+        match outline.least_width() {
+            Some(strip) => {
+                assert_thinnest(&rt, &points, strip);
+                assert_least(&rt, outline, strip)?;
+            }
+            None => assert!(rt; points.len() < 2),
+        }
         for seen in &seen_grid(rt.alloc(), &points, 3, 1)? {
             assert_nearest(&rt, &points, outline, seen);
         }
@@ -418,33 +472,22 @@ fn small_sets(alloc: Global, most: u32, right: i64, up: i64) -> Result<Vec<Vec<P
     Ok(sets)
 }
 
-/// What shows how two sets stand to each other does show it.
-fn assert_witness(
-    rt: &impl Abort,
-    one: &[Point],
-    other: &[Point],
-    meet: bool,
-    found: Option<Witness>,
-) {
-    match found {
-        None => assert!(rt; one.is_empty() || other.is_empty()),
-        Some(Witness::Apart(separation)) => {
-            assert!(rt; !meet, "{one:?} and {other:?}");
-            assert_parts(rt, one, other, separation);
-        }
-        Some(Witness::Meets(Meeting::OfOther(t))) => {
+/// Where two sets meet they do.
+fn assert_meeting(rt: &impl Abort, one: &[Point], other: &[Point], meeting: Meeting) {
+    match meeting {
+        Meeting::OfOther(t) => {
             assert!(rt;
                 other.contains(&t) && slow_covers(one, t),
                 "{one:?} and {other:?}"
             );
         }
-        Some(Witness::Meets(Meeting::OfThis(s))) => {
+        Meeting::OfThis(s) => {
             assert!(rt;
                 one.contains(&s) && slow_covers(other, s),
                 "{one:?} and {other:?}"
             );
         }
-        Some(Witness::Meets(Meeting::Crossing(a, b, c, d))) => {
+        Meeting::Crossing(a, b, c, d) => {
             assert!(rt;
                 one.contains(&a) && one.contains(&b),
                 "{one:?} and {other:?}"
@@ -455,6 +498,31 @@ fn assert_witness(
             );
             assert!(rt; is_crossing(a, b, c, d), "{one:?} and {other:?}");
         }
+    }
+}
+
+/// What shows how two sets stand to each other does show it.
+fn assert_shown(rt: &impl Abort, one: &[Point], other: &[Point], meet: bool, found: Witness) {
+    match found {
+        Witness::Apart(separation) => {
+            assert!(rt; !meet, "{one:?} and {other:?}");
+            assert_parts(rt, one, other, separation);
+        }
+        Witness::Meets(meeting) => assert_meeting(rt, one, other, meeting),
+    }
+}
+
+/// And where nothing is shown one of them is empty.
+fn assert_witness(
+    rt: &impl Abort,
+    one: &[Point],
+    other: &[Point],
+    meet: bool,
+    found: Option<Witness>,
+) {
+    match found {
+        None => assert!(rt; one.is_empty() || other.is_empty()),
+        Some(witness) => assert_shown(rt, one, other, meet, witness),
     }
 }
 

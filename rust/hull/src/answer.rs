@@ -1,6 +1,6 @@
 //! What a reply in numbers tells, in types of Rust. Both libraries tell by the same numbers.
 use crate::raw::{code, Reply, WitnessTold};
-use crate::{Fault, Nearest, Place, Point, Separation, Witness};
+use crate::{Fault, Nearest, Place, Point, Separation, Strip, Witness};
 
 /// How often a point is held that was added.
 pub(crate) fn times_added(reply: Reply) -> Result<u32, Fault> {
@@ -89,6 +89,10 @@ pub(crate) fn witness(told: WitnessTold) -> Option<Witness> {
         code::APART => Some(Witness::Apart(Separation { farthest: told.a, direction: told.b })),
         _ => None,
     }
+}
+
+pub(crate) fn strip(told: WitnessTold) -> Option<Strip> {
+    (told.code == code::EDGE).then_some(Strip { from: told.a, to: told.b, farthest: told.c })
 }
 
 /// A number that is told: of points, of corners, also where those have no room, or the doubled area.

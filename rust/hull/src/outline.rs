@@ -33,6 +33,18 @@ pub enum Nearest {
     Edge(Point, Point),
 }
 
+/// A strip that holds an outline, between the line of an edge and its parallel through a corner farthest from it. Its width is the
+/// side of that corner, up to 84 bits, divided by the length of the edge.
+#[derive(Clone, Copy, Debug, PartialEq, Eq)]
+pub struct Strip {
+    /// The corner where the edge begins; the outline lies left of it.
+    pub from: Point,
+    /// The next corner.
+    pub to: Point,
+    /// A corner farthest from the edge.
+    pub farthest: Point,
+}
+
 /// What shows that two outlines meet, or that they are apart.
 #[derive(Clone, Copy, Debug, PartialEq, Eq)]
 pub enum Witness {
@@ -135,6 +147,12 @@ impl Outline {
     pub fn diameter(&self) -> Option<(Point, Point)> {
         // SAFETY: the same.
         answer::points(unsafe { raw::hull_outline_diameter(self.corners.as_ptr(), self.corners.len()) })
+    }
+
+    /// Where the outline is least wide: no direction has a narrower strip; `None` where there are fewer than two corners.
+    pub fn least_width(&self) -> Option<Strip> {
+        // SAFETY: the same.
+        answer::strip(unsafe { raw::hull_outline_least_width(self.corners.as_ptr(), self.corners.len()) })
     }
 
     /// Whether the two outlines have a point in common, boundaries included.

@@ -61,7 +61,7 @@ pub(crate) struct SeatReply {
     pub turn: u64,
 }
 
-/// What shows how two outlines stand to each other.
+/// What shows how outlines stand.
 #[repr(C)]
 #[derive(Clone, Copy)]
 pub(crate) struct WitnessTold {
@@ -160,6 +160,7 @@ extern "C" {
     pub(crate) fn hull_outline_box(corners: *const Point, count: usize) -> Reply;
     pub(crate) fn hull_outline_width(corners: *const Point, count: usize, x: i64, y: i64) -> Reply;
     pub(crate) fn hull_outline_diameter(corners: *const Point, count: usize) -> Reply;
+    pub(crate) fn hull_outline_least_width(corners: *const Point, count: usize) -> WitnessTold;
     pub(crate) fn hull_outline_meets(corners: *const Point, count: usize, others: *const Point, other_count: usize) -> Reply;
     pub(crate) fn hull_outline_contains(corners: *const Point, count: usize, others: *const Point, other_count: usize) -> Reply;
     pub(crate) fn hull_outline_witness(
