@@ -24,6 +24,7 @@
 #define HULL_H
 
 #include "hull_common.h"
+#include "hull_exchange.h"
 
 #ifdef __cplusplus
 extern "C" {
@@ -273,6 +274,60 @@ hull_reply hull_outline_nearest(const hull_point *corners, size_t count, int64_t
 
 /* The smallest box with sides along the axes that holds the outline: HULL_BOX. It takes as many steps as a question does. */
 hull_reply hull_outline_box(const hull_point *corners, size_t count);
+
+/* How far the outline reaches in the direction (dx, dy), each component at most HULL_COORDINATE_MAX in size: HULL_NUMBER with the
+ * greatest product of a corner with it less the least, up to 84 bits in `number` and `high`; divided by the length of the direction it
+ * is the width along it. HULL_EMPTY, HULL_OUT_OF_RANGE, HULL_ZERO_DIRECTION. It takes as many steps as a question does. */
+hull_reply hull_outline_width(const hull_point *corners, size_t count, int64_t dx, int64_t dy);
+
+/* The two corners that are farthest from one another, which are one where there is no other: HULL_POINTS; or HULL_EMPTY. A question
+ * for each corner. */
+hull_reply hull_outline_diameter(const hull_point *corners, size_t count);
+
+/* What shows how outlines stand, as a caller can see by itself: a code, and the points of it. What a code does not name is 0. */
+typedef struct hull_witness {
+    uint32_t code; /* HULL_COVERED: the first outline covers a, a corner of the second. HULL_WITHIN: the second covers a, a corner of
+                    * the first. HULL_CROSSING: the segment from a to b, corners of the first, crosses the one from c to d, corners of
+                    * the second. HULL_APART: no corner of the first has a greater product with b, a direction with components of
+                    * at most 2^41 in size, than a, one of them, and each corner of the second has. HULL_EDGE: a strip between
+                    * the line of an edge, from a to b, and its parallel through c. HULL_EMPTY: there are too few corners */
+    hull_point a;
+    hull_point b;
+    hull_point c;
+    hull_point d;
+} hull_witness;
+
+/* Where the outline is least wide: HULL_EDGE with an edge from a to b, counterclockwise, and a corner c farthest from it; no direction
+ * has a narrower strip. The width squared is the square of (bx - ax) (cy - ay) - (by - ay) (cx - ax), of up to 84 bits, divided by
+ * the squared length of the edge. HULL_EMPTY where there are fewer than two corners. A question for each corner. */
+hull_witness hull_outline_least_width(const hull_point *corners, size_t count);
+
+/* Two outlines. Both arrays are as the caller must keep one, and may be the same; either may be of no corners. They take a question
+ * for each corner of the second outline, and hull_outline_witness, where they are apart, one for each corner of the first, too.
+ *
+ * Whether they have a point in common, boundaries included: HULL_NUMBER with 1 or 0. */
+hull_reply hull_outline_meets(const hull_point *corners, size_t count, const hull_point *others, size_t other_count);
+
+/* Whether the first covers whatever the second covers, boundaries included: HULL_NUMBER with 1 or 0. */
+hull_reply hull_outline_contains(const hull_point *corners, size_t count, const hull_point *others, size_t other_count);
+
+/* Where they meet, or what parts them: HULL_COVERED, HULL_WITHIN, HULL_CROSSING, HULL_APART; or HULL_EMPTY where one has no corners. */
+hull_witness hull_outline_witness(const hull_point *corners, size_t count, const hull_point *others, size_t other_count);
+
+/* A support function for callers with directions in doubles: the first of the farthest points in the direction (dx, dy), taken to
+ * whole numbers as hull_direction_from_doubles tells (hull_exchange.h); in the direction (0, 0) the first point by x and then y.
+ * HULL_POINT; HULL_EMPTY; HULL_OUT_OF_RANGE where one of them is not finite. */
+static inline hull_reply hull_outline_extreme_d(const hull_point *corners, size_t count, double dx, double dy) {
+    int64_t x = HULL_COORDINATE_MAX + 1, y = 0;
+    hull_direction_from_doubles(dx, dy, &x, &y);
+    return hull_outline_extreme(corners, count, x == 0 && y == 0 ? -1 : x, y);
+}
+
+static inline hull_reply hull_extreme_d(const hull_set *h, double dx, double dy) {
+    int64_t x = HULL_COORDINATE_MAX + 1, y = 0;
+    hull_direction_from_doubles(dx, dy, &x, &y);
+    return hull_extreme(h, x == 0 && y == 0 ? -1 : x, y);
+}
 
 /* Whether the points of any array are an outline: HULL_NUMBER with 1 or 0; HULL_OUT_OF_RANGE or HULL_NO_MEMORY (it copies the points
  * for the time of the call). They are where they go from the first point by x and then y counterclockwise round a convex polygon,

@@ -115,6 +115,25 @@ struct Box {
     Point least, greatest;
 };
 
+// What shows that two outlines meet or are apart.
+struct Witness {
+    enum class Shows : std::uint32_t {
+        covered = HULL_COVERED,   // the first outline covers `a`, a corner of the second
+        within = HULL_WITHIN,     // the second covers `a`, a corner of the first
+        crossing = HULL_CROSSING, // the segment from `a` to `b`, corners of the first, crosses the one from `c` to `d`, of the second
+        apart = HULL_APART        // no corner of the first has a greater product with the direction `b` than `a`, a corner of it, and
+                                  // each corner of the second has; a product takes 128 bits
+    };
+    Shows shows;
+    Point a, b, c, d;
+};
+
+// A strip that holds an outline: the outline lies left of the line of the edge from `from` to `to`, and `farthest` is a corner farthest
+// from it. Its width is the side of that corner, up to 84 bits, divided by the length of the edge.
+struct Strip {
+    Point from, to, farthest;
+};
+
 // What a reply tells, as a value; what refuses the call is thrown.
 namespace told {
 
@@ -196,6 +215,21 @@ inline std::optional<Box> box(const hull_reply &r) {
     }
 }
 
+inline std::optional<std::pair<Point, Point>> points(const hull_reply &r) {
+    switch (r.code) {
+    case HULL_POINTS: return std::make_pair(Point{r.x, r.y}, Point{r.other_x, r.other_y});
+    case HULL_EMPTY: return std::nullopt;
+    default: fault(r.code);
+    }
+}
+
+inline std::optional<Witness> witness(const hull_witness &w) {
+    if (w.code == HULL_EMPTY) {
+        return std::nullopt;
+    }
+    return Witness{static_cast<Witness::Shows>(w.code), w.a, w.b, w.c, w.d};
+}
+
 // The corners that `ask`, a call with an array and its length, writes; asked again with room for all where there are more.
 template <class Ask> std::vector<Point> corners(std::size_t room, Ask ask) {
     std::vector<Point> out(room > 0 ? room : 1);
@@ -238,6 +272,12 @@ public:
         return told::extreme(hull_outline_extreme(data(), corners_.size(), direction.x, direction.y));
     }
 
+    // The point that lies farthest in a direction of two doubles, taken to whole numbers as hull_direction_from_doubles tells; in the
+    // direction (0, 0) the first point. Refusal::out_of_range where one is not finite.
+    std::optional<Point> extreme_d(double dx, double dy) const {
+        return told::extreme(hull_outline_extreme_d(data(), corners_.size(), dx, dy));
+    }
+
     // Twice the area, 0 for a point and a line.
     Area doubled_area() const { return told::number(hull_outline_area(data(), corners_.size())); }
 
@@ -258,6 +298,39 @@ public:
 
     // The smallest box; none for an outline of no corners.
     std::optional<Box> bounding_box() const { return told::box(hull_outline_box(data(), corners_.size())); }
+
+    // How far the outline reaches in a direction: the greatest product of a corner with it less the least; none for an outline of no
+    // corners. Divided by the length of the direction it is the width along it.
+    std::optional<Area> width_along(Point direction) const {
+        const hull_reply r = hull_outline_width(data(), corners_.size(), direction.x, direction.y);
+        return r.code == HULL_EMPTY ? std::nullopt : std::optional<Area>(told::number(r));
+    }
+
+    // The two corners that are farthest from one another; none for an outline of no corners.
+    std::optional<std::pair<Point, Point>> diameter() const {
+        return told::points(hull_outline_diameter(data(), corners_.size()));
+    }
+
+    // Where the outline is least wide: no direction has a narrower strip; none where there are fewer than two corners.
+    std::optional<Strip> least_width() const {
+        const hull_witness w = hull_outline_least_width(data(), corners_.size());
+        return w.code == HULL_EDGE ? std::optional<Strip>(Strip{w.a, w.b, w.c}) : std::nullopt;
+    }
+
+    // Whether the two outlines have a point in common, boundaries included.
+    bool meets(const Outline &other) const {
+        return told::number(hull_outline_meets(data(), corners_.size(), other.data(), other.corners_.size())) == 1;
+    }
+
+    // Whether this outline covers whatever the other one covers.
+    bool contains(const Outline &other) const {
+        return told::number(hull_outline_contains(data(), corners_.size(), other.data(), other.corners_.size())) == 1;
+    }
+
+    // Where the two meet, or what parts them; none where one of them has no corners.
+    std::optional<Witness> witness(const Outline &other) const {
+        return told::witness(hull_outline_witness(data(), corners_.size(), other.data(), other.corners_.size()));
+    }
 
 private:
     // an array of no corners has a place in memory, too
@@ -329,6 +402,9 @@ public:
     std::optional<Point> extreme(Point direction) const {
         return told::extreme(hull_extreme(get(), direction.x, direction.y));
     }
+
+    // The same in a direction of two doubles, as Outline::extreme_d.
+    std::optional<Point> extreme_d(double dx, double dy) const { return told::extreme(hull_extreme_d(get(), dx, dy)); }
 
     // How often a point is held: 0 where it is not there.
     std::uint32_t multiplicity(Point p) const {

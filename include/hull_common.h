@@ -61,6 +61,9 @@ typedef enum hull_code {
     HULL_CORNER = 26,        /* the corner (`x`, `y`) is the nearest */
     HULL_EDGE = 27,          /* the foot on the edge from (`x`, `y`) to the next corner, (`other_x`, `other_y`), is the nearest */
     HULL_BOX = 28,           /* the box from its least point (`x`, `y`) to its greatest, (`other_x`, `other_y`) */
+    HULL_WITHIN = 29,        /* the other outline covers a corner of this one */
+    HULL_CROSSING = 30,      /* a segment between two corners of this outline crosses one between two of the other */
+    HULL_POINTS = 31,        /* the two corners (`x`, `y`) and (`other_x`, `other_y`) */
 
     /* of desks and seats alone */
     HULL_OPEN = 32,          /* the desk is open now */
@@ -142,6 +145,9 @@ static inline const char *hull_code_name(uint32_t code) {
     case HULL_CORNER: return "HULL_CORNER";
     case HULL_EDGE: return "HULL_EDGE";
     case HULL_BOX: return "HULL_BOX";
+    case HULL_WITHIN: return "HULL_WITHIN";
+    case HULL_CROSSING: return "HULL_CROSSING";
+    case HULL_POINTS: return "HULL_POINTS";
     case HULL_OPEN: return "HULL_OPEN";
     case HULL_OUT_OF_LIMITS: return "HULL_OUT_OF_LIMITS";
     case HULL_WAS_OPENED: return "HULL_WAS_OPENED";

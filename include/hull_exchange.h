@@ -65,6 +65,40 @@ static inline hull_rounding hull_from_double(double v, int power, int64_t *coord
     return rest == 0 ? HULL_EXACT : HULL_ROUNDED;
 }
 
+/* The direction (x, y) in whole numbers of one in doubles, (dx, dy), by way of `x` and `y`: both are multiplied by the power of two that
+ * takes the one greater in size to at least 2^39 and below 2^40. HULL_EXACT where both are whole then: it is the very same direction.
+ * Else each is rounded as by hull_from_double: HULL_ROUNDED. Of (0, 0) it is (0, 0). HULL_NO_COORDINATE, and `x` and `y` stay as
+ * they were, where one is not finite. */
+static inline hull_rounding hull_direction_from_doubles(double dx, double dy, int64_t *x, int64_t *y) {
+    uint64_t first, second, greatest;
+    int64_t at_x = 0, at_y = 0;
+    hull_rounding of_x, of_y;
+    int power;
+    memcpy(&first, &dx, sizeof first);
+    memcpy(&second, &dy, sizeof second);
+    first &= INT64_MAX;
+    second &= INT64_MAX;
+    /* the sizes of doubles are in order as their bits are */
+    greatest = first > second ? first : second;
+    power = 1023 + 39 - (int)(greatest >> 52);
+    if (greatest >> 52 == 0) {
+        uint64_t size = greatest;
+        power = 1022 + 39 + 52;
+        while (size > 1) {
+            size >>= 1;
+            power--;
+        }
+    }
+    of_x = hull_from_double(dx, power, &at_x);
+    of_y = hull_from_double(dy, power, &at_y);
+    if (of_x == HULL_NO_COORDINATE || of_y == HULL_NO_COORDINATE) {
+        return HULL_NO_COORDINATE;
+    }
+    *x = at_x;
+    *y = at_y;
+    return of_x == HULL_ROUNDED || of_y == HULL_ROUNDED ? HULL_ROUNDED : HULL_EXACT;
+}
+
 /* The double of a coordinate, which is coordinate / 2^power: exact for powers from -960 to 1000. */
 static inline double hull_to_double(int64_t coordinate, int power) {
     double v = (double)coordinate;

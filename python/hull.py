@@ -112,6 +112,7 @@ class _Code(enum.IntEnum):
     CORNER = 26
     EDGE = 27
     BOX = 28
+    POINTS = 31
     OUT_OF_LIMITS = 33
     NO_SEAT = 36
     NOT_OPEN = 38
@@ -141,6 +142,11 @@ class _Reply(ctypes.Structure):
 
 class _Held(ctypes.Structure):
     _fields_ = [("x", ctypes.c_int64), ("y", ctypes.c_int64), ("times", ctypes.c_uint32)]
+
+
+class _Witness(ctypes.Structure):
+    _fields_ = [("code", ctypes.c_uint32), ("a", ctypes.c_int64 * 2), ("b", ctypes.c_int64 * 2), ("c", ctypes.c_int64 * 2),
+                ("d", ctypes.c_int64 * 2)]
 
 
 class _SeatReply(ctypes.Structure):
@@ -195,6 +201,11 @@ def _library():
         ("outline_meets_segment", [at, ctypes.c_size_t, whole, whole, whole, whole], _Reply),
         ("outline_apart", [at, ctypes.c_size_t, whole, whole, whole, whole], _Reply),
         ("outline_nearest", [at, ctypes.c_size_t, whole, whole], _Reply), ("outline_box", [at, ctypes.c_size_t], _Reply),
+        ("outline_width", [at, ctypes.c_size_t, whole, whole], _Reply), ("outline_diameter", [at, ctypes.c_size_t], _Reply),
+        ("outline_meets", [at, ctypes.c_size_t, at, ctypes.c_size_t], _Reply),
+        ("outline_contains", [at, ctypes.c_size_t, at, ctypes.c_size_t], _Reply),
+        ("outline_least_width", [at, ctypes.c_size_t], _Witness),
+        ("outline_witness", [at, ctypes.c_size_t, at, ctypes.c_size_t], _Witness),
         ("outline_calls", [at, ctypes.c_size_t, at, ctypes.c_size_t, at, ctypes.c_size_t], ctypes.c_size_t),
         ("vertices", [at, at, ctypes.c_size_t], _Reply),
         ("calls", [at, at, ctypes.c_size_t, at, ctypes.c_size_t], ctypes.c_size_t),
@@ -328,6 +339,27 @@ def _like(points, numbers):
     return numbers
 
 
+class Shows(enum.IntEnum):
+    """What a `Witness` shows of two outlines."""
+
+    #: No corner of the first has a greater product with the direction points[1] than its corner points[0]; those of the
+    #: second have.
+    APART = 24
+    #: The first covers points[0], a corner of the second.
+    COVERED = 25
+    #: The second covers points[0], a corner of the first.
+    WITHIN = 29
+    #: The segment of points[0:2], corners of the first, crosses that of points[2:4], corners of the second.
+    CROSSING = 30
+
+
+class Witness(NamedTuple):
+    """What `Outline.witness` tells: what is shown, and the points of it, as a tuple of pairs."""
+
+    shows: Shows
+    points: tuple
+
+
 class Lattice(NamedTuple):
     """What `from_floats` makes: the points, and how many of their coordinates had to be rounded."""
 
@@ -363,6 +395,19 @@ def from_floats(points, power):
     if not (numpy.abs(near) <= COORDINATE_LIMIT).all():  # nor is it where one is no number
         raise _FAULTS[_Code.OUT_OF_RANGE]()
     return Lattice(near.astype(numpy.int64), int(((near != scaled) | ((near == 0) != (rows == 0))).sum()))
+
+
+def direction_of(dx, dy):
+    """The direction in whole numbers of one in two floats, and whether it was rounded: ((x, y), rounded).
+
+    Both are multiplied by the power of two that takes the one greater in size to at least 2^39 and below 2^40. Where both
+    are whole then, the direction is the very same; else each is rounded to the nearest, of two as near to the even one.
+    Of (0, 0) it is (0, 0). OutOfRange where one is not finite.
+    """
+    greatest = max(abs(dx), abs(dy))
+    power = 0 if greatest == 0 or not math.isfinite(greatest) else 40 - math.frexp(greatest)[1]
+    (x, at_x), (y, at_y) = _from_float(dx, power), _from_float(dy, power)
+    return (x, y), at_x or at_y
 
 
 def to_floats(points, power):
@@ -436,6 +481,14 @@ class _Questions:
     def extreme(self, x, y):
         """The point farthest in the direction (x, y), of several the first by x and then by y; None where none is."""
         return _farthest(self._call(_Kind.EXTREME, _whole(x), _whole(y)))
+
+    def extreme_d(self, dx, dy):
+        """The point farthest in a direction of two floats, by whole numbers as `direction_of` tells them.
+
+        In the direction (0, 0) it is the first point by x and then y.
+        """
+        (x, y), _ = direction_of(dx, dy)
+        return self.extreme(-1, 0) if x == 0 == y else self.extreme(x, y)
 
     def doubled_area(self):
         """Twice the area, 0 for a point and a line."""
@@ -722,6 +775,49 @@ class Outline(_Questions):
         """The least and the greatest point of the smallest box with sides along the axes; None where there is no corner."""
         reply = self._found(_LIBRARY.hull_outline_box)
         return _two_pairs(reply) if reply.code == _Code.BOX else None
+
+    def width_along(self, dx, dy):
+        """The greatest product of a corner with the direction (dx, dy) less the least; None where there is no corner.
+
+        Divided by the length of the direction it is the width along it.
+        """
+        reply = self._found(_LIBRARY.hull_outline_width, dx, dy)
+        return None if reply.code == _Code.EMPTY else _area(reply)
+
+    def diameter(self):
+        """The two corners that are farthest from one another; None where there is no corner."""
+        reply = self._found(_LIBRARY.hull_outline_diameter)
+        return _two_pairs(reply) if reply.code == _Code.POINTS else None
+
+    def least_width(self):
+        """Where the outline is least wide: the ends of an edge and a corner farthest from it; None where there is no edge.
+
+        No direction has a narrower strip. The width is the side of that corner at the edge by the edge's length.
+        """
+        told = self._found(_LIBRARY.hull_outline_least_width)
+        return (tuple(told.a), tuple(told.b), tuple(told.c)) if told.code == _Code.EDGE else None
+
+    def _beside(self, ask, other):
+        """What a call with another outline tells."""
+        if not isinstance(other, Outline):
+            raise TypeError(f"the other one is an Outline, and not {type(other).__name__}")
+        return ask(self._corners.buffer_info()[0], self._count, other._corners.buffer_info()[0], other._count)
+
+    def meets(self, other):
+        """Whether the two outlines have a point in common, boundaries included."""
+        return self._beside(_LIBRARY.hull_outline_meets, other).number == 1
+
+    def contains(self, other):
+        """Whether this outline covers whatever the other one covers."""
+        return self._beside(_LIBRARY.hull_outline_contains, other).number == 1
+
+    def witness(self, other):
+        """Where the two outlines meet, or what parts them: a `Witness`; None where one of them has no corner."""
+        told = self._beside(_LIBRARY.hull_outline_witness, other)
+        if told.code == _Code.EMPTY:
+            return None
+        count = {Shows.APART: 2, Shows.CROSSING: 4}.get(told.code, 1)
+        return Witness(Shows(told.code), tuple(map(tuple, (told.a, told.b, told.c, told.d)))[:count])
 
     def vertices(self):
         """The corners as pairs."""

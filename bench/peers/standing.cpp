@@ -6,7 +6,7 @@
 // SHAPE is `square` (random points of a square) or `parabola` (every point a corner). Each line tells nanoseconds, a point for a
 // load and a corner list, a question for questions: the least of the rounds, in which the peers come in turns with the library, in
 // processor time of the thread. A ratio above 1 says that the library is the faster one. Places are those of random points in the
-// square round the set, and all peers have to agree on how many of them are covered.
+// square round the set, and all peers have to agree on how many of them are covered; motions and triangles begin there.
 #include <CGAL/Delaunay_triangulation_2.h>
 #include <CGAL/Exact_predicates_inexact_constructions_kernel.h>
 #include <CGAL/Polygon_2_algorithms.h>
@@ -126,37 +126,60 @@ std::vector<Kernel::Point_2> to_cgal(const Points &points) {
     return all;
 }
 
-// A polygon of GEOS, prepared, and a point for each of the questions.
+// A polygon of GEOS, prepared, and a point, a segment or a polygon for each of the questions, by how many points it has.
 class Geos {
     GEOSContextHandle_t context = GEOS_init_r();
     GEOSGeometry *polygon = nullptr;
     const GEOSPreparedGeometry *prepared = nullptr;
-    std::vector<GEOSGeometry *> points;
+    std::vector<GEOSGeometry *> shapes;
+
+    GEOSCoordSequence *sequence(const Points &points, bool closed) const {
+        const size_t count = points.size() + closed;
+        GEOSCoordSequence *made = GEOSCoordSeq_create_r(context, static_cast<unsigned>(count), 2);
+        for (size_t i = 0; i < count; i++) {
+            const Point &p = points[i % points.size()];
+            GEOSCoordSeq_setXY_r(context, made, static_cast<unsigned>(i), static_cast<double>(p.x), static_cast<double>(p.y));
+        }
+        return made;
+    }
+    GEOSGeometry *shape(const Points &points) const {
+        if (points.size() == 1) {
+            return GEOSGeom_createPointFromXY_r(context, static_cast<double>(points[0].x), static_cast<double>(points[0].y));
+        }
+        if (points.size() == 2) {
+            return GEOSGeom_createLineString_r(context, sequence(points, false));
+        }
+        return GEOSGeom_createPolygon_r(context, GEOSGeom_createLinearRing_r(context, sequence(points, true)), nullptr, 0);
+    }
 
   public:
-    Geos(const Points &corners, const Points &asked) {
-        GEOSCoordSequence *ring = GEOSCoordSeq_create_r(context, static_cast<unsigned>(corners.size() + 1), 2);
-        for (size_t i = 0; i <= corners.size(); i++) {
-            const Point &p = corners[i % corners.size()];
-            GEOSCoordSeq_setXY_r(context, ring, static_cast<unsigned>(i), static_cast<double>(p.x), static_cast<double>(p.y));
-        }
-        polygon = GEOSGeom_createPolygon_r(context, GEOSGeom_createLinearRing_r(context, ring), nullptr, 0);
+    Geos(const Points &corners, const std::vector<Points> &asked) {
+        polygon = shape(corners);
         prepared = GEOSPrepare_r(context, polygon);
-        for (Point q : asked) {
-            points.push_back(GEOSGeom_createPointFromXY_r(context, static_cast<double>(q.x), static_cast<double>(q.y)));
+        for (const Points &points : asked) {
+            shapes.push_back(shape(points));
         }
     }
     Geos(const Geos &) = delete;
     ~Geos() {
         GEOSPreparedGeom_destroy_r(context, prepared);
         GEOSGeom_destroy_r(context, polygon);
-        for (GEOSGeometry *point : points) {
-            GEOSGeom_destroy_r(context, point);
+        for (GEOSGeometry *made : shapes) {
+            GEOSGeom_destroy_r(context, made);
         }
         GEOS_finish_r(context);
     }
-    bool covers(size_t i) const { return GEOSPreparedIntersects_r(context, prepared, points[i]) == 1; }
+    bool meets(size_t i) const { return GEOSPreparedIntersects_r(context, prepared, shapes[i]) == 1; }
 };
+
+// each of the points by itself
+std::vector<Points> alone(const Points &points) {
+    std::vector<Points> all;
+    for (Point p : points) {
+        all.push_back({p});
+    }
+    return all;
+}
 
 Points points_of(const std::string &shape, size_t count, std::mt19937_64 &random) {
     Points points;
@@ -260,7 +283,7 @@ template <class Answer> size_t count_of(const Points &asked, Answer answer) {
 
 void time_places(Table &table, const Ours &ours, const Chain &chain, const Points &asked, bool all) {
     const size_t n = asked.size();
-    const Geos geos(chain.corners, asked);
+    const Geos geos(chain.corners, alone(asked));
     const auto polygon = to_cgal(chain.corners), points = to_cgal(asked);
     std::vector<size_t> counts;
     const auto time = [&](const char *name, const std::function<bool(size_t)> &covers) {
@@ -271,7 +294,7 @@ void time_places(Table &table, const Ours &ours, const Chain &chain, const Point
     time("hull_outline_place", [&](size_t i) { return hull_outline_place(corners, h, asked[i].x, asked[i].y).code != HULL_OUTSIDE; });
     time("hull_place", [&](size_t i) { return hull_place(ours.place, asked[i].x, asked[i].y).code != HULL_OUTSIDE; });
     time("corners and bisection", [&](size_t i) { return chain.covers(asked[i]); });
-    time("GEOS prepared", [&](size_t i) { return geos.covers(i); });
+    time("GEOS prepared", [&](size_t i) { return geos.meets(i); });
     if (all) {
         time("CGAL bounded_side_2", [&](size_t i) {
             return CGAL::bounded_side_2(polygon.begin(), polygon.end(), points[i], Kernel()) != CGAL::ON_UNBOUNDED_SIDE;
@@ -280,6 +303,52 @@ void time_places(Table &table, const Ours &ours, const Chain &chain, const Point
     if (std::any_of(counts.begin(), counts.end(), [&](size_t count) { return count != counts[0]; })) {
         std::printf("the peers do not agree on the places\n");
         std::exit(1);
+    }
+}
+
+// Motions from each of the points an eighth of the way to the next, and triangles there, that may meet the outline. GEOS multiplies
+// doubles, so how often it differs is told.
+void time_meetings(Table &table, const Chain &chain, const Points &asked) {
+    const size_t n = asked.size(), h = chain.corners.size();
+    const Point *corners = chain.corners.data();
+    std::vector<Points> motions, triangles;
+    for (size_t i = 0; i < n; i++) {
+        const Point &p = asked[i], &next = asked[(i + 1) % n];
+        const Point q{p.x + (next.x - p.x) / 8, p.y + (next.y - p.y) / 8};
+        motions.push_back({p, q});
+        triangles.push_back(Chain::of({p, q, {p.x - (q.y - p.y), p.y + (q.x - p.x)}}).corners);
+    }
+    size_t ours = 0, theirs = 0;
+    {
+        const Geos geos(chain.corners, motions);
+        ours += table.time("motion", "hull_outline_meets_segment", n, [&] {
+            return count_of(asked, [&](size_t i) {
+                const Points &m = motions[i];
+                return hull_outline_meets_segment(corners, h, m[0].x, m[0].y, m[1].x, m[1].y).number;
+            });
+        });
+        theirs += table.time("motion", "GEOS prepared", n, [&] { return count_of(asked, [&](size_t i) { return geos.meets(i); }); });
+        table.time("motion", "hull_outline_apart", n, [&] {
+            return count_of(asked, [&](size_t i) {
+                const Points &m = motions[i];
+                return hull_outline_apart(corners, h, m[0].x, m[0].y, m[1].x, m[1].y).code == HULL_APART;
+            });
+        });
+    }
+    const Geos geos(chain.corners, triangles);
+    ours += table.time("triangle", "hull_outline_meets", n, [&] {
+        return count_of(asked, [&](size_t i) {
+            return hull_outline_meets(corners, h, triangles[i].data(), triangles[i].size()).number;
+        });
+    });
+    theirs += table.time("triangle", "GEOS prepared", n, [&] { return count_of(asked, [&](size_t i) { return geos.meets(i); }); });
+    table.time("triangle", "hull_outline_witness", n, [&] {
+        return count_of(asked, [&](size_t i) {
+            return hull_outline_witness(corners, h, triangles[i].data(), triangles[i].size()).code == HULL_APART;
+        });
+    });
+    if (ours != theirs) {
+        std::printf("of %zu motions and triangles %zu meet, and by GEOS %zu\n", 2 * n, ours, theirs);
     }
 }
 
@@ -362,6 +431,7 @@ int main(int argc, char **argv) {
         time_corners(table, ours, chain);
         time_places(table, ours, chain, asked, chain.corners.size() < 1000);
         time_extremes(table, ours, chain, directions);
+        time_meetings(table, chain, asked);
     }
     std::printf("%s, %zu points, %zu corners\n", shape.c_str(), count, chain.corners.size());
     table.print();

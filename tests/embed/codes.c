@@ -1,5 +1,6 @@
 /* Every code of every function of hull.h, through the archive. Prints what is wrong, and how many checks passed and failed. */
 #include "hull.h"
+#include <math.h>
 #include <stdio.h>
 #include <stdlib.h>
 #include <string.h>
@@ -419,6 +420,175 @@ static int parted(const hull_point *out, size_t count, const int64_t s[4]) {
     return same && there && product(r.other_x, r.other_y, s[0], s[1]) > reach && product(r.other_x, r.other_y, s[2], s[3]) > reach;
 }
 
+/* whether a point is one of the corners */
+static int is_among(const hull_point *corners, size_t count, hull_point p) {
+    int there = 0;
+    for (size_t i = 0; i < count; i++) {
+        there |= corners[i].x == p.x && corners[i].y == p.y;
+    }
+    return there;
+}
+
+static int64_t side(hull_point a, hull_point b, hull_point c) { return (b.x - a.x) * (c.y - a.y) - (b.y - a.y) * (c.x - a.x); }
+
+static int covers(const hull_point *corners, size_t count, hull_point p) {
+    return hull_outline_place(corners, count, p.x, p.y).code != HULL_OUTSIDE;
+}
+
+/* what is told of two outlines is so, as a caller can see by itself, and nothing stands beside it */
+static int shown(const hull_point *out, size_t count, const hull_point *others, size_t other_count, int *met) {
+    const hull_witness w = hull_outline_witness(out, count, others, other_count), none = {w.code, w.a, w.b, {0, 0}, {0, 0}};
+    int same = number(hull_outline_meets(out, count, others, other_count), HULL_NUMBER, w.code != HULL_APART);
+    int holds = 1;
+    for (size_t i = 0; i < other_count; i++) {
+        holds &= covers(out, count, others[i]);
+    }
+    same &= number(hull_outline_contains(out, count, others, other_count), HULL_NUMBER, holds);
+    *met += w.code != HULL_APART;
+    if (w.code == HULL_CROSSING) {
+        return same && is_among(out, count, w.a) && is_among(out, count, w.b) && is_among(others, other_count, w.c) &&
+               is_among(others, other_count, w.d) && side(w.a, w.b, w.c) < 0 && side(w.a, w.b, w.d) > 0 &&
+               side(w.c, w.d, w.a) > 0 && side(w.c, w.d, w.b) < 0;
+    }
+    same &= w.c.x == none.c.x && w.c.y == none.c.y && w.d.x == none.d.x && w.d.y == none.d.y;
+    if (w.code == HULL_COVERED) {
+        return same && is_among(others, other_count, w.a) && covers(out, count, w.a) && w.b.x == 0 && w.b.y == 0;
+    }
+    if (w.code == HULL_WITHIN) {
+        return same && is_among(out, count, w.a) && covers(others, other_count, w.a) && w.b.x == 0 && w.b.y == 0;
+    }
+    __int128 reach = product(w.b.x, w.b.y, w.a.x, w.a.y);
+    same &= w.code == HULL_APART && is_among(out, count, w.a);
+    for (size_t i = 0; i < count; i++) {
+        same &= product(w.b.x, w.b.y, out[i].x, out[i].y) <= reach;
+    }
+    for (size_t i = 0; i < other_count; i++) {
+        same &= product(w.b.x, w.b.y, others[i].x, others[i].y) > reach;
+    }
+    return same;
+}
+
+/* outlines beside one another: a quadrangle, a triangle, two segments, a point, each shifted over a grid */
+static void two_outlines(void) {
+    static const hull_point shapes[][4] = {
+        {{0, 0}, {3, -1}, {5, 2}, {1, 3}}, {{0, 0}, {8, 0}, {0, 6}}, {{0, 0}, {2, 1}}, {{0, 0}, {0, 4}}, {{0, 0}}};
+    static const size_t counts[] = {4, 3, 2, 2, 1};
+    int same = 1, met = 0, tries = 0;
+    for (int i = 0; i < 5 * 5 * 23 * 23; i++, tries++) {
+        const hull_point *out = shapes[i % 5];
+        hull_point others[4];
+        for (size_t j = 0; j < 4; j++) {
+            others[j].x = shapes[i / 5 % 5][j].x + i / 25 % 23 - 11;
+            others[j].y = shapes[i / 5 % 5][j].y + i / 575 - 11;
+        }
+        same &= shown(out, counts[i % 5], others, counts[i / 5 % 5], &met);
+    }
+    CHECK(same && met > 900 && met < tries - 900);
+    CHECK(number(hull_outline_meets(shapes[0], 0, shapes[1], 3), HULL_NUMBER, 0));
+    CHECK(number(hull_outline_meets(shapes[0], 4, shapes[1], 0), HULL_NUMBER, 0));
+    CHECK(number(hull_outline_contains(shapes[0], 0, shapes[1], 0), HULL_NUMBER, 1));
+    CHECK(number(hull_outline_contains(shapes[0], 0, shapes[1], 1), HULL_NUMBER, 0));
+    CHECK(hull_outline_witness(shapes[0], 0, shapes[1], 3).code == HULL_EMPTY);
+    CHECK(hull_outline_witness(shapes[0], 4, shapes[1], 0).code == HULL_EMPTY);
+    refused_from = 0, asked = 0;
+    CHECK(hull_outline_witness(shapes[0], 4, shapes[1], 3).code != HULL_NO_MEMORY && asked == 0);
+    refused_from = -1;
+}
+
+/* where corners are least wide is no wider than along any direction of a grid, and no narrower than the strip of each edge */
+static int is_least(const hull_point *corners, size_t count) {
+    hull_witness w = hull_outline_least_width(corners, count);
+    if (w.code != HULL_EDGE || !is_among(corners, count, w.a) || !is_among(corners, count, w.b) || !is_among(corners, count, w.c)) {
+        return 0;
+    }
+    const hull_point step = {w.b.x - w.a.x, w.b.y - w.a.y};
+    __int128 told = (__int128)side(w.a, w.b, w.c) * side(w.a, w.b, w.c), edge = step.x * step.x + step.y * step.y;
+    int same = edge > 0;
+    for (int64_t i = 0; i < 41 * 41; i++) {
+        int64_t dx = i % 41 - 20, dy = i / 41 - 20;
+        if (dx != 0 || dy != 0) {
+            __int128 wide = hull_outline_width(corners, count, dx, dy).number;
+            same &= told * (dx * dx + dy * dy) <= wide * wide * edge;
+        }
+    }
+    hull_reply along = hull_outline_width(corners, count, -step.y, step.x);
+    return same && (int64_t)along.number == side(w.a, w.b, w.c);
+}
+
+/* the farthest two of a few corners, and how far they reach, by trying all */
+static void extents(void) {
+    static const hull_point corners[] = {{-7, 2}, {-5, -6}, {1, -9}, {8, -3}, {9, 4}, {3, 10}, {-4, 9}};
+    for (size_t count = 1; count <= 7; count++) {
+        hull_reply r = hull_outline_diameter(corners, count);
+        int64_t best = 0, told = (r.x - r.other_x) * (r.x - r.other_x) + (r.y - r.other_y) * (r.y - r.other_y);
+        for (size_t i = 0; i < count * count; i++) {
+            int64_t dx = corners[i % count].x - corners[i / count].x, dy = corners[i % count].y - corners[i / count].y;
+            best = dx * dx + dy * dy > best ? dx * dx + dy * dy : best;
+        }
+        const hull_point p = {r.x, r.y}, q = {r.other_x, r.other_y};
+        CHECK(r.code == HULL_POINTS && told == best && is_among(corners, count, p) && is_among(corners, count, q));
+        int same = 1;
+        for (int64_t i = 0; i < 225; i++) {
+            int64_t dx = i % 15 - 7, dy = i / 15 - 7, most = INT64_MIN, least = INT64_MAX;
+            for (size_t j = 0; j < count; j++) {
+                int64_t at = dx * corners[j].x + dy * corners[j].y;
+                most = at > most ? at : most, least = at < least ? at : least;
+            }
+            hull_reply width = hull_outline_width(corners, count, dx, dy);
+            same &= dx == 0 && dy == 0 ? bare(width, HULL_ZERO_DIRECTION) : number(width, HULL_NUMBER, (uint64_t)(most - least));
+        }
+        CHECK(same && (count < 2 || is_least(corners, count)));
+    }
+    CHECK(hull_outline_least_width(corners, 0).code == HULL_EMPTY && hull_outline_least_width(corners, 1).code == HULL_EMPTY);
+    static const hull_point largest[] = {{-HULL_COORDINATE_MAX, -HULL_COORDINATE_MAX},
+                                         {HULL_COORDINATE_MAX, -HULL_COORDINATE_MAX + 1},
+                                         {HULL_COORDINATE_MAX, HULL_COORDINATE_MAX},
+                                         {-HULL_COORDINATE_MAX, HULL_COORDINATE_MAX - 1}};
+    hull_witness at_limit = hull_outline_least_width(largest, 4);
+    CHECK(at_limit.code == HULL_EDGE && at_limit.a.x == at_limit.b.x - 2 * HULL_COORDINATE_MAX);
+    CHECK(bare(hull_outline_diameter(corners, 0), HULL_EMPTY) && bare(hull_outline_width(corners, 0, 1, 0), HULL_EMPTY));
+    CHECK(bare(hull_outline_width(corners, 3, HULL_COORDINATE_MAX + 1, 0), HULL_OUT_OF_RANGE));
+    static const int64_t far = HULL_COORDINATE_MAX;
+    const hull_point wide[] = {{-far, -far}, {far, far}};
+    hull_reply whole = hull_outline_width(wide, 2, far, far);
+    CHECK(whole.code == HULL_NUMBER && whole.number == 0 && whole.high == (uint64_t)1 << 18);
+}
+
+/* directions in doubles */
+static void in_doubles(void) {
+    static const hull_point corners[] = {{-7, 2}, {-5, -6}, {1, -9}, {8, -3}, {9, 4}, {3, 10}, {-4, 9}};
+    static const int64_t top = (int64_t)1 << 39;
+    int64_t x = 5, y = 6;
+    CHECK(hull_direction_from_doubles(1, -0.5, &x, &y) == HULL_EXACT && x == top && y == -top / 2);
+    CHECK(hull_direction_from_doubles(0, -0.0, &x, &y) == HULL_EXACT && x == 0 && y == 0);
+    CHECK(hull_direction_from_doubles(-3, 0x1p-37, &x, &y) == HULL_EXACT && x == -3 * (top / 2) && y == 2);
+    CHECK(hull_direction_from_doubles(1, 0x1p-40, &x, &y) == HULL_ROUNDED && x == top && y == 0);
+    CHECK(hull_direction_from_doubles(1, 0x3p-40, &x, &y) == HULL_ROUNDED && x == top && y == 2);
+    CHECK(hull_direction_from_doubles(0x1.fffffffffffffp1023, 1, &x, &y) == HULL_ROUNDED && x == 2 * top && y == 0);
+    CHECK(hull_direction_from_doubles(0x1p-1074, -0x1p-1074, &x, &y) == HULL_EXACT && x == top && y == -top);
+    CHECK(hull_direction_from_doubles(0x1p-1022, 0x1p-1023, &x, &y) == HULL_EXACT && x == top && y == top / 2);
+    x = 5, y = 6;
+    CHECK(hull_direction_from_doubles(INFINITY, 1, &x, &y) == HULL_NO_COORDINATE && x == 5 && y == 6);
+    CHECK(hull_direction_from_doubles(0, NAN, &x, &y) == HULL_NO_COORDINATE && x == 5 && y == 6);
+    int same = 1;
+    for (int64_t i = 0; i < 961; i++) {
+        int64_t dx = i % 31 - 15, dy = i / 31 - 15;
+        hull_reply wanted = dx == 0 && dy == 0 ? hull_outline_extreme(corners, 7, -1, 0) : hull_outline_extreme(corners, 7, dx, dy);
+        hull_reply told = hull_outline_extreme_d(corners, 7, (double)dx * 0x1p-900, (double)dy * 0x1p-900);
+        same &= told.code == HULL_POINT && told.x == wanted.x && told.y == wanted.y;
+    }
+    CHECK(same);
+    CHECK(bare(hull_outline_extreme_d(corners, 7, NAN, 0), HULL_OUT_OF_RANGE));
+    CHECK(bare(hull_outline_extreme_d(corners, 7, 0, -INFINITY), HULL_OUT_OF_RANGE));
+    CHECK(bare(hull_outline_extreme_d(corners, 0, 0, 0), HULL_EMPTY));
+    hull_set *h = hull_new(10);
+    CHECK(bare(hull_extreme_d(h, 1, 1), HULL_EMPTY));
+    hull_add(h, 4, 4), hull_add(h, 1, 5), hull_add(h, 1, 3);
+    CHECK(hull_extreme_d(h, 0, 0).x == 1 && hull_extreme_d(h, 0, 0).y == 3 && hull_extreme_d(h, 0.3, 1e-3).x == 4);
+    CHECK(bare(hull_extreme_d(h, NAN, NAN), HULL_OUT_OF_RANGE));
+    hull_free(h);
+}
+
 /* segments, nearest points and boxes of a triangle, a line, a point and of nothing */
 static void encounters(void) {
     static const hull_point corners[] = {{0, 0}, {8, 0}, {0, 6}};
@@ -535,7 +705,7 @@ static void new_ones(void) {
     }
     CHECK(strcmp(hull_code_name(HULL_ABSENT), "HULL_ABSENT") == 0);
     CHECK(strcmp(hull_code_name(HULL_IN_USE), "HULL_IN_USE") == 0);
-    CHECK(strcmp(hull_code_name(21), "HULL_OUT_OF_ORDER") == 0 && strcmp(hull_code_name(29), "no code") == 0 && strcmp(hull_code_name(UINT32_MAX), "no code") == 0);
+    CHECK(strcmp(hull_code_name(21), "HULL_OUT_OF_ORDER") == 0 && strcmp(hull_code_name(29), "HULL_WITHIN") == 0 && strcmp(hull_code_name(200), "no code") == 0 && strcmp(hull_code_name(UINT32_MAX), "no code") == 0);
 }
 
 int main(void) {
@@ -552,6 +722,9 @@ int main(void) {
     bridges();
     outlines();
     encounters();
+    two_outlines();
+    extents();
+    in_doubles();
     calls();
     refusals();
     printf("codes: %d passed, %d failed\n", passed, failed);

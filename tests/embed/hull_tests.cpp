@@ -93,6 +93,32 @@ static void encounters() {
     CHECK(refuses(Refusal::out_of_range, [&] { outline.nearest({far + 1, 0}); }));
 }
 
+static void two_outlines() {
+    using Shows = hull::Witness::Shows;
+    const hull::Outline outline(square), none, small({{2, 2}, {4, 2}, {3, 4}}), beside({{12, 0}, {15, 3}, {12, 6}}), across({{-5, 5}, {15, 6}});
+    CHECK(outline.meets(small) && outline.contains(small) && !small.contains(outline) && !outline.meets(beside));
+    const auto covered = outline.witness(small), within = small.witness(outline), apart = outline.witness(beside), crossing = outline.witness(across);
+    CHECK(covered && covered->shows == Shows::within ? small.contains(hull::Outline({covered->a})) : covered->a.x >= 2);
+    CHECK(within && within->shows == Shows::within && outline.contains(hull::Outline({within->a})));
+    CHECK(apart && apart->shows == Shows::apart && apart->a == (Point{10, 10}) && apart->b == (Point{10, 0}));
+    CHECK(crossing && crossing->shows == Shows::crossing && crossing->c == (Point{-5, 5}) && crossing->d == (Point{15, 6}));
+    CHECK(!none.witness(outline) && !outline.witness(none) && !none.meets(outline) && outline.contains(none));
+    const auto strip = beside.least_width();
+    CHECK(strip && strip->from == (Point{12, 6}) && strip->to == (Point{12, 0}) && strip->farthest == (Point{15, 3}));
+    CHECK(!none.least_width() && !hull::Outline({{3, 4}}).least_width());
+    const auto ends = outline.diameter();
+    CHECK(ends && (ends->first.x - ends->second.x) * (ends->first.y - ends->second.y) != 0 && !none.diameter());
+    CHECK(outline.width_along({3, 4}) == hull::Area(70) && !none.width_along({1, 0}));
+    CHECK(refuses(Refusal::zero_direction, [&] { outline.width_along({0, 0}); }));
+    CHECK(refuses(Refusal::out_of_range, [&] { outline.width_along({far + 1, 0}); }));
+    CHECK(outline.extreme_d(0.5, 0.25) == (Point{10, 10}) && outline.extreme_d(0, 0) == (Point{0, 0}));
+    CHECK(outline.extreme_d(-1e-310, 3e-310) == (Point{0, 10}));
+    CHECK(refuses(Refusal::out_of_range, [&] { outline.extreme_d(std::numeric_limits<double>::quiet_NaN(), 0); }));
+    hull::Hull h(4);
+    h.add({1, 2});
+    CHECK(h.extreme_d(1e300, -1e-300) == (Point{1, 2}));
+}
+
 static void one_thread() {
     CHECK(refuses(Refusal::out_of_limits, [] { Hull h(0); }) && refuses(Refusal::out_of_limits, [] { Hull h(HULL_LIMIT_MAX + 1); }));
     Hull h(6);
@@ -223,6 +249,7 @@ int main(int words, char **word) {
     one_thread();
     outlines();
     encounters();
+    two_outlines();
     exchange();
     shared();
     if (words > 1) {

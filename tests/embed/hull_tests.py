@@ -1,7 +1,9 @@
 """Each method of python/hull.py, each of its answers and each of its faults."""
 import ast
 import copy
+import math
 import pickle
+import sys
 import threading
 import time
 import unittest
@@ -186,6 +188,43 @@ class Calls(unittest.TestCase):
         self.assertRaises(OutOfRange, outline.meets_segment, 0, 0, far, 0)
         self.assertRaises(OutOfRange, outline.apart_from_segment, far, 0, 0, 0)
         self.assertRaises(OutOfRange, outline.nearest, 0, 1 << 70)
+
+    def test_two_outlines(self):
+        Outline, Shows = hull_module.Outline, hull_module.Shows
+        outline, none = Outline([(0, 0), (10, 0), (10, 10), (0, 10)]), Outline([])
+        small, beside, across = Outline([(2, 2), (4, 2), (3, 4)]), Outline([(12, 0), (15, 3), (12, 6)]), Outline([(-5, 5), (15, 6)])
+        self.assertTrue(outline.meets(small) and outline.contains(small))
+        self.assertFalse(small.contains(outline) or outline.meets(beside) or none.meets(outline) or none.contains(outline))
+        self.assertTrue(outline.contains(none))
+        covered, within, crossing = outline.witness(small), small.witness(outline), outline.witness(across)
+        self.assertTrue(covered.shows is Shows.COVERED and len(covered.points) == 1 and covered.points[0] in small.vertices())
+        self.assertTrue(within.shows is Shows.WITHIN and within.points[0] in small.vertices())
+        self.assertEqual((crossing.shows, crossing.points[2:]), (Shows.CROSSING, ((-5, 5), (15, 6))))
+        self.assertEqual(outline.witness(beside), (Shows.APART, ((10, 10), (10, 0))))
+        self.assertEqual((outline.witness(none), none.witness(outline), none.diameter(), none.width_along(1, 0)), (None,) * 4)
+        self.assertEqual(beside.least_width(), ((12, 6), (12, 0), (15, 3)))
+        self.assertEqual((none.least_width(), Outline([(3, 4)]).least_width()), (None, None))
+        (px, py), (qx, qy) = outline.diameter()
+        self.assertEqual((px - qx) ** 2 + (py - qy) ** 2, 200)
+        self.assertEqual(outline.width_along(3, 4), 70)
+        self.assertRaises(ZeroDirection, outline.width_along, 0, 0)
+        self.assertRaises(OutOfRange, outline.width_along, COORDINATE_LIMIT + 1, 0)
+        self.assertRaises(TypeError, outline.meets, [(0, 0)])
+
+    def test_directions_of_floats(self):
+        direction_of, top = hull_module.direction_of, 1 << 39
+        self.assertEqual(direction_of(1.0, -0.5), ((top, -top // 2), False))
+        self.assertEqual(direction_of(0, -0.0), ((0, 0), False))
+        self.assertEqual(direction_of(1.0, 2.0 ** -40), ((top, 0), True))
+        self.assertEqual(direction_of(1.0, 3 * 2.0 ** -40), ((top, 2), True))
+        self.assertEqual(direction_of(sys.float_info.max, 1), ((2 * top, 0), True))
+        self.assertEqual(direction_of(5e-324, -5e-324), ((top, -top), False))
+        for words in ((math.nan, 0), (0, math.nan), (math.inf, 0), (1, -math.inf)):
+            self.assertRaises(OutOfRange, direction_of, *words)
+        outline = hull_module.Outline([(0, 0), (10, 0), (10, 10), (0, 10)])
+        self.assertEqual((outline.extreme_d(0.5, 0.25), outline.extreme_d(0, 0)), ((10, 10), (0, 0)))
+        self.assertEqual(hull_module.Outline([]).extreme_d(1, 1), None)
+        self.assertEqual(Hull([(1, 2)]).extreme_d(1e300, -1e-300), (1, 2))
 
     def test_outline_by_threads(self):
         outline = Hull([(x, x * x) for x in range(-500, 500)]).outline()

@@ -1,5 +1,5 @@
 //! Each function of `rust/hull`, each of its answers and each of its faults.
-use hull::{wkt, Fault, Held, Hull, Lattice, Nearest, Outline, Place, Point, Separation};
+use hull::{direction_of, wkt, Fault, Held, Hull, Lattice, Nearest, Outline, Place, Point, Separation, Strip, Witness};
 use hull::{COORDINATE_LIMIT, MULTIPLICITY_LIMIT, POINT_LIMIT};
 
 fn point(x: i64, y: i64) -> Point {
@@ -99,6 +99,52 @@ fn encounters() {
     assert_eq!(outline.meets_segment(far, point(0, 0)), Err(Fault::OutOfRange));
     assert_eq!(outline.apart_from_segment(point(0, 0), far), Err(Fault::OutOfRange));
     assert_eq!(outline.nearest(far), Err(Fault::OutOfRange));
+}
+
+#[test]
+fn two_outlines() {
+    let outline = Outline::new(&[point(0, 0), point(10, 0), point(10, 10), point(0, 10)]).unwrap();
+    let small = Outline::new(&[point(2, 2), point(4, 2), point(3, 4)]).unwrap();
+    let beside = Outline::new(&[point(12, 0), point(15, 3), point(12, 6)]).unwrap();
+    let across = Outline::new(&[point(-5, 5), point(15, 6)]).unwrap();
+    let none = Outline::new(&[]).unwrap();
+    assert!(outline.meets(&small) && outline.contains(&small) && !small.contains(&outline) && !outline.meets(&beside));
+    assert!(matches!(outline.witness(&small), Some(Witness::Covered(p)) if small.corners().contains(&p)));
+    assert!(matches!(small.witness(&outline), Some(Witness::Within(p)) if small.corners().contains(&p)));
+    let parted = Separation { farthest: point(10, 10), direction: point(10, 0) };
+    assert_eq!(outline.witness(&beside), Some(Witness::Apart(parted)));
+    assert!(matches!(outline.witness(&across), Some(Witness::Crossing(_, [p, q])) if across.corners() == [p, q]));
+    assert_eq!((outline.witness(&none), none.witness(&outline), none.diameter()), (None, None, None));
+    assert!(!none.meets(&outline) && outline.contains(&none) && !none.contains(&outline));
+    let strip = Strip { from: point(12, 6), to: point(12, 0), farthest: point(15, 3) };
+    assert_eq!((beside.least_width(), none.least_width()), (Some(strip), None));
+    let (p, q) = outline.diameter().unwrap();
+    assert_eq!((p.x - q.x).pow(2) + (p.y - q.y).pow(2), 200);
+    assert_eq!((outline.width_along(point(3, 4)), none.width_along(point(1, 0))), (Ok(Some(70)), Ok(None)));
+    assert_eq!(outline.width_along(point(0, 0)), Err(Fault::ZeroDirection));
+    assert_eq!(outline.width_along(point(0, COORDINATE_LIMIT + 1)), Err(Fault::OutOfRange));
+}
+
+#[test]
+fn directions_of_floats() {
+    let top = 1 << 39;
+    let made = |dx, dy| direction_of(dx, dy).map(|made| (made.point, made.is_exact));
+    assert_eq!(made(1.0, -0.5), Ok((point(top, -top / 2), true)));
+    assert_eq!(made(0.0, -0.0), Ok((point(0, 0), true)));
+    assert_eq!(made(1.0, 2f64.powi(-40)), Ok((point(top, 0), false)));
+    assert_eq!(made(1.0, 3.0 * 2f64.powi(-40)), Ok((point(top, 2), false)));
+    assert_eq!(made(f64::MAX, 1.0), Ok((point(2 * top, 0), false)));
+    assert_eq!(made(5e-324, -5e-324), Ok((point(top, -top), true)));
+    assert_eq!(made(f64::MIN_POSITIVE, f64::MIN_POSITIVE / 2.0), Ok((point(top, top / 2), true)));
+    assert_eq!((made(f64::NAN, 0.0), made(1.0, f64::NAN)), (Err(Fault::OutOfRange), Err(Fault::OutOfRange)));
+    assert_eq!(made(0.0, f64::NEG_INFINITY), Err(Fault::OutOfRange));
+    let outline = Outline::new(&[point(0, 0), point(10, 0), point(10, 10), point(0, 10)]).unwrap();
+    assert_eq!(outline.extreme_d(0.5, 0.25), Ok(Some(point(10, 10))));
+    assert_eq!(outline.extreme_d(0.0, 0.0), Ok(Some(point(0, 0))));
+    let mut hull = Hull::new(2).unwrap();
+    assert_eq!(hull.extreme_d(0.0, 0.0), Ok(None));
+    hull.add(point(1, 2)).unwrap();
+    assert_eq!(hull.extreme_d(1e300, -1e-300), Ok(Some(point(1, 2))));
 }
 
 #[test]

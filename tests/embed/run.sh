@@ -82,6 +82,14 @@ in_c() {
     try "every code of every function" "$room/codes"
     try "refusals.c compiles" compile refusals -Wl,--wrap=malloc,--wrap=realloc,--wrap=free
     try "each request for memory refused in turn" "$room/refusals"
+    if echo '#include <ccd/ccd.h>' | cc -E - >/dev/null 2>&1; then
+        # shellcheck disable=SC2046 # the flags stand apart by spaces
+        try "examples/embed/gjk.c compiles beside libccd" \
+            cc -std=c11 -Wall -Wextra -Werror -O2 "$examples/gjk.c" $(flags) -lccd -lm -o "$room/gjk"
+        try "examples/embed/gjk.c writes examples/embed/gjk.txt" writes "$examples/gjk.txt" "$room/gjk"
+    else
+        skip "a support function for libccd" libccd-dev
+    fi
     for header in hull hull_shared hull_exchange; do
         for standard in c99 c11; do
             try "$header.h is $standard" \
@@ -112,6 +120,16 @@ in_cplusplus() {
     try "examples/embed/planner.cpp compiles by what is installed" c++ -std=c++17 -pedantic -Wall -Wextra -Werror -O2 \
         "$examples/planner.cpp" $(flags) -lhull_shared -lpthread -o "$room/planner"
     try "examples/embed/planner.cpp writes examples/embed/planner.txt" writes "$examples/planner.txt" "$room/planner"
+    ompl=$(pkg-config --cflags ompl eigen3 2>/dev/null) || ompl=
+    # shellcheck disable=SC2086 # the flags stand apart by spaces
+    if echo '#include <ompl/base/MotionValidator.h>' | c++ $ompl -std=c++17 -x c++ -E - >/dev/null 2>&1; then
+        # shellcheck disable=SC2046
+        try "examples/embed/sampling.cpp compiles beside OMPL" c++ $ompl -std=c++17 -Wall -Wextra -O2 \
+            "$examples/sampling.cpp" $(flags) -lhull_shared -lompl -lpthread -o "$room/sampling"
+        try "examples/embed/sampling.cpp writes examples/embed/sampling.txt" writes "$examples/sampling.txt" "$room/sampling"
+    else
+        skip "motions for OMPL" libompl-dev
+    fi
     if is_there valgrind; then
         try "valgrind finds nothing in the tests of hull.hpp" valgrind -q --error-exitcode=9 --leak-check=full \
             --show-leak-kinds=all --errors-for-leak-kinds=all "$room/hull_tests_cpp" "$room/threads_journal"

@@ -1,8 +1,9 @@
--- What asking an outline for its box, for its nearest point or about a segment comes to, in numbers.
-use Rattle.std.specs.Prelude.{◌≡◌, ◌⊎◌, ℕ, ℤ, List, [], Bool, cond, Option, Some, None, MatchOption, Result, MatchResult}
+-- What asking an outline for its box, its extents, its nearest point or about a segment comes to, in numbers.
+use Rattle.std.specs.Prelude.{◌≡◌, ◌⊎◌, ℕ, ℤ, pos, List, [], Bool, cond, Option, Some, None, MatchOption, Result, MatchResult}
 use Rattle.lattice.specs.Plane.{Pair}
 use Rattle.hull_plain.specs.Positions.{origin}
 use Rattle.hull_outline.specs.Boxes.{IsBox}
+use Rattle.hull_outline.specs.Extents.{IsDiameter, IsExtent}
 use Rattle.hull_outline.specs.Meetings.{Meets, TellsMeeting, segment}
 use Rattle.hull_outline.specs.Nearest.{IsNearest}
 use Rattle.hull_outline.specs.Outlines.{HoldsOfSetsOf}
@@ -10,8 +11,8 @@ use Rattle.hull_outline.specs.Separations.{IsSeparation}
 use Rattle.hull_outline.specs.declared.nearest.Nearest.{Nearest}
 use Rattle.hull_outline.specs.declared.nearest.Nearest.TheVariants as nearest
 use Rattle.hull_outline.specs.declared.separations.Separation.{Separation}
-use Rattle.hull_reply.specs.Coordinates.{IsPointOf}
-use Rattle.hull_reply.specs.Told.{IsBare, IsNumber}
+use Rattle.hull_reply.specs.Coordinates.{IsDirectionOf, IsPointOf}
+use Rattle.hull_reply.specs.Told.{IsBare, IsNumber, IsWide}
 use Rattle.hull_reply.specs.declared.code.Code.{Code}
 use Rattle.hull_reply.specs.declared.code.Code.TheVariants as code
 use Rattle.hull_reply.specs.declared.reply.HullReply.{HullReply}
@@ -26,6 +27,9 @@ finding_number finding.Covered = 25
 finding_number finding.Corner = 26
 finding_number finding.Edge = 27
 finding_number finding.Bounds = 28
+finding_number finding.Within = 29
+finding_number finding.Crossing = 30
+finding_number finding.Points = 31
 
 -- a finding with two points, or with a point and a direction
 abbrev pub IsFound : Finding → Pair → Pair → HullReply → Type 0
@@ -36,6 +40,11 @@ IsFound f p q r = r
 abbrev pub IsToldOf : ℤ → ℤ → (Pair → HullReply → Type 0) → HullReply → Type 0
 IsToldOf x y P told =
     (asked : Result Pair Code) × IsPointOf x y asked × MatchResult asked (λ p. P p told) (λ fault. IsBare fault told)
+
+-- the two numbers are a direction and it was answered, or it was told why they are none
+abbrev pub IsToldAlong : ℤ → ℤ → (Pair → HullReply → Type 0) → HullReply → Type 0
+IsToldAlong x y P told =
+    (asked : Result Pair Code) × IsDirectionOf x y asked × MatchResult asked (λ d. P d told) (λ fault. IsBare fault told)
 
 -- whether they meet: 1 or 0
 abbrev pub TellsWhether : List Pair → Pair → Pair → HullReply → Type 0
@@ -64,13 +73,30 @@ TellsNearest corners q told =
     (place : Option Nearest) × IsNearestTold place told
     × HoldsOfSetsOf corners (λ S. MatchOption place (S ≡ []) (λ found. IsNearest S q found))
 
--- the box between two points
-abbrev pub IsBoxTold : Option (Pair × Pair) → HullReply → Type 0
-IsBoxTold None told = IsBare code.Empty told
-IsBoxTold (Some ends) told = IsFound finding.Bounds ends.0 ends.1 told
+-- two points, if there are any
+abbrev pub AreEndsTold : Finding → Option (Pair × Pair) → HullReply → Type 0
+AreEndsTold f None told = IsBare code.Empty told
+AreEndsTold f (Some ends) told = IsFound f ends.0 ends.1 told
 
--- that is the box of each set with these corners
+-- those between which the box of each set with these corners lies
 abbrev pub TellsBox : List Pair → HullReply → Type 0
 TellsBox corners told =
-    (ends : Option (Pair × Pair)) × IsBoxTold ends told
+    (ends : Option (Pair × Pair)) × AreEndsTold finding.Bounds ends told
     × HoldsOfSetsOf corners (λ S. MatchOption ends (S ≡ []) (λ found. IsBox S found.0 found.1))
+
+-- those of each set that are farthest from one another
+abbrev pub TellsDiameter : List Pair → HullReply → Type 0
+TellsDiameter corners told =
+    (ends : Option (Pair × Pair)) × AreEndsTold finding.Points ends told
+    × HoldsOfSetsOf corners (λ S. MatchOption ends (S ≡ []) (λ found. IsDiameter S found.0 found.1))
+
+-- a number of 128 bits, if there is one
+abbrev pub IsWidthTold : Option ℕ → HullReply → Type 0
+IsWidthTold None told = IsBare code.Empty told
+IsWidthTold (Some n) told = IsWide n told
+
+-- how far each set reaches in the direction
+abbrev pub TellsWidth : List Pair → Pair → HullReply → Type 0
+TellsWidth corners d told =
+    (width : Option ℕ) × IsWidthTold width told
+    × HoldsOfSetsOf corners (λ S. MatchOption width (S ≡ []) (λ n. IsExtent S d (pos n)))

@@ -6,3 +6,4 @@ pub mod Left
 pub mod Loads
 pub mod Outlines
 pub mod Findings
+pub mod Pairs

@@ -1,14 +1,14 @@
-//! Segments, boxes and nearest points of an array of corners.
+//! Segments, boxes, nearest points and extents of an array of corners.
 ghost use Rattle.std.specs.Prelude.{◌≡◌, Some};
 ghost use Rattle.lattice.specs.Plane.{Pair};
 ghost use Rattle.hull_plain.specs.Positions.{origin};
 ghost use Rattle.hull_outline.specs.Outlines.{IsShortOutline};
-ghost use Rattle.hull_c.specs.Findings.{finding_number, IsBoxTold, IsFound, IsNearestTold, IsToldOf};
-ghost use Rattle.hull_c.specs.Findings.{TellsBox, TellsNearest, TellsParting, TellsWhether};
+ghost use Rattle.hull_c.specs.Findings.{finding_number, AreEndsTold, IsFound, IsNearestTold, IsToldAlong, IsToldOf, IsWidthTold};
+ghost use Rattle.hull_c.specs.Findings.{TellsBox, TellsDiameter, TellsNearest, TellsParting, TellsWhether, TellsWidth};
 
 use hull_outline::{Nearest, Outline, Separation};
-use hull_reply::{Code, HullReply, point_of};
-use lattice::Point;
+use hull_reply::{Code, HullReply, direction_of, point_of};
+use lattice::{Direction, Point};
 
 /// What was found. The header names each by its number, among those of [`Code`].
 #[derive(Clone, Copy)]
@@ -25,11 +25,17 @@ pub(crate) enum Finding {
     Edge = 27,
     /// A box, from its least point to its greatest.
     Bounds = 28,
+    /// The corner is covered by the other outline.
+    Within = 29,
+    /// Two segments cross.
+    Crossing = 30,
+    /// Two points.
+    Points = 31,
 }
 
 impl Finding {
     /// The number of the header.
-    fn number(self) -> u32
+    pub(crate) fn number(self) -> u32
         ensures { result ≡ finding_number self }
     {
         self as u32
@@ -182,13 +188,13 @@ pub(crate) fn nearest(corners: &[Point], x: i64, y: i64) -> HullReply
     }
 }
 
-/// A box, in numbers.
-fn box_told(ends: Option<(Point, Point)>) -> HullReply
-    ensures { IsBoxTold ends result }
+/// Two points, if there are any.
+fn ends_told(finding: Finding, ends: Option<(Point, Point)>) -> HullReply
+    ensures { AreEndsTold finding ends result }
 {
     match ends {
         None => HullReply::bare(Code::Empty),
-        Some((least, greatest)) => with_points(Finding::Bounds, least, greatest),
+        Some((p, q)) => with_points(finding, p, q),
     }
 }
 
@@ -197,5 +203,45 @@ pub(crate) fn bounding_box(corners: &[Point]) -> HullReply
     requires { IsShortOutline corners.now }
     ensures { TellsBox corners.now result }
 {
-    box_told(Outline::of_vertices(corners).bounding_box())
+    ends_told(
+        Finding::Bounds,
+        Outline::of_vertices(corners).bounding_box(),
+    )
+}
+
+/// The two corners that are farthest from one another.
+pub(crate) fn diameter(corners: &[Point]) -> HullReply
+    requires { IsShortOutline corners.now }
+    ensures { TellsDiameter corners.now result }
+{
+    ends_told(Finding::Points, Outline::of_vertices(corners).diameter())
+}
+
+/// How far a hull reaches, if it has points.
+fn width_told(width: Option<u128>) -> HullReply
+    ensures { IsWidthTold width result }
+{
+    match width {
+        None => HullReply::bare(Code::Empty),
+        Some(number) => HullReply::wide(number),
+    }
+}
+
+/// How far the corners reach in a direction.
+fn width_along(corners: &[Point], d: Direction) -> HullReply
+    requires { IsShortOutline corners.now }
+    ensures { TellsWidth corners.now d result }
+{
+    width_told(Outline::of_vertices(corners).width_along(d))
+}
+
+/// How far the corners reach in the direction of two numbers.
+pub(crate) fn width(corners: &[Point], x: i64, y: i64) -> HullReply
+    requires { IsShortOutline corners.now }
+    ensures { IsToldAlong x y (TellsWidth corners.now) result }
+{
+    match direction_of(x, y) {
+        Ok(d) => width_along(corners, d),
+        Err(fault) => HullReply::bare(fault),
+    }
 }

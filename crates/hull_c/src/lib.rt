@@ -16,7 +16,9 @@ ghost use Rattle.hull_reply.specs.Left.{leaves};
 ghost use Rattle.hull_reply.specs.Rooms.{room_alignment, room_size};
 ghost use Rattle.hull_reply.specs.Served.{IsAnswered};
 ghost use Rattle.hull_c.specs.Bridges.{AreBridges};
-ghost use Rattle.hull_c.specs.Findings.{IsToldOf, TellsBox, TellsNearest, TellsParting, TellsWhether};
+ghost use Rattle.hull_c.specs.Findings.{IsToldAlong, IsToldOf, TellsBox, TellsDiameter, TellsNearest, TellsParting, TellsWhether};
+ghost use Rattle.hull_c.specs.Findings.{TellsWidth};
+ghost use Rattle.hull_c.specs.Pairs.{TellsContains, TellsLeastWidth, TellsMeets, TellsWitness};
 ghost use Rattle.hull_c.specs.Held.{AreLoaded, IsListed};
 ghost use Rattle.hull_c.specs.Left.{leaves_room};
 ghost use Rattle.hull_c.specs.Loads.{IsLoaded};
@@ -32,6 +34,7 @@ mod findings;
 mod held;
 mod load;
 mod outline;
+mod pairs;
 mod requests;
 #[cfg(test)]
 mod tests;
@@ -43,6 +46,7 @@ pub use hull_reply::HullPoint;
 use hull_reply::HullReply;
 use hull_tree::SparingTree;
 use lattice::Point;
+pub use pairs::HullWitness;
 pub use requests::HullRequest;
 
 /// Makes the call that a kind and two numbers ask for: a point or a direction, or nothing of them.
@@ -265,6 +269,63 @@ pub extern "C" fn hull_outline_box(corners: &[Point]) -> HullReply
     ensures { TellsBox corners.now result }
 {
     findings::bounding_box(corners)
+}
+
+/// How far the hull of these corners reaches in the direction (x, y): the greatest product less the least.
+#[unsafe(no_mangle)]
+pub extern "C" fn hull_outline_width(corners: &[Point], x: i64, y: i64) -> HullReply
+    requires { IsShortOutline corners.now }
+    ensures { IsToldAlong x y (TellsWidth corners.now) result }
+{
+    findings::width(corners, x, y)
+}
+
+/// The two corners that are farthest from one another.
+#[unsafe(no_mangle)]
+pub extern "C" fn hull_outline_diameter(corners: &[Point]) -> HullReply
+    requires { IsShortOutline corners.now }
+    ensures { TellsDiameter corners.now result }
+{
+    findings::diameter(corners)
+}
+
+/// The edge and the corner between whose parallels the hull of these corners is least wide.
+#[unsafe(no_mangle)]
+pub extern "C" fn hull_outline_least_width(corners: &[Point]) -> HullWitness
+    requires { IsShortOutline corners.now }
+    ensures { TellsLeastWidth corners.now result }
+{
+    pairs::least_width(corners)
+}
+
+/// Tells whether the hulls of two arrays of corners have a point in common: 1, or 0.
+#[unsafe(no_mangle)]
+pub extern "C" fn hull_outline_meets(corners: &[Point], others: &[Point]) -> HullReply
+    requires this { IsShortOutline corners.now }
+    requires that { IsShortOutline others.now }
+    ensures { TellsMeets corners.now others.now result }
+{
+    pairs::meets(corners, others)
+}
+
+/// Tells whether the hull of the first corners holds that of the others: 1, or 0.
+#[unsafe(no_mangle)]
+pub extern "C" fn hull_outline_contains(corners: &[Point], others: &[Point]) -> HullReply
+    requires this { IsShortOutline corners.now }
+    requires that { IsShortOutline others.now }
+    ensures { TellsContains corners.now others.now result }
+{
+    pairs::contains(corners, others)
+}
+
+/// Where the hulls of two arrays of corners meet, or what parts them.
+#[unsafe(no_mangle)]
+pub extern "C" fn hull_outline_witness(corners: &[Point], others: &[Point]) -> HullWitness
+    requires this { IsShortOutline corners.now }
+    requires that { IsShortOutline others.now }
+    ensures { TellsWitness corners.now others.now result }
+{
+    pairs::witness(corners, others)
 }
 
 /// Tells whether points are the corners of a set in the order in which [`hull_vertices`] writes them: 1, or 0.

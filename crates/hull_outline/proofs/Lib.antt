@@ -26,3 +26,10 @@ pub mod Distances
 pub mod Differences
 pub mod Passing
 pub mod Together
+pub mod Axes
+pub mod EdgeAxes
+pub mod Witnessed
+pub mod Diameters
+pub mod ExtentsOf
+pub mod Fractions
+pub mod LeastWidths

@@ -17,7 +17,7 @@ use Rattle.hull_plain.proofs.Decided.{covers_or_separated}
 use Rattle.hull_plain.proofs.NotCovered.{not_covered}
 use Rattle.hull_plain.proofs.Orientation.{orient_other, orient-cycle}
 use Rattle.hull_outline.specs.Encounters.{IsAmong, IsShielded, IsLeftmost}
-use Rattle.hull_outline.specs.Meetings.{Parts, IsApart, Meets, Reaches, Crosses, segment}
+use Rattle.hull_outline.specs.Meetings.{Parts, IsApart, segment}
 use Rattle.hull_outline.specs.Steps.{left_of}
 use Rattle.hull_outline.proofs.EdgesOf.{all_of}
 use Rattle.hull_outline.proofs.Parted.{weights_x, weights_y, weights_sum, weights_from, below_both, product_ss}
@@ -268,7 +268,7 @@ one_left : (p q a b w : ℤ) → q ≡ pos 0 → p *ℤ b -ℤ q *ℤ a ≡ w �
 one_left p q a b w z e = omega (arith, ints) ∙ ap (λ (k : ℤ). p *ℤ b -ℤ k *ℤ a) (sym z) ∙ e
 
 -- the line of a and b goes between left and right, and a lies on the line of those: it is on their segment
-start_on : (a b left right : Pair) → pos 0 <ℤ orient a b left → orient a b right <ℤ pos 0
+pub start_on : (a b left right : Pair) → pos 0 <ℤ orient a b left → orient a b right <ℤ pos 0
     → orient right left a ≡ pos 0 → IsOnSegment left right a
 start_on a b left right above below e =
     let w = weights_sum a b right left in (
@@ -284,29 +284,6 @@ start_on a b left right above below e =
         between_by (orient a b left) (orient a b right) (neg_ℤ (orient right left b)) u v x (omega (arith, ints))
         (omega (arith, ints)) (omega (arith, ints)) (omega (arith, ints))
         (other_left (orient right left a) (orient right left b) x y _ e h)
-
--- the line of a and b goes between two points of S, whose line goes between a and b: they meet
-pub crossed : (S : List Pair) (a b left right : Pair) → Contains S left → Contains S right
-    → pos 0 <ℤ orient a b left → pos 0 <ℤ orient b a right → orient right left b ≤ℤ pos 0
-    → orient left right a ≤ℤ pos 0 → Meets S (segment a b)
-crossed S a b left right ml mr above below after before = elim (le_or_lt (pos 0) (orient left right a)) [
-  | inl z ↦ let e : orient left right a ≡ pos 0 = omega (arith, ints) in
-      Reaches a (start_there a b) (OnSegment left right ml mr
-      (start_on a b left right above (side_back b a right below) (other_line left right a e)))
-  | inr n ↦ elim (le_or_lt (pos 0) (orient right left b)) [
-    | inl z ↦ let e : orient right left b ≡ pos 0 = omega (arith, ints) in
-        Reaches b (end_there a b) (OnSegment right left mr ml
-        (start_on b a right left below (side_back a b left above) (other_line right left b e)))
-    | inr m ↦ Crosses left right a b ml mr (start_there a b) (end_there a b)
-        (n, negative_back right left b m, above, side_back b a right below)
-  ]
-]
-  where
-    negative_back : (u v t : Pair) → orient u v t <ℤ pos 0 → pos 0 <ℤ orient v u t
-    negative_back u v t h = over _ _ (orient_other u v t) h
-      where
-        over : (x y : ℤ) → x ≡ neg_ℤ y → y <ℤ pos 0 → pos 0 <ℤ x
-        over x y e h = omega (arith, ints)
 
 -- ---- the direction that parts them
 

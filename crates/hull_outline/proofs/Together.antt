@@ -1,5 +1,5 @@
 -- Two sets, by the edges of the second: one of them meets the first, or the two are apart.
-use Rattle.std.proofs.Common.{◌≡◌, ℕ, ◌+◌, ◌≤◌, ◌<◌, ℤ, ◌≤ℤ◌, ◌<ℤ◌, neg_ℤ, inl, inr, sym, subst, List, [], length}
+use Rattle.std.proofs.Common.{◌≡◌, ℕ, ◌+◌, ◌≤◌, ◌<◌, ℤ, ◌<ℤ◌, neg_ℤ, inl, inr, subst, List, [], length}
 use Rattle.std.proofs.Common.{arith}
 use Rattle.std.specs.List.{Contains}
 use Rattle.std.proofs.lemmas.Bool.{cases_lt}
@@ -10,14 +10,14 @@ use Rattle.lattice.specs.Plane.{Pair, product}
 use Rattle.lattice.proofs.Vectors.{opp}
 use Rattle.hull_plain.proofs.Decided.{covers_or_separated}
 use Rattle.hull_plain.specs.Positions.{origin}
-use Rattle.hull_outline.specs.Meetings.{IsApart, Meets, Reaches, IsReached, Crosses, segment}
+use Rattle.hull_outline.specs.Meetings.{IsApart, segment}
 use Rattle.hull_outline.specs.Outlines.{IsOutlineOf}
 use Rattle.hull_outline.specs.Rounds.{corner, IsParted}
 use Rattle.hull_outline.proofs.Differences.{parted_or_shared}
 use Rattle.hull_outline.proofs.Parted.{product_opp}
 use Rattle.hull_outline.proofs.Passing.{none_shared}
 use Rattle.hull_outline.proofs.Shields.{start_there, end_there}
-use Rattle.hull_outline.proofs.Turns.{farthest_corner, placed}
+use Rattle.hull_outline.proofs.Turns.{all_nearer}
 
 -- any set is apart from no points
 pub apart_from_none : (S T : List Pair) → T ≡ [] → IsApart S T
@@ -27,40 +27,40 @@ apart_from_none S T e = (
 )
 
 -- what covers stays covered by more points
-covers_more : (T U : List Pair) (q : Pair) → ((t : Pair) → Contains T t → Contains U t) → Covers T q → Covers U q
+pub covers_more : (T U : List Pair) (q : Pair) → ((t : Pair) → Contains T t → Contains U t) → Covers T q → Covers U q
 covers_more T U q f (Member m) = Member (f q m)
 covers_more T U q f (OnSegment a b ma mb h) = OnSegment a b (f a ma) (f b mb) h
 covers_more T U q f (InTriangle a b c ma mb mc h) = InTriangle a b c (f a ma) (f b mb) (f c mc) h
 
--- what meets a part meets the whole
-pub meets_more : (S T U : List Pair) → ((t : Pair) → Contains T t → Contains U t) → Meets S T → Meets S U
-meets_more S T U f (Reaches t m c) = Reaches t (f t m) c
-meets_more S T U f (IsReached s m c) = IsReached s m (covers_more T U s f c)
-meets_more S T U f (Crosses a b c d ma mb mc md x) = Crosses a b c d ma mb (f c mc) (f d md) x
+-- one corner or two that lie farther than m: so does the set
+pub few_beyond : (T W : List Pair) (last : ℕ) (d : Pair) (m : ℤ) → IsOutlineOf T W → IsParted W last → 0 < length W
+    → length W ≤ 2 → m <ℤ product d (corner W 0) → m <ℤ product d (corner W 1) → (t : Pair) → Contains T t
+    → m <ℤ product d t
+few_beyond T W last d m o p n few first second t mt =
+    over _ _ (product_opp d t) (all_nearer T W last (opp d) (neg_ℤ m) o p n
+    (λ i l. under _ _ (product_opp d (corner W i)) (end i l)) t mt)
+  where
+    over : (x y : ℤ) → x ≡ neg_ℤ y → x <ℤ neg_ℤ m → m <ℤ y
+    over x y e h = omega (arith, ints)
 
--- one corner or two: what is apart from their segment is apart from the set
+    under : (x y : ℤ) → x ≡ neg_ℤ y → m <ℤ y → x <ℤ neg_ℤ m
+    under x y e h = omega (arith, ints)
+
+    end : (i : ℕ) → i < length W → m <ℤ product d (corner W i)
+    end i l = elim (cases_lt 0 i) [
+      | inr k ↦ subst (λ (j : ℕ). m <ℤ product d (corner W j)) (omega (arith, k)) first
+      | inl k ↦ subst (λ (j : ℕ). m <ℤ product d (corner W j)) (omega (arith, k, l, few)) second
+    ]
+
+-- what is apart from their segment is apart from the set
 apart_few : (S T W : List Pair) (last : ℕ) → IsOutlineOf T W → IsParted W last → 0 < length W → length W ≤ 2
     → IsApart S (segment (corner W 0) (corner W 1)) → IsApart S T
 apart_few S T W last o p n few (d, h) = (
   d,
-  λ s t ms mt.
-      let r = farthest_corner T W last (opp d) o p n in
-      let j = placed W r.0 n in
-      before _ _ _ _ _ (product_opp d t) (product_opp d (corner W r.0))
-      (All-contains (λ z. product (opp d) z ≤ℤ product (opp d) (corner W r.0)) T t r.1.1 mt)
-      (subst (λ (z : Pair). product d s <ℤ product d z) (sym j.2) (end s ms j.0 j.1)),
+  λ s t ms mt. few_beyond T W last d (product d s) o p n few
+      (h s (corner W 0) ms (start_there (corner W 0) (corner W 1)))
+      (h s (corner W 1) ms (end_there (corner W 0) (corner W 1))) t mt,
 )
-  where
-    before : (x y u v s : ℤ) → x ≡ neg_ℤ u → y ≡ neg_ℤ v → x ≤ℤ y → s <ℤ v → s <ℤ u
-    before x y u v s e f l m = omega (arith, ints)
-
-    end : (s : Pair) → Contains S s → (j : ℕ) → j < length W → product d s <ℤ product d (corner W j)
-    end s ms j l = elim (cases_lt 0 j) [
-      | inr k ↦ subst (λ (i : ℕ). product d s <ℤ product d (corner W i)) (omega (arith, k))
-          (h s (corner W 0) ms (start_there (corner W 0) (corner W 1)))
-      | inl k ↦ subst (λ (i : ℕ). product d s <ℤ product d (corner W i)) (omega (arith, k, l, few))
-          (h s (corner W 1) ms (end_there (corner W 0) (corner W 1)))
-    ]
 
 -- a set whose point is not covered, and apart from each edge: they are apart
 pub apart_from_edges : (S T W : List Pair) (last : ℕ) (v : Pair) → IsOutlineOf T W → IsParted W last → 0 < length W

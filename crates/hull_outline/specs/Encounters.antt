@@ -4,10 +4,11 @@ use Rattle.std.specs.List.{Contains}
 use Rattle.lattice.specs.Plane.{Pair, orient, IsBefore}
 use Rattle.lattice.specs.Covers.{Covers}
 use Rattle.lattice.specs.Places.{IsFarthest}
-use Rattle.hull_outline.specs.Meetings.{Parts, Meets, segment}
+use Rattle.hull_outline.specs.Meetings.{Parts, segment}
 use Rattle.hull_outline.specs.Steps.{left_of}
+use Rattle.hull_outline.specs.Witnesses.{IsMeeting}
 use Rattle.hull_outline.specs.declared.encounters.Encounter.{Encounter}
-use Rattle.hull_outline.specs.declared.encounters.Encounter.TheVariants.{Meeting, OnRight, OnLeft, Behind, Beyond}
+use Rattle.hull_outline.specs.declared.encounters.Encounter.TheVariants.{Met, OnRight, OnLeft, Behind, Beyond}
 
 -- q stands between p and r in the order of points, or is one of them
 abbrev pub IsAmong : Pair → Pair → Pair → Type 0
@@ -21,10 +22,10 @@ IsLeftmost S a b p = Contains S p × IsFarthest S (left_of a b) p
 abbrev pub IsShielded : List Pair → Pair → Pair → Type 0
 IsShielded S a b = ¬ Covers S a × ((d : Pair) → Parts d S (a ∷ []) → Parts d S (segment a b))
 
--- they meet; or S lies right of the line from a to b, or left of it, and p is nearest to it; or S lies behind a, or
+-- they meet there; or S lies right of the line from a to b, or left of it, and p is nearest to it; or S lies behind a, or
 -- beyond b
 abbrev pub IsEncounter : List Pair → Pair → Pair → Encounter → Type 0
-IsEncounter S a b Meeting = Meets S (segment a b)
+IsEncounter S a b (Met m) = IsMeeting S (segment a b) m
 IsEncounter S a b (OnRight p) = IsLeftmost S a b p × (orient a b p <ℤ pos 0)
 IsEncounter S a b (OnLeft p) = IsLeftmost S b a p × (orient b a p <ℤ pos 0)
 IsEncounter S a b Behind = IsShielded S a b

@@ -10,3 +10,6 @@ pub mod Boxes
 pub mod Encounters
 pub mod Nearest
 pub mod Separations
+pub mod Witnesses
+pub mod Extents
+pub mod Wide

@@ -1,5 +1,5 @@
 -- Steps from one point to another, as directions.
-use Rattle.std.specs.Prelude.{◌-ℤ◌}
+use Rattle.std.specs.Prelude.{◌-ℤ◌, neg_ℤ}
 use Rattle.lattice.specs.Plane.{Pair}
 
 -- the step from a to b
@@ -9,3 +9,7 @@ step a b = record { x = b.x -ℤ a.x; y = b.y -ℤ a.y }
 -- the same, turned to the left by 90 degrees
 abbrev pub left_of : Pair → Pair → Pair
 left_of a b = record { x = a.y -ℤ b.y; y = b.x -ℤ a.x }
+
+-- a direction backwards
+abbrev pub backward : Pair → Pair
+backward d = record { x = neg_ℤ d.x; y = neg_ℤ d.y }

@@ -1,14 +1,16 @@
 //! How a hull stands to a segment: they meet, or the hull lies beside its line, behind its start or beyond its end.
-ghost use Rattle.std.specs.Prelude.{◌≡◌, ◌↔◌, IsTrue, ◌<◌, length, pos, List};
+ghost use Rattle.std.specs.Prelude.{◌≡◌, ◌↔◌, IsTrue, ◌<◌, length, pos, ◌<ℤ◌, ◌≤ℤ◌, List, MatchOption};
 ghost use Rattle.std.specs.List.{Contains};
 ghost use Rattle.lattice.specs.Plane.{Pair, orient};
 ghost use Rattle.lattice.specs.Covers.{Covers};
-ghost use Rattle.hull_outline.specs.Encounters.{IsAmong, IsEncounter, IsFlanked, IsLeftmost};
-ghost use Rattle.hull_outline.specs.Meetings.{TellsMeeting, segment};
+ghost use Rattle.hull_outline.specs.Encounters.{IsAmong, IsEncounter, IsFlanked};
+ghost use Rattle.hull_outline.specs.Meetings.{IsApart, TellsMeeting, segment};
+ghost use Rattle.hull_outline.specs.Witnesses.{IsMeeting};
 ghost use Rattle.hull_outline.specs.Outlines.{HoldsOfSetsOf};
 ghost use Rattle.hull_outline.specs.Lent.{corners_of};
 
 use super::extreme::farthest;
+use super::meetings::Meeting;
 use super::outline::Outline;
 use super::rounds::is_left;
 use super::vector::Vector;
@@ -18,7 +20,7 @@ use lattice::{Point, before};
 #[derive(Clone, Copy)]
 pub(crate) enum Encounter {
     /// They have a point in common.
-    Meeting,
+    Met(Meeting),
     /// The hull lies right of the segment's line; this is one of its points nearest to the line.
     OnRight(Point),
     /// The hull lies left of the line.
@@ -42,11 +44,28 @@ fn encounter_in_line(a: Point, b: Point, u: Point) -> Encounter
         → IsEncounter S a b result }
 {
     if is_among(a, u, b) {
-        Encounter::Meeting
+        Encounter::Met(Meeting::OfThis(u))
     } else if is_among(u, a, b) {
         Encounter::Behind
     } else {
         Encounter::Beyond
+    }
+}
+
+/// Where the segment from `a` to `b`, which goes between `left` and `right`, meets the segment of those.
+fn meeting_between(a: Point, b: Point, left: Point, right: Point) -> Meeting
+    requires left_of_it { pos 0 <ℤ orient a b left }
+    requires right_of_it { pos 0 <ℤ orient b a right }
+    requires start { orient left right a ≤ℤ pos 0 }
+    requires end { orient right left b ≤ℤ pos 0 }
+    ensures { (S : List Pair) → Contains S left → Contains S right → IsMeeting S (segment a b) result }
+{
+    if !is_left(right, left, a) {
+        Meeting::OfOther(a)
+    } else if !is_left(left, right, b) {
+        Meeting::OfOther(b)
+    } else {
+        Meeting::Crossing(left, right, a, b)
     }
 }
 
@@ -68,7 +87,7 @@ fn encounter_between(a: Point, b: Point, left: Point, right: Point) -> Encounter
     } else if is_left(left, right, a) {
         Encounter::Behind
     } else {
-        Encounter::Meeting
+        Encounter::Met(meeting_between(a, b, left, right))
     }
 }
 
@@ -79,14 +98,29 @@ impl<'a> Outline<'a> {
         ensures { HoldsOfSetsOf (corners_of self.now) (λ S. IsEncounter S a b result) }
     {
         if self.covers(a) {
-            return Encounter::Meeting;
+            return Encounter::Met(Meeting::OfOther(a));
         }
         if self.covers(b) {
-            return Encounter::Meeting;
+            return Encounter::Met(Meeting::OfOther(b));
         }
         let left = farthest(self.corners, self.last, Vector::left_of(a, b));
         let right = farthest(self.corners, self.last, Vector::left_of(b, a));
         encounter_between(a, b, left, right)
+    }
+
+    /// Where the hull, of one corner at least, and the segment from `a` to `b` meet, if they do.
+    pub(crate) fn meeting_with_segment(&self, a: Point, b: Point) -> Option<Meeting>
+        requires { 0 < length (corners_of self.now) }
+        ensures { HoldsOfSetsOf (corners_of self.now)
+            (λ S. MatchOption result (IsApart S (segment a b)) (λ m. IsMeeting S (segment a b) m)) }
+    {
+        match self.encounter(a, b) {
+            Encounter::Met(meeting) => Some(meeting),
+            Encounter::OnRight(_) => None,
+            Encounter::OnLeft(_) => None,
+            Encounter::Behind => None,
+            Encounter::Beyond => None,
+        }
     }
 
     /// Whether the hull and the segment from `a` to `b` have a point in common, ends and boundary included; `a` and `b`
@@ -97,12 +131,9 @@ impl<'a> Outline<'a> {
         if self.corners.is_empty() {
             return false;
         }
-        match self.encounter(a, b) {
-            Encounter::Meeting => true,
-            Encounter::OnRight(_) => false,
-            Encounter::OnLeft(_) => false,
-            Encounter::Behind => false,
-            Encounter::Beyond => false,
+        match self.meeting_with_segment(a, b) {
+            Some(_) => true,
+            None => false,
         }
     }
 }

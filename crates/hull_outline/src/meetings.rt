@@ -1,12 +1,50 @@
-//! Whether two hulls meet.
-ghost use Rattle.hull_outline.specs.Meetings.{TellsMeeting};
+//! Whether two hulls meet, and where.
+ghost use Rattle.std.specs.Prelude.{◌<◌, length, MatchOption};
+ghost use Rattle.hull_outline.specs.Meetings.{IsApart, TellsMeeting};
 ghost use Rattle.hull_outline.specs.Outlines.{HoldsOfSetsOf};
+ghost use Rattle.hull_outline.specs.Witnesses.{IsMeeting};
 ghost use Rattle.hull_outline.specs.Lent.{corners_of};
 
 use super::outline::Outline;
 use super::rounds::corner_at;
+use lattice::Point;
+
+/// Where two hulls meet, as a caller can test it.
+#[derive(Clone, Copy, PartialEq, Eq, Debug)]
+pub enum Meeting {
+    /// At this corner of the other hull, which this one covers.
+    OfOther(Point),
+    /// At this corner of this hull, which the other one covers.
+    OfThis(Point),
+    /// Where two segments cross: the one from the first point to the second, corners of this hull, and the one from the
+    /// third to the fourth, corners of the other.
+    Crossing(Point, Point, Point, Point),
+}
 
 impl<'a> Outline<'a> {
+    /// Where this hull and `other` meet, if they do; both have one corner at least.
+    pub(crate) fn meeting(&self, other: &Outline) -> Option<Meeting>
+        requires this { 0 < length (corners_of self.now) }
+        requires that { 0 < length (corners_of other.now) }
+        ensures { HoldsOfSetsOf (corners_of self.now) (λ S. HoldsOfSetsOf (corners_of other.now)
+            (λ T. MatchOption result (IsApart S T) (λ m. IsMeeting S T m))) }
+    {
+        let first = corner_at(self.corners, 0);
+        if other.covers(first) {
+            return Some(Meeting::OfThis(first));
+        }
+        for i in 0..other.corners.len() {
+            let found = self.meeting_with_segment(
+                corner_at(other.corners, i),
+                corner_at(other.corners, i + 1),
+            );
+            if let Some(meeting) = found {
+                return Some(meeting);
+            }
+        }
+        None
+    }
+
     /// Whether this hull and `other` have a point in common, boundaries included. A question of a segment for each edge
     /// of `other`.
     pub fn meets(&self, other: &Outline) -> bool
@@ -19,14 +57,9 @@ impl<'a> Outline<'a> {
         if other.corners.is_empty() {
             return false;
         }
-        if other.covers(corner_at(self.corners, 0)) {
-            return true;
+        match self.meeting(other) {
+            Some(_) => true,
+            None => false,
         }
-        for i in 0..other.corners.len() {
-            if self.meets_segment(corner_at(other.corners, i), corner_at(other.corners, i + 1)) {
-                return true;
-            }
-        }
-        false
     }
 }

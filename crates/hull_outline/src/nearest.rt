@@ -24,7 +24,7 @@ pub enum Nearest {
 }
 
 /// Whether `t` lies right of the line from `a` to `b`.
-fn is_right(a: Point, b: Point, t: Point) -> bool
+pub(crate) fn is_right(a: Point, b: Point, t: Point) -> bool
     ensures { IsTrue result ↔ (plane.orient a b t <ℤ pos 0) }
 {
     orient(a, b, t) < 0

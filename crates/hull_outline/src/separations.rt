@@ -56,7 +56,7 @@ impl<'a> Outline<'a> {
             return None;
         }
         match self.encounter(a, b) {
-            Encounter::Meeting => None,
+            Encounter::Met(_) => None,
             Encounter::OnRight(farthest) => Some(Separation {
                 direction: Vector::left_of(a, b),
                 farthest,

@@ -2,7 +2,7 @@
 ghost use Rattle.std.specs.Prelude.{◌≡◌, ◌*◌, ◌^◌, ◌*ℤ◌, ◌+ℤ◌, ◌-ℤ◌, pos, neg_ℤ};
 ghost use Rattle.lattice.specs.Plane as plane;
 ghost use Rattle.lattice.specs.Plane.{IsWithin, widest, widest_side};
-ghost use Rattle.hull_outline.specs.Steps.{step, left_of};
+ghost use Rattle.hull_outline.specs.Steps.{step, left_of, backward};
 
 use lattice::{Direction, Point};
 use std::marker::Model;
@@ -100,6 +100,16 @@ impl Vector {
         Vector {
             dx: difference(a.y(), b.y()),
             dy: difference(b.x(), a.x()),
+        }
+    }
+
+    /// The direction backwards.
+    pub(crate) fn back(self) -> Vector
+        ensures { result ≡ backward self }
+    {
+        Vector {
+            dx: -self.dx,
+            dy: -self.dy,
         }
     }
 

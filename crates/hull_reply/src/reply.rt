@@ -75,7 +75,7 @@ impl HullReply {
     }
 
     /// A number in two words.
-    fn wide(number: u128) -> HullReply
+    pub fn wide(number: u128) -> HullReply
         ensures { IsWide number result }
     {
         let mut reply = HullReply::bare(Code::Number);

@@ -1,7 +1,7 @@
-//! Segments, boxes and nearest points beside slow answers by their definitions.
-use hull_outline::{Nearest, Outline, Separation};
+//! Segments, other hulls, extents and nearest points beside slow answers by their definitions.
+use hull_outline::{Meeting, Nearest, Outline, Separation, Strip, Witness};
 use hull_plain::{AddReply, HullSet, PlainSet};
-use lattice::{Point, distance_squared, orient};
+use lattice::{Direction, Point, distance_squared, orient, product};
 use std::alloc::Global;
 use std::process::Abort;
 use std::test::Fail;
@@ -83,17 +83,16 @@ fn slow_crosses(points: &[Point], a: Point, b: Point) -> bool {
     false
 }
 
-/// The separation parts the points from both ends, and one of them is its farthest.
-fn assert_parts(rt: &impl Abort, points: &[Point], a: Point, b: Point, found: Separation) {
+/// The separation parts the points from the others, and one of them is its farthest.
+fn assert_parts(rt: &impl Abort, points: &[Point], others: &[Point], found: Separation) {
     let reach = found.direction.product(found.farthest);
-    let mut there = false;
     for p in points {
         assert!(rt; found.direction.product(*p) <= reach, "{found:?} of {p:?}");
-        there = there || *p == found.farthest;
     }
-    assert!(rt; there, "{found:?} of {points:?}");
-    assert!(rt; found.direction.product(a) > reach, "{found:?} of {a:?}");
-    assert!(rt; found.direction.product(b) > reach, "{found:?} of {b:?}");
+    for q in others {
+        assert!(rt; found.direction.product(*q) > reach, "{found:?} of {q:?}");
+    }
+    assert!(rt; points.contains(&found.farthest), "{found:?} of {points:?}");
 }
 
 /// The outline of corners that are one.
@@ -135,7 +134,7 @@ fn assert_segment(rt: &impl Abort, points: &[Point], outline: Outline<'_>, a: &S
     match outline.apart_from_segment(a.point, b.point) {
         Some(found) => {
             assert!(rt; !meets, "{points:?} and {found:?}");
-            assert_parts(rt, points, a.point, b.point, found);
+            assert_parts(rt, points, &[a.point, b.point], found);
         }
         None => assert!(rt; meets || points.is_empty(), "{points:?}"),
     }
@@ -255,12 +254,66 @@ fn assert_nearest(rt: &impl Abort, points: &[Point], outline: Outline<'_>, seen:
     }
 }
 
+/// The width of the strip that begins at the line from `a` to `b`, squared, if all points lie left of that.
+fn slow_strip(points: &[Point], a: Point, b: Point) -> Option<Fraction> {
+    let mut farthest = b;
+    for t in points {
+        if orient(a, b, *t) < 0 {
+            return None;
+        }
+        if orient(a, b, *t) > orient(a, b, farthest) {
+            farthest = *t;
+        }
+    }
+    Some(to_line(a, b, farthest))
+}
+
+/// The strip is as narrow as the narrowest of all that begin at the line of two points.
+fn assert_thinnest(rt: &impl Abort, points: &[Point], strip: Strip) {
+    let told = to_line(strip.from, strip.to, strip.farthest);
+    let mut found = false;
+    for a in points {
+        for b in points {
+            if a != b {
+                if let Some(width) = slow_strip(points, *a, *b) {
+                    assert!(rt; !is_less(width, told), "{points:?} and {strip:?}");
+                    found = found || !is_less(told, width);
+                }
+            }
+        }
+    }
+    assert!(rt; found, "{points:?} and {strip:?}");
+}
+
+/// No direction of a small grid has a narrower strip.
+fn assert_least(rt: &impl Abort, outline: Outline<'_>, strip: Strip) -> Result<(), Fail> {
+    let told = to_line(strip.from, strip.to, strip.farthest);
+    for dx in -3i64..4 {
+        for dy in 0i64..4 {
+            if dx != 0 || dy != 0 {
+                let reach = outline.width_along(Direction::new(dx, dy)?).unwrap_or(0);
+                let above = i128::try_from(reach.wrapping_mul(reach)).unwrap_or(0);
+                let below = dx.wrapping_mul(dx).wrapping_add(dy.wrapping_mul(dy)) as i128;
+                assert!(rt; !is_less(Fraction { above, below }, told), "{strip:?}");
+            }
+        }
+    }
+    Ok(())
+}
+
 #[test]
-fn nearest_of_all_sets_of_a_small_grid(rt: HostRuntime) -> Result<(), Fail> {
+fn nearest_and_least_width_of_all_sets_of_a_small_grid(rt: HostRuntime) -> Result<(), Fail> {
     for bits in 0u32..512 {
         let points = grid_points(rt.alloc(), bits, 2)?;
         let corners = corners_of(&rt, rt.alloc(), &points)?;
         let outline = outline_of(&rt, &corners);
+        match outline.least_width() {
+            Some(strip) => {
+                assert_thinnest(&rt, &points, strip);
+                assert_least(&rt, outline, strip)?;
+            }
+            None => assert!(rt; points.len() < 2),
+        }
         for seen in &seen_grid(rt.alloc(), &points, 3, 1)? {
             assert_nearest(&rt, &points, outline, seen);
         }
@@ -289,12 +342,56 @@ fn assert_box(rt: &impl Abort, points: &[Point], outline: Outline<'_>) {
     }
 }
 
+/// The two points that are told are as far apart as any two.
+fn assert_diameter(rt: &impl Abort, points: &[Point], outline: Outline<'_>) {
+    match outline.diameter() {
+        Some((p, q)) => {
+            assert!(rt; points.contains(&p) && points.contains(&q), "{points:?}");
+            for a in points {
+                for b in points {
+                    assert!(rt;
+                        distance_squared(*a, *b) <= distance_squared(p, q),
+                        "{points:?}"
+                    );
+                }
+            }
+        }
+        None => assert!(rt; points.is_empty()),
+    }
+}
+
+/// The width along a direction is the most that one point lies farther than another.
+fn assert_width(rt: &impl Abort, points: &[Point], outline: Outline<'_>, d: Direction) {
+    let mut widest = 0;
+    for a in points {
+        for b in points {
+            widest = widest.max(product(d, *a).wrapping_sub(product(d, *b)));
+        }
+    }
+    match outline.width_along(d) {
+        Some(width) => assert_eq!(rt; i128::try_from(width), Ok(widest), "{points:?} along {d:?}"),
+        None => assert!(rt; points.is_empty()),
+    }
+}
+
+// The outermost points of the sets are at the limit of coordinates.
 #[test]
-fn boxes_of_all_sets_of_a_small_grid(rt: HostRuntime) -> Result<(), Fail> {
+fn extents_of_all_sets_of_a_small_grid(rt: HostRuntime) -> Result<(), Fail> {
     for bits in 0u32..512 {
         let points = grid_points(rt.alloc(), bits, 1099511627776)?;
         let corners = corners_of(&rt, rt.alloc(), &points)?;
-        assert_box(&rt, &points, outline_of(&rt, &corners));
+        let outline = outline_of(&rt, &corners);
+        assert_box(&rt, &points, outline);
+        assert_diameter(&rt, &points, outline);
+        for (dx, dy) in [
+            (1, 0),
+            (0, -1),
+            (3, 1),
+            (-2, 3),
+            (1099511627776, -1099511627776),
+        ] {
+            assert_width(&rt, &points, outline, Direction::new(dx, dy)?);
+        }
     }
     Ok(())
 }
@@ -375,6 +472,60 @@ fn small_sets(alloc: Global, most: u32, right: i64, up: i64) -> Result<Vec<Vec<P
     Ok(sets)
 }
 
+/// Where two sets meet they do.
+fn assert_meeting(rt: &impl Abort, one: &[Point], other: &[Point], meeting: Meeting) {
+    match meeting {
+        Meeting::OfOther(t) => {
+            assert!(rt;
+                other.contains(&t) && slow_covers(one, t),
+                "{one:?} and {other:?}"
+            );
+        }
+        Meeting::OfThis(s) => {
+            assert!(rt;
+                one.contains(&s) && slow_covers(other, s),
+                "{one:?} and {other:?}"
+            );
+        }
+        Meeting::Crossing(a, b, c, d) => {
+            assert!(rt;
+                one.contains(&a) && one.contains(&b),
+                "{one:?} and {other:?}"
+            );
+            assert!(rt;
+                other.contains(&c) && other.contains(&d),
+                "{one:?} and {other:?}"
+            );
+            assert!(rt; is_crossing(a, b, c, d), "{one:?} and {other:?}");
+        }
+    }
+}
+
+/// What shows how two sets stand to each other does show it.
+fn assert_shown(rt: &impl Abort, one: &[Point], other: &[Point], meet: bool, found: Witness) {
+    match found {
+        Witness::Apart(separation) => {
+            assert!(rt; !meet, "{one:?} and {other:?}");
+            assert_parts(rt, one, other, separation);
+        }
+        Witness::Meets(meeting) => assert_meeting(rt, one, other, meeting),
+    }
+}
+
+/// And where nothing is shown one of them is empty.
+fn assert_witness(
+    rt: &impl Abort,
+    one: &[Point],
+    other: &[Point],
+    meet: bool,
+    found: Option<Witness>,
+) {
+    match found {
+        None => assert!(rt; one.is_empty() || other.is_empty()),
+        Some(witness) => assert_shown(rt, one, other, meet, witness),
+    }
+}
+
 /// Each of the ones is answered with each of the others as by the definition, and the same the other way round.
 fn assert_meetings(
     rt: &impl Abort,
@@ -391,6 +542,8 @@ fn assert_meetings(
             let meet = slow_meet(&one_corners, &other_corners);
             assert_eq!(rt; outline.meets(&against), meet, "{one:?} and {other:?}");
             assert_eq!(rt; against.meets(&outline), meet, "{one:?} and {other:?}");
+            assert_witness(rt, one, other, meet, outline.witness(&against));
+            assert_witness(rt, other, one, meet, against.witness(&outline));
         }
     }
     Ok(())

@@ -1,6 +1,6 @@
 //! What a reply in numbers tells, in types of Rust. Both libraries tell by the same numbers.
-use crate::raw::{code, Reply};
-use crate::{Fault, Nearest, Place, Point, Separation};
+use crate::raw::{code, Reply, WitnessTold};
+use crate::{Fault, Nearest, Place, Point, Separation, Strip, Witness};
 
 /// How often a point is held that was added.
 pub(crate) fn times_added(reply: Reply) -> Result<u32, Fault> {
@@ -67,6 +67,32 @@ pub(crate) fn nearest(reply: Reply) -> Result<Option<Nearest>, Fault> {
 /// The least and the greatest point of a box.
 pub(crate) fn bounds(reply: Reply) -> Option<(Point, Point)> {
     (reply.code == code::BOX).then(|| (reply.point(), reply.other_point()))
+}
+
+/// Two corners.
+pub(crate) fn points(reply: Reply) -> Option<(Point, Point)> {
+    (reply.code == code::POINTS).then(|| (reply.point(), reply.other_point()))
+}
+
+pub(crate) fn width(reply: Reply) -> Result<Option<u128>, Fault> {
+    match reply.code {
+        code::EMPTY => Ok(None),
+        _ => number(reply).map(Some),
+    }
+}
+
+pub(crate) fn witness(told: WitnessTold) -> Option<Witness> {
+    match told.code {
+        code::COVERED => Some(Witness::Covered(told.a)),
+        code::WITHIN => Some(Witness::Within(told.a)),
+        code::CROSSING => Some(Witness::Crossing([told.a, told.b], [told.c, told.d])),
+        code::APART => Some(Witness::Apart(Separation { farthest: told.a, direction: told.b })),
+        _ => None,
+    }
+}
+
+pub(crate) fn strip(told: WitnessTold) -> Option<Strip> {
+    (told.code == code::EDGE).then_some(Strip { from: told.a, to: told.b, farthest: told.c })
 }
 
 /// A number that is told: of points, of corners, also where those have no room, or the doubled area.

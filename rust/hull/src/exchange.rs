@@ -66,6 +66,33 @@ impl Lattice {
     }
 }
 
+/// The direction in whole numbers of one in two floats. Both are multiplied by the power of two that takes the one greater in size
+/// to at least 2^39 and below 2^40. Where both are whole then, the direction is the very same; else each is rounded to the
+/// nearest, of two as near to the even one. Of (0, 0) it is (0, 0). [`Fault::OutOfRange`] where one is not finite.
+///
+/// ```
+/// # use hull::{direction_of, Point};
+/// let made = direction_of(0.5, -0.25)?;
+/// assert_eq!((made.point, made.is_exact), (Point { x: 1 << 39, y: -(1 << 38) }, true));
+/// # Ok::<(), hull::Fault>(())
+/// ```
+pub fn direction_of(dx: f64, dy: f64) -> Result<Rounded, Fault> {
+    let greatest = dx.abs().max(dy.abs());
+    if greatest == 0.0 || !greatest.is_finite() {
+        return Lattice { power: 0 }.point(dx, dy);
+    }
+    // a float too small for an exponent of its own gets one
+    let (normal, lifted) = if greatest < f64::MIN_POSITIVE { (greatest * 2f64.powi(64), 64) } else { (greatest, 0) };
+    let exponent = (normal.to_bits() >> 52) as i32 - 1023 - lifted;
+    Lattice { power: 39 - exponent }.point(dx, dy)
+}
+
+/// The direction in which a point is asked for: in that of (0, 0) the first one is.
+pub(crate) fn asked_along(dx: f64, dy: f64) -> Result<Point, Fault> {
+    let at = direction_of(dx, dy)?.point;
+    Ok(if at == (Point { x: 0, y: 0 }) { Point { x: -1, y: 0 } } else { at })
+}
+
 /// Corners as well-known text (OGC 06-103r4), which GEOS, PostGIS and QGIS read: `POLYGON EMPTY`, a `POINT`, a `LINESTRING`, or a
 /// `POLYGON` whose ring is closed and runs counterclockwise, as the corners do. Coordinates are divided by 2^`power`, and written
 /// with as few digits as tell the float from all others.

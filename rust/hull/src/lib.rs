@@ -27,8 +27,8 @@ use std::alloc::{alloc, dealloc, Layout};
 use std::fmt;
 use std::ptr::NonNull;
 
-pub use exchange::{wkt, Lattice, Rounded};
-pub use outline::{Nearest, Outline, Separation};
+pub use exchange::{direction_of, wkt, Lattice, Rounded};
+pub use outline::{Nearest, Outline, Separation, Strip, Witness};
 pub use raw::{Held, Point};
 pub use shared::{Limits, Seat, SharedHull, CAPACITY_LIMIT, SEAT_LIMIT};
 
@@ -211,6 +211,12 @@ impl Hull {
     /// The point that lies farthest in a direction, of several the first by x and then by y; `None` where there is none.
     pub fn extreme(&self, direction: Point) -> Result<Option<Point>, Fault> {
         answer::extreme(self.call(kind::EXTREME, direction))
+    }
+
+    /// The same in a direction of two floats, taken to whole numbers by [`direction_of`]; in the direction (0, 0) the first point
+    /// by x and then by y.
+    pub fn extreme_d(&self, dx: f64, dy: f64) -> Result<Option<Point>, Fault> {
+        self.extreme(exchange::asked_along(dx, dy)?)
     }
 
     /// How often a point is held: 0 where it is not there.

@@ -1,5 +1,6 @@
 //! The corners of a hull, which any number of threads ask at once.
 use crate::answer;
+use crate::exchange::asked_along;
 use crate::raw::{self, kind, Reply};
 use crate::{Fault, Place, Point, NOWHERE};
 use std::sync::Arc;
@@ -30,6 +31,31 @@ pub enum Nearest {
     Corner(Point),
     /// At its foot on the edge from one corner to the next, strictly between them.
     Edge(Point, Point),
+}
+
+/// A strip that holds an outline, between the line of an edge and its parallel through a corner farthest from it. Its width is the
+/// side of that corner, up to 84 bits, divided by the length of the edge.
+#[derive(Clone, Copy, Debug, PartialEq, Eq)]
+pub struct Strip {
+    /// The corner where the edge begins; the outline lies left of it.
+    pub from: Point,
+    /// The next corner.
+    pub to: Point,
+    /// A corner farthest from the edge.
+    pub farthest: Point,
+}
+
+/// What shows that two outlines meet, or that they are apart.
+#[derive(Clone, Copy, Debug, PartialEq, Eq)]
+pub enum Witness {
+    /// The first one covers this corner of the second.
+    Covered(Point),
+    /// The second covers this corner of the first.
+    Within(Point),
+    /// The segment between two corners of the first crosses the one between two corners of the second.
+    Crossing([Point; 2], [Point; 2]),
+    /// This parts the first from the second: each corner of that has a greater product with the direction than the farthest.
+    Apart(Separation),
 }
 
 impl Outline {
@@ -69,6 +95,12 @@ impl Outline {
         answer::extreme(self.ask(kind::EXTREME, direction))
     }
 
+    /// The same in a direction of two floats, taken to whole numbers by [`direction_of`](crate::direction_of); in the direction
+    /// (0, 0) the first point by x and then by y.
+    pub fn extreme_d(&self, dx: f64, dy: f64) -> Result<Option<Point>, Fault> {
+        self.extreme(asked_along(dx, dy)?)
+    }
+
     /// Twice the area, 0 for a point and a line.
     pub fn doubled_area(&self) -> u128 {
         let reply = self.ask(kind::AREA, NOWHERE);
@@ -102,5 +134,45 @@ impl Outline {
     pub fn bounding_box(&self) -> Option<(Point, Point)> {
         // SAFETY: the same.
         answer::bounds(unsafe { raw::hull_outline_box(self.corners.as_ptr(), self.corners.len()) })
+    }
+    /// How far the outline reaches in a direction: the greatest product of a corner with it less the least; `None` for an outline of
+    /// no corners. Divided by the length of the direction it is the width along it.
+    pub fn width_along(&self, direction: Point) -> Result<Option<u128>, Fault> {
+        // SAFETY: the same.
+        let told = unsafe { raw::hull_outline_width(self.corners.as_ptr(), self.corners.len(), direction.x, direction.y) };
+        answer::width(told)
+    }
+
+    /// The two corners that are farthest from one another; `None` for an outline of no corners.
+    pub fn diameter(&self) -> Option<(Point, Point)> {
+        // SAFETY: the same.
+        answer::points(unsafe { raw::hull_outline_diameter(self.corners.as_ptr(), self.corners.len()) })
+    }
+
+    /// Where the outline is least wide: no direction has a narrower strip; `None` where there are fewer than two corners.
+    pub fn least_width(&self) -> Option<Strip> {
+        // SAFETY: the same.
+        answer::strip(unsafe { raw::hull_outline_least_width(self.corners.as_ptr(), self.corners.len()) })
+    }
+
+    /// Whether the two outlines have a point in common, boundaries included.
+    pub fn meets(&self, other: &Outline) -> bool {
+        let (these, those) = (&self.corners, &other.corners);
+        // SAFETY: the same, of both.
+        unsafe { raw::hull_outline_meets(these.as_ptr(), these.len(), those.as_ptr(), those.len()) }.number == 1
+    }
+
+    /// Whether this outline covers whatever the other one covers.
+    pub fn contains(&self, other: &Outline) -> bool {
+        let (these, those) = (&self.corners, &other.corners);
+        // SAFETY: the same.
+        unsafe { raw::hull_outline_contains(these.as_ptr(), these.len(), those.as_ptr(), those.len()) }.number == 1
+    }
+
+    /// Where the two outlines meet, or what parts them; `None` where one of them has no corners.
+    pub fn witness(&self, other: &Outline) -> Option<Witness> {
+        let (these, those) = (&self.corners, &other.corners);
+        // SAFETY: the same.
+        answer::witness(unsafe { raw::hull_outline_witness(these.as_ptr(), these.len(), those.as_ptr(), those.len()) })
     }
 }

@@ -61,6 +61,17 @@ pub(crate) struct SeatReply {
     pub turn: u64,
 }
 
+/// What shows how outlines stand.
+#[repr(C)]
+#[derive(Clone, Copy)]
+pub(crate) struct WitnessTold {
+    pub code: u32,
+    pub a: Point,
+    pub b: Point,
+    pub c: Point,
+    pub d: Point,
+}
+
 /// The numbers of the codes.
 pub(crate) mod code {
     pub const OUT_OF_RANGE: u32 = 1;
@@ -89,6 +100,9 @@ pub(crate) mod code {
     pub const CORNER: u32 = 26;
     pub const EDGE: u32 = 27;
     pub const BOX: u32 = 28;
+    pub const WITHIN: u32 = 29;
+    pub const CROSSING: u32 = 30;
+    pub const POINTS: u32 = 31;
     pub const OPEN: u32 = 32;
     pub const OUT_OF_LIMITS: u32 = 33;
     pub const LENT: u32 = 35;
@@ -144,6 +158,17 @@ extern "C" {
     ) -> Reply;
     pub(crate) fn hull_outline_nearest(corners: *const Point, count: usize, x: i64, y: i64) -> Reply;
     pub(crate) fn hull_outline_box(corners: *const Point, count: usize) -> Reply;
+    pub(crate) fn hull_outline_width(corners: *const Point, count: usize, x: i64, y: i64) -> Reply;
+    pub(crate) fn hull_outline_diameter(corners: *const Point, count: usize) -> Reply;
+    pub(crate) fn hull_outline_least_width(corners: *const Point, count: usize) -> WitnessTold;
+    pub(crate) fn hull_outline_meets(corners: *const Point, count: usize, others: *const Point, other_count: usize) -> Reply;
+    pub(crate) fn hull_outline_contains(corners: *const Point, count: usize, others: *const Point, other_count: usize) -> Reply;
+    pub(crate) fn hull_outline_witness(
+        corners: *const Point,
+        count: usize,
+        others: *const Point,
+        other_count: usize,
+    ) -> WitnessTold;
     pub(crate) fn hull_load(hull: *mut u8, points: *const Point, count: usize) -> Reply;
     pub(crate) fn hull_held_from(hull: *mut u8, x: i64, y: i64, out: *mut Held, room: usize) -> Reply;
     pub(crate) fn hull_load_held(hull: *mut u8, held: *const Held, count: usize) -> Reply;

@@ -4,7 +4,7 @@ use Rattle.std.proofs.lemmas.Int.{ints}
 use Rattle.lattice.specs.Plane.{Pair, orient}
 use Rattle.lattice.specs.Signs.{le_or_lt}
 use Rattle.hull_plain.proofs.Orientation.{orient_other}
-use Rattle.hull_outline.proofs.Shields.{side_back, shielded_across, crossed}
+use Rattle.hull_outline.proofs.Shields.{side_back, shielded_across}
 use Rattle.hull_outline.proofs.Tests.{passed, failed}
 use Rattle.hull_outline.proofs.encounters.encounter_between.Goals as goal
 
@@ -59,10 +59,18 @@ returns-then-is_left-4 c = λ S f.
     (passed _ _ c.if-not-is_left-2.false c.is_left-else-not-is_left.ensures)
     (passed _ _ c.if-is_left-4.true c.is_left-else-is_left-3.ensures)
 
+pub meeting_between-requires-clause-left_of_it : goal.meeting_between-requires-clause-left_of_it
+meeting_between-requires-clause-left_of_it c = passed _ _ c.if-not-is_left.false c.is_left-else-is_left-2.ensures
+
+pub meeting_between-requires-clause-right_of_it : goal.meeting_between-requires-clause-right_of_it
+meeting_between-requires-clause-right_of_it c = passed _ _ c.if-not-is_left-2.false c.is_left-else-not-is_left.ensures
+
+pub meeting_between-requires-clause-start : goal.meeting_between-requires-clause-start
+meeting_between-requires-clause-start c = not_above _ (failed _ _ c.if-is_left-4.false c.is_left-else-is_left-3.ensures)
+
+pub meeting_between-requires-clause-end : goal.meeting_between-requires-clause-end
+meeting_between-requires-clause-end c =
+    not_above _ (failed _ _ c.if-is_left-3.false c.is_left-else-not-is_left-2.ensures)
+
 pub returns-else-is_left-4 : goal.returns-else-is_left-4
-returns-else-is_left-4 c = λ S f.
-    crossed S c.args.a c.args.b c.args.left c.args.right f.leftmost.0 f.rightmost.0
-    (passed _ _ c.if-not-is_left.false c.is_left-else-is_left-2.ensures)
-    (passed _ _ c.if-not-is_left-2.false c.is_left-else-not-is_left.ensures)
-    (not_above _ (failed _ _ c.if-is_left-3.false c.is_left-else-not-is_left-2.ensures))
-    (not_above _ (failed _ _ c.if-is_left-4.false c.is_left-else-is_left-3.ensures))
+returns-else-is_left-4 c = λ S f. c.meeting_between.ensures S f.leftmost.0 f.rightmost.0

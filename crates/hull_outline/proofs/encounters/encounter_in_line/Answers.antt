@@ -3,7 +3,6 @@ use Rattle.std.proofs.Common.{◌≡◌, pos, sym, ◌∙◌}
 use Rattle.lattice.specs.Covers.{OnSegment}
 use Rattle.lattice.specs.Plane.{Pair, orient}
 use Rattle.hull_plain.proofs.Orientation.{orient-cycle, orient_swap_zero}
-use Rattle.hull_outline.specs.Meetings.{IsReached}
 use Rattle.hull_outline.proofs.Shields.{among_on_segment, shielded_in_line, third_among, start_there, end_there}
 use Rattle.hull_outline.proofs.Tests.{passed, failed}
 use Rattle.hull_outline.proofs.encounters.encounter_in_line.Goals as goal
@@ -15,9 +14,11 @@ from_point a b u z = sym (orient-cycle a b u) ∙ z
 pub returns-then-is_among : goal.returns-then-is_among
 returns-then-is_among c = λ S m na nb z.
     let a = c.args.a in
-    let b = c.args.b in
-    IsReached c.args.u m (OnSegment a b (start_there a b) (end_there a b)
-    (among_on_segment a c.args.u b z (passed _ _ c.if-is_among.true c.is_among.ensures)))
+    let b = c.args.b in (
+      m,
+      OnSegment a b (start_there a b) (end_there a b)
+          (among_on_segment a c.args.u b z (passed _ _ c.if-is_among.true c.is_among.ensures)),
+    )
 
 pub returns-then-is_among-2 : goal.returns-then-is_among-2
 returns-then-is_among-2 c = λ S m na nb z.

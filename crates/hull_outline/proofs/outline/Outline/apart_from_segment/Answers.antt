@@ -2,6 +2,8 @@
 use Rattle.std.proofs.Common.{arith, inl, inr}
 use Rattle.hull_outline.proofs.Ends.{no_corners}
 use Rattle.hull_outline.proofs.Separated.{from_right, from_left, from_start, from_end}
+use Rattle.hull_outline.proofs.Witnessed.{meeting_meets}
+use Rattle.hull_outline.specs.Meetings.{segment}
 use Rattle.hull_outline.proofs.outline.Outline.apart_from_segment.Goals as goal
 
 pub returns-then-is_empty : goal.returns-then-is_empty
@@ -14,8 +16,9 @@ separation_from-requires-clause-outside c = λ S o. (c.in-Behind.ensures S o).0
 pub separation_from-requires-in-Beyond-clause-outside : goal.separation_from-requires-in-Beyond-clause-outside
 separation_from-requires-in-Beyond-clause-outside c = λ S o. (c.in-Beyond.ensures S o).0
 
-pub returns-in-Meeting : goal.returns-in-Meeting
-returns-in-Meeting c = λ S o. inr (c.in-Meeting.ensures S o)
+pub returns-in-Met : goal.returns-in-Met
+returns-in-Met c = λ S o.
+    inr (meeting_meets S (segment c.args.a c.args.b) c.in-Met.field-0 (c.in-Met.ensures S o))
 
 pub returns-in-OnRight : goal.returns-in-OnRight
 returns-in-OnRight c = λ S o.

@@ -2,18 +2,17 @@
 use Rattle.std.proofs.Common.{subst}
 use Rattle.lattice.specs.Plane.{Pair}
 use Rattle.lattice.specs.Places.{IsFarthest}
-use Rattle.hull_outline.specs.Meetings.{Reaches}
 use Rattle.hull_outline.proofs.Shields.{start_there, end_there}
 use Rattle.hull_outline.proofs.Tests.{passed, failed}
 use Rattle.hull_outline.proofs.outline.Outline.encounter.Goals as goal
 
 pub returns-then-covers : goal.returns-then-covers
 returns-then-covers c = λ S o.
-    Reaches c.args.a (start_there c.args.a c.args.b) (passed _ _ c.if-covers.true (c.covers.ensures S o))
+    (start_there c.args.a c.args.b, passed _ _ c.if-covers.true (c.covers.ensures S o))
 
 pub returns-then-covers-2 : goal.returns-then-covers-2
 returns-then-covers-2 c = λ S o.
-    Reaches c.args.b (end_there c.args.a c.args.b) (passed _ _ c.if-covers-2.true (c.covers-2.ensures S o))
+    (end_there c.args.a c.args.b, passed _ _ c.if-covers-2.true (c.covers-2.ensures S o))
 
 pub returns : goal.returns
 returns c = λ S o.

@@ -1,9 +1,9 @@
--- what is not a meeting is told apart by the segment's normal, or by whatever parts the nearer end
+-- what meets somewhere meets
 use Rattle.std.proofs.Common.{arith}
-use Rattle.hull_outline.proofs.Ends.{no_corners}
-use Rattle.hull_outline.proofs.Shields.{apart_empty, apart_behind, apart_beyond, parted_right, parts_turned}
 use Rattle.hull_outline.specs.Meetings.{segment}
-use Rattle.hull_outline.specs.Steps.{left_of}
+use Rattle.hull_outline.proofs.Ends.{no_corners}
+use Rattle.hull_outline.proofs.Shields.{apart_empty}
+use Rattle.hull_outline.proofs.Witnessed.{meeting_meets}
 use Rattle.hull_outline.proofs.outline.Outline.meets_segment.Goals as goal
 
 pub returns-then-is_empty : goal.returns-then-is_empty
@@ -11,18 +11,5 @@ returns-then-is_empty c = λ S o.
     apart_empty S (segment c.args.a c.args.b) (no_corners S c.args.self.now.corners.now o
     (grind (arith, c.is_empty.ensures, c.if-is_empty.true)))
 
-pub returns-in-OnRight : goal.returns-in-OnRight
-returns-in-OnRight c = λ S o.
-    let h = c.in-OnRight.ensures S o in
-    (left_of c.args.a c.args.b, parted_right S c.args.a c.args.b _ h.0 h.1)
-
-pub returns-in-OnLeft : goal.returns-in-OnLeft
-returns-in-OnLeft c = λ S o.
-    let h = c.in-OnLeft.ensures S o in
-    (left_of c.args.b c.args.a, parts_turned S _ c.args.a c.args.b (parted_right S c.args.b c.args.a _ h.0 h.1))
-
-pub returns-in-Behind : goal.returns-in-Behind
-returns-in-Behind c = λ S o. apart_behind S c.args.a c.args.b o.0 (c.in-Behind.ensures S o)
-
-pub returns-in-Beyond : goal.returns-in-Beyond
-returns-in-Beyond c = λ S o. apart_beyond S c.args.a c.args.b o.0 (c.in-Beyond.ensures S o)
+pub returns-in-Some : goal.returns-in-Some
+returns-in-Some c = λ S o. meeting_meets S (segment c.args.a c.args.b) c.in-Some.field-0 (c.in-Some.ensures S o)

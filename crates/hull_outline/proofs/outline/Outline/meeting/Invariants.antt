@@ -4,7 +4,7 @@ use Rattle.lattice.specs.Plane.{Pair}
 use Rattle.hull_outline.specs.Meetings.{IsApart, segment}
 use Rattle.hull_outline.specs.Outlines.{IsOutlineOf}
 use Rattle.hull_outline.specs.Rounds.{corner}
-use Rattle.hull_outline.proofs.outline.Outline.meets.Given as goal
+use Rattle.hull_outline.proofs.outline.Outline.meeting.Given as goal
 
 abbrev pub invariant-loop-i : goal.invariant-loop-i
 invariant-loop-i l =

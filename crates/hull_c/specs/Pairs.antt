@@ -1,0 +1,78 @@
+-- What asking an outline about another one comes to, or where it is least wide, in numbers.
+use Rattle.std.specs.Prelude.{◌≡◌, ◌⊎◌, ◌↔◌, ℕ, List, [], Bool, cond, IsTrue, Option, Some, None, MatchOption}
+use Rattle.lattice.specs.Plane.{Pair}
+use Rattle.hull_plain.specs.Positions.{origin}
+use Rattle.hull_outline.specs.Boxes.{Holds}
+use Rattle.hull_outline.specs.Extents.{IsLeastWidth, IsOnePoint}
+use Rattle.hull_outline.specs.Meetings.{TellsMeeting}
+use Rattle.hull_outline.specs.Outlines.{HoldsOfSetsOf}
+use Rattle.hull_outline.specs.Witnesses.{IsWitness}
+use Rattle.hull_outline.specs.declared.meetings.Meeting.TheVariants as meeting
+use Rattle.hull_outline.specs.declared.strips.Strip.{Strip}
+use Rattle.hull_outline.specs.declared.witnesses.Witness.{Witness}
+use Rattle.hull_outline.specs.declared.witnesses.Witness.TheVariants as witness
+use Rattle.hull_reply.specs.Told.{code_number, IsNumber}
+use Rattle.hull_reply.specs.declared.code.Code.TheVariants as code
+use Rattle.hull_reply.specs.declared.reply.HullReply.{HullReply}
+use Rattle.hull_c.specs.Findings.{finding_number}
+use Rattle.hull_c.specs.declared.findings.Finding.TheVariants as finding
+use Rattle.hull_c.specs.declared.pairs.HullWitness.{HullWitness}
+
+-- P holds of each set with the one corners and each with the others
+abbrev pub HoldsOfBoth : List Pair → List Pair → (List Pair → List Pair → Type 0) → Type 0
+HoldsOfBoth corners others P = HoldsOfSetsOf corners (λ S. HoldsOfSetsOf others (λ T. P S T))
+
+-- whether they meet: 1 or 0
+abbrev pub TellsMeets : List Pair → List Pair → HullReply → Type 0
+TellsMeets corners others told =
+    (meets : Bool) × IsNumber code.Number (cond meets 1 0) told
+    × HoldsOfBoth corners others (λ S T. TellsMeeting meets S T)
+
+-- whether the first covers whatever the second covers: 1 or 0
+abbrev pub TellsContains : List Pair → List Pair → HullReply → Type 0
+TellsContains corners others told =
+    (holds : Bool) × IsNumber code.Number (cond holds 1 0) told
+    × HoldsOfBoth corners others (λ S T. IsTrue holds ↔ Holds S T)
+
+-- a number of a code or a finding, with four points
+abbrev pub IsShown : ℕ → Pair → Pair → Pair → Pair → HullWitness → Type 0
+IsShown n a b c d w = w ≡ record {
+  code = n;
+  x = a.x;
+  y = a.y;
+  other_x = b.x;
+  other_y = b.y;
+  third_x = c.x;
+  third_y = c.y;
+  fourth_x = d.x;
+  fourth_y = d.y;
+}
+
+-- what shows how they stand to each other
+abbrev pub IsWitnessTold : Option Witness → HullWitness → Type 0
+IsWitnessTold None told = IsShown (code_number code.Empty) origin origin origin origin told
+IsWitnessTold (Some (witness.Meets (meeting.OfOther t))) told =
+    IsShown (finding_number finding.Covered) t origin origin origin told
+IsWitnessTold (Some (witness.Meets (meeting.OfThis s))) told =
+    IsShown (finding_number finding.Within) s origin origin origin told
+IsWitnessTold (Some (witness.Meets (meeting.Crossing a b c d))) told =
+    IsShown (finding_number finding.Crossing) a b c d told
+IsWitnessTold (Some (witness.Apart w)) told =
+    IsShown (finding_number finding.Apart) w.farthest w.direction origin origin told
+
+-- that is so of each two sets with these corners
+abbrev pub TellsWitness : List Pair → List Pair → HullWitness → Type 0
+TellsWitness corners others told =
+    (found : Option Witness) × IsWitnessTold found told
+    × HoldsOfBoth corners others (λ S T. MatchOption found ((S ≡ []) ⊎ (T ≡ [])) (λ w. IsWitness S T w))
+
+-- an edge and the point farthest from it, if there is an edge
+abbrev pub IsStripTold : Option Strip → HullWitness → Type 0
+IsStripTold None told = IsShown (code_number code.Empty) origin origin origin origin told
+IsStripTold (Some w) told = IsShown (finding_number finding.Edge) w.from w.to w.farthest origin told
+
+-- that is where each set with these corners is least wide
+abbrev pub TellsLeastWidth : List Pair → HullWitness → Type 0
+TellsLeastWidth corners told =
+    (found : Option Strip) × IsStripTold found told
+    × HoldsOfSetsOf corners (λ S. MatchOption found (IsOnePoint S) (λ w. IsLeastWidth S w))

@@ -1,0 +1,179 @@
+//! Two arrays of corners, and strips round one.
+ghost use Rattle.std.specs.Prelude.{◌≡◌, Some};
+ghost use Rattle.hull_plain.specs.Positions.{origin};
+ghost use Rattle.hull_outline.specs.Outlines.{IsShortOutline};
+ghost use Rattle.hull_outline.specs.declared.witnesses.Witness.TheVariants as witness;
+ghost use Rattle.hull_c.specs.Findings.{finding_number};
+ghost use Rattle.hull_c.specs.Pairs.{IsShown, IsStripTold, IsWitnessTold};
+ghost use Rattle.hull_c.specs.Pairs.{TellsContains, TellsLeastWidth, TellsMeets, TellsWitness};
+
+use super::findings::Finding;
+use hull_outline::{Meeting, Outline, Separation, Strip, Witness};
+use hull_reply::{Code, HullReply};
+use lattice::Point;
+
+/// What shows that two outlines meet, or that they are apart: the number of a code or a finding, and up to four points,
+/// as the header says at its name; all else is 0.
+#[repr(C)]
+#[derive(Clone, Copy)]
+pub struct HullWitness {
+    /// The number.
+    pub code: u32,
+    /// A point.
+    pub x: i64,
+    /// Its other coordinate.
+    pub y: i64,
+    /// A second point, or a direction.
+    pub other_x: i64,
+    /// Its other coordinate.
+    pub other_y: i64,
+    /// A third point.
+    pub third_x: i64,
+    /// Its other coordinate.
+    pub third_y: i64,
+    /// A fourth point.
+    pub fourth_x: i64,
+    /// Its other coordinate.
+    pub fourth_y: i64,
+}
+
+/// A number alone.
+fn bare(number: u32) -> HullWitness
+    ensures { IsShown number origin origin origin origin result }
+{
+    HullWitness {
+        code: number,
+        x: 0,
+        y: 0,
+        other_x: 0,
+        other_y: 0,
+        third_x: 0,
+        third_y: 0,
+        fourth_x: 0,
+        fourth_y: 0,
+    }
+}
+
+/// A finding with a point.
+fn at(finding: Finding, p: Point) -> HullWitness
+    ensures { IsShown (finding_number finding) p origin origin origin result }
+{
+    let mut shown = bare(finding.number());
+    shown.x = p.x();
+    shown.y = p.y();
+    shown
+}
+
+/// Two segments that cross.
+fn crossing(a: Point, b: Point, c: Point, d: Point) -> HullWitness
+    ensures { IsShown (finding_number Finding.Crossing) a b c d result }
+{
+    let mut shown = at(Finding::Crossing, a);
+    shown.other_x = b.x();
+    shown.other_y = b.y();
+    shown.third_x = c.x();
+    shown.third_y = c.y();
+    shown.fourth_x = d.x();
+    shown.fourth_y = d.y();
+    shown
+}
+
+/// Where two outlines meet.
+fn met(meeting: Meeting) -> HullWitness
+    ensures { IsWitnessTold (Some (witness.Meets meeting)) result }
+{
+    match meeting {
+        Meeting::OfOther(t) => at(Finding::Covered, t),
+        Meeting::OfThis(s) => at(Finding::Within, s),
+        Meeting::Crossing(a, b, c, d) => crossing(a, b, c, d),
+    }
+}
+
+/// What parts them.
+fn parted(found: Separation) -> HullWitness
+    ensures { IsWitnessTold (Some (witness.Apart found)) result }
+{
+    let mut shown = at(Finding::Apart, found.farthest);
+    shown.other_x = found.direction.x();
+    shown.other_y = found.direction.y();
+    shown
+}
+
+/// What was found.
+fn shown(found: Witness) -> HullWitness
+    ensures { IsWitnessTold (Some found) result }
+{
+    match found {
+        Witness::Meets(meeting) => met(meeting),
+        Witness::Apart(separation) => parted(separation),
+    }
+}
+
+/// What was found, if anything.
+fn shown_of(found: Option<Witness>) -> HullWitness
+    ensures { IsWitnessTold found result }
+{
+    match found {
+        None => bare(Code::Empty.number()),
+        Some(witness) => shown(witness),
+    }
+}
+
+/// What shows how two outlines stand to each other.
+pub(crate) fn witness(corners: &[Point], others: &[Point]) -> HullWitness
+    requires this { IsShortOutline corners.now }
+    requires that { IsShortOutline others.now }
+    ensures { TellsWitness corners.now others.now result }
+{
+    shown_of(Outline::of_vertices(corners).witness(&Outline::of_vertices(others)))
+}
+
+/// Whether two outlines meet.
+pub(crate) fn meets(corners: &[Point], others: &[Point]) -> HullReply
+    requires this { IsShortOutline corners.now }
+    requires that { IsShortOutline others.now }
+    ensures { TellsMeets corners.now others.now result }
+{
+    let meets = Outline::of_vertices(corners).meets(&Outline::of_vertices(others));
+    HullReply::numbered(Code::Number, u64::from(meets))
+}
+
+/// Whether the first outline holds the second.
+pub(crate) fn contains(corners: &[Point], others: &[Point]) -> HullReply
+    requires this { IsShortOutline corners.now }
+    requires that { IsShortOutline others.now }
+    ensures { TellsContains corners.now others.now result }
+{
+    let holds = Outline::of_vertices(corners).contains(&Outline::of_vertices(others));
+    HullReply::numbered(Code::Number, u64::from(holds))
+}
+
+/// The strip of an edge.
+fn strip(found: Strip) -> HullWitness
+    ensures { IsStripTold (Some found) result }
+{
+    let mut shown = at(Finding::Edge, found.from);
+    shown.other_x = found.to.x();
+    shown.other_y = found.to.y();
+    shown.third_x = found.farthest.x();
+    shown.third_y = found.farthest.y();
+    shown
+}
+
+/// A strip, if there is one.
+fn strip_of(found: Option<Strip>) -> HullWitness
+    ensures { IsStripTold found result }
+{
+    match found {
+        None => bare(Code::Empty.number()),
+        Some(thinnest) => strip(thinnest),
+    }
+}
+
+/// Where the corners are least wide.
+pub(crate) fn least_width(corners: &[Point]) -> HullWitness
+    requires { IsShortOutline corners.now }
+    ensures { TellsLeastWidth corners.now result }
+{
+    strip_of(Outline::of_vertices(corners).least_width())
+}

@@ -1,0 +1,332 @@
+-- Four vectors that do not go down, seen in a direction: the outermost on each side, and a vector that goes up.
+use Rattle.std.proofs.Common.{◌≡◌, ℤ, pos, ◌+ℤ◌, ◌*ℤ◌, ◌≤ℤ◌, ◌<ℤ◌, neg_ℤ, ◌⊎◌, inl, inr, refl, ap, ◌∙◌, arith}
+use Rattle.std.proofs.lemmas.Int.{ints}
+use Rattle.lattice.specs.Plane.{Pair, product}
+use Rattle.lattice.specs.Polynomials.{difference-eq, as_difference, difference-add, difference-neg, difference-mul}
+use Rattle.lattice.specs.Signs.{le_or_lt, product_nn, product_pp, cancel_zero}
+use Rattle.lattice.proofs.Vectors.{cross, cross_swap}
+
+-- ---- numbers
+
+-- of three numbers that sum to nothing, none below 0, the first is nothing
+pub first_of_three : (x y z : ℤ) → x +ℤ (y +ℤ z) ≡ pos 0 → pos 0 ≤ℤ x → pos 0 ≤ℤ y → pos 0 ≤ℤ z → x ≡ pos 0
+first_of_three x y z e hx hy hz = omega (arith, ints)
+
+-- and so is the second
+pub second_of_three : (x y z : ℤ) → x +ℤ (y +ℤ z) ≡ pos 0 → pos 0 ≤ℤ x → pos 0 ≤ℤ y → pos 0 ≤ℤ z → y ≡ pos 0
+second_of_three x y z e hx hy hz = omega (arith, ints)
+
+-- and so is the third
+pub third_of_three : (x y z : ℤ) → x +ℤ (y +ℤ z) ≡ pos 0 → pos 0 ≤ℤ x → pos 0 ≤ℤ y → pos 0 ≤ℤ z → z ≡ pos 0
+third_of_three x y z e hx hy hz = omega (arith, ints)
+
+-- a product with nothing
+nothing_times : (k z : ℤ) → k ≡ pos 0 → k *ℤ z ≡ pos 0
+nothing_times k z e = ap (λ (x : ℤ). x *ℤ z) e ∙ omega (arith, ints)
+
+-- three sums of products that are nothing, where only x can be below 0 or above it: it is not above
+no_more : (p q r s t cf ce x y z a b : ℤ) → q *ℤ y +ℤ (p *ℤ x +ℤ r *ℤ cf) ≡ pos 0
+    → r *ℤ z +ℤ (q *ℤ ce +ℤ s *ℤ x) ≡ pos 0 → t *ℤ cf +ℤ (q *ℤ b +ℤ p *ℤ a) ≡ pos 0
+    → pos 0 ≤ℤ p → pos 0 ≤ℤ q → pos 0 ≤ℤ r → pos 0 ≤ℤ s → pos 0 <ℤ t → pos 0 <ℤ cf → pos 0 <ℤ ce → pos 0 ≤ℤ y
+    → x ≤ℤ pos 0
+no_more p q r s t cf ce x y z a b e f g hp hq hr hs ht hcf hce hy = elim (le_or_lt x (pos 0)) [
+  | inl h ↦ h
+  | inr h ↦
+      let qy = product_nn q y hq hy in
+      let px = product_nn p x hp (weak _ h) in
+      let rc = product_nn r cf hr (weak _ hcf) in
+      let p-zero : p ≡ pos 0 = cancel_zero p x h (second_of_three _ _ _ e qy px rc) in
+      let r-zero : r ≡ pos 0 = cancel_zero r cf hcf (third_of_three _ _ _ e qy px rc) in
+      let rest : q *ℤ ce ≡ pos 0 = second_of_three (r *ℤ z) (q *ℤ ce) (s *ℤ x) f (none _ (nothing_times r z r-zero))
+      (product_nn q ce hq (weak _ hce)) (product_nn s x hs (weak _ h)) in
+      let q-zero : q ≡ pos 0 = cancel_zero q ce hce rest in
+      absurd (clash _ _ _ g (nothing_times q b q-zero) (nothing_times p a p-zero) (product_pp t cf ht hcf))
+]
+  where
+    weak : (x : ℤ) → pos 0 <ℤ x → pos 0 ≤ℤ x
+    weak x h = omega (arith, ints)
+
+    none : (x : ℤ) → x ≡ pos 0 → pos 0 ≤ℤ x
+    none x h = omega (arith, ints)
+
+    clash : (x y z : ℤ) → x +ℤ (y +ℤ z) ≡ pos 0 → y ≡ pos 0 → z ≡ pos 0 → pos 0 <ℤ x → ⊥
+    clash x y z e f g h = omega (arith, ints)
+
+-- ---- vectors
+
+-- the identity of three vectors, in a direction
+pub three : (d a b c : Pair)
+    → product d a *ℤ cross b c +ℤ (product d b *ℤ cross c a +ℤ product d c *ℤ cross a b) ≡ pos 0
+unfolding product
+three d a b c =
+    rw (
+      as_difference d.x,
+      as_difference d.y,
+      as_difference a.x,
+      as_difference a.y,
+      as_difference b.x,
+      as_difference b.y,
+      as_difference c.x,
+      as_difference c.y,
+      as_difference (pos 0),
+    ) (simp (difference-add, difference-neg, difference-mul) (difference-eq _ _ _ _ (omega arith)))
+
+-- the same in another order
+three_turned : (d a b c : Pair)
+    → product d a *ℤ cross b c +ℤ (product d c *ℤ cross a b +ℤ product d b *ℤ cross c a) ≡ pos 0
+three_turned d a b c =
+    turned (product d a *ℤ cross b c) (product d b *ℤ cross c a) (product d c *ℤ cross a b) (three d a b c)
+  where
+    turned : (x y z : ℤ) → x +ℤ (y +ℤ z) ≡ pos 0 → x +ℤ (z +ℤ y) ≡ pos 0
+    turned x y z e = omega (arith, ints)
+
+-- two vectors that do not go down in the direction d, the second to the right of the first
+pub record IsWedge (d left right : Pair) : Type 0 where
+  pub left_up : pos 0 ≤ℤ product d left
+  pub right_up : pos 0 ≤ℤ product d right
+  pub turns : pos 0 <ℤ cross right left
+
+-- a vector of a wedge that is not right of the left one of another: nor is it right of the right one
+left_of_both : (d w l r m s : Pair) → IsWedge d l r → IsWedge d m s → pos 0 <ℤ product d w → pos 0 ≤ℤ cross m l
+    → cross l s ≤ℤ pos 0
+left_of_both d w l r m s e f up h =
+    no_more (product d m) (product d s) (product d l) (product d r) (product d w) (cross s m) (cross r l) (cross l s)
+    (cross m l) (cross s r) (cross w s) (cross m w) (three d s m l) (three d l s r) (three d w s m) f.left_up
+    f.right_up e.left_up e.right_up up f.turns e.turns h
+
+-- the same on the other side
+right_of_both : (d w l r m s : Pair) → IsWedge d l r → IsWedge d m s → pos 0 <ℤ product d w → pos 0 ≤ℤ cross r s
+    → cross m r ≤ℤ pos 0
+right_of_both d w l r m s e f up h =
+    no_more (product d s) (product d m) (product d r) (product d l) (product d w) (cross s m) (cross r l) (cross m r)
+    (cross r s) (cross l m) (cross m w) (cross w s) (three_turned d m r s) (three_turned d r l m)
+    (three_turned d w s m) f.right_up f.left_up e.right_up e.left_up up f.turns e.turns h
+
+-- a vector that goes up is right of the left one of two, or left of the right one
+between_clash : (d w l r : Pair) → pos 0 ≤ℤ product d l → pos 0 ≤ℤ product d r → pos 0 <ℤ cross r l
+    → pos 0 <ℤ product d w → pos 0 ≤ℤ cross l w → pos 0 ≤ℤ cross w r → ⊥
+between_clash d w l r hl hr t up left right =
+    clash _ _ _ (three d w r l) (product_pp _ _ up t) (product_nn _ _ hr left) (product_nn _ _ hl right)
+  where
+    clash : (x y z : ℤ) → x +ℤ (y +ℤ z) ≡ pos 0 → pos 0 <ℤ x → pos 0 ≤ℤ y → pos 0 ≤ℤ z → ⊥
+    clash x y z e h k l = omega (arith, ints)
+
+-- the same of the left one of one wedge and the right one of another, where they are the outermost
+across_clash : (d w l r m s : Pair) → IsWedge d l r → IsWedge d m s → pos 0 <ℤ product d w → pos 0 ≤ℤ cross m l
+    → cross l s ≤ℤ pos 0 → pos 0 ≤ℤ cross l w → pos 0 ≤ℤ cross w s → ⊥
+across_clash d w l r m s e f up h k left right = elim (le_or_lt (pos 0) (cross l s)) [
+  | inr n ↦ between_clash d w l s e.left_up f.right_up (turned _ _ (cross_swap s l) n) up left right
+  | inl z ↦
+      let flat : cross l s ≡ pos 0 = both _ k z in
+      let level : product d l ≡ pos 0 = cancel_zero (product d l) (cross s m) f.turns
+      (third_of_three _ _ _ (three d s m l) (product_nn _ _ f.right_up h)
+      (none _ (times_nothing (product d m) _ flat)) (product_nn _ _ e.left_up (weak _ f.turns))) in
+      clash _ _ _ (three d w r l) (product_pp _ _ up e.turns) (product_nn _ _ e.right_up left)
+      (nothing_times _ (cross w r) level)
+]
+  where
+    turned : (x y : ℤ) → x ≡ neg_ℤ y → y <ℤ pos 0 → pos 0 <ℤ x
+    turned x y e h = omega (arith, ints)
+
+    both : (x : ℤ) → x ≤ℤ pos 0 → pos 0 ≤ℤ x → x ≡ pos 0
+    both x h k = omega (arith, ints)
+
+    weak : (x : ℤ) → pos 0 <ℤ x → pos 0 ≤ℤ x
+    weak x h = omega (arith, ints)
+
+    none : (x : ℤ) → x ≡ pos 0 → pos 0 ≤ℤ x
+    none x h = omega (arith, ints)
+
+    times_nothing : (k z : ℤ) → z ≡ pos 0 → k *ℤ z ≡ pos 0
+    times_nothing k z e = ap (λ (x : ℤ). k *ℤ x) e ∙ omega (arith, ints)
+
+    clash : (x y z : ℤ) → x +ℤ (y +ℤ z) ≡ pos 0 → pos 0 <ℤ x → pos 0 ≤ℤ y → z ≡ pos 0 → ⊥
+    clash x y z e h k l = omega (arith, ints)
+
+-- the two of a wedge lie right of e, or on it, and w lies right of it
+pub record IsLeftAxis (e left right w : Pair) : Type 0 where
+  pub beside : cross e w <ℤ pos 0
+  pub left_beside : cross e left ≤ℤ pos 0
+  pub right_beside : cross e right ≤ℤ pos 0
+
+-- they lie left of e, or on it, and w left of it
+pub record IsRightAxis (e left right w : Pair) : Type 0 where
+  pub beside : pos 0 <ℤ cross e w
+  pub left_beside : pos 0 ≤ℤ cross e left
+  pub right_beside : pos 0 ≤ℤ cross e right
+
+-- of two wedges and a vector that goes up, one of the four has the other wedge and the vector on one side
+pub axis_of : (d w l r m s : Pair) → IsWedge d l r → IsWedge d m s → pos 0 <ℤ product d w
+    → (IsLeftAxis l m s w ⊎ IsRightAxis r m s w) ⊎ (IsLeftAxis m l r w ⊎ IsRightAxis s l r w)
+axis_of d w l r m s e f up = elim (le_or_lt (cross l m) (pos 0)) [
+  | inl h ↦
+      let k : cross l s ≤ℤ pos 0 = left_of_both d w l r m s e f up (over _ _ (cross_swap m l) h) in
+      elim (le_or_lt (pos 0) (cross l w)) [
+        | inr n ↦ inl (inl (record { beside = n; left_beside = h; right_beside = k }))
+        | inl n ↦ elim (le_or_lt (pos 0) (cross r s)) [
+          | inl j ↦ first_right j (λ b. between_clash d w l r e.left_up e.right_up e.turns up n b)
+          | inr j ↦ second_right (over _ _ (cross_swap s r) (weak _ j))
+              (λ b. across_clash d w l r m s e f up (over _ _ (cross_swap m l) h) k n b)
+        ]
+      ]
+  | inr h ↦
+      let k : cross m r ≤ℤ pos 0 = left_of_both d w m s l r f e up (more _ h) in
+      let j : cross m l ≤ℤ pos 0 = under _ _ (cross_swap m l) h in
+      elim (le_or_lt (pos 0) (cross m w)) [
+        | inr n ↦ inr (inl (record { beside = n; left_beside = j; right_beside = k }))
+        | inl n ↦ elim (le_or_lt (pos 0) (cross r s)) [
+          | inl i ↦ first_right i (λ b. across_clash d w m s l r f e up (more _ h) k n b)
+          | inr i ↦ second_right (over _ _ (cross_swap s r) (weak _ i))
+              (λ b. between_clash d w m s f.left_up f.right_up f.turns up n b)
+        ]
+      ]
+]
+  where
+    over : (x y : ℤ) → x ≡ neg_ℤ y → y ≤ℤ pos 0 → pos 0 ≤ℤ x
+    over x y e h = omega (arith, ints)
+
+    under : (x y : ℤ) → x ≡ neg_ℤ y → pos 0 <ℤ y → x ≤ℤ pos 0
+    under x y e h = omega (arith, ints)
+
+    weak : (x : ℤ) → x <ℤ pos 0 → x ≤ℤ pos 0
+    weak x h = omega (arith, ints)
+
+    more : (x : ℤ) → pos 0 <ℤ x → pos 0 ≤ℤ x
+    more x h = omega (arith, ints)
+
+    turned : (x y : ℤ) → x ≡ neg_ℤ y → y ≤ℤ pos 0 → pos 0 ≤ℤ x
+    turned x y e h = omega (arith, ints)
+
+    first_right : pos 0 ≤ℤ cross r s → (pos 0 ≤ℤ cross w r → ⊥)
+        → (IsLeftAxis l m s w ⊎ IsRightAxis r m s w) ⊎ (IsLeftAxis m l r w ⊎ IsRightAxis s l r w)
+    first_right j n = elim (le_or_lt (cross r w) (pos 0)) [
+      | inl b ↦ absurd (n (turned _ _ (cross_swap w r) b))
+      | inr b ↦ inl (inr (record {
+        beside = b;
+        left_beside = over _ _ (cross_swap r m) (right_of_both d w l r m s e f up j);
+        right_beside = j;
+      }))
+    ]
+
+    second_right : pos 0 ≤ℤ cross s r → (pos 0 ≤ℤ cross w s → ⊥)
+        → (IsLeftAxis l m s w ⊎ IsRightAxis r m s w) ⊎ (IsLeftAxis m l r w ⊎ IsRightAxis s l r w)
+    second_right j n = elim (le_or_lt (cross s w) (pos 0)) [
+      | inl b ↦ absurd (n (turned _ _ (cross_swap w s) b))
+      | inr b ↦ inr (inr (record {
+        beside = b;
+        left_beside = over _ _ (cross_swap s l) (right_of_both d w m s l r f e up j);
+        right_beside = j;
+      }))
+    ]
+
+-- ---- the outermost of both wedges
+
+-- where the left one of the first wedge and the right one of the second are in line and the outermost, the first is level
+level_of : (d l r m s : Pair) → IsWedge d l r → IsWedge d m s → pos 0 ≤ℤ cross m l → cross l s ≡ pos 0
+    → product d l ≡ pos 0
+level_of d l r m s e f h flat =
+    cancel_zero (product d l) (cross s m) f.turns
+    (third_of_three _ _ _ (three d s m l) (product_nn _ _ f.right_up h) (none _ (times_nothing (product d m) _ flat))
+    (product_nn _ _ e.left_up (weak _ f.turns)))
+  where
+    weak : (x : ℤ) → pos 0 <ℤ x → pos 0 ≤ℤ x
+    weak x h = omega (arith, ints)
+
+    none : (x : ℤ) → x ≡ pos 0 → pos 0 ≤ℤ x
+    none x h = omega (arith, ints)
+
+    times_nothing : (k z : ℤ) → z ≡ pos 0 → k *ℤ z ≡ pos 0
+    times_nothing k z e = ap (λ (x : ℤ). k *ℤ x) e ∙ omega (arith, ints)
+
+-- g is the left one of two wedges that is farther left, h the right one that is farther right
+pub record IsSpan (d l r m s g h : Pair) : Type 0 where
+  pub left_one : ((g ≡ l) × (cross l m ≤ℤ pos 0) × (cross l s ≤ℤ pos 0))
+      ⊎ ((g ≡ m) × (cross m l ≤ℤ pos 0) × (cross m r ≤ℤ pos 0))
+  pub right_one : ((h ≡ r) × (pos 0 ≤ℤ cross r m) × (pos 0 ≤ℤ cross r s))
+      ⊎ ((h ≡ s) × (pos 0 ≤ℤ cross s l) × (pos 0 ≤ℤ cross s r))
+  pub left_up : pos 0 ≤ℤ product d g
+  pub right_up : pos 0 ≤ℤ product d h
+  pub turns : (pos 0 <ℤ cross h g) ⊎ (product d g ≡ pos 0)
+
+-- of two wedges there are such two
+pub span_of : (d w l r m s : Pair) → IsWedge d l r → IsWedge d m s → pos 0 <ℤ product d w
+    → (g : Pair) × (h : Pair) × IsSpan d l r m s g h
+span_of d w l r m s e f up = elim (le_or_lt (cross l m) (pos 0)) [
+  | inl a ↦
+      let k : cross l s ≤ℤ pos 0 = left_of_both d w l r m s e f up (over _ _ (cross_swap m l) a) in
+      elim (le_or_lt (pos 0) (cross r s)) [
+        | inl b ↦ (
+          l,
+          r,
+          record {
+            left_one = inl (refl, a, k);
+            right_one = inl (refl, over _ _ (cross_swap r m) (right_of_both d w l r m s e f up b), b);
+            left_up = e.left_up;
+            right_up = e.right_up;
+            turns = inl e.turns;
+          },
+        )
+        | inr b ↦ (
+          l,
+          s,
+          record {
+            left_one = inl (refl, a, k);
+            right_one =
+                let j : pos 0 ≤ℤ cross s r = over _ _ (cross_swap s r) (weak _ b) in
+                inr (refl, over _ _ (cross_swap s l) (right_of_both d w m s l r f e up j), j);
+            left_up = e.left_up;
+            right_up = f.right_up;
+            turns = told (cross s l) (over _ _ (cross_swap s l) k)
+                (λ z. level_of d l r m s e f (over _ _ (cross_swap m l) a) (none _ _ (cross_swap l s) z));
+          },
+        )
+      ]
+  | inr a ↦
+      let k : cross m r ≤ℤ pos 0 = left_of_both d w m s l r f e up (more _ a) in
+      let i : cross m l ≤ℤ pos 0 = under _ _ (cross_swap m l) a in
+      elim (le_or_lt (pos 0) (cross r s)) [
+        | inl b ↦ (
+          m,
+          r,
+          record {
+            left_one = inr (refl, i, k);
+            right_one = inl (refl, over _ _ (cross_swap r m) (right_of_both d w l r m s e f up b), b);
+            left_up = f.left_up;
+            right_up = e.right_up;
+            turns = told (cross r m) (over _ _ (cross_swap r m) k)
+                (λ z. level_of d m s l r f e (more _ a) (none _ _ (cross_swap m r) z));
+          },
+        )
+        | inr b ↦ (
+          m,
+          s,
+          record {
+            left_one = inr (refl, i, k);
+            right_one =
+                let j : pos 0 ≤ℤ cross s r = over _ _ (cross_swap s r) (weak _ b) in
+                inr (refl, over _ _ (cross_swap s l) (right_of_both d w m s l r f e up j), j);
+            left_up = f.left_up;
+            right_up = f.right_up;
+            turns = inl f.turns;
+          },
+        )
+      ]
+]
+  where
+    over : (x y : ℤ) → x ≡ neg_ℤ y → y ≤ℤ pos 0 → pos 0 ≤ℤ x
+    over x y e h = omega (arith, ints)
+
+    under : (x y : ℤ) → x ≡ neg_ℤ y → pos 0 <ℤ y → x ≤ℤ pos 0
+    under x y e h = omega (arith, ints)
+
+    weak : (x : ℤ) → x <ℤ pos 0 → x ≤ℤ pos 0
+    weak x h = omega (arith, ints)
+
+    more : (x : ℤ) → pos 0 <ℤ x → pos 0 ≤ℤ x
+    more x h = omega (arith, ints)
+
+    none : (x y : ℤ) → x ≡ neg_ℤ y → y ≡ pos 0 → x ≡ pos 0
+    none x y e h = omega (arith, ints)
+
+    told : {P : Type 0} (x : ℤ) → pos 0 ≤ℤ x → (x ≡ pos 0 → P) → (pos 0 <ℤ x) ⊎ P
+    told x h f = elim (le_or_lt x (pos 0)) [ inr k ↦ inl k | inl k ↦ inr (f (omega (arith, ints))) ]

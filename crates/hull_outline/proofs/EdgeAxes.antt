@@ -1,0 +1,290 @@
+-- Two sets of three corners or more that a direction parts: an edge of one of them has the other on its right.
+use Rattle.std.proofs.Common.{◌≡◌, ℕ, ◌+◌, ◌<◌, ℤ, pos, ◌-ℤ◌, ◌≤ℤ◌, ◌<ℤ◌, neg_ℤ, ◌⊎◌, inl, inr, sym, subst, List, length}
+use Rattle.std.proofs.Common.{arith}
+use Rattle.std.specs.List.{Contains}
+use Rattle.std.proofs.lemmas.Int.{ints}
+use Rattle.std.proofs.lemmas.List.Elements.{All-contains}
+use Rattle.lattice.specs.Plane.{Pair, orient, product}
+use Rattle.lattice.specs.Polynomials.{difference-eq, as_difference, difference-add, difference-neg, difference-mul}
+use Rattle.lattice.specs.Vertices.{IsLeftOf}
+use Rattle.lattice.proofs.Vectors.{minus, opp, cross}
+use Rattle.hull_plain.specs.Tangents.{IsFirstFarthest}
+use Rattle.hull_outline.specs.Meetings.{IsApart}
+use Rattle.hull_outline.specs.Nearest.{previous}
+use Rattle.hull_outline.specs.Outlines.{IsOutlineOf}
+use Rattle.hull_outline.specs.Rounds.{corner, IsParted}
+use Rattle.hull_outline.specs.Steps.{left_of}
+use Rattle.hull_outline.proofs.Axes.{IsWedge, IsLeftAxis, IsRightAxis, axis_of}
+use Rattle.hull_outline.proofs.Cones.{no_farther_in_cone}
+use Rattle.hull_outline.proofs.Corners.{corner_extreme, next_left}
+use Rattle.hull_outline.proofs.NearestOf.{left_before, previous_at, turn_at}
+use Rattle.hull_outline.proofs.Shields.{product_left}
+use Rattle.hull_outline.proofs.Sides.{side_more}
+use Rattle.hull_outline.proofs.Turns.{farthest_corner, placed}
+
+-- ---- identities
+
+-- how far a step goes in a direction
+pub product_minus : (d p q : Pair) → product d (minus p q) ≡ product d p -ℤ product d q
+unfolding product
+product_minus d p q =
+    rw (as_difference d.x, as_difference d.y, as_difference p.x, as_difference p.y, as_difference q.x, as_difference q.y)
+    (simp (difference-add, difference-neg, difference-mul) (difference-eq _ _ _ _ (omega arith)))
+
+-- and in the direction backwards
+product_minus_back : (d p q : Pair) → product d (minus p q) ≡ product (opp d) q -ℤ product (opp d) p
+unfolding product
+product_minus_back d p q =
+    rw (as_difference d.x, as_difference d.y, as_difference p.x, as_difference p.y, as_difference q.x, as_difference q.y)
+    (simp (difference-add, difference-neg, difference-mul) (difference-eq _ _ _ _ (omega arith)))
+
+-- a turn, by the steps from its corner back
+turn_back : (p c n : Pair) → orient p c n ≡ cross (minus c n) (minus c p)
+unfolding orient
+turn_back p c n =
+    rw (as_difference p.x, as_difference p.y, as_difference c.x, as_difference c.y, as_difference n.x, as_difference n.y)
+    (simp (difference-add, difference-neg, difference-mul) (difference-eq _ _ _ _ (omega arith)))
+
+-- and by those from its corner
+turn_from : (p c n : Pair) → orient p c n ≡ cross (minus n c) (minus p c)
+unfolding orient
+turn_from p c n =
+    rw (as_difference p.x, as_difference p.y, as_difference c.x, as_difference c.y, as_difference n.x, as_difference n.y)
+    (simp (difference-add, difference-neg, difference-mul) (difference-eq _ _ _ _ (omega arith)))
+
+-- the side of a point at the line from p to c, by the steps to c and from there
+pub side_on : (p c v : Pair) → orient p c v ≡ cross (minus c p) (minus v c)
+unfolding orient
+side_on p c v =
+    rw (as_difference p.x, as_difference p.y, as_difference c.x, as_difference c.y, as_difference v.x, as_difference v.y)
+    (simp (difference-add, difference-neg, difference-mul) (difference-eq _ _ _ _ (omega arith)))
+
+-- the side of a point at the line from c to n, by the steps from n to c and from c
+pub side_off : (c n v : Pair) → orient c n v ≡ neg_ℤ (cross (minus c n) (minus v c))
+unfolding orient
+side_off c n v =
+    rw (as_difference c.x, as_difference c.y, as_difference n.x, as_difference n.y, as_difference v.x, as_difference v.y)
+    (simp (difference-add, difference-neg, difference-mul) (difference-eq _ _ _ _ (omega arith)))
+
+-- the side of one point less that of another, by the step from n to c
+pub side_off_more : (c n v t : Pair) → orient c n t -ℤ orient c n v ≡ neg_ℤ (cross (minus c n) (minus t v))
+unfolding orient
+side_off_more c n v t =
+    rw (
+      as_difference c.x,
+      as_difference c.y,
+      as_difference n.x,
+      as_difference n.y,
+      as_difference v.x,
+      as_difference v.y,
+      as_difference t.x,
+      as_difference t.y,
+    ) (simp (difference-add, difference-neg, difference-mul) (difference-eq _ _ _ _ (omega arith)))
+
+-- both steps backwards
+pub both_back : (a b c d : Pair) → cross (minus a b) (minus c d) ≡ cross (minus b a) (minus d c)
+both_back a b c d =
+    rw (
+      as_difference a.x,
+      as_difference a.y,
+      as_difference b.x,
+      as_difference b.y,
+      as_difference c.x,
+      as_difference c.y,
+      as_difference d.x,
+      as_difference d.y,
+    ) (simp (difference-add, difference-neg, difference-mul) (difference-eq _ _ _ _ (omega arith)))
+
+-- ---- a corner and the edges at it
+
+-- all of T lies left of the edges from p to v and from v to n, which turn left
+pub record IsBend (T : List Pair) (p v n : Pair) : Type 0 where
+  pub turns : pos 0 <ℤ orient p v n
+  pub to : IsLeftOf T p v
+  pub from : IsLeftOf T v n
+
+-- the corners beside v lie no farther to the left of a line than v: so does all of T
+pub bend_at_most : (T : List Pair) (a b p v n : Pair) → IsBend T p v n
+    → (orient a b p -ℤ orient a b v) ≤ℤ pos 0 → (orient a b n -ℤ orient a b v) ≤ℤ pos 0
+    → (t : Pair) → Contains T t → orient a b t ≤ℤ orient a b v
+bend_at_most T a b p v n h hp hn t m =
+    let f : Pair → ℤ = product (left_of a b) in
+    at_most (f t) (f v) (f a) _ _ (product_left a b t) (product_left a b v)
+    (no_farther_in_cone (left_of a b) p v n t h.turns (All-contains (λ u. pos 0 ≤ℤ orient p v u) T t h.to m)
+    (All-contains (λ u. pos 0 ≤ℤ orient v n u) T t h.from m)
+    (same (f n) (f v) (f a) _ _ (product_left a b n) (product_left a b v) hn)
+    (same (f p) (f v) (f a) _ _ (product_left a b p) (product_left a b v) hp))
+  where
+    at_most : (x y z u w : ℤ) → x -ℤ z ≡ u → y -ℤ z ≡ w → (x -ℤ y) ≤ℤ pos 0 → u ≤ℤ w
+    at_most x y z u w e f h = omega (arith, ints)
+
+    same : (x y z u w : ℤ) → x -ℤ z ≡ u → y -ℤ z ≡ w → (u -ℤ w) ≤ℤ pos 0 → (x -ℤ y) ≤ℤ pos 0
+    same x y z u w e f h = omega (arith, ints)
+
+-- where v lies right of the line, all of T does
+bend_right : (T : List Pair) (a b p v n : Pair) → IsBend T p v n → orient a b v <ℤ pos 0
+    → (orient a b p -ℤ orient a b v) ≤ℤ pos 0 → (orient a b n -ℤ orient a b v) ≤ℤ pos 0
+    → (t : Pair) → Contains T t → orient a b t <ℤ pos 0
+bend_right T a b p v n h k hp hn t m = less _ _ (bend_at_most T a b p v n h hp hn t m) k
+  where
+    less : (x y : ℤ) → x ≤ℤ y → y <ℤ pos 0 → x <ℤ pos 0
+    less x y h k = omega (arith, ints)
+
+-- the edge to c has T on its right, where the bend and v are right of it
+right_of_edge_to : (T : List Pair) (b c p v n : Pair) → IsBend T p v n
+    → IsLeftAxis (minus c b) (minus p v) (minus n v) (minus v c) → (t : Pair) → Contains T t → orient b c t <ℤ pos 0
+right_of_edge_to T b c p v n h a =
+    bend_right T b c p v n h (below _ _ (side_on b c v) a.beside)
+    (no_more _ _ (side_more b c v p) a.left_beside) (no_more _ _ (side_more b c v n) a.right_beside)
+  where
+    below : (x y : ℤ) → x ≡ y → y <ℤ pos 0 → x <ℤ pos 0
+    below x y e h = omega (arith, ints)
+
+    no_more : (x y : ℤ) → x ≡ y → y ≤ℤ pos 0 → x ≤ℤ pos 0
+    no_more x y e h = omega (arith, ints)
+
+-- and so has the edge from c
+right_of_edge_from : (T : List Pair) (c d p v n : Pair) → IsBend T p v n
+    → IsRightAxis (minus c d) (minus p v) (minus n v) (minus v c) → (t : Pair) → Contains T t → orient c d t <ℤ pos 0
+right_of_edge_from T c d p v n h a =
+    bend_right T c d p v n h (below _ _ (side_off c d v) a.beside)
+    (no_more _ _ (side_off_more c d v p) a.left_beside) (no_more _ _ (side_off_more c d v n) a.right_beside)
+  where
+    below : (x y : ℤ) → x ≡ neg_ℤ y → pos 0 <ℤ y → x <ℤ pos 0
+    below x y e h = omega (arith, ints)
+
+    no_more : (x y : ℤ) → x ≡ neg_ℤ y → pos 0 ≤ℤ y → x ≤ℤ pos 0
+    no_more x y e h = omega (arith, ints)
+
+-- the axis seen from the other set: all steps backwards
+left_axis_back : (p v b d c : Pair) → IsLeftAxis (minus p v) (minus c b) (minus c d) (minus v c)
+    → IsLeftAxis (minus v p) (minus b c) (minus d c) (minus c v)
+left_axis_back p v b d c a = record {
+  beside = rw (both_back v p c v) a.beside;
+  left_beside = rw (both_back v p b c) a.left_beside;
+  right_beside = rw (both_back v p d c) a.right_beside;
+}
+
+-- and the same on the right
+right_axis_back : (n v b d c : Pair) → IsRightAxis (minus n v) (minus c b) (minus c d) (minus v c)
+    → IsRightAxis (minus v n) (minus b c) (minus d c) (minus c v)
+right_axis_back n v b d c a = record {
+  beside = rw (both_back v n c v) a.beside;
+  left_beside = rw (both_back v n b c) a.left_beside;
+  right_beside = rw (both_back v n d c) a.right_beside;
+}
+
+-- ---- the corners farthest in a direction
+
+-- a corner of a set, and those beside it
+abbrev pub IsBendAt : List Pair → List Pair → ℕ → Type 0
+IsBendAt S V j = IsBend S (previous V j) (corner V j) (corner V (j + 1))
+
+-- three corners or more bend at each
+pub bend_at : (S V : List Pair) (last j : ℕ) → IsOutlineOf S V → IsParted V last → 2 < length V → j < length V
+    → IsBendAt S V j
+bend_at S V last j o p many l = record {
+  turns = turn_at S V j o.1 l many;
+  to = left_before S V j o.1 l;
+  from = next_left S V j (j + 1) o.1 (omega arith) l;
+}
+
+-- in each direction a corner is farthest, that has a place in the list
+pub top_of : (S V : List Pair) (last : ℕ) (d : Pair) → IsOutlineOf S V → IsParted V last → 0 < length V
+    → (j : ℕ) × (j < length V) × IsFirstFarthest S d (corner V j)
+top_of S V last d o p n =
+    let r = farthest_corner S V last d o p n in
+    let j = placed V r.0 n in
+    (j.0, j.1, subst (IsFirstFarthest S d) j.2 r.1)
+
+-- the steps to a farthest corner from those beside it do not go down
+pub wedge_to : (S V : List Pair) (d : Pair) (j : ℕ) → IsOutlineOf S V → j < length V → IsBendAt S V j
+    → IsFirstFarthest S d (corner V j)
+    → IsWedge d (minus (corner V j) (previous V j)) (minus (corner V j) (corner V (j + 1)))
+wedge_to S V d j o l h f =
+    let b = previous_at V j l in
+    record {
+      left_up = up _ _ _ (product_minus d (corner V j) (previous V j))
+          (All-contains (λ t. product d t ≤ℤ product d (corner V j)) S (previous V j) f.1
+          (subst (Contains S) (sym b.3) (corner_extreme S V b.0 o.1 (omega (arith, l))).0));
+      right_up = up _ _ _ (product_minus d (corner V j) (corner V (j + 1)))
+          (All-contains (λ t. product d t ≤ℤ product d (corner V j)) S (corner V (j + 1)) f.1
+          (corner_extreme S V (j + 1) o.1 (omega (arith, l))).0);
+      turns = rw (← (turn_back (previous V j) (corner V j) (corner V (j + 1)))) h.turns;
+    }
+  where
+    up : (x y z : ℤ) → x ≡ y -ℤ z → z ≤ℤ y → pos 0 ≤ℤ x
+    up x y z e h = omega (arith, ints)
+
+-- the steps from a corner that is farthest backwards do not go down
+pub wedge_from : (T W : List Pair) (d : Pair) (j : ℕ) → IsOutlineOf T W → j < length W → IsBendAt T W j
+    → IsFirstFarthest T (opp d) (corner W j)
+    → IsWedge d (minus (previous W j) (corner W j)) (minus (corner W (j + 1)) (corner W j))
+wedge_from T W d j o l h f =
+    let b = previous_at W j l in
+    record {
+      left_up = up _ _ _ (product_minus_back d (previous W j) (corner W j))
+          (All-contains (λ t. product (opp d) t ≤ℤ product (opp d) (corner W j)) T (previous W j) f.1
+          (subst (Contains T) (sym b.3) (corner_extreme T W b.0 o.1 (omega (arith, l))).0));
+      right_up = up _ _ _ (product_minus_back d (corner W (j + 1)) (corner W j))
+          (All-contains (λ t. product (opp d) t ≤ℤ product (opp d) (corner W j)) T (corner W (j + 1)) f.1
+          (corner_extreme T W (j + 1) o.1 (omega (arith, l))).0);
+      turns = rw (← (turn_from (previous W j) (corner W j) (corner W (j + 1)))) h.turns;
+    }
+  where
+    up : (x y z : ℤ) → x ≡ y -ℤ z → z ≤ℤ y → pos 0 ≤ℤ x
+    up x y z e h = omega (arith, ints)
+
+-- ---- an edge that parts
+
+-- the edge from the corner at i has all of T on its right
+abbrev pub IsBesideEdge : List Pair → List Pair → ℕ → Type 0
+IsBesideEdge V T i = (t : Pair) → Contains T t → orient (corner V i) (corner V (i + 1)) t <ℤ pos 0
+
+-- some edge of V has
+abbrev pub IsBesideSome : List Pair → List Pair → Type 0
+IsBesideSome V T = (i : ℕ) × (i < length V) × IsBesideEdge V T i
+
+-- the edge to a corner is one of the list
+edge_to : (V T : List Pair) (j : ℕ) → j < length V
+    → ((t : Pair) → Contains T t → orient (previous V j) (corner V j) t <ℤ pos 0) → IsBesideSome V T
+edge_to V T j l h =
+    let b = previous_at V j l in (
+      b.0,
+      b.1,
+      λ t m. subst (λ (z : Pair). orient (corner V b.0) z t <ℤ pos 0) (sym b.4)
+          (subst (λ (z : Pair). orient z (corner V j) t <ℤ pos 0) b.3 (h t m)),
+    )
+
+-- where a direction parts S from T, some edge of S has T on its right, or some edge of T has S there
+pub edge_parts : (S V T W : List Pair) (last end : ℕ) → IsOutlineOf S V → IsParted V last → IsOutlineOf T W
+    → IsParted W end → 2 < length V → 2 < length W → IsApart S T → IsBesideSome V T ⊎ IsBesideSome W S
+edge_parts S V T W last end o p q r many more (d, h) =
+    let a = top_of S V last d o p (omega (arith, many)) in
+    let b = top_of T W end (opp d) q r (omega (arith, more)) in
+    let f = bend_at S V last a.0 o p many a.1 in
+    let g = bend_at T W end b.0 q r more b.1 in
+    elim (axis_of d (minus (corner W b.0) (corner V a.0)) (minus (corner V a.0) (previous V a.0))
+    (minus (corner V a.0) (corner V (a.0 + 1))) (minus (previous W b.0) (corner W b.0))
+    (minus (corner W (b.0 + 1)) (corner W b.0)) (wedge_to S V d a.0 o a.1 f a.2) (wedge_from T W d b.0 q b.1 g b.2)
+    (up _ _ _ (product_minus d (corner W b.0) (corner V a.0)) (h (corner V a.0) (corner W b.0) a.2.0 b.2.0))) [
+      | inl (inl x) ↦ inl (edge_to V T a.0 a.1
+          (right_of_edge_to T (previous V a.0) (corner V a.0) (previous W b.0) (corner W b.0) (corner W (b.0 + 1)) g x))
+      | inl (inr x) ↦ inl (
+        a.0,
+        a.1,
+        right_of_edge_from T (corner V a.0) (corner V (a.0 + 1)) (previous W b.0) (corner W b.0) (corner W (b.0 + 1)) g x,
+      )
+      | inr (inl x) ↦ inr (edge_to W S b.0 b.1
+          (right_of_edge_to S (previous W b.0) (corner W b.0) (previous V a.0) (corner V a.0) (corner V (a.0 + 1)) f
+          (left_axis_back (previous W b.0) (corner W b.0) (previous V a.0) (corner V (a.0 + 1)) (corner V a.0) x)))
+      | inr (inr x) ↦ inr (
+        b.0,
+        b.1,
+        right_of_edge_from S (corner W b.0) (corner W (b.0 + 1)) (previous V a.0) (corner V a.0) (corner V (a.0 + 1)) f
+            (right_axis_back (corner W (b.0 + 1)) (corner W b.0) (previous V a.0) (corner V (a.0 + 1)) (corner V a.0) x),
+      )
+    ]
+  where
+    up : (x y z : ℤ) → x ≡ y -ℤ z → z <ℤ y → pos 0 <ℤ x
+    up x y z e h = omega (arith, ints)

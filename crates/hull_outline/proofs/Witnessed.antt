@@ -1,0 +1,147 @@
+-- Meetings and separations of two sets.
+use Rattle.std.proofs.Common.{◌≡◌, ℕ, ◌≤◌, ◌<◌, ℤ, pos, ◌-ℤ◌, ◌≤ℤ◌, ◌<ℤ◌, neg_ℤ, ◌⊎◌, inl, inr, sym, subst, List, [], length}
+use Rattle.std.proofs.Common.{arith}
+use Rattle.std.specs.List.{Contains}
+use Rattle.std.proofs.lemmas.Int.{ints}
+use Rattle.std.proofs.lemmas.List.Elements.{All-contains}
+use Rattle.lattice.specs.Plane.{Pair, orient, product}
+use Rattle.lattice.specs.Vertices.{IsLeftOf}
+use Rattle.lattice.proofs.Vectors.{opp}
+use Rattle.hull_plain.specs.Tangents.{IsFirstFarthest}
+use Rattle.hull_plain.proofs.Orientation.{orient_other}
+use Rattle.hull_outline.specs.Meetings.{IsApart, Meets, Reaches, IsReached, Crosses, segment}
+use Rattle.hull_outline.specs.Outlines.{IsOutlineOf}
+use Rattle.hull_outline.specs.Rounds.{corner, IsParted}
+use Rattle.hull_outline.specs.Separations.{HasOnLeft, IsSeparation}
+use Rattle.hull_outline.specs.Steps.{left_of, backward}
+use Rattle.hull_outline.specs.Witnesses.{IsMeeting}
+use Rattle.hull_outline.specs.declared.meetings.Meeting.{Meeting}
+use Rattle.hull_outline.specs.declared.meetings.Meeting.TheVariants.{OfOther, OfThis, Crossing}
+use Rattle.hull_outline.specs.declared.separations.Separation.{Separation}
+use Rattle.hull_outline.proofs.Corners.{corner_extreme}
+use Rattle.hull_outline.proofs.EdgeAxes.{IsBesideSome, edge_parts}
+use Rattle.hull_outline.proofs.EdgesOf.{all_of}
+use Rattle.hull_outline.proofs.Parted.{product_opp, farther_back, never_both}
+use Rattle.hull_outline.proofs.Separated.{apart_by}
+use Rattle.hull_outline.proofs.Shields.{product_left, one_of_two, start_there, end_there}
+use Rattle.hull_outline.proofs.Together.{covers_more, few_beyond}
+
+-- what meets somewhere meets
+pub meeting_meets : (S T : List Pair) (m : Meeting) → IsMeeting S T m → Meets S T
+meeting_meets S T (OfOther t) h = Reaches t h.0 h.1
+meeting_meets S T (OfThis s) h = IsReached s h.0 h.1
+meeting_meets S T (Crossing a b c d) h = Crosses a b c d h.0 h.1 h.2 h.3 h.4
+
+-- what meets a part somewhere meets the whole there
+pub meeting_more : (S T U : List Pair) (m : Meeting) → ((t : Pair) → Contains T t → Contains U t) → IsMeeting S T m
+    → IsMeeting S U m
+meeting_more S T U (OfOther t) f h = (f t h.0, h.1)
+meeting_more S T U (OfThis s) f h = (h.0, covers_more T U s f h.1)
+meeting_more S T U (Crossing a b c d) f h = (h.0, h.1, f c h.2, f d h.3, h.4)
+
+-- what is apart from the whole is apart from a part
+pub apart_less : (S T U : List Pair) → ((t : Pair) → Contains U t → Contains T t) → IsApart S T → IsApart S U
+apart_less S T U f (d, h) = (d, λ s t ms mt. h s t ms (f t mt))
+
+-- backwards, S and T change places
+pub apart_turned : (S T : List Pair) → IsApart S T → IsApart T S
+apart_turned S T (d, h) = (opp d, λ t s mt ms. farther_back d s t (h s t ms mt))
+
+-- the ends of one corner or two are points of the set
+pub ends_there : (T W : List Pair) (t : Pair) → IsOutlineOf T W → 0 < length W
+    → Contains (segment (corner W 0) (corner W 1)) t → Contains T t
+ends_there T W t o n m = elim (one_of_two (corner W 0) (corner W 1) t m) [
+  | inl e ↦ subst (Contains T) (sym e) (corner_extreme T W 0 o.1 n).0
+  | inr e ↦ subst (Contains T) (sym e) (corner_extreme T W 1 o.1 n).0
+]
+
+-- a set with a corner is neither empty nor both meets and is apart
+pub not_met : (S V T W : List Pair) → IsOutlineOf S V → 0 < length V → IsOutlineOf T W → 0 < length W → IsApart S T
+    → (S ≡ []) ⊎ Meets S (segment (corner W 0) (corner W 1)) → ⊥
+not_met S V T W o n q m a (inl e) =
+    let k = subst (λ (z : List Pair). Contains z (corner V 0)) e (corner_extreme S V 0 o.1 n).0 in omega (arith, k.1)
+not_met S V T W o n q m a (inr h) =
+    never_both S (segment (corner W 0) (corner W 1)) h
+    (apart_less S T (segment (corner W 0) (corner W 1)) (λ t k. ends_there T W t q m k) a)
+
+-- what parts S from one corner or two parts it from the set of these
+pub separation_few : (S T W : List Pair) (last : ℕ) (w : Separation) → IsOutlineOf T W → IsParted W last → 0 < length W
+    → length W ≤ 2 → IsSeparation S (segment (corner W 0) (corner W 1)) w → IsSeparation S T w
+separation_few S T W last w o p n few h = record {
+  there = h.there;
+  farthest = h.farthest;
+  beyond = all_of beyond T (few_beyond T W last w.direction (product w.direction w.farthest) o p n few
+      (All-contains beyond ends (corner W 0) h.beyond (start_there (corner W 0) (corner W 1)))
+      (All-contains beyond ends (corner W 1) h.beyond (end_there (corner W 0) (corner W 1))));
+}
+  where
+    beyond : Pair → Type 0
+    beyond t = product w.direction w.farthest <ℤ product w.direction t
+
+    ends : List Pair
+    ends = segment (corner W 0) (corner W 1)
+
+-- what parts T from S, backwards, with a point of S farthest there
+pub separation_turned : (S T : List Pair) (w : Separation) (d p : Pair) → IsSeparation T S w → d ≡ backward w.direction
+    → IsFirstFarthest S d p → IsSeparation S T (apart_by d p)
+separation_turned S T w d p h e f = record {
+  there = f.0;
+  farthest = f.1;
+  beyond = all_of (λ t. product d p <ℤ product d t) T
+      (subst (λ (z : Pair). (t : Pair) → Contains T t → product z p <ℤ product z t) (sym e) beyond);
+}
+  where
+    less : (x y u v f : ℤ) → x ≡ neg_ℤ u → y ≡ neg_ℤ v → v ≤ℤ f → f <ℤ u → x <ℤ y
+    less x y u v f e g h k = omega (arith, ints)
+
+    beyond : (t : Pair) → Contains T t → product (backward w.direction) p <ℤ product (backward w.direction) t
+    beyond t m = less _ _ _ _ (product w.direction w.farthest) (product_opp w.direction p) (product_opp w.direction t)
+        (All-contains (λ u. product w.direction u ≤ℤ product w.direction w.farthest) T t h.farthest m)
+        (All-contains (λ u. product w.direction w.farthest <ℤ product w.direction u) S p h.beyond f.0)
+
+-- the normal of an edge that has T on its right
+pub separation_beside : (S T : List Pair) (a b d : Pair) → Contains S b → IsLeftOf S a b
+    → ((t : Pair) → Contains T t → orient a b t <ℤ pos 0) → d ≡ left_of b a → IsSeparation S T (apart_by d b)
+separation_beside S T a b d m l h e =
+    subst (λ (z : Pair). IsSeparation S T (apart_by z b)) (sym e)
+    record {
+      there = m;
+      farthest = all_of (λ t. product (left_of b a) t ≤ℤ product (left_of b a) b) S
+          (λ t n. no_farther _ _ _ _ (product_left b a t) (orient_other a b t)
+          (All-contains (λ u. pos 0 ≤ℤ orient a b u) S t l n));
+      beyond = all_of (λ t. product (left_of b a) b <ℤ product (left_of b a) t) T
+          (λ t n. farther _ _ _ _ (product_left b a t) (orient_other a b t) (h t n));
+    }
+  where
+    no_farther : (x y u v : ℤ) → x -ℤ y ≡ u → u ≡ neg_ℤ v → pos 0 ≤ℤ v → x ≤ℤ y
+    no_farther x y u v e f h = omega (arith, ints)
+
+    farther : (x y u v : ℤ) → x -ℤ y ≡ u → u ≡ neg_ℤ v → v <ℤ pos 0 → y <ℤ x
+    farther x y u v e f h = omega (arith, ints)
+
+-- where the leftmost point of T lies right of a line, all of T does
+pub right_of_line : (T : List Pair) (a b d p : Pair) → IsFirstFarthest T d p → d ≡ left_of a b
+    → orient a b p <ℤ pos 0 → (t : Pair) → Contains T t → orient a b t <ℤ pos 0
+right_of_line T a b d p f e h t m =
+    under (along t) (along p) (along a) _ _ (product_left a b t) (product_left a b p)
+    (All-contains (λ u. along u ≤ℤ along p) T t
+    (subst (λ (z : Pair). IsFirstFarthest T z p) e f).1 m) h
+  where
+    along : Pair → ℤ
+    along = product (left_of a b)
+
+    under : (x y z u v : ℤ) → x -ℤ z ≡ u → y -ℤ z ≡ v → x ≤ℤ y → v <ℤ pos 0 → u <ℤ pos 0
+    under x y z u v e f h k = omega (arith, ints)
+
+-- of two sets of three corners or more that are apart, the edges of one have not all of the other's on the left
+pub not_both_left : (S V T W : List Pair) (last end : ℕ) → IsOutlineOf S V → IsParted V last → IsOutlineOf T W
+    → IsParted W end → 2 < length V → 2 < length W → IsApart S T → HasOnLeft V T → HasOnLeft W S → ⊥
+not_both_left S V T W last end o p q r many more a left right =
+    elim (edge_parts S V T W last end o p q r many more a)
+    [ inl h ↦ beside V T left h | inr h ↦ beside W S right h ]
+  where
+    clash : (x : ℤ) → pos 0 ≤ℤ x → x <ℤ pos 0 → ⊥
+    clash x h k = omega (arith, ints)
+
+    beside : (V T : List Pair) → HasOnLeft V T → IsBesideSome V T → ⊥
+    beside V T h (i, l, b) = let t = h i l in clash _ t.2 (b t.0 t.1)

@@ -1,0 +1,73 @@
+-- the first corner alone; then each with the one opposite of its edge
+use Rattle.std.proofs.Common.{ℕ, ◌+◌, ℤ, ◌≤ℤ◌, inl, inr, sym, subst, List, arith}
+use Rattle.std.proofs.lemmas.Bool.{cases_lt}
+use Rattle.std.proofs.lemmas.Int.{ints}
+use Rattle.std.specs.List.{Contains}
+use Rattle.lattice.specs.Plane.{Pair, distance_squared}
+use Rattle.hull_plain.specs.Tangents.{IsFirstFarthest}
+use Rattle.hull_outline.specs.Extents.{IsDiameterOf, IsFarther}
+use Rattle.hull_outline.specs.Rounds.{corner}
+use Rattle.hull_outline.specs.Steps.{left_of}
+use Rattle.hull_outline.proofs.Corners.{corner_extreme}
+use Rattle.hull_outline.proofs.Diameters.{diameter_of}
+use Rattle.hull_outline.proofs.diameter.farthest_two.Goals as goal
+
+pub loop-i-init : goal.loop-i-init
+loop-i-init c = λ S o.
+    let m = (corner_extreme S c.args.corners.now 0 o.1 c.requires.some).0 in (
+      subst (Contains S) (sym c.corner_at.ensures) m,
+      subst (Contains S) (sym c.corner_at-2.ensures) m,
+      λ i l. absurd (omega (arith, l)),
+    )
+
+-- no longer than what is no longer
+up : (a b c : ℤ) → a ≤ℤ b → b ≤ℤ c → a ≤ℤ c
+up a b c h k = omega (arith, ints)
+
+-- one pair more
+more : (S V : List Pair) (i : ℕ) (best r : Pair × Pair) (f : Pair) → Contains S (corner V i) → Contains S f
+    → IsFirstFarthest S (left_of (corner V i) (corner V (i + 1))) f → IsDiameterOf S V i best.0 best.1
+    → IsFarther best (corner V i, f) r → IsDiameterOf S V (i + 1) r.0 r.1
+more S V i best r f mi mf far h (inl (e, l)) = (
+  subst (λ (z : Pair × Pair). Contains S z.0) (sym e) h.0,
+  subst (λ (z : Pair × Pair). Contains S z.1) (sym e) h.1,
+  λ k lk. subst (λ (z : Pair × Pair). (g : Pair) × IsFirstFarthest S (left_of (corner V k) (corner V (k + 1))) g
+      × (distance_squared (corner V k) g ≤ℤ distance_squared z.0 z.1)) (sym e)
+      (elim (cases_lt k i) [
+        | inl j ↦ h.2 k j
+        | inr j ↦ subst (λ (n : ℕ). (g : Pair) × IsFirstFarthest S (left_of (corner V n) (corner V (n + 1))) g
+            × (distance_squared (corner V n) g ≤ℤ distance_squared best.0 best.1)) (omega (arith, j, lk)) (f, far, l)
+      ]),
+)
+more S V i best r f mi mf far h (inr (e, l)) = (
+  subst (λ (z : Pair × Pair). Contains S z.0) (sym e) mi,
+  subst (λ (z : Pair × Pair). Contains S z.1) (sym e) mf,
+  λ k lk. subst (λ (z : Pair × Pair). (g : Pair) × IsFirstFarthest S (left_of (corner V k) (corner V (k + 1))) g
+      × (distance_squared (corner V k) g ≤ℤ distance_squared z.0 z.1)) (sym e)
+      (elim (cases_lt k i) [
+        | inl j ↦ let b = h.2 k j in (b.0, b.1, up _ _ _ b.2 l)
+        | inr j ↦ subst (λ (n : ℕ). (g : Pair) × IsFirstFarthest S (left_of (corner V n) (corner V (n + 1))) g
+            × (distance_squared (corner V n) g ≤ℤ distance_squared (corner V i) f)) (omega (arith, j, lk))
+            (f, far, same _)
+      ]),
+)
+  where
+    same : (x : ℤ) → x ≤ℤ x
+    same x = omega (arith, ints)
+
+pub loop-i-preserved : goal.loop-i-preserved
+loop-i-preserved c = λ S o.
+    let V = c.args.corners.now in
+    let i = c.loop-i.i in
+    let far = c.opposite.ensures S o in
+    more S V i c.loop-i.best c.farther-best.result c.opposite.result
+    (corner_extreme S V i o.1 c.requires.some).0 far.0 far (c.loop-i.invariant S o)
+    (subst (λ (z : Pair). IsFarther c.loop-i.best (z, c.opposite.result) c.farther-best.result)
+    c.corner_at-in-loop-i.ensures c.farther-best.ensures)
+
+pub returns : goal.returns
+returns c = λ S o.
+    let V = c.args.corners.now in
+    let best = c.loop-i.invariant S o in
+    diameter_of S V c.args.last c.loop-i.best.0 c.loop-i.best.1 o c.requires.parted c.requires.some
+    (best.0, best.1, λ i l. best.2 i (omega (arith, l, c.loop-i-test.false)))

@@ -1,0 +1,16 @@
+-- the edge goes between the two corners
+use Rattle.std.proofs.Common.{ap, ◌∙◌, subst}
+use Rattle.lattice.specs.Plane.{Pair}
+use Rattle.hull_plain.specs.Tangents.{IsFirstFarthest}
+use Rattle.hull_outline.specs.Rounds.{corner}
+use Rattle.hull_outline.specs.Steps.{left_of}
+use Rattle.hull_outline.proofs.diameter.opposite.Goals as goal
+
+pub returns : goal.returns
+returns c = λ S o.
+    let V = c.args.corners.now in
+    let f : Pair = c.farthest.result in
+    subst (λ (d : Pair). IsFirstFarthest S d f) (c.left_of-edge.ensures
+    ∙ ap (λ (z : Pair). left_of z c.corner_at-2.result) c.corner_at.ensures
+    ∙ ap (left_of (corner V c.args.i)) c.corner_at-2.ensures)
+    (c.farthest.ensures S o)

@@ -1,0 +1,14 @@
+-- no corners, no points; else the extent of the direction
+use Rattle.std.proofs.Common.{pos, subst, arith}
+use Rattle.lattice.specs.Plane.{Pair}
+use Rattle.hull_outline.specs.Extents.{IsExtent}
+use Rattle.hull_outline.proofs.Ends.{no_corners}
+use Rattle.hull_outline.proofs.outline.Outline.width_along.Goals as goal
+
+pub returns-then-is_empty : goal.returns-then-is_empty
+returns-then-is_empty c = λ S o. no_corners S c.args.self.now.corners.now o
+    (grind (arith, c.is_empty.ensures, c.if-is_empty.true))
+
+pub returns-else-is_empty : goal.returns-else-is_empty
+returns-else-is_empty c = λ S o. subst (λ (d : Pair). IsExtent S d (pos c.extent.result)) c.along.ensures
+    (c.extent.ensures.value S o)

@@ -1,0 +1,125 @@
+//! Where a hull is least wide.
+ghost use Rattle.std.specs.Prelude.{◌≡◌, ◌↔◌, IsTrue, ◌<◌, ◌≤◌, length, pos, ◌≤ℤ◌, MatchOption};
+ghost use Rattle.lattice.specs.Plane as plane;
+ghost use Rattle.lattice.specs.Plane.{widest_side, IsWithin};
+ghost use Rattle.hull_outline.specs.Extents.{edge_squared, side_of, IsLeastWidth, IsOnePoint, IsStripAt, IsThinner, IsThinnerOf};
+ghost use Rattle.hull_outline.specs.Outlines.{HoldsOfSetsOf};
+ghost use Rattle.hull_outline.specs.Rounds.{IsParted};
+ghost use Rattle.hull_outline.specs.Lent.{corners_of};
+
+use super::diameter::opposite;
+use super::outline::Outline;
+use super::ratios::is_less_ratio;
+use super::rounds::corner_at;
+use lattice::{Point, distance_squared, orient};
+
+/// The strip between the line of an edge and the parallel to it through the point farthest from it, which holds a hull.
+/// Its width is [`orient`](lattice::orient) of the three points by the length of the edge: squared, that number's square
+/// divided by [`distance_squared`](lattice::distance_squared) of the edge's ends.
+#[derive(Clone, Copy, PartialEq, Eq, Debug)]
+pub struct Strip {
+    /// The corner where the edge begins; the hull lies left of it.
+    pub from: Point,
+    /// The next corner.
+    pub to: Point,
+    /// A corner farthest from the edge.
+    pub farthest: Point,
+}
+
+/// A number that is not below 0.
+fn natural(number: i128) -> u128
+    requires above { pos 0 ≤ℤ number }
+    requires within { IsWithin widest_side number }
+    ensures value { pos result ≡ number }
+    ensures size { result ≤ widest_side }
+{
+    number as u128
+}
+
+/// The square of the distance of two points.
+fn length_of(a: Point, b: Point) -> u128
+    ensures value { pos result ≡ plane.distance_squared a b }
+    ensures size { result ≤ widest_side }
+{
+    natural(distance_squared(a, b))
+}
+
+/// Twice the area of the edge and the farthest point.
+fn side(w: &Strip) -> u128
+    requires { pos 0 ≤ℤ side_of w.now }
+    ensures value { pos result ≡ side_of w.now }
+    ensures size { result ≤ widest_side }
+{
+    natural(orient(w.from, w.to, w.farthest))
+}
+
+/// The square of the length of the edge.
+fn edge(w: &Strip) -> u128
+    ensures value { pos result ≡ edge_squared w.now }
+    ensures size { result ≤ widest_side }
+{
+    length_of(w.from, w.to)
+}
+
+/// Whether one strip is less wide than another: by the square of the side of each, divided by its edge's.
+fn is_thinner(p: &Strip, q: &Strip) -> bool
+    requires first { pos 0 ≤ℤ side_of p.now }
+    requires second { pos 0 ≤ℤ side_of q.now }
+    ensures { IsTrue result ↔ IsThinner p.now q.now }
+{
+    is_less_ratio(side(p), edge(p), side(q), edge(q))
+}
+
+/// The less wide of two strips; the first where both are as wide.
+fn thinner(p: Strip, q: Strip) -> Strip
+    requires first { pos 0 ≤ℤ side_of p }
+    requires second { pos 0 ≤ℤ side_of q }
+    ensures { IsThinnerOf p q result }
+{
+    let is_second = is_thinner(&q, &p);
+    if is_second { q } else { p }
+}
+
+/// The strip of the edge from the corner at `i`.
+fn strip_at(corners: &[Point], last: usize, i: usize) -> Strip
+    requires parted { IsParted corners.now last }
+    requires within { i < length corners.now }
+    ensures { HoldsOfSetsOf corners.now (λ S. IsStripAt S corners.now i result) }
+{
+    Strip {
+        from: corner_at(corners, i),
+        to: corner_at(corners, i + 1),
+        farthest: opposite(corners, last, i),
+    }
+}
+
+/// The strip of the edge from which the hull is least wide.
+fn thinnest(corners: &[Point], last: usize) -> Strip
+    requires two { 1 < length corners.now }
+    requires parted { IsParted corners.now last }
+    ensures { HoldsOfSetsOf corners.now (λ S. IsLeastWidth S result) }
+{
+    let mut best = strip_at(corners, last, 0);
+    for i in 1..corners.len() {
+        best = thinner(best, strip_at(corners, last, i));
+    }
+    best
+}
+
+impl<'a> Outline<'a> {
+    /// Where the hull is least wide: the strip of an edge, than which no direction has a narrower one; `None` where there
+    /// are fewer than two corners. A bisection for each corner.
+    ///
+    /// Between the normals of two edges the width of a convex polygon is least at one of them (Toussaint, 1983). Widths are
+    /// compared squared and exactly, by products of 252 bits.
+    pub fn least_width(&self) -> Option<Strip>
+        ensures { HoldsOfSetsOf (corners_of self.now)
+            (λ S. MatchOption result (IsOnePoint S) (λ strip. IsLeastWidth S strip)) }
+    {
+        if self.corners.len() < 2 {
+            None
+        } else {
+            Some(thinnest(self.corners, self.last))
+        }
+    }
+}

@@ -1,0 +1,49 @@
+//! How far a hull reaches in a direction.
+ghost use Rattle.std.specs.Prelude.{◌≡◌, ◌≤◌, ◌<◌, ◌*◌, length, [], pos, ◌-ℤ◌, ◌≤ℤ◌, MatchOption};
+ghost use Rattle.lattice.specs.Plane as plane;
+ghost use Rattle.lattice.specs.Plane.{widest_side};
+ghost use Rattle.hull_outline.specs.Extents.{IsExtent};
+ghost use Rattle.hull_outline.specs.Outlines.{HoldsOfSetsOf};
+ghost use Rattle.hull_outline.specs.Rounds.{IsParted};
+ghost use Rattle.hull_outline.specs.Lent.{corners_of};
+
+use super::extreme::farthest;
+use super::outline::Outline;
+use super::vector::Vector;
+use lattice::{Direction, Point};
+
+/// How much farther `p` lies than `q` in the direction `d`, in which it lies no less far.
+fn how_much_farther(d: Vector, p: Point, q: Point) -> u128
+    requires { plane.product d q ≤ℤ plane.product d p }
+    ensures value { pos result ≡ plane.product d p -ℤ plane.product d q }
+    ensures size { result ≤ 2 * widest_side }
+{
+    (d.product(p) - d.product(q)) as u128
+}
+
+/// How far the hull of these corners reaches in a direction.
+fn extent(corners: &[Point], last: usize, d: Vector) -> u128
+    requires some { 0 < length corners.now }
+    requires parted { IsParted corners.now last }
+    ensures value { HoldsOfSetsOf corners.now (λ S. IsExtent S d (pos result)) }
+    ensures size { result ≤ 2 * widest_side }
+{
+    let most = farthest(corners, last, d);
+    let least = farthest(corners, last, d.back());
+    how_much_farther(d, most, least)
+}
+
+impl<'a> Outline<'a> {
+    /// How far the hull reaches in the direction `d`: the greatest product of a point with `d` less the least, exact;
+    /// `None` for the empty set. Divided by the length of `d` it is the width along `d`. Two bisections.
+    pub fn width_along(&self, d: Direction) -> Option<u128>
+        ensures { HoldsOfSetsOf (corners_of self.now)
+            (λ S. MatchOption result (S ≡ []) (λ n. IsExtent S d (pos n))) }
+    {
+        if self.corners.is_empty() {
+            None
+        } else {
+            Some(extent(self.corners, self.last, Vector::along(d)))
+        }
+    }
+}
