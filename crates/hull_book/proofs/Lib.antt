@@ -6,3 +6,4 @@ pub mod Disagreement
 pub mod Compacts
 pub mod SeatCounts
 pub mod Idle
+pub mod Walks
