@@ -6,4 +6,5 @@ pub mod Disagreement
 pub mod Compacts
 pub mod SeatCounts
 pub mod Idle
+pub mod Parts
 pub mod Walks

@@ -2,6 +2,7 @@ pub mod Journals
 pub mod Scripts
 pub mod History
 pub mod Books
+pub mod LongBooks
 pub mod Ledgers
 pub mod Copies
 pub mod Verdicts
