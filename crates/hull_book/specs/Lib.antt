@@ -6,6 +6,7 @@ pub mod LongBooks
 pub mod Ledgers
 pub mod Copies
 pub mod Verdicts
+pub mod Parts
 pub mod Compacts
 pub mod Answers
 pub mod Laws
