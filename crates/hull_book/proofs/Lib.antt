@@ -6,3 +6,6 @@ pub mod Disagreement
 pub mod Compacts
 pub mod SeatCounts
 pub mod Idle
+pub mod NextPart
+pub mod Parts
+pub mod Walks

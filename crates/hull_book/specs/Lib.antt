@@ -2,9 +2,11 @@ pub mod Journals
 pub mod Scripts
 pub mod History
 pub mod Books
+pub mod LongBooks
 pub mod Ledgers
 pub mod Copies
 pub mod Verdicts
+pub mod Parts
 pub mod Compacts
 pub mod Answers
 pub mod Laws

@@ -9,7 +9,7 @@ use std::marker::Model;
 #[derive(Debug)]
 pub struct Ledger {
     pub(crate) seat: u8,
-    pub(crate) count: u32,
+    pub(crate) count: u64,
 }
 
 impl Model for Ledger {
@@ -29,7 +29,7 @@ impl Ledger {
     }
 
     /// How many lines of the journal are that seat's.
-    pub fn count(&self) -> u32
+    pub fn count(&self) -> u64
         ensures { result ≡ self.now.count }
     {
         self.count

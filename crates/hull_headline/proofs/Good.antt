@@ -1,23 +1,19 @@
 -- Each sentence of the headline, from the good world that every schedule leads to.
-use Rattle.std.proofs.Common.{◌≡◌, ◌+◌, ◌%◌, ◌^◌, ℕ, zero, suc, List, [], ◌∷◌, Some, ap, subst, arith, length}
-use Rattle.std.specs.Prelude.{slice_get, box_value}
+use Rattle.std.proofs.Common.{◌≡◌, ◌+◌, ◌%◌, ◌^◌, ℕ, zero, suc, List, [], ◌∷◌, Some, ap, subst, arith}
+use Rattle.std.specs.Prelude.{slice_get}
 use Rattle.hull_plain.specs.Held.{Held, nothing_held}
 use Rattle.hull_plain.specs.Replies.{after}
 use Rattle.hull_book.specs.declared.head.Head.{Head}
 use Rattle.hull_book.specs.declared.line.Line.{Line}
 use Rattle.hull_book.specs.History.{AreRight}
-use Rattle.hull_book.specs.Books.{says_boxed}
+use Rattle.hull_book.specs.Books.{IsLawful}
 use Rattle.hull_book.proofs.Counts.{all_counts}
 use Rattle.hull_tree.specs.Sets.{hull_tree}
 use Rattle.ticket_lock.specs.Forms.{partitioned_form}
 use Rattle.ticket_lock.specs.Schedule.{SchedulesHold}
 use Rattle.hull_headline.specs.Headline.{Always, WheneverFree, AtMostOneHolds, StoresBridgesOfLivePoints}
 use Rattle.hull_headline.specs.Headline.{HoldsEachPointAsOften, HasLegalJournal, IsInOrderOfNumbers, LedgersSumToLength}
-use Rattle.hull_headline.specs.Headline.{FirstComeFirstServed}
-
--- the law of the lock, at a book over a tree
-abbrev pub Law : Type 0
-Law = SchedulesHold (says_boxed hull_tree) partitioned_form
+use Rattle.hull_headline.specs.Headline.{FirstComeFirstServed, Kind}
 
 -- a right line has its number: of the lines that begin with line k, line i has the first number and k and i
 numbered : (head : Head) (k : ℕ) (S : Held) (lines : List Line) → AreRight head k S lines → (i : ℕ) (line : Line)
@@ -31,37 +27,44 @@ numbered head k S (m ∷ lines) right (suc i) line e =
     subst (λ (n : ℕ). line.number ≡ (head.first + n) % (2 ^ 64)) (omega arith)
     (numbered head (suc k) (after S m.call m.reply) lines right.1 i line e)
 
--- no two seats hold
-pub one_holder : Law → Always AtMostOneHolds
-one_holder law seats book opening now steps led = (law seats book opening now steps led.0 led.1).0.one_holder
+module _ {B : Type 0} (kind : Kind B) (tells : (b : B) → kind.says.lawful b → IsLawful hull_tree (kind.whole b)) where
+  -- the law of the lock, at such a book over a tree
+  abbrev pub Law : Type 0
+  Law = SchedulesHold kind.says partitioned_form
 
--- the stored bridges are those of the live points
-pub bridges : Law → WheneverFree StoresBridgesOfLivePoints
-bridges law seats book opening now steps led free = let lawful =
-    (law seats book opening now steps led.0 led.1).0.lawful in
-    (lawful.sound.built, ap (λ (h : Held). h.points) lawful.set)
+  -- no two seats hold
+  pub one_holder : Law → Always kind AtMostOneHolds
+  one_holder law seats book opening now steps led = (law seats book opening now steps led.0 led.1).0.one_holder
 
--- each point is held as often as the journal's calls left it
-pub multiplicities : Law → WheneverFree HoldsEachPointAsOften
-multiplicities law seats book opening now steps led free =
-    (law seats book opening now steps led.0 led.1).0.lawful.set
+  -- the stored bridges are those of the live points
+  pub bridges : Law → WheneverFree kind StoresBridgesOfLivePoints
+  bridges law seats book opening now steps led free = let lawful =
+      tells now.current (law seats book opening now steps led.0 led.1).0.lawful in
+      (lawful.sound.built, ap (λ (h : Held). h.points) lawful.set)
 
--- the journal is legal
-pub legal : Law → WheneverFree HasLegalJournal
-legal law seats book opening now steps led free = (law seats book opening now steps led.0 led.1).0.lawful.legal
+  -- each point is held as often as the journal's calls left it
+  pub multiplicities : Law → WheneverFree kind HoldsEachPointAsOften
+  multiplicities law seats book opening now steps led free =
+      (tells now.current (law seats book opening now steps led.0 led.1).0.lawful).set
 
--- and in the order of its numbers
-pub in_order : Law → WheneverFree IsInOrderOfNumbers
-in_order law seats book opening now steps led free k line at =
-    subst (λ (n : ℕ). line.number ≡ ((box_value now.current).head.journal.first + n) % (2 ^ 64)) (omega arith)
-    (numbered (box_value now.current).head.journal 0 nothing_held (box_value now.current).lines
-    (law seats book opening now steps led.0 led.1).0.lawful.legal k line at)
+  -- the journal is legal
+  pub legal : Law → WheneverFree kind HasLegalJournal
+  legal law seats book opening now steps led free =
+      (tells now.current (law seats book opening now steps led.0 led.1).0.lawful).legal
 
--- the ledgers sum to its length
-pub ledgers : Law → WheneverFree LedgersSumToLength
-ledgers law seats book opening now steps led free all are =
-    all_counts (box_value now.current) all (law seats book opening now steps led.0 led.1).0.lawful are
+  -- and in the order of its numbers
+  pub in_order : Law → WheneverFree kind IsInOrderOfNumbers
+  in_order law seats book opening now steps led free k line at =
+      subst (λ (n : ℕ). line.number ≡ ((kind.whole now.current).head.journal.first + n) % (2 ^ 64)) (omega arith)
+      (numbered (kind.whole now.current).head.journal 0 nothing_held (kind.whole now.current).lines
+      (tells now.current (law seats book opening now steps led.0 led.1).0.lawful).legal k line at)
 
--- entries are in the order of takes
-pub first_come : Law → FirstComeFirstServed
-first_come law seats book opening now steps led = (law seats book opening now steps led.0 led.1).1
+  -- the ledgers sum to its length
+  pub ledgers : Law → WheneverFree kind LedgersSumToLength
+  ledgers law seats book opening now steps led free all are =
+      all_counts (kind.whole now.current) all
+      (tells now.current (law seats book opening now steps led.0 led.1).0.lawful) are
+
+  -- entries are in the order of takes
+  pub first_come : Law → FirstComeFirstServed kind
+  first_come law seats book opening now steps led = (law seats book opening now steps led.0 led.1).1

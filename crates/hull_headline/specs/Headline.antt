@@ -7,11 +7,13 @@ use lib.ListN.{get_elem?}
 use Rattle.hull_book.specs.declared.head.BookHead.{BookHead}
 use Rattle.hull_book.specs.declared.line.Line.{Line}
 use Rattle.hull_book.specs.Books.{BookValue, says_boxed}
+use Rattle.hull_book.specs.LongBooks.{LongValue, says_long_boxed}
 use Rattle.hull_book.specs.History.{IsLegal, held_after, live}
 use Rattle.hull_book.specs.Ledgers.{LedgerValue, AreAllLedgers, sum_of_counts}
 use Rattle.hull_tree.specs.Roots.{points_of_root, IsWellBuiltRoot}
 use Rattle.hull_tree.specs.Sets.{LimitedTree, hull_tree}
 use Rattle.ticket_lock.specs.World.{World, Event}
+use Rattle.ticket_lock.specs.declared.chronicle.Chronicle.{Ghosts}
 use Rattle.ticket_lock.specs.GoodWorld.{Holds}
 use Rattle.ticket_lock.specs.Forms.{partitioned_form}
 use Rattle.ticket_lock.specs.Schedule.{Opened, Runs, takers, enterers}
@@ -20,38 +22,48 @@ use Rattle.ticket_lock.specs.Schedule.{Opened, Runs, takers, enterers}
 abbrev pub TreeBook : Type 0
 TreeBook = BookValue LimitedTree
 
--- such a book on the heap, as the lock that runs keeps it
-abbrev pub BoxedBook : Type 0
-BoxedBook = Box TreeBook Global
+-- a lock round a book of whatever kind, at some moment
+abbrev pub Moment : Type 0 → Type 0
+Moment B = World B BookHead Line
 
--- a lock round such a book, at some moment
-abbrev pub Moment : Type 0
-Moment = World BoxedBook BookHead Line
+-- what is said of a kind of books: what the lock knows of one, and the book of all lines that were ever journalled by it
+pub record Kind (B : Type 0) : Type 1 where
+  pub says : Ghosts B BookHead Line
+  pub whole : B → TreeBook
 
--- The steps, in this order, lead from the opened lock to this moment: of a lock that was opened for so many seats
--- round this book
-abbrev pub Leads : ℕ → BoxedBook → Moment → List (Event BoxedBook) → Moment → Type 0
-Leads seats book opening steps now = Opened (says_boxed hull_tree) partitioned_form seats book opening
-    × Runs (says_boxed hull_tree) partitioned_form steps opening now
+-- a book on the heap, as the lock that runs keeps it: it holds all its lines
+abbrev pub kept : Kind (Box TreeBook Global)
+kept = record { says = says_boxed hull_tree; whole = λ b. box_value b }
 
--- It holds at every moment: however many seats a lock was opened for, round whatever lawful book, and whichever steps
--- of its seats were made since, in whatever order.
-abbrev pub Always : (Moment → Type 0) → Type 0
-Always P = (seats : ℕ) (book : BoxedBook) (opening now : Moment) (steps : List (Event BoxedBook))
-    → Leads seats book opening steps now → P now
+-- a book on the heap that may be drained: of it, all that is said is said of the whole
+abbrev pub drained : Kind (Box (LongValue LimitedTree) Global)
+drained = record { says = says_long_boxed hull_tree; whole = λ b. (box_value b).whole }
 
--- The same whenever the lock is free, of the book that it keeps.
-abbrev pub WheneverFree : (TreeBook → Type 0) → Type 0
-WheneverFree P = Always (λ now. now.home ≡ true → P (box_value now.current))
+module _ {B : Type 0} (kind : Kind B) where
+  -- The steps, in this order, lead from the opened lock to this moment: of a lock that was opened for so many seats
+  -- round this book
+  abbrev pub Leads : ℕ → B → Moment B → List (Event B) → Moment B → Type 0
+  Leads seats book opening steps now = Opened kind.says partitioned_form seats book opening
+      × Runs kind.says partitioned_form steps opening now
 
--- First come, first served: the k-th entry is by the seat that made the k-th take.
-abbrev pub FirstComeFirstServed : Type 0
-FirstComeFirstServed = (seats : ℕ) (book : BoxedBook) (opening now : Moment) (steps : List (Event BoxedBook))
-    → Leads seats book opening steps now
-    → (k seat : ℕ) → get_elem? (enterers steps) k ≡ some seat → get_elem? (takers steps) k ≡ some seat
+  -- It holds at every moment: however many seats a lock was opened for, round whatever lawful book, and whichever steps
+  -- of its seats were made since, in whatever order.
+  abbrev pub Always : (Moment B → Type 0) → Type 0
+  Always P = (seats : ℕ) (book : B) (opening now : Moment B) (steps : List (Event B))
+      → Leads seats book opening steps now → P now
+
+  -- The same whenever the lock is free, of the book that it keeps.
+  abbrev pub WheneverFree : (TreeBook → Type 0) → Type 0
+  WheneverFree P = Always (λ now. now.home ≡ true → P (kind.whole now.current))
+
+  -- First come, first served: the k-th entry is by the seat that made the k-th take.
+  abbrev pub FirstComeFirstServed : Type 0
+  FirstComeFirstServed = (seats : ℕ) (book : B) (opening now : Moment B) (steps : List (Event B))
+      → Leads seats book opening steps now
+      → (k seat : ℕ) → get_elem? (enterers steps) k ≡ some seat → get_elem? (takers steps) k ≡ some seat
 
 -- No two seats hold the book.
-abbrev pub AtMostOneHolds : Moment → Type 0
+abbrev pub AtMostOneHolds : {B : Type 0} → Moment B → Type 0
 AtMostOneHolds now = (one other t u : ℕ) → Holds now one t → Holds now other u → one ≡ other
 
 -- Each stored bridge is that of the points below it, and these are the live points: those that the journal's calls

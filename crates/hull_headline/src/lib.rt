@@ -7,26 +7,40 @@
 //!
 //! Beside that, whenever the lock is free each point is held as often as the journal's calls left it. It is said of the
 //! lock that runs, `TicketLock<Box<Book<HullTree>>>` (crates `ticket_lock`, `hull_book` and `hull_tree`), and over every
-//! list of single steps of its seats; `specs/Headline.antt` has each of its words.
+//! list of single steps of its seats; `specs/Headline.antt` has each of its words. Of a book that may be drained the
+//! same is said once more: its journal is the whole of it, what was taken out, in order, and then what is held.
 #![tactic(auto)]
 
 ghost use Rattle.hull_headline.specs.Headline.{Always, WheneverFree, AtMostOneHolds, StoresBridgesOfLivePoints};
 ghost use Rattle.hull_headline.specs.Headline.{HoldsEachPointAsOften, HasLegalJournal, IsInOrderOfNumbers};
-ghost use Rattle.hull_headline.specs.Headline.{FirstComeFirstServed, LedgersSumToLength};
+ghost use Rattle.hull_headline.specs.Headline.{FirstComeFirstServed, LedgersSumToLength, drained, kept};
 
-use hull_book::Book;
+use hull_book::{Book, LongBook};
 use hull_tree::HullTree;
 use ticket_lock::partitioned_schedules_hold;
 
 /// The headline, a clause for each of its sentences. The law asks for nothing and does nothing.
 pub fn headline_holds()
-    ensures first_come { FirstComeFirstServed }
-    ensures one_holder { Always AtMostOneHolds }
-    ensures bridges { WheneverFree StoresBridgesOfLivePoints }
-    ensures multiplicities { WheneverFree HoldsEachPointAsOften }
-    ensures legal { WheneverFree HasLegalJournal }
-    ensures in_order { WheneverFree IsInOrderOfNumbers }
-    ensures ledgers { WheneverFree LedgersSumToLength }
+    ensures first_come { FirstComeFirstServed kept }
+    ensures one_holder { Always kept AtMostOneHolds }
+    ensures bridges { WheneverFree kept StoresBridgesOfLivePoints }
+    ensures multiplicities { WheneverFree kept HoldsEachPointAsOften }
+    ensures legal { WheneverFree kept HasLegalJournal }
+    ensures in_order { WheneverFree kept IsInOrderOfNumbers }
+    ensures ledgers { WheneverFree kept LedgersSumToLength }
 {
     partitioned_schedules_hold::<Box<Book<HullTree>>>();
+}
+
+/// The headline of a book that may be drained, however often it was, each of its sentences of the whole journal.
+pub fn headline_holds_of_drained_books()
+    ensures first_come { FirstComeFirstServed drained }
+    ensures one_holder { Always drained AtMostOneHolds }
+    ensures bridges { WheneverFree drained StoresBridgesOfLivePoints }
+    ensures multiplicities { WheneverFree drained HoldsEachPointAsOften }
+    ensures legal { WheneverFree drained HasLegalJournal }
+    ensures in_order { WheneverFree drained IsInOrderOfNumbers }
+    ensures ledgers { WheneverFree drained LedgersSumToLength }
+{
+    partitioned_schedules_hold::<Box<LongBook<HullTree>>>();
 }

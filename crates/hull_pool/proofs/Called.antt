@@ -29,14 +29,20 @@ pub same_count : (k : ℕ) (lines others : List Line) → lines_of k lines ≡ l
 same_count k lines others e = count-lines_of k lines ∙ ap length e ∙ sym (count-lines_of k others)
 
 module _ {S : Type 0} where
-  -- the ledger of a seat is that of the book that it finds
-  pub found_ledger : (b opened : BookValue S) (k : ℕ) (seen : List Line) (ledger : LedgerValue) → b.head ≡ opened.head
-      → k < workers_of opened → lines_of k b.lines ≡ lines_of k seen → IsLedgerOf k seen ledger → IsLedger b k ledger
-  found_ledger b opened k seen ledger same below own is = record {
+  -- the ledger of a seat of the book is that of the book that it finds
+  pub found_ledger_of : (b : BookValue S) (k : ℕ) (seen : List Line) (ledger : LedgerValue) → k < workers_of b
+      → lines_of k b.lines ≡ lines_of k seen → IsLedgerOf k seen ledger → IsLedger b k ledger
+  found_ledger_of b k seen ledger below own is = record {
     seat_is = is.0;
-    below = subst (λ (h : BookHead). k < h.workers) (sym same) below;
+    below = below;
     count_is = is.1 ∙ sym (same_count k b.lines seen own);
   }
+
+  -- so it is where the head is that at opening
+  pub found_ledger : (b opened : BookValue S) (k : ℕ) (seen : List Line) (ledger : LedgerValue) → b.head ≡ opened.head
+      → k < workers_of opened → lines_of k b.lines ≡ lines_of k seen → IsLedgerOf k seen ledger → IsLedger b k ledger
+  found_ledger b opened k seen ledger same below own is =
+      found_ledger_of b k seen ledger (subst (λ (h : BookHead). k < h.workers) (sym same) below) own is
 
 -- a line of a seat is one of its lines
 pub lines_of-own : (k : ℕ) (line : Line) → line.seat ≡ k → lines_of k (line ∷ []) ≡ line ∷ []
@@ -59,7 +65,7 @@ pub begins_longer : (xs ys zs : List Line) → IsPrefix xs ys → IsPrefix ys zs
 begins_longer xs ys zs p q = (p.0 ++ q.0, sym (append_assoc xs p.0 q.0) ∙ ap (λ (l : List Line). l ++ q.0) p.1 ∙ q.1)
 
 -- below a bound that is not met there is room
-below_bound : (n m : ℕ) → n ≤ m → (n ≡ m → ⊥) → n < m
+pub below_bound : (n m : ℕ) → n ≤ m → (n ≡ m → ⊥) → n < m
 below_bound n m le other = omega arith
 
 module _ {S : Type 0} where

@@ -9,3 +9,4 @@ pub mod Chained
 pub mod Fronts
 pub mod Pushed
 pub mod Responses
+pub mod Drained

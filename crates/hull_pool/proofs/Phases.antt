@@ -37,15 +37,15 @@ BookSeat S = Seat (Boxed S) BookHead Line
 abbrev pub AnswerVec : Type 0
 AnswerVec = Vec Answer Global
 
-module _ {S : Type 0} where
+module _ {B : Type 0} where
   -- the seats are numbered from j on
-  abbrev pub Numbered : ℕ → List (BookSeat S) → Type 0
+  abbrev pub Numbered : ℕ → List (Seat B BookHead Line) → Type 0
   Numbered j [] = Unit {0}
   Numbered j (s ∷ ss) = (seat_number s ≡ j) × Numbered (suc j) ss
 
   -- seats that each have the number of their place are numbered so
-  pub numbered_from : (j : ℕ) (ss : List (BookSeat S))
-      → ((i : ℕ) (s : BookSeat S) → slice_get ss i ≡ Some s → seat_number s ≡ i + j) → Numbered j ss
+  pub numbered_from : (j : ℕ) (ss : List (Seat B BookHead Line))
+      → ((i : ℕ) (s : Seat B BookHead Line) → slice_get ss i ≡ Some s → seat_number s ≡ i + j) → Numbered j ss
   numbered_from j [] h = tt
   numbered_from j (s ∷ ss) h =
       (h 0 s refl ∙ omega arith, numbered_from (suc j) ss (λ i t e. h (suc i) t e ∙ omega arith))

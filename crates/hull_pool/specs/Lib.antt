@@ -4,3 +4,4 @@ pub mod Crews
 pub mod Runs
 pub mod Scripts
 pub mod Responses
+pub mod Long

@@ -32,6 +32,8 @@ mod close;
 mod crew;
 mod gate;
 mod law;
+mod long_call;
+mod long_close;
 mod phase;
 mod worker;
 mod workers;
@@ -40,5 +42,10 @@ pub use call::{BookGuard, BookLock, BookSeat, make_call, serve_and_hand_on};
 pub use close::close_book;
 pub use gate::{Gate, NoGate};
 pub use law::answers_are_of_lines;
+pub use long_call::{
+    Drained, LongGuard, LongLock, LongSeat, drain_and_hand_on, make_drain, make_long_call,
+    serve_long_and_hand_on,
+};
+pub use long_close::close_long_book;
 pub use phase::{PhaseEnd, PoolFault, run_phase, run_phases};
 pub use workers::Workers;

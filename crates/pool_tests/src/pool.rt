@@ -6,6 +6,7 @@ ghost use Rattle.hull_book.specs.Ledgers.{AreLedgers};
 ghost use Rattle.hull_book.specs.Scripts.{calls_in};
 ghost use Rattle.hull_pool.specs.Runs.{MayRunAll};
 
+mod draining;
 mod gates;
 mod hostile;
 mod refused;
@@ -51,6 +52,7 @@ fn opened(
     ensures lawful { IsLawful plain_set result.0 }
     ensures ledgers { AreLedgers result.0 result.1.items }
     ensures workers { result.0.head.workers ≡ workers }
+    ensures capacity { result.0.head.journal.capacity ≡ capacity }
     ensures empty { result.0.lines ≡ [] }
 {
     let set = PlainSet::new(alloc, 64);

@@ -187,6 +187,9 @@ module _ {B H L : Type 0} (K : Ghosts B H L) (F : Form) (laws : FormLaws F) (n :
     filled : HeadTellsCapacity K → (k i r : ℕ) → FoundFull K b es k i r → K.capacity b ≤ length (K.lines w.current)
     full_last : HeadTellsCapacity K → (k i r j a s p : ℕ) (l : L) → FoundFull K b es k i r → Call K b es j a s p l
         → s < r
+    reached : (k i r : ℕ) (f : FoundFull K b es k i r) → K.capacity f.full.0 ≤ length (K.lines w.current)
+    room_grew : (k i r j a s p : ℕ) (l : L) (f : FoundFull K b es k i r) (c : Call K b es j a s p l) → r < s
+        → K.capacity f.full.0 < K.capacity c.ends.0
 
   -- an event that is no hand on adds no call
   quiet : (es : List (Event B)) (e : Event B) (w v : World B H L) → ((k : ℕ) (c : B) → e ≡ hands_on k c → ⊥)
@@ -194,6 +197,7 @@ module _ {B H L : Type 0} (K : Ghosts B H L) (F : Form) (laws : FormLaws F) (n :
       → (q : List ℕ) → Good K F n b v q → ((j : ℕ) (x : SeatState H L) → get_elem? v.seats j ≡ some x → seat_of x ≡ j)
       → ((j : ℕ) (x : SeatState H L) → get_elem? v.seats j ≡ some x → out x ≡ 1 → Begun K (es ++ e ∷ []) j)
       → Past (es ++ e ∷ []) v
+  unfolding call_less full_less
   quiet es e w v none_given still same p q good named begun =
       let more : List (Event B) = e ∷ [] in
       let ends : (k i r p : ℕ) (l : L) → Call K b (es ++ e ∷ []) k i r p l → r < length es =
@@ -235,6 +239,9 @@ module _ {B H L : Type 0} (K : Ghosts B H L) (F : Form) (laws : FormLaws F) (n :
         filled = λ tells k i r f. subst (λ (z : List L). K.capacity b ≤ length z) (sym lines)
             (p.filled tells k i r (fuller k i r f));
         full_last = λ tells k i r j a s q m f c. p.full_last tells k i r j a s q m (fuller k i r f) (less j a s q m c);
+        reached = λ k i r f. subst (λ (z : List L). K.capacity f.full.0 ≤ length z) (sym lines)
+            (p.reached k i r (fuller k i r f));
+        room_grew = λ k i r j a s q m f c. p.room_grew k i r j a s q m (fuller k i r f) (less j a s q m c);
       }
 
   -- a seat keeps its number where another view of that seat stands in its place
@@ -504,6 +511,33 @@ module _ {B H L : Type 0} (K : Ghosts B H L) (F : Form) (laws : FormLaws F) (n :
         (which_full k i r f))
         (which k' r' y.ends.0 y.ends.1)
 
+    -- a full journal that was found had no more room than there are lines now
+    reached_now : (k i r : ℕ) (f : FoundFull K b Longer k i r) → K.capacity f.full.0 ≤ length (K.lines c)
+    unfolding full_less
+    reached_now k i r f = ⊎_elim
+        (λ old. let ends = at_below es r (hands_on k f.full.0) old in
+        let was : K.capacity f.full.0 ≤ length (K.lines w.current) =
+        h.past.reached k i r (full_less K b es (hands_on j c ∷ []) k i r ends f) in
+        let more = grows in omega arith)
+        (λ (t : (r ≡ length es) × (j ≡ k)).
+        let Q : ℕ → Type 0 = λ z. K.capacity f.full.0 ≤ length (journal_after K b Longer z) in
+        let was = subst (λ (z : List L). K.capacity f.full.0 ≤ length z) before (subst Q t.0 f.full.2) in
+        let more = grows in omega arith) (which k r f.full.0 f.full.1)
+
+    -- a call that has its line later handed a book on that has more room
+    grew_now : (k i r k' i' r' p' : ℕ) (l' : L) (f : FoundFull K b Longer k i r) (y : Call K b Longer k' i' r' p' l')
+        → r < r' → K.capacity f.full.0 < K.capacity y.ends.0
+    unfolding call_less full_less
+    grew_now k i r k' i' r' p' l' f y later = ⊎_elim
+        (λ old. let ends : r' < length es = at_below es r' (hands_on k' y.ends.0) old in
+        h.past.room_grew k i r k' i' r' p' l' (full_less K b es (hands_on j c ∷ []) k i r (omega arith) f)
+        (call_less K b es (hands_on j c ∷ []) k' i' r' p' l' ends y) later)
+        (λ (t : (r' ≡ length es) × (hands_on j c ≡ hands_on k' y.ends.0)). let same = t.1 in
+        let own : c ≡ y.ends.0 = cc in let last = (last_line k' i' r' p' l' y t.0).0 in
+        let was = h.past.reached k i r (full_less K b es (hands_on j c ∷ []) k i r (omega (arith, t.0)) f) in
+        let space = h.room l' last in let cap = ap K.capacity own in omega arith)
+        (snoc_at es (hands_on j c) (hands_on k' y.ends.0) r' y.ends.1)
+
   -- after a hand on
   past_hand : (es : List (Event B)) (w : World B H L) (j : ℕ) (m : Memo H L) (t : ℕ) (c : B) → Past es w
       → get_elem? w.seats j ≡ some (Holding m t) → HandsOn K m t c
@@ -546,6 +580,8 @@ module _ {B H L : Type 0} (K : Ghosts B H L) (F : Form) (laws : FormLaws F) (n :
         stays = opening_stays es w j c h;
         filled = full_now es w j c h;
         full_last = full_after es w j c h;
+        reached = reached_now es w j c h;
+        room_grew = grew_now es w j c h;
       }
 
   -- after an event
@@ -583,6 +619,8 @@ module _ {B H L : Type 0} (K : Ghosts B H L) (F : Form) (laws : FormLaws F) (n :
     stays = subst (λ (z : B). IsPrefix (K.lines b) (K.lines z)) (sym o.current) (prefix_refl (K.lines b));
     filled = λ tells k i r f. absurd (some-ne-none (hands_on k f.full.0) (sym f.full.1));
     full_last = λ tells k i r j a s p l f c. absurd (some-ne-none (hands_on k f.full.0) (sym f.full.1));
+    reached = λ k i r f. absurd (some-ne-none (hands_on k f.full.0) (sym f.full.1));
+    room_grew = λ k i r j a s p l f c later. absurd (some-ne-none (hands_on k f.full.0) (sym f.full.1));
   }
 
 -- the law, in every form
@@ -592,6 +630,7 @@ linearizable K F laws n b w u es o r = let p = past_events K F laws n b [] es w 
   record {
     opening = p.stays;
     full_last = p.full_last;
+    room_grew = p.room_grew;
     each_call = p.each_call;
     each_line = p.each_line;
     one_call = λ k i r p' l j a s m c d. dite (dec_le r s)

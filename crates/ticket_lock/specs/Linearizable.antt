@@ -45,7 +45,8 @@ module _ {B H L : Type 0} (K : Ghosts B H L) where
   -- The journal xs is a sequential history of the calls in the events es: it begins with the lines at opening; each call
   -- has its line, or found the journal full; each line is that of just one call; where one call ended before another
   -- began, the line of the first stands before that of the second; and a call that found the journal full comes after
-  -- every line, where the capacity is part of the head
+  -- every line, where the capacity is part of the head. Where it is not, a call may have its line behind one that found
+  -- the journal full, if the book that it handed on has a greater capacity than the one that was full.
   pub record IsSequentialHistory (b : B) (es : List (Event B)) (xs : List L) : Type 0 where
     pub opening : IsPrefix (K.lines b) xs
     pub each_call : (k i r p : ℕ) (l : L) → Call b es k i r p l → (get_elem? xs p ≡ some l) × (K.line_seat l ≡ k)
@@ -57,6 +58,8 @@ module _ {B H L : Type 0} (K : Ghosts B H L) where
     pub in_order : (k i r p : ℕ) (l : L) (j a s q : ℕ) (m : L) → Call b es k i r p l → Call b es j a s q m → r < a
         → p < q
     pub full_last : HeadTellsCapacity → (k i r j a s p : ℕ) (l : L) → FoundFull b es k i r → Call b es j a s p l → s < r
+    pub room_grew : (k i r j a s p : ℕ) (l : L) (f : FoundFull b es k i r) (c : Call b es j a s p l) → r < s
+        → K.capacity f.full.0 < K.capacity c.ends.0
 
   -- Every list of events from every opened world is linearizable: the journal that it leaves is lawful, and is a
   -- sequential history of its calls in an order that keeps the order of calls that do not overlap

@@ -25,7 +25,8 @@ pub fn partitioned_schedules_hold<B: Chronicle>()
 /// opened world leaves a lawful journal that begins with the lines at opening and whose new lines are those of the
 /// calls, each in its seat's name, and where one seat's hand on stands before another seat's take, the line of the
 /// first stands before the line of the second. A hand on that adds no line found the journal full, and where the
-/// capacity is part of the head it comes after every line.
+/// capacity is part of the head it comes after every line; where it is not, each line that comes after it was added to
+/// a book with a greater capacity.
 pub fn partitioned_schedules_are_linearizable<B: Chronicle>()
     ensures { Linearizable B.Chronicle partitioned_form }
 {}

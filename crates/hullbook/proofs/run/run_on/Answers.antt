@@ -1,7 +1,7 @@
 -- the book and the workers that were made for the script may run it, no worker having more calls than all have; and
 -- ledgers in the order of their seats are all ledgers
-use Rattle.std.proofs.Common.{rules}
-use Rattle.hull_book.proofs.Counts.{all_in_order}
+use Rattle.std.proofs.Common.{◌^◌, arith, rules}
+use Rattle.hull_book.proofs.Counts.{all_in_order, counts_within}
 use Rattle.hull_pool.proofs.Fronts.{few_each}
 use Rattle.hullbook.proofs.Fits.{run_fits}
 use Rattle.hullbook.proofs.run.run_on.Goals as goal
@@ -15,6 +15,10 @@ run_phases-end-requires-after_bounds g c κs within = record {
   few = λ k below. few_each c.args.script.now.phases k (c.workers.ensures.limits.calls);
   room = search rules;
 }
+
+pub counts_of-counts-requires-clause-few : goal.counts_of-counts-requires-clause-few
+counts_of-counts-requires-clause-few g c =
+    counts_within {K = g.S.HullSet} c.run_phases-end.result.book _ (2 ^ 32) (search rules) (search rules) (omega (arith, c.capacity-capacity.ensures))
 
 pub gather-lines-requires-clause-ledgers : goal.gather-lines-requires-clause-ledgers
 gather-lines-requires-clause-ledgers g c = all_in_order _ _ (search rules)

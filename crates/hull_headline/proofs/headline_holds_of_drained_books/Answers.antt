@@ -1,0 +1,25 @@
+-- the law of the lock leads to a good world, which says each sentence of the whole
+use Rattle.hull_headline.proofs.Good.{first_come, one_holder, bridges, multiplicities, legal, in_order, ledgers}
+use Rattle.hull_headline.specs.Headline.{drained}
+use Rattle.hull_headline.proofs.headline_holds_of_drained_books.Goals as goal
+
+pub returns-clause-first_come : goal.returns-clause-first_come
+returns-clause-first_come c = first_come drained (λ b lawful. lawful) c.partitioned_schedules_hold.ensures
+
+pub returns-clause-one_holder : goal.returns-clause-one_holder
+returns-clause-one_holder c = one_holder drained (λ b lawful. lawful) c.partitioned_schedules_hold.ensures
+
+pub returns-clause-bridges : goal.returns-clause-bridges
+returns-clause-bridges c = bridges drained (λ b lawful. lawful) c.partitioned_schedules_hold.ensures
+
+pub returns-clause-multiplicities : goal.returns-clause-multiplicities
+returns-clause-multiplicities c = multiplicities drained (λ b lawful. lawful) c.partitioned_schedules_hold.ensures
+
+pub returns-clause-legal : goal.returns-clause-legal
+returns-clause-legal c = legal drained (λ b lawful. lawful) c.partitioned_schedules_hold.ensures
+
+pub returns-clause-in_order : goal.returns-clause-in_order
+returns-clause-in_order c = in_order drained (λ b lawful. lawful) c.partitioned_schedules_hold.ensures
+
+pub returns-clause-ledgers : goal.returns-clause-ledgers
+returns-clause-ledgers c = ledgers drained (λ b lawful. lawful) c.partitioned_schedules_hold.ensures

@@ -1,0 +1,151 @@
+//! Calls of a seat on a book that may be drained.
+ghost use Rattle.std.specs.Prelude.{◌≡◌, ◌<◌, ◌≤◌, ℕ, box_value};
+ghost use mathlib.Core.List.{IsPrefix};
+ghost use Rattle.ticket_lock.specs.Tokens.{opening_book, IsSeatOf, seat_number, seat_seen, guard_lock, guard_seat};
+ghost use Rattle.ticket_lock.specs.Tokens.{guard_number, guard_seen, guard_book, KeepsHead};
+ghost use Rattle.hull_book.specs.Books.{IsLawful};
+ghost use Rattle.hull_book.specs.Ledgers.{IsLedger, IsLedgerOf};
+ghost use Rattle.hull_pool.specs.Long.{HandsOut, WasServedLong, answer_of, long_book_head, whole_of};
+ghost use Rattle.hull_pool.specs.Work.{HasServed};
+
+use hull_book::{Answer, Journal, Ledger, LongBook, Reply, Room};
+use hull_plain::{Call, HullSet};
+use std::sync::Wait;
+use ticket_lock::{Guard, Seat, TicketLock};
+
+/// The lock round a book on the heap that may be drained.
+pub type LongLock<S> = TicketLock<Box<LongBook<S>>>;
+
+/// A seat of that lock.
+pub type LongSeat<S> = Seat<Box<LongBook<S>>>;
+
+/// A seat that holds the book of that lock.
+pub type LongGuard<'a, S> = Guard<'a, Box<LongBook<S>>>;
+
+/// What a drain was answered: the reply to its call and the part that was taken out; or the room back, where as many
+/// lines are held as may be.
+pub type Drained = Result<(Reply, Journal), Room>;
+
+/// Has one call of the seat that holds the book served, and hands the book on, as
+/// [`serve_and_hand_on`](crate::serve_and_hand_on) does; journal and capacity are those of the whole, the lines counted
+/// that were taken out.
+pub fn serve_long_and_hand_on<S: HullSet + Drop>(
+    guard: LongGuard<'_, S>,
+    number: u8,
+    call: Call,
+    ledger: &mut Ledger,
+) -> (LongSeat<S>, Answer)
+    requires seat { guard_seat guard ≡ number }
+    requires head { KeepsHead long_book_head guard }
+    requires seen { guard_seen guard ≡ (whole_of (guard_book guard)).lines }
+    requires lawful { IsLawful S.HullSet (whole_of (guard_book guard)) }
+    requires same_head { long_book_head (guard_book guard) ≡ long_book_head (opening_book (guard_lock guard)) }
+    requires turn { (whole_of (guard_book guard)).turn ≡ guard_number guard }
+    requires ledger { IsLedger (whole_of (guard_book guard)) number ledger.old }
+    ensures own { IsSeatOf long_book_head (guard_lock guard.entry) result.0 }
+    ensures number { seat_number result.0 ≡ number }
+    ensures ledger { IsLedgerOf number (seat_seen result.0) ledger.new }
+    ensures served { let found = whole_of (guard_book guard.entry) in
+        HasServed found.head.journal (guard_number guard.entry) number call found.lines (seat_seen result.0) result.1 }
+{
+    let mut guard = guard;
+    let book = guard.book();
+    let answer = book.serve(number, call, ledger);
+    let seat = guard.hand_on();
+    (seat, answer)
+}
+
+/// Has one call of the seat that holds the book served, takes out all lines that are held then, and hands the book on.
+///
+/// The part has the lines of the journal that were not taken out before, the call's own as the last of them.
+pub fn drain_and_hand_on<S: HullSet + Drop>(
+    guard: LongGuard<'_, S>,
+    number: u8,
+    call: Call,
+    ledger: &mut Ledger,
+    room: Room,
+) -> (LongSeat<S>, Drained)
+    requires seat { guard_seat guard ≡ number }
+    requires head { KeepsHead long_book_head guard }
+    requires seen { guard_seen guard ≡ (whole_of (guard_book guard)).lines }
+    requires lawful { IsLawful S.HullSet (whole_of (guard_book guard)) }
+    requires same_head { long_book_head (guard_book guard) ≡ long_book_head (opening_book (guard_lock guard)) }
+    requires turn { (whole_of (guard_book guard)).turn ≡ guard_number guard }
+    requires ledger { IsLedger (whole_of (guard_book guard)) number ledger.old }
+    requires room { (box_value (guard_book guard)).capacity ≤ room }
+    ensures own { IsSeatOf long_book_head (guard_lock guard.entry) result.0 }
+    ensures number { seat_number result.0 ≡ number }
+    ensures ledger { IsLedgerOf number (seat_seen result.0) ledger.new }
+    ensures served { let found = whole_of (guard_book guard.entry) in
+        HasServed found.head.journal (guard_number guard.entry) number call found.lines (seat_seen result.0)
+        (answer_of result.1) }
+    ensures part { HandsOut (long_book_head (guard_book guard.entry)).journal
+        (box_value (guard_book guard.entry)).drained (seat_seen result.0) room result.1 }
+{
+    let mut guard = guard;
+    let book = guard.book();
+    let drained = book.drain(number, call, ledger, room);
+    let seat = guard.hand_on();
+    (seat, drained)
+}
+
+/// Makes one call on a book that may be drained: it waits until the seat holds the book, has the call served, and hands
+/// the book on. `number` is the seat's number, and `ledger` the ledger of that seat.
+///
+/// The answer is the reply, which is allowed at what the seat found and has its line in the journal, in this seat's
+/// name; or that as many lines were held as may be. The seat that comes back has seen the whole journal as it handed it
+/// on, which is a legal history and begins with what it had seen before.
+pub fn make_long_call<R: Wait, S: HullSet + Drop>(
+    rt: &R,
+    lock: &LongLock<S>,
+    seat: LongSeat<S>,
+    number: u8,
+    call: Call,
+    ledger: &mut Ledger,
+) -> (LongSeat<S>, Answer)
+    requires own { IsSeatOf long_book_head lock.now seat }
+    requires number { seat_number seat ≡ number }
+    requires below { number < (long_book_head (opening_book lock.now)).workers }
+    requires ledger { IsLedgerOf number (seat_seen seat) ledger.old }
+    ensures own { IsSeatOf long_book_head lock.now result.0 }
+    ensures number { seat_number result.0 ≡ number }
+    ensures ledger { IsLedgerOf number (seat_seen result.0) ledger.new }
+    ensures begins { IsPrefix (seat_seen seat) (seat_seen result.0) }
+    ensures served { WasServedLong (long_book_head (opening_book lock.now)).journal number call (seat_seen seat)
+        (seat_seen result.0) result.1 }
+{
+    let guard = lock.enter(rt, seat);
+    serve_long_and_hand_on(guard, number, call, ledger)
+}
+
+/// Makes one call, as [`make_long_call`] does, and takes out all lines that are held then, into room for as many lines
+/// as are held at most.
+///
+/// The part has the last lines of the journal that the seat that comes back has seen, the call's own as the last of
+/// them, and the number of the first of them is its first number.
+pub fn make_drain<R: Wait, S: HullSet + Drop>(
+    rt: &R,
+    lock: &LongLock<S>,
+    seat: LongSeat<S>,
+    number: u8,
+    call: Call,
+    ledger: &mut Ledger,
+    room: Room,
+) -> (LongSeat<S>, Drained)
+    requires own { IsSeatOf long_book_head lock.now seat }
+    requires number { seat_number seat ≡ number }
+    requires below { number < (long_book_head (opening_book lock.now)).workers }
+    requires ledger { IsLedgerOf number (seat_seen seat) ledger.old }
+    requires room { (long_book_head (opening_book lock.now)).journal.capacity ≤ room }
+    ensures own { IsSeatOf long_book_head lock.now result.0 }
+    ensures number { seat_number result.0 ≡ number }
+    ensures ledger { IsLedgerOf number (seat_seen result.0) ledger.new }
+    ensures begins { IsPrefix (seat_seen seat) (seat_seen result.0) }
+    ensures served { WasServedLong (long_book_head (opening_book lock.now)).journal number call (seat_seen seat)
+        (seat_seen result.0) (answer_of result.1) }
+    ensures part { (drained : ℕ)
+        × HandsOut (long_book_head (opening_book lock.now)).journal drained (seat_seen result.0) room result.1 }
+{
+    let guard = lock.enter(rt, seat);
+    drain_and_hand_on(guard, number, call, ledger, room)
+}

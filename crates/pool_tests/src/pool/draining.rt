@@ -1,0 +1,296 @@
+//! Eight threads on a book that one of them drains; the parts together are judged by the checker of parts.
+ghost use Rattle.std.specs.Prelude.{◌≡◌, ◌+◌, ◌<◌, ◌≤◌, [], All, length, vec_len, vec_capacity};
+ghost use Rattle.std.specs.List.{AllZip};
+ghost use Rattle.ticket_lock.specs.Tokens.{AreNumbered, IsSeatOf, opening_book, seat_count, seat_number, seat_seen};
+ghost use Rattle.hull_book.specs.Books.{IsLawful};
+ghost use Rattle.hull_book.specs.Ledgers.{IsLedgerOf};
+ghost use Rattle.hull_plain.specs.Sets.{plain_set};
+ghost use Rattle.hull_pool.specs.Long.{IsSeatedLong, long_book_head};
+
+use super::{at, opened};
+use hull_book::{Call, Journal, Ledger, LongBook, PartsChecker, ReplayFault, Room};
+use hull_plain::PlainSet;
+use hull_pool::{LongLock, LongSeat, close_long_book, make_drain, make_long_call};
+use std::alloc::Global;
+use std::process::Abort;
+use std::sync::Wait;
+use std::test::Fail;
+use std::thread;
+use std::thread::Threads;
+use ticket_lock::TicketLock;
+
+/// How many threads there are, and how many calls each makes.
+const MEMBERS: u8 = 8;
+
+const CALLS: u32 = 20_000;
+
+/// Member 0 drains with each of its calls that has so many, itself counted, since the last drain.
+const EVERY: u32 = 10_000;
+
+/// How many lines are held at most: too few for all calls, and enough for those up to the first drain and since.
+const CAPACITY: u32 = 150_000;
+
+/// What a thread has: a seat, its ledger, the parts that it took out, and how many calls were refused.
+struct Member {
+    number: u8,
+    seat: Option<LongSeat<PlainSet>>,
+    ledger: Ledger,
+    parts: Vec<Journal>,
+    refused: u32,
+}
+
+// The i-th call of a member.
+fn nth_call(rt: &impl Abort, number: u8, i: u32) -> Call {
+    let k = i.wrapping_mul(7).wrapping_add(u32::from(number) * 5) % 97;
+    let p = at(rt, i64::from(k % 11), i64::from(k / 11));
+    match i % 5 {
+        0 | 1 => Call::Add(p),
+        2 => Call::Remove(p),
+        3 => Call::Place(p),
+        _ => Call::Count,
+    }
+}
+
+// Makes the member's call.
+fn calls<R: Wait>(rt: &R, lock: &LongLock<PlainSet>, member: &mut Member, call: Call)
+    requires ready { IsSeatedLong lock.now member.old.number member.old.ledger member.old.seat }
+    ensures ready { IsSeatedLong lock.now member.new.number member.new.ledger member.new.seat }
+{
+    let seat = member.seat.take().unwrap();
+    let (seat, answer) = make_long_call(rt, lock, seat, member.number, call, &mut member.ledger);
+    let none = member.seat.replace(seat);
+    let None = none else { unreachable!() };
+    if answer.is_err() {
+        member.refused = member.refused.wrapping_add(1);
+    }
+}
+
+// Makes the member's call and takes out all lines that are held.
+fn drains<R: Wait + Abort>(
+    rt: &R,
+    alloc: Global,
+    lock: &LongLock<PlainSet>,
+    member: &mut Member,
+    call: Call,
+)
+    requires room { (long_book_head (opening_book lock.now)).journal.capacity ≤ CAPACITY }
+    requires ready { IsSeatedLong lock.now member.old.number member.old.ledger member.old.seat }
+    ensures ready { IsSeatedLong lock.now member.new.number member.new.ledger member.new.seat }
+{
+    let Ok(room) = Room::reserve(alloc, CAPACITY) else {
+        panic!(rt; "there is memory for the lines")
+    };
+    let seat = member.seat.take().unwrap();
+    let (seat, drained) = make_drain(
+        rt,
+        lock,
+        seat,
+        member.number,
+        call,
+        &mut member.ledger,
+        room,
+    );
+    let none = member.seat.replace(seat);
+    let None = none else { unreachable!() };
+    match drained {
+        Ok((_reply, part)) => assert!(rt; member.parts.push(part).is_ok()),
+        Err(_room) => member.refused = member.refused.wrapping_add(1),
+    }
+}
+
+// Makes all calls of the member.
+fn works<R: Wait + Abort>(rt: &R, alloc: Global, lock: &LongLock<PlainSet>, member: &mut Member)
+    requires room { (long_book_head (opening_book lock.now)).journal.capacity ≤ CAPACITY }
+    requires ready { IsSeatedLong lock.now member.old.number member.old.ledger member.old.seat }
+    ensures ready { IsSeatedLong lock.now member.new.number member.new.ledger member.new.seat }
+{
+    for i in 0..CALLS {
+        let call = nth_call(rt, member.number, i);
+        if member.number == 0 && i % EVERY == EVERY - 1 {
+            drains(rt, alloc, lock, member, call);
+        } else {
+            calls(rt, lock, member, call);
+        }
+    }
+}
+
+// All members make their calls at once, in a thread each.
+fn work_each<R: Threads + Wait + Abort + Sync>(
+    rt: &R,
+    alloc: Global,
+    lock: &LongLock<PlainSet>,
+    members: &mut [Member],
+)
+    requires some { 0 < length members.old }
+    requires room { (long_book_head (opening_book lock.now)).journal.capacity ≤ CAPACITY }
+    requires ready { All (λ m. IsSeatedLong lock.now m.number m.ledger m.seat) members.old }
+    ensures ready { All (λ m. IsSeatedLong lock.now m.number m.ledger m.seat) members.new }
+{
+    let threads = members.len();
+    let each = |_: usize, member: &mut Member|
+        requires room { (long_book_head (opening_book lock.now)).journal.capacity ≤ CAPACITY }
+        requires ready { IsSeatedLong lock.now member.now.number member.now.ledger member.now.seat }
+        ensures { IsSeatedLong lock.entry.now member.exit.now.number member.exit.now.ledger member.exit.now.seat }
+    { works(rt, alloc, lock, member) };
+    thread::for_each_mut(rt, members, threads, &each);
+}
+
+// The same of a list of them.
+fn work_all<R: Threads + Wait + Abort + Sync>(
+    rt: &R,
+    alloc: Global,
+    lock: &LongLock<PlainSet>,
+    members: &mut Vec<Member>,
+)
+    requires some { 0 < vec_len members.old }
+    requires room { (long_book_head (opening_book lock.now)).journal.capacity ≤ CAPACITY }
+    requires ready { All (λ m. IsSeatedLong lock.now m.number m.ledger m.seat) members.old.items }
+    ensures ready { All (λ m. IsSeatedLong lock.now m.number m.ledger m.seat) members.new.items }
+    ensures many { vec_len members.new ≡ vec_len members.old }
+{
+    work_each(rt, alloc, lock, members.as_mut_slice());
+}
+
+// Makes a member of each seat, with its ledger, before any call.
+fn hire(
+    rt: &impl Abort,
+    alloc: Global,
+    lock: &LongLock<PlainSet>,
+    seats: &mut Vec<LongSeat<PlainSet>>,
+    ledgers: &mut Vec<Ledger>,
+    members: &mut Vec<Member>,
+)
+    requires seats { All (λ s. IsSeatOf long_book_head lock.now s × (seat_seen s ≡ [])) seats.old.items }
+    requires room { (members.old.items ≡ []) × (vec_len seats.old ≤ vec_capacity members.old) }
+    requires few { ((long_book_head (opening_book lock.now)).workers ≡ vec_len seats.old)
+        × (vec_len ledgers.old ≡ vec_len seats.old) }
+    ensures seats { (seats.new.items ≡ []) × (vec_capacity seats.new ≡ vec_capacity seats.old) }
+    ensures ledgers { (ledgers.new.items ≡ []) × (vec_capacity ledgers.new ≡ vec_capacity ledgers.old) }
+    ensures ready { All (λ m. IsSeatedLong lock.now m.number m.ledger m.seat) members.new.items }
+    ensures many { vec_len members.new ≡ vec_len seats.old }
+{
+    let workers = seats.len();
+    while let Some(seat) = seats.pop() {
+        let Some(ledger) = ledgers.pop() else {
+            panic!(rt; "there is a ledger for each seat")
+        };
+        let number = seat.number();
+        assert!(rt; ledger.seat() == number && ledger.count() == 0);
+        assert!(rt; usize::from(number) < workers);
+        members.push_reserved(Member {
+            number,
+            seat: Some(seat),
+            ledger,
+            parts: Vec::new(alloc),
+            refused: 0,
+        });
+    }
+}
+
+// Keeps the parts of the member that took some out.
+fn keep(parts: &mut Vec<Journal>, own: Vec<Journal>) {
+    if !own.is_empty() {
+        drop(std::mem::replace(parts, own));
+    }
+}
+
+// Takes the members apart, the last first: their seats, their ledgers, and the parts that they took out.
+fn dismiss(
+    rt: &impl Abort,
+    lock: &LongLock<PlainSet>,
+    members: &mut Vec<Member>,
+    seats: &mut Vec<LongSeat<PlainSet>>,
+    ledgers: &mut Vec<Ledger>,
+    parts: &mut Vec<Journal>,
+)
+    requires ready { All (λ m. IsSeatedLong lock.now m.number m.ledger m.seat) members.old.items }
+    requires empty { (seats.old.items ≡ []) × (ledgers.old.items ≡ []) }
+    requires room { (vec_len members.old ≤ vec_capacity seats.old) × (vec_len members.old ≤ vec_capacity ledgers.old) }
+    ensures members { members.new.items ≡ [] }
+    ensures own { All (IsSeatOf long_book_head lock.now) seats.new.items }
+    ensures numbered { AreNumbered seats.new.items }
+    ensures ledgers { AllZip (λ s l. IsLedgerOf (seat_number s) (seat_seen s) l) seats.new.items ledgers.new.items }
+    ensures many { vec_len seats.new ≡ vec_len members.old }
+{
+    while let Some(member) = members.pop() {
+        let Member {
+            number,
+            seat,
+            ledger,
+            parts: own,
+            refused,
+        } = member;
+        let Some(seat) = seat else { unreachable!() };
+        assert!(rt; usize::from(number) == seats.len() && refused == 0);
+        seats.push_reserved(seat);
+        ledgers.push_reserved(ledger);
+        keep(parts, own);
+    }
+}
+
+// All members make their calls on one book: the parts of its journal in their order, and how many calls have a line.
+fn all_share<R: Threads + Wait + Abort + Sync>(rt: &R, alloc: Global) -> (Vec<Journal>, u64) {
+    let (book, mut ledgers) = opened(rt, alloc, 18446744073709551600, CAPACITY, MEMBERS);
+    let Ok(book) = Box::new(alloc, LongBook::new(book)) else {
+        panic!(rt; "there is memory for the book")
+    };
+    let Ok((lock, mut seats)) = TicketLock::open(alloc, book, MEMBERS) else {
+        panic!(rt; "there is memory for the lock")
+    };
+    let Ok(mut members) = Vec::with_capacity(alloc, usize::from(MEMBERS)) else {
+        panic!(rt; "there is memory for the members")
+    };
+    let mut parts = Vec::new(alloc);
+    hire(rt, alloc, &lock, &mut seats, &mut ledgers, &mut members);
+    work_all(rt, alloc, &lock, &mut members);
+    dismiss(
+        rt,
+        &lock,
+        &mut members,
+        &mut seats,
+        &mut ledgers,
+        &mut parts,
+    );
+    members.destroy_empty();
+    let (book, sum) = close_long_book(lock, seats, ledgers);
+    assert!(rt; parts.push(book.into_part()).is_ok());
+    (parts, sum)
+}
+
+// The parts of these places, checked in this order: how many lines they have, or which of them is not right, and why.
+fn checked(
+    alloc: Global,
+    parts: &[Journal],
+    order: &[usize],
+) -> Result<usize, (usize, ReplayFault)> {
+    let [first, ..] = parts else { return Ok(0) };
+    let mut checker = PartsChecker::new(alloc, first);
+    let mut lines = 0usize;
+    for (i, place) in order.iter().enumerate() {
+        let Some(part) = parts.get(*place) else {
+            return Ok(lines);
+        };
+        match checker.check_next(part) {
+            Ok(next) => checker = next,
+            Err(fault) => return Err((i, fault)),
+        }
+        lines = lines.wrapping_add(part.lines().len());
+    }
+    Ok(lines)
+}
+
+/// Eight threads make 20,000 calls each on a book that holds 150,000 lines at most, and one of them drains it with every
+/// 10,000th of its calls: no call is refused, each has its line, the parts together are a legal history, and a part that
+/// is missing, doubled or exchanged is illegal at its first line.
+#[test]
+fn eight_threads_and_one_drains(rt: HostRuntime) -> Result<(), Fail> {
+    let (parts, sum) = all_share(&rt, rt.alloc());
+    assert_eq!(rt; (sum, parts.len()), (160_000, 3));
+    let alloc = rt.alloc();
+    assert_eq!(rt; checked(alloc, &parts, &[0, 1, 2]), Ok(160_000));
+    let at_first = ReplayFault::Wrong(0);
+    assert_eq!(rt; checked(alloc, &parts, &[0, 2]), Err((1, at_first)));
+    assert_eq!(rt; checked(alloc, &parts, &[0, 1, 1, 2]), Err((2, at_first)));
+    assert_eq!(rt; checked(alloc, &parts, &[0, 2, 1]), Err((1, at_first)));
+    Ok(())
+}
