@@ -16,13 +16,13 @@ use Rattle.lattice.specs.Covers.{IsPointSet}
 use Rattle.lattice.specs.Plane.{Pair, IsBefore}
 use Rattle.lattice.proofs.Order.{before_total, before_trans, before_irrefl}
 use Rattle.hull_plain.specs.Mending.{IsBehind, IsAhead, IsBetween}
-use Rattle.hull_plain.specs.Monotone.{EndsWith, IsPassed}
+use Rattle.hull_plain.specs.Monotone.{EndsWith, IsThinned}
 use Rattle.hull_plain.specs.Edges.{end_of}
 use Rattle.hull_plain.specs.declared.monotone.Side.{Side}
 use Rattle.hull_plain.proofs.FewVertices.{distinct_few}
 use Rattle.hull_plain.proofs.OrderedMaps.{point_cmp, less, greater, equal}
-use Rattle.hull_plain.proofs.Passes.{ends_take, ends_cut, set_append, set_left, set_right, set_apart, passed_set}
-use Rattle.hull_plain.proofs.Passes.{passed_through, from_front}
+use Rattle.hull_plain.proofs.Passes.{ends_take, ends_cut, set_append, set_left, set_right, set_apart, thinned_set}
+use Rattle.hull_plain.proofs.Passes.{thinned_through, from_front}
 use Rattle.hull_plain.proofs.PointLists.{AllPairs-cons, AllPairs-head, AllPairs-tail, append_twice}
 use Rattle.hull_plain.proofs.PointLists.{get_or_free}
 
@@ -245,7 +245,7 @@ set_few C S o among = distinct_few C S
 
 -- the front of a set between, with one more point
 module _ (side : Side) (S left right chain seen rest whole : List Pair) (p : Pair) (w : seen ++ p ∷ rest ≡ whole)
-    (k : IsBetween S left right whole) (h : IsPassed side (left ++ seen) chain) where
+    (k : IsBetween S left right whole) (h : IsThinned side (left ++ seen) chain) where
   -- the points so far, the next one, and the others
   parts : left ++ seen ++ p ∷ [] ++ rest ≡ left ++ whole
   parts =
@@ -259,7 +259,7 @@ module _ (side : Side) (S left right chain seen rest whole : List Pair) (p : Pai
 
   -- the chain and the next one are a set
   pub next_set : IsPointSet (chain ++ p ∷ [])
-  next_set = passed_set side (left ++ seen) chain (p ∷ []) h front
+  next_set = thinned_set side (left ++ seen) chain (p ∷ []) h front
 
   -- there is room for it
   pub next_room : ((t : Pair) → Contains (left ++ right) t → Contains S t) → length chain + 1 ≤ length S
@@ -275,12 +275,12 @@ module _ (side : Side) (S left right chain seen rest whole : List Pair) (p : Pai
           (Contains-append_left (left ++ seen ++ p ∷ []) rest t
           (from_front (left ++ seen) chain (p ∷ []) h.among t m)))
 
-  -- it is passed
-  pub next_passed : (new : List Pair) → IsPassed side (chain ++ p ∷ []) new
-      → (seen : List Pair) × (seen ++ rest ≡ whole) × IsPassed side (left ++ seen) new
-  next_passed new q = (
+  -- it is one of those seen
+  pub next_seen : (new : List Pair) → IsThinned side (chain ++ p ∷ []) new
+      → (seen : List Pair) × (seen ++ rest ≡ whole) × IsThinned side (left ++ seen) new
+  next_seen new q = (
     seen ++ p ∷ [],
     append_twice seen (p ∷ []) rest ∙ w,
-    subst (λ (z : List Pair). IsPassed side z new) (append_twice left seen (p ∷ []))
-        (passed_through side (left ++ seen) chain (p ∷ []) new h q),
+    subst (λ (z : List Pair). IsThinned side z new) (append_twice left seen (p ∷ []))
+        (thinned_through side (left ++ seen) chain (p ∷ []) new h q),
   )

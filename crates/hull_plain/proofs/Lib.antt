@@ -30,6 +30,8 @@ pub mod ChainPasses
 pub mod Passes
 pub mod Between
 pub mod Mended
+pub mod FringeChains
+pub mod Middles
 pub mod Looks
 pub mod Touches
 pub mod Slopes

@@ -1,19 +1,21 @@
 -- The chain of a set that changed.
 use Rattle.std.proofs.Common.{◌≡◌, ℕ, ℤ, pos, ◌≤ℤ◌, ◌<ℤ◌, neg_ℤ, ◌⊎◌, inl, inr, refl, sym, ap, ◌∙◌, subst, List, arith}
 use Rattle.std.proofs.Common.{zero, suc, [], ◌∷◌, ◌++◌, ◌<◌, ◌≤◌, ◌-◌, ◌+◌, length, get_or, take, drop, Ok, Err}
-use Rattle.std.proofs.Common.{length-append, length-drop}
+use Rattle.std.proofs.Common.{length-append, length-drop, length-take}
 use Rattle.std.proofs.lemmas.Bool.{cases_lt}
 use Rattle.std.proofs.lemmas.Int.{ints}
 use Rattle.std.proofs.lemmas.List.{drop_more}
+use Rattle.std.proofs.lemmas.List.Edits.{insert-append_right}
 use Rattle.std.proofs.lemmas.List.Elements.{All-contains, All-cons, All-weaker, Contains-append_left}
 use Rattle.std.proofs.lemmas.List.Elements.{Contains-append_right, Contains-append_cases}
-use Rattle.std.specs.List.{All, Contains}
+use Rattle.std.specs.List.{All, Contains, insert}
 use Rattle.lattice.specs.Covers.{IsPointSet, with_point, without_point}
 use Rattle.lattice.specs.Plane.{Pair, IsBefore}
 use Rattle.lattice.specs.Signs.{le_or_lt}
 use Rattle.lattice.proofs.Order.{before_total, before_trans, before_irrefl}
 use Rattle.hull_plain.specs.Mending.{IsOverEdge, IsBetween}
-use Rattle.hull_plain.specs.Monotone.{turn, IsInwards, IsInnerFrom, IsInner, EndsWith, IsPassed, IsChainOf}
+use Rattle.hull_plain.specs.Monotone.{turn, IsInwards, IsInnerFrom, IsInner, EndsWith, IsPassed, IsThinned}
+use Rattle.hull_plain.specs.Monotone.{IsTurning, IsFringeOf, IsChainOf}
 use Rattle.hull_plain.specs.Positions.{IsPositionOf, point_at, origin}
 use Rattle.hull_plain.specs.declared.monotone.Side.{Side}
 use Rattle.hull_plain.proofs.Between.{after_ends, end_in, first_in, set_few}
@@ -22,7 +24,7 @@ use Rattle.hull_plain.proofs.ChainPasses.{set_less, set_longer}
 use Rattle.hull_plain.proofs.ChangedSets.{set-insert, in_without}
 use Rattle.hull_plain.proofs.FoundPositions.{found_after, found_absent, cut_around}
 use Rattle.hull_plain.proofs.Passes.{set_left, set_right, inner_cut, inner_left, inner_right}
-use Rattle.hull_plain.proofs.Passes.{inner_across, member_inner, ends_take, ends_right}
+use Rattle.hull_plain.proofs.Passes.{inner_across, member_inner, ends_take, ends_right, thinned_itself, thinned_of}
 use Rattle.hull_plain.proofs.PointLists.{AllPairs-head, append_twice, append_none, later, cut}
 use Rattle.hull_plain.proofs.SetLaws.{members_with, members_without}
 use Rattle.hull_plain.proofs.Turns.{turn_swap, inwards_from, inwards_to}
@@ -65,11 +67,28 @@ first_from xs i y rest e =
 
 -- ---- a new point
 
--- where p stands inwards of an edge, the chain stays
-pub put_in_same : (side : Side) (S chain : List Pair) (p : Pair) (i : ℕ) → IsPositionOf chain p (Err i)
-    → IsOverEdge side chain i p → IsChainOf side S chain → IsChainOf side (with_point p S) chain
-put_in_same side S chain p i at (some, l, h) c = record {
-  strict = c.strict;
+-- the chain of a set is a fringe of it
+pub fringe_of : (side : Side) (S chain : List Pair) → IsChainOf side S chain → IsFringeOf side S chain
+fringe_of side S chain c = record { ordered = c.strict.ordered; among = c.among; inner = c.inner }
+
+-- and a fringe that turns is its chain
+pub chain_of : (side : Side) (S chain : List Pair) → IsFringeOf side S chain → IsTurning side chain
+    → IsChainOf side S chain
+chain_of side S chain c h =
+    record {
+      strict = record {
+        ordered = c.ordered;
+        turning = h;
+      };
+      among = c.among;
+      inner = c.inner;
+    }
+
+-- where p stands inwards of a segment of a fringe, it stays
+pub put_on_same : (side : Side) (S chain : List Pair) (p : Pair) (i : ℕ) → IsPositionOf chain p (Err i)
+    → IsOverEdge side chain i p → IsFringeOf side S chain → IsFringeOf side (with_point p S) chain
+put_on_same side S chain p i at (some, l, h) c = record {
+  ordered = c.ordered;
   among = λ t m. (members_with p t S).1 (inr (c.among t m));
   inner = λ u m. go u ((members_with p u S).0 m);
 }
@@ -100,6 +119,12 @@ put_in_same side S chain p i at (some, l, h) c = record {
     go : (u : Pair) → (u ≡ p) ⊎ Contains S u → IsInner side chain u
     go u (inl e) = subst (IsInner side chain) (sym e) inner_p
     go u (inr m) = c.inner u m
+
+-- and the chain stays
+pub put_in_same : (side : Side) (S chain : List Pair) (p : Pair) (i : ℕ) → IsPositionOf chain p (Err i)
+    → IsOverEdge side chain i p → IsChainOf side S chain → IsChainOf side (with_point p S) chain
+put_in_same side S chain p i at over c =
+    chain_of side (with_point p S) chain (put_on_same side S chain p i at over (fringe_of side S chain c)) c.strict.turning
 
 -- the points before p, and p
 pub before_and : (side : Side) (chain : List Pair) (p : Pair) (i : ℕ) → IsPointSet chain → IsPositionOf chain p (Err i)
@@ -160,13 +185,13 @@ inner_put side chain p i (y ∷ rest) is at n u k =
           ))
         ]
 
--- what a pass leaves of the points before p, p and the points after it is the chain of the set with p
-pub put_in_new : (side : Side) (S chain new : List Pair) (p : Pair) (i : ℕ) → IsPositionOf chain p (Err i)
-    → ¬ (IsOverEdge side chain i p) → IsPassed side (take i chain ++ p ∷ [] ++ drop i chain) new → IsChainOf side S chain
-    → IsChainOf side (with_point p S) new
-put_in_new side S chain new p i at n h c =
+-- what is left of the points before p, p and the points after it is a fringe of the set with p
+pub put_on_new : (side : Side) (S chain new : List Pair) (p : Pair) (i : ℕ) → IsPositionOf chain p (Err i)
+    → ¬ (IsOverEdge side chain i p) → IsThinned side (take i chain ++ p ∷ [] ++ drop i chain) new → IsFringeOf side S chain
+    → IsFringeOf side (with_point p S) new
+put_on_new side S chain new p i at n h c =
     record {
-      strict = h.strict;
+      ordered = h.ordered;
       among = λ t m. (members_with p t S).1 (whence t (h.among t m));
       inner =
           λ u m. h.inner u (go u ((members_with p u S).0 m));
@@ -198,18 +223,49 @@ put_in_new side S chain new p i at n h c =
     go u (inr m) = inner_put side chain p i (drop i chain) refl at n u
         (subst (λ (z : List Pair). IsInner side z u) parts (c.inner u m))
 
+-- what a pass leaves of them is the chain of the set with p
+pub put_in_new : (side : Side) (S chain new : List Pair) (p : Pair) (i : ℕ) → IsPositionOf chain p (Err i)
+    → ¬ (IsOverEdge side chain i p) → IsPassed side (take i chain ++ p ∷ [] ++ drop i chain) new → IsChainOf side S chain
+    → IsChainOf side (with_point p S) new
+put_in_new side S chain new p i at n h c =
+    chain_of side (with_point p S) new
+    (put_on_new side S chain new p i at n (thinned_of side (take i chain ++ p ∷ [] ++ drop i chain) new h)
+    (fringe_of side S chain c)) h.strict.turning
+
+-- a list with p put in at a place
+inserted : (xs : List Pair) (i : ℕ) (p : Pair) → i ≤ length xs → insert xs i p ≡ take i xs ++ p ∷ drop i xs
+inserted xs i p l =
+    ap (λ (z : List Pair). insert z i p) (cut xs i l)
+    ∙ insert-append_right (take i xs) (drop i xs) i i p (omega (arith, length-take i xs, l)) (omega arith)
+    ∙ (let e : i - i ≡ 0 = omega arith in ap (λ (n : ℕ). take i xs ++ insert (drop i xs) n p) e)
+
+-- the points before p, p and the points after it, as they are, are a fringe of the set with p
+pub put_on_all : (side : Side) (S fringe : List Pair) (p : Pair) (i : ℕ) → IsPositionOf fringe p (Err i)
+    → ¬ (IsOverEdge side fringe i p) → IsFringeOf side S fringe → IsFringeOf side (with_point p S) (insert fringe i p)
+put_on_all side S fringe p i at n c =
+    subst (IsFringeOf side (with_point p S))
+    (append_twice (take i fringe) (p ∷ []) (drop i fringe) ∙ sym (inserted fringe i p at.0))
+    (put_on_new side S fringe (take i fringe ++ p ∷ [] ++ drop i fringe) p i at n
+    (thinned_itself side (take i fringe ++ p ∷ [] ++ drop i fringe) (before_and_after fringe p i c.ordered at)) c)
+
 -- ---- a point that left
 
--- a point that is not on the chain leaves it as it is
-pub take_out_same : (side : Side) (keys S chain : List Pair) (p : Pair) (i : ℕ) → IsPointSet S
-    → IsPositionOf chain p (Err i) → keys ≡ without_point p S → IsChainOf side S chain → IsChainOf side keys chain
-take_out_same side keys S chain p i s at e c =
-    subst (λ (z : List Pair). IsChainOf side z chain) (sym e) (record {
-      strict = c.strict;
+-- a point that is not on a fringe leaves it as it is
+pub take_off_same : (side : Side) (keys S chain : List Pair) (p : Pair) (i : ℕ) → IsPointSet S
+    → IsPositionOf chain p (Err i) → keys ≡ without_point p S → IsFringeOf side S chain → IsFringeOf side keys chain
+take_off_same side keys S chain p i s at e c =
+    subst (λ (z : List Pair). IsFringeOf side z chain) (sym e) (record {
+      ordered = c.ordered;
       among = λ t m. in_without p t S
           (λ z. found_absent chain p i at (subst (λ (x : Pair). Contains chain x) z m)) (c.among t m);
       inner = λ u m. c.inner u ((members_without p u S s).0 m).0;
     })
+
+-- and the chain
+pub take_out_same : (side : Side) (keys S chain : List Pair) (p : Pair) (i : ℕ) → IsPointSet S
+    → IsPositionOf chain p (Err i) → keys ≡ without_point p S → IsChainOf side S chain → IsChainOf side keys chain
+take_out_same side keys S chain p i s at e c =
+    chain_of side keys chain (take_off_same side keys S chain p i s at e (fringe_of side S chain c)) c.strict.turning
 
 -- a point of the set is left, or is the one that left
 pub left_or_gone : (p : Pair) (keys S : List Pair) (t : Pair) → keys ≡ without_point p S → Contains S t
@@ -277,27 +333,21 @@ between_few S left right middle k among =
               [ inl n ↦ among t (Contains-append_left left right t n) | inr n ↦ k.among t n ]
         ]
 
--- what a pass leaves of the points before p, all that stand between its neighbours, and the points after it, is the
--- chain of what is left
-pub take_out_new : (side : Side) (keys S chain middle new : List Pair) (p : Pair) (i : ℕ) → IsPointSet S
-    → IsPositionOf chain p (Ok i) → keys ≡ without_point p S
+-- what is left of the points before p, all that stand between its neighbours, and the points after it, is a fringe of
+-- keys, of which each is inner to the list, and none is p
+pub take_off_new : (side : Side) (keys chain middle new : List Pair) (p : Pair) (i : ℕ) → IsPointSet chain
+    → IsPositionOf chain p (Ok i) → ((t : Pair) → Contains chain t → (t ≡ p) ⊎ Contains keys t)
+    → ((u : Pair) → Contains keys u → IsInner side chain u × ¬ (u ≡ p))
     → IsBetween keys (take i chain) (drop (i + 1) chain) middle
-    → IsPassed side (take i chain ++ middle ++ drop (i + 1) chain) new → IsChainOf side S chain
-    → IsChainOf side keys new
-take_out_new side keys S chain middle new p i s at e k h c =
-    record { strict = h.strict; among = λ t m. whence t (h.among t m); inner = λ u m. h.inner u (go u m) }
+    → IsThinned side (take i chain ++ middle ++ drop (i + 1) chain) new → IsFringeOf side keys new
+take_off_new side keys chain middle new p i cs at left_or inner k h =
+    record { ordered = h.ordered; among = λ t m. whence t (h.among t m); inner = λ u m. h.inner u (go u m) }
   where
-    cs : IsPointSet chain
-    cs = c.strict.ordered
-
     ahead : All (IsBefore p) (drop (i + 1) chain)
     ahead = found_after chain p i cs at
 
     parts : take i chain ++ p ∷ drop (i + 1) chain ≡ chain
     parts = cut_around chain p i at
-
-    left_or : (t : Pair) → Contains chain t → (t ≡ p) ⊎ Contains keys t
-    left_or t m = left_or_gone p keys S t e (c.among t m)
 
     whence : (t : Pair) → Contains (take i chain ++ middle ++ drop (i + 1) chain) t → Contains keys t
     whence t m =
@@ -335,15 +385,22 @@ take_out_new side keys S chain middle new p i s at e k h c =
 
     go : (u : Pair) → Contains keys u → IsInner side (take i chain ++ middle ++ drop (i + 1) chain) u
     go u m =
-        let in_S = (members_without p u S s).0 (subst (λ (z : List Pair). Contains z u) e m) in
+        let told = inner u m in
         elim (inner_cut side (take i chain) p (drop (i + 1) chain) u
-        (subst (λ (z : List Pair). IsInner side z u) (sym parts) (c.inner u in_S.0))) [
+        (subst (λ (z : List Pair). IsInner side z u) (sym parts) told.0)) [
           | inl n ↦ inner_left side (take i chain ++ middle) (drop (i + 1) chain) u
               (inner_left side (take i chain) middle u n)
           | inr (inl (d, ends, (du, up, n))) ↦ in_middle u (k.all u m
               (all_of (λ t. IsBefore t u) (take i chain) (λ t j. after_ends d (take i chain) t u
               (set_left (take i chain) (drop (i + 1) chain) (around_set chain p i cs at)) ends j du))
               (All-weaker (IsBefore p) (IsBefore u) (λ t b. before_trans u p t up b) (drop (i + 1) chain) ahead))
-          | inr (inr (inl z)) ↦ absurd (in_S.1 z)
+          | inr (inr (inl z)) ↦ absurd (told.1 z)
           | inr (inr (inr n)) ↦ in_right u (drop (i + 1) chain) refl m n
         ]
+
+-- what is left of a set is inner to a fringe of it, and no point of it is the one that left
+pub inner_still : (side : Side) (keys S fringe : List Pair) (p : Pair) → IsPointSet S → keys ≡ without_point p S
+    → ((u : Pair) → Contains S u → IsInner side fringe u) → (u : Pair) → Contains keys u
+    → IsInner side fringe u × ¬ (u ≡ p)
+inner_still side keys S fringe p s e inner u m =
+    let in_S = (members_without p u S s).0 (subst (λ (z : List Pair). Contains z u) e m) in (inner u in_S.0, in_S.1)

@@ -10,7 +10,7 @@ use Rattle.lattice.specs.Covers.{IsPointSet}
 use Rattle.lattice.specs.Plane.{Pair, IsBefore}
 use Rattle.hull_plain.specs.Edges.{end_of}
 use Rattle.hull_plain.specs.Monotone.{turn, IsInwards, IsInnerFrom, IsInner, IsTurningFrom, IsTurning, IsStrict}
-use Rattle.hull_plain.specs.Monotone.{EndsWith, IsPassed}
+use Rattle.hull_plain.specs.Monotone.{EndsWith, IsPassed, IsThinned}
 use Rattle.hull_plain.specs.Positions.{point_at, origin}
 use Rattle.hull_plain.specs.declared.monotone.Side.{Side}
 use Rattle.hull_plain.proofs.ChainPasses.{take_next}
@@ -226,8 +226,32 @@ pub passed_itself : (side : Side) (xs : List Pair) → IsStrict side xs → IsPa
 passed_itself side xs s =
     record { strict = s; among = λ t m. m; inner = λ u k. k; ends = λ c e. e; short = omega arith }
 
--- what is inner to a list and more is inner to what a pass left of the list and more
-inner_with : (side : Side) (xs ys zs : List Pair) (u : Pair) → IsPassed side xs ys → IsInner side (xs ++ zs) u
+-- a set of which no point goes
+pub thinned_itself : (side : Side) (xs : List Pair) → IsPointSet xs → IsThinned side xs xs
+thinned_itself side xs s =
+    record { ordered = s; among = λ t m. m; inner = λ u k. k; ends = λ c e. e; short = omega arith }
+
+-- what a pass leaves of a list is what is left of it
+pub thinned_of : (side : Side) (xs ys : List Pair) → IsPassed side xs ys → IsThinned side xs ys
+thinned_of side xs ys p =
+    record { ordered = p.strict.ordered; among = p.among; inner = p.inner; ends = p.ends; short = p.short }
+
+-- and what is left of a list is what a pass leaves of it, where it turns
+pub passed_of : (side : Side) (xs ys : List Pair) → IsThinned side xs ys → IsTurning side ys → IsPassed side xs ys
+passed_of side xs ys p h =
+    record {
+      strict = record {
+        ordered = p.ordered;
+        turning = h;
+      };
+      among = p.among;
+      inner = p.inner;
+      ends = p.ends;
+      short = p.short;
+    }
+
+-- what is inner to a list and more is inner to what is left of the list and more
+inner_with : (side : Side) (xs ys zs : List Pair) (u : Pair) → IsThinned side xs ys → IsInner side (xs ++ zs) u
     → IsInner side (ys ++ zs) u
 inner_with side xs ys [] u p k =
     inner_left side ys [] u (p.inner u (subst (λ (l : List Pair). IsInner side l u) (sym (append_none xs)) k))
@@ -239,17 +263,17 @@ inner_with side xs ys (z ∷ zs) u p k =
     ]
 
 -- and so the end
-ends_with : (side : Side) (xs ys zs : List Pair) (c : Pair) → IsPassed side xs ys → EndsWith c (xs ++ zs)
+ends_with : (side : Side) (xs ys zs : List Pair) (c : Pair) → IsThinned side xs ys → EndsWith c (xs ++ zs)
     → EndsWith c (ys ++ zs)
 ends_with side xs ys [] c p e =
     subst (EndsWith c) (append_none ys) (p.ends c (subst (EndsWith c) (sym (append_none xs)) e))
 ends_with side xs ys (z ∷ zs) c p e = ends_right c ys (z ∷ zs) (ends_back c xs z zs e)
 
--- a pass over what another left of a list, and more, is one over the list and more
-pub passed_through : (side : Side) (xs ys zs ws : List Pair) → IsPassed side xs ys → IsPassed side (ys ++ zs) ws
-    → IsPassed side (xs ++ zs) ws
-passed_through side xs ys zs ws p q = record {
-  strict = q.strict;
+-- what is left of what was left of a list, and more, is left of the list and more
+pub thinned_through : (side : Side) (xs ys zs ws : List Pair) → IsThinned side xs ys → IsThinned side (ys ++ zs) ws
+    → IsThinned side (xs ++ zs) ws
+thinned_through side xs ys zs ws p q = record {
+  ordered = q.ordered;
   among = λ t m. from_front xs ys zs p.among t (q.among t m);
   inner = λ u k. q.inner u (inner_with side xs ys zs u p k);
   ends = λ c e. q.ends c (ends_with side xs ys zs c p e);
@@ -257,26 +281,40 @@ passed_through side xs ys zs ws p q = record {
       omega (arith, a, b, m, n);
 }
 
+-- what is left of the front of a set makes a set with the rest
+pub thinned_set : (side : Side) (xs ys zs : List Pair) → IsThinned side xs ys → IsPointSet (xs ++ zs)
+    → IsPointSet (ys ++ zs)
+thinned_set side xs ys zs p s =
+    set_append ys zs p.ordered (set_right xs zs s) (λ t u m n. set_apart xs zs t u s (p.among t m) n)
+
+-- the points behind what is left may stay as they are
+pub thinned_copied : (side : Side) (xs ys zs : List Pair) → IsThinned side xs ys → IsPointSet (xs ++ zs)
+    → IsThinned side (xs ++ zs) (ys ++ zs)
+thinned_copied side xs ys zs p s = record {
+  ordered = thinned_set side xs ys zs p s;
+  among = from_front xs ys zs p.among;
+  inner = λ u k. inner_with side xs ys zs u p k;
+  ends = λ c e. ends_with side xs ys zs c p e;
+  short = let b = p.short in let m = length-append ys zs in let n = length-append xs zs in omega (arith, b, m, n);
+}
+
+-- a pass over what another left of a list, and more, is one over the list and more
+pub passed_through : (side : Side) (xs ys zs ws : List Pair) → IsPassed side xs ys → IsPassed side (ys ++ zs) ws
+    → IsPassed side (xs ++ zs) ws
+passed_through side xs ys zs ws p q =
+    passed_of side (xs ++ zs) ws
+    (thinned_through side xs ys zs ws (thinned_of side xs ys p) (thinned_of side (ys ++ zs) ws q)) q.strict.turning
+
 -- what a pass leaves of the front of a set makes a set with the rest
 pub passed_set : (side : Side) (xs ys zs : List Pair) → IsPassed side xs ys → IsPointSet (xs ++ zs)
     → IsPointSet (ys ++ zs)
-passed_set side xs ys zs p s =
-    set_append ys zs p.strict.ordered (set_right xs zs s) (λ t u m n. set_apart xs zs t u s (p.among t m) n)
+passed_set side xs ys zs p s = thinned_set side xs ys zs (thinned_of side xs ys p) s
 
 -- where what a pass left turns on into the points behind it, these may stay as they are
 pub passed_copied : (side : Side) (xs ys zs : List Pair) → IsPassed side xs ys → IsPointSet (xs ++ zs)
     → IsTurning side (ys ++ zs) → IsPassed side (xs ++ zs) (ys ++ zs)
-passed_copied side xs ys zs p s h =
-    record {
-      strict = record {
-        ordered = passed_set side xs ys zs p s;
-        turning = h;
-      };
-      among = from_front xs ys zs p.among;
-      inner = λ u k. inner_with side xs ys zs u p k;
-      ends = λ c e. ends_with side xs ys zs c p e;
-      short = let b = p.short in let m = length-append ys zs in let n = length-append xs zs in omega (arith, b, m, n);
-    }
+passed_copied side xs ys zs p s h = passed_of side (xs ++ zs) (ys ++ zs)
+    (thinned_copied side xs ys zs (thinned_of side xs ys p) s) h
 
 -- ---- a pass that goes on over a turning list
 

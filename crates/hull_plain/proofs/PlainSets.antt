@@ -10,25 +10,38 @@ use Rattle.std.proofs.lemmas.Map.Views.{All-values-insert_entry, All-values-set_
 use Rattle.lattice.specs.Covers.{IsPointSet, with_point, without_point}
 use Rattle.lattice.specs.Plane.{Pair}
 use Rattle.lattice.proofs.Order.{before_irrefl, before_total, before_not, is_before-true, is_before-false}
-use Rattle.hull_plain.specs.Monotone.{IsChainOf, AreChainsOf}
-use Rattle.hull_plain.specs.Outlines.{HasRoom, IsOutlineOf, IsPlainSet}
+use Rattle.hull_plain.specs.Monotone.{IsChainOf, IsFringeOf, AreChainsOf, AreFringesOf}
+use Rattle.hull_plain.specs.Outlines.{HasRoom, FringesHaveRoom, IsOutlineOf, AreAlike, IsPlainSet}
 use Rattle.hull_plain.specs.declared.monotone.Side.{Side}
+use Rattle.hull_plain.specs.declared.fringes.Fringes.{Fringes}
 use Rattle.hull_plain.specs.declared.outline.Outline.{Outline}
 use Rattle.hull_plain.proofs.Between.{set_few}
 use Rattle.hull_plain.proofs.OrderedMaps.{point_cmp, insert_is, remove_is}
 use Rattle.hull_plain.proofs.SetLaws.{ordered_with, ordered_without}
 
+-- room for the fringes of more points is room for those of fewer
+pub fringes_have_less : {f : Fringes} {m n : ℕ} → FringesHaveRoom f n → m ≤ n → FringesHaveRoom f m
+fringes_have_less {f} {m} {n} h l = record { below = omega (arith, h.below); above = omega (arith, h.above) }
+
 -- room for more points is room for fewer
 pub has_less : {o : Outline} {m n : ℕ} → HasRoom o n → m ≤ n → HasRoom o m
-has_less {o} {m} {n} h l =
-    record { lower = omega (arith, h.lower); upper = omega (arith, h.upper); spare = omega (arith, h.spare) }
+has_less {o} {m} {n} h l = record {
+  lower = omega (arith, h.lower);
+  upper = omega (arith, h.upper);
+  fringes = fringes_have_less h.fringes l;
+  spare = omega (arith, h.spare);
+}
 
 -- the chain of a set has no more points than the set
 pub chain_few : (side : Side) (S chain : List Pair) → IsChainOf side S chain → length chain ≤ length S
 chain_few side S chain c = set_few chain S c.strict.ordered c.among
 
+-- nor has a fringe of it
+pub fringe_few : (side : Side) (S fringe : List Pair) → IsFringeOf side S fringe → length fringe ≤ length S
+fringe_few side S fringe f = set_few fringe S f.ordered f.among
+
 -- one point more at most
-length_with : (p : Pair) (S : List Pair) → length (with_point p S) ≤ length S + 1
+pub length_with : (p : Pair) (S : List Pair) → length (with_point p S) ≤ length S + 1
 length_with p [] = omega arith
 length_with p (x ∷ xs) =
     elim (before_total x p) [
@@ -64,23 +77,25 @@ written {limit} {es} {o} k p n fs e above = subst (λ (z : List (Pair × ℕ)). 
     same : keys_of es ≡ keys_of (set_value (is_at (point_cmp p)) es n)
     same = sym (keys-set_value (is_at (point_cmp p)) es n)
 
--- an outline stays that of a set where its chains stay
-pub same_outline : (S : List Pair) (o new : Outline) → new.lower.items ≡ o.lower.items → new.upper.items ≡ o.upper.items
-    → IsOutlineOf S o → IsOutlineOf S new
-same_outline S o new e f k =
-    subst (λ (z : List Pair). AreChainsOf S z new.upper.items) (sym e) (subst (AreChainsOf S o.lower.items) (sym f) k)
+-- an outline stays that of a set where its chains and fringes stay
+pub same_outline : (S : List Pair) (o new : Outline) → AreAlike o new → IsOutlineOf S o → IsOutlineOf S new
+same_outline S o new e k = record {
+  chains = subst (λ (z : List Pair). AreChainsOf S z new.upper.items) (sym e.lower)
+      (subst (AreChainsOf S o.lower.items) (sym e.upper) k.chains);
+  fringes = subst (λ (z : List Pair). AreFringesOf S z new.fringes.above.items) (sym e.below)
+      (subst (AreFringesOf S o.fringes.below.items) (sym e.above) k.fringes);
+}
 
 -- and where its outline has the same points, and room for as many at least
 pub reserved : {limit : ℕ} {es : List (Pair × ℕ)} {o : Outline} → IsPlainSet limit es o → (new : Outline)
-    → new.lower.items ≡ o.lower.items → new.upper.items ≡ o.upper.items → ((n : ℕ) → HasRoom o n → HasRoom new n)
-    → IsPlainSet limit es new
-reserved {limit} {es} {o} k new e f kept = record {
+    → AreAlike o new → ((n : ℕ) → HasRoom o n → HasRoom new n) → IsPlainSet limit es new
+reserved {limit} {es} {o} k new e kept = record {
   low = k.low;
   high = k.high;
   few = k.few;
   in_order = k.in_order;
   each_held = k.each_held;
-  outline = same_outline (keys_of es) o new e f k.outline;
+  outline = same_outline (keys_of es) o new e k.outline;
   room = kept _ k.room;
 }
 

@@ -5,7 +5,7 @@ use Rattle.std.specs.declared.ops.Bound.{Bound}
 use Rattle.std.specs.declared.ops.Bound.TheVariants.{Included, Excluded, Unbounded}
 use Rattle.lattice.specs.Covers.{IsPointSet}
 use Rattle.lattice.specs.Plane.{Pair, IsBefore}
-use Rattle.hull_plain.specs.Monotone.{turn, EndsWith, IsPassed}
+use Rattle.hull_plain.specs.Monotone.{turn, EndsWith, IsThinned}
 use Rattle.hull_plain.specs.Positions.{point_at}
 use Rattle.hull_plain.specs.declared.monotone.Side.{Side}
 
@@ -32,7 +32,7 @@ pub record IsBetween (S left right middle : List Pair) : Type 0 where
   pub among : (t : Pair) → Contains middle t → Contains S t
   pub all : (t : Pair) → Contains S t → All (λ u. IsBefore u t) left → All (IsBefore t) right → Contains middle t
 
--- the chain is what a pass over `left` and all points of S between it and `right` leaves
-abbrev pub PassesBetween : Side → List Pair → List Pair → List Pair → List Pair → Type 0
-PassesBetween side S left right chain =
-    (middle : List Pair) × IsBetween S left right middle × IsPassed side (left ++ middle) chain
+-- the list is what is left of `left` and all points of S between it and `right`, once some of them went
+abbrev pub ThinsBetween : Side → List Pair → List Pair → List Pair → List Pair → Type 0
+ThinsBetween side S left right list =
+    (middle : List Pair) × IsBetween S left right middle × IsThinned side (left ++ middle) list

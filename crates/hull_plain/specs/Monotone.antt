@@ -60,6 +60,20 @@ pub record IsPassed (side : Side) (points chain : List Pair) : Type 0 where
   pub ends : (c : Pair) → EndsWith c points → EndsWith c chain
   pub short : length chain ≤ length points
 
+-- a list of points in order from which some went that are inner to those that are left: its first and its last stay
+pub record IsThinned (side : Side) (points left : List Pair) : Type 0 where
+  pub ordered : IsPointSet left
+  pub among : (t : Pair) → Contains left t → Contains points t
+  pub inner : (u : Pair) → IsInner side points u → IsInner side left u
+  pub ends : (c : Pair) → EndsWith c points → EndsWith c left
+  pub short : length left ≤ length points
+
+-- a fringe of a set S: some of its points in order, to which each point of S is inner
+pub record IsFringeOf (side : Side) (S fringe : List Pair) : Type 0 where
+  pub ordered : IsPointSet fringe
+  pub among : (t : Pair) → Contains fringe t → Contains S t
+  pub inner : (u : Pair) → Contains S u → IsInner side fringe u
+
 -- the chain of the hull of a set S: a strict chain of some of its points, to which each point of S is inner
 pub record IsChainOf (side : Side) (S chain : List Pair) : Type 0 where
   pub strict : IsStrict side chain
@@ -74,6 +88,11 @@ pub record EndsInwards (side : Side) (chain : List Pair) (c : Pair) : Type 0 whe
   pub whole : chain ≡ front ++ a ∷ b ∷ []
   pub kept : take (length chain - 1) chain ≡ front ++ a ∷ []
   pub inwards : turn side a b c ≤ℤ pos 0
+
+-- a fringe of a set S on each side
+pub record AreFringesOf (S lower upper : List Pair) : Type 0 where
+  pub below : IsFringeOf Lower S lower
+  pub above : IsFringeOf Upper S upper
 
 -- the chain of some set on a side
 abbrev pub IsSomeChain : Side → List Pair → Type 0

@@ -1,16 +1,18 @@
 -- The two chains of the hull of a set, the room that they have, and what a plain set keeps.
-use Rattle.std.specs.Prelude.{◌≡◌, ℕ, ◌≤◌, List, length, vec_capacity}
-use Rattle.std.specs.List.{All}
+use Rattle.std.specs.Prelude.{◌≡◌, ℕ, ◌+◌, ◌≤◌, List, length, vec_capacity}
+use Rattle.std.specs.List.{All, Contains}
 use Rattle.std.specs.Map.{keys_of, values_of}
 use Rattle.lattice.specs.Plane.{Pair}
-use Rattle.lattice.specs.Covers.{IsPointSet, without_point}
-use Rattle.hull_plain.specs.Monotone.{AreChainsOf}
+use Rattle.lattice.specs.Covers.{IsPointSet, with_point, without_point}
+use Rattle.hull_plain.specs.Monotone.{AreChainsOf, AreFringesOf}
 use Rattle.hull_plain.specs.declared.TheConstants.{POINT_LIMIT}
+use Rattle.hull_plain.specs.declared.fringes.Fringes.{Fringes}
 use Rattle.hull_plain.specs.declared.outline.Outline.{Outline}
 
--- the chains are those of S
-abbrev pub IsOutlineOf : List Pair → Outline → Type 0
-IsOutlineOf S o = AreChainsOf S o.lower.items o.upper.items
+-- the chains are those of S, and the fringes are fringes of S
+pub record IsOutlineOf (S : List Pair) (o : Outline) : Type 0 where
+  pub chains : AreChainsOf S o.lower.items o.upper.items
+  pub fringes : AreFringesOf S o.fringes.below.items o.fringes.above.items
 
 -- they are those of some set
 abbrev pub IsOutline : Outline → Type 0
@@ -20,11 +22,29 @@ IsOutline o = (S : List Pair) × IsOutlineOf S o
 abbrev pub WasOutlineOf : Pair → List Pair → Outline → Type 0
 WasOutlineOf p S o = (whole : List Pair) × IsPointSet whole × IsOutlineOf whole o × (S ≡ without_point p whole)
 
+-- two outlines have the same chains and fringes
+pub record AreAlike (o new : Outline) : Type 0 where
+  pub lower : new.lower.items ≡ o.lower.items
+  pub upper : new.upper.items ≡ o.upper.items
+  pub below : new.fringes.below.items ≡ o.fringes.below.items
+  pub above : new.fringes.above.items ≡ o.fringes.above.items
+
+-- for the fringes of a set of n points
+pub record FringesHaveRoom (f : Fringes) (n : ℕ) : Type 0 where
+  pub below : n ≤ vec_capacity f.below
+  pub above : n ≤ vec_capacity f.above
+
 -- for the outline of a set of n points, and for what mends it
 pub record HasRoom (o : Outline) (n : ℕ) : Type 0 where
   pub lower : n ≤ vec_capacity o.lower
   pub upper : n ≤ vec_capacity o.upper
+  pub fringes : FringesHaveRoom o.fringes n
   pub spare : n ≤ vec_capacity o.spare
+
+-- they are those of a set in which p is not and which is S once p came, and they have room for p
+abbrev pub AwaitsPoint : Pair → List Pair → Outline → Type 0
+AwaitsPoint p S o = (before : List Pair) × IsOutlineOf before o × (S ≡ with_point p before) × (¬ Contains before p)
+    × HasRoom o (length before + 1)
 
 -- a limit that a set may have, no more points than that, in order, each held, and their outline with room for theirs
 pub record IsPlainSet (limit : ℕ) (entries : List (Pair × ℕ)) (o : Outline) : Type 0 where

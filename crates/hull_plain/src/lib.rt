@@ -1,8 +1,9 @@
 //! Sets of lattice points that answer questions about their convex hull: what such a set promises, and a plain one.
 //!
 //! [`HullSet`] is the promise: each call answers by the allowed-reply relation of `specs/Replies.antt`, which speaks of
-//! the live points, and of how often each is held, alone. [`PlainSet`] keeps it with an ordered map of std and the two
-//! chains of the hull, each a list: it is what faster sets are compared with, and what a checker replays on.
+//! the live points, and of how often each is held, alone. [`PlainSet`] keeps it with an ordered map of std, the two chains
+//! of the hull and a fringe behind each, all lists: it is what faster sets are compared with, and what a checker replays
+//! on.
 //!
 //! # A worked example
 //!
@@ -25,6 +26,8 @@ mod bisection;
 mod call;
 mod corners;
 mod extremes;
+mod fringe;
+mod fringes;
 mod laws;
 mod mending;
 mod monotone;

@@ -1,22 +1,20 @@
 //! The chain of a set that changed: made anew from where it changed up to where it is as it was.
 ghost use Rattle.std.specs.Prelude.{◌≡◌, ◌+◌, ◌<◌, ◌≤◌, ◌⊎◌, ◌++◌, List, IsTrue, ◌↔◌, length, take, drop};
 ghost use Rattle.std.specs.Prelude.{vec_len, vec_capacity};
-ghost use Rattle.std.specs.List.{Contains};
-ghost use Rattle.std.specs.Map.{keys_of};
-ghost use Rattle.lattice.specs.Plane.{Pair};
+ghost use Rattle.std.specs.List.{All, Contains};
+ghost use Rattle.lattice.specs.Plane.{Pair, IsBefore};
 ghost use Rattle.lattice.specs.Covers.{IsPointSet, with_point, without_point};
-ghost use Rattle.hull_plain.specs.Monotone.{IsTurning, IsStrict, IsChainOf};
-ghost use Rattle.hull_plain.specs.Mending.{IsBehind, IsAhead, IsOverEdge, PassesBetween};
+ghost use Rattle.hull_plain.specs.Monotone.{IsStrict, IsChainOf, IsFringeOf};
+ghost use Rattle.hull_plain.specs.Mending.{IsBehind, IsAhead, IsOverEdge, IsBetween};
 
-use super::monotone::{Side, extend, take_up, turn};
-use super::positions::position_of;
+use super::monotone::{Side, extend, pass_over, take_up, turn};
+use super::positions::{count_before, count_up_to, position_of};
 use heap::Heap;
 use lattice::Point;
-use std::collections::BTreeMap;
 use std::ops::Bound;
 
 /// What stands behind a chain.
-fn behind(chain: &[Point]) -> Bound<Point>
+pub(crate) fn behind(chain: &[Point]) -> Bound<Point>
     ensures { IsBehind chain.now result }
 {
     if chain.is_empty() {
@@ -27,7 +25,7 @@ fn behind(chain: &[Point]) -> Bound<Point>
 }
 
 /// What stands ahead of a chain.
-fn ahead(chain: &[Point]) -> Bound<Point>
+pub(crate) fn ahead(chain: &[Point]) -> Bound<Point>
     ensures { IsAhead chain.now result }
 {
     if chain.is_empty() {
@@ -38,7 +36,7 @@ fn ahead(chain: &[Point]) -> Bound<Point>
 }
 
 /// Whether a point with this position stands between two points of a chain, and not outwards of their segment.
-fn is_inwards(side: Side, chain: &[Point], i: usize, p: Point) -> bool
+pub(crate) fn is_inwards(side: Side, chain: &[Point], i: usize, p: Point) -> bool
     requires { i ≤ length chain.now }
     ensures { IsTrue result ↔ IsOverEdge side chain.now i p }
 {
@@ -46,7 +44,7 @@ fn is_inwards(side: Side, chain: &[Point], i: usize, p: Point) -> bool
 }
 
 /// Cuts a chain in two: the points before `from` stay, and those from `to` on go to a list that has room for them.
-fn cut(chain: &mut Vec<Point, Heap>, from: usize, to: usize, rest: &mut Vec<Point, Heap>)
+pub(crate) fn cut(chain: &mut Vec<Point, Heap>, from: usize, to: usize, rest: &mut Vec<Point, Heap>)
     requires within { to ≤ vec_len chain.old }
     requires room { vec_len chain.old ≤ vec_capacity rest.old + to }
     ensures front { chain.new.items ≡ take from chain.old.items }
@@ -61,26 +59,44 @@ fn cut(chain: &mut Vec<Point, Heap>, from: usize, to: usize, rest: &mut Vec<Poin
     chain.truncate(from);
 }
 
-/// Takes the pass on over the points that stand between a chain and the rest of it, found by a range of their map.
-fn pass_between(
-    side: Side,
-    points: &BTreeMap<Point, u16, Heap>,
-    chain: &mut Vec<Point, Heap>,
-    rest: &[Point],
-)
-    requires ordered { IsPointSet (keys_of points.now.entries) }
-    requires set { IsPointSet (chain.old.items ++ rest.now) }
-    requires among { (t : Pair) → Contains (chain.old.items ++ rest.now) t → Contains (keys_of points.now.entries) t }
-    requires turning { IsTurning side chain.old.items }
-    requires room { length (keys_of points.now.entries) ≤ vec_capacity chain.old }
-    ensures passed { PassesBetween side (keys_of points.now.entries) chain.old.items rest.now chain.new.items }
-    ensures capacity { vec_capacity chain.new ≡ vec_capacity chain.old }
+/// The number of points up to the end of a chain.
+fn passed_by(points: &[Point], chain: &[Point]) -> usize
+    requires ordered { IsPointSet points.now }
+    requires chain_ordered { IsPointSet chain.now }
+    ensures within { result ≤ length points.now }
+    ensures passed { (t : Pair) → Contains (take result points.now) t → ¬ (All (λ u. IsBefore u t) chain.now) }
+    ensures to_come { (t : Pair) → Contains (drop result points.now) t → All (λ u. IsBefore u t) chain.now }
 {
-    let start = behind(chain);
-    let end = ahead(rest);
-    for (point, _) in points.range((start, end)) {
-        extend(side, chain, *point);
+    if chain.is_empty() {
+        0
+    } else {
+        count_up_to(points, chain[chain.len() - 1])
     }
+}
+
+/// The number of points before the first of a chain.
+fn short_of(points: &[Point], chain: &[Point]) -> usize
+    requires ordered { IsPointSet points.now }
+    requires chain_ordered { IsPointSet chain.now }
+    ensures within { result ≤ length points.now }
+    ensures before { (t : Pair) → Contains (take result points.now) t → All (IsBefore t) chain.now }
+    ensures beyond { (t : Pair) → Contains (drop result points.now) t → ¬ (All (IsBefore t) chain.now) }
+{
+    if chain.is_empty() {
+        points.len()
+    } else {
+        count_before(points, chain[0])
+    }
+}
+
+/// The points that stand between a chain and the rest of it.
+fn between<'a>(points: &'a [Point], chain: &[Point], rest: &[Point]) -> &'a [Point]
+    requires ordered { IsPointSet points.now }
+    requires set { IsPointSet (chain.now ++ rest.now) }
+    ensures { IsBetween points.now chain.now rest.now result.now }
+{
+    let ahead = &points[passed_by(points, chain)..];
+    &ahead[..short_of(ahead, rest)]
 }
 
 /// The chain after a new point `p` came to its set: those points go that do not lie outwards any more.
@@ -110,23 +126,22 @@ pub(crate) fn put_in(
     take_up(side, chain, spare);
 }
 
-/// The chain after `p` left its set, of which `points` are left: where `p` was on it, the points between its neighbours
-/// are passed over, and no others.
+/// The chain after `p` left its set `S`, which has this fringe then: where `p` was on the chain, the points of the
+/// fringe between its neighbours are passed over, and no others.
 pub(crate) fn take_out(
     side: Side,
     chain: &mut Vec<Point, Heap>,
     spare: &mut Vec<Point, Heap>,
     p: Point,
-    points: &BTreeMap<Point, u16, Heap>,
+    fringe: &[Point],
 )
     requires strict { IsStrict side chain.old.items }
-    requires left { IsPointSet (keys_of points.now.entries) }
-    requires among { (t : Pair) → Contains chain.old.items t → (t ≡ p) ⊎ Contains (keys_of points.now.entries) t }
-    requires room { length (keys_of points.now.entries) ≤ vec_capacity chain.old }
-    requires spare_room { length (keys_of points.now.entries) ≤ vec_capacity spare.old }
+    requires left { IsPointSet fringe.now }
+    requires among { (t : Pair) → Contains chain.old.items t → (t ≡ p) ⊎ Contains fringe.now t }
+    requires room { length fringe.now ≤ vec_capacity chain.old }
+    requires spare_room { length fringe.now ≤ vec_capacity spare.old }
     ensures chain { (S : List Pair) → IsPointSet S → IsChainOf side S chain.old.items
-        → keys_of points.now.entries ≡ without_point p S
-        → IsChainOf side (keys_of points.now.entries) chain.new.items }
+        → IsFringeOf side (without_point p S) fringe.now → IsChainOf side (without_point p S) chain.new.items }
     ensures capacity { vec_capacity chain.old ≤ vec_capacity chain.new }
     ensures spare_capacity { vec_capacity spare.old ≤ vec_capacity spare.new }
 {
@@ -134,6 +149,6 @@ pub(crate) fn take_out(
         return;
     };
     cut(chain, i, i + 1, spare);
-    pass_between(side, points, chain, spare);
+    pass_over(side, chain, between(fringe, chain, spare));
     take_up(side, chain, spare);
 }

@@ -4,7 +4,7 @@ ghost use Rattle.std.specs.Prelude.{vec_len, vec_capacity};
 ghost use Rattle.lattice.specs.Plane.{IsWithin, widest_side};
 ghost use Rattle.lattice.specs.Covers.{IsPointSet};
 ghost use Rattle.hull_plain.specs.Monotone as monotone;
-ghost use Rattle.hull_plain.specs.Monotone.{EndsInwards, IsTurning, IsPassed};
+ghost use Rattle.hull_plain.specs.Monotone.{EndsInwards, IsTurning, IsPassed, IsThinned};
 
 use heap::Heap;
 use lattice::{Point, orient};
@@ -44,7 +44,23 @@ fn ends_inwards(side: Side, chain: &[Point], c: Point) -> bool
     n > 1 && turn(side, chain[n - 2], chain[n - 1], c) <= 0
 }
 
-/// Puts a point at the end of a chain, in the place of those last points that do not lie outwards of it then.
+/// Puts a point at the end of a list of points, in the place of those last points that do not lie outwards of it then.
+/// The first `fixed` points stay.
+pub(crate) fn extend_behind(side: Side, list: &mut Vec<Point, Heap>, fixed: usize, c: Point)
+    requires set { IsPointSet (list.old.items ++ c ∷ []) }
+    requires room { vec_len list.old < vec_capacity list.old }
+    ensures thinned { IsThinned side (list.old.items ++ c ∷ []) list.new.items }
+    ensures turning { fixed ≡ 0 → IsTurning side list.old.items → IsTurning side list.new.items }
+    ensures kept { vec_len list.old < vec_len list.new → list.new.items ≡ list.old.items ++ c ∷ [] }
+    ensures capacity { vec_capacity list.new ≡ vec_capacity list.old }
+{
+    while list.len() > fixed && ends_inwards(side, list, c) {
+        let _inward = list.pop();
+    }
+    list.push_reserved(c);
+}
+
+/// The same of a chain that turns: none of its points has to stay.
 pub(crate) fn extend(side: Side, chain: &mut Vec<Point, Heap>, c: Point)
     requires set { IsPointSet (chain.old.items ++ c ∷ []) }
     requires turning { IsTurning side chain.old.items }
@@ -53,14 +69,11 @@ pub(crate) fn extend(side: Side, chain: &mut Vec<Point, Heap>, c: Point)
     ensures kept { vec_len chain.old < vec_len chain.new → chain.new.items ≡ chain.old.items ++ c ∷ [] }
     ensures capacity { vec_capacity chain.new ≡ vec_capacity chain.old }
 {
-    while ends_inwards(side, chain, c) {
-        let _inward = chain.pop();
-    }
-    chain.push_reserved(c);
+    extend_behind(side, chain, 0, c);
 }
 
 /// Puts points behind a list that has room for them.
-fn put_behind(chain: &mut Vec<Point, Heap>, rest: &[Point])
+pub(crate) fn put_behind(chain: &mut Vec<Point, Heap>, rest: &[Point])
     requires room { vec_len chain.old + length rest.now ≤ vec_capacity chain.old }
     ensures items { chain.new.items ≡ chain.old.items ++ rest.now }
     ensures capacity { vec_capacity chain.old ≤ vec_capacity chain.new }
@@ -68,6 +81,19 @@ fn put_behind(chain: &mut Vec<Point, Heap>, rest: &[Point])
     let Ok(()) = chain.extend_from_slice(rest) else {
         unreachable!()
     };
+}
+
+/// Takes the pass on over points in order.
+pub(crate) fn pass_over(side: Side, chain: &mut Vec<Point, Heap>, points: &[Point])
+    requires set { IsPointSet (chain.old.items ++ points.now) }
+    requires turning { IsTurning side chain.old.items }
+    requires room { vec_len chain.old + length points.now ≤ vec_capacity chain.old }
+    ensures passed { IsPassed side (chain.old.items ++ points.now) chain.new.items }
+    ensures capacity { vec_capacity chain.new ≡ vec_capacity chain.old }
+{
+    for i in 0..points.len() {
+        extend(side, chain, points[i]);
+    }
 }
 
 /// Takes the pass on over a chain that turns. It ends as soon as it stands on two of its points in a row: from there on

@@ -5,12 +5,13 @@ ghost use Rattle.std.specs.Map.{keys_of};
 ghost use Rattle.lattice.specs.Plane.{Pair};
 ghost use Rattle.lattice.specs.Covers.{IsPointSet, with_point, without_point};
 ghost use Rattle.lattice.specs.Vertices.{IsVertexList, IsDoubledArea};
-ghost use Rattle.hull_plain.specs.Outlines.{HasRoom, IsOutline, IsOutlineOf, WasOutlineOf};
+ghost use Rattle.hull_plain.specs.Outlines.{HasRoom, AreAlike, IsOutline, IsOutlineOf, AwaitsPoint, WasOutlineOf};
 ghost use Rattle.hull_plain.specs.Replies.{LiesAt, AnswersExtreme, AnswersTangents, reply_to_extreme, reply_to_tangents};
 
 use super::POINT_LIMIT;
 use super::corners::{doubled_area_of, vertices_of};
 use super::extremes::extreme_of;
+use super::fringes::Fringes;
 use super::mending::{put_in, take_out};
 use super::monotone::Side;
 use super::set::Place;
@@ -21,11 +22,12 @@ use lattice::{Direction, Point};
 use std::alloc::AllocError;
 use std::collections::BTreeMap;
 
-/// The two chains of the hull of a set, and room to mend them.
+/// The two chains of the hull of a set, and the fringes and the room to mend them.
 #[derive(Drop)]
 pub(crate) struct Outline {
     lower: Vec<Point, Heap>,
     upper: Vec<Point, Heap>,
+    fringes: Fringes,
     spare: Vec<Point, Heap>,
 }
 
@@ -37,35 +39,34 @@ impl Outline {
         Outline {
             lower: Vec::new(alloc),
             upper: Vec::new(alloc),
+            fringes: Fringes::new(alloc),
             spare: Vec::new(alloc),
         }
     }
 
     /// Makes room for the outline of a set of `count` points.
     pub(crate) fn reserve(&mut self, count: usize) -> Result<(), AllocError>
-        ensures same_lower { self.new.lower.items ≡ self.old.lower.items }
-        ensures same_upper { self.new.upper.items ≡ self.old.upper.items }
+        ensures alike { AreAlike self.old self.new }
         ensures room { OnOk result (HasRoom self.new count) }
         ensures kept { (n : ℕ) → HasRoom self.old n → HasRoom self.new n }
     {
         self.spare.clear();
         self.lower.reserve(count.saturating_sub(self.lower.len()))?;
         self.upper.reserve(count.saturating_sub(self.upper.len()))?;
+        self.fringes.reserve(count)?;
         self.spare.reserve(count)
     }
 
-    /// The outline after a new point `p` came to the set.
-    pub(crate) fn add(&mut self, p: Point)
-        requires outline { IsOutline self.old }
-        requires absent_below { ¬ Contains self.old.lower.items p }
-        requires absent_above { ¬ Contains self.old.upper.items p }
-        requires lower_room { HasRoom self.old (length self.old.lower.items + 1) }
-        requires upper_room { HasRoom self.old (length self.old.upper.items + 1) }
-        ensures outline { (S : List Pair) → IsOutlineOf S self.old → IsOutlineOf (with_point p S) self.new }
+    /// The outline after a new point `p` came to the set, which is `points` then.
+    pub(crate) fn add(&mut self, p: Point, points: &BTreeMap<Point, u16, Heap>)
+        requires in_order { IsPointSet (keys_of points.now.entries) }
+        requires outline { AwaitsPoint p (keys_of points.now.entries) self.old }
+        ensures outline { IsOutlineOf (keys_of points.now.entries) self.new }
         ensures kept { (n : ℕ) → HasRoom self.old n → HasRoom self.new n }
     {
         put_in(Side::Lower, &mut self.lower, &mut self.spare, p);
         put_in(Side::Upper, &mut self.upper, &mut self.spare, p);
+        self.fringes.add(p, points);
     }
 
     /// The outline after `p` left the set, of which `points` are left.
@@ -76,8 +77,11 @@ impl Outline {
         ensures outline { IsOutlineOf (keys_of points.now.entries) self.new }
         ensures kept { (n : ℕ) → HasRoom self.old n → HasRoom self.new n }
     {
-        take_out(Side::Lower, &mut self.lower, &mut self.spare, p, points);
-        take_out(Side::Upper, &mut self.upper, &mut self.spare, p, points);
+        self.fringes.remove(p, points, &mut self.spare);
+        let below = &self.fringes.below;
+        take_out(Side::Lower, &mut self.lower, &mut self.spare, p, below);
+        let above = &self.fringes.above;
+        take_out(Side::Upper, &mut self.upper, &mut self.spare, p, above);
     }
 
     /// The first of the farthest points in a direction.

@@ -13,13 +13,15 @@ use std::marker::Model;
 ///
 /// `add` and `remove` go by an ordered map of std, from each live point to how often it is held: of a point that was
 /// live and stays so they change that number in place, and nothing else. A new point that a chain does not hide goes to
-/// its place there, and those beside it go that it hides; where a corner leaves, its chain is made anew from the points
-/// between its neighbours, found by a range of the map, in one pass over them (Andrew, 1979). So a change costs a
-/// logarithm of the points, what it passes over between two corners, and the move of a chain's rest in memory. A corner
-/// in front of many points that leaves and comes back again and again passes over them each time.
+/// its place there, and those beside it go that it hides. Where a corner leaves, its chain is made anew in one pass
+/// (Andrew, 1979) over the points of a fringe between its neighbours: the points that are corners of their own run of
+/// so many neighbouring points as twice the root of their number tells, and those that came since the runs were made.
+/// Where a point of a fringe leaves, those between its neighbours there are looked at, found by a range of the map. So
+/// a change costs a logarithm of the points, some runs, the corners of the runs between two corners of the hull, and
+/// the move of a list's rest in memory.
 ///
-/// `extreme`, `place` and `tangents` are bisections of the chains; `vertices` and `area2` go along them once. Only `add`
-/// of a new point and `vertices` ask for memory.
+/// `extreme`, `place` and `tangents` are bisections of the chains; `vertices` and `area2` go along them once. Only
+/// `add` of a new point and `vertices` ask for memory.
 #[derive(Drop)]
 pub struct PlainSet {
     limit: u32,
@@ -98,7 +100,7 @@ impl HullSet for PlainSet {
         if self.points.insert(p, 1).is_err() {
             return AddReply::NoMemory;
         }
-        self.outline.add(p);
+        self.outline.add(p, &self.points);
         AddReply::Added
     }
 

@@ -8,7 +8,7 @@ ghost use Rattle.hull_plain.specs.Positions.{IsPositionOf};
 use lattice::{Point, before};
 
 /// The number of points that stand before `p`: a binary search, with one comparison a step.
-fn count_before(points: &[Point], p: Point) -> usize
+pub(crate) fn count_before(points: &[Point], p: Point) -> usize
     requires { IsPointSet points.now }
     ensures within { result ≤ length points.now }
     ensures below { All (λ t. IsBefore t p) (take result points.now) }
@@ -30,4 +30,17 @@ pub(crate) fn position_of(points: &[Point], p: Point) -> Result<usize, usize>
         return Err(i);
     }
     Ok(i)
+}
+
+/// The number of points that stand before `p` or are `p`.
+pub(crate) fn count_up_to(points: &[Point], p: Point) -> usize
+    requires { IsPointSet points.now }
+    ensures within { result ≤ length points.now }
+    ensures below { All (λ t. ¬ (IsBefore p t)) (take result points.now) }
+    ensures rest { All (IsBefore p) (drop result points.now) }
+{
+    match position_of(points, p) {
+        Ok(i) => i + 1,
+        Err(i) => i,
+    }
 }

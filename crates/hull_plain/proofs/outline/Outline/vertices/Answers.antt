@@ -13,7 +13,7 @@ told (Err b) P Q f h = f h
 pub returns-clause-refused : goal.returns-clause-refused
 returns-clause-refused c =
     told c.vertices_of.result (0 < length c.deref.result.now + length c.deref-2.result.now) _
-    (λ h S k. some_points S c.args.self.now.lower.items c.args.self.now.upper.items k
+    (λ h S k. some_points S c.args.self.now.lower.items c.args.self.now.upper.items k.chains
     (subst (λ (z : List Pair). 0 < length z + length c.args.self.now.upper.items) c.deref.ensures.value
     (subst (λ (z : List Pair). 0 < length c.deref.result.now + length z) c.deref-2.ensures.value h)))
     c.vertices_of.ensures.refused

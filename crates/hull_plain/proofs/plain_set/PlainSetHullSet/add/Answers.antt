@@ -10,15 +10,14 @@ use Rattle.std.proofs.lemmas.Map.Steps.{set_value_same}
 use Rattle.lattice.specs.Covers.{IsPointSet}
 use Rattle.lattice.specs.Plane.{Pair}
 use Rattle.hull_plain.specs.Held.{with_new, with_again}
-use Rattle.hull_plain.specs.Outlines.{HasRoom, IsPlainSet}
+use Rattle.hull_plain.specs.Outlines.{HasRoom, IsOutlineOf, IsPlainSet}
 use Rattle.hull_plain.specs.Sets.{LimitedSet, held_in, times_in}
 use Rattle.hull_plain.specs.declared.TheConstants.{MULTIPLICITY_LIMIT}
-use Rattle.hull_plain.specs.declared.monotone.Side.TheVariants.{Lower, Upper}
 use Rattle.hull_plain.specs.declared.rules.Rules.TheVariants.{Counted}
 use Rattle.hull_plain.proofs.Multiplicities.{times_found, times_none, live, not_live, held_found, PutsAt, raised_is}
 use Rattle.hull_plain.proofs.Multiplicities.{same_held}
 use Rattle.hull_plain.proofs.OrderedMaps.{point_cmp, insert_is}
-use Rattle.hull_plain.proofs.PlainSets.{written, reserved, put_in, count_is, has_less, chain_few, same_outline}
+use Rattle.hull_plain.proofs.PlainSets.{written, reserved, put_in, count_is, same_outline}
 use Rattle.hull_plain.proofs.SetLaws.{ordered_with}
 use Rattle.hull_plain.proofs.plain_set.PlainSetHullSet.add.Goals as goal
 
@@ -84,7 +83,7 @@ pub invariant_of-self-then-is_err : goal.invariant_of-self-then-is_err
 invariant_of-self-then-is_err c =
     subst (λ (z : BTreeMap Pair ℕ). IsPlainSet c.self.inside.limit z.entries c.reserve.new.self)
     (sym c.get_mut.follows.holds-at-none)
-    (reserved c.self.invariant _ c.reserve.ensures.same_lower c.reserve.ensures.same_upper c.reserve.ensures.kept)
+    (reserved c.self.invariant _ c.reserve.ensures.alike c.reserve.ensures.kept)
 
 pub returns-then-is_err-clause-reply : goal.returns-then-is_err-clause-reply
 returns-then-is_err-clause-reply c =
@@ -102,48 +101,34 @@ returns-then-is_err-2-clause-reply c =
     c.self.view_is
     (not_live _ c.args.p c.in_default.ensures.value, omega (arith, count, c.if-count-self.false))
 
+pub add-requires-clause-in_order : goal.add-requires-clause-in_order
+add-requires-clause-in_order c =
+    let made : c.insert.new.self.entries ≡ insert_entry point_cmp c.get_mut.follows.lender-at-none.entries c.args.p 1 =
+    search (rules, c.insert.ensures.entries, c.is_err-2.ensures, c.if-is_err-2.false) in
+    let entries : c.insert.new.self.entries ≡ insert_entry point_cmp c.self.inside.points.entries c.args.p 1 =
+    made
+    ∙ ap (λ (z : BTreeMap Pair ℕ). insert_entry point_cmp z.entries c.args.p 1) c.get_mut.follows.holds-at-none in
+    subst IsPointSet (sym (ap keys_of entries ∙ insert_is _ c.args.p 1))
+    (ordered_with c.args.p _ c.self.invariant.in_order)
+
 pub add-requires-clause-outline : goal.add-requires-clause-outline
-add-requires-clause-outline c = (
-  keys_of c.self.inside.points.entries,
-  same_outline (keys_of c.self.inside.points.entries) c.self.inside.outline c.reserve.new.self
-      c.reserve.ensures.same_lower c.reserve.ensures.same_upper c.self.invariant.outline,
-)
-
-pub add-requires-clause-absent_below : goal.add-requires-clause-absent_below
-add-requires-clause-absent_below c = λ m.
-    not_live _ c.args.p c.in_default.ensures.value
-    (c.self.invariant.outline.below.among c.args.p
-    (subst (λ (z : List Pair). Contains z c.args.p) c.reserve.ensures.same_lower m))
-
-pub add-requires-clause-absent_above : goal.add-requires-clause-absent_above
-add-requires-clause-absent_above c = λ m.
-    not_live _ c.args.p c.in_default.ensures.value
-    (c.self.invariant.outline.above.among c.args.p
-    (subst (λ (z : List Pair). Contains z c.args.p) c.reserve.ensures.same_upper m))
-
-pub add-requires-clause-lower_room : goal.add-requires-clause-lower_room
-add-requires-clause-lower_room c =
-    let count : c.len-count.result ≡ length (keys_of c.self.inside.points.entries) =
-    count_is c.get_mut.follows.holds-at-none c.len-count.ensures.len in
+add-requires-clause-outline c =
+    let made : c.insert.new.self.entries ≡ insert_entry point_cmp c.get_mut.follows.lender-at-none.entries c.args.p 1 =
+    search (rules, c.insert.ensures.entries, c.is_err-2.ensures, c.if-is_err-2.false) in
+    let entries : c.insert.new.self.entries ≡ insert_entry point_cmp c.self.inside.points.entries c.args.p 1 =
+    made
+    ∙ ap (λ (z : BTreeMap Pair ℕ). insert_entry point_cmp z.entries c.args.p 1) c.get_mut.follows.holds-at-none in
     let room : HasRoom c.reserve.new.self (c.len-count.result + 1) =
     search (rules, c.reserve.ensures.room, c.is_err.ensures, c.if-is_err.false) in
-    let few = chain_few Lower (keys_of c.self.inside.points.entries) c.self.inside.outline.lower.items
-    c.self.invariant.outline.below in
-    let same : length c.reserve.new.self.lower.items ≡ length c.self.inside.outline.lower.items =
-    ap (λ (z : List Pair). length z) c.reserve.ensures.same_lower in
-    has_less room (omega (arith, count, few, same))
-
-pub add-requires-clause-upper_room : goal.add-requires-clause-upper_room
-add-requires-clause-upper_room c =
     let count : c.len-count.result ≡ length (keys_of c.self.inside.points.entries) =
-    count_is c.get_mut.follows.holds-at-none c.len-count.ensures.len in
-    let room : HasRoom c.reserve.new.self (c.len-count.result + 1) =
-    search (rules, c.reserve.ensures.room, c.is_err.ensures, c.if-is_err.false) in
-    let few = chain_few Upper (keys_of c.self.inside.points.entries) c.self.inside.outline.upper.items
-    c.self.invariant.outline.above in
-    let same : length c.reserve.new.self.upper.items ≡ length c.self.inside.outline.upper.items =
-    ap (λ (z : List Pair). length z) c.reserve.ensures.same_upper in
-    has_less room (omega (arith, count, few, same))
+    count_is c.get_mut.follows.holds-at-none c.len-count.ensures.len in (
+      keys_of c.self.inside.points.entries,
+      same_outline (keys_of c.self.inside.points.entries) c.self.inside.outline c.reserve.new.self
+          c.reserve.ensures.alike c.self.invariant.outline,
+      ap keys_of entries ∙ insert_is _ c.args.p 1,
+      not_live _ c.args.p c.in_default.ensures.value,
+      subst (HasRoom c.reserve.new.self) (ap (λ n. n + 1) count) room,
+    )
 
 pub invariant_of-self-2 : goal.invariant_of-self-2
 invariant_of-self-2 c =
@@ -158,9 +143,8 @@ invariant_of-self-2 c =
     count_is c.get_mut.follows.holds-at-none c.len-count.ensures.len in
     subst (λ (z : List (Pair × ℕ)). IsPlainSet c.self.inside.limit z c.add.new.self) (sym entries)
     (put_in c.self.invariant c.args.p c.add.new.self (omega (arith, count, c.if-count-self.false))
-    (c.add.ensures.outline (keys_of c.self.inside.points.entries)
-    (same_outline (keys_of c.self.inside.points.entries) c.self.inside.outline c.reserve.new.self
-    c.reserve.ensures.same_lower c.reserve.ensures.same_upper c.self.invariant.outline))
+    (subst (λ (z : List Pair). IsOutlineOf z c.add.new.self) (ap keys_of entries ∙ insert_is _ c.args.p 1)
+    c.add.ensures.outline)
     (c.add.ensures.kept _ (subst (HasRoom c.reserve.new.self) (ap (λ n. n + 1) count) room)))
 
 pub returns-clause-reply : goal.returns-clause-reply

@@ -11,13 +11,13 @@ use Rattle.hull_plain.proofs.plain_set.PlainSetHullSet.area2.Goals as goal
 pub area2-requires-clause-few_below : goal.area2-requires-clause-few_below
 area2-requires-clause-few_below c =
     let few = chain_few Lower (keys_of c.self.inside.points.entries) c.self.inside.outline.lower.items
-    c.self.invariant.outline.below in
+    c.self.invariant.outline.chains.below in
     omega (arith, few, c.self.invariant.high, c.self.invariant.few)
 
 pub area2-requires-clause-few_above : goal.area2-requires-clause-few_above
 area2-requires-clause-few_above c =
     let few = chain_few Upper (keys_of c.self.inside.points.entries) c.self.inside.outline.upper.items
-    c.self.invariant.outline.above in
+    c.self.invariant.outline.chains.above in
     omega (arith, few, c.self.invariant.high, c.self.invariant.few)
 
 pub returns : goal.returns

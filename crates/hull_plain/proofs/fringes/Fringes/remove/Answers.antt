@@ -1,0 +1,11 @@
+-- the points of the fringes were points of the set, so they are left or are the one that left
+use Rattle.hull_plain.proofs.Mended.{left_or_gone}
+use Rattle.hull_plain.proofs.fringes.Fringes.remove.Goals as goal
+
+pub take_off-below-requires-clause-among : goal.take_off-below-requires-clause-among
+take_off-below-requires-clause-among c = λ t m.
+    left_or_gone c.args.p _ c.requires.fringes.0 t c.requires.fringes.3 (c.requires.fringes.2.below.among t m)
+
+pub take_off-above-requires-clause-among : goal.take_off-above-requires-clause-among
+take_off-above-requires-clause-among c = λ t m.
+    left_or_gone c.args.p _ c.requires.fringes.0 t c.requires.fringes.3 (c.requires.fringes.2.above.among t m)

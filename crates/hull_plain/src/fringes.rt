@@ -1,0 +1,117 @@
+//! The two fringes of a set, and when they are made anew.
+ghost use Rattle.std.specs.Prelude.{◌≡◌, ◌≤◌, ◌<◌, [], ℕ, length, List, OnOk, vec_len, vec_capacity};
+ghost use Rattle.std.specs.List.{Contains};
+ghost use Rattle.std.specs.Map.{keys_of};
+ghost use Rattle.lattice.specs.Plane.{Pair};
+ghost use Rattle.lattice.specs.Covers.{IsPointSet, with_point, without_point};
+ghost use Rattle.hull_plain.specs.Monotone.{AreFringesOf};
+ghost use Rattle.hull_plain.specs.Outlines.{FringesHaveRoom};
+
+use super::fringe::{put_on, renew, take_off};
+use super::monotone::Side;
+use heap::Heap;
+use lattice::Point;
+use std::alloc::AllocError;
+use std::collections::BTreeMap;
+
+/// The fringes of a set, and how often they changed since they were made.
+///
+/// They are made in runs of so many points as twice the root of the set's number tells, of each of which they have the
+/// chain. A change puts one point more on them, or those that the one that left had hidden; after some changes for each
+/// run they are made anew.
+#[derive(Drop)]
+pub(crate) struct Fringes {
+    pub(crate) below: Vec<Point, Heap>,
+    pub(crate) above: Vec<Point, Heap>,
+    changes: usize,
+}
+
+impl Fringes {
+    /// The fringes of the empty set. Asks for no memory.
+    pub(crate) fn new(alloc: Heap) -> Fringes
+        ensures { AreFringesOf [] result.below.items result.above.items }
+    {
+        Fringes {
+            below: Vec::new(alloc),
+            above: Vec::new(alloc),
+            changes: 0,
+        }
+    }
+
+    /// Makes room for the fringes of a set of `count` points.
+    pub(crate) fn reserve(&mut self, count: usize) -> Result<(), AllocError>
+        ensures same_below { self.new.below.items ≡ self.old.below.items }
+        ensures same_above { self.new.above.items ≡ self.old.above.items }
+        ensures room { OnOk result (FringesHaveRoom self.new count) }
+        ensures kept { (n : ℕ) → FringesHaveRoom self.old n → FringesHaveRoom self.new n }
+    {
+        self.below.reserve(count.saturating_sub(self.below.len()))?;
+        self.above.reserve(count.saturating_sub(self.above.len()))
+    }
+
+    /// The fringes after a new point `p` came to the set, which is `points` then.
+    pub(crate) fn add(&mut self, p: Point, points: &BTreeMap<Point, u16, Heap>)
+        requires in_order { IsPointSet (keys_of points.now.entries) }
+        requires fringes { (S : List Pair) × AreFringesOf S self.old.below.items self.old.above.items
+            × (keys_of points.now.entries ≡ with_point p S) }
+        requires absent_below { ¬ Contains self.old.below.items p }
+        requires absent_above { ¬ Contains self.old.above.items p }
+        requires room_below { vec_len self.old.below < vec_capacity self.old.below }
+        requires room_above { vec_len self.old.above < vec_capacity self.old.above }
+        requires room { FringesHaveRoom self.old (length (keys_of points.now.entries)) }
+        ensures fringes { AreFringesOf (keys_of points.now.entries) self.new.below.items self.new.above.items }
+        ensures kept { (n : ℕ) → FringesHaveRoom self.old n → FringesHaveRoom self.new n }
+    {
+        let below = put_on(Side::Lower, &mut self.below, p);
+        let above = put_on(Side::Upper, &mut self.above, p);
+        self.note(below || above, points);
+    }
+
+    /// The fringes after `p` left the set, of which `points` are left.
+    pub(crate) fn remove(
+        &mut self,
+        p: Point,
+        points: &BTreeMap<Point, u16, Heap>,
+        spare: &mut Vec<Point, Heap>,
+    )
+        requires left { IsPointSet (keys_of points.now.entries) }
+        requires fringes { (S : List Pair) × IsPointSet S
+            × AreFringesOf S self.old.below.items self.old.above.items
+            × (keys_of points.now.entries ≡ without_point p S) }
+        requires room { FringesHaveRoom self.old (length (keys_of points.now.entries)) }
+        requires spare_room { length (keys_of points.now.entries) ≤ vec_capacity spare.old }
+        ensures fringes { AreFringesOf (keys_of points.now.entries) self.new.below.items self.new.above.items }
+        ensures kept { (n : ℕ) → FringesHaveRoom self.old n → FringesHaveRoom self.new n }
+        ensures spare_capacity { vec_capacity spare.old ≤ vec_capacity spare.new }
+    {
+        let run = run_of(points);
+        let below = take_off(Side::Lower, &mut self.below, spare, p, points, run);
+        let above = take_off(Side::Upper, &mut self.above, spare, p, points, run);
+        self.note(below || above, points);
+    }
+
+    /// Counts a change, and makes the fringes anew where there were many.
+    fn note(&mut self, changed: bool, points: &BTreeMap<Point, u16, Heap>)
+        requires in_order { IsPointSet (keys_of points.now.entries) }
+        requires fringes { AreFringesOf (keys_of points.now.entries) self.old.below.items self.old.above.items }
+        requires room { FringesHaveRoom self.old (length (keys_of points.now.entries)) }
+        ensures fringes { AreFringesOf (keys_of points.now.entries) self.new.below.items self.new.above.items }
+        ensures kept { (n : ℕ) → FringesHaveRoom self.old n → FringesHaveRoom self.new n }
+    {
+        if !changed {
+            return;
+        }
+        self.changes = self.changes.saturating_add(1);
+        let run = run_of(points);
+        if self.changes / 2 > run {
+            self.changes = 0;
+            renew(Side::Lower, &mut self.below, points, run);
+            renew(Side::Upper, &mut self.above, points, run);
+        }
+    }
+}
+
+/// After how many points of a set a run of its fringe ends.
+fn run_of(points: &BTreeMap<Point, u16, Heap>) -> usize {
+    2 * points.len().isqrt()
+}
