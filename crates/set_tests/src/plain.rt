@@ -1,4 +1,5 @@
-//! Worked examples, and memory that is refused.
+//! Limits by their numbers, many changes, and memory that is refused. The worked examples are cases of tests/cli, which the
+//! plain set judges by `check`.
 use hull_plain::{AddReply, HullSet, NoMemory, Place, PlainSet, PointList, RemoveReply, Reply};
 use lattice::{Direction, Point};
 use std::alloc::Global;
@@ -39,152 +40,19 @@ const SQUARE: [(i64, i64); 4] = [(0, 0), (2, 0), (2, 2), (0, 2)];
 
 #[test]
 fn empty_set(rt: HostRuntime) -> Result<(), Fail> {
+    let p = at(0, 0)?;
     let set = PlainSet::new(rt.alloc(), LIMIT);
     assert_eq!(rt; set.limit(), LIMIT);
     assert_eq!(rt; hull_plain::POINT_LIMIT, LIMIT);
-    assert_eq!(rt; set.extreme(Direction::new(1, 0)?), None);
-    assert_eq!(rt; set.area2(), 0);
-    assert_vertices(&rt, &set, &[])?;
-    assert_eq!(rt; set.place(at(0, 0)?), Place::Outside);
-    assert_eq!(rt; set.tangents(at(0, 0)?), None);
     assert_eq!(rt; set.count(), 0);
-    Ok(())
-}
-
-#[test]
-fn one_point(rt: HostRuntime) -> Result<(), Fail> {
-    let mut set = PlainSet::new(rt.alloc(), LIMIT);
-    assert_eq!(rt; set.add(at(3, 4)?), AddReply::Added);
-    assert_eq!(rt; set.add(at(3, 4)?), AddReply::Again(2));
-    assert_vertices(&rt, &set, &[(3, 4)])?;
-    assert_eq!(rt; set.place(at(3, 4)?), Place::On);
-    assert_eq!(rt; set.area2(), 0);
-    assert_eq!(rt; set.count(), 1);
-    Ok(())
-}
-
-#[test]
-fn diagonal(rt: HostRuntime) -> Result<(), Fail> {
-    let mut set = set_of(&rt, rt.alloc(), &[(0, 0), (1, 1), (2, 2)])?;
-    assert_vertices(&rt, &set, &[(0, 0), (2, 2)])?;
-    assert_eq!(rt; set.place(at(1, 1)?), Place::On);
-    assert_eq!(rt; set.place(at(3, 3)?), Place::Outside);
-    assert_eq!(rt; set.remove(at(2, 2)?), RemoveReply::Removed);
-    assert_vertices(&rt, &set, &[(0, 0), (1, 1)])?;
-    Ok(())
-}
-
-#[test]
-fn left_wall(rt: HostRuntime) -> Result<(), Fail> {
-    let set = set_of(&rt, rt.alloc(), &[(0, 0), (0, 1), (0, 2), (1, 3), (2, 3)])?;
-    assert_vertices(&rt, &set, &[(0, 0), (2, 3), (1, 3), (0, 2)])?;
-    assert_eq!(rt; set.area2(), 5);
-    assert_eq!(rt; set.place(at(0, 1)?), Place::On);
-    Ok(())
-}
-
-#[test]
-fn range_corners(rt: HostRuntime) -> Result<(), Fail> {
-    let corners = [
-        (-1048576, -1048576),
-        (1048576, -1048576),
-        (1048576, 1048576),
-        (-1048576, 1048576),
-    ];
-    let set = set_of(&rt, rt.alloc(), &corners)?;
-    assert_eq!(rt; set.area2(), 8796093022208);
-    assert_eq!(rt;
-        set.extreme(Direction::new(1, 1)?),
-        Some(at(1048576, 1048576)?)
-    );
-    assert_eq!(rt; set.place(at(0, 0)?), Place::Inside);
-    Ok(())
-}
-
-#[test]
-fn square_extremes(rt: HostRuntime) -> Result<(), Fail> {
-    let set = set_of(&rt, rt.alloc(), &SQUARE)?;
-    assert_eq!(rt; set.extreme(Direction::new(0, 1)?), Some(at(0, 2)?));
-    assert_eq!(rt; set.extreme(Direction::new(1, 0)?), Some(at(2, 0)?));
-    Ok(())
-}
-
-#[test]
-fn square_tangents(rt: HostRuntime) -> Result<(), Fail> {
-    let set = set_of(&rt, rt.alloc(), &SQUARE)?;
-    assert_eq!(rt; set.tangents(at(4, 1)?), Some((at(2, 0)?, at(2, 2)?)));
-    Ok(())
-}
-
-#[test]
-fn tangent_ties(rt: HostRuntime) -> Result<(), Fail> {
-    let set = set_of(&rt, rt.alloc(), &SQUARE)?;
-    assert_eq!(rt; set.tangents(at(4, 0)?), Some((at(0, 0)?, at(2, 2)?)));
-    assert_eq!(rt; set.tangents(at(1, 1)?), None);
-    assert_eq!(rt; set.tangents(at(1, 0)?), None);
-    let pair = set_of(&rt, rt.alloc(), &[(0, 0), (1, 0)])?;
-    assert_eq!(rt; pair.tangents(at(3, 0)?), Some((at(0, 0)?, at(0, 0)?)));
-    Ok(())
-}
-
-#[test]
-fn uncovered_by_removal(rt: HostRuntime) -> Result<(), Fail> {
-    let mut set = set_of(&rt, rt.alloc(), &[(0, 0), (4, 0), (2, 3), (2, 1)])?;
-    assert_eq!(rt; set.area2(), 12);
-    assert_eq!(rt; set.place(at(2, 1)?), Place::Inside);
-    assert_eq!(rt; set.remove(at(2, 3)?), RemoveReply::Removed);
-    assert_vertices(&rt, &set, &[(0, 0), (4, 0), (2, 1)])?;
-    assert_eq!(rt; set.area2(), 4);
-    Ok(())
-}
-
-#[test]
-fn absent_removal(rt: HostRuntime) -> Result<(), Fail> {
-    let mut set = PlainSet::new(rt.alloc(), LIMIT);
-    assert_eq!(rt; set.remove(at(7, 7)?), RemoveReply::Absent);
-    assert_eq!(rt; set.count(), 0);
-    Ok(())
-}
-
-#[test]
-fn limit_two(rt: HostRuntime) -> Result<(), Fail> {
-    let mut set = PlainSet::new(rt.alloc(), 2);
-    assert_eq!(rt; set.add(at(0, 0)?), AddReply::Added);
-    assert_eq!(rt; set.add(at(1, 1)?), AddReply::Added);
-    assert_eq!(rt; set.add(at(2, 2)?), AddReply::TooMany);
-    assert_eq!(rt; set.add(at(1, 1)?), AddReply::Again(2));
-    assert_eq!(rt; set.count(), 2);
-    // The limit is over the live points: a point that is held twice still leaves no room.
-    assert_eq!(rt; set.remove(at(1, 1)?), RemoveReply::Left(1));
-    assert_eq!(rt; set.add(at(2, 2)?), AddReply::TooMany);
-    assert_eq!(rt; set.remove(at(1, 1)?), RemoveReply::Removed);
-    assert_eq!(rt; set.add(at(2, 2)?), AddReply::Added);
-    Ok(())
-}
-
-#[test]
-fn held_twice(rt: HostRuntime) -> Result<(), Fail> {
-    let mut set = set_of(&rt, rt.alloc(), &[(0, 0), (4, 0), (2, 3)])?;
-    let p = at(2, 3)?;
-    assert_eq!(rt; set.multiplicity(p), 1);
-    assert_eq!(rt; set.add(p), AddReply::Again(2));
-    assert_eq!(rt; set.multiplicity(p), 2);
-    assert_eq!(rt; set.count(), 3);
-    assert_eq!(rt; set.remove(p), RemoveReply::Left(1));
-    assert_vertices(&rt, &set, &[(0, 0), (4, 0), (2, 3)])?;
-    assert_eq!(rt; set.area2(), 12);
-    assert_eq!(rt; set.remove(p), RemoveReply::Removed);
     assert_eq!(rt; set.multiplicity(p), 0);
-    assert_vertices(&rt, &set, &[(0, 0), (4, 0)])?;
-    assert_eq!(rt; set.remove(p), RemoveReply::Absent);
-    assert_eq!(rt; set.multiplicity(at(4, 0)?), 1);
     Ok(())
 }
 
 #[test]
 fn held_most(rt: HostRuntime) -> Result<(), Fail> {
-    let mut set = set_of(&rt, rt.alloc(), &[(5, 5)])?;
     let p = at(5, 5)?;
+    let mut set = set_of(&rt, rt.alloc(), &[(5, 5)])?;
     for times in 2u32..=MOST {
         assert_eq!(rt; set.add(p), AddReply::Again(times));
     }
@@ -254,6 +122,7 @@ fn refused_vertices(rt: HostRuntime) -> Result<(), Fail> {
 /// The points of a grid come row by row, so that many of them are corners when they come; then corners leave.
 #[test]
 fn corners_come_and_go(rt: HostRuntime) -> Result<(), Fail> {
+    let (corner, inner) = (at(0, 0)?, at(15, 15)?);
     let mut set = PlainSet::new(rt.alloc(), LIMIT);
     for k in 0i64..1024 {
         assert_eq!(rt; set.add(at(k % 32, k / 32)?), AddReply::Added);
@@ -262,8 +131,8 @@ fn corners_come_and_go(rt: HostRuntime) -> Result<(), Fail> {
     for k in 0i64..32 {
         assert_eq!(rt; set.remove(at(k, k)?), RemoveReply::Removed);
     }
-    assert_eq!(rt; set.place(at(0, 0)?), Place::Outside);
-    assert_eq!(rt; set.place(at(15, 15)?), Place::Inside);
+    assert_eq!(rt; set.place(corner), Place::Outside);
+    assert_eq!(rt; set.place(inner), Place::Inside);
     assert_eq!(rt; set.area2(), 2 * 31 * 31 - 2);
     Ok(())
 }
@@ -275,15 +144,25 @@ fn replies_compare(rt: HostRuntime) -> Result<(), Fail> {
     let other = Reply::VertexList(PointList::new(set.vertices()?));
     assert!(rt; one == other);
     assert!(rt; one != Reply::VertexList(PointList::new(Vec::new(rt.alloc()))));
+    Ok(())
+}
+
+#[test]
+fn replies_to_changes_are_replies(rt: HostRuntime) {
     assert!(rt; Reply::from(AddReply::NoMemory) == Reply::NoMemory);
     assert!(rt; Reply::from(RemoveReply::Absent) == Reply::Absent);
     assert!(rt; Reply::from(AddReply::Again(2)) == Reply::Again(2));
     assert!(rt; Reply::from(AddReply::Again(2)) != Reply::Again(3));
     assert!(rt; Reply::from(RemoveReply::Left(2)) == Reply::Left(2));
     assert!(rt; Reply::from(RemoveReply::Left(2)) != Reply::Again(2));
-    let list = PointList::new(set.vertices()?);
+}
+
+#[test]
+fn a_list_gives_its_points_back(rt: HostRuntime) -> Result<(), Fail> {
+    let corner = at(2, 2)?;
+    let list = PointList::new(set_of(&rt, rt.alloc(), &SQUARE)?.vertices()?);
     assert_eq!(rt; list.as_slice().len(), 4);
-    assert_eq!(rt; list.into_vec().get(2).copied(), Some(at(2, 2)?));
+    assert_eq!(rt; list.into_vec().get(2).copied(), Some(corner));
     let text = format!(in rt.alloc(); "{NoMemory}")?;
     assert_eq!(rt; text.as_str(), "out of memory");
     Ok(())

@@ -106,38 +106,6 @@ fn assert_tangents(
 }
 
 #[test]
-fn one_point(rt: HostRuntime) -> Result<(), Fail> {
-    let points = [(3, 4)];
-    let extremes = [((-1, 5), (3, 4))];
-    let places = [((3, 4), Place::On), ((3, 5), Place::Outside)];
-    let tangents = [((3, 4), None), ((0, 0), Some(((3, 4), (3, 4))))];
-    assert_extremes(&rt, rt.alloc(), &points, &extremes)?;
-    assert_places(&rt, rt.alloc(), &points, &places)?;
-    assert_tangents(&rt, rt.alloc(), &points, &tangents)?;
-    assert_outline(&rt, rt.alloc(), &points, &points, 0)
-}
-
-#[test]
-fn diagonal(rt: HostRuntime) -> Result<(), Fail> {
-    let points = [(0, 0), (1, 1), (2, 2), (3, 3)];
-    let extremes = [((1, -1), (0, 0))];
-    let places = [
-        ((1, 1), Place::On),
-        ((4, 4), Place::Outside),
-        ((1, 2), Place::Outside),
-    ];
-    let tangents = [
-        ((5, 5), Some(((0, 0), (0, 0)))),
-        ((2, 0), Some(((0, 0), (3, 3)))),
-    ];
-    let corners = [(0, 0), (3, 3)];
-    assert_extremes(&rt, rt.alloc(), &points, &extremes)?;
-    assert_places(&rt, rt.alloc(), &points, &places)?;
-    assert_tangents(&rt, rt.alloc(), &points, &tangents)?;
-    assert_outline(&rt, rt.alloc(), &points, &corners, 0)
-}
-
-#[test]
 fn left_wall(rt: HostRuntime) -> Result<(), Fail> {
     let points = [(0, 0), (0, 1), (0, 2), (1, 3), (2, 3)];
     let extremes = [((-1, 0), (0, 0))];
@@ -165,47 +133,6 @@ fn range_corners(rt: HostRuntime) -> Result<(), Fail> {
     assert_places(&rt, rt.alloc(), &points, &places)?;
     assert_tangents(&rt, rt.alloc(), &points, &tangents)?;
     assert_outline(&rt, rt.alloc(), &points, &corners, 8796093022208)
-}
-
-const SQUARE: [(i64, i64); 4] = [(0, 0), (0, 2), (2, 0), (2, 2)];
-
-#[test]
-fn square_extremes(rt: HostRuntime) -> Result<(), Fail> {
-    let extremes = [
-        ((0, 1), (0, 2)),
-        ((0, -1), (0, 0)),
-        ((1, 0), (2, 0)),
-        ((3, 1), (2, 2)),
-    ];
-    assert_extremes(&rt, rt.alloc(), &SQUARE, &extremes)
-}
-
-#[test]
-fn square_tangents(rt: HostRuntime) -> Result<(), Fail> {
-    let tangents = [
-        ((4, 1), Some(((2, 0), (2, 2)))),
-        ((-2, 1), Some(((0, 2), (0, 0)))),
-        ((1, -2), Some(((0, 0), (2, 0)))),
-        ((1, 4), Some(((2, 2), (0, 2)))),
-    ];
-    assert_tangents(&rt, rt.alloc(), &SQUARE, &tangents)
-}
-
-#[test]
-fn tangent_ties(rt: HostRuntime) -> Result<(), Fail> {
-    let of_square = [
-        ((4, 0), Some(((0, 0), (2, 2)))),
-        ((0, 4), Some(((2, 2), (0, 0)))),
-        ((1, 1), None),
-        ((1, 0), None),
-    ];
-    let pair = [(0, 0), (1, 0)];
-    let of_pair = [
-        ((3, 0), Some(((0, 0), (0, 0)))),
-        ((-3, 0), Some(((1, 0), (1, 0)))),
-    ];
-    assert_tangents(&rt, rt.alloc(), &SQUARE, &of_square)?;
-    assert_tangents(&rt, rt.alloc(), &pair, &of_pair)
 }
 
 /// A plain set of the same points.

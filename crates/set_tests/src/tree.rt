@@ -1,15 +1,14 @@
-//! Worked examples, and memory that is refused. The tree beside the plain set is in `tests/beside_plain.rt`.
+//! What a tree lends, its limits by their numbers, and memory that is refused. The tree beside the plain set is in
+//! `tree/beside_plain.rt`; the worked examples are cases of tests/cli, which both trees run.
 mod beside_plain;
 mod extends;
 mod loads;
 mod sparing;
 mod turns;
 
-use hull_plain::{
-    AddReply, HullSet, MULTIPLICITY_LIMIT, NoMemory, POINT_LIMIT, Place, RemoveReply,
-};
+use hull_plain::{AddReply, HullSet, MULTIPLICITY_LIMIT, NoMemory, POINT_LIMIT, RemoveReply};
 use hull_tree::{HullTree, trees_are_sound};
-use lattice::{Direction, Point};
+use lattice::Point;
 use std::alloc::Global;
 use std::process::Abort;
 use std::test::Fail;
@@ -29,18 +28,13 @@ fn tree_of(rt: &impl Abort, alloc: Global, points: &[(i64, i64)]) -> Result<Hull
 
 #[test]
 fn empty_tree(rt: HostRuntime) -> Result<(), Fail> {
+    let p = at(7, 7)?;
     let mut tree = HullTree::new(rt.alloc(), 3);
     assert!(rt; tree.root().is_none());
     assert_eq!(rt; tree.limit(), 3);
     assert_eq!(rt; tree.count(), 0);
-    assert_eq!(rt; tree.remove(at(7, 7)?), RemoveReply::Absent);
-    assert_eq!(rt; tree.count(), 0);
-    assert_eq!(rt; tree.multiplicity(at(7, 7)?), 0);
-    assert_eq!(rt; tree.extreme(Direction::new(1, 0)?), None);
-    assert_eq!(rt; tree.place(at(0, 0)?), Place::Outside);
-    assert_eq!(rt; tree.tangents(at(0, 0)?), None);
-    assert_eq!(rt; tree.vertices()?.len(), 0);
-    assert_eq!(rt; tree.area2(), 0);
+    assert_eq!(rt; tree.remove(p), RemoveReply::Absent);
+    assert_eq!(rt; tree.multiplicity(p), 0);
     trees_are_sound(&tree);
     Ok(())
 }
@@ -66,13 +60,13 @@ fn rising_order(rt: HostRuntime) -> Result<(), Fail> {
 
 #[test]
 fn triangle_root(rt: HostRuntime) -> Result<(), Fail> {
+    let (base, apex) = ((at(0, 0)?, at(4, 0)?), at(2, 3)?);
     let mut tree = tree_of(&rt, rt.alloc(), &[(0, 0), (4, 0), (2, 3)])?;
-    let base = (at(0, 0)?, at(4, 0)?);
     assert_eq!(rt;
         tree.root().and_then(|root| root.lower()).copied(),
         Some(base)
     );
-    assert_eq!(rt; tree.remove(at(2, 3)?), RemoveReply::Removed);
+    assert_eq!(rt; tree.remove(apex), RemoveReply::Removed);
     let root = tree.root().ok_or("empty")?;
     assert_eq!(rt; root.upper().copied(), Some(base));
     assert_eq!(rt; root.lower().copied(), Some(base));
@@ -84,60 +78,27 @@ fn triangle_root(rt: HostRuntime) -> Result<(), Fail> {
 
 #[test]
 fn leaf_and_fork(rt: HostRuntime) -> Result<(), Fail> {
+    let (low, high) = (at(1, 1)?, at(1, 2)?);
     let mut tree = tree_of(&rt, rt.alloc(), &[(1, 2)])?;
     let leaf = tree.root().ok_or("empty")?;
-    assert_eq!(rt; leaf.point(), Some(at(1, 2)?));
+    assert_eq!(rt; leaf.point(), Some(high));
     assert_eq!(rt; leaf.multiplicity(), Some(1));
     assert!(rt; leaf.upper().is_none());
     assert!(rt; leaf.lower().is_none());
     assert!(rt; leaf.halves().is_none());
-    assert_eq!(rt; tree.add(at(1, 1)?), AddReply::Added);
+    assert_eq!(rt; tree.add(low), AddReply::Added);
     let fork = tree.root().ok_or("empty")?;
     assert_eq!(rt; fork.point(), None);
     assert_eq!(rt; fork.multiplicity(), None);
-    assert_eq!(rt; fork.upper().copied(), Some((at(1, 1)?, at(1, 2)?)));
-    assert_eq!(rt; fork.lower().copied(), Some((at(1, 1)?, at(1, 2)?)));
+    assert_eq!(rt; fork.upper().copied(), Some((low, high)));
+    assert_eq!(rt; fork.lower().copied(), Some((low, high)));
     assert!(rt; fork.halves().is_some());
     Ok(())
 }
 
 #[test]
-fn limit_two(rt: HostRuntime) -> Result<(), Fail> {
-    let mut tree = HullTree::new(rt.alloc(), 2);
-    assert_eq!(rt; tree.add(at(0, 0)?), AddReply::Added);
-    assert_eq!(rt; tree.add(at(1, 1)?), AddReply::Added);
-    assert_eq!(rt; tree.add(at(2, 2)?), AddReply::TooMany);
-    assert_eq!(rt; tree.add(at(1, 1)?), AddReply::Again(2));
-    assert_eq!(rt; tree.count(), 2);
-    Ok(())
-}
-
-/// The vertices of a tree are these.
-fn assert_vertices(rt: &impl Abort, tree: &HullTree, expected: &[Point]) -> Result<(), Fail> {
-    assert_eq!(rt; tree.vertices()?.as_slice(), expected);
-    Ok(())
-}
-
-/// A body of `remove` that takes a point away while it is held twice fails here.
-#[test]
-fn apex_held_twice(rt: HostRuntime) -> Result<(), Fail> {
-    let (left, right, apex) = (at(0, 0)?, at(4, 0)?, at(2, 3)?);
-    let mut tree = tree_of(&rt, rt.alloc(), &[(0, 0), (4, 0), (2, 3)])?;
-    assert_eq!(rt; tree.add(apex), AddReply::Again(2));
-    assert_eq!(rt; tree.multiplicity(apex), 2);
-    assert_eq!(rt; tree.count(), 3);
-    assert_eq!(rt; tree.remove(apex), RemoveReply::Left(1));
-    assert_vertices(&rt, &tree, &[left, right, apex])?;
-    assert_eq!(rt; tree.area2(), 12);
-    assert_eq!(rt; tree.remove(apex), RemoveReply::Removed);
-    assert_vertices(&rt, &tree, &[left, right])?;
-    assert_eq!(rt; tree.multiplicity(apex), 0);
-    Ok(())
-}
-
-#[test]
 fn as_often_as_may_be(rt: HostRuntime) -> Result<(), Fail> {
-    let p = at(0, 0)?;
+    let (p, other) = (at(0, 0)?, at(1, 0)?);
     let mut tree = tree_of(&rt, rt.alloc(), &[(0, 0), (1, 0)])?;
     for times in 2u32..65536 {
         assert_eq!(rt; tree.add(p), AddReply::Again(times));
@@ -145,45 +106,24 @@ fn as_often_as_may_be(rt: HostRuntime) -> Result<(), Fail> {
     assert_eq!(rt; MULTIPLICITY_LIMIT, 65535);
     assert_eq!(rt; tree.add_counted(p), (AddReply::TooMany, 0));
     assert_eq!(rt; tree.multiplicity(p), 65535);
-    assert_eq!(rt; tree.multiplicity(at(1, 0)?), 1);
+    assert_eq!(rt; tree.multiplicity(other), 1);
     assert_eq!(rt; tree.count(), 2);
     assert_eq!(rt; tree.remove(p), RemoveReply::Left(65534));
-    Ok(())
-}
-
-/// A leaf that becomes the half of a fork, and a half that takes its fork's place, keep how often their points are
-/// held.
-#[test]
-fn times_among_changes(rt: HostRuntime) -> Result<(), Fail> {
-    let mut tree = tree_of(&rt, rt.alloc(), &[(0, 0)])?;
-    assert_eq!(rt; tree.add(at(0, 0)?), AddReply::Again(2));
-    assert_eq!(rt; tree.add(at(1, 0)?), AddReply::Added);
-    assert_eq!(rt; tree.add(at(2, 0)?), AddReply::Added);
-    assert_eq!(rt; tree.add(at(2, 0)?), AddReply::Again(2));
-    assert_eq!(rt; tree.add(at(3, 0)?), AddReply::Added);
-    assert_eq!(rt; tree.remove(at(1, 0)?), RemoveReply::Removed);
-    assert_eq!(rt; tree.remove(at(3, 0)?), RemoveReply::Removed);
-    assert_eq!(rt;
-        (tree.multiplicity(at(0, 0)?), tree.multiplicity(at(2, 0)?)),
-        (2, 2)
-    );
-    assert_eq!(rt; tree.remove(at(0, 0)?), RemoveReply::Left(1));
-    assert_eq!(rt; tree.remove(at(0, 0)?), RemoveReply::Removed);
-    assert_eq!(rt; tree.root().and_then(|root| root.multiplicity()), Some(2));
     Ok(())
 }
 
 // `rt try --test --fail-alloc 1` refuses its one request for memory.
 #[test]
 fn refused_leaf(rt: HostRuntime) -> Result<(), Fail> {
+    let (first, second) = (at(0, 0)?, at(1, 1)?);
     let mut tree = HullTree::new(rt.alloc(), POINT_LIMIT);
-    assert_eq!(rt; tree.add(at(0, 0)?), AddReply::Added);
-    let mut reply = tree.add(at(1, 1)?);
+    assert_eq!(rt; tree.add(first), AddReply::Added);
+    let mut reply = tree.add(second);
     if reply == AddReply::NoMemory {
         assert_eq!(rt; tree.count(), 1);
-        assert_eq!(rt; tree.root().and_then(|root| root.point()), Some(at(0, 0)?));
-        assert_eq!(rt; tree.remove(at(1, 1)?), RemoveReply::Absent);
-        reply = tree.add(at(1, 1)?);
+        assert_eq!(rt; tree.root().and_then(|root| root.point()), Some(first));
+        assert_eq!(rt; tree.remove(second), RemoveReply::Absent);
+        reply = tree.add(second);
     }
     assert_eq!(rt; reply, AddReply::Added);
     assert_eq!(rt; tree.count(), 2);
@@ -193,26 +133,12 @@ fn refused_leaf(rt: HostRuntime) -> Result<(), Fail> {
 /// A body of `add` that always refuses memory fails here.
 #[test]
 fn add_always_refuses(rt: HostRuntime) -> Result<(), Fail> {
+    let (low, high) = (at(3, 4)?, at(3, 5)?);
     let mut tree = HullTree::new(rt.alloc(), POINT_LIMIT);
-    assert_eq!(rt; tree.add(at(3, 4)?), AddReply::Added);
-    assert_eq!(rt; tree.add(at(3, 5)?), AddReply::Added);
-    assert_eq!(rt; tree.add(at(3, 4)?), AddReply::Again(2));
+    assert_eq!(rt; tree.add(low), AddReply::Added);
+    assert_eq!(rt; tree.add(high), AddReply::Added);
+    assert_eq!(rt; tree.add(low), AddReply::Again(2));
     assert_eq!(rt; tree.count(), 2);
-    Ok(())
-}
-
-#[test]
-fn triangle_answers(rt: HostRuntime) -> Result<(), Fail> {
-    let tree = tree_of(&rt, rt.alloc(), &[(0, 0), (4, 0), (2, 3), (2, 1)])?;
-    assert_eq!(rt; tree.area2(), 12);
-    assert_eq!(rt; tree.extreme(Direction::new(0, 1)?), Some(at(2, 3)?));
-    assert_eq!(rt; tree.extreme(Direction::new(0, -1)?), Some(at(0, 0)?));
-    assert_eq!(rt; tree.place(at(2, 1)?), Place::Inside);
-    assert_eq!(rt; tree.place(at(2, 0)?), Place::On);
-    assert_eq!(rt; tree.place(at(2, 4)?), Place::Outside);
-    assert_eq!(rt; tree.tangents(at(6, 0)?), Some((at(0, 0)?, at(2, 3)?)));
-    let corners = [at(0, 0)?, at(4, 0)?, at(2, 3)?];
-    assert_eq!(rt; tree.vertices()?.as_slice(), corners.as_slice());
     Ok(())
 }
 
@@ -228,8 +154,8 @@ fn add_again(rt: &impl Abort, tree: &mut HullTree, p: Point) {
 // `rt try --test --fail-alloc N`: N = 1 and 2 refuse the boxes of the second and the third point, N = 3 the list.
 #[test]
 fn refused_vertices(rt: HostRuntime) -> Result<(), Fail> {
-    let mut tree = HullTree::new(rt.alloc(), POINT_LIMIT);
     let corners = [at(0, 0)?, at(4, 0)?, at(2, 3)?];
+    let mut tree = HullTree::new(rt.alloc(), POINT_LIMIT);
     for corner in corners {
         add_again(&rt, &mut tree, corner);
     }

@@ -1,6 +1,7 @@
 //! Points that are added many at a time, beside a plain set to which they are added one by one.
 use super::at;
 use super::beside_plain::{Numbers, centred};
+use super::sparing::Sets;
 use hull_plain::{AddReply, HullSet, MULTIPLICITY_LIMIT, POINT_LIMIT, PlainSet};
 use hull_tree::{HullTree, LoadFault, SparingTree};
 use lattice::{Point, before};
@@ -20,7 +21,7 @@ fn drawn(alloc: Global, numbers: &mut Numbers, count: u32, lines: u32) -> Result
 }
 
 /// The entries are the points of the plain set in order, each held as often.
-fn assert_entries(rt: &impl Abort, entries: &[(Point, u32)], plain: &PlainSet) {
+pub(super) fn assert_entries(rt: &impl Abort, entries: &[(Point, u32)], plain: &PlainSet) {
     assert_eq!(rt; entries.len(), plain.count() as usize);
     for i in 0..entries.len() {
         let (point, times) = entries[i];
@@ -29,7 +30,7 @@ fn assert_entries(rt: &impl Abort, entries: &[(Point, u32)], plain: &PlainSet) {
     }
 }
 
-/// Extends both trees so many times, by fewer points than `most`, and compares them with a plain set each time.
+/// Extends all three sets so many times, by fewer points than `most`, and compares them each time.
 fn extend_on_grid(
     rt: &impl Abort,
     alloc: Global,
@@ -37,25 +38,14 @@ fn extend_on_grid(
     rounds: u32,
     most: u32,
 ) -> Result<(), Fail> {
-    let mut searching = HullTree::new(alloc, POINT_LIMIT);
-    let mut sparing = SparingTree::new(alloc, POINT_LIMIT);
-    let mut plain = PlainSet::new(alloc, POINT_LIMIT);
+    let q = at(3, 2)?;
+    let mut sets = Sets::new(alloc);
     let mut numbers = Numbers::new();
     for _ in 0..rounds {
         let count = numbers.next().checked_rem(most).unwrap_or(0);
-        let points = drawn(alloc, &mut numbers, count, lines)?;
-        searching.extend(&points)?;
-        sparing.extend(&points)?;
-        for p in points.iter() {
-            let _ = plain.add(*p);
-        }
-        assert_entries(rt, &searching.entries()?, &plain);
-        assert_entries(rt, &sparing.entries()?, &plain);
-        assert_eq!(rt; searching.area2(), plain.area2());
-        assert_eq!(rt; sparing.area2(), plain.area2());
-        let corners = plain.vertices()?;
-        assert_eq!(rt; searching.vertices()?.as_slice(), corners.as_slice());
-        assert_eq!(rt; sparing.vertices()?.as_slice(), corners.as_slice());
+        sets.extend(&drawn(alloc, &mut numbers, count, lines)?)?;
+        sets.assert_same_entries(rt)?;
+        sets.assert_alike(rt, q)?;
     }
     Ok(())
 }
@@ -80,36 +70,50 @@ fn full_tree(alloc: Global, count: u32) -> Result<SparingTree, Fail> {
     Ok(SparingTree::from_points(alloc, count.clamp(1, POINT_LIMIT), &points)?)
 }
 
+/// A refused extension by these points leaves what the tree holds.
+fn assert_too_many(rt: &impl Abort, tree: &mut SparingTree, points: &[Point]) -> Result<(), Fail> {
+    let before = tree.entries()?;
+    assert_eq!(rt; tree.extend(points).err(), Some(LoadFault::TooMany));
+    assert_eq!(rt; tree.entries()?.as_slice(), before.as_slice());
+    Ok(())
+}
+
 /// Of 40 points two are added one by one, of 2 points the tree is built anew; either way a fault leaves what was held.
 #[test]
 fn extended_past_the_limit(rt: HostRuntime) -> Result<(), Fail> {
+    let (origin, held, new) = (at(0, 0)?, at(1, 1)?, at(-1, 7)?);
     for count in [40u32, 2] {
         let mut tree = full_tree(rt.alloc(), count)?;
-        let before = tree.entries()?;
-        let more = [at(1, 1)?, at(-1, 7)?];
-        assert_eq!(rt; tree.extend(&more).err(), Some(LoadFault::TooMany));
-        assert_eq!(rt; tree.entries()?.as_slice(), before.as_slice());
-        tree.extend(&[at(1, 1)?, at(0, 0)?])?;
-        assert_eq!(rt; tree.multiplicity(at(1, 1)?), 2);
-        assert_eq!(rt; tree.add(at(-1, 7)?), AddReply::TooMany);
+        assert_too_many(&rt, &mut tree, &[held, new])?;
+        tree.extend(&[held, origin])?;
+        assert_eq!(rt; tree.multiplicity(held), 2);
+        assert_eq!(rt; tree.add(new), AddReply::TooMany);
     }
     Ok(())
 }
 
+/// Extends a tree by one point, so often at once.
+fn extend_often(
+    alloc: Global,
+    tree: &mut SparingTree,
+    point: Point,
+    times: u32,
+) -> Result<(), Fail> {
+    let mut points = Vec::new(alloc);
+    for _ in 0..times {
+        points.push(point)?;
+    }
+    Ok(tree.extend(&points)?)
+}
+
 #[test]
 fn once_more_than_a_point_may_be_held_after_others(rt: HostRuntime) -> Result<(), Fail> {
-    let mut often = Vec::new(rt.alloc());
-    for _ in 1..MULTIPLICITY_LIMIT {
-        often.push(at(0, 0)?)?;
-    }
+    let (origin, other) = (at(0, 0)?, at(1, 1)?);
     for count in [40u32, 2] {
         let mut tree = full_tree(rt.alloc(), count)?;
-        tree.extend(&often)?;
-        assert_eq!(rt; tree.multiplicity(at(0, 0)?), MULTIPLICITY_LIMIT);
-        let more = [at(1, 1)?, at(0, 0)?];
-        assert_eq!(rt; tree.extend(&more).err(), Some(LoadFault::TooMany));
-        assert_eq!(rt; tree.multiplicity(at(1, 1)?), 1);
-        assert_eq!(rt; tree.multiplicity(at(0, 0)?), MULTIPLICITY_LIMIT);
+        extend_often(rt.alloc(), &mut tree, origin, MULTIPLICITY_LIMIT - 1)?;
+        assert_eq!(rt; tree.multiplicity(origin), MULTIPLICITY_LIMIT);
+        assert_too_many(&rt, &mut tree, &[other, origin])?;
     }
     Ok(())
 }
@@ -128,39 +132,44 @@ fn extend_again(rt: &impl Abort, tree: &mut HullTree, points: &[Point]) -> Resul
     Ok(())
 }
 
+/// Adds a new point; where memory is refused, at the second attempt.
+fn add_again(rt: &impl Abort, tree: &mut HullTree, p: Point) {
+    let mut reply = tree.add(p);
+    if reply == AddReply::NoMemory {
+        reply = tree.add(p);
+    }
+    assert_eq!(rt; reply, AddReply::Added);
+}
+
 // `rt try --test --fail-alloc N`: N = 1 refuses the sorted list, 2 its entries, 3 those of both, 4 to 6 the boxes of the
 // forks, and the further ones those of an extension that builds anew and of one point by point.
 #[test]
 fn refused_extension(rt: HostRuntime) -> Result<(), Fail> {
+    let (apex, twice) = (at(2, 3)?, at(9, 2)?);
+    let four = [apex, at(0, 0)?, at(4, 0)?, at(2, 1)?];
+    let two = [at(9, 1)?, apex];
+    let three = [twice, at(9, 3)?, twice];
     let mut tree = HullTree::new(rt.alloc(), POINT_LIMIT);
-    extend_again(
-        &rt,
-        &mut tree,
-        &[at(2, 3)?, at(0, 0)?, at(4, 0)?, at(2, 1)?],
-    )?;
-    extend_again(&rt, &mut tree, &[at(9, 1)?, at(2, 3)?])?;
+    extend_again(&rt, &mut tree, &four)?;
+    extend_again(&rt, &mut tree, &two)?;
     for k in 0i64..60 {
-        let mut reply = tree.add(at(k, -1)?);
-        if reply == AddReply::NoMemory {
-            reply = tree.add(at(k, -1)?);
-        }
-        assert_eq!(rt; reply, AddReply::Added);
+        add_again(&rt, &mut tree, at(k, -1)?);
     }
-    extend_again(&rt, &mut tree, &[at(9, 2)?, at(9, 3)?, at(9, 2)?])?;
+    extend_again(&rt, &mut tree, &three)?;
     assert_eq!(rt; tree.count(), 67);
-    assert_eq!(rt; tree.multiplicity(at(9, 2)?), 2);
-    assert_eq!(rt; tree.multiplicity(at(2, 3)?), 2);
+    assert_eq!(rt; tree.multiplicity(twice), 2);
+    assert_eq!(rt; tree.multiplicity(apex), 2);
     Ok(())
 }
 
 #[test]
 fn nothing_added(rt: HostRuntime) -> Result<(), Fail> {
+    let p = at(3, 4)?;
     let mut tree = HullTree::new(rt.alloc(), 1);
     tree.extend(&[])?;
     assert!(rt; tree.root().is_none());
-    assert_eq!(rt; tree.entries()?.len(), 0);
-    tree.extend(&[at(3, 4)?])?;
+    tree.extend(&[p])?;
     tree.extend(&[])?;
-    assert_eq!(rt; tree.entries()?.as_slice(), [(at(3, 4)?, 1)].as_slice());
+    assert_eq!(rt; tree.entries()?.as_slice(), [(p, 1)].as_slice());
     Ok(())
 }

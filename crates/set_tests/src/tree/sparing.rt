@@ -1,6 +1,7 @@
 //! Both trees and the plain set under the same changes, among them many points in line and many that are held twice.
 use super::at;
 use super::beside_plain::{Numbers, centred};
+use super::extends::assert_entries;
 use hull_plain::{AddReply, HullSet, POINT_LIMIT, PlainSet, RemoveReply};
 use hull_tree::{HullTree, SparingTree};
 use lattice::{Direction, Point};
@@ -10,19 +11,36 @@ use std::test::Fail;
 
 /// The three sets under comparison.
 #[derive(Drop)]
-struct Sets {
+pub(super) struct Sets {
     searching: HullTree,
     sparing: SparingTree,
     plain: PlainSet,
 }
 
 impl Sets {
-    fn new(alloc: Global) -> Sets {
+    pub(super) fn new(alloc: Global) -> Sets {
         Sets {
             searching: HullTree::new(alloc, POINT_LIMIT),
             sparing: SparingTree::new(alloc, POINT_LIMIT),
             plain: PlainSet::new(alloc, POINT_LIMIT),
         }
+    }
+
+    /// Extends both trees, and adds the points one by one to the plain set.
+    pub(super) fn extend(&mut self, points: &[Point]) -> Result<(), Fail> {
+        self.searching.extend(points)?;
+        self.sparing.extend(points)?;
+        for p in points {
+            let _ = self.plain.add(*p);
+        }
+        Ok(())
+    }
+
+    /// What both trees hold is what the plain set holds.
+    pub(super) fn assert_same_entries(&self, rt: &impl Abort) -> Result<(), Fail> {
+        assert_entries(rt, &self.searching.entries()?, &self.plain);
+        assert_entries(rt, &self.sparing.entries()?, &self.plain);
+        Ok(())
     }
 
     /// Makes a change on all three, which must answer alike.
@@ -40,13 +58,20 @@ impl Sets {
         assert_eq!(rt; self.sparing.multiplicity(p), times, "times of {p:?}");
     }
 
+    /// All three have these corners.
+    fn assert_corners(&self, rt: &impl Abort, corners: &[Point]) -> Result<(), Fail> {
+        assert_eq!(rt; self.sparing.vertices()?.as_slice(), corners);
+        assert_eq!(rt; self.searching.vertices()?.as_slice(), corners);
+        Ok(())
+    }
+
     /// The corners, the area and what `q` sees are alike.
-    fn assert_alike(&self, rt: &impl Abort, q: Point) -> Result<(), Fail> {
+    pub(super) fn assert_alike(&self, rt: &impl Abort, q: Point) -> Result<(), Fail> {
+        let d = Direction::new(1, -1)?;
+        self.assert_corners(rt, &self.plain.vertices()?)?;
         assert_eq!(rt; self.sparing.count(), self.plain.count());
         assert_eq!(rt; self.sparing.area2(), self.plain.area2());
-        let corners = self.plain.vertices()?;
-        assert_eq!(rt; self.sparing.vertices()?.as_slice(), corners.as_slice());
-        assert_eq!(rt; self.searching.vertices()?.as_slice(), corners.as_slice());
+        assert_eq!(rt; self.searching.area2(), self.plain.area2());
         assert_eq!(rt;
             self.sparing.place(q),
             self.plain.place(q),
@@ -57,7 +82,6 @@ impl Sets {
             self.plain.tangents(q),
             "tangents from {q:?}"
         );
-        let d = Direction::new(1, -1)?;
         assert_eq!(rt; self.sparing.extreme(d), self.plain.extreme(d));
         Ok(())
     }

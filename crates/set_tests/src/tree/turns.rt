@@ -36,28 +36,27 @@ fn assert_removals(
 ) -> Result<(), Fail> {
     for i in order {
         let (x, y) = CORNERS.get(*i).copied().ok_or("no such point")?;
+        let p = at(x, y)?;
         let mut tree = tree_of(rt, alloc, order)?;
-        assert_eq!(rt; tree.add_counted(at(x, y)?), (AddReply::Again(2), 0));
-        assert_eq!(rt; tree.remove_counted(at(x, y)?), (RemoveReply::Left(1), 0));
-        assert_eq!(rt;
-            tree.remove_counted(at(x, y)?),
-            (RemoveReply::Removed, turns)
-        );
+        assert_eq!(rt; tree.add_counted(p), (AddReply::Again(2), 0));
+        assert_eq!(rt; tree.remove_counted(p), (RemoveReply::Left(1), 0));
+        assert_eq!(rt; tree.remove_counted(p), (RemoveReply::Removed, turns));
     }
     Ok(())
 }
 
 #[test]
 fn turns_of_two_points(rt: HostRuntime) -> Result<(), Fail> {
+    let (left, right, between) = (at(0, 0)?, at(4, 0)?, at(2, 0)?);
     let mut tree = HullTree::new(rt.alloc(), POINT_LIMIT);
-    assert_eq!(rt; tree.add_counted(at(0, 0)?), (AddReply::Added, 0));
-    assert_eq!(rt; tree.add_counted(at(4, 0)?), (AddReply::Added, 0));
-    assert_eq!(rt; tree.add_counted(at(4, 0)?), (AddReply::Again(2), 0));
-    assert_eq!(rt; tree.remove_counted(at(2, 0)?), (RemoveReply::Absent, 0));
-    assert_eq!(rt; tree.remove_counted(at(4, 0)?), (RemoveReply::Left(1), 0));
-    assert_eq!(rt; tree.remove_counted(at(4, 0)?), (RemoveReply::Removed, 0));
-    assert_eq!(rt; tree.remove_counted(at(0, 0)?), (RemoveReply::Removed, 0));
-    assert_eq!(rt; tree.remove_counted(at(0, 0)?), (RemoveReply::Absent, 0));
+    assert_eq!(rt; tree.add_counted(left), (AddReply::Added, 0));
+    assert_eq!(rt; tree.add_counted(right), (AddReply::Added, 0));
+    assert_eq!(rt; tree.add_counted(right), (AddReply::Again(2), 0));
+    assert_eq!(rt; tree.remove_counted(between), (RemoveReply::Absent, 0));
+    assert_eq!(rt; tree.remove_counted(right), (RemoveReply::Left(1), 0));
+    assert_eq!(rt; tree.remove_counted(right), (RemoveReply::Removed, 0));
+    assert_eq!(rt; tree.remove_counted(left), (RemoveReply::Removed, 0));
+    assert_eq!(rt; tree.remove_counted(left), (RemoveReply::Absent, 0));
     path_cost_is_unique();
     Ok(())
 }
@@ -97,18 +96,18 @@ fn depth_of_the_farthest(rt: HostRuntime) -> Result<(), Fail> {
     Ok(())
 }
 
-/// 65536 points of a grid, in rows, are added and taken.
+/// 16384 points of a grid, in rows, are added and taken.
 #[test]
 fn turns_on_a_grid(rt: HostRuntime) -> Result<(), Fail> {
     let mut tree = HullTree::new(rt.alloc(), POINT_LIMIT);
-    for k in 0u32..65536 {
-        let (reply, turns) = tree.add_counted(at((k % 256) as i64, (k / 256) as i64)?);
+    for k in 0u32..16384 {
+        let (reply, turns) = tree.add_counted(at((k % 128) as i64, (k / 128) as i64)?);
         assert_eq!(rt; reply, AddReply::Added);
         assert!(rt; turns <= 10000, "adding {k}");
     }
-    assert_eq!(rt; tree.count(), 65536);
-    for k in 0u32..65536 {
-        let (reply, turns) = tree.remove_counted(at((k % 256) as i64, (k / 256) as i64)?);
+    assert_eq!(rt; tree.count(), 16384);
+    for k in 0u32..16384 {
+        let (reply, turns) = tree.remove_counted(at((k % 128) as i64, (k / 128) as i64)?);
         assert_eq!(rt; reply, RemoveReply::Removed);
         assert!(rt; turns <= 10000, "removing {k}");
     }
