@@ -1,5 +1,6 @@
 -- What asking an outline for its box, its extents, its nearest point or about a segment comes to, in numbers.
-use Rattle.std.specs.Prelude.{◌≡◌, ◌⊎◌, ℕ, ℤ, pos, List, [], Bool, cond, Option, Some, None, MatchOption, Result, MatchResult}
+use Rattle.std.specs.Prelude.{◌≡◌, ◌⊎◌, ℕ, ℤ, pos, List, [], Bool, cond, Option, Some, None, MatchOption, Result}
+use Rattle.std.specs.Prelude.{MatchResult}
 use Rattle.lattice.specs.Plane.{Pair}
 use Rattle.hull_plain.specs.Positions.{origin}
 use Rattle.hull_outline.specs.Boxes.{IsBox}
@@ -44,7 +45,8 @@ IsToldOf x y P told =
 -- the two numbers are a direction and it was answered, or it was told why they are none
 abbrev pub IsToldAlong : ℤ → ℤ → (Pair → HullReply → Type 0) → HullReply → Type 0
 IsToldAlong x y P told =
-    (asked : Result Pair Code) × IsDirectionOf x y asked × MatchResult asked (λ d. P d told) (λ fault. IsBare fault told)
+    (asked : Result Pair Code) × IsDirectionOf x y asked
+    × MatchResult asked (λ d. P d told) (λ fault. IsBare fault told)
 
 -- whether they meet: 1 or 0
 abbrev pub TellsWhether : List Pair → Pair → Pair → HullReply → Type 0

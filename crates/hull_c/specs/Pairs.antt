@@ -5,7 +5,7 @@ use Rattle.hull_plain.specs.Positions.{origin}
 use Rattle.hull_outline.specs.Boxes.{Holds}
 use Rattle.hull_outline.specs.Extents.{IsLeastWidth, IsOnePoint}
 use Rattle.hull_outline.specs.Meetings.{TellsMeeting}
-use Rattle.hull_outline.specs.Outlines.{HoldsOfSetsOf}
+use Rattle.hull_outline.specs.Outlines.{HoldsOfBoth, HoldsOfSetsOf}
 use Rattle.hull_outline.specs.Witnesses.{IsWitness}
 use Rattle.hull_outline.specs.declared.meetings.Meeting.TheVariants as meeting
 use Rattle.hull_outline.specs.declared.strips.Strip.{Strip}
@@ -17,10 +17,6 @@ use Rattle.hull_reply.specs.declared.reply.HullReply.{HullReply}
 use Rattle.hull_c.specs.Findings.{finding_number}
 use Rattle.hull_c.specs.declared.findings.Finding.TheVariants as finding
 use Rattle.hull_c.specs.declared.pairs.HullWitness.{HullWitness}
-
--- P holds of each set with the one corners and each with the others
-abbrev pub HoldsOfBoth : List Pair → List Pair → (List Pair → List Pair → Type 0) → Type 0
-HoldsOfBoth corners others P = HoldsOfSetsOf corners (λ S. HoldsOfSetsOf others (λ T. P S T))
 
 -- whether they meet: 1 or 0
 abbrev pub TellsMeets : List Pair → List Pair → HullReply → Type 0

@@ -3,7 +3,8 @@ ghost use Rattle.std.specs.Prelude.{◌≡◌, Some};
 ghost use Rattle.lattice.specs.Plane.{Pair};
 ghost use Rattle.hull_plain.specs.Positions.{origin};
 ghost use Rattle.hull_outline.specs.Outlines.{IsShortOutline};
-ghost use Rattle.hull_c.specs.Findings.{finding_number, AreEndsTold, IsFound, IsNearestTold, IsToldAlong, IsToldOf, IsWidthTold};
+ghost use Rattle.hull_c.specs.Findings.{finding_number, AreEndsTold, IsFound, IsNearestTold, IsToldAlong, IsToldOf};
+ghost use Rattle.hull_c.specs.Findings.{IsWidthTold};
 ghost use Rattle.hull_c.specs.Findings.{TellsBox, TellsDiameter, TellsNearest, TellsParting, TellsWhether, TellsWidth};
 
 use hull_outline::{Nearest, Outline, Separation};

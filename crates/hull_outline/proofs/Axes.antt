@@ -1,5 +1,5 @@
 -- Four vectors that do not go down, seen in a direction: the outermost on each side, and a vector that goes up.
-use Rattle.std.proofs.Common.{◌≡◌, ℤ, pos, ◌+ℤ◌, ◌*ℤ◌, ◌≤ℤ◌, ◌<ℤ◌, neg_ℤ, ◌⊎◌, inl, inr, refl, ap, ◌∙◌, arith}
+use Rattle.std.proofs.Common.{◌≡◌, ℤ, pos, ◌+ℤ◌, ◌*ℤ◌, ◌≤ℤ◌, ◌<ℤ◌, neg_ℤ, ◌⊎◌, inl, inr, refl, ap, ◌∙◌, subst, arith}
 use Rattle.std.proofs.lemmas.Int.{ints}
 use Rattle.lattice.specs.Plane.{Pair, product}
 use Rattle.lattice.specs.Polynomials.{difference-eq, as_difference, difference-add, difference-neg, difference-mul}
@@ -111,117 +111,10 @@ between_clash d w l r hl hr t up left right =
     clash : (x y z : ℤ) → x +ℤ (y +ℤ z) ≡ pos 0 → pos 0 <ℤ x → pos 0 ≤ℤ y → pos 0 ≤ℤ z → ⊥
     clash x y z e h k l = omega (arith, ints)
 
--- the same of the left one of one wedge and the right one of another, where they are the outermost
-across_clash : (d w l r m s : Pair) → IsWedge d l r → IsWedge d m s → pos 0 <ℤ product d w → pos 0 ≤ℤ cross m l
-    → cross l s ≤ℤ pos 0 → pos 0 ≤ℤ cross l w → pos 0 ≤ℤ cross w s → ⊥
-across_clash d w l r m s e f up h k left right = elim (le_or_lt (pos 0) (cross l s)) [
-  | inr n ↦ between_clash d w l s e.left_up f.right_up (turned _ _ (cross_swap s l) n) up left right
-  | inl z ↦
-      let flat : cross l s ≡ pos 0 = both _ k z in
-      let level : product d l ≡ pos 0 = cancel_zero (product d l) (cross s m) f.turns
-      (third_of_three _ _ _ (three d s m l) (product_nn _ _ f.right_up h)
-      (none _ (times_nothing (product d m) _ flat)) (product_nn _ _ e.left_up (weak _ f.turns))) in
-      clash _ _ _ (three d w r l) (product_pp _ _ up e.turns) (product_nn _ _ e.right_up left)
-      (nothing_times _ (cross w r) level)
-]
-  where
-    turned : (x y : ℤ) → x ≡ neg_ℤ y → y <ℤ pos 0 → pos 0 <ℤ x
-    turned x y e h = omega (arith, ints)
-
-    both : (x : ℤ) → x ≤ℤ pos 0 → pos 0 ≤ℤ x → x ≡ pos 0
-    both x h k = omega (arith, ints)
-
-    weak : (x : ℤ) → pos 0 <ℤ x → pos 0 ≤ℤ x
-    weak x h = omega (arith, ints)
-
-    none : (x : ℤ) → x ≡ pos 0 → pos 0 ≤ℤ x
-    none x h = omega (arith, ints)
-
-    times_nothing : (k z : ℤ) → z ≡ pos 0 → k *ℤ z ≡ pos 0
-    times_nothing k z e = ap (λ (x : ℤ). k *ℤ x) e ∙ omega (arith, ints)
-
-    clash : (x y z : ℤ) → x +ℤ (y +ℤ z) ≡ pos 0 → pos 0 <ℤ x → pos 0 ≤ℤ y → z ≡ pos 0 → ⊥
-    clash x y z e h k l = omega (arith, ints)
-
--- the two of a wedge lie right of e, or on it, and w lies right of it
-pub record IsLeftAxis (e left right w : Pair) : Type 0 where
-  pub beside : cross e w <ℤ pos 0
-  pub left_beside : cross e left ≤ℤ pos 0
-  pub right_beside : cross e right ≤ℤ pos 0
-
--- they lie left of e, or on it, and w left of it
-pub record IsRightAxis (e left right w : Pair) : Type 0 where
-  pub beside : pos 0 <ℤ cross e w
-  pub left_beside : pos 0 ≤ℤ cross e left
-  pub right_beside : pos 0 ≤ℤ cross e right
-
--- of two wedges and a vector that goes up, one of the four has the other wedge and the vector on one side
-pub axis_of : (d w l r m s : Pair) → IsWedge d l r → IsWedge d m s → pos 0 <ℤ product d w
-    → (IsLeftAxis l m s w ⊎ IsRightAxis r m s w) ⊎ (IsLeftAxis m l r w ⊎ IsRightAxis s l r w)
-axis_of d w l r m s e f up = elim (le_or_lt (cross l m) (pos 0)) [
-  | inl h ↦
-      let k : cross l s ≤ℤ pos 0 = left_of_both d w l r m s e f up (over _ _ (cross_swap m l) h) in
-      elim (le_or_lt (pos 0) (cross l w)) [
-        | inr n ↦ inl (inl (record { beside = n; left_beside = h; right_beside = k }))
-        | inl n ↦ elim (le_or_lt (pos 0) (cross r s)) [
-          | inl j ↦ first_right j (λ b. between_clash d w l r e.left_up e.right_up e.turns up n b)
-          | inr j ↦ second_right (over _ _ (cross_swap s r) (weak _ j))
-              (λ b. across_clash d w l r m s e f up (over _ _ (cross_swap m l) h) k n b)
-        ]
-      ]
-  | inr h ↦
-      let k : cross m r ≤ℤ pos 0 = left_of_both d w m s l r f e up (more _ h) in
-      let j : cross m l ≤ℤ pos 0 = under _ _ (cross_swap m l) h in
-      elim (le_or_lt (pos 0) (cross m w)) [
-        | inr n ↦ inr (inl (record { beside = n; left_beside = j; right_beside = k }))
-        | inl n ↦ elim (le_or_lt (pos 0) (cross r s)) [
-          | inl i ↦ first_right i (λ b. across_clash d w m s l r f e up (more _ h) k n b)
-          | inr i ↦ second_right (over _ _ (cross_swap s r) (weak _ i))
-              (λ b. between_clash d w m s f.left_up f.right_up f.turns up n b)
-        ]
-      ]
-]
-  where
-    over : (x y : ℤ) → x ≡ neg_ℤ y → y ≤ℤ pos 0 → pos 0 ≤ℤ x
-    over x y e h = omega (arith, ints)
-
-    under : (x y : ℤ) → x ≡ neg_ℤ y → pos 0 <ℤ y → x ≤ℤ pos 0
-    under x y e h = omega (arith, ints)
-
-    weak : (x : ℤ) → x <ℤ pos 0 → x ≤ℤ pos 0
-    weak x h = omega (arith, ints)
-
-    more : (x : ℤ) → pos 0 <ℤ x → pos 0 ≤ℤ x
-    more x h = omega (arith, ints)
-
-    turned : (x y : ℤ) → x ≡ neg_ℤ y → y ≤ℤ pos 0 → pos 0 ≤ℤ x
-    turned x y e h = omega (arith, ints)
-
-    first_right : pos 0 ≤ℤ cross r s → (pos 0 ≤ℤ cross w r → ⊥)
-        → (IsLeftAxis l m s w ⊎ IsRightAxis r m s w) ⊎ (IsLeftAxis m l r w ⊎ IsRightAxis s l r w)
-    first_right j n = elim (le_or_lt (cross r w) (pos 0)) [
-      | inl b ↦ absurd (n (turned _ _ (cross_swap w r) b))
-      | inr b ↦ inl (inr (record {
-        beside = b;
-        left_beside = over _ _ (cross_swap r m) (right_of_both d w l r m s e f up j);
-        right_beside = j;
-      }))
-    ]
-
-    second_right : pos 0 ≤ℤ cross s r → (pos 0 ≤ℤ cross w s → ⊥)
-        → (IsLeftAxis l m s w ⊎ IsRightAxis r m s w) ⊎ (IsLeftAxis m l r w ⊎ IsRightAxis s l r w)
-    second_right j n = elim (le_or_lt (cross s w) (pos 0)) [
-      | inl b ↦ absurd (n (turned _ _ (cross_swap w s) b))
-      | inr b ↦ inr (inr (record {
-        beside = b;
-        left_beside = over _ _ (cross_swap s l) (right_of_both d w m s l r f e up j);
-        right_beside = j;
-      }))
-    ]
-
 -- ---- the outermost of both wedges
 
--- where the left one of the first wedge and the right one of the second are in line and the outermost, the first is level
+-- where the left one of the first wedge and the right one of the second are the outermost and in line, the first is
+-- level
 level_of : (d l r m s : Pair) → IsWedge d l r → IsWedge d m s → pos 0 ≤ℤ cross m l → cross l s ≡ pos 0
     → product d l ≡ pos 0
 level_of d l r m s e f h flat =
@@ -330,3 +223,80 @@ span_of d w l r m s e f up = elim (le_or_lt (cross l m) (pos 0)) [
 
     told : {P : Type 0} (x : ℤ) → pos 0 ≤ℤ x → (x ≡ pos 0 → P) → (pos 0 <ℤ x) ⊎ P
     told x h f = elim (le_or_lt x (pos 0)) [ inr k ↦ inl k | inl k ↦ inr (f (omega (arith, ints))) ]
+
+-- ---- a vector that goes up
+
+-- it is right of the left one of a wedge that is level
+level_clash : (d w l r : Pair) → IsWedge d l r → product d l ≡ pos 0 → pos 0 <ℤ product d w → pos 0 ≤ℤ cross l w → ⊥
+level_clash d w l r e level up left =
+    clash _ _ _ (three d w r l) (product_pp _ _ up e.turns) (product_nn _ _ e.right_up left)
+    (nothing_times _ (cross w r) level)
+  where
+    clash : (x y z : ℤ) → x +ℤ (y +ℤ z) ≡ pos 0 → pos 0 <ℤ x → pos 0 ≤ℤ y → z ≡ pos 0 → ⊥
+    clash x y z e h k l = omega (arith, ints)
+
+-- so it is right of the outermost on the left, or left of the outermost on the right
+outside_of : (d w l r m s g h : Pair) → IsWedge d l r → IsWedge d m s → pos 0 <ℤ product d w
+    → IsSpan d l r m s g h → (cross g w <ℤ pos 0) ⊎ (pos 0 <ℤ cross h w)
+outside_of d w l r m s g h e f up n = elim (le_or_lt (pos 0) (cross g w)) [
+  | inr a ↦ inl a
+  | inl a ↦ elim (le_or_lt (cross h w) (pos 0)) [
+    | inr b ↦ inr b
+    | inl b ↦ absurd (elim n.turns [
+      | inl t ↦ between_clash d w g h n.left_up n.right_up t up a (turned _ _ (cross_swap w h) b)
+      | inr z ↦ elim n.left_one [
+        | inl o ↦ level_clash d w l r e (subst (λ (v : Pair). product d v ≡ pos 0) o.0 z) up
+            (subst (λ (v : Pair). pos 0 ≤ℤ cross v w) o.0 a)
+        | inr o ↦ level_clash d w m s f (subst (λ (v : Pair). product d v ≡ pos 0) o.0 z) up
+            (subst (λ (v : Pair). pos 0 ≤ℤ cross v w) o.0 a)
+      ]
+    ])
+  ]
+]
+  where
+    turned : (x y : ℤ) → x ≡ neg_ℤ y → y ≤ℤ pos 0 → pos 0 ≤ℤ x
+    turned x y e h = omega (arith, ints)
+
+-- the two of a wedge lie right of e, or on it, and w lies right of it
+pub record IsLeftAxis (e left right w : Pair) : Type 0 where
+  pub beside : cross e w <ℤ pos 0
+  pub left_beside : cross e left ≤ℤ pos 0
+  pub right_beside : cross e right ≤ℤ pos 0
+
+-- they lie left of e, or on it, and w left of it
+pub record IsRightAxis (e left right w : Pair) : Type 0 where
+  pub beside : pos 0 <ℤ cross e w
+  pub left_beside : pos 0 ≤ℤ cross e left
+  pub right_beside : pos 0 ≤ℤ cross e right
+
+-- of two wedges and a vector that goes up, one of the four has the other wedge and the vector on one side
+pub axis_of : (d w l r m s : Pair) → IsWedge d l r → IsWedge d m s → pos 0 <ℤ product d w
+    → (IsLeftAxis l m s w ⊎ IsRightAxis r m s w) ⊎ (IsLeftAxis m l r w ⊎ IsRightAxis s l r w)
+axis_of d w l r m s e f up =
+    let (g, h, n) = span_of d w l r m s e f up in
+    elim (outside_of d w l r m s g h e f up n) [
+      | inl a ↦ elim n.left_one [
+        | inl o ↦ inl (inl (record {
+          beside = subst (λ (v : Pair). cross v w <ℤ pos 0) o.0 a;
+          left_beside = o.1;
+          right_beside = o.2;
+        }))
+        | inr o ↦ inr (inl (record {
+          beside = subst (λ (v : Pair). cross v w <ℤ pos 0) o.0 a;
+          left_beside = o.1;
+          right_beside = o.2;
+        }))
+      ]
+      | inr b ↦ elim n.right_one [
+        | inl o ↦ inl (inr (record {
+          beside = subst (λ (v : Pair). pos 0 <ℤ cross v w) o.0 b;
+          left_beside = o.1;
+          right_beside = o.2;
+        }))
+        | inr o ↦ inr (inr (record {
+          beside = subst (λ (v : Pair). pos 0 <ℤ cross v w) o.0 b;
+          left_beside = o.1;
+          right_beside = o.2;
+        }))
+      ]
+    ]

@@ -1,6 +1,7 @@
 -- The two points of a set that are farthest from one another: each is a corner, and one of them the first of the points
 -- farthest from an edge that begins at the other.
-use Rattle.std.proofs.Common.{◌≡◌, ℕ, zero, suc, ◌+◌, ◌<◌, ℤ, pos, ◌+ℤ◌, ◌-ℤ◌, ◌*ℤ◌, ◌≤ℤ◌, ◌<ℤ◌, neg_ℤ, ◌⊎◌, inl, inr, refl}
+use Rattle.std.proofs.Common.{◌≡◌, ℕ, zero, suc, ◌+◌, ◌<◌, ℤ, pos, ◌+ℤ◌, ◌-ℤ◌, ◌*ℤ◌, ◌≤ℤ◌, ◌<ℤ◌, neg_ℤ, ◌⊎◌, inl}
+use Rattle.std.proofs.Common.{inr, refl}
 use Rattle.std.proofs.Common.{sym, ap, ◌∙◌, subst, List, [], ◌∷◌, length, arith}
 use Rattle.std.specs.List.{Contains}
 use Rattle.std.proofs.lemmas.Bool.{cases_lt}
@@ -104,8 +105,14 @@ distance_more : (p q t : Pair)
     +ℤ ((product (step p q) t -ℤ product (step p q) q) +ℤ distance_squared q t)
 unfolding distance_squared product
 distance_more p q t =
-    rw (as_difference p.x, as_difference p.y, as_difference q.x, as_difference q.y, as_difference t.x, as_difference t.y)
-    (simp (difference-add, difference-neg, difference-mul) (difference-eq _ _ _ _ (omega arith)))
+    rw (
+      as_difference p.x,
+      as_difference p.y,
+      as_difference q.x,
+      as_difference q.y,
+      as_difference t.x,
+      as_difference t.y,
+    ) (simp (difference-add, difference-neg, difference-mul) (difference-eq _ _ _ _ (omega arith)))
 
 -- two points are apart
 pub distance_above : (q t : Pair) → ¬ (t ≡ q) → pos 0 <ℤ distance_squared q t
@@ -151,14 +158,15 @@ turned S p q h = record {
 -- and farther than its start
 beyond_start : (S : List Pair) (p q : Pair) → IsDiameter S p q → (t : Pair) → Contains S t → ¬ (t ≡ p)
     → product (step p q) p <ℤ product (step p q) t
-beyond_start S p q h t m n = back _ _ _ _ (step_back p q t) (step_back p q p) (short_of_end S q p (turned S p q h) t m n)
+beyond_start S p q h t m n =
+    back _ _ _ _ (step_back p q t) (step_back p q p) (short_of_end S q p (turned S p q h) t m n)
   where
     back : (x y u v : ℤ) → x ≡ neg_ℤ u → y ≡ neg_ℤ v → x <ℤ y → v <ℤ u
     back x y u v e f h = omega (arith, ints)
 
 -- the only point that is farthest in a direction is a corner
-only_farthest : (S V : List Pair) (last : ℕ) (d q : Pair) → IsOutlineOf S V → IsParted V last → 0 < length V → Contains S q
-    → ((t : Pair) → Contains S t → ¬ (t ≡ q) → product d t <ℤ product d q) → (i : ℕ) × (i < length V) × (corner V i ≡ q)
+only_farthest : (S V : List Pair) (last : ℕ) (d q : Pair) → IsOutlineOf S V → IsParted V last → 0 < length V
+    → Contains S q → ((t : Pair) → Contains S t → ¬ (t ≡ q) → product d t <ℤ product d q) → (i : ℕ) × (i < length V) × (corner V i ≡ q)
 only_farthest S V last d q o p n m h =
     let r = top_of S V last d o p n in (
       r.0,
@@ -181,21 +189,34 @@ only_farthest S V last d q o p n m h =
 line_x : (d e y : Pair) → product d e *ℤ y.x -ℤ product d y *ℤ e.x ≡ cross y e *ℤ d.y
 unfolding product
 line_x d e y =
-    rw (as_difference d.x, as_difference d.y, as_difference e.x, as_difference e.y, as_difference y.x, as_difference y.y)
-    (simp (difference-add, difference-neg, difference-mul) (difference-eq _ _ _ _ (omega arith)))
+    rw (
+      as_difference d.x,
+      as_difference d.y,
+      as_difference e.x,
+      as_difference e.y,
+      as_difference y.x,
+      as_difference y.y,
+    ) (simp (difference-add, difference-neg, difference-mul) (difference-eq _ _ _ _ (omega arith)))
 
 -- and by y
 line_y : (d e y : Pair) → product d y *ℤ e.y -ℤ product d e *ℤ y.y ≡ cross y e *ℤ d.x
 unfolding product
 line_y d e y =
-    rw (as_difference d.x, as_difference d.y, as_difference e.x, as_difference e.y, as_difference y.x, as_difference y.y)
-    (simp (difference-add, difference-neg, difference-mul) (difference-eq _ _ _ _ (omega arith)))
+    rw (
+      as_difference d.x,
+      as_difference d.y,
+      as_difference e.x,
+      as_difference e.y,
+      as_difference y.x,
+      as_difference y.y,
+    ) (simp (difference-add, difference-neg, difference-mul) (difference-eq _ _ _ _ (omega arith)))
 
 -- two vectors in line that are both ahead do not go up and down
 not_up_and_down : (d e y : Pair) → Ahead e → Ahead y → pos 0 <ℤ product d e → product d y <ℤ pos 0 → cross y e ≡ pos 0
     → ⊥
 not_up_and_down d e y ae (inl h) up down z =
-    clash _ _ _ (line_x d e y) (nothing_times _ d.y z) (product_pp _ _ up h) (product_np _ _ (weak _ down) (ahead_nn e ae))
+    clash _ _ _ (line_x d e y) (nothing_times _ d.y z) (product_pp _ _ up h)
+    (product_np _ _ (weak _ down) (ahead_nn e ae))
   where
     weak : (x : ℤ) → x <ℤ pos 0 → x ≤ℤ pos 0
     weak x h = omega (arith, ints)
@@ -235,13 +256,19 @@ cancel_down a c h e = elim (le_or_lt c (pos 0)) [
 -- a step backwards
 back_first : (p f v : Pair) → cross (minus p f) v ≡ neg_ℤ (cross (minus f p) v)
 back_first p f v =
-    rw (as_difference p.x, as_difference p.y, as_difference f.x, as_difference f.y, as_difference v.x, as_difference v.y)
-    (simp (difference-add, difference-neg, difference-mul) (difference-eq _ _ _ _ (omega arith)))
+    rw (
+      as_difference p.x,
+      as_difference p.y,
+      as_difference f.x,
+      as_difference f.y,
+      as_difference v.x,
+      as_difference v.y,
+    ) (simp (difference-add, difference-neg, difference-mul) (difference-eq _ _ _ _ (omega arith)))
 
 -- ---- opposite an edge
 
--- p and q are the only points nearest and farthest in a direction, a the next corner from p and b that from q; where the
--- edge from q is turned no farther than the one from p is back, p is the first of the points farthest from it
+-- p and q are the only points nearest and farthest in a direction, a the next corner from p and b that from q; where
+-- the edge from q is turned no farther than the one from p is back, p is the first of the points farthest from it
 opposite_is : (S : List Pair) (d p a q b f : Pair) → Contains S p → IsLeftOf S p a → pos 0 <ℤ product d (minus a p)
     → product d (minus b q) <ℤ pos 0 → ((t : Pair) → Contains S t → ¬ (t ≡ p) → product d p <ℤ product d t)
     → pos 0 ≤ℤ cross (minus a p) (minus b q) → (cross (minus a p) (minus b q) ≡ pos 0 → IsBefore p a)
@@ -326,8 +353,8 @@ opposite_is S d p a q b f mp left up down low turn tie far = elim (before_total 
         nothing : (x y : ℤ) → x ≡ neg_ℤ y → y ≡ pos 0 → x ≡ pos 0
         nothing x y e h = omega (arith, ints)
 
--- where two corners are a diameter, the first is opposite the edge from the second, if that is turned no farther than the
--- one from the first is back
+-- where two corners are a diameter, the first is opposite the edge from the second, if that is turned no farther than
+-- the one from the first is back
 edge_opposite : (S V : List Pair) (i j : ℕ) → IsVertexList S V → 1 < length V → i < length V → j < length V
     → IsDiameter S (corner V j) (corner V i)
     → pos 0 ≤ℤ cross (minus (corner V (j + 1)) (corner V j)) (minus (corner V (i + 1)) (corner V i))
@@ -366,7 +393,8 @@ forward_there : (S V : List Pair) (i j : ℕ) → IsVertexList S V → 1 < lengt
 forward_there S V i j o n li lj h z back = elim (before_total (corner V i) (corner V (i + 1))) [
   | inl b ↦ b
   | inr (inl e) ↦ absurd (next_apart S V i (i + 1) o refl li n e)
-  | inr (inr b) ↦ absurd (not_up_and_down d (minus (corner V i) (corner V (i + 1))) (minus (corner V j) (corner V (j + 1)))
+  | inr (inr b) ↦ absurd (not_up_and_down d (minus (corner V i) (corner V (i + 1)))
+      (minus (corner V j) (corner V (j + 1)))
       (ahead_of (corner V (i + 1)) (corner V i) b) (ahead_of (corner V (j + 1)) (corner V j) back)
       (rises _ _ _ (product_minus d (corner V i) (corner V (i + 1)))
       (short_of_end S (corner V j) (corner V i) h (corner V (i + 1)) (there (i + 1))
@@ -471,7 +499,8 @@ diameter_of S V last u w o p n best = record {
         subst (λ (z : Pair). distance_squared z pair.1 ≤ℤ distance_squared u w) ej
         (subst (λ (z : Pair). distance_squared (corner V j) z ≤ℤ distance_squared u w) ei
         (elim (one_opposite S V i j o.1 more li lj h) [
-          | inl k ↦ subst (λ (z : ℤ). z ≤ℤ distance_squared u w) (distance_turned (corner V i) (corner V j)) (across i j li k)
+          | inl k ↦ subst (λ (z : ℤ). z ≤ℤ distance_squared u w) (distance_turned (corner V i) (corner V j))
+              (across i j li k)
           | inr k ↦ across j i lj k
         ]))
 
@@ -484,5 +513,8 @@ diameter_of S V last u w o p n best = record {
         corners i.0 j.0 i.1 j.1 i.2 j.2 ne
 
     enough : distance_squared pair.0 pair.1 ≤ℤ distance_squared u w
-    enough = elim (before_total pair.0 pair.1)
-        [ inl b ↦ apart (before_apart pair.0 pair.1 b) | inr (inl e) ↦ level e | inr (inr b) ↦ apart (after_apart pair.0 pair.1 b) ]
+    enough = elim (before_total pair.0 pair.1) [
+      | inl b ↦ apart (before_apart pair.0 pair.1 b)
+      | inr (inl e) ↦ level e
+      | inr (inr b) ↦ apart (after_apart pair.0 pair.1 b)
+    ]

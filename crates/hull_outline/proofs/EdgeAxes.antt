@@ -1,5 +1,6 @@
 -- Two sets of three corners or more that a direction parts: an edge of one of them has the other on its right.
-use Rattle.std.proofs.Common.{◌≡◌, ℕ, ◌+◌, ◌<◌, ℤ, pos, ◌-ℤ◌, ◌≤ℤ◌, ◌<ℤ◌, neg_ℤ, ◌⊎◌, inl, inr, sym, subst, List, length}
+use Rattle.std.proofs.Common.{◌≡◌, ℕ, ◌+◌, ◌<◌, ℤ, pos, ◌-ℤ◌, ◌≤ℤ◌, ◌<ℤ◌, neg_ℤ, ◌⊎◌, inl, inr, sym, subst, List}
+use Rattle.std.proofs.Common.{length}
 use Rattle.std.proofs.Common.{arith}
 use Rattle.std.specs.List.{Contains}
 use Rattle.std.proofs.lemmas.Int.{ints}
@@ -28,43 +29,79 @@ use Rattle.hull_outline.proofs.Turns.{farthest_corner, placed}
 pub product_minus : (d p q : Pair) → product d (minus p q) ≡ product d p -ℤ product d q
 unfolding product
 product_minus d p q =
-    rw (as_difference d.x, as_difference d.y, as_difference p.x, as_difference p.y, as_difference q.x, as_difference q.y)
-    (simp (difference-add, difference-neg, difference-mul) (difference-eq _ _ _ _ (omega arith)))
+    rw (
+      as_difference d.x,
+      as_difference d.y,
+      as_difference p.x,
+      as_difference p.y,
+      as_difference q.x,
+      as_difference q.y,
+    ) (simp (difference-add, difference-neg, difference-mul) (difference-eq _ _ _ _ (omega arith)))
 
 -- and in the direction backwards
 product_minus_back : (d p q : Pair) → product d (minus p q) ≡ product (opp d) q -ℤ product (opp d) p
 unfolding product
 product_minus_back d p q =
-    rw (as_difference d.x, as_difference d.y, as_difference p.x, as_difference p.y, as_difference q.x, as_difference q.y)
-    (simp (difference-add, difference-neg, difference-mul) (difference-eq _ _ _ _ (omega arith)))
+    rw (
+      as_difference d.x,
+      as_difference d.y,
+      as_difference p.x,
+      as_difference p.y,
+      as_difference q.x,
+      as_difference q.y,
+    ) (simp (difference-add, difference-neg, difference-mul) (difference-eq _ _ _ _ (omega arith)))
 
 -- a turn, by the steps from its corner back
 turn_back : (p c n : Pair) → orient p c n ≡ cross (minus c n) (minus c p)
 unfolding orient
 turn_back p c n =
-    rw (as_difference p.x, as_difference p.y, as_difference c.x, as_difference c.y, as_difference n.x, as_difference n.y)
-    (simp (difference-add, difference-neg, difference-mul) (difference-eq _ _ _ _ (omega arith)))
+    rw (
+      as_difference p.x,
+      as_difference p.y,
+      as_difference c.x,
+      as_difference c.y,
+      as_difference n.x,
+      as_difference n.y,
+    ) (simp (difference-add, difference-neg, difference-mul) (difference-eq _ _ _ _ (omega arith)))
 
 -- and by those from its corner
 turn_from : (p c n : Pair) → orient p c n ≡ cross (minus n c) (minus p c)
 unfolding orient
 turn_from p c n =
-    rw (as_difference p.x, as_difference p.y, as_difference c.x, as_difference c.y, as_difference n.x, as_difference n.y)
-    (simp (difference-add, difference-neg, difference-mul) (difference-eq _ _ _ _ (omega arith)))
+    rw (
+      as_difference p.x,
+      as_difference p.y,
+      as_difference c.x,
+      as_difference c.y,
+      as_difference n.x,
+      as_difference n.y,
+    ) (simp (difference-add, difference-neg, difference-mul) (difference-eq _ _ _ _ (omega arith)))
 
 -- the side of a point at the line from p to c, by the steps to c and from there
 pub side_on : (p c v : Pair) → orient p c v ≡ cross (minus c p) (minus v c)
 unfolding orient
 side_on p c v =
-    rw (as_difference p.x, as_difference p.y, as_difference c.x, as_difference c.y, as_difference v.x, as_difference v.y)
-    (simp (difference-add, difference-neg, difference-mul) (difference-eq _ _ _ _ (omega arith)))
+    rw (
+      as_difference p.x,
+      as_difference p.y,
+      as_difference c.x,
+      as_difference c.y,
+      as_difference v.x,
+      as_difference v.y,
+    ) (simp (difference-add, difference-neg, difference-mul) (difference-eq _ _ _ _ (omega arith)))
 
 -- the side of a point at the line from c to n, by the steps from n to c and from c
 pub side_off : (c n v : Pair) → orient c n v ≡ neg_ℤ (cross (minus c n) (minus v c))
 unfolding orient
 side_off c n v =
-    rw (as_difference c.x, as_difference c.y, as_difference n.x, as_difference n.y, as_difference v.x, as_difference v.y)
-    (simp (difference-add, difference-neg, difference-mul) (difference-eq _ _ _ _ (omega arith)))
+    rw (
+      as_difference c.x,
+      as_difference c.y,
+      as_difference n.x,
+      as_difference n.y,
+      as_difference v.x,
+      as_difference v.y,
+    ) (simp (difference-add, difference-neg, difference-mul) (difference-eq _ _ _ _ (omega arith)))
 
 -- the side of one point less that of another, by the step from n to c
 pub side_off_more : (c n v t : Pair) → orient c n t -ℤ orient c n v ≡ neg_ℤ (cross (minus c n) (minus t v))
@@ -273,7 +310,8 @@ edge_parts S V T W last end o p q r many more (d, h) =
       | inl (inr x) ↦ inl (
         a.0,
         a.1,
-        right_of_edge_from T (corner V a.0) (corner V (a.0 + 1)) (previous W b.0) (corner W b.0) (corner W (b.0 + 1)) g x,
+        right_of_edge_from T (corner V a.0) (corner V (a.0 + 1)) (previous W b.0) (corner W b.0) (corner W (b.0 + 1)) g
+            x,
       )
       | inr (inl x) ↦ inr (edge_to W S b.0 b.1
           (right_of_edge_to S (previous W b.0) (corner W b.0) (previous V a.0) (corner V a.0) (corner V (a.0 + 1)) f
@@ -282,7 +320,8 @@ edge_parts S V T W last end o p q r many more (d, h) =
         b.0,
         b.1,
         right_of_edge_from S (corner W b.0) (corner W (b.0 + 1)) (previous V a.0) (corner V a.0) (corner V (a.0 + 1)) f
-            (right_axis_back (corner W (b.0 + 1)) (corner W b.0) (previous V a.0) (corner V (a.0 + 1)) (corner V a.0) x),
+            (right_axis_back (corner W (b.0 + 1)) (corner W b.0) (previous V a.0) (corner V (a.0 + 1)) (corner V a.0)
+            x),
       )
     ]
   where

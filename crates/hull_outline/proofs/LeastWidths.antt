@@ -12,7 +12,8 @@ use Rattle.lattice.specs.Vertices.{IsLeftOf}
 use Rattle.lattice.proofs.Order.{equal_by}
 use Rattle.lattice.proofs.Vectors.{minus, opp, cross, cross_swap}
 use Rattle.hull_plain.proofs.Orientation.{orient_other}
-use Rattle.hull_outline.specs.Extents.{IsExtent, IsLeastWidth, IsOnePoint, IsStrip, IsStripAt, IsThinnerOf, IsThinnestOf}
+use Rattle.hull_outline.specs.Extents.{IsExtent, IsLeastWidth, IsOnePoint, IsStrip, IsStripAt, IsThinnerOf}
+use Rattle.hull_outline.specs.Extents.{IsThinnestOf}
 use Rattle.hull_outline.specs.Extents.{length_squared, side_of, edge_squared}
 use Rattle.hull_outline.specs.Nearest.{previous}
 use Rattle.hull_outline.specs.Outlines.{IsOutlineOf}
@@ -23,7 +24,8 @@ use Rattle.hull_outline.proofs.Axes.{IsSpan, span_of, three}
 use Rattle.hull_outline.proofs.Cones.{square_nn}
 use Rattle.hull_outline.proofs.Corners.{corner_back, corner_extreme, next_apart, next_left}
 use Rattle.hull_outline.proofs.Diameters.{distance_above, distance_nn}
-use Rattle.hull_outline.proofs.EdgeAxes.{bend_at, bend_at_most, both_back, product_minus, side_off, side_off_more, side_on}
+use Rattle.hull_outline.proofs.EdgeAxes.{bend_at, bend_at_most, both_back, product_minus, side_off, side_off_more}
+use Rattle.hull_outline.proofs.EdgeAxes.{side_on}
 use Rattle.hull_outline.proofs.EdgeAxes.{top_of, wedge_from, wedge_to}
 use Rattle.hull_outline.proofs.EdgesOf.{all_of}
 use Rattle.hull_outline.proofs.Ends.{ends_of, no_corners}
@@ -60,15 +62,27 @@ along_itself d = refl
 mean_x : (d g h : Pair) → cross h g *ℤ d.x ≡ product d h *ℤ g.y -ℤ product d g *ℤ h.y
 unfolding product
 mean_x d g h =
-    rw (as_difference d.x, as_difference d.y, as_difference g.x, as_difference g.y, as_difference h.x, as_difference h.y)
-    (simp (difference-add, difference-neg, difference-mul) (difference-eq _ _ _ _ (omega arith)))
+    rw (
+      as_difference d.x,
+      as_difference d.y,
+      as_difference g.x,
+      as_difference g.y,
+      as_difference h.x,
+      as_difference h.y,
+    ) (simp (difference-add, difference-neg, difference-mul) (difference-eq _ _ _ _ (omega arith)))
 
 -- and by y
 mean_y : (d g h : Pair) → cross h g *ℤ d.y ≡ product d g *ℤ h.x -ℤ product d h *ℤ g.x
 unfolding product
 mean_y d g h =
-    rw (as_difference d.x, as_difference d.y, as_difference g.x, as_difference g.y, as_difference h.x, as_difference h.y)
-    (simp (difference-add, difference-neg, difference-mul) (difference-eq _ _ _ _ (omega arith)))
+    rw (
+      as_difference d.x,
+      as_difference d.y,
+      as_difference g.x,
+      as_difference g.y,
+      as_difference h.x,
+      as_difference h.y,
+    ) (simp (difference-add, difference-neg, difference-mul) (difference-eq _ _ _ _ (omega arith)))
 
 -- a weighed square
 weighed_square : (c x y : ℤ) → (c *ℤ c) *ℤ (x *ℤ x +ℤ y *ℤ y) ≡ (c *ℤ x) *ℤ (c *ℤ x) +ℤ (c *ℤ y) *ℤ (c *ℤ y)
@@ -93,7 +107,8 @@ mean_square : (d g h : Pair)
     +ℤ ((product d h *ℤ product d g) *ℤ neg_ℤ (dot g h)
     +ℤ ((product d h *ℤ product d g) *ℤ neg_ℤ (dot g h) +ℤ (product d g *ℤ product d g) *ℤ length_squared h))
 mean_square d g h =
-    weighed_square (cross h g) d.x d.y ∙ ap (λ (z : ℤ). z *ℤ z +ℤ (cross h g *ℤ d.y) *ℤ (cross h g *ℤ d.y)) (mean_x d g h)
+    weighed_square (cross h g) d.x d.y
+    ∙ ap (λ (z : ℤ). z *ℤ z +ℤ (cross h g *ℤ d.y) *ℤ (cross h g *ℤ d.y)) (mean_x d g h)
     ∙ ap (λ (z : ℤ). (product d h *ℤ g.y -ℤ product d g *ℤ h.y) *ℤ (product d h *ℤ g.y -ℤ product d g *ℤ h.y) +ℤ z *ℤ z)
     (mean_y d g h) ∙ normals_square (product d h) (product d g) g.x g.y h.x h.y
 
@@ -109,8 +124,14 @@ level_along : (d g w : Pair)
     → product d w *ℤ length_squared g ≡ product d g *ℤ dot g w +ℤ cross g w *ℤ cross g d
 unfolding product
 level_along d g w =
-    rw (as_difference d.x, as_difference d.y, as_difference g.x, as_difference g.y, as_difference w.x, as_difference w.y)
-    (simp (difference-add, difference-neg, difference-mul) (difference-eq _ _ _ _ (omega arith)))
+    rw (
+      as_difference d.x,
+      as_difference d.y,
+      as_difference g.x,
+      as_difference g.y,
+      as_difference w.x,
+      as_difference w.y,
+    ) (simp (difference-add, difference-neg, difference-mul) (difference-eq _ _ _ _ (omega arith)))
 
 -- the length of d, by g
 level_length : (d g : Pair)
@@ -123,7 +144,8 @@ level_length d g =
 -- ---- numbers
 
 -- two squares
-drawn_level : (m l n d r : ℤ) → ((n *ℤ n) *ℤ l -ℤ m *ℤ d) *ℤ (r *ℤ r) ≡ ((n *ℤ r) *ℤ (n *ℤ r)) *ℤ l -ℤ m *ℤ ((d *ℤ r) *ℤ r)
+drawn_level : (m l n d r : ℤ)
+    → ((n *ℤ n) *ℤ l -ℤ m *ℤ d) *ℤ (r *ℤ r) ≡ ((n *ℤ r) *ℤ (n *ℤ r)) *ℤ l -ℤ m *ℤ ((d *ℤ r) *ℤ r)
 drawn_level m l n d r =
     rw (as_difference m, as_difference l, as_difference n, as_difference d, as_difference r)
     (simp (difference-add, difference-neg, difference-mul) (difference-eq _ _ _ _ (omega arith)))
@@ -318,19 +340,23 @@ by_span S V i j w d g h n c best s e =
     let right = weighed S V w (cross v h) (length_squared h) c.outline best (right_bounded S V i j d g h c s) in
     elim s.turns [
       | inl t ↦ between_two (side_of w *ℤ side_of w) (edge_squared w) (cross h g) n (length_squared d) (product d h)
-          (product d g) (cross g v) (cross v h) (length_squared g) (length_squared h) (neg_ℤ (dot g h)) (square_nn (side_of w))
+          (product d g) (cross g v) (cross v h) (length_squared g) (length_squared h) (neg_ℤ (dot g h))
+          (square_nn (side_of w))
           (distance_nn w.from w.to) t s.right_up s.left_up left.0 right.0 (length_nn g) (length_nn h) left.1 right.1
           (at_most _ _ _ (lagrange g h) (square_nn (cross h g)))
-          (turned (product d v *ℤ cross h g) (product d h *ℤ cross g v) (product d g *ℤ cross v h) _ (three d v h g) (ap (λ (z : ℤ). z *ℤ cross h g) e ∙ opposite_times n (cross h g)))
+          (turned (product d v *ℤ cross h g) (product d h *ℤ cross g v) (product d g *ℤ cross v h) _ (three d v h g)
+          (ap (λ (z : ℤ). z *ℤ cross h g) e ∙ opposite_times n (cross h g)))
           (mean_square d g h)
-      | inr z ↦ level_quotient (side_of w *ℤ side_of w) (edge_squared w) n (length_squared d) (cross g v) (length_squared g)
+      | inr z ↦ level_quotient (side_of w *ℤ side_of w) (edge_squared w) n (length_squared d) (cross g v)
+          (length_squared g)
           (cross g d)
           (subst (λ (y : ℤ). pos 0 <ℤ y) at_left.3
           (distance_above (corner V at_left.0) (corner V (at_left.0 + 1))
           (λ q. next_apart S V at_left.0 (at_left.0 + 1) c.outline.1 refl at_left.1 (omega (arith, c.many)) (sym q))))
           left.1
           (level _ _ _ _ (level_along d g v) (nothing_times _ (dot g v) z)
-          (ap (λ (y : ℤ). y *ℤ length_squared g) e ∙ opposite_times n (length_squared g)) (commute n (length_squared g)))
+          (ap (λ (y : ℤ). y *ℤ length_squared g) e ∙ opposite_times n (length_squared g))
+          (commute n (length_squared g)))
           (square_only _ _ _ (level_length d g) (nothing_times _ (product d g) z))
     ]
   where
@@ -354,7 +380,8 @@ by_span S V i j w d g h n c best s e =
 
 -- how far a set reaches is how much farther its farthest point lies than the one farthest backwards
 extent_is : (S : List Pair) (d p q : Pair) (n : ℤ) → IsExtent S d n → Contains S p → Contains S q
-    → ((t : Pair) → Contains S t → product d t ≤ℤ product d p) → ((t : Pair) → Contains S t → product d q ≤ℤ product d t)
+    → ((t : Pair) → Contains S t → product d t ≤ℤ product d p)
+    → ((t : Pair) → Contains S t → product d q ≤ℤ product d t)
     → n ≡ product d p -ℤ product d q
 extent_is S d p q n h mp mq high low =
     let (s, t, ms, mt, e) = h.reached in
@@ -400,7 +427,8 @@ least_two S V w d n o two few best =
       λ t m. flat t m,
       refl,
     ) in
-    up _ _ _ (product_ns (length_squared d) _ (length_nn d) (none b.1)) (commute (side_of w *ℤ side_of w) (length_squared d))
+    up _ _ _ (product_ns (length_squared d) _ (length_nn d) (none b.1))
+    (commute (side_of w *ℤ side_of w) (length_squared d))
     (product_nn _ _ (square_nn n) (distance_nn w.from w.to))
   where
     -- the second edge goes back on the first
@@ -416,12 +444,14 @@ least_two S V w d n o two few best =
         back : corner V 2 ≡ corner V 0
         back = corner_back V 2 few (omega (arith, two))
 
-    none : ((side_of w *ℤ side_of w) *ℤ distance_squared (corner V 0) (corner V 1)) ≤ℤ ((pos 0 *ℤ pos 0) *ℤ edge_squared w)
+    none : ((side_of w *ℤ side_of w) *ℤ distance_squared (corner V 0) (corner V 1))
+        ≤ℤ ((pos 0 *ℤ pos 0) *ℤ edge_squared w)
         → (side_of w *ℤ side_of w) ≤ℤ pos 0
     none h = elim (le_or_lt (side_of w *ℤ side_of w) (pos 0)) [
       | inl k ↦ k
       | inr k ↦ absurd (clash _ _ h (zero_times (edge_squared w)) (product_pp _ _ k
-          (distance_above (corner V 0) (corner V 1) (λ q. next_apart S V 0 1 o.1 (omega arith) (omega (arith, two)) two (sym q)))))
+          (distance_above (corner V 0) (corner V 1)
+          (λ q. next_apart S V 0 1 o.1 (omega arith) (omega (arith, two)) two (sym q)))))
     ]
       where
         zero_times : (z : ℤ) → (pos 0 *ℤ pos 0) *ℤ z ≡ pos 0
@@ -510,7 +540,8 @@ thinnest_more S V i best next r o two l h a (inl (e, n)) =
             (let b = own_edge S V i next a in (
               b.0,
               b.1,
-              quotients_le _ _ _ _ _ _ (edge_above next s.apart) (distance_nn best.from best.to) (distance_nn _ _) (not_less _ _ n)
+              quotients_le _ _ _ _ _ _ (edge_above next s.apart) (distance_nn best.from best.to) (distance_nn _ _)
+                  (not_less _ _ n)
                   b.2,
             ))
       ],
@@ -579,7 +610,8 @@ one_point S V last o p few s t ms mt = elim (cases_lt 0 (length V)) [
       let ends = ends_of S V last o p n in
       only s (ends.0 s ms) (subst (λ (k : ℕ). ¬ IsBefore (corner V k) s) e (ends.1 s ms))
       ∙ sym (only t (ends.0 t mt) (subst (λ (k : ℕ). ¬ IsBefore (corner V k) t) e (ends.1 t mt)))
-  | inr n ↦ absurd (let k = subst (λ (z : List Pair). Contains z s) (no_corners S V o (omega (arith, n))) ms in omega (arith, k.1))
+  | inr n ↦ absurd (let k = subst (λ (z : List Pair). Contains z s) (no_corners S V o (omega (arith, n))) ms in
+      omega (arith, k.1))
 ]
   where
     only : (q : Pair) → ¬ IsBefore q (corner V 0) → ¬ IsBefore (corner V 0) q → q ≡ corner V 0

@@ -22,8 +22,8 @@ IsLeftmost S a b p = Contains S p × IsFarthest S (left_of a b) p
 abbrev pub IsShielded : List Pair → Pair → Pair → Type 0
 IsShielded S a b = ¬ Covers S a × ((d : Pair) → Parts d S (a ∷ []) → Parts d S (segment a b))
 
--- they meet there; or S lies right of the line from a to b, or left of it, and p is nearest to it; or S lies behind a, or
--- beyond b
+-- they meet there; or S lies right of the line from a to b, or left of it, and p is nearest to it; or S lies behind a,
+-- or beyond b
 abbrev pub IsEncounter : List Pair → Pair → Pair → Encounter → Type 0
 IsEncounter S a b (Met m) = IsMeeting S (segment a b) m
 IsEncounter S a b (OnRight p) = IsLeftmost S a b p × (orient a b p <ℤ pos 0)

@@ -1,5 +1,5 @@
--- How far a set of points reaches in a direction, which two of its points are farthest from one another, and where it is
--- least wide.
+-- How far a set of points reaches in a direction, which two of its points are farthest from one another, and where it
+-- is least wide.
 use Rattle.std.specs.Prelude.{◌≡◌, ◌⊎◌, ℕ, ◌+◌, ◌<◌, ℤ, ◌+ℤ◌, ◌-ℤ◌, ◌*ℤ◌, ◌≤ℤ◌, ◌<ℤ◌, List}
 use Rattle.std.specs.List.{All, Contains}
 use Rattle.lattice.specs.Plane.{Pair, orient, product, distance_squared}
@@ -9,8 +9,8 @@ use Rattle.hull_outline.specs.Rounds.{corner}
 use Rattle.hull_outline.specs.Steps.{left_of}
 use Rattle.hull_outline.specs.declared.strips.Strip.{Strip}
 
--- in the direction d no point of S lies farther than another by more than n, and one by so much: the width of S along d,
--- which is n by the length of d
+-- in the direction d no point of S lies farther than another by more than n, and one by so much: the width of S along
+-- d is n by the length of d
 pub record IsExtent (S : List Pair) (d : Pair) (n : ℤ) : Type 0 where
   pub most : (s t : Pair) → Contains S s → Contains S t → (product d s -ℤ product d t) ≤ℤ n
   pub reached : (s : Pair) × (t : Pair) × Contains S s × Contains S t × (product d s -ℤ product d t ≡ n)
@@ -60,8 +60,8 @@ pub record IsStrip (S : List Pair) (w : Strip) : Type 0 where
   pub there : Contains S w.farthest
   pub farthest : All (λ t. orient w.from w.to t ≤ℤ side_of w) S
 
--- in no direction, of whole numbers of any size, S is less wide than that strip: the square of how far it reaches, divided by
--- the squared length of the direction, is no less than that of the strip by its edge
+-- in no direction, of whole numbers of any size, S is less wide than that strip: the square of how far it reaches,
+-- divided by the squared length of the direction, is no less than that of the strip by its edge
 pub record IsLeastWidth (S : List Pair) (w : Strip) : Type 0 where
   pub strip : IsStrip S w
   pub least : (d : Pair) (n : ℤ) → IsExtent S d n

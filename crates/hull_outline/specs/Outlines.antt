@@ -20,3 +20,7 @@ IsShortOutline corners = IsOutline corners × (length corners ≤ POINT_LIMIT)
 -- P holds of each set whose corners these are
 abbrev pub HoldsOfSetsOf : List Pair → (List Pair → Type 0) → Type 0
 HoldsOfSetsOf corners P = (S : List Pair) → IsOutlineOf S corners → P S
+
+-- P holds of each set with the one corners and each with the others
+abbrev pub HoldsOfBoth : List Pair → List Pair → (List Pair → List Pair → Type 0) → Type 0
+HoldsOfBoth corners others P = HoldsOfSetsOf corners (λ S. HoldsOfSetsOf others (λ T. P S T))

@@ -3,7 +3,7 @@ ghost use Rattle.std.specs.Prelude.{◌≡◌, ◌↔◌, IsTrue, MatchOption, �
 ghost use Rattle.lattice.specs.Plane.{IsCoordinate};
 ghost use Rattle.lattice.specs.Covers.{Covers};
 ghost use Rattle.hull_outline.specs.Boxes.{IsBox, Holds};
-ghost use Rattle.hull_outline.specs.Outlines.{HoldsOfSetsOf};
+ghost use Rattle.hull_outline.specs.Outlines.{HoldsOfBoth, HoldsOfSetsOf};
 ghost use Rattle.hull_outline.specs.Rounds.{IsParted};
 ghost use Rattle.hull_outline.specs.Lent.{corners_of};
 
@@ -66,8 +66,7 @@ impl<'a> Outline<'a> {
     /// Whether the hull holds the whole hull of `other`, boundaries included: whatever point that one covers, this one
     /// covers. A bisection for each corner of `other`.
     pub fn contains(&self, other: &Outline) -> bool
-        ensures { HoldsOfSetsOf (corners_of self.now)
-            (λ S. HoldsOfSetsOf (corners_of other.now) (λ T. IsTrue result ↔ Holds S T)) }
+        ensures { HoldsOfBoth (corners_of self.now) (corners_of other.now) (λ S T. IsTrue result ↔ Holds S T) }
     {
         for i in 0..other.corners.len() {
             let corner = other.corners[i];

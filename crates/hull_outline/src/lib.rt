@@ -5,9 +5,9 @@
 //! once, with no lock; each answer is the one that is right for every set with these corners (`specs/Outlines.antt`).
 //! [`Outline::place`], [`Outline::extreme`], [`Outline::tangents`], [`Outline::meets_segment`],
 //! [`Outline::bounding_box`] and [`Outline::width_along`] take a number of steps that grows with the logarithm of the
-//! corners' number, [`Outline::contains`], [`Outline::meets`], [`Outline::witness`] and [`Outline::diameter`] as many for
-//! each corner at most, and [`Outline::area2`], [`Outline::nearest`], [`Outline::apart_from_segment`] and [`is_outline`] one pass. No memory is
-//! asked for.
+//! corners' number, [`Outline::contains`], [`Outline::meets`], [`Outline::witness`], [`Outline::diameter`] and
+//! [`Outline::least_width`] as many for each corner at most, and [`Outline::area2`], [`Outline::nearest`],
+//! [`Outline::apart_from_segment`] and [`is_outline`] one pass. No memory is asked for.
 //!
 //! # A worked example
 //!

@@ -1,7 +1,7 @@
 //! Whether two hulls meet, and where.
 ghost use Rattle.std.specs.Prelude.{◌<◌, length, MatchOption};
 ghost use Rattle.hull_outline.specs.Meetings.{IsApart, TellsMeeting};
-ghost use Rattle.hull_outline.specs.Outlines.{HoldsOfSetsOf};
+ghost use Rattle.hull_outline.specs.Outlines.{HoldsOfBoth};
 ghost use Rattle.hull_outline.specs.Witnesses.{IsMeeting};
 ghost use Rattle.hull_outline.specs.Lent.{corners_of};
 
@@ -26,8 +26,8 @@ impl<'a> Outline<'a> {
     pub(crate) fn meeting(&self, other: &Outline) -> Option<Meeting>
         requires this { 0 < length (corners_of self.now) }
         requires that { 0 < length (corners_of other.now) }
-        ensures { HoldsOfSetsOf (corners_of self.now) (λ S. HoldsOfSetsOf (corners_of other.now)
-            (λ T. MatchOption result (IsApart S T) (λ m. IsMeeting S T m))) }
+        ensures { HoldsOfBoth (corners_of self.now) (corners_of other.now)
+            (λ S T. MatchOption result (IsApart S T) (λ m. IsMeeting S T m)) }
     {
         let first = corner_at(self.corners, 0);
         if other.covers(first) {
@@ -48,8 +48,7 @@ impl<'a> Outline<'a> {
     /// Whether this hull and `other` have a point in common, boundaries included. A question of a segment for each edge
     /// of `other`.
     pub fn meets(&self, other: &Outline) -> bool
-        ensures { HoldsOfSetsOf (corners_of self.now)
-            (λ S. HoldsOfSetsOf (corners_of other.now) (λ T. TellsMeeting result S T)) }
+        ensures { HoldsOfBoth (corners_of self.now) (corners_of other.now) (λ S T. TellsMeeting result S T) }
     {
         if self.corners.is_empty() {
             return false;

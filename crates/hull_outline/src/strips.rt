@@ -2,7 +2,8 @@
 ghost use Rattle.std.specs.Prelude.{◌≡◌, ◌↔◌, IsTrue, ◌<◌, ◌≤◌, length, pos, ◌≤ℤ◌, MatchOption};
 ghost use Rattle.lattice.specs.Plane as plane;
 ghost use Rattle.lattice.specs.Plane.{widest_side, IsWithin};
-ghost use Rattle.hull_outline.specs.Extents.{edge_squared, side_of, IsLeastWidth, IsOnePoint, IsStripAt, IsThinner, IsThinnerOf};
+ghost use Rattle.hull_outline.specs.Extents.{edge_squared, side_of, IsLeastWidth, IsOnePoint, IsStripAt};
+ghost use Rattle.hull_outline.specs.Extents.{IsThinner, IsThinnerOf};
 ghost use Rattle.hull_outline.specs.Outlines.{HoldsOfSetsOf};
 ghost use Rattle.hull_outline.specs.Rounds.{IsParted};
 ghost use Rattle.hull_outline.specs.Lent.{corners_of};
@@ -14,8 +15,8 @@ use super::rounds::corner_at;
 use lattice::{Point, distance_squared, orient};
 
 /// The strip between the line of an edge and the parallel to it through the point farthest from it, which holds a hull.
-/// Its width is [`orient`](lattice::orient) of the three points by the length of the edge: squared, that number's square
-/// divided by [`distance_squared`](lattice::distance_squared) of the edge's ends.
+/// Its width is [`orient`](lattice::orient) of the three points by the length of the edge: squared, the square of that
+/// number divided by [`distance_squared`](lattice::distance_squared) of the edge's ends.
 #[derive(Clone, Copy, PartialEq, Eq, Debug)]
 pub struct Strip {
     /// The corner where the edge begins; the hull lies left of it.
@@ -107,11 +108,11 @@ fn thinnest(corners: &[Point], last: usize) -> Strip
 }
 
 impl<'a> Outline<'a> {
-    /// Where the hull is least wide: the strip of an edge, than which no direction has a narrower one; `None` where there
-    /// are fewer than two corners. A bisection for each corner.
+    /// Where the hull is least wide: the strip of an edge, than which no direction has a narrower one; `None` where
+    /// there are fewer than two corners. A bisection for each corner.
     ///
-    /// Between the normals of two edges the width of a convex polygon is least at one of them (Toussaint, 1983). Widths are
-    /// compared squared and exactly, by products of 252 bits.
+    /// Between the normals of two edges the width of a convex polygon is least at one of them (Toussaint, 1983).
+    /// Widths are compared squared and exactly, by products of 252 bits.
     pub fn least_width(&self) -> Option<Strip>
         ensures { HoldsOfSetsOf (corners_of self.now)
             (λ S. MatchOption result (IsOnePoint S) (λ strip. IsLeastWidth S strip)) }

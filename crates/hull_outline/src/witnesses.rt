@@ -1,7 +1,7 @@
 //! What shows that two hulls meet, or that they are apart.
 ghost use Rattle.std.specs.Prelude.{◌≡◌, ◌⊎◌, ◌<◌, ◌≤◌, length, [], MatchOption};
 ghost use Rattle.hull_outline.specs.Meetings.{IsApart};
-ghost use Rattle.hull_outline.specs.Outlines.{HoldsOfSetsOf};
+ghost use Rattle.hull_outline.specs.Outlines.{HoldsOfBoth};
 ghost use Rattle.hull_outline.specs.Separations.{HasOnLeft, IsSeparation};
 ghost use Rattle.hull_outline.specs.Witnesses.{IsWitness};
 ghost use Rattle.hull_outline.specs.Lent.{corners_of};
@@ -29,9 +29,8 @@ impl<'a> Outline<'a> {
         requires this { 0 < length (corners_of self.now) }
         requires that { 0 < length (corners_of other.now) }
         requires few { length (corners_of other.now) ≤ 2 }
-        requires apart { HoldsOfSetsOf (corners_of self.now) (λ S. HoldsOfSetsOf (corners_of other.now) (λ T. IsApart S T)) }
-        ensures { HoldsOfSetsOf (corners_of self.now)
-            (λ S. HoldsOfSetsOf (corners_of other.now) (λ T. IsSeparation S T result)) }
+        requires apart { HoldsOfBoth (corners_of self.now) (corners_of other.now) (λ S T. IsApart S T) }
+        ensures { HoldsOfBoth (corners_of self.now) (corners_of other.now) (λ S T. IsSeparation S T result) }
     {
         let end = corner_at(other.corners, 1);
         match self.apart_from_segment(corner_at(other.corners, 0), end) {
@@ -43,8 +42,8 @@ impl<'a> Outline<'a> {
     /// The first edge of this hull that has all of `other`, of one corner at least, on its right, as what parts them.
     fn separation_by_edge(&self, other: &Outline) -> Option<Separation>
         requires that { 0 < length (corners_of other.now) }
-        ensures { HoldsOfSetsOf (corners_of self.now) (λ S. HoldsOfSetsOf (corners_of other.now)
-            (λ T. MatchOption result (HasOnLeft (corners_of self.now) T) (λ w. IsSeparation S T w))) }
+        ensures { HoldsOfBoth (corners_of self.now) (corners_of other.now)
+            (λ S T. MatchOption result (HasOnLeft (corners_of self.now) T) (λ w. IsSeparation S T w)) }
     {
         for i in 0..self.corners.len() {
             let (a, b) = (corner_at(self.corners, i), corner_at(self.corners, i + 1));
@@ -62,10 +61,8 @@ impl<'a> Outline<'a> {
     /// What parts this hull, of one corner at least, from `other`, by what parts that one from this.
     fn turned_separation(&self, other: &Outline, found: Separation) -> Separation
         requires this { 0 < length (corners_of self.now) }
-        requires parts { HoldsOfSetsOf (corners_of self.now)
-            (λ S. HoldsOfSetsOf (corners_of other.now) (λ T. IsSeparation T S found)) }
-        ensures { HoldsOfSetsOf (corners_of self.now)
-            (λ S. HoldsOfSetsOf (corners_of other.now) (λ T. IsSeparation S T result)) }
+        requires parts { HoldsOfBoth (corners_of self.now) (corners_of other.now) (λ S T. IsSeparation T S found) }
+        ensures { HoldsOfBoth (corners_of self.now) (corners_of other.now) (λ S T. IsSeparation S T result) }
     {
         let direction = found.direction.back();
         Separation {
@@ -78,9 +75,8 @@ impl<'a> Outline<'a> {
     fn separation_from_many(&self, other: &Outline) -> Separation
         requires this { 2 < length (corners_of self.now) }
         requires that { 2 < length (corners_of other.now) }
-        requires apart { HoldsOfSetsOf (corners_of self.now) (λ S. HoldsOfSetsOf (corners_of other.now) (λ T. IsApart S T)) }
-        ensures { HoldsOfSetsOf (corners_of self.now)
-            (λ S. HoldsOfSetsOf (corners_of other.now) (λ T. IsSeparation S T result)) }
+        requires apart { HoldsOfBoth (corners_of self.now) (corners_of other.now) (λ S T. IsApart S T) }
+        ensures { HoldsOfBoth (corners_of self.now) (corners_of other.now) (λ S T. IsSeparation S T result) }
     {
         if let Some(found) = self.separation_by_edge(other) {
             return found;
@@ -95,9 +91,8 @@ impl<'a> Outline<'a> {
     fn separation(&self, other: &Outline) -> Separation
         requires this { 0 < length (corners_of self.now) }
         requires that { 0 < length (corners_of other.now) }
-        requires apart { HoldsOfSetsOf (corners_of self.now) (λ S. HoldsOfSetsOf (corners_of other.now) (λ T. IsApart S T)) }
-        ensures { HoldsOfSetsOf (corners_of self.now)
-            (λ S. HoldsOfSetsOf (corners_of other.now) (λ T. IsSeparation S T result)) }
+        requires apart { HoldsOfBoth (corners_of self.now) (corners_of other.now) (λ S T. IsApart S T) }
+        ensures { HoldsOfBoth (corners_of self.now) (corners_of other.now) (λ S T. IsSeparation S T result) }
     {
         if other.corners.len() < 3 {
             self.separation_from_few(other)
@@ -114,8 +109,8 @@ impl<'a> Outline<'a> {
     ///
     /// Of two sets with three corners or more that are apart, one has an edge whose line parts them.
     pub fn witness(&self, other: &Outline) -> Option<Witness>
-        ensures { HoldsOfSetsOf (corners_of self.now) (λ S. HoldsOfSetsOf (corners_of other.now)
-            (λ T. MatchOption result ((S ≡ []) ⊎ (T ≡ [])) (λ found. IsWitness S T found))) }
+        ensures { HoldsOfBoth (corners_of self.now) (corners_of other.now)
+            (λ S T. MatchOption result ((S ≡ []) ⊎ (T ≡ [])) (λ found. IsWitness S T found)) }
     {
         if self.corners.is_empty() {
             return None;

@@ -21,7 +21,8 @@ returns-then-not-is_left c = λ S ml mr.
       start_there a b,
       OnSegment left right ml mr (start_on a b left right c.requires.left_of_it
           (side_back b a right c.requires.right_of_it)
-          (nothing _ _ (orient_other right left a) (failed _ _ c.if-not-is_left.true c.is_left.ensures) c.requires.start)),
+          (nothing _ _ (orient_other right left a) (failed _ _ c.if-not-is_left.true c.is_left.ensures)
+          c.requires.start)),
     )
 
 pub returns-then-not-is_left-2 : goal.returns-then-not-is_left-2

@@ -15,7 +15,8 @@ thinner-best-requires-clause-first c =
 pub thinner-best-requires-clause-second : goal.thinner-best-requires-clause-second
 thinner-best-requires-clause-second c =
     let (S, o) = parted_is_outline c.args.corners.now c.args.last c.requires.parted in
-    side_nn S _ (strip_of S c.args.corners.now c.loop-i.i _ o c.requires.two c.loop-i-test.true (c.strip_at.ensures S o))
+    side_nn S _
+    (strip_of S c.args.corners.now c.loop-i.i _ o c.requires.two c.loop-i-test.true (c.strip_at.ensures S o))
 
 pub loop-i-preserved : goal.loop-i-preserved
 loop-i-preserved c = λ S o.

@@ -21,7 +21,8 @@ returns-then-is_right c = λ S o T t.
     subst (IsLeftOf S a) (sym c.corner_at-b.ensures) (subst (λ (z : Pair). IsLeftOf S z (corner V (i + 1)))
     (sym c.corner_at-a.ensures) (next_left S V i (i + 1) o.1 refl c.loop-i-test.true)) in
     separation_beside S T a b _
-    (subst (Contains S) (sym c.corner_at-b.ensures) (corner_extreme S V (i + 1) o.1 (omega (arith, c.loop-i-test.true))).0)
+    (subst (Contains S) (sym c.corner_at-b.ensures)
+    (corner_extreme S V (i + 1) o.1 (omega (arith, c.loop-i-test.true))).0)
     left
     (right_of_line T a b _ c.farthest-nearest.result (c.farthest-nearest.ensures T t) c.left_of.ensures
     (passed _ _ c.if-is_right.true c.is_right.ensures))
