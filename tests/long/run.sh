@@ -174,9 +174,13 @@ hill() {
         print "0 count" }'
 }
 circle() {
-    awk -v most=10000 'function say(word, k, t) {
+    awk -v most=10000 'function whole(n) {
+            n = sprintf("%.0f", n)
+            return n == "-0" ? "0" : n
+        }
+        function say(word, k, t) {
             t = 8 * atan2(1, 1) * k / most
-            printf "0 %s %.0f %.0f\n", word, 549755813888 * cos(t), 549755813888 * sin(t)
+            print "0 " word " " whole(549755813888 * cos(t)) " " whole(549755813888 * sin(t))
         }
         BEGIN {
             for (k = 0; k < most; k++) say("add", k * 7919 % most)
