@@ -7,6 +7,15 @@
 # parabola   four workers put the 2,049 points (k, k * k) in, and all of them are vertices
 # origin     one worker puts a point in once more than it can be held
 # list       one worker puts the 70,001 points (k, k * k) in and lists them: the journal is written, read and written again
+# squares    one worker puts 25,000 squares in, one round the other, and takes them out from the outermost in
+# comb       one worker puts 100,000 points on two lines in, and takes them out in their order
+# seesaw     one worker puts a corner in front of 100,000 points in and takes it out again, 50,000 times
+# hill       one worker puts the 20,000 points (k, k * k) in and takes them out, both in no order
+# circle     one worker puts 10,000 points on a circle in, and takes each out and puts it in again
+# chance     one worker makes a million calls by chance
+#
+# The last six are hard on a checker that keeps corners. Each check may take several times the processor seconds that it
+# needs, and is stopped there: one that passes over half of all points at each `remove` does not come to its end.
 set -u
 here=$(cd "$(dirname "$0")" && pwd)
 top=$(cd "$here/../.." && pwd)
@@ -134,6 +143,77 @@ corners=$(list_of "$room/journal")
 [ "$corners" = '70001 140002' ] && said 'list, written' ok || said 'list, written' "$corners"
 "$top/bin/hullbook" upgrade "$room/journal" >"$room/again"
 cmp -s "$room/journal" "$room/again" && said 'list, read back' ok || said 'list, read back' "$(list_of "$room/again")"
+
+# Write these scripts. A factor that has no divisor with the number of points goes through all of them.
+squares() {
+    awk -v most=25000 'function all(word, s) {
+            print "0 " word " " (-s) " " (-s) "\n0 " word " " s " " (-s) "\n0 " word " " s " " s "\n0 " word " " (-s) " " s
+        }
+        BEGIN {
+            for (s = 1; s <= most; s++) all("add", s)
+            for (s = most; s >= 1; s--) all("remove", s)
+            print "0 count"
+        }'
+}
+comb() {
+    awk -v most=100000 'BEGIN {
+        for (k = 0; k < most; k++) print "0 add " k " " k % 2
+        for (k = 0; k < most; k++) print "0 remove " k " " k % 2
+        print "0 count" }'
+}
+seesaw() {
+    awk -v most=100000 'BEGIN {
+        for (k = 0; k < most; k++) print "0 add " k * 7919 % 524288 " " k * 104729 % 524288
+        for (k = 0; k < most / 2; k++) print "0 add 1000000 0\n0 remove 1000000 0"
+        print "0 count" }'
+}
+hill() {
+    awk -v most=20000 'BEGIN {
+        for (k = 0; k < most; k++) { x = k * 7919 % most; print "0 add " x " " x * x }
+        for (k = 0; k < most; k++) { x = k * 12347 % most; print "0 remove " x " " x * x }
+        print "0 count" }'
+}
+circle() {
+    awk -v most=10000 'function whole(n) {
+            n = sprintf("%.0f", n)
+            return n == "-0" ? "0" : n
+        }
+        function say(word, k, t) {
+            t = 8 * atan2(1, 1) * k / most
+            print "0 " word " " whole(549755813888 * cos(t)) " " whole(549755813888 * sin(t))
+        }
+        BEGIN {
+            for (k = 0; k < most; k++) say("add", k * 7919 % most)
+            for (k = 0; k < most; k++) { say("remove", k); say("place", k); say("add", k) }
+            print "0 count"
+        }'
+}
+chance() {
+    awk -v most=1000000 'BEGIN {
+        srand(7)
+        for (k = 1; k < most; k++) {
+            what = rand()
+            word = what < 0.4 ? "add" : what < 0.6 ? "remove" : what < 0.8 ? "place" : "tangents"
+            print "0 " word " " int(1024 * rand()) " " int(1024 * rand())
+        }
+        print "0 count" }'
+}
+
+# checks the journal of a script NAME within these processor SECONDS, after which it has so many POINTS, where that is known
+hard() {
+    "$1" >"$room/script"
+    "$top/bin/hullbook" run "$room/script" --capacity 1000000 --journal >"$room/journal"
+    left=$(awk '/ count = count / { print $NF }' "$room/journal")
+    [ "$left" = "${3:-$left}" ] && said "$1, points left" ok || said "$1, points left" "$left"
+    verdict=$(ulimit -t "$2" && "$top/bin/hullbook" check "$room/journal" 2>&1)
+    [ "$verdict" = legal ] && said "$1, journal within $2 seconds" ok || said "$1, journal within $2 seconds" "$verdict"
+}
+hard squares 15 0
+hard comb 15 0
+hard seesaw 15 100000
+hard hill 15 0
+hard circle 15 10000
+hard chance 15
 
 try grid 65536
 try parabola 65536
