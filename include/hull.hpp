@@ -627,6 +627,20 @@ struct Lattice {
     }
 };
 
+// The direction in whole numbers of one in two doubles, as hull_direction_from_doubles tells; `rounded`, if it is not null, is set where
+// it is not the very same direction, and left as it is else. Refusal::out_of_range where one is not finite.
+inline Point direction_of(double dx, double dy, bool *rounded = nullptr) {
+    Point d{0, 0};
+    const hull_rounding told = hull_direction_from_doubles(dx, dy, &d.x, &d.y);
+    if (told == HULL_NO_COORDINATE) {
+        throw Fault(Refusal::out_of_range);
+    }
+    if (rounded != nullptr && told == HULL_ROUNDED) {
+        *rounded = true;
+    }
+    return d;
+}
+
 // Corners as well-known text, their coordinates divided by 2^power: as hull_wkt tells it.
 inline std::string wkt(const std::vector<Point> &corners, int power = 0) {
     std::string text(hull_wkt(corners.data(), corners.size(), power, nullptr, 0), ' ');

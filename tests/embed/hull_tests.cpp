@@ -111,6 +111,9 @@ static void two_outlines() {
     CHECK(outline.width_along({3, 4}) == hull::Area(70) && !none.width_along({1, 0}));
     CHECK(refuses(Refusal::zero_direction, [&] { outline.width_along({0, 0}); }));
     CHECK(refuses(Refusal::out_of_range, [&] { outline.width_along({far + 1, 0}); }));
+    bool rounded = false;
+    CHECK(hull::direction_of(1, -0.5, &rounded) == (Point{1LL << 39, -(1LL << 38)}) && !rounded);
+    CHECK(hull::direction_of(1, 0x1p-40, &rounded) == (Point{1LL << 39, 0}) && rounded);
     CHECK(outline.extreme_d(0.5, 0.25) == (Point{10, 10}) && outline.extreme_d(0, 0) == (Point{0, 0}));
     CHECK(outline.extreme_d(-1e-310, 3e-310) == (Point{0, 10}));
     CHECK(refuses(Refusal::out_of_range, [&] { outline.extreme_d(std::numeric_limits<double>::quiet_NaN(), 0); }));

@@ -83,16 +83,21 @@ fn slow_crosses(points: &[Point], a: Point, b: Point) -> bool {
     false
 }
 
+/// What was found of these points is true.
+fn assert_of(rt: &impl Abort, truth: bool, points: &[Point]) {
+    assert!(rt; truth, "{points:?}");
+}
+
 /// The separation parts the points from the others, and one of them is its farthest.
 fn assert_parts(rt: &impl Abort, points: &[Point], others: &[Point], found: Separation) {
     let reach = found.direction.product(found.farthest);
     for p in points {
-        assert!(rt; found.direction.product(*p) <= reach, "{found:?} of {p:?}");
+        assert_of(rt, found.direction.product(*p) <= reach, points);
     }
     for q in others {
-        assert!(rt; found.direction.product(*q) > reach, "{found:?} of {q:?}");
+        assert_of(rt, found.direction.product(*q) > reach, points);
     }
-    assert!(rt; points.contains(&found.farthest), "{found:?} of {points:?}");
+    assert_of(rt, points.contains(&found.farthest), points);
 }
 
 /// The outline of corners that are one.
@@ -126,17 +131,13 @@ fn seen_grid(alloc: Global, points: &[Point], reach: i64, mesh: i64) -> Result<V
 /// The answer of a segment is that of the definition, and a separation is one.
 fn assert_segment(rt: &impl Abort, points: &[Point], outline: Outline<'_>, a: &Seen, b: &Seen) {
     let meets = a.covered || b.covered || slow_crosses(points, a.point, b.point);
-    assert_eq!(rt;
-        outline.meets_segment(a.point, b.point),
-        meets,
-        "{points:?}"
-    );
+    assert_of(rt, outline.meets_segment(a.point, b.point) == meets, points);
     match outline.apart_from_segment(a.point, b.point) {
         Some(found) => {
-            assert!(rt; !meets, "{points:?} and {found:?}");
+            assert_of(rt, !meets, points);
             assert_parts(rt, points, &[a.point, b.point], found);
         }
-        None => assert!(rt; meets || points.is_empty(), "{points:?}"),
+        None => assert_of(rt, meets || points.is_empty(), points),
     }
 }
 
@@ -240,17 +241,14 @@ fn told_distance(place: Nearest, q: Point) -> Fraction {
 /// The nearest place is as near as the nearest of all.
 fn assert_nearest(rt: &impl Abort, points: &[Point], outline: Outline<'_>, seen: &Seen) {
     match (outline.nearest(seen.point), points.first()) {
-        (Some(Nearest::Covered), Some(_)) => assert!(rt; seen.covered, "{points:?}"),
+        (Some(Nearest::Covered), Some(_)) => assert_of(rt, seen.covered, points),
         (Some(place), Some(first)) => {
-            assert!(rt; !seen.covered, "{points:?} and {place:?}");
+            assert_of(rt, !seen.covered, points);
             let told = told_distance(place, seen.point);
             let least = slow_distance(points, *first, seen.point);
-            assert!(rt;
-                !is_less(least, told) && !is_less(told, least),
-                "{points:?} and {place:?}"
-            );
+            assert_of(rt, !is_less(least, told) && !is_less(told, least), points);
         }
-        (place, first) => assert!(rt; place.is_none() && first.is_none(), "{points:?}"),
+        (place, first) => assert_of(rt, place.is_none() && first.is_none(), points),
     }
 }
 
@@ -276,17 +274,22 @@ fn assert_thinnest(rt: &impl Abort, points: &[Point], strip: Strip) {
         for b in points {
             if a != b {
                 if let Some(width) = slow_strip(points, *a, *b) {
-                    assert!(rt; !is_less(width, told), "{points:?} and {strip:?}");
+                    assert_of(rt, !is_less(width, told), points);
                     found = found || !is_less(told, width);
                 }
             }
         }
     }
-    assert!(rt; found, "{points:?} and {strip:?}");
+    assert_of(rt, found, points);
 }
 
 /// No direction of a small grid has a narrower strip.
-fn assert_least(rt: &impl Abort, outline: Outline<'_>, strip: Strip) -> Result<(), Fail> {
+fn assert_least(
+    rt: &impl Abort,
+    points: &[Point],
+    outline: Outline<'_>,
+    strip: Strip,
+) -> Result<(), Fail> {
     let told = to_line(strip.from, strip.to, strip.farthest);
     for dx in -3i64..4 {
         for dy in 0i64..4 {
@@ -294,7 +297,7 @@ fn assert_least(rt: &impl Abort, outline: Outline<'_>, strip: Strip) -> Result<(
                 let reach = outline.width_along(Direction::new(dx, dy)?).unwrap_or(0);
                 let above = i128::try_from(reach.wrapping_mul(reach)).unwrap_or(0);
                 let below = dx.wrapping_mul(dx).wrapping_add(dy.wrapping_mul(dy)) as i128;
-                assert!(rt; !is_less(Fraction { above, below }, told), "{strip:?}");
+                assert_of(rt, !is_less(Fraction { above, below }, told), points);
             }
         }
     }
@@ -310,7 +313,7 @@ fn nearest_and_least_width_of_all_sets_of_a_small_grid(rt: HostRuntime) -> Resul
         match outline.least_width() {
             Some(strip) => {
                 assert_thinnest(&rt, &points, strip);
-                assert_least(&rt, outline, strip)?;
+                assert_least(&rt, &points, outline, strip)?;
             }
             None => assert!(rt; points.len() < 2),
         }
@@ -335,10 +338,10 @@ fn assert_box(rt: &impl Abort, points: &[Point], outline: Outline<'_>) {
                 bottom = bottom.min(p.y());
                 top = top.max(p.y());
             }
-            assert_eq!(rt; (least.x(), least.y()), (left, bottom), "{points:?}");
-            assert_eq!(rt; (greatest.x(), greatest.y()), (right, top), "{points:?}");
+            assert_of(rt, (least.x(), least.y()) == (left, bottom), points);
+            assert_of(rt, (greatest.x(), greatest.y()) == (right, top), points);
         }
-        (found, first) => assert!(rt; found.is_none() && first.is_none(), "{points:?}"),
+        (found, first) => assert_of(rt, found.is_none() && first.is_none(), points),
     }
 }
 
@@ -346,12 +349,13 @@ fn assert_box(rt: &impl Abort, points: &[Point], outline: Outline<'_>) {
 fn assert_diameter(rt: &impl Abort, points: &[Point], outline: Outline<'_>) {
     match outline.diameter() {
         Some((p, q)) => {
-            assert!(rt; points.contains(&p) && points.contains(&q), "{points:?}");
+            assert_of(rt, points.contains(&p) && points.contains(&q), points);
             for a in points {
                 for b in points {
-                    assert!(rt;
+                    assert_of(
+                        rt,
                         distance_squared(*a, *b) <= distance_squared(p, q),
-                        "{points:?}"
+                        points,
                     );
                 }
             }
@@ -369,7 +373,7 @@ fn assert_width(rt: &impl Abort, points: &[Point], outline: Outline<'_>, d: Dire
         }
     }
     match outline.width_along(d) {
-        Some(width) => assert_eq!(rt; i128::try_from(width), Ok(widest), "{points:?} along {d:?}"),
+        Some(width) => assert_of(rt, i128::try_from(width) == Ok(widest), points),
         None => assert!(rt; points.is_empty()),
     }
 }
@@ -476,27 +480,15 @@ fn small_sets(alloc: Global, most: u32, right: i64, up: i64) -> Result<Vec<Vec<P
 fn assert_meeting(rt: &impl Abort, one: &[Point], other: &[Point], meeting: Meeting) {
     match meeting {
         Meeting::OfOther(t) => {
-            assert!(rt;
-                other.contains(&t) && slow_covers(one, t),
-                "{one:?} and {other:?}"
-            );
+            assert_of(rt, other.contains(&t) && slow_covers(one, t), one);
         }
         Meeting::OfThis(s) => {
-            assert!(rt;
-                one.contains(&s) && slow_covers(other, s),
-                "{one:?} and {other:?}"
-            );
+            assert_of(rt, one.contains(&s) && slow_covers(other, s), one);
         }
         Meeting::Crossing(a, b, c, d) => {
-            assert!(rt;
-                one.contains(&a) && one.contains(&b),
-                "{one:?} and {other:?}"
-            );
-            assert!(rt;
-                other.contains(&c) && other.contains(&d),
-                "{one:?} and {other:?}"
-            );
-            assert!(rt; is_crossing(a, b, c, d), "{one:?} and {other:?}");
+            assert_of(rt, one.contains(&a) && one.contains(&b), one);
+            assert_of(rt, other.contains(&c) && other.contains(&d), one);
+            assert_of(rt, is_crossing(a, b, c, d), one);
         }
     }
 }
@@ -505,7 +497,7 @@ fn assert_meeting(rt: &impl Abort, one: &[Point], other: &[Point], meeting: Meet
 fn assert_shown(rt: &impl Abort, one: &[Point], other: &[Point], meet: bool, found: Witness) {
     match found {
         Witness::Apart(separation) => {
-            assert!(rt; !meet, "{one:?} and {other:?}");
+            assert_of(rt, !meet, one);
             assert_parts(rt, one, other, separation);
         }
         Witness::Meets(meeting) => assert_meeting(rt, one, other, meeting),
@@ -540,8 +532,8 @@ fn assert_meetings(
             let other_corners = corners_of(rt, alloc, other)?;
             let against = outline_of(rt, &other_corners);
             let meet = slow_meet(&one_corners, &other_corners);
-            assert_eq!(rt; outline.meets(&against), meet, "{one:?} and {other:?}");
-            assert_eq!(rt; against.meets(&outline), meet, "{one:?} and {other:?}");
+            assert_of(rt, outline.meets(&against) == meet, one);
+            assert_of(rt, against.meets(&outline) == meet, one);
             assert_witness(rt, one, other, meet, outline.witness(&against));
             assert_witness(rt, other, one, meet, against.witness(&outline));
         }
