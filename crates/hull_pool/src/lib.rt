@@ -47,7 +47,7 @@ mod workers;
 pub use call::{BookGuard, BookLock, BookSeat, make_call, serve_and_hand_on};
 pub use close::close_book;
 pub use gate::{Gate, NoGate};
-pub use law::answers_are_of_lines;
+pub use law::{answers_are_of_lines, long_answers_are_of_lines};
 pub use long_call::{
     Drained, LongGuard, LongLock, LongSeat, drain_and_hand_on, make_call_and_let_go, make_drain,
     make_long_call, serve_let_go_and_hand_on, serve_long_and_hand_on,
