@@ -26,7 +26,7 @@ TreeBook = BookValue LimitedTree
 abbrev pub Moment : Type 0 → Type 0
 Moment B = World B BookHead Line
 
--- what is said of a kind of books: what the lock knows of one, and the book of all lines that were ever journalled by it
+-- what is said of a kind of books: what the lock knows of one, and the book of all lines that it ever journalled
 pub record Kind (B : Type 0) : Type 1 where
   pub says : Ghosts B BookHead Line
   pub whole : B → TreeBook

@@ -18,7 +18,9 @@ use Rattle.ticket_lock.specs.Linearizable as linear
 use Rattle.ticket_lock.specs.Linearizable.{book_after, journal_after, FoundFull, Linearizable}
 use Rattle.ticket_lock.specs.Schedule.{SchedulesHold}
 use Rattle.hull_pool.specs.Work.{HasServed}
-use Rattle.hull_pool.specs.Responses.{AnswersAreOfLines}
+use Rattle.hull_book.specs.LongBooks.{says_long_boxed}
+use Rattle.hull_pool.specs.Long.{long_book_head, whole_of}
+use Rattle.hull_pool.specs.Responses.{Agree, AnswersAreOfLines, LongAnswersAreOfLines}
 
 -- a list is not the same with one more
 no_longer : {A : Type 0} (xs : List A) (x : A) → xs ≡ xs ++ x ∷ [] → ⊥
@@ -67,6 +69,22 @@ refused head t k call found after (Ok reply) served same =
     absurd (no_longer found (record { number = t; seat = k; call = call; reply = reply }) (sym same ∙ served.1))
 refused head t k call found after (Err f) served same = refl
 
+-- the answers of calls that were served agree with the lines that they added
+agreed : {B : Type 0} (says : lock.Ghosts B BookHead Line) (b : B) (es : List (Event B)) (calls : ℕ → Call)
+    (answers : ℕ → Answer) (lines : List Line) → linear.IsSequentialHistory says b es lines
+    → ((r k : ℕ) (c : B) → get_elem? es r ≡ some (hands_on k c) → (head : Head) × (t : ℕ)
+    × HasServed head t k (calls r) (journal_after says b es r) (says.lines c) (answers r))
+    → Agree says b es calls answers lines
+agreed says b es calls answers lines history served = record {
+  sequential = history;
+  replies = λ k i r p line x. let s = served r k x.ends.0 x.ends.1 in
+      replied s.0 s.1 k (calls r) (journal_after says b es r) (says.lines x.ends.0) (answers r) line s.2
+      (sym (after_hand_on says b es r k x.ends.0 x.ends.1) ∙ x.adds);
+  fulls = λ k i r f. let s = served r k f.full.0 f.full.1 in
+      refused s.0 s.1 k (calls r) (journal_after says b es r) (says.lines f.full.0) (answers r) s.2
+      (sym (after_hand_on says b es r k f.full.0 f.full.1) ∙ f.same);
+}
+
 module _ {S : Type 0} (K : Ghosts S) where
   -- the law, from those of the lock
   pub answers_are : SchedulesHold (says_boxed K) partitioned_form → Linearizable (says_boxed K) partitioned_form
@@ -77,14 +95,17 @@ module _ {S : Type 0} (K : Ghosts S) where
       let tells : linear.HeadTellsCapacity (says_boxed K) = λ x y e. ap (λ (h : BookHead). h.journal.capacity) e in
       record {
         legal = subst (λ (h : BookHead). IsLegal h.journal (box_value u.current).lines) good.head ran.0.legal;
-        sequential = ran.1;
-        replies = λ k i r p line x. let s = served r k x.ends.0 x.ends.1 in
-            replied (box_value b).head.journal s.0 k (calls r) (journal_after (says_boxed K) b es r)
-            (box_value x.ends.0).lines (answers r) line s.1
-            (sym (after_hand_on (says_boxed K) b es r k x.ends.0 x.ends.1) ∙ x.adds);
-        fulls = λ k i r f. let s = served r k f.full.0 f.full.1 in
-            refused (box_value b).head.journal s.0 k (calls r) (journal_after (says_boxed K) b es r)
-            (box_value f.full.0).lines (answers r) s.1
-            (sym (after_hand_on (says_boxed K) b es r k f.full.0 f.full.1) ∙ f.same);
+        agree = agreed (says_boxed K) b es calls answers (box_value u.current).lines ran.1
+            (λ r k c at. let s = served r k c at in ((box_value b).head.journal, s.0, s.1));
         fulls_last = λ k i r j a s p line f x. ran.1.full_last tells k i r j a s p line f x;
       }
+
+  -- the law of books that may be drained
+  pub long_answers_are : Linearizable (says_long_boxed K) partitioned_form → LongAnswersAreOfLines K
+  long_answers_are law n b w u es calls answers opened runs served =
+      let ran = law n b w u es opened runs in (
+        ran.0.legal,
+        agreed (says_long_boxed K) b es calls answers (whole_of u.current).lines ran.1
+            (λ r k c at. let s = served r k c at in
+            (record ((long_book_head b).journal) { capacity = s.0 }, s.1, s.2)),
+      )

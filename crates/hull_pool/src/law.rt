@@ -1,7 +1,7 @@
 //! What the lock's law over every list of steps says of calls and answers.
-ghost use Rattle.hull_pool.specs.Responses.{AnswersAreOfLines};
+ghost use Rattle.hull_pool.specs.Responses.{AnswersAreOfLines, LongAnswersAreOfLines};
 
-use hull_book::Book;
+use hull_book::{Book, LongBook};
 use hull_plain::HullSet;
 use ticket_lock::{partitioned_schedules_are_linearizable, partitioned_schedules_hold};
 
@@ -14,4 +14,14 @@ pub fn answers_are_of_lines<S: HullSet + Drop>()
 {
     partitioned_schedules_hold::<Box<Book<S>>>();
     partitioned_schedules_are_linearizable::<Box<Book<S>>>();
+}
+
+/// The same of calls on a shared book that may be drained, as [`serve_long_and_hand_on`](crate::serve_long_and_hand_on),
+/// [`drain_and_hand_on`](crate::drain_and_hand_on) and [`serve_let_go_and_hand_on`](crate::serve_let_go_and_hand_on)
+/// serve one: the journal is the whole of it, what was taken out, in order, and then what is held; and a line that comes
+/// after a call that was answered that the journal is full was added to a book with more room.
+pub fn long_answers_are_of_lines<S: HullSet + Drop>()
+    ensures { LongAnswersAreOfLines S.HullSet }
+{
+    partitioned_schedules_are_linearizable::<Box<LongBook<S>>>();
 }

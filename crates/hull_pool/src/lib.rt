@@ -19,6 +19,12 @@
 //! the book, and how many calls have their line. The test `two_threads_share_a_book` does all of it. Who may not wait
 //! looks (`TicketLock::look`), and ends with [`serve_and_hand_on`], as `make_call` does.
 //!
+//! # A book that lives for long
+//!
+//! A `LongBook` of `hull_book` is shared in the same way, by [`make_long_call`] and [`close_long_book`]. One of its
+//! seats takes the lines out before they are too many, by [`make_drain`]: under the lock only the lists change hands.
+//! Where nobody wants a journal, all seats make their calls by [`make_call_and_let_go`].
+//!
 //! # A whole script
 //!
 //! [`run_phases`] does all of it for a script: [`Workers`] holds the ledgers and the answers, and each phase has a lock
@@ -41,10 +47,10 @@ mod workers;
 pub use call::{BookGuard, BookLock, BookSeat, make_call, serve_and_hand_on};
 pub use close::close_book;
 pub use gate::{Gate, NoGate};
-pub use law::answers_are_of_lines;
+pub use law::{answers_are_of_lines, long_answers_are_of_lines};
 pub use long_call::{
-    Drained, LongGuard, LongLock, LongSeat, drain_and_hand_on, make_drain, make_long_call,
-    serve_long_and_hand_on,
+    Drained, LongGuard, LongLock, LongSeat, drain_and_hand_on, make_call_and_let_go, make_drain,
+    make_long_call, serve_let_go_and_hand_on, serve_long_and_hand_on,
 };
 pub use long_close::close_long_book;
 pub use phase::{PhaseEnd, PoolFault, run_phase, run_phases};

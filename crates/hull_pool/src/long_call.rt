@@ -89,6 +89,34 @@ pub fn drain_and_hand_on<S: HullSet + Drop>(
     (seat, drained)
 }
 
+/// Has one call of the seat that holds the book served, as [`serve_long_and_hand_on`] does, lets all lines go that are
+/// held then, and hands the book on: for who wants no journal.
+pub fn serve_let_go_and_hand_on<S: HullSet + Drop>(
+    guard: LongGuard<'_, S>,
+    number: u8,
+    call: Call,
+    ledger: &mut Ledger,
+) -> (LongSeat<S>, Answer)
+    requires seat { guard_seat guard ≡ number }
+    requires head { KeepsHead long_book_head guard }
+    requires seen { guard_seen guard ≡ (whole_of (guard_book guard)).lines }
+    requires lawful { IsLawful S.HullSet (whole_of (guard_book guard)) }
+    requires same_head { long_book_head (guard_book guard) ≡ long_book_head (opening_book (guard_lock guard)) }
+    requires turn { (whole_of (guard_book guard)).turn ≡ guard_number guard }
+    requires ledger { IsLedger (whole_of (guard_book guard)) number ledger.old }
+    ensures own { IsSeatOf long_book_head (guard_lock guard.entry) result.0 }
+    ensures number { seat_number result.0 ≡ number }
+    ensures ledger { IsLedgerOf number (seat_seen result.0) ledger.new }
+    ensures served { let found = whole_of (guard_book guard.entry) in
+        HasServed found.head.journal (guard_number guard.entry) number call found.lines (seat_seen result.0) result.1 }
+{
+    let mut guard = guard;
+    let book = guard.book();
+    let unkept = book.serve_and_let_go(number, call, ledger);
+    let seat = guard.hand_on();
+    (seat, unkept)
+}
+
 /// Makes one call on a book that may be drained: it waits until the seat holds the book, has the call served, and hands
 /// the book on. `number` is the seat's number, and `ledger` the ledger of that seat.
 ///
@@ -148,4 +176,29 @@ pub fn make_drain<R: Wait, S: HullSet + Drop>(
 {
     let guard = lock.enter(rt, seat);
     drain_and_hand_on(guard, number, call, ledger, room)
+}
+
+/// Makes one call, as [`make_long_call`] does, and lets all lines go that are held then: for who wants no journal. The
+/// journal that the seat has seen is the whole of it all the same.
+pub fn make_call_and_let_go<R: Wait, S: HullSet + Drop>(
+    rt: &R,
+    lock: &LongLock<S>,
+    seat: LongSeat<S>,
+    number: u8,
+    call: Call,
+    ledger: &mut Ledger,
+) -> (LongSeat<S>, Answer)
+    requires own { IsSeatOf long_book_head lock.now seat }
+    requires number { seat_number seat ≡ number }
+    requires below { number < (long_book_head (opening_book lock.now)).workers }
+    requires ledger { IsLedgerOf number (seat_seen seat) ledger.old }
+    ensures own { IsSeatOf long_book_head lock.now result.0 }
+    ensures number { seat_number result.0 ≡ number }
+    ensures ledger { IsLedgerOf number (seat_seen result.0) ledger.new }
+    ensures begins { IsPrefix (seat_seen seat) (seat_seen result.0) }
+    ensures served { WasServedLong (long_book_head (opening_book lock.now)).journal number call (seat_seen seat)
+        (seat_seen result.0) result.1 }
+{
+    let guard = lock.enter(rt, seat);
+    serve_let_go_and_hand_on(guard, number, call, ledger)
 }

@@ -13,8 +13,8 @@ use super::long_call::{LongLock, LongSeat};
 use hull_book::{Ledger, LongBook, gather_long};
 use hull_plain::HullSet;
 
-/// Closes the lock round a book that may be drained and gathers the ledgers, as [`close_book`](crate::close_book) does: the book, and how
-/// many calls have their line in its whole journal, those lines counted that were taken out.
+/// Closes the lock round a book that may be drained and gathers the ledgers, as [`close_book`](crate::close_book)
+/// does: the book, and how many calls have their line in its whole journal, those lines counted that were taken out.
 pub fn close_long_book<S: HullSet + Drop>(
     lock: LongLock<S>,
     seats: Vec<LongSeat<S>>,

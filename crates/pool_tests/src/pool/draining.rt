@@ -279,9 +279,9 @@ fn checked(
     Ok(lines)
 }
 
-/// Eight threads make 20,000 calls each on a book that holds 150,000 lines at most, and one of them drains it with every
-/// 10,000th of its calls: no call is refused, each has its line, the parts together are a legal history, and a part that
-/// is missing, doubled or exchanged is illegal at its first line.
+/// Eight threads make 20,000 calls each on a book that holds 150,000 lines at most, and one of them drains it with
+/// every 10,000th of its calls: no call is refused, each has its line, the parts together are a legal history, and a
+/// part that is missing, doubled or exchanged is illegal at its first line.
 #[test]
 fn eight_threads_and_one_drains(rt: HostRuntime) -> Result<(), Fail> {
     let (parts, sum) = all_share(&rt, rt.alloc());

@@ -15,6 +15,7 @@ returns-clause-served g c =
     b.whole.lines (seat_seen c.hand_on-seat.result) (answer_of c.drain-drained.result)) same
     (drain_served g.S.HullSet c.drain-drained.result c.deref_mut.result.now c.drain-drained.new.self c.args.number
     (guard_number c.args.guard) c.args.call _ (seat_seen c.hand_on-seat.result)
-    (subst (λ (b : LongValue _). IsLawful g.S.HullSet b.whole) (sym same) c.requires.lawful) c.drain-drained.ensures.lawful
+    (subst (λ (b : LongValue _). IsLawful g.S.HullSet b.whole) (sym same) c.requires.lawful)
+    c.drain-drained.ensures.lawful
     (ap (λ (b : LongValue _). b.whole.turn) same ∙ c.requires.turn)
     c.hand_on-seat.ensures.seen c.drain-drained.ensures.full c.drain-drained.ensures.ok c.drain-drained.ensures.err)

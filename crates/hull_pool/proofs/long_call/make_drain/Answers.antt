@@ -35,7 +35,8 @@ returns-clause-served g c =
         own_lines = found_own c.args.number _ found found _ refl c.requires.number finds.own_lines;
         served = subst (λ (h : BookHead). HasServed (record (h.journal) { capacity = found.head.journal.capacity })
             (guard_number c.enter-guard.result) c.args.number c.args.call found.lines
-            (seat_seen c.drain_and_hand_on.result.0) (answer_of c.drain_and_hand_on.result.1)) finds.same_head c.drain_and_hand_on.ensures.served;
+            (seat_seen c.drain_and_hand_on.result.0) (answer_of c.drain_and_hand_on.result.1))
+            finds.same_head c.drain_and_hand_on.ensures.served;
       },
     )
 

@@ -18,7 +18,8 @@ run_phases-end-requires-after_bounds g c κs within = record {
 
 pub counts_of-counts-requires-clause-few : goal.counts_of-counts-requires-clause-few
 counts_of-counts-requires-clause-few g c =
-    counts_within {K = g.S.HullSet} c.run_phases-end.result.book _ (2 ^ 32) (search rules) (search rules) (omega (arith, c.capacity-capacity.ensures))
+    counts_within {K = g.S.HullSet} c.run_phases-end.result.book _ (2 ^ 32) (search rules) (search rules)
+    (omega (arith, c.capacity-capacity.ensures))
 
 pub gather-lines-requires-clause-ledgers : goal.gather-lines-requires-clause-ledgers
 gather-lines-requires-clause-ledgers g c = all_in_order _ _ (search rules)
