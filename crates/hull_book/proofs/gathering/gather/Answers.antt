@@ -5,8 +5,12 @@ use Rattle.hull_book.proofs.gathering.gather.Goals as goal
 
 pub sum_of-requires : goal.sum_of-requires
 sum_of-requires g c =
-    omega (arith, all_counts _ _ c.requires.lawful c.requires.ledgers, c.requires.lawful.within,
-    c.capacity-capacity.ensures)
+    omega (
+      arith,
+      all_counts _ _ c.requires.lawful c.requires.ledgers,
+      c.requires.lawful.within,
+      c.capacity-capacity.ensures,
+    )
 
 pub returns-clause-length : goal.returns-clause-length
 returns-clause-length g c = c.sum_of.ensures ∙ all_counts _ _ c.requires.lawful c.requires.ledgers
