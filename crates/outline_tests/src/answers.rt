@@ -12,6 +12,11 @@ const LIMIT: u32 = 1048576;
 /// The points and directions that are asked of have coordinates of so many units at most.
 const REACH: i64 = 3;
 
+/// What was found of these two numbers is true.
+fn assert_at(rt: &impl Abort, truth: bool, x: i64, y: i64) {
+    assert!(rt; truth, "at {x} {y}");
+}
+
 /// Both answer alike of the farthest points.
 fn assert_same_extremes<S: HullSet>(
     rt: &impl Abort,
@@ -22,7 +27,7 @@ fn assert_same_extremes<S: HullSet>(
         for y in -REACH..REACH + 1 {
             if x != 0 || y != 0 {
                 let d = Direction::new(x, y)?;
-                assert_eq!(rt; outline.extreme(d), set.extreme(d), "towards {x} {y}");
+                assert_at(rt, outline.extreme(d) == set.extreme(d), x, y);
             }
         }
     }
@@ -34,8 +39,8 @@ fn assert_same_sights<S: HullSet>(rt: &impl Abort, set: &S, outline: Outline<'_>
     for right in -REACH..REACH + 1 {
         for up in -REACH..REACH + 1 {
             if let Ok(q) = Point::new(right.wrapping_mul(mesh), up.wrapping_mul(mesh)) {
-                assert_eq!(rt; outline.place(q), set.place(q), "place of {q:?}");
-                assert_eq!(rt; outline.tangents(q), set.tangents(q), "tangents from {q:?}");
+                assert_at(rt, outline.place(q) == set.place(q), right, up);
+                assert_at(rt, outline.tangents(q) == set.tangents(q), right, up);
             }
         }
     }
