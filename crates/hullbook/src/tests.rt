@@ -74,7 +74,7 @@ fn judges(alloc: Global, journal: &str, wanted: &str) -> Result<Option<bool>, Fa
     if output.get_ref().bytes() != wanted.as_bytes() {
         return Ok(None);
     }
-    Ok(ended.ok())
+    Ok(ended.ok().map(|checked| checked.wrong.is_none()))
 }
 
 #[test]
@@ -410,9 +410,22 @@ fn faults_have_their_statuses(rt: HostRuntime) -> Result<(), Fail> {
     assert_eq!(rt; Fault::First(0).status(), 2);
     assert_eq!(rt; Fault::Limit(4).status(), 2);
     assert_eq!(rt; Fault::Lines(3).status(), 2);
-    assert_eq!(rt; Fault::Journal(TextFault { number: 7, line: 1 }).status(), 2);
-    assert_eq!(rt; Fault::Journal(TextFault { number: 8, line: 1 }).status(), 3);
-    assert_eq!(rt; Fault::Journal(TextFault { number: 10, line: 1 }).status(), 4);
+    assert_eq!(rt;
+        Fault::Journal(TextFault { number: 7, line: 1 }).status(),
+        2
+    );
+    assert_eq!(rt;
+        Fault::Journal(TextFault { number: 8, line: 1 }).status(),
+        3
+    );
+    assert_eq!(rt;
+        Fault::Journal(TextFault {
+            number: 10,
+            line: 1
+        })
+        .status(),
+        4
+    );
     assert_eq!(rt; Fault::Text(TextFault { number: 7, line: 1 }).status(), 2);
     assert_eq!(rt; Fault::Text(TextFault { number: 8, line: 1 }).status(), 3);
     assert_eq!(rt;
