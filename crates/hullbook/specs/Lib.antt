@@ -3,4 +3,5 @@ pub mod Outcomes
 pub mod Reads
 pub mod Afters
 pub mod Checks
+pub mod Explanations
 pub mod Faults

@@ -24,7 +24,7 @@ pub record AreStatedWithinLimits (s : Stated) : Type 0 where
 abbrev pub IsWithinLimits : Task → Type 0
 IsWithinLimits (Run path o) = AreWithinLimits o
 IsWithinLimits (RunAfter script journal s) = AreStatedWithinLimits s
-IsWithinLimits (Check path) = Unit {0}
+IsWithinLimits (Check path explains) = Unit {0}
 IsWithinLimits (Upgrade path) = Unit {0}
 IsWithinLimits (Compact path) = Unit {0}
 
@@ -40,6 +40,6 @@ IsOneOf texts text = (k : ℕ) × (slice_get texts k ≡ Some text)
 abbrev pub NamesWords : List (List ℕ) → Task → Type 0
 NamesWords texts (Run path o) = IsOneOf texts (string_bytes path)
 NamesWords texts (RunAfter script journal s) = IsOneOf texts (string_bytes script) × IsOneOf texts (string_bytes journal)
-NamesWords texts (Check path) = IsOneOf texts (string_bytes path)
+NamesWords texts (Check path explains) = IsOneOf texts (string_bytes path)
 NamesWords texts (Upgrade path) = IsOneOf texts (string_bytes path)
 NamesWords texts (Compact path) = IsOneOf texts (string_bytes path)

@@ -7,6 +7,7 @@ ghost use Rattle.hullbook.specs.Tasks.{AreStatedWithinLimits, AreWithinLimits, I
 
 mod after;
 mod check;
+mod explain;
 mod fault;
 mod options;
 mod run;
@@ -15,6 +16,7 @@ mod tests;
 
 use after::run_after;
 use check::check_text;
+use explain::{Unexplained, explain};
 use fault::Fault;
 use hull_text::{compact, upgrade};
 use options::{OptionFault, Options, Stated, Task, options};
@@ -83,12 +85,29 @@ fn run_files<R: Threads + Wait + Sync + Files + Print + AllocGlobal>(
     run_after(rt, rt.alloc(), &mut input, &mut before, &mut output, stated).map_err(Fault::from)
 }
 
-/// Checks the journal at the path and writes to standard output. `true` for legal.
-fn check_file<R: Files + Print + AllocGlobal>(rt: &R, path: &str) -> Result<bool, Fault> {
+/// Checks the journal at the path and writes to standard output, and where it is illegal tells why on standard error, if
+/// so. `true` for legal.
+fn check_file<R: Files + Print + AllocGlobal, E: Print>(
+    rt: &R,
+    error: &E,
+    path: &str,
+    explains: bool,
+) -> Result<bool, Fault> {
     let file = fs::open(rt, path).map_err(|error| Fault::of_system(&error, Fault::Open))?;
     let mut input = Counted::new(file);
     let mut output = Counted::new(io::writer(rt));
-    check_text(rt.alloc(), &mut input, &mut output).map_err(Fault::from)
+    let checked = check_text(rt.alloc(), &mut input, &mut output).map_err(Fault::from)?;
+    let Some(place) = checked.wrong else {
+        return Ok(true);
+    };
+    if explains {
+        let mut notes = Counted::new(io::writer(error));
+        let told = explain(rt.alloc(), &checked.journal, place, &mut notes);
+        if told == Err(Unexplained::Memory) {
+            let _ = error.println("hullbook: memory");
+        }
+    }
+    Ok(false)
 }
 
 /// Writes the journal at the path to standard output, in the newest version that has its rules.
@@ -108,8 +127,9 @@ fn compact_file<R: Files + Print + AllocGlobal>(rt: &R, path: &str) -> Result<()
 }
 
 /// Does what the words after the program's name ask for. `false` for an illegal journal.
-fn work<R: Threads + Wait + Sync + Env + Files + Print + AllocGlobal>(
+fn work<R: Threads + Wait + Sync + Env + Files + Print + AllocGlobal, E: Print>(
     rt: &R,
+    error: &E,
 ) -> Result<bool, Fault> {
     match task_of(rt)? {
         Task::Run(path, options) => {
@@ -120,7 +140,7 @@ fn work<R: Threads + Wait + Sync + Env + Files + Print + AllocGlobal>(
             run_files(rt, &path, &journal, &stated)?;
             Ok(true)
         }
-        Task::Check(path) => check_file(rt, &path),
+        Task::Check(path, explains) => check_file(rt, error, &path, explains),
         Task::Upgrade(path) => {
             upgrade_file(rt, &path)?;
             Ok(true)
@@ -133,7 +153,7 @@ fn work<R: Threads + Wait + Sync + Env + Files + Print + AllocGlobal>(
 }
 
 fn main(rt: HostRuntime) -> ExitCode {
-    match work(&rt) {
+    match work(&rt, &rt.stderr()) {
         Ok(true) => ExitCode::SUCCESS,
         Ok(false) => ExitCode::from(1),
         Err(fault) => {

@@ -41,8 +41,8 @@ pub enum Task {
     Run(String, Options),
     /// To run the script at the first path on the book that goes on with the journal at the second.
     RunAfter(String, String, Stated),
-    /// To check the journal at this path.
-    Check(String),
+    /// To check the journal at this path, and where it is illegal to tell why, if so.
+    Check(String, bool),
     /// To write the journal at this path in the newest version that has its rules.
     Upgrade(String),
     /// To write a short journal that leaves the same points as the journal at this path.

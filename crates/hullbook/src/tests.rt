@@ -74,7 +74,7 @@ fn judges(alloc: Global, journal: &str, wanted: &str) -> Result<Option<bool>, Fa
     if output.get_ref().bytes() != wanted.as_bytes() {
         return Ok(None);
     }
-    Ok(ended.ok())
+    Ok(ended.ok().map(|checked| checked.wrong.is_none()))
 }
 
 #[test]
@@ -268,10 +268,6 @@ fn words_that_are_taken(rt: HostRuntime) -> Result<(), Fail> {
         return Err(Fail::new("other words"));
     };
     assert!(rt; numbers.sparing && !numbers.journal);
-    let Ok(Task::Check(path)) = options(rt.alloc(), &["check", "x"]) else {
-        return Err(Fail::new("other words"));
-    };
-    assert_eq!(rt; path.as_str(), "x");
     let Ok(Task::Upgrade(path)) = options(rt.alloc(), &["upgrade", "a b"]) else {
         return Err(Fail::new("other words"));
     };
@@ -280,6 +276,19 @@ fn words_that_are_taken(rt: HostRuntime) -> Result<(), Fail> {
         return Err(Fail::new("other words"));
     };
     assert_eq!(rt; path.as_str(), "a b");
+    Ok(())
+}
+
+#[test]
+fn words_of_a_check(rt: HostRuntime) -> Result<(), Fail> {
+    let Ok(Task::Check(path, explains)) = options(rt.alloc(), &["check", "x"]) else {
+        return Err(Fail::new("other words"));
+    };
+    assert_eq!(rt; (path.as_str(), explains), ("x", false));
+    let Ok(Task::Check(path, explains)) = options(rt.alloc(), &["check", "--explain", "x"]) else {
+        return Err(Fail::new("other words"));
+    };
+    assert_eq!(rt; (path.as_str(), explains), ("x", true));
     Ok(())
 }
 

@@ -59,12 +59,20 @@ fn journal_command<'a>(alloc: Global, name: &'a str) -> Result<Command<'a>, Allo
     Command::new(alloc, name).arg(journal)
 }
 
+/// The command that checks a journal.
+fn check_command<'a>(alloc: Global) -> Result<Command<'a>, AllocError> {
+    let explain = Arg::new(alloc, "explain")
+        .long("explain")
+        .action(ArgAction::SetTrue);
+    journal_command(alloc, "check")?.arg(explain)
+}
+
 fn command<'a>(alloc: Global) -> Result<Command<'a>, AllocError> {
     Command::new(alloc, "hullbook")
         .no_binary_name(true)
         .subcommand_required(true)
         .subcommand(run_command(alloc)?)?
-        .subcommand(journal_command(alloc, "check")?)?
+        .subcommand(check_command(alloc)?)?
         .subcommand(journal_command(alloc, "upgrade")?)?
         .subcommand(journal_command(alloc, "compact")?)
 }
@@ -163,8 +171,8 @@ fn run_task(alloc: Global, given: &ArgMatches<'_>, words: &[&str]) -> Result<Tas
     Ok(Task::RunAfter(script, journal, stated))
 }
 
-/// What the words after the program's name ask for: `run SCRIPT` with its options, `check JOURNAL`, `upgrade JOURNAL`, or
-/// `compact JOURNAL`.
+/// What the words after the program's name ask for: `run SCRIPT` with its options, `check JOURNAL` with `--explain` or
+/// without, `upgrade JOURNAL`, or `compact JOURNAL`.
 ///
 /// Each path is one of the words, as it was written. `Usage` for any other words and for a number outside its limits; a
 /// question for help counts as one. `Memory` where memory was refused.
@@ -181,7 +189,10 @@ pub fn options(alloc: Global, words: &[&str]) -> Result<Task, OptionFault>
     };
     match matches.subcommand() {
         Some(("run", given)) => run_task(alloc, given, words),
-        Some(("check", given)) => Ok(Task::Check(path_of(alloc, given, "journal", words)?)),
+        Some(("check", given)) => {
+            let journal = path_of(alloc, given, "journal", words)?;
+            Ok(Task::Check(journal, given.get_flag("explain")))
+        }
         Some(("upgrade", given)) => Ok(Task::Upgrade(path_of(alloc, given, "journal", words)?)),
         Some(("compact", given)) => Ok(Task::Compact(path_of(alloc, given, "journal", words)?)),
         _ => Err(OptionFault::Usage),

@@ -18,7 +18,7 @@ fn ends(
 ) -> Result<(Result<bool, RunFault>, usize), Fail> {
     let mut input = Counted::new(Pieces::new(journal.as_bytes(), 7).failing_at(reads));
     let mut output = Counted::new(Spout::new(alloc, 64, 5)?.failing_at(writes));
-    let ended = check_text(alloc, &mut input, &mut output);
+    let ended = check_text(alloc, &mut input, &mut output).map(|checked| checked.wrong.is_none());
     Ok((ended, output.get_ref().bytes().len()))
 }
 

@@ -76,8 +76,8 @@ fn refused_memory_check(rt: HostRuntime) -> Result<(), Fail> {
     let ended = check_text(rt.alloc(), &mut input, &mut output);
     let written = output.get_ref().bytes();
     match ended {
-        Ok(legal) => {
-            assert!(rt; legal);
+        Ok(checked) => {
+            assert_eq!(rt; checked.wrong, None);
             assert!(rt; written == "legal\n".as_bytes());
         }
         Err(fault) => {
