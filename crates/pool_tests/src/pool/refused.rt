@@ -145,36 +145,3 @@ fn count_on(rt: &impl Abort, book: &mut Book<PlainSet>, ledgers: &mut Vec<Ledger
         _ => panic!(rt; "the points are counted"),
     }
 }
-
-/// Where a phase of a script is refused memory, the phases before it ran whole and nothing of it, and the book serves
-/// on.
-#[test]
-fn refused_phases(rt: HostRuntime) -> Result<(), Fail> {
-    let script = corners(&rt, rt.alloc())?;
-    let (book, workers) = ready(&rt, rt.alloc(), 7, 8, &script);
-    let calls = Calls::new();
-    let PhaseEnd {
-        book,
-        workers,
-        ended,
-    } = run_phases(&rt, rt.alloc(), book, workers, &script, &calls);
-    let lines = book.lines().len() as u64;
-    match ended {
-        Ok(()) => assert_eq!(rt; lines, 4),
-        Err(fault) => {
-            assert_eq!(rt; fault, PoolFault::NoMemory);
-            assert!(rt; lines == 0 || lines == 3);
-        }
-    }
-    assert_eq!(rt; calls.counts(), (lines, lines));
-    let (answers, _ledgers) = workers.into_parts();
-    assert_eq!(rt; answers.len(), 3);
-    let given = (answers[0].len(), answers[1].len(), answers[2].len());
-    let wanted = match lines {
-        0 => (0, 0, 0),
-        3 => (1, 1, 1),
-        _ => (2, 1, 1),
-    };
-    assert_eq!(rt; given, wanted);
-    Ok(())
-}
