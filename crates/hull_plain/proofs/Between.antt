@@ -18,6 +18,7 @@ use Rattle.lattice.proofs.Order.{before_total, before_trans, before_irrefl}
 use Rattle.hull_plain.specs.Mending.{IsBehind, IsAhead, IsBetween}
 use Rattle.hull_plain.specs.Monotone.{EndsWith, IsThinned}
 use Rattle.hull_plain.specs.Edges.{end_of}
+use Rattle.hull_plain.specs.Positions.{origin}
 use Rattle.hull_plain.specs.declared.monotone.Side.{Side}
 use Rattle.hull_plain.proofs.FewVertices.{distinct_few}
 use Rattle.hull_plain.proofs.OrderedMaps.{point_cmp, less, greater, equal}
@@ -38,6 +39,15 @@ last_ends xs c some e =
 pub end_in : (c : Pair) (xs : List Pair) → EndsWith c xs → Contains xs c
 end_in c xs e = let r = ends_cut c xs e in
     subst (λ (z : List Pair). Contains z c) (sym r.1) (Contains-append_right r.0 (c ∷ []) c (0, omega arith, refl))
+
+-- the first points of a list end with the one before their number
+pub end_of_first : (xs : List Pair) (i : ℕ) (p : Pair) → 0 < i → i ≤ length xs → p ≡ get_or xs (i - 1) p
+    → EndsWith p (take i xs)
+end_of_first xs i p some l e =
+    let here : i - 1 + 1 ≡ i = omega (arith, some) in
+    subst (λ (n : ℕ). EndsWith p (take n xs)) here
+    (subst (λ (z : Pair). EndsWith z (take (i - 1 + 1) xs))
+    (sym (e ∙ get_or_free xs (i - 1) p origin (omega (arith, some, l)))) (ends_take xs (i - 1) (omega (arith, some, l))))
 
 -- what stands after the end of a set stands after each of its points
 after_end : (x : Pair) (xs : List Pair) (t q : Pair) → IsPointSet (x ∷ xs) → Contains (x ∷ xs) t

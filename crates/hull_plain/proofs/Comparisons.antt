@@ -1,5 +1,5 @@
 -- What a comparison of two sides, of 128 bits, tells.
-use Rattle.std.proofs.Common.{◌≡◌, ℤ, pos, ◌<ℤ◌, arith, true, false, FitsSigned, to_z, of_z}
+use Rattle.std.proofs.Common.{◌≡◌, ℤ, pos, ◌<ℤ◌, ◌≤ℤ◌, arith, true, false, FitsSigned, to_z, of_z}
 use Rattle.std.specs.Prelude.{IsTrue, ◌↔◌}
 use Rattle.std.proofs.lemmas.Int.{ints}
 use lib.Signed.{lt_z, le_z}
@@ -27,4 +27,11 @@ pub above_test : (a x : ℤ) → a ≡ x → FitsSigned w128 a → IsTrue (lt_z 
 above_test a x e f = (λ t. omega (arith, ints, t), λ h. yes h)
   where
     yes : pos 0 <ℤ x → lt_z (pos 0) (to_z w128 (of_z w128 a)) ≡ true
+    yes h = grind (arith, ints, e, f)
+
+-- the test whether a number that is x is not above 0
+pub below_test : (a x : ℤ) → a ≡ x → FitsSigned w128 a → IsTrue (le_z (to_z w128 (of_z w128 a)) (pos 0)) ↔ (x ≤ℤ pos 0)
+below_test a x e f = (λ t. omega (arith, ints, t), λ h. yes h)
+  where
+    yes : x ≤ℤ pos 0 → le_z (to_z w128 (of_z w128 a)) (pos 0) ≡ true
     yes h = grind (arith, ints, e, f)

@@ -14,6 +14,45 @@ use Rattle.lattice.proofs.Order.{before_trans, before_irrefl, before_total, is_b
 use Rattle.lattice.proofs.Order.{is_before-fails}
 use Rattle.hull_plain.proofs.PointLists.{AllPairs-head, AllPairs-tail, get_or_free, cut, cut_at}
 
+-- the rest of a set is a set
+pub ordered_from : (n : ℕ) (S : List Pair) → IsPointSet S → n ≤ length S → IsPointSet (drop n S)
+ordered_from n S s l i j d lt k =
+    let m = length-drop n S in
+    subst (λ (z : Pair). IsBefore z (get_or (drop n S) j d)) (sym (get_or-drop n S i d))
+    (subst (λ (z : Pair). IsBefore (get_or S (n + i) d) z) (sym (get_or-drop n S j d))
+    (s (n + i) (n + j) d (omega (arith, lt)) (omega (arith, k, m, l))))
+
+-- where the point at m stands before p, so do all up to it
+pub below_up_to : (S : List Pair) (p x : Pair) (m : ℕ) → IsPointSet S → m < length S → x ≡ get_or S m x → IsBefore x p
+    → All (λ t. IsBefore t p) (take (m + 1) S)
+below_up_to S p x m s l e b k d h =
+    let n = length-take (m + 1) S in
+    let at : x ≡ get_or S m d = e ∙ get_or_free S m x d l in
+    subst (λ (z : Pair). IsBefore z p) (sym (get_or-take (m + 1) S k d (omega (arith, h, n))))
+    (elim (cases_lt k m) [
+      | inl lt ↦ before_trans (get_or S k d) x p (subst (λ (z : Pair). IsBefore (get_or S k d) z) (sym at) (s k m d lt l)) b
+      | inr ge ↦
+          let same : m ≡ k = omega (arith, ge, h, n) in
+          subst (λ (z : Pair). IsBefore z p) (at ∙ ap (λ (i : ℕ). get_or S i d) same) b
+    ])
+
+-- where it does not, none from there on does
+pub rest_from : (S : List Pair) (p x : Pair) (m : ℕ) → IsPointSet S → m < length S → x ≡ get_or S m x → ¬ (IsBefore x p)
+    → All (λ t. ¬ (IsBefore t p)) (drop m S)
+rest_from S p x m s l e n k d h b =
+    let c = length-drop m S in
+    let at : x ≡ get_or S m d = e ∙ get_or_free S m x d l in
+    let here : IsBefore (get_or S (m + k) d) p = subst (λ (z : Pair). IsBefore z p) (get_or-drop m S k d) b in
+    elim (cases_lt 0 k) [
+      | inl some ↦
+          n (before_trans x (get_or S (m + k) d) p
+          (subst (λ (z : Pair). IsBefore z (get_or S (m + k) d)) (sym at)
+          (s m (m + k) d (omega (arith, some)) (omega (arith, h, c)))) here)
+      | inr none ↦
+          let same : m + k ≡ m = omega (arith, none) in
+          n (subst (λ (z : Pair). IsBefore z p) (sym (at ∙ ap (λ (i : ℕ). get_or S i d) (sym same))) here)
+    ]
+
 -- where the first is not before p and not p, all stand after p
 all_after : (x : Pair) (xs : List Pair) (p : Pair) → IsPointSet (x ∷ xs) → ¬ (IsBefore x p) → ¬ (x ≡ p)
     → All (IsBefore p) (x ∷ xs)

@@ -23,6 +23,7 @@ pub mod FewVertices
 pub mod UniqueVertices
 pub mod UniqueReplies
 pub mod EdgePlaces
+pub mod Drafts
 pub mod Decided
 pub mod Turns
 pub mod ChainEdges

@@ -1,6 +1,6 @@
 -- The chain of a set that changed.
 use Rattle.std.proofs.Common.{◌≡◌, ℕ, ℤ, pos, ◌≤ℤ◌, ◌<ℤ◌, neg_ℤ, ◌⊎◌, inl, inr, refl, sym, ap, ◌∙◌, subst, List, arith}
-use Rattle.std.proofs.Common.{zero, suc, [], ◌∷◌, ◌++◌, ◌<◌, ◌≤◌, ◌-◌, ◌+◌, length, get_or, take, drop, Ok, Err}
+use Rattle.std.proofs.Common.{zero, suc, [], ◌∷◌, ◌++◌, ◌<◌, ◌≤◌, ◌-◌, ◌+◌, length, get_or, take, drop, Ok, Err, to_z, of_z}
 use Rattle.std.proofs.Common.{length-append, length-drop, length-take}
 use Rattle.std.proofs.lemmas.Bool.{cases_lt}
 use Rattle.std.proofs.lemmas.Int.{ints}
@@ -9,8 +9,11 @@ use Rattle.std.proofs.lemmas.List.Edits.{insert-append_right}
 use Rattle.std.proofs.lemmas.List.Elements.{All-contains, All-cons, All-weaker, Contains-append_left}
 use Rattle.std.proofs.lemmas.List.Elements.{Contains-append_right, Contains-append_cases}
 use Rattle.std.specs.List.{All, Contains, insert}
+use Rattle.std.specs.Prelude.{IsTrue, ◌↔◌}
+use lib.Signed.{le_z}
+use mir.Syntax.{w128}
 use Rattle.lattice.specs.Covers.{IsPointSet, with_point, without_point}
-use Rattle.lattice.specs.Plane.{Pair, IsBefore}
+use Rattle.lattice.specs.Plane.{Pair, IsBefore, IsWithin, widest_side}
 use Rattle.lattice.specs.Signs.{le_or_lt}
 use Rattle.lattice.proofs.Order.{before_total, before_trans, before_irrefl}
 use Rattle.hull_plain.specs.Mending.{IsOverEdge, IsBetween}
@@ -21,11 +24,12 @@ use Rattle.hull_plain.specs.declared.monotone.Side.{Side}
 use Rattle.hull_plain.proofs.Between.{after_ends, end_in, first_in, set_few}
 use Rattle.hull_plain.proofs.ChainEdges.{all_of}
 use Rattle.hull_plain.proofs.ChainPasses.{set_less, set_longer}
+use Rattle.hull_plain.proofs.Comparisons.{fits_side, below_test}
 use Rattle.hull_plain.proofs.ChangedSets.{set-insert, in_without}
 use Rattle.hull_plain.proofs.FoundPositions.{found_after, found_absent, cut_around}
 use Rattle.hull_plain.proofs.Passes.{set_left, set_right, inner_cut, inner_left, inner_right}
 use Rattle.hull_plain.proofs.Passes.{inner_across, member_inner, ends_take, ends_right, thinned_itself, thinned_of}
-use Rattle.hull_plain.proofs.PointLists.{AllPairs-head, append_twice, append_none, later, cut}
+use Rattle.hull_plain.proofs.PointLists.{AllPairs-head, append_twice, append_none, get_or_free, later, cut}
 use Rattle.hull_plain.proofs.SetLaws.{members_with, members_without}
 use Rattle.hull_plain.proofs.Turns.{turn_swap, inwards_from, inwards_to}
 
@@ -404,3 +408,15 @@ pub inner_still : (side : Side) (keys S fringe : List Pair) (p : Pair) → IsPoi
     → IsInner side fringe u × ¬ (u ≡ p)
 inner_still side keys S fringe p s e inner u m =
     let in_S = (members_without p u S s).0 (subst (λ (z : List Pair). Contains z u) e m) in (inner u in_S.0, in_S.1)
+
+-- where a turn at a place is tested, it tells whether p stands over the edge there
+pub over_edge : (side : Side) (chain : List Pair) (p a b : Pair) (i : ℕ) (v : ℤ) → 0 < i → i < length chain
+    → a ≡ get_or chain (i - 1) a → b ≡ get_or chain i b → v ≡ turn side a p b → IsWithin widest_side v
+    → IsTrue (le_z (to_z w128 (of_z w128 v)) (pos 0)) ↔ IsOverEdge side chain i p
+over_edge side chain p a b i v some l ea eb ev size =
+    let before : a ≡ point_at chain (i - 1) = ea ∙ get_or_free chain (i - 1) a origin (omega (arith, l)) in
+    let behind : b ≡ point_at chain i = eb ∙ get_or_free chain i b origin l in
+    let e : v ≡ turn side (point_at chain (i - 1)) p (point_at chain i) =
+    ev ∙ ap (λ (z : Pair). turn side z p b) before ∙ ap (λ (z : Pair). turn side (point_at chain (i - 1)) p z) behind in
+    let t = below_test v (turn side (point_at chain (i - 1)) p (point_at chain i)) e (fits_side v size) in
+    (λ k. (some, l, t.0 k), λ o. t.1 o.2)

@@ -1,5 +1,5 @@
 -- What a pass over points in order leaves: how two passes compose, and where one may stop.
-use Rattle.std.proofs.Common.{◌≡◌, ◌<ℤ◌, pos, ◌⊎◌, inl, inr, refl, sym, ap, ◌∙◌, subst, List, arith, zero, suc}
+use Rattle.std.proofs.Common.{◌≡◌, ◌<ℤ◌, ◌≤ℤ◌, pos, ◌⊎◌, inl, inr, refl, sym, ap, ◌∙◌, subst, List, arith, zero, suc}
 use Rattle.std.proofs.Common.{[], ◌∷◌, ◌++◌, ◌<◌, ◌+◌, ◌-◌, length, length-append, get_or, take, drop, ℕ}
 use Rattle.std.specs.List.{Contains}
 use Rattle.std.proofs.lemmas.List.Elements.{All-contains, Contains-append_left, Contains-append_right}
@@ -10,7 +10,7 @@ use Rattle.lattice.specs.Covers.{IsPointSet}
 use Rattle.lattice.specs.Plane.{Pair, IsBefore}
 use Rattle.hull_plain.specs.Edges.{end_of}
 use Rattle.hull_plain.specs.Monotone.{turn, IsInwards, IsInnerFrom, IsInner, IsTurningFrom, IsTurning, IsStrict}
-use Rattle.hull_plain.specs.Monotone.{EndsWith, IsPassed, IsThinned}
+use Rattle.hull_plain.specs.Monotone.{EndsInwards, EndsWith, IsPassed, IsThinned}
 use Rattle.hull_plain.specs.Positions.{point_at, origin}
 use Rattle.hull_plain.specs.declared.monotone.Side.{Side}
 use Rattle.hull_plain.proofs.ChainPasses.{take_next}
@@ -199,6 +199,11 @@ pub turning_join : (side : Side) (front : List Pair) (a b : Pair) (rest : List P
 turning_join side [] a b rest h k = k
 turning_join side (x ∷ front) a b rest h k = turning_join_from side x front a b rest h k
 
+-- a list is its front and its last two points
+last_two : (xs : List Pair) (a b : Pair) → 1 < length xs → a ≡ get_or xs (length xs - 2) a
+    → b ≡ get_or xs (length xs - 1) b → xs ≡ take (length xs - 2) xs ++ a ∷ b ∷ []
+last_two xs a b l ea eb = grind (arith, common_steps, ea, eb)
+
 -- a point is put behind a turning list whose last point lies outwards of it
 pub turning_push : (side : Side) (chain : List Pair) (a b c : Pair) → 1 < length chain
     → a ≡ get_or chain (length chain - 2) a → b ≡ get_or chain (length chain - 1) b → IsTurning side chain
@@ -208,10 +213,21 @@ turning_push side chain a b c l ea eb h k =
     let e : chain ≡ front ++ a ∷ b ∷ [] = last_two chain a b l ea eb in
     subst (IsTurning side) (sym (append_twice front (a ∷ b ∷ []) (c ∷ [])) ∙ ap (λ (z : List Pair). z ++ c ∷ []) (sym e))
     (turning_join side front a b (c ∷ []) (subst (IsTurning side) e h) (k, (tt, tt)))
-  where
-    last_two : (xs : List Pair) (a b : Pair) → 1 < length xs → a ≡ get_or xs (length xs - 2) a
-        → b ≡ get_or xs (length xs - 1) b → xs ≡ take (length xs - 2) xs ++ a ∷ b ∷ []
-    last_two xs a b l ea eb = grind (arith, common_steps, ea, eb)
+
+-- a list whose last point does not lie outwards of the one before it and c
+pub ends_inwards_of : (side : Side) (chain : List Pair) (a b c : Pair) → 1 < length chain
+    → a ≡ get_or chain (length chain - 2) a → b ≡ get_or chain (length chain - 1) b → turn side a b c ≤ℤ pos 0
+    → EndsInwards side chain c
+ends_inwards_of side chain a b c l ea eb h =
+    let next : length chain - 2 + 1 ≡ length chain - 1 = omega (arith, l) in
+    record {
+      front = take (length chain - 2) chain;
+      a = a;
+      b = b;
+      whole = last_two chain a b l ea eb;
+      kept = ap (λ (n : ℕ). take n chain) (sym next) ∙ take_next chain (length chain - 2) a (omega (arith, l)) ea;
+      inwards = h;
+    }
 
 -- ---- passes
 

@@ -29,7 +29,7 @@ has_less {o} {m} {n} h l = record {
   lower = omega (arith, h.lower);
   upper = omega (arith, h.upper);
   fringes = fringes_have_less h.fringes l;
-  spare = omega (arith, h.spare);
+  draft = record { fresh = omega (arith, h.draft.fresh); rest = omega (arith, h.draft.rest) };
 }
 
 -- the chain of a set has no more points than the set

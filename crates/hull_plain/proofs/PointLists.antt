@@ -1,6 +1,9 @@
 -- Lists of points, their parts, and what holds of all pairs in order.
 use Rattle.std.proofs.Common.{◌≡◌, ℕ, refl, ap, List, arith, zero, suc, ◌<◌, ◌≤◌, [], ◌∷◌, ◌++◌, length, get_or, take}
-use Rattle.std.proofs.Common.{◌-◌, drop}
+use Rattle.std.proofs.Common.{◌-◌, ◌+◌, ◌∙◌, sym, drop, length-take, length-drop}
+use Rattle.std.specs.Prelude.{slice_range}
+use Rattle.std.proofs.lemmas.List.{get_or-drop}
+use Rattle.std.proofs.lemmas.List.Edits.{length-between, get_or-between}
 use Rattle.std.specs.List.{All, Contains}
 use Rattle.std.proofs.lemmas.Grind.{common_steps}
 use Rattle.std.proofs.lemmas.List.Elements.{All-cons, All-head, All-tail}
@@ -74,3 +77,49 @@ append_none (x ∷ xs) = ap (λ (z : List Pair). x ∷ z) (append_none xs)
 pub append_twice : (xs ys zs : List Pair) → (xs ++ ys) ++ zs ≡ xs ++ (ys ++ zs)
 append_twice [] ys zs = refl
 append_twice (x ∷ xs) ys zs = ap (λ (z : List Pair). x ∷ z) (append_twice xs ys zs)
+
+-- behind all of a list there is nothing
+pub none_from : (n : ℕ) (xs : List Pair) → length xs ≤ n → drop n xs ≡ []
+none_from zero [] l = refl
+none_from zero (x ∷ xs) l = absurd (omega (arith, l))
+none_from (suc n) [] l = refl
+none_from (suc n) (x ∷ xs) l = none_from n xs (omega (arith, l))
+
+-- no more of the first points than were asked for
+pub take_few : (n : ℕ) (xs : List Pair) → length (take n xs) ≤ n
+take_few n xs = let k = length-take n xs in omega (arith, k)
+
+-- the i-th point of a range of a list
+pub record InRange (xs : List Pair) (i : ℕ) (p : Pair) : Type 0 where
+  pub within : i < length xs
+  pub point : p ≡ get_or xs i p
+
+pub in_range : (xs : List Pair) (from to i : ℕ) (p : Pair) → to ≤ length xs → from + i < to
+    → p ≡ get_or xs (from + i) p → InRange (slice_range xs from to) i p
+in_range xs from to i p inside l e =
+    let n = length-between xs from to inside in
+    record { within = omega (arith, n, l); point = e ∙ sym (get_or-between xs from to i p l) }
+
+-- the i-th point of the rest of a list
+pub in_rest : (xs : List Pair) (from i : ℕ) (p : Pair) → from + i < length xs → p ≡ get_or xs (from + i) p
+    → InRange (drop from xs) i p
+in_rest xs from i p l e =
+    let n = length-drop from xs in
+    record { within = omega (arith, n, l); point = e ∙ sym (get_or-drop from xs i p) }
+
+pub range_long : (xs : List Pair) (from to : ℕ) → to ≤ length xs → length (slice_range xs from to) ≡ to - from
+range_long xs from to inside = length-between xs from to inside
+
+-- as many of the first points as there are, are all
+pub all_taken : (n : ℕ) (xs : List Pair) → length xs ≤ n → take n xs ≡ xs
+all_taken zero [] l = refl
+all_taken zero (x ∷ xs) l = absurd (omega (arith, l))
+all_taken (suc n) [] l = refl
+all_taken (suc n) (x ∷ xs) l = ap (λ (z : List Pair). x ∷ z) (all_taken n xs (omega (arith, l)))
+
+-- what is behind what is behind
+pub drop_rest : (n k : ℕ) (xs : List Pair) → drop k (drop n xs) ≡ drop (n + k) xs
+drop_rest zero k xs = let e : k ≡ 0 + k = omega arith in ap (λ (m : ℕ). drop m xs) e
+drop_rest (suc n) k [] = none_from k [] (omega arith) ∙ sym (none_from (suc n + k) [] (omega arith))
+drop_rest (suc n) k (x ∷ xs) =
+    let e : suc (n + k) ≡ suc n + k = omega arith in drop_rest n k xs ∙ ap (λ (m : ℕ). drop m (x ∷ xs)) e

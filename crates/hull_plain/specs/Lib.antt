@@ -8,6 +8,7 @@ pub mod Walks
 pub mod Sets
 pub mod Outlines
 pub mod Monotone
+pub mod Drafts
 pub mod Mending
 pub mod ChainEdges
 pub mod Laws

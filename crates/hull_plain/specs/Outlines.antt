@@ -1,9 +1,10 @@
 -- The two chains of the hull of a set, the room that they have, and what a plain set keeps.
-use Rattle.std.specs.Prelude.{◌≡◌, ℕ, ◌+◌, ◌≤◌, List, length, vec_capacity}
+use Rattle.std.specs.Prelude.{◌≡◌, ℕ, ◌+◌, ◌≤◌, List, length}
 use Rattle.std.specs.List.{All, Contains}
 use Rattle.std.specs.Map.{keys_of, values_of}
 use Rattle.lattice.specs.Plane.{Pair}
 use Rattle.lattice.specs.Covers.{IsPointSet, with_point, without_point}
+use Rattle.hull_plain.specs.Drafts.{DraftHasRoom}
 use Rattle.hull_plain.specs.Monotone.{AreChainsOf, AreFringesOf}
 use Rattle.hull_plain.specs.declared.TheConstants.{POINT_LIMIT}
 use Rattle.hull_plain.specs.declared.fringes.Fringes.{Fringes}
@@ -31,15 +32,15 @@ pub record AreAlike (o new : Outline) : Type 0 where
 
 -- for the fringes of a set of n points
 pub record FringesHaveRoom (f : Fringes) (n : ℕ) : Type 0 where
-  pub below : n ≤ vec_capacity f.below
-  pub above : n ≤ vec_capacity f.above
+  pub below : n ≤ f.below.room
+  pub above : n ≤ f.above.room
 
 -- for the outline of a set of n points, and for what mends it
 pub record HasRoom (o : Outline) (n : ℕ) : Type 0 where
-  pub lower : n ≤ vec_capacity o.lower
-  pub upper : n ≤ vec_capacity o.upper
+  pub lower : n ≤ o.lower.room
+  pub upper : n ≤ o.upper.room
   pub fringes : FringesHaveRoom o.fringes n
-  pub spare : n ≤ vec_capacity o.spare
+  pub draft : DraftHasRoom o.draft n
 
 -- they are those of a set in which p is not and which is S once p came, and they have room for p
 abbrev pub AwaitsPoint : Pair → List Pair → Outline → Type 0

@@ -3,23 +3,24 @@ ghost use Rattle.std.specs.Prelude.{◌+◌, ◌-◌, ◌<◌, length, true, fal
 ghost use Rattle.hull_plain.specs.Positions.{point_at};
 
 use lattice::Point;
+use tiered_list::TieredList;
 
 /// A place such that `holds` is true of the edge before it and false of the edge from it: of the points there and the
 /// next ones. The ends of the chain count as such.
-pub(crate) fn first_failing<F: Fn(Point, Point) -> bool>(chain: &[Point], holds: &F) -> usize
-    requires some { 0 < length chain.now }
+pub(crate) fn first_failing<F: Fn(Point, Point) -> bool>(chain: &TieredList, holds: &F) -> usize
+    requires some { 0 < length chain.now.items }
     requires callable { F.IsAlwaysCallable holds.now }
-    ensures within { result < length chain.now }
+    ensures within { result < length chain.now.items }
     ensures held { 0 < result
-        → F.post holds.now (point_at chain.now (result - 1)) (point_at chain.now (result - 1 + 1)) true }
-    ensures fails { result + 1 < length chain.now
-        → F.post holds.now (point_at chain.now result) (point_at chain.now (result + 1)) false }
+        → F.post holds.now (point_at chain.now.items (result - 1)) (point_at chain.now.items (result - 1 + 1)) true }
+    ensures fails { result + 1 < length chain.now.items
+        → F.post holds.now (point_at chain.now.items result) (point_at chain.now.items (result + 1)) false }
 {
     let mut low = 0;
     let mut high = chain.len() - 1;
     while low < high {
         let middle = low + (high - low) / 2;
-        if holds(chain[middle], chain[middle + 1]) {
+        if holds(chain.get(middle), chain.get(middle + 1)) {
             low = middle + 1;
         } else {
             high = middle;

@@ -11,23 +11,24 @@ use super::monotone::{Side, turn};
 use heap::Heap;
 use lattice::Point;
 use std::alloc::AllocError;
+use tiered_list::TieredList;
 
 /// The vertices: the lower chain, and then the upper one back, without its ends.
 pub(crate) fn vertices_of(
     alloc: Heap,
-    lower: &[Point],
-    upper: &[Point],
+    lower: &TieredList,
+    upper: &TieredList,
 ) -> Result<Vec<Point, Heap>, AllocError>
-    ensures vertices { IfOk result (λ v. (S : List Pair) → IsPointSet S → AreChainsOf S lower.now upper.now
+    ensures vertices { IfOk result (λ v. (S : List Pair) → IsPointSet S → AreChainsOf S lower.now.items upper.now.items
         → IsVertexList S v.items) }
-    ensures refused { OnErr result (0 < length lower.now + length upper.now) }
+    ensures refused { OnErr result (0 < length lower.now.items + length upper.now.items) }
 {
     let mut out = Vec::new(alloc);
-    out.extend_from_slice(lower)?;
+    lower.copy_to(&mut out)?;
     let mut i = upper.len();
     while i > 2 {
         i -= 1;
-        out.push(upper[i - 1])?;
+        out.push(upper.get(i - 1))?;
     }
     Ok(out)
 }
@@ -42,25 +43,25 @@ fn doubled_triangle(side: Side, a: Point, b: Point, c: Point) -> u128
 }
 
 /// The doubled area between a chain and the segment from its first point to its last.
-fn doubled_fan(side: Side, chain: &[Point]) -> u128
-    requires chain { IsSomeChain side chain.now }
-    requires few { length chain.now ≤ POINT_LIMIT }
-    ensures fan { pos result ≡ fan_of side chain.now }
+fn doubled_fan(side: Side, chain: &TieredList) -> u128
+    requires chain { IsSomeChain side chain.now.items }
+    requires few { length chain.now.items ≤ POINT_LIMIT }
+    ensures fan { pos result ≡ fan_of side chain.now.items }
     ensures size { result ≤ POINT_LIMIT * widest_side }
 {
     let mut doubled = 0;
     for i in 1..chain.len() {
-        doubled += doubled_triangle(side, chain[i - 1], chain[i], chain[0]);
+        doubled += doubled_triangle(side, chain.get(i - 1), chain.get(i), chain.get(0));
     }
     doubled
 }
 
 /// The doubled area of the hull of these two chains.
-pub(crate) fn doubled_area_of(lower: &[Point], upper: &[Point]) -> u128
-    requires chains { AreChains lower.now upper.now }
-    requires few_lower { length lower.now ≤ POINT_LIMIT }
-    requires few_upper { length upper.now ≤ POINT_LIMIT }
-    ensures { (S : List Pair) → IsPointSet S → AreChainsOf S lower.now upper.now → IsDoubledArea S (pos result) }
+pub(crate) fn doubled_area_of(lower: &TieredList, upper: &TieredList) -> u128
+    requires chains { AreChains lower.now.items upper.now.items }
+    requires few_lower { length lower.now.items ≤ POINT_LIMIT }
+    requires few_upper { length upper.now.items ≤ POINT_LIMIT }
+    ensures { (S : List Pair) → IsPointSet S → AreChainsOf S lower.now.items upper.now.items → IsDoubledArea S (pos result) }
 {
     doubled_fan(Side::Lower, lower) + doubled_fan(Side::Upper, upper)
 }

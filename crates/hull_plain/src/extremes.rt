@@ -10,6 +10,7 @@ ghost use Rattle.hull_plain.specs.Tangents.{IsFirstFarthest};
 use super::bisection::first_failing;
 use super::monotone::Side;
 use lattice::{Direction, Point, product};
+use tiered_list::TieredList;
 
 /// Whether `p` lies less far than `q` in the direction `d`.
 fn is_nearer(d: Direction, p: Point, q: Point) -> bool
@@ -19,16 +20,16 @@ fn is_nearer(d: Direction, p: Point, q: Point) -> bool
 }
 
 /// The first of the farthest points in a direction that faces this chain: the corner up to which it rises.
-fn farthest(chain: &[Point], d: Direction) -> Point
-    requires { 0 < length chain.now }
-    ensures { (side : Side) (S : List Pair) → Faces side d → IsChainOf side S chain.now → IsFirstFarthest S d result }
+fn farthest(chain: &TieredList, d: Direction) -> Point
+    requires { 0 < length chain.now.items }
+    ensures { (side : Side) (S : List Pair) → Faces side d → IsChainOf side S chain.now.items → IsFirstFarthest S d result }
 {
-    chain[first_failing(chain, &|p, q| is_nearer(d, p, q))]
+    chain.get(first_failing(chain, &|p, q| is_nearer(d, p, q)))
 }
 
 /// The same, or `None` where there is no point.
-pub(crate) fn extreme_of(chain: &[Point], d: Direction) -> Option<Point>
-    ensures { (side : Side) (S : List Pair) → Faces side d → IsChainOf side S chain.now
+pub(crate) fn extreme_of(chain: &TieredList, d: Direction) -> Option<Point>
+    ensures { (side : Side) (S : List Pair) → Faces side d → IsChainOf side S chain.now.items
         → AnswersExtreme S d (reply_to_extreme result) }
 {
     if chain.is_empty() {

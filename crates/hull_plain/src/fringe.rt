@@ -1,59 +1,73 @@
 //! The fringe of a set on a side: some of its points, in order, such that each other one stands inwards of the segment
 //! between two that follow each other. The chain is the fringe of the fewest points. Others have more, so that fewer
 //! points of the set stand between two of them, and have to be looked at where one leaves.
-ghost use Rattle.std.specs.Prelude.{◌≡◌, ◌+◌, ◌<◌, ◌≤◌, ◌⊎◌, ◌++◌, List, length, [], vec_len, vec_capacity};
+ghost use Rattle.std.specs.Prelude.{◌≡◌, ◌+◌, ◌<◌, ◌≤◌, ◌⊎◌, ◌++◌, List, length, take, drop};
 ghost use Rattle.std.specs.List.{Contains};
 ghost use Rattle.std.specs.Map.{keys_of};
 ghost use Rattle.lattice.specs.Plane.{Pair};
 ghost use Rattle.lattice.specs.Covers.{IsPointSet, with_point, without_point};
+ghost use Rattle.hull_plain.specs.Drafts.{DraftHasRoom, IsAsRoomy, drafted};
 ghost use Rattle.hull_plain.specs.Monotone.{IsFringeOf};
 ghost use Rattle.hull_plain.specs.Mending.{ThinsBetween};
 
-use super::mending::{ahead, behind, cut, is_inwards};
-use super::monotone::{Side, extend_behind, put_behind};
+use super::draft::Draft;
+use super::mending::{ahead, behind, is_inwards};
+use super::monotone::{Side, extend_behind};
 use super::positions::position_of;
 use heap::Heap;
 use lattice::Point;
 use std::collections::BTreeMap;
+use tiered_list::TieredList;
 
-/// Puts the points of a map that stand between a fringe and the rest of it at its end, but those that lie inwards of
-/// others of them. After each `run` of them the last one stays, whatever comes: a run has a chain of its own.
+/// Drafts the first points of a fringe up to a place and behind them the points of a map that stand between these and
+/// those of the fringe from another place on, but those that lie inwards of others of them. After each `run` of them the
+/// last one stays, whatever comes: a run has a chain of its own.
 fn fill(
     side: Side,
     points: &BTreeMap<Point, u16, Heap>,
     run: usize,
-    fringe: &mut Vec<Point, Heap>,
-    rest: &[Point],
+    fringe: &TieredList,
+    draft: &mut Draft,
+    at: usize,
+    to: usize,
 )
     requires ordered { IsPointSet (keys_of points.now.entries) }
-    requires set { IsPointSet (fringe.old.items ++ rest.now) }
-    requires among { (t : Pair) → Contains (fringe.old.items ++ rest.now) t → Contains (keys_of points.now.entries) t }
-    requires room { length (keys_of points.now.entries) ≤ vec_capacity fringe.old }
-    ensures thinned { ThinsBetween side (keys_of points.now.entries) fringe.old.items rest.now fringe.new.items }
-    ensures capacity { vec_capacity fringe.new ≡ vec_capacity fringe.old }
+    requires order { at ≤ to }
+    requires inside { to ≤ length fringe.now.items }
+    requires set { IsPointSet (take at fringe.now.items ++ drop to fringe.now.items) }
+    requires among { (t : Pair) → Contains (take at fringe.now.items ++ drop to fringe.now.items) t
+        → Contains (keys_of points.now.entries) t }
+    requires room { DraftHasRoom draft.old (length (keys_of points.now.entries)) }
+    ensures thinned { ThinsBetween side (keys_of points.now.entries) (take at fringe.now.items)
+        (drop to fringe.now.items) (drafted fringe.now.items draft.new) }
+    ensures within { draft.new.kept ≤ at }
+    ensures room { IsAsRoomy draft.old draft.new }
 {
-    let start = behind(fringe);
-    let end = ahead(rest);
-    let mut fixed = fringe.len();
+    draft.start(at);
+    let start = behind(fringe, at);
+    let end = ahead(fringe, to);
+    let mut fixed = 0;
     let mut left = run;
     for (point, _) in points.range((start, end)) {
         if left == 0 {
-            fixed = fringe.len();
+            fixed = draft.fresh_len();
             left = run;
         }
-        extend_behind(side, fringe, fixed, *point);
+        let _stays = extend_behind(side, fringe, draft, Some(fixed), *point);
         left = left.saturating_sub(1);
     }
 }
 
 /// The fringe after a new point `p` came to its set, and whether it changed.
-pub(crate) fn put_on(side: Side, fringe: &mut Vec<Point, Heap>, p: Point) -> bool
+pub(crate) fn put_on(side: Side, fringe: &mut TieredList, draft: &mut Draft, p: Point) -> bool
     requires ordered { IsPointSet fringe.old.items }
     requires absent { ¬ Contains fringe.old.items p }
-    requires room { vec_len fringe.old < vec_capacity fringe.old }
+    requires room { length fringe.old.items + 1 ≤ fringe.old.room }
+    requires draft_room { DraftHasRoom draft.old (length fringe.old.items + 1) }
     ensures fringe { (S : List Pair) → IsFringeOf side S fringe.old.items
         → IsFringeOf side (with_point p S) fringe.new.items }
-    ensures capacity { vec_capacity fringe.old ≤ vec_capacity fringe.new }
+    ensures fringe_room { fringe.new.room ≡ fringe.old.room }
+    ensures room { IsAsRoomy draft.old draft.new }
 {
     let Err(i) = position_of(fringe, p) else {
         unreachable!()
@@ -61,9 +75,9 @@ pub(crate) fn put_on(side: Side, fringe: &mut Vec<Point, Heap>, p: Point) -> boo
     if is_inwards(side, fringe, i, p) {
         return false;
     }
-    let Ok(()) = fringe.insert(i, p) else {
-        unreachable!()
-    };
+    draft.start(i);
+    draft.push(p);
+    draft.write(fringe, i);
     true
 }
 
@@ -71,8 +85,8 @@ pub(crate) fn put_on(side: Side, fringe: &mut Vec<Point, Heap>, p: Point) -> boo
 /// points between its neighbours are looked at.
 pub(crate) fn take_off(
     side: Side,
-    fringe: &mut Vec<Point, Heap>,
-    spare: &mut Vec<Point, Heap>,
+    fringe: &mut TieredList,
+    draft: &mut Draft,
     p: Point,
     points: &BTreeMap<Point, u16, Heap>,
     run: usize,
@@ -80,35 +94,38 @@ pub(crate) fn take_off(
     requires ordered { IsPointSet fringe.old.items }
     requires left { IsPointSet (keys_of points.now.entries) }
     requires among { (t : Pair) → Contains fringe.old.items t → (t ≡ p) ⊎ Contains (keys_of points.now.entries) t }
-    requires room { length (keys_of points.now.entries) ≤ vec_capacity fringe.old }
-    requires spare_room { length (keys_of points.now.entries) ≤ vec_capacity spare.old }
+    requires room { length (keys_of points.now.entries) ≤ fringe.old.room }
+    requires draft_room { DraftHasRoom draft.old (length (keys_of points.now.entries)) }
     ensures fringe { (S : List Pair) → IsPointSet S → IsFringeOf side S fringe.old.items
         → keys_of points.now.entries ≡ without_point p S
         → IsFringeOf side (keys_of points.now.entries) fringe.new.items }
-    ensures capacity { vec_capacity fringe.old ≤ vec_capacity fringe.new }
-    ensures spare_capacity { vec_capacity spare.old ≤ vec_capacity spare.new }
+    ensures fringe_room { fringe.new.room ≡ fringe.old.room }
+    ensures room { IsAsRoomy draft.old draft.new }
 {
     let Ok(i) = position_of(fringe, p) else {
         return false;
     };
-    cut(fringe, i, i + 1, spare);
-    fill(side, points, run, fringe, spare);
-    put_behind(fringe, spare);
+    fill(side, points, run, fringe, draft, i, i + 1);
+    draft.write(fringe, i + 1);
     true
 }
 
 /// A fringe of a set made anew, in one pass over all of its points.
 pub(crate) fn renew(
     side: Side,
-    fringe: &mut Vec<Point, Heap>,
+    fringe: &mut TieredList,
+    draft: &mut Draft,
     points: &BTreeMap<Point, u16, Heap>,
     run: usize,
 )
     requires ordered { IsPointSet (keys_of points.now.entries) }
-    requires room { length (keys_of points.now.entries) ≤ vec_capacity fringe.old }
+    requires room { length (keys_of points.now.entries) ≤ fringe.old.room }
+    requires draft_room { DraftHasRoom draft.old (length (keys_of points.now.entries)) }
     ensures fringe { IsFringeOf side (keys_of points.now.entries) fringe.new.items }
-    ensures capacity { vec_capacity fringe.new ≡ vec_capacity fringe.old }
+    ensures fringe_room { fringe.new.room ≡ fringe.old.room }
+    ensures room { IsAsRoomy draft.old draft.new }
 {
-    fringe.clear();
-    fill(side, points, run, fringe, &[]);
+    let len = fringe.len();
+    fill(side, points, run, fringe, draft, 0, len);
+    draft.write(fringe, len);
 }

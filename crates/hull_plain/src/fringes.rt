@@ -1,18 +1,21 @@
 //! The two fringes of a set, and when they are made anew.
-ghost use Rattle.std.specs.Prelude.{◌≡◌, ◌≤◌, ◌<◌, [], ℕ, length, List, OnOk, vec_len, vec_capacity};
+ghost use Rattle.std.specs.Prelude.{◌≡◌, ◌+◌, ◌≤◌, [], ℕ, length, List, OnOk};
 ghost use Rattle.std.specs.List.{Contains};
 ghost use Rattle.std.specs.Map.{keys_of};
 ghost use Rattle.lattice.specs.Plane.{Pair};
 ghost use Rattle.lattice.specs.Covers.{IsPointSet, with_point, without_point};
+ghost use Rattle.hull_plain.specs.Drafts.{DraftHasRoom, IsAsRoomy};
 ghost use Rattle.hull_plain.specs.Monotone.{AreFringesOf};
 ghost use Rattle.hull_plain.specs.Outlines.{FringesHaveRoom};
 
+use super::draft::Draft;
 use super::fringe::{put_on, renew, take_off};
 use super::monotone::Side;
 use heap::Heap;
 use lattice::Point;
 use std::alloc::AllocError;
 use std::collections::BTreeMap;
+use tiered_list::TieredList;
 
 /// The fringes of a set, and how often they changed since they were made.
 ///
@@ -21,8 +24,8 @@ use std::collections::BTreeMap;
 /// run they are made anew.
 #[derive(Drop)]
 pub(crate) struct Fringes {
-    pub(crate) below: Vec<Point, Heap>,
-    pub(crate) above: Vec<Point, Heap>,
+    pub(crate) below: TieredList,
+    pub(crate) above: TieredList,
     changes: usize,
 }
 
@@ -32,8 +35,8 @@ impl Fringes {
         ensures { AreFringesOf [] result.below.items result.above.items }
     {
         Fringes {
-            below: Vec::new(alloc),
-            above: Vec::new(alloc),
+            below: TieredList::new(alloc),
+            above: TieredList::new(alloc),
             changes: 0,
         }
     }
@@ -45,26 +48,25 @@ impl Fringes {
         ensures room { OnOk result (FringesHaveRoom self.new count) }
         ensures kept { (n : ℕ) → FringesHaveRoom self.old n → FringesHaveRoom self.new n }
     {
-        self.below.reserve(count.saturating_sub(self.below.len()))?;
-        self.above.reserve(count.saturating_sub(self.above.len()))
+        self.below.reserve(count)?;
+        self.above.reserve(count)
     }
 
     /// The fringes after a new point `p` came to the set, which is `points` then.
-    pub(crate) fn add(&mut self, p: Point, points: &BTreeMap<Point, u16, Heap>)
+    pub(crate) fn add(&mut self, p: Point, points: &BTreeMap<Point, u16, Heap>, draft: &mut Draft)
         requires in_order { IsPointSet (keys_of points.now.entries) }
         requires fringes { (S : List Pair) × AreFringesOf S self.old.below.items self.old.above.items
-            × (keys_of points.now.entries ≡ with_point p S) }
+            × (keys_of points.now.entries ≡ with_point p S)
+            × FringesHaveRoom self.old (length S + 1) × DraftHasRoom draft.old (length S + 1) }
         requires absent_below { ¬ Contains self.old.below.items p }
         requires absent_above { ¬ Contains self.old.above.items p }
-        requires room_below { vec_len self.old.below < vec_capacity self.old.below }
-        requires room_above { vec_len self.old.above < vec_capacity self.old.above }
-        requires room { FringesHaveRoom self.old (length (keys_of points.now.entries)) }
         ensures fringes { AreFringesOf (keys_of points.now.entries) self.new.below.items self.new.above.items }
         ensures kept { (n : ℕ) → FringesHaveRoom self.old n → FringesHaveRoom self.new n }
+        ensures draft_room { IsAsRoomy draft.old draft.new }
     {
-        let below = put_on(Side::Lower, &mut self.below, p);
-        let above = put_on(Side::Upper, &mut self.above, p);
-        self.note(below || above, points);
+        let below = put_on(Side::Lower, &mut self.below, draft, p);
+        let above = put_on(Side::Upper, &mut self.above, draft, p);
+        self.note(below || above, points, draft);
     }
 
     /// The fringes after `p` left the set, of which `points` are left.
@@ -72,31 +74,33 @@ impl Fringes {
         &mut self,
         p: Point,
         points: &BTreeMap<Point, u16, Heap>,
-        spare: &mut Vec<Point, Heap>,
+        draft: &mut Draft,
     )
         requires left { IsPointSet (keys_of points.now.entries) }
         requires fringes { (S : List Pair) × IsPointSet S
             × AreFringesOf S self.old.below.items self.old.above.items
             × (keys_of points.now.entries ≡ without_point p S) }
         requires room { FringesHaveRoom self.old (length (keys_of points.now.entries)) }
-        requires spare_room { length (keys_of points.now.entries) ≤ vec_capacity spare.old }
+        requires draft_room { DraftHasRoom draft.old (length (keys_of points.now.entries)) }
         ensures fringes { AreFringesOf (keys_of points.now.entries) self.new.below.items self.new.above.items }
         ensures kept { (n : ℕ) → FringesHaveRoom self.old n → FringesHaveRoom self.new n }
-        ensures spare_capacity { vec_capacity spare.old ≤ vec_capacity spare.new }
+        ensures draft_room { IsAsRoomy draft.old draft.new }
     {
         let run = run_of(points);
-        let below = take_off(Side::Lower, &mut self.below, spare, p, points, run);
-        let above = take_off(Side::Upper, &mut self.above, spare, p, points, run);
-        self.note(below || above, points);
+        let below = take_off(Side::Lower, &mut self.below, draft, p, points, run);
+        let above = take_off(Side::Upper, &mut self.above, draft, p, points, run);
+        self.note(below || above, points, draft);
     }
 
     /// Counts a change, and makes the fringes anew where there were many.
-    fn note(&mut self, changed: bool, points: &BTreeMap<Point, u16, Heap>)
+    fn note(&mut self, changed: bool, points: &BTreeMap<Point, u16, Heap>, draft: &mut Draft)
         requires in_order { IsPointSet (keys_of points.now.entries) }
         requires fringes { AreFringesOf (keys_of points.now.entries) self.old.below.items self.old.above.items }
         requires room { FringesHaveRoom self.old (length (keys_of points.now.entries)) }
+        requires draft_room { DraftHasRoom draft.old (length (keys_of points.now.entries)) }
         ensures fringes { AreFringesOf (keys_of points.now.entries) self.new.below.items self.new.above.items }
         ensures kept { (n : ℕ) → FringesHaveRoom self.old n → FringesHaveRoom self.new n }
+        ensures draft_room { IsAsRoomy draft.old draft.new }
     {
         if !changed {
             return;
@@ -105,8 +109,8 @@ impl Fringes {
         let run = run_of(points);
         if self.changes / 2 > run {
             self.changes = 0;
-            renew(Side::Lower, &mut self.below, points, run);
-            renew(Side::Upper, &mut self.above, points, run);
+            renew(Side::Lower, &mut self.below, draft, points, run);
+            renew(Side::Upper, &mut self.above, draft, points, run);
         }
     }
 }

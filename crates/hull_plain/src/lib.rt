@@ -25,6 +25,7 @@
 mod bisection;
 mod call;
 mod corners;
+mod draft;
 mod extremes;
 mod fringe;
 mod fringes;

@@ -1,13 +1,15 @@
 //! The chain of a hull on one side, by a pass over points in order (the monotone chain: Andrew, 1979).
-ghost use Rattle.std.specs.Prelude.{◌≡◌, ◌+◌, ◌<◌, ◌≤◌, ◌++◌, ◌∷◌, [], ◌↔◌, pos, ◌<ℤ◌, length, IsTrue, false};
-ghost use Rattle.std.specs.Prelude.{vec_len, vec_capacity};
+ghost use Rattle.std.specs.Prelude.{◌≡◌, ◌+◌, ◌-◌, ◌<◌, ◌≤◌, ◌++◌, ◌∷◌, [], ◌↔◌, pos, ◌<ℤ◌, length, drop, IsTrue, false};
+ghost use Rattle.std.specs.Prelude.{None, slice_range, vec_capacity};
 ghost use Rattle.lattice.specs.Plane.{IsWithin, widest_side};
 ghost use Rattle.lattice.specs.Covers.{IsPointSet};
+ghost use Rattle.hull_plain.specs.Drafts.{IsAsRoomy, drafted};
 ghost use Rattle.hull_plain.specs.Monotone as monotone;
 ghost use Rattle.hull_plain.specs.Monotone.{EndsInwards, IsTurning, IsPassed, IsThinned};
 
-use heap::Heap;
+use super::draft::Draft;
 use lattice::{Point, orient};
+use tiered_list::TieredList;
 
 /// On which side of a hull a chain of edges lies.
 #[derive(Clone, Copy)]
@@ -35,83 +37,109 @@ pub(crate) fn is_inner(side: Side, a: Point, b: Point, c: Point) -> bool
     turn(side, a, b, c) > 0
 }
 
-/// Whether the last point of a chain does not lie outwards of the segment from the one before it to `c`.
-fn ends_inwards(side: Side, chain: &[Point], c: Point) -> bool
-    ensures inwards { IsTrue result → EndsInwards side chain.now c }
-    ensures turning { result ≡ false → IsTurning side chain.now → IsTurning side (chain.now ++ c ∷ []) }
+/// Whether the last point of a draft does not lie outwards of the segment from the one before it to `c`.
+fn ends_inwards(side: Side, list: &TieredList, draft: &Draft, c: Point) -> bool
+    requires { draft.now.kept ≤ length list.now.items }
+    ensures inwards { IsTrue result → EndsInwards side (drafted list.now.items draft.now) c }
+    ensures turning { result ≡ false → IsTurning side (drafted list.now.items draft.now)
+        → IsTurning side (drafted list.now.items draft.now ++ c ∷ []) }
 {
-    let n = chain.len();
-    n > 1 && turn(side, chain[n - 2], chain[n - 1], c) <= 0
-}
-
-/// Puts a point at the end of a list of points, in the place of those last points that do not lie outwards of it then.
-/// The first `fixed` points stay.
-pub(crate) fn extend_behind(side: Side, list: &mut Vec<Point, Heap>, fixed: usize, c: Point)
-    requires set { IsPointSet (list.old.items ++ c ∷ []) }
-    requires room { vec_len list.old < vec_capacity list.old }
-    ensures thinned { IsThinned side (list.old.items ++ c ∷ []) list.new.items }
-    ensures turning { fixed ≡ 0 → IsTurning side list.old.items → IsTurning side list.new.items }
-    ensures kept { vec_len list.old < vec_len list.new → list.new.items ≡ list.old.items ++ c ∷ [] }
-    ensures capacity { vec_capacity list.new ≡ vec_capacity list.old }
-{
-    while list.len() > fixed && ends_inwards(side, list, c) {
-        let _inward = list.pop();
-    }
-    list.push_reserved(c);
-}
-
-/// The same of a chain that turns: none of its points has to stay.
-pub(crate) fn extend(side: Side, chain: &mut Vec<Point, Heap>, c: Point)
-    requires set { IsPointSet (chain.old.items ++ c ∷ []) }
-    requires turning { IsTurning side chain.old.items }
-    requires room { vec_len chain.old < vec_capacity chain.old }
-    ensures passed { IsPassed side (chain.old.items ++ c ∷ []) chain.new.items }
-    ensures kept { vec_len chain.old < vec_len chain.new → chain.new.items ≡ chain.old.items ++ c ∷ [] }
-    ensures capacity { vec_capacity chain.new ≡ vec_capacity chain.old }
-{
-    extend_behind(side, chain, 0, c);
-}
-
-/// Puts points behind a list that has room for them.
-pub(crate) fn put_behind(chain: &mut Vec<Point, Heap>, rest: &[Point])
-    requires room { vec_len chain.old + length rest.now ≤ vec_capacity chain.old }
-    ensures items { chain.new.items ≡ chain.old.items ++ rest.now }
-    ensures capacity { vec_capacity chain.old ≤ vec_capacity chain.new }
-{
-    let Ok(()) = chain.extend_from_slice(rest) else {
-        unreachable!()
-    };
-}
-
-/// Takes the pass on over points in order.
-pub(crate) fn pass_over(side: Side, chain: &mut Vec<Point, Heap>, points: &[Point])
-    requires set { IsPointSet (chain.old.items ++ points.now) }
-    requires turning { IsTurning side chain.old.items }
-    requires room { vec_len chain.old + length points.now ≤ vec_capacity chain.old }
-    ensures passed { IsPassed side (chain.old.items ++ points.now) chain.new.items }
-    ensures capacity { vec_capacity chain.new ≡ vec_capacity chain.old }
-{
-    for i in 0..points.len() {
-        extend(side, chain, points[i]);
+    match draft.last_two(list) {
+        Some(ends) => turn(side, ends.0, ends.1, c) <= 0,
+        None => false,
     }
 }
 
-/// Takes the pass on over a chain that turns. It ends as soon as it stands on two of its points in a row: from there on
-/// all turns are as they were.
-pub(crate) fn take_up(side: Side, chain: &mut Vec<Point, Heap>, rest: &[Point])
-    requires set { IsPointSet (chain.old.items ++ rest.now) }
-    requires turning { IsTurning side chain.old.items }
-    requires rest_turning { IsTurning side rest.now }
-    requires room { vec_len chain.old + length rest.now ≤ vec_capacity chain.old }
-    ensures passed { IsPassed side (chain.old.items ++ rest.now) chain.new.items }
-    ensures capacity { vec_capacity chain.old ≤ vec_capacity chain.new }
+/// Puts a point at the end of a draft of a list, in the place of those last points that do not lie outwards of it then,
+/// and tells whether none went. Where `fixed` is told, the points of the list and so many fresh ones stay.
+pub(crate) fn extend_behind(
+    side: Side,
+    list: &TieredList,
+    draft: &mut Draft,
+    fixed: Option<usize>,
+    c: Point,
+) -> bool
+    requires within { draft.old.kept ≤ length list.now.items }
+    requires set { IsPointSet (drafted list.now.items draft.old ++ c ∷ []) }
+    requires room { length (drafted list.now.items draft.old) < vec_capacity draft.old.fresh }
+    ensures within { draft.new.kept ≤ draft.old.kept }
+    ensures thinned { IsThinned side (drafted list.now.items draft.old ++ c ∷ []) (drafted list.now.items draft.new) }
+    ensures turning { fixed ≡ None → IsTurning side (drafted list.now.items draft.old)
+        → IsTurning side (drafted list.now.items draft.new) }
+    ensures stays { IsTrue result
+        → drafted list.now.items draft.new ≡ drafted list.now.items draft.old ++ c ∷ [] }
+    ensures room { IsAsRoomy draft.old draft.new }
 {
-    for i in 0..rest.len() {
-        let before = chain.len();
-        extend(side, chain, rest[i]);
-        if i > 0 && chain.len() > before {
-            put_behind(chain, &rest[i + 1..]);
-            return;
+    let mut stays = true;
+    while draft.may_lose(fixed) && ends_inwards(side, list, draft, c) {
+        draft.pop();
+        stays = false;
+    }
+    draft.push(c);
+    stays
+}
+
+/// The same of a draft that turns: none of its points has to stay.
+pub(crate) fn extend(side: Side, list: &TieredList, draft: &mut Draft, c: Point) -> bool
+    requires within { draft.old.kept ≤ length list.now.items }
+    requires set { IsPointSet (drafted list.now.items draft.old ++ c ∷ []) }
+    requires turning { IsTurning side (drafted list.now.items draft.old) }
+    requires room { length (drafted list.now.items draft.old) < vec_capacity draft.old.fresh }
+    ensures within { draft.new.kept ≤ draft.old.kept }
+    ensures passed { IsPassed side (drafted list.now.items draft.old ++ c ∷ []) (drafted list.now.items draft.new) }
+    ensures stays { IsTrue result
+        → drafted list.now.items draft.new ≡ drafted list.now.items draft.old ++ c ∷ [] }
+    ensures room { IsAsRoomy draft.old draft.new }
+{
+    extend_behind(side, list, draft, None, c)
+}
+
+/// Takes the pass on over the points of another list, in order, from one place to another.
+pub(crate) fn pass_over(
+    side: Side,
+    list: &TieredList,
+    draft: &mut Draft,
+    points: &TieredList,
+    from: usize,
+    to: usize,
+)
+    requires within { draft.old.kept ≤ length list.now.items }
+    requires order { from ≤ to }
+    requires inside { to ≤ length points.now.items }
+    requires set { IsPointSet (drafted list.now.items draft.old ++ slice_range points.now.items from to) }
+    requires turning { IsTurning side (drafted list.now.items draft.old) }
+    requires room { length (drafted list.now.items draft.old) + (to - from) ≤ vec_capacity draft.old.fresh }
+    ensures within { draft.new.kept ≤ draft.old.kept }
+    ensures passed { IsPassed side (drafted list.now.items draft.old ++ slice_range points.now.items from to)
+        (drafted list.now.items draft.new) }
+    ensures room { IsAsRoomy draft.old draft.new }
+{
+    for i in 0..to - from {
+        let _stays = extend(side, list, draft, points.get(from + i));
+    }
+}
+
+/// Takes the pass on over the list's own points from a place on, which turn. It ends as soon as it stands on two of them in
+/// a row: from there on, the place that it tells, all turns are as they were.
+pub(crate) fn take_up(side: Side, list: &TieredList, draft: &mut Draft, from: usize) -> usize
+    requires within { draft.old.kept ≤ length list.now.items }
+    requires inside { from ≤ length list.now.items }
+    requires set { IsPointSet (drafted list.now.items draft.old ++ drop from list.now.items) }
+    requires turning { IsTurning side (drafted list.now.items draft.old) }
+    requires rest_turning { IsTurning side (drop from list.now.items) }
+    requires room { length (drafted list.now.items draft.old) + length (drop from list.now.items)
+        ≤ vec_capacity draft.old.fresh }
+    ensures within { draft.new.kept ≤ draft.old.kept }
+    ensures inside { result ≤ length list.now.items }
+    ensures order { from ≤ result }
+    ensures passed { IsPassed side (drafted list.now.items draft.old ++ drop from list.now.items)
+        (drafted list.now.items draft.new ++ drop result list.now.items) }
+    ensures room { IsAsRoomy draft.old draft.new }
+{
+    for i in 0..list.len() - from {
+        if extend(side, list, draft, list.get(from + i)) && i > 0 {
+            return from + i + 1;
         }
     }
+    list.len()
 }

@@ -10,6 +10,7 @@ ghost use Rattle.hull_plain.specs.Replies.{LiesAt, AnswersExtreme, AnswersTangen
 
 use super::POINT_LIMIT;
 use super::corners::{doubled_area_of, vertices_of};
+use super::draft::Draft;
 use super::extremes::extreme_of;
 use super::fringes::Fringes;
 use super::mending::{put_in, take_out};
@@ -21,14 +22,15 @@ use heap::Heap;
 use lattice::{Direction, Point};
 use std::alloc::AllocError;
 use std::collections::BTreeMap;
+use tiered_list::TieredList;
 
 /// The two chains of the hull of a set, and the fringes and the room to mend them.
 #[derive(Drop)]
 pub(crate) struct Outline {
-    lower: Vec<Point, Heap>,
-    upper: Vec<Point, Heap>,
+    lower: TieredList,
+    upper: TieredList,
     fringes: Fringes,
-    spare: Vec<Point, Heap>,
+    draft: Draft,
 }
 
 impl Outline {
@@ -37,10 +39,10 @@ impl Outline {
         ensures { IsOutlineOf [] result }
     {
         Outline {
-            lower: Vec::new(alloc),
-            upper: Vec::new(alloc),
+            lower: TieredList::new(alloc),
+            upper: TieredList::new(alloc),
             fringes: Fringes::new(alloc),
-            spare: Vec::new(alloc),
+            draft: Draft::new(alloc),
         }
     }
 
@@ -50,11 +52,10 @@ impl Outline {
         ensures room { OnOk result (HasRoom self.new count) }
         ensures kept { (n : ℕ) → HasRoom self.old n → HasRoom self.new n }
     {
-        self.spare.clear();
-        self.lower.reserve(count.saturating_sub(self.lower.len()))?;
-        self.upper.reserve(count.saturating_sub(self.upper.len()))?;
+        self.lower.reserve(count)?;
+        self.upper.reserve(count)?;
         self.fringes.reserve(count)?;
-        self.spare.reserve(count)
+        self.draft.reserve(count)
     }
 
     /// The outline after a new point `p` came to the set, which is `points` then.
@@ -64,9 +65,9 @@ impl Outline {
         ensures outline { IsOutlineOf (keys_of points.now.entries) self.new }
         ensures kept { (n : ℕ) → HasRoom self.old n → HasRoom self.new n }
     {
-        put_in(Side::Lower, &mut self.lower, &mut self.spare, p);
-        put_in(Side::Upper, &mut self.upper, &mut self.spare, p);
-        self.fringes.add(p, points);
+        put_in(Side::Lower, &mut self.lower, &mut self.draft, p);
+        put_in(Side::Upper, &mut self.upper, &mut self.draft, p);
+        self.fringes.add(p, points, &mut self.draft);
     }
 
     /// The outline after `p` left the set, of which `points` are left.
@@ -77,11 +78,11 @@ impl Outline {
         ensures outline { IsOutlineOf (keys_of points.now.entries) self.new }
         ensures kept { (n : ℕ) → HasRoom self.old n → HasRoom self.new n }
     {
-        self.fringes.remove(p, points, &mut self.spare);
+        self.fringes.remove(p, points, &mut self.draft);
         let below = &self.fringes.below;
-        take_out(Side::Lower, &mut self.lower, &mut self.spare, p, below);
+        take_out(Side::Lower, &mut self.lower, &mut self.draft, p, below);
         let above = &self.fringes.above;
-        take_out(Side::Upper, &mut self.upper, &mut self.spare, p, above);
+        take_out(Side::Upper, &mut self.upper, &mut self.draft, p, above);
     }
 
     /// The first of the farthest points in a direction.
@@ -117,7 +118,7 @@ impl Outline {
             → IsVertexList S v.items) }
         ensures refused { OnErr result ((S : List Pair) → IsOutlineOf S self.now → S ≢ []) }
     {
-        vertices_of(*self.lower.allocator(), &self.lower, &self.upper)
+        vertices_of(self.draft.allocator(), &self.lower, &self.upper)
     }
 
     /// The doubled area.

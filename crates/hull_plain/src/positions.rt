@@ -1,43 +1,57 @@
 //! Where a point stands in a sorted list of points.
-ghost use Rattle.std.specs.Prelude.{◌≤◌, length, take, drop};
+ghost use Rattle.std.specs.Prelude.{◌+◌, ◌-◌, ◌<◌, ◌≤◌, IfOk, length, take, drop};
 ghost use Rattle.std.specs.List.{All};
 ghost use Rattle.lattice.specs.Plane.{IsBefore};
 ghost use Rattle.lattice.specs.Covers.{IsPointSet};
 ghost use Rattle.hull_plain.specs.Positions.{IsPositionOf};
 
 use lattice::{Point, before};
+use tiered_list::TieredList;
 
-/// The number of points that stand before `p`: a binary search, with one comparison a step.
-pub(crate) fn count_before(points: &[Point], p: Point) -> usize
-    requires { IsPointSet points.now }
-    ensures within { result ≤ length points.now }
-    ensures below { All (λ t. IsBefore t p) (take result points.now) }
-    ensures rest { All (λ t. ¬ (IsBefore t p)) (drop result points.now) }
+/// Of the places from one on, the first whose point does not stand before `p`: a binary search, with one comparison a step.
+pub(crate) fn first_not_before(points: &TieredList, from: usize, p: Point) -> usize
+    requires ordered { IsPointSet points.now.items }
+    requires inside { from ≤ length points.now.items }
+    ensures order { from ≤ result }
+    ensures within { result ≤ length points.now.items }
+    ensures below { All (λ t. IsBefore t p) (take (result - from) (drop from points.now.items)) }
+    ensures rest { All (λ t. ¬ (IsBefore t p)) (drop result points.now.items) }
 {
-    points.partition_point(|t| before(*t, p))
+    let mut low = from;
+    let mut high = points.len();
+    while low < high {
+        let middle = low + (high - low) / 2;
+        if before(points.get(middle), p) {
+            low = middle + 1;
+        } else {
+            high = middle;
+        }
+    }
+    low
 }
 
 /// Where `p` stands in `points`, or else where it would stand.
-pub(crate) fn position_of(points: &[Point], p: Point) -> Result<usize, usize>
-    requires { IsPointSet points.now }
-    ensures { IsPositionOf points.now p result }
+pub(crate) fn position_of(points: &TieredList, p: Point) -> Result<usize, usize>
+    requires { IsPointSet points.now.items }
+    ensures position { IsPositionOf points.now.items p result }
+    ensures few { IfOk result (λ i. i < usize.MAX) }
 {
-    let i = count_before(points, p);
+    let i = first_not_before(points, 0, p);
     if i == points.len() {
         return Err(i);
     }
-    if before(p, points[i]) {
+    if before(p, points.get(i)) {
         return Err(i);
     }
     Ok(i)
 }
 
 /// The number of points that stand before `p` or are `p`.
-pub(crate) fn count_up_to(points: &[Point], p: Point) -> usize
-    requires { IsPointSet points.now }
-    ensures within { result ≤ length points.now }
-    ensures below { All (λ t. ¬ (IsBefore p t)) (take result points.now) }
-    ensures rest { All (IsBefore p) (drop result points.now) }
+pub(crate) fn count_up_to(points: &TieredList, p: Point) -> usize
+    requires { IsPointSet points.now.items }
+    ensures within { result ≤ length points.now.items }
+    ensures below { All (λ t. ¬ (IsBefore p t)) (take result points.now.items) }
+    ensures rest { All (IsBefore p) (drop result points.now.items) }
 {
     match position_of(points, p) {
         Ok(i) => i + 1,

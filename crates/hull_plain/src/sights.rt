@@ -10,6 +10,7 @@ use super::monotone::{Side, turn};
 use super::positions::position_of;
 use super::set::Place;
 use lattice::Point;
+use tiered_list::TieredList;
 
 /// From where a point looks at a hull, seen from one side.
 #[derive(Clone, Copy)]
@@ -27,9 +28,9 @@ pub(crate) enum Sight {
 }
 
 /// From where a point looks that is no corner and has the position `i` in the chain.
-fn look_from(side: Side, chain: &[Point], i: usize, q: Point) -> Sight
-    requires { IsPositionOf chain.now q (Err i) }
-    ensures { (S : List Pair) → IsChainOf side S chain.now → IsSeen side S q result }
+fn look_from(side: Side, chain: &TieredList, i: usize, q: Point) -> Sight
+    requires { IsPositionOf chain.now.items q (Err i) }
+    ensures { (S : List Pair) → IsChainOf side S chain.now.items → IsSeen side S q result }
 {
     if i == 0 {
         return Sight::Before;
@@ -37,7 +38,7 @@ fn look_from(side: Side, chain: &[Point], i: usize, q: Point) -> Sight
     if i == chain.len() {
         return Sight::After;
     }
-    let inwards = turn(side, chain[i - 1], chain[i], q);
+    let inwards = turn(side, chain.get(i - 1), chain.get(i), q);
     if inwards < 0 {
         Sight::Outwards
     } else if inwards > 0 {
@@ -48,9 +49,9 @@ fn look_from(side: Side, chain: &[Point], i: usize, q: Point) -> Sight
 }
 
 /// From where `q` looks at the hull that has this chain.
-pub(crate) fn look(side: Side, chain: &[Point], q: Point) -> Sight
-    requires { IsStrict side chain.now }
-    ensures { (S : List Pair) → IsChainOf side S chain.now → IsSeen side S q result }
+pub(crate) fn look(side: Side, chain: &TieredList, q: Point) -> Sight
+    requires { IsStrict side chain.now.items }
+    ensures { (S : List Pair) → IsChainOf side S chain.now.items → IsSeen side S q result }
 {
     match position_of(chain, q) {
         Ok(_) => Sight::Touching,
@@ -59,9 +60,9 @@ pub(crate) fn look(side: Side, chain: &[Point], q: Point) -> Sight
 }
 
 /// Where `q` lies, seen from the hull of these two chains.
-pub(crate) fn place_of(lower: &[Point], upper: &[Point], q: Point) -> Place
-    requires { AreChains lower.now upper.now }
-    ensures { (S : List Pair) → AreChainsOf S lower.now upper.now → LiesAt S q result }
+pub(crate) fn place_of(lower: &TieredList, upper: &TieredList, q: Point) -> Place
+    requires { AreChains lower.now.items upper.now.items }
+    ensures { (S : List Pair) → AreChainsOf S lower.now.items upper.now.items → LiesAt S q result }
 {
     match look(Side::Lower, lower, q) {
         Sight::Touching => Place::On,

@@ -11,6 +11,7 @@ use super::bisection::first_failing;
 use super::monotone::{Side, is_inner};
 use super::sights::{Sight, look};
 use lattice::{Point, before};
+use tiered_list::TieredList;
 
 /// Whether the edge from `a` forward to `b` ends before `q`, which lies inwards of it.
 fn is_passed(side: Side, a: Point, b: Point, q: Point) -> bool
@@ -27,28 +28,28 @@ fn is_to_come(side: Side, a: Point, b: Point, q: Point) -> bool
 }
 
 /// The tangent point behind `q`, from which nothing is in the way on this side.
-fn tangent_behind(side: Side, chain: &[Point], q: Point) -> Point
-    requires some { 0 < length chain.now }
-    requires after { IsBefore (point_at chain.now 0) q }
-    ensures { (S : List Pair) → IsChainOf side S chain.now → IsClear side S q → IsTangentBehind side S q result }
+fn tangent_behind(side: Side, chain: &TieredList, q: Point) -> Point
+    requires some { 0 < length chain.now.items }
+    requires after { IsBefore (point_at chain.now.items 0) q }
+    ensures { (S : List Pair) → IsChainOf side S chain.now.items → IsClear side S q → IsTangentBehind side S q result }
 {
-    chain[first_failing(chain, &|a, b| is_passed(side, a, b, q))]
+    chain.get(first_failing(chain, &|a, b| is_passed(side, a, b, q)))
 }
 
 /// The tangent point ahead of it.
-fn tangent_ahead(side: Side, chain: &[Point], q: Point) -> Point
-    requires some { 0 < length chain.now }
-    requires before { IsBefore q (point_at chain.now (length chain.now - 1)) }
-    ensures { (S : List Pair) → IsChainOf side S chain.now → IsClear side S q → IsTangentAhead side S q result }
+fn tangent_ahead(side: Side, chain: &TieredList, q: Point) -> Point
+    requires some { 0 < length chain.now.items }
+    requires before { IsBefore q (point_at chain.now.items (length chain.now.items - 1)) }
+    ensures { (S : List Pair) → IsChainOf side S chain.now.items → IsClear side S q → IsTangentAhead side S q result }
 {
-    chain[first_failing(chain, &|a, b| !is_to_come(side, a, b, q))]
+    chain.get(first_failing(chain, &|a, b| !is_to_come(side, a, b, q)))
 }
 
 /// The tangents from `q`, which lies on the inner side of a lower edge between whose ends it stands.
-fn tangents_from_over(lower: &[Point], upper: &[Point], q: Point) -> Option<(Point, Point)>
-    requires chains { AreChains lower.now upper.now }
-    requires over { (S : List Pair) → IsChainOf Side.Lower S lower.now → IsSeen Side.Lower S q Sight.Inwards }
-    ensures { (S : List Pair) → AreChainsOf S lower.now upper.now → AnswersTangents S q (reply_to_tangents result) }
+fn tangents_from_over(lower: &TieredList, upper: &TieredList, q: Point) -> Option<(Point, Point)>
+    requires chains { AreChains lower.now.items upper.now.items }
+    requires over { (S : List Pair) → IsChainOf Side.Lower S lower.now.items → IsSeen Side.Lower S q Sight.Inwards }
+    ensures { (S : List Pair) → AreChainsOf S lower.now.items upper.now.items → AnswersTangents S q (reply_to_tangents result) }
 {
     match look(Side::Upper, upper, q) {
         Sight::Outwards => Some((
@@ -60,9 +61,13 @@ fn tangents_from_over(lower: &[Point], upper: &[Point], q: Point) -> Option<(Poi
 }
 
 /// The left and the right tangent point of `q`, where the hull of these two chains does not cover it.
-pub(crate) fn tangents_from(lower: &[Point], upper: &[Point], q: Point) -> Option<(Point, Point)>
-    requires { AreChains lower.now upper.now }
-    ensures { (S : List Pair) → AreChainsOf S lower.now upper.now → AnswersTangents S q (reply_to_tangents result) }
+pub(crate) fn tangents_from(
+    lower: &TieredList,
+    upper: &TieredList,
+    q: Point,
+) -> Option<(Point, Point)>
+    requires { AreChains lower.now.items upper.now.items }
+    ensures { (S : List Pair) → AreChainsOf S lower.now.items upper.now.items → AnswersTangents S q (reply_to_tangents result) }
 {
     if lower.is_empty() {
         return None;

@@ -10,5 +10,5 @@ doubled_fan-requires-2-clause-chain c = (c.requires.chains.0, c.requires.chains.
 
 pub returns : goal.returns
 returns c = λ S s k.
-    fans_area S c.args.lower.now c.args.upper.now c.doubled_fan.result c.doubled_fan-2.result s k
+    fans_area S c.args.lower.now.items c.args.upper.now.items c.doubled_fan.result c.doubled_fan-2.result s k
     c.doubled_fan.ensures.fan c.doubled_fan-2.ensures.fan

@@ -8,7 +8,7 @@ use Rattle.hull_plain.proofs.corners.doubled_fan.Given as goal
 abbrev pub invariant-loop-i : goal.invariant-loop-i
 invariant-loop-i l = record {
   some : 0 < l.i;
-  sum : pos l.doubled +ℤ fan_from l.side (point_at l.chain 0) (point_at l.chain (l.i - 1)) (drop l.i l.chain)
-      ≡ fan_of l.side l.chain;
+  sum : pos l.doubled +ℤ fan_from l.side (point_at l.chain.items 0) (point_at l.chain.items (l.i - 1)) (drop l.i l.chain.items)
+      ≡ fan_of l.side l.chain.items;
   size : l.doubled ≤ l.i * widest_side;
 }

@@ -12,8 +12,8 @@ use Rattle.hull_plain.proofs.corners.vertices_of.Goals as goal
 pub loop-i-preserved : goal.loop-i-preserved
 loop-i-preserved c =
     let walk = c.loop-i.invariant.walk in
-    let p : Pair = c.index-upper-i.result in
-    let l : c.loop-i.i - 1 - 1 < length c.args.upper.now =
+    let p : Pair = c.get.result in
+    let l : c.loop-i.i - 1 - 1 < length c.args.upper.now.items =
     omega (arith, c.loop-i-test.true, c.loop-i.invariant.within) in
     record {
       within = omega (arith, c.loop-i.invariant.within);
@@ -21,27 +21,27 @@ loop-i-preserved c =
       walk = (
         walk.0 ++ p ∷ [],
         c.in_ok-push.ensures.items ∙ ap (λ (z : List Pair). z ++ p ∷ []) walk.1
-            ∙ append_twice c.args.lower.now walk.0 (p ∷ []),
+            ∙ append_twice c.args.lower.now.items walk.0 (p ∷ []),
         λ u. absurd (omega (arith, u, c.loop-i-test.true, c.loop-i.invariant.within)),
-        end_push (point_at c.args.upper.now (length c.args.upper.now - 1)) walk.0 p
-            ∙ c.index-upper-i.is ∙ get_or_free c.args.upper.now (c.loop-i.i - 1 - 1) p origin l,
-        λ S k. back_more S c.args.upper.now walk.0 c.loop-i.i p k c.loop-i-test.true c.loop-i.invariant.within
-            c.index-upper-i.is (walk.4 S k) walk.3,
+        end_push (point_at c.args.upper.now.items (length c.args.upper.now.items - 1)) walk.0 p
+            ∙ c.get.ensures ∙ get_or_free c.args.upper.now.items (c.loop-i.i - 1 - 1) p origin l,
+        λ S k. back_more S c.args.upper.now.items walk.0 c.loop-i.i p k c.loop-i-test.true c.loop-i.invariant.within
+            c.get.ensures (walk.4 S k) walk.3,
       );
     }
 
 pub returns-clause-vertices : goal.returns-clause-vertices
 returns-clause-vertices c = λ S s k.
     let walk = c.loop-i.invariant.walk in
-    elim (cases_lt 1 (length c.args.upper.now)) [
+    elim (cases_lt 1 (length c.args.upper.now.items)) [
       | inr h ↦
-          let few : length c.args.upper.now < 2 = omega (arith, h) in
+          let few : length c.args.upper.now.items < 2 = omega (arith, h) in
           subst (IsVertexList S)
-          (append_none c.args.lower.now ∙ ap (λ (z : List Pair). c.args.lower.now ++ z) (sym (walk.2 few)) ∙ sym walk.1)
-          (few_vertices S c.args.lower.now c.args.upper.now s k few)
+          (append_none c.args.lower.now.items ∙ ap (λ (z : List Pair). c.args.lower.now.items ++ z) (sym (walk.2 few)) ∙ sym walk.1)
+          (few_vertices S c.args.lower.now.items c.args.upper.now.items s k few)
       | inl h ↦
           let at : c.loop-i.i - 1 ≡ 1 = omega (arith, c.loop-i-test.false, c.loop-i.invariant.low h) in
           subst (IsVertexList S) (sym walk.1)
-          (back_done S c.args.lower.now c.args.upper.now walk.0 s k h (walk.4 S k.above)
-          (walk.3 ∙ ap (λ (n : ℕ). point_at c.args.upper.now n) at))
+          (back_done S c.args.lower.now.items c.args.upper.now.items walk.0 s k h (walk.4 S k.above)
+          (walk.3 ∙ ap (λ (n : ℕ). point_at c.args.upper.now.items n) at))
     ]

@@ -9,12 +9,12 @@ use Rattle.hull_plain.proofs.corners.vertices_of.Given as goal
 
 abbrev pub invariant-loop-i : goal.invariant-loop-i
 invariant-loop-i l = record {
-  within : l.i ≤ length l.upper;
-  low : 1 < length l.upper → 1 < l.i;
-  walk : (passed : List Pair) × (l.out.items ≡ l.lower ++ passed) × (length l.upper < 2 → passed ≡ [])
-      × (end_of (point_at l.upper (length l.upper - 1)) passed ≡ point_at l.upper (l.i - 1))
-      × ((S : List Pair) → IsChainOf Upper S l.upper
-      → IsChain (IsUpperEdge S) (point_at l.upper (length l.upper - 1)) passed);
+  within : l.i ≤ length l.upper.items;
+  low : 1 < length l.upper.items → 1 < l.i;
+  walk : (passed : List Pair) × (l.out.items ≡ l.lower.items ++ passed) × (length l.upper.items < 2 → passed ≡ [])
+      × (end_of (point_at l.upper.items (length l.upper.items - 1)) passed ≡ point_at l.upper.items (l.i - 1))
+      × ((S : List Pair) → IsChainOf Upper S l.upper.items
+      → IsChain (IsUpperEdge S) (point_at l.upper.items (length l.upper.items - 1)) passed);
 }
 
 abbrev pub decreases-loop-i : goal.decreases-loop-i

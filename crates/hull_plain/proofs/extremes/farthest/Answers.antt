@@ -7,7 +7,7 @@ use Rattle.hull_plain.proofs.extremes.farthest.Goals as goal
 pub returns : goal.returns
 returns c = λ side S faces k.
     let at = c.first_failing.result in
-    farthest_found side S c.args.chain.now at c.args.d c.index-chain-first_failing.result
-    (c.index-chain-first_failing.is ∙ get_or_free c.args.chain.now at _ _ c.first_failing.ensures.within) faces k
+    farthest_found side S c.args.chain.now.items at c.args.d c.get.result
+    (c.get.ensures ∙ get_or_free c.args.chain.now.items at _ _ c.first_failing.ensures.within) faces k
     c.first_failing.ensures.within (λ h. let k = c.first_failing.ensures.held h in search (rules, of_calls))
     (λ h b. let k = c.first_failing.ensures.fails h in search (rules, of_calls))

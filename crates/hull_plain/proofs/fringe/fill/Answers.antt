@@ -1,59 +1,65 @@
 -- one point after another is seen of those that the range of the map has
-use Rattle.std.proofs.Common.{◌≡◌, ◌++◌, [], sym, ap, ◌∙◌, subst, List, arith, rules, refl, ℕ, ◌+◌, ◌≤◌, length}
+use Rattle.std.proofs.Common.{◌≡◌, ◌≤◌, ◌+◌, ◌++◌, [], sym, ap, ◌∙◌, subst, List, arith, rules, refl, ℕ, length, take, drop}
 use Rattle.std.specs.Map.{keys_of}
 use Rattle.lattice.specs.Plane.{Pair}
-use Rattle.hull_plain.specs.Mending.{IsBehind}
+use Rattle.hull_plain.specs.Drafts.{drafted}
 use Rattle.hull_plain.specs.Monotone.{IsThinned}
 use Rattle.hull_plain.proofs.Between.{runs_forward, keys_between, next_set, next_room, next_seen}
+use Rattle.hull_plain.proofs.Drafts.{started, as_roomy}
 use Rattle.hull_plain.proofs.Passes.{set_left, thinned_itself}
 use Rattle.hull_plain.proofs.PointLists.{append_none}
 use Rattle.hull_plain.proofs.fringe.fill.Goals as goal
 
 pub range-point-items-requires : goal.range-point-items-requires
 range-point-items-requires c =
-    runs_forward c.args.fringe.now.items c.args.rest.now c.behind-start.result c.ahead-end.result c.requires.set
-    (subst (λ (z : List Pair). IsBehind z c.behind-start.result) c.deref.ensures.value c.behind-start.ensures)
-    c.ahead-end.ensures
+    runs_forward (take c.args.at c.args.fringe.now.items) (drop c.args.to c.args.fringe.now.items) c.behind-start.result
+    c.ahead-end.result c.requires.set c.behind-start.ensures c.ahead-end.ensures
 
 pub loop-point-init : goal.loop-point-init
 loop-point-init c = record {
   can_next = search rules;
   is_finite = search rules;
-  range = keys_between c.args.points.now.entries c.into_iter-point-iterator.result c.args.fringe.now.items
-      c.args.rest.now c.behind-start.result c.ahead-end.result
-      (c.into_iter-point-iterator.ensures.into_iter_gives ∙ c.range-point-items.ensures.between tt) c.requires.ordered
-      c.requires.set
-      (subst (λ (z : List Pair). IsBehind z c.behind-start.result) c.deref.ensures.value c.behind-start.ensures)
-      c.ahead-end.ensures;
+  range = keys_between c.args.points.now.entries c.into_iter-point-iterator.result
+      (take c.args.at c.args.fringe.now.items) (drop c.args.to c.args.fringe.now.items) c.behind-start.result
+      c.ahead-end.result (c.into_iter-point-iterator.ensures.into_iter_gives ∙ c.range-point-items.ensures.between tt)
+      c.requires.ordered c.requires.set c.behind-start.ensures c.ahead-end.ensures;
   thinned = (
     [],
     refl,
-    subst (λ (z : List Pair). IsThinned c.args.side z c.args.fringe.now.items) (append_none c.args.fringe.now.items)
-        (thinned_itself c.args.side c.args.fringe.now.items
-        (set_left c.args.fringe.now.items c.args.rest.now c.requires.set)),
+    subst (λ (z : List Pair). IsThinned c.args.side z (drafted c.args.fringe.now.items c.start.new.self))
+        (append_none (take c.args.at c.args.fringe.now.items))
+        (subst (IsThinned c.args.side (take c.args.at c.args.fringe.now.items))
+        (sym (started c.args.fringe.now.items c.start.new.self c.args.at c.start.ensures.kept c.start.ensures.none))
+        (thinned_itself c.args.side (take c.args.at c.args.fringe.now.items)
+        (set_left (take c.args.at c.args.fringe.now.items) (drop c.args.to c.args.fringe.now.items) c.requires.set))),
   );
-  capacity = refl;
+  within = omega (arith, c.start.ensures.kept);
+  room = record { fresh = refl; rest = refl };
 }
 
-pub extend_behind-requires-clause-set : goal.extend_behind-requires-clause-set
-extend_behind-requires-clause-set c =
+pub extend_behind-stays-requires-clause-within : goal.extend_behind-stays-requires-clause-within
+extend_behind-stays-requires-clause-within c =
+    omega (arith, c.loop-point.invariant.within, c.requires.order, c.requires.inside)
+
+pub extend_behind-stays-requires-clause-set : goal.extend_behind-stays-requires-clause-set
+extend_behind-stays-requires-clause-set c =
     let seen = c.loop-point.invariant.thinned in
-    next_set c.args.side (keys_of c.args.points.now.entries) c.args.fringe.now.items c.args.rest.now
-    c.loop-point.fringe.items seen.0 (keys_of c.next.new.self) (keys_of c.into_iter-point-iterator.result)
-    c.in-Some.point.now
+    next_set c.args.side (keys_of c.args.points.now.entries) (take c.args.at c.args.fringe.now.items)
+    (drop c.args.to c.args.fringe.now.items) (drafted c.args.fringe.now.items c.loop-point.draft) seen.0
+    (keys_of c.next.new.self) (keys_of c.into_iter-point-iterator.result) c.in-Some.point.now
     (ap (λ (z : List (Pair × ℕ)). seen.0 ++ keys_of z) (sym c.in-Some.ensures.steps) ∙ seen.1)
     c.loop-point.invariant.range seen.2
 
-pub extend_behind-requires-clause-room : goal.extend_behind-requires-clause-room
-extend_behind-requires-clause-room c =
+pub extend_behind-stays-requires-clause-room : goal.extend_behind-stays-requires-clause-room
+extend_behind-stays-requires-clause-room c =
     let seen = c.loop-point.invariant.thinned in
-    let room : length c.loop-point.fringe.items + 1 ≤ length (keys_of c.args.points.now.entries) =
-    next_room c.args.side (keys_of c.args.points.now.entries) c.args.fringe.now.items c.args.rest.now
-    c.loop-point.fringe.items seen.0 (keys_of c.next.new.self) (keys_of c.into_iter-point-iterator.result)
-    c.in-Some.point.now
+    let few : length (drafted c.args.fringe.now.items c.loop-point.draft) + 1 ≤ length (keys_of c.args.points.now.entries) =
+    next_room c.args.side (keys_of c.args.points.now.entries) (take c.args.at c.args.fringe.now.items)
+    (drop c.args.to c.args.fringe.now.items) (drafted c.args.fringe.now.items c.loop-point.draft) seen.0
+    (keys_of c.next.new.self) (keys_of c.into_iter-point-iterator.result) c.in-Some.point.now
     (ap (λ (z : List (Pair × ℕ)). seen.0 ++ keys_of z) (sym c.in-Some.ensures.steps) ∙ seen.1)
     c.loop-point.invariant.range seen.2 c.requires.among in
-    omega (arith, room, c.requires.room, c.loop-point.invariant.capacity, c.loop-point.fringe.ok)
+    omega (arith, few, c.requires.room.fresh, c.start.ensures.room.fresh, c.loop-point.invariant.room.fresh)
 
 pub loop-point-preserved : goal.loop-point-preserved
 loop-point-preserved c = record {
@@ -62,12 +68,15 @@ loop-point-preserved c = record {
   range = c.loop-point.invariant.range;
   thinned =
       let seen = c.loop-point.invariant.thinned in
-      next_seen c.args.side (keys_of c.args.points.now.entries) c.args.fringe.now.items c.args.rest.now
-      c.loop-point.fringe.items seen.0 (keys_of c.next.new.self) (keys_of c.into_iter-point-iterator.result)
-      c.in-Some.point.now
+      next_seen c.args.side (keys_of c.args.points.now.entries) (take c.args.at c.args.fringe.now.items)
+      (drop c.args.to c.args.fringe.now.items) (drafted c.args.fringe.now.items c.loop-point.draft) seen.0
+      (keys_of c.next.new.self) (keys_of c.into_iter-point-iterator.result) c.in-Some.point.now
       (ap (λ (z : List (Pair × ℕ)). seen.0 ++ keys_of z) (sym c.in-Some.ensures.steps) ∙ seen.1)
-      c.loop-point.invariant.range seen.2 c.extend_behind.new.list.items c.extend_behind.ensures.thinned;
-  capacity = c.extend_behind.ensures.capacity ∙ c.loop-point.invariant.capacity;
+      c.loop-point.invariant.range seen.2 (drafted c.args.fringe.now.items c.extend_behind-stays.new.draft)
+      c.extend_behind-stays.ensures.thinned;
+  within = omega (arith, c.extend_behind-stays.ensures.within, c.loop-point.invariant.within);
+  room = as_roomy c.start.new.self c.loop-point.draft c.extend_behind-stays.new.draft c.loop-point.invariant.room
+      c.extend_behind-stays.ensures.room;
 }
 
 pub returns-clause-thinned : goal.returns-clause-thinned
@@ -78,6 +87,10 @@ returns-clause-thinned c =
     ∙ ap (λ (z : List (Pair × ℕ)). seen.0 ++ keys_of z) (sym c.in-None.ensures.steps.0) ∙ seen.1 in (
       keys_of c.into_iter-point-iterator.result,
       c.loop-point.invariant.range,
-      subst (λ (z : List Pair). IsThinned c.args.side (c.args.fringe.now.items ++ z) c.loop-point.fringe.items) whole
-          seen.2,
+      subst (λ (z : List Pair). IsThinned c.args.side (take c.args.at c.args.fringe.now.items ++ z)
+          (drafted c.args.fringe.now.items c.loop-point.draft)) whole seen.2,
     )
+
+pub returns-clause-room : goal.returns-clause-room
+returns-clause-room c = as_roomy c.args.draft.now c.start.new.self c.loop-point.draft c.start.ensures.room
+    c.loop-point.invariant.room

@@ -1,7 +1,8 @@
 -- the points of the range are all that stand between; those seen and those that are left are these, in their order
-use Rattle.std.proofs.Common.{◌≡◌, ◌++◌, List}
+use Rattle.std.proofs.Common.{◌≡◌, ◌≤◌, ◌++◌, List, take, drop}
 use Rattle.std.specs.Map.{keys_of}
 use Rattle.lattice.specs.Plane.{Pair}
+use Rattle.hull_plain.specs.Drafts.{IsAsRoomy, drafted}
 use Rattle.hull_plain.specs.Mending.{IsBetween}
 use Rattle.hull_plain.specs.Monotone.{IsThinned}
 use Rattle.hull_plain.proofs.fringe.fill.Given as goal
@@ -10,8 +11,10 @@ abbrev pub invariant-loop-point : goal.invariant-loop-point
 invariant-loop-point l = record {
   can_next : goal.iterator-loop-point.can_next l.point-iterator;
   is_finite : goal.iterator-loop-point.is_finite l.point-iterator;
-  range : IsBetween (keys_of l.points.entries) l.initial.fringe.items l.rest (keys_of l.initial.point-iterator);
+  range : IsBetween (keys_of l.points.entries) (take l.at l.fringe.items) (drop l.to l.fringe.items)
+      (keys_of l.initial.point-iterator);
   thinned : (seen : List Pair) × (seen ++ keys_of l.point-iterator ≡ keys_of l.initial.point-iterator)
-      × IsThinned l.side (l.initial.fringe.items ++ seen) l.fringe.items;
-  capacity : l.fringe.cap ≡ l.initial.fringe.cap;
+      × IsThinned l.side (take l.at l.fringe.items ++ seen) (drafted l.fringe.items l.draft);
+  within : l.draft.kept ≤ l.at;
+  room : IsAsRoomy l.initial.draft l.draft;
 }

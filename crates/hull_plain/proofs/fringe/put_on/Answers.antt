@@ -1,30 +1,63 @@
 -- p stands inwards of a segment of the fringe, or is put in between its neighbours
-use Rattle.std.proofs.Common.{◌≡◌, sym, ◌∙◌, subst, List, Err}
+use Rattle.std.proofs.Common.{◌≡◌, ◌++◌, ◌∷◌, [], ℕ, sym, ap, ◌∙◌, subst, List, take, drop, length, arith}
+use Rattle.std.proofs.Common.{length-append, length-drop}
 use Rattle.std.proofs.lemmas.Bool.{false≢true}
 use Rattle.std.specs.List.{insert}
 use Rattle.lattice.specs.Covers.{with_point}
 use Rattle.lattice.specs.Plane.{Pair}
-use Rattle.hull_plain.specs.Mending.{IsOverEdge}
+use Rattle.hull_plain.specs.Drafts.{drafted}
 use Rattle.hull_plain.specs.Monotone.{IsFringeOf}
-use Rattle.hull_plain.specs.Positions.{IsPositionOf}
+use Rattle.hull_plain.specs.declared.draft.Draft.{Draft}
+use Rattle.hull_plain.proofs.Drafts.{started, pushed, as_roomy}
 use Rattle.hull_plain.proofs.Mended.{put_on_same, put_on_all}
+use Rattle.hull_plain.proofs.PointLists.{append_twice, take_few}
 use Rattle.hull_plain.proofs.fringe.put_on.Goals as goal
 
 pub returns-then-is_inwards-clause-fringe : goal.returns-then-is_inwards-clause-fringe
 returns-then-is_inwards-clause-fringe c = λ S k.
-    let at : IsPositionOf c.args.fringe.now.items c.args.p (Err c.in-Err.i) =
-    subst (λ (z : List Pair). IsPositionOf z c.args.p (Err c.in-Err.i)) c.deref.ensures.value c.in-Err.ensures in
-    put_on_same c.args.side S c.args.fringe.now.items c.args.p c.in-Err.i at
-    (subst (λ (z : List Pair). IsOverEdge c.args.side z c.in-Err.i c.args.p) c.deref-2.ensures.value
-    (c.is_inwards.ensures.0 c.if-is_inwards.true)) k
+    put_on_same c.args.side S c.args.fringe.now.items c.args.p c.in-Err.i c.in-Err.ensures.position
+    (c.is_inwards.ensures.0 c.if-is_inwards.true) k
+
+pub push-requires : goal.push-requires
+push-requires c =
+    let n = ap length c.start.ensures.none in
+    omega (arith, n, c.start.new.self.fresh.ok, c.start.ensures.room.fresh, c.requires.draft_room.fresh)
+
+-- the fringe with p in its place
+with_p : (L : List Pair) (i : ℕ) (p : Pair) (a b : Draft) → a.kept ≡ i → a.fresh.items ≡ [] → b.kept ≡ a.kept
+    → b.fresh.items ≡ a.fresh.items ++ p ∷ [] → drafted L b ≡ take i L ++ p ∷ []
+with_p L i p a b k n l m = pushed L a b p l m ∙ ap (λ (z : List Pair). z ++ p ∷ []) (started L a i k n)
+
+pub write-requires-clause-order : goal.write-requires-clause-order
+write-requires-clause-order c = omega (arith, c.push.ensures.kept, c.start.ensures.kept)
+
+pub write-requires-clause-room : goal.write-requires-clause-room
+write-requires-clause-room c =
+    let L : List Pair = c.args.fringe.now.items in
+    let n = ap length (with_p L c.in-Err.i c.args.p c.start.new.self c.push.new.self c.start.ensures.kept
+    c.start.ensures.none c.push.ensures.kept c.push.ensures.more) in
+    let both = length-append (take c.in-Err.i L) (c.args.p ∷ []) in
+    let few = take_few c.in-Err.i L in
+    let rest = length-drop c.in-Err.i L in
+    omega (arith, n, both, few, rest, c.in-Err.ensures.position.0, c.requires.room)
+
+pub write-requires-clause-rest_room : goal.write-requires-clause-rest_room
+write-requires-clause-rest_room c =
+    omega (arith, c.push.ensures.room.rest, c.start.ensures.room.rest, c.requires.draft_room.rest)
 
 pub returns-clause-fringe : goal.returns-clause-fringe
 returns-clause-fringe c = λ S k.
-    let at : IsPositionOf c.args.fringe.now.items c.args.p (Err c.in-Err.i) =
-    subst (λ (z : List Pair). IsPositionOf z c.args.p (Err c.in-Err.i)) c.deref.ensures.value c.in-Err.ensures in
-    let new : c.insert.new.self.items ≡ insert c.args.fringe.now.items c.in-Err.i c.args.p = c.in-Ok.ensures.items in
+    let L : List Pair = c.args.fringe.now.items in
+    let new : c.write.new.list.items ≡ insert L c.in-Err.i c.args.p =
+    c.write.ensures.items
+    ∙ ap (λ (z : List Pair). z ++ drop c.in-Err.i L)
+    (with_p L c.in-Err.i c.args.p c.start.new.self c.push.new.self c.start.ensures.kept c.start.ensures.none
+    c.push.ensures.kept c.push.ensures.more)
+    ∙ append_twice (take c.in-Err.i L) (c.args.p ∷ []) (drop c.in-Err.i L) in
     subst (IsFringeOf c.args.side (with_point c.args.p S)) (sym new)
-    (put_on_all c.args.side S c.args.fringe.now.items c.args.p c.in-Err.i at
-    (λ o. false≢true (sym c.if-is_inwards.false
-    ∙ c.is_inwards.ensures.1 (subst (λ (z : List Pair). IsOverEdge c.args.side z c.in-Err.i c.args.p)
-    (sym c.deref-2.ensures.value) o))) k)
+    (put_on_all c.args.side S L c.args.p c.in-Err.i c.in-Err.ensures.position
+    (λ o. false≢true (sym c.if-is_inwards.false ∙ c.is_inwards.ensures.1 o)) k)
+
+pub returns-clause-room : goal.returns-clause-room
+returns-clause-room c =
+    as_roomy _ _ _ (as_roomy _ _ _ c.start.ensures.room c.push.ensures.room) c.write.ensures.room

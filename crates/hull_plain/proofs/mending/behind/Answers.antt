@@ -1,9 +1,11 @@
 -- the point in the last place is the end
-use Rattle.std.proofs.Common.{rules, length, ◌<◌}
-use Rattle.hull_plain.proofs.Between.{last_ends}
+use Rattle.std.proofs.Common.{ℕ, take, ap, arith}
+use Rattle.hull_plain.proofs.Between.{end_of_first}
 use Rattle.hull_plain.proofs.mending.behind.Goals as goal
 
-pub returns-else-is_empty : goal.returns-else-is_empty
-returns-else-is_empty c =
-    let some : 0 < length c.args.chain.now = search (rules, c.is_empty.ensures, c.if-is_empty.false) in
-    last_ends c.args.chain.now c.index-chain-chain.result some c.index-chain-chain.is
+pub returns-then-i-eq0 : goal.returns-then-i-eq0
+returns-then-i-eq0 c = ap (λ (n : ℕ). take n c.args.chain.now.items) c.if-i-eq0.true
+
+pub returns-else-i-eq0 : goal.returns-else-i-eq0
+returns-else-i-eq0 c =
+    end_of_first c.args.chain.now.items c.args.i c.get.result (omega (arith, c.if-i-eq0.false)) c.requires c.get.ensures

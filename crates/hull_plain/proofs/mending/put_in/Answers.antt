@@ -1,64 +1,140 @@
 -- the pass goes over the points before p, p, and the points after it
-use Rattle.std.proofs.Common.{◌++◌, ◌∷◌, [], sym, ◌∙◌, subst, List, Err, take, drop}
+use Rattle.std.proofs.Common.{◌++◌, ◌∷◌, [], sym, ap, ◌∙◌, subst, List, take, drop, length, arith}
+use Rattle.std.proofs.Common.{length-append, length-drop}
 use Rattle.std.proofs.lemmas.Bool.{false≢true}
 use Rattle.lattice.specs.Covers.{IsPointSet}
 use Rattle.lattice.specs.Plane.{Pair}
-use Rattle.hull_plain.specs.Mending.{IsOverEdge}
+use Rattle.hull_plain.specs.Drafts.{drafted}
 use Rattle.hull_plain.specs.Monotone.{IsTurning, IsPassed}
-use Rattle.hull_plain.specs.Positions.{IsPositionOf}
+use Rattle.hull_plain.proofs.Drafts.{started, as_roomy}
 use Rattle.hull_plain.proofs.Mended.{put_in_same, put_in_new, before_and, before_and_after}
 use Rattle.hull_plain.proofs.Passes.{turning_take, turning_drop, passed_set, passed_through}
+use Rattle.hull_plain.proofs.PointLists.{take_few}
 use Rattle.hull_plain.proofs.mending.put_in.Goals as goal
 
 pub returns-then-is_inwards-clause-chain : goal.returns-then-is_inwards-clause-chain
 returns-then-is_inwards-clause-chain c = λ S k.
-    let at : IsPositionOf c.args.chain.now.items c.args.p (Err c.in-Err.i) =
-    subst (λ (z : List Pair). IsPositionOf z c.args.p (Err c.in-Err.i)) c.deref.ensures.value c.in-Err.ensures in
-    put_in_same c.args.side S c.args.chain.now.items c.args.p c.in-Err.i at
-    (subst (λ (z : List Pair). IsOverEdge c.args.side z c.in-Err.i c.args.p) c.deref-2.ensures.value
-    (c.is_inwards.ensures.0 c.if-is_inwards.true)) k
+    put_in_same c.args.side S c.args.chain.now.items c.args.p c.in-Err.i c.in-Err.ensures.position
+    (c.is_inwards.ensures.0 c.if-is_inwards.true) k
 
-pub extend-requires-clause-set : goal.extend-requires-clause-set
-extend-requires-clause-set c =
-    let at : IsPositionOf c.args.chain.now.items c.args.p (Err c.in-Err.i) =
-    subst (λ (z : List Pair). IsPositionOf z c.args.p (Err c.in-Err.i)) c.deref.ensures.value c.in-Err.ensures in
-    subst (λ (z : List Pair). IsPointSet (z ++ c.args.p ∷ [])) (sym c.cut.ensures.front)
-    (before_and c.args.side c.args.chain.now.items c.args.p c.in-Err.i c.requires.strict.ordered at)
+pub extend-stays-requires-clause-within : goal.extend-stays-requires-clause-within
+extend-stays-requires-clause-within c = omega (arith, c.start.ensures.kept, c.in-Err.ensures.position.0)
 
-pub extend-requires-clause-turning : goal.extend-requires-clause-turning
-extend-requires-clause-turning c =
-    subst (IsTurning c.args.side) (sym c.cut.ensures.front)
+pub extend-stays-requires-clause-set : goal.extend-stays-requires-clause-set
+extend-stays-requires-clause-set c =
+    subst (λ (z : List Pair). IsPointSet (z ++ c.args.p ∷ []))
+    (sym (started c.args.chain.now.items c.start.new.self c.in-Err.i c.start.ensures.kept c.start.ensures.none))
+    (before_and c.args.side c.args.chain.now.items c.args.p c.in-Err.i c.requires.strict.ordered
+    c.in-Err.ensures.position)
+
+pub extend-stays-requires-clause-turning : goal.extend-stays-requires-clause-turning
+extend-stays-requires-clause-turning c =
+    subst (IsTurning c.args.side)
+    (sym (started c.args.chain.now.items c.start.new.self c.in-Err.i c.start.ensures.kept c.start.ensures.none))
     (turning_take c.args.side c.in-Err.i c.args.chain.now.items c.requires.strict.turning)
 
-pub take_up-requires-clause-set : goal.take_up-requires-clause-set
-take_up-requires-clause-set c =
-    let at : IsPositionOf c.args.chain.now.items c.args.p (Err c.in-Err.i) =
-    subst (λ (z : List Pair). IsPositionOf z c.args.p (Err c.in-Err.i)) c.deref.ensures.value c.in-Err.ensures in
-    subst (λ (z : List Pair). IsPointSet (c.extend.new.chain.items ++ z))
-    (sym (c.deref-3.ensures.value ∙ c.cut.ensures.rest))
-    (passed_set c.args.side (take c.in-Err.i c.args.chain.now.items ++ c.args.p ∷ []) c.extend.new.chain.items
-    (drop c.in-Err.i c.args.chain.now.items)
-    (subst (λ (z : List Pair). IsPassed c.args.side (z ++ c.args.p ∷ []) c.extend.new.chain.items) c.cut.ensures.front
-    c.extend.ensures.passed)
-    (before_and_after c.args.chain.now.items c.args.p c.in-Err.i c.requires.strict.ordered at))
+pub extend-stays-requires-clause-room : goal.extend-stays-requires-clause-room
+extend-stays-requires-clause-room c =
+    let n = ap length (started c.args.chain.now.items c.start.new.self c.in-Err.i c.start.ensures.kept
+    c.start.ensures.none) in
+    let few = take_few c.in-Err.i c.args.chain.now.items in
+    omega (arith, n, few, c.in-Err.ensures.position.0, c.start.ensures.room.fresh, c.requires.draft_room.fresh)
 
-pub take_up-requires-clause-rest_turning : goal.take_up-requires-clause-rest_turning
-take_up-requires-clause-rest_turning c =
-    subst (IsTurning c.args.side) (sym (c.deref-3.ensures.value ∙ c.cut.ensures.rest))
-    (turning_drop c.args.side c.in-Err.i c.args.chain.now.items c.requires.strict.turning)
+pub take_up-to-requires-clause-set : goal.take_up-to-requires-clause-set
+take_up-to-requires-clause-set c =
+    passed_set c.args.side (take c.in-Err.i c.args.chain.now.items ++ c.args.p ∷ [])
+    (drafted c.args.chain.now.items c.extend-stays.new.draft) (drop c.in-Err.i c.args.chain.now.items)
+    (subst (λ (z : List Pair). IsPassed c.args.side (z ++ c.args.p ∷ [])
+    (drafted c.args.chain.now.items c.extend-stays.new.draft))
+    (started c.args.chain.now.items c.start.new.self c.in-Err.i c.start.ensures.kept c.start.ensures.none)
+    c.extend-stays.ensures.passed)
+    (before_and_after c.args.chain.now.items c.args.p c.in-Err.i c.requires.strict.ordered c.in-Err.ensures.position)
+
+pub take_up-to-requires-clause-rest_turning : goal.take_up-to-requires-clause-rest_turning
+take_up-to-requires-clause-rest_turning c =
+    turning_drop c.args.side c.in-Err.i c.args.chain.now.items c.requires.strict.turning
+
+pub take_up-to-requires-clause-room : goal.take_up-to-requires-clause-room
+take_up-to-requires-clause-room c =
+    let n = ap length (started c.args.chain.now.items c.start.new.self c.in-Err.i c.start.ensures.kept
+    c.start.ensures.none) in
+    let few = take_few c.in-Err.i c.args.chain.now.items in
+    let both = length-append (drafted c.args.chain.now.items c.start.new.self) (c.args.p ∷ []) in
+    let rest = length-drop c.in-Err.i c.args.chain.now.items in
+    omega (
+      arith,
+      n,
+      few,
+      both,
+      rest,
+      c.extend-stays.ensures.passed.short,
+      c.in-Err.ensures.position.0,
+      c.extend-stays.ensures.room.fresh,
+      c.start.ensures.room.fresh,
+      c.requires.draft_room.fresh,
+    )
+
+pub take_up-to-requires-clause-within : goal.take_up-to-requires-clause-within
+take_up-to-requires-clause-within c =
+    omega (arith, c.extend-stays.ensures.within, c.start.ensures.kept, c.in-Err.ensures.position.0)
+
+pub write-requires-clause-order : goal.write-requires-clause-order
+write-requires-clause-order c =
+    omega (
+      arith,
+      c.take_up-to.ensures.within,
+      c.take_up-to.ensures.order,
+      c.extend-stays.ensures.within,
+      c.start.ensures.kept,
+    )
+
+pub write-requires-clause-room : goal.write-requires-clause-room
+write-requires-clause-room c =
+    let L : List Pair = c.args.chain.now.items in
+    let n = ap length (started L c.start.new.self c.in-Err.i c.start.ensures.kept c.start.ensures.none) in
+    let few = take_few c.in-Err.i L in
+    let with_p = length-append (drafted L c.start.new.self) (c.args.p ∷ []) in
+    let rest = length-drop c.in-Err.i L in
+    let front = length-append (drafted L c.extend-stays.new.draft) (drop c.in-Err.i L) in
+    let new = length-append (drafted L c.take_up-to.new.draft) (drop c.take_up-to.result L) in
+    omega (
+      arith,
+      n,
+      few,
+      with_p,
+      rest,
+      front,
+      new,
+      c.extend-stays.ensures.passed.short,
+      c.take_up-to.ensures.passed.short,
+      c.in-Err.ensures.position.0,
+      c.requires.room,
+    )
+
+pub write-requires-clause-rest_room : goal.write-requires-clause-rest_room
+write-requires-clause-rest_room c =
+    omega (
+      arith,
+      c.take_up-to.ensures.room.rest,
+      c.extend-stays.ensures.room.rest,
+      c.start.ensures.room.rest,
+      c.requires.draft_room.rest,
+    )
 
 pub returns-clause-chain : goal.returns-clause-chain
 returns-clause-chain c = λ S k.
-    let at : IsPositionOf c.args.chain.now.items c.args.p (Err c.in-Err.i) =
-    subst (λ (z : List Pair). IsPositionOf z c.args.p (Err c.in-Err.i)) c.deref.ensures.value c.in-Err.ensures in
-    put_in_new c.args.side S c.args.chain.now.items c.take_up.new.chain.items c.args.p c.in-Err.i at
-    (λ o. false≢true (sym c.if-is_inwards.false
-    ∙ c.is_inwards.ensures.1 (subst (λ (z : List Pair). IsOverEdge c.args.side z c.in-Err.i c.args.p)
-    (sym c.deref-2.ensures.value) o)))
-    (subst (λ (z : List Pair). IsPassed c.args.side (take c.in-Err.i c.args.chain.now.items ++ c.args.p ∷ [] ++ z)
-    c.take_up.new.chain.items) (c.deref-3.ensures.value ∙ c.cut.ensures.rest)
-    (passed_through c.args.side (take c.in-Err.i c.args.chain.now.items ++ c.args.p ∷ []) c.extend.new.chain.items
-    c.deref-3.result.now c.take_up.new.chain.items
-    (subst (λ (z : List Pair). IsPassed c.args.side (z ++ c.args.p ∷ []) c.extend.new.chain.items) c.cut.ensures.front
-    c.extend.ensures.passed)
-    c.take_up.ensures.passed)) k
+    let L : List Pair = c.args.chain.now.items in
+    let new : List Pair = drafted L c.take_up-to.new.draft ++ drop c.take_up-to.result L in
+    put_in_new c.args.side S L c.write.new.list.items c.args.p c.in-Err.i c.in-Err.ensures.position
+    (λ o. false≢true (sym c.if-is_inwards.false ∙ c.is_inwards.ensures.1 o))
+    (subst (IsPassed c.args.side (take c.in-Err.i L ++ c.args.p ∷ [] ++ drop c.in-Err.i L)) (sym c.write.ensures.items)
+    (passed_through c.args.side (take c.in-Err.i L ++ c.args.p ∷ []) (drafted L c.extend-stays.new.draft)
+    (drop c.in-Err.i L) new
+    (subst (λ (z : List Pair). IsPassed c.args.side (z ++ c.args.p ∷ []) (drafted L c.extend-stays.new.draft))
+    (started L c.start.new.self c.in-Err.i c.start.ensures.kept c.start.ensures.none) c.extend-stays.ensures.passed)
+    c.take_up-to.ensures.passed)) k
+
+pub returns-clause-room : goal.returns-clause-room
+returns-clause-room c =
+    as_roomy _ _ _ (as_roomy _ _ _ (as_roomy _ _ _ c.start.ensures.room c.extend-stays.ensures.room)
+    c.take_up-to.ensures.room) c.write.ensures.room

@@ -1,134 +1,172 @@
 -- the pass goes over the points before p, those of the fringe between its neighbours, and the points after it
-use Rattle.std.proofs.Common.{◌≡◌, ◌++◌, sym, ap, ◌∙◌, subst, List, Ok, Err, take, drop, length, ◌≤◌, ◌+◌, arith, refl}
+use Rattle.std.proofs.Common.{◌+◌, ◌++◌, sym, ap, subst, List, take, drop, length, arith, refl}
 use Rattle.std.proofs.Common.{length-append}
-use Rattle.std.specs.List.{Contains}
+use Rattle.std.specs.Prelude.{slice_range}
 use Rattle.lattice.specs.Covers.{IsPointSet}
 use Rattle.lattice.specs.Plane.{Pair}
-use Rattle.hull_plain.specs.Mending.{IsBetween}
+use Rattle.hull_plain.specs.Drafts.{drafted}
 use Rattle.hull_plain.specs.Monotone.{IsTurning, IsPassed}
-use Rattle.hull_plain.specs.Positions.{IsPositionOf}
+use Rattle.hull_plain.proofs.Drafts.{started, as_roomy}
 use Rattle.hull_plain.proofs.FringeChains.{take_out_new}
 use Rattle.hull_plain.proofs.Mended.{take_out_same, around_set, around_among, around_few, between_few}
 use Rattle.hull_plain.proofs.Passes.{turning_take, turning_drop, passed_set, passed_through, set_left}
+use Rattle.hull_plain.proofs.PointLists.{range_long}
 use Rattle.hull_plain.proofs.mending.take_out.Goals as goal
 
 pub returns-in_default-clause-chain : goal.returns-in_default-clause-chain
 returns-in_default-clause-chain c = λ S s k f.
-    take_out_same c.args.side _ S c.args.chain.now.items c.args.p c.in_default.field-0 s
-    (subst (λ (z : List Pair). IsPositionOf z c.args.p (Err c.in_default.field-0)) c.deref.ensures.value
-    c.in_default.ensures) refl k
+    take_out_same c.args.side _ S c.args.chain.now.items c.args.p c.in_default.field-0 s c.in_default.ensures.position refl
+    k
 
-pub cut-requires-clause-room : goal.cut-requires-clause-room
-cut-requires-clause-room c =
-    let at : IsPositionOf c.args.chain.now.items c.args.p (Ok c.in-Ok.i) =
-    subst (λ (z : List Pair). IsPositionOf z c.args.p (Ok c.in-Ok.i)) c.deref.ensures.value c.in-Ok.ensures in
-    let few = around_few c.args.fringe.now c.args.chain.now.items c.args.p c.in-Ok.i
-    c.requires.strict.ordered at c.requires.among in
-    omega (arith, few, c.requires.spare_room, c.args.chain.now.ok)
+pub between-from-requires-clause-inside : goal.between-from-requires-clause-inside
+between-from-requires-clause-inside c = c.in-Ok.ensures.position.0
 
-pub between-requires-clause-set : goal.between-requires-clause-set
-between-requires-clause-set c =
-    let at : IsPositionOf c.args.chain.now.items c.args.p (Ok c.in-Ok.i) =
-    subst (λ (z : List Pair). IsPositionOf z c.args.p (Ok c.in-Ok.i)) c.deref.ensures.value c.in-Ok.ensures in
-    subst (λ (z : List Pair). IsPointSet (z ++ c.deref-3.result.now))
-    (sym (c.deref-2.ensures.value ∙ c.cut.ensures.front))
-    (subst (λ (z : List Pair). IsPointSet (take c.in-Ok.i c.args.chain.now.items ++ z))
-    (sym (c.deref-3.ensures.value ∙ c.cut.ensures.rest))
-    (around_set c.args.chain.now.items c.args.p c.in-Ok.i c.requires.strict.ordered at))
+pub between-from-requires-clause-set : goal.between-from-requires-clause-set
+between-from-requires-clause-set c =
+    around_set c.args.chain.now.items c.args.p c.in-Ok.i c.requires.strict.ordered c.in-Ok.ensures.position
+
+pub pass_over-requires-clause-within : goal.pass_over-requires-clause-within
+pass_over-requires-clause-within c = omega (arith, c.start.ensures.kept, c.in-Ok.ensures.position.0)
 
 pub pass_over-requires-clause-set : goal.pass_over-requires-clause-set
 pass_over-requires-clause-set c =
-    set_left (c.cut.new.chain.items ++ c.between.result.now) c.deref-3.result.now
-    (subst (λ (z : List Pair). IsPointSet (z ++ c.between.result.now ++ c.deref-3.result.now)) c.deref-2.ensures.value
-    c.between.ensures.ordered)
+    let middle : List Pair = slice_range c.args.fringe.now.items c.between-from.result.0 c.between-from.result.1 in
+    subst (λ (z : List Pair). IsPointSet (z ++ middle))
+    (sym (started c.args.chain.now.items c.start.new.self c.in-Ok.i c.start.ensures.kept c.start.ensures.none))
+    (set_left (take c.in-Ok.i c.args.chain.now.items ++ middle) (drop (c.in-Ok.i + 1) c.args.chain.now.items)
+    c.between-from.ensures.between.ordered)
 
 pub pass_over-requires-clause-turning : goal.pass_over-requires-clause-turning
 pass_over-requires-clause-turning c =
-    subst (IsTurning c.args.side) (sym c.cut.ensures.front)
+    subst (IsTurning c.args.side)
+    (sym (started c.args.chain.now.items c.start.new.self c.in-Ok.i c.start.ensures.kept c.start.ensures.none))
     (turning_take c.args.side c.in-Ok.i c.args.chain.now.items c.requires.strict.turning)
 
 pub pass_over-requires-clause-room : goal.pass_over-requires-clause-room
 pass_over-requires-clause-room c =
-    let at : IsPositionOf c.args.chain.now.items c.args.p (Ok c.in-Ok.i) =
-    subst (λ (z : List Pair). IsPositionOf z c.args.p (Ok c.in-Ok.i)) c.deref.ensures.value c.in-Ok.ensures in
-    let few : length (c.deref-2.result.now ++ c.between.result.now) + length c.deref-3.result.now
-    ≤ length c.args.fringe.now =
-    between_few c.args.fringe.now c.deref-2.result.now c.deref-3.result.now c.between.result.now c.between.ensures
-    (λ t m. around_among c.args.fringe.now c.args.chain.now.items c.args.p c.in-Ok.i c.requires.strict.ordered at
-    c.requires.among t
-    (subst (λ (z : List Pair). Contains (z ++ drop (c.in-Ok.i + 1) c.args.chain.now.items) t)
-    (c.deref-2.ensures.value ∙ c.cut.ensures.front)
-    (subst (λ (z : List Pair). Contains (c.deref-2.result.now ++ z) t) (c.deref-3.ensures.value ∙ c.cut.ensures.rest)
-    m))) in
-    let same : length c.deref-2.result.now ≡ length c.cut.new.chain.items =
-    ap (λ (z : List Pair). length z) c.deref-2.ensures.value in
-    let both = length-append c.deref-2.result.now c.between.result.now in
-    omega (arith, few, same, both, c.requires.room, c.cut.ensures.capacity, c.cut.new.chain.ok)
+    let L : List Pair = c.args.chain.now.items in
+    let middle : List Pair = slice_range c.args.fringe.now.items c.between-from.result.0 c.between-from.result.1 in
+    let few = between_few c.args.fringe.now.items (take c.in-Ok.i L) (drop (c.in-Ok.i + 1) L) middle
+    c.between-from.ensures.between
+    (around_among c.args.fringe.now.items L c.args.p c.in-Ok.i c.requires.strict.ordered c.in-Ok.ensures.position
+    c.requires.among) in
+    let n = ap length (started L c.start.new.self c.in-Ok.i c.start.ensures.kept c.start.ensures.none) in
+    let both = length-append (take c.in-Ok.i L) middle in
+    let long = range_long c.args.fringe.now.items c.between-from.result.0 c.between-from.result.1
+    c.between-from.ensures.within in
+    omega (arith, few, n, both, long, c.start.ensures.room.fresh, c.requires.draft_room.fresh)
 
-pub take_up-requires-clause-set : goal.take_up-requires-clause-set
-take_up-requires-clause-set c =
-    passed_set c.args.side (c.cut.new.chain.items ++ c.between.result.now) c.pass_over.new.chain.items
-    c.deref-4.result.now c.pass_over.ensures.passed
-    (subst (λ (z : List Pair). IsPointSet (c.cut.new.chain.items ++ c.between.result.now ++ z))
-    (c.deref-3.ensures.value ∙ sym c.deref-4.ensures.value)
-    (subst (λ (z : List Pair). IsPointSet (z ++ c.between.result.now ++ c.deref-3.result.now)) c.deref-2.ensures.value
-    c.between.ensures.ordered))
+pub take_up-to-requires-clause-within : goal.take_up-to-requires-clause-within
+take_up-to-requires-clause-within c =
+    omega (arith, c.pass_over.ensures.within, c.start.ensures.kept, c.in-Ok.ensures.position.0)
 
-pub take_up-requires-clause-rest_turning : goal.take_up-requires-clause-rest_turning
-take_up-requires-clause-rest_turning c =
-    subst (IsTurning c.args.side) (sym (c.deref-4.ensures.value ∙ c.cut.ensures.rest))
-    (turning_drop c.args.side (c.in-Ok.i + 1) c.args.chain.now.items c.requires.strict.turning)
+pub take_up-to-requires-clause-inside : goal.take_up-to-requires-clause-inside
+take_up-to-requires-clause-inside c = omega (arith, c.in-Ok.ensures.position.0)
 
-pub take_up-requires-clause-room : goal.take_up-requires-clause-room
-take_up-requires-clause-room c =
-    let at : IsPositionOf c.args.chain.now.items c.args.p (Ok c.in-Ok.i) =
-    subst (λ (z : List Pair). IsPositionOf z c.args.p (Ok c.in-Ok.i)) c.deref.ensures.value c.in-Ok.ensures in
-    let few : length (c.deref-2.result.now ++ c.between.result.now) + length c.deref-3.result.now
-    ≤ length c.args.fringe.now =
-    between_few c.args.fringe.now c.deref-2.result.now c.deref-3.result.now c.between.result.now c.between.ensures
-    (λ t m. around_among c.args.fringe.now c.args.chain.now.items c.args.p c.in-Ok.i c.requires.strict.ordered at
-    c.requires.among t
-    (subst (λ (z : List Pair). Contains (z ++ drop (c.in-Ok.i + 1) c.args.chain.now.items) t)
-    (c.deref-2.ensures.value ∙ c.cut.ensures.front)
-    (subst (λ (z : List Pair). Contains (c.deref-2.result.now ++ z) t) (c.deref-3.ensures.value ∙ c.cut.ensures.rest)
-    m))) in
-    let same : length c.deref-2.result.now ≡ length c.cut.new.chain.items =
-    ap (λ (z : List Pair). length z) c.deref-2.ensures.value in
-    let end : length c.deref-3.result.now ≡ length c.deref-4.result.now =
-    ap (λ (z : List Pair). length z) (c.deref-3.ensures.value ∙ sym c.deref-4.ensures.value) in
-    let both = length-append c.deref-2.result.now c.between.result.now in
-    let passed = length-append c.cut.new.chain.items c.between.result.now in
+pub take_up-to-requires-clause-set : goal.take_up-to-requires-clause-set
+take_up-to-requires-clause-set c =
+    let L : List Pair = c.args.chain.now.items in
+    let middle : List Pair = slice_range c.args.fringe.now.items c.between-from.result.0 c.between-from.result.1 in
+    passed_set c.args.side (take c.in-Ok.i L ++ middle) (drafted L c.pass_over.new.draft) (drop (c.in-Ok.i + 1) L)
+    (subst (λ (z : List Pair). IsPassed c.args.side (z ++ middle) (drafted L c.pass_over.new.draft))
+    (started L c.start.new.self c.in-Ok.i c.start.ensures.kept c.start.ensures.none) c.pass_over.ensures.passed)
+    c.between-from.ensures.between.ordered
+
+pub take_up-to-requires-clause-turning : goal.take_up-to-requires-clause-turning
+take_up-to-requires-clause-turning c = c.pass_over.ensures.passed.strict.turning
+
+pub take_up-to-requires-clause-rest_turning : goal.take_up-to-requires-clause-rest_turning
+take_up-to-requires-clause-rest_turning c =
+    turning_drop c.args.side (c.in-Ok.i + 1) c.args.chain.now.items c.requires.strict.turning
+
+pub take_up-to-requires-clause-room : goal.take_up-to-requires-clause-room
+take_up-to-requires-clause-room c =
+    let L : List Pair = c.args.chain.now.items in
+    let middle : List Pair = slice_range c.args.fringe.now.items c.between-from.result.0 c.between-from.result.1 in
+    let few = between_few c.args.fringe.now.items (take c.in-Ok.i L) (drop (c.in-Ok.i + 1) L) middle
+    c.between-from.ensures.between
+    (around_among c.args.fringe.now.items L c.args.p c.in-Ok.i c.requires.strict.ordered c.in-Ok.ensures.position
+    c.requires.among) in
+    let n = ap length (started L c.start.new.self c.in-Ok.i c.start.ensures.kept c.start.ensures.none) in
+    let both = length-append (take c.in-Ok.i L) middle in
+    let front = length-append (drafted L c.start.new.self) middle in
     omega (
       arith,
       few,
-      same,
-      end,
+      n,
       both,
-      passed,
+      front,
       c.pass_over.ensures.passed.short,
+      c.pass_over.ensures.room.fresh,
+      c.start.ensures.room.fresh,
+      c.requires.draft_room.fresh,
+    )
+
+pub write-requires-clause-order : goal.write-requires-clause-order
+write-requires-clause-order c =
+    omega (
+      arith,
+      c.take_up-to.ensures.within,
+      c.take_up-to.ensures.order,
+      c.pass_over.ensures.within,
+      c.start.ensures.kept,
+    )
+
+pub write-requires-clause-room : goal.write-requires-clause-room
+write-requires-clause-room c =
+    let L : List Pair = c.args.chain.now.items in
+    let middle : List Pair = slice_range c.args.fringe.now.items c.between-from.result.0 c.between-from.result.1 in
+    let few = between_few c.args.fringe.now.items (take c.in-Ok.i L) (drop (c.in-Ok.i + 1) L) middle
+    c.between-from.ensures.between
+    (around_among c.args.fringe.now.items L c.args.p c.in-Ok.i c.requires.strict.ordered c.in-Ok.ensures.position
+    c.requires.among) in
+    let n = ap length (started L c.start.new.self c.in-Ok.i c.start.ensures.kept c.start.ensures.none) in
+    let both = length-append (take c.in-Ok.i L) middle in
+    let front = length-append (drafted L c.start.new.self) middle in
+    let passed = length-append (drafted L c.pass_over.new.draft) (drop (c.in-Ok.i + 1) L) in
+    let new = length-append (drafted L c.take_up-to.new.draft) (drop c.take_up-to.result L) in
+    omega (
+      arith,
+      few,
+      n,
+      both,
+      front,
+      passed,
+      new,
+      c.pass_over.ensures.passed.short,
+      c.take_up-to.ensures.passed.short,
       c.requires.room,
-      c.cut.ensures.capacity,
-      c.pass_over.ensures.capacity,
-      c.pass_over.new.chain.ok,
+    )
+
+pub write-requires-clause-rest_room : goal.write-requires-clause-rest_room
+write-requires-clause-rest_room c =
+    let few = around_few c.args.fringe.now.items c.args.chain.now.items c.args.p c.in-Ok.i c.requires.strict.ordered
+    c.in-Ok.ensures.position c.requires.among in
+    omega (
+      arith,
+      few,
+      c.take_up-to.ensures.order,
+      c.take_up-to.ensures.room.rest,
+      c.pass_over.ensures.room.rest,
+      c.start.ensures.room.rest,
+      c.requires.draft_room.rest,
     )
 
 pub returns-clause-chain : goal.returns-clause-chain
 returns-clause-chain c = λ S s k f.
-    let at : IsPositionOf c.args.chain.now.items c.args.p (Ok c.in-Ok.i) =
-    subst (λ (z : List Pair). IsPositionOf z c.args.p (Ok c.in-Ok.i)) c.deref.ensures.value c.in-Ok.ensures in
-    let middle : List Pair = c.between.result.now in
-    let between : IsBetween c.args.fringe.now (take c.in-Ok.i c.args.chain.now.items)
-    (drop (c.in-Ok.i + 1) c.args.chain.now.items) middle =
-    subst (λ (z : List Pair). IsBetween c.args.fringe.now z (drop (c.in-Ok.i + 1) c.args.chain.now.items) middle)
-    (c.deref-2.ensures.value ∙ c.cut.ensures.front)
-    (subst (λ (z : List Pair). IsBetween c.args.fringe.now c.deref-2.result.now z middle)
-    (c.deref-3.ensures.value ∙ c.cut.ensures.rest) c.between.ensures) in
-    let over : IsPassed c.args.side (take c.in-Ok.i c.args.chain.now.items ++ middle) c.pass_over.new.chain.items =
-    subst (λ (z : List Pair). IsPassed c.args.side (z ++ middle) c.pass_over.new.chain.items) c.cut.ensures.front
-    c.pass_over.ensures.passed in
-    take_out_new c.args.side S c.args.fringe.now c.args.chain.now.items middle c.take_up.new.chain.items c.args.p
-    c.in-Ok.i s at c.requires.among between
-    (passed_through c.args.side (take c.in-Ok.i c.args.chain.now.items ++ middle) c.pass_over.new.chain.items
-    (drop (c.in-Ok.i + 1) c.args.chain.now.items) c.take_up.new.chain.items over
-    (subst (λ (z : List Pair). IsPassed c.args.side (c.pass_over.new.chain.items ++ z) c.take_up.new.chain.items)
-    (c.deref-4.ensures.value ∙ c.cut.ensures.rest) c.take_up.ensures.passed)) k f
+    let L : List Pair = c.args.chain.now.items in
+    let middle : List Pair = slice_range c.args.fringe.now.items c.between-from.result.0 c.between-from.result.1 in
+    let new : List Pair = drafted L c.take_up-to.new.draft ++ drop c.take_up-to.result L in
+    take_out_new c.args.side S c.args.fringe.now.items L middle c.write.new.list.items c.args.p c.in-Ok.i s
+    c.in-Ok.ensures.position c.requires.among c.between-from.ensures.between
+    (subst (IsPassed c.args.side (take c.in-Ok.i L ++ middle ++ drop (c.in-Ok.i + 1) L)) (sym c.write.ensures.items)
+    (passed_through c.args.side (take c.in-Ok.i L ++ middle) (drafted L c.pass_over.new.draft)
+    (drop (c.in-Ok.i + 1) L) new
+    (subst (λ (z : List Pair). IsPassed c.args.side (z ++ middle) (drafted L c.pass_over.new.draft))
+    (started L c.start.new.self c.in-Ok.i c.start.ensures.kept c.start.ensures.none) c.pass_over.ensures.passed)
+    c.take_up-to.ensures.passed)) k f
+
+pub returns-clause-room : goal.returns-clause-room
+returns-clause-room c =
+    as_roomy _ _ _ (as_roomy _ _ _ (as_roomy _ _ _ c.start.ensures.room c.pass_over.ensures.room)
+    c.take_up-to.ensures.room) c.write.ensures.room

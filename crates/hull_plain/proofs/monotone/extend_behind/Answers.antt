@@ -1,44 +1,91 @@
 -- a last point that ends inwards is covered by its neighbours, so without it the same points are inward
-use Rattle.std.proofs.Common.{◌≡◌, ℕ, ◌-◌, take, length, sym, ap, ◌∙◌, subst, List, arith, ◌∷◌, ◌++◌, [], length-append}
+use Rattle.std.proofs.Common.{◌≡◌, ◌<◌, ◌+◌, ◌-◌, take, length, sym, ap, ◌∙◌, subst, List, arith, ◌∷◌, ◌++◌, [], length-append}
+use Rattle.std.proofs.lemmas.Bool.{false≢true}
 use Rattle.std.specs.List.{Contains}
 use Rattle.lattice.specs.Covers.{IsPointSet}
 use Rattle.lattice.specs.Plane.{Pair}
+use Rattle.hull_plain.specs.Drafts.{drafted}
 use Rattle.hull_plain.specs.Monotone.{IsInner, IsTurning, EndsInwards, IsThinned}
 use Rattle.hull_plain.proofs.ChainPasses.{popped_set, popped_inner, popped_among, popped_short, with_end}
+use Rattle.hull_plain.proofs.Drafts.{fresh_few, pushed, as_roomy}
 use Rattle.hull_plain.proofs.Passes.{turning_take, pushed_ends}
 use Rattle.hull_plain.proofs.monotone.extend_behind.Goals as goal
+use Rattle.hull_plain.proofs.monotone.extend_behind.Goals.{then-loop-draft-test+else-ends_inwards, else-loop-draft-test}
 
-pub loop-list-preserved : goal.loop-list-preserved
-loop-list-preserved c =
-    let e : EndsInwards c.args.side c.loop-list.list.items c.args.c =
-    subst (λ (z : List Pair). EndsInwards c.args.side z c.args.c) c.deref.ensures.value
-    (c.ends_inwards.ensures.inwards c.if-ends_inwards.true) in
-    let n : c.loop-list.list.len ≡ length c.loop-list.list.items = omega (arith, c.loop-list.list.ok) in
-    let rest : c.pop-inward.new.self.items ≡ take (length c.loop-list.list.items - 1) c.loop-list.list.items =
-    c.pop-inward.ensures.rest ∙ ap (λ (k : ℕ). take (k - 1) c.loop-list.list.items) n in
+pub loop-draft-smaller : goal.loop-draft-smaller
+loop-draft-smaller c =
+    let old : List Pair = drafted c.args.list.now.items c.loop-draft.draft in
+    let new : List Pair = drafted c.args.list.now.items c.pop.new.self in
+    let e : EndsInwards c.args.side old c.args.c = c.ends_inwards.ensures.inwards c.if-ends_inwards.true in
+    let within : c.loop-draft.draft.kept < length c.args.list.now.items + 1 =
+    omega (arith, c.loop-draft.invariant.within, c.requires.within) in
+    let rest : new ≡ take (length old - 1) old = c.pop.ensures.less c.args.list.now.items (omega (arith, within)) in
+    let n : length new ≡ length (take (length old - 1) old) = ap length rest in
+    let m = popped_short e in
+    let less : length new < length old = omega (arith, n, m) in less
+
+pub loop-draft-preserved : goal.loop-draft-preserved
+loop-draft-preserved c =
+    let old : List Pair = drafted c.args.list.now.items c.loop-draft.draft in
+    let new : List Pair = drafted c.args.list.now.items c.pop.new.self in
+    let e : EndsInwards c.args.side old c.args.c = c.ends_inwards.ensures.inwards c.if-ends_inwards.true in
+    let within : c.loop-draft.draft.kept < length c.args.list.now.items + 1 =
+    omega (arith, c.loop-draft.invariant.within, c.requires.within) in
+    let rest : new ≡ take (length old - 1) old = c.pop.ensures.less c.args.list.now.items (omega (arith, within)) in
+    let n : length new ≡ length (take (length old - 1) old) = ap length rest in
+    let m = popped_short e in
     record {
+      within = omega (arith, c.pop.ensures.within, c.loop-draft.invariant.within);
       set = subst (λ (z : List Pair). IsPointSet (z ++ c.args.c ∷ [])) (sym rest)
-          (popped_set e c.loop-list.invariant.set);
+          (popped_set e c.loop-draft.invariant.set);
       turning = λ h. subst (IsTurning c.args.side) (sym rest)
-          (turning_take c.args.side _ c.loop-list.list.items (c.loop-list.invariant.turning h));
-      among = λ t m. c.loop-list.invariant.among t (popped_among e t (subst (λ (z : List Pair). Contains z t) rest m));
+          (turning_take c.args.side _ old (c.loop-draft.invariant.turning h));
+      among = λ t k. c.loop-draft.invariant.among t (popped_among e t (subst (λ (z : List Pair). Contains z t) rest k));
       inner = λ u k. subst (λ (z : List Pair). IsInner c.args.side (z ++ c.args.c ∷ []) u) (sym rest)
-          (popped_inner e c.loop-list.invariant.set u (c.loop-list.invariant.inner u k));
-      short = omega (arith, c.loop-list.invariant.short, c.pop-inward.ensures.len);
-      kept = λ l. absurd (let k : length c.pop-inward.new.self.items
-          ≡ length (take (length c.loop-list.list.items - 1) c.loop-list.list.items) = ap length rest in
-          let m = popped_short e in omega (arith, l, k, m, c.loop-list.invariant.short));
-      capacity = c.pop-inward.ensures.capacity ∙ c.loop-list.invariant.capacity;
+          (popped_inner e c.loop-draft.invariant.set u (c.loop-draft.invariant.inner u k));
+      short = omega (arith, c.loop-draft.invariant.short, n, m);
+      stays = λ f. absurd (false≢true f);
+      room = as_roomy c.args.draft.now c.loop-draft.draft c.pop.new.self c.loop-draft.invariant.room c.pop.ensures.room;
     }
+
+pub push-requires : goal.push-requires
+push-requires c =
+    let few = fresh_few c.args.list.now.items c.loop-draft.draft in
+    omega (
+      arith,
+      few,
+      c.loop-draft.invariant.short,
+      c.requires.room,
+      c.loop-draft.invariant.room.fresh,
+      c.loop-draft.draft.fresh.ok,
+    )
 
 pub returns-clause-thinned : goal.returns-clause-thinned
 returns-clause-thinned c =
-    let e : c.push_reserved.new.self.items ≡ c.loop-list.list.items ++ c.args.c ∷ [] = c.push_reserved.ensures.items in
-    subst (IsThinned c.args.side (c.args.list.now.items ++ c.args.c ∷ [])) (sym e) (record {
-      ordered = c.loop-list.invariant.set;
-      among = with_end c.loop-list.list.items c.args.list.now.items c.args.c c.loop-list.invariant.among;
-      inner = c.loop-list.invariant.inner;
-      ends = pushed_ends c.args.list.now.items c.loop-list.list.items c.args.c;
-      short = let m = length-append c.loop-list.list.items (c.args.c ∷ []) in
-          let n = length-append c.args.list.now.items (c.args.c ∷ []) in omega (arith, m, n, c.loop-list.invariant.short);
+    let start : List Pair = drafted c.args.list.now.items c.args.draft.now in
+    let old : List Pair = drafted c.args.list.now.items c.loop-draft.draft in
+    let e : drafted c.args.list.now.items c.push.new.self ≡ old ++ c.args.c ∷ [] =
+    pushed c.args.list.now.items c.loop-draft.draft c.push.new.self c.args.c c.push.ensures.kept c.push.ensures.more in
+    subst (IsThinned c.args.side (start ++ c.args.c ∷ [])) (sym e) (record {
+      ordered = c.loop-draft.invariant.set;
+      among = with_end old start c.args.c c.loop-draft.invariant.among;
+      inner = c.loop-draft.invariant.inner;
+      ends = pushed_ends start old c.args.c;
+      short = let m = length-append old (c.args.c ∷ []) in
+          let n = length-append start (c.args.c ∷ []) in omega (arith, m, n, c.loop-draft.invariant.short);
     })
+
+pub returns-clause-stays : goal.returns-clause-stays
+returns-clause-stays c = λ t.
+    pushed c.args.list.now.items c.loop-draft.draft c.push.new.self c.args.c c.push.ensures.kept c.push.ensures.more
+    ∙ ap (λ (z : List Pair). z ++ c.args.c ∷ []) (c.loop-draft.invariant.stays t)
+
+pub returns-clause-turning : goal.returns-clause-turning
+returns-clause-turning c = λ none h.
+    subst (IsTurning c.args.side) (sym (pushed c.args.list.now.items c.loop-draft.draft c.push.new.self c.args.c
+    c.push.ensures.kept c.push.ensures.more))
+    (elim c.loop-draft-test.branch [
+      | then-loop-draft-test+else-ends_inwards w ↦
+          w.ends_inwards.ensures.turning w.if-ends_inwards.false (c.loop-draft.invariant.turning h)
+      | else-loop-draft-test w ↦ absurd (false≢true (sym w.loop-draft-test.false ∙ c.may_lose.ensures none))
+    ])

@@ -1,30 +1,72 @@
 -- each point is passed in turn
-use Rattle.std.proofs.Common.{◌∙◌, subst, List, refl}
+use Rattle.std.proofs.Common.{◌++◌, subst, List, refl, arith, take, length-append}
+use Rattle.std.specs.Prelude.{slice_range}
 use Rattle.lattice.specs.Plane.{Pair}
+use Rattle.hull_plain.specs.Drafts.{drafted}
 use Rattle.hull_plain.specs.Monotone.{IsPassed}
+use Rattle.hull_plain.proofs.Drafts.{as_roomy}
 use Rattle.hull_plain.proofs.Passes.{set_left, passed_itself, take_up_set, take_up_step}
-use Rattle.hull_plain.proofs.PointLists.{append_none}
+use Rattle.hull_plain.proofs.PointLists.{append_none, in_range, range_long, take_few, all_taken}
 use Rattle.hull_plain.proofs.monotone.pass_over.Goals as goal
 
 pub loop-i-init : goal.loop-i-init
-loop-i-init c = record {
-  passed = subst (λ (z : List Pair). IsPassed c.args.side z c.args.chain.now.items) (append_none c.args.chain.now.items)
-      (passed_itself c.args.side c.args.chain.now.items (record {
-        ordered = set_left c.args.chain.now.items c.args.points.now c.requires.set;
-        turning = c.requires.turning;
-      }));
-  capacity = refl;
-}
+loop-i-init c =
+    let start : List Pair = drafted c.args.list.now.items c.args.draft.now in
+    let points : List Pair = slice_range c.args.points.now.items c.args.from c.args.to in
+    record {
+      within = omega arith;
+      passed = subst (λ (z : List Pair). IsPassed c.args.side z start) (append_none start)
+          (passed_itself c.args.side start (record {
+            ordered = set_left start points c.requires.set;
+            turning = c.requires.turning;
+          }));
+      room = record { fresh = refl; rest = refl };
+    }
 
-pub extend-requires-clause-set : goal.extend-requires-clause-set
-extend-requires-clause-set c =
-    take_up_set c.args.side c.args.chain.now.items c.args.points.now c.loop-i.chain.items c.loop-i.i c.index-points-i.result
-    c.loop-i-test.true c.index-points-i.is c.requires.set c.loop-i.invariant.passed
+pub extend-stays-requires-clause-set : goal.extend-stays-requires-clause-set
+extend-stays-requires-clause-set c =
+    let at = in_range c.args.points.now.items c.args.from c.args.to c.loop-i.i c.get.result c.requires.inside
+    (omega (arith, c.loop-i-test.true)) c.get.ensures in
+    take_up_set c.args.side (drafted c.args.list.now.items c.args.draft.now)
+    (slice_range c.args.points.now.items c.args.from c.args.to) (drafted c.args.list.now.items c.loop-i.draft) c.loop-i.i
+    c.get.result at.within at.point c.requires.set c.loop-i.invariant.passed
+
+pub extend-stays-requires-clause-turning : goal.extend-stays-requires-clause-turning
+extend-stays-requires-clause-turning c = c.loop-i.invariant.passed.strict.turning
+
+pub extend-stays-requires-clause-room : goal.extend-stays-requires-clause-room
+extend-stays-requires-clause-room c =
+    let start : List Pair = drafted c.args.list.now.items c.args.draft.now in
+    let points : List Pair = slice_range c.args.points.now.items c.args.from c.args.to in
+    let n = length-append start (take c.loop-i.i points) in
+    let few = take_few c.loop-i.i points in
+    omega (
+      arith,
+      n,
+      few,
+      c.loop-i.invariant.passed.short,
+      c.loop-i.invariant.room.fresh,
+      c.requires.room,
+      c.loop-i-test.true,
+    )
 
 pub loop-i-preserved : goal.loop-i-preserved
-loop-i-preserved c = record {
-  passed = take_up_step c.args.side c.args.chain.now.items c.args.points.now c.loop-i.chain.items
-      c.extend.new.chain.items c.loop-i.i c.index-points-i.result c.loop-i-test.true c.index-points-i.is
-      c.loop-i.invariant.passed c.extend.ensures.passed;
-  capacity = c.extend.ensures.capacity ∙ c.loop-i.invariant.capacity;
-}
+loop-i-preserved c =
+    let at = in_range c.args.points.now.items c.args.from c.args.to c.loop-i.i c.get.result c.requires.inside
+    (omega (arith, c.loop-i-test.true)) c.get.ensures in
+    record {
+      within = omega (arith, c.extend-stays.ensures.within, c.loop-i.invariant.within);
+      passed = take_up_step c.args.side (drafted c.args.list.now.items c.args.draft.now)
+          (slice_range c.args.points.now.items c.args.from c.args.to) (drafted c.args.list.now.items c.loop-i.draft)
+          (drafted c.args.list.now.items c.extend-stays.new.draft) c.loop-i.i c.get.result at.within at.point
+          c.loop-i.invariant.passed c.extend-stays.ensures.passed;
+      room = as_roomy c.args.draft.now c.loop-i.draft c.extend-stays.new.draft c.loop-i.invariant.room c.extend-stays.ensures.room;
+    }
+
+pub returns-clause-passed : goal.returns-clause-passed
+returns-clause-passed c =
+    let points : List Pair = slice_range c.args.points.now.items c.args.from c.args.to in
+    let n = range_long c.args.points.now.items c.args.from c.args.to c.requires.inside in
+    subst (λ (z : List Pair). IsPassed c.args.side (drafted c.args.list.now.items c.args.draft.now ++ z)
+    (drafted c.args.list.now.items c.loop-i.draft))
+    (all_taken c.loop-i.i points (omega (arith, n, c.loop-i-test.false))) c.loop-i.invariant.passed

@@ -1,39 +1,93 @@
 -- each point is passed in turn, until one stays behind the one before it
-use Rattle.std.proofs.Common.{◌+◌, ◌++◌, sym, ap, ◌∙◌, subst, List, arith, refl}
+use Rattle.std.proofs.Common.{◌≡◌, ◌+◌, ◌++◌, ◌∙◌, ℕ, sym, ap, subst, List, refl, arith, take, drop, length-append}
+use Rattle.std.proofs.Common.{length-drop}
 use Rattle.lattice.specs.Plane.{Pair}
+use Rattle.hull_plain.specs.Drafts.{drafted}
 use Rattle.hull_plain.specs.Monotone.{IsPassed}
+use Rattle.hull_plain.proofs.Drafts.{as_roomy}
 use Rattle.hull_plain.proofs.Passes.{set_left, passed_itself, take_up_set, take_up_step, take_up_stop}
-use Rattle.hull_plain.proofs.PointLists.{append_none, take_rest}
+use Rattle.hull_plain.proofs.PointLists.{append_none, in_rest, take_few, all_taken, none_from, drop_rest}
 use Rattle.hull_plain.proofs.monotone.take_up.Goals as goal
 
 pub loop-i-init : goal.loop-i-init
-loop-i-init c = record {
-  passed = subst (λ (z : List Pair). IsPassed c.args.side z c.args.chain.now.items) (append_none c.args.chain.now.items)
-      (passed_itself c.args.side c.args.chain.now.items (record {
-        ordered = set_left c.args.chain.now.items c.args.rest.now c.requires.set;
-        turning = c.requires.turning;
-      }));
-  capacity = refl;
-}
+loop-i-init c =
+    let start : List Pair = drafted c.args.list.now.items c.args.draft.now in
+    record {
+      within = omega arith;
+      passed = subst (λ (z : List Pair). IsPassed c.args.side z start) (append_none start)
+          (passed_itself c.args.side start (record {
+            ordered = set_left start (drop c.args.from c.args.list.now.items) c.requires.set;
+            turning = c.requires.turning;
+          }));
+      room = record { fresh = refl; rest = refl };
+    }
 
 pub extend-requires-clause-set : goal.extend-requires-clause-set
 extend-requires-clause-set c =
-    take_up_set c.args.side c.args.chain.now.items c.args.rest.now c.loop-i.chain.items c.loop-i.i c.index-rest-i.result
-    c.loop-i-test.true c.index-rest-i.is c.requires.set c.loop-i.invariant.passed
+    let at = in_rest c.args.list.now.items c.args.from c.loop-i.i c.get.result
+    (omega (arith, c.loop-i-test.true, c.len.ensures)) c.get.ensures in
+    take_up_set c.args.side (drafted c.args.list.now.items c.args.draft.now) (drop c.args.from c.args.list.now.items)
+    (drafted c.args.list.now.items c.loop-i.draft) c.loop-i.i c.get.result at.within at.point c.requires.set
+    c.loop-i.invariant.passed
 
-pub returns-then-len-before-clause-passed : goal.returns-then-len-before-clause-passed
-returns-then-len-before-clause-passed c =
-    subst (IsPassed c.args.side (c.args.chain.now.items ++ c.args.rest.now)) (sym (c.put_behind.ensures.items
-    ∙ ap (λ (z : List Pair). c.extend.new.chain.items ++ z) (take_rest (c.loop-i.i + 1) c.args.rest.now)))
-    (take_up_stop c.args.side c.args.chain.now.items c.args.rest.now c.loop-i.chain.items c.extend.new.chain.items
-    c.loop-i.i c.index-rest-i.result c.if-i-gt0.true c.loop-i-test.true c.index-rest-i.is c.requires.set
-    c.requires.rest_turning c.loop-i.invariant.passed c.extend.ensures.passed
-    (c.extend.ensures.kept (omega (arith, c.if-len-before.true, c.len.ensures, c.len-before.ensures))))
+pub extend-requires-clause-turning : goal.extend-requires-clause-turning
+extend-requires-clause-turning c = c.loop-i.invariant.passed.strict.turning
+
+pub extend-requires-clause-room : goal.extend-requires-clause-room
+extend-requires-clause-room c =
+    let start : List Pair = drafted c.args.list.now.items c.args.draft.now in
+    let rest : List Pair = drop c.args.from c.args.list.now.items in
+    let n = length-append start (take c.loop-i.i rest) in
+    let few = take_few c.loop-i.i rest in
+    let d = length-drop c.args.from c.args.list.now.items in
+    omega (
+      arith,
+      n,
+      few,
+      d,
+      c.loop-i.invariant.passed.short,
+      c.loop-i.invariant.room.fresh,
+      c.requires.room,
+      c.loop-i-test.true,
+      c.len.ensures,
+    )
 
 pub loop-i-preserved : goal.loop-i-preserved
-loop-i-preserved c = record {
-  passed = take_up_step c.args.side c.args.chain.now.items c.args.rest.now c.loop-i.chain.items
-      c.extend.new.chain.items c.loop-i.i c.index-rest-i.result c.loop-i-test.true c.index-rest-i.is
-      c.loop-i.invariant.passed c.extend.ensures.passed;
-  capacity = c.extend.ensures.capacity ∙ c.loop-i.invariant.capacity;
-}
+loop-i-preserved c =
+    let at = in_rest c.args.list.now.items c.args.from c.loop-i.i c.get.result
+    (omega (arith, c.loop-i-test.true, c.len.ensures)) c.get.ensures in
+    record {
+      within = omega (arith, c.extend.ensures.within, c.loop-i.invariant.within);
+      passed = take_up_step c.args.side (drafted c.args.list.now.items c.args.draft.now)
+          (drop c.args.from c.args.list.now.items) (drafted c.args.list.now.items c.loop-i.draft)
+          (drafted c.args.list.now.items c.extend.new.draft) c.loop-i.i c.get.result at.within at.point
+          c.loop-i.invariant.passed c.extend.ensures.passed;
+      room = as_roomy c.args.draft.now c.loop-i.draft c.extend.new.draft c.loop-i.invariant.room c.extend.ensures.room;
+    }
+
+pub returns-then-i-gt0-clause-passed : goal.returns-then-i-gt0-clause-passed
+returns-then-i-gt0-clause-passed c =
+    let at = in_rest c.args.list.now.items c.args.from c.loop-i.i c.get.result
+    (omega (arith, c.loop-i-test.true, c.len.ensures)) c.get.ensures in
+    let start : List Pair = drafted c.args.list.now.items c.args.draft.now in
+    let new : List Pair = drafted c.args.list.now.items c.extend.new.draft in
+    let behind : c.args.from + (c.loop-i.i + 1) ≡ c.args.from + c.loop-i.i + 1 = omega arith in
+    subst (λ (z : List Pair). IsPassed c.args.side (start ++ drop c.args.from c.args.list.now.items) (new ++ z))
+    (drop_rest c.args.from (c.loop-i.i + 1) c.args.list.now.items
+    ∙ ap (λ (n : ℕ). drop n c.args.list.now.items) behind)
+    (take_up_stop c.args.side start (drop c.args.from c.args.list.now.items)
+    (drafted c.args.list.now.items c.loop-i.draft) new c.loop-i.i c.get.result c.if-i-gt0.true at.within at.point
+    c.requires.set c.requires.rest_turning c.loop-i.invariant.passed c.extend.ensures.passed
+    (c.extend.ensures.stays c.if-extend.true))
+
+pub returns-clause-passed : goal.returns-clause-passed
+returns-clause-passed c =
+    let rest : List Pair = drop c.args.from c.args.list.now.items in
+    let start : List Pair = drafted c.args.list.now.items c.args.draft.now in
+    let new : List Pair = drafted c.args.list.now.items c.loop-i.draft in
+    let d = length-drop c.args.from c.args.list.now.items in
+    let passed : IsPassed c.args.side (start ++ rest) new =
+    subst (λ (z : List Pair). IsPassed c.args.side (start ++ z) new)
+    (all_taken c.loop-i.i rest (omega (arith, d, c.loop-i-test.false, c.len.ensures))) c.loop-i.invariant.passed in
+    let none = none_from c.len-2.result c.args.list.now.items (omega (arith, c.len-2.ensures)) in
+    subst (IsPassed c.args.side (start ++ rest)) (append_none new ∙ ap (λ (z : List Pair). new ++ z) (sym none)) passed

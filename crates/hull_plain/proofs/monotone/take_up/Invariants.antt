@@ -1,10 +1,13 @@
--- the pass has come over the chain at the start and the points so far
-use Rattle.std.proofs.Common.{◌≡◌, ◌++◌, take}
+-- the pass has come over the draft at the start and the points so far
+use Rattle.std.proofs.Common.{◌≤◌, ◌++◌, take, drop}
+use Rattle.hull_plain.specs.Drafts.{IsAsRoomy, drafted}
 use Rattle.hull_plain.specs.Monotone.{IsPassed}
 use Rattle.hull_plain.proofs.monotone.take_up.Given as goal
 
 abbrev pub invariant-loop-i : goal.invariant-loop-i
 invariant-loop-i l = record {
-  passed : IsPassed l.side (l.initial.chain.items ++ take l.i l.rest) l.chain.items;
-  capacity : l.chain.cap ≡ l.initial.chain.cap;
+  within : l.draft.kept ≤ l.initial.draft.kept;
+  passed : IsPassed l.side (drafted l.list.items l.initial.draft ++ take l.i (drop l.from l.list.items))
+      (drafted l.list.items l.draft);
+  room : IsAsRoomy l.initial.draft l.draft;
 }

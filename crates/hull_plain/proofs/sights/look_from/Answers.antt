@@ -9,38 +9,38 @@ use Rattle.hull_plain.proofs.sights.look_from.Goals as goal
 
 pub returns-then-i-eq0 : goal.returns-then-i-eq0
 returns-then-i-eq0 c = λ S k.
-    seen_first c.args.side S c.args.chain.now c.args.q
-    (subst (λ (n : ℕ). IsPositionOf c.args.chain.now c.args.q (Err n)) c.if-i-eq0.true c.requires) k
+    seen_first c.args.side S c.args.chain.now.items c.args.q
+    (subst (λ (n : ℕ). IsPositionOf c.args.chain.now.items c.args.q (Err n)) c.if-i-eq0.true c.requires) k
 
-pub returns-then-i-chain : goal.returns-then-i-chain
-returns-then-i-chain c = λ S k.
-    seen_last c.args.side S c.args.chain.now c.args.q
-    (subst (λ (n : ℕ). IsPositionOf c.args.chain.now c.args.q (Err n)) c.if-i-chain.true c.requires) k
+pub returns-then-i-len : goal.returns-then-i-len
+returns-then-i-len c = λ S k.
+    seen_last c.args.side S c.args.chain.now.items c.args.q
+    (subst (λ (n : ℕ). IsPositionOf c.args.chain.now.items c.args.q (Err n)) (c.if-i-len.true ∙ c.len.ensures) c.requires) k
 
 pub returns-then-inwards-lt0 : goal.returns-then-inwards-lt0
 returns-then-inwards-lt0 c = λ S k. (
-  c.index-chain-i.result,
-  c.index-chain-i-2.result,
-  edge_at c.args.side S c.args.chain.now c.args.q _ _ c.args.i c.requires (omega (arith, c.if-i-eq0.false))
-      (omega (arith, c.if-i-eq0.false, c.if-i-chain.false, c.requires.0)) c.index-chain-i.is c.index-chain-i-2.is k,
+  c.get.result,
+  c.get-2.result,
+  edge_at c.args.side S c.args.chain.now.items c.args.q _ _ c.args.i c.requires (omega (arith, c.if-i-eq0.false))
+      (omega (arith, c.if-i-eq0.false, c.if-i-len.false, c.len.ensures, c.requires.0)) c.get.ensures c.get-2.ensures k,
   let e = cast_side _ c.turn-inwards.ensures.size ∙ c.turn-inwards.ensures.value in
       omega (arith, ints, e, c.if-inwards-lt0.true),
 )
 
 pub returns-then-inwards-gt0 : goal.returns-then-inwards-gt0
 returns-then-inwards-gt0 c = λ S k. (
-  c.index-chain-i.result,
-  c.index-chain-i-2.result,
-  edge_at c.args.side S c.args.chain.now c.args.q _ _ c.args.i c.requires (omega (arith, c.if-i-eq0.false))
-      (omega (arith, c.if-i-eq0.false, c.if-i-chain.false, c.requires.0)) c.index-chain-i.is c.index-chain-i-2.is k,
+  c.get.result,
+  c.get-2.result,
+  edge_at c.args.side S c.args.chain.now.items c.args.q _ _ c.args.i c.requires (omega (arith, c.if-i-eq0.false))
+      (omega (arith, c.if-i-eq0.false, c.if-i-len.false, c.len.ensures, c.requires.0)) c.get.ensures c.get-2.ensures k,
   let e = cast_side _ c.turn-inwards.ensures.size ∙ c.turn-inwards.ensures.value in
       omega (arith, ints, e, c.if-inwards-gt0.true),
 )
 
 pub returns-else-inwards-gt0 : goal.returns-else-inwards-gt0
 returns-else-inwards-gt0 c = λ S k.
-    on_edge c.args.side S c.args.q c.index-chain-i.result c.index-chain-i-2.result
-    (edge_at c.args.side S c.args.chain.now c.args.q _ _ c.args.i c.requires (omega (arith, c.if-i-eq0.false))
-    (omega (arith, c.if-i-eq0.false, c.if-i-chain.false, c.requires.0)) c.index-chain-i.is c.index-chain-i-2.is k)
+    on_edge c.args.side S c.args.q c.get.result c.get-2.result
+    (edge_at c.args.side S c.args.chain.now.items c.args.q _ _ c.args.i c.requires (omega (arith, c.if-i-eq0.false))
+    (omega (arith, c.if-i-eq0.false, c.if-i-len.false, c.len.ensures, c.requires.0)) c.get.ensures c.get-2.ensures k)
     (let e = cast_side _ c.turn-inwards.ensures.size ∙ c.turn-inwards.ensures.value in
     omega (arith, ints, e, c.if-inwards-lt0.false, c.if-inwards-gt0.false))

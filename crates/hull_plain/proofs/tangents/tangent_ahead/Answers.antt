@@ -7,8 +7,8 @@ use Rattle.hull_plain.proofs.tangents.tangent_ahead.Goals as goal
 pub returns : goal.returns
 returns c = λ S k clear.
     let at = c.first_failing.result in
-    ahead_touched c.args.side S c.args.chain.now at c.args.q c.index-chain-first_failing.result
-    (c.index-chain-first_failing.is ∙ get_or_free c.args.chain.now at _ _ c.first_failing.ensures.within) k clear
+    ahead_touched c.args.side S c.args.chain.now.items at c.args.q c.get.result
+    (c.get.ensures ∙ get_or_free c.args.chain.now.items at _ _ c.first_failing.ensures.within) k clear
     c.first_failing.ensures.within c.requires.before
     (λ h b. let k = c.first_failing.ensures.held h in search (rules, of_calls))
     (λ h. let k = c.first_failing.ensures.fails h in search (rules, of_calls))

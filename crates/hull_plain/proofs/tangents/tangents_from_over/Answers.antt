@@ -9,25 +9,25 @@ pub tangent_ahead-requires-clause-some : goal.tangent_ahead-requires-clause-some
 tangent_ahead-requires-clause-some c =
     let S = c.requires.chains.0 in
     let seen = c.in-Outwards.ensures S c.requires.chains.1.above in
-    some_chain Upper S c.args.upper.now seen.0 c.requires.chains.1.above seen.2.edge.from
+    some_chain Upper S c.args.upper.now.items seen.0 c.requires.chains.1.above seen.2.edge.from
 
 pub tangent_ahead-requires-clause-before : goal.tangent_ahead-requires-clause-before
 tangent_ahead-requires-clause-before c =
     let S = c.requires.chains.0 in
     let seen = c.in-Outwards.ensures S c.requires.chains.1.above in
-    last_after Upper Upper S c.args.upper.now c.args.q seen.0 seen.1 seen.2 c.requires.chains.1.above
+    last_after Upper Upper S c.args.upper.now.items c.args.q seen.0 seen.1 seen.2 c.requires.chains.1.above
 
 pub tangent_behind-requires-clause-some : goal.tangent_behind-requires-clause-some
 tangent_behind-requires-clause-some c =
     let S = c.requires.chains.0 in
     let seen = c.in-Outwards.ensures S c.requires.chains.1.above in
-    some_chain Upper S c.args.upper.now seen.0 c.requires.chains.1.above seen.2.edge.from
+    some_chain Upper S c.args.upper.now.items seen.0 c.requires.chains.1.above seen.2.edge.from
 
 pub tangent_behind-requires-clause-after : goal.tangent_behind-requires-clause-after
 tangent_behind-requires-clause-after c =
     let S = c.requires.chains.0 in
     let seen = c.in-Outwards.ensures S c.requires.chains.1.above in
-    first_before Upper Upper S c.args.upper.now c.args.q seen.0 seen.1 seen.2 c.requires.chains.1.above
+    first_before Upper Upper S c.args.upper.now.items c.args.q seen.0 seen.1 seen.2 c.requires.chains.1.above
 
 pub returns-in-Outwards : goal.returns-in-Outwards
 returns-in-Outwards c = λ S k.

@@ -1,10 +1,9 @@
 -- each chain becomes that of the set with the point
-use Rattle.std.proofs.Common.{sym, subst, List, arith, length, ◌≤◌, ◌+◌}
-use Rattle.std.specs.Map.{keys_of}
+use Rattle.std.proofs.Common.{sym, subst, List, arith}
 use Rattle.lattice.specs.Plane.{Pair}
 use Rattle.hull_plain.specs.Monotone.{AreChainsOf}
 use Rattle.hull_plain.specs.declared.monotone.Side.TheVariants.{Lower, Upper}
-use Rattle.hull_plain.proofs.PlainSets.{chain_few, fringe_few, length_with, fringes_have_less}
+use Rattle.hull_plain.proofs.PlainSets.{chain_few}
 use Rattle.hull_plain.proofs.outline.Outline.add.Goals as goal
 
 pub put_in-requires-clause-absent : goal.put_in-requires-clause-absent
@@ -13,12 +12,15 @@ put_in-requires-clause-absent c = λ m. c.requires.outline.3 (c.requires.outline
 pub put_in-requires-clause-room : goal.put_in-requires-clause-room
 put_in-requires-clause-room c =
     let few = chain_few Lower c.requires.outline.0 c.args.self.now.lower.items c.requires.outline.1.chains.below in
-    omega (arith, few, c.requires.outline.4.lower, c.args.self.now.lower.ok)
+    omega (arith, few, c.requires.outline.4.lower)
 
-pub put_in-requires-clause-spare_room : goal.put_in-requires-clause-spare_room
-put_in-requires-clause-spare_room c =
+pub put_in-requires-clause-draft_room : goal.put_in-requires-clause-draft_room
+put_in-requires-clause-draft_room c =
     let few = chain_few Lower c.requires.outline.0 c.args.self.now.lower.items c.requires.outline.1.chains.below in
-    omega (arith, few, c.requires.outline.4.spare, c.args.self.now.lower.ok)
+    record {
+      fresh = omega (arith, few, c.requires.outline.4.draft.fresh);
+      rest = omega (arith, few, c.requires.outline.4.draft.rest);
+    }
 
 pub put_in-requires-2-clause-absent : goal.put_in-requires-2-clause-absent
 put_in-requires-2-clause-absent c = λ m. c.requires.outline.3 (c.requires.outline.1.chains.above.among c.args.p m)
@@ -26,37 +28,33 @@ put_in-requires-2-clause-absent c = λ m. c.requires.outline.3 (c.requires.outli
 pub put_in-requires-2-clause-room : goal.put_in-requires-2-clause-room
 put_in-requires-2-clause-room c =
     let few = chain_few Upper c.requires.outline.0 c.args.self.now.upper.items c.requires.outline.1.chains.above in
-    omega (arith, few, c.requires.outline.4.upper, c.args.self.now.upper.ok)
+    omega (arith, few, c.requires.outline.4.upper)
 
-pub put_in-requires-2-clause-spare_room : goal.put_in-requires-2-clause-spare_room
-put_in-requires-2-clause-spare_room c =
+pub put_in-requires-2-clause-draft_room : goal.put_in-requires-2-clause-draft_room
+put_in-requires-2-clause-draft_room c =
     let few = chain_few Upper c.requires.outline.0 c.args.self.now.upper.items c.requires.outline.1.chains.above in
-    omega (arith, few, c.requires.outline.4.spare, c.put_in.ensures.spare_capacity, c.args.self.now.upper.ok)
+    record {
+      fresh = omega (arith, few, c.requires.outline.4.draft.fresh, c.put_in.ensures.room.fresh);
+      rest = omega (arith, few, c.requires.outline.4.draft.rest, c.put_in.ensures.room.rest);
+    }
 
 pub add-requires-clause-fringes : goal.add-requires-clause-fringes
-add-requires-clause-fringes c = (c.requires.outline.0, c.requires.outline.1.fringes, c.requires.outline.2)
+add-requires-clause-fringes c = (
+  c.requires.outline.0,
+  c.requires.outline.1.fringes,
+  c.requires.outline.2,
+  c.requires.outline.4.fringes,
+  record {
+    fresh = omega (arith, c.requires.outline.4.draft.fresh, c.put_in.ensures.room.fresh, c.put_in-2.ensures.room.fresh);
+    rest = omega (arith, c.requires.outline.4.draft.rest, c.put_in.ensures.room.rest, c.put_in-2.ensures.room.rest);
+  },
+)
 
 pub add-requires-clause-absent_below : goal.add-requires-clause-absent_below
 add-requires-clause-absent_below c = λ m. c.requires.outline.3 (c.requires.outline.1.fringes.below.among c.args.p m)
 
 pub add-requires-clause-absent_above : goal.add-requires-clause-absent_above
 add-requires-clause-absent_above c = λ m. c.requires.outline.3 (c.requires.outline.1.fringes.above.among c.args.p m)
-
-pub add-requires-clause-room_below : goal.add-requires-clause-room_below
-add-requires-clause-room_below c =
-    let few = fringe_few Lower c.requires.outline.0 c.args.self.now.fringes.below.items c.requires.outline.1.fringes.below
-    in omega (arith, few, c.requires.outline.4.fringes.below, c.args.self.now.fringes.below.ok)
-
-pub add-requires-clause-room_above : goal.add-requires-clause-room_above
-add-requires-clause-room_above c =
-    let few = fringe_few Upper c.requires.outline.0 c.args.self.now.fringes.above.items c.requires.outline.1.fringes.above
-    in omega (arith, few, c.requires.outline.4.fringes.above, c.args.self.now.fringes.above.ok)
-
-pub add-requires-clause-room : goal.add-requires-clause-room
-add-requires-clause-room c =
-    let few : length (keys_of c.args.points.now.entries) ≤ length c.requires.outline.0 + 1 =
-    rw c.requires.outline.2 (length_with c.args.p c.requires.outline.0) in
-    fringes_have_less c.requires.outline.4.fringes few
 
 pub returns-clause-outline : goal.returns-clause-outline
 returns-clause-outline c = record {
@@ -68,4 +66,27 @@ returns-clause-outline c = record {
         above = c.put_in-2.ensures.chain S c.requires.outline.1.chains.above;
       });
   fringes = c.add.ensures.fringes;
+}
+
+pub returns-clause-kept : goal.returns-clause-kept
+returns-clause-kept c = λ n h. record {
+  lower = omega (arith, h.lower, c.put_in.ensures.chain_room);
+  upper = omega (arith, h.upper, c.put_in-2.ensures.chain_room);
+  fringes = c.add.ensures.kept n h.fringes;
+  draft = record {
+    fresh = omega (
+      arith,
+      h.draft.fresh,
+      c.put_in.ensures.room.fresh,
+      c.put_in-2.ensures.room.fresh,
+      c.add.ensures.draft_room.fresh,
+    );
+    rest = omega (
+      arith,
+      h.draft.rest,
+      c.put_in.ensures.room.rest,
+      c.put_in-2.ensures.room.rest,
+      c.add.ensures.draft_room.rest,
+    );
+  };
 }

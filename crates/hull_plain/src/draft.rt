@@ -1,0 +1,121 @@
+//! The front of a list that is made anew, before it is written.
+ghost use Rattle.std.specs.Prelude.{◌≡◌, ◌+◌, ◌-◌, ◌<◌, ◌≤◌, ◌++◌, ◌∷◌, [], ℕ, List, OnOk, Option, None, length, take, drop, true};
+ghost use Rattle.std.specs.Prelude.{vec_len, vec_capacity};
+ghost use Rattle.lattice.specs.Plane.{Pair};
+ghost use Rattle.hull_plain.specs.Drafts.{AreLastTwo, DraftHasRoom, IsAsRoomy, drafted};
+
+use heap::Heap;
+use lattice::Point;
+use std::alloc::AllocError;
+use tiered_list::TieredList;
+
+/// The first points of a list, as many as are kept, and fresh ones behind them. Beside it room for the list's rest, while
+/// that is written again.
+#[derive(Drop)]
+pub(crate) struct Draft {
+    kept: usize,
+    fresh: Vec<Point, Heap>,
+    rest: Vec<Point, Heap>,
+}
+
+impl Draft {
+    /// A draft of nothing, with no room. Asks for no memory.
+    pub(crate) fn new(alloc: Heap) -> Draft {
+        Draft {
+            kept: 0,
+            fresh: Vec::new(alloc),
+            rest: Vec::new(alloc),
+        }
+    }
+
+    /// Where it takes its memory from.
+    pub(crate) fn allocator(&self) -> Heap {
+        *self.fresh.allocator()
+    }
+
+    /// Makes room for lists of `count` points.
+    pub(crate) fn reserve(&mut self, count: usize) -> Result<(), AllocError>
+        ensures room { OnOk result (DraftHasRoom self.new count) }
+        ensures kept { (n : ℕ) → DraftHasRoom self.old n → DraftHasRoom self.new n }
+    {
+        self.fresh.clear();
+        self.rest.clear();
+        self.fresh.reserve(count)?;
+        self.rest.reserve(count)
+    }
+
+    /// Begins with the first points of a list.
+    pub(crate) fn start(&mut self, kept: usize)
+        ensures kept { self.new.kept ≡ kept }
+        ensures none { self.new.fresh.items ≡ [] }
+        ensures room { IsAsRoomy self.old self.new }
+    {
+        self.kept = kept;
+        self.fresh.clear();
+    }
+
+    /// How many fresh points it has.
+    pub(crate) fn fresh_len(&self) -> usize
+        ensures { result ≡ length self.now.fresh.items }
+    {
+        self.fresh.len()
+    }
+
+    /// Whether its last point may go, where those of the list and the first `fixed` fresh ones stay, if that is told.
+    pub(crate) fn may_lose(&self, fixed: Option<usize>) -> bool
+        ensures { fixed ≡ None → result ≡ true }
+    {
+        match fixed {
+            Some(count) => self.fresh.len() > count,
+            None => true,
+        }
+    }
+
+    /// The last two points of it, as the front of that list.
+    pub(crate) fn last_two(&self, list: &TieredList) -> Option<(Point, Point)>
+        requires { self.now.kept ≤ length list.now.items }
+        ensures { AreLastTwo (drafted list.now.items self.now) result }
+    {
+        match self.fresh.as_slice() {
+            [.., a, b] => Some((*a, *b)),
+            [b] if self.kept > 0 => Some((list.get(self.kept - 1), *b)),
+            [] if self.kept > 1 => Some((list.get(self.kept - 2), list.get(self.kept - 1))),
+            _ => None,
+        }
+    }
+
+    /// Takes off its last point.
+    pub(crate) fn pop(&mut self)
+        ensures less { (L : List Pair) → self.old.kept ≤ length L
+            → drafted L self.new ≡ take (length (drafted L self.old) - 1) (drafted L self.old) }
+        ensures within { self.new.kept ≤ self.old.kept }
+        ensures room { IsAsRoomy self.old self.new }
+    {
+        if self.fresh.pop().is_none() {
+            self.kept = self.kept.saturating_sub(1);
+        }
+    }
+
+    /// Puts a point behind it.
+    pub(crate) fn push(&mut self, c: Point)
+        requires { vec_len self.old.fresh < vec_capacity self.old.fresh }
+        ensures kept { self.new.kept ≡ self.old.kept }
+        ensures more { self.new.fresh.items ≡ self.old.fresh.items ++ c ∷ [] }
+        ensures room { IsAsRoomy self.old self.new }
+    {
+        self.fresh.push_reserved(c);
+    }
+
+    /// Makes a list what was drafted as its front, and behind it its own points from `to` on.
+    pub(crate) fn write(&mut self, list: &mut TieredList, to: usize)
+        requires order { self.old.kept ≤ to }
+        requires within { to ≤ length list.old.items }
+        requires room { length (drafted list.old.items self.old) + length (drop to list.old.items) ≤ list.old.room }
+        requires rest_room { length list.old.items ≤ vec_capacity self.old.rest + to }
+        ensures items { list.new.items ≡ drafted list.old.items self.old ++ drop to list.old.items }
+        ensures list_room { list.new.room ≡ list.old.room }
+        ensures room { IsAsRoomy self.old self.new }
+    {
+        list.splice(self.kept, to, &self.fresh, &mut self.rest);
+    }
+}

@@ -1,0 +1,16 @@
+-- the hole came down to here, and no point was lost or changed its place
+use Rattle.std.proofs.Common.{◌≡◌, ◌+◌, ◌*◌, ◌≤◌, length}
+use Rattle.tiered_list.specs.Blocks.{IsFilledBut, points_of}
+use Rattle.tiered_list.proofs.blocks.open_hole.Given as goal
+
+abbrev pub invariant-loop-hole : goal.invariant-loop-hole
+invariant-loop-hole l = record {
+  filled : IsFilledBut l.hole (l.len + 1) l.blocks.items;
+  points : points_of l.blocks.items ≡ points_of l.initial.blocks.items;
+  count : length l.blocks.items ≡ length l.initial.blocks.items;
+  above : l.at ≤ l.hole;
+  below : l.hole * 1024 ≤ l.len;
+}
+
+abbrev pub decreases-loop-hole : goal.decreases-loop-hole
+decreases-loop-hole l = l.hole

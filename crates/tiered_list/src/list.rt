@@ -1,0 +1,95 @@
+//! The list.
+ghost use Rattle.std.specs.Prelude.{◌≡◌, ◌+◌, ◌<◌, ◌≤◌, ◌++◌, ◌==◌, [], OnOk, length, take, drop, slice_index_or};
+ghost use Rattle.std.specs.List.{insert, remove};
+
+use super::BLOCK;
+use super::blocks::{Block, add_blocks, close_hole, dig_hole, fill_hole, open_hole};
+use heap::Heap;
+use lattice::Point;
+use std::alloc::AllocError;
+use std::marker::Model;
+
+/// A list of points in blocks. Contracts see its points, and for how many it has room.
+#[derive(Drop)]
+pub struct TieredList {
+    blocks: Vec<Block, Heap>,
+    len: usize,
+}
+
+impl Model for TieredList {
+    ghost use Rattle.std.specs.Prelude.{◌*◌, length};
+    ghost use Rattle.tiered_list.specs.Blocks.{TieredValue, IsTiered, points_of};
+    ghost use Rattle.tiered_list.specs.declared.TheConstants.{BLOCK};
+
+    ghost Value = { TieredValue };
+
+    ghost view = { λ t. record { items = points_of t.blocks.items; room = BLOCK * length t.blocks.items } };
+
+    ghost invariant = { λ t. IsTiered t.len t.blocks.items };
+}
+
+impl TieredList {
+    /// A list of no points, with no room. Asks for no memory.
+    pub fn new(alloc: Heap) -> TieredList
+        ensures items { result.items ≡ [] }
+    {
+        TieredList {
+            blocks: Vec::new(alloc),
+            len: 0,
+        }
+    }
+
+    /// How many points it has.
+    pub fn len(&self) -> usize
+        ensures { result ≡ length self.now.items }
+    {
+        self.len
+    }
+
+    /// Whether it has none.
+    pub fn is_empty(&self) -> bool
+        ensures { result ≡ (length self.now.items == 0) }
+    {
+        self.len() == 0
+    }
+
+    /// The point at a place.
+    pub fn get(&self, i: usize) -> Point
+        requires { i < length self.now.items }
+        ensures { result ≡ slice_index_or self.now.items i result }
+    {
+        self.blocks[i / BLOCK][i % BLOCK]
+    }
+
+    /// Makes room for `count` points; where memory is refused, it has at least the room that it had.
+    pub fn reserve(&mut self, count: usize) -> Result<(), AllocError>
+        ensures items { self.new.items ≡ self.old.items }
+        ensures room { self.old.room ≤ self.new.room }
+        ensures enough { OnOk result (count ≤ self.new.room) }
+    {
+        add_blocks(&mut self.blocks, count.div_ceil(BLOCK))
+    }
+
+    /// Puts a point in at a place; those from there on move to the next one.
+    pub(crate) fn insert(&mut self, i: usize, point: Point)
+        requires within { i ≤ length self.old.items }
+        requires room { length self.old.items < self.old.room }
+        ensures items { self.new.items ≡ insert self.old.items i point }
+        ensures room { self.new.room ≡ self.old.room }
+    {
+        open_hole(&mut self.blocks, i / BLOCK, self.len);
+        self.len += 1;
+        fill_hole(&mut self.blocks, i / BLOCK, i % BLOCK, point, self.len);
+    }
+
+    /// Takes the point at a place out; those behind it move to the one before.
+    pub(crate) fn remove(&mut self, i: usize)
+        requires within { i < length self.old.items }
+        ensures items { self.new.items ≡ remove self.old.items i }
+        ensures room { self.new.room ≡ self.old.room }
+    {
+        dig_hole(&mut self.blocks, i / BLOCK, i % BLOCK, self.len);
+        close_hole(&mut self.blocks, i / BLOCK, self.len);
+        self.len -= 1;
+    }
+}
