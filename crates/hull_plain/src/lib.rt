@@ -2,7 +2,7 @@
 //!
 //! [`HullSet`] is the promise: each call answers by the allowed-reply relation of `specs/Replies.antt`, which speaks of
 //! the live points, and of how often each is held, alone. [`PlainSet`] keeps it with an ordered map of std, the two chains
-//! of the hull and a fringe behind each, all lists: it is what faster sets are compared with, and what a checker replays
+//! of the hull and a fringe behind each, lists in blocks: it is what faster sets are compared with, and what a checker replays
 //! on.
 //!
 //! # A worked example

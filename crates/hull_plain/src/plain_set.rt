@@ -18,7 +18,7 @@ use std::marker::Model;
 /// so many neighbouring points as twice the root of their number tells, and those that came since the runs were made.
 /// Where a point of a fringe leaves, those between its neighbours there are looked at, found by a range of the map. So
 /// a change costs a logarithm of the points, some runs, the corners of the runs between two corners of the hull, and
-/// the move of a list's rest in memory.
+/// one point of each block of a list behind its place.
 ///
 /// `extreme`, `place` and `tangents` are bisections of the chains; `vertices` and `area2` go along them once. Only
 /// `add` of a new point and `vertices` ask for memory.
