@@ -25,6 +25,7 @@
 mod area;
 mod bisection;
 mod diameter;
+mod distance;
 mod encounters;
 mod extents;
 mod extreme;
@@ -43,7 +44,8 @@ mod vector;
 mod widths;
 mod witnesses;
 
-pub use laws::{never_both, none_nearer_than_corner, none_nearer_than_edge};
+pub use distance::Distance;
+pub use laws::{never_both, none_closer, none_nearer_than_corner, none_nearer_than_edge};
 pub use meetings::Meeting;
 pub use nearest::Nearest;
 pub use outline::Outline;
