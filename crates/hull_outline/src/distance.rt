@@ -111,17 +111,18 @@ impl<'a> Outline<'a> {
         requires apart { HoldsOfBoth (corners_of self.now) (corners_of other.now) (λ S T. IsApart S T) }
         ensures { HoldsOfBoth (corners_of self.now) (corners_of other.now) (λ S T. IsDistance S T result) }
     {
-        if let Some(found) = self.closest_corner(other) {
-            return by_this(found.0, found.1);
+        if let Some(found) = other.closest_corner(self) {
+            return by_other(found.0, found.1);
         }
-        match other.closest_corner(self) {
-            Some(found) => by_other(found.0, found.1),
+        match self.closest_corner(other) {
+            Some(found) => by_this(found.0, found.1),
             None => unreachable!(),
         }
     }
 
     /// Where this hull and `other` are nearest to one another; `None` where either is empty. A question of a segment
-    /// for each edge of `other`, and where they are apart [`Outline::nearest`] for each corner of both at most.
+    /// for each edge of `other`, and where they are apart [`Outline::nearest`] for each corner of `other`, and if none of
+    /// those is the closest of its hull, for each of this one.
     ///
     /// Of `Corners(c, d)` the squared distance is [`distance_squared`](lattice::distance_squared) of the two; of a
     /// corner `c` and an edge from `a` to `b` it is the square of [`orient`](lattice::orient) of `a`, `b` and `c`,
