@@ -264,12 +264,12 @@ hull_reply hull_outline_meets_segment(const hull_point *corners, size_t count, i
 
 /* What parts the outline from that segment, as a caller can see by itself: HULL_APART with a corner (x, y) and a direction (other_x,
  * other_y) whose product with any corner is at most that with (x, y), and whose products with both ends are greater (products of
- * 128 bits: a component takes 42). HULL_MEETING where nothing parts them. One pass over the corners at most. */
+ * 128 bits: a component takes 42). HULL_MEETING where nothing parts them. It takes as many steps as a few questions do. */
 hull_reply hull_outline_apart(const hull_point *corners, size_t count, int64_t ax, int64_t ay, int64_t bx, int64_t by);
 
 /* Where the point of the outline is that is nearest to (x, y): HULL_COVERED, HULL_CORNER or HULL_EDGE. The squared distance is that of
  * the corner; or the square of the side of (x, y) at the edge, (bx - ax) (y - ay) - (by - ay) (x - ax) of up to 84 bits, divided
- * by the squared length of the edge. One pass over the corners. */
+ * by the squared length of the edge. It takes as many steps as a few questions do. */
 hull_reply hull_outline_nearest(const hull_point *corners, size_t count, int64_t x, int64_t y);
 
 /* The smallest box with sides along the axes that holds the outline: HULL_BOX. It takes as many steps as a question does. */
@@ -290,7 +290,8 @@ typedef struct hull_witness {
                     * the first. HULL_CROSSING: the segment from a to b, corners of the first, crosses the one from c to d, corners of
                     * the second. HULL_APART: no corner of the first has a greater product with b, a direction with components of
                     * at most 2^41 in size, than a, one of them, and each corner of the second has. HULL_EDGE: a strip between
-                    * the line of an edge, from a to b, and its parallel through c. HULL_EMPTY: there are too few corners */
+                    * the line of an edge, from a to b, and its parallel through c. HULL_EMPTY: there are too few corners. Of
+                    * hull_outline_distance the codes stand there */
     hull_point a;
     hull_point b;
     hull_point c;
@@ -313,6 +314,14 @@ hull_reply hull_outline_contains(const hull_point *corners, size_t count, const 
 
 /* Where they meet, or what parts them: HULL_COVERED, HULL_WITHIN, HULL_CROSSING, HULL_APART; or HULL_EMPTY where one has no corners. */
 hull_witness hull_outline_witness(const hull_point *corners, size_t count, const hull_point *others, size_t other_count);
+
+/* How far they are apart: where the two are nearest to one another. HULL_MEETING where they have a point in common. HULL_POINTS: at a
+ * corner a of the first and a corner b of the second; the squared distance is that of the two. HULL_CORNER: at a corner a of the first
+ * and its foot on the edge of the second from b to c, counterclockwise, strictly between them. HULL_EDGE: at the foot on the edge of
+ * the first from a to b, and a corner c of the second. With an edge the squared distance is the square of the side of the corner at it,
+ * as hull_outline_nearest has it, divided by the squared length of the edge. HULL_EMPTY where one has no corners. It takes
+ * as long as hull_outline_meets, and hull_outline_nearest for each corner of the second, and at most for each of the first, too. */
+hull_witness hull_outline_distance(const hull_point *corners, size_t count, const hull_point *others, size_t other_count);
 
 /* A support function for callers with directions in doubles: the first of the farthest points in the direction (dx, dy), taken to
  * whole numbers as hull_direction_from_doubles tells (hull_exchange.h); in the direction (0, 0) the first point by x and then y.

@@ -134,6 +134,19 @@ struct Strip {
     Point from, to, farthest;
 };
 
+// Where two outlines are nearest to one another. Of two corners the squared distance is that of the two; of a corner and an edge it is
+// the square of the side of the corner at the edge, up to 84 bits, divided by the squared length of the edge.
+struct Distance {
+    enum class Where : std::uint32_t {
+        zero = HULL_MEETING,           // they have a point in common
+        corners = HULL_POINTS,         // at the corner `a` of the first and the corner `b` of the second
+        corner_and_edge = HULL_CORNER, // at the corner `a` of the first and its foot on the edge from `b` to `c` of the second
+        edge_and_corner = HULL_EDGE    // at the foot on the edge from `a` to `b` of the first, and the corner `c` of the second
+    };
+    Where where;
+    Point a, b, c;
+};
+
 // What a reply tells, as a value; what refuses the call is thrown.
 namespace told {
 
@@ -228,6 +241,13 @@ inline std::optional<Witness> witness(const hull_witness &w) {
         return std::nullopt;
     }
     return Witness{static_cast<Witness::Shows>(w.code), w.a, w.b, w.c, w.d};
+}
+
+inline std::optional<Distance> distance(const hull_witness &w) {
+    if (w.code == HULL_EMPTY) {
+        return std::nullopt;
+    }
+    return Distance{static_cast<Distance::Where>(w.code), w.a, w.b, w.c};
 }
 
 // The corners that `ask`, a call with an array and its length, writes; asked again with room for all where there are more.
@@ -330,6 +350,11 @@ public:
     // Where the two meet, or what parts them; none where one of them has no corners.
     std::optional<Witness> witness(const Outline &other) const {
         return told::witness(hull_outline_witness(data(), corners_.size(), other.data(), other.corners_.size()));
+    }
+
+    // Where the two are nearest to one another; none where one of them has no corners.
+    std::optional<Distance> distance(const Outline &other) const {
+        return told::distance(hull_outline_distance(data(), corners_.size(), other.data(), other.corners_.size()));
     }
 
 private:

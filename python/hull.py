@@ -206,6 +206,7 @@ def _library():
         ("outline_contains", [at, ctypes.c_size_t, at, ctypes.c_size_t], _Reply),
         ("outline_least_width", [at, ctypes.c_size_t], _Witness),
         ("outline_witness", [at, ctypes.c_size_t, at, ctypes.c_size_t], _Witness),
+        ("outline_distance", [at, ctypes.c_size_t, at, ctypes.c_size_t], _Witness),
         ("outline_calls", [at, ctypes.c_size_t, at, ctypes.c_size_t, at, ctypes.c_size_t], ctypes.c_size_t),
         ("vertices", [at, at, ctypes.c_size_t], _Reply),
         ("calls", [at, at, ctypes.c_size_t, at, ctypes.c_size_t], ctypes.c_size_t),
@@ -818,6 +819,20 @@ class Outline(_Questions):
             return None
         count = {Shows.APART: 2, Shows.CROSSING: 4}.get(told.code, 1)
         return Witness(Shows(told.code), tuple(map(tuple, (told.a, told.b, told.c, told.d)))[:count])
+
+    def distance(self, other):
+        """Where the two outlines are nearest to one another: a place on this one and one on the other; None where one has no corner.
+
+        Of one pair a place is that corner; of two it is a foot on the edge between them; of none the outlines have a point in
+        common. The squared distance of two corners is that of the two; with an edge it is the square of the corner's side at it,
+        by the squared length of the edge.
+        """
+        told = self._beside(_LIBRARY.hull_outline_distance, other)
+        if told.code == _Code.EMPTY:
+            return None
+        ours, theirs = {_Code.POINTS: (1, 1), _Code.CORNER: (1, 2), _Code.EDGE: (2, 1)}.get(told.code, (0, 0))
+        points = tuple(map(tuple, (told.a, told.b, told.c)))
+        return points[:ours], points[ours:ours + theirs]
 
     def vertices(self):
         """The corners as pairs."""

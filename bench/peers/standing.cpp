@@ -17,6 +17,7 @@
 #include <boost/geometry/geometries/point_xy.hpp>
 #include <boost/geometry/geometries/polygon.hpp>
 #include <chrono>
+#include <cmath>
 #include <cstdio>
 #include <cstdlib>
 #include <ctime>
@@ -170,6 +171,11 @@ class Geos {
         GEOS_finish_r(context);
     }
     bool meets(size_t i) const { return GEOSPreparedIntersects_r(context, prepared, shapes[i]) == 1; }
+    double distance(size_t i) const {
+        double apart = 0;
+        GEOSPreparedDistance_r(context, prepared, shapes[i], &apart);
+        return apart;
+    }
 };
 
 // each of the points by itself
@@ -306,6 +312,21 @@ void time_places(Table &table, const Ours &ours, const Chain &chain, const Point
     }
 }
 
+// How far two outlines are apart, from what is told of them.
+double distance_of(const hull_witness &w) {
+    const auto far = [](Point p, Point q) { return std::hypot(static_cast<double>(q.x - p.x), static_cast<double>(q.y - p.y)); };
+    const auto beside = [&](Point a, Point b, Point c) {
+        const __int128 side = static_cast<__int128>(b.x - a.x) * (c.y - a.y) - static_cast<__int128>(b.y - a.y) * (c.x - a.x);
+        return std::abs(static_cast<double>(side)) / far(a, b);
+    };
+    switch (w.code) {
+    case HULL_POINTS: return far(w.a, w.b);
+    case HULL_CORNER: return beside(w.b, w.c, w.a);
+    case HULL_EDGE: return beside(w.a, w.b, w.c);
+    default: return 0;
+    }
+}
+
 // Motions from each of the points an eighth of the way to the next, and triangles there, that may meet the outline. GEOS multiplies
 // doubles, so how often it differs is told.
 void time_meetings(Table &table, const Chain &chain, const Points &asked) {
@@ -349,6 +370,39 @@ void time_meetings(Table &table, const Chain &chain, const Points &asked) {
     });
     if (ours != theirs) {
         std::printf("of %zu motions and triangles %zu meet, and by GEOS %zu\n", 2 * n, ours, theirs);
+    }
+}
+
+// The same triangles, and then beside the outline, to the right of it by its width: how far they are apart. GEOS has doubles, so how
+// many of its distances are others is told.
+void time_distances(Table &table, const Chain &chain, const Points &asked) {
+    const size_t n = asked.size(), h = chain.corners.size();
+    const Point *corners = chain.corners.data();
+    const auto [least, greatest] = std::minmax_element(corners, corners + h, [](Point p, Point q) { return p.x < q.x; });
+    for (const int64_t right : {int64_t{0}, 2 * (greatest->x - least->x)}) {
+        const std::string name = right == 0 ? "triangle" : "beside";
+        std::vector<Points> triangles;
+        for (size_t i = 0; i < n; i++) {
+            const Point p{asked[i].x + right, asked[i].y}, &next = asked[(i + 1) % n];
+            const Point q{p.x + (next.x - asked[i].x) / 8, p.y + (next.y - p.y) / 8};
+            triangles.push_back(Chain::of({p, q, {p.x - (q.y - p.y), p.y + (q.x - p.x)}}).corners);
+        }
+        const Geos geos(chain.corners, triangles);
+        table.time(name, "hull_outline_distance", n, [&] {
+            return count_of(asked, [&](size_t i) {
+                return hull_outline_distance(corners, h, triangles[i].data(), triangles[i].size()).code != HULL_MEETING;
+            });
+        });
+        table.time(name, "GEOS prepared, the distance", n, [&] {
+            return count_of(asked, [&](size_t i) { return geos.distance(i) > 0; });
+        });
+        const size_t differ = count_of(asked, [&](size_t i) {
+            const double told = distance_of(hull_outline_distance(corners, h, triangles[i].data(), triangles[i].size()));
+            return std::abs(told - geos.distance(i)) > 1e-9 * told + 1e-6;
+        });
+        if (differ > 0) {
+            std::printf("of %zu distances %zu are not those of GEOS\n", n, differ);
+        }
     }
 }
 
@@ -432,6 +486,7 @@ int main(int argc, char **argv) {
         time_places(table, ours, chain, asked, chain.corners.size() < 1000);
         time_extremes(table, ours, chain, directions);
         time_meetings(table, chain, asked);
+        time_distances(table, chain, asked);
     }
     std::printf("%s, %zu points, %zu corners\n", shape.c_str(), count, chain.corners.size());
     table.print();

@@ -468,12 +468,75 @@ static int shown(const hull_point *out, size_t count, const hull_point *others, 
     return same;
 }
 
+/* a number, divided by another */
+typedef struct fraction {
+    __int128 over;
+    __int128 under;
+} fraction;
+
+static __int128 apart_squared(hull_point p, hull_point q) { return product(q.x - p.x, q.y - p.y, q.x - p.x, q.y - p.y); }
+
+/* the squared distance of p and the segment from a to b; `foot` is set where it is to a point strictly between those */
+static fraction to_segment(hull_point a, hull_point b, hull_point p, int *foot) {
+    const __int128 on = product(b.x - a.x, b.y - a.y, p.x - a.x, p.y - a.y), whole = apart_squared(a, b), s = side(a, b, p);
+    *foot = on > 0 && on < whole;
+    return *foot ? (fraction){s * s, whole} : (fraction){on <= 0 ? apart_squared(a, p) : apart_squared(b, p), 1};
+}
+
+/* the least squared distance of a corner of the one and an edge of the other, of all of them */
+static fraction least_between(const hull_point *out, size_t count, const hull_point *others, size_t other_count) {
+    fraction least = {apart_squared(out[0], others[0]), 1};
+    int foot;
+    for (size_t i = 0; i < count; i++) {
+        for (size_t j = 0; j < other_count; j++) {
+            const fraction here = to_segment(others[j], others[(j + 1) % other_count], out[i], &foot);
+            const fraction there = to_segment(out[i], out[(i + 1) % count], others[j], &foot);
+            least = here.over * least.under < least.over * here.under ? here : least;
+            least = there.over * least.under < least.over * there.under ? there : least;
+        }
+    }
+    return least;
+}
+
+/* whether b is the corner behind a */
+static int is_edge(const hull_point *corners, size_t count, hull_point a, hull_point b) {
+    int there = 0;
+    for (size_t i = 0; i < count; i++) {
+        const hull_point next = corners[(i + 1) % count];
+        there |= corners[i].x == a.x && corners[i].y == a.y && next.x == b.x && next.y == b.y;
+    }
+    return there;
+}
+
+/* where two outlines are nearest is on them, so far off and no farther than any corner and edge; and nothing stands beside it */
+static int nearest_told(const hull_point *out, size_t count, const hull_point *others, size_t other_count, int *edges) {
+    const hull_witness w = hull_outline_distance(out, count, others, other_count);
+    const fraction least = least_between(out, count, others, other_count);
+    int foot = 1, same = w.d.x == 0 && w.d.y == 0;
+    fraction told = {0, 1};
+    if (hull_outline_meets(out, count, others, other_count).number == 1) {
+        return same && w.code == HULL_MEETING && !w.a.x && !w.a.y && !w.b.x && !w.b.y && !w.c.x && !w.c.y;
+    }
+    if (w.code == HULL_POINTS) {
+        same &= is_among(out, count, w.a) && is_among(others, other_count, w.b) && w.c.x == 0 && w.c.y == 0;
+        told.over = apart_squared(w.a, w.b);
+    } else if (w.code == HULL_CORNER) {
+        same &= is_among(out, count, w.a) && is_edge(others, other_count, w.b, w.c);
+        told = to_segment(w.b, w.c, w.a, &foot);
+    } else {
+        same &= w.code == HULL_EDGE && is_edge(out, count, w.a, w.b) && is_among(others, other_count, w.c);
+        told = to_segment(w.a, w.b, w.c, &foot);
+    }
+    *edges += w.code != HULL_POINTS;
+    return same && foot && told.over * least.under == least.over * told.under;
+}
+
 /* outlines beside one another: a quadrangle, a triangle, two segments, a point, each shifted over a grid */
 static void two_outlines(void) {
     static const hull_point shapes[][4] = {
         {{0, 0}, {3, -1}, {5, 2}, {1, 3}}, {{0, 0}, {8, 0}, {0, 6}}, {{0, 0}, {2, 1}}, {{0, 0}, {0, 4}}, {{0, 0}}};
     static const size_t counts[] = {4, 3, 2, 2, 1};
-    int same = 1, met = 0, tries = 0;
+    int same = 1, met = 0, tries = 0, near = 1, edges = 0;
     for (int i = 0; i < 5 * 5 * 23 * 23; i++, tries++) {
         const hull_point *out = shapes[i % 5];
         hull_point others[4];
@@ -482,16 +545,26 @@ static void two_outlines(void) {
             others[j].y = shapes[i / 5 % 5][j].y + i / 575 - 11;
         }
         same &= shown(out, counts[i % 5], others, counts[i / 5 % 5], &met);
+        near &= nearest_told(out, counts[i % 5], others, counts[i / 5 % 5], &edges);
     }
     CHECK(same && met > 900 && met < tries - 900);
+    CHECK(near && edges > 900 && edges < tries - met - 900);
     CHECK(number(hull_outline_meets(shapes[0], 0, shapes[1], 3), HULL_NUMBER, 0));
     CHECK(number(hull_outline_meets(shapes[0], 4, shapes[1], 0), HULL_NUMBER, 0));
     CHECK(number(hull_outline_contains(shapes[0], 0, shapes[1], 0), HULL_NUMBER, 1));
     CHECK(number(hull_outline_contains(shapes[0], 0, shapes[1], 1), HULL_NUMBER, 0));
     CHECK(hull_outline_witness(shapes[0], 0, shapes[1], 3).code == HULL_EMPTY);
     CHECK(hull_outline_witness(shapes[0], 4, shapes[1], 0).code == HULL_EMPTY);
+    CHECK(hull_outline_distance(shapes[0], 0, shapes[1], 3).code == HULL_EMPTY);
+    CHECK(hull_outline_distance(shapes[0], 4, shapes[1], 0).code == HULL_EMPTY);
+    static const int64_t far = HULL_COORDINATE_MAX;
+    static const hull_point rising[] = {{-far, -far}, {far, far - 1}}, above[] = {{-far + 1, far}}, falling[] = {{-far, far}, {far, -far + 2}};
+    const hull_witness wide = hull_outline_distance(rising, 2, above, 1);
+    CHECK(wide.code == HULL_EDGE && wide.a.x == far && wide.b.x == -far && wide.c.x == above[0].x);
+    CHECK(hull_outline_distance(above, 1, falling, 2).code == HULL_CORNER && hull_outline_distance(rising, 2, falling, 2).code == HULL_MEETING);
     refused_from = 0, asked = 0;
     CHECK(hull_outline_witness(shapes[0], 4, shapes[1], 3).code != HULL_NO_MEMORY && asked == 0);
+    CHECK(hull_outline_distance(shapes[0], 4, shapes[1], 3).code != HULL_NO_MEMORY && asked == 0);
     refused_from = -1;
 }
 

@@ -103,6 +103,13 @@ static void two_outlines() {
     CHECK(apart && apart->shows == Shows::apart && apart->a == (Point{10, 10}) && apart->b == (Point{10, 0}));
     CHECK(crossing && crossing->shows == Shows::crossing && crossing->c == (Point{-5, 5}) && crossing->d == (Point{15, 6}));
     CHECK(!none.witness(outline) && !outline.witness(none) && !none.meets(outline) && outline.contains(none));
+    using Where = hull::Distance::Where;
+    const hull::Outline aside({{13, 5}});
+    const auto zero = outline.distance(small), corners = outline.distance(beside), edge = outline.distance(aside), corner = aside.distance(outline);
+    CHECK(zero && zero->where == Where::zero && !outline.distance(none) && !none.distance(outline));
+    CHECK(corners && corners->where == Where::corners && corners->a == (Point{10, 0}) && corners->b == (Point{12, 0}));
+    CHECK(edge && edge->where == Where::edge_and_corner && edge->a == (Point{10, 0}) && edge->b == (Point{10, 10}) && edge->c == (Point{13, 5}));
+    CHECK(corner && corner->where == Where::corner_and_edge && corner->a == (Point{13, 5}) && corner->b == edge->a && corner->c == edge->b);
     const auto strip = beside.least_width();
     CHECK(strip && strip->from == (Point{12, 6}) && strip->to == (Point{12, 0}) && strip->farthest == (Point{15, 3}));
     CHECK(!none.least_width() && !hull::Outline({{3, 4}}).least_width());

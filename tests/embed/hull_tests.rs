@@ -1,5 +1,5 @@
 //! Each function of `rust/hull`, each of its answers and each of its faults.
-use hull::{direction_of, wkt, Fault, Held, Hull, Lattice, Nearest, Outline, Place, Point, Separation, Strip, Witness};
+use hull::{direction_of, wkt, Distance, Fault, Held, Hull, Lattice, Nearest, Outline, Place, Point, Separation, Strip, Witness};
 use hull::{COORDINATE_LIMIT, MULTIPLICITY_LIMIT, POINT_LIMIT};
 
 fn point(x: i64, y: i64) -> Point {
@@ -116,6 +116,12 @@ fn two_outlines() {
     assert!(matches!(outline.witness(&across), Some(Witness::Crossing(_, [p, q])) if across.corners() == [p, q]));
     assert_eq!((outline.witness(&none), none.witness(&outline), none.diameter()), (None, None, None));
     assert!(!none.meets(&outline) && outline.contains(&none) && !none.contains(&outline));
+    let far = Outline::new(&[point(13, 5)]).unwrap();
+    let edge = [point(10, 0), point(10, 10)];
+    assert_eq!((outline.distance(&small), outline.distance(&none)), (Some(Distance::Zero), None));
+    assert_eq!(outline.distance(&beside), Some(Distance::Corners(point(10, 0), point(12, 0))));
+    assert_eq!(outline.distance(&far), Some(Distance::EdgeAndCorner(edge, point(13, 5))));
+    assert_eq!(far.distance(&outline), Some(Distance::CornerAndEdge(point(13, 5), edge)));
     let strip = Strip { from: point(12, 6), to: point(12, 0), farthest: point(15, 3) };
     assert_eq!((beside.least_width(), none.least_width()), (Some(strip), None));
     let (p, q) = outline.diameter().unwrap();

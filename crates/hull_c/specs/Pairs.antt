@@ -3,10 +3,13 @@ use Rattle.std.specs.Prelude.{◌≡◌, ◌⊎◌, ◌↔◌, ℕ, List, [], Bo
 use Rattle.lattice.specs.Plane.{Pair}
 use Rattle.hull_plain.specs.Positions.{origin}
 use Rattle.hull_outline.specs.Boxes.{Holds}
+use Rattle.hull_outline.specs.Closest.{IsDistance}
 use Rattle.hull_outline.specs.Extents.{IsLeastWidth, IsOnePoint}
 use Rattle.hull_outline.specs.Meetings.{TellsMeeting}
 use Rattle.hull_outline.specs.Outlines.{HoldsOfBoth, HoldsOfSetsOf}
 use Rattle.hull_outline.specs.Witnesses.{IsWitness}
+use Rattle.hull_outline.specs.declared.distance.Distance.{Distance}
+use Rattle.hull_outline.specs.declared.distance.Distance.TheVariants as distance
 use Rattle.hull_outline.specs.declared.meetings.Meeting.TheVariants as meeting
 use Rattle.hull_outline.specs.declared.strips.Strip.{Strip}
 use Rattle.hull_outline.specs.declared.witnesses.Witness.{Witness}
@@ -72,3 +75,18 @@ abbrev pub TellsLeastWidth : List Pair → HullWitness → Type 0
 TellsLeastWidth corners told =
     (found : Option Strip) × IsStripTold found told
     × HoldsOfSetsOf corners (λ S. MatchOption found (IsOnePoint S) (λ w. IsLeastWidth S w))
+
+-- where they are nearest: they meet, or a corner of each, or a corner of the one and an edge of the other
+abbrev pub IsDistanceTold : Option Distance → HullWitness → Type 0
+IsDistanceTold None told = IsShown (code_number code.Empty) origin origin origin origin told
+IsDistanceTold (Some distance.Zero) told =
+    IsShown (finding_number finding.Meeting) origin origin origin origin told
+IsDistanceTold (Some (distance.Corners c d)) told = IsShown (finding_number finding.Points) c d origin origin told
+IsDistanceTold (Some (distance.CornerAndEdge c a b)) told = IsShown (finding_number finding.Corner) c a b origin told
+IsDistanceTold (Some (distance.EdgeAndCorner a b d)) told = IsShown (finding_number finding.Edge) a b d origin told
+
+-- that is so of each two sets with these corners
+abbrev pub TellsDistance : List Pair → List Pair → HullWitness → Type 0
+TellsDistance corners others told =
+    (found : Option Distance) × IsDistanceTold found told
+    × HoldsOfBoth corners others (λ S T. MatchOption found ((S ≡ []) ⊎ (T ≡ [])) (λ x. IsDistance S T x))

@@ -18,7 +18,7 @@ ghost use Rattle.hull_reply.specs.Served.{IsAnswered};
 ghost use Rattle.hull_c.specs.Bridges.{AreBridges};
 ghost use Rattle.hull_c.specs.Findings.{IsToldAlong, IsToldOf, TellsBox, TellsDiameter, TellsNearest, TellsParting};
 ghost use Rattle.hull_c.specs.Findings.{TellsWhether, TellsWidth};
-ghost use Rattle.hull_c.specs.Pairs.{TellsContains, TellsLeastWidth, TellsMeets, TellsWitness};
+ghost use Rattle.hull_c.specs.Pairs.{TellsContains, TellsDistance, TellsLeastWidth, TellsMeets, TellsWitness};
 ghost use Rattle.hull_c.specs.Held.{AreLoaded, IsListed};
 ghost use Rattle.hull_c.specs.Left.{leaves_room};
 ghost use Rattle.hull_c.specs.Loads.{IsLoaded};
@@ -326,6 +326,16 @@ pub extern "C" fn hull_outline_witness(corners: &[Point], others: &[Point]) -> H
     ensures { TellsWitness corners.now others.now result }
 {
     pairs::witness(corners, others)
+}
+
+/// How far the hulls of two arrays of corners are apart: where they are nearest to one another.
+#[unsafe(no_mangle)]
+pub extern "C" fn hull_outline_distance(corners: &[Point], others: &[Point]) -> HullWitness
+    requires this { IsShortOutline corners.now }
+    requires that { IsShortOutline others.now }
+    ensures { TellsDistance corners.now others.now result }
+{
+    pairs::distance(corners, others)
 }
 
 /// Tells whether points are the corners of a set in the order in which [`hull_vertices`] writes them: 1, or 0.

@@ -4,11 +4,11 @@ ghost use Rattle.hull_plain.specs.Positions.{origin};
 ghost use Rattle.hull_outline.specs.Outlines.{IsShortOutline};
 ghost use Rattle.hull_outline.specs.declared.witnesses.Witness.TheVariants as witness;
 ghost use Rattle.hull_c.specs.Findings.{finding_number};
-ghost use Rattle.hull_c.specs.Pairs.{IsShown, IsStripTold, IsWitnessTold};
-ghost use Rattle.hull_c.specs.Pairs.{TellsContains, TellsLeastWidth, TellsMeets, TellsWitness};
+ghost use Rattle.hull_c.specs.Pairs.{IsDistanceTold, IsShown, IsStripTold, IsWitnessTold};
+ghost use Rattle.hull_c.specs.Pairs.{TellsContains, TellsDistance, TellsLeastWidth, TellsMeets, TellsWitness};
 
 use super::findings::Finding;
-use hull_outline::{Meeting, Outline, Separation, Strip, Witness};
+use hull_outline::{Distance, Meeting, Outline, Separation, Strip, Witness};
 use hull_reply::{Code, HullReply};
 use lattice::Point;
 
@@ -148,16 +148,31 @@ pub(crate) fn contains(corners: &[Point], others: &[Point]) -> HullReply
     HullReply::numbered(Code::Number, u64::from(holds))
 }
 
+/// A finding with two points.
+fn with_two(finding: Finding, a: Point, b: Point) -> HullWitness
+    ensures { IsShown (finding_number finding) a b origin origin result }
+{
+    let mut shown = at(finding, a);
+    shown.other_x = b.x();
+    shown.other_y = b.y();
+    shown
+}
+
+/// A finding with three points.
+fn with_three(finding: Finding, a: Point, b: Point, c: Point) -> HullWitness
+    ensures { IsShown (finding_number finding) a b c origin result }
+{
+    let mut shown = with_two(finding, a, b);
+    shown.third_x = c.x();
+    shown.third_y = c.y();
+    shown
+}
+
 /// The strip of an edge.
 fn strip(found: Strip) -> HullWitness
     ensures { IsStripTold (Some found) result }
 {
-    let mut shown = at(Finding::Edge, found.from);
-    shown.other_x = found.to.x();
-    shown.other_y = found.to.y();
-    shown.third_x = found.farthest.x();
-    shown.third_y = found.farthest.y();
-    shown
+    with_three(Finding::Edge, found.from, found.to, found.farthest)
 }
 
 /// A strip, if there is one.
@@ -176,4 +191,35 @@ pub(crate) fn least_width(corners: &[Point]) -> HullWitness
     ensures { TellsLeastWidth corners.now result }
 {
     strip_of(Outline::of_vertices(corners).least_width())
+}
+
+/// Where two outlines are nearest to one another.
+fn closest(found: Distance) -> HullWitness
+    ensures { IsDistanceTold (Some found) result }
+{
+    match found {
+        Distance::Zero => bare(Finding::Meeting.number()),
+        Distance::Corners(c, d) => with_two(Finding::Points, c, d),
+        Distance::CornerAndEdge(c, a, b) => with_three(Finding::Corner, c, a, b),
+        Distance::EdgeAndCorner(a, b, d) => with_three(Finding::Edge, a, b, d),
+    }
+}
+
+/// Where two outlines are nearest to one another, if both have corners.
+fn closest_of(found: Option<Distance>) -> HullWitness
+    ensures { IsDistanceTold found result }
+{
+    match found {
+        None => bare(Code::Empty.number()),
+        Some(distance) => closest(distance),
+    }
+}
+
+/// How far two outlines are apart.
+pub(crate) fn distance(corners: &[Point], others: &[Point]) -> HullWitness
+    requires this { IsShortOutline corners.now }
+    requires that { IsShortOutline others.now }
+    ensures { TellsDistance corners.now others.now result }
+{
+    closest_of(Outline::of_vertices(corners).distance(&Outline::of_vertices(others)))
 }

@@ -16,7 +16,7 @@ use Rattle.hull_outline.proofs.EdgesOf.{all_of}
 use Rattle.hull_outline.proofs.Shields.{product_left}
 
 -- a covered point is no farther in a direction than what no point of S is farther than
-covered_near : (S : List Pair) (d p : Pair) (m : ℤ) → ((s : Pair) → Contains S s → product d s ≤ℤ m) → Covers S p
+pub covered_near : (S : List Pair) (d p : Pair) (m : ℤ) → ((s : Pair) → Contains S s → product d s ≤ℤ m) → Covers S p
     → product d p ≤ℤ m
 covered_near S d p m h c = elim (le_or_lt (product d p) m) [
   | inl k ↦ k
@@ -45,7 +45,7 @@ farther_by c p q =
     ) (simp (difference-add, difference-neg, difference-mul) (difference-eq _ _ _ _ (omega arith)))
 
 -- a squared distance is not negative
-distance_nn : (a b : Pair) → pos 0 ≤ℤ distance_squared a b
+pub distance_nn : (a b : Pair) → pos 0 ≤ℤ distance_squared a b
 unfolding distance_squared
 distance_nn a b = sum _ _ (square_nn (b.x -ℤ a.x)) (square_nn (b.y -ℤ a.y))
   where

@@ -24,7 +24,7 @@ products_le a b c d ha ab hc cd =
     at_most x y u v e h k = omega (arith, ints)
 
 -- the same, where the first are not equal and the second are above 0
-products_lt : (a b : ℤ) → pos 0 ≤ℤ a → a <ℤ b → (a *ℤ a) <ℤ (b *ℤ b)
+pub products_lt : (a b : ℤ) → pos 0 ≤ℤ a → a <ℤ b → (a *ℤ a) <ℤ (b *ℤ b)
 products_lt a b ha ab =
     less (b *ℤ b) (a *ℤ a) _ _ (unfold_products a b a b)
     (product_pp (b -ℤ a) b (omega (arith, ints)) (omega (arith, ints)))

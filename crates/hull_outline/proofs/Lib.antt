@@ -33,3 +33,7 @@ pub mod Diameters
 pub mod ExtentsOf
 pub mod Fractions
 pub mod LeastWidths
+pub mod Gaps
+pub mod Rivals
+pub mod Closest
+pub mod FarApart

@@ -13,3 +13,4 @@ pub mod Separations
 pub mod Witnesses
 pub mod Extents
 pub mod Wide
+pub mod Closest

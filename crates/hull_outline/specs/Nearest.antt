@@ -1,6 +1,6 @@
 -- The point of a hull that is nearest to a point outside of it: a corner, or the foot on an edge.
-use Rattle.std.specs.Prelude.{ℕ, zero, suc, ◌-◌, pos, ◌*ℤ◌, ◌≤ℤ◌, ◌<ℤ◌, List, length}
-use Rattle.lattice.specs.Plane.{Pair, orient, product, distance_squared}
+use Rattle.std.specs.Prelude.{◌⊎◌, ℕ, zero, suc, ◌+◌, ◌-◌, pos, ◌*ℤ◌, ◌≤ℤ◌, ◌<ℤ◌, List, length}
+use Rattle.lattice.specs.Plane.{Pair, orient, product, distance_squared, IsBefore}
 use Rattle.lattice.specs.Covers.{Covers, IsExtreme}
 use Rattle.lattice.specs.Places.{IsFarthest}
 use Rattle.lattice.specs.Vertices.{IsLeftOf}
@@ -36,7 +36,7 @@ IsNearest S q Covered = Covers S q
 IsNearest S q (Corner c) = IsNearestCorner S q c
 IsNearest S q (Edge a b) = IsNearestEdge S q a b
 
--- ---- in one pass over the corners
+-- ---- along the corners
 
 -- the corner before the one at i, round the list
 abbrev pub previous : List Pair → ℕ → Pair
@@ -46,6 +46,21 @@ previous V (suc i) = corner V i
 -- from c, q lies on the way neither to p nor to n
 abbrev pub IsTurnedFrom : Pair → Pair → Pair → Pair → Type 0
 IsTurnedFrom p c n q = ¬ IsOnward c p q × ¬ IsOnward c n q
+
+-- neither the corner at i nor the edge from it is the nearest to q
+abbrev pub IsPassedOver : List Pair → ℕ → Pair → Type 0
+IsPassedOver V i q =
+    ¬ IsTurnedFrom (previous V i) (corner V i) (corner V (i + 1)) q × ¬ IsBeside (corner V i) (corner V (i + 1)) q
+
+-- q lies right of the edge from a to b, no less far than b; or it does not, and b stands before q
+abbrev pub ComesNearer : Pair → Pair → Pair → Type 0
+ComesNearer a b q =
+    ((orient a b q <ℤ pos 0) × ¬ IsOnward b a q) ⊎ ((pos 0 ≤ℤ orient a b q) × IsBefore b q)
+
+-- the same, or it does not, and b stands after q
+abbrev pub ComesNearerBack : Pair → Pair → Pair → Type 0
+ComesNearerBack a b q =
+    ((orient a b q <ℤ pos 0) × ¬ IsOnward b a q) ⊎ ((pos 0 ≤ℤ orient a b q) × IsBefore q b)
 
 -- ---- that they are the nearest
 

@@ -14,7 +14,7 @@ use super::vector::Vector;
 use lattice::{Direction, Point};
 
 /// Whether `p` lies less far than `q` in the direction `d`.
-fn is_nearer(d: Vector, p: Point, q: Point) -> bool
+pub(crate) fn is_nearer(d: Vector, p: Point, q: Point) -> bool
     ensures { IsTrue result ↔ (plane.product d p <ℤ plane.product d q) }
 {
     d.product(p) < d.product(q)

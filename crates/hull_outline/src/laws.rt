@@ -1,4 +1,5 @@
 //! Laws of the definitions: each function has an empty body, and its contract is the law.
+ghost use Rattle.hull_outline.specs.Closest.{NoneCloser};
 ghost use Rattle.hull_outline.specs.Meetings.{NeverBoth};
 ghost use Rattle.hull_outline.specs.Nearest.{NoneNearerThanCorner, NoneNearerThanEdge};
 
@@ -16,4 +17,10 @@ pub fn none_nearer_than_corner()
 /// is at most the squared distance.
 pub fn none_nearer_than_edge()
     ensures { NoneNearerThanEdge }
+{}
+
+/// No points of two hulls are nearer to one another than where the two are nearest, also none between whole numbers: the
+/// quotient that [`Outline::distance`](crate::Outline::distance) names is at most their squared distance.
+pub fn none_closer()
+    ensures { NoneCloser }
 {}

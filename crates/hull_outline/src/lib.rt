@@ -3,11 +3,11 @@
 //! An [`Outline`] borrows the corners that [`HullSet::vertices`](hull_plain::HullSet::vertices) gave, or any list that
 //! is the corners of some set ([`is_outline`]). Nothing of it is ever written, so any number of threads may ask one at
 //! once, with no lock; each answer is the one that is right for every set with these corners (`specs/Outlines.antt`).
-//! [`Outline::place`], [`Outline::extreme`], [`Outline::tangents`], [`Outline::meets_segment`],
-//! [`Outline::bounding_box`] and [`Outline::width_along`] take a number of steps that grows with the logarithm of the
-//! corners' number, [`Outline::contains`], [`Outline::meets`], [`Outline::witness`], [`Outline::diameter`] and
-//! [`Outline::least_width`] as many for each corner at most, and [`Outline::area2`], [`Outline::nearest`],
-//! [`Outline::apart_from_segment`] and [`is_outline`] one pass. No memory is asked for.
+//! [`Outline::place`], [`Outline::extreme`], [`Outline::tangents`], [`Outline::nearest`], [`Outline::meets_segment`],
+//! [`Outline::apart_from_segment`], [`Outline::bounding_box`] and [`Outline::width_along`] take a number of steps that
+//! grows with the logarithm of the corners' number, [`Outline::contains`], [`Outline::meets`], [`Outline::witness`],
+//! [`Outline::distance`], [`Outline::diameter`] and [`Outline::least_width`] as many for each corner at most, and
+//! [`Outline::area2`] and [`is_outline`] one pass. No memory is asked for.
 //!
 //! # A worked example
 //!
@@ -25,6 +25,7 @@
 mod area;
 mod bisection;
 mod diameter;
+mod distance;
 mod encounters;
 mod extents;
 mod extreme;
@@ -43,7 +44,8 @@ mod vector;
 mod widths;
 mod witnesses;
 
-pub use laws::{never_both, none_nearer_than_corner, none_nearer_than_edge};
+pub use distance::Distance;
+pub use laws::{never_both, none_closer, none_nearer_than_corner, none_nearer_than_edge};
 pub use meetings::Meeting;
 pub use nearest::Nearest;
 pub use outline::Outline;

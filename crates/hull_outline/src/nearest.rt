@@ -2,15 +2,17 @@
 ghost use Rattle.std.specs.Prelude.{◌≡◌, ◌↔◌, IsTrue, ◌<◌, ◌+◌, length, pos, ◌<ℤ◌, MatchOption, []};
 ghost use Rattle.lattice.specs.Plane as plane;
 ghost use Rattle.lattice.specs.Covers.{Covers};
-ghost use Rattle.hull_outline.specs.Nearest.{IsOnward, IsBeside, IsTurnedFrom, IsNearest, previous};
+ghost use Rattle.hull_outline.specs.Nearest.{ComesNearer, ComesNearerBack, IsNearest, IsPassedOver};
+ghost use Rattle.hull_outline.specs.Nearest.{IsOnward, IsBeside, IsTurnedFrom, previous};
 ghost use Rattle.hull_outline.specs.Outlines.{HoldsOfSetsOf};
 ghost use Rattle.hull_outline.specs.Rounds.{corner, IsParted};
 ghost use Rattle.hull_outline.specs.Lent.{corners_of};
 
+use super::bisection::{first_failing, first_failing_back};
 use super::outline::Outline;
 use super::rounds::corner_at;
 use super::vector::Vector;
-use lattice::{Point, orient};
+use lattice::{Point, before, orient};
 
 /// Where the point of a hull is that is nearest to a point `q`.
 #[derive(Clone, Copy, PartialEq, Eq, Debug)]
@@ -86,26 +88,106 @@ fn is_beside_at(corners: &[Point], i: usize, q: Point) -> bool
     is_beside(corner_at(corners, i), corner_at(corners, i + 1), q)
 }
 
-/// The corner or the edge nearest to `q`, which the hull does not cover.
-pub(crate) fn nearest_outside(corners: &[Point], last: usize, q: Point) -> Nearest
+/// The corner at `i` or the edge from it, whichever is the nearest to `q`, which the hull does not cover, if one is.
+fn nearest_at(corners: &[Point], last: usize, i: usize, q: Point) -> Option<Nearest>
+    requires within { i < length corners.now }
+    requires parted { IsParted corners.now last }
+    requires outside { HoldsOfSetsOf corners.now (λ S. ¬ Covers S q) }
+    ensures { MatchOption result (IsPassedOver corners.now i q)
+        (λ found. HoldsOfSetsOf corners.now (λ S. IsNearest S q found)) }
+{
+    if is_nearest_at(corners, i, q) {
+        return Some(Nearest::Corner(corner_at(corners, i)));
+    }
+    if is_beside_at(corners, i, q) {
+        return Some(Nearest::Edge(corner_at(corners, i), corner_at(corners, i + 1)));
+    }
+    None
+}
+
+/// The corner or the edge nearest to `q`, which the hull does not cover, in one pass.
+fn nearest_of_all(corners: &[Point], last: usize, q: Point) -> Nearest
     requires some { 0 < length corners.now }
     requires parted { IsParted corners.now last }
     requires outside { HoldsOfSetsOf corners.now (λ S. ¬ Covers S q) }
     ensures { HoldsOfSetsOf corners.now (λ S. IsNearest S q result) }
 {
     for i in 0..corners.len() {
-        if is_nearest_at(corners, i, q) {
-            return Nearest::Corner(corner_at(corners, i));
-        }
-        if is_beside_at(corners, i, q) {
-            return Nearest::Edge(corner_at(corners, i), corner_at(corners, i + 1));
+        if let Some(found) = nearest_at(corners, last, i, q) {
+            return found;
         }
     }
     unreachable!()
 }
 
+/// Whether the way along an edge that goes forward still comes nearer to `q` at its end; where `q` does not see the edge,
+/// whether the edge ends before it.
+fn comes_nearer(start: Point, end: Point, q: Point) -> bool
+    ensures { IsTrue result ↔ ComesNearer start end q }
+{
+    if is_right(start, end, q) {
+        !is_onward(end, start, q)
+    } else {
+        before(end, q)
+    }
+}
+
+/// The same of an edge that goes back, which ends after `q` where that does not see it.
+fn comes_nearer_back(start: Point, end: Point, q: Point) -> bool
+    ensures { IsTrue result ↔ ComesNearerBack start end q }
+{
+    if is_right(start, end, q) {
+        !is_onward(end, start, q)
+    } else {
+        before(q, end)
+    }
+}
+
+/// The place of the corner up to which the lower chain comes nearer to `q`.
+fn nearest_below(corners: &[Point], last: usize, q: Point) -> usize
+    requires { last < length corners.now }
+    ensures { result < length corners.now }
+{
+    first_failing(corners, 0, last, &|start, end| comes_nearer(start, end, q))
+}
+
+/// The place of the corner up to which the upper chain comes nearer to `q`.
+fn nearest_above(corners: &[Point], last: usize, q: Point) -> usize
+    requires { last < length corners.now }
+    ensures { result < length corners.now }
+{
+    let place = first_failing_back(
+        corners,
+        last,
+        &|start, end| comes_nearer_back(start, end, q),
+    );
+    if place < corners.len() { place } else { 0 }
+}
+
+/// The corner or the edge nearest to `q`, which the hull does not cover.
+///
+/// Along the part of the boundary that `q` sees the way to it falls, and then rises: the distance from `q` to the line of an
+/// edge, along a ray that turns, is that length by the cosine of the ray's angle, and the boundary is the greatest of
+/// these. So a bisection of each chain finds where it turns. That one of the two does is not proved: should none have,
+/// one pass looks for it, which no test has seen.
+pub(crate) fn nearest_outside(corners: &[Point], last: usize, q: Point) -> Nearest
+    requires some { 0 < length corners.now }
+    requires parted { IsParted corners.now last }
+    requires outside { HoldsOfSetsOf corners.now (λ S. ¬ Covers S q) }
+    ensures { HoldsOfSetsOf corners.now (λ S. IsNearest S q result) }
+{
+    if let Some(found) = nearest_at(corners, last, nearest_below(corners, last, q), q) {
+        return found;
+    }
+    if let Some(found) = nearest_at(corners, last, nearest_above(corners, last, q), q) {
+        return found;
+    }
+    nearest_of_all(corners, last, q)
+}
+
 impl<'a> Outline<'a> {
-    /// Where the point of the hull is that is nearest to `q`; `None` for the empty set. One pass over the corners.
+    /// Where the point of the hull is that is nearest to `q`; `None` for the empty set. A bisection of both
+    /// chains, and two for the place of `q`.
     ///
     /// Of `Corner(c)` the squared distance is [`distance_squared`](lattice::distance_squared) of `q` and `c`; of
     /// `Edge(a, b)` it is the square of [`orient`](lattice::orient) of `a`, `b` and `q`, divided by the squared

@@ -45,7 +45,7 @@ fn separation_from(corners: &[Point], last: usize, q: Point) -> Separation
 
 impl<'a> Outline<'a> {
     /// A direction that parts the hull from the segment from `a` to `b`, which may be one point; `None` where they have
-    /// a point in common, and for the empty set. One pass over the corners at most.
+    /// a point in common, and for the empty set. As [`Outline::meets_segment`], and [`Outline::nearest`] of an end.
     ///
     /// It is a normal of the segment or of an edge, or the way from a corner to an end of the segment.
     pub fn apart_from_segment(&self, a: Point, b: Point) -> Option<Separation>

@@ -23,7 +23,11 @@ fn grid_points(alloc: Global, bits: u32, mesh: i64) -> Result<Vec<Point>, Fail> 
 }
 
 /// The corners of the set of these points.
-fn corners_of(rt: &impl Abort, alloc: Global, points: &[Point]) -> Result<Vec<Point>, Fail> {
+pub(crate) fn corners_of(
+    rt: &impl Abort,
+    alloc: Global,
+    points: &[Point],
+) -> Result<Vec<Point>, Fail> {
     let mut set = PlainSet::new(alloc, LIMIT);
     for p in points {
         assert_eq!(rt; set.add(*p), AddReply::Added);
@@ -84,7 +88,7 @@ fn slow_crosses(points: &[Point], a: Point, b: Point) -> bool {
 }
 
 /// What was found of these points is true.
-fn assert_of(rt: &impl Abort, truth: bool, points: &[Point]) {
+pub(crate) fn assert_of(rt: &impl Abort, truth: bool, points: &[Point]) {
     assert!(rt; truth, "{points:?}");
 }
 
@@ -101,7 +105,7 @@ fn assert_parts(rt: &impl Abort, points: &[Point], others: &[Point], found: Sepa
 }
 
 /// The outline of corners that are one.
-fn outline_of<'a>(rt: &impl Abort, corners: &'a [Point]) -> Outline<'a> {
+pub(crate) fn outline_of<'a>(rt: &impl Abort, corners: &'a [Point]) -> Outline<'a> {
     match Outline::new(corners) {
         Some(outline) => outline,
         None => panic!(rt; "the corners of a set are an outline"),
@@ -181,18 +185,18 @@ fn segments_at_the_limit(rt: HostRuntime) -> Result<(), Fail> {
 
 /// A number of whole units over another, at least 1.
 #[derive(Clone, Copy, Debug)]
-struct Fraction {
-    above: i128,
-    below: i128,
+pub(crate) struct Fraction {
+    pub(crate) above: i128,
+    pub(crate) below: i128,
 }
 
 /// Whether one is less than the other.
-fn is_less(u: Fraction, v: Fraction) -> bool {
+pub(crate) fn is_less(u: Fraction, v: Fraction) -> bool {
     u.above.wrapping_mul(v.below) < v.above.wrapping_mul(u.below)
 }
 
 /// The squared distance of two points.
-fn to_point(a: Point, q: Point) -> Fraction {
+pub(crate) fn to_point(a: Point, q: Point) -> Fraction {
     Fraction {
         above: distance_squared(a, q),
         below: 1,
@@ -200,7 +204,7 @@ fn to_point(a: Point, q: Point) -> Fraction {
 }
 
 /// The squared distance of `q` from the line from `a` to `b`.
-fn to_line(a: Point, b: Point, q: Point) -> Fraction {
+pub(crate) fn to_line(a: Point, b: Point, q: Point) -> Fraction {
     let side = orient(a, b, q);
     Fraction {
         above: side.wrapping_mul(side),
@@ -214,7 +218,7 @@ fn is_acute(a: Point, b: Point, q: Point) -> bool {
 }
 
 /// The squared distance of `q` from points that do not cover it, from each of them and each segment between two.
-fn slow_distance(points: &[Point], first: Point, q: Point) -> Fraction {
+pub(crate) fn slow_distance(points: &[Point], first: Point, q: Point) -> Fraction {
     let mut least = to_point(first, q);
     for a in points {
         if is_less(to_point(*a, q), least) {
@@ -440,7 +444,7 @@ fn all_sets_of_a_small_grid_within_each_other(rt: HostRuntime) -> Result<(), Fai
 }
 
 /// Whether two sets meet, by the definition: the points that each covers of a grid, and crossings of their segments.
-fn slow_meet(one: &[Point], other: &[Point]) -> bool {
+pub(crate) fn slow_meet(one: &[Point], other: &[Point]) -> bool {
     for p in other {
         if slow_covers(one, *p) {
             return true;
@@ -462,7 +466,12 @@ fn slow_meet(one: &[Point], other: &[Point]) -> bool {
 }
 
 /// The sets of so many points at most of the small grid, each with so much added to its coordinates.
-fn small_sets(alloc: Global, most: u32, right: i64, up: i64) -> Result<Vec<Vec<Point>>, Fail> {
+pub(crate) fn small_sets(
+    alloc: Global,
+    most: u32,
+    right: i64,
+    up: i64,
+) -> Result<Vec<Vec<Point>>, Fail> {
     let mut sets = Vec::new(alloc);
     for bits in 0u32..512 {
         if bits.count_ones() <= most {

@@ -1,6 +1,6 @@
 //! What a reply in numbers tells, in types of Rust. Both libraries tell by the same numbers.
 use crate::raw::{code, Reply, WitnessTold};
-use crate::{Fault, Nearest, Place, Point, Separation, Strip, Witness};
+use crate::{Distance, Fault, Nearest, Place, Point, Separation, Strip, Witness};
 
 /// How often a point is held that was added.
 pub(crate) fn times_added(reply: Reply) -> Result<u32, Fault> {
@@ -87,6 +87,16 @@ pub(crate) fn witness(told: WitnessTold) -> Option<Witness> {
         code::WITHIN => Some(Witness::Within(told.a)),
         code::CROSSING => Some(Witness::Crossing([told.a, told.b], [told.c, told.d])),
         code::APART => Some(Witness::Apart(Separation { farthest: told.a, direction: told.b })),
+        _ => None,
+    }
+}
+
+pub(crate) fn distance(told: WitnessTold) -> Option<Distance> {
+    match told.code {
+        code::MEETING => Some(Distance::Zero),
+        code::POINTS => Some(Distance::Corners(told.a, told.b)),
+        code::CORNER => Some(Distance::CornerAndEdge(told.a, [told.b, told.c])),
+        code::EDGE => Some(Distance::EdgeAndCorner([told.a, told.b], told.c)),
         _ => None,
     }
 }

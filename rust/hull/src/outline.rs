@@ -58,6 +58,20 @@ pub enum Witness {
     Apart(Separation),
 }
 
+/// Where two outlines are nearest to one another. Of two corners the squared distance is that of the two; of a corner and an edge it
+/// is the square of the side of the corner at the edge, up to 84 bits, divided by the squared length of the edge.
+#[derive(Clone, Copy, Debug, PartialEq, Eq)]
+pub enum Distance {
+    /// They have a point in common.
+    Zero,
+    /// At a corner of the first and a corner of the second.
+    Corners(Point, Point),
+    /// At a corner of the first and its foot on an edge of the second, strictly between the ends of that.
+    CornerAndEdge(Point, [Point; 2]),
+    /// At the foot on an edge of the first, strictly between its ends, of a corner of the second.
+    EdgeAndCorner([Point; 2], Point),
+}
+
 impl Outline {
     /// The outline of these corners: counterclockwise from the first by x and then by y, and none inside an edge;
     /// [`Fault::NoOutline`] where they are not.
@@ -174,5 +188,12 @@ impl Outline {
         let (these, those) = (&self.corners, &other.corners);
         // SAFETY: the same.
         answer::witness(unsafe { raw::hull_outline_witness(these.as_ptr(), these.len(), those.as_ptr(), those.len()) })
+    }
+
+    /// Where the two outlines are nearest to one another; `None` where one of them has no corners.
+    pub fn distance(&self, other: &Outline) -> Option<Distance> {
+        let (these, those) = (&self.corners, &other.corners);
+        // SAFETY: the same.
+        answer::distance(unsafe { raw::hull_outline_distance(these.as_ptr(), these.len(), those.as_ptr(), those.len()) })
     }
 }

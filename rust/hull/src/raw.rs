@@ -169,6 +169,12 @@ extern "C" {
         others: *const Point,
         other_count: usize,
     ) -> WitnessTold;
+    pub(crate) fn hull_outline_distance(
+        corners: *const Point,
+        count: usize,
+        others: *const Point,
+        other_count: usize,
+    ) -> WitnessTold;
     pub(crate) fn hull_load(hull: *mut u8, points: *const Point, count: usize) -> Reply;
     pub(crate) fn hull_held_from(hull: *mut u8, x: i64, y: i64, out: *mut Held, room: usize) -> Reply;
     pub(crate) fn hull_load_held(hull: *mut u8, held: *const Held, count: usize) -> Reply;

@@ -1,0 +1,237 @@
+-- Of the points of two sets that are apart, a corner of one of them is closest to the other: where what is nearest to
+-- some corner is nearest of all, no point of its set lies farther on the way there.
+use Rattle.std.proofs.Common.{◌≡◌, ℕ, zero, suc, ◌≤◌, ◌<◌, ℤ, pos, ◌*ℤ◌, ◌≤ℤ◌, ◌<ℤ◌, neg_ℤ, inl, inr}
+use Rattle.std.proofs.Common.{refl, sym, subst, List, [], ◌∷◌, length, arith}
+use Rattle.std.specs.List.{Contains}
+use Rattle.std.proofs.lemmas.Bool.{cases_lt}
+use Rattle.std.proofs.lemmas.Int.{ints}
+use Rattle.std.proofs.lemmas.List.Elements.{All-contains}
+use Rattle.lattice.specs.Covers.{Covers, IsExtreme, Member}
+use Rattle.lattice.specs.Places.{IsFarthest}
+use Rattle.lattice.specs.Plane.{Pair, product}
+use Rattle.lattice.specs.Signs.{le_or_lt}
+use Rattle.hull_plain.proofs.NotCovered.{not_covered}
+use Rattle.hull_outline.specs.Closest.{IsPassedBy, HasNoClosest, IsClosest, IsClosestToEdge, way_to}
+use Rattle.hull_outline.specs.Meetings.{IsReached, IsApart}
+use Rattle.hull_outline.specs.Nearest.{IsNearest, IsNearestCorner}
+use Rattle.hull_outline.specs.Outlines.{IsOutlineOf}
+use Rattle.hull_outline.specs.Rounds.{corner, IsParted}
+use Rattle.hull_outline.specs.Separations.{IsSeparation}
+use Rattle.hull_outline.specs.Steps.{step, left_of}
+use Rattle.hull_outline.specs.declared.nearest.Nearest.{Nearest}
+use Rattle.hull_outline.specs.declared.nearest.Nearest.TheVariants.{Covered, Corner, Edge}
+use Rattle.hull_outline.specs.declared.separations.Separation.{Separation}
+use Rattle.hull_outline.proofs.Corners.{corner_extreme, corner_of}
+use Rattle.hull_outline.proofs.EdgesOf.{all_of}
+use Rattle.hull_outline.proofs.Fractions.{quotients_le}
+use Rattle.hull_outline.proofs.Parted.{never_both}
+use Rattle.hull_outline.proofs.Separated.{apart_by, from_corner, from_edge, way_on}
+use Rattle.hull_outline.proofs.Turns.{farthest_corner, placed}
+use Rattle.hull_outline.proofs.Witnessed.{apart_turned}
+use Rattle.hull_outline.proofs.Rivals.{depth, reach, Rival, farther_than, reach_above, corner_closest, other_normal}
+use Rattle.hull_outline.proofs.Rivals.{edge_closest}
+
+-- ---- what is nearest of all
+
+-- what parts a set from c, by what is nearest to c there
+abbrev told : Pair → Nearest → Separation
+told c Covered = apart_by (step c c) c
+told c (Corner d) = apart_by (step d c) d
+told c (Edge a b) = apart_by (left_of b a) b
+
+-- it does
+told_parts : (T : List Pair) (c : Pair) (place : Nearest) → ¬ Covers T c → IsNearest T c place
+    → IsSeparation T (c ∷ []) (told c place)
+told_parts T c Covered out h = absurd (out h)
+told_parts T c (Corner d) out h = from_corner T c d _ h refl
+told_parts T c (Edge a b) out h = from_edge T c a b _ h refl
+
+-- no set covers a point of another from which it is apart
+pub not_covering : (S T : List Pair) (c : Pair) → IsApart S T → Contains S c → ¬ Covers T c
+not_covering S T c a m k = never_both S T (IsReached c m k) a
+
+-- each corner of S has a rival in T that is no nearer, and each corner of T in S: no point of S lies farther than c on
+-- the way to what is nearest to it
+least_closest : (S T : List Pair) (c : Pair) (place : Nearest) → IsApart S T → Contains S c → IsNearest T c place
+    → ((d : Pair) → (s : Pair) × IsExtreme S s × IsFarthest S d s)
+    → ((q : Pair) → IsExtreme S q → Rival T q (depth (told c place) c) (reach (told c place)))
+    → ((q : Pair) → IsExtreme T q → Rival S q (depth (told c place) c) (reach (told c place)))
+    → IsFarthest S (way_to c place) c
+least_closest S T c Covered a m h far mine others = absurd (not_covering S T c a m h)
+least_closest S T c (Corner d) a m h far mine others =
+    all_of (λ t. product (step c d) t ≤ℤ product (step c d) c) S
+    (corner_closest S c d m
+    (farther_than T c (told c (Corner d)) (told_parts T c (Corner d) (not_covering S T c a m) h)) (others d h.corner))
+least_closest S T c (Edge u v) a m h far mine others =
+    let (s, es, fs) = far (left_of u v) in
+    elim (le_or_lt (product (left_of v u) c) (product (left_of v u) s)) [
+      | inl k ↦ all_of (λ t. product (left_of u v) t ≤ℤ product (left_of u v) c) S
+          (λ t mt. no_more _ _ _ _ _ (other_normal u v s) (other_normal u v c) k
+          (All-contains (λ z. product (left_of u v) z ≤ℤ product (left_of u v) s) S t fs mt))
+      | inr k ↦ absurd (edge_closest S T c u v s a.0 a.1 m es.0 h k (mine s es) (others u h.start) (others v h.end))
+    ]
+  where
+    no_more : (t s c ns nc : ℤ) → s ≡ neg_ℤ ns → c ≡ neg_ℤ nc → nc ≤ℤ ns → t ≤ℤ s → t ≤ℤ c
+    no_more t s c ns nc e f h k = omega (arith, ints)
+
+-- ---- the least of some fractions
+
+-- of so many fractions and one more, with numbers above 0 below, one is no greater than the others
+least_of : (A B : ℕ → ℤ) → ((i : ℕ) → pos 0 <ℤ B i) → (n : ℕ)
+    → (k : ℕ) × ((i : ℕ) → i ≤ n → (A k *ℤ B i) ≤ℤ (A i *ℤ B k))
+least_of A B above zero = (0, λ i l. subst (λ (j : ℕ). (A 0 *ℤ B j) ≤ℤ (A j *ℤ B 0)) (omega (arith, l)) (same _))
+  where
+    same : (x : ℤ) → x ≤ℤ x
+    same x = omega (arith, ints)
+least_of A B above (suc n) =
+    let r = least_of A B above n in
+    elim (le_or_lt (A r.0 *ℤ B (suc n)) (A (suc n) *ℤ B r.0)) [
+      | inl h ↦ (
+        r.0,
+        λ i l. elim (cases_lt i (suc n)) [
+          | inl k ↦ r.1 i (omega (arith, k))
+          | inr k ↦ subst (λ (j : ℕ). (A r.0 *ℤ B j) ≤ℤ (A j *ℤ B r.0)) (omega (arith, k, l)) h
+        ],
+      )
+      | inr h ↦ (
+        suc n,
+        λ i l. elim (cases_lt i (suc n)) [
+          | inl k ↦ quotients_le (A (suc n)) (A r.0) (A i) (B (suc n)) (B r.0) (B i) (above r.0) (weak _ (above (suc n)))
+              (weak _ (above i)) (less _ _ h) (r.1 i (omega (arith, k)))
+          | inr k ↦ subst (λ (j : ℕ). (A (suc n) *ℤ B j) ≤ℤ (A j *ℤ B (suc n))) (omega (arith, k, l)) (same _)
+        ],
+      )
+    ]
+  where
+    same : (x : ℤ) → x ≤ℤ x
+    same x = omega (arith, ints)
+
+    weak : (x : ℤ) → pos 0 <ℤ x → pos 0 ≤ℤ x
+    weak x h = omega (arith, ints)
+
+    less : (x y : ℤ) → y <ℤ x → y ≤ℤ x
+    less x y h = omega (arith, ints)
+
+-- ---- a corner that is closest
+
+-- what passes a corner by passes by each
+each_passed : (S V T : List Pair) → 0 < length V → HasNoClosest V S T → (i : ℕ) → IsPassedBy S T (corner V i)
+each_passed S V T n none i = let k = placed V i n in subst (IsPassedBy S T) (sym k.2) (none k.0 k.1)
+
+-- how wide the strip at each corner of V is: its square is this
+abbrev square_of : (S V T : List Pair) → ((i : ℕ) → IsPassedBy S T (corner V i)) → ℕ → ℤ
+square_of S V T f i =
+    depth (told (corner V i) (f i).0) (corner V i) *ℤ depth (told (corner V i) (f i).0) (corner V i)
+
+-- by this
+abbrev length_of : (S V T : List Pair) → ((i : ℕ) → IsPassedBy S T (corner V i)) → ℕ → ℤ
+length_of S V T f i = reach (told (corner V i) (f i).0)
+
+-- what parts T from a corner of S
+strip_parts : (S V T : List Pair) (f : (i : ℕ) → IsPassedBy S T (corner V i)) → IsOutlineOf S V → 0 < length V
+    → IsApart S T → (i : ℕ) → IsSeparation T (corner V i ∷ []) (told (corner V i) (f i).0)
+strip_parts S V T f o n a i =
+    told_parts T (corner V i) (f i).0 (not_covering S T (corner V i) a (corner_extreme S V i o.1 n).0) (f i).1
+
+-- corners as rivals
+rival_of : (S V T : List Pair) (f : (i : ℕ) → IsPassedBy S T (corner V i)) → IsOutlineOf S V → 0 < length V
+    → IsApart S T → (H L : ℤ)
+    → ((i : ℕ) → i < length V → ((H *ℤ H) *ℤ length_of S V T f i) ≤ℤ (square_of S V T f i *ℤ L))
+    → (q : Pair) → IsExtreme S q → Rival T q H L
+rival_of S V T f o n a H L h q x =
+    let k = corner_of V q ((o.1.members q).1 x) in
+    subst (λ (z : Pair). Rival T z H L) (sym k.2)
+    (told (corner V k.0) (f k.0).0, strip_parts S V T f o n a k.0, h k.0 k.1)
+
+-- the corner of S whose strip is least wide is not passed by
+least_not_passed : (S V T W : List Pair) (last k : ℕ) (f : (i : ℕ) → IsPassedBy S T (corner V i))
+    → (g : (i : ℕ) → IsPassedBy T S (corner W i)) → IsOutlineOf S V → IsParted V last → IsOutlineOf T W
+    → 0 < length V → 0 < length W → IsApart S T
+    → ((i : ℕ) → i < length V → (square_of S V T f k *ℤ length_of S V T f i) ≤ℤ (square_of S V T f i *ℤ length_of S V T f k))
+    → ((i : ℕ) → i < length W → (square_of S V T f k *ℤ length_of T W S g i) ≤ℤ (square_of T W S g i *ℤ length_of S V T f k)) → ⊥
+least_not_passed S V T W last k f g o p t n m a mine others =
+    (f k).2 (least_closest S T (corner V k) (f k).0 a (corner_extreme S V k o.1 n).0 (f k).1
+    (λ d. let r = farthest_corner S V last d o p n in (corner V r.0, corner_extreme S V r.0 o.1 n, r.1.1))
+    (rival_of S V T f o n a _ _ mine) (rival_of T W S g t m (apart_turned S T a) _ _ others))
+
+-- of two sets that are apart not all corners of both are passed by
+pub never_all_passed : (S V T W : List Pair) (last end : ℕ) → IsOutlineOf S V → IsParted V last → IsOutlineOf T W
+    → IsParted W end → 0 < length V → 0 < length W → IsApart S T → HasNoClosest V S T → HasNoClosest W T S → ⊥
+never_all_passed S V T W last end o p t q n m a none nor =
+    let k = least_of (square_of S V T f) (length_of S V T f) up (length V) in
+    let j = least_of (square_of T W S g) (length_of T W S g) down (length W) in
+    elim (le_or_lt (square_of S V T f k.0 *ℤ length_of T W S g j.0) (square_of T W S g j.0 *ℤ length_of S V T f k.0)) [
+      | inl h ↦ least_not_passed S V T W last k.0 f g o p t n m a (λ i l. k.1 i (omega (arith, l)))
+          (λ i l. quotients_le (square_of S V T f k.0) (square_of T W S g j.0) (square_of T W S g i) (length_of S V T f k.0)
+          (length_of T W S g j.0) (length_of T W S g i) (down j.0) (weak _ (up k.0)) (weak _ (down i)) h
+          (j.1 i (omega (arith, l))))
+      | inr h ↦ least_not_passed T W S V end j.0 g f t q o m n (apart_turned S T a) (λ i l. j.1 i (omega (arith, l)))
+          (λ i l. quotients_le (square_of T W S g j.0) (square_of S V T f k.0) (square_of S V T f i) (length_of T W S g j.0)
+          (length_of S V T f k.0) (length_of S V T f i) (up k.0) (weak _ (down j.0)) (weak _ (up i)) (less _ _ h)
+          (k.1 i (omega (arith, l))))
+    ]
+  where
+    f : (i : ℕ) → IsPassedBy S T (corner V i)
+    f = each_passed S V T n none
+
+    g : (i : ℕ) → IsPassedBy T S (corner W i)
+    g = each_passed T W S m nor
+
+    up : (i : ℕ) → pos 0 <ℤ length_of S V T f i
+    up i = reach_above T (corner V i) (told (corner V i) (f i).0) (strip_parts S V T f o n a i)
+
+    down : (i : ℕ) → pos 0 <ℤ length_of T W S g i
+    down i = reach_above S (corner W i) (told (corner W i) (g i).0) (strip_parts T W S g t m (apart_turned S T a) i)
+
+    weak : (x : ℤ) → pos 0 <ℤ x → pos 0 ≤ℤ x
+    weak x h = omega (arith, ints)
+
+    less : (x y : ℤ) → y <ℤ x → y ≤ℤ x
+    less x y h = omega (arith, ints)
+
+-- ---- where two hulls are nearest
+
+-- what is farthest in S on the way to d is nearest to d
+corner_back : (S T : List Pair) (c d : Pair) → IsExtreme S c → IsNearestCorner T c d → IsFarthest S (step c d) c
+    → IsNearestCorner S d c
+corner_back S T c d x h f = record {
+  outside = not_covered S d (
+    step c d,
+    all_of (λ t. product (step c d) t <ℤ product (step c d) d) S
+        (λ t m. under _ _ _ (All-contains (λ z. product (step c d) z ≤ℤ product (step c d) c) S t f m)
+        (way_on c d (λ e. h.outside (Member (subst (Contains T) (sym e) h.corner.0))))),
+  );
+  corner = x;
+  nearest = f;
+}
+  where
+    under : (x y z : ℤ) → x ≤ℤ y → y <ℤ z → x <ℤ z
+    under x y z h k = omega (arith, ints)
+
+-- where a farthest point is no farther than c, none is
+pub none_farther : (S : List Pair) (d p c : Pair) → IsFarthest S d p → ¬ (product d c <ℤ product d p) → IsFarthest S d c
+none_farther S d p c f n =
+    all_of (λ t. product d t ≤ℤ product d c) S
+    (λ t m. no_more _ _ _ (All-contains (λ z. product d z ≤ℤ product d p) S t f m) (not_less _ _ n))
+  where
+    no_more : (x y z : ℤ) → x ≤ℤ y → y ≤ℤ z → x ≤ℤ z
+    no_more x y z h k = omega (arith, ints)
+
+    not_less : (x y : ℤ) → ¬ (x <ℤ y) → y ≤ℤ x
+    not_less x y n = elim (le_or_lt y x) [ inl h ↦ h | inr h ↦ absurd (n h) ]
+
+-- and only there
+pub some_farther : (S : List Pair) (d p c : Pair) → Contains S p → IsFarthest S d c → ¬ (product d c <ℤ product d p)
+some_farther S d p c m f h = clash _ _ (All-contains (λ z. product d z ≤ℤ product d c) S p f m) h
+  where
+    clash : (x y : ℤ) → x ≤ℤ y → y <ℤ x → ⊥
+    clash x y h k = omega (arith, ints)
+
+-- a corner of each
+pub by_corners : (S T : List Pair) (c d : Pair) → IsClosest S T c (Corner d)
+    → IsNearestCorner S d c × IsNearestCorner T c d
+by_corners S T c d h = (corner_back S T c d h.corner h.nearest h.closest, h.nearest)
+
+-- a corner of the one and an edge of the other
+pub by_edge : (S T : List Pair) (c a b : Pair) → IsClosest S T c (Edge a b) → IsClosestToEdge S T c a b
+by_edge S T c a b h = record { corner = h.corner; edge = h.nearest; closest = h.closest }

@@ -1,0 +1,167 @@
+-- No points of two hulls are nearer to one another than where the two are nearest.
+use Rattle.std.proofs.Common.{◌≡◌, ℕ, ◌<◌, ℤ, pos, ◌-ℤ◌, ◌*ℤ◌, ◌≤ℤ◌, ◌<ℤ◌, neg_ℤ, refl, sym, ap, ◌∙◌, subst}
+use Rattle.std.proofs.Common.{List, length, get_or, arith}
+use Rattle.std.specs.List.{Contains}
+use Rattle.std.proofs.lemmas.Int.{ints}
+use Rattle.std.proofs.lemmas.List.{get_or-map, length-map}
+use Rattle.lattice.specs.Covers.{Covers, Member}
+use Rattle.lattice.specs.Places.{IsFarthest}
+use Rattle.lattice.specs.Plane.{Pair, orient, product, distance_squared}
+use Rattle.lattice.specs.Polynomials.{difference-eq, as_difference, difference-add, difference-neg, difference-mul}
+use Rattle.lattice.specs.Signs.{product_nn, cancel_nn}
+use Rattle.lattice.proofs.LineCrossings.{orient_end}
+use Rattle.hull_outline.specs.Closest.{NoneCloser, magnified, IsClosestToEdge}
+use Rattle.hull_outline.specs.Nearest.{IsNearestCorner}
+use Rattle.hull_outline.specs.Steps.{step, left_of}
+use Rattle.hull_outline.specs.declared.distance.Distance.TheVariants.{Zero, Corners, CornerAndEdge, EdgeAndCorner}
+use Rattle.hull_outline.proofs.Distances.{covered_near, distance_nn}
+use Rattle.hull_outline.proofs.Gaps.{along_step, step_squared, some_length, as_far}
+use Rattle.hull_outline.proofs.NearestOf.{step_back}
+use Rattle.hull_outline.proofs.Rivals.{other_normal}
+use Rattle.hull_outline.proofs.Separated.{from_edge, way_on}
+use Rattle.hull_outline.proofs.Shields.{product_left}
+
+-- ---- a set that is magnified
+
+-- how far a point lies that is k times as far out
+times_along : (k : ℤ) (d p : Pair)
+    → product d record { x = k *ℤ p.x; y = k *ℤ p.y } ≡ k *ℤ product d p
+unfolding product
+times_along k d p =
+    rw (as_difference k, as_difference d.x, as_difference d.y, as_difference p.x, as_difference p.y)
+    (simp (difference-add, difference-mul) (difference-eq _ _ _ _ (omega arith)))
+
+-- products of a number that is not below 0 with numbers in order
+times_le : (k x y : ℤ) → pos 0 ≤ℤ k → x ≤ℤ y → (k *ℤ x) ≤ℤ (k *ℤ y)
+times_le k x y h l = more _ _ _ (apart k x y) (product_nn k (y -ℤ x) h (rest _ _ l))
+  where
+    apart : (k x y : ℤ) → k *ℤ (y -ℤ x) ≡ k *ℤ y -ℤ k *ℤ x
+    apart k x y = rw (as_difference k, as_difference x, as_difference y)
+        (simp (difference-add, difference-neg, difference-mul) (difference-eq _ _ _ _ (omega arith)))
+
+    rest : (x y : ℤ) → x ≤ℤ y → pos 0 ≤ℤ (y -ℤ x)
+    rest x y h = omega (arith, ints)
+
+    more : (z x y : ℤ) → z ≡ y -ℤ x → pos 0 ≤ℤ z → x ≤ℤ y
+    more z x y e h = omega (arith, ints)
+
+-- what the magnified set covers lies no farther than so many times the farthest
+magnified_near : (S : List Pair) (d s p : Pair) (k : ℕ) → IsFarthest S d s → Covers (magnified k S) p
+    → product d p ≤ℤ (pos k *ℤ product d s)
+magnified_near S d s p k f c = covered_near (magnified k S) d p (pos k *ℤ product d s) near c
+  where
+    near : (t : Pair) → Contains (magnified k S) t → product d t ≤ℤ (pos k *ℤ product d s)
+    near t (i, l, e) =
+        let m : i < length S = rw length-map at l in
+        subst (λ (z : Pair). product d z ≤ℤ (pos k *ℤ product d s)) e
+        (rw (get_or-map _ S i s t m, times_along (pos k) d (get_or S i s))
+        (times_le (pos k) _ _ (omega (arith, ints)) (f i s m)))
+
+-- ---- two sets with a strip between them
+
+-- no points of two magnified sets are nearer to one another than so many times the strip is wide
+far_apart : (S T : List Pair) (d back s t : Pair) (k : ℕ) (p q : Pair) (h : ℤ) → IsFarthest S d s
+    → IsFarthest T back t → ((x : Pair) → product back x ≡ neg_ℤ (product d x)) → h ≡ product d t -ℤ product d s
+    → pos 0 ≤ℤ h → Covers (magnified k S) p → Covers (magnified k T) q
+    → ((pos k *ℤ h) *ℤ (pos k *ℤ h)) ≤ℤ (product d d *ℤ distance_squared p q)
+far_apart S T d back s t k p q h fs ft turn e hh cp cq =
+    as_far d p q (pos k *ℤ h) (product_nn (pos k) h (omega (arith, ints)) hh)
+    (wide (pos k) h _ _ _ _ _ _ (apart (pos k) (product d t) (product d s)) e (magnified_near S d s p k fs cp)
+    (magnified_near T back t q k ft cq) (turn q)
+    (ap (λ (z : ℤ). pos k *ℤ z) (turn t) ∙ negated (pos k) (product d t)))
+  where
+    apart : (k x y : ℤ) → k *ℤ (x -ℤ y) ≡ k *ℤ x -ℤ k *ℤ y
+    apart k x y = rw (as_difference k, as_difference x, as_difference y)
+        (simp (difference-add, difference-neg, difference-mul) (difference-eq _ _ _ _ (omega arith)))
+
+    negated : (k x : ℤ) → k *ℤ neg_ℤ x ≡ neg_ℤ (k *ℤ x)
+    negated k x = rw (as_difference k, as_difference x)
+        (simp (difference-neg, difference-mul) (difference-eq _ _ _ _ (omega arith)))
+
+    wide : (k h w ks kt dp dq bq : ℤ) {bt : ℤ} → k *ℤ w ≡ kt -ℤ ks → h ≡ w → dp ≤ℤ ks → bq ≤ℤ bt → bq ≡ neg_ℤ dq
+        → bt ≡ neg_ℤ kt → (k *ℤ h) ≤ℤ (dq -ℤ dp)
+    wide k h w ks kt dp dq bq x e a b c d = rw e (omega (arith, ints, x, a, b, c, d))
+
+-- the same of the squared distance itself, where that is the strip's width
+cancelled : (k l m : ℤ) → pos 0 <ℤ l → ((k *ℤ l) *ℤ (k *ℤ l)) ≤ℤ (l *ℤ m) → ((k *ℤ k) *ℤ l) ≤ℤ m
+cancelled k l m h le = back _ _ (cancel_nn (m -ℤ (k *ℤ k) *ℤ l) l h (rest _ _ _ (drawn k l m) le))
+  where
+    drawn : (k l m : ℤ) → (m -ℤ (k *ℤ k) *ℤ l) *ℤ l ≡ l *ℤ m -ℤ (k *ℤ l) *ℤ (k *ℤ l)
+    drawn k l m = rw (as_difference k, as_difference l, as_difference m)
+        (simp (difference-add, difference-neg, difference-mul) (difference-eq _ _ _ _ (omega arith)))
+
+    rest : (x y z : ℤ) → x ≡ y -ℤ z → z ≤ℤ y → pos 0 ≤ℤ x
+    rest x y z e h = omega (arith, ints)
+
+    back : (x y : ℤ) → pos 0 ≤ℤ (x -ℤ y) → y ≤ℤ x
+    back x y h = omega (arith, ints)
+
+-- a distance both ways
+distance_back : (p q : Pair) → distance_squared p q ≡ distance_squared q p
+unfolding distance_squared
+distance_back p q =
+    rw (as_difference p.x, as_difference p.y, as_difference q.x, as_difference q.y)
+    (simp (difference-add, difference-neg, difference-mul) (difference-eq _ _ _ _ (omega arith)))
+
+-- the normal of an edge is as long as the edge
+normal_squared : (a b : Pair) → product (left_of a b) (left_of a b) ≡ distance_squared a b
+unfolding product distance_squared
+normal_squared a b =
+    rw (as_difference a.x, as_difference a.y, as_difference b.x, as_difference b.y)
+    (simp (difference-add, difference-neg, difference-mul) (difference-eq _ _ _ _ (omega arith)))
+
+-- two corners
+apart_by_corners : (S T : List Pair) (c d : Pair) (k : ℕ) (p q : Pair) → IsNearestCorner S d c → IsNearestCorner T c d
+    → Covers (magnified k S) p → Covers (magnified k T) q
+    → ((pos k *ℤ pos k) *ℤ distance_squared c d) ≤ℤ (pos 1 *ℤ distance_squared p q)
+apart_by_corners S T c d k p q hs ht cp cq =
+    once _ _ (cancelled (pos k) (distance_squared c d) (distance_squared p q) (rw (← step_squared c d) long)
+    (subst (λ (z : ℤ). ((pos k *ℤ distance_squared c d) *ℤ (pos k *ℤ distance_squared c d))
+    ≤ℤ (z *ℤ distance_squared p q)) (step_squared c d)
+    (far_apart S T (step c d) (step d c) c d k p q (distance_squared c d) hs.nearest ht.nearest (step_back c d)
+    (sym (step_squared c d) ∙ along_step (step c d) c d) (rw (← step_squared c d) (weak _ long)) cp cq)))
+  where
+    long : pos 0 <ℤ product (step c d) (step c d)
+    long = some_length (step c d) c d
+        (way_on c d (λ e. ht.outside (Member (subst (Contains T) (sym e) ht.corner.0))))
+
+    weak : (x : ℤ) → pos 0 <ℤ x → pos 0 ≤ℤ x
+    weak x h = omega (arith, ints)
+
+    once : (x y : ℤ) → x ≤ℤ y → x ≤ℤ (pos 1 *ℤ y)
+    once x y h = omega (arith, ints)
+
+-- a corner of S and an edge of T
+apart_by_edge : (S T : List Pair) (c a b : Pair) (k : ℕ) (p q : Pair) → IsClosestToEdge S T c a b
+    → Covers (magnified k S) p → Covers (magnified k T) q
+    → ((pos k *ℤ pos k) *ℤ (orient a b c *ℤ orient a b c)) ≤ℤ (distance_squared a b *ℤ distance_squared p q)
+apart_by_edge S T c a b k p q h cp cq =
+    rw (squares (pos k) (orient a b c))
+    (subst (λ (z : ℤ). ((pos k *ℤ neg_ℤ (orient a b c)) *ℤ (pos k *ℤ neg_ℤ (orient a b c)))
+    ≤ℤ (z *ℤ distance_squared p q)) (normal_squared a b)
+    (far_apart S T (left_of a b) (left_of b a) c b k p q (neg_ℤ (orient a b c)) h.closest
+    (from_edge T c a b _ h.edge refl).farthest (other_normal b a)
+    (side (product (left_of a b) c) (product (left_of a b) a) (product (left_of a b) b) (orient a b c) (product_left a b c)
+    (product_left a b b) (orient_end a b)) (above _ h.edge.beside.0) cp cq))
+  where
+    squares : (k o : ℤ) → (k *ℤ k) *ℤ (o *ℤ o) ≡ (k *ℤ neg_ℤ o) *ℤ (k *ℤ neg_ℤ o)
+    squares k o = rw (as_difference k, as_difference o)
+        (simp (difference-neg, difference-mul) (difference-eq _ _ _ _ (omega arith)))
+
+    side : (x y z o : ℤ) {w : ℤ} → x -ℤ y ≡ o → z -ℤ y ≡ w → w ≡ pos 0 → neg_ℤ o ≡ z -ℤ x
+    side x y z o e f g = omega (arith, ints)
+
+    above : (o : ℤ) → o <ℤ pos 0 → pos 0 ≤ℤ neg_ℤ o
+    above o h = omega (arith, ints)
+
+-- no points are nearer
+pub none_closer : NoneCloser
+none_closer S T Zero k p q h cp cq = nothing (pos k *ℤ pos k) _ (distance_nn p q)
+  where
+    nothing : (x y : ℤ) → pos 0 ≤ℤ y → (x *ℤ pos 0) ≤ℤ (pos 1 *ℤ y)
+    nothing x y h = omega (arith, ints)
+none_closer S T (Corners c d) k p q h cp cq = apart_by_corners S T c d k p q h.0 h.1 cp cq
+none_closer S T (CornerAndEdge c a b) k p q h cp cq = apart_by_edge S T c a b k p q h cp cq
+none_closer S T (EdgeAndCorner a b d) k p q h cp cq =
+    subst (λ (z : ℤ). ((pos k *ℤ pos k) *ℤ (orient a b d *ℤ orient a b d)) ≤ℤ (distance_squared a b *ℤ z))
+    (distance_back q p) (apart_by_edge T S d a b k q p h cq cp)

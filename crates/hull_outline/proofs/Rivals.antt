@@ -1,0 +1,528 @@
+-- Where what is nearest to a point of S in T is no farther off than what is nearest to other points of the two in the
+-- other set, no point of S lies farther on the way there.
+use Rattle.std.proofs.Common.{◌≡◌, ℤ, pos, ◌+ℤ◌, ◌-ℤ◌, ◌*ℤ◌, ◌≤ℤ◌, ◌<ℤ◌, negsuc, neg_ℤ, inl, inr}
+use Rattle.std.proofs.Common.{refl, sym, ap, ◌∙◌, subst, List, [], ◌∷◌, arith}
+use Rattle.std.specs.List.{Contains}
+use Rattle.std.proofs.lemmas.Int.{ints}
+use Rattle.std.proofs.lemmas.List.Elements.{All-contains}
+use lib.IntN.{*ℤ_comm}
+use Rattle.lattice.specs.Integers.{distrib_r}
+use Rattle.lattice.specs.Plane.{Pair, product}
+use Rattle.lattice.specs.Polynomials.{difference-eq, as_difference, difference-add, difference-neg, difference-mul}
+use Rattle.lattice.specs.Signs.{le_or_lt, product_nn, product_pp, product_np, product_pn, cancel_nn}
+use Rattle.hull_outline.specs.Nearest.{IsNearestEdge}
+use Rattle.hull_outline.specs.Separations.{IsSeparation}
+use Rattle.hull_outline.specs.Steps.{step, left_of}
+use Rattle.hull_outline.specs.declared.separations.Separation.{Separation}
+use Rattle.hull_outline.proofs.Cones.{square_nn, square_above}
+use Rattle.hull_outline.proofs.Fractions.{products_le, products_lt}
+use Rattle.hull_outline.proofs.Gaps.{turned, parts, gap, along_gap, along_step, some_length, narrower}
+use Rattle.hull_outline.proofs.NearestOf.{step_back}
+use Rattle.hull_outline.proofs.Parted.{product_ss, product_ns}
+use Rattle.hull_outline.proofs.Separated.{apart_by, from_edge}
+
+-- ---- what parts a set from a point, as a fraction
+
+-- how far q lies beyond a farthest point in a direction: its square by that of the direction's length
+abbrev pub depth : Separation → Pair → ℤ
+depth w q = product w.direction q -ℤ product w.direction w.farthest
+
+-- the square of that length
+abbrev pub reach : Separation → ℤ
+reach w = product w.direction w.direction
+
+-- what parts S from q, no less wide than H by the root of L
+abbrev pub Rival : List Pair → Pair → ℤ → ℤ → Type 0
+Rival S q H L =
+    (w : Separation) × IsSeparation S (q ∷ []) w × (((H *ℤ H) *ℤ reach w) ≤ℤ ((depth w q *ℤ depth w q) *ℤ L))
+
+-- q lies beyond
+pub farther_than : (S : List Pair) (q : Pair) (w : Separation) → IsSeparation S (q ∷ []) w
+    → product w.direction w.farthest <ℤ product w.direction q
+farther_than S q w h =
+    All-contains (λ t. product w.direction w.farthest <ℤ product w.direction t) (q ∷ []) q h.beyond
+    (0, omega arith, refl)
+
+-- by more than nothing
+pub depth_above : (S : List Pair) (q : Pair) (w : Separation) → IsSeparation S (q ∷ []) w → pos 0 <ℤ depth w q
+depth_above S q w h = rest _ _ (farther_than S q w h)
+  where
+    rest : (x y : ℤ) → x <ℤ y → pos 0 <ℤ (y -ℤ x)
+    rest x y h = omega (arith, ints)
+
+-- the direction has a length
+pub reach_above : (S : List Pair) (q : Pair) (w : Separation) → IsSeparation S (q ∷ []) w → pos 0 <ℤ reach w
+reach_above S q w h = some_length w.direction w.farthest q (farther_than S q w h)
+
+-- as far at least beyond each point of S
+pub depth_from : (S : List Pair) (q x : Pair) (w : Separation) → IsSeparation S (q ∷ []) w → Contains S x
+    → depth w q ≤ℤ (product w.direction q -ℤ product w.direction x)
+depth_from S q x w h m =
+    rest _ _ _ (All-contains (λ t. product w.direction t ≤ℤ product w.direction w.farthest) S x h.farthest m)
+  where
+    rest : (x y z : ℤ) → x ≤ℤ y → (z -ℤ y) ≤ℤ (z -ℤ x)
+    rest x y z h = omega (arith, ints)
+
+-- ---- weights
+
+-- two weighed numbers less as many times a third
+weighed_less : (l m h u v : ℤ) → (l *ℤ u +ℤ m *ℤ v) -ℤ (l +ℤ m) *ℤ h ≡ l *ℤ (u -ℤ h) +ℤ m *ℤ (v -ℤ h)
+weighed_less l m h u v =
+    rw (as_difference l, as_difference m, as_difference h, as_difference u, as_difference v)
+    (simp (difference-add, difference-neg, difference-mul) (difference-eq _ _ _ _ (omega arith)))
+
+-- two numbers no less than a third, weighed
+weighed_up : (l m h u v : ℤ) → pos 0 ≤ℤ l → pos 0 ≤ℤ m → h ≤ℤ u → h ≤ℤ v → ((l +ℤ m) *ℤ h) ≤ℤ (l *ℤ u +ℤ m *ℤ v)
+weighed_up l m h u v hl hm hu hv =
+    more _ _ _ _ (weighed_less l m h u v) (product_nn l (u -ℤ h) hl (rest _ _ hu)) (product_nn m (v -ℤ h) hm (rest _ _ hv))
+  where
+    rest : (x y : ℤ) → x ≤ℤ y → pos 0 ≤ℤ (y -ℤ x)
+    rest x y h = omega (arith, ints)
+
+    more : (x y u v : ℤ) → x -ℤ y ≡ u +ℤ v → pos 0 ≤ℤ u → pos 0 ≤ℤ v → y ≤ℤ x
+    more x y u v e h k = omega (arith, ints)
+
+-- two numbers below 0, weighed
+weighed_below : (l m u v : ℤ) → pos 0 ≤ℤ l → pos 0 ≤ℤ m → pos 0 <ℤ (l +ℤ m) → u <ℤ pos 0 → v <ℤ pos 0
+    → (l *ℤ u +ℤ m *ℤ v) <ℤ pos 0
+weighed_below l m u v hl hm h hu hv =
+    below _ _ _ _ (weighed_less l m (negsuc 0) u v) h
+    (product_ns l (u -ℤ negsuc 0) hl (omega (arith, ints))) (product_ns m (v -ℤ negsuc 0) hm (omega (arith, ints)))
+  where
+    below : (x k u v : ℤ) → x -ℤ k *ℤ negsuc 0 ≡ u +ℤ v → pos 0 <ℤ k → u ≤ℤ pos 0 → v ≤ℤ pos 0 → x <ℤ pos 0
+    below x k u v e h p q = omega (arith, ints)
+
+-- two numbers above 0, weighed
+weighed_above : (l m u v : ℤ) → pos 0 ≤ℤ l → pos 0 ≤ℤ m → pos 0 <ℤ (l +ℤ m) → pos 0 <ℤ u → pos 0 <ℤ v
+    → pos 0 <ℤ (l *ℤ u +ℤ m *ℤ v)
+weighed_above l m u v hl hm h hu hv =
+    above _ _ (weighed_up l m (pos 1) u v hl hm (omega (arith, ints)) (omega (arith, ints))) h
+  where
+    above : (x k : ℤ) → (k *ℤ pos 1) ≤ℤ x → pos 0 <ℤ k → pos 0 <ℤ x
+    above x k e h = omega (arith, ints)
+
+-- the same number, weighed
+weighed_same : (l m u v : ℤ) → u ≡ v → l *ℤ u +ℤ m *ℤ v ≡ (l +ℤ m) *ℤ v
+weighed_same l m u v e = ap (λ (z : ℤ). l *ℤ z +ℤ m *ℤ v) e ∙ sym (distrib_r l m v)
+
+-- z between x and y, by the distances of the others
+balanced : (x y z : ℤ) → (y -ℤ z) *ℤ (z -ℤ x) +ℤ (z -ℤ x) *ℤ (z -ℤ y) ≡ pos 0
+balanced x y z = nothing _ _ (flipped x y z)
+  where
+    flipped : (x y z : ℤ) → (y -ℤ z) *ℤ (z -ℤ x) ≡ neg_ℤ ((z -ℤ x) *ℤ (z -ℤ y))
+    flipped x y z = rw (as_difference x, as_difference y, as_difference z)
+        (simp (difference-add, difference-neg, difference-mul) (difference-eq _ _ _ _ (omega arith)))
+
+    nothing : (x y : ℤ) → x ≡ neg_ℤ y → x +ℤ y ≡ pos 0
+    nothing x y e = omega (arith, ints)
+
+-- ---- a gap that is narrower
+
+-- what parts S from q is no wider than the gap between q and a point between two of S
+loses : (S : List Pair) (q x y n : Pair) (l m H : ℤ) → Rival S q H (product n n) → Contains S x → Contains S y
+    → pos 0 ≤ℤ l → pos 0 ≤ℤ m → pos 0 <ℤ (l +ℤ m) → product (turned n) (gap l m q x y) ≡ pos 0
+    → neg_ℤ ((l +ℤ m) *ℤ H) <ℤ product n (gap l m q x y) → product n (gap l m q x y) <ℤ ((l +ℤ m) *ℤ H) → ⊥
+loses S q x y n l m H (w, h, more) mx my hl hm k z low high =
+    narrower n w.direction (gap l m q x y) (l +ℤ m) (depth w q) H z k (weak _ (depth_above S q w h))
+    (rw (along_gap w.direction l m q x y)
+    (weighed_up l m (depth w q) _ _ hl hm (depth_from S q x w h mx) (depth_from S q y w h my)))
+    low high (reach_above S q w h) more
+  where
+    weak : (x : ℤ) → pos 0 <ℤ x → pos 0 ≤ℤ x
+    weak x h = omega (arith, ints)
+
+-- what lies across no direction but n: how far it goes in another, by how far it goes along n
+across : (n d w : Pair) → product (turned n) w ≡ pos 0 → product n n *ℤ product d w ≡ product n d *ℤ product n w
+across n d w z =
+    parts n d w
+    ∙ ap (λ (k : ℤ). product n d *ℤ product n w +ℤ product (turned n) d *ℤ k) z
+    ∙ omega (arith, ints)
+
+-- ---- a corner that is the nearest
+
+-- the way there and back has one length
+both_ways : (c d : Pair) → product (step d c) (step d c) ≡ product (step c d) (step c d)
+unfolding product
+both_ways c d =
+    rw (as_difference c.x, as_difference c.y, as_difference d.x, as_difference d.y)
+    (simp (difference-add, difference-neg, difference-mul) (difference-eq _ _ _ _ (omega arith)))
+
+-- a factor on both sides is cancelled
+shorter : (l r h : ℤ) → pos 0 <ℤ l → ((l *ℤ l) *ℤ r) ≤ℤ ((h *ℤ h) *ℤ l) → (l *ℤ r) ≤ℤ (h *ℤ h)
+shorter l r h hl m =
+    back _ _ (cancel_nn ((h *ℤ h) -ℤ l *ℤ r) l hl (rest _ _ _ (drawn (h *ℤ h) l r) m))
+  where
+    drawn : (k l r : ℤ) → (k -ℤ l *ℤ r) *ℤ l ≡ k *ℤ l -ℤ (l *ℤ l) *ℤ r
+    drawn k l r = rw (as_difference k, as_difference l, as_difference r)
+        (simp (difference-add, difference-neg, difference-mul) (difference-eq _ _ _ _ (omega arith)))
+
+    rest : (x y z : ℤ) → x ≡ y -ℤ z → z ≤ℤ y → pos 0 ≤ℤ x
+    rest x y z e h = omega (arith, ints)
+
+    back : (x y : ℤ) → pos 0 ≤ℤ (x -ℤ y) → y ≤ℤ x
+    back x y h = omega (arith, ints)
+
+-- a square that is not above 0
+no_square : (t : ℤ) → (t *ℤ t) ≤ℤ pos 0 → t ≡ pos 0
+no_square t h = elim (le_or_lt t (pos 0)) [
+  | inr k ↦ absurd (clash _ (square_above t (inl k)) h)
+  | inl k ↦ elim (le_or_lt (pos 0) t) [
+    | inr l ↦ absurd (clash _ (square_above t (inr l)) h)
+    | inl l ↦ omega (arith, ints)
+  ]
+]
+  where
+    clash : (x : ℤ) → pos 0 <ℤ x → x ≤ℤ pos 0 → ⊥
+    clash x h k = omega (arith, ints)
+
+-- squares in order
+root_le : (g h : ℤ) → pos 0 ≤ℤ h → (g *ℤ g) ≤ℤ (h *ℤ h) → g ≤ℤ h
+root_le g h hh m = elim (le_or_lt g h) [ inl k ↦ k | inr k ↦ absurd (clash _ _ (products_lt h g hh k) m) ]
+  where
+    clash : (x y : ℤ) → x <ℤ y → y ≤ℤ x → ⊥
+    clash x y h k = omega (arith, ints)
+
+-- where what parts S from d is no narrower than the way from c in S to d, no point of S lies farther on that way
+pub corner_closest : (S : List Pair) (c d : Pair) → Contains S c → product (step d c) d <ℤ product (step d c) c
+    → Rival S d (product (step d c) c -ℤ product (step d c) d) (product (step d c) (step d c)) → (s : Pair)
+    → Contains S s → product (step c d) s ≤ℤ product (step c d) c
+corner_closest S c d mc apart (w, r, more) s ms = elim (le_or_lt (product e s) (product e c)) [
+  | inl k ↦ k
+  | inr k ↦ absurd (clash _ _ across_n (product_pp R (product e (step c s)) high (rw (along_step e c s) (above _ _ k)))
+      (product_ns g (product n (step c s)) (over _ _ (depth_above S d w r) far) level))
+]
+  where
+    e : Pair
+    e = step c d
+
+    n : Pair
+    n = w.direction
+
+    R : ℤ
+    R = product n n
+
+    L : ℤ
+    L = product (step d c) (step d c)
+
+    h : ℤ
+    h = depth w d
+
+    g : ℤ
+    g = product n e
+
+    high : pos 0 <ℤ R
+    high = reach_above S d w r
+
+    far : h ≤ℤ g
+    far = rw (along_step n c d) (depth_from S d c w r mc)
+
+    over : (x y : ℤ) → pos 0 <ℤ x → x ≤ℤ y → pos 0 ≤ℤ y
+    over x y h k = omega (arith, ints)
+
+    weak : (x : ℤ) → pos 0 <ℤ x → pos 0 ≤ℤ x
+    weak x h = omega (arith, ints)
+
+    above : (x y : ℤ) → x <ℤ y → pos 0 <ℤ (y -ℤ x)
+    above x y h = omega (arith, ints)
+
+    -- the whole way, squared
+    whole : R *ℤ product e e ≡ g *ℤ g +ℤ product (turned n) e *ℤ product (turned n) e
+    whole = parts n e e
+
+    little : (R *ℤ product e e) ≤ℤ (h *ℤ h)
+    little =
+        subst (λ (x : ℤ). (R *ℤ x) ≤ℤ (h *ℤ h)) (both_ways c d)
+        (subst (λ (x : ℤ). x ≤ℤ (h *ℤ h)) (*ℤ_comm L R)
+        (shorter L R h (some_length (step d c) d c apart)
+        (subst (λ (x : ℤ). ((x *ℤ x) *ℤ R) ≤ℤ ((h *ℤ h) *ℤ L)) (sym (along_step (step d c) d c)) more)))
+
+    squares : (h *ℤ h) ≤ℤ (g *ℤ g)
+    squares =
+        products_le h g h g (weak _ (depth_above S d w r)) far (weak _ (depth_above S d w r)) far
+
+    nothing : product (turned n) e ≡ pos 0
+    nothing = no_square _ (none _ _ _ _ whole little squares)
+      where
+        none : (x y z h : ℤ) → x ≡ y +ℤ z → x ≤ℤ h → h ≤ℤ y → z ≤ℤ pos 0
+        none x y z h e k l = omega (arith, ints)
+
+    short : g ≤ℤ h
+    short = root_le g h (weak _ (depth_above S d w r))
+        (under _ _ _ _ whole little (square_nn (product (turned n) e)))
+      where
+        under : (x y z h : ℤ) → x ≡ y +ℤ z → x ≤ℤ h → pos 0 ≤ℤ z → y ≤ℤ h
+        under x y z h e k l = omega (arith, ints)
+
+    -- s lies no farther along n than c
+    level : product n (step c s) ≤ℤ pos 0
+    level = rw (along_step n c s)
+        (flat _ _ _ _ (All-contains (λ t. product n t ≤ℤ product n w.farthest) S s r.farthest ms)
+        (rw (along_step n c d) at short))
+      where
+        flat : (x y z q : ℤ) → x ≤ℤ y → (q -ℤ z) ≤ℤ (q -ℤ y) → (x -ℤ z) ≤ℤ pos 0
+        flat x y z q h k = omega (arith, ints)
+
+    across_n : R *ℤ product e (step c s) ≡ g *ℤ product n (step c s)
+    across_n =
+        parts n e (step c s)
+        ∙ ap (λ (k : ℤ). g *ℤ product n (step c s) +ℤ k *ℤ product (turned n) (step c s)) nothing
+        ∙ omega (arith, ints)
+
+    clash : (x y : ℤ) → x ≡ y → pos 0 <ℤ x → y ≤ℤ pos 0 → ⊥
+    clash x y e h k = omega (arith, ints)
+
+-- ---- an edge that is the nearest
+
+-- the normal of an edge, turned, goes along the edge
+turned_edge : (a b t : Pair) → product (turned (left_of b a)) t ≡ product (step a b) t
+unfolding product
+turned_edge a b t =
+    rw (
+      as_difference a.x,
+      as_difference a.y,
+      as_difference b.x,
+      as_difference b.y,
+      as_difference t.x,
+      as_difference t.y,
+    ) (simp (difference-add, difference-neg, difference-mul) (difference-eq _ _ _ _ (omega arith)))
+
+-- the other normal
+pub other_normal : (a b t : Pair) → product (left_of a b) t ≡ neg_ℤ (product (left_of b a) t)
+unfolding product
+other_normal a b t =
+    rw (
+      as_difference a.x,
+      as_difference a.y,
+      as_difference b.x,
+      as_difference b.y,
+      as_difference t.x,
+      as_difference t.y,
+    ) (simp (difference-add, difference-neg, difference-mul) (difference-eq _ _ _ _ (omega arith)))
+
+-- both ends of an edge lie as far along its normal
+ends_level : (a b : Pair) → product (left_of b a) a ≡ product (left_of b a) b
+unfolding product
+ends_level a b =
+    rw (as_difference a.x, as_difference a.y, as_difference b.x, as_difference b.y)
+    (simp (difference-add, difference-neg, difference-mul) (difference-eq _ _ _ _ (omega arith)))
+
+-- products of a number above 0 with numbers in order
+drawn_out : (k x y : ℤ) → pos 0 <ℤ k → x <ℤ y → (k *ℤ x) <ℤ (k *ℤ y)
+drawn_out k x y h l = less _ _ _ (apart k x y) (product_pp k (y -ℤ x) h (rest _ _ l))
+  where
+    apart : (k x y : ℤ) → k *ℤ (y -ℤ x) ≡ k *ℤ y -ℤ k *ℤ x
+    apart k x y = rw (as_difference k, as_difference x, as_difference y)
+        (simp (difference-add, difference-neg, difference-mul) (difference-eq _ _ _ _ (omega arith)))
+
+    rest : (x y : ℤ) → x <ℤ y → pos 0 <ℤ (y -ℤ x)
+    rest x y h = omega (arith, ints)
+
+    less : (z x y : ℤ) → z ≡ y -ℤ x → pos 0 <ℤ z → x <ℤ y
+    less z x y e h = omega (arith, ints)
+
+-- which way two products go that are equal but for a factor above 0
+same_way : (l x y z : ℤ) → pos 0 <ℤ l → l *ℤ x ≡ y *ℤ z → y <ℤ pos 0 → x <ℤ pos 0 → pos 0 <ℤ z
+same_way l x y z hl e hy hx = elim (le_or_lt z (pos 0)) [
+  | inr k ↦ k
+  | inl k ↦ absurd (clash _ _ e (product_pn l x hl hx) (product_ss y z (weak _ hy) k))
+]
+  where
+    weak : (x : ℤ) → x <ℤ pos 0 → x ≤ℤ pos 0
+    weak x h = omega (arith, ints)
+
+    clash : (x y : ℤ) → x ≡ y → x <ℤ pos 0 → pos 0 ≤ℤ y → ⊥
+    clash x y e h k = omega (arith, ints)
+
+-- and the other way
+other_way : (l x y z : ℤ) → pos 0 <ℤ l → l *ℤ x ≡ y *ℤ z → y <ℤ pos 0 → pos 0 <ℤ x → z <ℤ pos 0
+other_way l x y z hl e hy hx = elim (le_or_lt (pos 0) z) [
+  | inr k ↦ k
+  | inl k ↦ absurd (clash _ _ e (product_pp l x hl hx) (product_np y z (weak _ hy) k))
+]
+  where
+    weak : (x : ℤ) → x <ℤ pos 0 → x ≤ℤ pos 0
+    weak x h = omega (arith, ints)
+
+    clash : (x y : ℤ) → x ≡ y → pos 0 <ℤ x → y ≤ℤ pos 0 → ⊥
+    clash x y e h k = omega (arith, ints)
+
+-- and the first factor by the second
+first_way : (l x y z : ℤ) → pos 0 <ℤ l → l *ℤ x ≡ y *ℤ z → pos 0 <ℤ z → x <ℤ pos 0 → y <ℤ pos 0
+first_way l x y z hl e hz hx = elim (le_or_lt (pos 0) y) [
+  | inr k ↦ k
+  | inl k ↦ absurd (clash _ _ e (product_pn l x hl hx) (product_nn y z k (weak _ hz)))
+]
+  where
+    weak : (x : ℤ) → pos 0 <ℤ x → pos 0 ≤ℤ x
+    weak x h = omega (arith, ints)
+
+    clash : (x y : ℤ) → x ≡ y → x <ℤ pos 0 → pos 0 ≤ℤ y → ⊥
+    clash x y e h k = omega (arith, ints)
+
+module _ (S T : List Pair) (c a b s : Pair) (d : Pair)
+    (parts_them : (u t : Pair) → Contains S u → Contains T t → product d u <ℤ product d t)
+    (mc : Contains S c) (ms : Contains S s) (h : IsNearestEdge T c a b)
+    (nearer : product (left_of b a) s <ℤ product (left_of b a) c) where
+  abbrev n : Pair
+  n = left_of b a
+
+  -- how far a point lies out from the edge
+  abbrev out : Pair → ℤ
+  out t = product (left_of b a) t
+
+  -- and along it
+  abbrev on : Pair → ℤ
+  on t = product (turned (left_of b a)) t
+
+  -- how far c lies out
+  abbrev H : ℤ
+  H = out c -ℤ out b
+
+  -- c lies out
+  c_out : out b <ℤ out c
+  c_out = farther_than T c (apart_by n b) (from_edge T c a b n h refl)
+
+  -- the edge has a length
+  long : pos 0 <ℤ product n n
+  long = some_length n b c c_out
+
+  -- beyond its start
+  after_start : on a <ℤ on c
+  after_start = rw (turned_edge a b a, turned_edge a b c) h.beside.1
+
+  -- before its end
+  before_end : on c <ℤ on b
+  before_end = rw (turned_edge a b b, turned_edge a b c)
+      (back _ _ _ _ (step_back a b b) (step_back a b c) h.beside.2)
+    where
+      back : (x y u v : ℤ) → x ≡ neg_ℤ u → y ≡ neg_ℤ v → x <ℤ y → v <ℤ u
+      back x y u v e f h = omega (arith, ints)
+
+  -- the weights of a point between two others in a row, by how far it lies along
+  flat : (q x y : Pair) → product (turned n) (gap (on y -ℤ on q) (on q -ℤ on x) q x y) ≡ pos 0
+  flat q x y = along_gap (turned n) _ _ q x y ∙ balanced (on x) (on y) (on q)
+
+  -- a point over the edge goes out from it by as much
+  over_edge : (q : Pair)
+      → product n (gap (on b -ℤ on q) (on q -ℤ on a) q a b)
+      ≡ ((on b -ℤ on q) +ℤ (on q -ℤ on a)) *ℤ (out q -ℤ out b)
+  over_edge q =
+      along_gap n _ _ q a b
+      ∙ weighed_same (on b -ℤ on q) (on q -ℤ on a) (out q -ℤ out a) (out q -ℤ out b)
+      (ap (λ (z : ℤ). out q -ℤ z) (ends_level a b))
+
+  -- d goes against the normal: c lies out
+  against : product n d <ℤ pos 0
+  against =
+      first_way (product n n) (product d w) (product n d) (product n w) long (across n d w (flat c a b))
+      (rw (over_edge c) (product_pp _ _ sum (rest _ _ c_out)))
+      (rw (along_gap d (on b -ℤ on c) (on c -ℤ on a) c a b)
+      (weighed_below _ _ _ _ (left _ _ before_end) (left _ _ after_start) sum
+      (under _ _ (parts_them c a mc h.start.0)) (under _ _ (parts_them c b mc h.end.0))))
+    where
+      w : Pair
+      w = gap (on b -ℤ on c) (on c -ℤ on a) c a b
+
+      sum : pos 0 <ℤ ((on b -ℤ on c) +ℤ (on c -ℤ on a))
+      sum = let p = after_start in let q = before_end in omega (arith, ints)
+
+      rest : (x y : ℤ) → x <ℤ y → pos 0 <ℤ (y -ℤ x)
+      rest x y h = omega (arith, ints)
+
+      left : (x y : ℤ) → x <ℤ y → pos 0 ≤ℤ (y -ℤ x)
+      left x y h = omega (arith, ints)
+
+      under : (x y : ℤ) → x <ℤ y → (x -ℤ y) <ℤ pos 0
+      under x y h = omega (arith, ints)
+
+  -- s over the edge is nearer to it
+  over : on a ≤ℤ on s → on s ≤ℤ on b → Rival T s H (product n n) → ⊥
+  over l m r =
+      loses T s a b n (on b -ℤ on s) (on s -ℤ on a) H r h.start.0 h.end.0 (left _ _ m) (left _ _ l) sum (flat s a b)
+      (rw (over_edge s) (low _ _ (product_pp _ _ sum (rest _ _ c_out)) out_from))
+      (rw (over_edge s) (drawn_out _ _ _ sum (less _ _ _ nearer)))
+    where
+      w : Pair
+      w = gap (on b -ℤ on s) (on s -ℤ on a) s a b
+
+      sum : pos 0 <ℤ ((on b -ℤ on s) +ℤ (on s -ℤ on a))
+      sum = let p = after_start in let q = before_end in omega (arith, ints)
+
+      rest : (x y : ℤ) → x <ℤ y → pos 0 <ℤ (y -ℤ x)
+      rest x y h = omega (arith, ints)
+
+      left : (x y : ℤ) → x ≤ℤ y → pos 0 ≤ℤ (y -ℤ x)
+      left x y h = omega (arith, ints)
+
+      under : (x y : ℤ) → x <ℤ y → (x -ℤ y) <ℤ pos 0
+      under x y h = omega (arith, ints)
+
+      less : (x y z : ℤ) → x <ℤ y → (x -ℤ z) <ℤ (y -ℤ z)
+      less x y z h = omega (arith, ints)
+
+      low : (x y : ℤ) → pos 0 <ℤ x → pos 0 <ℤ y → neg_ℤ x <ℤ y
+      low x y h k = omega (arith, ints)
+
+      out_from : pos 0 <ℤ (((on b -ℤ on s) +ℤ (on s -ℤ on a)) *ℤ (out s -ℤ out b))
+      out_from = rw (← over_edge s)
+          (same_way (product n n) (product d w) (product n d) (product n w) long (across n d w (flat s a b)) against
+          (rw (along_gap d (on b -ℤ on s) (on s -ℤ on a) s a b)
+          (weighed_below _ _ _ _ (left _ _ m) (left _ _ l) sum
+          (under _ _ (parts_them s a ms h.start.0)) (under _ _ (parts_them s b ms h.end.0)))))
+
+  -- where s lies past an end of the edge, that end is nearer to S
+  past : (q : Pair) (l m : ℤ) → Contains T q → out q ≡ out b → pos 0 <ℤ l → pos 0 <ℤ m
+      → product (turned n) (gap l m q c s) ≡ pos 0 → Rival S q H (product n n) → ⊥
+  past q l m mq e hl hm z r =
+      loses S q c s n l m H r mc ms (weak _ hl) (weak _ hm) sum z
+      (rw (along_gap n l m q c s, e) (low _ _ _ (level l m (out b) (out c) (out s))
+      (product_pp m (out c -ℤ out s) hm (rest _ _ nearer))))
+      (high _ _ (other_way (product n n) (product d w) (product n d) (product n w) long (across n d w z) against
+      (rw (along_gap d l m q c s)
+      (weighed_above l m _ _ (weak _ hl) (weak _ hm) sum (rest _ _ (parts_them c q mc mq))
+      (rest _ _ (parts_them s q ms mq)))))
+      (product_pp _ _ sum (rest _ _ c_out)))
+    where
+      w : Pair
+      w = gap l m q c s
+
+      sum : pos 0 <ℤ (l +ℤ m)
+      sum = omega (arith, ints)
+
+      weak : (x : ℤ) → pos 0 <ℤ x → pos 0 ≤ℤ x
+      weak x h = omega (arith, ints)
+
+      rest : (x y : ℤ) → x <ℤ y → pos 0 <ℤ (y -ℤ x)
+      rest x y h = omega (arith, ints)
+
+      level : (l m b c s : ℤ)
+          → (l *ℤ (b -ℤ c) +ℤ m *ℤ (b -ℤ s)) +ℤ (l +ℤ m) *ℤ (c -ℤ b) ≡ m *ℤ (c -ℤ s)
+      level l m b c s =
+          rw (as_difference l, as_difference m, as_difference b, as_difference c, as_difference s)
+          (simp (difference-add, difference-neg, difference-mul) (difference-eq _ _ _ _ (omega arith)))
+
+      low : (x y z : ℤ) → x +ℤ y ≡ z → pos 0 <ℤ z → neg_ℤ y <ℤ x
+      low x y z e h = omega (arith, ints)
+
+      high : (x y : ℤ) → x <ℤ pos 0 → pos 0 <ℤ y → x <ℤ y
+      high x y h k = omega (arith, ints)
+
+  -- s lies over the edge, or past one of its ends
+  pub edge_closest : Rival T s H (product n n) → Rival S a H (product n n) → Rival S b H (product n n) → ⊥
+  edge_closest rs ra rb = elim (le_or_lt (on s) (on b)) [
+    | inr k ↦ past b (on s -ℤ on b) (on b -ℤ on c) h.end.0 refl (rest _ _ k) (rest _ _ before_end) (flat b c s) rb
+    | inl m ↦ elim (le_or_lt (on a) (on s)) [
+      | inl l ↦ over l m rs
+      | inr k ↦ past a (on a -ℤ on s) (on c -ℤ on a) h.start.0 (ends_level a b) (rest _ _ k) (rest _ _ after_start)
+          (along_gap (turned n) _ _ a c s ∙ balanced_back (on s) (on c) (on a)) ra
+    ]
+  ]
+    where
+      rest : (x y : ℤ) → x <ℤ y → pos 0 <ℤ (y -ℤ x)
+      rest x y h = omega (arith, ints)
+
+      balanced_back : (x y z : ℤ) → (z -ℤ x) *ℤ (z -ℤ y) +ℤ (y -ℤ z) *ℤ (z -ℤ x) ≡ pos 0
+      balanced_back x y z = swapped _ _ _ (*ℤ_comm (z -ℤ x) (z -ℤ y)) (balanced x y z)
+        where
+          swapped : (u v w : ℤ) → u ≡ v → w +ℤ u ≡ pos 0 → u +ℤ w ≡ pos 0
+          swapped u v w e f = omega (arith, ints)

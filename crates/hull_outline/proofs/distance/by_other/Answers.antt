@@ -1,0 +1,17 @@
+-- what is nearest to the closest corner of the other hull
+use Rattle.std.proofs.Common.{subst}
+use Rattle.hull_outline.specs.Closest.{IsClosest}
+use Rattle.hull_outline.specs.Meetings.{Reaches}
+use Rattle.hull_outline.proofs.Closest.{by_corners, by_edge}
+use Rattle.hull_outline.proofs.distance.by_other.Goals as goal
+
+pub returns-in-Covered : goal.returns-in-Covered
+returns-in-Covered c = λ S T h.
+    let k = subst (IsClosest T S c.args.d) c.in-Covered.is h in Reaches c.args.d k.corner.0 k.nearest
+
+pub returns-in-Corner : goal.returns-in-Corner
+returns-in-Corner c = λ S T h.
+    let k = by_corners T S _ _ (subst (IsClosest T S c.args.d) c.in-Corner.is h) in (k.1, k.0)
+
+pub returns-in-Edge : goal.returns-in-Edge
+returns-in-Edge c = λ S T h. by_edge T S _ _ _ (subst (IsClosest T S c.args.d) c.in-Edge.is h)

@@ -1,0 +1,16 @@
+-- what is nearest to the closest corner of this hull
+use Rattle.std.proofs.Common.{subst}
+use Rattle.hull_outline.specs.Closest.{IsClosest}
+use Rattle.hull_outline.specs.Meetings.{IsReached}
+use Rattle.hull_outline.proofs.Closest.{by_corners, by_edge}
+use Rattle.hull_outline.proofs.distance.by_this.Goals as goal
+
+pub returns-in-Covered : goal.returns-in-Covered
+returns-in-Covered c = λ S T h.
+    let k = subst (IsClosest S T c.args.c) c.in-Covered.is h in IsReached c.args.c k.corner.0 k.nearest
+
+pub returns-in-Corner : goal.returns-in-Corner
+returns-in-Corner c = λ S T h. by_corners S T _ _ (subst (IsClosest S T c.args.c) c.in-Corner.is h)
+
+pub returns-in-Edge : goal.returns-in-Edge
+returns-in-Edge c = λ S T h. by_edge S T _ _ _ (subst (IsClosest S T c.args.c) c.in-Edge.is h)

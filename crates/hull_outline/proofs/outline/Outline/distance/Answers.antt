@@ -1,0 +1,16 @@
+-- no corners, no points
+use Rattle.std.proofs.Common.{arith, inl, inr}
+use Rattle.hull_outline.proofs.Ends.{no_corners}
+use Rattle.hull_outline.proofs.Witnessed.{meeting_meets}
+use Rattle.hull_outline.proofs.outline.Outline.distance.Goals as goal
+
+pub returns-then-is_empty : goal.returns-then-is_empty
+returns-then-is_empty c = λ S o T t.
+    inl (no_corners S c.args.self.now.corners.now o (grind (arith, c.is_empty.ensures, c.if-is_empty.true)))
+
+pub returns-then-is_empty-2 : goal.returns-then-is_empty-2
+returns-then-is_empty-2 c = λ S o T t.
+    inr (no_corners T c.args.other.now.corners.now t (grind (arith, c.is_empty-2.ensures, c.if-is_empty-2.true)))
+
+pub returns-in-Some : goal.returns-in-Some
+returns-in-Some c = λ S o T t. meeting_meets S T _ (c.in-Some.ensures S o T t)

@@ -1,0 +1,104 @@
+//! How far two hulls are apart, beside the least of the distances of the points of each from the other.
+use super::meetings::{
+    Fraction, assert_of, corners_of, is_less, outline_of, slow_distance, slow_meet, small_sets,
+    to_line, to_point,
+};
+use hull_outline::{Distance, Outline};
+use lattice::Point;
+use std::alloc::Global;
+use std::process::Abort;
+use std::test::Fail;
+
+/// The least squared distance of the points of the one from the other, and so far from so many.
+fn least_from(ones: &[Point], others: &[Point], other: Point, so_far: Fraction) -> Fraction {
+    let mut least = so_far;
+    for p in ones {
+        let distance = slow_distance(others, other, *p);
+        if is_less(distance, least) {
+            least = distance;
+        }
+    }
+    least
+}
+
+/// The squared distance of two sets that are apart, from each point of each.
+fn slow_apart(ones: &[Point], one: Point, others: &[Point], other: Point) -> Fraction {
+    let least = least_from(ones, others, other, to_point(one, other));
+    least_from(others, ones, one, least)
+}
+
+/// The squared distance that is told of the two is that by the definition, and the points are theirs.
+fn assert_told(rt: &impl Abort, ones: &[Point], others: &[Point], told: Distance, slow: Fraction) {
+    let found = match told {
+        Distance::Zero => Fraction { above: 0, below: 1 },
+        Distance::Corners(c, d) => {
+            assert_of(rt, ones.contains(&c) && others.contains(&d), ones);
+            to_point(c, d)
+        }
+        Distance::CornerAndEdge(c, a, b) => {
+            assert_of(rt, ones.contains(&c), ones);
+            assert_of(rt, others.contains(&a) && others.contains(&b), ones);
+            to_line(a, b, c)
+        }
+        Distance::EdgeAndCorner(a, b, d) => {
+            assert_of(rt, ones.contains(&a) && ones.contains(&b), ones);
+            assert_of(rt, others.contains(&d), ones);
+            to_line(a, b, d)
+        }
+    };
+    assert_of(rt, !is_less(found, slow) && !is_less(slow, found), ones);
+}
+
+/// The distance of two sets is as by the definition.
+fn assert_distance(rt: &impl Abort, ones: &[Point], others: &[Point], found: Option<Distance>) {
+    match (found, ones.first(), others.first()) {
+        (Some(told), Some(one), Some(other)) => {
+            let meet = slow_meet(ones, others);
+            assert_of(rt, (told == Distance::Zero) == meet, ones);
+            if !meet {
+                assert_told(
+                    rt,
+                    ones,
+                    others,
+                    told,
+                    slow_apart(ones, *one, others, *other),
+                );
+            }
+        }
+        (told, one, other) => {
+            assert_of(
+                rt,
+                told.is_none() && (one.is_none() || other.is_none()),
+                ones,
+            );
+        }
+    }
+}
+
+/// Each of the ones is as far from each of the others as by the definition, and the other way round.
+fn assert_distances(
+    rt: &impl Abort,
+    alloc: Global,
+    ones: &[Vec<Point>],
+    others: &[Vec<Point>],
+) -> Result<(), Fail> {
+    for one in ones {
+        let one_corners = corners_of(rt, alloc, one)?;
+        let outline = outline_of(rt, &one_corners);
+        for other in others {
+            let other_corners = corners_of(rt, alloc, other)?;
+            let against = outline_of(rt, &other_corners);
+            assert_distance(rt, one, other, outline.distance(&against));
+            assert_distance(rt, other, one, against.distance(&outline));
+        }
+    }
+    Ok(())
+}
+
+#[test]
+fn distances_of_all_small_sets(rt: HostRuntime) -> Result<(), Fail> {
+    let ones = small_sets(rt.alloc(), 3, 0, 0)?;
+    assert_distances(&rt, rt.alloc(), &ones, &small_sets(rt.alloc(), 2, 5, 2)?)?;
+    let pairs = small_sets(rt.alloc(), 2, 1, 3)?;
+    assert_distances(&rt, rt.alloc(), &pairs, &small_sets(rt.alloc(), 2, 0, 0)?)
+}
