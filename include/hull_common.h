@@ -91,10 +91,7 @@ typedef enum hull_code {
     HULL_RESERVED = 53,      /* the part has room for lines now */
     HULL_PART_IN_USE = 54,   /* the part has room or lines already */
     HULL_NO_ROOM = 55,       /* the part has no room for as many lines as the desk holds at most: no look was made */
-    HULL_NO_LINES = 56,      /* the part has no lines */
-    HULL_NOT_A_JOURNAL = 57, /* the text is no journal */
-    HULL_ILLEGAL = 58,       /* the journal is no legal history */
-    HULL_OTHER_RULES = 59    /* the journal has rules that no desk goes on under */
+    HULL_NO_LINES = 56       /* the part has no lines */
 } hull_code;
 
 /* What a call was answered: a code (hull_code), and what belongs to it (told above); all else is 0. */
@@ -181,9 +178,6 @@ static inline const char *hull_code_name(uint32_t code) {
     case HULL_PART_IN_USE: return "HULL_PART_IN_USE";
     case HULL_NO_ROOM: return "HULL_NO_ROOM";
     case HULL_NO_LINES: return "HULL_NO_LINES";
-    case HULL_NOT_A_JOURNAL: return "HULL_NOT_A_JOURNAL";
-    case HULL_ILLEGAL: return "HULL_ILLEGAL";
-    case HULL_OTHER_RULES: return "HULL_OTHER_RULES";
     default: return "no code";
     }
 }

@@ -34,8 +34,8 @@
  *   they are for. A desk or a room may pass from thread to thread, if the threads order that between them (a start, a join, a
  *   lock);
  * - a seat is given back to the desk that it went out of, and all calls of a desk's seats are passed that desk's line;
- * - an array that is passed is not null, even where it has no elements, was written before (calloc does that), has the length
- *   that is told, and overlaps nothing;
+ * - an array that is passed is not null, even where it has no elements (but in hull_shared_vertices), was written before (calloc does
+ *   that), has the length that is told, and overlaps nothing;
  * - no call is made from a signal handler, nor in the child of a fork of a process with threads;
  * - malloc, realloc and free are of one allocator, whose blocks are aligned as C says.
  *

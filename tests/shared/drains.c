@@ -1,6 +1,6 @@
 /* drains THREADS CALLS EVERY FOLDER: so many threads make so many calls each over one hull, whose first thread takes the lines that are
  * held out each time that EVERY calls were made since, and writes their text to FOLDER/part.1, FOLDER/part.2 and so on; the text of the
- * closed desk is the last. The desk holds five times EVERY lines at most. The status is 0 only where each call was served, and
+ * closed desk is the last. The desk has room for twice the calls of all, so that it never is full. The status is 0 only where each call was served, and
  * the parts hold all calls, each with the number behind the last of the part before as its first number; standard output has
  * how many parts there are. With a folder of "-" no line is kept, and there are no parts. */
 #include "hull_shared.h"
@@ -105,7 +105,7 @@ int main(int count, char **words) {
     if (desk == NULL) {
         return 2;
     }
-    bad |= (keeps ? hull_shared_open(desk, HULL_LIMIT_MAX, 0, (uint32_t)(5 * every), threads)
+    bad |= (keeps ? hull_shared_open(desk, HULL_LIMIT_MAX, 0, (uint32_t)(2 * threads * calls), threads)
                   : hull_shared_open_without_journal(desk, HULL_LIMIT_MAX, 0, threads)) != HULL_OPEN;
     for (unsigned k = 0; k < threads; k++) {
         seats[k] = hull_shared_seat_new();

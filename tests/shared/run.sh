@@ -208,6 +208,9 @@ if is_there c++; then
     c++ -std=c++17 -Wall -Wextra -Werror -O2 -I"$prefix/include" "$here/../embed/hull_tests.cpp" -L"$prefix/lib" -lhull \
         -lhull_shared -lpthread -o "$room/hull_tests" && "$room/hull_tests" "$room/journal" >"$room/told" && legal "$room/journal"
     count "threads in C++ leave a legal journal" $?
+    c++ -std=c++17 -Wall -Wextra -Werror -O2 -I"$prefix/include" "$here/parts.cpp" -L"$prefix/lib" -lhull -lhull_shared \
+        -lpthread -o "$room/parts_cpp" && "$room/parts_cpp"
+    count "parts of a journal in C++" $?
 else
     skip "C++" c++
 fi
