@@ -57,9 +57,6 @@ code_number code.Reserved = 53
 code_number code.PartInUse = 54
 code_number code.NoRoom = 55
 code_number code.NoLines = 56
-code_number code.NotAJournal = 57
-code_number code.Illegal = 58
-code_number code.OtherRules = 59
 
 -- a code, and nothing beside it
 abbrev pub IsBare : Code → HullReply → Type 0

@@ -98,12 +98,6 @@ pub enum Code {
     NoRoom = 55,
     /// The part has no lines.
     NoLines = 56,
-    /// The text is no journal. Nothing changed.
-    NotAJournal = 57,
-    /// The journal is no legal history. Nothing changed.
-    Illegal = 58,
-    /// The journal has rules that no desk goes on under. Nothing changed.
-    OtherRules = 59,
 }
 
 impl Code {
