@@ -469,7 +469,7 @@ private:
 struct Limits {
     std::uint32_t points;   // how many different points it may hold, 1 to HULL_LIMIT_MAX
     std::uint64_t first;    // the number of the first call
-    std::uint32_t capacity; // how many calls have room in the journal, 1 to HULL_SHARED_CAPACITY_MAX
+    std::uint32_t capacity; // how many lines of the journal are held at most, 1 to HULL_SHARED_CAPACITY_MAX
     std::uint32_t seats;    // how many seats there are, 1 to HULL_SHARED_SEATS_MAX
 };
 
@@ -496,6 +496,35 @@ private:
     std::mutex lock_; // one call at a time on the desk; calls of seats don't take it
     hull_shared_desk *at_;
     hull_shared_line line_;
+};
+
+// Lines that a drain took out of a journal. They are kept until the part ends.
+class JournalPart {
+public:
+    // The text of the lines, which has the number of the first as its own first number.
+    std::string text() const {
+        std::vector<std::uint8_t> text(static_cast<std::size_t>(hull_shared_part_text_size(at_.get()).number));
+        const hull_reply r = hull_shared_part_text(at_.get(), text.data(), text.size());
+        if (r.code != HULL_TEXT) {
+            told::fault(r.code);
+        }
+        return std::string(text.begin(), text.end());
+    }
+
+private:
+    friend class Seat;
+    struct End {
+        void operator()(hull_shared_part *at) const noexcept {
+            hull_shared_part_end(at);
+            hull_shared_part_free(at);
+        }
+    };
+    explicit JournalPart(std::uint32_t lines) : at_(hull_shared_part_new()) {
+        if (!at_ || hull_shared_part_reserve(at_.get(), lines) != HULL_RESERVED) {
+            throw Fault(Refusal::no_memory);
+        }
+    }
+    std::unique_ptr<hull_shared_part, End> at_;
 };
 
 // A seat at a shared hull, by which one thread at a time makes calls. It goes back to its hull when it ends.
@@ -536,6 +565,17 @@ public:
     Area doubled_area() { return told::number(call(HULL_KIND_AREA, {0, 0})); }
     std::size_t count() { return static_cast<std::size_t>(told::number(call(HULL_KIND_COUNT, {0, 0}))); }
 
+    // Asks how many points there are, and takes all lines that the hull holds then out of its journal: that of this call is
+    // the last. The room for them is asked for before: Refusal::no_memory, and then no call is made.
+    JournalPart drain() {
+        if (!at_) {
+            throw Fault(Refusal::vacant);
+        }
+        JournalPart part(hull_shared_capacity(at_.get()));
+        told_of(hull_shared_drain(&desk_->line_, at_.get(), part.at_.get(), HULL_KIND_COUNT, 0, 0));
+        return part;
+    }
+
     // The corners. They are asked for with room for as many as there were before, and again where there are more: each asking
     // has its line in the journal.
     std::vector<Point> vertices() {
@@ -569,7 +609,11 @@ private:
         if (!at_) {
             throw Fault(Refusal::vacant);
         }
-        const hull_shared_reply r = hull_shared_call_into(&desk_->line_, at_.get(), kind, p.x, p.y, out, room);
+        const hull_shared_target to = {out, room, nullptr};
+        return told_of(hull_shared_call_into(&desk_->line_, at_.get(), kind, p.x, p.y, to));
+    }
+
+    hull_reply told_of(const hull_shared_reply &r) {
         switch (r.told.code) {
         case HULL_FULL:
         case HULL_OUT_OF_RANGE:

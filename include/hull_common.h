@@ -80,13 +80,18 @@ typedef enum hull_code {
     HULL_TAKEN = 43,         /* the seat has a number now */
     HULL_NOT_YET = 44,       /* another number is served: look again */
     HULL_NO_NUMBER = 45,     /* the seat has no number to look for */
-    HULL_FULL = 46,          /* the journal is full: the call was not made, and the seat has no number any more */
+    HULL_FULL = 46,          /* the journal is full (as many lines are held as may be): the call was not made, and the seat has no
+                              * number any more */
     HULL_SEATS_OUT = 47,     /* a seat is out: the desk stays open */
     HULL_CLOSED = 48,        /* the desk is closed, and has its journal */
     HULL_NOT_CLOSED = 49,    /* the desk is not closed */
     HULL_TEXT = 50,          /* the text was written to the front of the array: `number` bytes */
     HULL_ENDED = 51,         /* the desk holds nothing any more */
-    HULL_IN_USE = 52         /* no seat is out, and yet a call on the desk or a seat is under way: the desk stays open */
+    HULL_IN_USE = 52,        /* no seat is out, and yet a call on the desk or a seat is under way: the desk stays open */
+    HULL_RESERVED = 53,      /* the part has room for lines now */
+    HULL_PART_IN_USE = 54,   /* the part has room or lines already */
+    HULL_NO_ROOM = 55,       /* the part has no room for as many lines as the desk holds at most: no look was made */
+    HULL_NO_LINES = 56       /* the part has no lines */
 } hull_code;
 
 /* What a call was answered: a code (hull_code), and what belongs to it (told above); all else is 0. */
@@ -169,6 +174,10 @@ static inline const char *hull_code_name(uint32_t code) {
     case HULL_TEXT: return "HULL_TEXT";
     case HULL_ENDED: return "HULL_ENDED";
     case HULL_IN_USE: return "HULL_IN_USE";
+    case HULL_RESERVED: return "HULL_RESERVED";
+    case HULL_PART_IN_USE: return "HULL_PART_IN_USE";
+    case HULL_NO_ROOM: return "HULL_NO_ROOM";
+    case HULL_NO_LINES: return "HULL_NO_LINES";
     default: return "no code";
     }
 }

@@ -16,20 +16,26 @@
  *     hull_shared_lend(desk, seat, 0);
  *     hull_shared_call(&line, seat, HULL_KIND_ADD, 3, 4);       // in the thread of that seat
  *
- * hull_shared_desk_new and hull_shared_seat_new make desks and seats in memory from malloc. Or they lie in rooms that the
- * caller gives: of hull_shared_desk_size() bytes at a multiple of hull_shared_desk_alignment(), and so for seats;
- * hull_shared_make_desk and hull_shared_make_seat make them there, before any other call. The caller neither reads, writes
+ * A desk holds at most as many lines of its journal as it was opened for. A hull that lives for long is drained before: a
+ * call of one of its seats (hull_shared_drain) takes all lines that are held out into a part, whose text is written to a file
+ * (hull_shared_part_text). The parts in their order, and last the text of the closed desk, are the whole journal. What was not
+ * drained is lost where the program crashes; what was drained is whole lines. Or the desk keeps no lines
+ * (hull_shared_open_without_journal).
+ *
+ * hull_shared_desk_new, hull_shared_seat_new and hull_shared_part_new make desks, seats and parts in memory from malloc. Or they lie in rooms that the
+ * caller gives: of hull_shared_desk_size() bytes at a multiple of hull_shared_desk_alignment(), and so for seats and
+ * parts; hull_shared_make_desk, hull_shared_make_seat and hull_shared_make_part make them there, before any other call. The caller neither reads, writes
  * nor moves a room. A desk that is not open and a room with no seat hold nothing beyond their rooms, which may be used for
  * anything then.
  *
  * What the caller must keep, and nothing checks:
- * - each desk and each seat that is passed was made, and lies where it was made;
- * - on one desk there is one call at a time, and so on one room for a seat. Different seats are independent: that is what
+ * - each desk, each seat and each part that is passed was made, and lies where it was made;
+ * - on one desk there is one call at a time, and so on one room for a seat, and on one part. Different seats are independent: that is what
  *   they are for. A desk or a room may pass from thread to thread, if the threads order that between them (a start, a join, a
  *   lock);
  * - a seat is given back to the desk that it went out of, and all calls of a desk's seats are passed that desk's line;
- * - an array that is passed is not null, even where it has no elements, was written before (calloc does that), has the length
- *   that is told, and overlaps nothing;
+ * - an array that is passed is not null, even where it has no elements (but in hull_shared_vertices), was written before (calloc does
+ *   that), has the length that is told, and overlaps nothing;
  * - no call is made from a signal handler, nor in the child of a fork of a process with threads;
  * - malloc, realloc and free are of one allocator, whose blocks are aligned as C says.
  *
@@ -68,25 +74,31 @@ long syscall(long number, ...); /* which unistd.h leaves out under -std=c99 */
 /* What a take or a look came to: an answer, and the number that the seat took: that of its line, or where the journal was
  * full (HULL_FULL) the one that is passed over. It is told with each answer, with HULL_FULL, HULL_TAKEN, HULL_WAITING and
  * HULL_NOT_YET, and is 0 where the seat has none. Behind an answer or HULL_FULL the number turn + 1 is served. Behind an
- * answer the journal has turn + 1 - first lines, so that a seat knows how much room is left. */
+ * answer the journal has turn + 1 - first lines, those counted that were taken out; as many are held as since the last drain,
+ * which holds none behind it. */
 typedef struct hull_shared_reply {
     hull_reply told;
     uint64_t turn;
 } hull_shared_reply;
 
-/* A desk, and a room for a seat, by where they lie. */
+/* A desk, a room for a seat, and a part of a journal, by where they lie. */
 typedef struct hull_shared_desk hull_shared_desk;
 typedef struct hull_shared_seat hull_shared_seat;
+typedef struct hull_shared_part hull_shared_part;
 
 /* How many bytes a room has, and at which multiples of bytes it begins. */
 size_t hull_shared_desk_size(void);
 size_t hull_shared_desk_alignment(void);
 size_t hull_shared_seat_size(void);
 size_t hull_shared_seat_alignment(void);
+size_t hull_shared_part_size(void);
+size_t hull_shared_part_alignment(void);
 
-/* Make a desk that is not open, and a room with no seat. What lay there is written over. They ask for no memory. */
+/* Make a desk that is not open, a room with no seat, and a part that holds nothing. What lay there is written over. They ask
+ * for no memory. */
 void hull_shared_make_desk(hull_shared_desk *room);
 void hull_shared_make_seat(hull_shared_seat *room);
+void hull_shared_make_part(hull_shared_part *room);
 
 /* The same in memory from malloc; null where it refuses. */
 static inline hull_shared_desk *hull_shared_desk_new(void) {
@@ -107,8 +119,17 @@ static inline hull_shared_seat *hull_shared_seat_new(void) {
     return seat;
 }
 
-/* Give the memory of a desk that is not open and holds nothing (behind hull_shared_end), and of a room with no seat, back to
- * free; nothing where it is null. */
+static inline hull_shared_part *hull_shared_part_new(void) {
+    hull_shared_part *part =
+        (hull_shared_part *)hull_room_new(hull_shared_part_size(), hull_shared_part_alignment());
+    if (part != NULL) {
+        hull_shared_make_part(part);
+    }
+    return part;
+}
+
+/* Give the memory of a desk that is not open and holds nothing (behind hull_shared_end), of a room with no seat, and of a part
+ * that holds nothing (behind hull_shared_part_end), back to free; nothing where it is null. */
 static inline void hull_shared_desk_free(hull_shared_desk *desk) {
     hull_room_free(desk);
 }
@@ -117,10 +138,19 @@ static inline void hull_shared_seat_free(hull_shared_seat *seat) {
     hull_room_free(seat);
 }
 
-/* Opens a desk round an empty hull of up to `limit` points, with room for `capacity` calls, which are numbered from `first`
- * on, and with seats 0 to `seats` - 1: OPEN; WAS_OPENED, OUT_OF_LIMITS, NO_MEMORY. All memory but that of points is asked for
+static inline void hull_shared_part_free(hull_shared_part *part) {
+    hull_room_free(part);
+}
+
+/* Opens a desk round an empty hull of up to `limit` points, whose calls are numbered from `first` on, with
+ * room for the lines of `capacity` calls, which are held until they are drained, and with seats 0 to `seats` - 1: OPEN; WAS_OPENED, OUT_OF_LIMITS, NO_MEMORY. All memory but that of points is asked for
  * here. */
 uint32_t hull_shared_open(hull_shared_desk *desk, uint32_t limit, uint64_t first, uint32_t capacity, uint32_t seats);
+
+/* The same, but the line of each call is let go with its answer, for who wants no journal: no call is answered FULL before
+ * 2^64 - 1 calls. What is proved of the journal holds of the lines that were let go all the same; the text of the closed desk has
+ * none. */
+uint32_t hull_shared_open_without_journal(hull_shared_desk *desk, uint32_t limit, uint64_t first, uint32_t seats);
 
 /* Moves seat `number` into the room: LENT; NOT_OPEN, ROOM_IN_USE, NO_SEAT, NO_MEMORY. */
 uint32_t hull_shared_lend(hull_shared_desk *desk, hull_shared_seat *room, uint32_t number);
@@ -142,16 +172,51 @@ hull_shared_reply hull_shared_look(hull_shared_seat *seat);
  * array is as it was. For all other calls and answers the array stays as it was. */
 hull_shared_reply hull_shared_look_into(hull_shared_seat *seat, hull_point *out, size_t room);
 
+/* How many lines the desk of the seat holds at most; 0 where the room has no seat. */
+uint32_t hull_shared_capacity(const hull_shared_seat *seat);
+
+/* Asks for room for so many lines, before a drain: RESERVED; PART_IN_USE, NO_MEMORY. */
+uint32_t hull_shared_part_reserve(hull_shared_part *part, uint32_t lines);
+
+/* For how many lines the part has room; 0 where it has none, or has lines. */
+uint32_t hull_shared_part_room(const hull_shared_part *part);
+
+/* Looks as hull_shared_look does. Where the call is made, all lines that are held then go into the part, which had room for
+ * them, the call's own the last of them; the desk has the room. Nothing is copied, and no memory asked for but what the call
+ * asks for. VACANT, NO_NUMBER; NO_ROOM where the part has room for fewer lines than hull_shared_capacity: no look was made, and
+ * the seat waits on; NOT_YET; FULL, where nothing is taken out and the part's room stays. Behind FULL, which leaves a gap in the
+ * numbers, no later drain takes anything out: so a desk is drained before it is full. */
+hull_shared_reply hull_shared_look_and_drain(hull_shared_seat *seat, hull_shared_part *part);
+
+/* Writes the text of the part's lines, which has the number of the first of them as its own first number, to the front of the
+ * array: TEXT; NO_LINES, NO_MEMORY, TOO_SMALL with the `number` of bytes. `check` of the program hullbook judges the texts of
+ * parts in their order. */
+hull_reply hull_shared_part_text(const hull_shared_part *part, uint8_t *out, size_t length);
+
+/* Lets the part's room or lines go, so that it holds nothing: ENDED. */
+uint32_t hull_shared_part_end(hull_shared_part *part);
+
 /* Closes the desk: CLOSED; NOT_OPEN, SEATS_OUT where a seat is out, and IN_USE, which is told only to a caller who lets another
  * call on the desk or its seats go on. */
 uint32_t hull_shared_close(hull_shared_desk *desk);
 
-/* Writes the text of a closed desk's journal to the front of the array: TEXT; NOT_CLOSED, NO_MEMORY, TOO_SMALL with the
+/* Writes the text of the last part of a closed desk's journal, the lines that were not drained, to the front of the array: TEXT; NOT_CLOSED, NO_MEMORY, TOO_SMALL with the
  * `number` of bytes. It is a text of the program hullbook, whose `check` judges it. */
 hull_reply hull_shared_text(const hull_shared_desk *desk, uint8_t *out, size_t length);
 
 /* Ends a desk that is not open, so that it holds nothing: ENDED; NOT_CLOSED, where it is open. It may be opened again. */
 uint32_t hull_shared_end(hull_shared_desk *desk);
+
+/* How many bytes the text of a closed desk has, or that of a part: the `number` of TOO_SMALL; else as those calls refuse. */
+static inline hull_reply hull_shared_text_size(const hull_shared_desk *desk) {
+    uint8_t none = 0;
+    return hull_shared_text(desk, &none, 0);
+}
+
+static inline hull_reply hull_shared_part_text_size(const hull_shared_part *part) {
+    uint8_t none = 0;
+    return hull_shared_part_text(part, &none, 0);
+}
 
 /* ---- waiting
  *
@@ -361,11 +426,21 @@ static inline void hull_shared_handed_on(hull_shared_line *line, uint64_t number
     }
 }
 
+/* Where a look writes to: an array for corners, or a part; neither, where both are null. */
+typedef struct hull_shared_target {
+    hull_point *out;
+    size_t room;
+    hull_shared_part *part;
+} hull_shared_target;
+
 /* Looks once; where the number was served, who waits for the next is woken. */
-static inline hull_shared_reply hull_shared_look_and_wake(hull_shared_line *line, hull_shared_seat *seat, hull_point *out,
-                                                          size_t room) {
-    hull_shared_reply reply = out == NULL ? hull_shared_look(seat) : hull_shared_look_into(seat, out, room);
-    if (reply.told.code != HULL_NOT_YET && reply.told.code != HULL_NO_NUMBER && reply.told.code != HULL_VACANT) {
+static inline hull_shared_reply hull_shared_look_and_wake(hull_shared_line *line, hull_shared_seat *seat,
+                                                          hull_shared_target to) {
+    hull_shared_reply reply = to.part != NULL ? hull_shared_look_and_drain(seat, to.part)
+                              : to.out != NULL ? hull_shared_look_into(seat, to.out, to.room)
+                                               : hull_shared_look(seat);
+    if (reply.told.code != HULL_NOT_YET && reply.told.code != HULL_NO_NUMBER && reply.told.code != HULL_VACANT &&
+        reply.told.code != HULL_NO_ROOM) {
         HULL_SHARED_STEP("served");
         hull_shared_handed_on(line, reply.turn + 1);
     }
@@ -374,14 +449,14 @@ static inline hull_shared_reply hull_shared_look_and_wake(hull_shared_line *line
 
 /* Sleeps at the place of the seat's number, unless a last look finds it served. */
 static inline hull_shared_reply hull_shared_sleep_and_look(hull_shared_line *line, hull_shared_seat *seat, uint64_t number,
-                                                           hull_point *out, size_t room) {
+                                                           hull_shared_target to) {
     hull_shared_place *place = &line->places[number % HULL_SHARED_SEATS_MAX];
     hull_shared_reply reply;
     uint32_t epoch;
     __atomic_fetch_add(&place->waiters, 1, __ATOMIC_SEQ_CST);
     epoch = __atomic_load_n(&place->epoch, __ATOMIC_SEQ_CST);
     HULL_SHARED_STEP("announced");
-    reply = hull_shared_look_and_wake(line, seat, out, room);
+    reply = hull_shared_look_and_wake(line, seat, to);
     if (reply.told.code == HULL_NOT_YET) {
         HULL_SHARED_STEP("looked");
         hull_shared_sleep(line, &place->epoch, epoch);
@@ -390,32 +465,30 @@ static inline hull_shared_reply hull_shared_sleep_and_look(hull_shared_line *lin
     return reply;
 }
 
-/* Waits until the number that the seat has taken is served: the answer to its call, whose corners are written to `out` where
- * that is not null. */
-static inline hull_shared_reply hull_shared_wait(hull_shared_line *line, hull_shared_seat *seat, hull_point *out,
-                                                 size_t room) {
-    hull_shared_reply reply = hull_shared_look_and_wake(line, seat, out, room);
+/* Waits until the number that the seat has taken is served: the answer to its call. */
+static inline hull_shared_reply hull_shared_wait(hull_shared_line *line, hull_shared_seat *seat, hull_shared_target to) {
+    hull_shared_reply reply = hull_shared_look_and_wake(line, seat, to);
     unsigned looks = 0;
     while (reply.told.code == HULL_NOT_YET) {
         uint32_t before = (uint32_t)reply.turn - __atomic_load_n(&line->served, __ATOMIC_RELAXED);
         if (before <= HULL_SHARED_NEAR && looks < HULL_SHARED_LOOKS) {
             hull_shared_pause(looks++);
-            reply = hull_shared_look_and_wake(line, seat, out, room);
+            reply = hull_shared_look_and_wake(line, seat, to);
         } else {
-            reply = hull_shared_sleep_and_look(line, seat, reply.turn, out, room);
+            reply = hull_shared_sleep_and_look(line, seat, reply.turn, to);
         }
     }
     return reply;
 }
 
-/* Makes a call whose corners are written to `out` where that is not null, and waits for its answer. */
+/* Makes a call and waits for its answer. */
 static inline hull_shared_reply hull_shared_call_into(hull_shared_line *line, hull_shared_seat *seat, uint32_t kind, int64_t x,
-                                                      int64_t y, hull_point *out, size_t room) {
+                                                      int64_t y, hull_shared_target to) {
     hull_shared_reply reply;
     hull_shared_enter(line);
     reply = hull_shared_take(seat, kind, x, y);
     if (reply.told.code == HULL_TAKEN) {
-        reply = hull_shared_wait(line, seat, out, room);
+        reply = hull_shared_wait(line, seat, to);
     }
     hull_shared_leave(line);
     return reply;
@@ -426,15 +499,35 @@ static inline hull_shared_reply hull_shared_call_into(hull_shared_line *line, hu
  * tells how many they are. */
 static inline hull_shared_reply hull_shared_call(hull_shared_line *line, hull_shared_seat *seat, uint32_t kind, int64_t x,
                                                  int64_t y) {
-    return hull_shared_call_into(line, seat, kind, x, y, NULL, 0);
+    hull_shared_target nowhere = {NULL, 0, NULL};
+    return hull_shared_call_into(line, seat, kind, x, y, nowhere);
+}
+
+/* Makes a call, as hull_shared_call does, and takes all lines that are held then out into the part: the call's own is the last
+ * of them. NO_ROOM where the part has room for fewer lines than the desk of the seat holds at most: no number was taken, and no
+ * call made. FULL: nothing was taken out. */
+static inline hull_shared_reply hull_shared_drain(hull_shared_line *line, hull_shared_seat *seat, hull_shared_part *part,
+                                                  uint32_t kind, int64_t x, int64_t y) {
+    hull_shared_target to = {NULL, 0, part};
+    if (hull_shared_part_room(part) < hull_shared_capacity(seat)) {
+        hull_shared_reply none;
+        memset(&none, 0, sizeof none);
+        none.told.code = HULL_NO_ROOM;
+        return none;
+    }
+    return hull_shared_call_into(line, seat, kind, x, y, to);
 }
 
 /* Asks for the corners, which are written to the front of the array as hull_vertices writes them: CORNERS; TOO_SMALL where
  * the array has no room for all, with their `number`, and then it is as it was; NO_MEMORY, FULL, VACANT, WAITING. With each
- * answer the call has its line, TOO_SMALL too. */
+ * answer the call has its line, TOO_SMALL too. With no room the array may be null. */
 static inline hull_shared_reply hull_shared_vertices(hull_shared_line *line, hull_shared_seat *seat, hull_point *out,
                                                      size_t room) {
-    return hull_shared_call_into(line, seat, HULL_KIND_VERTICES, 0, 0, out, room);
+    hull_point none = {0, 0};
+    hull_shared_target to = {NULL, 0, NULL};
+    to.out = room == 0 ? &none : out;
+    to.room = room;
+    return hull_shared_call_into(line, seat, HULL_KIND_VERTICES, 0, 0, to);
 }
 
 #ifdef __cplusplus

@@ -224,6 +224,10 @@ def _shared_library():
         ("end", [at], number),
         ("line_size", [], size), ("make_line", [at], None), ("ask", [at, at, number, whole, whole], _SeatReply),
         ("ask_vertices", [at, at, at, size], _SeatReply),
+        ("ask_and_drain", [at, at, at, number, whole, whole], _SeatReply),
+        ("part_size", [], size), ("part_alignment", [], size), ("make_part", [at], None),
+        ("part_reserve", [at, number], number), ("part_text", [at, at, size], _Reply), ("part_end", [at], number),
+        ("capacity", [at], number), ("open_without_journal", [at, number, ctypes.c_uint64, number], number),
     ])
 
 
@@ -865,20 +869,25 @@ class _Desk:
 class SharedHull:
     """One hull that up to SEAT_LIMIT threads change and question at once, each by a seat of its own.
 
-    It takes at most `limit` different points, and has a journal with room for `capacity` calls, which are numbered from
-    `first` on. Each call takes effect at one moment between its beginning and its end, in the order of the calls'
+    It takes at most `limit` different points, and has a journal whose lines are numbered from `first` on: at most
+    `capacity` of them are held, until a seat takes them out (`Seat.drain`). With `capacity` None the line of each call is
+    let go with its answer. Each call takes effect at one moment between its beginning and its end, in the order of the calls'
     numbers.
     """
 
     __slots__ = ("_desk", "_words")
 
     def __init__(self, capacity, seats, limit=POINT_LIMIT, first=0):
+        keeps, capacity = capacity is not None, 1 if capacity is None else capacity
         words = operator.index(limit), operator.index(first), operator.index(capacity), operator.index(seats)
         if not all(0 <= word < 1 << bits for word, bits in zip(words, (32, 64, 32, 32))):
             _told(_Code.OUT_OF_LIMITS)
         self._desk = _Desk()
         self._words = words
-        _told(_shared_library().hull_shared_open(self._desk.at, *words))
+        if keeps:
+            _told(_shared_library().hull_shared_open(self._desk.at, *words))
+        else:
+            _told(_shared_library().hull_shared_open_without_journal(self._desk.at, words[0], words[1], words[3]))
 
     def __reduce__(self):
         raise TypeError("a hull lies in one place: it can't be copied")
@@ -919,13 +928,49 @@ class SharedHull:
     def close(self):
         """Closes the hull, unless it is closed, and returns the text of its journal; SeatsOut where a seat is out."""
         self._close()
-        library, at = _shared_library(), self._desk.at
         with self._desk.lock:
-            none = ctypes.create_string_buffer(1)
-            length = library.hull_shared_text(at, ctypes.addressof(none), 0).number
-            text = ctypes.create_string_buffer(length)
-            _told(library.hull_shared_text(at, ctypes.addressof(text), length).code)
-        return text.raw.decode("ascii")
+            return _text(_shared_library().hull_shared_text, self._desk.at)
+
+
+def _text(write, at):
+    """The text that a function writes of what lies in a room."""
+    none = ctypes.create_string_buffer(1)
+    length = write(at, ctypes.addressof(none), 0).number
+    text = ctypes.create_string_buffer(max(length, 1))
+    _told(write(at, ctypes.addressof(text), length).code)
+    return text.raw[:length].decode("ascii")
+
+
+def _end_part(room, at):
+    """Ends the part in a room, which is kept until then."""
+    _shared_library().hull_shared_part_end(at)
+    del room
+
+
+class JournalPart:
+    """Lines that a seat took out of a journal; iteration gives the lines of their text, from the header to the end line."""
+
+    __slots__ = ("_at", "__weakref__")
+
+    def __init__(self, lines):
+        library = _shared_library()
+        room, self._at = _room(library.hull_shared_part_size(), library.hull_shared_part_alignment())
+        library.hull_shared_make_part(self._at)
+        weakref.finalize(self, _end_part, room, self._at)
+        _told(library.hull_shared_part_reserve(self._at, lines))
+
+    def __reduce__(self):
+        raise TypeError("a part lies in one place: it can't be copied")
+
+    def text(self):
+        """The text of the lines, which has the number of the first as its own first number.
+
+        `hullbook check` judges the texts of all parts in their order.
+        """
+        return _text(_shared_library().hull_shared_part_text, self._at)
+
+    def __iter__(self):
+        return iter(self.text().splitlines())
 
 
 def _return_seat(desk, room, at, number):
@@ -1011,6 +1056,19 @@ class Seat:
     def extreme(self, x, y):
         """The point farthest in the direction (x, y), of several the first by x and then by y; None where none is."""
         return _farthest(self._ask(_Kind.EXTREME, _whole(x), _whole(y)))
+
+    def drain(self):
+        """Asks how many points there are, and takes all lines that the hull holds then out of its journal, as a JournalPart.
+
+        That of this call is the last of them. MemoryError where there is no room for the lines: no call is made then.
+        JournalFull where the journal has no room for the call, and nothing is taken out: a hull is to be drained before.
+        """
+        with self._lock:
+            if not self._return.alive:
+                _told(_Code.VACANT)
+            part = JournalPart(_shared_library().hull_shared_capacity(self._at))
+        self._served(_shared_library().hull_shared_ask_and_drain, part._at, _Kind.COUNT, 0, 0)
+        return part
 
     def corners(self):
         """How many corners there are."""

@@ -14,6 +14,11 @@ hull_shared_reply hull_shared_ask(hull_shared_line *line, hull_shared_seat *seat
     return hull_shared_call(line, seat, kind, x, y);
 }
 
+hull_shared_reply hull_shared_ask_and_drain(hull_shared_line *line, hull_shared_seat *seat, hull_shared_part *part, uint32_t kind,
+                                            int64_t x, int64_t y) {
+    return hull_shared_drain(line, seat, part, kind, x, y);
+}
+
 hull_shared_reply hull_shared_ask_vertices(hull_shared_line *line, hull_shared_seat *seat, hull_point *out, size_t room) {
     return hull_shared_vertices(line, seat, out, room);
 }

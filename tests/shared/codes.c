@@ -192,8 +192,54 @@ static void own_looks(hull_shared_desk *desk, hull_shared_seat *one, hull_shared
     is("end", hull_shared_end(desk), HULL_ENDED);
 }
 
+/* Each code of a part, and of a look that drains. */
+static void parts(hull_shared_desk *desk, hull_shared_seat *seat, hull_shared_part *part) {
+    uint8_t text[256];
+    hull_shared_reply reply;
+    is("look of none", hull_shared_look_and_drain(seat, part).told.code, HULL_VACANT);
+    is("drain of none", hull_shared_drain(&line, seat, part, HULL_KIND_COUNT, 0, 0).told.code, HULL_VACANT);
+    is("capacity of none", hull_shared_capacity(seat), 0);
+    is("open", hull_shared_open(desk, 3, 7, 4, 1), HULL_OPEN);
+    is("lend", hull_shared_lend(desk, seat, 0), HULL_LENT);
+    is("capacity", hull_shared_capacity(seat), 4);
+    is("room of a bare part", hull_shared_part_room(part), 0);
+    is("text of a bare part", hull_shared_part_text(part, text, sizeof text).code, HULL_NO_LINES);
+    is("drain without room", hull_shared_drain(&line, seat, part, HULL_KIND_COUNT, 0, 0).told.code, HULL_NO_ROOM);
+    is("room for three", hull_shared_part_reserve(part, 3), HULL_RESERVED);
+    is("room once more", hull_shared_part_reserve(part, 4), HULL_PART_IN_USE);
+    is("look with no number", hull_shared_look_and_drain(seat, part).told.code, HULL_NO_NUMBER);
+    is("take", hull_shared_take(seat, HULL_KIND_COUNT, 0, 0).told.code, HULL_TAKEN);
+    reply = hull_shared_look_and_drain(seat, part);
+    is("look with room for three", reply.told.code, HULL_NO_ROOM);
+    is("its number", reply.turn, 7);
+    is("the end of a part", hull_shared_part_end(part), HULL_ENDED);
+    is("room for five", hull_shared_part_reserve(part, 5), HULL_RESERVED);
+    is("room of a part", hull_shared_part_room(part), 5);
+    is("look with room", hull_shared_look_and_drain(seat, part).told.code, HULL_NUMBER);
+    is("room of a part with lines", hull_shared_part_room(part), 0);
+    is("room for a part with lines", hull_shared_part_reserve(part, 4), HULL_PART_IN_USE);
+    is("how long its text is", hull_shared_part_text_size(part).number, 72);
+    is("too small", hull_shared_part_text(part, text, 71).code, HULL_TOO_SMALL);
+    is("its text", hull_shared_part_text(part, text, sizeof text).code, HULL_TEXT);
+    is("the number of its line", text[46], '7');
+    is("its end", hull_shared_part_end(part), HULL_ENDED);
+    for (int i = 0; i < 4; i++) {
+        is("served", call(seat, HULL_KIND_COUNT, 0, 0), HULL_NUMBER);
+    }
+    is("room for four", hull_shared_part_reserve(part, 4), HULL_RESERVED);
+    is("full", hull_shared_drain(&line, seat, part, HULL_KIND_COUNT, 0, 0).told.code, HULL_FULL);
+    is("the room stays", hull_shared_part_room(part), 4);
+    is("its end", hull_shared_part_end(part), HULL_ENDED);
+    is("return", hull_shared_give_back(desk, seat), HULL_RETURNED);
+    is("close", hull_shared_close(desk), HULL_CLOSED);
+    is("text", hull_shared_text(desk, text, sizeof text).code, HULL_TEXT);
+    is("the first number of the last part", text[25], '8');
+    is("end", hull_shared_end(desk), HULL_ENDED);
+    is("open without a journal", hull_shared_open_without_journal(desk, 0, 7, 1), HULL_OUT_OF_LIMITS);
+}
+
 /* A short run, in which any request may be refused. */
-static void short_run(hull_shared_desk *desk, hull_shared_seat *seat) {
+static void short_run(hull_shared_desk *desk, hull_shared_seat *seat, hull_shared_part *part) {
     uint8_t text[256];
     uint32_t code = hull_shared_open(desk, 3, 0, 4, 1);
     if (code == HULL_NO_MEMORY) {
@@ -204,6 +250,17 @@ static void short_run(hull_shared_desk *desk, hull_shared_seat *seat) {
         code = call(seat, HULL_KIND_ADD, i, 0);
         is("added or refused", code == HULL_ADDED || code == HULL_NO_MEMORY, 1);
     }
+    if (hull_shared_part_reserve(part, 4) == HULL_NO_MEMORY) {
+        is("drain after a refusal", hull_shared_drain(&line, seat, part, 8, 0, 0).told.code, HULL_NO_ROOM);
+        is("room after a refusal", hull_shared_part_reserve(part, 4), HULL_RESERVED);
+    }
+    is("drain", hull_shared_drain(&line, seat, part, 8, 0, 0).told.code, HULL_NUMBER);
+    code = hull_shared_part_text(part, text, sizeof text).code;
+    if (code == HULL_NO_MEMORY) {
+        code = hull_shared_part_text(part, text, sizeof text).code;
+    }
+    is("text of the part", code, HULL_TEXT);
+    is("end of the part", hull_shared_part_end(part), HULL_ENDED);
     is("return", hull_shared_give_back(desk, seat), HULL_RETURNED);
     is("close", hull_shared_close(desk), HULL_CLOSED);
     code = hull_shared_text(desk, text, sizeof text).code;
@@ -218,23 +275,26 @@ int main(void) {
     hull_shared_desk *desk = hull_shared_desk_new();
     hull_shared_seat *one = hull_shared_seat_new();
     hull_shared_seat *two = hull_shared_seat_new();
-    if (desk == NULL || one == NULL || two == NULL) {
+    hull_shared_part *part = hull_shared_part_new();
+    if (desk == NULL || one == NULL || two == NULL || part == NULL) {
         return 1;
     }
     is("alignment", (uintptr_t)desk % hull_shared_desk_alignment(), 0);
     is("alignment", (uintptr_t)one % hull_shared_seat_alignment(), 0);
     codes(desk, one, two);
     own_looks(desk, one, two);
+    parts(desk, one, part);
     long requests = 0;
     do {
         met = 0;
         left = requests++;
-        short_run(desk, one);
+        short_run(desk, one, part);
         left = -1;
     } while (met);
     is("requests, some of them refused", requests > 5, 1);
     hull_shared_seat_free(two);
     hull_shared_seat_free(one);
+    hull_shared_part_free(part);
     hull_shared_desk_free(desk);
     left = 0;
     is("no room for a desk", hull_shared_desk_new() == NULL, 1);

@@ -3,9 +3,10 @@
 # temporary folder, compiles the programs of this folder and of examples/shared against what is there, and runs them:
 # threads that make 100000 mixed calls each (64 of them a tenth, and eight in Rust and in Python a tenth), with one, two or
 # all of them inside the door, also with threads held up between the steps of waiting, whose journal `bin/hullbook check`
-# judges, every code, each request for memory refused in turn, and wake-ups out of order (wakeups.sh). The gate runs it. What
-# is missing here (a compiler, python3, valgrind) is told and skipped, and counts nothing. The last line counts, and
-# the status is not 0 where something failed. With a number, that many calls a thread.
+# judges, eight of which one takes the lines out, and eight that keep none, every code, each request for memory refused in
+# turn, and wake-ups out of order (wakeups.sh). The gate runs it. What is missing here (a compiler, python3, valgrind) is
+# told and skipped, and counts nothing. The last line counts, and the status is not 0 where something failed. With a
+# number, that many calls a thread.
 set -u
 here=$(cd "$(dirname "$0")" && pwd)
 top=$(cd "$here/../.." && pwd)
@@ -103,6 +104,9 @@ in_c() {
     for inside in 1 8; do
         storm 8 $((calls / 100)) "$inside"
     done
+    build "$here/drains.c"
+    count "drains.c compiles" $?
+    drains
     "$here/wakeups.sh" "$prefix" >"$room/told" 2>&1
     count "no wake-up is lost, and a line that loses one is found: $(tail -n 1 "$room/told")" $?
 }
@@ -112,6 +116,39 @@ storm() {
     "$room/storm" "$1" "$2" "$3" >"$room/journal" && [ "$(wc -l <"$room/journal")" -eq $(($1 * $2 + 2)) ] &&
         legal "$room/journal"
     count "$1 threads of $2 calls, $3 inside: each number once and rising, and the journal legal" $?
+}
+
+# the parts of these numbers, one behind the other, as one journal
+joined() {
+    for part in "$@"; do
+        sed '1d;$d' "$room/parts/part.$part"
+    done >"$room/body"
+    lines=$(wc -l <"$room/body")
+    {
+        head -n 1 "$room/parts/part.1" | sed "s/capacity .*/capacity $lines/"
+        cat "$room/body"
+        echo "end $lines"
+    } >"$room/journal"
+}
+
+# whether hullbook says that the parts of these numbers are illegal at the first line behind the first part
+breaks() {
+    joined "$@"
+    first=$(($(wc -l <"$room/parts/part.1") - 2))
+    ! legal "$room/journal" && [ "$(cat "$room/verdict")" = "illegal $first" ]
+}
+
+# eight threads, one of which takes the lines out each time that a tenth of the calls of one thread were made, also with no
+# journal; and parts that are missing, doubled or exchanged
+drains() {
+    mkdir "$room/parts"
+    "$room/drains" 8 "$calls" $((calls / 10)) "$room/parts" >"$room/said" && joined $(seq "$(cat "$room/said")") &&
+        [ "$lines" -ge $((8 * calls)) ] && legal "$room/journal"
+    count "the parts that one of 8 threads takes out, $(cat "$room/said") of them, are one legal journal" $?
+    breaks 1 3 4 && breaks 1 1 2 && breaks 1 3 2
+    count "a part that is missing, doubled or exchanged is illegal at its first line" $?
+    "$room/drains" 8 "$calls" 1 - >"$room/said"
+    count "8 threads of $calls calls without a journal" $?
 }
 
 by_valgrind() {
@@ -171,6 +208,9 @@ if is_there c++; then
     c++ -std=c++17 -Wall -Wextra -Werror -O2 -I"$prefix/include" "$here/../embed/hull_tests.cpp" -L"$prefix/lib" -lhull \
         -lhull_shared -lpthread -o "$room/hull_tests" && "$room/hull_tests" "$room/journal" >"$room/told" && legal "$room/journal"
     count "threads in C++ leave a legal journal" $?
+    c++ -std=c++17 -Wall -Wextra -Werror -O2 -I"$prefix/include" "$here/parts.cpp" -L"$prefix/lib" -lhull -lhull_shared \
+        -lpthread -o "$room/parts_cpp" && "$room/parts_cpp"
+    count "parts of a journal in C++" $?
 else
     skip "C++" c++
 fi

@@ -32,6 +32,28 @@ class Calls(unittest.TestCase):
         self.assertEqual((seat.tangents(20, 5), seat.extreme(0, 1)), (((10, 0), (10, 10)), (0, 10)))
         self.assertEqual((seat.corners(), seat.doubled_area(), seat.count(), seat.turn()), (4, 200, 4, 25))
 
+    def test_parts(self):
+        hull = SharedHull(capacity=3, seats=1, limit=6, first=7)
+        seat = hull.lend(0)
+        seat.add(1, 2)
+        part = seat.drain()
+        lines = ["hullbook journal 3 first 7 limit 6 capacity 3", "7 0 add 1 2 = added", "8 0 count = count 1", "end 2"]
+        self.assertEqual((list(part), part.text().splitlines()), (lines, lines))
+        self.assertRaises(TypeError, copy.copy, part)
+        for x in range(3):
+            seat.add(x, 5)
+        self.assertRaises(JournalFull, seat.drain)
+        seat.give_back()
+        self.assertRaises(ValueError, seat.drain)
+        self.assertEqual(hull.close().splitlines()[::4],
+                         ["hullbook journal 3 first 9 limit 6 capacity 3", "end 3"])
+
+    def test_no_journal(self):
+        hull = SharedHull(capacity=None, seats=1, limit=6, first=7)
+        with hull.lend(0) as seat:
+            self.assertEqual([seat.add(1, 2) for _ in range(1000)], list(range(1, 1001)))
+        self.assertEqual(hull.close(), "hullbook journal 3 first 1007 limit 6 capacity 1\nend 0\n")
+
     def test_faults_of_calls(self):
         hull = SharedHull(capacity=3, seats=1, limit=1)
         seat = hull.lend(0)

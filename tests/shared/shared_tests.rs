@@ -46,6 +46,38 @@ fn calls() {
 }
 
 #[test]
+fn parts() {
+    let hull = SharedHull::open(Limits { points: 6, first: 7, capacity: 3, seats: 1 }).unwrap();
+    let mut seat = hull.lend(0).unwrap();
+    seat.add(point(1, 2)).unwrap();
+    let part = seat.drain().unwrap();
+    let head = "hullbook journal 3 first 7 limit 6 capacity 3\n";
+    assert_eq!(part.text().unwrap(), format!("{head}7 0 add 1 2 = added\n8 0 count = count 1\nend 2\n"));
+    assert_eq!(part.lines().unwrap().last().unwrap(), "end 2");
+    seat.add(point(1, 2)).unwrap();
+    seat.drain().unwrap();
+    for x in 0..3 {
+        seat.add(point(x, 5)).unwrap();
+    }
+    assert_eq!((seat.drain().unwrap_err(), seat.add(point(0, 0))), (Fault::Full, Err(Fault::Full)));
+    seat.give_back();
+    let head = "hullbook journal 3 first 11 limit 6 capacity 3\n";
+    let lines = "11 0 add 0 5 = added\n12 0 add 1 5 = added\n13 0 add 2 5 = added\nend 3\n";
+    assert_eq!(hull.close().unwrap(), format!("{head}{lines}"));
+}
+
+#[test]
+fn no_journal() {
+    let hull = SharedHull::open_without_journal(SMALL).unwrap();
+    let mut seat = hull.lend(0).unwrap();
+    for times in 1..1000 {
+        assert_eq!(seat.add(point(1, 2)), Ok(times));
+    }
+    seat.give_back();
+    assert_eq!(hull.close().unwrap(), "hullbook journal 3 first 1006 limit 6 capacity 1\nend 0\n");
+}
+
+#[test]
 fn corners() {
     let hull = SharedHull::open(Limits { points: 1000, capacity: 2000, first: 0, seats: 1 }).unwrap();
     let mut seat = hull.lend(0).unwrap();

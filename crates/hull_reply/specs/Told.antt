@@ -53,6 +53,10 @@ code_number code.NotClosed = 49
 code_number code.Text = 50
 code_number code.Ended = 51
 code_number code.InUse = 52
+code_number code.Reserved = 53
+code_number code.PartInUse = 54
+code_number code.NoRoom = 55
+code_number code.NoLines = 56
 
 -- a code, and nothing beside it
 abbrev pub IsBare : Code → HullReply → Type 0

@@ -90,6 +90,14 @@ pub enum Code {
     Ended = 51,
     /// No seat is out, and yet the lock has another owner: the desk stays open.
     InUse = 52,
+    /// The part has room for lines now.
+    Reserved = 53,
+    /// The part has room or lines already. Nothing changed.
+    PartInUse = 54,
+    /// The part has no room for all lines that a desk may hold. Nothing changed.
+    NoRoom = 55,
+    /// The part has no lines.
+    NoLines = 56,
 }
 
 impl Code {

@@ -1,2 +1,4 @@
+pub mod Books
+pub mod Gathered
 pub mod Homes
 pub mod Lists

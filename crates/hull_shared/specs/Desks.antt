@@ -3,8 +3,10 @@ use Rattle.std.specs.Prelude.{◌≡◌, ◌⊎◌, ◌+◌, ◌≤◌, ◌<◌,
 use Rattle.std.specs.Prelude.{slice_get, slice_set, Result, Ok, Err, MatchResult}
 use Rattle.std.specs.List.{All}
 use mathlib.Core.List.{IsPrefix}
-use Rattle.hull_book.specs.Books.{BookValue, opened_book}
+use Rattle.hull_book.specs.Books.{opened_book}
 use Rattle.hull_book.specs.History.{IsLegal}
+use Rattle.hull_book.specs.LongBooks.{undrained}
+use Rattle.hull_book.specs.declared.line.Line.{Line}
 use Rattle.hull_plain.specs.Held.{nothing_held}
 use Rattle.hull_reply.specs.Told.{code_number, IsBare, IsNumber}
 use Rattle.hull_reply.specs.declared.code.Code.{Code}
@@ -14,6 +16,7 @@ use Rattle.hull_text.specs.JournalText.{written_text}
 use Rattle.hull_tree.specs.Roots.{held_by}
 use Rattle.hull_tree.specs.Sets.{LimitedTree}
 use Rattle.ticket_lock.specs.Tokens.{seat_seen}
+use Rattle.hull_shared.specs.DeskBooks.{AreGone, DeskValue, head_behind, rest_of}
 use Rattle.hull_shared.specs.Limits.{AreLimits}
 use Rattle.hull_shared.specs.Locks.{book_of, head_of, lock_of}
 use Rattle.hull_shared.specs.Places.{HasAt, HasOwnLines}
@@ -30,10 +33,11 @@ use Rattle.hull_shared.specs.declared.seat.SharedSeat.TheVariants as seat
 -- ---- opening
 
 -- a book with no line over a set that holds nothing
-pub record IsNewBook (l : Limits) (b : BookValue LimitedTree) : Type 0 where
+pub record IsNewBook (l : Limits) (b : DeskValue) : Type 0 where
   pub set : LimitedTree
   pub nothing : held_by set.root ≡ nothing_held
-  pub book : b ≡ opened_book set l.first l.limit l.capacity l.seats
+  pub book : b
+      ≡ record { book = undrained (opened_book set l.first l.limit l.capacity l.seats); keeps = l.keeps }
 
 -- all seats are at the desk, round such a book, and have seen no line
 pub record IsNew (l : Limits) (d : OpenDesk) : Type 0 where
@@ -136,13 +140,17 @@ HasReturned old new was room told = (new ≡ old) × (room ≡ was) × (told ≡
 
 -- ---- closing
 
--- the journal of the desk: legal, with the head at opening, and beginning with what each seat has seen, in whose name
--- it has no other lines than those
+-- The whole journal of the desk has the lines `whole`, of which the first `gone` were taken out: it is legal, with the
+-- head at opening, and begins with what each seat has seen, in whose name it has no other lines than those. Its last
+-- part, with its own first number, is left.
 pub record IsJournalOf (d : OpenDesk) (c : ClosedDesk) : Type 0 where
-  pub head : c.journal.head ≡ head_of (lock_of d.lock)
-  pub legal : IsLegal c.journal.head c.journal.lines
-  pub seen : (j : ℕ) (p : Place) → HasAt d.places.list.items j p → IsPrefix (seat_seen p.seat) c.journal.lines
-  pub own_lines : (j : ℕ) (p : Place) → HasAt d.places.list.items j p → HasOwnLines c.journal.lines p
+  pub whole : List Line
+  pub gone : ℕ
+  pub are_gone : AreGone (head_of (lock_of d.lock)).keeps gone whole
+  pub legal : IsLegal (head_behind (head_of (lock_of d.lock)) gone) whole
+  pub seen : (j : ℕ) (p : Place) → HasAt d.places.list.items j p → IsPrefix (seat_seen p.seat) whole
+  pub own_lines : (j : ℕ) (p : Place) → HasAt d.places.list.items j p → HasOwnLines whole p
+  pub part : c.part ≡ rest_of (head_of (lock_of d.lock)) gone whole
 
 -- why an open desk stays open: a seat is out; or none is, and yet the lock has another owner, which no caller who keeps
 -- the header's duties meets
@@ -166,11 +174,11 @@ TellsText text before after told =
     × IsNumber code.Text (length text) told)
     ⊎ ((length before < length text) × (after ≡ before) × IsNumber code.TooSmall (length text) told)
 
--- the text of a closed desk's journal is asked for; where memory is refused the array is as it was; the desk stays in
--- any case
+-- the text of the last part of a closed desk's journal is asked for; where memory is refused the array is as it was;
+-- the desk stays in any case
 abbrev pub HasWritten : Desk → Desk → List ℕ → List ℕ → HullReply → Type 0
 HasWritten (Closed c) new before after told =
-    (new ≡ Closed c) × (TellsText (written_text c.journal) before after told
+    (new ≡ Closed c) × (TellsText (written_text c.part) before after told
     ⊎ ((after ≡ before) × IsBare code.NoMemory told))
 HasWritten old new before after told = (new ≡ old) × (after ≡ before) × IsBare code.NotClosed told
 

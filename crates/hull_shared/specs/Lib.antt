@@ -1,7 +1,10 @@
+pub mod DeskBooks
 pub mod Locks
 pub mod Places
 pub mod Limits
 pub mod Asked
 pub mod Looks
 pub mod Desks
+pub mod Parts
+pub mod Drains
 pub mod Left

@@ -1,30 +1,50 @@
 -- The lock of a desk: what it was opened round.
-use Rattle.std.specs.Prelude.{Box, box_value}
+use Rattle.std.specs.Prelude.{ℕ, Box, box_value}
+use Rattle.std.specs.Global.{Global}
 use Rattle.std.specs.Arc.{arc_value}
 use Rattle.std.specs.Mem.{manually_drop_value}
 use Rattle.std.specs.declared.sync.Arc.{Arc}
 use Rattle.std.specs.declared.mem.ManuallyDrop.{ManuallyDrop}
 use Rattle.hull_book.specs.Books.{BookValue}
-use Rattle.hull_book.specs.declared.head.BookHead.{BookHead}
-use Rattle.hull_book.specs.declared.head.Head.{Head}
 use Rattle.hull_book.specs.declared.line.Line.{Line}
-use Rattle.hull_pool.specs.Crews.{Boxed}
 use Rattle.hull_tree.specs.Sets.{LimitedTree}
 use Rattle.ticket_lock.specs.declared.lock.TicketLock.{TicketLock}
 use Rattle.ticket_lock.specs.Tokens.{opening_book}
+use Rattle.hull_shared.specs.DeskBooks.{DeskValue, desk_head}
+use Rattle.hull_shared.specs.declared.book.DeskHead.{DeskHead}
 
 -- the lock that an owner owns
 abbrev pub lock_of : {X Z : Type 0} → Arc (ManuallyDrop X) Z → X
 lock_of owner = manually_drop_value (arc_value owner)
 
--- a lock round a book over a tree on the heap
+-- the book of a desk on the heap, as contracts see it
+abbrev pub DeskBoxed : Type 0
+DeskBoxed = Box DeskValue Global
+
+-- what no call changes of it
+abbrev pub boxed_head : DeskBoxed → DeskHead
+boxed_head b = desk_head (box_value b)
+
+-- the book of all its lines, those counted that were taken out
+abbrev pub whole_of : DeskBoxed → BookValue LimitedTree
+whole_of b = (box_value b).book.whole
+
+-- a lock round such a book
 abbrev pub HullLock : Type 0
-HullLock = TicketLock (Boxed LimitedTree) BookHead Line
+HullLock = TicketLock DeskBoxed DeskHead Line
 
 -- the book as it was when the lock was opened round it
-abbrev pub book_of : HullLock → BookValue LimitedTree
+abbrev pub book_of : HullLock → DeskValue
 book_of lock = box_value (opening_book lock)
 
--- the first number, the limit and the capacity of its journal
-abbrev pub head_of : HullLock → Head
-head_of lock = (book_of lock).head.journal
+-- what no call changes: the first number, the limit, how many lines are held at most, and whether lines are kept
+abbrev pub head_of : HullLock → DeskHead
+head_of lock = desk_head (book_of lock)
+
+-- how many seats the book was opened for
+abbrev pub seats_of : HullLock → ℕ
+seats_of lock = (head_of lock).book.workers
+
+-- how many lines are held at most
+abbrev pub capacity_of : HullLock → ℕ
+capacity_of lock = (head_of lock).book.journal.capacity

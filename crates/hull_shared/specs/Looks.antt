@@ -6,7 +6,6 @@ use Rattle.hull_book.specs.Answers.{Answer}
 use Rattle.hull_book.specs.declared.line.Line.{Line}
 use Rattle.hull_plain.specs.declared.call.Call.{Call}
 use Rattle.hull_plain.specs.declared.reply.Reply.TheVariants as reply
-use Rattle.hull_pool.specs.Work.{HasServed}
 use Rattle.hull_reply.specs.Corners.{TellsCorners}
 use Rattle.hull_reply.specs.Told.{IsBare, Tells}
 use Rattle.hull_reply.specs.declared.code.Code.{Code}
@@ -14,6 +13,7 @@ use Rattle.hull_reply.specs.declared.code.Code.TheVariants as code
 use Rattle.hull_reply.specs.declared.reply.HullReply.{HullReply}
 use Rattle.ticket_lock.specs.Tokens.{seat_seen, ticket_looks, ticket_number, ticket_seen}
 use Rattle.hull_shared.specs.Asked.{IsAsked}
+use Rattle.hull_shared.specs.DeskBooks.{HasServedAt}
 use Rattle.hull_shared.specs.Locks.{head_of, lock_of}
 use Rattle.hull_shared.specs.declared.looking.Looked.{Looked}
 use Rattle.hull_shared.specs.declared.looking.Looked.TheVariants as looked
@@ -60,15 +60,16 @@ WaitsOn w v = (lock_of v.lock ≡ lock_of w.lock) × (v.number ≡ w.number) × 
     × (ticket_number v.ticket ≡ ticket_number w.ticket) × (ticket_seen v.ticket ≡ ticket_seen w.ticket)
     × (ticket_looks v.ticket ≡ ticket_looks w.ticket + 1) × (v.ledger ≡ w.ledger)
 
--- The seat's call was served, with this answer, under the number that it had taken: it found a journal that begins
--- with what it
--- had seen, and handed on the one that it has seen now. It is the same seat of the same lock.
+-- The seat's call was served, with this answer, under the number that it had taken: it found a whole journal that
+-- begins with what it had seen, of which the first `gone` lines had been taken out, and handed on the one that it has
+-- seen now. It is the same seat of the same lock.
 pub record WasServed (w : WaitingSeat) (i : IdleSeat) (answer : Answer) : Type 0 where
   pub same_lock : lock_of i.lock ≡ lock_of w.lock
   pub same_number : i.number ≡ w.number
   pub found : List Line
   pub begins : IsPrefix (ticket_seen w.ticket) found
-  pub served : HasServed (head_of (lock_of w.lock)) (ticket_number w.ticket) w.number w.call found
+  pub gone : ℕ
+  pub served : HasServedAt (head_of (lock_of w.lock)) gone (ticket_number w.ticket) w.number w.call found
       (seat_seen i.seat) answer
 
 -- the seat waits on, or its call was served
@@ -116,3 +117,13 @@ HasReplied old new r = (seen : Seen) × HasSeen old new seen × TellsSeen seen r
 -- a look, whose answer is told, and corners written to the array
 abbrev pub HasRepliedInto : SharedSeat → SharedSeat → List Pair → List Pair → SeatReply → Type 0
 HasRepliedInto old new before after r = (seen : Seen) × HasSeen old new seen × PutsSeen before after seen r
+
+-- how many lines are held at most at the desk of a seat; 0 where there is none
+abbrev pub capacity_at : SharedSeat → ℕ
+capacity_at Vacant = 0
+capacity_at (Idle i) = i.capacity
+capacity_at (Waiting w) = w.capacity
+
+-- that is told, and the seat stays
+abbrev pub HasToldCapacity : SharedSeat → SharedSeat → ℕ → Type 0
+HasToldCapacity old new told = (new ≡ old) × (told ≡ capacity_at old)

@@ -1,18 +1,17 @@
 -- The places of a desk.
 use Rattle.std.specs.Prelude.{◌≡◌, ◌+◌, ◌≤◌, ℕ, List, [], Option, Some, slice_get, vec_len, vec_capacity}
 use Rattle.hull_book.specs.Ledgers.{IsLedgerOf}
-use Rattle.hull_pool.specs.Crews.{book_head}
 use Rattle.hull_book.specs.declared.line.Line.{Line}
-use Rattle.hull_pool.specs.Work.{lines_of, workers_of}
+use Rattle.hull_pool.specs.Work.{lines_of}
 use Rattle.ticket_lock.specs.Tokens.{IsSeatOf, seat_count, seat_number, seat_seen}
-use Rattle.hull_shared.specs.Locks.{HullLock, book_of}
+use Rattle.hull_shared.specs.Locks.{HullLock, boxed_head, seats_of}
 use Rattle.hull_shared.specs.declared.place.Place.{Place}
 use Rattle.hull_shared.specs.declared.place.Places.{Places}
 
 -- The seat is of the lock, its ledger counts the lines that it has seen in its name, and of n places it is at home in
 -- place j, behind which there are as many as its number.
 pub record IsAtHome (lock : HullLock) (n j : ℕ) (p : Place) : Type 0 where
-  pub own : IsSeatOf book_head lock p.seat
+  pub own : IsSeatOf boxed_head lock p.seat
   pub counts : IsLedgerOf (seat_number p.seat) (seat_seen p.seat) p.ledger
   pub home : seat_number p.seat + j + 1 ≡ n
 
@@ -32,7 +31,7 @@ AreAtHome lock n list = (j : ℕ) (p : Place) → HasAt list j p → IsAtHome lo
 pub record AreLaidOut (lock : HullLock) (n : ℕ) (places : Places) : Type 0 where
   pub each : vec_len places.list ≡ n
   pub seats : seat_count lock ≡ n
-  pub workers : workers_of (book_of lock) ≡ n
+  pub workers : seats_of lock ≡ n
   pub at_home : AreAtHome lock n places.list.items
   pub no_seats : (places.seats.items ≡ []) × (n ≤ vec_capacity places.seats)
   pub no_ledgers : (places.ledgers.items ≡ []) × (n ≤ vec_capacity places.ledgers)

@@ -1,5 +1,6 @@
 //! A desk: the lock round the book, and the seats that are not out.
-ghost use Rattle.hull_shared.specs.Locks.{lock_of};
+ghost use Rattle.std.specs.Prelude.{◌≡◌};
+ghost use Rattle.hull_shared.specs.Locks.{capacity_of, lock_of};
 ghost use Rattle.hull_shared.specs.Places.{AreLaidOut};
 
 use crate::lock::SharedLock;
@@ -12,14 +13,16 @@ pub(crate) struct OpenDesk {
     pub(crate) alloc: Global,
     pub(crate) lock: SharedLock,
     pub(crate) seats: u8,
+    pub(crate) capacity: u32,
     pub(crate) places: Places,
+    ghost holds: { capacity ≡ capacity_of (lock_of lock) },
     ghost laid_out: { AreLaidOut (lock_of lock) seats places },
 }
 
 /// What is left of a desk that is closed.
 pub(crate) struct ClosedDesk {
     pub(crate) alloc: Global,
-    pub(crate) journal: Journal,
+    pub(crate) part: Journal,
 }
 
 /// A room for a desk.

@@ -40,6 +40,7 @@ fn lend_from(desk: OpenDesk, number: u32) -> (OpenDesk, Result<IdleSeat, Code>)
         seat,
         ledger,
         number: number as u8,
+        capacity: desk.capacity,
     };
     (desk, Ok(idle))
 }
@@ -60,6 +61,7 @@ fn return_to(desk: OpenDesk, idle: IdleSeat) -> (OpenDesk, Option<IdleSeat>)
         seat,
         ledger,
         number: _,
+        capacity: _,
     } = idle;
     drop(lock);
     let mut desk = desk;

@@ -19,27 +19,36 @@
 //! ```
 #![tactic(auto)]
 
-ghost use Rattle.std.specs.Prelude.{◌≡◌};
+ghost use Rattle.std.specs.Prelude.{◌≡◌, false, true};
 ghost use Rattle.std.specs.Borrow.{full_share, sem};
 ghost use Rattle.std.specs.Ptr.{lies_at, room_at};
 ghost use Rattle.hull_shared.specs.contracts.desk.Desk.{the_row as desk_row};
+ghost use Rattle.hull_shared.specs.contracts.part.Part.{the_row as part_row};
 ghost use Rattle.hull_shared.specs.contracts.seat.SharedSeat.{the_row as seat_row};
 ghost use Rattle.hull_shared.specs.Desks.{HasClosed, HasEnded, HasLent, HasOpened, HasReturned, HasWritten};
 ghost use Rattle.hull_shared.specs.Desks.{IsSeatOfDesk};
 ghost use Rattle.hull_reply.specs.Left.{leaves};
 ghost use Rattle.hull_reply.specs.Rooms.{room_alignment, room_size};
 ghost use Rattle.hull_shared.specs.Left.{leaves_both};
-ghost use Rattle.hull_shared.specs.Looks.{HasReplied, HasRepliedInto, HasTaken};
+ghost use Rattle.hull_shared.specs.Drains.{HasRepliedWith};
+ghost use Rattle.hull_shared.specs.Looks.{HasReplied, HasRepliedInto, HasTaken, HasToldCapacity};
+ghost use Rattle.hull_shared.specs.Parts.{HasEndedPart, HasReserved, HasToldRoom, HasWrittenPart};
 ghost use Rattle.hull_shared.specs.declared.desk.Desk.TheVariants.{Fresh};
+ghost use Rattle.hull_shared.specs.declared.part.Part.TheVariants.{Bare};
 ghost use Rattle.hull_shared.specs.declared.seat.SharedSeat.TheVariants.{Vacant};
 
+mod book;
 mod closing;
 mod desk;
+mod draining;
+mod gathering;
 mod lending;
 mod limits;
 mod lock;
 mod looking;
 mod opening;
+mod part;
+mod parts;
 mod place;
 mod places;
 mod seat;
@@ -50,6 +59,7 @@ mod tests;
 use desk::Desk;
 use hull_reply::{HullPoint, HullReply};
 pub use looking::SeatReply;
+use part::Part;
 use seat::SharedSeat;
 use std::alloc::Global;
 
@@ -85,6 +95,22 @@ pub extern "C" fn hull_shared_seat_alignment() -> usize
     align_of::<SharedSeat>()
 }
 
+/// How many bytes the room of a part of a journal has.
+#[unsafe(no_mangle)]
+pub extern "C" fn hull_shared_part_size() -> usize
+    ensures { result ≡ room_size part_row }
+{
+    size_of::<Part>()
+}
+
+/// At which multiples of bytes the room of a part begins.
+#[unsafe(no_mangle)]
+pub extern "C" fn hull_shared_part_alignment() -> usize
+    ensures { result ≡ room_alignment part_row }
+{
+    align_of::<Part>()
+}
+
 /// A desk that is not open.
 fn fresh_desk() -> Desk
     ensures { result ≡ Fresh }
@@ -97,6 +123,13 @@ fn vacant_seat() -> SharedSeat
     ensures { result ≡ Vacant }
 {
     SharedSeat::Vacant
+}
+
+/// A part that holds nothing.
+fn bare_part() -> Part
+    ensures { result ≡ Bare }
+{
+    Part::Bare
 }
 
 /// Makes a desk in a room, which is not open and holds nothing.
@@ -129,6 +162,21 @@ pub unsafe extern "C" fn hull_shared_make_seat(room: *mut u8)
     unsafe { at.write(seat) };
 }
 
+/// Makes a part in a room, which holds nothing.
+///
+/// # Safety
+///
+/// `room` has [`hull_shared_part_size`] bytes at a multiple of [`hull_shared_part_alignment`], which nothing else uses.
+#[unsafe(no_mangle)]
+pub unsafe extern "C" fn hull_shared_make_part(room: *mut u8)
+    requires* { sem 𝓛 (room_at part_row room) }
+    ensures* { sem 𝓛 (leaves part_row room (λ new. new ≡ Bare)) }
+{
+    let at = room as *mut Part;
+    let part = bare_part();
+    unsafe { at.write(part) };
+}
+
 /// Opens a desk round an empty hull: for up to `limit` different points, `capacity` calls whose numbers begin with
 /// `first`, and `seats` seats.
 ///
@@ -147,10 +195,34 @@ pub unsafe extern "C" fn hull_shared_open(
     ghost t: { desk_row.Denot }
     requires* { sem 𝓛 (lies_at desk_row full_share at t) }
     ensures* { sem 𝓛 (leaves desk_row at
-        (λ new. HasOpened (record { limit = limit; first = first; capacity = capacity; seats = seats }) t new result)) }
+        (λ new. HasOpened
+        (record { limit = limit; first = first; capacity = capacity; seats = seats; keeps = true }) t new result)) }
 {
     let desk = at as *mut Desk;
     opening::open(alloc, unsafe { &mut *desk }, limit, first, capacity, seats)
+}
+
+/// Opens a desk as [`hull_shared_open`] does, but one that lets the line of each call go.
+///
+/// # Safety
+///
+/// A desk lies at `at`, and no other call on it is under way.
+#[unsafe(no_mangle)]
+pub unsafe extern "C" fn hull_shared_open_without_journal(
+    alloc: Global,
+    at: *mut u8,
+    limit: u32,
+    first: u64,
+    seats: u32,
+) -> u32
+    ghost t: { desk_row.Denot }
+    requires* { sem 𝓛 (lies_at desk_row full_share at t) }
+    ensures* { sem 𝓛 (leaves desk_row at
+        (λ new. HasOpened (record { limit = limit; first = first; capacity = 1; seats = seats; keeps = false }) t new
+        result)) }
+{
+    let desk = at as *mut Desk;
+    opening::open_without_journal(alloc, unsafe { &mut *desk }, limit, first, seats)
 }
 
 /// Moves the seat of a number out of its desk, into a room.
@@ -235,6 +307,99 @@ pub unsafe extern "C" fn hull_shared_look_into(at: *mut u8, out: &mut [HullPoint
     looking::look_into(unsafe { &mut *seat }, out)
 }
 
+/// Asks for room for so many lines for a part.
+///
+/// # Safety
+///
+/// A part lies at `at`, and no other call on it is under way.
+#[unsafe(no_mangle)]
+pub unsafe extern "C" fn hull_shared_part_reserve(alloc: Global, at: *mut u8, lines: u32) -> u32
+    ghost t: { part_row.Denot }
+    requires* { sem 𝓛 (lies_at part_row full_share at t) }
+    ensures* { sem 𝓛 (leaves part_row at (λ new. HasReserved lines t new result)) }
+{
+    let part = at as *mut Part;
+    parts::reserve(alloc, unsafe { &mut *part }, lines)
+}
+
+/// For how many lines a part has room: 0 where it has none.
+///
+/// # Safety
+///
+/// A part lies at `at`, and no other call on it is under way.
+#[unsafe(no_mangle)]
+pub unsafe extern "C" fn hull_shared_part_room(at: *mut u8) -> u32
+    ghost t: { part_row.Denot }
+    requires* { sem 𝓛 (lies_at part_row full_share at t) }
+    ensures* { sem 𝓛 (leaves part_row at (λ new. HasToldRoom t new result)) }
+{
+    let part = at as *mut Part;
+    parts::room(unsafe { &mut *part })
+}
+
+/// How many lines the desk of a seat holds at most: 0 where the room has no seat.
+///
+/// # Safety
+///
+/// A room for a seat lies at `at`, and no other call on it is under way.
+#[unsafe(no_mangle)]
+pub unsafe extern "C" fn hull_shared_capacity(at: *mut u8) -> u32
+    ghost t: { seat_row.Denot }
+    requires* { sem 𝓛 (lies_at seat_row full_share at t) }
+    ensures* { sem 𝓛 (leaves seat_row at (λ new. HasToldCapacity t new result)) }
+{
+    let seat = at as *mut SharedSeat;
+    looking::capacity(unsafe { &mut *seat })
+}
+
+/// Looks once, as [`hull_shared_look`] does; where the call is served, all lines that are held then are taken out into
+/// a part.
+///
+/// # Safety
+///
+/// A room for a seat lies at `at` and a part at `part`, and no other call on either is under way.
+#[unsafe(no_mangle)]
+pub unsafe extern "C" fn hull_shared_look_and_drain(at: *mut u8, part: *mut u8) -> SeatReply
+    ghost t: { seat_row.Denot × part_row.Denot }
+    requires* seat { sem 𝓛 (lies_at seat_row full_share at t.0) }
+    requires* part { sem 𝓛 (lies_at part_row full_share part t.1) }
+    ensures* { sem 𝓛 (leaves_both seat_row part_row at part (λ new left. HasRepliedWith t.0 new t.1 left result)) }
+{
+    let seat = at as *mut SharedSeat;
+    let lines = part as *mut Part;
+    draining::look_and_drain(unsafe { &mut *seat }, unsafe { &mut *lines })
+}
+
+/// Writes the text of a part's lines to the front of an array.
+///
+/// # Safety
+///
+/// A part lies at `at`, and no other call on it is under way.
+#[unsafe(no_mangle)]
+pub unsafe extern "C" fn hull_shared_part_text(at: *mut u8, out: &mut [u8]) -> HullReply
+    ghost t: { part_row.Denot }
+    requires* { sem 𝓛 (lies_at part_row full_share at t) }
+    ensures* { sem 𝓛 (leaves part_row at (λ new. HasWrittenPart t new out.old out.new result)) }
+{
+    let part = at as *mut Part;
+    parts::text(unsafe { &mut *part }, out)
+}
+
+/// Lets the room or the lines of a part go: it holds nothing then, and its room may be used for anything.
+///
+/// # Safety
+///
+/// A part lies at `at`, and no other call on it is under way.
+#[unsafe(no_mangle)]
+pub unsafe extern "C" fn hull_shared_part_end(at: *mut u8) -> u32
+    ghost t: { part_row.Denot }
+    requires* { sem 𝓛 (lies_at part_row full_share at t) }
+    ensures* { sem 𝓛 (leaves part_row at (λ new. HasEndedPart t new result)) }
+{
+    let part = at as *mut Part;
+    parts::end(unsafe { &mut *part })
+}
+
 /// Closes a desk, all of whose seats are back.
 ///
 /// # Safety
@@ -250,7 +415,7 @@ pub unsafe extern "C" fn hull_shared_close(at: *mut u8) -> u32
     closing::close(unsafe { &mut *desk })
 }
 
-/// Writes the text of a closed desk's journal to the front of an array.
+/// Writes the text of the last part of a closed desk's journal, the lines that it holds, to the front of an array.
 ///
 /// # Safety
 ///

@@ -12,10 +12,12 @@ pub(crate) struct Limits {
     pub(crate) limit: u32,
     /// The number of the first call.
     pub(crate) first: u64,
-    /// How many calls have room in the journal.
+    /// How many lines of the journal are held at most.
     pub(crate) capacity: u32,
     /// How many seats there are.
     pub(crate) seats: u32,
+    /// Whether the lines of calls are kept until they are taken out.
+    pub(crate) keeps: bool,
 }
 
 impl Limits {

@@ -1,11 +1,10 @@
 //! The seats at their desk.
+use crate::lock::DeskSeat;
 use hull_book::Ledger;
-use hull_pool::BookSeat;
-use hull_tree::SparingTree;
 
 /// A seat of the lock, with its ledger.
 pub(crate) struct Place {
-    pub(crate) seat: BookSeat<SparingTree>,
+    pub(crate) seat: DeskSeat,
     pub(crate) ledger: Ledger,
 }
 
@@ -13,6 +12,6 @@ pub(crate) struct Place {
 /// room for all seats and all ledgers, so that closing asks for no memory.
 pub(crate) struct Places {
     pub(crate) list: Vec<Option<Place>>,
-    pub(crate) seats: Vec<BookSeat<SparingTree>>,
+    pub(crate) seats: Vec<DeskSeat>,
     pub(crate) ledgers: Vec<Ledger>,
 }

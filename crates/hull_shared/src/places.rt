@@ -3,32 +3,32 @@ ghost use Rattle.std.specs.Prelude.{◌≡◌, ◌≤◌, ℕ, [], All, IsSome, 
 ghost use mathlib.Core.List.{IsPrefix};
 ghost use Rattle.hull_book.specs.Books.{IsLawful};
 ghost use Rattle.hull_book.specs.Ledgers.{AreLedgers};
-ghost use Rattle.hull_pool.specs.Crews.{book_head};
-ghost use Rattle.hull_pool.specs.Work.{workers_of};
 ghost use Rattle.hull_tree.specs.Sets.{hull_tree};
-ghost use Rattle.hull_shared.specs.Locks.{book_of};
+ghost use Rattle.hull_shared.specs.DeskBooks.{desk_head};
+ghost use Rattle.hull_shared.specs.Locks.{book_of, boxed_head, head_of, seats_of};
 ghost use Rattle.hull_shared.specs.Places.{AreLaidOut, HasAt, HasOwnLines};
 ghost use Rattle.hull_shared.specs.declared.place.Place.{Place as PlaceValue};
 ghost use Rattle.ticket_lock.specs.Tokens.{AreNumbered, IsSeatOf, seat_count, seat_seen};
 
+use crate::book::DeskBook;
+use crate::gathering::gather_seats;
+use crate::lock::{DeskLock, DeskSeat};
 use crate::place::{Place, Places};
-use hull_book::{Book, Ledger};
-use hull_pool::{BookLock, BookSeat, close_book};
-use hull_tree::SparingTree;
+use hull_book::Ledger;
 
 /// Lays all seats of a lock that was just opened out at a desk, each with its ledger.
 pub(crate) fn lay_out(
-    lock: BookLock<SparingTree>,
-    mut seats: Vec<BookSeat<SparingTree>>,
+    lock: DeskLock,
+    mut seats: Vec<DeskSeat>,
     mut ledgers: Vec<Ledger>,
     mut list: Vec<Option<Place>>,
-) -> (BookLock<SparingTree>, Places)
-    requires all { (vec_len seats ≡ seat_count lock) × (seat_count lock ≡ workers_of (book_of lock)) }
-    requires own { All (IsSeatOf book_head lock) seats.items }
+) -> (DeskLock, Places)
+    requires all { (vec_len seats ≡ seat_count lock) × (seat_count lock ≡ seats_of lock) }
+    requires own { All (IsSeatOf boxed_head lock) seats.items }
     requires numbers { AreNumbered seats.items }
     requires seen { All (λ s. seat_seen s ≡ []) seats.items }
-    requires ledgers { AreLedgers (book_of lock) ledgers.items }
-    requires lines { (book_of lock).lines ≡ [] }
+    requires ledgers { AreLedgers (book_of lock).book.whole ledgers.items }
+    requires lines { (book_of lock).book.whole.lines ≡ [] }
     requires room { (list.items ≡ []) × (vec_len seats ≤ vec_capacity list) }
     ensures lock { result.0 ≡ lock }
     ensures laid_out { AreLaidOut lock (seat_count lock) result.1 }
@@ -49,13 +49,15 @@ pub(crate) fn lay_out(
 
 /// Closes the lock, all of whose seats are at the desk: its book, whose journal begins with what each seat has seen and
 /// has no other lines in its name.
-pub(crate) fn close_lock(lock: BookLock<SparingTree>, places: Places) -> Book<SparingTree>
+pub(crate) fn close_lock(lock: DeskLock, places: Places) -> DeskBook
     requires laid_out { AreLaidOut lock (seat_count lock) places }
     requires all_in { All IsSome places.list.items }
-    ensures lawful { IsLawful hull_tree result }
-    ensures head { result.head ≡ (book_of lock).head }
-    ensures seen { (j : ℕ) (p : PlaceValue) → HasAt places.list.items j p → IsPrefix (seat_seen p.seat) result.lines }
-    ensures own_lines { (j : ℕ) (p : PlaceValue) → HasAt places.list.items j p → HasOwnLines result.lines p }
+    ensures lawful { IsLawful hull_tree result.book.whole }
+    ensures head { desk_head result ≡ head_of lock }
+    ensures seen { (j : ℕ) (p : PlaceValue) → HasAt places.list.items j p → IsPrefix (seat_seen p.seat)
+        result.book.whole.lines }
+    ensures own_lines { (j : ℕ) (p : PlaceValue) → HasAt places.list.items j p → HasOwnLines
+        result.book.whole.lines p }
 {
     let Places {
         mut list,
@@ -68,6 +70,5 @@ pub(crate) fn close_lock(lock: BookLock<SparingTree>, places: Places) -> Book<Sp
         ledgers.push_reserved(ledger);
     }
     list.destroy_empty();
-    let (book, _sum) = close_book(lock, seats, ledgers);
-    book
+    gather_seats(lock, seats, ledgers)
 }

@@ -1,9 +1,12 @@
 //! One desk from its opening to a close that is refused: each code by its number, and what stands beside it.
 use crate::closing::{close, end, text};
 use crate::desk::Desk;
+use crate::draining::look_and_drain;
 use crate::lending::lend;
-use crate::looking::{SeatReply, look, look_into, take};
-use crate::opening::open;
+use crate::looking::{SeatReply, capacity, look, look_into, take};
+use crate::opening::{open, open_without_journal};
+use crate::part::Part;
+use crate::parts::{end as end_part, reserve, room as room_of, text as part_text};
 use crate::seat::SharedSeat;
 use core::mem::ManuallyDrop;
 use hull_reply::HullPoint;
@@ -93,6 +96,61 @@ fn corners_of_one_seat(rt: HostRuntime) {
     is_told(&rt, take(&mut room, 6, 0, 0), 3, 43, 0);
     is_told(&rt, look_into(&mut room, &mut out), 3, 18, 2);
     are_points(&rt, &out, [(-5, 4), (5, 4), (9, 9)]);
+    let (_desk, _room) = unsafe {
+        (
+            ManuallyDrop::new_unchecked(desk),
+            ManuallyDrop::new_unchecked(room),
+        )
+    };
+}
+
+#[test]
+fn a_part_of_two_lines(rt: HostRuntime) {
+    let mut desk = Desk::Fresh;
+    let mut room = SharedSeat::Vacant;
+    let mut part = Part::Bare;
+    let mut out = [0u8; 99];
+    assert_eq!(rt; open(rt.alloc(), &mut desk, 1, 7, 2, 1), 32);
+    assert_eq!(rt; lend(&mut desk, &mut room, 0), 35);
+    assert_eq!(rt;
+        (capacity(&mut room), part_text(&mut part, &mut out).code),
+        (2, 56)
+    );
+    is_told(&rt, take(&mut room, 1, 3, 4), 7, 43, 0);
+    is_told(&rt, look_and_drain(&mut room, &mut part), 7, 55, 0);
+    assert_eq!(rt; reserve(rt.alloc(), &mut part, 2), 53);
+    assert_eq!(rt;
+        (reserve(rt.alloc(), &mut part, 2), room_of(&mut part)),
+        (54, 2)
+    );
+    is_told(&rt, look(&mut room), 7, 3, 0);
+    is_told(&rt, take(&mut room, 8, 0, 0), 8, 43, 0);
+    is_told(&rt, look_and_drain(&mut room, &mut part), 8, 17, 1);
+    let told = part_text(&mut part, &mut out);
+    assert_eq!(rt; (told.code, told.number), (50, 92));
+    let text =
+        b"hullbook journal 3 first 7 limit 1 capacity 2\n7 0 add 3 4 = added\n8 0 count = count 1\nend 2\n";
+    assert_eq!(rt; &out[..92], text.as_slice());
+    assert_eq!(rt; (end_part(&mut part), room_of(&mut part)), (51, 0));
+    let (_desk, _room, _part) = unsafe {
+        (
+            ManuallyDrop::new_unchecked(desk),
+            ManuallyDrop::new_unchecked(room),
+            ManuallyDrop::new_unchecked(part),
+        )
+    };
+}
+
+#[test]
+fn calls_without_a_journal(rt: HostRuntime) {
+    let mut desk = Desk::Fresh;
+    let mut room = SharedSeat::Vacant;
+    assert_eq!(rt; open_without_journal(rt.alloc(), &mut desk, 1, 7, 1), 32);
+    assert_eq!(rt; lend(&mut desk, &mut room, 0), 35);
+    for (turn, code) in [(7, 3), (8, 4), (9, 4)] {
+        is_told(&rt, take(&mut room, 1, 3, 4), turn, 43, 0);
+        assert_eq!(rt; look(&mut room).told.code, code);
+    }
     let (_desk, _room) = unsafe {
         (
             ManuallyDrop::new_unchecked(desk),

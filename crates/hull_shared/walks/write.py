@@ -22,6 +22,7 @@ STEPS = """ℕ, ◌++◌, List, [], ◌∷◌, refl, w32, w64, proved, full_shar
 
 DESK = "desk.Desk"
 SEAT = "seat.SharedSeat"
+PART = "part.Part"
 # how a number is stored: its row, the words of its laws, and its width
 KINDS = {"u32": ("u32", "uint", "w32"), "u64": ("u64", "uint", "w64"), "i64": ("i64", "sint", "w64")}
 NUMBER = ("ℕ", "u32", "(uint_Lawful 𝓛 w32)")
@@ -30,16 +31,25 @@ REPLY = ("Out.Denot", "Out", "(the_row_laws.lawful 𝓛)")
 # the export; what lies at its pointer; the plain function; the file and the name of the law; the law's arguments before the
 # value; whether an allocator comes first; the numbers behind the pointer; and the result
 WALKS = [
-    ("open", DESK, "opening.open", "Desks.{HasOpened}", "HasOpened (record { limit = n₁; first = n₂; capacity = n₃; seats = n₄ })",
+    ("open", DESK, "opening.open", "Desks.{HasOpened}", "HasOpened (record { limit = n₁; first = n₂; capacity = n₃; seats = n₄; keeps = true })",
      True, ["u32", "u64", "u32", "u32"], NUMBER),
+    ("open_without_journal", DESK, "opening.open_without_journal", "Desks.{HasOpened}",
+     "HasOpened (record { limit = n₁; first = n₂; capacity = 1; seats = n₃; keeps = false })", True, ["u32", "u64", "u32"], NUMBER),
     ("close", DESK, "closing.close", "Desks.{HasClosed}", "HasClosed", False, [], NUMBER),
     ("end", DESK, "closing.end", "Desks.{HasEnded}", "HasEnded", False, [], NUMBER),
     ("take", SEAT, "looking.take", "Looks.{HasTaken}", "HasTaken n₁ n₂ n₃", False, ["u32", "i64", "i64"], REPLY),
     ("look", SEAT, "looking.look", "Looks.{HasReplied}", "HasReplied", False, [], REPLY),
+    ("part_reserve", PART, "parts.reserve", "Parts.{HasReserved}", "HasReserved n₁", True, ["u32"], NUMBER),
+    ("part_room", PART, "parts.room", "Parts.{HasToldRoom}", "HasToldRoom", False, [], NUMBER),
+    ("capacity", SEAT, "looking.capacity", "Looks.{HasToldCapacity}", "HasToldCapacity", False, [], NUMBER),
+    ("part_end", PART, "parts.end", "Parts.{HasEndedPart}", "HasEndedPart", False, [], NUMBER),
 ]
 # of the exports that are passed an array: the words that are put in
 WITH_AN_ARRAY = [
     {"name": "text", "at": DESK, "module": "closing", "plain": "text", "law_file": "Desks", "law": "HasWritten",
+     "element": "denote.Builtin.{u8 as Element}", "reply": "hull_reply.specs.contracts.reply.HullReply",
+     "laws": "hull_reply.proofs.reply.HullReply"},
+    {"name": "part_text", "at": PART, "module": "parts", "plain": "text", "law_file": "Parts", "law": "HasWrittenPart",
      "element": "denote.Builtin.{u8 as Element}", "reply": "hull_reply.specs.contracts.reply.HullReply",
      "laws": "hull_reply.proofs.reply.HullReply"},
     {"name": "look_into", "at": SEAT, "module": "looking", "plain": "look_into", "law_file": "Looks", "law": "HasRepliedInto",
@@ -104,6 +114,7 @@ def walk(name, at, function, law_file, law, alloc, numbers, result):
     if result is REPLY:
         lines += ["use Rattle.hull_shared.specs.contracts.looking.SeatReply.{the_row as Out}",
                   "use Rattle.hull_shared.proofs.looking.SeatReply.TheLaws.{the_row_laws}"]
+    lines += [f"use Rattle.std.specs.Prelude.{{{word}}}" for word in ("true", "false") if word in law]
     lines += [f"use Rattle.hull_shared.specs.{law_file}",
               f"use Rattle.hull_shared.specs.contracts.hull_shared_{name} as f",
               f"use Rattle.hull_shared.proofs.hull_shared_{name}.Statement.{{statement}}",

@@ -30,7 +30,7 @@ use std::ptr::NonNull;
 pub use exchange::{direction_of, wkt, Lattice, Rounded};
 pub use outline::{Distance, Nearest, Outline, Separation, Strip, Witness};
 pub use raw::{Held, Point};
-pub use shared::{Limits, Seat, SharedHull, CAPACITY_LIMIT, SEAT_LIMIT};
+pub use shared::{JournalPart, Limits, Seat, SharedHull, CAPACITY_LIMIT, SEAT_LIMIT};
 
 /// The greatest size of a coordinate, of a point and of a direction: 2^40.
 pub const COORDINATE_LIMIT: i64 = 1 << 40;

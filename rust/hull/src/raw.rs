@@ -114,6 +114,7 @@ pub(crate) mod code {
     pub const SEATS_OUT: u32 = 47;
     pub const CLOSED: u32 = 48;
     pub const TEXT: u32 = 50;
+    pub const RESERVED: u32 = 53;
 }
 
 /// The numbers of the kinds.
@@ -201,6 +202,15 @@ extern "C" {
     pub(crate) fn hull_shared_give_back(desk: *mut u8, room: *mut u8) -> u32;
     pub(crate) fn hull_shared_take(seat: *mut u8, kind: u32, x: i64, y: i64) -> SeatReply;
     pub(crate) fn hull_shared_look_into(seat: *mut u8, out: *mut Point, room: usize) -> SeatReply;
+    pub(crate) fn hull_shared_part_size() -> usize;
+    pub(crate) fn hull_shared_part_alignment() -> usize;
+    pub(crate) fn hull_shared_make_part(room: *mut u8);
+    pub(crate) fn hull_shared_capacity(seat: *mut u8) -> u32;
+    pub(crate) fn hull_shared_part_reserve(part: *mut u8, lines: u32) -> u32;
+    pub(crate) fn hull_shared_look_and_drain(seat: *mut u8, part: *mut u8) -> SeatReply;
+    pub(crate) fn hull_shared_part_text(part: *mut u8, out: *mut u8, length: usize) -> Reply;
+    pub(crate) fn hull_shared_part_end(part: *mut u8) -> u32;
+    pub(crate) fn hull_shared_open_without_journal(desk: *mut u8, limit: u32, first: u64, seats: u32) -> u32;
     pub(crate) fn hull_shared_close(desk: *mut u8) -> u32;
     pub(crate) fn hull_shared_text(desk: *mut u8, out: *mut u8, length: usize) -> Reply;
     pub(crate) fn hull_shared_end(desk: *mut u8) -> u32;

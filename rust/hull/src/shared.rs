@@ -9,7 +9,7 @@ use std::hint::spin_loop;
 use std::ptr::NonNull;
 use std::sync::{Arc, Mutex, MutexGuard, PoisonError};
 
-/// The greatest capacity of a shared hull: how many calls its journal may have room for.
+/// The greatest capacity of a shared hull: how many lines of its journal may be held at most.
 pub const CAPACITY_LIMIT: u32 = 1 << 24;
 /// The greatest number of seats of a shared hull.
 pub const SEAT_LIMIT: u32 = 64;
@@ -21,13 +21,13 @@ pub struct Limits {
     pub points: u32,
     /// The number of the first call.
     pub first: u64,
-    /// How many calls have room in the journal, 1 to [`CAPACITY_LIMIT`].
+    /// How many lines of the journal are held at most, until a seat takes them out ([`Seat::drain`]), 1 to [`CAPACITY_LIMIT`].
     pub capacity: u32,
     /// How many seats there are, 1 to [`SEAT_LIMIT`].
     pub seats: u32,
 }
 
-/// Memory in which a desk or a seat lies, which is given back when it is dropped.
+/// Memory in which a desk, a seat or a part lies, which is given back when it is dropped.
 struct Room {
     at: NonNull<u8>,
     layout: Layout,
@@ -118,6 +118,19 @@ impl SharedHull {
         }
     }
 
+    /// The same, but the line of each call is let go with its answer: the text of the journal has none. `capacity` is not read.
+    pub fn open_without_journal(limits: Limits) -> Result<SharedHull, Fault> {
+        let desk = Arc::new(Desk::new()?);
+        // SAFETY: as above.
+        let told = unsafe {
+            raw::hull_shared_open_without_journal(desk.lock().at(), limits.points, limits.first, limits.seats)
+        };
+        match told {
+            code::OPEN => Ok(SharedHull { desk }),
+            other => Err(answer::fault_of(other)),
+        }
+    }
+
     /// Lends the seat of a number, 0 and up; [`Fault::NoSeat`] where it is out or there is none, and [`Fault::NotOpen`]
     /// once the hull is closed.
     pub fn lend(&self, number: u32) -> Result<Seat, Fault> {
@@ -133,7 +146,8 @@ impl SharedHull {
         }
     }
 
-    /// Closes the hull, unless it is closed, and returns the text of its journal, which the program `hullbook` judges.
+    /// Closes the hull, unless it is closed, and returns the text of its journal, of the lines that were not taken out, which the
+    /// program `hullbook` judges.
     ///
     /// [`Fault::SeatsOut`] where a seat is out: the hull stays open. [`Fault::NoMemory`] where there is none for the
     /// text: the hull is closed, and this may be called again.
@@ -149,10 +163,15 @@ impl SharedHull {
 
 /// The text of a closed desk's journal.
 fn text_of(desk: &Room) -> Result<String, Fault> {
+    // SAFETY: the desk lies in the room, which is locked; the array was written.
+    written(|text| unsafe { raw::hull_shared_text(desk.at(), text.as_mut_ptr(), text.len()) })
+}
+
+/// The text that a call writes to an array, which may be too short for it.
+fn written(write: impl Fn(&mut [u8]) -> Reply) -> Result<String, Fault> {
     let mut text = Vec::new();
     loop {
-        // SAFETY: the desk lies in the room, which is locked; the array is the vector's own, and all of it was written.
-        let told = unsafe { raw::hull_shared_text(desk.at(), text.as_mut_ptr(), text.len()) };
+        let told = write(&mut text);
         match told.code {
             code::TEXT => return Ok(String::from_utf8(text).expect("a journal is a text")),
             code::TOO_SMALL => {
@@ -161,6 +180,59 @@ fn text_of(desk: &Room) -> Result<String, Fault> {
             }
             other => return Err(answer::fault_of(other)),
         }
+    }
+}
+
+/// Lines that a seat took out of a journal ([`Seat::drain`]). They are kept until it is dropped.
+pub struct JournalPart {
+    room: Room,
+}
+
+impl JournalPart {
+    /// A part with room for so many lines.
+    fn new(lines: u32) -> Result<JournalPart, Fault> {
+        // SAFETY: the two that are asked read nothing; the room is of that size and alignment, and nobody else's.
+        unsafe {
+            let room = Room::new(raw::hull_shared_part_size(), raw::hull_shared_part_alignment())?;
+            raw::hull_shared_make_part(room.at());
+            let part = JournalPart { room };
+            match raw::hull_shared_part_reserve(part.room.at(), lines) {
+                code::RESERVED => Ok(part),
+                other => Err(answer::fault_of(other)),
+            }
+        }
+    }
+
+    /// The text of the lines: a journal that has the number of the first of them as its own first number. `hullbook check` judges
+    /// the texts of all parts in their order.
+    pub fn text(&self) -> Result<String, Fault> {
+        // SAFETY: the part lies in the room, and writing its text leaves it as it is; no other thread has it, since it is not
+        // `Sync`; the array was written.
+        written(|text| unsafe { raw::hull_shared_part_text(self.room.at(), text.as_mut_ptr(), text.len()) })
+    }
+
+    /// The lines of that text, from the header to the end line.
+    pub fn lines(&self) -> Result<impl Iterator<Item = String>, Fault> {
+        let text = self.text()?;
+        let mut rest = 0;
+        Ok(std::iter::from_fn(move || {
+            let line = text[rest..].lines().next()?.to_string();
+            rest += line.len() + 1;
+            Some(line)
+        }))
+    }
+}
+
+impl Drop for JournalPart {
+    fn drop(&mut self) {
+        // SAFETY: the part lies in its room, and nothing else uses it.
+        unsafe { raw::hull_shared_part_end(self.room.at()) };
+    }
+}
+
+impl fmt::Debug for JournalPart {
+    fn fmt(&self, f: &mut fmt::Formatter<'_>) -> fmt::Result {
+        f.debug_struct("JournalPart").finish_non_exhaustive()
     }
 }
 
@@ -259,12 +331,37 @@ impl Seat {
         self.call(kind::COUNT, NOWHERE).and_then(answer::number).map(|points| points as usize)
     }
 
+    /// Asks how many points there are, and takes all lines that the hull holds then out of its journal: that of this call is the
+    /// last. Under the lock only the lists change hands.
+    ///
+    /// [`Fault::NoMemory`] where there is no room for the lines: no call is made then. [`Fault::Full`] where the journal has no
+    /// room for the call, which is not made, and nothing is taken out: a hull is to be drained before.
+    pub fn drain(&mut self) -> Result<JournalPart, Fault> {
+        // SAFETY: a seat lies in the room, and `&mut self` keeps other calls away.
+        let part = JournalPart::new(unsafe { raw::hull_shared_capacity(self.room.at()) })?;
+        // SAFETY: as above; the part lies in its room, and nobody else has it yet.
+        self.call_by(kind::COUNT, NOWHERE, |seat| unsafe { raw::hull_shared_look_and_drain(seat, part.room.at()) })?;
+        Ok(part)
+    }
+
     fn call(&mut self, kind: u32, at: Point) -> Result<Reply, Fault> {
         self.call_into(kind, at, &mut [])
     }
 
-    /// Comes in by the door, takes a number for a call, and looks until it is served; corners are written to the array.
+    /// Makes a call; corners are written to the array.
     fn call_into(&mut self, kind: u32, at: Point, out: &mut [Point]) -> Result<Reply, Fault> {
+        // SAFETY: a seat lies in the room, and `&mut self` keeps other calls away; the array is the caller's, and all of it was
+        // written.
+        self.call_by(kind, at, |seat| unsafe { raw::hull_shared_look_into(seat, out.as_mut_ptr(), out.len()) })
+    }
+
+    /// Comes in by the door, takes a number for a call, and looks until it is served.
+    fn call_by(
+        &mut self,
+        kind: u32,
+        at: Point,
+        mut look: impl FnMut(*mut u8) -> raw::SeatReply,
+    ) -> Result<Reply, Fault> {
         let _inside = self.desk.door.enter();
         // SAFETY: a seat lies in the room, and `&mut self` keeps other calls away.
         let taken = unsafe { raw::hull_shared_take(self.room.at(), kind, at.x, at.y) }.told.code;
@@ -272,8 +369,7 @@ impl Seat {
             return Err(answer::fault_of(taken));
         }
         loop {
-            // SAFETY: as above; the array is the caller's, and all of it was written.
-            let reply = unsafe { raw::hull_shared_look_into(self.room.at(), out.as_mut_ptr(), out.len()) };
+            let reply = look(self.room.at());
             match reply.told.code {
                 code::NOT_YET => spin_loop(), // by no call: who is inside is alone
                 code::FULL => return Err(Fault::Full),

@@ -1,14 +1,12 @@
 -- the seat that goes out was at home in its place
-use Rattle.std.proofs.Common.{◌≡◌, ◌<◌, ℕ, Some, slice_get, length, refl, sym, ap, subst, arith}
+use Rattle.std.proofs.Common.{◌≡◌, ◌<◌, ℕ, Some, slice_get, length, refl, sym, ap, subst, arith, ◌∙◌}
 use Rattle.std.specs.Prelude.{Option, slice_set}
 use Rattle.std.specs.Mem.{manually_drop_value}
 use Rattle.std.specs.declared.mem.ManuallyDrop.{ManuallyDrop}
 use Rattle.std.proofs.lemmas.Option.{slice_get_read}
 use Rattle.hull_book.specs.Ledgers.{IsLedgerOf}
-use Rattle.hull_pool.specs.Crews.{book_head}
-use Rattle.hull_pool.specs.Work.{workers_of}
 use Rattle.ticket_lock.specs.Tokens.{IsSeatOf, seat_number, seat_seen}
-use Rattle.hull_shared.specs.Locks.{HullLock, book_of, lock_of}
+use Rattle.hull_shared.specs.Locks.{HullLock, boxed_head, capacity_of, lock_of, seats_of}
 use Rattle.hull_shared.specs.Places.{HasAt, IsAtHome}
 use Rattle.hull_shared.specs.declared.place.Place.{Place}
 use Rattle.hull_shared.proofs.Homes.{home_without}
@@ -26,15 +24,17 @@ invariant_of-idle c =
     ap (λ (m : ManuallyDrop HullLock). manually_drop_value m) c.in-Ok.ensures in
     let number : seat_number p.seat ≡ c.args.number = omega (arith, is.home, c.in-Some.ensures) in
     record {
-      own = subst (λ (l : HullLock). IsSeatOf book_head l p.seat) (sym same) is.own;
+      own = subst (λ (l : HullLock). IsSeatOf boxed_head l p.seat) (sym same) is.own;
       numbered = number;
-      below = subst (λ (l : HullLock). c.args.number < workers_of (book_of l)) (sym same)
+      holds = d.holds ∙ sym (ap (λ (l : HullLock). capacity_of l) same);
+      below = subst (λ (l : HullLock). c.args.number < seats_of l) (sym same)
           (omega (arith, d.laid_out.workers, c.in-Some.ensures));
       counts = subst (λ (k : ℕ). IsLedgerOf k (seat_seen p.seat) p.ledger) number is.counts;
     }
 
 pub invariant_of-desk : goal.invariant_of-desk
 invariant_of-desk c = let d = c.args.desk in record {
+  holds = d.holds;
   laid_out = record {
     each = d.laid_out.each;
     seats = d.laid_out.seats;

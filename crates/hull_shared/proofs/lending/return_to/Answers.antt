@@ -3,9 +3,8 @@ use Rattle.std.proofs.Common.{◌≡◌, ℕ, Some, slice_get, length, refl, sym
 use Rattle.std.specs.Prelude.{Option, slice_set}
 use Rattle.std.proofs.lemmas.Option.{slice_get_read}
 use Rattle.hull_book.specs.Ledgers.{IsLedgerOf}
-use Rattle.hull_pool.specs.Crews.{book_head}
 use Rattle.ticket_lock.specs.Tokens.{IsSeatOf, seat_seen}
-use Rattle.hull_shared.specs.Locks.{HullLock, lock_of}
+use Rattle.hull_shared.specs.Locks.{HullLock, boxed_head, lock_of}
 use Rattle.hull_shared.specs.Places.{IsAtHome}
 use Rattle.hull_shared.specs.declared.place.Place.{Place}
 use Rattle.hull_shared.proofs.Homes.{home_with}
@@ -15,11 +14,12 @@ pub invariant_of-desk : goal.invariant_of-desk
 invariant_of-desk c =
     let d = c.args.desk in let i = c.args.idle in
     let is : IsAtHome (lock_of d.lock) d.seats c.in-Some.j (record { seat = i.seat; ledger = i.ledger }) = record {
-      own = subst (λ (l : HullLock). IsSeatOf book_head l i.seat) c.requires i.own;
+      own = subst (λ (l : HullLock). IsSeatOf boxed_head l i.seat) c.requires i.own;
       counts = subst (λ (k : ℕ). IsLedgerOf k (seat_seen i.seat) i.ledger) (sym i.numbered) i.counts;
       home = omega (arith, i.numbered, c.from.ensures, c.in-Some.ensures);
     } in
     record {
+      holds = d.holds;
       laid_out = record {
         each = d.laid_out.each;
         seats = d.laid_out.seats;

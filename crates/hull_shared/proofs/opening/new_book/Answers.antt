@@ -1,12 +1,14 @@
 -- the ledgers that were made with the book are all of its own
-use Rattle.std.proofs.Common.{sym, subst}
+use Rattle.std.proofs.Common.{◌∙◌, ap, sym, subst}
 use Rattle.hull_book.specs.Books.{BookValue}
 use Rattle.hull_book.specs.Ledgers.{AreAllLedgers}
 use Rattle.hull_book.proofs.Counts.{all_in_order}
 use Rattle.hull_tree.specs.Sets.{LimitedTree}
+use Rattle.hull_shared.specs.DeskBooks.{DeskValue}
 use Rattle.hull_shared.proofs.opening.new_book.Goals as goal
 
 pub gather-none-requires-clause-ledgers : goal.gather-none-requires-clause-ledgers
 gather-none-requires-clause-ledgers c =
-    subst (λ (b : BookValue LimitedTree). AreAllLedgers b c.in-Ok.ledgers.items) (sym c.in-Err.ensures.value_returned)
+    subst (λ (b : BookValue LimitedTree). AreAllLedgers b c.in-Ok.ledgers.items)
+    (sym (ap (λ (d : DeskValue). d.book.whole) (c.in-Err.ensures.value_returned ∙ c.new.ensures)))
     (all_in_order c.in-Ok.book c.in-Ok.ledgers.items c.in-Ok.ensures.ledgers)

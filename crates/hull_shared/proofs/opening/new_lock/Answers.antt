@@ -3,12 +3,14 @@ use Rattle.std.proofs.Common.{◌∙◌, ap, sym, subst, box_value}
 use Rattle.hull_book.specs.Books.{BookValue}
 use Rattle.hull_book.specs.Ledgers.{AreAllLedgers}
 use Rattle.hull_book.proofs.Counts.{all_in_order}
-use Rattle.hull_pool.specs.Crews.{Boxed}
 use Rattle.hull_tree.specs.Sets.{LimitedTree}
+use Rattle.hull_shared.specs.DeskBooks.{DeskValue}
+use Rattle.hull_shared.specs.Locks.{DeskBoxed, whole_of}
 use Rattle.hull_shared.proofs.opening.new_lock.Goals as goal
 
 pub gather-none-requires-clause-ledgers : goal.gather-none-requires-clause-ledgers
 gather-none-requires-clause-ledgers c =
     subst (λ (b : BookValue LimitedTree). AreAllLedgers b c.in_ok-book.ledgers.items)
-    (sym (c.deref.ensures ∙ ap (λ (b : Boxed LimitedTree). box_value b) c.in-Err.ensures.back))
-    (all_in_order (box_value c.in_ok-book.book) c.in_ok-book.ledgers.items c.in_ok-book.ensures.ledgers)
+    (sym (ap (λ (d : DeskValue). d.book.whole) (c.deref.ensures
+    ∙ ap (λ (b : DeskBoxed). box_value b) c.in-Err.ensures.back)))
+    (all_in_order (whole_of c.in_ok-book.book) c.in_ok-book.ledgers.items c.in_ok-book.ensures.ledgers)

@@ -4,12 +4,12 @@ use Rattle.std.proofs.Common.{slice_get, sym, ap, subst, ◌∙◌, arith, lengt
 use Rattle.std.specs.Prelude.{Option}
 use Rattle.std.proofs.lemmas.Option.{slice_get_within}
 use Rattle.hull_book.specs.Ledgers.{IsLedgerOf}
-use Rattle.hull_pool.specs.Crews.{book_head}
 use Rattle.hull_pool.specs.Work.{lines_of}
 use Rattle.hull_pool.proofs.Pushed.{numbered_push, zipped_push}
 use Rattle.ticket_lock.specs.Tokens.{IsSeatOf, seat_count, seat_number, seat_seen}
 use Rattle.ticket_lock.proofs.Gather.{all_push, at_place, front_of}
 use mathlib.Core.List.{IsPrefix}
+use Rattle.hull_shared.specs.Locks.{boxed_head}
 use Rattle.hull_shared.specs.Places.{HasAt, IsAtHome}
 use Rattle.hull_shared.specs.declared.place.Place.{Place}
 use Rattle.hull_shared.proofs.Homes.{home_front}
@@ -44,7 +44,7 @@ loop-place-preserved c =
       all = omega (arith, inv.all);
       as_many = omega (arith, inv.as_many);
       room = search rules;
-      own = all_push (IsSeatOf book_head lock) seats c.push_reserved.new.self.items p.seat more inv.own is.own;
+      own = all_push (IsSeatOf boxed_head lock) seats c.push_reserved.new.self.items p.seat more inv.own is.own;
       numbers = numbered_push (λ s. seat_number s) seats c.push_reserved.new.self.items p.seat more inv.numbers number;
       counts = zipped_push
           (λ s k. IsLedgerOf (seat_number s)
@@ -76,8 +76,8 @@ returns-clause-seen c = λ j p at.
     let none : length c.loop-place.list.items ≡ 0 =
     omega (arith, c.in_default.ensures.cases.0, c.loop-place.list.ok.0) in
     let back : (n - 1 - j) + j + 1 ≡ n = omega (arith, each, within, c.args.places.list.ok.0) in
-    at_place (λ s. IsPrefix (seat_seen s) c.close_book-book.result.0.lines) c.loop-place.seats.items
-    (n - 1 - j) p.seat c.close_book-book.ensures.seen
+    at_place (λ s. IsPrefix (seat_seen s) c.gather_seats.result.book.whole.lines) c.loop-place.seats.items
+    (n - 1 - j) p.seat c.gather_seats.ensures.seen
     (inv.gathered (n - 1 - j) j p at (omega (arith, none)) back)
 
 pub returns-clause-own_lines : goal.returns-clause-own_lines
@@ -88,6 +88,6 @@ returns-clause-own_lines c = λ j p at.
     let none : length c.loop-place.list.items ≡ 0 =
     omega (arith, c.in_default.ensures.cases.0, c.loop-place.list.ok.0) in
     let back : (n - 1 - j) + j + 1 ≡ n = omega (arith, each, within, c.args.places.list.ok.0) in
-    at_place (λ s. lines_of (seat_number s) c.close_book-book.result.0.lines ≡ lines_of (seat_number s) (seat_seen s))
-    c.loop-place.seats.items (n - 1 - j) p.seat c.close_book-book.ensures.own_lines
+    at_place (λ s. lines_of (seat_number s) c.gather_seats.result.book.whole.lines ≡ lines_of (seat_number s) (seat_seen s))
+    c.loop-place.seats.items (n - 1 - j) p.seat c.gather_seats.ensures.own_lines
     (inv.gathered (n - 1 - j) j p at (omega (arith, none)) back)

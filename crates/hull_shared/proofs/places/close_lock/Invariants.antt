@@ -2,7 +2,7 @@
 use Rattle.std.proofs.Common.{◌≡◌, ◌≤◌, ◌<◌, ◌+◌, ℕ, All, IsSome, Some, slice_get, length, vec_capacity}
 use Rattle.std.specs.List.{AllZip}
 use Rattle.hull_book.specs.Ledgers.{IsLedgerOf}
-use Rattle.hull_pool.specs.Crews.{book_head}
+use Rattle.hull_shared.specs.Locks.{boxed_head}
 use Rattle.hull_shared.specs.Places.{AreAtHome, HasAt}
 use Rattle.hull_shared.specs.declared.place.Place.{Place}
 use Rattle.ticket_lock.specs.Tokens.{AreNumbered, IsSeatOf, seat_count, seat_number, seat_seen}
@@ -15,7 +15,7 @@ invariant-loop-place l = record {
   all : length l.seats.items + length l.list.items ≡ seat_count l.lock;
   as_many : length l.ledgers.items ≡ length l.seats.items;
   room : (seat_count l.lock ≤ vec_capacity l.seats) × (seat_count l.lock ≤ vec_capacity l.ledgers);
-  own : All (IsSeatOf book_head l.lock) l.seats.items;
+  own : All (IsSeatOf boxed_head l.lock) l.seats.items;
   numbers : AreNumbered l.seats.items;
   counts : AllZip (λ s k. IsLedgerOf (seat_number s) (seat_seen s) k) l.seats.items l.ledgers.items;
   left : (j : ℕ) (p : Place) → HasAt l.fn.places.list.items j p → j < length l.list.items → HasAt l.list.items j p;

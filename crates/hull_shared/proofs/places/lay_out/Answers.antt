@@ -4,10 +4,9 @@ use Rattle.std.proofs.Common.{refl, sym, ap, subst, ◌∙◌, arith, length-app
 use Rattle.std.specs.Prelude.{Option, option_to_list}
 use Rattle.hull_book.specs.Ledgers.{LedgerValue, IsLedger, count_of}
 use Rattle.hull_book.specs.declared.line.Line.{Line}
-use Rattle.hull_pool.specs.Crews.{book_head}
 use Rattle.ticket_lock.specs.Tokens.{IsSeatOf, seat_count, seat_number, seat_seen}
 use Rattle.ticket_lock.proofs.Gather.{all_push, front_of, last_of}
-use Rattle.hull_shared.specs.Locks.{book_of}
+use Rattle.hull_shared.specs.Locks.{book_of, boxed_head}
 use Rattle.hull_shared.specs.Places.{HasAt, IsAtHome}
 use Rattle.hull_shared.specs.declared.place.Place.{Place}
 use Rattle.hull_shared.proofs.Homes.{home_more}
@@ -33,7 +32,7 @@ loop-seat-preserved c =
     let number : seat_number s ≡ length seats =
     inv.numbers (length seats) s
     (subst (λ (z : List _). slice_get z (length seats) ≡ Some s) (sym e) (get_last seats s)) in
-    let own_ledger : IsLedger (book_of lock) (length ledgers) l =
+    let own_ledger : IsLedger (book_of lock).book.whole (length ledgers) l =
     inv.ledgers (length ledgers) l
     (subst (λ (z : List LedgerValue). slice_get z (length ledgers) ≡ Some l) (sym e2) (get_last ledgers l)) in
     let seen : seat_seen s ≡ [] = last_of (λ x. seat_seen x ≡ []) c.loop-seat.seats.items seats s e inv.seen in
@@ -43,12 +42,12 @@ loop-seat-preserved c =
     let count : l.count ≡ count_of (seat_number s) (seat_seen s) =
     none ∙ sym (ap (λ (xs : List Line). count_of (seat_number s) xs) seen) in
     let home : IsAtHome lock n (length list) (record { seat = s; ledger = l }) = record {
-      own = last_of (IsSeatOf book_head lock) c.loop-seat.seats.items seats s e inv.own;
+      own = last_of (IsSeatOf boxed_head lock) c.loop-seat.seats.items seats s e inv.own;
       counts = (own_ledger.seat_is ∙ many ∙ sym number, count);
       home = omega (arith, inv.all);
     } in
     record {
-      own = front_of (IsSeatOf book_head lock) c.loop-seat.seats.items seats s e inv.own;
+      own = front_of (IsSeatOf boxed_head lock) c.loop-seat.seats.items seats s e inv.own;
       numbers = λ i x at. inv.numbers i x
           (subst (λ (z : List _). slice_get z i ≡ Some x) (sym e) (get_front seats s i x at));
       seen = front_of (λ x. seat_seen x ≡ []) c.loop-seat.seats.items seats s e inv.seen;

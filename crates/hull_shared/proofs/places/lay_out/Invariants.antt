@@ -1,8 +1,7 @@
 -- what is left of the seats and their ledgers is a front of them, and those behind it are laid out
 use Rattle.std.proofs.Common.{◌≡◌, ◌≤◌, ◌+◌, ℕ, [], All, IsSome, Some, slice_get, length, vec_len, vec_capacity}
 use Rattle.hull_book.specs.Ledgers.{LedgerValue, IsLedger}
-use Rattle.hull_pool.specs.Crews.{book_head}
-use Rattle.hull_shared.specs.Locks.{book_of}
+use Rattle.hull_shared.specs.Locks.{book_of, boxed_head}
 use Rattle.hull_shared.specs.Places.{AreAtHome, HasAt}
 use Rattle.hull_shared.specs.declared.place.Place.{Place}
 use Rattle.ticket_lock.specs.Tokens.{AreNumbered, IsSeatOf, seat_count, seat_seen}
@@ -10,11 +9,11 @@ use Rattle.hull_shared.proofs.places.lay_out.Given as goal
 
 abbrev pub invariant-loop-seat : goal.invariant-loop-seat
 invariant-loop-seat l = record {
-  own : All (IsSeatOf book_head l.lock) l.seats.items;
+  own : All (IsSeatOf boxed_head l.lock) l.seats.items;
   numbers : AreNumbered l.seats.items;
   seen : All (λ s. seat_seen s ≡ []) l.seats.items;
   as_many : length l.ledgers.items ≡ length l.seats.items;
-  ledgers : (k : ℕ) (d : LedgerValue) → slice_get l.ledgers.items k ≡ Some d → IsLedger (book_of l.lock) k d;
+  ledgers : (k : ℕ) (d : LedgerValue) → slice_get l.ledgers.items k ≡ Some d → IsLedger (book_of l.lock).book.whole k d;
   all : length l.list.items + length l.seats.items ≡ seat_count l.lock;
   room : (seat_count l.lock ≤ vec_capacity l.list) × (seat_count l.lock ≤ vec_capacity l.seats)
       × (seat_count l.lock ≤ vec_capacity l.ledgers);
