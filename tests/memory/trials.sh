@@ -103,8 +103,8 @@ try tree_phases set-up refused 'second add' vertices whole
 try script refused
 try journal refused
 try upgrade set-up refused
-try plain_later_phase set-up refused 'later phase' 'first add' whole
-try tree_later_phase set-up refused 'later phase' 'second add' whole
+try plain_later_phase set-up refused 'later phase' 'first add'
+try tree_later_phase set-up refused 'later phase' 'second add'
 try plain_reopen set-up refused
 try tree_reopen set-up refused
 try plain_drain set-up refused vertices
