@@ -1,9 +1,9 @@
 #!/bin/sh
 # Runs the built program on each case of cases/ and compares what it wrote, byte for byte, and its status.
 #
-# A case is a text in parts. `words:` are the program's words, where INPUT stands for a file with the bytes of the part
-# `input:`, JOURNAL for one with those of the part `journal:`, ABSENT for a path where nothing is, and FOLDER for a folder.
-# `status:` is the exit status. `output:` and `error:` are standard output and standard error, both empty where the part is
+# A case is a text in parts. `words:` are the program's words, where INPUT, JOURNAL and PART stand for the files `input`,
+# `journal` and `part` of the folder that the program runs in, with the bytes of the parts of these names, ABSENT for
+# `absent`, where nothing is, and FOLDER for `folder`, which is one. `status:` is the exit status. `output:` and `error:` are standard output and standard error, both empty where the part is
 # left out; `or:` is another output that may come. A line of a part begins with `|`, or with `\` where no newline ends it.
 # `device: full` lets the output fail. A line that begins with `#` is a remark. Each run of a script is made by both trees,
 # with `--sparing` and without, and has to come out the same. A journal that a run or `compact` wrote has to pass `check`.
@@ -35,7 +35,7 @@ outcome() {
     for name in output or error; do
         part "$1" "$name" >"$room/wanted.$name"
     done
-    words=$(head_of "$1" words | sed "s#INPUT#$room/input#; s#JOURNAL#$room/journal#; s#ABSENT#$room/absent#; s#FOLDER#$room/folder#")
+    words=$(head_of "$1" words | sed 's#INPUT#input#g; s#JOURNAL#journal#g; s#PART#part#g; s#ABSENT#absent#g; s#FOLDER#folder#g')
     words="${words%% *} $2 ${words#"${words%% *}"}"
     told="$room/told.output"
     if [ "$(head_of "$1" device)" = full ]; then
@@ -43,7 +43,7 @@ outcome() {
     fi
     : >"$room/told.output"
     # shellcheck disable=SC2086 # the words stand apart by spaces
-    "$top/bin/hullbook" $words >"$told" 2>"$room/told.error"
+    (cd "$room" && "$top/bin/hullbook" $words) >"$told" 2>"$room/told.error"
     status=$?
     if [ "$status" != "$(head_of "$1" status)" ]; then
         echo "status $status"

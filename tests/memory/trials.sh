@@ -6,9 +6,10 @@
 #   words        while the words of the trial were read: no line, status 4
 #   set-up       before what is tried began
 #   refused      in what is tried
+#   later phase  in the second phase of a script: the first ran whole
 #   first add    in the first call of a phase: its reply is `nomemory`
 #   second add   .. in the second
-#   vertices     .. in the third, to the list for the journal or to the one for the caller
+#   vertices     in the call for the vertices, to the list for the journal or to the one for the caller
 #   whole        to nothing that is tried: to the list by which the trial looks at its set, or to the start of a thread
 #
 # A plain set grows by several points at once: its second add asks for nothing. A tree keeps its first point without a
@@ -102,5 +103,13 @@ try tree_phases set-up refused 'second add' vertices whole
 try script refused
 try journal refused
 try upgrade set-up refused
+try plain_later_phase set-up refused 'later phase' 'first add'
+try tree_later_phase set-up refused 'later phase' 'second add'
+try plain_reopen set-up refused
+try tree_reopen set-up refused
+try plain_drain set-up refused vertices
+try tree_drain set-up refused vertices
+try parts set-up refused
+try compact set-up refused
 echo "$passed passed, $failed failed"
 [ "$failed" -eq 0 ]

@@ -11,17 +11,26 @@ use Rattle.hull_text.specs.declared.upgrading.UpgradeFault.{UpgradeFault}
 use Rattle.hull_text.specs.declared.upgrading.UpgradeFault.TheVariants as upgrade
 use Rattle.hullbook.specs.declared.fault.Fault.{Fault}
 use Rattle.hullbook.specs.declared.fault.Fault.TheVariants.{Usage, Open, Memory, Write, Text, Rules, Illegal}
-use Rattle.hullbook.specs.declared.fault.Fault.TheVariants.{Journal, First, Limit, Lines}
+use Rattle.hullbook.specs.declared.fault.Fault.TheVariants.{Journal, First, Limit, Lines, Part}
 use Rattle.hullbook.specs.declared.after.AfterFault.{AfterFault}
 use Rattle.hullbook.specs.declared.after.AfterFault.TheVariants as after
 use Rattle.hullbook.specs.declared.options.OptionFault.{OptionFault}
 use Rattle.hullbook.specs.declared.options.OptionFault.TheVariants as words
+use Rattle.hullbook.specs.declared.parts.PartFault.{PartFault}
+use Rattle.hullbook.specs.declared.parts.PartFault.TheVariants as part
 use Rattle.hullbook.specs.declared.run.RunFault.{RunFault}
 use Rattle.hullbook.specs.declared.run.RunFault.TheVariants as engine
 
 -- 3 where the input failed, 4 where memory was refused to its reader, 2 where the text itself is at fault
 abbrev pub text_status : TextFault → ℕ
 text_status f = if f.number == fault_number Read then 3 else if f.number == fault_number NoMemory then 4 else 2
+
+-- the same of a part of a journal: 3 where it cannot be opened, 4 where memory was refused
+abbrev pub part_status : PartFault → ℕ
+part_status part.Open = 3
+part_status part.OpenMemory = 4
+part_status (part.Text f) = text_status f
+part_status part.Memory = 4
 
 -- 1 for a journal that is illegal, 2 for words, texts and rules that are refused, 3 for a file or a device that failed, 4 where memory was refused
 abbrev pub status_of : Fault → ℕ
@@ -36,6 +45,7 @@ status_of (First n) = 2
 status_of (Limit n) = 2
 status_of (Lines n) = 2
 status_of (Illegal line) = 1
+status_of (Part path f) = part_status f
 
 -- a program whose words are refused ends so
 abbrev pub fault_of_words : OptionFault → Fault

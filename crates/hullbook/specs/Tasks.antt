@@ -1,12 +1,13 @@
 -- What an accepted command line asks for: only numbers within their limits.
 use Rattle.std.specs.Prelude.{◌≡◌, ◌≤◌, ℕ, List, map, slice_get, IfSome, Some, string_bytes}
+use Rattle.std.specs.List.{All}
 use Rattle.std.specs.Borrow.{Bor}
 use Rattle.hull_plain.specs.declared.TheConstants.{POINT_LIMIT}
 use Rattle.hull_book.specs.declared.limits.TheConstants.{CAPACITY_LIMIT}
 use Rattle.hullbook.specs.declared.options.Options.{Options}
 use Rattle.hullbook.specs.declared.options.Stated.{Stated}
 use Rattle.hullbook.specs.declared.options.Task.{Task}
-use Rattle.hullbook.specs.declared.options.Task.TheVariants.{Run, RunAfter, Check, Upgrade, Compact}
+use Rattle.hullbook.specs.declared.options.Task.TheVariants.{Run, RunAfter, Check, CheckParts, Upgrade, Compact}
 
 -- the numbers of a run are within their limits
 pub record AreWithinLimits (o : Options) : Type 0 where
@@ -25,6 +26,7 @@ abbrev pub IsWithinLimits : Task → Type 0
 IsWithinLimits (Run path o) = AreWithinLimits o
 IsWithinLimits (RunAfter script journal s) = AreStatedWithinLimits s
 IsWithinLimits (Check path explains) = Unit {0}
+IsWithinLimits (CheckParts paths) = Unit {0}
 IsWithinLimits (Upgrade path) = Unit {0}
 IsWithinLimits (Compact path) = Unit {0}
 
@@ -41,5 +43,6 @@ abbrev pub NamesWords : List (List ℕ) → Task → Type 0
 NamesWords texts (Run path o) = IsOneOf texts (string_bytes path)
 NamesWords texts (RunAfter script journal s) = IsOneOf texts (string_bytes script) × IsOneOf texts (string_bytes journal)
 NamesWords texts (Check path explains) = IsOneOf texts (string_bytes path)
+NamesWords texts (CheckParts paths) = All (λ path. IsOneOf texts (string_bytes path)) paths.items
 NamesWords texts (Upgrade path) = IsOneOf texts (string_bytes path)
 NamesWords texts (Compact path) = IsOneOf texts (string_bytes path)

@@ -1,10 +1,11 @@
 ghost use Rattle.std.specs.Prelude.{◌≡◌, ◌≢◌};
 ghost use Rattle.std.specs.IoError.{error_kind};
 ghost use Rattle.hullbook.specs.Faults.{fault_of_after, fault_of_compact, fault_of_engine, fault_of_refusal};
-ghost use Rattle.hullbook.specs.Faults.{fault_of_upgrade, fault_of_words, status_of, text_status};
+ghost use Rattle.hullbook.specs.Faults.{fault_of_upgrade, fault_of_words, part_status, status_of, text_status};
 
 use crate::after::AfterFault;
 use crate::options::OptionFault;
+use crate::parts::PartFault;
 use crate::run::RunFault;
 use hull_book::CompactRefusal;
 use hull_text::{CompactFault, FaultKind, TextFault, UpgradeFault};
@@ -39,6 +40,9 @@ pub enum Fault {
     /// The journal is illegal; the first wrong line of its text.
     #[error("hullbook: illegal {0}")]
     Illegal(u64),
+    /// A part of a journal, which is at this path, was not judged.
+    #[error("hullbook: {0}: {1}")]
+    Part(String, PartFault),
     /// Another first number was stated than that of the journal, which is this one.
     #[error("hullbook: the journal's first number is {0}")]
     First(u64),
@@ -59,6 +63,17 @@ fn text_status(fault: &TextFault) -> u8
         Some(FaultKind::NoMemory) => 4,
         Some(_) => 2,
         None => 2,
+    }
+}
+
+/// The exit status of a program that ends with this fault of a part.
+fn part_status(fault: &PartFault) -> u8
+    ensures { result ≡ part_status fault.now }
+{
+    match fault {
+        PartFault::Open => 3,
+        PartFault::OpenMemory | PartFault::Memory => 4,
+        PartFault::Text(fault) => text_status(fault),
     }
 }
 
@@ -86,6 +101,7 @@ impl Fault {
             Fault::Open | Fault::Write => 3,
             Fault::Memory => 4,
             Fault::Text(fault) | Fault::Journal(fault) => text_status(fault),
+            Fault::Part(_, fault) => part_status(fault),
         }
     }
 }

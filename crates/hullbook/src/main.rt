@@ -1,5 +1,5 @@
-//! `hullbook`: runs a script of calls on a shared convex hull, checks a journal of such a run, makes it short, and
-//! upgrades old journals.
+//! `hullbook`: runs a script of calls on a shared convex hull, checks a journal of such a run, whole or in parts, makes it
+//! short, and upgrades old journals.
 #![tactic(auto)]
 
 ghost use Rattle.std.specs.Prelude.{IfOk};
@@ -10,9 +10,13 @@ mod check;
 mod explain;
 mod fault;
 mod options;
+mod part_files;
+mod parts;
+mod progress;
 mod run;
 #[cfg(test)]
 mod tests;
+mod watched;
 
 use after::run_after;
 use check::check_text;
@@ -20,6 +24,9 @@ use explain::{Unexplained, explain};
 use fault::Fault;
 use hull_text::{compact, upgrade};
 use options::{OptionFault, Options, Stated, Task, options};
+use part_files::PartFiles;
+use parts::{PartsFault, check_parts};
+use progress::{Progress, TerminalLine};
 use run::run;
 use std::alloc::Global;
 use std::io::{BufWriter, Printer};
@@ -29,6 +36,7 @@ use std::sync::Wait;
 use std::thread::Threads;
 use std::{env, fs, io};
 use text_io::Counted;
+use watched::Watched;
 
 /// The bytes that are gathered before they are written.
 const WRITE_BLOCK: usize = 65536;
@@ -69,34 +77,45 @@ fn run_file<R: Threads + Wait + Sync + Files + Print + AllocGlobal>(
 }
 
 /// Runs the script at the path on the book that goes on with the journal at the other, and writes to standard output.
-fn run_files<R: Threads + Wait + Sync + Files + Print + AllocGlobal>(
+fn run_files<R: Threads + Wait + Sync + Files + Print + AllocGlobal, P: Progress>(
     rt: &R,
     path: &str,
     journal: &str,
     stated: &Stated,
+    progress: &P,
 ) -> Result<(), Fault>
     requires { AreStatedWithinLimits stated.now }
 {
     let file = fs::open(rt, path).map_err(|error| Fault::of_system(&error, Fault::Open))?;
     let old = fs::open(rt, journal).map_err(|error| Fault::of_system(&error, Fault::Open))?;
     let mut input = Counted::new(file);
-    let mut before = Counted::new(old);
+    let mut before = Counted::new(Watched::new(old, progress));
     let mut output = Counted::new(block_writer(rt)?);
-    run_after(rt, rt.alloc(), &mut input, &mut before, &mut output, stated).map_err(Fault::from)
+    run_after(
+        rt,
+        rt.alloc(),
+        &mut input,
+        &mut before,
+        &mut output,
+        stated,
+        progress,
+    )
+    .map_err(Fault::from)
 }
 
 /// Checks the journal at the path and writes to standard output, and where it is illegal tells why on standard error, if
 /// so. `true` for legal.
-fn check_file<R: Files + Print + AllocGlobal, E: Print>(
+fn check_file<R: Files + Print + AllocGlobal, E: Print, P: Progress>(
     rt: &R,
     error: &E,
     path: &str,
     explains: bool,
+    progress: &P,
 ) -> Result<bool, Fault> {
     let file = fs::open(rt, path).map_err(|error| Fault::of_system(&error, Fault::Open))?;
-    let mut input = Counted::new(file);
+    let mut input = Counted::new(Watched::new(file, progress));
     let mut output = Counted::new(io::writer(rt));
-    let checked = check_text(rt.alloc(), &mut input, &mut output).map_err(Fault::from)?;
+    let checked = check_text(rt.alloc(), &mut input, &mut output, progress).map_err(Fault::from)?;
     let Some(place) = checked.wrong else {
         return Ok(true);
     };
@@ -110,26 +129,54 @@ fn check_file<R: Files + Print + AllocGlobal, E: Print>(
     Ok(false)
 }
 
+/// Checks the parts of a journal at the paths and writes to standard output. `true` for legal.
+fn check_files<R: Files + Print + AllocGlobal, P: Progress>(
+    rt: &R,
+    mut paths: Vec<String>,
+    progress: &P,
+) -> Result<bool, Fault> {
+    let mut output = Counted::new(io::writer(rt));
+    let checked = check_parts(
+        rt.alloc(),
+        &PartFiles::new(rt, &paths, progress),
+        &mut output,
+    );
+    match checked {
+        Ok(wrong) => Ok(wrong.is_none()),
+        Err(PartsFault::Part(part, fault)) => Err(Fault::Part(paths.swap_remove(part), fault)),
+        Err(PartsFault::Write) => Err(Fault::Write),
+    }
+}
+
 /// Writes the journal at the path to standard output, in the newest version that has its rules.
-fn upgrade_file<R: Files + Print + AllocGlobal>(rt: &R, path: &str) -> Result<(), Fault> {
+fn upgrade_file<R: Files + Print + AllocGlobal, P: Progress>(
+    rt: &R,
+    path: &str,
+    progress: &P,
+) -> Result<(), Fault> {
     let file = fs::open(rt, path).map_err(|error| Fault::of_system(&error, Fault::Open))?;
-    let mut input = Counted::new(file);
+    let mut input = Counted::new(Watched::new(file, progress));
     let mut output = Counted::new(block_writer(rt)?);
     upgrade(rt.alloc(), &mut input, &mut output).map_err(Fault::from)
 }
 
 /// Writes to standard output a short journal that leaves the same points as the journal at the path.
-fn compact_file<R: Files + Print + AllocGlobal>(rt: &R, path: &str) -> Result<(), Fault> {
+fn compact_file<R: Files + Print + AllocGlobal, P: Progress>(
+    rt: &R,
+    path: &str,
+    progress: &P,
+) -> Result<(), Fault> {
     let file = fs::open(rt, path).map_err(|error| Fault::of_system(&error, Fault::Open))?;
-    let mut input = Counted::new(file);
+    let mut input = Counted::new(Watched::new(file, progress));
     let mut output = Counted::new(block_writer(rt)?);
     compact(rt.alloc(), &mut input, &mut output).map_err(Fault::from)
 }
 
 /// Does what the words after the program's name ask for. `false` for an illegal journal.
-fn work<R: Threads + Wait + Sync + Env + Files + Print + AllocGlobal, E: Print>(
+fn work<R: Threads + Wait + Sync + Env + Files + Print + AllocGlobal, E: Print, P: Progress>(
     rt: &R,
     error: &E,
+    progress: &P,
 ) -> Result<bool, Fault> {
     match task_of(rt)? {
         Task::Run(path, options) => {
@@ -137,26 +184,30 @@ fn work<R: Threads + Wait + Sync + Env + Files + Print + AllocGlobal, E: Print>(
             Ok(true)
         }
         Task::RunAfter(path, journal, stated) => {
-            run_files(rt, &path, &journal, &stated)?;
+            run_files(rt, &path, &journal, &stated, progress)?;
             Ok(true)
         }
-        Task::Check(path, explains) => check_file(rt, error, &path, explains),
+        Task::Check(path, explains) => check_file(rt, error, &path, explains, progress),
+        Task::CheckParts(paths) => check_files(rt, paths, progress),
         Task::Upgrade(path) => {
-            upgrade_file(rt, &path)?;
+            upgrade_file(rt, &path, progress)?;
             Ok(true)
         }
         Task::Compact(path) => {
-            compact_file(rt, &path)?;
+            compact_file(rt, &path, progress)?;
             Ok(true)
         }
     }
 }
 
 fn main(rt: HostRuntime) -> ExitCode {
-    match work(&rt, &rt.stderr()) {
+    let error = rt.stderr();
+    let line = TerminalLine::new(&rt, &error);
+    match work(&rt, &error, &line) {
         Ok(true) => ExitCode::SUCCESS,
         Ok(false) => ExitCode::from(1),
         Err(fault) => {
+            line.wiped();
             let status = fault.status();
             let _ = eprintln!(rt; "{fault}");
             ExitCode::from(status)

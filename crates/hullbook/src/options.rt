@@ -43,6 +43,8 @@ pub enum Task {
     RunAfter(String, String, Stated),
     /// To check the journal at this path, and where it is illegal to tell why, if so.
     Check(String, bool),
+    /// To check the parts of one journal at these paths, in this order.
+    CheckParts(Vec<String>),
     /// To write the journal at this path in the newest version that has its rules.
     Upgrade(String),
     /// To write a short journal that leaves the same points as the journal at this path.

@@ -4,11 +4,14 @@ ghost use Rattle.hullbook.specs.Tasks.{AreWithinLimits};
 mod afters;
 mod answers;
 mod checks;
+mod parts;
 mod refused;
 
 use crate::check::check_text;
 use crate::fault::Fault;
 use crate::options::{OptionFault, Options, Stated, Task, options};
+use crate::parts::PartFault;
+use crate::progress::Progress;
 use crate::run::{RunFault, run};
 use hull_text::{TextFault, UpgradeFault, WriteFault};
 use std::alloc::Global;
@@ -19,6 +22,17 @@ use std::test::Fail;
 use std::thread::Threads;
 use text_io::Counted;
 use text_io::testing::{Pieces, Spout};
+
+/// Tells nobody.
+struct Silence;
+
+impl Progress for Silence {
+    fn read(&self, _bytes: usize) {}
+
+    fn replayed(&self) {}
+
+    fn wiped(&self) {}
+}
 
 const PLAIN: Options = Options {
     capacity: 65536,
@@ -70,7 +84,7 @@ fn ends<R: Threads + Wait + Sync>(
 fn judges(alloc: Global, journal: &str, wanted: &str) -> Result<Option<bool>, Fail> {
     let mut input = Counted::new(Pieces::new(journal.as_bytes(), 7));
     let mut output = Counted::new(Spout::new(alloc, 64, 5)?);
-    let ended = check_text(alloc, &mut input, &mut output);
+    let ended = check_text(alloc, &mut input, &mut output, &Silence);
     if output.get_ref().bytes() != wanted.as_bytes() {
         return Ok(None);
     }
@@ -289,6 +303,14 @@ fn words_of_a_check(rt: HostRuntime) -> Result<(), Fail> {
         return Err(Fail::new("other words"));
     };
     assert_eq!(rt; (path.as_str(), explains), ("x", true));
+    let Ok(Task::CheckParts(paths)) = options(rt.alloc(), &["check", "y", "x", "y"]) else {
+        return Err(Fail::new("other words"));
+    };
+    assert_eq!(rt; paths.len(), 3);
+    assert_eq!(rt;
+        (paths[0].as_str(), paths[1].as_str(), paths[2].as_str()),
+        ("y", "x", "y")
+    );
     Ok(())
 }
 
@@ -322,6 +344,7 @@ fn words_that_are_refused(rt: HostRuntime) -> Result<(), Fail> {
     assert!(rt; is_refused(rt.alloc(), &["run", "x", "--limit", "1048577"]));
     assert!(rt; is_refused(rt.alloc(), &["run", "x", "--first", "18446744073709551616"]));
     assert!(rt; is_refused(rt.alloc(), &["check", "x", "--journal"]));
+    assert!(rt; is_refused(rt.alloc(), &["check", "x", "y", "--explain"]));
     assert!(rt; is_refused(rt.alloc(), &["upgrade"]));
     assert!(rt; is_refused(rt.alloc(), &["upgrade", "x", "--journal"]));
     assert!(rt; is_refused(rt.alloc(), &["compact"]));
@@ -419,6 +442,10 @@ fn faults_have_their_statuses(rt: HostRuntime) -> Result<(), Fail> {
     assert_eq!(rt; Fault::First(0).status(), 2);
     assert_eq!(rt; Fault::Limit(4).status(), 2);
     assert_eq!(rt; Fault::Lines(3).status(), 2);
+    assert_eq!(rt;
+        Fault::Part(String::new(rt.alloc()), PartFault::Open).status(),
+        3
+    );
     assert_eq!(rt;
         Fault::Journal(TextFault { number: 7, line: 1 }).status(),
         2

@@ -72,7 +72,7 @@ pub fn try_open<S: HullSet + Drop>(alloc: Global, set: S) -> Result<Stage, &'sta
 }
 
 /// Has one call of seat 0 served.
-fn serve<S: HullSet + Drop>(
+pub fn serve<S: HullSet + Drop>(
     book: &mut Book<S>,
     ledgers: &mut Vec<Ledger>,
     call: Call,
@@ -145,18 +145,18 @@ pub fn lists(answer: &Answer, points: &[Point]) -> bool {
     }
 }
 
-/// A legal journal of two lines, whose replay asks for memory twice.
-fn journal_of(alloc: Global, p: Point) -> Result<Option<Journal>, AllocError> {
+/// A legal journal of two lines, whose replay asks for memory twice; `None` for a limit that no journal has.
+pub fn journal_of(alloc: Global, p: Point, limit: u32) -> Result<Option<Journal>, AllocError> {
     let list = PointList::new(Vec::from_array(alloc, [p])?);
     let add = Line::new(7, 0, Call::Add(p), Reply::Added);
     let ask = Line::new(8, 0, Call::Vertices, Reply::VertexList(list));
     let lines = Vec::from_array(alloc, [add, ask])?;
-    Ok(Journal::new(7, 4, 4, lines, Rules::Counted))
+    Ok(Journal::new(7, limit, 4, lines, Rules::Counted))
 }
 
 /// Checks a journal.
 pub fn try_check(alloc: Global, p: Point) -> Result<Stage, &'static str> {
-    let Ok(journal) = journal_of(alloc, p) else {
+    let Ok(journal) = journal_of(alloc, p, 4) else {
         return Ok(Stage::SetUp);
     };
     let Some(journal) = journal else {

@@ -12,6 +12,8 @@
 
 mod books;
 mod findings;
+mod journals;
+mod later;
 mod locks;
 mod phases;
 mod sets;
@@ -30,7 +32,7 @@ use std::sync::Wait;
 use std::thread::Threads;
 
 /// The names of the trials, in the order in which they are made without a name.
-const NAMES: [&str; 21] = [
+const NAMES: [&str; 29] = [
     "plain_add",
     "tree_add",
     "plain_again",
@@ -52,6 +54,14 @@ const NAMES: [&str; 21] = [
     "script",
     "journal",
     "upgrade",
+    "plain_later_phase",
+    "tree_later_phase",
+    "plain_reopen",
+    "tree_reopen",
+    "plain_drain",
+    "tree_drain",
+    "parts",
+    "compact",
 ];
 
 /// Makes the trial of that name; `None` where there is no such trial.
@@ -83,6 +93,14 @@ fn trial<R: Threads + Wait + Sync>(
         "script" => texts::try_script(alloc, 1),
         "journal" => texts::try_journal(alloc, 1),
         "upgrade" => texts::try_upgrade(alloc, 1),
+        "plain_later_phase" => later::try_later(rt, alloc, PlainSet::new(alloc, 12)),
+        "tree_later_phase" => later::try_later(rt, alloc, HullTree::new(alloc, 12)),
+        "plain_reopen" => journals::try_reopen(alloc, PlainSet::new(alloc, 12), p),
+        "tree_reopen" => journals::try_reopen(alloc, HullTree::new(alloc, 12), p),
+        "plain_drain" => journals::try_drain(alloc, PlainSet::new(alloc, 12), p),
+        "tree_drain" => journals::try_drain(alloc, HullTree::new(alloc, 12), p),
+        "parts" => journals::try_parts(alloc),
+        "compact" => journals::try_compact(alloc, 1),
         _ => return None,
     })
 }

@@ -22,9 +22,9 @@ use text_io::testing::Pieces;
 /// What the worker does.
 const SCRIPT: &[u8] = b"0 add 0 0\n0 add 1 1\n0 vertices\n0 count\n";
 
-/// The script; `None` where memory is refused to its reader.
-fn script(alloc: Global) -> Option<Script> {
-    read_script(alloc, &mut Counted::new(Pieces::new(SCRIPT, 4096))).ok()
+/// The script of this text; `None` where memory is refused to its reader.
+pub fn script_of(alloc: Global, text: &[u8]) -> Option<Script> {
+    read_script(alloc, &mut Counted::new(Pieces::new(text, 4096))).ok()
 }
 
 /// Which call was refused memory, as the worker's answers tell; `None` where they are none of those that may be.
@@ -55,7 +55,7 @@ pub fn try_workers<S: HullSet + Drop>(alloc: Global, set: S) -> Result<Stage, &'
     requires empty { S.held set ≡ nothing_held }
 {
     let mut findings = Findings::new();
-    let Some(script) = script(alloc) else {
+    let Some(script) = script_of(alloc, SCRIPT) else {
         return Ok(Stage::SetUp);
     };
     let Ok((book, ledgers)) = Book::open(alloc, set, 7, 4, script.workers()) else {
@@ -112,7 +112,11 @@ fn judge<S: HullSet + Drop>(
 
 /// A book over the set, and workers that may run the script; `None` where memory is refused to them.
 #[tactic(auto, using(hull_pool::proofs::Fronts::few_each))]
-fn prepared<S: HullSet + Drop>(alloc: Global, set: S, script: &Script) -> Option<(Book<S>, Workers)>
+pub fn prepared<S: HullSet + Drop>(
+    alloc: Global,
+    set: S,
+    script: &Script,
+) -> Option<(Book<S>, Workers)>
     requires empty { S.held set ≡ nothing_held }
     ensures { IfSome result (λ r. MayRunAll S.HullSet r.0 r.1 script.now.phases) }
 {
@@ -137,7 +141,7 @@ pub fn try_phases<R: Threads + Wait + Sync, S: HullSet + Drop + Send + Sync>(
     requires empty { S.held set ≡ nothing_held }
 {
     let mut findings = Findings::new();
-    let Some(script) = script(alloc) else {
+    let Some(script) = script_of(alloc, SCRIPT) else {
         return Ok(Stage::SetUp);
     };
     let Some((book, workers)) = prepared(alloc, set, &script) else {
@@ -241,7 +245,7 @@ pub fn try_phase<R: Threads + Wait + Sync, S: HullSet + Drop + Send + Sync>(
 ) -> Result<Stage, &'static str>
     requires empty { S.held set ≡ nothing_held }
 {
-    let Some(script) = script(alloc) else {
+    let Some(script) = script_of(alloc, SCRIPT) else {
         return Ok(Stage::SetUp);
     };
     if script.phases().is_empty() {

@@ -7,11 +7,13 @@ pub enum Stage {
     SetUp,
     /// In what is tried.
     Refused,
+    /// In the second phase of a script, behind a first one that ran whole.
+    LaterPhase,
     /// In the first call of a run of phases.
     FirstAdd,
     /// In the second.
     SecondAdd,
-    /// In the third, to either list.
+    /// In the call for the vertices, to either list.
     Vertices,
     /// Nowhere that the trial needs.
     Whole,
@@ -22,6 +24,7 @@ impl fmt::Display for Stage {
         f.write_str(match self {
             Stage::SetUp => "set-up",
             Stage::Refused => "refused",
+            Stage::LaterPhase => "later phase",
             Stage::FirstAdd => "first add",
             Stage::SecondAdd => "second add",
             Stage::Vertices => "vertices",

@@ -14,7 +14,7 @@ const JOURNAL: &[u8] =
     b"hullbook journal 1 first 0 limit 4 capacity 4\n0 0 add 3 4 = added\n1 0 vertices = list 1 3 4\nend 2\n";
 
 /// Whether the fault tells want of memory, in one of the lines or behind the last.
-fn is_memory(fault: TextFault, lines: u32) -> bool {
+pub fn is_memory(fault: TextFault, lines: u32) -> bool {
     fault.number == 10 && 1 <= fault.line && fault.line <= lines.saturating_add(1)
 }
 

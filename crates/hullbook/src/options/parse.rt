@@ -1,6 +1,7 @@
-ghost use Rattle.std.specs.Prelude.{◌≤◌, ◌↔◌, IfOk, IfSome, IsTrue, string_bytes};
+ghost use Rattle.std.specs.Prelude.{◌≡◌, ◌≤◌, ◌↔◌, IfOk, IfSome, IsTrue, string_bytes};
 ghost use Rattle.hullbook.specs.Tasks.{AreStatedWithinLimits, AreWithinLimits, IsWithinLimits, IsOneOf, NamesWords};
 ghost use Rattle.hullbook.specs.Tasks.{texts_of};
+ghost use Rattle.std.specs.List.{All};
 
 use super::{OptionFault, Options, Stated, Task};
 use clap::error::ErrorKind;
@@ -59,12 +60,15 @@ fn journal_command<'a>(alloc: Global, name: &'a str) -> Result<Command<'a>, Allo
     Command::new(alloc, name).arg(journal)
 }
 
-/// The command that checks a journal.
+/// The command that checks a journal, or the parts of one.
 fn check_command<'a>(alloc: Global) -> Result<Command<'a>, AllocError> {
-    let explain = Arg::new(alloc, "explain")
-        .long("explain")
-        .action(ArgAction::SetTrue);
-    journal_command(alloc, "check")?.arg(explain)
+    let parts = Arg::new(alloc, "part")
+        .required(true)
+        .num_args(1..)
+        .action(ArgAction::Append);
+    Command::new(alloc, "check")
+        .arg(parts)?
+        .arg(flag(alloc, "explain"))
 }
 
 fn command<'a>(alloc: Global) -> Result<Command<'a>, AllocError> {
@@ -134,8 +138,20 @@ fn options_of(stated: &Stated) -> Options
     }
 }
 
-/// The path that was given under this id, as it was written: it is found among the words, so that the contract can say
-/// so.
+/// This path, as it was written: it is found among the words, so that the contract can say so.
+fn word_of(alloc: Global, path: &str, words: &[&str]) -> Result<String, OptionFault>
+    ensures word { IfOk result (λ word. IsOneOf (texts_of words.now) (string_bytes word)) }
+    ensures same { IfOk result (λ word. string_bytes word ≡ path.now) }
+{
+    for word in words {
+        if *word == path {
+            return String::from_str(alloc, word).map_err(|_| OptionFault::Memory);
+        }
+    }
+    Err(OptionFault::Usage)
+}
+
+/// The path that was given under this id, as it was written.
 fn path_of(
     alloc: Global,
     matches: &ArgMatches<'_>,
@@ -147,12 +163,7 @@ fn path_of(
     let Some(path) = matches.get_str(id) else {
         return Err(OptionFault::Usage);
     };
-    for word in words {
-        if *word == path {
-            return String::from_str(alloc, word).map_err(|_| OptionFault::Memory);
-        }
-    }
-    Err(OptionFault::Usage)
+    word_of(alloc, path, words)
 }
 
 /// What the words behind `run` ask for.
@@ -171,8 +182,40 @@ fn run_task(alloc: Global, given: &ArgMatches<'_>, words: &[&str]) -> Result<Tas
     Ok(Task::RunAfter(script, journal, stated))
 }
 
+/// The paths in their order, as they were written.
+fn words_of(alloc: Global, paths: &[&str], words: &[&str]) -> Result<Vec<String>, OptionFault>
+    ensures { IfOk result (λ found. All (λ word. IsOneOf (texts_of words.now) (string_bytes word)) found.items) }
+{
+    let mut found = Vec::new(alloc);
+    for path in paths {
+        let word = word_of(alloc, path, words)?;
+        if found.push(word).is_err() {
+            return Err(OptionFault::Memory);
+        }
+    }
+    Ok(found)
+}
+
+/// What the words behind `check` ask for. Of one path a wrong line can be explained.
+fn check_task(alloc: Global, given: &ArgMatches<'_>, words: &[&str]) -> Result<Task, OptionFault>
+    ensures limits { IfOk result IsWithinLimits }
+    ensures paths { IfOk result (NamesWords (texts_of words.now)) }
+{
+    let Some(paths) = given.get_strs("part") else {
+        return Err(OptionFault::Usage);
+    };
+    let explains = given.get_flag("explain");
+    if let [path] = paths {
+        return Ok(Task::Check(word_of(alloc, path, words)?, explains));
+    }
+    if explains {
+        return Err(OptionFault::Usage);
+    }
+    Ok(Task::CheckParts(words_of(alloc, paths, words)?))
+}
+
 /// What the words after the program's name ask for: `run SCRIPT` with its options, `check JOURNAL` with `--explain` or
-/// without, `upgrade JOURNAL`, or `compact JOURNAL`.
+/// without, `check` with two parts of a journal or more, `upgrade JOURNAL`, or `compact JOURNAL`.
 ///
 /// Each path is one of the words, as it was written. `Usage` for any other words and for a number outside its limits; a
 /// question for help counts as one. `Memory` where memory was refused.
@@ -189,10 +232,7 @@ pub fn options(alloc: Global, words: &[&str]) -> Result<Task, OptionFault>
     };
     match matches.subcommand() {
         Some(("run", given)) => run_task(alloc, given, words),
-        Some(("check", given)) => {
-            let journal = path_of(alloc, given, "journal", words)?;
-            Ok(Task::Check(journal, given.get_flag("explain")))
-        }
+        Some(("check", given)) => check_task(alloc, given, words),
         Some(("upgrade", given)) => Ok(Task::Upgrade(path_of(alloc, given, "journal", words)?)),
         Some(("compact", given)) => Ok(Task::Compact(path_of(alloc, given, "journal", words)?)),
         _ => Err(OptionFault::Usage),

@@ -1,4 +1,5 @@
 //! How a run after a journal ends where an input or the output is at fault.
+use super::Silence;
 use crate::after::{AfterFault, run_after};
 use crate::options::Stated;
 use hull_text::TextFault;
@@ -36,7 +37,15 @@ fn ends<R: Threads + Wait + Sync>(
     let mut input = Counted::new(Pieces::new(SCRIPT.as_bytes(), 7).failing_at(reads.0));
     let mut before = Counted::new(Pieces::new(journal.as_bytes(), 7).failing_at(reads.1));
     let mut output = Counted::new(Spout::new(alloc, 4096, 5)?.failing_at(writes));
-    let ended = run_after(rt, alloc, &mut input, &mut before, &mut output, &OWN);
+    let ended = run_after(
+        rt,
+        alloc,
+        &mut input,
+        &mut before,
+        &mut output,
+        &OWN,
+        &Silence,
+    );
     let failures = output.failures();
     let read = before.failures();
     let written = output.get_ref().bytes().to_vec(alloc)?;

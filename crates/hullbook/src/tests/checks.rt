@@ -1,5 +1,5 @@
 //! How a check ends where its input or its output is at fault.
-use super::JOURNAL;
+use super::{JOURNAL, Silence};
 use crate::check::check_text;
 use crate::run::RunFault;
 use hull_text::TextFault;
@@ -18,7 +18,9 @@ fn ends(
 ) -> Result<(Result<bool, RunFault>, usize), Fail> {
     let mut input = Counted::new(Pieces::new(journal.as_bytes(), 7).failing_at(reads));
     let mut output = Counted::new(Spout::new(alloc, 64, 5)?.failing_at(writes));
-    let ended = check_text(alloc, &mut input, &mut output).map(|checked| checked.wrong.is_none());
+    let ended = check_text(alloc, &mut input, &mut output, &Silence).map(|checked| checked
+        .wrong
+        .is_none());
     Ok((ended, output.get_ref().bytes().len()))
 }
 
@@ -93,7 +95,7 @@ fn a_verdict_reaches_the_device_behind_a_block(rt: HostRuntime) -> Result<(), Fa
         let mut input = Counted::new(Pieces::new(journal.as_bytes(), 7));
         let device = Spout::new(rt.alloc(), 64, 64)?;
         let mut output = Counted::new(BufWriter::with_capacity(rt.alloc(), 64, device)?);
-        assert!(rt; check_text(rt.alloc(), &mut input, &mut output).is_ok());
+        assert!(rt; check_text(rt.alloc(), &mut input, &mut output, &Silence).is_ok());
         assert_eq!(rt; output.get_ref().get_ref().bytes(), wanted.as_bytes());
     }
     Ok(())

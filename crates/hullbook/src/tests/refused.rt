@@ -1,5 +1,5 @@
 //! Memory that is refused. `rt try --test --fail-alloc N` refuses the Nth allocation of each test.
-use super::{FIVE, FIVE_REPORT, JOURNAL, PLAIN, judges, runs_to};
+use super::{FIVE, FIVE_REPORT, JOURNAL, PLAIN, Silence, judges, runs_to};
 use crate::check::check_text;
 use crate::options::{OptionFault, options};
 use crate::run::{RunFault, run};
@@ -73,7 +73,7 @@ fn refused_memory_run(rt: HostRuntime) -> Result<(), Fail> {
 fn refused_memory_check(rt: HostRuntime) -> Result<(), Fail> {
     let mut input = Counted::new(Pieces::new(JOURNAL.as_bytes(), 1));
     let mut output = Counted::new(spout(&rt, rt.alloc()));
-    let ended = check_text(rt.alloc(), &mut input, &mut output);
+    let ended = check_text(rt.alloc(), &mut input, &mut output, &Silence);
     let written = output.get_ref().bytes();
     match ended {
         Ok(checked) => {

@@ -1,0 +1,127 @@
+//! How far a long run is: a line on a terminal, which renews itself and is wiped at the end.
+use std::cell::Cell;
+use std::fmt;
+use std::io::IsTerminal;
+use std::time::{Clock, Instant};
+
+/// How long a run is silent, in milliseconds.
+const PATIENCE: u64 = 2000;
+
+/// How long a line stands before it is renewed, in milliseconds.
+const RENEWAL: u64 = 200;
+
+/// So many calls are replayed between two looks at the clock.
+const CALLS_A_LOOK: u64 = 1024;
+
+/// What is told how far a run is. No contract speaks of what comes of it.
+pub trait Progress {
+    /// So many bytes more were read; none where the text ends, behind which other words may be written.
+    fn read(&self, bytes: usize);
+
+    /// One call more was replayed.
+    fn replayed(&self);
+
+    /// Nothing more comes for now: what stands on the terminal is wiped.
+    fn wiped(&self);
+}
+
+/// How much was done.
+#[derive(Clone, Copy)]
+struct Done {
+    bytes: u64,
+    calls: u64,
+}
+
+impl fmt::Display for Done {
+    fn fmt<W: fmt::Write>(&self, f: &mut fmt::Formatter<W>) -> fmt::Result {
+        write!(f, "hullbook: {} MB read", self.bytes / 1000000)?;
+        if self.calls > 0 {
+            write!(f, ", {} calls replayed", self.calls)?;
+        }
+        Ok(())
+    }
+}
+
+/// A line on a terminal, which tells how much was read and replayed where that takes longer than two seconds. Where it
+/// is no terminal, nothing is written.
+#[derive(Drop)]
+pub struct TerminalLine<'a, C, E> {
+    clock: &'a C,
+    device: &'a E,
+    begun: Option<Instant>,
+    bytes: Cell<u64>,
+    calls: Cell<u64>,
+    due: Cell<u64>,
+    stands: Cell<bool>,
+}
+
+impl<'a, C: Clock, E: Print + IsTerminal> TerminalLine<'a, C, E> {
+    /// The line on this device, of a run that begins now.
+    pub fn new(clock: &'a C, device: &'a E) -> TerminalLine<'a, C, E> {
+        let begun = if device.is_terminal() {
+            Instant::now(clock).ok()
+        } else {
+            None
+        };
+        TerminalLine {
+            clock,
+            device,
+            begun,
+            bytes: Cell::new(0),
+            calls: Cell::new(0),
+            due: Cell::new(PATIENCE),
+            stands: Cell::new(false),
+        }
+    }
+
+    /// Writes the line anew where it is time.
+    fn renew(&self) {
+        let Some(begun) = self.begun else {
+            return;
+        };
+        let Ok(passed) = begun.elapsed(self.clock) else {
+            return;
+        };
+        let seconds = passed.as_secs().saturating_mul(1000);
+        let passed = seconds.saturating_add(u64::from(passed.subsec_millis()));
+        if passed < self.due.get() {
+            return;
+        }
+        self.due.set(passed.saturating_add(RENEWAL));
+        self.stands.set(true);
+        let done = Done {
+            bytes: self.bytes.get(),
+            calls: self.calls.get(),
+        };
+        let device = self.device;
+        let _ = print!(device; "\r{done}\x1b[K");
+    }
+}
+
+impl<C: Clock, E: Print + IsTerminal> Progress for TerminalLine<'_, C, E> {
+    fn read(&self, bytes: usize) {
+        if bytes == 0 {
+            self.wiped();
+            return;
+        }
+        self.bytes
+            .set(self.bytes.get().saturating_add(bytes as u64));
+        self.renew();
+    }
+
+    fn replayed(&self) {
+        let calls = self.calls.get().saturating_add(1);
+        self.calls.set(calls);
+        if calls % CALLS_A_LOOK == 0 {
+            self.renew();
+        }
+    }
+
+    fn wiped(&self) {
+        if self.stands.get() {
+            self.stands.set(false);
+            let device = self.device;
+            let _ = print!(device; "\r\x1b[K");
+        }
+    }
+}

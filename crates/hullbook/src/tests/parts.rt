@@ -1,0 +1,103 @@
+//! A journal that comes in parts.
+ghost use Rattle.std.specs.Prelude.{map};
+ghost use Rattle.hullbook.specs.Parts.{any_files};
+
+use crate::parts::{PartFault, Parts, PartsFault, WrongLine, check_parts};
+use hull_text::TextFault;
+use std::alloc::Global;
+use std::io;
+use std::io::ErrorKind;
+use std::test::Fail;
+use text_io::Counted;
+use text_io::testing::{Pieces, Spout};
+
+const FIRST: &str =
+    "hullbook journal 3 first 7 limit 4 capacity 4\n7 0 add 0 0 = added\n8 1 add 4 0 = added\nend 2\n";
+
+const SECOND: &str =
+    "hullbook journal 3 first 9 limit 4 capacity 4\n9 0 add 0 0 = again 2\nend 1\n";
+
+const THIRD: &str = "hullbook journal 3 first 10 limit 4 capacity 4\n10 1 count = count 2\nend 1\n";
+
+/// Texts by their names. The parts behind the first are read by a device that fails at a call, and an empty one is not
+/// opened for want of memory.
+#[derive(Drop)]
+struct Texts<'a> {
+    names: &'a [&'a str],
+    texts: &'a [&'a str],
+    failing: u64,
+}
+
+impl<'a> Parts for Texts<'a> {
+    type Input = Counted<Pieces<'a>>;
+
+    ghost given = { λ parts. any_files (map (λ name. name.now) parts.names.now) };
+
+    fn count(&self) -> usize {
+        self.names.len()
+    }
+
+    fn name(&self, part: usize) -> &str {
+        self.names[part]
+    }
+
+    fn open(&self, part: usize) -> io::Result<Counted<Pieces<'a>>> {
+        let Some(text) = self.texts.get(part) else {
+            return Err(io::Error::from(ErrorKind::NotFound));
+        };
+        if text.is_empty() {
+            return Err(io::Error::from(ErrorKind::OutOfMemory));
+        }
+        let failing = if part == 0 { 0 } else { self.failing };
+        Ok(Counted::new(Pieces::new(text.as_bytes(), 7).failing_at(failing)))
+    }
+}
+
+// How a check of these parts ends, where it writes this.
+fn ends(
+    alloc: Global,
+    texts: &[&str],
+    failing: u64,
+    wanted: &str,
+) -> Result<Option<Result<Option<WrongLine>, PartsFault>>, Fail> {
+    let parts = Texts {
+        names: &["a", "b", "c"],
+        texts,
+        failing,
+    };
+    let mut output = Counted::new(Spout::new(alloc, 64, 5)?);
+    let ended = check_parts(alloc, &parts, &mut output);
+    Ok((output.get_ref().bytes() == wanted.as_bytes()).then_some(ended))
+}
+
+#[test]
+fn parts_are_judged(rt: HostRuntime) -> Result<(), Fail> {
+    let wrong = WrongLine { part: 2, place: 0 };
+    assert_eq!(rt;
+        ends(rt.alloc(), &[FIRST, SECOND, THIRD], 0, "legal\n")?,
+        Some(Ok(None))
+    );
+    assert_eq!(rt;
+        ends(rt.alloc(), &[FIRST, SECOND, SECOND], 0, "illegal 2 in c\n")?,
+        Some(Ok(Some(wrong)))
+    );
+    Ok(())
+}
+
+#[test]
+fn faults_of_parts_are_told(rt: HostRuntime) -> Result<(), Fail> {
+    let read = PartFault::Text(TextFault { number: 8, line: 1 });
+    assert_eq!(rt;
+        ends(rt.alloc(), &[FIRST, SECOND, THIRD], 2, "")?,
+        Some(Err(PartsFault::Part(1, read)))
+    );
+    assert_eq!(rt;
+        ends(rt.alloc(), &[FIRST, SECOND, ""], 0, "")?,
+        Some(Err(PartsFault::Part(2, PartFault::OpenMemory)))
+    );
+    assert_eq!(rt;
+        ends(rt.alloc(), &[FIRST, SECOND], 0, "")?,
+        Some(Err(PartsFault::Part(2, PartFault::Open)))
+    );
+    Ok(())
+}

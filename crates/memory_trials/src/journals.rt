@@ -1,0 +1,260 @@
+//! A journal is gone on with, made short, drained, and judged in parts.
+ghost use Rattle.std.specs.Prelude.{◌≡◌, ◌≤◌, IfSome, length};
+ghost use Rattle.hull_plain.specs.Held.{nothing_held};
+ghost use Rattle.hull_book.specs.Books.{IsGoneOnFrom, IsLawful};
+ghost use Rattle.hull_book.specs.declared.limits.TheConstants.{SEAT_LIMIT};
+ghost use Rattle.hull_book.specs.Ledgers.{AreLedgers};
+
+use crate::books::{give_up, journal_of};
+use crate::findings::Findings;
+use crate::stage::Stage;
+use crate::texts::is_memory;
+use hull_book::{
+    Answer, Book, BookFault, CompactRefusal, Journal, Ledger, LongBook, PartsChecker, ReplayFault,
+    Room, gather_long, replay,
+};
+use hull_plain::{Call, HullSet, Reply, Rules};
+use hull_text::{CompactFault, compact, read_journal};
+use lattice::Point;
+use std::alloc::Global;
+use text_io::Counted;
+use text_io::testing::{Pieces, Spout};
+
+/// The first part of a journal.
+const FIRST: &[u8] = b"hullbook journal 3 first 7 limit 4 capacity 4\n7 0 add 3 4 = added\nend 1\n";
+
+/// The second, whose replay asks for memory.
+const SECOND: &[u8] =
+    b"hullbook journal 3 first 8 limit 4 capacity 4\n8 0 vertices = list 1 3 4\nend 1\n";
+
+/// A journal of two lines.
+const LONG: &[u8] =
+    b"hullbook journal 3 first 7 limit 4 capacity 4\n7 0 add 3 4 = added\n8 0 vertices = list 1 3 4\nend 2\n";
+
+/// The short one that leaves the same point.
+const SHORT: &[u8] = b"hullbook journal 3 first 9 limit 4 capacity 4\n9 0 add 3 4 = added\nend 1\n";
+
+/// Whether the fault tells want of memory.
+fn is_want(fault: CompactFault) -> bool {
+    match fault {
+        CompactFault::Text(fault) => is_memory(fault, 4),
+        CompactFault::Refused(refusal) => refusal == CompactRefusal::NoMemory,
+        CompactFault::Write(_) => false,
+    }
+}
+
+/// Looks at a book that goes on with the journal of two lines, and gives it up.
+fn expect_reopened<S: HullSet + Drop>(book: Book<S>, ledgers: Vec<Ledger>, findings: &mut Findings)
+    requires lawful { IsLawful S.HullSet book }
+    requires ledgers { AreLedgers book ledgers.items }
+{
+    let seen = (
+        book.first(),
+        book.turn(),
+        book.lines().len(),
+        book.capacity(),
+    );
+    findings.expect(seen == (7, 9, 2, 6), "the book goes on with the journal");
+    give_up(book, ledgers, 2, findings);
+}
+
+/// Opens the book at the second attempt, with the set and the journal that came back.
+fn reopen_again<S: HullSet + Drop>(
+    alloc: Global,
+    set: S,
+    journal: Journal,
+    workers: u8,
+    findings: &mut Findings,
+)
+    requires goes_on { IsGoneOnFrom S.HullSet set workers journal }
+    requires some { 1 ≤ workers }
+    requires most { workers ≤ SEAT_LIMIT }
+{
+    let seen = (set.count(), journal.first(), journal.lines().len());
+    findings.expect(seen == (1, 7, 2), "set and journal come back");
+    match Book::reopen(alloc, set, journal, 6, workers) {
+        Ok((book, ledgers)) => expect_reopened(book, ledgers, findings),
+        Err(_) => findings.expect(false, "the next attempt has its memory"),
+    }
+}
+
+/// Opens a book that goes on with a journal of two lines. Where memory is refused, set and journal come back, and the
+/// next attempt opens it.
+pub fn try_reopen<S: HullSet + Drop>(alloc: Global, set: S, p: Point) -> Result<Stage, &'static str>
+    requires empty { S.held set ≡ nothing_held }
+{
+    let mut findings = Findings::new();
+    let Ok(made) = journal_of(alloc, p, set.limit()) else {
+        return Ok(Stage::SetUp);
+    };
+    let Some(journal) = made else {
+        return Err("the journal is within the limits");
+    };
+    let workers = journal.seats();
+    if journal.rules() == Rules::Set || workers == 0 || journal.limit() != set.limit() {
+        return Err("the journal is as it was made");
+    }
+    let set = match replay(set, journal.head(), journal.lines()) {
+        Ok(set) => set,
+        Err(ReplayFault::NoMemory) => return Ok(Stage::SetUp),
+        Err(ReplayFault::Wrong(_)) => return Err("the journal is legal"),
+    };
+    match Book::reopen(alloc, set, journal, 6, workers) {
+        Ok((book, ledgers)) => {
+            expect_reopened(book, ledgers, &mut findings);
+            findings.told(Stage::Whole)
+        }
+        Err((fault, set, journal)) => {
+            findings.expect(fault == BookFault::NoMemory, "the fault is want of memory");
+            reopen_again(alloc, set, journal, workers, &mut findings);
+            findings.told(Stage::Refused)
+        }
+    }
+}
+
+/// Has one call of seat 0 served.
+fn serve_long<S: HullSet + Drop>(
+    book: &mut LongBook<S>,
+    ledgers: &mut Vec<Ledger>,
+    call: Call,
+) -> Answer
+    requires lawful { IsLawful S.HullSet book.old.whole }
+    requires ledgers { AreLedgers book.old.whole ledgers.old.items }
+    requires some { 1 ≤ length ledgers.old.items }
+    ensures lawful { IsLawful S.HullSet book.new.whole }
+    ensures ledgers { AreLedgers book.new.whole ledgers.new.items }
+    ensures number { length ledgers.new.items ≡ length ledgers.old.items }
+    ensures room { book.new.capacity ≡ book.old.capacity }
+{
+    book.serve(0, call, &mut ledgers[0])
+}
+
+/// Drains a book by a call of seat 0; `None` where it is full.
+fn drain<S: HullSet + Drop>(
+    book: &mut LongBook<S>,
+    ledgers: &mut Vec<Ledger>,
+    call: Call,
+    room: Room,
+) -> Option<(Reply, Journal)>
+    requires lawful { IsLawful S.HullSet book.old.whole }
+    requires ledgers { AreLedgers book.old.whole ledgers.old.items }
+    requires some { 1 ≤ length ledgers.old.items }
+    requires room { book.old.capacity ≤ room }
+    ensures lawful { IsLawful S.HullSet book.new.whole }
+    ensures ledgers { AreLedgers book.new.whole ledgers.new.items }
+{
+    match book.drain(0, call, &mut ledgers[0], room) {
+        Ok(drained) => Some(drained),
+        Err(_) => None,
+    }
+}
+
+/// Room for four lines. Where memory is refused, nothing is taken out of the book, and the next attempt has it.
+fn reserve<S: HullSet + Drop>(
+    alloc: Global,
+    book: &LongBook<S>,
+    findings: &mut Findings,
+) -> (Stage, Option<Room>)
+    ensures { IfSome result.1 (λ room. 4 ≤ room) }
+{
+    match Room::reserve(alloc, 4) {
+        Ok(room) => (Stage::Whole, Some(room)),
+        Err(_) => {
+            let seen = (book.drained(), book.lines().len());
+            findings.expect(seen == (0, 1), "nothing is taken out");
+            (Stage::Refused, Room::reserve(alloc, 4).ok())
+        }
+    }
+}
+
+/// Gives up a book that was drained, and its ledgers, which have to sum to the two lines of the part.
+fn give_up_long<S: HullSet + Drop>(
+    book: LongBook<S>,
+    ledgers: Vec<Ledger>,
+    part: Option<Journal>,
+    findings: &mut Findings,
+)
+    requires lawful { IsLawful S.HullSet book.whole }
+    requires ledgers { AreLedgers book.whole ledgers.items }
+{
+    let seen = (book.drained(), book.turn(), book.lines().len());
+    findings.expect(seen == (2, 9, 0), "the book goes on behind the part");
+    let part = part.map(|part| (part.first(), part.lines().len()));
+    findings.expect(part == Some((7, 2)), "the part has all lines");
+    let sum = gather_long(&book, ledgers);
+    findings.expect(sum == 2, "the ledgers sum to the lines");
+    drop(book);
+}
+
+/// Drains a book of one line by the call that lists the vertices. Where memory is refused to the room, nothing is taken
+/// out, and the next attempt has it; where it is refused to the call, the part has its line all the same.
+pub fn try_drain<S: HullSet + Drop>(alloc: Global, set: S, p: Point) -> Result<Stage, &'static str>
+    requires empty { S.held set ≡ nothing_held }
+{
+    let mut findings = Findings::new();
+    let Ok((book, mut ledgers)) = Book::open(alloc, set, 7, 4, 1) else {
+        return Ok(Stage::SetUp);
+    };
+    let mut book = LongBook::new(book);
+    let added = serve_long(&mut book, &mut ledgers, Call::Add(p));
+    let (stage, room) = reserve(alloc, &book, &mut findings);
+    let drained = match room {
+        Some(room) => drain(&mut book, &mut ledgers, Call::Vertices, room),
+        None => None,
+    };
+    let (listed, part) = match drained {
+        Some((reply, part)) => (reply == Reply::NoMemory, Some(part)),
+        None => (false, None),
+    };
+    give_up_long(book, ledgers, part, &mut findings);
+    let stage = match added {
+        Ok(Reply::NoMemory) => Stage::SetUp,
+        _ if listed => Stage::Vertices,
+        _ => stage,
+    };
+    findings.told(stage)
+}
+
+/// The number behind the two parts, where they are those of a legal journal.
+fn judged(alloc: Global, first: &Journal, second: &Journal) -> Result<u64, ReplayFault> {
+    let checker = PartsChecker::new(alloc, first).check_next(first)?;
+    Ok(checker.check_next(second)?.next())
+}
+
+/// Judges two parts. Where memory is refused, the next attempt begins with the first.
+pub fn try_parts(alloc: Global) -> Result<Stage, &'static str> {
+    let mut findings = Findings::new();
+    let first = read_journal(alloc, &mut Counted::new(Pieces::new(FIRST, 4096)));
+    let second = read_journal(alloc, &mut Counted::new(Pieces::new(SECOND, 4096)));
+    let (Ok(first), Ok(second)) = (first, second) else {
+        return Ok(Stage::SetUp);
+    };
+    let (stage, found) = match judged(alloc, &first, &second) {
+        Err(ReplayFault::NoMemory) => (Stage::Refused, judged(alloc, &first, &second)),
+        found => (Stage::Whole, found),
+    };
+    findings.expect(found == Ok(9), "the parts are legal");
+    findings.told(stage)
+}
+
+/// Makes the text of a journal short, in pieces of that size.
+pub fn try_compact(alloc: Global, size: usize) -> Result<Stage, &'static str> {
+    let mut findings = Findings::new();
+    let Ok(device) = Spout::new(alloc, SHORT.len(), size) else {
+        return Ok(Stage::SetUp);
+    };
+    let mut out = Counted::new(device);
+    let mut source = Counted::new(Pieces::new(LONG, size));
+    let (stage, done) = match compact(alloc, &mut source, &mut out) {
+        Ok(()) => (Stage::Whole, Ok(())),
+        Err(fault) => {
+            findings.expect(is_want(fault), "the fault is want of memory");
+            findings.expect(out.get_ref().bytes().is_empty(), "nothing is written");
+            let mut source = Counted::new(Pieces::new(LONG, size));
+            (Stage::Refused, compact(alloc, &mut source, &mut out))
+        }
+    };
+    findings.expect(done.is_ok(), "the next attempt has its memory");
+    findings.expect(out.get_ref().bytes() == SHORT, "the short journal is whole");
+    findings.told(stage)
+}
