@@ -1,6 +1,6 @@
 -- Blocks of points, all of one size, of which a list fills the first ones.
 use Rattle.std.specs.Prelude.{◌≡◌, ℕ, ◌+◌, ◌-◌, ◌≤◌, ◌^◌, zero, suc, min, List, [], ◌∷◌, length}
-use Rattle.std.specs.Global.{Global}
+use Rattle.heap.specs.Rows.{heap_row}
 use Rattle.std.specs.declared.collections.VecDeque.{VecDeque}
 use Rattle.std.specs.List.{flat_map}
 use Rattle.std.specs.VecDeque.{deque_len, deque_capacity}
@@ -9,7 +9,7 @@ use Rattle.tiered_list.specs.declared.TheConstants.{BLOCK}
 
 -- a ring of points
 abbrev pub Block : Type 0
-Block = VecDeque Pair Global
+Block = VecDeque Pair heap_row.Denot
 
 -- the points of blocks, one behind the other
 abbrev pub points_of : List Block → List Pair
