@@ -30,8 +30,9 @@ head_of() {
 
 # runs a case, with the words of $2 behind its first one; says nothing where it came out as it says
 outcome() {
-    part "$1" input >"$room/input"
-    part "$1" journal >"$room/journal"
+    for name in input journal part; do
+        part "$1" "$name" >"$room/$name"
+    done
     for name in output or error; do
         part "$1" "$name" >"$room/wanted.$name"
     done
