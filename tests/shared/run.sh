@@ -118,32 +118,31 @@ storm() {
     count "$1 threads of $2 calls, $3 inside: each number once and rising, and the journal legal" $?
 }
 
-# the parts of these numbers, one behind the other, as one journal
-joined() {
+# whether hullbook says that the parts of these numbers are one legal journal, in this order
+judged() {
     for part in "$@"; do
-        sed '1d;$d' "$room/parts/part.$part"
-    done >"$room/body"
-    lines=$(wc -l <"$room/body")
-    {
-        head -n 1 "$room/parts/part.1" | sed "s/capacity .*/capacity $lines/"
-        cat "$room/body"
-        echo "end $lines"
-    } >"$room/journal"
+        set -- "$@" "$room/parts/part.$part"
+        shift
+    done
+    "$top/bin/hullbook" check "$@" >"$room/verdict" 2>&1
 }
 
-# whether hullbook says that the parts of these numbers are illegal at the first line behind the first part
+# whether it says that the second of them is illegal at its first line
 breaks() {
-    joined "$@"
-    first=$(($(wc -l <"$room/parts/part.1") - 2))
-    ! legal "$room/journal" && [ "$(cat "$room/verdict")" = "illegal $first" ]
+    ! judged "$@" && [ "$(cat "$room/verdict")" = "illegal 2 in $room/parts/part.$2" ]
+}
+
+# how many lines all parts have
+lines() {
+    cat "$room/parts"/part.* | grep -cv '^hullbook\|^end'
 }
 
 # eight threads, one of which takes the lines out each time that a tenth of the calls of one thread were made, also with no
 # journal; and parts that are missing, doubled or exchanged
 drains() {
     mkdir "$room/parts"
-    "$room/drains" 8 "$calls" $((calls / 10)) "$room/parts" >"$room/said" && joined $(seq "$(cat "$room/said")") &&
-        [ "$lines" -ge $((8 * calls)) ] && legal "$room/journal"
+    "$room/drains" 8 "$calls" $((calls / 10)) "$room/parts" >"$room/said" && judged $(seq "$(cat "$room/said")") &&
+        [ "$(lines)" -ge $((8 * calls)) ]
     count "the parts that one of 8 threads takes out, $(cat "$room/said") of them, are one legal journal" $?
     breaks 1 3 4 && breaks 1 1 2 && breaks 1 3 2
     count "a part that is missing, doubled or exchanged is illegal at its first line" $?
