@@ -1,7 +1,7 @@
 #!/usr/bin/env python3
 """Tries the wrong bodies of crates, many in one check, and tells of each which goal refused it.
 
-    tools/wrong_bodies.py [--jobs N] [--list] [CRATE | CRATE/NAME..]
+    tools/wrong_bodies.py [--jobs N] [--list] [--compile] [CRATE | CRATE/NAME..]
 
 A wrong body is a file crates/CRATE/wrong-bodies/NAME.edit in the form of `rt must-fail`: lines `file: src/x.rt`, then
 pairs of lines `old: TEXT` and `new: TEXT`. A function is proved from the contracts of what it calls and not from their
@@ -13,13 +13,15 @@ touched, since each check has a copy of them.
 Each line tells a wrong body, and whether a goal refused it (a clause of the contract or what the body owes, such as an
 index within its bounds) or a proof file that names what the change took away, which says little of the contract: those
 are counted before the end. The last line is 'N passed, M failed'; the status is 0 only where M is 0. --list tells
-the groups alone.
+the groups alone. --compile looks only whether they get past the compiler, in some 20 seconds a group: after a change of
+names or numbers that edits use, since one that does not compile fails the gate.
 """
 import argparse
 import importlib.machinery
 import importlib.util
 import os
 import re
+import shutil
 import subprocess
 import sys
 import tempfile
@@ -192,6 +194,52 @@ def tried(crate, group, kept):
     return outcomes
 
 
+def compiler_said(crate, group):
+    """The compiler's errors on a crate with these wrong bodies; the check is ended once it has come to the proofs."""
+    with tempfile.TemporaryDirectory() as room:
+        for part in RT.rtlib.PARTS:
+            if os.path.isdir(f"{crate.folder}/{part}"):
+                shutil.copytree(f"{crate.folder}/{part}", f"{room}/{part}")
+        for file, text in applied(crate, group).items():
+            with open(f"{room}/{file}", "w", encoding="utf-8") as it:
+                it.write(text)
+        words = [RT.rtlib.RATTLE, "check", *crate.words(["--jobs", "1", "--progress"], keeps=False)]
+        with subprocess.Popen(words, cwd=room, stdin=subprocess.DEVNULL, stdout=subprocess.PIPE,
+                              stderr=subprocess.STDOUT, text=True, errors="replace") as ran:
+            errors = []
+            for line in ran.stdout:
+                if re.search(r"\berror\[[\w-]+\]", line):
+                    errors.append(line.strip())
+                if line.startswith("checked "):
+                    ran.kill()
+                    break
+    return errors
+
+
+def not_compiled(crate, group):
+    """The wrong bodies of a group that do not get past the compiler, each with what it said."""
+    errors = compiler_said(crate, group)
+    if not errors or len(group) == 1:
+        return [(it.name, errors[0]) for it in group if errors]
+    half = len(group) // 2
+    return not_compiled(crate, group[:half]) + not_compiled(crate, group[half:])
+
+
+def compile_all(crates, names):
+    """Tells which wrong bodies of these crates do not get past the compiler. The status of the command."""
+    passed = failed = 0
+    for crate in crates:
+        edits, bad = edits_of(crate, names.get(crate.name, ()))
+        faults = [(it.edit, it.told) for it in bad]
+        for group in groups_of(crate, edits):
+            faults += not_compiled(crate, group)
+        for name, told in faults:
+            print(f"wrong body {crate.name}/{name}: FAILED: {told[:200]}", flush=True)
+        passed, failed = passed + len(edits) + len(bad) - len(faults), failed + len(faults)
+    print(f"{passed} passed, {failed} failed")
+    return 1 if failed or not passed else 0
+
+
 def edits_of(crate, names=()):
     """The wrong bodies of a crate, or those of these names, and outcomes for those that cannot be applied."""
     folder, edits, bad = f"{crate.folder}/wrong-bodies", [], []
@@ -230,9 +278,10 @@ def work(crate, names):
 
 
 def main():
-    words = argparse.ArgumentParser(usage="tools/wrong_bodies.py [--jobs N] [--list] [CRATE | CRATE/NAME..]")
+    words = argparse.ArgumentParser(usage="tools/wrong_bodies.py [--jobs N] [--list] [--compile] [CRATE | CRATE/NAME..]")
     words.add_argument("--jobs", type=int, default=0)
     words.add_argument("--list", action="store_true")
+    words.add_argument("--compile", action="store_true")
     words.add_argument("crates", nargs="*")
     given = words.parse_args()
     os.chdir(TOP)
@@ -250,6 +299,8 @@ def main():
     if libraries and subprocess.run(["tools/prove.py", *libraries], check=False).returncode:
         print("not proved without any change\n0 passed, 1 failed")
         return 1
+    if given.compile:
+        return compile_all(crates, names)
     memory = os.sysconf("SC_PAGE_SIZE") * os.sysconf("SC_AVPHYS_PAGES")
     lanes = given.jobs or max(1, min(os.cpu_count() or 1, memory // MEMORY_OF_A_CHECK))
     passed, failed, by_shape = 0, [], []
