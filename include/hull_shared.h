@@ -22,17 +22,17 @@
  * drained is lost where the program crashes; what was drained is whole lines. Or the desk keeps no lines
  * (hull_shared_open_without_journal).
  *
- * hull_shared_desk_new, hull_shared_seat_new and hull_shared_part_new make desks, seats and parts in memory from malloc. Or they lie in rooms that the
- * caller gives: of hull_shared_desk_size() bytes at a multiple of hull_shared_desk_alignment(), and so for seats and
- * parts; hull_shared_make_desk, hull_shared_make_seat and hull_shared_make_part make them there, before any other call. The caller neither reads, writes
- * nor moves a room. A desk that is not open and a room with no seat hold nothing beyond their rooms, which may be used for
- * anything then.
+ * hull_shared_desk_new, hull_shared_seat_new and hull_shared_part_new make desks, seats and parts in memory from malloc. Or
+ * they lie in rooms that the caller gives: of hull_shared_desk_size() bytes at a multiple of hull_shared_desk_alignment(), and
+ * so for seats and parts; hull_shared_make_desk, hull_shared_make_seat and hull_shared_make_part make them there, before any
+ * other call. The caller neither reads, writes nor moves a room. A desk that is not open and a room with no seat hold nothing
+ * beyond their rooms, which may be used for anything then.
  *
  * What the caller must keep, and nothing checks:
  * - each desk, each seat and each part that is passed was made, and lies where it was made;
- * - on one desk there is one call at a time, and so on one room for a seat, and on one part. Different seats are independent: that is what
- *   they are for. A desk or a room may pass from thread to thread, if the threads order that between them (a start, a join, a
- *   lock);
+ * - on one desk there is one call at a time, and so on one room for a seat, and on one part. Different seats are independent:
+ *   that is what they are for. A desk or a room may pass from thread to thread, if the threads order that between them (a
+ *   start, a join, a lock);
  * - a seat is given back to the desk that it went out of, and all calls of a desk's seats are passed that desk's line;
  * - an array that is passed is not null, even where it has no elements (but in hull_shared_vertices), was written before (calloc does
  *   that), has the length that is told, and overlaps nothing;
@@ -142,9 +142,9 @@ static inline void hull_shared_part_free(hull_shared_part *part) {
     hull_room_free(part);
 }
 
-/* Opens a desk round an empty hull of up to `limit` points, whose calls are numbered from `first` on, with
- * room for the lines of `capacity` calls, which are held until they are drained, and with seats 0 to `seats` - 1: OPEN; WAS_OPENED, OUT_OF_LIMITS, NO_MEMORY. All memory but that of points is asked for
- * here. */
+/* Opens a desk round an empty hull of up to `limit` points, whose calls are numbered from `first` on, with room for the lines
+ * of `capacity` calls, which are held until they are drained, and with seats 0 to `seats` - 1: OPEN; WAS_OPENED, OUT_OF_LIMITS,
+ * NO_MEMORY. All memory but that of points is asked for here. */
 uint32_t hull_shared_open(hull_shared_desk *desk, uint32_t limit, uint64_t first, uint32_t capacity, uint32_t seats);
 
 /* The same, but the line of each call is let go with its answer, for who wants no journal: no call is answered FULL before
@@ -200,8 +200,9 @@ uint32_t hull_shared_part_end(hull_shared_part *part);
  * call on the desk or its seats go on. */
 uint32_t hull_shared_close(hull_shared_desk *desk);
 
-/* Writes the text of the last part of a closed desk's journal, the lines that were not drained, to the front of the array: TEXT; NOT_CLOSED, NO_MEMORY, TOO_SMALL with the
- * `number` of bytes. It is a text of the program hullbook, whose `check` judges it. */
+/* Writes the text of the last part of a closed desk's journal, the lines that were not drained, to the front of the array:
+ * TEXT; NOT_CLOSED, NO_MEMORY, TOO_SMALL with the `number` of bytes. It is a text of the program hullbook, whose `check` judges
+ * it. */
 hull_reply hull_shared_text(const hull_shared_desk *desk, uint8_t *out, size_t length);
 
 /* Ends a desk that is not open, so that it holds nothing: ENDED; NOT_CLOSED, where it is open. It may be opened again. */
