@@ -327,6 +327,29 @@ double distance_of(const hull_witness &w) {
     }
 }
 
+// Whether a segment meets the polygon of these corners, as Box2D casts a ray at a polygon (Catto): it is cut by the half plane of each
+// edge, in doubles. All edges are asked.
+bool cut_by_half_planes(const Points &corners, Point a, Point b) {
+    double lower = 0, upper = 1;
+    for (size_t i = 0; i < corners.size(); i++) {
+        const Point p = corners[i], q = corners[(i + 1) % corners.size()];
+        const double nx = double(q.y - p.y), ny = double(p.x - q.x);
+        const double numerator = nx * double(p.x - a.x) + ny * double(p.y - a.y);
+        const double denominator = nx * double(b.x - a.x) + ny * double(b.y - a.y);
+        if (denominator < 0) {
+            lower = std::max(lower, numerator / denominator);
+        } else if (denominator > 0) {
+            upper = std::min(upper, numerator / denominator);
+        } else if (numerator < 0) {
+            return false;
+        }
+        if (upper < lower) {
+            return false;
+        }
+    }
+    return true;
+}
+
 // Motions from each of the points an eighth of the way to the next, and triangles there, that may meet the outline. GEOS multiplies
 // doubles, so how often it differs is told.
 void time_meetings(Table &table, const Chain &chain, const Points &asked) {
@@ -349,6 +372,12 @@ void time_meetings(Table &table, const Chain &chain, const Points &asked) {
             });
         });
         theirs += table.time("motion", "GEOS prepared", n, [&] { return count_of(asked, [&](size_t i) { return geos.meets(i); }); });
+        const size_t cut = table.time("motion", "half planes in doubles", n, [&] {
+            return count_of(asked, [&](size_t i) { return cut_by_half_planes(chain.corners, motions[i][0], motions[i][1]); });
+        });
+        if (cut != ours) {
+            std::printf("of %zu motions %zu meet, and by half planes in doubles %zu\n", n, ours, cut);
+        }
         table.time("motion", "hull_outline_apart", n, [&] {
             return count_of(asked, [&](size_t i) {
                 const Points &m = motions[i];
