@@ -4,21 +4,23 @@
     tools/proofs.py [CRATE..]
 
 It runs the kit's own `rt ci`, of these crates and those below them where some are named, with all that this refuses. It
-differs in two ways, so that no part of the gate proves anything twice:
+differs in three ways, so that no part of the gate proves anything twice:
 
-- What a library's proof checks is kept in its folder out/incremental, which is empty when the run begins. The last line of
+- What a crate's proof checks is kept in its folder out/incremental, which is empty when the run begins. The last line of
   such a proof says incremental=trusted: that whoever can write to that folder is trusted, which is this run alone.
-- A crate's edits are tried over that folder: those of must-fail/ one by one, as `rt ci` does over a second proof of its
-  own, and those of wrong-bodies/ in groups, as tools/wrong_bodies.py does. First the crate with a change that means nothing
-  is tried in the same way, and has to pass: so a try that refuses everything fails the run.
+- A crate's tests are proved over a copy of that folder: what they add to the crate is checked, and the crate itself is not
+  checked again. A program is built by both compilers over it.
+- A crate's edits, of must-fail/ and of wrong-bodies/, are tried over copies of it too, in groups, as tools/wrong_bodies.py
+  does. First the crate with a change that means nothing is tried in the same way, and has to pass: so a try that refuses
+  everything fails the run.
 
-What passed is kept on this machine by the kit, under a sum of all that it read, as `rt ci` keeps it: a later run of this
-takes it from there. The last line is 'N passed, M failed', each crate and each edit counted.
+The last line is 'N passed, M failed', each crate and each edit counted; before it stands what each crate took.
 """
 import contextlib
 import inspect
 import os
 import re
+import shutil
 import sys
 import tempfile
 import time
@@ -28,16 +30,21 @@ import wrong_bodies  # noqa: E402 (the path comes first)
 from wrong_bodies import RT, TOP  # noqa: E402
 
 LIB = RT.rtlib
-KITS_PROVE, KITS_EDITS = RT.Crate.prove, RT.edits_of
-# what this file takes the place of, or calls, has to be what it knows: else a new kit would be misread without a word
+KITS_LANES, KITS_CRATES = RT.in_lanes, RT.crates_of
+# what this file takes the place of, or calls, has to be what it knows: else another kit would be misread without a word
 KNOWN = {
-    "add_edits": "(tasks, crate, edits, first, waits, is_well, kept, start=None, in_ci=True)",
-    "must_fail": "(crate, edit, flags, kept=None)",
     "checked": "(crate, texts, flags, kept)",
-    "linked": "(folder, to)",
+    "crates_of": "(root, aside)",
+    "edits_of": "(crate)",
+    "in_lanes": "(tasks)",
+    "need": "(crate)",
+    "read_edit": "(edit, folder)",
 }
 # the last line of a proof, which may say that its work, or that of a library below, is kept
 OVER_KEPT = re.compile(LIB.VERDICT.pattern.replace(r"\n", r"( incremental=trusted)?\n"), re.M)
+COUNTS = re.compile(r"(\d+) passed, (\d+) failed")
+# a check over kept work takes so much of the memory that one from nothing does
+SHARE_OF_MEMORY = 0.6
 # what each kind of task took, in seconds that are summed over tasks which run beside one another
 TOOK = {}
 
@@ -50,95 +57,89 @@ def timed(*what):
     TOOK[what] = TOOK.get(what, 0) + time.time() - start
 
 
+def copied(folder, to):
+    """Copies a folder of kept work by links: files are written anew there and never changed, so the first stays as it is."""
+    os.makedirs(folder, exist_ok=True)
+    shutil.copytree(folder, to, copy_function=os.link)
+
+
 class Kept(RT.Crate):
-    """A crate whose proof keeps its work."""
+    """A crate whose proof keeps its work, and whose tests and programs are built over that."""
+
+    def kept(self):
+        """The folder that keeps what the crate's proof checked."""
+        return f"{self.folder}/out/incremental"
 
     def prove(self, *commands):
-        """As the kit's own, keeping its work. Not of tests, whose proof runs beside, nor of a program, whose checked form can't."""
+        """As the kit's own, keeping its work; that of tests beside, since other tasks read the crate's own meanwhile."""
         of_tests = any("--test" in it for it in commands)
-        kept = [it if of_tests or self.is_program else [*it, *LIB.KEPT] for it in commands]
-        with timed(self.name, "tests" if of_tests else "proof"):
-            return KITS_PROVE(self, *kept)
+        with timed(self.name, "tests" if of_tests else "proof"), tempfile.TemporaryDirectory(prefix="rt-tests-") as room:
+            over = f"{room}/kept" if of_tests else self.kept()
+            if of_tests:
+                copied(self.kept(), over)
+            return super().prove(*([*it, "--incremental", over] for it in commands))
 
     def build_rlib(self, flags, anew):
         """As the kit's own, with proofs and not statements alone, which would keep nothing."""
         self.cuts_libraries = False
         return super().build_rlib(flags, anew)
 
-
-def edits_of(crate):
-    """The edits of must-fail/, then those of wrong-bodies/, and what is no edit."""
-    good, bad = KITS_EDITS(crate)
-    folder = f"{crate.folder}/wrong-bodies"
-    others = sorted(os.listdir(folder)) if os.path.isdir(folder) else []
-    return good + [f"{folder}/{it}" for it in others if it.endswith(".edit")], bad + [it for it in others if not it.endswith(".edit")]
+    def ci(self, flags, tests):
+        """As the kit's own; a program is proved over its kept work, from which each compiler then takes it."""
+        if tests or not self.is_program:
+            return super().ci(flags, tests)
+        words = self.words(flags, keeps=False)
+        over, to = [*words, "--toolchain", f"{RT.KIT}/toolchain", "--incremental", self.kept()], f"out/{self.name}"
+        return self.prove(["check", *words]) or self.compile_by("llvm", over, to) or self.compile_by("rattle", over, to)
 
 
 class Edits:
-    """The tries of a crate's edits: what each came to, as a kind of the kit's and what to say, here or in an earlier run."""
+    """The tries of a crate's edits, of must-fail/ and of wrong-bodies/, in groups."""
 
-    def __init__(self, crate, paths, is_well, kept):
-        self.crate, self.paths, self.is_well, self.kept = crate, paths, is_well, kept
-        self.over, self.told, self.names, self.earlier = f"{crate.folder}/out/incremental", {}, {}, None
-        good, self.bad = wrong_bodies.edits_of(crate)
-        alone = [[it] for it in paths if "/must-fail/" in it]
-        self.groups = alone + [[it.path for it in group] for group in wrong_bodies.groups_of(crate, good)]
-        self.edits = {it.path: it for it in good}
+    def __init__(self, crate):
+        self.crate, self.outcomes = crate, {}
+        self.edits, self.bad = wrong_bodies.edits_of(crate)
+        self.groups = wrong_bodies.groups_of(crate, self.edits)
 
-    def known(self):
-        """What earlier runs on this machine told, by path. Asked for once the crate and its tests are proved."""
-        if self.earlier is None:
-            sum = self.kept.key(self.crate)
-            self.names = {it: self.kept.of_edit(it, sum) for it in self.paths}
-            found = {it: self.kept.tried(name) for it, name in self.names.items()}
-            self.earlier = {it: tried for it, tried in found.items() if tried}
-        return self.earlier
+    @contextlib.contextmanager
+    def over_kept(self):
+        """A copy of what the crate's proof kept, while it is in use."""
+        with tempfile.TemporaryDirectory(prefix="rt-group-") as room:
+            copied(self.crate.kept(), f"{room}/kept")
+            yield f"{room}/kept"
 
     def ground(self, given, jobs):
-        """Whether the crate is proved over its kept work, and a change that means nothing passes there."""
-        if not self.is_well(given, len(self.paths)) or len(self.known()) == len(self.paths):
-            return True
-        with timed(self.crate.name, "edits"):
-            if not os.path.isdir(self.over):
-                os.makedirs(self.over)
-                RT.checked(self.crate, {}, ["--jobs", str(jobs)], self.over)
-            return not wrong_bodies.refuses_the_crate_itself(self.crate, self.over)
+        """The crate's functions, where a change that means nothing passes over its kept work."""
+        if not given[self.crate.name, "proof"]:
+            return []
+        with timed(self.crate.name, "edits"), self.over_kept() as over:
+            return wrong_bodies.functions_of(self.crate, over)
 
     def tried(self, given, jobs, group):
-        """Tries those of a group that no earlier run told of."""
-        left = [it for it in group if it not in self.known()] if self.is_well(given) else []
-        if not left or not given[self.crate.name, "seed"]:
+        """Tries a group over a copy of what the crate's proof kept."""
+        paths = given[self.crate.name, "seed"]
+        if not paths:
             return
-        with timed(self.crate.name, "edits"), tempfile.TemporaryDirectory(prefix=f"rt-group-{os.getpid()}-") as room:
-            over = f"{room}/over"
-            RT.linked(self.over, over)
-            if "/must-fail/" in left[0]:
-                found = {left[0]: RT.must_fail(self.crate, left[0], ["--jobs", "1"], over)}
-            else:
-                outcomes = wrong_bodies.tried(self.crate, [self.edits[it] for it in left], over)
-                found = {f"{self.crate.folder}/wrong-bodies/{it.edit}": (it.kind, it.line(self.crate)) for it in outcomes}
-        for path, (kind, text) in found.items():
-            self.told[path] = kind, text
-            if kind in RT.SETTLED and self.kept.is_untouched(self.crate):
-                self.kept.keep_tried(self.names[path], kind, text)
+        with timed(self.crate.name, "edits"), self.over_kept() as over:
+            for edit, outcome in zip(group, wrong_bodies.tried(self.crate, group, over, paths)):
+                self.outcomes[edit.path] = outcome
 
-    def results(self, given):
-        """What each edit came to, in the order of their paths."""
-        for it in self.bad:
-            self.told[f"{self.crate.folder}/wrong-bodies/{it.edit}"] = RT.UNSURE, it.line(self.crate)
-        lost = RT.UNSURE, f"{self.crate.name}: NOT TRIED: it is not proved over what it kept, or refused though nothing was changed"
-        return [self.known().get(it) or self.told.get(it, lost) for it in self.paths]
+    def add_tasks(self, tasks):
+        """Adds what tries the edits to the tasks of a run."""
+        needs, lines = SHARE_OF_MEMORY * RT.need(self.crate), self.crate.count(rb"\n")
+        tasks[self.crate.name, "seed"] = [(self.crate.name, "proof")], lines, needs, self.ground
+        for number, group in enumerate(self.groups):
+            call = lambda given, jobs, group=group: self.tried(given, jobs, group)
+            tasks[self.crate.name, "edits", number] = [(self.crate.name, "seed")], lines, needs, call
 
-
-def add_edits(tasks, crate, paths, first, waits, is_well, kept, start=None, in_ci=True):
-    """Adds the tasks that try a crate's edits; what gives their results, and those of earlier runs. In the place of the kit's own."""
-    edits, needs = Edits(crate, paths, is_well, kept), RT.need(crate)
-    if paths:
-        tasks[crate.name, "seed"] = waits, 0, needs, edits.ground
-    for number, group in enumerate(edits.groups if paths else []):
-        call = lambda given, jobs, group=group: edits.tried(given, jobs, group)
-        tasks[crate.name, "edits", number] = [*waits, (crate.name, "seed")], crate.count(rb"\n"), RT.OVER * needs, call
-    return edits.results, edits.known
+    def tell(self):
+        """Prints what each edit came to, and returns how many were refused and how many were not."""
+        lost = wrong_bodies.Kind.UNSURE, "the crate is not proved, or refused though nothing was changed"
+        ended = [self.outcomes.get(it.path) or wrong_bodies.Outcome(it.name, *lost) for it in self.edits] + self.bad
+        lines = [it.line(self.crate) for it in ended]
+        print(*lines, sep="\n" if lines else "", flush=True)
+        refused = sum(it.is_refused() for it in ended)
+        return refused, len(ended) - refused
 
 
 def tell_times():
@@ -150,16 +151,58 @@ def tell_times():
         print(f"{name:16}{of[0]:8.0f}{of[1]:8.0f}{of[2]:8.0f}")
 
 
-def main(names):
-    strange = [it for it, words in KNOWN.items() if str(inspect.signature(getattr(RT, it))) != words]
+class Run:
+    """A run of the kit's `rt ci`, whose tasks also try the edits, and whose last line is told with theirs."""
+
+    def __init__(self, named):
+        self.named, self.edits, self.left_out, self.counts = named, [], (), (0, 1)
+
+    def crates_of(self, root, aside):
+        """The kit's own, and which of them are left out where some are named."""
+        crates = KITS_CRATES(root, aside)
+        chosen = {low.name for it in crates if it.name in self.named or not self.named for low in [it, *it.below()]}
+        self.left_out = {it.name for it in crates} - chosen
+        self.edits = [it for it in map(Edits, crates) if it.crate.name in chosen and (it.groups or it.bad)]
+        return crates
+
+    def in_lanes(self, tasks):
+        """Runs the kit's tasks, tests once their crate is proved, and those of the edits. One that is left out counts as well."""
+        left_out = {it: ([], [], []) if it[1] == "edits" else True for it in tasks if it[0] in self.left_out}
+        chosen = {it: task for it, task in tasks.items() if it not in left_out}
+        for (name, kind, *_), (waits, *rest) in [*chosen.items()]:
+            if kind == "tests":
+                chosen[name, kind] = [*waits, (name, "proof")], *rest
+        for it in self.edits:
+            it.add_tasks(chosen)
+        return {**KITS_LANES(chosen), **left_out}
+
+    def print(self, *words, **how):
+        """Prints what the kit prints, but for its last line."""
+        counts = COUNTS.fullmatch(str(words[0])) if len(words) == 1 else None
+        if counts:
+            self.counts = int(counts[1]) - len(self.left_out), int(counts[2])
+        else:
+            print(*words, **how)
+
+    def run(self):
+        """Runs it all. The status of the command."""
+        RT.Crate, RT.crates_of, RT.in_lanes, RT.print = Kept, self.crates_of, self.in_lanes, self.print
+        RT.edits_of, LIB.VERDICT = lambda crate: ([], []), OVER_KEPT
+        RT.ci(*([False, []] if inspect.signature(RT.ci).parameters else []))
+        of_edits = [it.tell() for it in self.edits]
+        tell_times()
+        passed, failed = (sum(it) for it in zip(self.counts, *of_edits))
+        print(f"{passed} passed, {failed} failed")
+        return 1 if failed or not passed else 0
+
+
+def main(named):
+    strange = [it for it, words in KNOWN.items() if not hasattr(RT, it) or str(inspect.signature(getattr(RT, it))) != words]
     if strange:
         print(f"this kit's rt differs from what tools/proofs.py knows: {' '.join(strange)}\n0 passed, 1 failed")
         return 2
     os.chdir(TOP)
-    RT.Crate, RT.edits_of, RT.add_edits, LIB.VERDICT = Kept, edits_of, add_edits, OVER_KEPT
-    tell = RT.Kept.tell
-    RT.Kept.tell = lambda kept: (tell(kept), tell_times())
-    return RT.ci(False, names)
+    return Run(named).run()
 
 
 if __name__ == "__main__":

@@ -3,8 +3,8 @@
 
     tools/wrong_bodies.py [--jobs N] [--list] [--compile] [CRATE | CRATE/NAME..]
 
-A wrong body is a file crates/CRATE/wrong-bodies/NAME.edit in the form of `rt must-fail`: lines `file: src/x.rt`, then
-pairs of lines `old: TEXT` and `new: TEXT`. A function is proved from the contracts of what it calls and not from their
+A wrong body is a file crates/CRATE/wrong-bodies/NAME.edit, or one of must-fail/, which `rt must-fail` tries one by one:
+lines `file: src/x.rt`, then pairs of lines `old: TEXT` and `new: TEXT`. A function is proved from the contracts of what it calls and not from their
 bodies, so wrong bodies of different functions are tried in one check, and each has to show as a goal of its own
 function that is not proved. One that does not is tried again alone, as is one that changes no function, and each of a
 group that the prover cannot read. The libraries are proved first where that is not kept in out/; the sources are never
@@ -28,12 +28,17 @@ import tempfile
 import time
 from concurrent.futures import ThreadPoolExecutor
 from dataclasses import dataclass
+from enum import Enum
 
 TOP = os.path.dirname(os.path.dirname(os.path.abspath(__file__)))
 # a check takes up to so many bytes
 MEMORY_OF_A_CHECK = 4 << 30
+# so many wrong bodies stand in a group at most, so that the groups of a large crate are tried beside one another
+MOST_IN_A_GROUP = 20
 # what antt says of a proof file that names what a change took away
 NAMES_WHAT_WENT = re.compile(r"has no field|is not in scope|has no `|was not admitted")
+# what antt says of a text that it cannot read, where a text that only states what is false reads well
+UNREAD = re.compile(r"is not in scope|has no field|is no name|operand is missing|expected the end|cannot continue")
 
 
 def load_rt():
@@ -51,6 +56,18 @@ RT = load_rt()
 
 
 @dataclass(frozen=True)
+class Function:
+    """A function as an edit tells of it: its name, and the module of its file, which a type may stand between."""
+
+    module: str
+    name: str
+
+    def is_at(self, path):
+        """Whether it can be what a check names by that path."""
+        return path.startswith(self.module) and path.endswith(f"::{self.name}")
+
+
+@dataclass(frozen=True)
 class Edit:
     """A wrong body: its name, its changes as (file, old, new), and the functions that they stand in."""
 
@@ -64,36 +81,48 @@ class Edit:
         return not self.functions
 
 
+class Kind(Enum):
+    """What can come of a wrong body, with the words for it."""
+
+    BY_GOAL = "refused"
+    BY_SHAPE = "refused (only since a proof names what went)"
+    AT_LIMIT = "refused at a limit of the prover's"
+    MISSED = "NOT REFUSED"
+    UNSURE = "NOT TRIED"
+
+
 @dataclass(frozen=True)
 class Outcome:
-    """What came of a wrong body: its kind, as the kit's `rt` has kinds, whether a goal refused it, and what was told."""
+    """What came of a wrong body, and what was told."""
 
     edit: str
-    kind: str
-    by_goal: bool
+    kind: Kind
     told: str
 
     def is_refused(self):
-        """Whether the prover refused it, if only by a limit of its own."""
-        return self.kind in (RT.REFUSED, RT.AT_LIMIT)
+        """Whether the prover refused it."""
+        return self.kind in (Kind.BY_GOAL, Kind.BY_SHAPE, Kind.AT_LIMIT)
 
     def line(self, crate):
         """What to say of it."""
-        by = " (only since a proof names what went)" if self.is_refused() and not self.by_goal else ""
-        how = f"refused{by}" if self.is_refused() else "NOT REFUSED"
-        return f"wrong body {crate.name}/{self.edit}: {how}: {self.told[:160]}"
+        return f"wrong body {crate.name}/{self.edit}: {self.kind.value}: {self.told[:160]}"
 
 
-def functions_at(text, old):
-    """The names of the functions that a text within a file belongs to: those that it opens, else the one it stands in."""
+def functions_at(crate, file, old):
+    """The functions that a text within a file belongs to: those that it opens, else the one it stands in."""
+    if not file.startswith("src/"):
+        return []
+    with open(f"{crate.folder}/{file}", encoding="utf-8") as source:
+        text = source.read()
     opened = re.findall(r"\bfn\s+([A-Za-z_0-9]+)", old)
     before = re.findall(r"\bfn\s+([A-Za-z_0-9]+)", text[: text.find(old)])
-    return opened or before[-1:]
+    inside = re.sub(r"^(lib|main)$", "", file.removeprefix("src/").removesuffix(".rt")).replace("/", "::")
+    module = "::".join(it for it in (crate.name, inside) if it)
+    return [Function(f"{module}::", it) for it in opened or before[-1:]]
 
 
-def read(crate, name):
-    """The wrong body of that file name, or why it cannot be applied."""
-    path = f"{crate.folder}/wrong-bodies/{name}"
+def read(crate, path):
+    """The wrong body in that file, or why it cannot be applied."""
     texts, why = RT.read_edit(path, crate.folder)
     if why:
         return None, why
@@ -108,12 +137,11 @@ def read(crate, name):
             changes.append((file, old, line[4:].removeprefix(" ")))
     functions = set()
     for file, old, _ in changes:
-        with open(f"{crate.folder}/{file}", encoding="utf-8") as text:
-            found = functions_at(text.read(), old) if file.startswith("src/") else []
+        found = functions_at(crate, file, old)
         if not found:
-            return Edit(name, path, tuple(changes), frozenset()), None
+            return Edit(os.path.basename(path), path, tuple(changes), frozenset()), None
         functions.update(found)
-    return Edit(name, path, tuple(changes), frozenset(functions)), None
+    return Edit(os.path.basename(path), path, tuple(changes), frozenset(functions)), None
 
 
 def applied(crate, edits):
@@ -136,7 +164,7 @@ def grouped(crate, edits):
     for edit in edits:
         for group in groups:
             others = frozenset().union(*(it.functions for it in group))
-            if not edit.functions & others and applied(crate, [*group, edit]) is not None:
+            if len(group) < MOST_IN_A_GROUP and not edit.functions & others and applied(crate, [*group, edit]) is not None:
                 group.append(edit)
                 break
         else:
@@ -145,52 +173,75 @@ def grouped(crate, edits):
 
 
 def goals_of(output):
-    """What a check told of each function that has a goal of its own which is not proved, and not only calls such ones."""
-    found = {}
-    for path, goals in re.findall(r"^fn (\S+): no proof: .*?did not prove (.*?)(?:; it calls .*)?$", output, re.M):
-        found.setdefault(path.rpartition("::")[2], goals)
+    """What a check told of each function, by its path, that has a goal of its own which is not proved, and not only calls such ones."""
+    found = dict(re.findall(r"^fn (\S+): no proof: .*?did not prove (.*?)(?:; it calls .*)?$", output, re.M))
     for path in re.findall(r"^fn (\S+): not proved(?:;.*)?$", output, re.M):
         name = path.rpartition("::")[2]
         errors = re.findall(rf"^(?:\./)?proofs/(?:\S*/)?\+?{name}/\S+?:\d+:\d+: error: (.*)", output, re.M)
         told = next((it for it in errors if not NAMES_WHAT_WENT.search(it)), None)
         if told is not None:
-            found.setdefault(name, told)
+            found.setdefault(path, told)
     return found
 
 
+def is_unread(line, texts):
+    """Whether antt could not read a text of src/ or specs/, or one that was changed, so that no contract was tried."""
+    at = re.match(r"(?:\./)?(\S+?):\d+:\d+: error: (?:(`[^`]*`): )?(.*)", line)
+    if not at or at[1] not in texts and not at[1].startswith(("src/", "specs/")):
+        return False
+    return not at[2] or bool(UNREAD.search(re.sub(r"`[^`]*`", "", at[3])))
+
+
+def outcome_of(ran, texts):
+    """What a check of the crate with these texts came to, as a kind and what to say; as `rt must-fail` judges it."""
+    lines = ran.stdout.rstrip("\n").split("\n")
+    unread = next((it for it in lines if is_unread(it, texts)), None)
+    if unread or RT.rtlib.STALE.search(ran.stdout):
+        return Kind.UNSURE, f"BAD EDIT: {unread or 'the kept work of a library could not be used'}"
+    if ran.returncode == 0:
+        return Kind.MISSED, "the crate is still proved with it"
+    if ran.returncode == 3 and any("could not tell" in it for it in lines):
+        return Kind.AT_LIMIT, lines[-1]
+    if ran.returncode != 1 or not lines[-1].startswith("logic=not-proved"):
+        return Kind.UNSURE, f"BAD EDIT: it did not reach the prover: {' '.join(lines[:6])}"
+    told = [it for it in lines if re.match(r"(note: )?\S+:\d+:\d+:", it) and (": error" in it or it.startswith("note: "))]
+    by_goal = [it for it in told if not (it.startswith(("proofs/", "./proofs/")) and NAMES_WHAT_WENT.search(it))]
+    return (Kind.BY_SHAPE, told[0]) if told and not by_goal else (Kind.BY_GOAL, (by_goal or lines)[0])
+
+
 def tried_alone(crate, edit, kept):
-    """The outcome of one wrong body in a check of its own, as `rt must-fail` gives it."""
-    kind, told = RT.must_fail(crate, edit.path, ["--jobs", "1"], kept)
-    by_goal = kind == RT.REFUSED and "only because a proof file" not in told
-    return Outcome(edit.name, kind, by_goal, told.partition(": ")[2])
+    """The outcome of one edit in a check of its own."""
+    texts, why = RT.read_edit(edit.path, crate.folder)
+    if why:
+        return Outcome(edit.name, Kind.UNSURE, f"BAD EDIT: {why}")
+    return Outcome(edit.name, *outcome_of(RT.checked(crate, texts, ["--jobs", "1"], kept), texts))
 
 
-def refuses_the_crate_itself(crate, kept):
-    """Whether the crate is refused over what is kept though a line only gets a comment, so that no refusal tells anything."""
+def functions_of(crate, kept):
+    """The paths of the crate's functions, from a check over what is kept in which a line only gets a comment; none where
+    that refuses the crate, so that no refusal tells anything."""
     top = "src/main.rt" if crate.is_program else "src/lib.rt"
-    with tempfile.TemporaryDirectory() as room:
-        path = os.path.join(room, "nothing-but-a-comment.edit")
-        with open(path, "w", encoding="utf-8") as text:
-            text.write(f"file: {top}\nold: #![tactic(auto)]\nnew: #![tactic(auto)] // as it stands\n")
-        return RT.must_fail(crate, path, ["--jobs", "1"], kept)[0] != RT.MISSED
+    with open(f"{crate.folder}/{top}", encoding="utf-8") as text:
+        texts = {top: text.read().replace("#![tactic(auto)]", "#![tactic(auto)] // as it stands", 1)}
+    ran = RT.checked(crate, texts, ["--jobs", "1"], kept)
+    return re.findall(r"^fn (\S+): ", ran.stdout, re.M) if outcome_of(ran, texts)[0] is Kind.MISSED else []
 
 
-def tried(crate, group, kept):
-    """The outcomes of a group in one check, those that it does not show each in a check of its own."""
+def tried(crate, group, kept, paths):
+    """The outcomes of a group in one check of its functions alone, those that it does not show each in a whole check of its own."""
     if len(group) == 1:
         return [tried_alone(crate, group[0], kept)]
-    ran = RT.checked(crate, applied(crate, group), ["--jobs", "1"], kept)
-    reached = ran.returncode == 1 and ran.stdout.rstrip("\n").rpartition("\n")[2].startswith("logic=not-proved")
+    changed = [it for it in paths for edit in group if any(function.is_at(it) for function in edit.functions)]
+    only = [word for it in changed for word in ("--only", it.partition("::")[2])]
+    ran = RT.checked(crate, applied(crate, group), ["--jobs", "1", *only], kept)
+    reached = ran.returncode == 1 and ran.stdout.rstrip("\n").rpartition("\n")[2].startswith(("logic=not-proved", "only="))
     if not reached:
         half = len(group) // 2
-        return tried(crate, group[:half], kept) + tried(crate, group[half:], kept)
+        return tried(crate, group[:half], kept, paths) + tried(crate, group[half:], kept, paths)
     goals, outcomes = goals_of(ran.stdout), []
     for edit in group:
-        told = next((goals[name] for name in sorted(edit.functions) if name in goals), None)
-        if told is None:
-            outcomes.append(tried_alone(crate, edit, kept))
-        else:
-            outcomes.append(Outcome(edit.name, RT.REFUSED, True, told))
+        told = next((told for path, told in sorted(goals.items()) if any(it.is_at(path) for it in edit.functions)), None)
+        outcomes.append(tried_alone(crate, edit, kept) if told is None else Outcome(edit.name, Kind.BY_GOAL, told))
     return outcomes
 
 
@@ -240,14 +291,19 @@ def compile_all(crates, names):
     return 1 if failed or not passed else 0
 
 
+def files_of(crate):
+    """The files of a crate's wrong bodies, those of must-fail/ first."""
+    folders = [f"{crate.folder}/{it}" for it in ("must-fail", "wrong-bodies")]
+    return [f"{at}/{name}" for at in folders if os.path.isdir(at) for name in sorted(os.listdir(at))]
+
+
 def edits_of(crate, names=()):
     """The wrong bodies of a crate, or those of these names, and outcomes for those that cannot be applied."""
-    folder, edits, bad = f"{crate.folder}/wrong-bodies", [], []
-    files = os.listdir(folder) if os.path.isdir(folder) else []
-    for name in sorted({f"{it}.edit" for it in names} or files):
-        edit, why = read(crate, name) if name.endswith(".edit") and name in files else (None, "no file NAME.edit")
+    edits, bad, files = [], [], {os.path.basename(it): it for it in files_of(crate)}
+    for name in [f"{it}.edit" for it in names] or files:
+        edit, why = read(crate, files[name]) if name.endswith(".edit") and name in files else (None, "no file NAME.edit")
         if why:
-            bad.append(Outcome(name, RT.UNSURE, False, f"BAD EDIT: {why}"))
+            bad.append(Outcome(name, Kind.UNSURE, f"BAD EDIT: {why}"))
         else:
             edits.append(edit)
     return edits, bad
@@ -262,11 +318,11 @@ def tried_in_groups(crate, kept, names=()):
     """The outcomes of a crate's wrong bodies over what that folder keeps, and in how many groups they were tried."""
     edits, outcomes = edits_of(crate, names)
     os.makedirs(kept, exist_ok=True)
-    groups = groups_of(crate, edits)
+    groups, paths = groups_of(crate, edits), functions_of(crate, kept)
+    if not paths:
+        return [Outcome("the crate itself", Kind.UNSURE, "it is refused though nothing was changed")], 0
     for group in groups:
-        outcomes += tried(crate, group, kept)
-    if edits and refuses_the_crate_itself(crate, kept):
-        outcomes.append(Outcome("the crate itself", RT.UNSURE, False, "it is refused though nothing was changed"))
+        outcomes += tried(crate, group, kept, paths)
     return outcomes, len(groups)
 
 
@@ -289,7 +345,7 @@ def main():
     for crate, _, name in (it.partition("/") for it in given.crates):
         names.setdefault(crate, []).extend([name] if name else [])
     crates = [it for it in RT.rtlib.crates_below(TOP) if not names or it.name in names]
-    crates = [it for it in crates if os.path.isdir(f"{it.folder}/wrong-bodies")]
+    crates = [it for it in crates if files_of(it)]
     if given.list:
         for crate in crates:
             for group in groups_of(crate, edits_of(crate, names.get(crate.name, ()))[0]):
@@ -305,7 +361,7 @@ def main():
     lanes = given.jobs or max(1, min(os.cpu_count() or 1, memory // MEMORY_OF_A_CHECK))
     passed, failed, by_shape = 0, [], []
     # the crates with the most wrong bodies first, so that none of them is left alone at the end
-    crates.sort(key=lambda it: -len(os.listdir(f"{it.folder}/wrong-bodies")))
+    crates.sort(key=lambda it: -len(files_of(it)))
     with ThreadPoolExecutor(lanes) as pool:
         chosen = [names.get(it.name, ()) for it in crates]
         for crate, (outcomes, seconds, groups) in zip(crates, pool.map(work, crates, chosen)):
@@ -315,7 +371,7 @@ def main():
                 print(it.line(crate), flush=True)
                 passed += it.is_refused()
                 failed += [name] * (not it.is_refused())
-                by_shape += [name] * (it.is_refused() and not it.by_goal)
+                by_shape += [name] * (it.kind is Kind.BY_SHAPE)
     print(f"refused by a goal: {passed - len(by_shape)}; only since a proof names what went: {len(by_shape)}"
           f"{': ' + ' '.join(by_shape) if by_shape else ''}")
     if failed:
