@@ -2,9 +2,9 @@
 use Rattle.std.proofs.Common.{◌≡◌, ℤ, pos, ◌+ℤ◌, ◌*ℤ◌, ◌≤ℤ◌, ◌<ℤ◌, neg_ℤ, ◌⊎◌, inl, inr, refl, ap, ◌∙◌, subst, arith}
 use Rattle.std.proofs.lemmas.Int.{ints}
 use Rattle.lattice.specs.Plane.{Pair, product}
-use Rattle.lattice.specs.Polynomials.{difference-eq, as_difference, difference-add, difference-neg, difference-mul}
+use Rattle.lattice.specs.Polynomials.{difference-eq, as_difference, difference_rules}
 use Rattle.lattice.specs.Signs.{le_or_lt, product_nn, product_pp, cancel_zero}
-use Rattle.lattice.proofs.Vectors.{cross, cross_swap}
+use Rattle.lattice.proofs.Vectors.{as_pair, cross, cross_swap}
 
 -- ---- numbers
 
@@ -60,16 +60,12 @@ pub three : (d a b c : Pair)
 unfolding product
 three d a b c =
     rw (
-      as_difference d.x,
-      as_difference d.y,
-      as_difference a.x,
-      as_difference a.y,
-      as_difference b.x,
-      as_difference b.y,
-      as_difference c.x,
-      as_difference c.y,
+      as_pair d,
+      as_pair a,
+      as_pair b,
+      as_pair c,
       as_difference (pos 0),
-    ) (simp (difference-add, difference-neg, difference-mul) (difference-eq _ _ _ _ (omega arith)))
+    ) (simp difference_rules (difference-eq _ _ _ _ (omega arith)))
 
 -- the same in another order
 three_turned : (d a b c : Pair)

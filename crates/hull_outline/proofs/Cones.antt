@@ -3,7 +3,8 @@
 use Rattle.std.proofs.Common.{◌≡◌, ℤ, pos, negsuc, ◌+ℤ◌, ◌-ℤ◌, ◌*ℤ◌, ◌≤ℤ◌, ◌<ℤ◌, ◌⊎◌, inl, inr, sym, ap, ◌∙◌, arith}
 use Rattle.std.proofs.lemmas.Int.{ints}
 use Rattle.lattice.specs.Plane.{Pair, orient, product}
-use Rattle.lattice.specs.Polynomials.{difference-eq, as_difference, difference-add, difference-neg, difference-mul}
+use Rattle.lattice.specs.Polynomials.{difference-eq, as_difference, difference-add, difference-mul, difference_rules}
+use Rattle.lattice.proofs.Vectors.{as_pair}
 use Rattle.lattice.specs.Signs.{le_or_lt, product_nn, product_pp}
 use Rattle.hull_outline.specs.Nearest.{IsOnward}
 use Rattle.hull_outline.specs.Steps.{step}
@@ -16,43 +17,32 @@ cone_x : (p c n x : Pair) → orient p c n *ℤ (x.x -ℤ c.x) ≡ orient p c x 
 unfolding orient
 cone_x p c n x =
     rw (
-      as_difference p.x,
-      as_difference p.y,
-      as_difference c.x,
-      as_difference c.y,
-      as_difference n.x,
-      as_difference n.y,
-      as_difference x.x,
-      as_difference x.y,
-    ) (simp (difference-add, difference-neg, difference-mul) (difference-eq _ _ _ _ (omega arith)))
+      as_pair p,
+      as_pair c,
+      as_pair n,
+      as_pair x,
+    ) (simp difference_rules (difference-eq _ _ _ _ (omega arith)))
 
 -- and by y
 cone_y : (p c n x : Pair) → orient p c n *ℤ (x.y -ℤ c.y) ≡ orient p c x *ℤ (n.y -ℤ c.y) +ℤ orient c n x *ℤ (p.y -ℤ c.y)
 unfolding orient
 cone_y p c n x =
     rw (
-      as_difference p.x,
-      as_difference p.y,
-      as_difference c.x,
-      as_difference c.y,
-      as_difference n.x,
-      as_difference n.y,
-      as_difference x.x,
-      as_difference x.y,
-    ) (simp (difference-add, difference-neg, difference-mul) (difference-eq _ _ _ _ (omega arith)))
+      as_pair p,
+      as_pair c,
+      as_pair n,
+      as_pair x,
+    ) (simp difference_rules (difference-eq _ _ _ _ (omega arith)))
 
 -- a step along a direction, by its coordinates
 step_along : (f c x : Pair) → product f x -ℤ product f c ≡ f.x *ℤ (x.x -ℤ c.x) +ℤ f.y *ℤ (x.y -ℤ c.y)
 unfolding product
 step_along f c x =
     rw (
-      as_difference f.x,
-      as_difference f.y,
-      as_difference c.x,
-      as_difference c.y,
-      as_difference x.x,
-      as_difference x.y,
-    ) (simp (difference-add, difference-neg, difference-mul) (difference-eq _ _ _ _ (omega arith)))
+      as_pair f,
+      as_pair c,
+      as_pair x,
+    ) (simp difference_rules (difference-eq _ _ _ _ (omega arith)))
 
 -- a weight of both coordinates
 weigh : (k u v x y : ℤ) → k *ℤ (u *ℤ x +ℤ v *ℤ y) ≡ u *ℤ (k *ℤ x) +ℤ v *ℤ (k *ℤ y)
@@ -129,13 +119,10 @@ on_the_way : (c n q : Pair)
 unfolding product
 on_the_way c n q =
     rw (
-      as_difference c.x,
-      as_difference c.y,
-      as_difference n.x,
-      as_difference n.y,
-      as_difference q.x,
-      as_difference q.y,
-    ) (simp (difference-add, difference-neg, difference-mul) (difference-eq _ _ _ _ (omega arith)))
+      as_pair c,
+      as_pair n,
+      as_pair q,
+    ) (simp difference_rules (difference-eq _ _ _ _ (omega arith)))
 
 -- q lies onward to n where n lies onward to q
 pub seen_onward : (c n q : Pair) → product (step c q) c <ℤ product (step c q) n → IsOnward c n q
@@ -162,9 +149,7 @@ onward_not c n q h k =
 pub way_square : (c q : Pair) → product (step c q) q -ℤ product (step c q) c
     ≡ (q.x -ℤ c.x) *ℤ (q.x -ℤ c.x) +ℤ (q.y -ℤ c.y) *ℤ (q.y -ℤ c.y)
 unfolding product
-way_square c q =
-    rw (as_difference c.x, as_difference c.y, as_difference q.x, as_difference q.y)
-    (simp (difference-add, difference-neg, difference-mul) (difference-eq _ _ _ _ (omega arith)))
+way_square c q = rw (as_pair c, as_pair q) (simp difference_rules (difference-eq _ _ _ _ (omega arith)))
 
 -- not back
 pub way_forward : (c q : Pair) → pos 0 ≤ℤ (product (step c q) q -ℤ product (step c q) c)
@@ -209,13 +194,10 @@ square_between : (c n q : Pair)
 unfolding product
 square_between c n q =
     rw (
-      as_difference c.x,
-      as_difference c.y,
-      as_difference n.x,
-      as_difference n.y,
-      as_difference q.x,
-      as_difference q.y,
-    ) (simp (difference-add, difference-neg, difference-mul) (difference-eq _ _ _ _ (omega arith)))
+      as_pair c,
+      as_pair n,
+      as_pair q,
+    ) (simp difference_rules (difference-eq _ _ _ _ (omega arith)))
 
 -- how far q is from c, squared
 abbrev pub far : Pair → Pair → ℤ

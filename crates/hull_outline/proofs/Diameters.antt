@@ -8,11 +8,11 @@ use Rattle.std.proofs.lemmas.Bool.{cases_lt}
 use Rattle.std.proofs.lemmas.Int.{ints}
 use Rattle.std.proofs.lemmas.List.Elements.{All-contains}
 use Rattle.lattice.specs.Plane.{Pair, orient, product, distance_squared, IsBefore}
-use Rattle.lattice.specs.Polynomials.{difference-eq, as_difference, difference-add, difference-neg, difference-mul}
+use Rattle.lattice.specs.Polynomials.{difference-eq, difference_rules}
 use Rattle.lattice.specs.Signs.{le_or_lt, product_nn, product_pp, product_np, cancel_zero}
 use Rattle.lattice.specs.Vertices.{IsLeftOf, IsVertexList}
 use Rattle.lattice.proofs.Order.{before_total, before_apart, after_apart}
-use Rattle.lattice.proofs.Vectors.{minus, cross, cross_swap, Ahead, ahead_nn}
+use Rattle.lattice.proofs.Vectors.{as_pair, minus, cross, cross_swap, Ahead, ahead_nn}
 use Rattle.hull_plain.specs.Tangents.{IsFirstFarthest}
 use Rattle.hull_plain.proofs.Orientation.{orient-cross, ahead_of}
 use Rattle.hull_outline.specs.Extents.{IsDiameter, IsDiameterOf}
@@ -87,16 +87,12 @@ farthest_pair S n =
 -- a distance is as long from its other end
 distance_turned : (p q : Pair) → distance_squared p q ≡ distance_squared q p
 unfolding distance_squared
-distance_turned p q =
-    rw (as_difference p.x, as_difference p.y, as_difference q.x, as_difference q.y)
-    (simp (difference-add, difference-neg, difference-mul) (difference-eq _ _ _ _ (omega arith)))
+distance_turned p q = rw (as_pair p, as_pair q) (simp difference_rules (difference-eq _ _ _ _ (omega arith)))
 
 -- a distance, by how far the way goes on
 distance_way : (q t : Pair) → distance_squared q t ≡ product (step q t) t -ℤ product (step q t) q
 unfolding distance_squared product
-distance_way q t =
-    rw (as_difference q.x, as_difference q.y, as_difference t.x, as_difference t.y)
-    (simp (difference-add, difference-neg, difference-mul) (difference-eq _ _ _ _ (omega arith)))
+distance_way q t = rw (as_pair q, as_pair t) (simp difference_rules (difference-eq _ _ _ _ (omega arith)))
 
 -- how much farther from p another point is than q
 distance_more : (p q t : Pair)
@@ -106,13 +102,10 @@ distance_more : (p q t : Pair)
 unfolding distance_squared product
 distance_more p q t =
     rw (
-      as_difference p.x,
-      as_difference p.y,
-      as_difference q.x,
-      as_difference q.y,
-      as_difference t.x,
-      as_difference t.y,
-    ) (simp (difference-add, difference-neg, difference-mul) (difference-eq _ _ _ _ (omega arith)))
+      as_pair p,
+      as_pair q,
+      as_pair t,
+    ) (simp difference_rules (difference-eq _ _ _ _ (omega arith)))
 
 -- two points are apart
 pub distance_above : (q t : Pair) → ¬ (t ≡ q) → pos 0 <ℤ distance_squared q t
@@ -190,26 +183,20 @@ line_x : (d e y : Pair) → product d e *ℤ y.x -ℤ product d y *ℤ e.x ≡ c
 unfolding product
 line_x d e y =
     rw (
-      as_difference d.x,
-      as_difference d.y,
-      as_difference e.x,
-      as_difference e.y,
-      as_difference y.x,
-      as_difference y.y,
-    ) (simp (difference-add, difference-neg, difference-mul) (difference-eq _ _ _ _ (omega arith)))
+      as_pair d,
+      as_pair e,
+      as_pair y,
+    ) (simp difference_rules (difference-eq _ _ _ _ (omega arith)))
 
 -- and by y
 line_y : (d e y : Pair) → product d y *ℤ e.y -ℤ product d e *ℤ y.y ≡ cross y e *ℤ d.x
 unfolding product
 line_y d e y =
     rw (
-      as_difference d.x,
-      as_difference d.y,
-      as_difference e.x,
-      as_difference e.y,
-      as_difference y.x,
-      as_difference y.y,
-    ) (simp (difference-add, difference-neg, difference-mul) (difference-eq _ _ _ _ (omega arith)))
+      as_pair d,
+      as_pair e,
+      as_pair y,
+    ) (simp difference_rules (difference-eq _ _ _ _ (omega arith)))
 
 -- two vectors in line that are both ahead do not go up and down
 not_up_and_down : (d e y : Pair) → Ahead e → Ahead y → pos 0 <ℤ product d e → product d y <ℤ pos 0 → cross y e ≡ pos 0
@@ -257,13 +244,10 @@ cancel_down a c h e = elim (le_or_lt c (pos 0)) [
 back_first : (p f v : Pair) → cross (minus p f) v ≡ neg_ℤ (cross (minus f p) v)
 back_first p f v =
     rw (
-      as_difference p.x,
-      as_difference p.y,
-      as_difference f.x,
-      as_difference f.y,
-      as_difference v.x,
-      as_difference v.y,
-    ) (simp (difference-add, difference-neg, difference-mul) (difference-eq _ _ _ _ (omega arith)))
+      as_pair p,
+      as_pair f,
+      as_pair v,
+    ) (simp difference_rules (difference-eq _ _ _ _ (omega arith)))
 
 -- ---- opposite an edge
 

@@ -7,9 +7,9 @@ use Rattle.std.proofs.lemmas.List.Elements.{All-contains}
 use Rattle.lattice.specs.Covers.{Covers, Member, OnSegment, InTriangle, IsOnSegment, IsInTriangle, IsBetween}
 use Rattle.lattice.specs.Covers.{IsPointSet, with_point}
 use Rattle.lattice.specs.Plane.{Pair, orient, product}
-use Rattle.lattice.specs.Polynomials.{difference-eq, as_difference, difference-add, difference-neg, difference-mul}
+use Rattle.lattice.specs.Polynomials.{difference-eq, as_difference, difference_rules}
 use Rattle.lattice.specs.Signs.{product_nn}
-use Rattle.lattice.proofs.Vectors.{minus}
+use Rattle.lattice.proofs.Vectors.{as_pair, minus}
 use Rattle.hull_plain.specs.Positions.{origin}
 use Rattle.hull_plain.proofs.Decided.{covers_or_separated}
 use Rattle.hull_plain.proofs.PointLists.{AllPairs-none}
@@ -147,7 +147,7 @@ same_sums u v w a b c d e f z = let h = spread u v w a b c d e f in omega (arith
           as_difference d,
           as_difference e,
           as_difference f,
-        ) (simp (difference-add, difference-neg, difference-mul) (difference-eq _ _ _ _ (omega arith)))
+        ) (simp difference_rules (difference-eq _ _ _ _ (omega arith)))
 
 -- three differences with weights that sum to nothing
 shared_of : (S T : List Pair) (x y z : Pair) (u v w : ℤ) → IsDifference S T x → IsDifference S T y → IsDifference S T z
@@ -183,15 +183,12 @@ balance_x : (a b c : Pair)
 unfolding orient
 balance_x a b c =
     rw (
-      as_difference a.x,
-      as_difference a.y,
-      as_difference b.x,
-      as_difference b.y,
-      as_difference c.x,
-      as_difference c.y,
+      as_pair a,
+      as_pair b,
+      as_pair c,
       as_difference (pos 0),
     )
-    (simp (difference-add, difference-neg, difference-mul) (difference-eq _ _ _ _ (omega arith)))
+    (simp difference_rules (difference-eq _ _ _ _ (omega arith)))
 
 -- and by y
 balance_y : (a b c : Pair)
@@ -199,15 +196,12 @@ balance_y : (a b c : Pair)
 unfolding orient
 balance_y a b c =
     rw (
-      as_difference a.x,
-      as_difference a.y,
-      as_difference b.x,
-      as_difference b.y,
-      as_difference c.x,
-      as_difference c.y,
+      as_pair a,
+      as_pair b,
+      as_pair c,
       as_difference (pos 0),
     )
-    (simp (difference-add, difference-neg, difference-mul) (difference-eq _ _ _ _ (omega arith)))
+    (simp difference_rules (difference-eq _ _ _ _ (omega arith)))
 
 -- equal numbers, one of them not below 0, or above it
 nn_by : (x y : ℤ) → x ≡ y → pos 0 ≤ℤ x → pos 0 ≤ℤ y
@@ -248,16 +242,16 @@ flat_x : (a b : Pair)
     → product (step a b) b *ℤ a.x +ℤ product (step b a) a *ℤ b.x +ℤ pos 0 *ℤ a.x ≡ (b.y -ℤ a.y) *ℤ orient origin a b
 unfolding orient product
 flat_x a b =
-    rw (as_difference a.x, as_difference a.y, as_difference b.x, as_difference b.y, as_difference (pos 0))
-    (simp (difference-add, difference-neg, difference-mul) (difference-eq _ _ _ _ (omega arith)))
+    rw (as_pair a, as_pair b, as_difference (pos 0))
+    (simp difference_rules (difference-eq _ _ _ _ (omega arith)))
 
 -- and by y
 flat_y : (a b : Pair)
     → product (step a b) b *ℤ a.y +ℤ product (step b a) a *ℤ b.y +ℤ pos 0 *ℤ a.y ≡ (a.x -ℤ b.x) *ℤ orient origin a b
 unfolding orient product
 flat_y a b =
-    rw (as_difference a.x, as_difference a.y, as_difference b.x, as_difference b.y, as_difference (pos 0))
-    (simp (difference-add, difference-neg, difference-mul) (difference-eq _ _ _ _ (omega arith)))
+    rw (as_pair a, as_pair b, as_difference (pos 0))
+    (simp difference_rules (difference-eq _ _ _ _ (omega arith)))
 
 -- a product with nothing
 times_zero : (k z : ℤ) → z ≡ pos 0 → k *ℤ z ≡ pos 0
@@ -301,15 +295,12 @@ difference_along : (d s t : Pair) → product d (minus s t) -ℤ product d origi
 unfolding product
 difference_along d s t =
     rw (
-      as_difference d.x,
-      as_difference d.y,
-      as_difference s.x,
-      as_difference s.y,
-      as_difference t.x,
-      as_difference t.y,
+      as_pair d,
+      as_pair s,
+      as_pair t,
       as_difference (pos 0),
     )
-    (simp (difference-add, difference-neg, difference-mul) (difference-eq _ _ _ _ (omega arith)))
+    (simp difference_rules (difference-eq _ _ _ _ (omega arith)))
 
 -- two sets are parted, or have a point in common
 pub parted_or_shared : (S T : List Pair) → IsApart S T ⊎ Shared S T

@@ -5,7 +5,8 @@ use Rattle.std.proofs.lemmas.Int.{ints}
 use Rattle.std.proofs.lemmas.List.Elements.{All-contains}
 use Rattle.lattice.specs.Covers.{Covers}
 use Rattle.lattice.specs.Plane.{Pair, orient, product, distance_squared}
-use Rattle.lattice.specs.Polynomials.{difference-eq, as_difference, difference-add, difference-neg, difference-mul}
+use Rattle.lattice.specs.Polynomials.{difference-eq, as_difference, difference_rules}
+use Rattle.lattice.proofs.Vectors.{as_pair}
 use Rattle.lattice.specs.Signs.{le_or_lt, product_nn}
 use Rattle.hull_plain.proofs.NotCovered.{not_covered}
 use Rattle.hull_plain.proofs.Orientation.{orient_other}
@@ -36,13 +37,10 @@ farther_by : (c p q : Pair)
 unfolding product distance_squared
 farther_by c p q =
     rw (
-      as_difference c.x,
-      as_difference c.y,
-      as_difference p.x,
-      as_difference p.y,
-      as_difference q.x,
-      as_difference q.y,
-    ) (simp (difference-add, difference-neg, difference-mul) (difference-eq _ _ _ _ (omega arith)))
+      as_pair c,
+      as_pair p,
+      as_pair q,
+    ) (simp difference_rules (difference-eq _ _ _ _ (omega arith)))
 
 -- a squared distance is not negative
 pub distance_nn : (a b : Pair) → pos 0 ≤ℤ distance_squared a b
@@ -74,7 +72,7 @@ lagrange : (u v x y : ℤ)
     ≡ (u *ℤ y -ℤ v *ℤ x) *ℤ (u *ℤ y -ℤ v *ℤ x) +ℤ (u *ℤ x +ℤ v *ℤ y) *ℤ (u *ℤ x +ℤ v *ℤ y)
 lagrange u v x y =
     rw (as_difference u, as_difference v, as_difference x, as_difference y)
-    (simp (difference-add, difference-neg, difference-mul) (difference-eq _ _ _ _ (omega arith)))
+    (simp difference_rules (difference-eq _ _ _ _ (omega arith)))
 
 -- how the side changes from q to p
 side_change : (a b q p : Pair)
@@ -82,15 +80,11 @@ side_change : (a b q p : Pair)
 unfolding orient
 side_change a b q p =
     rw (
-      as_difference a.x,
-      as_difference a.y,
-      as_difference b.x,
-      as_difference b.y,
-      as_difference p.x,
-      as_difference p.y,
-      as_difference q.x,
-      as_difference q.y,
-    ) (simp (difference-add, difference-neg, difference-mul) (difference-eq _ _ _ _ (omega arith)))
+      as_pair a,
+      as_pair b,
+      as_pair p,
+      as_pair q,
+    ) (simp difference_rules (difference-eq _ _ _ _ (omega arith)))
 
 -- the same of a step, by the sides of its ends
 both_squares : (a b q p : Pair)
@@ -103,8 +97,7 @@ both_squares a b q p =
 
 -- the square of a difference
 square_apart : (u v : ℤ) → (u -ℤ v) *ℤ (u -ℤ v) ≡ v *ℤ v +ℤ u *ℤ (u -ℤ (v +ℤ v))
-square_apart u v = rw (as_difference u, as_difference v)
-    (simp (difference-add, difference-neg, difference-mul) (difference-eq _ _ _ _ (omega arith)))
+square_apart u v = rw (as_difference u, as_difference v) (simp difference_rules (difference-eq _ _ _ _ (omega arith)))
 
 -- no covered point is nearer than the nearest edge
 pub edge_nearest : NoneNearerThanEdge

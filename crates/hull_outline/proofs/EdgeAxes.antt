@@ -6,9 +6,9 @@ use Rattle.std.specs.List.{Contains}
 use Rattle.std.proofs.lemmas.Int.{ints}
 use Rattle.std.proofs.lemmas.List.Elements.{All-contains}
 use Rattle.lattice.specs.Plane.{Pair, orient, product}
-use Rattle.lattice.specs.Polynomials.{difference-eq, as_difference, difference-add, difference-neg, difference-mul}
+use Rattle.lattice.specs.Polynomials.{difference-eq, difference_rules}
 use Rattle.lattice.specs.Vertices.{IsLeftOf}
-use Rattle.lattice.proofs.Vectors.{minus, opp, cross}
+use Rattle.lattice.proofs.Vectors.{as_pair, minus, opp, cross}
 use Rattle.hull_plain.specs.Tangents.{IsFirstFarthest}
 use Rattle.hull_outline.specs.Meetings.{IsApart}
 use Rattle.hull_outline.specs.Nearest.{previous}
@@ -30,107 +30,81 @@ pub product_minus : (d p q : Pair) → product d (minus p q) ≡ product d p -�
 unfolding product
 product_minus d p q =
     rw (
-      as_difference d.x,
-      as_difference d.y,
-      as_difference p.x,
-      as_difference p.y,
-      as_difference q.x,
-      as_difference q.y,
-    ) (simp (difference-add, difference-neg, difference-mul) (difference-eq _ _ _ _ (omega arith)))
+      as_pair d,
+      as_pair p,
+      as_pair q,
+    ) (simp difference_rules (difference-eq _ _ _ _ (omega arith)))
 
 -- and in the direction backwards
 product_minus_back : (d p q : Pair) → product d (minus p q) ≡ product (opp d) q -ℤ product (opp d) p
 unfolding product
 product_minus_back d p q =
     rw (
-      as_difference d.x,
-      as_difference d.y,
-      as_difference p.x,
-      as_difference p.y,
-      as_difference q.x,
-      as_difference q.y,
-    ) (simp (difference-add, difference-neg, difference-mul) (difference-eq _ _ _ _ (omega arith)))
+      as_pair d,
+      as_pair p,
+      as_pair q,
+    ) (simp difference_rules (difference-eq _ _ _ _ (omega arith)))
 
 -- a turn, by the steps from its corner back
 turn_back : (p c n : Pair) → orient p c n ≡ cross (minus c n) (minus c p)
 unfolding orient
 turn_back p c n =
     rw (
-      as_difference p.x,
-      as_difference p.y,
-      as_difference c.x,
-      as_difference c.y,
-      as_difference n.x,
-      as_difference n.y,
-    ) (simp (difference-add, difference-neg, difference-mul) (difference-eq _ _ _ _ (omega arith)))
+      as_pair p,
+      as_pair c,
+      as_pair n,
+    ) (simp difference_rules (difference-eq _ _ _ _ (omega arith)))
 
 -- and by those from its corner
 turn_from : (p c n : Pair) → orient p c n ≡ cross (minus n c) (minus p c)
 unfolding orient
 turn_from p c n =
     rw (
-      as_difference p.x,
-      as_difference p.y,
-      as_difference c.x,
-      as_difference c.y,
-      as_difference n.x,
-      as_difference n.y,
-    ) (simp (difference-add, difference-neg, difference-mul) (difference-eq _ _ _ _ (omega arith)))
+      as_pair p,
+      as_pair c,
+      as_pair n,
+    ) (simp difference_rules (difference-eq _ _ _ _ (omega arith)))
 
 -- the side of a point at the line from p to c, by the steps to c and from there
 pub side_on : (p c v : Pair) → orient p c v ≡ cross (minus c p) (minus v c)
 unfolding orient
 side_on p c v =
     rw (
-      as_difference p.x,
-      as_difference p.y,
-      as_difference c.x,
-      as_difference c.y,
-      as_difference v.x,
-      as_difference v.y,
-    ) (simp (difference-add, difference-neg, difference-mul) (difference-eq _ _ _ _ (omega arith)))
+      as_pair p,
+      as_pair c,
+      as_pair v,
+    ) (simp difference_rules (difference-eq _ _ _ _ (omega arith)))
 
 -- the side of a point at the line from c to n, by the steps from n to c and from c
 pub side_off : (c n v : Pair) → orient c n v ≡ neg_ℤ (cross (minus c n) (minus v c))
 unfolding orient
 side_off c n v =
     rw (
-      as_difference c.x,
-      as_difference c.y,
-      as_difference n.x,
-      as_difference n.y,
-      as_difference v.x,
-      as_difference v.y,
-    ) (simp (difference-add, difference-neg, difference-mul) (difference-eq _ _ _ _ (omega arith)))
+      as_pair c,
+      as_pair n,
+      as_pair v,
+    ) (simp difference_rules (difference-eq _ _ _ _ (omega arith)))
 
 -- the side of one point less that of another, by the step from n to c
 pub side_off_more : (c n v t : Pair) → orient c n t -ℤ orient c n v ≡ neg_ℤ (cross (minus c n) (minus t v))
 unfolding orient
 side_off_more c n v t =
     rw (
-      as_difference c.x,
-      as_difference c.y,
-      as_difference n.x,
-      as_difference n.y,
-      as_difference v.x,
-      as_difference v.y,
-      as_difference t.x,
-      as_difference t.y,
-    ) (simp (difference-add, difference-neg, difference-mul) (difference-eq _ _ _ _ (omega arith)))
+      as_pair c,
+      as_pair n,
+      as_pair v,
+      as_pair t,
+    ) (simp difference_rules (difference-eq _ _ _ _ (omega arith)))
 
 -- both steps backwards
 pub both_back : (a b c d : Pair) → cross (minus a b) (minus c d) ≡ cross (minus b a) (minus d c)
 both_back a b c d =
     rw (
-      as_difference a.x,
-      as_difference a.y,
-      as_difference b.x,
-      as_difference b.y,
-      as_difference c.x,
-      as_difference c.y,
-      as_difference d.x,
-      as_difference d.y,
-    ) (simp (difference-add, difference-neg, difference-mul) (difference-eq _ _ _ _ (omega arith)))
+      as_pair a,
+      as_pair b,
+      as_pair c,
+      as_pair d,
+    ) (simp difference_rules (difference-eq _ _ _ _ (omega arith)))
 
 -- ---- a corner and the edges at it
 

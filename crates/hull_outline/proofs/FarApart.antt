@@ -7,7 +7,8 @@ use Rattle.std.proofs.lemmas.List.{get_or-map, length-map}
 use Rattle.lattice.specs.Covers.{Covers, Member}
 use Rattle.lattice.specs.Places.{IsFarthest}
 use Rattle.lattice.specs.Plane.{Pair, orient, product, distance_squared}
-use Rattle.lattice.specs.Polynomials.{difference-eq, as_difference, difference-add, difference-neg, difference-mul}
+use Rattle.lattice.specs.Polynomials.{difference-eq, as_difference, difference-add, difference-neg, difference-mul, difference_rules}
+use Rattle.lattice.proofs.Vectors.{as_pair}
 use Rattle.lattice.specs.Signs.{product_nn, cancel_nn}
 use Rattle.lattice.proofs.LineCrossings.{orient_end}
 use Rattle.hull_outline.specs.Closest.{NoneCloser, magnified, IsClosestToEdge}
@@ -28,7 +29,7 @@ times_along : (k : ℤ) (d p : Pair)
     → product d record { x = k *ℤ p.x; y = k *ℤ p.y } ≡ k *ℤ product d p
 unfolding product
 times_along k d p =
-    rw (as_difference k, as_difference d.x, as_difference d.y, as_difference p.x, as_difference p.y)
+    rw (as_difference k, as_pair d, as_pair p)
     (simp (difference-add, difference-mul) (difference-eq _ _ _ _ (omega arith)))
 
 -- products of a number that is not below 0 with numbers in order
@@ -37,7 +38,7 @@ times_le k x y h l = more _ _ _ (apart k x y) (product_nn k (y -ℤ x) h (rest _
   where
     apart : (k x y : ℤ) → k *ℤ (y -ℤ x) ≡ k *ℤ y -ℤ k *ℤ x
     apart k x y = rw (as_difference k, as_difference x, as_difference y)
-        (simp (difference-add, difference-neg, difference-mul) (difference-eq _ _ _ _ (omega arith)))
+        (simp difference_rules (difference-eq _ _ _ _ (omega arith)))
 
     rest : (x y : ℤ) → x ≤ℤ y → pos 0 ≤ℤ (y -ℤ x)
     rest x y h = omega (arith, ints)
@@ -72,7 +73,7 @@ far_apart S T d back s t k p q h fs ft turn e hh cp cq =
   where
     apart : (k x y : ℤ) → k *ℤ (x -ℤ y) ≡ k *ℤ x -ℤ k *ℤ y
     apart k x y = rw (as_difference k, as_difference x, as_difference y)
-        (simp (difference-add, difference-neg, difference-mul) (difference-eq _ _ _ _ (omega arith)))
+        (simp difference_rules (difference-eq _ _ _ _ (omega arith)))
 
     negated : (k x : ℤ) → k *ℤ neg_ℤ x ≡ neg_ℤ (k *ℤ x)
     negated k x = rw (as_difference k, as_difference x)
@@ -88,7 +89,7 @@ cancelled k l m h le = back _ _ (cancel_nn (m -ℤ (k *ℤ k) *ℤ l) l h (rest 
   where
     drawn : (k l m : ℤ) → (m -ℤ (k *ℤ k) *ℤ l) *ℤ l ≡ l *ℤ m -ℤ (k *ℤ l) *ℤ (k *ℤ l)
     drawn k l m = rw (as_difference k, as_difference l, as_difference m)
-        (simp (difference-add, difference-neg, difference-mul) (difference-eq _ _ _ _ (omega arith)))
+        (simp difference_rules (difference-eq _ _ _ _ (omega arith)))
 
     rest : (x y z : ℤ) → x ≡ y -ℤ z → z ≤ℤ y → pos 0 ≤ℤ x
     rest x y z e h = omega (arith, ints)
@@ -99,16 +100,12 @@ cancelled k l m h le = back _ _ (cancel_nn (m -ℤ (k *ℤ k) *ℤ l) l h (rest 
 -- a distance both ways
 distance_back : (p q : Pair) → distance_squared p q ≡ distance_squared q p
 unfolding distance_squared
-distance_back p q =
-    rw (as_difference p.x, as_difference p.y, as_difference q.x, as_difference q.y)
-    (simp (difference-add, difference-neg, difference-mul) (difference-eq _ _ _ _ (omega arith)))
+distance_back p q = rw (as_pair p, as_pair q) (simp difference_rules (difference-eq _ _ _ _ (omega arith)))
 
 -- the normal of an edge is as long as the edge
 normal_squared : (a b : Pair) → product (left_of a b) (left_of a b) ≡ distance_squared a b
 unfolding product distance_squared
-normal_squared a b =
-    rw (as_difference a.x, as_difference a.y, as_difference b.x, as_difference b.y)
-    (simp (difference-add, difference-neg, difference-mul) (difference-eq _ _ _ _ (omega arith)))
+normal_squared a b = rw (as_pair a, as_pair b) (simp difference_rules (difference-eq _ _ _ _ (omega arith)))
 
 -- two corners
 apart_by_corners : (S T : List Pair) (c d : Pair) (k : ℕ) (p q : Pair) → IsNearestCorner S d c → IsNearestCorner T c d

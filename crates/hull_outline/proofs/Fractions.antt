@@ -1,7 +1,7 @@
 -- Products of numbers in order, and a quotient of squares between two others.
 use Rattle.std.proofs.Common.{◌≡◌, ℤ, pos, ◌+ℤ◌, ◌-ℤ◌, ◌*ℤ◌, ◌≤ℤ◌, ◌<ℤ◌, inl, inr, subst, arith}
 use Rattle.std.proofs.lemmas.Int.{ints}
-use Rattle.lattice.specs.Polynomials.{difference-eq, as_difference, difference-add, difference-neg, difference-mul}
+use Rattle.lattice.specs.Polynomials.{difference-eq, as_difference, difference-mul, difference_rules}
 use Rattle.lattice.specs.Signs.{le_or_lt, product_nn, product_pp, cancel_nn}
 use Rattle.hull_outline.proofs.Cones.{square_nn}
 
@@ -9,7 +9,7 @@ use Rattle.hull_outline.proofs.Cones.{square_nn}
 unfold_products : (a b c d : ℤ) → b *ℤ d -ℤ a *ℤ c ≡ (b -ℤ a) *ℤ d +ℤ a *ℤ (d -ℤ c)
 unfold_products a b c d =
     rw (as_difference a, as_difference b, as_difference c, as_difference d)
-    (simp (difference-add, difference-neg, difference-mul) (difference-eq _ _ _ _ (omega arith)))
+    (simp difference_rules (difference-eq _ _ _ _ (omega arith)))
 
 -- products of numbers in order, none below 0, are in order
 pub products_le : (a b c d : ℤ) → pos 0 ≤ℤ a → a ≤ℤ b → pos 0 ≤ℤ c → c ≤ℤ d → (a *ℤ c) ≤ℤ (b *ℤ d)
@@ -37,7 +37,7 @@ products_lt a b ha ab =
 middle : (a b c x y z : ℤ) → (c *ℤ x -ℤ a *ℤ z) *ℤ y ≡ (c *ℤ y -ℤ b *ℤ z) *ℤ x +ℤ (b *ℤ x -ℤ a *ℤ y) *ℤ z
 middle a b c x y z =
     rw (as_difference a, as_difference b, as_difference c, as_difference x, as_difference y, as_difference z)
-    (simp (difference-add, difference-neg, difference-mul) (difference-eq _ _ _ _ (omega arith)))
+    (simp difference_rules (difference-eq _ _ _ _ (omega arith)))
 
 -- quotients in order
 pub quotients_le : (a b c x y z : ℤ) → pos 0 <ℤ y → pos 0 ≤ℤ x → pos 0 ≤ℤ z → (a *ℤ y) ≤ℤ (b *ℤ x)
@@ -108,13 +108,13 @@ expanded m l a b k j r s p =
       as_difference r,
       as_difference s,
       as_difference p,
-    ) (simp (difference-add, difference-neg, difference-mul) (difference-eq _ _ _ _ (omega arith)))
+    ) (simp difference_rules (difference-eq _ _ _ _ (omega arith)))
 
 -- a square drawn in
 drawn : (c n l m d : ℤ) → (c *ℤ n) *ℤ (c *ℤ n) *ℤ l -ℤ m *ℤ ((c *ℤ c) *ℤ d) ≡ ((n *ℤ n) *ℤ l -ℤ m *ℤ d) *ℤ (c *ℤ c)
 drawn c n l m d =
     rw (as_difference c, as_difference n, as_difference l, as_difference m, as_difference d)
-    (simp (difference-add, difference-neg, difference-mul) (difference-eq _ _ _ _ (omega arith)))
+    (simp difference_rules (difference-eq _ _ _ _ (omega arith)))
 
 -- between two directions the quotient is no less than the least at both
 pub between_two : (m l c n d a b k j r s p : ℤ) → pos 0 ≤ℤ m → pos 0 ≤ℤ l → pos 0 <ℤ c → pos 0 ≤ℤ a → pos 0 ≤ℤ b

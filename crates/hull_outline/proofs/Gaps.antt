@@ -3,7 +3,8 @@
 use Rattle.std.proofs.Common.{◌≡◌, ℤ, pos, ◌+ℤ◌, ◌-ℤ◌, ◌*ℤ◌, ◌≤ℤ◌, ◌<ℤ◌, neg_ℤ, inl, inr, refl, ap, ◌∙◌, subst, arith}
 use Rattle.std.proofs.lemmas.Int.{ints}
 use Rattle.lattice.specs.Plane.{Pair, product, distance_squared}
-use Rattle.lattice.specs.Polynomials.{difference-eq, as_difference, difference-add, difference-neg, difference-mul}
+use Rattle.lattice.specs.Polynomials.{difference-eq, as_difference, difference-mul, difference_rules}
+use Rattle.lattice.proofs.Vectors.{as_pair}
 use Rattle.lattice.specs.Signs.{le_or_lt, product_nn, product_pp, product_np}
 use Rattle.hull_outline.specs.Steps.{step}
 use Rattle.hull_outline.proofs.Cones.{square_nn}
@@ -19,13 +20,10 @@ pub parts : (n e w : Pair)
 unfolding product
 parts n e w =
     rw (
-      as_difference n.x,
-      as_difference n.y,
-      as_difference e.x,
-      as_difference e.y,
-      as_difference w.x,
-      as_difference w.y,
-    ) (simp (difference-add, difference-neg, difference-mul) (difference-eq _ _ _ _ (omega arith)))
+      as_pair n,
+      as_pair e,
+      as_pair w,
+    ) (simp difference_rules (difference-eq _ _ _ _ (omega arith)))
 
 -- so many times the step from x to q and so many times the one from y
 abbrev pub gap : ℤ → ℤ → Pair → Pair → Pair → Pair
@@ -40,30 +38,23 @@ pub along_gap : (d : Pair) (l m : ℤ) (q x y : Pair)
 unfolding product
 along_gap d l m q x y =
     rw (
-      as_difference d.x,
-      as_difference d.y,
+      as_pair d,
       as_difference l,
       as_difference m,
-      as_difference q.x,
-      as_difference q.y,
-      as_difference x.x,
-      as_difference x.y,
-      as_difference y.x,
-      as_difference y.y,
-    ) (simp (difference-add, difference-neg, difference-mul) (difference-eq _ _ _ _ (omega arith)))
+      as_pair q,
+      as_pair x,
+      as_pair y,
+    ) (simp difference_rules (difference-eq _ _ _ _ (omega arith)))
 
 -- how far a step goes in a direction
 pub along_step : (d p q : Pair) → product d (step p q) ≡ product d q -ℤ product d p
 unfolding product
 along_step d p q =
     rw (
-      as_difference d.x,
-      as_difference d.y,
-      as_difference p.x,
-      as_difference p.y,
-      as_difference q.x,
-      as_difference q.y,
-    ) (simp (difference-add, difference-neg, difference-mul) (difference-eq _ _ _ _ (omega arith)))
+      as_pair d,
+      as_pair p,
+      as_pair q,
+    ) (simp difference_rules (difference-eq _ _ _ _ (omega arith)))
 
 -- a squared length is not negative
 pub length_nn : (d : Pair) → pos 0 ≤ℤ product d d
@@ -107,13 +98,12 @@ three_factors e w l =
 
 -- a difference of squares
 square_apart : (u g : ℤ) → (u -ℤ g) *ℤ (u +ℤ g) ≡ u *ℤ u -ℤ g *ℤ g
-square_apart u g = rw (as_difference u, as_difference g)
-    (simp (difference-add, difference-neg, difference-mul) (difference-eq _ _ _ _ (omega arith)))
+square_apart u g = rw (as_difference u, as_difference g) (simp difference_rules (difference-eq _ _ _ _ (omega arith)))
 
 -- a difference drawn out
 drawn_out : (u g e : ℤ) → (u -ℤ g) *ℤ e ≡ u *ℤ e -ℤ g *ℤ e
 drawn_out u g e = rw (as_difference u, as_difference g, as_difference e)
-    (simp (difference-add, difference-neg, difference-mul) (difference-eq _ _ _ _ (omega arith)))
+    (simp difference_rules (difference-eq _ _ _ _ (omega arith)))
 
 -- of a step across no direction but n, the squared length by that of n
 pub across_nothing : (n w : Pair) → product (turned n) w ≡ pos 0

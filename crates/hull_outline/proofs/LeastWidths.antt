@@ -6,11 +6,11 @@ use Rattle.std.proofs.lemmas.Bool.{cases_lt}
 use Rattle.std.proofs.lemmas.Int.{ints}
 use Rattle.std.proofs.lemmas.List.Elements.{All-contains}
 use Rattle.lattice.specs.Plane.{Pair, orient, product, distance_squared, IsBefore}
-use Rattle.lattice.specs.Polynomials.{difference-eq, as_difference, difference-add, difference-neg, difference-mul}
+use Rattle.lattice.specs.Polynomials.{difference-eq, as_difference, difference-add, difference-neg, difference-mul, difference_rules}
 use Rattle.lattice.specs.Signs.{le_or_lt, product_nn, product_pp, cancel_nn}
 use Rattle.lattice.specs.Vertices.{IsLeftOf}
 use Rattle.lattice.proofs.Order.{equal_by}
-use Rattle.lattice.proofs.Vectors.{minus, opp, cross, cross_swap}
+use Rattle.lattice.proofs.Vectors.{as_pair, minus, opp, cross, cross_swap}
 use Rattle.hull_plain.proofs.Orientation.{orient_other}
 use Rattle.hull_outline.specs.Extents.{IsExtent, IsLeastWidth, IsOnePoint, IsStrip, IsStripAt, IsThinnerOf}
 use Rattle.hull_outline.specs.Extents.{IsThinnestOf}
@@ -49,9 +49,7 @@ length_of_step a b = refl
 -- and by the step back
 length_of_back : (a b : Pair) → distance_squared a b ≡ length_squared (minus a b)
 unfolding distance_squared
-length_of_back a b =
-    rw (as_difference a.x, as_difference a.y, as_difference b.x, as_difference b.y)
-    (simp (difference-add, difference-neg, difference-mul) (difference-eq _ _ _ _ (omega arith)))
+length_of_back a b = rw (as_pair a, as_pair b) (simp difference_rules (difference-eq _ _ _ _ (omega arith)))
 
 -- a direction along itself
 along_itself : (d : Pair) → product d d ≡ length_squared d
@@ -63,26 +61,20 @@ mean_x : (d g h : Pair) → cross h g *ℤ d.x ≡ product d h *ℤ g.y -ℤ pro
 unfolding product
 mean_x d g h =
     rw (
-      as_difference d.x,
-      as_difference d.y,
-      as_difference g.x,
-      as_difference g.y,
-      as_difference h.x,
-      as_difference h.y,
-    ) (simp (difference-add, difference-neg, difference-mul) (difference-eq _ _ _ _ (omega arith)))
+      as_pair d,
+      as_pair g,
+      as_pair h,
+    ) (simp difference_rules (difference-eq _ _ _ _ (omega arith)))
 
 -- and by y
 mean_y : (d g h : Pair) → cross h g *ℤ d.y ≡ product d g *ℤ h.x -ℤ product d h *ℤ g.x
 unfolding product
 mean_y d g h =
     rw (
-      as_difference d.x,
-      as_difference d.y,
-      as_difference g.x,
-      as_difference g.y,
-      as_difference h.x,
-      as_difference h.y,
-    ) (simp (difference-add, difference-neg, difference-mul) (difference-eq _ _ _ _ (omega arith)))
+      as_pair d,
+      as_pair g,
+      as_pair h,
+    ) (simp difference_rules (difference-eq _ _ _ _ (omega arith)))
 
 -- a weighed square
 weighed_square : (c x y : ℤ) → (c *ℤ c) *ℤ (x *ℤ x +ℤ y *ℤ y) ≡ (c *ℤ x) *ℤ (c *ℤ x) +ℤ (c *ℤ y) *ℤ (c *ℤ y)
@@ -98,7 +90,7 @@ normals_square : (a b gx gy hx hy : ℤ)
     +ℤ ((a *ℤ b) *ℤ neg_ℤ (gx *ℤ hx +ℤ gy *ℤ hy) +ℤ (b *ℤ b) *ℤ (hx *ℤ hx +ℤ hy *ℤ hy)))
 normals_square a b gx gy hx hy =
     rw (as_difference a, as_difference b, as_difference gx, as_difference gy, as_difference hx, as_difference hy)
-    (simp (difference-add, difference-neg, difference-mul) (difference-eq _ _ _ _ (omega arith)))
+    (simp difference_rules (difference-eq _ _ _ _ (omega arith)))
 
 -- the length of a direction between two others, squared
 mean_square : (d g h : Pair)
@@ -115,9 +107,7 @@ mean_square d g h =
 -- the identity of Lagrange
 lagrange : (g h : Pair)
     → length_squared g *ℤ length_squared h -ℤ neg_ℤ (dot g h) *ℤ neg_ℤ (dot g h) ≡ cross h g *ℤ cross h g
-lagrange g h =
-    rw (as_difference g.x, as_difference g.y, as_difference h.x, as_difference h.y)
-    (simp (difference-add, difference-neg, difference-mul) (difference-eq _ _ _ _ (omega arith)))
+lagrange g h = rw (as_pair g, as_pair h) (simp difference_rules (difference-eq _ _ _ _ (omega arith)))
 
 -- how far w goes along d, by g
 level_along : (d g w : Pair)
@@ -125,21 +115,16 @@ level_along : (d g w : Pair)
 unfolding product
 level_along d g w =
     rw (
-      as_difference d.x,
-      as_difference d.y,
-      as_difference g.x,
-      as_difference g.y,
-      as_difference w.x,
-      as_difference w.y,
-    ) (simp (difference-add, difference-neg, difference-mul) (difference-eq _ _ _ _ (omega arith)))
+      as_pair d,
+      as_pair g,
+      as_pair w,
+    ) (simp difference_rules (difference-eq _ _ _ _ (omega arith)))
 
 -- the length of d, by g
 level_length : (d g : Pair)
     → length_squared d *ℤ length_squared g ≡ product d g *ℤ product d g +ℤ cross g d *ℤ cross g d
 unfolding product
-level_length d g =
-    rw (as_difference d.x, as_difference d.y, as_difference g.x, as_difference g.y)
-    (simp (difference-add, difference-neg, difference-mul) (difference-eq _ _ _ _ (omega arith)))
+level_length d g = rw (as_pair d, as_pair g) (simp difference_rules (difference-eq _ _ _ _ (omega arith)))
 
 -- ---- numbers
 
@@ -148,14 +133,14 @@ drawn_level : (m l n d r : ℤ)
     → ((n *ℤ n) *ℤ l -ℤ m *ℤ d) *ℤ (r *ℤ r) ≡ ((n *ℤ r) *ℤ (n *ℤ r)) *ℤ l -ℤ m *ℤ ((d *ℤ r) *ℤ r)
 drawn_level m l n d r =
     rw (as_difference m, as_difference l, as_difference n, as_difference d, as_difference r)
-    (simp (difference-add, difference-neg, difference-mul) (difference-eq _ _ _ _ (omega arith)))
+    (simp difference_rules (difference-eq _ _ _ _ (omega arith)))
 
 -- and what they have in common
 common_level : (m l k c r : ℤ)
     → (neg_ℤ (k *ℤ c) *ℤ neg_ℤ (k *ℤ c)) *ℤ l -ℤ m *ℤ ((c *ℤ c) *ℤ r) ≡ (c *ℤ c) *ℤ ((k *ℤ k) *ℤ l -ℤ m *ℤ r)
 common_level m l k c r =
     rw (as_difference m, as_difference l, as_difference k, as_difference c, as_difference r)
-    (simp (difference-add, difference-neg, difference-mul) (difference-eq _ _ _ _ (omega arith)))
+    (simp difference_rules (difference-eq _ _ _ _ (omega arith)))
 
 -- a direction in line with a normal has the same quotient
 level_quotient : (m l n d k r c : ℤ) → pos 0 <ℤ r → (m *ℤ r) ≤ℤ ((k *ℤ k) *ℤ l) → n *ℤ r ≡ neg_ℤ (k *ℤ c)

@@ -9,10 +9,10 @@ use Rattle.std.proofs.lemmas.List.Elements.{All-contains}
 use Rattle.lattice.specs.Covers.{Covers, OnSegment, IsOnSegment}
 use Rattle.lattice.specs.Places.{IsFarthest}
 use Rattle.lattice.specs.Plane.{Pair, orient, product}
-use Rattle.lattice.specs.Polynomials.{difference-eq, as_difference, difference-add, difference-neg, difference-mul}
+use Rattle.lattice.specs.Polynomials.{difference-eq, difference_rules}
 use Rattle.lattice.specs.Signs.{le_or_lt}
 use Rattle.lattice.specs.Vertices.{IsLeftOf, IsVertexList}
-use Rattle.lattice.proofs.Vectors.{opp}
+use Rattle.lattice.proofs.Vectors.{as_pair, opp}
 use Rattle.hull_plain.specs.Positions.{point_at}
 use Rattle.hull_plain.proofs.Decided.{covers_or_separated}
 use Rattle.hull_plain.proofs.NotCovered.{not_covered}
@@ -226,13 +226,10 @@ pub step_back : (a b t : Pair) → product (step b a) t ≡ neg_ℤ (product (st
 unfolding product
 step_back a b t =
     rw (
-      as_difference a.x,
-      as_difference a.y,
-      as_difference b.x,
-      as_difference b.y,
-      as_difference t.x,
-      as_difference t.y,
-    ) (simp (difference-add, difference-neg, difference-mul) (difference-eq _ _ _ _ (omega arith)))
+      as_pair a,
+      as_pair b,
+      as_pair t,
+    ) (simp difference_rules (difference-eq _ _ _ _ (omega arith)))
 
 -- a point of the line of a and b that lies onward from both is on their segment
 between_both : (a b q : Pair) → orient a b q ≡ pos 0 → IsOnward a b q → IsOnward b a q → IsOnSegment a b q

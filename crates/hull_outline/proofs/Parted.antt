@@ -2,10 +2,10 @@
 use Rattle.std.proofs.Common.{◌≡◌, ℤ, pos, negsuc, ◌+ℤ◌, ◌-ℤ◌, ◌*ℤ◌, ◌≤ℤ◌, ◌<ℤ◌, neg_ℤ, inl, inr, sym, ap, ◌∙◌, arith}
 use Rattle.std.proofs.lemmas.Int.{ints}
 use Rattle.lattice.specs.Plane.{Pair, orient, product}
-use Rattle.lattice.specs.Polynomials.{difference-eq, as_difference, difference-add, difference-neg, difference-mul}
+use Rattle.lattice.specs.Polynomials.{difference-eq, as_difference, difference_rules}
 use Rattle.lattice.specs.Signs.{le_or_lt, product_pp, product_np, product_pn}
 use lib.IntN.{*ℤ_comm}
-use Rattle.lattice.proofs.Vectors.{opp}
+use Rattle.lattice.proofs.Vectors.{as_pair, opp}
 use Rattle.hull_plain.proofs.NotCovered.{not_covered}
 use Rattle.hull_outline.specs.Meetings.{IsCrossing, Reaches, IsReached, Crosses, NeverBoth}
 use Rattle.hull_outline.proofs.EdgesOf.{all_of}
@@ -18,15 +18,11 @@ pub weights_x : (a b c e : Pair)
 unfolding orient
 weights_x a b c e =
     rw (
-      as_difference a.x,
-      as_difference a.y,
-      as_difference b.x,
-      as_difference b.y,
-      as_difference c.x,
-      as_difference c.y,
-      as_difference e.x,
-      as_difference e.y,
-    ) (simp (difference-add, difference-neg, difference-mul) (difference-eq _ _ _ _ (omega arith)))
+      as_pair a,
+      as_pair b,
+      as_pair c,
+      as_pair e,
+    ) (simp difference_rules (difference-eq _ _ _ _ (omega arith)))
 
 -- and by y
 pub weights_y : (a b c e : Pair)
@@ -34,30 +30,22 @@ pub weights_y : (a b c e : Pair)
 unfolding orient
 weights_y a b c e =
     rw (
-      as_difference a.x,
-      as_difference a.y,
-      as_difference b.x,
-      as_difference b.y,
-      as_difference c.x,
-      as_difference c.y,
-      as_difference e.x,
-      as_difference e.y,
-    ) (simp (difference-add, difference-neg, difference-mul) (difference-eq _ _ _ _ (omega arith)))
+      as_pair a,
+      as_pair b,
+      as_pair c,
+      as_pair e,
+    ) (simp difference_rules (difference-eq _ _ _ _ (omega arith)))
 
 -- the weights have one sum
 pub weights_sum : (a b c e : Pair) → orient c e a -ℤ orient c e b ≡ orient a b e -ℤ orient a b c
 unfolding orient
 weights_sum a b c e =
     rw (
-      as_difference a.x,
-      as_difference a.y,
-      as_difference b.x,
-      as_difference b.y,
-      as_difference c.x,
-      as_difference c.y,
-      as_difference e.x,
-      as_difference e.y,
-    ) (simp (difference-add, difference-neg, difference-mul) (difference-eq _ _ _ _ (omega arith)))
+      as_pair a,
+      as_pair b,
+      as_pair c,
+      as_pair e,
+    ) (simp difference_rules (difference-eq _ _ _ _ (omega arith)))
 
 -- weights of two coordinates, taken together
 together : (p q u v w z x y : ℤ)
@@ -72,7 +60,7 @@ together p q u v w z x y =
       as_difference z,
       as_difference x,
       as_difference y,
-    ) (simp (difference-add, difference-neg, difference-mul) (difference-eq _ _ _ _ (omega arith)))
+    ) (simp difference_rules (difference-eq _ _ _ _ (omega arith)))
 
 -- and by how far they lie in a direction
 pub weights : (d a b c e : Pair)
@@ -89,7 +77,7 @@ weights d a b c e =
 seen_from : (p q x w m : ℤ) → p *ℤ (x -ℤ m) -ℤ q *ℤ (w -ℤ m) ≡ (p *ℤ x -ℤ q *ℤ w) -ℤ (p -ℤ q) *ℤ m
 seen_from p q x w m =
     rw (as_difference p, as_difference q, as_difference x, as_difference w, as_difference m)
-    (simp (difference-add, difference-neg, difference-mul) (difference-eq _ _ _ _ (omega arith)))
+    (simp difference_rules (difference-eq _ _ _ _ (omega arith)))
 
 -- the same from any number m
 shifted : (p q r s w x y z m : ℤ) → p *ℤ x -ℤ q *ℤ w ≡ r *ℤ y -ℤ s *ℤ z → p -ℤ q ≡ r -ℤ s
@@ -183,9 +171,7 @@ not_crossing d a b c e ac ae bc be x = elim (le_or_lt (product d a) (product d b
 -- a direction backwards
 pub product_opp : (d t : Pair) → product (opp d) t ≡ neg_ℤ (product d t)
 unfolding product
-product_opp d t =
-    rw (as_difference d.x, as_difference d.y, as_difference t.x, as_difference t.y)
-    (simp (difference-add, difference-neg, difference-mul) (difference-eq _ _ _ _ (omega arith)))
+product_opp d t = rw (as_pair d, as_pair t) (simp difference_rules (difference-eq _ _ _ _ (omega arith)))
 
 -- what is farther in it is less far in the other
 pub farther_back : (d s t : Pair) → product d s <ℤ product d t → product (opp d) t <ℤ product (opp d) s

@@ -8,7 +8,7 @@ use Rattle.std.proofs.lemmas.Bool.{cases_lt}
 use Rattle.std.proofs.lemmas.Int.{ints}
 use Rattle.std.proofs.lemmas.List.Elements.{All-contains}
 use Rattle.lattice.specs.Plane.{Pair, orient, product}
-use Rattle.lattice.specs.Polynomials.{difference-eq, as_difference, difference-add, difference-neg, difference-mul}
+use Rattle.lattice.specs.Polynomials.{difference-eq, as_difference, difference-add, difference-mul, difference_rules}
 use lib.IntN.{*ℤ_comm}
 use Rattle.lattice.specs.Signs.{le_or_lt, product_nn, product_pp, product_np, cancel_zero}
 use Rattle.lattice.proofs.Order.{same_pair}
@@ -17,7 +17,7 @@ use Rattle.hull_outline.proofs.Cones.{cone}
 use Rattle.lattice.specs.Vertices.{IsLeftOf}
 use Rattle.hull_plain.proofs.Orientation.{orient_other}
 use Rattle.lattice.proofs.LineCrossings.{orient_end}
-use Rattle.lattice.proofs.Vectors.{opp}
+use Rattle.lattice.proofs.Vectors.{as_pair, opp}
 use Rattle.hull_outline.specs.Meetings.{Parts, IsApart, segment}
 use Rattle.hull_outline.specs.Outlines.{IsOutlineOf}
 use Rattle.hull_outline.specs.Rounds.{corner, IsParted}
@@ -59,7 +59,7 @@ weigh_from u v w x y z m =
       as_difference z,
       as_difference m,
     )
-    (simp (difference-add, difference-neg, difference-mul) (difference-eq _ _ _ _ (omega arith)))
+    (simp difference_rules (difference-eq _ _ _ _ (omega arith)))
 
 -- weighted numbers that are all less than m
 weigh_less : (u v w x y z m : ℤ) → pos 0 ≤ℤ u → pos 0 ≤ℤ v → pos 0 ≤ℤ w → pos 0 <ℤ (u +ℤ v +ℤ w) → x <ℤ m → y <ℤ m
@@ -88,14 +88,10 @@ weigh_points : (f a b c : Pair) (u v w : ℤ)
 unfolding product
 weigh_points f a b c u v w =
     rw (
-      as_difference f.x,
-      as_difference f.y,
-      as_difference a.x,
-      as_difference a.y,
-      as_difference b.x,
-      as_difference b.y,
-      as_difference c.x,
-      as_difference c.y,
+      as_pair f,
+      as_pair a,
+      as_pair b,
+      as_pair c,
       as_difference u,
       as_difference v,
       as_difference w,
@@ -109,7 +105,7 @@ times k p = record { x = k *ℤ p.x; y = k *ℤ p.y }
 times_far : (k : ℤ) (f p : Pair) → product f (times k p) ≡ k *ℤ product f p
 unfolding product
 times_far k f p =
-    rw (as_difference k, as_difference f.x, as_difference f.y, as_difference p.x, as_difference p.y)
+    rw (as_difference k, as_pair f, as_pair p)
     (simp (difference-add, difference-mul) (difference-eq _ _ _ _ (omega arith)))
 
 -- a product with a positive number keeps the order
@@ -121,7 +117,7 @@ times_less k x y h l = under _ _ _ (spread k x y) (product_pp k (y -ℤ x) h (om
 
     spread : (k x y : ℤ) → k *ℤ y -ℤ k *ℤ x ≡ k *ℤ (y -ℤ x)
     spread k x y = rw (as_difference k, as_difference x, as_difference y)
-        (simp (difference-add, difference-neg, difference-mul) (difference-eq _ _ _ _ (omega arith)))
+        (simp difference_rules (difference-eq _ _ _ _ (omega arith)))
 
 -- the side of a point at an edge that is so many times as far out
 times_side : (k : ℤ) (a b x : Pair)
@@ -130,13 +126,10 @@ unfolding orient product
 times_side k a b x =
     rw (
       as_difference k,
-      as_difference a.x,
-      as_difference a.y,
-      as_difference b.x,
-      as_difference b.y,
-      as_difference x.x,
-      as_difference x.y,
-    ) (simp (difference-add, difference-neg, difference-mul) (difference-eq _ _ _ _ (omega arith)))
+      as_pair a,
+      as_pair b,
+      as_pair x,
+    ) (simp difference_rules (difference-eq _ _ _ _ (omega arith)))
 
 -- ---- the edge that is passed
 
@@ -364,7 +357,7 @@ same_far {m} k f p q big e g =
   where
     spread : (x y z : ℤ) → (x -ℤ y) *ℤ z ≡ z *ℤ x -ℤ z *ℤ y
     spread x y z = rw (as_difference x, as_difference y, as_difference z)
-        (simp (difference-add, difference-neg, difference-mul) (difference-eq _ _ _ _ (omega arith)))
+        (simp difference_rules (difference-eq _ _ _ _ (omega arith)))
 
     nothing : (a b x y m : ℤ) → x ≡ a → y ≡ b → x ≡ m → y ≡ m → a -ℤ b ≡ pos 0
     nothing a b x y m e g i j = omega (arith, ints)
@@ -399,15 +392,15 @@ north c = record { x = c.x; y = c.y +ℤ pos 1 }
 step_east : (f c : Pair) → product f (east c) -ℤ product f c ≡ f.x
 unfolding product
 step_east f c =
-    rw (as_difference f.x, as_difference f.y, as_difference c.x, as_difference c.y, as_difference (pos 1))
-    (simp (difference-add, difference-neg, difference-mul) (difference-eq _ _ _ _ (omega arith)))
+    rw (as_pair f, as_pair c, as_difference (pos 1))
+    (simp difference_rules (difference-eq _ _ _ _ (omega arith)))
 
 -- how far a step up goes
 step_north : (f c : Pair) → product f (north c) -ℤ product f c ≡ f.y
 unfolding product
 step_north f c =
-    rw (as_difference f.x, as_difference f.y, as_difference c.x, as_difference c.y, as_difference (pos 1))
-    (simp (difference-add, difference-neg, difference-mul) (difference-eq _ _ _ _ (omega arith)))
+    rw (as_pair f, as_pair c, as_difference (pos 1))
+    (simp difference_rules (difference-eq _ _ _ _ (omega arith)))
 
 -- a turned step that goes nowhere is between one point and itself
 turned_nothing : (a b c : Pair) → product (left_of a b) (east c) ≡ product (left_of a b) c

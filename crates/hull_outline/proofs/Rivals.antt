@@ -8,7 +8,8 @@ use Rattle.std.proofs.lemmas.List.Elements.{All-contains}
 use lib.IntN.{*ℤ_comm}
 use Rattle.lattice.specs.Integers.{distrib_r}
 use Rattle.lattice.specs.Plane.{Pair, product}
-use Rattle.lattice.specs.Polynomials.{difference-eq, as_difference, difference-add, difference-neg, difference-mul}
+use Rattle.lattice.specs.Polynomials.{difference-eq, as_difference, difference_rules}
+use Rattle.lattice.proofs.Vectors.{as_pair}
 use Rattle.lattice.specs.Signs.{le_or_lt, product_nn, product_pp, product_np, product_pn, cancel_nn}
 use Rattle.hull_outline.specs.Nearest.{IsNearestEdge}
 use Rattle.hull_outline.specs.Separations.{IsSeparation}
@@ -69,7 +70,7 @@ depth_from S q x w h m =
 weighed_less : (l m h u v : ℤ) → (l *ℤ u +ℤ m *ℤ v) -ℤ (l +ℤ m) *ℤ h ≡ l *ℤ (u -ℤ h) +ℤ m *ℤ (v -ℤ h)
 weighed_less l m h u v =
     rw (as_difference l, as_difference m, as_difference h, as_difference u, as_difference v)
-    (simp (difference-add, difference-neg, difference-mul) (difference-eq _ _ _ _ (omega arith)))
+    (simp difference_rules (difference-eq _ _ _ _ (omega arith)))
 
 -- two numbers no less than a third, weighed
 weighed_up : (l m h u v : ℤ) → pos 0 ≤ℤ l → pos 0 ≤ℤ m → h ≤ℤ u → h ≤ℤ v → ((l +ℤ m) *ℤ h) ≤ℤ (l *ℤ u +ℤ m *ℤ v)
@@ -111,7 +112,7 @@ balanced x y z = nothing _ _ (flipped x y z)
   where
     flipped : (x y z : ℤ) → (y -ℤ z) *ℤ (z -ℤ x) ≡ neg_ℤ ((z -ℤ x) *ℤ (z -ℤ y))
     flipped x y z = rw (as_difference x, as_difference y, as_difference z)
-        (simp (difference-add, difference-neg, difference-mul) (difference-eq _ _ _ _ (omega arith)))
+        (simp difference_rules (difference-eq _ _ _ _ (omega arith)))
 
     nothing : (x y : ℤ) → x ≡ neg_ℤ y → x +ℤ y ≡ pos 0
     nothing x y e = omega (arith, ints)
@@ -143,9 +144,7 @@ across n d w z =
 -- the way there and back has one length
 both_ways : (c d : Pair) → product (step d c) (step d c) ≡ product (step c d) (step c d)
 unfolding product
-both_ways c d =
-    rw (as_difference c.x, as_difference c.y, as_difference d.x, as_difference d.y)
-    (simp (difference-add, difference-neg, difference-mul) (difference-eq _ _ _ _ (omega arith)))
+both_ways c d = rw (as_pair c, as_pair d) (simp difference_rules (difference-eq _ _ _ _ (omega arith)))
 
 -- a factor on both sides is cancelled
 shorter : (l r h : ℤ) → pos 0 <ℤ l → ((l *ℤ l) *ℤ r) ≤ℤ ((h *ℤ h) *ℤ l) → (l *ℤ r) ≤ℤ (h *ℤ h)
@@ -154,7 +153,7 @@ shorter l r h hl m =
   where
     drawn : (k l r : ℤ) → (k -ℤ l *ℤ r) *ℤ l ≡ k *ℤ l -ℤ (l *ℤ l) *ℤ r
     drawn k l r = rw (as_difference k, as_difference l, as_difference r)
-        (simp (difference-add, difference-neg, difference-mul) (difference-eq _ _ _ _ (omega arith)))
+        (simp difference_rules (difference-eq _ _ _ _ (omega arith)))
 
     rest : (x y z : ℤ) → x ≡ y -ℤ z → z ≤ℤ y → pos 0 ≤ℤ x
     rest x y z e h = omega (arith, ints)
@@ -278,33 +277,25 @@ turned_edge : (a b t : Pair) → product (turned (left_of b a)) t ≡ product (s
 unfolding product
 turned_edge a b t =
     rw (
-      as_difference a.x,
-      as_difference a.y,
-      as_difference b.x,
-      as_difference b.y,
-      as_difference t.x,
-      as_difference t.y,
-    ) (simp (difference-add, difference-neg, difference-mul) (difference-eq _ _ _ _ (omega arith)))
+      as_pair a,
+      as_pair b,
+      as_pair t,
+    ) (simp difference_rules (difference-eq _ _ _ _ (omega arith)))
 
 -- the other normal
 pub other_normal : (a b t : Pair) → product (left_of a b) t ≡ neg_ℤ (product (left_of b a) t)
 unfolding product
 other_normal a b t =
     rw (
-      as_difference a.x,
-      as_difference a.y,
-      as_difference b.x,
-      as_difference b.y,
-      as_difference t.x,
-      as_difference t.y,
-    ) (simp (difference-add, difference-neg, difference-mul) (difference-eq _ _ _ _ (omega arith)))
+      as_pair a,
+      as_pair b,
+      as_pair t,
+    ) (simp difference_rules (difference-eq _ _ _ _ (omega arith)))
 
 -- both ends of an edge lie as far along its normal
 ends_level : (a b : Pair) → product (left_of b a) a ≡ product (left_of b a) b
 unfolding product
-ends_level a b =
-    rw (as_difference a.x, as_difference a.y, as_difference b.x, as_difference b.y)
-    (simp (difference-add, difference-neg, difference-mul) (difference-eq _ _ _ _ (omega arith)))
+ends_level a b = rw (as_pair a, as_pair b) (simp difference_rules (difference-eq _ _ _ _ (omega arith)))
 
 -- products of a number above 0 with numbers in order
 drawn_out : (k x y : ℤ) → pos 0 <ℤ k → x <ℤ y → (k *ℤ x) <ℤ (k *ℤ y)
@@ -312,7 +303,7 @@ drawn_out k x y h l = less _ _ _ (apart k x y) (product_pp k (y -ℤ x) h (rest 
   where
     apart : (k x y : ℤ) → k *ℤ (y -ℤ x) ≡ k *ℤ y -ℤ k *ℤ x
     apart k x y = rw (as_difference k, as_difference x, as_difference y)
-        (simp (difference-add, difference-neg, difference-mul) (difference-eq _ _ _ _ (omega arith)))
+        (simp difference_rules (difference-eq _ _ _ _ (omega arith)))
 
     rest : (x y : ℤ) → x <ℤ y → pos 0 <ℤ (y -ℤ x)
     rest x y h = omega (arith, ints)
@@ -499,7 +490,7 @@ module _ (S T : List Pair) (c a b s : Pair) (d : Pair)
           → (l *ℤ (b -ℤ c) +ℤ m *ℤ (b -ℤ s)) +ℤ (l +ℤ m) *ℤ (c -ℤ b) ≡ m *ℤ (c -ℤ s)
       level l m b c s =
           rw (as_difference l, as_difference m, as_difference b, as_difference c, as_difference s)
-          (simp (difference-add, difference-neg, difference-mul) (difference-eq _ _ _ _ (omega arith)))
+          (simp difference_rules (difference-eq _ _ _ _ (omega arith)))
 
       low : (x y z : ℤ) → x +ℤ y ≡ z → pos 0 <ℤ z → neg_ℤ y <ℤ x
       low x y z e h = omega (arith, ints)

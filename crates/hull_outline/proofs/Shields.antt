@@ -6,7 +6,8 @@ use Rattle.std.proofs.lemmas.Int.{ints}
 use Rattle.std.proofs.lemmas.List.Elements.{All-contains}
 use Rattle.lattice.specs.Covers.{Covers, OnSegment, IsOnSegment, IsBetween, IsPointSet}
 use Rattle.lattice.specs.Plane.{Pair, orient, product, IsBefore}
-use Rattle.lattice.specs.Polynomials.{difference-eq, as_difference, difference-add, difference-neg, difference-mul}
+use Rattle.lattice.specs.Polynomials.{difference-eq, as_difference, difference_rules}
+use Rattle.lattice.proofs.Vectors.{as_pair}
 use lib.IntN.{*ℤ_comm}
 use Rattle.lattice.specs.Signs.{le_or_lt, product_nn, cancel_nn}
 use Rattle.lattice.proofs.Order.{before_total, before_not, before_irrefl}
@@ -210,17 +211,17 @@ shielded_across S a b left right ml mr n above below beyond =
 -- a product with a difference
 spread : (s e a : ℤ) → s *ℤ (e -ℤ a) ≡ s *ℤ e -ℤ s *ℤ a
 spread s e a = rw (as_difference s, as_difference e, as_difference a)
-    (simp (difference-add, difference-neg, difference-mul) (difference-eq _ _ _ _ (omega arith)))
+    (simp difference_rules (difference-eq _ _ _ _ (omega arith)))
 
 -- what is left of two weights when their sum is taken off the second number
 rest_first : (p q a b : ℤ) → (p *ℤ b -ℤ q *ℤ a) -ℤ (p -ℤ q) *ℤ a ≡ p *ℤ (b -ℤ a)
 rest_first p q a b = rw (as_difference p, as_difference q, as_difference a, as_difference b)
-    (simp (difference-add, difference-neg, difference-mul) (difference-eq _ _ _ _ (omega arith)))
+    (simp difference_rules (difference-eq _ _ _ _ (omega arith)))
 
 -- and when they are taken off their sum of the first
 rest_second : (p q a b : ℤ) → (p -ℤ q) *ℤ b -ℤ (p *ℤ b -ℤ q *ℤ a) ≡ q *ℤ (a -ℤ b)
 rest_second p q a b = rw (as_difference p, as_difference q, as_difference a, as_difference b)
-    (simp (difference-add, difference-neg, difference-mul) (difference-eq _ _ _ _ (omega arith)))
+    (simp difference_rules (difference-eq _ _ _ _ (omega arith)))
 
 -- a product with a positive number that is not negative
 positive_part : (s x : ℤ) → pos 0 <ℤ s → pos 0 ≤ℤ (s *ℤ x) → pos 0 ≤ℤ x
@@ -243,7 +244,7 @@ between_ordered p q s a b e hp hq hs w h l =
 -- the two weights exchanged
 exchanged : (p q a b : ℤ) → p *ℤ b -ℤ q *ℤ a ≡ neg_ℤ q *ℤ a -ℤ neg_ℤ p *ℤ b
 exchanged p q a b = rw (as_difference p, as_difference q, as_difference a, as_difference b)
-    (simp (difference-add, difference-neg, difference-mul) (difference-eq _ _ _ _ (omega arith)))
+    (simp difference_rules (difference-eq _ _ _ _ (omega arith)))
 
 -- whichever of them is less
 between_by : (p q s a b e : ℤ) → pos 0 ≤ℤ p → q ≤ℤ pos 0 → pos 0 <ℤ s → s ≡ p -ℤ q → s *ℤ e ≡ p *ℤ b -ℤ q *ℤ a
@@ -261,7 +262,7 @@ other_left p q a b w z e =
   where
     negated : (x y : ℤ) → neg_ℤ x *ℤ y ≡ pos 0 *ℤ b -ℤ x *ℤ y
     negated x y = rw (as_difference x, as_difference y, as_difference b, as_difference (pos 0))
-        (simp (difference-add, difference-neg, difference-mul) (difference-eq _ _ _ _ (omega arith)))
+        (simp difference_rules (difference-eq _ _ _ _ (omega arith)))
 
 -- and the other way round
 one_left : (p q a b w : ℤ) → q ≡ pos 0 → p *ℤ b -ℤ q *ℤ a ≡ w → p *ℤ b ≡ w
@@ -292,13 +293,10 @@ pub product_left : (a b t : Pair) → product (left_of a b) t -ℤ product (left
 unfolding orient product
 product_left a b t =
     rw (
-      as_difference a.x,
-      as_difference a.y,
-      as_difference b.x,
-      as_difference b.y,
-      as_difference t.x,
-      as_difference t.y,
-    ) (simp (difference-add, difference-neg, difference-mul) (difference-eq _ _ _ _ (omega arith)))
+      as_pair a,
+      as_pair b,
+      as_pair t,
+    ) (simp difference_rules (difference-eq _ _ _ _ (omega arith)))
 
 -- a set that lies right of the line from a to b is parted from both
 pub parted_right : (S : List Pair) (a b p : Pair) → IsLeftmost S a b p → orient a b p <ℤ pos 0

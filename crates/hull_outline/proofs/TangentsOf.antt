@@ -6,7 +6,8 @@ use Rattle.std.proofs.lemmas.Bool.{cases_lt}
 use Rattle.std.proofs.lemmas.Int.{ints}
 use Rattle.std.proofs.lemmas.List.Elements.{All-contains}
 use Rattle.lattice.specs.Plane.{Pair, orient, distance_squared, IsBefore, turned_point}
-use Rattle.lattice.specs.Polynomials.{difference-eq, as_difference, difference-add, difference-neg, difference-mul}
+use Rattle.lattice.specs.Polynomials.{difference-eq, difference_rules}
+use Rattle.lattice.proofs.Vectors.{as_pair}
 use Rattle.lattice.proofs.Order.{equal_by}
 use Rattle.lattice.proofs.TurnedBridges.{turned_twice, before_turned, before_turned_back}
 use Rattle.hull_plain.specs.Edges.{IsFirst, IsLast}
@@ -91,19 +92,15 @@ unturned p q (inr h) = inr (omega (arith, ints, h.0), omega (arith, ints, h.1))
 side_of_turned : (a b t : Pair) → orient (turned_point a) (turned_point b) t ≡ orient a b (turned_point t)
 unfolding orient
 side_of_turned a b t = rw (
-  as_difference a.x,
-  as_difference a.y,
-  as_difference b.x,
-  as_difference b.y,
-  as_difference t.x,
-  as_difference t.y,
-) (simp (difference-add, difference-neg, difference-mul) (difference-eq _ _ _ _ (omega arith)))
+  as_pair a,
+  as_pair b,
+  as_pair t,
+) (simp difference_rules (difference-eq _ _ _ _ (omega arith)))
 
 -- a turn keeps distances
 distance_turned : (a b : Pair) → distance_squared (turned_point a) (turned_point b) ≡ distance_squared a b
 unfolding distance_squared
-distance_turned a b = rw (as_difference a.x, as_difference a.y, as_difference b.x, as_difference b.y)
-    (simp (difference-add, difference-neg, difference-mul) (difference-eq _ _ _ _ (omega arith)))
+distance_turned a b = rw (as_pair a, as_pair b) (simp difference_rules (difference-eq _ _ _ _ (omega arith)))
 
 -- the corners from `last` on, after a turn, are a chain under the turned S
 upper_chain : (S V : List Pair) (last : ℕ) → IsOutlineOf S V → IsParted V last → 1 < length V

@@ -2,7 +2,8 @@
 -- points of the other on its left. The upper chain is told by its points after a turn by 180 degrees.
 use Rattle.std.proofs.Common.{◌≡◌, ℕ, ◌+◌, ◌≤◌, ◌<◌, pos, ◌<ℤ◌, sym, subst, arith}
 use Rattle.lattice.specs.Plane.{Pair, orient, IsBefore, turned_point}
-use Rattle.lattice.specs.Polynomials.{difference-eq, as_difference, difference-add, difference-neg, difference-mul}
+use Rattle.lattice.specs.Polynomials.{difference-eq, difference_rules}
+use Rattle.lattice.proofs.Vectors.{as_pair}
 use Rattle.lattice.proofs.LineCrossings.{orient_cycle}
 use Rattle.lattice.proofs.TurnedBridges.{before_turned, before_turned_back}
 use Rattle.hull_plain.proofs.Orientation.{above}
@@ -12,13 +13,10 @@ use Rattle.hull_outline.proofs.Convex.{IsConvex, later_after, left_or_end, not_r
 side_turned_back : (a b c : Pair) → orient (turned_point a) b (turned_point c) ≡ orient a (turned_point b) c
 unfolding orient
 side_turned_back a b c = rw (
-  as_difference a.x,
-  as_difference a.y,
-  as_difference b.x,
-  as_difference b.y,
-  as_difference c.x,
-  as_difference c.y,
-) (simp (difference-add, difference-neg, difference-mul) (difference-eq _ _ _ _ (omega arith)))
+  as_pair a,
+  as_pair b,
+  as_pair c,
+) (simp difference_rules (difference-eq _ _ _ _ (omega arith)))
 
 -- g goes from one point to another, and the turned h from that one back
 pub record IsCounterpart (g : ℕ → Pair) (m : ℕ) (h : ℕ → Pair) (n : ℕ) : Type 0 where

@@ -3,9 +3,9 @@ use Rattle.std.proofs.Common.{◌≡◌, ℤ, pos, negsuc, ◌+ℤ◌, ◌-ℤ�
 use Rattle.std.proofs.Common.{zero, suc}
 use Rattle.std.proofs.lemmas.Int.{ints}
 use Rattle.lattice.specs.Plane.{Pair, orient, distance_squared, IsBefore}
-use Rattle.lattice.specs.Polynomials.{difference-eq, as_difference, difference-add, difference-neg, difference-mul}
+use Rattle.lattice.specs.Polynomials.{difference-eq, difference_rules}
 use Rattle.lattice.specs.Signs.{product_nn, product_pp}
-use Rattle.lattice.proofs.Vectors.{minus, opp, cross, Ahead, cross-opp, ahead_nn}
+use Rattle.lattice.proofs.Vectors.{as_pair, minus, opp, cross, Ahead, cross-opp, ahead_nn}
 use Rattle.hull_plain.proofs.Orientation.{orient_at_end, at_least, above, ahead_of, behind_of, along}
 
 -- the square of a number above 0
@@ -45,13 +45,10 @@ sum_length : (u v t : Pair)
     ((v.x -ℤ u.x) *ℤ (t.x -ℤ v.x) +ℤ (v.y -ℤ u.y) *ℤ (t.y -ℤ v.y)))
 unfolding distance_squared
 sum_length u v t = rw (
-  as_difference u.x,
-  as_difference u.y,
-  as_difference v.x,
-  as_difference v.y,
-  as_difference t.x,
-  as_difference t.y,
-) (simp (difference-add, difference-neg, difference-mul) (difference-eq _ _ _ _ (omega arith)))
+  as_pair u,
+  as_pair v,
+  as_pair t,
+) (simp difference_rules (difference-eq _ _ _ _ (omega arith)))
 
 -- a sum is longer
 longer : (d e l s : ℤ) → d ≡ e +ℤ l +ℤ (s +ℤ s) → pos 0 <ℤ l → pos 0 ≤ℤ s → e <ℤ d
@@ -66,8 +63,7 @@ past_farther u v t b c e =
 
 -- two vectors turned have the same inner product
 dot-opp : (v w : Pair) → (opp v).x *ℤ (opp w).x +ℤ (opp v).y *ℤ (opp w).y ≡ v.x *ℤ w.x +ℤ v.y *ℤ w.y
-dot-opp v w = rw (as_difference v.x, as_difference v.y, as_difference w.x, as_difference w.y)
-    (simp (difference-add, difference-neg, difference-mul) (difference-eq _ _ _ _ (omega arith)))
+dot-opp v w = rw (as_pair v, as_pair w) (simp difference_rules (difference-eq _ _ _ _ (omega arith)))
 
 -- the same going back
 pub past_farther_back : (u v t : Pair) → IsBefore v u → IsBefore t v → orient u v t ≡ pos 0

@@ -5,10 +5,10 @@ use Rattle.std.proofs.lemmas.Int.{ints}
 use Rattle.std.proofs.lemmas.List.Elements.{All-contains}
 use Rattle.lattice.specs.Covers.{IsBetween, Covers, Member, OnSegment, InTriangle}
 use Rattle.lattice.specs.Plane.{Pair, orient, product}
-use Rattle.lattice.specs.Polynomials.{difference-eq, as_difference, difference-add, difference-neg, difference-mul}
-use Rattle.lattice.specs.Polynomials.{difference-pos}
+use Rattle.lattice.specs.Polynomials.{difference-eq, difference_rules}
+use Rattle.lattice.specs.Polynomials.{difference-pos, difference_rules}
 use Rattle.lattice.specs.Signs.{product_nn, cancel_zero, product_np}
-use Rattle.lattice.proofs.Vectors.{minus, opp, cross}
+use Rattle.lattice.proofs.Vectors.{as_pair, minus, opp, cross}
 use Rattle.hull_plain.proofs.Orientation.{orient-cycle, orient-sum, product-minus, at_least, above}
 
 -- in some direction q lies farther than all of S
@@ -19,16 +19,12 @@ Separated S q = (d : Pair) × All (λ t. product d t <ℤ product d q) S
 balance : (f a b c : Pair) → cross b c *ℤ product f a +ℤ cross c a *ℤ product f b +ℤ cross a b *ℤ product f c ≡ pos 0
 unfolding product
 balance f a b c = rw (
-  as_difference f.x,
-  as_difference f.y,
-  as_difference a.x,
-  as_difference a.y,
-  as_difference b.x,
-  as_difference b.y,
-  as_difference c.x,
-  as_difference c.y,
+  as_pair f,
+  as_pair a,
+  as_pair b,
+  as_pair c,
 )
-    (simp (difference-add, difference-neg, difference-mul) (difference-pos _ _ 0 (omega arith)))
+    (simp difference_rules (difference-pos _ _ 0 (omega arith)))
 
 -- three weights, of which none is below 0 and one is above, of three numbers above 0
 mix : (a b c A B C : ℤ) → pos 0 <ℤ A → pos 0 <ℤ B → pos 0 <ℤ C → pos 0 ≤ℤ a → pos 0 ≤ℤ b → pos 0 ≤ℤ c
@@ -69,13 +65,10 @@ unfolding product
 flat_x f a b e =
     let r : b.x *ℤ product f a ≡ a.x *ℤ product f b -ℤ f.y *ℤ cross a b =
     rw (
-      as_difference f.x,
-      as_difference f.y,
-      as_difference a.x,
-      as_difference a.y,
-      as_difference b.x,
-      as_difference b.y,
-    ) (simp (difference-add, difference-neg, difference-mul)
+      as_pair f,
+      as_pair a,
+      as_pair b,
+    ) (simp difference_rules
     (difference-eq _ _ _ _ (omega arith))) in
     r ∙ ap (λ (z : ℤ). a.x *ℤ product f b -ℤ f.y *ℤ z) e ∙ omega (arith, ints)
 
@@ -85,13 +78,10 @@ unfolding product
 flat_y f a b e =
     let r : b.y *ℤ product f a ≡ a.y *ℤ product f b +ℤ f.x *ℤ cross a b =
     rw (
-      as_difference f.x,
-      as_difference f.y,
-      as_difference a.x,
-      as_difference a.y,
-      as_difference b.x,
-      as_difference b.y,
-    ) (simp (difference-add, difference-neg, difference-mul)
+      as_pair f,
+      as_pair a,
+      as_pair b,
+    ) (simp difference_rules
     (difference-eq _ _ _ _ (omega arith))) in
     r ∙ ap (λ (z : ℤ). a.y *ℤ product f b +ℤ f.x *ℤ z) e ∙ omega (arith, ints)
 

@@ -5,9 +5,9 @@ use Rattle.std.specs.List.{All}
 use Rattle.std.proofs.lemmas.Int.{ints}
 use Rattle.std.proofs.lemmas.List.Elements.{All-weaker, All-cons, All-head, All-tail}
 use Rattle.lattice.specs.Plane.{Pair, product, IsBefore}
-use Rattle.lattice.specs.Polynomials.{difference-eq, as_difference, difference-add, difference-neg, difference-mul}
+use Rattle.lattice.specs.Polynomials.{difference-eq, as_difference, difference-add, difference-mul, difference_rules}
 use Rattle.lattice.specs.Signs.{product_nn}
-use Rattle.lattice.proofs.Vectors.{minus, opp, Ahead, ahead_nn}
+use Rattle.lattice.proofs.Vectors.{as_pair, minus, opp, Ahead, ahead_nn}
 use Rattle.hull_plain.proofs.NotCovered.{Separated}
 use Rattle.hull_plain.proofs.Orientation.{above, ahead_of, behind_of}
 use Rattle.hull_plain.proofs.Separators.{nearer, sum_above_left}
@@ -22,13 +22,11 @@ unfolding product
 product-steep k t q =
     rw (
       as_difference k,
-      as_difference t.x,
-      as_difference t.y,
-      as_difference q.x,
-      as_difference q.y,
+      as_pair t,
+      as_pair q,
       as_difference (pos 1),
     )
-    (simp (difference-add, difference-neg, difference-mul) (difference-eq _ _ _ _ (omega arith)))
+    (simp difference_rules (difference-eq _ _ _ _ (omega arith)))
 
 -- a number that lifts y above 0
 abbrev lift : ℤ → ℕ
@@ -113,13 +111,11 @@ unfolding product
 product-steep_back k t q =
     rw (
       as_difference k,
-      as_difference t.x,
-      as_difference t.y,
-      as_difference q.x,
-      as_difference q.y,
+      as_pair t,
+      as_pair q,
       as_difference (negsuc 0),
     )
-    (simp (difference-add, difference-neg, difference-mul) (difference-eq _ _ _ _ (omega arith)))
+    (simp difference_rules (difference-eq _ _ _ _ (omega arith)))
 
 -- all points stand before q
 pub behind_separated : (S : List Pair) (q : Pair) → All (λ t. IsBefore t q) S → Separated S q

@@ -2,9 +2,9 @@
 use Rattle.std.proofs.Common.{◌≡◌, ℤ, pos, ◌+ℤ◌, ◌-ℤ◌, ◌*ℤ◌, ◌≤ℤ◌, ◌<ℤ◌, neg_ℤ, ◌⊎◌, inl, inr, refl, ap, ◌∙◌, arith}
 use Rattle.std.proofs.lemmas.Int.{ints}
 use Rattle.lattice.specs.Plane.{Pair, orient, product, IsBefore}
-use Rattle.lattice.specs.Polynomials.{difference-eq, as_difference, difference-add, difference-neg, difference-mul}
+use Rattle.lattice.specs.Polynomials.{difference-eq, difference_rules}
 use Rattle.lattice.specs.Signs.{le_or_lt, product_nn, product_pp, product_np, product_pn}
-use Rattle.lattice.proofs.Vectors.{minus, opp, cross, Ahead, cross_swap, ahead_nn}
+use Rattle.lattice.proofs.Vectors.{as_pair, minus, opp, cross, Ahead, cross_swap, ahead_nn}
 
 -- the side of c seen from the line ab is the cross product of the vectors from a
 pub orient-cross : (q a b : Pair) → orient q a b ≡ cross (minus a q) (minus b q)
@@ -25,68 +25,52 @@ pub orient_other : (q l t : Pair) → orient l q t ≡ neg_ℤ (orient q l t)
 unfolding orient
 orient_other q l t =
     rw (
-      as_difference q.x,
-      as_difference q.y,
-      as_difference l.x,
-      as_difference l.y,
-      as_difference t.x,
-      as_difference t.y,
-    ) (simp (difference-add, difference-neg, difference-mul) (difference-eq _ _ _ _ (omega arith)))
+      as_pair q,
+      as_pair l,
+      as_pair t,
+    ) (simp difference_rules (difference-eq _ _ _ _ (omega arith)))
 
 -- the three points turned round keep the side
 pub orient-cycle : (a b q : Pair) → orient a b q ≡ orient q a b
 unfolding orient
 orient-cycle a b q =
     rw (
-      as_difference a.x,
-      as_difference a.y,
-      as_difference b.x,
-      as_difference b.y,
-      as_difference q.x,
-      as_difference q.y,
-    ) (simp (difference-add, difference-neg, difference-mul) (difference-eq _ _ _ _ (omega arith)))
+      as_pair a,
+      as_pair b,
+      as_pair q,
+    ) (simp difference_rules (difference-eq _ _ _ _ (omega arith)))
 
 -- the triangle abc in three triangles with the corner q
 pub orient-sum : (a b c q : Pair) → orient a b c ≡ orient q b c +ℤ orient q c a +ℤ orient q a b
 unfolding orient
 orient-sum a b c q =
     rw (
-      as_difference a.x,
-      as_difference a.y,
-      as_difference b.x,
-      as_difference b.y,
-      as_difference c.x,
-      as_difference c.y,
-      as_difference q.x,
-      as_difference q.y,
+      as_pair a,
+      as_pair b,
+      as_pair c,
+      as_pair q,
     )
-    (simp (difference-add, difference-neg, difference-mul) (difference-eq _ _ _ _ (omega arith)))
+    (simp difference_rules (difference-eq _ _ _ _ (omega arith)))
 
 -- the cross product of the steps from u to v and from v to t
 pub orient_at_end : (u v t : Pair) → cross (minus v u) (minus t v) ≡ orient u v t
 unfolding orient
 orient_at_end u v t =
     rw (
-      as_difference u.x,
-      as_difference u.y,
-      as_difference v.x,
-      as_difference v.y,
-      as_difference t.x,
-      as_difference t.y,
-    ) (simp (difference-add, difference-neg, difference-mul) (difference-eq _ _ _ _ (omega arith)))
+      as_pair u,
+      as_pair v,
+      as_pair t,
+    ) (simp difference_rules (difference-eq _ _ _ _ (omega arith)))
 
 -- how much farther q lies than t in a direction
 pub product-minus : (d t q : Pair) → product (opp d) (minus t q) ≡ product d q -ℤ product d t
 unfolding product
 product-minus d t q =
     rw (
-      as_difference d.x,
-      as_difference d.y,
-      as_difference t.x,
-      as_difference t.y,
-      as_difference q.x,
-      as_difference q.y,
-    ) (simp (difference-add, difference-neg, difference-mul) (difference-eq _ _ _ _ (omega arith)))
+      as_pair d,
+      as_pair t,
+      as_pair q,
+    ) (simp difference_rules (difference-eq _ _ _ _ (omega arith)))
 
 -- what is equal to a number at least 0 is at least 0
 pub at_least : (a b : ℤ) → a ≡ b → pos 0 ≤ℤ a → pos 0 ≤ℤ b

@@ -5,10 +5,10 @@ use Rattle.std.proofs.lemmas.Int.{ints}
 use Rattle.std.proofs.lemmas.List.Elements.{All-weaker}
 use Rattle.lattice.specs.Places.{IsOuter}
 use Rattle.lattice.specs.Plane.{Pair, orient, product, IsBefore, IsZero}
-use Rattle.lattice.specs.Polynomials.{difference-eq, as_difference, difference-add, difference-neg, difference-mul}
+use Rattle.lattice.specs.Polynomials.{difference-eq, difference_rules}
 use Rattle.lattice.specs.Signs.{le_or_lt, cancel_zero}
 use Rattle.lattice.specs.Vertices.{IsLeftOf}
-use Rattle.lattice.proofs.Vectors.{minus, opp, cross-opp_left, cross-opp_right, cross-opp, turn_trans}
+use Rattle.lattice.proofs.Vectors.{as_pair, minus, opp, cross-opp_left, cross-opp_right, cross-opp, turn_trans}
 use Rattle.lattice.proofs.Vectors.{turn_trans_strict, turn_trans_strict_right}
 use Rattle.hull_plain.proofs.NotCovered.{Separated}
 use Rattle.lattice.proofs.Order.{couple}
@@ -31,16 +31,12 @@ product-across : (q l r t : Pair) → product (opp (across l r)) (minus t q) ≡
 unfolding orient product
 product-across q l r t =
     rw (
-      as_difference q.x,
-      as_difference q.y,
-      as_difference l.x,
-      as_difference l.y,
-      as_difference r.x,
-      as_difference r.y,
-      as_difference t.x,
-      as_difference t.y,
+      as_pair q,
+      as_pair l,
+      as_pair r,
+      as_pair t,
     )
-    (simp (difference-add, difference-neg, difference-mul) (difference-eq _ _ _ _ (omega arith)))
+    (simp difference_rules (difference-eq _ _ _ _ (omega arith)))
 
 -- all points lie within the wedge at q from r to l
 pub separated_by_wedge : (S : List Pair) (q l r : Pair) → All (λ t. pos 0 <ℤ (orient q r t +ℤ orient q t l)) S
@@ -170,13 +166,10 @@ pub product-right : (q r t : Pair) → product (across q r) q -ℤ product (acro
 unfolding orient product
 product-right q r t =
     rw (
-      as_difference q.x,
-      as_difference q.y,
-      as_difference r.x,
-      as_difference r.y,
-      as_difference t.x,
-      as_difference t.y,
-    ) (simp (difference-add, difference-neg, difference-mul) (difference-eq _ _ _ _ (omega arith)))
+      as_pair q,
+      as_pair r,
+      as_pair t,
+    ) (simp difference_rules (difference-eq _ _ _ _ (omega arith)))
 
 -- a difference at least 0
 no_more : (a b c : ℤ) → a -ℤ b ≡ c → pos 0 ≤ℤ c → b ≤ℤ a
@@ -203,46 +196,34 @@ product-corner : (u v w t : Pair) → product (opp (across u w)) (minus t v) ≡
 unfolding orient product
 product-corner u v w t =
     rw (
-      as_difference u.x,
-      as_difference u.y,
-      as_difference v.x,
-      as_difference v.y,
-      as_difference w.x,
-      as_difference w.y,
-      as_difference t.x,
-      as_difference t.y,
+      as_pair u,
+      as_pair v,
+      as_pair w,
+      as_pair t,
     )
-    (simp (difference-add, difference-neg, difference-mul) (difference-eq _ _ _ _ (omega arith)))
+    (simp difference_rules (difference-eq _ _ _ _ (omega arith)))
 
 -- where the lines uv and vw meet, in x
 meets_x : (u v w t : Pair) → (t.x -ℤ v.x) *ℤ orient u v w ≡ (w.x -ℤ v.x) *ℤ orient u v t -ℤ (v.x -ℤ u.x) *ℤ orient v w t
 unfolding orient
 meets_x u v w t = rw (
-  as_difference u.x,
-  as_difference u.y,
-  as_difference v.x,
-  as_difference v.y,
-  as_difference w.x,
-  as_difference w.y,
-  as_difference t.x,
-  as_difference t.y,
+  as_pair u,
+  as_pair v,
+  as_pair w,
+  as_pair t,
 )
-    (simp (difference-add, difference-neg, difference-mul) (difference-eq _ _ _ _ (omega arith)))
+    (simp difference_rules (difference-eq _ _ _ _ (omega arith)))
 
 -- and in y
 meets_y : (u v w t : Pair) → (t.y -ℤ v.y) *ℤ orient u v w ≡ (w.y -ℤ v.y) *ℤ orient u v t -ℤ (v.y -ℤ u.y) *ℤ orient v w t
 unfolding orient
 meets_y u v w t = rw (
-  as_difference u.x,
-  as_difference u.y,
-  as_difference v.x,
-  as_difference v.y,
-  as_difference w.x,
-  as_difference w.y,
-  as_difference t.x,
-  as_difference t.y,
+  as_pair u,
+  as_pair v,
+  as_pair w,
+  as_pair t,
 )
-    (simp (difference-add, difference-neg, difference-mul) (difference-eq _ _ _ _ (omega arith)))
+    (simp difference_rules (difference-eq _ _ _ _ (omega arith)))
 
 -- a weighted sum of zeros
 zero_of : (a c x y m n : ℤ) → pos 0 <ℤ c → x ≡ pos 0 → y ≡ pos 0 → a *ℤ c ≡ m *ℤ x -ℤ n *ℤ y → a ≡ pos 0

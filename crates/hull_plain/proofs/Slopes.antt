@@ -2,34 +2,28 @@
 use Rattle.std.proofs.Common.{◌≡◌, ℤ, pos, ◌+ℤ◌, ◌-ℤ◌, ◌*ℤ◌, ◌≤ℤ◌, ◌<ℤ◌, neg_ℤ, inl, inr, refl, ap, ◌∙◌, arith}
 use Rattle.std.proofs.lemmas.Int.{ints}
 use Rattle.lattice.specs.Plane.{Pair, orient, product, IsBefore}
-use Rattle.lattice.specs.Polynomials.{difference-eq, as_difference, difference-add, difference-neg, difference-mul}
+use Rattle.lattice.specs.Polynomials.{difference-eq, difference_rules}
 use Rattle.lattice.specs.Signs.{le_or_lt, product_nn, product_pp, product_np}
-use Rattle.lattice.proofs.Vectors.{minus, cross, cross_swap, Ahead, ahead_nn}
+use Rattle.lattice.proofs.Vectors.{as_pair, minus, cross, cross_swap, Ahead, ahead_nn}
 use Rattle.hull_plain.proofs.Orientation.{ahead_of}
 
 -- how far two vectors go in a direction, weighed by how far they go to the right and by their sides
 weigh_right : (d w t : Pair) → product d t *ℤ w.x +ℤ d.y *ℤ cross t w ≡ product d w *ℤ t.x
 unfolding product
 weigh_right d w t = rw (
-  as_difference d.x,
-  as_difference d.y,
-  as_difference w.x,
-  as_difference w.y,
-  as_difference t.x,
-  as_difference t.y,
-) (simp (difference-add, difference-neg, difference-mul) (difference-eq _ _ _ _ (omega arith)))
+  as_pair d,
+  as_pair w,
+  as_pair t,
+) (simp difference_rules (difference-eq _ _ _ _ (omega arith)))
 
 -- the same by the other side
 weigh_left : (d w t : Pair) → product d t *ℤ w.x ≡ product d w *ℤ t.x +ℤ d.y *ℤ cross w t
 unfolding product
 weigh_left d w t = rw (
-  as_difference d.x,
-  as_difference d.y,
-  as_difference w.x,
-  as_difference w.y,
-  as_difference t.x,
-  as_difference t.y,
-) (simp (difference-add, difference-neg, difference-mul) (difference-eq _ _ _ _ (omega arith)))
+  as_pair d,
+  as_pair w,
+  as_pair t,
+) (simp difference_rules (difference-eq _ _ _ _ (omega arith)))
 
 -- how far a vector that goes straight up goes
 upright : (d w : Pair) → w.x ≡ pos 0 → product d w ≡ d.y *ℤ w.y
@@ -81,13 +75,10 @@ product-step : (d p t : Pair) → product d (minus t p) ≡ product d t -ℤ pro
 unfolding product
 product-step d p t =
     rw (
-      as_difference d.x,
-      as_difference d.y,
-      as_difference p.x,
-      as_difference p.y,
-      as_difference t.x,
-      as_difference t.y,
-    ) (simp (difference-add, difference-neg, difference-mul) (difference-eq _ _ _ _ (omega arith)))
+      as_pair d,
+      as_pair p,
+      as_pair t,
+    ) (simp difference_rules (difference-eq _ _ _ _ (omega arith)))
 
 -- no farther
 no_farther : (d p t : Pair) → product d (minus t p) ≤ℤ pos 0 → product d t ≤ℤ product d p
@@ -106,13 +97,10 @@ side_at_start p q t = refl
 side_at_end : (p q t : Pair) → cross (minus q p) (minus q t) ≡ neg_ℤ (orient p q t)
 unfolding orient
 side_at_end p q t = rw (
-  as_difference p.x,
-  as_difference p.y,
-  as_difference q.x,
-  as_difference q.y,
-  as_difference t.x,
-  as_difference t.y,
-) (simp (difference-add, difference-neg, difference-mul) (difference-eq _ _ _ _ (omega arith)))
+  as_pair p,
+  as_pair q,
+  as_pair t,
+) (simp difference_rules (difference-eq _ _ _ _ (omega arith)))
 
 -- under the line pq and after p, where d goes up and q is no farther than p: no farther than p
 pub stays_up : (d p q t : Pair) → pos 0 <ℤ d.y → IsBefore p q → IsBefore p t → orient p q t ≤ℤ pos 0

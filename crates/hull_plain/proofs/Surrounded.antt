@@ -4,9 +4,9 @@ use Rattle.std.specs.List.{All, Contains}
 use Rattle.std.proofs.lemmas.Int.{ints}
 use Rattle.std.proofs.lemmas.List.Elements.{All-contains}
 use Rattle.lattice.specs.Plane.{Pair, orient, product, IsBefore}
-use Rattle.lattice.specs.Polynomials.{difference-eq, as_difference, difference-add, difference-neg, difference-mul}
+use Rattle.lattice.specs.Polynomials.{difference-eq, difference_rules}
 use Rattle.lattice.specs.Signs.{le_or_lt, product_nn, product_pp, product_np, product_pn}
-use Rattle.lattice.proofs.Vectors.{minus, opp, cross, Ahead, ahead_nn}
+use Rattle.lattice.proofs.Vectors.{as_pair, minus, opp, cross, Ahead, ahead_nn}
 use Rattle.hull_plain.proofs.Orientation.{product-minus, ahead_of, behind_of}
 
 -- the second component of a functional that puts neither end of a turn below 0
@@ -24,25 +24,19 @@ sides fy A B c x y hc hA hB hx hy e =
 flat_by : (f a b : Pair) → b.x *ℤ product f a ≡ a.x *ℤ product f b -ℤ f.y *ℤ cross a b
 unfolding product
 flat_by f a b = rw (
-  as_difference f.x,
-  as_difference f.y,
-  as_difference a.x,
-  as_difference a.y,
-  as_difference b.x,
-  as_difference b.y,
-) (simp (difference-add, difference-neg, difference-mul) (difference-eq _ _ _ _ (omega arith)))
+  as_pair f,
+  as_pair a,
+  as_pair b,
+) (simp difference_rules (difference-eq _ _ _ _ (omega arith)))
 
 -- the same from the other
 flat_back : (f a b : Pair) → a.x *ℤ product f b ≡ b.x *ℤ product f a -ℤ neg_ℤ f.y *ℤ cross a b
 unfolding product
 flat_back f a b = rw (
-  as_difference f.x,
-  as_difference f.y,
-  as_difference a.x,
-  as_difference a.y,
-  as_difference b.x,
-  as_difference b.y,
-) (simp (difference-add, difference-neg, difference-mul) (difference-eq _ _ _ _ (omega arith)))
+  as_pair f,
+  as_pair a,
+  as_pair b,
+) (simp difference_rules (difference-eq _ _ _ _ (omega arith)))
 
 -- a vector behind has no first component above 0
 behind_np : (u : Pair) → Ahead (opp u) → u.x ≤ℤ pos 0

@@ -2,9 +2,9 @@
 use Rattle.std.proofs.Common.{◌≡◌, ℤ, pos, ◌-ℤ◌, ◌≤ℤ◌, ◌<ℤ◌, neg_ℤ, sym, ap, ◌∙◌, arith}
 use Rattle.std.proofs.lemmas.Int.{ints}
 use Rattle.lattice.specs.Plane.{Pair, orient, IsBefore}
-use Rattle.lattice.specs.Polynomials.{difference-eq, as_difference, difference-add, difference-neg, difference-mul}
+use Rattle.lattice.specs.Polynomials.{difference-eq, difference_rules}
 use Rattle.lattice.proofs.LineCrossings.{orient_start, orient_end}
-use Rattle.lattice.proofs.Vectors.{minus, cross, cross_swap, Ahead, turn_trans, turn_trans_strict}
+use Rattle.lattice.proofs.Vectors.{as_pair, minus, cross, cross_swap, Ahead, turn_trans, turn_trans_strict}
 use Rattle.lattice.proofs.Vectors.{turn_trans_strict_right}
 use Rattle.hull_plain.specs.Monotone.{turn}
 use Rattle.hull_plain.specs.declared.monotone.Side.{Side}
@@ -56,13 +56,10 @@ turn_middle Upper a b c =
 side_to_end : (a b t : Pair) → orient a b t ≡ cross (minus b t) (minus b a)
 unfolding orient
 side_to_end a b t = rw (
-  as_difference a.x,
-  as_difference a.y,
-  as_difference b.x,
-  as_difference b.y,
-  as_difference t.x,
-  as_difference t.y,
-) (simp (difference-add, difference-neg, difference-mul) (difference-eq _ _ _ _ (omega arith)))
+  as_pair a,
+  as_pair b,
+  as_pair t,
+) (simp difference_rules (difference-eq _ _ _ _ (omega arith)))
 
 -- a turn by the steps to its middle point
 turn_back : (side : Side) (a b t : Pair) → turn side a b t ≡ wedge side (minus b t) (minus b a)
@@ -150,29 +147,21 @@ fans_to side p c q t pc qc tc h k =
 side_more : (c d q t : Pair) → orient c d t -ℤ orient c d q ≡ cross (minus d c) (minus t q)
 unfolding orient
 side_more c d q t = rw (
-  as_difference c.x,
-  as_difference c.y,
-  as_difference d.x,
-  as_difference d.y,
-  as_difference q.x,
-  as_difference q.y,
-  as_difference t.x,
-  as_difference t.y,
-) (simp (difference-add, difference-neg, difference-mul) (difference-eq _ _ _ _ (omega arith)))
+  as_pair c,
+  as_pair d,
+  as_pair q,
+  as_pair t,
+) (simp difference_rules (difference-eq _ _ _ _ (omega arith)))
 
 -- the same by the step from the first
 side_less : (c d q s : Pair) → orient c d s -ℤ orient c d q ≡ cross (minus q s) (minus d c)
 unfolding orient
 side_less c d q s = rw (
-  as_difference c.x,
-  as_difference c.y,
-  as_difference d.x,
-  as_difference d.y,
-  as_difference q.x,
-  as_difference q.y,
-  as_difference s.x,
-  as_difference s.y,
-) (simp (difference-add, difference-neg, difference-mul) (difference-eq _ _ _ _ (omega arith)))
+  as_pair c,
+  as_pair d,
+  as_pair q,
+  as_pair s,
+) (simp difference_rules (difference-eq _ _ _ _ (omega arith)))
 
 -- a difference of negations
 negated : (x y u v z : ℤ) → x ≡ neg_ℤ u → y ≡ neg_ℤ v → u -ℤ v ≡ z → x -ℤ y ≡ neg_ℤ z

@@ -5,7 +5,7 @@ use Rattle.std.proofs.Common.{List, [], ◌∷◌, ◌++◌, map}
 use Rattle.std.specs.List.{Contains}
 use Rattle.std.proofs.lemmas.Int.{ints}
 use Rattle.lattice.specs.Plane.{Pair, orient, IsBefore, turned_point}
-use Rattle.lattice.specs.Polynomials.{difference-eq, difference-add, difference-neg, difference-mul}
+use Rattle.lattice.specs.Polynomials.{difference-eq, difference_rules}
 use Rattle.lattice.specs.Vertices.{fan, IsDoubledArea}
 use Rattle.lattice.proofs.Vectors.{as_pair}
 use Rattle.lattice.proofs.Order.{before_total, before_irrefl}
@@ -68,7 +68,7 @@ triangle_turned f u v = rw (
   as_pair f,
   as_pair u,
   as_pair v,
-) (simp (difference-add, difference-neg, difference-mul) (difference-eq _ _ _ _ (omega arith)))
+) (simp difference_rules (difference-eq _ _ _ _ (omega arith)))
 
 -- a fan turned by 180 degrees
 fan_turned : (f v : Pair) (vs : List Pair)

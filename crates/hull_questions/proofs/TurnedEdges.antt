@@ -4,7 +4,7 @@ use Rattle.std.specs.List.{All, Contains}
 use Rattle.std.proofs.lemmas.Int.{ints}
 use Rattle.std.proofs.lemmas.List.Elements.{All-contains, All-weaker}
 use Rattle.lattice.specs.Plane.{Pair, orient, IsBefore, turned_point}
-use Rattle.lattice.specs.Polynomials.{difference-eq, difference-add, difference-neg, difference-mul}
+use Rattle.lattice.specs.Polynomials.{difference-eq, difference_rules}
 use Rattle.lattice.proofs.Vectors.{as_pair}
 use Rattle.bridge_search.specs.Trees.{Tree, first_of, last_of}
 use Rattle.lattice.proofs.TurnedBridges.{before_turned_back}
@@ -22,7 +22,7 @@ turned_side a b t = rw (
   as_pair a,
   as_pair b,
   as_pair t,
-) (simp (difference-add, difference-neg, difference-mul) (difference-eq _ _ _ _ (omega arith)))
+) (simp difference_rules (difference-eq _ _ _ _ (omega arith)))
 
 -- what holds of all points of the turned half holds of each point of the half, turned
 pub turned_all : (t : Tree) (P : Pair → Type 0) → All P (points_of (turned_tree t))

@@ -4,7 +4,7 @@ use Rattle.std.specs.List.{Contains}
 use Rattle.std.proofs.lemmas.Int.{ints}
 use Rattle.std.proofs.lemmas.List.Elements.{All-weaker}
 use Rattle.lattice.specs.Plane.{Pair, orient, distance_squared, IsBefore, turned_point}
-use Rattle.lattice.specs.Polynomials.{difference-eq, difference-add, difference-neg, difference-mul}
+use Rattle.lattice.specs.Polynomials.{difference-eq, difference_rules}
 use Rattle.lattice.proofs.Vectors.{as_pair}
 use Rattle.bridge_search.specs.Trees.{Tree, first_of, last_of}
 use Rattle.lattice.proofs.TurnedBridges.{turned_twice, before_turned_back}
@@ -22,20 +22,17 @@ side_from_turned q l s =
       as_pair q,
       as_pair l,
       as_pair s,
-    ) (simp (difference-add, difference-neg, difference-mul) (difference-eq _ _ _ _ (omega arith)))
+    ) (simp difference_rules (difference-eq _ _ _ _ (omega arith)))
 
 -- a turn keeps the distance
 far_turned : (q s : Pair) → distance_squared (turned_point q) (turned_point s) ≡ distance_squared q s
 unfolding distance_squared
-far_turned q s = rw (as_pair q, as_pair s)
-    (simp (difference-add, difference-neg, difference-mul) (difference-eq _ _ _ _ (omega arith)))
+far_turned q s = rw (as_pair q, as_pair s) (simp difference_rules (difference-eq _ _ _ _ (omega arith)))
 
 -- the same of a point that is turned back
 far_turned_back : (q l : Pair) → distance_squared (turned_point q) l ≡ distance_squared q (turned_point l)
 unfolding distance_squared
-far_turned_back q l =
-    rw (as_pair q, as_pair l)
-    (simp (difference-add, difference-neg, difference-mul) (difference-eq _ _ _ _ (omega arith)))
+far_turned_back q l = rw (as_pair q, as_pair l) (simp difference_rules (difference-eq _ _ _ _ (omega arith)))
 
 -- a line from its other end: the other side
 other_end : (s r t : Pair) → orient s r t ≡ neg_ℤ (orient r s t)
@@ -44,7 +41,7 @@ other_end s r t = rw (
   as_pair s,
   as_pair r,
   as_pair t,
-) (simp (difference-add, difference-neg, difference-mul) (difference-eq _ _ _ _ (omega arith)))
+) (simp difference_rules (difference-eq _ _ _ _ (omega arith)))
 
 -- above the half is, turned, below the turned half
 pub below_turned : (t : Tree) (q : Pair) → IsAbove (points_of t) q

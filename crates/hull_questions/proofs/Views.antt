@@ -5,7 +5,7 @@ use Rattle.std.specs.List.{All, Contains}
 use Rattle.std.proofs.lemmas.Int.{ints}
 use Rattle.std.proofs.lemmas.List.Elements.{All-contains}
 use Rattle.lattice.specs.Plane.{Pair, orient, IsBefore}
-use Rattle.lattice.specs.Polynomials.{difference-eq, difference-add, difference-neg, difference-mul}
+use Rattle.lattice.specs.Polynomials.{difference-eq, difference_rules}
 use Rattle.lattice.proofs.Vectors.{as_pair, minus, cross, cross_swap, turn_trans_strict}
 use Rattle.lattice.proofs.Order.{before_irrefl, before_not}
 use Rattle.hull_plain.proofs.Orientation.{orient_swap, ahead_of}
@@ -81,7 +81,7 @@ back_more c d q t = rw (
   as_pair q,
   as_pair t,
 )
-    (simp (difference-add, difference-neg, difference-mul) (difference-eq _ _ _ _ (omega arith)))
+    (simp difference_rules (difference-eq _ _ _ _ (omega arith)))
 
 -- the same by the step from the point
 back_less : (c d q s : Pair) → orient c d s -ℤ orient c d q ≡ cross (minus c d) (minus q s)
@@ -92,7 +92,7 @@ back_less c d q s = rw (
   as_pair q,
   as_pair s,
 )
-    (simp (difference-add, difference-neg, difference-mul) (difference-eq _ _ _ _ (omega arith)))
+    (simp difference_rules (difference-eq _ _ _ _ (omega arith)))
 
 -- above an upper edge: above
 pub above_by_edge : (S : List Pair) (q : Pair) → IsAboveEdge S q → IsAbove S q

@@ -2,7 +2,7 @@
 use Rattle.std.proofs.Common.{◌≡◌, ℤ, pos, ◌+ℤ◌, ◌-ℤ◌, ◌*ℤ◌, ◌≤ℤ◌, ◌<ℤ◌, neg_ℤ, ◌⊎◌, inl, inr, refl, sym, subst, arith}
 use Rattle.std.proofs.lemmas.Int.{ints}
 use Rattle.lattice.specs.Plane.{Pair}
-use Rattle.lattice.specs.Polynomials.{difference, as_difference, difference-add, difference-neg, difference-mul, difference-eq}
+use Rattle.lattice.specs.Polynomials.{difference, as_difference, difference-eq, difference_rules}
 use borrow.Author.Differences.{up, down}
 use Rattle.lattice.specs.Signs.{le_or_lt, product_nn, product_pp, cancel_nn}
 
@@ -28,29 +28,23 @@ Ahead u = (pos 0 <ℤ u.x) ⊎ ((u.x ≡ pos 0) × (pos 0 <ℤ u.y))
 
 -- the identity of three vectors
 plucker : (u v w : Pair) → cross u w *ℤ v.x ≡ cross u v *ℤ w.x +ℤ cross v w *ℤ u.x
-plucker u v w = rw (as_pair u, as_pair v, as_pair w) (simp (difference-add, difference-neg, difference-mul) (difference-eq _ _ _ _ (omega arith)))
+plucker u v w = rw (as_pair u, as_pair v, as_pair w) (simp difference_rules (difference-eq _ _ _ _ (omega arith)))
 
 -- the first vector backwards
 pub cross-opp_left : (u v : Pair) → cross (opp u) v ≡ cross v u
-cross-opp_left u v =
-    rw (as_pair u, as_pair v)
-    (simp (difference-add, difference-neg, difference-mul) (difference-eq _ _ _ _ (omega arith)))
+cross-opp_left u v = rw (as_pair u, as_pair v) (simp difference_rules (difference-eq _ _ _ _ (omega arith)))
 
 -- the second vector backwards
 pub cross-opp_right : (u v : Pair) → cross u (opp v) ≡ cross v u
-cross-opp_right u v =
-    rw (as_pair u, as_pair v)
-    (simp (difference-add, difference-neg, difference-mul) (difference-eq _ _ _ _ (omega arith)))
+cross-opp_right u v = rw (as_pair u, as_pair v) (simp difference_rules (difference-eq _ _ _ _ (omega arith)))
 
 -- both vectors backwards
 pub cross-opp : (u v : Pair) → cross (opp u) (opp v) ≡ cross u v
-cross-opp u v = rw (as_pair u, as_pair v)
-    (simp (difference-add, difference-neg, difference-mul) (difference-eq _ _ _ _ (omega arith)))
+cross-opp u v = rw (as_pair u, as_pair v) (simp difference_rules (difference-eq _ _ _ _ (omega arith)))
 
 -- the vectors exchanged
 pub cross_swap : (u v : Pair) → cross u v ≡ neg_ℤ (cross v u)
-cross_swap u v = rw (as_pair u, as_pair v)
-    (simp (difference-add, difference-neg, difference-mul) (difference-eq _ _ _ _ (omega arith)))
+cross_swap u v = rw (as_pair u, as_pair v) (simp difference_rules (difference-eq _ _ _ _ (omega arith)))
 
 -- a vector ahead does not go left
 pub ahead_nn : (u : Pair) → Ahead u → pos 0 ≤ℤ u.x

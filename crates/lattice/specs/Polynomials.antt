@@ -84,3 +84,6 @@ difference-mul a b c d =
 -- when a difference is a natural number
 pub difference-pos : (a b n : ℕ) → a ≡ n + b → difference a b ≡ pos n
 difference-pos a b n e = same_in (difference a b) (pos n) (omega (arith, difference-is a b))
+
+-- a polynomial of differences is a difference: `simp difference_rules` takes an identity to two naturals a side
+pub ruleset difference_rules = (difference-add, difference-neg, difference-mul)

@@ -7,17 +7,19 @@ use std::test::Fail;
 #[test]
 fn coordinates_at_the_limit(rt: HostRuntime) -> Result<(), Fail> {
     let corner = Point::new(-1099511627776, 1099511627776)?;
-    assert_eq!(rt; corner.x(), -1099511627776);
-    assert_eq!(rt; corner.y(), 1099511627776);
-    assert_eq!(rt; Point::new(1099511627777, 0), Err(LatticeFault::OutOfRange));
+    let points = (Point::new(1099511627777, 0), Point::new(0, -1099511627777));
+    let directions = (Direction::new(0, 0), Direction::new(0, 1099511627777));
+    assert!(rt; (corner.x(), corner.y()) == (-1099511627776, 1099511627776));
     assert_eq!(rt;
-        Point::new(0, -1099511627777),
-        Err(LatticeFault::OutOfRange)
+        points,
+        (Err(LatticeFault::OutOfRange), Err(LatticeFault::OutOfRange))
     );
-    assert_eq!(rt; Direction::new(0, 0), Err(LatticeFault::ZeroDirection));
     assert_eq!(rt;
-        Direction::new(0, 1099511627777),
-        Err(LatticeFault::OutOfRange)
+        directions,
+        (
+            Err(LatticeFault::ZeroDirection),
+            Err(LatticeFault::OutOfRange)
+        )
     );
     Ok(())
 }
@@ -37,14 +39,15 @@ fn range_corners(rt: HostRuntime) -> Result<(), Fail> {
 // The largest sides of near points, and one beside them that is not near.
 #[test]
 fn near_corners(rt: HostRuntime) -> Result<(), Fail> {
-    assert_eq!(rt; NEAR_LIMIT, 1073741823);
     let a = Point::new(-NEAR_LIMIT, -NEAR_LIMIT)?;
     let b = Point::new(NEAR_LIMIT, -NEAR_LIMIT)?;
     let c = Point::new(NEAR_LIMIT, NEAR_LIMIT)?;
+    let (right, below) = (Point::new(1073741824, 0)?, Point::new(0, -1073741824)?);
     assert!(rt; is_near(a) && is_near(b) && is_near(c));
-    assert_eq!(rt; orient_near(a, b, c), 4611686009837453316);
-    assert_eq!(rt; orient_near(a, c, b), -4611686009837453316);
-    assert!(rt; !is_near(Point::new(1073741824, 0)?) && !is_near(Point::new(0, -1073741824)?));
+    let sides = [orient_near(a, b, c), orient_near(a, c, b)];
+    assert!(rt; NEAR_LIMIT == 1073741823);
+    assert_eq!(rt; sides, [4611686009837453316, -4611686009837453316]);
+    assert!(rt; !is_near(right) && !is_near(below));
     Ok(())
 }
 
@@ -53,10 +56,9 @@ fn order_by_x_and_then_by_y(rt: HostRuntime) -> Result<(), Fail> {
     let low = Point::new(0, 0)?;
     let high = Point::new(0, 1)?;
     let right = Point::new(1, -5)?;
-    assert!(rt; before(low, high));
-    assert!(rt; before(high, right));
-    assert!(rt; !before(high, low));
-    assert!(rt; !before(low, low));
+    let upwards = [before(low, high), before(high, right)];
+    let others = [before(high, low), before(low, low)];
+    assert!(rt; upwards == [true; 2] && others == [false; 2]);
     Ok(())
 }
 
@@ -74,13 +76,15 @@ fn crossing(a: Point, b: Point, c: Point, d: Point, m: Point) -> Option<bool> {
 
 #[test]
 fn lines_that_cross_above_the_left_wall(rt: HostRuntime) -> Result<(), Fail> {
-    let a = Point::new(0, 0)?;
-    let b = Point::new(0, 1)?;
-    let c = Point::new(1, 3)?;
-    let d = Point::new(2, 3)?;
-    assert_eq!(rt; crossing(a, b, c, d, Point::new(0, 2)?), Some(false));
-    assert_eq!(rt; crossing(a, b, c, d, Point::new(0, 3)?), Some(true));
-    assert_eq!(rt; crossing(a, b, c, d, Point::new(1, -9)?), Some(true));
-    assert_eq!(rt; crossing(d, c, b, a, Point::new(0, 2)?), None);
+    let (a, b) = (Point::new(0, 0)?, Point::new(0, 1)?);
+    let (c, d) = (Point::new(1, 3)?, Point::new(2, 3)?);
+    let (early, there, late) = (Point::new(0, 2)?, Point::new(0, 3)?, Point::new(1, -9)?);
+    let crossings = [
+        crossing(a, b, c, d, early),
+        crossing(a, b, c, d, there),
+        crossing(a, b, c, d, late),
+        crossing(d, c, b, a, early),
+    ];
+    assert_eq!(rt; crossings, [Some(false), Some(true), Some(true), None]);
     Ok(())
 }

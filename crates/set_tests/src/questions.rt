@@ -9,28 +9,43 @@ use hull_plain::{AddReply, HullSet, POINT_LIMIT, Place, PlainSet};
 use hull_questions::{area2, extreme, place, tangents, vertices};
 use lattice::{Direction, Point};
 use shapes::{Sixteen, sixteen};
-use std::alloc::Global;
+use std::alloc::{AllocError, Global};
 use std::process::Abort;
 use std::test::Fail;
 
-fn at(x: i64, y: i64) -> Result<Point, Fail> {
-    Ok(Point::new(x, y)?)
+fn at(rt: &impl Abort, x: i64, y: i64) -> Point {
+    match Point::new(x, y) {
+        Ok(point) => point,
+        Err(_) => panic!(rt; "{x} {y} is no point"),
+    }
 }
 
-fn points_of(alloc: Global, pairs: &[(i64, i64)]) -> Result<Vec<Point>, Fail> {
+fn points_of(
+    rt: &impl Abort,
+    alloc: Global,
+    pairs: &[(i64, i64)],
+) -> Result<Vec<Point>, AllocError> {
     let mut points = Vec::new(alloc);
     for (x, y) in pairs {
-        points.push(at(*x, *y)?)?;
+        points.push(at(rt, *x, *y))?;
     }
     Ok(points)
 }
 
 /// The half of one to sixteen points in order.
-fn half_of(alloc: Global, pairs: &[(i64, i64)]) -> Result<Sixteen, Fail>
+fn half_of(rt: &impl Abort, alloc: Global, pairs: &[(i64, i64)]) -> Result<Sixteen, Fail>
     ensures { IfOk result (λ h. size_of (⟦<Sixteen as Half>⟧.tree h) ≤ 16) }
 {
-    let points = points_of(alloc, pairs)?;
+    let points = points_of(rt, alloc, pairs)?;
     Ok(sixteen(&points).ok_or("order")?)
+}
+
+/// Whether the vertices of a half are these, where there is memory for them.
+fn has_vertices<H: Half>(alloc: Global, half: H, corners: &[Point]) -> bool {
+    match vertices(alloc, half) {
+        Ok(found) => found.as_slice() == corners,
+        Err(_) => false,
+    }
 }
 
 /// The vertices of a hull, and its doubled area.
@@ -41,10 +56,10 @@ fn assert_outline(
     corners: &[(i64, i64)],
     doubled: u128,
 ) -> Result<(), Fail> {
-    let half = half_of(alloc, pairs)?;
-    let expected = points_of(alloc, corners)?;
-    assert!(rt; vertices(alloc, half)? == expected);
-    assert_eq!(rt; area2(half), doubled);
+    let half = half_of(rt, alloc, pairs)?;
+    let expected = points_of(rt, alloc, corners)?;
+    let has = has_vertices(alloc, half, &expected);
+    assert!(rt; has && area2(half) == doubled);
     Ok(())
 }
 
@@ -57,7 +72,7 @@ fn assert_extremes(
     pairs: &[(i64, i64)],
     cases: &[Farthest],
 ) -> Result<(), Fail> {
-    let half = half_of(alloc, pairs)?;
+    let half = half_of(rt, alloc, pairs)?;
     for (d, expected) in cases {
         let found = extreme(half, Direction::new(d.0, d.1)?);
         assert!(rt; (found.x(), found.y()) == *expected, "{} {}", d.0, d.1);
@@ -68,17 +83,25 @@ fn assert_extremes(
 /// A point and where it lies.
 type Placed = ((i64, i64), Place);
 
-fn assert_places(
+/// Whether each of these points lies there.
+fn has_places<H: Half>(rt: &impl Abort, half: H, cases: &[Placed]) -> bool {
+    let mut all = true;
+    for case in cases {
+        let ((x, y), expected) = *case;
+        all = place(half, at(rt, x, y)) == expected && all;
+    }
+    all
+}
+
+/// The same of the half of these points.
+fn are_placed(
     rt: &impl Abort,
     alloc: Global,
     pairs: &[(i64, i64)],
     cases: &[Placed],
-) -> Result<(), Fail> {
-    let half = half_of(alloc, pairs)?;
-    for (q, expected) in cases {
-        assert!(rt; place(half, at(q.0, q.1)?) == *expected, "{} {}", q.0, q.1);
-    }
-    Ok(())
+) -> Result<bool, Fail> {
+    let half = half_of(rt, alloc, pairs)?;
+    Ok(has_places(rt, half, cases))
 }
 
 /// The left and the right tangent point, or nothing.
@@ -92,17 +115,25 @@ fn ends<H: Half>(half: H, q: Point) -> Ends {
     Some(((l.x(), l.y()), (r.x(), r.y())))
 }
 
-fn assert_tangents(
+/// Whether the tangents of each of these points end there.
+fn has_tangents<H: Half>(rt: &impl Abort, half: H, cases: &[Touched]) -> bool {
+    let mut all = true;
+    for case in cases {
+        let ((x, y), expected) = *case;
+        all = ends(half, at(rt, x, y)) == expected && all;
+    }
+    all
+}
+
+/// The same of the half of these points.
+fn are_touched(
     rt: &impl Abort,
     alloc: Global,
     pairs: &[(i64, i64)],
     cases: &[Touched],
-) -> Result<(), Fail> {
-    let half = half_of(alloc, pairs)?;
-    for (q, expected) in cases {
-        assert!(rt; ends(half, at(q.0, q.1)?) == *expected, "{} {}", q.0, q.1);
-    }
-    Ok(())
+) -> Result<bool, Fail> {
+    let half = half_of(rt, alloc, pairs)?;
+    Ok(has_tangents(rt, half, cases))
 }
 
 #[test]
@@ -113,8 +144,9 @@ fn left_wall(rt: HostRuntime) -> Result<(), Fail> {
     let tangents = [((0, 4), Some(((2, 3), (0, 0))))];
     let corners = [(0, 0), (2, 3), (1, 3), (0, 2)];
     assert_extremes(&rt, rt.alloc(), &points, &extremes)?;
-    assert_places(&rt, rt.alloc(), &points, &places)?;
-    assert_tangents(&rt, rt.alloc(), &points, &tangents)?;
+    let placed = are_placed(&rt, rt.alloc(), &points, &places)?;
+    let touched = are_touched(&rt, rt.alloc(), &points, &tangents)?;
+    assert!(rt; placed && touched);
     assert_outline(&rt, rt.alloc(), &points, &corners, 5)
 }
 
@@ -130,60 +162,68 @@ fn range_corners(rt: HostRuntime) -> Result<(), Fail> {
     let tangents = [((MOST, 0), None)];
     let corners = [(LEAST, LEAST), (MOST, LEAST), (MOST, MOST), (LEAST, MOST)];
     assert_extremes(&rt, rt.alloc(), &points, &extremes)?;
-    assert_places(&rt, rt.alloc(), &points, &places)?;
-    assert_tangents(&rt, rt.alloc(), &points, &tangents)?;
+    let placed = are_placed(&rt, rt.alloc(), &points, &places)?;
+    let touched = are_touched(&rt, rt.alloc(), &points, &tangents)?;
+    assert!(rt; placed && touched);
     assert_outline(&rt, rt.alloc(), &points, &corners, 8796093022208)
 }
 
 /// A plain set of the same points.
-fn plain_of(rt: &impl Abort, alloc: Global, pairs: &[(i64, i64)]) -> Result<PlainSet, Fail> {
+fn plain_of(rt: &impl Abort, alloc: Global, pairs: &[(i64, i64)]) -> PlainSet {
     let mut set = PlainSet::new(alloc, POINT_LIMIT);
+    let mut all = true;
     for (x, y) in pairs {
-        assert_eq!(rt; set.add(at(*x, *y)?), AddReply::Added);
+        all = set.add(at(rt, *x, *y)) == AddReply::Added && all;
     }
-    Ok(set)
+    assert!(rt; all);
+    set
 }
 
-/// A half and a plain set give the same answers about one point.
-fn agree_on_point<H: Half>(rt: &impl Abort, half: H, set: &PlainSet, q: Point) {
-    assert!(rt; place(half, q) == set.place(q));
-    assert!(rt; tangents(half, q) == set.tangents(q));
-}
-
-/// A half and a plain set give the same answers about each point from -1 to `end`, both ways.
-fn agree_on_points<H: Half>(
-    rt: &impl Abort,
-    half: H,
-    set: &PlainSet,
-    end: i64,
-) -> Result<(), Fail> {
+/// Whether a half and a plain set give the same answers about each point from -1 to `end`, both ways.
+fn agree_on_points<H: Half>(rt: &impl Abort, half: H, set: &PlainSet, end: i64) -> bool {
     for x in -1..end {
         for y in -1..end {
-            agree_on_point(rt, half, set, at(x, y)?);
+            let q = at(rt, x, y);
+            if place(half, q) != set.place(q) || tangents(half, q) != set.tangents(q) {
+                return false;
+            }
         }
     }
-    Ok(())
+    true
 }
 
-/// A half and a plain set give the same answers in each direction with components up to 3.
-fn agree_on_directions<H: Half>(rt: &impl Abort, half: H, set: &PlainSet) {
+/// Whether a half and a plain set give the same answers in each direction with components up to 3.
+fn agree_on_directions<H: Half>(half: H, set: &PlainSet) -> bool {
+    let mut alike = true;
     for x in -3..4 {
         for y in -3..4 {
             if let Ok(d) = Direction::new(x, y) {
-                assert!(rt; Some(extreme(half, d)) == set.extreme(d));
+                alike = Some(extreme(half, d)) == set.extreme(d) && alike;
             }
         }
+    }
+    alike
+}
+
+/// Whether a half and a plain set have the same outline.
+fn agree_on_outline<H: Half>(alloc: Global, half: H, set: &PlainSet) -> bool
+    requires { size_of (H.tree half) ≤ 16 }
+{
+    match set.vertices() {
+        Ok(corners) => has_vertices(alloc, half, &corners) && area2(half) == set.area2(),
+        Err(_) => false,
     }
 }
 
 /// A half and a plain set of the same points give the same answers.
 fn agree(rt: &impl Abort, alloc: Global, pairs: &[(i64, i64)], end: i64) -> Result<(), Fail> {
-    let half = half_of(alloc, pairs)?;
-    let set = plain_of(rt, alloc, pairs)?;
-    agree_on_points(rt, half, &set, end)?;
-    agree_on_directions(rt, half, &set);
-    assert_eq!(rt; area2(half), set.area2());
-    assert!(rt; vertices(alloc, half)? == set.vertices()?);
+    let half = half_of(rt, alloc, pairs)?;
+    let set = plain_of(rt, alloc, pairs);
+    let on_points = agree_on_points(rt, half, &set, end);
+    let on_directions = agree_on_directions(half, &set);
+    let on_outline = agree_on_outline(alloc, half, &set);
+    drop(set);
+    assert!(rt; on_points && on_directions && on_outline);
     Ok(())
 }
 
@@ -242,29 +282,25 @@ const BOWL: [(i64, i64); 9] = [
     (8, 64),
 ];
 
-/// The half of the bowl, which takes no memory.
-fn bowl() -> Result<Sixteen, Fail> {
-    let mut points = [at(0, 0)?; 9];
+/// The points of the bowl, which take no memory.
+fn bowl(rt: &impl Abort) -> [Point; 9] {
+    let mut points = [at(rt, 0, 0); 9];
     for i in 0..9 {
         let (x, y) = BOWL[i];
-        points[i] = at(x, y)?;
+        points[i] = at(rt, x, y);
     }
-    Ok(sixteen(&points).ok_or("order")?)
+    points
 }
 
 // `rt try --test --fail-alloc N` at N = 1, 2, 3 refuses each of its requests for memory.
 #[test]
 fn refused_vertices(rt: HostRuntime) -> Result<(), Fail> {
-    let half = bowl()?;
+    let points = bowl(&rt);
+    let half = sixteen(&points).ok_or("order")?;
     let mut found = vertices(rt.alloc(), half);
     if found.is_err() {
         found = vertices(rt.alloc(), half);
     }
-    let found = found?;
-    assert_eq!(rt; found.len(), 9);
-    for i in 0..9 {
-        let (x, y) = BOWL[i];
-        assert_eq!(rt; found.get(i).copied(), Some(at(x, y)?), "vertex {i}");
-    }
+    assert!(rt; found?.as_slice() == points.as_slice());
     Ok(())
 }

@@ -7,165 +7,227 @@ mod sparing;
 mod turns;
 
 use hull_plain::{AddReply, HullSet, MULTIPLICITY_LIMIT, NoMemory, POINT_LIMIT, RemoveReply};
-use hull_tree::{HullTree, trees_are_sound};
+use hull_tree::{HullTree, Node, trees_are_sound};
 use lattice::Point;
 use std::alloc::Global;
 use std::process::Abort;
-use std::test::Fail;
 
-fn at(x: i64, y: i64) -> Result<Point, Fail> {
-    Ok(Point::new(x, y)?)
+fn at(rt: &impl Abort, x: i64, y: i64) -> Point {
+    match Point::new(x, y) {
+        Ok(point) => point,
+        Err(_) => panic!(rt; "{x} {y} is no point"),
+    }
+}
+
+/// Whether each of these points is added, one after the other.
+fn adds_all(tree: &mut HullTree, points: &[Point]) -> bool {
+    let mut all = true;
+    for point in points {
+        all = tree.add(*point) == AddReply::Added && all;
+    }
+    all
 }
 
 /// A tree to which these points were added one after the other, all of them new.
-fn tree_of(rt: &impl Abort, alloc: Global, points: &[(i64, i64)]) -> Result<HullTree, Fail> {
+fn tree_of(rt: &impl Abort, alloc: Global, points: &[Point]) -> HullTree {
     let mut tree = HullTree::new(alloc, POINT_LIMIT);
-    for (x, y) in points {
-        assert_eq!(rt; tree.add(at(*x, *y)?), AddReply::Added);
-    }
-    Ok(tree)
+    let all = adds_all(&mut tree, points);
+    assert!(rt; all);
+    tree
 }
 
 #[test]
-fn empty_tree(rt: HostRuntime) -> Result<(), Fail> {
-    let p = at(7, 7)?;
+fn empty_tree(rt: HostRuntime) {
+    let p = at(&rt, 7, 7);
     let mut tree = HullTree::new(rt.alloc(), 3);
-    assert!(rt; tree.root().is_none());
-    assert_eq!(rt; tree.limit(), 3);
-    assert_eq!(rt; tree.count(), 0);
-    assert_eq!(rt; tree.remove(p), RemoveReply::Absent);
-    assert_eq!(rt; tree.multiplicity(p), 0);
+    let is_empty = tree.root().is_none();
+    let told = [tree.limit(), tree.count(), tree.multiplicity(p)];
+    let removed = tree.remove(p);
     trees_are_sound(&tree);
-    Ok(())
+    drop(tree);
+    assert!(rt; is_empty && told == [3, 0, 0] && removed == RemoveReply::Absent);
+}
+
+/// Whether the points (0, 0) to (1023, 0) are added, one after the other.
+fn adds_a_row(rt: &impl Abort, tree: &mut HullTree) -> bool {
+    let mut all = true;
+    for k in 0i64..1024 {
+        all = tree.add(at(rt, k, 0)) == AddReply::Added && all;
+    }
+    all
+}
+
+/// Whether they are removed in the same order.
+fn removes_a_row(rt: &impl Abort, tree: &mut HullTree) -> bool {
+    let mut all = true;
+    for k in 0i64..1024 {
+        all = tree.remove(at(rt, k, 0)) == RemoveReply::Removed && all;
+    }
+    all
 }
 
 #[test]
-fn rising_order(rt: HostRuntime) -> Result<(), Fail> {
+fn rising_order(rt: HostRuntime) {
     let mut tree = HullTree::new(rt.alloc(), POINT_LIMIT);
-    for k in 0i64..1024 {
-        assert_eq!(rt; tree.add(at(k, 0)?), AddReply::Added, "adding {k}");
+    let added = adds_a_row(&rt, &mut tree);
+    let count = tree.count();
+    let removed = removes_a_row(&rt, &mut tree);
+    let left = (tree.count(), tree.root().is_none());
+    drop(tree);
+    assert!(rt; added && removed);
+    assert!(rt; count == 1024 && left == (0, true));
+}
+
+/// What a node lends: its point, how often it is held, its upper and its lower bridge, and whether it has halves.
+type Lent = (
+    Option<Point>,
+    Option<u32>,
+    Option<(Point, Point)>,
+    Option<(Point, Point)>,
+    bool,
+);
+
+fn lent_by(node: &Node) -> Lent {
+    (
+        node.point(),
+        node.multiplicity(),
+        node.upper().copied(),
+        node.lower().copied(),
+        node.halves().is_some(),
+    )
+}
+
+/// What the root lends, and the points of its two halves.
+fn root_of(tree: &HullTree) -> Option<(Lent, Option<Point>, Option<Point>)> {
+    let root = tree.root()?;
+    match root.halves() {
+        None => Some((lent_by(root), None, None)),
+        Some((left, right)) => Some((lent_by(root), left.point(), right.point())),
     }
-    assert_eq!(rt; tree.count(), 1024);
-    for k in 0i64..1024 {
-        assert_eq!(rt;
-            tree.remove(at(k, 0)?),
-            RemoveReply::Removed,
-            "removing {k}"
-        );
-    }
-    assert_eq!(rt; tree.count(), 0);
-    assert!(rt; tree.root().is_none());
-    Ok(())
 }
 
 #[test]
-fn triangle_root(rt: HostRuntime) -> Result<(), Fail> {
-    let (base, apex) = ((at(0, 0)?, at(4, 0)?), at(2, 3)?);
-    let mut tree = tree_of(&rt, rt.alloc(), &[(0, 0), (4, 0), (2, 3)])?;
-    assert_eq!(rt;
-        tree.root().and_then(|root| root.lower()).copied(),
-        Some(base)
-    );
-    assert_eq!(rt; tree.remove(apex), RemoveReply::Removed);
-    let root = tree.root().ok_or("empty")?;
-    assert_eq!(rt; root.upper().copied(), Some(base));
-    assert_eq!(rt; root.lower().copied(), Some(base));
-    let (left, right) = root.halves().ok_or("a leaf")?;
-    assert_eq!(rt; left.point(), Some(base.0));
-    assert_eq!(rt; right.point(), Some(base.1));
-    Ok(())
+fn triangle_root(rt: HostRuntime) {
+    let (left, right, apex) = (at(&rt, 0, 0), at(&rt, 4, 0), at(&rt, 2, 3));
+    let base = Some((left, right));
+    let mut tree = tree_of(&rt, rt.alloc(), &[left, right, apex]);
+    let lower = tree.root().and_then(|root| root.lower()).copied();
+    let removed = tree.remove(apex);
+    let root = root_of(&tree);
+    drop(tree);
+    assert!(rt; lower == base && removed == RemoveReply::Removed);
+    assert!(rt; root == Some(((None, None, base, base, true), Some(left), Some(right))));
 }
 
 #[test]
-fn leaf_and_fork(rt: HostRuntime) -> Result<(), Fail> {
-    let (low, high) = (at(1, 1)?, at(1, 2)?);
-    let mut tree = tree_of(&rt, rt.alloc(), &[(1, 2)])?;
-    let leaf = tree.root().ok_or("empty")?;
-    assert_eq!(rt; leaf.point(), Some(high));
-    assert_eq!(rt; leaf.multiplicity(), Some(1));
-    assert!(rt; leaf.upper().is_none());
-    assert!(rt; leaf.lower().is_none());
-    assert!(rt; leaf.halves().is_none());
-    assert_eq!(rt; tree.add(low), AddReply::Added);
-    let fork = tree.root().ok_or("empty")?;
-    assert_eq!(rt; fork.point(), None);
-    assert_eq!(rt; fork.multiplicity(), None);
-    assert_eq!(rt; fork.upper().copied(), Some((low, high)));
-    assert_eq!(rt; fork.lower().copied(), Some((low, high)));
-    assert!(rt; fork.halves().is_some());
-    Ok(())
+fn leaf_and_fork(rt: HostRuntime) {
+    let (low, high) = (at(&rt, 1, 1), at(&rt, 1, 2));
+    let (upper, lower) = (Some((low, high)), Some((low, high)));
+    let mut tree = tree_of(&rt, rt.alloc(), &[high]);
+    let leaf = root_of(&tree);
+    let added = tree.add(low);
+    let fork = root_of(&tree);
+    drop(tree);
+    assert!(rt; leaf == Some(((Some(high), Some(1), None, None, false), None, None)));
+    assert!(rt; added == AddReply::Added);
+    assert!(rt; fork == Some(((None, None, upper, lower, true), Some(low), Some(high))));
 }
 
-#[test]
-fn as_often_as_may_be(rt: HostRuntime) -> Result<(), Fail> {
-    let (p, other) = (at(0, 0)?, at(1, 0)?);
-    let mut tree = tree_of(&rt, rt.alloc(), &[(0, 0), (1, 0)])?;
+/// Adds a point until it is held as often as 65535 times. How often each reply so far told.
+fn add_to_the_most(tree: &mut HullTree, p: Point) -> u32 {
+    let mut held = 1;
     for times in 2u32..65536 {
-        assert_eq!(rt; tree.add(p), AddReply::Again(times));
+        if held == times - 1 && tree.add(p) == AddReply::Again(times) {
+            held = times;
+        }
     }
-    assert_eq!(rt; MULTIPLICITY_LIMIT, 65535);
-    assert_eq!(rt; tree.add_counted(p), (AddReply::TooMany, 0));
-    assert_eq!(rt; tree.multiplicity(p), 65535);
-    assert_eq!(rt; tree.multiplicity(other), 1);
-    assert_eq!(rt; tree.count(), 2);
-    assert_eq!(rt; tree.remove(p), RemoveReply::Left(65534));
-    Ok(())
+    held
+}
+
+#[test]
+fn as_often_as_may_be(rt: HostRuntime) {
+    let (p, other) = (at(&rt, 0, 0), at(&rt, 1, 0));
+    let mut tree = tree_of(&rt, rt.alloc(), &[p, other]);
+    let held = add_to_the_most(&mut tree, p);
+    let refused = tree.add_counted(p);
+    let told = [tree.multiplicity(p), tree.multiplicity(other), tree.count()];
+    let removed = tree.remove(p);
+    drop(tree);
+    assert!(rt; held == 65535 && MULTIPLICITY_LIMIT == 65535);
+    assert!(rt; refused == (AddReply::TooMany, 0) && removed == RemoveReply::Left(65534));
+    assert!(rt; told == [65535, 1, 2]);
+}
+
+/// Whether a second point is added. Where memory is refused, the tree has the first one alone, and the second attempt
+/// has it.
+fn adds_again(tree: &mut HullTree, first: Point, second: Point) -> bool {
+    let mut reply = tree.add(second);
+    let mut kept = true;
+    if reply == AddReply::NoMemory {
+        let point = tree.root().and_then(|root| root.point());
+        kept = point == Some(first) && tree.count() == 1;
+        kept = tree.remove(second) == RemoveReply::Absent && kept;
+        reply = tree.add(second);
+    }
+    kept && reply == AddReply::Added
 }
 
 // `rt try --test --fail-alloc 1` refuses its one request for memory.
 #[test]
-fn refused_leaf(rt: HostRuntime) -> Result<(), Fail> {
-    let (first, second) = (at(0, 0)?, at(1, 1)?);
-    let mut tree = HullTree::new(rt.alloc(), POINT_LIMIT);
-    assert_eq!(rt; tree.add(first), AddReply::Added);
-    let mut reply = tree.add(second);
-    if reply == AddReply::NoMemory {
-        assert_eq!(rt; tree.count(), 1);
-        assert_eq!(rt; tree.root().and_then(|root| root.point()), Some(first));
-        assert_eq!(rt; tree.remove(second), RemoveReply::Absent);
-        reply = tree.add(second);
-    }
-    assert_eq!(rt; reply, AddReply::Added);
-    assert_eq!(rt; tree.count(), 2);
-    Ok(())
+fn refused_leaf(rt: HostRuntime) {
+    let (first, second) = (at(&rt, 0, 0), at(&rt, 1, 1));
+    let mut tree = tree_of(&rt, rt.alloc(), &[first]);
+    let added = adds_again(&mut tree, first, second);
+    let count = tree.count();
+    drop(tree);
+    assert!(rt; added && count == 2);
 }
 
 /// A body of `add` that always refuses memory fails here.
 #[test]
-fn add_always_refuses(rt: HostRuntime) -> Result<(), Fail> {
-    let (low, high) = (at(3, 4)?, at(3, 5)?);
+fn add_always_refuses(rt: HostRuntime) {
+    let (low, high) = (at(&rt, 3, 4), at(&rt, 3, 5));
     let mut tree = HullTree::new(rt.alloc(), POINT_LIMIT);
-    assert_eq!(rt; tree.add(low), AddReply::Added);
-    assert_eq!(rt; tree.add(high), AddReply::Added);
-    assert_eq!(rt; tree.add(low), AddReply::Again(2));
-    assert_eq!(rt; tree.count(), 2);
-    Ok(())
+    let replies = [tree.add(low), tree.add(high), tree.add(low)];
+    let count = tree.count();
+    drop(tree);
+    assert_eq!(rt;
+        replies,
+        [AddReply::Added, AddReply::Added, AddReply::Again(2)]
+    );
+    assert!(rt; count == 2);
 }
 
-/// Adds a new point; where memory is refused, at the second attempt.
-fn add_again(rt: &impl Abort, tree: &mut HullTree, p: Point) {
+/// Adds a new point; where memory is refused, at the second attempt. Whether it is added.
+fn add_again(tree: &mut HullTree, p: Point) -> bool {
     let mut reply = tree.add(p);
     if reply == AddReply::NoMemory {
         reply = tree.add(p);
     }
-    assert_eq!(rt; reply, AddReply::Added);
+    reply == AddReply::Added
+}
+
+/// Whether these are the vertices of a tree of so many points. Where memory is refused, the second attempt has it.
+fn has_vertices(tree: &HullTree, corners: &[Point], count: u32) -> bool {
+    match tree.vertices() {
+        Ok(vertices) => vertices.as_slice() == corners,
+        Err(NoMemory) => match tree.vertices() {
+            Ok(vertices) => tree.count() == count && vertices.as_slice() == corners,
+            Err(NoMemory) => false,
+        },
+    }
 }
 
 // `rt try --test --fail-alloc N`: N = 1 and 2 refuse the boxes of the second and the third point, N = 3 the list.
 #[test]
-fn refused_vertices(rt: HostRuntime) -> Result<(), Fail> {
-    let corners = [at(0, 0)?, at(4, 0)?, at(2, 3)?];
+fn refused_vertices(rt: HostRuntime) {
+    let corners = [at(&rt, 0, 0), at(&rt, 4, 0), at(&rt, 2, 3)];
     let mut tree = HullTree::new(rt.alloc(), POINT_LIMIT);
+    let mut all = true;
     for corner in corners {
-        add_again(&rt, &mut tree, corner);
+        all = add_again(&mut tree, corner) && all;
     }
-    let vertices = match tree.vertices() {
-        Ok(vertices) => vertices,
-        Err(NoMemory) => {
-            assert_eq!(rt; tree.count(), 3);
-            tree.vertices()?
-        }
-    };
-    assert_eq!(rt; vertices.as_slice(), corners.as_slice());
-    Ok(())
+    let has = has_vertices(&tree, &corners, 3);
+    drop(tree);
+    assert!(rt; all && has);
 }

@@ -42,112 +42,141 @@ fn push_points(points: &mut Vec<(Point, u32)>, node: &Node) -> Result<(), AllocE
     Ok(())
 }
 
-/// All points of the tree are points of the plain set, in order and held as often, and no other is.
-fn assert_same_points(
-    rt: &impl Abort,
-    alloc: Global,
-    tree: &HullTree,
-    plain: &PlainSet,
-) -> Result<(), Fail> {
+/// Whether these points are in order, and each of them is held as often by both.
+fn are_held_alike(points: &[(Point, u32)], tree: &HullTree, plain: &PlainSet) -> bool {
+    for i in 0..points.len() {
+        let (point, times) = points[i];
+        if i > 0 && !before(points[i - 1].0, point) {
+            return false;
+        }
+        if plain.multiplicity(point) != times || tree.multiplicity(point) != times {
+            return false;
+        }
+    }
+    true
+}
+
+/// Whether all points of the tree are points of the plain set, in order and held as often, and no other is.
+fn has_same_points(alloc: Global, tree: &HullTree, plain: &PlainSet) -> Result<bool, AllocError> {
     let mut points = Vec::new(alloc);
     if let Some(root) = tree.root() {
         push_points(&mut points, root)?;
     }
-    assert_eq!(rt; points.len(), tree.count() as usize);
-    assert_eq!(rt; plain.count(), tree.count());
-    for i in 0..points.len() {
-        let (point, times) = points[i];
-        assert!(rt; i == 0 || before(points[i - 1].0, point), "point {i}");
-        assert_eq!(rt; plain.multiplicity(point), times, "point {i}");
-        assert_eq!(rt; tree.multiplicity(point), times, "point {i}");
-    }
-    Ok(())
+    let all = points.len() == tree.count() as usize && plain.count() == tree.count();
+    Ok(all && are_held_alike(&points, tree, plain))
 }
 
-/// Both answer alike to questions with no argument, and of the farthest point in eight directions.
-fn assert_same_hull(rt: &impl Abort, tree: &HullTree, plain: &PlainSet) -> Result<(), Fail> {
-    assert_eq!(rt; tree.count(), plain.count());
-    assert_eq!(rt; tree.area2(), plain.area2());
-    assert_eq!(rt; tree.vertices()?.as_slice(), plain.vertices()?.as_slice());
+/// Whether both answer alike of the farthest point in eight directions.
+fn has_same_extremes(tree: &HullTree, plain: &PlainSet) -> bool {
+    let mut alike = true;
     for x in -1i64..2 {
         for y in -1i64..2 {
-            if x != 0 || y != 0 {
-                let d = Direction::new(x, y)?;
-                assert_eq!(rt; tree.extreme(d), plain.extreme(d), "towards {x} {y}");
+            if let Ok(d) = Direction::new(x, y) {
+                alike = tree.extreme(d) == plain.extreme(d) && alike;
             }
         }
     }
-    Ok(())
+    alike
 }
 
-/// Both see a point alike: where it lies, and its tangents.
-fn assert_same_sight(rt: &impl Abort, tree: &HullTree, plain: &PlainSet, q: Point) {
-    assert_eq!(rt; tree.place(q), plain.place(q), "place of {q:?}");
-    assert_eq!(rt; tree.tangents(q), plain.tangents(q), "tangents from {q:?}");
+/// Whether both answer alike to questions with no argument, and of the farthest points.
+fn has_same_hull(tree: &HullTree, plain: &PlainSet) -> bool {
+    let same = tree.count() == plain.count() && tree.area2() == plain.area2();
+    let listed = tree.vertices();
+    listed.is_ok() && listed == plain.vertices() && same && has_same_extremes(tree, plain)
 }
 
-/// Makes a change on both, which must answer alike, and hold the point as often afterwards.
-fn change(rt: &impl Abort, tree: &mut HullTree, plain: &mut PlainSet, p: Point, adds: bool) {
-    if adds {
-        assert_eq!(rt; tree.add(p), plain.add(p), "adding {p:?}");
+/// Whether both see a point alike: where it lies, and its tangents.
+fn has_same_sight(tree: &HullTree, plain: &PlainSet, q: Point) -> bool {
+    tree.place(q) == plain.place(q) && tree.tangents(q) == plain.tangents(q)
+}
+
+/// Makes a change on both. Whether they answer alike, and hold the point as often afterwards.
+fn change(tree: &mut HullTree, plain: &mut PlainSet, p: Point, adds: bool) -> bool {
+    let alike = if adds {
+        tree.add(p) == plain.add(p)
     } else {
-        assert_eq!(rt; tree.remove(p), plain.remove(p), "removing {p:?}");
-    }
-    assert_eq!(rt;
-        tree.multiplicity(p),
-        plain.multiplicity(p),
-        "times of {p:?}"
-    );
+        tree.remove(p) == plain.remove(p)
+    };
+    alike && tree.multiplicity(p) == plain.multiplicity(p)
 }
 
-/// Makes one change at a point of a square of 7 by 7.
-fn change_near(
+/// Makes one change at a point of a square of 7 by 7. Whether both answer alike.
+fn change_near(rt: &impl Abort, tree: &mut HullTree, plain: &mut PlainSet, number: u32) -> bool {
+    let p = at(rt, centred(number % 7, 3), centred(number / 7 % 7, 3));
+    change(tree, plain, p, number / 49 % 2 == 0)
+}
+
+/// Makes 300 changes on both. Whether they answer alike, and hold the same points after each.
+fn changes_alike(
     rt: &impl Abort,
+    alloc: Global,
     tree: &mut HullTree,
     plain: &mut PlainSet,
-    number: u32,
-) -> Result<(), Fail> {
-    let p = at(centred(number % 7, 3), centred(number / 7 % 7, 3))?;
-    change(rt, tree, plain, p, number / 49 % 2 == 0);
-    Ok(())
+) -> Result<bool, AllocError> {
+    let mut numbers = Numbers::new();
+    let mut alike = true;
+    for _ in 0..300 {
+        alike = change_near(rt, tree, plain, numbers.next()) && alike;
+        alike = has_same_points(alloc, tree, plain)? && alike;
+    }
+    Ok(alike)
 }
 
 #[test]
 fn random_changes(rt: HostRuntime) -> Result<(), Fail> {
     let mut tree = HullTree::new(rt.alloc(), POINT_LIMIT);
     let mut plain = PlainSet::new(rt.alloc(), POINT_LIMIT);
-    let mut numbers = Numbers::new();
-    for _ in 0..300 {
-        change_near(&rt, &mut tree, &mut plain, numbers.next())?;
-        assert_same_points(&rt, rt.alloc(), &tree, &plain)?;
-    }
+    let alike = changes_alike(&rt, rt.alloc(), &mut tree, &mut plain);
+    drop(tree);
+    drop(plain);
+    assert!(rt; alike?);
     Ok(())
+}
+
+/// Whether both see all points of a square of 9 by 9 alike.
+fn has_same_sights(rt: &impl Abort, tree: &HullTree, plain: &PlainSet) -> bool {
+    let mut alike = true;
+    for x in -4i64..5 {
+        for y in -4i64..5 {
+            alike = has_same_sight(tree, plain, at(rt, x, y)) && alike;
+        }
+    }
+    alike
+}
+
+/// Makes 300 changes on both. Whether they answer alike, also to all questions after each ten.
+fn answers_alike(rt: &impl Abort, tree: &mut HullTree, plain: &mut PlainSet) -> bool {
+    let mut numbers = Numbers::new();
+    let mut alike = true;
+    for step in 0u32..300 {
+        alike = change_near(rt, tree, plain, numbers.next()) && alike;
+        if step % 10 == 9 {
+            alike = has_same_hull(tree, plain) && has_same_sights(rt, tree, plain) && alike;
+        }
+    }
+    alike
 }
 
 #[test]
-fn same_answers(rt: HostRuntime) -> Result<(), Fail> {
+fn same_answers(rt: HostRuntime) {
     let mut tree = HullTree::new(rt.alloc(), POINT_LIMIT);
     let mut plain = PlainSet::new(rt.alloc(), POINT_LIMIT);
-    let mut numbers = Numbers::new();
-    for step in 0u32..300 {
-        change_near(&rt, &mut tree, &mut plain, numbers.next())?;
-        if step % 10 == 9 {
-            assert_same_hull(&rt, &tree, &plain)?;
-            for x in -4i64..5 {
-                for y in -4i64..5 {
-                    assert_same_sight(&rt, &tree, &plain, at(x, y)?);
-                }
-            }
-        }
-    }
-    Ok(())
+    let alike = answers_alike(&rt, &mut tree, &mut plain);
+    drop(tree);
+    drop(plain);
+    assert!(rt; alike);
 }
 
-/// Makes so many changes at points of a grid of 201 by 201 that lie so far apart, half of them at the point of the
-/// change before.
-fn change_on_grid(rt: &impl Abort, alloc: Global, apart: i64, steps: u32) -> Result<(), Fail> {
-    let mut tree = HullTree::new(alloc, POINT_LIMIT);
-    let mut plain = PlainSet::new(alloc, POINT_LIMIT);
+/// Makes so many changes on both at points of a grid of 201 by 201 that lie so far apart, half of them at the point of
+/// the change before. Which one they first answered differently, if any.
+fn first_difference(
+    rt: &impl Abort,
+    tree: &mut HullTree,
+    plain: &mut PlainSet,
+    apart: i64,
+    steps: u32,
+) -> Option<u32> {
     let mut numbers = Numbers::new();
     let (mut right, mut up) = (0, 0);
     for step in 0u32..steps {
@@ -158,14 +187,31 @@ fn change_on_grid(rt: &impl Abort, alloc: Global, apart: i64, steps: u32) -> Res
         let x = centred(right, 100).wrapping_mul(apart);
         let y = centred(up, 100).wrapping_mul(apart);
         let adds = numbers.next() % 3 != 0;
-        change(rt, &mut tree, &mut plain, at(x, y)?, adds);
+        let mut alike = change(tree, plain, at(rt, x, y), adds);
         if step % 500 == 499 {
-            assert_same_hull(rt, &tree, &plain)?;
-            assert_same_sight(rt, &tree, &plain, at(centred(right, 50), y)?);
-            assert_same_sight(rt, &tree, &plain, at(x, centred(up, 150))?);
+            let (beside, above) = (at(rt, centred(right, 50), y), at(rt, x, centred(up, 150)));
+            alike = has_same_hull(tree, plain) && alike;
+            alike = has_same_sight(tree, plain, beside) && alike;
+            alike = has_same_sight(tree, plain, above) && alike;
+        }
+        if !alike {
+            return Some(step);
         }
     }
-    assert_same_points(rt, alloc, &tree, &plain)
+    None
+}
+
+/// Makes so many changes so on a tree and a plain set, which answer alike and hold the same points at the end.
+fn change_on_grid(rt: &impl Abort, alloc: Global, apart: i64, steps: u32) -> Result<(), Fail> {
+    let mut tree = HullTree::new(alloc, POINT_LIMIT);
+    let mut plain = PlainSet::new(alloc, POINT_LIMIT);
+    let differs = first_difference(rt, &mut tree, &mut plain, apart, steps);
+    let same = has_same_points(alloc, &tree, &plain);
+    drop(tree);
+    drop(plain);
+    assert_eq!(rt; differs, None);
+    assert!(rt; same?);
+    Ok(())
 }
 
 #[test]

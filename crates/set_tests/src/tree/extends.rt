@@ -1,36 +1,63 @@
 //! Points that are added many at a time, beside a plain set to which they are added one by one.
-use super::at;
 use super::beside_plain::{Numbers, centred};
 use super::sparing::Sets;
-use hull_plain::{AddReply, HullSet, MULTIPLICITY_LIMIT, POINT_LIMIT, PlainSet};
+use super::{add_again, at};
+use hull_plain::{AddReply, HullSet, MULTIPLICITY_LIMIT, NoMemory, POINT_LIMIT, PlainSet};
 use hull_tree::{HullTree, LoadFault, SparingTree};
-use lattice::{Point, before};
-use std::alloc::Global;
+use lattice::{Direction, Point, before};
+use std::alloc::{AllocError, Global};
 use std::process::Abort;
 use std::test::Fail;
 
 /// So many points of a square grid with so many lines, some of them more than once.
-fn drawn(alloc: Global, numbers: &mut Numbers, count: u32, lines: u32) -> Result<Vec<Point>, Fail> {
+fn drawn(
+    rt: &impl Abort,
+    alloc: Global,
+    numbers: &mut Numbers,
+    count: u32,
+    lines: u32,
+) -> Result<Vec<Point>, AllocError> {
     let mut points = Vec::new(alloc);
     for _ in 0..count {
         let right = numbers.next().checked_rem(lines).unwrap_or(0);
         let up = numbers.next().checked_rem(lines).unwrap_or(0);
-        points.push(at(centred(right, lines / 2), centred(up, lines / 2))?)?;
+        points.push(at(rt, centred(right, lines / 2), centred(up, lines / 2)))?;
     }
     Ok(points)
 }
 
-/// The entries are the points of the plain set in order, each held as often.
-pub(super) fn assert_entries(rt: &impl Abort, entries: &[(Point, u32)], plain: &PlainSet) {
-    assert_eq!(rt; entries.len(), plain.count() as usize);
+/// Whether the entries are the points of the plain set in order, each held as often.
+pub(super) fn are_entries(entries: &[(Point, u32)], plain: &PlainSet) -> bool {
     for i in 0..entries.len() {
         let (point, times) = entries[i];
-        assert!(rt; i == 0 || before(entries[i - 1].0, point), "point {i}");
-        assert_eq!(rt; plain.multiplicity(point), times, "point {i}");
+        if i > 0 && !before(entries[i - 1].0, point) || plain.multiplicity(point) != times {
+            return false;
+        }
     }
+    entries.len() == plain.count() as usize
 }
 
-/// Extends all three sets so many times, by fewer points than `most`, and compares them each time.
+/// Extends all three sets so many times, by fewer points than `most`. Whether they are alike each time.
+fn extends_alike(
+    rt: &impl Abort,
+    alloc: Global,
+    sets: &mut Sets,
+    lines: u32,
+    rounds: u32,
+    most: u32,
+) -> Result<bool, Fail> {
+    let (q, d) = (at(rt, 3, 2), Direction::new(1, -1)?);
+    let mut numbers = Numbers::new();
+    let mut alike = true;
+    for _ in 0..rounds {
+        let count = numbers.next().checked_rem(most).unwrap_or(0);
+        sets.extend(&drawn(rt, alloc, &mut numbers, count, lines)?)?;
+        alike = sets.has_same_entries()? && sets.are_alike(q, d) && alike;
+    }
+    Ok(alike)
+}
+
+/// Extends three sets so, which are alike each time.
 fn extend_on_grid(
     rt: &impl Abort,
     alloc: Global,
@@ -38,15 +65,10 @@ fn extend_on_grid(
     rounds: u32,
     most: u32,
 ) -> Result<(), Fail> {
-    let q = at(3, 2)?;
     let mut sets = Sets::new(alloc);
-    let mut numbers = Numbers::new();
-    for _ in 0..rounds {
-        let count = numbers.next().checked_rem(most).unwrap_or(0);
-        sets.extend(&drawn(alloc, &mut numbers, count, lines)?)?;
-        sets.assert_same_entries(rt)?;
-        sets.assert_alike(rt, q)?;
-    }
+    let alike = extends_alike(rt, alloc, &mut sets, lines, rounds, most);
+    drop(sets);
+    assert!(rt; alike?);
     Ok(())
 }
 
@@ -61,115 +83,146 @@ fn extended_on_a_grid(rt: HostRuntime) -> Result<(), Fail> {
 }
 
 /// A tree of the points (0, 0), (1, 1), (2, 4) and so on, with room for no other.
-fn full_tree(alloc: Global, count: u32) -> Result<SparingTree, Fail> {
+fn full_tree(rt: &impl Abort, alloc: Global, count: u32) -> Result<SparingTree, LoadFault> {
     let mut points = Vec::new(alloc);
     for k in 0..count {
         let x = i64::from(k);
-        points.push(at(x, x.wrapping_mul(x))?)?;
+        let Ok(()) = points.push(at(rt, x, x.wrapping_mul(x))) else {
+            return Err(LoadFault::NoMemory);
+        };
     }
-    Ok(SparingTree::from_points(alloc, count.clamp(1, POINT_LIMIT), &points)?)
+    SparingTree::from_points(alloc, count.clamp(1, POINT_LIMIT), &points)
 }
 
-/// A refused extension by these points leaves what the tree holds.
-fn assert_too_many(rt: &impl Abort, tree: &mut SparingTree, points: &[Point]) -> Result<(), Fail> {
+/// Whether an extension by these points is refused, and leaves what the tree holds.
+fn is_refused(tree: &mut SparingTree, points: &[Point]) -> Result<bool, NoMemory> {
     let before = tree.entries()?;
-    assert_eq!(rt; tree.extend(points).err(), Some(LoadFault::TooMany));
-    assert_eq!(rt; tree.entries()?.as_slice(), before.as_slice());
-    Ok(())
+    let fault = tree.extend(points).err();
+    let after = tree.entries()?;
+    Ok(fault == Some(LoadFault::TooMany) && after.as_slice() == before.as_slice())
+}
+
+/// Whether a full tree refuses a new point, and takes two that it holds.
+fn takes_held_points(rt: &impl Abort, tree: &mut SparingTree) -> Result<bool, Fail> {
+    let (origin, held, new) = (at(rt, 0, 0), at(rt, 1, 1), at(rt, -1, 7));
+    let refused = is_refused(tree, &[held, new])?;
+    tree.extend(&[held, origin])?;
+    Ok(refused && tree.multiplicity(held) == 2 && tree.add(new) == AddReply::TooMany)
 }
 
 /// Of 40 points two are added one by one, of 2 points the tree is built anew; either way a fault leaves what was held.
 #[test]
 fn extended_past_the_limit(rt: HostRuntime) -> Result<(), Fail> {
-    let (origin, held, new) = (at(0, 0)?, at(1, 1)?, at(-1, 7)?);
     for count in [40u32, 2] {
-        let mut tree = full_tree(rt.alloc(), count)?;
-        assert_too_many(&rt, &mut tree, &[held, new])?;
-        tree.extend(&[held, origin])?;
-        assert_eq!(rt; tree.multiplicity(held), 2);
-        assert_eq!(rt; tree.add(new), AddReply::TooMany);
+        let mut tree = full_tree(&rt, rt.alloc(), count)?;
+        let takes = takes_held_points(&rt, &mut tree);
+        drop(tree);
+        assert!(rt; takes?, "of {count} points");
     }
     Ok(())
 }
 
-/// Extends a tree by one point, so often at once.
-fn extend_often(
-    alloc: Global,
-    tree: &mut SparingTree,
-    point: Point,
-    times: u32,
-) -> Result<(), Fail> {
+/// A point so often.
+fn repeated(alloc: Global, point: Point, times: u32) -> Result<Vec<Point>, AllocError> {
     let mut points = Vec::new(alloc);
     for _ in 0..times {
         points.push(point)?;
     }
-    Ok(tree.extend(&points)?)
+    Ok(points)
+}
+
+/// Whether a tree takes a point that it holds as often as may be, and not once more after another point.
+fn takes_the_most(rt: &impl Abort, alloc: Global, tree: &mut SparingTree) -> Result<bool, Fail> {
+    let (origin, other) = (at(rt, 0, 0), at(rt, 1, 1));
+    tree.extend(&repeated(alloc, origin, MULTIPLICITY_LIMIT - 1)?)?;
+    let most = tree.multiplicity(origin) == MULTIPLICITY_LIMIT;
+    Ok(is_refused(tree, &[other, origin])? && most)
 }
 
 #[test]
 fn once_more_than_a_point_may_be_held_after_others(rt: HostRuntime) -> Result<(), Fail> {
-    let (origin, other) = (at(0, 0)?, at(1, 1)?);
     for count in [40u32, 2] {
-        let mut tree = full_tree(rt.alloc(), count)?;
-        extend_often(rt.alloc(), &mut tree, origin, MULTIPLICITY_LIMIT - 1)?;
-        assert_eq!(rt; tree.multiplicity(origin), MULTIPLICITY_LIMIT);
-        assert_too_many(&rt, &mut tree, &[other, origin])?;
+        let mut tree = full_tree(&rt, rt.alloc(), count)?;
+        let takes = takes_the_most(&rt, rt.alloc(), &mut tree);
+        drop(tree);
+        assert!(rt; takes?, "of {count} points");
     }
     Ok(())
 }
 
-/// Extends a tree; where memory is refused, it holds what it held, and is extended at the second attempt.
-fn extend_again(rt: &impl Abort, tree: &mut HullTree, points: &[Point]) -> Result<(), Fail> {
+/// Extends a tree; where memory is refused, it is extended at the second attempt. Whether it held what it held
+/// before that.
+fn extend_again(tree: &mut HullTree, points: &[Point]) -> Result<bool, Fail> {
     let before = match tree.entries() {
         Ok(entries) => entries,
-        Err(_) => tree.entries()?,
+        Err(NoMemory) => tree.entries()?,
     };
-    if let Err(fault) = tree.extend(points) {
-        assert_eq!(rt; fault, LoadFault::NoMemory);
-        assert_eq!(rt; tree.entries()?.as_slice(), before.as_slice());
-        tree.extend(points)?;
-    }
-    Ok(())
+    let Err(fault) = tree.extend(points) else {
+        return Ok(true);
+    };
+    let after = tree.entries()?;
+    tree.extend(points)?;
+    Ok(fault == LoadFault::NoMemory && after.as_slice() == before.as_slice())
 }
 
-/// Adds a new point; where memory is refused, at the second attempt.
-fn add_again(rt: &impl Abort, tree: &mut HullTree, p: Point) {
-    let mut reply = tree.add(p);
-    if reply == AddReply::NoMemory {
-        reply = tree.add(p);
+/// Whether the points (0, -1) to (59, -1) are added; where memory is refused, at the second attempt.
+fn adds_a_row(rt: &impl Abort, tree: &mut HullTree) -> bool {
+    let mut all = true;
+    for k in 0i64..60 {
+        all = add_again(tree, at(rt, k, -1)) && all;
     }
-    assert_eq!(rt; reply, AddReply::Added);
+    all
+}
+
+/// Extends a tree by four points and by two, one of them held, adds 60 points, and extends it by three. Whether each
+/// refusal left what was held.
+fn extend_three_times(rt: &impl Abort, tree: &mut HullTree) -> Result<bool, Fail> {
+    let (apex, twice) = (at(rt, 2, 3), at(rt, 9, 2));
+    let four = [apex, at(rt, 0, 0), at(rt, 4, 0), at(rt, 2, 1)];
+    let two = [at(rt, 9, 1), apex];
+    let three = [twice, at(rt, 9, 3), twice];
+    let first = extend_again(tree, &four)?;
+    let second = extend_again(tree, &two)?;
+    let added = adds_a_row(rt, tree);
+    let third = extend_again(tree, &three)?;
+    Ok(first && second && third && added)
 }
 
 // `rt try --test --fail-alloc N`: N = 1 refuses the sorted list, 2 its entries, 3 those of both, 4 to 6 the boxes of the
 // forks, and the further ones those of an extension that builds anew and of one point by point.
 #[test]
 fn refused_extension(rt: HostRuntime) -> Result<(), Fail> {
-    let (apex, twice) = (at(2, 3)?, at(9, 2)?);
-    let four = [apex, at(0, 0)?, at(4, 0)?, at(2, 1)?];
-    let two = [at(9, 1)?, apex];
-    let three = [twice, at(9, 3)?, twice];
+    let (apex, twice) = (at(&rt, 2, 3), at(&rt, 9, 2));
     let mut tree = HullTree::new(rt.alloc(), POINT_LIMIT);
-    extend_again(&rt, &mut tree, &four)?;
-    extend_again(&rt, &mut tree, &two)?;
-    for k in 0i64..60 {
-        add_again(&rt, &mut tree, at(k, -1)?);
-    }
-    extend_again(&rt, &mut tree, &three)?;
-    assert_eq!(rt; tree.count(), 67);
-    assert_eq!(rt; tree.multiplicity(twice), 2);
-    assert_eq!(rt; tree.multiplicity(apex), 2);
+    let kept = extend_three_times(&rt, &mut tree);
+    let told = [
+        tree.count(),
+        tree.multiplicity(twice),
+        tree.multiplicity(apex),
+    ];
+    drop(tree);
+    assert!(rt; kept?);
+    assert_eq!(rt; told, [67, 2, 2]);
     Ok(())
+}
+
+/// Extends an empty tree by nothing, by a point, and by nothing. Whether it was empty before the point.
+fn extend_by_one(tree: &mut HullTree, p: Point) -> Result<bool, LoadFault> {
+    tree.extend(&[])?;
+    let is_empty = tree.root().is_none();
+    tree.extend(&[p])?;
+    tree.extend(&[])?;
+    Ok(is_empty)
 }
 
 #[test]
 fn nothing_added(rt: HostRuntime) -> Result<(), Fail> {
-    let p = at(3, 4)?;
+    let p = at(&rt, 3, 4);
     let mut tree = HullTree::new(rt.alloc(), 1);
-    tree.extend(&[])?;
-    assert!(rt; tree.root().is_none());
-    tree.extend(&[p])?;
-    tree.extend(&[])?;
-    assert_eq!(rt; tree.entries()?.as_slice(), [(p, 1)].as_slice());
+    let was_empty = extend_by_one(&mut tree, p);
+    let entries = tree.entries();
+    drop(tree);
+    assert!(rt; was_empty?);
+    assert!(rt; entries?.as_slice() == [(p, 1)].as_slice());
     Ok(())
 }

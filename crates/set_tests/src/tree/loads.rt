@@ -3,109 +3,132 @@ use super::at;
 use hull_plain::{AddReply, HullSet, MULTIPLICITY_LIMIT, POINT_LIMIT, Place};
 use hull_tree::{HullTree, LoadFault, SparingTree, entries_of};
 use lattice::{Direction, Point};
-use std::alloc::Global;
+use std::alloc::{AllocError, Global};
+use std::process::Abort;
 use std::test::Fail;
+
+/// Whether these are the vertices of a tree, where there is memory for them.
+fn has_vertices(tree: &SparingTree, corners: &[Point]) -> bool {
+    match tree.vertices() {
+        Ok(vertices) => vertices.as_slice() == corners,
+        Err(_) => false,
+    }
+}
 
 #[test]
 fn loaded_as_added(rt: HostRuntime) -> Result<(), Fail> {
-    let (left, right, apex, inner) = (at(0, 0)?, at(4, 0)?, at(2, 3)?, at(2, 1)?);
-    let beyond = at(9, 9)?;
+    let (left, right) = (at(&rt, 0, 0), at(&rt, 4, 0));
+    let (apex, inner) = (at(&rt, 2, 3), at(&rt, 2, 1));
+    let beyond = at(&rt, 9, 9);
     let points = [apex, left, right, apex, inner];
     let mut loaded = SparingTree::from_points(rt.alloc(), 4, &points)?;
-    assert_eq!(rt; loaded.count(), 4);
-    assert_eq!(rt; loaded.multiplicity(apex), 2);
-    assert_eq!(rt; loaded.area2(), 12);
-    assert_eq!(rt;
-        loaded.vertices()?.as_slice(),
-        [left, right, apex].as_slice()
-    );
-    assert_eq!(rt; loaded.add(beyond), AddReply::TooMany);
-    assert_eq!(rt; loaded.add(inner), AddReply::Again(2));
+    let told = (loaded.count(), loaded.multiplicity(apex), loaded.area2());
+    let is_triangle = has_vertices(&loaded, &[left, right, apex]);
+    let replies = (loaded.add(beyond), loaded.add(inner));
+    drop(loaded);
+    assert!(rt; told == (4, 2, 12) && is_triangle);
+    assert_eq!(rt; replies, (AddReply::TooMany, AddReply::Again(2)));
     Ok(())
 }
 
 #[test]
 fn nothing_loaded(rt: HostRuntime) -> Result<(), Fail> {
     let loaded = HullTree::from_points(rt.alloc(), 1, &[])?;
-    assert_eq!(rt; loaded.count(), 0);
-    assert!(rt; loaded.root().is_none());
+    let told = (loaded.count(), loaded.root().is_none());
+    drop(loaded);
+    assert!(rt; told == (0, true));
     Ok(())
 }
 
 #[test]
 fn one_point_more_than_the_limit(rt: HostRuntime) -> Result<(), Fail> {
-    let points = [at(0, 0)?, at(1, 1)?, at(0, 0)?];
-    assert_eq!(rt;
-        HullTree::from_points(rt.alloc(), 1, &points).err(),
-        Some(LoadFault::TooMany)
-    );
-    assert_eq!(rt; HullTree::from_points(rt.alloc(), 2, &points)?.count(), 2);
+    let points = [at(&rt, 0, 0), at(&rt, 1, 1), at(&rt, 0, 0)];
+    let fault = HullTree::from_points(rt.alloc(), 1, &points).err();
+    let count = HullTree::from_points(rt.alloc(), 2, &points)?.count();
+    assert_eq!(rt; fault, Some(LoadFault::TooMany));
+    assert!(rt; count == 2);
     Ok(())
+}
+
+/// A point so often.
+fn repeated(alloc: Global, point: Point, times: u32) -> Result<Vec<Point>, AllocError> {
+    let mut points = Vec::new(alloc);
+    for _ in 0..times {
+        points.push(point)?;
+    }
+    Ok(points)
 }
 
 #[test]
 fn once_more_than_a_point_may_be_held(rt: HostRuntime) -> Result<(), Fail> {
-    let p = at(7, 7)?;
-    let mut points = Vec::new(rt.alloc());
-    for _ in 0..MULTIPLICITY_LIMIT {
-        points.push(p)?;
-    }
-    let full = HullTree::from_points(rt.alloc(), 1, &points)?;
-    assert_eq!(rt; full.multiplicity(p), MULTIPLICITY_LIMIT);
-    points.push(p)?;
-    assert_eq!(rt;
-        entries_of(rt.alloc(), &points).err(),
-        Some(LoadFault::TooMany)
-    );
+    let p = at(&rt, 7, 7);
+    let most = repeated(rt.alloc(), p, MULTIPLICITY_LIMIT)?;
+    let times = HullTree::from_points(rt.alloc(), 1, &most)?.multiplicity(p);
+    let more = repeated(rt.alloc(), p, MULTIPLICITY_LIMIT + 1)?;
+    let fault = entries_of(rt.alloc(), &more).err();
+    assert!(rt; times == MULTIPLICITY_LIMIT);
+    assert_eq!(rt; fault, Some(LoadFault::TooMany));
     Ok(())
 }
 
 // `rt try --test --fail-alloc N`: N = 1 refuses the sorted list, 2 the entries, 3 to 5 the boxes of the forks.
 #[test]
 fn refused_load(rt: HostRuntime) -> Result<(), Fail> {
-    let points = [at(2, 3)?, at(0, 0)?, at(4, 0)?, at(2, 1)?];
+    let points = [at(&rt, 2, 3), at(&rt, 0, 0), at(&rt, 4, 0), at(&rt, 2, 1)];
     let mut loaded = HullTree::from_points(rt.alloc(), POINT_LIMIT, &points);
     if matches!(&loaded, Err(LoadFault::NoMemory)) {
         loaded = HullTree::from_points(rt.alloc(), POINT_LIMIT, &points);
     }
     let tree = loaded?;
-    assert_eq!(rt; tree.count(), 4);
-    assert_eq!(rt; tree.area2(), 12);
+    let told = (tree.count(), tree.area2());
+    drop(tree);
+    assert!(rt; told == (4, 12));
     Ok(())
 }
 
 /// The point of a grid of 1024 by 1024 with this number, row by row.
-fn on_grid(number: u64) -> Result<Point, Fail> {
-    at((number % 1024) as i64, (number / 1024 % 1024) as i64)
+fn on_grid(rt: &impl Abort, number: u64) -> Point {
+    at(rt, (number % 1024) as i64, (number / 1024 % 1024) as i64)
 }
 
 /// All points of that grid, in an order that is not sorted.
-fn whole_grid(alloc: Global) -> Result<Vec<Point>, Fail> {
+fn whole_grid(rt: &impl Abort, alloc: Global) -> Result<Vec<Point>, AllocError> {
     let mut points = Vec::with_capacity(alloc, 1048576)?;
     for k in 0u64..1048576 {
-        points.push(on_grid(k.wrapping_mul(611953) % 1048576)?)?;
+        points.push(on_grid(rt, k.wrapping_mul(611953) % 1048576))?;
     }
     Ok(points)
+}
+
+/// Where a full set has one point inside, and another on its boundary, and which it has farthest to the right and up.
+fn seen_of(
+    rt: &impl Abort,
+    tree: &SparingTree,
+    outwards: Direction,
+) -> (Place, Place, Option<Point>) {
+    let (inner, below) = (at(rt, 512, 512), at(rt, 512, 0));
+    (tree.place(inner), tree.place(below), tree.extreme(outwards))
 }
 
 /// A full set is loaded in an order that is not sorted, asked, and changed at its corners.
 #[test]
 fn as_many_points_as_there_may_be(rt: HostRuntime) -> Result<(), Fail> {
-    let (first, last) = (at(0, 0)?, at(1023, 1023)?);
-    let corners = [first, at(1023, 0)?, last, at(0, 1023)?];
-    let (inner, below, new) = (at(512, 512)?, at(512, 0)?, at(2000, 2000)?);
-    let outwards = Direction::new(1, 1)?;
-    let mut tree = SparingTree::from_points(rt.alloc(), POINT_LIMIT, &whole_grid(rt.alloc())?)?;
-    assert_eq!(rt; tree.count(), 1048576);
-    assert_eq!(rt; tree.area2(), 2093058);
-    assert_eq!(rt; tree.vertices()?.as_slice(), corners.as_slice());
-    assert_eq!(rt; tree.place(inner), Place::Inside);
-    assert_eq!(rt; tree.place(below), Place::On);
-    assert_eq!(rt; tree.extreme(outwards), Some(last));
-    assert_eq!(rt; tree.add(new), AddReply::TooMany);
+    let (first, last) = (at(&rt, 0, 0), at(&rt, 1023, 1023));
+    let corners = [first, at(&rt, 1023, 0), last, at(&rt, 0, 1023)];
+    let (new, outwards) = (at(&rt, 2000, 2000), Direction::new(1, 1)?);
+    let points = whole_grid(&rt, rt.alloc())?;
+    let mut tree = SparingTree::from_points(rt.alloc(), POINT_LIMIT, &points)?;
+    let (count, area) = (tree.count(), tree.area2());
+    let is_square = has_vertices(&tree, &corners);
+    let seen = seen_of(&rt, &tree, outwards);
+    let refused = tree.add(new);
     let _ = tree.remove(first);
-    assert_eq!(rt; tree.area2(), 2093057);
-    assert_eq!(rt; tree.add(first), AddReply::Added);
-    assert_eq!(rt; tree.area2(), 2093058);
+    let less = tree.area2();
+    let (added, again) = (tree.add(first), tree.area2());
+    drop(tree);
+    assert!(rt; count == 1048576 && is_square);
+    assert!(rt; seen == (Place::Inside, Place::On, Some(last)));
+    assert!(rt; (refused, added) == (AddReply::TooMany, AddReply::Added));
+    assert!(rt; [area, less, again] == [2093058, 2093057, 2093058]);
     Ok(())
 }

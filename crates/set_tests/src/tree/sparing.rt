@@ -1,9 +1,9 @@
 //! Both trees and the plain set under the same changes, among them many points in line and many that are held twice.
 use super::at;
 use super::beside_plain::{Numbers, centred};
-use super::extends::assert_entries;
-use hull_plain::{AddReply, HullSet, POINT_LIMIT, PlainSet, RemoveReply};
-use hull_tree::{HullTree, SparingTree};
+use super::extends::are_entries;
+use hull_plain::{AddReply, HullSet, NoMemory, POINT_LIMIT, PlainSet, RemoveReply};
+use hull_tree::{HullTree, LoadFault, SparingTree};
 use lattice::{Direction, Point};
 use std::alloc::Global;
 use std::process::Abort;
@@ -27,7 +27,7 @@ impl Sets {
     }
 
     /// Extends both trees, and adds the points one by one to the plain set.
-    pub(super) fn extend(&mut self, points: &[Point]) -> Result<(), Fail> {
+    pub(super) fn extend(&mut self, points: &[Point]) -> Result<(), LoadFault> {
         self.searching.extend(points)?;
         self.sparing.extend(points)?;
         for p in points {
@@ -36,116 +36,162 @@ impl Sets {
         Ok(())
     }
 
-    /// What both trees hold is what the plain set holds.
-    pub(super) fn assert_same_entries(&self, rt: &impl Abort) -> Result<(), Fail> {
-        assert_entries(rt, &self.searching.entries()?, &self.plain);
-        assert_entries(rt, &self.sparing.entries()?, &self.plain);
-        Ok(())
+    /// Whether what both trees hold is what the plain set holds.
+    pub(super) fn has_same_entries(&self) -> Result<bool, NoMemory> {
+        let searching = are_entries(&self.searching.entries()?, &self.plain);
+        Ok(are_entries(&self.sparing.entries()?, &self.plain) && searching)
     }
 
-    /// Makes a change on all three, which must answer alike.
-    fn change(&mut self, rt: &impl Abort, p: Point, adds: bool) {
-        if adds {
+    /// Makes a change on all three. Whether they answer alike.
+    fn change(&mut self, p: Point, adds: bool) -> bool {
+        let alike = if adds {
             let reply = self.plain.add(p);
-            assert_eq!(rt; self.searching.add(p), reply, "adding {p:?}");
-            assert_eq!(rt; self.sparing.add(p), reply, "adding {p:?}");
+            self.searching.add(p) == reply && self.sparing.add(p) == reply
         } else {
             let reply = self.plain.remove(p);
-            assert_eq!(rt; self.searching.remove(p), reply, "removing {p:?}");
-            assert_eq!(rt; self.sparing.remove(p), reply, "removing {p:?}");
-        }
-        let times = self.plain.multiplicity(p);
-        assert_eq!(rt; self.sparing.multiplicity(p), times, "times of {p:?}");
+            self.searching.remove(p) == reply && self.sparing.remove(p) == reply
+        };
+        alike && self.sparing.multiplicity(p) == self.plain.multiplicity(p)
     }
 
-    /// All three have these corners.
-    fn assert_corners(&self, rt: &impl Abort, corners: &[Point]) -> Result<(), Fail> {
-        assert_eq!(rt; self.sparing.vertices()?.as_slice(), corners);
-        assert_eq!(rt; self.searching.vertices()?.as_slice(), corners);
-        Ok(())
+    /// Whether all three have the same corners.
+    fn has_same_corners(&self) -> bool {
+        let corners = self.plain.vertices();
+        corners.is_ok()
+            && self.sparing.vertices() == corners
+            && self.searching.vertices() == corners
     }
 
-    /// The corners, the area and what `q` sees are alike.
-    pub(super) fn assert_alike(&self, rt: &impl Abort, q: Point) -> Result<(), Fail> {
-        let d = Direction::new(1, -1)?;
-        self.assert_corners(rt, &self.plain.vertices()?)?;
-        assert_eq!(rt; self.sparing.count(), self.plain.count());
-        assert_eq!(rt; self.sparing.area2(), self.plain.area2());
-        assert_eq!(rt; self.searching.area2(), self.plain.area2());
-        assert_eq!(rt;
-            self.sparing.place(q),
-            self.plain.place(q),
-            "place of {q:?}"
-        );
-        assert_eq!(rt;
-            self.sparing.tangents(q),
-            self.plain.tangents(q),
-            "tangents from {q:?}"
-        );
-        assert_eq!(rt; self.sparing.extreme(d), self.plain.extreme(d));
-        Ok(())
+    /// Whether what `q` sees is alike, and the farthest point in this direction.
+    fn has_same_sight(&self, q: Point, d: Direction) -> bool {
+        let (sparing, plain) = (&self.sparing, &self.plain);
+        sparing.place(q) == plain.place(q)
+            && sparing.tangents(q) == plain.tangents(q)
+            && sparing.extreme(d) == plain.extreme(d)
+    }
+
+    /// Whether the corners, the area and what `q` sees are alike.
+    pub(super) fn are_alike(&self, q: Point, d: Direction) -> bool {
+        let area = self.plain.area2();
+        let areas = self.sparing.area2() == area && self.searching.area2() == area;
+        let count = self.sparing.count() == self.plain.count();
+        areas && count && self.has_same_corners() && self.has_same_sight(q, d)
     }
 }
 
-/// Makes so many changes at points of a square grid with so many lines, as far apart, and compares at every so many.
+/// A square grid with so many lines, as far apart.
+#[derive(Clone, Copy)]
+struct Grid {
+    lines: u32,
+    apart: i64,
+}
+
+impl Grid {
+    /// A point of the grid, drawn by chance.
+    fn draw(self, numbers: &mut Numbers) -> (i64, i64) {
+        let right = numbers.next().checked_rem(self.lines).unwrap_or(0);
+        let up = numbers.next().checked_rem(self.lines).unwrap_or(0);
+        let x = centred(right, self.lines / 2).wrapping_mul(self.apart);
+        (x, centred(up, self.lines / 2).wrapping_mul(self.apart))
+    }
+}
+
+/// Makes so many changes at points of a grid, and compares at every so many and at the end. Which one was first
+/// answered differently, if any.
+fn first_difference(
+    rt: &impl Abort,
+    sets: &mut Sets,
+    grid: Grid,
+    d: Direction,
+    steps: u32,
+    every: u32,
+) -> Option<u32> {
+    let origin = at(rt, 0, 0);
+    let mut numbers = Numbers::new();
+    for step in 0..steps {
+        let (x, y) = grid.draw(&mut numbers);
+        let (p, q) = (at(rt, x, y), at(rt, y, x));
+        let adds = numbers.next() % 2 == 0;
+        let alike = sets.change(p, adds);
+        if !alike || step.checked_rem(every) == Some(0) && !sets.are_alike(q, d) {
+            return Some(step);
+        }
+    }
+    if sets.are_alike(origin, d) {
+        None
+    } else {
+        Some(steps)
+    }
+}
+
+/// All three answer so many changes alike.
 fn change_on_grid(
     rt: &impl Abort,
     alloc: Global,
-    lines: u32,
-    apart: i64,
+    grid: Grid,
     steps: u32,
     every: u32,
 ) -> Result<(), Fail> {
+    let d = Direction::new(1, -1)?;
     let mut sets = Sets::new(alloc);
-    let mut numbers = Numbers::new();
-    for step in 0..steps {
-        let right = numbers.next().checked_rem(lines).unwrap_or(0);
-        let up = numbers.next().checked_rem(lines).unwrap_or(0);
-        let x = centred(right, lines / 2).wrapping_mul(apart);
-        let y = centred(up, lines / 2).wrapping_mul(apart);
-        let adds = numbers.next() % 2 == 0;
-        sets.change(rt, at(x, y)?, adds);
-        if step.checked_rem(every) == Some(0) {
-            sets.assert_alike(rt, at(y, x)?)?;
-        }
-    }
-    sets.assert_alike(rt, at(0, 0)?)
+    let differs = first_difference(rt, &mut sets, grid, d, steps, every);
+    drop(sets);
+    assert_eq!(rt; differs, None);
+    Ok(())
 }
 
 #[test]
 fn each_of_20000_changes_of_25_points(rt: HostRuntime) -> Result<(), Fail> {
-    change_on_grid(&rt, rt.alloc(), 5, 1, 20000, 1)
+    let grid = Grid { lines: 5, apart: 1 };
+    change_on_grid(&rt, rt.alloc(), grid, 20000, 1)
 }
 
 #[test]
 fn alike_over_100000_changes(rt: HostRuntime) -> Result<(), Fail> {
-    change_on_grid(&rt, rt.alloc(), 31, 1, 100000, 50)
+    let grid = Grid {
+        lines: 31,
+        apart: 1,
+    };
+    change_on_grid(&rt, rt.alloc(), grid, 100000, 50)
 }
 
 // Some points are near, and some are not: those of the grid's outermost lines.
 #[test]
 fn alike_across_the_near_limit(rt: HostRuntime) -> Result<(), Fail> {
-    change_on_grid(&rt, rt.alloc(), 31, 80000000, 20000, 20)
+    let grid = Grid {
+        lines: 31,
+        apart: 80000000,
+    };
+    change_on_grid(&rt, rt.alloc(), grid, 20000, 20)
+}
+
+/// Whether 64 points of a parabola are added to both trees.
+fn adds_a_parabola(rt: &impl Abort, sparing: &mut SparingTree, searching: &mut HullTree) -> bool {
+    let mut all = true;
+    for k in 0i64..64 {
+        let p = at(rt, k, k.wrapping_mul(k));
+        all = sparing.add(p) == AddReply::Added && all;
+        all = searching.add(p) == AddReply::Added && all;
+    }
+    all
 }
 
 // A body that searches each bridge takes as many turns as the other tree.
 #[test]
-fn inner_points_take_few_turns(rt: HostRuntime) -> Result<(), Fail> {
+fn inner_points_take_few_turns(rt: HostRuntime) {
+    let inner = at(&rt, 30, 1500);
     let mut sparing = SparingTree::new(rt.alloc(), POINT_LIMIT);
     let mut searching = HullTree::new(rt.alloc(), POINT_LIMIT);
-    for k in 0i64..64 {
-        let p = at(k, k.wrapping_mul(k))?;
-        assert_eq!(rt; sparing.add(p), AddReply::Added);
-        assert_eq!(rt; searching.add(p), AddReply::Added);
-    }
-    let inner = at(30, 1500)?;
+    let all = adds_a_parabola(&rt, &mut sparing, &mut searching);
     let (added, few) = sparing.add_counted(inner);
     let (_, many) = searching.add_counted(inner);
-    assert_eq!(rt; added, AddReply::Added);
-    assert!(rt; few < many, "{few} and {many} turns");
-    let (removed, few) = sparing.remove_counted(inner);
-    let (_, many) = searching.remove_counted(inner);
-    assert_eq!(rt; removed, RemoveReply::Removed);
-    assert!(rt; few < many, "{few} and {many} turns");
-    Ok(())
+    let (removed, fewer) = sparing.remove_counted(inner);
+    let (_, more) = searching.remove_counted(inner);
+    drop(sparing);
+    drop(searching);
+    assert!(rt; all && added == AddReply::Added && removed == RemoveReply::Removed);
+    assert!(rt;
+        few < many && fewer < more,
+        "{few} and {many}, {fewer} and {more} turns"
+    );
 }

@@ -16,103 +16,179 @@ use std::test::Fail;
 /// Four points in no line.
 const CORNERS: [(i64, i64); 4] = [(0, 0), (1, 5), (2, 1), (3, 7)];
 
-/// A tree to which these of the four points were added one after the other.
-fn tree_of(rt: &impl Abort, alloc: Global, order: &[usize]) -> Result<HullTree, Fail> {
-    let mut tree = HullTree::new(alloc, POINT_LIMIT);
-    for i in order {
-        let (x, y) = CORNERS.get(*i).copied().ok_or("no such point")?;
-        assert_eq!(rt; tree.add(at(x, y)?), AddReply::Added);
+/// The corner of this number.
+fn corner(rt: &impl Abort, number: usize) -> Point {
+    match CORNERS.get(number) {
+        Some((x, y)) => at(rt, *x, *y),
+        None => panic!(rt; "there are four corners"),
     }
-    Ok(tree)
 }
 
-/// The turns of taking each of these points from the tree of all of them, where it is held once: to hold it twice
-/// before takes none.
-fn assert_removals(
-    rt: &impl Abort,
-    alloc: Global,
-    order: &[usize],
-    turns: u32,
-) -> Result<(), Fail> {
+/// A tree to which these of the four points were added one after the other.
+fn tree_of(rt: &impl Abort, alloc: Global, order: &[usize]) -> HullTree {
+    let mut tree = HullTree::new(alloc, POINT_LIMIT);
+    let mut all = true;
     for i in order {
-        let (x, y) = CORNERS.get(*i).copied().ok_or("no such point")?;
-        let p = at(x, y)?;
-        let mut tree = tree_of(rt, alloc, order)?;
-        assert_eq!(rt; tree.add_counted(p), (AddReply::Again(2), 0));
-        assert_eq!(rt; tree.remove_counted(p), (RemoveReply::Left(1), 0));
-        assert_eq!(rt; tree.remove_counted(p), (RemoveReply::Removed, turns));
+        all = tree.add(corner(rt, *i)) == AddReply::Added && all;
     }
-    Ok(())
+    assert!(rt; all);
+    tree
+}
+
+/// Whether a point that a tree holds once takes so many turns to be taken, and none to be held twice before.
+fn is_removed_by(tree: &mut HullTree, p: Point, turns: u32) -> bool {
+    let again = tree.add_counted(p) == (AddReply::Again(2), 0);
+    let left = tree.remove_counted(p) == (RemoveReply::Left(1), 0);
+    tree.remove_counted(p) == (RemoveReply::Removed, turns) && again && left
+}
+
+/// Whether taking each of these points from the tree of all of them takes so many turns.
+fn are_removed_by(rt: &impl Abort, alloc: Global, order: &[usize], turns: u32) -> bool {
+    let mut all = true;
+    for i in order {
+        let mut tree = tree_of(rt, alloc, order);
+        all = is_removed_by(&mut tree, corner(rt, *i), turns) && all;
+    }
+    all
+}
+
+/// Whether two points take no turns to be added and removed.
+fn takes_no_turns(tree: &mut HullTree, left: Point, right: Point, between: Point) -> bool {
+    let adds = [
+        tree.add_counted(left),
+        tree.add_counted(right),
+        tree.add_counted(right),
+    ];
+    let removals = [
+        tree.remove_counted(between),
+        tree.remove_counted(right),
+        tree.remove_counted(right),
+        tree.remove_counted(left),
+        tree.remove_counted(left),
+    ];
+    adds == [
+        (AddReply::Added, 0),
+        (AddReply::Added, 0),
+        (AddReply::Again(2), 0),
+    ] && removals
+        == [
+            (RemoveReply::Absent, 0),
+            (RemoveReply::Left(1), 0),
+            (RemoveReply::Removed, 0),
+            (RemoveReply::Removed, 0),
+            (RemoveReply::Absent, 0),
+        ]
 }
 
 #[test]
-fn turns_of_two_points(rt: HostRuntime) -> Result<(), Fail> {
-    let (left, right, between) = (at(0, 0)?, at(4, 0)?, at(2, 0)?);
+fn turns_of_two_points(rt: HostRuntime) {
+    let (left, right, between) = (at(&rt, 0, 0), at(&rt, 4, 0), at(&rt, 2, 0));
     let mut tree = HullTree::new(rt.alloc(), POINT_LIMIT);
-    assert_eq!(rt; tree.add_counted(left), (AddReply::Added, 0));
-    assert_eq!(rt; tree.add_counted(right), (AddReply::Added, 0));
-    assert_eq!(rt; tree.add_counted(right), (AddReply::Again(2), 0));
-    assert_eq!(rt; tree.remove_counted(between), (RemoveReply::Absent, 0));
-    assert_eq!(rt; tree.remove_counted(right), (RemoveReply::Left(1), 0));
-    assert_eq!(rt; tree.remove_counted(right), (RemoveReply::Removed, 0));
-    assert_eq!(rt; tree.remove_counted(left), (RemoveReply::Removed, 0));
-    assert_eq!(rt; tree.remove_counted(left), (RemoveReply::Absent, 0));
+    let takes_none = takes_no_turns(&mut tree, left, right, between);
+    drop(tree);
     path_cost_is_unique();
-    Ok(())
+    assert!(rt; takes_none);
+}
+
+/// Whether the third of three points takes two turns to be added, and each of the three none to be removed.
+fn third_takes_two(rt: &impl Abort, alloc: Global, order: [usize; 3]) -> bool {
+    let [first, second, third] = order;
+    let mut tree = tree_of(rt, alloc, &[first, second]);
+    let added = tree.add_counted(corner(rt, third));
+    added == (AddReply::Added, 2) && are_removed_by(rt, alloc, &order, 0)
+}
+
+/// Whether each of four points takes two turns to be removed, whichever the fourth one is.
+fn fourth_takes_two(rt: &impl Abort, alloc: Global, order: [usize; 3]) -> bool {
+    let [first, second, third] = order;
+    let mut all = true;
+    for fourth in 0usize..4 {
+        if fourth != first && fourth != second && fourth != third {
+            all = are_removed_by(rt, alloc, &[first, second, third, fourth], 2) && all;
+        }
+    }
+    all
+}
+
+/// Whether that holds of all orders that begin with these two.
+fn orders_after(rt: &impl Abort, alloc: Global, first: usize, second: usize) -> bool {
+    let mut all = true;
+    for third in 0usize..4 {
+        if first != third && second != third {
+            let order = [first, second, third];
+            all = third_takes_two(rt, alloc, order) && fourth_takes_two(rt, alloc, order) && all;
+        }
+    }
+    all
 }
 
 /// A body of `remove_counted` that always tells no turns fails at four points.
 #[test]
-fn turns_in_every_order(rt: HostRuntime) -> Result<(), Fail> {
+fn turns_in_every_order(rt: HostRuntime) {
     for first in 0usize..4 {
         for second in 0usize..4 {
-            for third in 0usize..4 {
-                if first != second && first != third && second != third {
-                    let (x, y) = CORNERS[third];
-                    let mut tree = tree_of(&rt, rt.alloc(), &[first, second])?;
-                    assert_eq!(rt; tree.add_counted(at(x, y)?), (AddReply::Added, 2));
-                    assert_removals(&rt, rt.alloc(), &[first, second, third], 0)?;
-                    for fourth in 0usize..4 {
-                        if fourth != first && fourth != second && fourth != third {
-                            assert_removals(&rt, rt.alloc(), &[first, second, third, fourth], 2)?;
-                        }
-                    }
-                }
+            if first != second {
+                let all = orders_after(&rt, rt.alloc(), first, second);
+                assert!(rt; all, "after {first} and {second}");
             }
         }
     }
-    Ok(())
 }
 
 #[test]
 fn depth_of_the_farthest(rt: HostRuntime) -> Result<(), Fail> {
-    let mut tree = HullTree::new(rt.alloc(), POINT_LIMIT);
+    let (origin, beyond) = (at(&rt, 0, 0), at(&rt, 4, 0));
     let right = Direction::new(1, 0)?;
-    assert_eq!(rt; tree.extreme_counted(right), (None, 0));
-    assert_eq!(rt; tree.add(at(0, 0)?), AddReply::Added);
-    assert_eq!(rt; tree.extreme_counted(right), (Some(at(0, 0)?), 0));
-    assert_eq!(rt; tree.add(at(4, 0)?), AddReply::Added);
-    assert_eq!(rt; tree.extreme_counted(right), (Some(at(4, 0)?), 1));
+    let mut tree = HullTree::new(rt.alloc(), POINT_LIMIT);
+    let of_none = tree.extreme_counted(right);
+    let first = tree.add(origin);
+    let of_one = tree.extreme_counted(right);
+    let second = tree.add(beyond);
+    let of_two = tree.extreme_counted(right);
+    drop(tree);
+    assert!(rt; (first, second) == (AddReply::Added, AddReply::Added));
+    assert_eq!(rt;
+        [of_none, of_one, of_two],
+        [(None, 0), (Some(origin), 0), (Some(beyond), 1)]
+    );
     Ok(())
+}
+
+/// The point of this number in a grid of 128 columns, row by row.
+fn in_rows(rt: &impl Abort, number: u32) -> Point {
+    at(rt, (number % 128) as i64, (number / 128) as i64)
+}
+
+/// Whether 16384 points of the grid are added in 10000 turns each at most.
+fn adds_rows(rt: &impl Abort, tree: &mut HullTree) -> bool {
+    let mut all = true;
+    for k in 0u32..16384 {
+        let (reply, turns) = tree.add_counted(in_rows(rt, k));
+        all = reply == AddReply::Added && turns <= 10000 && all;
+    }
+    all
+}
+
+/// Whether they are removed so.
+fn removes_rows(rt: &impl Abort, tree: &mut HullTree) -> bool {
+    let mut all = true;
+    for k in 0u32..16384 {
+        let (reply, turns) = tree.remove_counted(in_rows(rt, k));
+        all = reply == RemoveReply::Removed && turns <= 10000 && all;
+    }
+    all
 }
 
 /// 16384 points of a grid, in rows, are added and taken.
 #[test]
-fn turns_on_a_grid(rt: HostRuntime) -> Result<(), Fail> {
+fn turns_on_a_grid(rt: HostRuntime) {
     let mut tree = HullTree::new(rt.alloc(), POINT_LIMIT);
-    for k in 0u32..16384 {
-        let (reply, turns) = tree.add_counted(at((k % 128) as i64, (k / 128) as i64)?);
-        assert_eq!(rt; reply, AddReply::Added);
-        assert!(rt; turns <= 10000, "adding {k}");
-    }
-    assert_eq!(rt; tree.count(), 16384);
-    for k in 0u32..16384 {
-        let (reply, turns) = tree.remove_counted(at((k % 128) as i64, (k / 128) as i64)?);
-        assert_eq!(rt; reply, RemoveReply::Removed);
-        assert!(rt; turns <= 10000, "removing {k}");
-    }
-    assert_eq!(rt; tree.count(), 0);
-    Ok(())
+    let added = adds_rows(&rt, &mut tree);
+    let count = tree.count();
+    let removed = removes_rows(&rt, &mut tree);
+    let left = tree.count();
+    drop(tree);
+    assert!(rt; added && removed && [count, left] == [16384, 0]);
 }
 
 /// A half that counts in a cell how often it was asked for one of its two halves.
@@ -202,42 +278,56 @@ fn both_found<H: Half>(u: H, w: H) -> Option<(Counted, Counted)> {
 
 /// A tree of the points (k, -k * k), for 512 numbers k in a row, each fork over two halves of one size: the numbers
 /// come in the order of their bits read backwards.
-fn evenly_halved(rt: &impl Abort, alloc: Global, from: u32) -> Result<HullTree, Fail> {
+fn evenly_halved(rt: &impl Abort, alloc: Global, from: u32) -> HullTree {
     let mut tree = HullTree::new(alloc, POINT_LIMIT);
+    let mut all = true;
     for i in 0u32..512 {
         let k = (i.reverse_bits() >> 23).wrapping_add(from) as i64;
-        assert_eq!(rt;
-            tree.add(at(k, k.wrapping_mul(k).wrapping_neg())?),
-            AddReply::Added
-        );
+        let p = at(rt, k, k.wrapping_mul(k).wrapping_neg());
+        all = tree.add(p) == AddReply::Added && all;
     }
-    Ok(tree)
+    assert!(rt; all);
+    tree
+}
+
+/// The heights of two trees, the upper bridge of both and how often it asked for a half, and both bridges with how often
+/// they did; nothing where they are not in order.
+type Found = ((u32, u32), (Counted, u32), ((Counted, Counted), u32));
+
+fn found_between(left: &HullTree, right: &HullTree) -> Option<Found> {
+    let asked = Cell::new(0u32);
+    let u = Watched {
+        half: left.half()?,
+        asked: &asked,
+    };
+    let w = Watched {
+        half: right.half()?,
+        asked: &asked,
+    };
+    let upper = upper_found(u, w)?;
+    let by_one = asked.get();
+    asked.set(0);
+    let both = both_found(u, w)?;
+    Some((
+        (u.height(), w.height()),
+        (upper, by_one),
+        (both, asked.get()),
+    ))
 }
 
 /// A body that goes through all points for a bridge, and counts the depths of its ends, fails here.
 #[test]
 fn halves_asked_for_a_turn(rt: HostRuntime) -> Result<(), Fail> {
-    let left = evenly_halved(&rt, rt.alloc(), 0)?;
-    let right = evenly_halved(&rt, rt.alloc(), 512)?;
-    let asked = Cell::new(0u32);
-    let u = Watched {
-        half: left.half().ok_or("empty")?,
-        asked: &asked,
-    };
-    let w = Watched {
-        half: right.half().ok_or("empty")?,
-        asked: &asked,
-    };
-    assert_eq!(rt; (u.height(), w.height()), (9, 9));
-    let bridge = (at(511, -261121)?, at(512, -262144)?);
-    let found = upper_found(u, w).ok_or("order")?;
-    assert_eq!(rt; found, (bridge, 18));
-    assert!(rt; asked.get() <= 36);
-    asked.set(0);
-    let (upper, lower) = both_found(u, w).ok_or("order")?;
-    assert_eq!(rt; upper, (bridge, 18));
-    assert_eq!(rt; lower, ((at(0, 0)?, at(1023, -1046529)?), 18));
-    assert!(rt; asked.get() <= 72);
+    let upper = (at(&rt, 511, -261121), at(&rt, 512, -262144));
+    let lower = (at(&rt, 0, 0), at(&rt, 1023, -1046529));
+    let left = evenly_halved(&rt, rt.alloc(), 0);
+    let right = evenly_halved(&rt, rt.alloc(), 512);
+    let found = found_between(&left, &right);
+    drop(left);
+    drop(right);
     depth_is_unique();
+    let (heights, (alone, by_one), (both, by_both)) = found.ok_or("order")?;
+    assert!(rt; heights == (9, 9) && by_one <= 36 && by_both <= 72);
+    assert_eq!(rt; (alone, both), ((upper, 18), ((upper, 18), (lower, 18))));
     Ok(())
 }
