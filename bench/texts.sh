@@ -1,7 +1,8 @@
 #!/bin/sh
 # Reading and writing texts: a script and a journal of LINES lines (a million where none is given), made from a seed.
 # Prints lines and megabytes a second of the built program, beside the rival's on the same files. Reading alone is a run
-# on a text whose last line is wrong: it is read whole and refused.
+# on a text whose last line is wrong: it is read whole and refused. A journal is read with all its lines kept by `upgrade`,
+# and with none of them kept by `check`, which judges each as it is read.
 . "$(dirname "$0")/tools.sh"
 lines=${1:-1000000}
 rounds=${2:-3}
@@ -24,7 +25,7 @@ for script in counts small; do
 
     run=$(seconds "$rounds" "$hullbook" run "$room/$script" --capacity "$lines")
     read=$(seconds "$rounds" "$hullbook" run "$room/$script.refused")
-    read_journal=$(seconds "$rounds" "$hullbook" check "$room/$script.cut")
+    read_journal=$(seconds "$rounds" "$hullbook" upgrade "$room/$script.cut")
     check=$(seconds "$rounds" "$hullbook" check "$room/$script.journal")
     rival=$(seconds "$rounds" "$room/rival" run "$room/$script" --capacity "$lines")
     rival_read=$(seconds "$rounds" "$room/rival" read "$room/$script")
@@ -32,6 +33,6 @@ for script in counts small; do
     row "$script: read the script" "$room/$script" "$read" "$rival_read"
     row "$script: read, serve, write" "$room/$script.report" "$run" "$rival"
     row "$script: serve and write" "$room/$script.report" "$(calc %.4f "$run - $read")" "$(calc %.4f "$rival - $rival_read")"
-    row "$script: read the journal" "$room/$script.journal" "$read_journal" "$rival_parse"
+    row "$script: read and keep the journal" "$room/$script.journal" "$read_journal" "$rival_parse"
     row "$script: read and check it" "$room/$script.journal" "$check" "$rival_parse"
 done

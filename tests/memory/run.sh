@@ -9,6 +9,7 @@
 #   answers    .. to one call of the script, or to its list:    status 0, and one reply is `nomemory`
 #   whole      to nothing that the run needs:                   what comes with ample memory
 #
+# `check` judges each line as it is read, so there the reader and the engine are refused in turns, from the first call on.
 # Where the status is 4 nothing is written to standard output. A journal with a refused call is legal. The last line
 # counts, and the status is not 0 where something else came.
 set -u
@@ -26,6 +27,8 @@ program="$top/crates/hullbook/out/hullbook"
 enough=20
 # the line of a script behind which a journal is read
 behind=0
+# whether the engine works while the text is read
+mixed=0
 
 # the stage of a run that has ended with this status
 stage_of() {
@@ -64,10 +67,10 @@ stages() {
 # counts the runs that came in their stage: LAST is the last line for which the reader asks for memory, WANTED has the
 # stages that have to come, counted from 0
 judge() {
-    awk -v last="$1" -v wanted="$2" -v name="$3" '
+    awk -v last="$1" -v wanted="$2" -v name="$3" -v mixed="$mixed" '
         function told(what) { print name ", request " $1 " refused: " what; failed++ }
         $2 == "memory" { stage = at == 0 ? 0 : 2 }
-        $2 == "text" { stage = 1 }
+        $2 == "text" { stage = mixed && at == 2 ? 2 : 1; seen[1] = 1 }
         $2 == "answers" { stage = 3 }
         $2 == "whole" { stage = 4 }
         $2 == "else" { told("no stage"); next }
@@ -103,7 +106,10 @@ printf '0 add 0 0\n0 add 4 0\n0 add 2 3\n0 add 2 1\n0 remove 2 3\n0 vertices\n0 
 # A script is put together behind its last line; the list in line 7 is the last thing of the journal that takes memory.
 try report 8 01234 run "$room/script"
 try journal 8 01234 run "$room/script" --journal
+mixed=1
 try check 7 0124 check "$room/journal"
+mixed=0
+try 'whole check' 7 0124 check "$room/journal" --explain
 try upgrade 7 014 upgrade "$room/journal"
 try compact 7 0124 compact "$room/journal"
 behind=8

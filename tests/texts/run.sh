@@ -90,7 +90,8 @@ fi
 # ---- a journal without its last newline, each request for memory refused in turn
 
 # The outcomes of `check` with its first request refused, its second, and so on, until none is left to refuse: before the
-# text, then in lines 1 to 9 that never fall, and in the end the fault of the text.
+# text, then in lines 1 to 9 that never fall where the reader's request was refused, and else the fault of the text, which is
+# told before memory that was refused to the replay.
 printf 'hullbook journal 1 first 0 limit 8 capacity 8\n0 0 add 0 0 = added\n1 0 add 4 0 = added\n2 0 add 2 3 = added\n' >"$room/journal"
 printf '3 0 add 2 1 = added\n4 0 remove 2 3 = removed\n5 0 vertices = list 3 0 0 4 0 2 1\n6 0 area = area 4\nend 7' >>"$room/journal"
 number=0
@@ -104,8 +105,8 @@ while [ "$row" -lt 20 ] && [ "$number" -lt 2000 ]; do
 done >"$room/outcomes"
 why=$(awk '
     $0 == "4:memory" && at == 0 { next }
-    /^4:line [1-9]: fault 10$/ && at <= 1 { n = substr($2, 1, 1); if (n < line) exit; at = 1; line = n; seen++; next }
-    $0 == "2:line 9: fault 6" && at >= 1 { at = 2; ended++; next }
+    /^4:line [1-9]: fault 10$/ { n = substr($2, 1, 1); at = 1; seen++; ended = 0; if (n < line) exit; line = n; next }
+    $0 == "2:line 9: fault 6" && at == 1 { ended++; next }
     { print "request " NR " refused: " $0; exit }
     END { if (seen < 3 || ended < 20) print seen + 0 " faults 10, " ended + 0 " faults 6" }' "$room/outcomes")
 said 'a journal cut short while memory is refused' "${why:-ok}"

@@ -6,6 +6,7 @@ pub mod Disagreement
 pub mod Compacts
 pub mod SeatCounts
 pub mod Idle
+pub mod LineByLine
 pub mod NextPart
 pub mod Parts
 pub mod Walks

@@ -1,6 +1,7 @@
 //! Scripts, journals and reports as texts.
 //!
-//! A script is read by `read_script`, a journal by `read_journal`, from a counted reader; `write_journal` and
+//! A script is read by `read_script`, a journal by `read_journal`, from a counted reader, or by `read_journal_by`, which
+//! gives its lines one by one to a `LineKeeper`; `write_journal` and
 //! `write_report` write to a counted writer; `upgrade` writes a journal in the newest version that has its rules, and
 //! `compact` one that is short and leaves the same points. A text that is no script or journal has a `TextFault`: what
 //! is wrong with it, and in which line.
@@ -30,7 +31,7 @@ pub use laws::{
     calls_are_read_again, faults_hold, numbers_have_one_spelling, replies_are_read_again,
     texts_hold,
 };
-pub use read::{read_journal, read_script};
+pub use read::{LineKeeper, no_head, read_journal, read_journal_by, read_script};
 pub use text_io::testing::{Pieces, Spout};
 pub use text_io::{Counted, Sink, Source, WriteFault};
 pub use upgrading::{UpgradeFault, upgrade};

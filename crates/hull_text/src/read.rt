@@ -6,6 +6,7 @@ mod item;
 mod journal;
 mod journal_draft;
 mod journal_line;
+mod line_keeper;
 mod next_number;
 mod number;
 mod reading;
@@ -15,5 +16,6 @@ mod script_draft;
 mod script_line;
 mod stage;
 
-pub use journal::read_journal;
+pub use journal::{read_journal, read_journal_by};
+pub use line_keeper::{LineKeeper, no_head};
 pub use script::read_script;

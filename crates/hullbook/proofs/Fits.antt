@@ -1,5 +1,5 @@
 -- What is left of a run fits together for its report: an answer for each call, and a count for each worker.
-use Rattle.std.proofs.Common.{◌≡◌, ◌<◌, ◌+◌, ◌-◌, ◌∙◌, ◌++◌, ℕ, List, [], length, map, get_or, sym, ap, arith, length-append}
+use Rattle.std.proofs.Common.{◌≡◌, ◌+◌, ◌-◌, ◌∙◌, ◌++◌, ℕ, List, [], length, get_or, ap, arith, length-append}
 use Rattle.std.specs.Prelude.{Err, Ok}
 use Rattle.std.proofs.lemmas.List.{length-map, length-replicate}
 use Rattle.std.proofs.Math.ListN.{get_or-map}
@@ -13,7 +13,7 @@ use Rattle.hull_book.specs.declared.head.BookHead.{BookHead}
 use Rattle.hull_book.specs.declared.line.Line.{Line}
 use Rattle.hull_pool.specs.Answers.{AnswersValue, no_answers}
 use Rattle.hull_pool.specs.Runs.{answers_of}
-use Rattle.hull_pool.specs.Work.{HasWorked, fulls, replies_of}
+use Rattle.hull_pool.specs.Work.{fulls, replies_of}
 use Rattle.hull_text.specs.ReportText.{IsReport}
 use Rattle.hullbook.specs.Outcomes.{IsRunOn}
 

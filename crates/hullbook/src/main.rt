@@ -19,7 +19,7 @@ mod tests;
 mod watched;
 
 use after::run_after;
-use check::check_text;
+use check::{check_text, check_whole_text};
 use explain::{Unexplained, explain};
 use fault::Fault;
 use hull_text::{compact, upgrade};
@@ -103,28 +103,39 @@ fn run_files<R: Threads + Wait + Sync + Files + Print + AllocGlobal, P: Progress
     .map_err(Fault::from)
 }
 
-/// Checks the journal at the path and writes to standard output, and where it is illegal tells why on standard error, if
-/// so. `true` for legal.
-fn check_file<R: Files + Print + AllocGlobal, E: Print, P: Progress>(
+/// Checks the journal at the path and writes to standard output. `true` for legal.
+fn check_file<R: Files + Print + AllocGlobal, P: Progress>(
     rt: &R,
-    error: &E,
     path: &str,
-    explains: bool,
     progress: &P,
 ) -> Result<bool, Fault> {
     let file = fs::open(rt, path).map_err(|error| Fault::of_system(&error, Fault::Open))?;
     let mut input = Counted::new(Watched::new(file, progress));
     let mut output = Counted::new(io::writer(rt));
-    let checked = check_text(rt.alloc(), &mut input, &mut output, progress).map_err(Fault::from)?;
+    let wrong = check_text(rt.alloc(), &mut input, &mut output, progress).map_err(Fault::from)?;
+    Ok(wrong.is_none())
+}
+
+/// The same, and where the journal is illegal it tells why on standard error.
+fn explain_file<R: Files + Print + AllocGlobal, E: Print, P: Progress>(
+    rt: &R,
+    error: &E,
+    path: &str,
+    progress: &P,
+) -> Result<bool, Fault> {
+    let file = fs::open(rt, path).map_err(|error| Fault::of_system(&error, Fault::Open))?;
+    let mut input = Counted::new(Watched::new(file, progress));
+    let mut output = Counted::new(io::writer(rt));
+    let checked = check_whole_text(rt.alloc(), &mut input, &mut output, progress).map_err(
+        Fault::from,
+    )?;
     let Some(place) = checked.wrong else {
         return Ok(true);
     };
-    if explains {
-        let mut notes = Counted::new(io::writer(error));
-        let told = explain(rt.alloc(), &checked.journal, place, &mut notes);
-        if told == Err(Unexplained::Memory) {
-            let _ = error.println("hullbook: memory");
-        }
+    let mut notes = Counted::new(io::writer(error));
+    let told = explain(rt.alloc(), &checked.journal, place, &mut notes);
+    if told == Err(Unexplained::Memory) {
+        let _ = error.println("hullbook: memory");
     }
     Ok(false)
 }
@@ -187,7 +198,8 @@ fn work<R: Threads + Wait + Sync + Env + Files + Print + AllocGlobal, E: Print, 
             run_files(rt, &path, &journal, &stated, progress)?;
             Ok(true)
         }
-        Task::Check(path, explains) => check_file(rt, error, &path, explains, progress),
+        Task::Check(path, true) => explain_file(rt, error, &path, progress),
+        Task::Check(path, false) => check_file(rt, &path, progress),
         Task::CheckParts(paths) => check_files(rt, paths, progress),
         Task::Upgrade(path) => {
             upgrade_file(rt, &path, progress)?;

@@ -88,7 +88,7 @@ fn judges(alloc: Global, journal: &str, wanted: &str) -> Result<Option<bool>, Fa
     if output.get_ref().bytes() != wanted.as_bytes() {
         return Ok(None);
     }
-    Ok(ended.ok().map(|checked| checked.wrong.is_none()))
+    Ok(ended.ok().map(|wrong| wrong.is_none()))
 }
 
 #[test]

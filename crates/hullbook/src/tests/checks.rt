@@ -1,6 +1,6 @@
 //! How a check ends where its input or its output is at fault.
 use super::{JOURNAL, Silence};
-use crate::check::check_text;
+use crate::check::{check_text, check_whole_text};
 use crate::run::RunFault;
 use hull_text::TextFault;
 use std::alloc::Global;
@@ -18,9 +18,7 @@ fn ends(
 ) -> Result<(Result<bool, RunFault>, usize), Fail> {
     let mut input = Counted::new(Pieces::new(journal.as_bytes(), 7).failing_at(reads));
     let mut output = Counted::new(Spout::new(alloc, 64, 5)?.failing_at(writes));
-    let ended = check_text(alloc, &mut input, &mut output, &Silence).map(|checked| checked
-        .wrong
-        .is_none());
+    let ended = check_text(alloc, &mut input, &mut output, &Silence).map(|wrong| wrong.is_none());
     Ok((ended, output.get_ref().bytes().len()))
 }
 
@@ -59,6 +57,12 @@ fn faults_of_a_journal_are_told(rt: HostRuntime) -> Result<(), Fail> {
             1,
             2,
         ),
+        // behind a line that is not right
+        (
+            "hullbook journal 1 first 0 limit 4 capacity 4\n0 0 add 5 5 = absent\nend 2\n",
+            1,
+            3,
+        ),
     ];
     for (journal, number, line) in rows {
         let fault = TextFault { number, line };
@@ -67,6 +71,25 @@ fn faults_of_a_journal_are_told(rt: HostRuntime) -> Result<(), Fail> {
             (Err(RunFault::Text(fault)), 0)
         );
     }
+    Ok(())
+}
+
+/// The first line that is not right is told, whether the lines are kept or not, and none behind it.
+#[test]
+fn the_first_wrong_line_is_told(rt: HostRuntime) -> Result<(), Fail> {
+    let journal =
+        "hullbook journal 1 first 0 limit 4 capacity 4\n0 0 count = count 0\n1 0 count = count 1\n5 0 count = count 2\nend 3\n";
+    let mut input = Counted::new(Pieces::new(journal.as_bytes(), 7));
+    let mut output = Counted::new(Spout::new(rt.alloc(), 64, 5)?);
+    let told = check_text(rt.alloc(), &mut input, &mut output, &Silence);
+    assert_eq!(rt; told, Ok(Some(1)));
+    let mut input = Counted::new(Pieces::new(journal.as_bytes(), 7));
+    let kept = check_whole_text(rt.alloc(), &mut input, &mut output, &Silence);
+    assert_eq!(rt; kept.map(|checked| checked.wrong), Ok(Some(1)));
+    assert_eq!(rt;
+        output.get_ref().bytes(),
+        "illegal 3\nillegal 3\n".as_bytes()
+    );
     Ok(())
 }
 

@@ -76,8 +76,8 @@ fn refused_memory_check(rt: HostRuntime) -> Result<(), Fail> {
     let ended = check_text(rt.alloc(), &mut input, &mut output, &Silence);
     let written = output.get_ref().bytes();
     match ended {
-        Ok(checked) => {
-            assert_eq!(rt; checked.wrong, None);
+        Ok(wrong) => {
+            assert_eq!(rt; wrong, None);
             assert!(rt; written == "legal\n".as_bytes());
         }
         Err(fault) => {
