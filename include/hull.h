@@ -14,6 +14,7 @@
  * - on one hull there is one call at a time, a question too, in whatever thread: a lock, or a thread's start or join, stands
  *   between two calls from different threads. Two hulls have nothing in common;
  * - no call is made from a signal handler, nor in the child of a fork of a process with threads;
+ * - an array that is passed has the length that is told; one of no elements may be null;
  * - malloc, realloc and free are of one allocator, whose blocks are aligned as C says.
  *
  * Each call returns a hull_reply: a code, and what belongs to that code (hull_common.h tells them all); all else is 0. A call
@@ -129,9 +130,13 @@ static inline hull_reply hull_multiplicity(const hull_set *h, int64_t x, int64_t
 
 /* Writes the corners of the hull to the front of the array of `room` points: counterclockwise from the first by x and then
  * by y, each once, and no point inside an edge. HULL_CORNERS; HULL_TOO_SMALL, where the caller may ask again with `number`
- * points of room; or HULL_NO_MEMORY. A room of hull_count always suffices. `out` is not null, even for a room of 0, and is
- * aligned; its points have been written before, to whatever (calloc does that). */
+ * points of room; or HULL_NO_MEMORY. A room of hull_count always suffices. `out` is aligned, and its points
+ * have been written before, to whatever (calloc does that). */
 hull_reply hull_vertices(const hull_set *h, hull_point *out, size_t room);
+static inline hull_reply hull_vertices_or_null(const hull_set *h, hull_point *out, size_t room) {
+    return hull_vertices(h, (hull_point *)hull_array(out, room), room);
+}
+#define hull_vertices hull_vertices_or_null
 
 /* Twice the area of the hull, 0 for a point and a line: HULL_NUMBER with `number` and `high`. */
 static inline hull_reply hull_area(const hull_set *h) {
@@ -150,17 +155,26 @@ hull_reply hull_limit(const hull_set *h);
  * of `replies`; returns how many it wrote. It ends at the end of the shorter array, or with the first request that can't be
  * served, whose reply is HULL_UNKNOWN_KIND, HULL_OUT_OF_RANGE or HULL_ZERO_DIRECTION: those before it were served, it and
  * those behind it were not, and the replies behind its own are as they were. (HULL_TOO_MANY and HULL_NO_MEMORY end nothing.)
- * Both arrays are not null, even where they have no elements, do not overlap, and have been written before (calloc does
- * that). */
+ * The arrays do not overlap, and have been written before (calloc does that). */
 size_t hull_calls(hull_set *h, const hull_request *requests, size_t request_count, hull_reply *replies,
                   size_t reply_room);
+static inline size_t hull_calls_or_null(hull_set *h, const hull_request *requests, size_t request_count, hull_reply *replies,
+                                        size_t reply_room) {
+    return hull_calls(h, (const hull_request *)hull_array(requests, request_count), request_count,
+                      (hull_reply *)hull_array(replies, reply_room), reply_room);
+}
+#define hull_calls hull_calls_or_null
 
 /* Holds the points of the array, in any order, each as often as it stands there, in the place of all that was held: what
  * adding them one by one to an empty hull makes, in a small part of the time. HULL_NUMBER, the number of different points; or
  * the hull is as it was: HULL_OUT_OF_RANGE (of any of them), else HULL_TOO_MANY (more different points than the limit, or one
  * of them more often than HULL_MULTIPLICITY_MAX) or HULL_NO_MEMORY (old and new points are both in memory for a while). The
- * array is not null, even where it has no elements, and is aligned. */
+ * array is aligned. */
 hull_reply hull_load(hull_set *h, const hull_point *points, size_t count);
+static inline hull_reply hull_load_or_null(hull_set *h, const hull_point *points, size_t count) {
+    return hull_load(h, (const hull_point *)hull_array(points, count), count);
+}
+#define hull_load hull_load_or_null
 
 /* Writes the held points from (x, y) on, in order by x and then y, each with how often it is held, to the front of the array of
  * `room` points, until it is full or there are no more: HULL_NUMBER, how many were written; HULL_OUT_OF_RANGE or HULL_NO_MEMORY.
@@ -168,6 +182,10 @@ hull_reply hull_load(hull_set *h, const hull_point *points, size_t count);
  * from hull_held_behind the last point of the one before; the hull may change between two pieces. The array is one as for
  * hull_vertices. */
 hull_reply hull_held_from(const hull_set *h, int64_t x, int64_t y, hull_held *out, size_t room);
+static inline hull_reply hull_held_from_or_null(const hull_set *h, int64_t x, int64_t y, hull_held *out, size_t room) {
+    return hull_held_from(h, x, y, (hull_held *)hull_array(out, room), room);
+}
+#define hull_held_from hull_held_from_or_null
 
 /* The first place behind a point: where the next piece begins. The last place of all has none behind it, and stays. */
 static inline hull_point hull_held_behind(hull_held last) {
@@ -185,6 +203,10 @@ static inline hull_point hull_held_behind(hull_held last) {
  * often it is held is 0 or above HULL_MULTIPLICITY_MAX), else HULL_OUT_OF_ORDER, else HULL_TOO_MANY (more points than the limit) or
  * HULL_NO_MEMORY. The array is one as for hull_load. */
 hull_reply hull_load_held(hull_set *h, const hull_held *held, size_t count);
+static inline hull_reply hull_load_held_or_null(hull_set *h, const hull_held *held, size_t count) {
+    return hull_load_held(h, (const hull_held *)hull_array(held, count), count);
+}
+#define hull_load_held hull_load_held_or_null
 
 /* Holds in `to` just what `from` holds, each point as often, in the place of all that `to` held: HULL_NUMBER, the number of
  * different points; or `to` is as it was: HULL_TOO_MANY (more points than its limit) or HULL_NO_MEMORY. Both are used by one call
@@ -220,6 +242,10 @@ typedef struct hull_bridge {
  * they are, at most 2^level; HULL_TOO_SMALL, where the caller may ask again with `number` of room; or HULL_NO_MEMORY. It is for
  * pictures of the tree; no question needs it. The array is one as for hull_vertices. */
 hull_reply hull_bridges(const hull_set *h, uint32_t level, hull_bridge *out, size_t room);
+static inline hull_reply hull_bridges_or_null(const hull_set *h, uint32_t level, hull_bridge *out, size_t room) {
+    return hull_bridges(h, level, (hull_bridge *)hull_array(out, room), room);
+}
+#define hull_bridges hull_bridges_or_null
 
 /* Lets all points go, and their memory; the limit stays: HULL_CLEARED. */
 hull_reply hull_clear(hull_set *h);
@@ -229,8 +255,12 @@ hull_reply hull_clear(hull_set *h);
  * one pass). They write nothing and ask for no memory, so any number of threads may ask one array at once.
  *
  * What the caller must keep, and nothing checks: the array is an outline of at most HULL_LIMIT_MAX corners, one that hull_vertices
- * wrote or hull_is_outline said 1 of, is aligned, is not null, even where it has no corners, and nobody writes it during a call. */
+ * wrote or hull_is_outline said 1 of, is aligned, and nobody writes it during a call. */
 hull_reply hull_outline_call(const hull_point *corners, size_t count, uint32_t kind, int64_t x, int64_t y);
+static inline hull_reply hull_outline_call_or_null(const hull_point *corners, size_t count, uint32_t kind, int64_t x, int64_t y) {
+    return hull_outline_call((const hull_point *)hull_array(corners, count), count, kind, x, y);
+}
+#define hull_outline_call hull_outline_call_or_null
 
 static inline hull_reply hull_outline_place(const hull_point *corners, size_t count, int64_t x, int64_t y) {
     return hull_outline_call(corners, count, HULL_KIND_PLACE, x, y);
@@ -253,6 +283,13 @@ static inline hull_reply hull_outline_area(const hull_point *corners, size_t cou
  * of hull_calls. */
 size_t hull_outline_calls(const hull_point *corners, size_t count, const hull_request *requests, size_t request_count,
                           hull_reply *replies, size_t reply_room);
+static inline size_t hull_outline_calls_or_null(const hull_point *corners, size_t count, const hull_request *requests,
+                                                size_t request_count, hull_reply *replies, size_t reply_room) {
+    return hull_outline_calls((const hull_point *)hull_array(corners, count), count,
+                              (const hull_request *)hull_array(requests, request_count), request_count,
+                              (hull_reply *)hull_array(replies, reply_room), reply_room);
+}
+#define hull_outline_calls hull_outline_calls_or_null
 
 /* What a planner or a collision check asks an outline. None of them asks for memory, and each may be asked by any number of threads at
  * once. A coordinate out of range is told by HULL_OUT_OF_RANGE; an outline of no corners is apart from everything: HULL_EMPTY, and of
@@ -261,28 +298,54 @@ size_t hull_outline_calls(const hull_point *corners, size_t count, const hull_re
  * Whether the outline and the segment from (ax, ay) to (bx, by) have a point in common, its ends and the boundary included:
  * HULL_NUMBER with 1 or 0. The ends may be one point. It takes as many steps as a question does. */
 hull_reply hull_outline_meets_segment(const hull_point *corners, size_t count, int64_t ax, int64_t ay, int64_t bx, int64_t by);
+static inline hull_reply hull_outline_meets_segment_or_null(const hull_point *corners, size_t count, int64_t ax, int64_t ay,
+                                                            int64_t bx, int64_t by) {
+    return hull_outline_meets_segment((const hull_point *)hull_array(corners, count), count, ax, ay, bx, by);
+}
+#define hull_outline_meets_segment hull_outline_meets_segment_or_null
 
 /* What parts the outline from that segment, as a caller can see by itself: HULL_APART with a corner (x, y) and a direction (other_x,
  * other_y) whose product with any corner is at most that with (x, y), and whose products with both ends are greater (products of
  * 128 bits: a component takes 42). HULL_MEETING where nothing parts them. It takes as many steps as a few questions do. */
 hull_reply hull_outline_apart(const hull_point *corners, size_t count, int64_t ax, int64_t ay, int64_t bx, int64_t by);
+static inline hull_reply hull_outline_apart_or_null(const hull_point *corners, size_t count, int64_t ax, int64_t ay, int64_t bx,
+                                                    int64_t by) {
+    return hull_outline_apart((const hull_point *)hull_array(corners, count), count, ax, ay, bx, by);
+}
+#define hull_outline_apart hull_outline_apart_or_null
 
 /* Where the point of the outline is that is nearest to (x, y): HULL_COVERED, HULL_CORNER or HULL_EDGE. The squared distance is that of
  * the corner; or the square of the side of (x, y) at the edge, (bx - ax) (y - ay) - (by - ay) (x - ax) of up to 84 bits, divided
  * by the squared length of the edge. It takes as many steps as a few questions do. */
 hull_reply hull_outline_nearest(const hull_point *corners, size_t count, int64_t x, int64_t y);
+static inline hull_reply hull_outline_nearest_or_null(const hull_point *corners, size_t count, int64_t x, int64_t y) {
+    return hull_outline_nearest((const hull_point *)hull_array(corners, count), count, x, y);
+}
+#define hull_outline_nearest hull_outline_nearest_or_null
 
 /* The smallest box with sides along the axes that holds the outline: HULL_BOX. It takes as many steps as a question does. */
 hull_reply hull_outline_box(const hull_point *corners, size_t count);
+static inline hull_reply hull_outline_box_or_null(const hull_point *corners, size_t count) {
+    return hull_outline_box((const hull_point *)hull_array(corners, count), count);
+}
+#define hull_outline_box hull_outline_box_or_null
 
 /* How far the outline reaches in the direction (dx, dy), each component at most HULL_COORDINATE_MAX in size: HULL_NUMBER with the
  * greatest product of a corner with it less the least, up to 84 bits in `number` and `high`; divided by the length of the direction it
  * is the width along it. HULL_EMPTY, HULL_OUT_OF_RANGE, HULL_ZERO_DIRECTION. It takes as many steps as a question does. */
 hull_reply hull_outline_width(const hull_point *corners, size_t count, int64_t dx, int64_t dy);
+static inline hull_reply hull_outline_width_or_null(const hull_point *corners, size_t count, int64_t dx, int64_t dy) {
+    return hull_outline_width((const hull_point *)hull_array(corners, count), count, dx, dy);
+}
+#define hull_outline_width hull_outline_width_or_null
 
 /* The two corners that are farthest from one another, which are one where there is no other: HULL_POINTS; or HULL_EMPTY. A question
  * for each corner. */
 hull_reply hull_outline_diameter(const hull_point *corners, size_t count);
+static inline hull_reply hull_outline_diameter_or_null(const hull_point *corners, size_t count) {
+    return hull_outline_diameter((const hull_point *)hull_array(corners, count), count);
+}
+#define hull_outline_diameter hull_outline_diameter_or_null
 
 /* What shows how outlines stand, as a caller can see by itself: a code, and the points of it. What a code does not name is 0. */
 typedef struct hull_witness {
@@ -302,18 +365,40 @@ typedef struct hull_witness {
  * has a narrower strip. The width squared is the square of (bx - ax) (cy - ay) - (by - ay) (cx - ax), of up to 84 bits, divided by
  * the squared length of the edge. HULL_EMPTY where there are fewer than two corners. A question for each corner. */
 hull_witness hull_outline_least_width(const hull_point *corners, size_t count);
+static inline hull_witness hull_outline_least_width_or_null(const hull_point *corners, size_t count) {
+    return hull_outline_least_width((const hull_point *)hull_array(corners, count), count);
+}
+#define hull_outline_least_width hull_outline_least_width_or_null
 
 /* Two outlines. Both arrays are as the caller must keep one, and may be the same; either may be of no corners. They take a question
  * for each corner of the second outline, and hull_outline_witness, where they are apart, one for each corner of the first, too.
  *
  * Whether they have a point in common, boundaries included: HULL_NUMBER with 1 or 0. */
 hull_reply hull_outline_meets(const hull_point *corners, size_t count, const hull_point *others, size_t other_count);
+static inline hull_reply hull_outline_meets_or_null(const hull_point *corners, size_t count, const hull_point *others,
+                                                    size_t other_count) {
+    return hull_outline_meets((const hull_point *)hull_array(corners, count), count,
+                              (const hull_point *)hull_array(others, other_count), other_count);
+}
+#define hull_outline_meets hull_outline_meets_or_null
 
 /* Whether the first covers whatever the second covers, boundaries included: HULL_NUMBER with 1 or 0. */
 hull_reply hull_outline_contains(const hull_point *corners, size_t count, const hull_point *others, size_t other_count);
+static inline hull_reply hull_outline_contains_or_null(const hull_point *corners, size_t count, const hull_point *others,
+                                                       size_t other_count) {
+    return hull_outline_contains((const hull_point *)hull_array(corners, count), count,
+                                 (const hull_point *)hull_array(others, other_count), other_count);
+}
+#define hull_outline_contains hull_outline_contains_or_null
 
 /* Where they meet, or what parts them: HULL_COVERED, HULL_WITHIN, HULL_CROSSING, HULL_APART; or HULL_EMPTY where one has no corners. */
 hull_witness hull_outline_witness(const hull_point *corners, size_t count, const hull_point *others, size_t other_count);
+static inline hull_witness hull_outline_witness_or_null(const hull_point *corners, size_t count, const hull_point *others,
+                                                        size_t other_count) {
+    return hull_outline_witness((const hull_point *)hull_array(corners, count), count,
+                                (const hull_point *)hull_array(others, other_count), other_count);
+}
+#define hull_outline_witness hull_outline_witness_or_null
 
 /* How far they are apart: where the two are nearest to one another. HULL_MEETING where they have a point in common. HULL_POINTS: at a
  * corner a of the first and a corner b of the second; the squared distance is that of the two. HULL_CORNER: at a corner a of the first
@@ -322,6 +407,12 @@ hull_witness hull_outline_witness(const hull_point *corners, size_t count, const
  * as hull_outline_nearest has it, divided by the squared length of the edge. HULL_EMPTY where one has no corners. It takes
  * as long as hull_outline_meets, and hull_outline_nearest for each corner of the second, and at most for each of the first, too. */
 hull_witness hull_outline_distance(const hull_point *corners, size_t count, const hull_point *others, size_t other_count);
+static inline hull_witness hull_outline_distance_or_null(const hull_point *corners, size_t count, const hull_point *others,
+                                                         size_t other_count) {
+    return hull_outline_distance((const hull_point *)hull_array(corners, count), count,
+                                 (const hull_point *)hull_array(others, other_count), other_count);
+}
+#define hull_outline_distance hull_outline_distance_or_null
 
 /* A support function for callers with directions in doubles: the first of the farthest points in the direction (dx, dy), taken to
  * whole numbers as hull_direction_from_doubles tells (hull_exchange.h); in the direction (0, 0) the first point by x and then y.
@@ -342,6 +433,10 @@ static inline hull_reply hull_extreme_d(const hull_set *h, double dx, double dy)
  * for the time of the call). They are where they go from the first point by x and then y counterclockwise round a convex polygon,
  * with no point inside an edge; of no point, of one, and of two points in order, too. */
 hull_reply hull_is_outline(const hull_point *points, size_t count);
+static inline hull_reply hull_is_outline_or_null(const hull_point *points, size_t count) {
+    return hull_is_outline((const hull_point *)hull_array(points, count), count);
+}
+#define hull_is_outline hull_is_outline_or_null
 
 #ifdef __cplusplus
 }

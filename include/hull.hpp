@@ -22,6 +22,7 @@
 #include <memory>
 #include <mutex>
 #include <optional>
+#include <ostream>
 #include <stdexcept>
 #include <string>
 #include <utility>
@@ -52,16 +53,23 @@ enum class Refusal : std::uint32_t {
     not_open = HULL_NOT_OPEN,               // the shared hull is closed
     seats_out = HULL_SEATS_OUT,             // a seat of the shared hull is out: it stays open
     full = HULL_FULL,                       // the journal is full: the call was not made
-    vacant = HULL_VACANT                    // the seat was given back, or moved away
+    vacant = HULL_VACANT,                   // the seat was given back, or moved away
+    no_journal = HULL_NO_JOURNAL,           // the text is none of a journal: number() tells its first line that is wrong, from 1
+    old_rules = HULL_OLD_RULES,             // the journal is of version 1 or 2, in which points are not counted
+    illegal = HULL_ILLEGAL,                 // the journal is no legal history: number() tells its first line that is wrong, from 1
+    too_few_seats = HULL_TOO_FEW_SEATS      // the journal has lines by number() seats, more than were asked for
 };
 
 class Fault : public std::runtime_error {
 public:
-    explicit Fault(Refusal code) : std::runtime_error(words(code)), code_(code) {}
+    explicit Fault(Refusal code, std::uint64_t number = 0)
+        : std::runtime_error(words(code) + (number == 0 ? "" : ": " + std::to_string(number))), code_(code), number_(number) {}
     Refusal code() const noexcept { return code_; }
+    // The line of a text, or how many seats are wanted, where the code says so; else 0.
+    std::uint64_t number() const noexcept { return number_; }
 
 private:
-    static const char *words(Refusal code) noexcept {
+    static std::string words(Refusal code) {
         switch (code) {
         case Refusal::out_of_range: return "a coordinate is out of range";
         case Refusal::zero_direction: return "a direction is zero";
@@ -74,11 +82,16 @@ private:
         case Refusal::seats_out: return "a seat of the hull is out";
         case Refusal::full: return "the journal of the hull is full";
         case Refusal::vacant: return "the seat was given back";
+        case Refusal::no_journal: return "the text is none of a journal, from this line on";
+        case Refusal::old_rules: return "points are not counted in journals before version 3";
+        case Refusal::illegal: return "the journal is no legal history, from this line of its text on";
+        case Refusal::too_few_seats: return "the journal has lines by as many seats as this";
         }
         return "the call was refused";
     }
 
     Refusal code_;
+    std::uint64_t number_;
 };
 
 // Where a point lies.
@@ -511,6 +524,26 @@ public:
         return std::string(text.begin(), text.end());
     }
 
+    // Writes that text to a stream, some thousand bytes at a time: no more than those and the longest line are in memory.
+    void write_to(std::ostream &out) const {
+        std::vector<std::uint8_t> piece(1 << 16);
+        for (std::uint64_t line = 0;;) {
+            const hull_reply r = hull_shared_part_text_from(at_.get(), line, piece.data(), piece.size());
+            if (r.code == HULL_TOO_SMALL) {
+                piece.resize(static_cast<std::size_t>(r.number));
+                continue;
+            }
+            if (r.code != HULL_TEXT) {
+                told::fault(r.code);
+            }
+            if (r.number == 0) {
+                return;
+            }
+            out.write(reinterpret_cast<const char *>(piece.data()), static_cast<std::streamsize>(r.number));
+            line = r.high;
+        }
+    }
+
 private:
     friend class Seat;
     struct End {
@@ -644,6 +677,18 @@ public:
     SharedHull(SharedHull &&) noexcept = default;
     SharedHull &operator=(SharedHull &&) noexcept = default;
 
+    // A hull that goes on where a journal ends, with the points that it left: `text` is the journal's, whole, whose lines count as
+    // taken out. Refusal::no_journal, old_rules, too_few_seats, illegal, and those of opening.
+    static SharedHull reopen(const std::string &text, std::uint32_t capacity, std::uint32_t seats) {
+        SharedHull hull(std::make_shared<Desk>());
+        const hull_reply r = hull_shared_reopen(hull.desk_->at_, reinterpret_cast<const std::uint8_t *>(text.data()),
+                                                text.size(), capacity, seats);
+        if (r.code != HULL_OPEN) {
+            throw Fault(static_cast<Refusal>(r.code), r.number);
+        }
+        return hull;
+    }
+
     // Lends the seat of a number, 0 and up.
     Seat lend(std::uint32_t number) { return Seat(desk_, number); }
 
@@ -669,6 +714,8 @@ public:
     }
 
 private:
+    explicit SharedHull(std::shared_ptr<Desk> desk) : desk_(std::move(desk)) {}
+
     std::shared_ptr<Desk> desk_;
 };
 

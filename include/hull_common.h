@@ -91,7 +91,12 @@ typedef enum hull_code {
     HULL_RESERVED = 53,      /* the part has room for lines now */
     HULL_PART_IN_USE = 54,   /* the part has room or lines already */
     HULL_NO_ROOM = 55,       /* the part has no room for as many lines as the desk holds at most: no look was made */
-    HULL_NO_LINES = 56       /* the part has no lines */
+    HULL_NO_LINES = 56,      /* the part has no lines */
+    HULL_NO_JOURNAL = 57,    /* the text is none of a journal: line `number` of it, from 1, has the first fault, `high`: 1 its form,
+                              * 2 a number, 3 a coordinate, 4 a seat, 5 a word, 6 the text ends before its end line, 7 no header */
+    HULL_OLD_RULES = 58,     /* the journal is of version 1 or 2, in which points are not counted: it can't be gone on with */
+    HULL_ILLEGAL = 59,       /* the journal is no legal history: line `number` of its text, from 1, is the first that is not right */
+    HULL_TOO_FEW_SEATS = 60  /* the journal has lines by `number` seats (0 to `number` - 1), more than were asked for */
 } hull_code;
 
 /* What a call was answered: a code (hull_code), and what belongs to it (told above); all else is 0. */
@@ -178,8 +183,19 @@ static inline const char *hull_code_name(uint32_t code) {
     case HULL_PART_IN_USE: return "HULL_PART_IN_USE";
     case HULL_NO_ROOM: return "HULL_NO_ROOM";
     case HULL_NO_LINES: return "HULL_NO_LINES";
+    case HULL_NO_JOURNAL: return "HULL_NO_JOURNAL";
+    case HULL_OLD_RULES: return "HULL_OLD_RULES";
+    case HULL_ILLEGAL: return "HULL_ILLEGAL";
+    case HULL_TOO_FEW_SEATS: return "HULL_TOO_FEW_SEATS";
     default: return "no code";
     }
+}
+
+/* The address of an array of so many elements; where it has none, one that is not null, as the library asks for. Each call of the
+ * headers that is passed an array goes through this, by an inline function to which its name leads (`#define`). */
+static inline void *hull_array(const void *array, size_t count) {
+    static const uint64_t none = 0;
+    return (void *)(count == 0 ? (const void *)&none : array);
 }
 
 /* Memory from malloc of so many bytes, which begins at a multiple of the alignment (a power of 2), for hull_room_free; null

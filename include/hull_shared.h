@@ -34,8 +34,8 @@
  *   that is what they are for. A desk or a room may pass from thread to thread, if the threads order that between them (a
  *   start, a join, a lock);
  * - a seat is given back to the desk that it went out of, and all calls of a desk's seats are passed that desk's line;
- * - an array that is passed is not null, even where it has no elements (but in hull_shared_vertices), was written before (calloc does
- *   that), has the length that is told, and overlaps nothing;
+ * - an array that is passed has the length that is told, and overlaps nothing; one of no elements may be null. One for corners was
+ *   written before (calloc does that); one for a text need not be: it is filled with zeros first;
  * - no call is made from a signal handler, nor in the child of a fork of a process with threads;
  * - malloc, realloc and free are of one allocator, whose blocks are aligned as C says.
  *
@@ -152,6 +152,19 @@ uint32_t hull_shared_open(hull_shared_desk *desk, uint32_t limit, uint64_t first
  * none. */
 uint32_t hull_shared_open_without_journal(hull_shared_desk *desk, uint32_t limit, uint64_t first, uint32_t seats);
 
+/* Opens a desk that goes on where a journal ends, round a hull with the points that it left: `text` is the whole text of the
+ * journal, of `length` bytes, as hull_shared_text or `hullbook` (run --journal, compact) wrote it, or the first part of one; it is
+ * read and replayed here. The limit is the journal's, and the next call takes the number behind its last line. The lines of the
+ * journal count as taken out: the desk has room for `capacity` others, which alone stand in its parts and in its text, and
+ * `hullbook check OLD NEW..` judges all of them in their order. OPEN; WAS_OPENED, OUT_OF_LIMITS, NO_JOURNAL, OLD_RULES,
+ * TOO_FEW_SEATS, ILLEGAL; NO_MEMORY, at any of these. Where the desk is not open then, it is as it was. */
+hull_reply hull_shared_reopen(hull_shared_desk *desk, const uint8_t *text, size_t length, uint32_t capacity, uint32_t seats);
+static inline hull_reply hull_shared_reopen_or_null(hull_shared_desk *desk, const uint8_t *text, size_t length, uint32_t capacity,
+                                                    uint32_t seats) {
+    return hull_shared_reopen(desk, (const uint8_t *)hull_array(text, length), length, capacity, seats);
+}
+#define hull_shared_reopen hull_shared_reopen_or_null
+
 /* Moves seat `number` into the room: LENT; NOT_OPEN, ROOM_IN_USE, NO_SEAT, NO_MEMORY. */
 uint32_t hull_shared_lend(hull_shared_desk *desk, hull_shared_seat *room, uint32_t number);
 
@@ -171,6 +184,10 @@ hull_shared_reply hull_shared_look(hull_shared_seat *seat);
  * hull_vertices writes them. TOO_SMALL where they have no room: the call was served all the same, and has its line, and the
  * array is as it was. For all other calls and answers the array stays as it was. */
 hull_shared_reply hull_shared_look_into(hull_shared_seat *seat, hull_point *out, size_t room);
+static inline hull_shared_reply hull_shared_look_into_or_null(hull_shared_seat *seat, hull_point *out, size_t room) {
+    return hull_shared_look_into(seat, (hull_point *)hull_array(out, room), room);
+}
+#define hull_shared_look_into hull_shared_look_into_or_null
 
 /* How many lines the desk of the seat holds at most; 0 where the room has no seat. */
 uint32_t hull_shared_capacity(const hull_shared_seat *seat);
@@ -192,6 +209,27 @@ hull_shared_reply hull_shared_look_and_drain(hull_shared_seat *seat, hull_shared
  * array: TEXT; NO_LINES, NO_MEMORY, TOO_SMALL with the `number` of bytes. `check` of the program hullbook judges the texts of
  * parts in their order. */
 hull_reply hull_shared_part_text(const hull_shared_part *part, uint8_t *out, size_t length);
+static inline hull_reply hull_shared_part_text_or_null(const hull_shared_part *part, uint8_t *out, size_t length) {
+    if (length != 0) {
+        memset(out, 0, length);
+    }
+    return hull_shared_part_text(part, (uint8_t *)hull_array(out, length), length);
+}
+#define hull_shared_part_text hull_shared_part_text_or_null
+
+/* Writes that text in pieces, for which an array of some kilobytes is enough: whole lines of it, from line `line` on, counted from
+ * 0 (the header), as many as the array has room for. TEXT with the `number` of bytes, and in `high` the line behind them, with
+ * which the next piece begins: `number` is 0 once the end line was written. NO_LINES, NO_MEMORY (for no more than a piece and a
+ * line); TOO_SMALL with the `number` of bytes of that one line. All pieces in a row are the text of hull_shared_part_text. */
+hull_reply hull_shared_part_text_from(const hull_shared_part *part, uint64_t line, uint8_t *out, size_t length);
+static inline hull_reply hull_shared_part_text_from_or_null(const hull_shared_part *part, uint64_t line, uint8_t *out,
+                                                            size_t length) {
+    if (length != 0) {
+        memset(out, 0, length);
+    }
+    return hull_shared_part_text_from(part, line, (uint8_t *)hull_array(out, length), length);
+}
+#define hull_shared_part_text_from hull_shared_part_text_from_or_null
 
 /* Lets the part's room or lines go, so that it holds nothing: ENDED. */
 uint32_t hull_shared_part_end(hull_shared_part *part);
@@ -204,19 +242,24 @@ uint32_t hull_shared_close(hull_shared_desk *desk);
  * TEXT; NOT_CLOSED, NO_MEMORY, TOO_SMALL with the `number` of bytes. It is a text of the program hullbook, whose `check` judges
  * it. */
 hull_reply hull_shared_text(const hull_shared_desk *desk, uint8_t *out, size_t length);
+static inline hull_reply hull_shared_text_or_null(const hull_shared_desk *desk, uint8_t *out, size_t length) {
+    if (length != 0) {
+        memset(out, 0, length);
+    }
+    return hull_shared_text(desk, (uint8_t *)hull_array(out, length), length);
+}
+#define hull_shared_text hull_shared_text_or_null
 
 /* Ends a desk that is not open, so that it holds nothing: ENDED; NOT_CLOSED, where it is open. It may be opened again. */
 uint32_t hull_shared_end(hull_shared_desk *desk);
 
 /* How many bytes the text of a closed desk has, or that of a part: the `number` of TOO_SMALL; else as those calls refuse. */
 static inline hull_reply hull_shared_text_size(const hull_shared_desk *desk) {
-    uint8_t none = 0;
-    return hull_shared_text(desk, &none, 0);
+    return hull_shared_text(desk, NULL, 0);
 }
 
 static inline hull_reply hull_shared_part_text_size(const hull_shared_part *part) {
-    uint8_t none = 0;
-    return hull_shared_part_text(part, &none, 0);
+    return hull_shared_part_text(part, NULL, 0);
 }
 
 /* ---- waiting

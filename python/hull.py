@@ -83,6 +83,12 @@ class JournalFull(RuntimeError):
     """The journal of the shared hull is full: the call was not made."""
 
 
+class JournalFault(ValueError):
+    """A text can't be gone on with: it is none of a journal, or the journal is of an older version, or no legal history, or has lines
+    by more seats than were asked for. The message says which, and names the line of the text, from 1.
+    """
+
+
 class Place(enum.IntEnum):
     """Where a point lies."""
 
@@ -119,6 +125,10 @@ class _Code(enum.IntEnum):
     VACANT = 40
     FULL = 46
     SEATS_OUT = 47
+    NO_JOURNAL = 57
+    OLD_RULES = 58
+    ILLEGAL = 59
+    TOO_FEW_SEATS = 60
 
 
 class _Kind(enum.IntEnum):
@@ -227,6 +237,8 @@ def _shared_library():
         ("ask_and_drain", [at, at, at, number, whole, whole], _SeatReply),
         ("part_size", [], size), ("part_alignment", [], size), ("make_part", [at], None),
         ("part_reserve", [at, number], number), ("part_text", [at, at, size], _Reply), ("part_end", [at], number),
+        ("reopen", [at, at, size, number, number], _Reply),
+        ("part_text_from", [at, ctypes.c_uint64, at, size], _Reply),
         ("capacity", [at], number), ("open_without_journal", [at, number, ctypes.c_uint64, number], number),
     ])
 
@@ -889,6 +901,34 @@ class SharedHull:
         else:
             _told(_shared_library().hull_shared_open_without_journal(self._desk.at, words[0], words[1], words[3]))
 
+    @classmethod
+    def reopen(cls, text, capacity, seats):
+        """A hull that goes on where a journal ends, with the points that it left.
+
+        `text` is the journal's, whole, as `close` or the program `hullbook` wrote it: a str or bytes. Limit and numbers are the
+        journal's. Its lines count as taken out: those of later calls alone are in the texts of this hull, and
+        `hullbook check OLD NEW..` judges all in their order. JournalFault where the text can't be gone on with.
+        """
+        text = text.encode() if isinstance(text, str) else bytes(text)
+        capacity, seats = operator.index(capacity), operator.index(seats)
+        if not (0 <= capacity < 1 << 32 and 0 <= seats < 1 << 32):
+            _told(_Code.OUT_OF_LIMITS)
+        hull = cls.__new__(cls)
+        hull._desk = _Desk()
+        room = ctypes.create_string_buffer(text, max(len(text), 1))
+        told = _shared_library().hull_shared_reopen(hull._desk.at, ctypes.addressof(room), len(text), capacity, seats)
+        words = {
+            _Code.NO_JOURNAL: f"line {told.number}: fault {told.high}: the text is none of a journal",
+            _Code.OLD_RULES: "points are not counted in journals before version 3",
+            _Code.ILLEGAL: f"line {told.number}: the journal is no legal history",
+            _Code.TOO_FEW_SEATS: f"the journal has lines by {told.number} seats",
+        }.get(told.code)
+        if words is not None:
+            raise JournalFault(words)
+        _told(told.code)
+        hull._words = None, None, capacity, seats
+        return hull
+
     def __reduce__(self):
         raise TypeError("a hull lies in one place: it can't be copied")
 
@@ -896,7 +936,8 @@ class SharedHull:
         limit, first, capacity, seats = self._words
         with self._desk.lock:
             out = len(self._desk.out)
-        return f"<SharedHull for {capacity} calls from {first}, limit {limit}, {out} of {seats} seats out>"
+        where = "behind a journal" if first is None else f"from {first}, limit {limit}"
+        return f"<SharedHull for {capacity} calls {where}, {out} of {seats} seats out>"
 
     def __enter__(self):
         return self
@@ -969,8 +1010,26 @@ class JournalPart:
         """
         return _text(_shared_library().hull_shared_part_text, self._at)
 
+    def pieces(self, size=1 << 16):
+        """That text in pieces of whole lines, each of at most `size` bytes, or one line that is longer.
+
+        One piece is in memory at a time: `file.writelines(part.pieces())`.
+        """
+        line, room = 0, ctypes.create_string_buffer(max(operator.index(size), 1))
+        while True:
+            told = _shared_library().hull_shared_part_text_from(self._at, line, ctypes.addressof(room), len(room))
+            if told.code == _Code.TOO_SMALL:
+                room = ctypes.create_string_buffer(told.number)
+                continue
+            _told(told.code)
+            if told.number == 0:
+                return
+            yield room.raw[:told.number].decode("ascii")
+            line = told.high
+
     def __iter__(self):
-        return iter(self.text().splitlines())
+        for piece in self.pieces():
+            yield from piece.splitlines()
 
 
 def _return_seat(desk, room, at, number):

@@ -781,6 +781,37 @@ static void new_ones(void) {
     CHECK(strcmp(hull_code_name(21), "HULL_OUT_OF_ORDER") == 0 && strcmp(hull_code_name(29), "HULL_WITHIN") == 0 && strcmp(hull_code_name(200), "no code") == 0 && strcmp(hull_code_name(UINT32_MAX), "no code") == 0);
 }
 
+/* Each call that is passed an array, with none: null and no elements. */
+static void no_arrays(void) {
+    hull_set *h = made(2);
+    hull_point at = {1, 1};
+    CHECK(number(hull_vertices(h, NULL, 0), HULL_CORNERS, 0));
+    CHECK(hull_calls(h, NULL, 0, NULL, 0) == 0);
+    CHECK(number(hull_load(h, NULL, 0), HULL_NUMBER, 0));
+    CHECK(number(hull_held_from(h, 0, 0, NULL, 0), HULL_NUMBER, 0));
+    CHECK(number(hull_load_held(h, NULL, 0), HULL_NUMBER, 0));
+    CHECK(number(hull_bridges(h, 0, NULL, 0), HULL_NUMBER, 0));
+    CHECK(bare(hull_add(h, 1, 1), HULL_ADDED));
+    CHECK(number(hull_vertices(h, NULL, 0), HULL_TOO_SMALL, 1));
+    CHECK(number(hull_held_from(h, 0, 0, NULL, 0), HULL_NUMBER, 0));
+    CHECK(bare(hull_outline_place(NULL, 0, 1, 1), HULL_OUTSIDE));
+    CHECK(bare(hull_outline_extreme(NULL, 0, 1, 1), HULL_EMPTY));
+    CHECK(hull_outline_calls(NULL, 0, NULL, 0, NULL, 0) == 0);
+    CHECK(number(hull_outline_meets_segment(NULL, 0, 0, 0, 1, 1), HULL_NUMBER, 0));
+    CHECK(bare(hull_outline_apart(NULL, 0, 0, 0, 1, 1), HULL_EMPTY));
+    CHECK(bare(hull_outline_nearest(NULL, 0, 1, 1), HULL_EMPTY));
+    CHECK(bare(hull_outline_box(NULL, 0), HULL_EMPTY));
+    CHECK(bare(hull_outline_width(NULL, 0, 1, 1), HULL_EMPTY));
+    CHECK(bare(hull_outline_diameter(NULL, 0), HULL_EMPTY));
+    CHECK(hull_outline_least_width(NULL, 0).code == HULL_EMPTY);
+    CHECK(number(hull_outline_meets(NULL, 0, &at, 1), HULL_NUMBER, 0));
+    CHECK(number(hull_outline_contains(&at, 1, NULL, 0), HULL_NUMBER, 1));
+    CHECK(hull_outline_witness(NULL, 0, NULL, 0).code == HULL_EMPTY);
+    CHECK(hull_outline_distance(NULL, 0, &at, 1).code == HULL_EMPTY);
+    CHECK(number(hull_is_outline(NULL, 0), HULL_NUMBER, 1));
+    ended(h);
+}
+
 int main(void) {
     CHECK(hull_size() > 0);
     CHECK(hull_alignment() > 0 && (hull_alignment() & (hull_alignment() - 1)) == 0);
@@ -800,6 +831,7 @@ int main(void) {
     in_doubles();
     calls();
     refusals();
+    no_arrays();
     printf("codes: %d passed, %d failed\n", passed, failed);
     return failed != 0;
 }

@@ -192,6 +192,36 @@ static void own_looks(hull_shared_desk *desk, hull_shared_seat *one, hull_shared
     is("end", hull_shared_end(desk), HULL_ENDED);
 }
 
+/* The text of a part of three lines in pieces of every size: in a row they are the text. */
+static void pieces(hull_shared_part *part, const char *text, size_t length) {
+    uint8_t piece[128], all[128];
+    hull_reply told = hull_shared_part_text_from(part, 0, piece, 45);
+    is("no room for the header", told.code, HULL_TOO_SMALL);
+    is("how long it is", told.number, 46);
+    is("the line behind the header", hull_shared_part_text_from(part, 0, piece, 46).high, 1);
+    is("the end line", hull_shared_part_text_from(part, 2, piece, 6).number, 6);
+    is("behind the end line", hull_shared_part_text_from(part, 3, piece, 46).number, 0);
+    is("far behind it", hull_shared_part_text_from(part, UINT64_MAX, piece, 46).high, UINT64_MAX);
+    for (size_t room = 46; room <= length + 1; room++) {
+        size_t so_far = 0;
+        uint64_t line_of_text = 0;
+        for (;;) {
+            memset(piece, '?', sizeof piece);
+            told = hull_shared_part_text_from(part, line_of_text, piece, room);
+            is("a piece", told.code, HULL_TEXT);
+            is("behind it", piece[told.number], told.number < room ? 0 : '?');
+            if (told.code != HULL_TEXT || told.number == 0) {
+                break;
+            }
+            memcpy(all + so_far, piece, told.number);
+            so_far += told.number;
+            line_of_text = told.high;
+        }
+        is("all pieces in a row", so_far == length && memcmp(all, text, length) == 0, 1);
+        is("lines", line_of_text, 3);
+    }
+}
+
 /* Each code of a part, and of a look that drains. */
 static void parts(hull_shared_desk *desk, hull_shared_seat *seat, hull_shared_part *part) {
     uint8_t text[256];
@@ -204,6 +234,7 @@ static void parts(hull_shared_desk *desk, hull_shared_seat *seat, hull_shared_pa
     is("capacity", hull_shared_capacity(seat), 4);
     is("room of a bare part", hull_shared_part_room(part), 0);
     is("text of a bare part", hull_shared_part_text(part, text, sizeof text).code, HULL_NO_LINES);
+    is("piece of a bare part", hull_shared_part_text_from(part, 0, text, sizeof text).code, HULL_NO_LINES);
     is("drain without room", hull_shared_drain(&line, seat, part, HULL_KIND_COUNT, 0, 0).told.code, HULL_NO_ROOM);
     is("room for three", hull_shared_part_reserve(part, 3), HULL_RESERVED);
     is("room once more", hull_shared_part_reserve(part, 4), HULL_PART_IN_USE);
@@ -222,6 +253,7 @@ static void parts(hull_shared_desk *desk, hull_shared_seat *seat, hull_shared_pa
     is("too small", hull_shared_part_text(part, text, 71).code, HULL_TOO_SMALL);
     is("its text", hull_shared_part_text(part, text, sizeof text).code, HULL_TEXT);
     is("the number of its line", text[46], '7');
+    pieces(part, (const char *)text, 72);
     is("its end", hull_shared_part_end(part), HULL_ENDED);
     for (int i = 0; i < 4; i++) {
         is("served", call(seat, HULL_KIND_COUNT, 0, 0), HULL_NUMBER);
@@ -236,6 +268,98 @@ static void parts(hull_shared_desk *desk, hull_shared_seat *seat, hull_shared_pa
     is("the first number of the last part", text[25], '8');
     is("end", hull_shared_end(desk), HULL_ENDED);
     is("open without a journal", hull_shared_open_without_journal(desk, 0, 7, 1), HULL_OUT_OF_LIMITS);
+}
+
+/* Each call that is passed an array, with none: null and no elements; and texts in room that nobody wrote. */
+static void no_arrays(hull_shared_desk *desk, hull_shared_seat *seat, hull_shared_part *part) {
+    uint8_t *text = malloc(256);
+    hull_reply told;
+    is("no text", hull_shared_reopen(desk, NULL, 0, 4, 1).code, HULL_NO_JOURNAL);
+    is("open", hull_shared_open(desk, 3, 7, 4, 1), HULL_OPEN);
+    is("lend", hull_shared_lend(desk, seat, 0), HULL_LENT);
+    is("corners of none", hull_shared_vertices(&line, seat, NULL, 0).told.code, HULL_CORNERS);
+    is("take", hull_shared_take(seat, HULL_KIND_VERTICES, 0, 0).told.code, HULL_TAKEN);
+    is("look into nothing", hull_shared_look_into(seat, NULL, 0).told.code, HULL_CORNERS);
+    is("room", hull_shared_part_reserve(part, 4), HULL_RESERVED);
+    is("drain", hull_shared_drain(&line, seat, part, HULL_KIND_COUNT, 0, 0).told.code, HULL_NUMBER);
+    is("part into nothing", hull_shared_part_text(part, NULL, 0).code, HULL_TOO_SMALL);
+    is("piece into nothing", hull_shared_part_text_from(part, 0, NULL, 0).number, 46);
+    told = hull_shared_part_text(part, text, 256);
+    is("part into new room", told.code == HULL_TEXT && text[0] == 'h' && text[told.number] == 0, 1);
+    is("its end", hull_shared_part_end(part), HULL_ENDED);
+    is("return", hull_shared_give_back(desk, seat), HULL_RETURNED);
+    is("close", hull_shared_close(desk), HULL_CLOSED);
+    is("text into nothing", hull_shared_text(desk, NULL, 0).code, HULL_TOO_SMALL);
+    free(text);
+    text = malloc(256);
+    told = hull_shared_text(desk, text, 256);
+    is("text into new room", told.code == HULL_TEXT && text[0] == 'h' && text[told.number] == 0, 1);
+    is("end", hull_shared_end(desk), HULL_ENDED);
+    free(text);
+}
+
+static hull_reply reopen(hull_shared_desk *desk, const char *text, uint32_t capacity, uint32_t seats) {
+    return hull_shared_reopen(desk, (const uint8_t *)text, strlen(text), capacity, seats);
+}
+
+/* A text that is refused: the code, and the line or the number that is told with it. */
+static void not_reopened(hull_shared_desk *desk, const char *text, uint32_t code, uint64_t number) {
+    hull_reply reply = reopen(desk, text, 4, 2);
+    is(text, reply.code, code);
+    is("its line", reply.number, number);
+    is("the desk is fresh still", hull_shared_close(desk), HULL_NOT_OPEN);
+}
+
+/* Each code of a desk that goes on where a journal ends, and what it goes on with. */
+static void reopened(hull_shared_desk *desk, hull_shared_seat *seat, hull_shared_part *part) {
+    static const char old[] = "hullbook journal 3 first 5 limit 3 capacity 9\n5 1 add 0 0 = added\n6 0 add 4 0 = added\nend 2\n";
+    uint8_t text[256];
+    hull_shared_reply reply;
+    not_reopened(desk, "", HULL_NO_JOURNAL, 1);
+    not_reopened(desk, "hullbook journal 3 first 5 limit 3 capacity 9\n5 1 add 0 = added\nend 1\n", HULL_NO_JOURNAL, 2);
+    not_reopened(desk, "hullbook journal 2 first 5 limit 3 capacity 9\n5 1 add 0 0 = added\nend 1\n", HULL_OLD_RULES, 0);
+    not_reopened(desk, "hullbook journal 3 first 5 limit 3 capacity 9\n5 2 add 0 0 = added\nend 1\n", HULL_TOO_FEW_SEATS, 3);
+    not_reopened(desk, "hullbook journal 3 first 5 limit 3 capacity 9\n5 1 add 0 0 = again 2\nend 1\n", HULL_ILLEGAL, 2);
+    is("its fault", reopen(desk, "hullbook journal 3 first 5 limit 3 capacity 9\n", 4, 2).high, 6);
+    is("capacity 0", reopen(desk, old, 0, 2).code, HULL_OUT_OF_LIMITS);
+    is("seats", reopen(desk, old, 4, HULL_SHARED_SEATS_MAX + 1).code, HULL_OUT_OF_LIMITS);
+    is("reopen", reopen(desk, old, 4, 2).code, HULL_OPEN);
+    is("reopen an open desk", reopen(desk, old, 4, 2).code, HULL_WAS_OPENED);
+    is("lend", hull_shared_lend(desk, seat, 1), HULL_LENT);
+    is("capacity", hull_shared_capacity(seat), 4);
+    reply = hull_shared_call(&line, seat, HULL_KIND_ADD, 0, 0);
+    is("the point is there", reply.told.code, HULL_AGAIN);
+    is("its number", reply.turn, 7);
+    is("limit", call(seat, HULL_KIND_ADD, 0, 4), HULL_ADDED);
+    is("limit", call(seat, HULL_KIND_ADD, 5, 4), HULL_TOO_MANY);
+    is("room", hull_shared_part_reserve(part, 4), HULL_RESERVED);
+    is("drain", hull_shared_drain(&line, seat, part, HULL_KIND_COUNT, 0, 0).told.number, 3);
+    is("the next number", call(seat, HULL_KIND_COUNT, 0, 0), HULL_NUMBER);
+    is("its text", hull_shared_part_text(part, text, sizeof text).code, HULL_TEXT);
+    is("the first number of the part", text[25], '7');
+    is("its end", hull_shared_part_end(part), HULL_ENDED);
+    is("return", hull_shared_give_back(desk, seat), HULL_RETURNED);
+    is("close", hull_shared_close(desk), HULL_CLOSED);
+    is("reopen a closed desk", reopen(desk, old, 4, 2).code, HULL_WAS_OPENED);
+    is("text", hull_shared_text(desk, text, sizeof text).code, HULL_TEXT);
+    is("the first number behind the part", text[25] == '1' && text[26] == '1', 1);
+    is("end", hull_shared_end(desk), HULL_ENDED);
+}
+
+/* A run that goes on with a journal, in which any request may be refused. */
+static void short_reopening(hull_shared_desk *desk, hull_shared_seat *seat) {
+    static const char old[] = "hullbook journal 3 first 0 limit 3 capacity 9\n0 0 add 0 0 = added\n1 0 add 4 0 = added\nend 2\n";
+    hull_reply told = reopen(desk, old, 4, 1);
+    if (told.code == HULL_NO_MEMORY) {
+        is("the desk is fresh still", hull_shared_close(desk), HULL_NOT_OPEN);
+        told = reopen(desk, old, 4, 1);
+    }
+    is("reopen", told.code, HULL_OPEN);
+    is("lend", hull_shared_lend(desk, seat, 0), HULL_LENT);
+    is("count", hull_shared_call(&line, seat, HULL_KIND_COUNT, 0, 0).told.number, 2);
+    is("return", hull_shared_give_back(desk, seat), HULL_RETURNED);
+    is("close", hull_shared_close(desk), HULL_CLOSED);
+    is("end", hull_shared_end(desk), HULL_ENDED);
 }
 
 /* A short run, in which any request may be refused. */
@@ -260,6 +384,11 @@ static void short_run(hull_shared_desk *desk, hull_shared_seat *seat, hull_share
         code = hull_shared_part_text(part, text, sizeof text).code;
     }
     is("text of the part", code, HULL_TEXT);
+    code = hull_shared_part_text_from(part, 0, text, sizeof text).code;
+    if (code == HULL_NO_MEMORY) {
+        code = hull_shared_part_text_from(part, 0, text, sizeof text).code;
+    }
+    is("piece of the part", code, HULL_TEXT);
     is("end of the part", hull_shared_part_end(part), HULL_ENDED);
     is("return", hull_shared_give_back(desk, seat), HULL_RETURNED);
     is("close", hull_shared_close(desk), HULL_CLOSED);
@@ -284,6 +413,8 @@ int main(void) {
     codes(desk, one, two);
     own_looks(desk, one, two);
     parts(desk, one, part);
+    reopened(desk, one, part);
+    no_arrays(desk, one, part);
     long requests = 0;
     do {
         met = 0;
@@ -292,6 +423,14 @@ int main(void) {
         left = -1;
     } while (met);
     is("requests, some of them refused", requests > 5, 1);
+    requests = 0;
+    do {
+        met = 0;
+        left = requests++;
+        short_reopening(desk, one);
+        left = -1;
+    } while (met);
+    is("requests of a reopening, some of them refused", requests > 5, 1);
     hull_shared_seat_free(two);
     hull_shared_seat_free(one);
     hull_shared_part_free(part);

@@ -1,16 +1,45 @@
-// Parts of a journal in C++: the status is 0 only where each is the text that it should be.
+// Parts of a journal in C++, and a hull that goes on with one: the status is 0 only where each is the text that it should be. The
+// parts are written to the files PARTS.1, PARTS.2 and so on, of PARTS the word: `hullbook check` judges them in this order.
 #include "hull.hpp"
 
-#include <cstdio>
+#include <fstream>
+#include <sstream>
 #include <string>
 
-int main() {
+static hull::Refusal refused(const std::string &text) {
+    try {
+        hull::SharedHull::reopen(text, 4, 2);
+    } catch (const hull::Fault &fault) {
+        return fault.code();
+    }
+    return hull::Refusal::full;
+}
+
+// A hull that goes on with the parts of another, in a row.
+static bool goes_on(const std::string &first, const std::string &file) {
+    hull::SharedHull shared = hull::SharedHull::reopen(first, 4, 2);
+    hull::Seat seat = shared.lend(1);
+    bool good = seat.add({1, 2}) == 2 && seat.turn() == 9;
+    seat.give_back();
+    std::ofstream(file) << shared.close();
+    return good && refused("") == hull::Refusal::no_journal &&
+           refused("hullbook journal 2 first 5 limit 3 capacity 9\nend 0\n") == hull::Refusal::old_rules &&
+           refused("hullbook journal 3 first 5 limit 3 capacity 9\n6 0 area = area 0\nend 1\n") == hull::Refusal::illegal &&
+           refused("hullbook journal 3 first 5 limit 3 capacity 9\n5 9 area = area 0\nend 1\n") == hull::Refusal::too_few_seats;
+}
+
+int main(int, char **words) {
     hull::SharedHull shared({6, 7, 3, 1});
     hull::Seat seat = shared.lend(0);
     seat.add({1, 2});
     const hull::JournalPart part = seat.drain();
     bool good = part.text() ==
                 "hullbook journal 3 first 7 limit 6 capacity 3\n7 0 add 1 2 = added\n8 0 count = count 1\nend 2\n";
+    std::ostringstream pieces;
+    part.write_to(pieces);
+    good = good && pieces.str() == part.text();
+    std::ofstream(words[1] + std::string(".1")) << part.text();
+    good = good && goes_on(part.text(), words[1] + std::string(".2"));
     for (int x = 0; x < 3; x++) {
         seat.add({x, 5});
     }

@@ -208,8 +208,9 @@ if is_there c++; then
         -lhull_shared -lpthread -o "$room/hull_tests" && "$room/hull_tests" "$room/journal" >"$room/told" && legal "$room/journal"
     count "threads in C++ leave a legal journal" $?
     c++ -std=c++17 -Wall -Wextra -Werror -O2 -I"$prefix/include" "$here/parts.cpp" -L"$prefix/lib" -lhull -lhull_shared \
-        -lpthread -o "$room/parts_cpp" && "$room/parts_cpp"
-    count "parts of a journal in C++" $?
+        -lpthread -o "$room/parts_cpp" && "$room/parts_cpp" "$room/taken" &&
+        "$top/bin/hullbook" check "$room/taken.1" "$room/taken.2" >"$room/verdict" 2>&1
+    count "parts of a journal in C++, and a hull that goes on with the first: both are one legal journal" $?
 else
     skip "C++" c++
 fi

@@ -11,7 +11,7 @@ import unittest
 
 import hull as hull_module
 from hull import CAPACITY_LIMIT, COORDINATE_LIMIT, POINT_LIMIT, SEAT_LIMIT
-from hull import JournalFull, NoSeat, OutOfRange, Place, SeatsOut, SharedHull, TooMany, ZeroDirection
+from hull import JournalFault, JournalFull, NoSeat, OutOfRange, Place, SeatsOut, SharedHull, TooMany, ZeroDirection
 
 
 class Calls(unittest.TestCase):
@@ -39,6 +39,10 @@ class Calls(unittest.TestCase):
         part = seat.drain()
         lines = ["hullbook journal 3 first 7 limit 6 capacity 3", "7 0 add 1 2 = added", "8 0 count = count 1", "end 2"]
         self.assertEqual((list(part), part.text().splitlines()), (lines, lines))
+        for size in (1, 20, 46, 66, 67, 1000):
+            pieces = list(part.pieces(size))
+            self.assertEqual(("".join(pieces), all(piece.endswith("\n") for piece in pieces)), (part.text(), True))
+            self.assertLessEqual(max(map(len, pieces)), max(size, 46))
         self.assertRaises(TypeError, copy.copy, part)
         for x in range(3):
             seat.add(x, 5)
@@ -47,6 +51,24 @@ class Calls(unittest.TestCase):
         self.assertRaises(ValueError, seat.drain)
         self.assertEqual(hull.close().splitlines()[::4],
                          ["hullbook journal 3 first 9 limit 6 capacity 3", "end 3"])
+
+    def test_reopened(self):
+        head = "hullbook journal 3 first 5 limit 3 capacity 9\n"
+        for text, words in (("", "line 1: fault 6"), (head + "5 1 add 0 = added\nend 1\n", "line 2: fault 2"),
+                            (head.replace("3", "2") + "end 0\n", "before version 3"),
+                            (head + "5 7 add 0 0 = added\nend 1\n", "by 8 seats"),
+                            (head + "5 1 add 0 0 = again 2\nend 1\n", "line 2: the journal is no legal history")):
+            with self.assertRaisesRegex(JournalFault, words):
+                SharedHull.reopen(text, 4, 2)
+        old = head + "5 1 add 0 0 = added\n6 0 add 4 0 = added\nend 2\n"
+        for capacity, seats in ((0, 2), (-1, 2), (CAPACITY_LIMIT + 1, 2), (4, 0), (4, SEAT_LIMIT + 1), (4, 1 << 32)):
+            self.assertRaises(ValueError, SharedHull.reopen, old, capacity, seats)
+        with SharedHull.reopen(old.encode(), 4, 2) as hull:
+            with hull.lend(1) as seat:
+                self.assertEqual((seat.add(0, 0), seat.turn(), seat.count()), (2, 7, 2))
+            self.assertEqual(repr(hull), "<SharedHull for 4 calls behind a journal, 0 of 2 seats out>")
+        self.assertEqual(hull.close(), "hullbook journal 3 first 7 limit 3 capacity 4\n"
+                                       "7 1 add 0 0 = again 2\n8 1 count = count 2\nend 2\n")
 
     def test_no_journal(self):
         hull = SharedHull(capacity=None, seats=1, limit=6, first=7)

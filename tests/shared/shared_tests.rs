@@ -54,6 +54,14 @@ fn parts() {
     let head = "hullbook journal 3 first 7 limit 6 capacity 3\n";
     assert_eq!(part.text().unwrap(), format!("{head}7 0 add 1 2 = added\n8 0 count = count 1\nend 2\n"));
     assert_eq!(part.lines().unwrap().last().unwrap(), "end 2");
+    for bytes in [0, 1, 20, 46, 47, 66, 67, 1000] {
+        let pieces: Vec<String> = part.pieces(bytes).map(Result::unwrap).collect();
+        assert_eq!(pieces.concat(), part.text().unwrap(), "{bytes}");
+        assert!(pieces.iter().all(|piece| piece.len() <= bytes.max(46) && piece.ends_with('\n')), "{pieces:?}");
+    }
+    let mut written = Vec::new();
+    part.write_to(&mut written).unwrap();
+    assert_eq!(written, part.text().unwrap().into_bytes());
     seat.add(point(1, 2)).unwrap();
     seat.drain().unwrap();
     for x in 0..3 {
@@ -64,6 +72,30 @@ fn parts() {
     let head = "hullbook journal 3 first 11 limit 6 capacity 3\n";
     let lines = "11 0 add 0 5 = added\n12 0 add 1 5 = added\n13 0 add 2 5 = added\nend 3\n";
     assert_eq!(hull.close().unwrap(), format!("{head}{lines}"));
+}
+
+/// Each reason why a text is not gone on with, and one that is.
+#[test]
+fn reopened() {
+    let head = "hullbook journal 3 first 5 limit 3 capacity 9\n";
+    let wrong = [
+        (String::new(), Fault::NoJournal { line: 1, fault: 6 }),
+        (format!("{head}5 1 add 0 = added\nend 1\n"), Fault::NoJournal { line: 2, fault: 2 }),
+        (head.replace('3', "2") + "end 0\n", Fault::OldRules),
+        (format!("{head}5 7 add 0 0 = added\nend 1\n"), Fault::TooFewSeats { wanted: 8 }),
+        (format!("{head}5 1 add 0 0 = again 2\nend 1\n"), Fault::Illegal { line: 2 }),
+    ];
+    for (text, fault) in wrong {
+        assert_eq!(SharedHull::reopen(&text, 4, 2).unwrap_err(), fault, "{text}");
+    }
+    let old = format!("{head}5 1 add 0 0 = added\n6 0 add 4 0 = added\nend 2\n");
+    assert_eq!(SharedHull::reopen(&old, 0, 2).unwrap_err(), Fault::BadLimit);
+    let hull = SharedHull::reopen(&old, 4, 2).unwrap();
+    let mut seat = hull.lend(1).unwrap();
+    assert_eq!((seat.add(point(0, 0)), seat.turn(), seat.count()), (Ok(2), Some(7), Ok(2)));
+    seat.give_back();
+    let new = "hullbook journal 3 first 7 limit 3 capacity 4\n7 1 add 0 0 = again 2\n8 1 count = count 2\nend 2\n";
+    assert_eq!(hull.close().unwrap(), new);
 }
 
 #[test]

@@ -57,6 +57,10 @@ code_number code.Reserved = 53
 code_number code.PartInUse = 54
 code_number code.NoRoom = 55
 code_number code.NoLines = 56
+code_number code.NoJournal = 57
+code_number code.OldRules = 58
+code_number code.Illegal = 59
+code_number code.TooFewSeats = 60
 
 -- a code, and nothing beside it
 abbrev pub IsBare : Code → HullReply → Type 0
@@ -67,6 +71,11 @@ IsBare c r = r ≡ record
 abbrev pub IsNumber : Code → ℕ → HullReply → Type 0
 IsNumber c n r = r ≡ record
     { code = code_number c; x = pos 0; y = pos 0; other_x = pos 0; other_y = pos 0; number = n; high = 0 }
+
+-- a code with two numbers
+abbrev pub AreNumbers : Code → ℕ → ℕ → HullReply → Type 0
+AreNumbers c n m r = r ≡ record
+    { code = code_number c; x = pos 0; y = pos 0; other_x = pos 0; other_y = pos 0; number = n; high = m }
 
 -- a point
 abbrev pub IsPoint : Pair → HullReply → Type 0

@@ -98,6 +98,14 @@ pub enum Code {
     NoRoom = 55,
     /// The part has no lines.
     NoLines = 56,
+    /// The text is none of a journal: the first fault is in line `number`, and has the number `high`. Nothing changed.
+    NoJournal = 57,
+    /// The points of the journal are not counted: it is of an older version. Nothing changed.
+    OldRules = 58,
+    /// The journal is illegal: its line `number`, counted from 0, is the first that is not right. Nothing changed.
+    Illegal = 59,
+    /// The journal has lines by `number` seats, which are more than were asked for. Nothing changed.
+    TooFewSeats = 60,
 }
 
 impl Code {

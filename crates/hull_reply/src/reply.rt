@@ -1,7 +1,7 @@
 //! What a call tells a caller in C: the number of a code, and numbers beside it.
 ghost use Rattle.std.specs.Prelude.{◌≢◌, ◌≡◌};
 ghost use Rattle.lattice.specs.Plane.{Pair};
-ghost use Rattle.hull_reply.specs.Told.{AreTangents, IsBare, IsNumber, IsPoint, IsWide, Tells};
+ghost use Rattle.hull_reply.specs.Told.{AreNumbers, AreTangents, IsBare, IsNumber, IsPoint, IsWide, Tells};
 
 use crate::code::Code;
 use hull_plain::{Place, Reply};
@@ -49,6 +49,15 @@ impl HullReply {
     {
         let mut reply = HullReply::bare(code);
         reply.number = number;
+        reply
+    }
+
+    /// A code with two numbers.
+    pub fn with_numbers(code: Code, number: u64, high: u64) -> HullReply
+        ensures { AreNumbers code number high result }
+    {
+        let mut reply = HullReply::numbered(code, number);
+        reply.high = high;
         reply
     }
 

@@ -2,3 +2,4 @@ pub mod Books
 pub mod Gathered
 pub mod Homes
 pub mod Lists
+pub mod Fronts

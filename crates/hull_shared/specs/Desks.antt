@@ -39,6 +39,13 @@ pub record IsNewBook (l : Limits) (b : DeskValue) : Type 0 where
   pub book : b
       ≡ record { book = undrained (opened_book set l.first l.limit l.capacity l.seats); keeps = l.keeps }
 
+-- all seats are at the desk, round this book, and have seen its lines
+pub record IsDeskRound (b : DeskValue) (seats : ℕ) (d : OpenDesk) : Type 0 where
+  pub book : book_of (lock_of d.lock) ≡ b
+  pub seats_are : d.seats ≡ seats
+  pub all_in : All IsSome d.places.list.items
+  pub all_seen : (j : ℕ) (p : Place) → HasAt d.places.list.items j p → seat_seen p.seat ≡ b.book.whole.lines
+
 -- all seats are at the desk, round such a book, and have seen no line
 pub record IsNew (l : Limits) (d : OpenDesk) : Type 0 where
   pub book : IsNewBook l (book_of (lock_of d.lock))

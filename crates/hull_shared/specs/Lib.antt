@@ -5,6 +5,8 @@ pub mod Limits
 pub mod Asked
 pub mod Looks
 pub mod Desks
+pub mod Reopenings
 pub mod Parts
+pub mod Pieces
 pub mod Drains
 pub mod Left

@@ -1,5 +1,5 @@
 -- The numbers that a desk can be opened with.
-use Rattle.std.specs.Prelude.{◌≤◌}
+use Rattle.std.specs.Prelude.{◌≤◌, ℕ}
 use Rattle.hull_book.specs.declared.limits.TheConstants.{CAPACITY_LIMIT, SEAT_LIMIT}
 use Rattle.hull_plain.specs.declared.TheConstants.{POINT_LIMIT}
 use Rattle.hull_shared.specs.declared.limits.Limits.{Limits}
@@ -12,3 +12,10 @@ pub record AreLimits (l : Limits) : Type 0 where
   pub capacity_high : l.capacity ≤ CAPACITY_LIMIT
   pub seats_low : 1 ≤ l.seats
   pub seats_high : l.seats ≤ SEAT_LIMIT
+
+-- how many lines are held at most, and how many seats there are, in their ranges
+pub record AreSizes (capacity seats : ℕ) : Type 0 where
+  pub capacity_low : 1 ≤ capacity
+  pub capacity_high : capacity ≤ CAPACITY_LIMIT
+  pub seats_low : 1 ≤ seats
+  pub seats_high : seats ≤ SEAT_LIMIT

@@ -32,6 +32,8 @@ ghost use Rattle.hull_reply.specs.Rooms.{room_alignment, room_size};
 ghost use Rattle.hull_shared.specs.Left.{leaves_both};
 ghost use Rattle.hull_shared.specs.Drains.{HasRepliedWith};
 ghost use Rattle.hull_shared.specs.Looks.{HasReplied, HasRepliedInto, HasTaken, HasToldCapacity};
+ghost use Rattle.hull_shared.specs.Pieces.{HasWrittenPiece};
+ghost use Rattle.hull_shared.specs.Reopenings.{HasReopened};
 ghost use Rattle.hull_shared.specs.Parts.{HasEndedPart, HasReserved, HasToldRoom, HasWrittenPart};
 ghost use Rattle.hull_shared.specs.declared.desk.Desk.TheVariants.{Fresh};
 ghost use Rattle.hull_shared.specs.declared.part.Part.TheVariants.{Bare};
@@ -49,10 +51,13 @@ mod looking;
 mod opening;
 mod part;
 mod parts;
+mod pieces;
 mod place;
 mod places;
+mod reopening;
 mod seat;
 mod serving;
+mod setting_up;
 #[cfg(test)]
 mod tests;
 
@@ -225,6 +230,28 @@ pub unsafe extern "C" fn hull_shared_open_without_journal(
     opening::open_without_journal(alloc, unsafe { &mut *desk }, limit, first, seats)
 }
 
+/// Opens a desk round a hull with the points that a journal left, which goes on where the journal ends: `text` is that of
+/// the whole journal, for `capacity` lines to be held at most, and `seats` seats. First number and limit are the journal's.
+///
+/// # Safety
+///
+/// A desk lies at `at`, and no other call on it is under way.
+#[unsafe(no_mangle)]
+pub unsafe extern "C" fn hull_shared_reopen(
+    alloc: Global,
+    at: *mut u8,
+    text: &[u8],
+    capacity: u32,
+    seats: u32,
+) -> HullReply
+    ghost t: { desk_row.Denot }
+    requires* { sem 𝓛 (lies_at desk_row full_share at t) }
+    ensures* { sem 𝓛 (leaves desk_row at (λ new. HasReopened text.now capacity seats t new result)) }
+{
+    let desk = at as *mut Desk;
+    reopening::reopen(alloc, unsafe { &mut *desk }, text, capacity, seats)
+}
+
 /// Moves the seat of a number out of its desk, into a room.
 ///
 /// # Safety
@@ -383,6 +410,26 @@ pub unsafe extern "C" fn hull_shared_part_text(at: *mut u8, out: &mut [u8]) -> H
 {
     let part = at as *mut Part;
     parts::text(unsafe { &mut *part }, out)
+}
+
+/// Writes whole lines of the text of a part's lines to the front of an array, from line `from` of the text on, counted from
+/// 0: as many as it has room for. The number of the line behind them is told with that of the bytes.
+///
+/// # Safety
+///
+/// A part lies at `at`, and no other call on it is under way.
+#[unsafe(no_mangle)]
+pub unsafe extern "C" fn hull_shared_part_text_from(
+    at: *mut u8,
+    from: u64,
+    out: &mut [u8],
+) -> HullReply
+    ghost t: { part_row.Denot }
+    requires* { sem 𝓛 (lies_at part_row full_share at t) }
+    ensures* { sem 𝓛 (leaves part_row at (λ new. HasWrittenPiece from t new out.old out.new result)) }
+{
+    let part = at as *mut Part;
+    pieces::text_from(unsafe { &mut *part }, from, out)
 }
 
 /// Lets the room or the lines of a part go: it holds nothing then, and its room may be used for anything.

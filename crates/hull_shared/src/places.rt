@@ -26,14 +26,14 @@ pub(crate) fn lay_out(
     requires all { (vec_len seats ≡ seat_count lock) × (seat_count lock ≡ seats_of lock) }
     requires own { All (IsSeatOf boxed_head lock) seats.items }
     requires numbers { AreNumbered seats.items }
-    requires seen { All (λ s. seat_seen s ≡ []) seats.items }
+    requires seen { All (λ s. seat_seen s ≡ (book_of lock).book.whole.lines) seats.items }
     requires ledgers { AreLedgers (book_of lock).book.whole ledgers.items }
-    requires lines { (book_of lock).book.whole.lines ≡ [] }
     requires room { (list.items ≡ []) × (vec_len seats ≤ vec_capacity list) }
     ensures lock { result.0 ≡ lock }
     ensures laid_out { AreLaidOut lock (seat_count lock) result.1 }
     ensures all_in { All IsSome result.1.list.items }
-    ensures none_seen { (j : ℕ) (p : PlaceValue) → HasAt result.1.list.items j p → seat_seen p.seat ≡ [] }
+    ensures all_seen { (j : ℕ) (p : PlaceValue) → HasAt result.1.list.items j p
+        → seat_seen p.seat ≡ (book_of lock).book.whole.lines }
 {
     while let Some(seat) = seats.pop() {
         let ledger = ledgers.pop().unwrap();

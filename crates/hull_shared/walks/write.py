@@ -7,7 +7,7 @@ Such exports differ in their numbers, in the type of what lies at the pointer an
 (proofs/*/Proof.antt) in nothing else. So each walk is made here from those; after a change those that differ are written anew,
 and rt fmt and tools/wrap.py lay them out. With --check nothing is written, and the status is 1 where a walk is not what is made
 here but for its layout. The walks of the other exports
-(hull_shared_make_*, hull_shared_lend, hull_shared_give_back) are written by hand. The walks of exports that are passed an array
+(hull_shared_make_*, hull_shared_lend, hull_shared_give_back, hull_shared_reopen, hull_shared_part_text_from) are written by hand. The walks of exports that are passed an array
 too are with_an_array.txt, in which the words in «» are put in.
 """
 import os

@@ -67,11 +67,24 @@ pub enum Fault {
     SeatsOut,
     /// The journal of the shared hull is full: the call was not made.
     Full,
+    /// The text is none of a journal: this line of it, from 1, has the first fault, of this number (1 its form, 2 a number, 3 a
+    /// coordinate, 4 a seat, 5 a word, 6 the text ends before its end line, 7 no header).
+    NoJournal { line: u64, fault: u8 },
+    /// The journal is of version 1 or 2, in which points are not counted: it can't be gone on with.
+    OldRules,
+    /// The journal is no legal history: this line of its text, from 1, is the first that is not right.
+    Illegal { line: u64 },
+    /// The journal has lines by so many seats, more than were asked for.
+    TooFewSeats { wanted: u32 },
 }
 
 impl fmt::Display for Fault {
     fn fmt(&self, f: &mut fmt::Formatter<'_>) -> fmt::Result {
         f.write_str(match self {
+            Fault::NoJournal { line, fault } => return write!(f, "the text is none of a journal: line {line}: fault {fault}"),
+            Fault::Illegal { line } => return write!(f, "the journal is no legal history: line {line} of its text"),
+            Fault::TooFewSeats { wanted } => return write!(f, "the journal has lines by {wanted} seats"),
+            Fault::OldRules => "points are not counted in journals before version 3",
             Fault::OutOfRange => "a coordinate is out of range",
             Fault::ZeroDirection => "a direction is zero",
             Fault::TooMany => "there are as many points as the limit, or the point is held as often as may be",

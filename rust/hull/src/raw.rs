@@ -115,6 +115,10 @@ pub(crate) mod code {
     pub const CLOSED: u32 = 48;
     pub const TEXT: u32 = 50;
     pub const RESERVED: u32 = 53;
+    pub const NO_JOURNAL: u32 = 57;
+    pub const OLD_RULES: u32 = 58;
+    pub const ILLEGAL: u32 = 59;
+    pub const TOO_FEW_SEATS: u32 = 60;
 }
 
 /// The numbers of the kinds.
@@ -198,6 +202,7 @@ extern "C" {
     pub(crate) fn hull_shared_make_desk(room: *mut u8);
     pub(crate) fn hull_shared_make_seat(room: *mut u8);
     pub(crate) fn hull_shared_open(desk: *mut u8, limit: u32, first: u64, capacity: u32, seats: u32) -> u32;
+    pub(crate) fn hull_shared_reopen(desk: *mut u8, text: *const u8, length: usize, capacity: u32, seats: u32) -> Reply;
     pub(crate) fn hull_shared_lend(desk: *mut u8, room: *mut u8, number: u32) -> u32;
     pub(crate) fn hull_shared_give_back(desk: *mut u8, room: *mut u8) -> u32;
     pub(crate) fn hull_shared_take(seat: *mut u8, kind: u32, x: i64, y: i64) -> SeatReply;
@@ -209,6 +214,7 @@ extern "C" {
     pub(crate) fn hull_shared_part_reserve(part: *mut u8, lines: u32) -> u32;
     pub(crate) fn hull_shared_look_and_drain(seat: *mut u8, part: *mut u8) -> SeatReply;
     pub(crate) fn hull_shared_part_text(part: *mut u8, out: *mut u8, length: usize) -> Reply;
+    pub(crate) fn hull_shared_part_text_from(part: *mut u8, line: u64, out: *mut u8, length: usize) -> Reply;
     pub(crate) fn hull_shared_part_end(part: *mut u8) -> u32;
     pub(crate) fn hull_shared_open_without_journal(desk: *mut u8, limit: u32, first: u64, seats: u32) -> u32;
     pub(crate) fn hull_shared_close(desk: *mut u8) -> u32;

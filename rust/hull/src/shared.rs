@@ -131,6 +131,26 @@ impl SharedHull {
         }
     }
 
+    /// Opens a hull that goes on where a journal ends, with the points that it left: `text` is the journal's, whole, as
+    /// [`SharedHull::close`] or the program `hullbook` wrote it. Limit and numbers are the journal's. Its lines count as taken out:
+    /// those of later calls alone are in the texts of this hull, and `hullbook check OLD NEW..` judges all in their order.
+    ///
+    /// [`Fault::NoJournal`], [`Fault::OldRules`], [`Fault::TooFewSeats`] and [`Fault::Illegal`] tell why a text is not gone on with.
+    pub fn reopen(text: &str, capacity: u32, seats: u32) -> Result<SharedHull, Fault> {
+        let desk = Arc::new(Desk::new()?);
+        // SAFETY: the desk lies in its room, and nobody else has it yet; the text is not written meanwhile.
+        let told =
+            unsafe { raw::hull_shared_reopen(desk.lock().at(), text.as_ptr(), text.len(), capacity, seats) };
+        match told.code {
+            code::OPEN => Ok(SharedHull { desk }),
+            code::NO_JOURNAL => Err(Fault::NoJournal { line: told.number, fault: told.high as u8 }),
+            code::OLD_RULES => Err(Fault::OldRules),
+            code::ILLEGAL => Err(Fault::Illegal { line: told.number }),
+            code::TOO_FEW_SEATS => Err(Fault::TooFewSeats { wanted: told.number as u32 }),
+            other => Err(answer::fault_of(other)),
+        }
+    }
+
     /// Lends the seat of a number, 0 and up; [`Fault::NoSeat`] where it is out or there is none, and [`Fault::NotOpen`]
     /// once the hull is closed.
     pub fn lend(&self, number: u32) -> Result<Seat, Fault> {
@@ -169,13 +189,20 @@ fn text_of(desk: &Room) -> Result<String, Fault> {
 
 /// The text that a call writes to an array, which may be too short for it.
 fn written(write: impl Fn(&mut [u8]) -> Reply) -> Result<String, Fault> {
-    let mut text = Vec::new();
+    written_into(Vec::new(), write)
+}
+
+/// The same, into this array first.
+fn written_into(mut text: Vec<u8>, mut write: impl FnMut(&mut [u8]) -> Reply) -> Result<String, Fault> {
     loop {
         let told = write(&mut text);
         match told.code {
-            code::TEXT => return Ok(String::from_utf8(text).expect("a journal is a text")),
+            code::TEXT => {
+                text.truncate(told.number as usize);
+                return Ok(String::from_utf8(text).expect("a journal is a text"));
+            }
             code::TOO_SMALL => {
-                text.try_reserve_exact(told.number as usize).map_err(|_| Fault::NoMemory)?;
+                text.try_reserve_exact(told.number as usize - text.len()).map_err(|_| Fault::NoMemory)?;
                 text.resize(told.number as usize, 0);
             }
             other => return Err(answer::fault_of(other)),
@@ -220,6 +247,32 @@ impl JournalPart {
             rest += line.len() + 1;
             Some(line)
         }))
+    }
+
+    /// That text in pieces of whole lines, each of at most so many bytes, or a line that is longer: one piece is in memory at a
+    /// time. Behind a fault there is none any more.
+    pub fn pieces(&self, bytes: usize) -> impl Iterator<Item = Result<String, Fault>> + '_ {
+        let mut next = Some(0);
+        std::iter::from_fn(move || {
+            let line = next?;
+            let mut behind = 0;
+            // SAFETY: as in `text`.
+            let piece = written_into(vec![0; bytes], |text| unsafe {
+                let told = raw::hull_shared_part_text_from(self.room.at(), line, text.as_mut_ptr(), text.len());
+                behind = told.high;
+                told
+            });
+            next = Some(behind).filter(|_| matches!(&piece, Ok(text) if !text.is_empty()));
+            Some(piece).filter(|piece| !matches!(piece, Ok(text) if text.is_empty()))
+        })
+    }
+
+    /// Writes that text to a writer, some thousand bytes at a time.
+    pub fn write_to(&self, out: &mut impl std::io::Write) -> std::io::Result<()> {
+        for piece in self.pieces(1 << 16) {
+            out.write_all(piece.map_err(std::io::Error::other)?.as_bytes())?;
+        }
+        Ok(())
     }
 }
 

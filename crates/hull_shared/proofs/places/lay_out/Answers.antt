@@ -1,5 +1,5 @@
 -- the last seat that is left, with its ledger, goes behind those that are laid out
-use Rattle.std.proofs.Common.{rules, ◌≡◌, ◌+◌, List, [], ◌∷◌, ◌++◌, length, IsSome, Some, slice_get}
+use Rattle.std.proofs.Common.{rules, ◌≡◌, ◌+◌, ℕ, List, [], ◌∷◌, ◌++◌, length, IsSome, Some, slice_get}
 use Rattle.std.proofs.Common.{refl, sym, ap, subst, ◌∙◌, arith, length-append, inl, inr}
 use Rattle.std.specs.Prelude.{Option, option_to_list}
 use Rattle.hull_book.specs.Ledgers.{LedgerValue, IsLedger, count_of}
@@ -35,12 +35,13 @@ loop-seat-preserved c =
     let own_ledger : IsLedger (book_of lock).book.whole (length ledgers) l =
     inv.ledgers (length ledgers) l
     (subst (λ (z : List LedgerValue). slice_get z (length ledgers) ≡ Some l) (sym e2) (get_last ledgers l)) in
-    let seen : seat_seen s ≡ [] = last_of (λ x. seat_seen x ≡ []) c.loop-seat.seats.items seats s e inv.seen in
+    let lines = (book_of lock).book.whole.lines in
+    let seen : seat_seen s ≡ lines = last_of (λ x. seat_seen x ≡ lines) c.loop-seat.seats.items seats s e inv.seen in
     let many : length ledgers ≡ length seats = omega (arith, inv.as_many) in
-    let none : l.count ≡ 0 =
-    own_ledger.count_is ∙ ap (λ (xs : List Line). count_of (length ledgers) xs) c.requires.lines in
+    let same : length ledgers ≡ seat_number s = many ∙ sym number in
     let count : l.count ≡ count_of (seat_number s) (seat_seen s) =
-    none ∙ sym (ap (λ (xs : List Line). count_of (seat_number s) xs) seen) in
+    own_ledger.count_is ∙ ap (λ (k : ℕ). count_of k lines) same
+    ∙ sym (ap (λ (xs : List Line). count_of (seat_number s) xs) seen) in
     let home : IsAtHome lock n (length list) (record { seat = s; ledger = l }) = record {
       own = last_of (IsSeatOf boxed_head lock) c.loop-seat.seats.items seats s e inv.own;
       counts = (own_ledger.seat_is ∙ many ∙ sym number, count);
@@ -50,7 +51,7 @@ loop-seat-preserved c =
       own = front_of (IsSeatOf boxed_head lock) c.loop-seat.seats.items seats s e inv.own;
       numbers = λ i x at. inv.numbers i x
           (subst (λ (z : List _). slice_get z i ≡ Some x) (sym e) (get_front seats s i x at));
-      seen = front_of (λ x. seat_seen x ≡ []) c.loop-seat.seats.items seats s e inv.seen;
+      seen = front_of (λ x. seat_seen x ≡ lines) c.loop-seat.seats.items seats s e inv.seen;
       as_many = many;
       ledgers = λ k d at. inv.ledgers k d
           (subst (λ (z : List LedgerValue). slice_get z k ≡ Some d) (sym e2) (get_front ledgers l k d at));
@@ -60,10 +61,10 @@ loop-seat-preserved c =
           (record { seat = s; ledger = l }) more inv.at_home home;
       all_in = all_push IsSome list c.push_reserved.new.self.items
           (Some (record { seat = s; ledger = l })) more inv.all_in refl;
-      none_seen = λ j p at. elim
+      all_seen = λ j p at. elim
           (get_pushed list (Some (record { seat = s; ledger = l })) j (Some p)
-          (subst (λ (z : List (Option Place)). HasAt z j p) more at)) as (λ _. seat_seen p.seat ≡ []) [
-            | inl old ↦ inv.none_seen j p old
+          (subst (λ (z : List (Option Place)). HasAt z j p) more at)) as (λ _. seat_seen p.seat ≡ lines) [
+            | inl old ↦ inv.all_seen j p old
             | inr new ↦ let same : p ≡ record { seat = s; ledger = l } =
                 (let o : Some p ≡ Some (record { seat = s; ledger = l }) = new.1 in cc) in
                 ap (λ (q : Place). seat_seen q.seat) same ∙ seen

@@ -1,5 +1,5 @@
 -- what is left of the seats and their ledgers is a front of them, and those behind it are laid out
-use Rattle.std.proofs.Common.{◌≡◌, ◌≤◌, ◌+◌, ℕ, [], All, IsSome, Some, slice_get, length, vec_len, vec_capacity}
+use Rattle.std.proofs.Common.{◌≡◌, ◌≤◌, ◌+◌, ℕ, All, IsSome, Some, slice_get, length, vec_len, vec_capacity}
 use Rattle.hull_book.specs.Ledgers.{LedgerValue, IsLedger}
 use Rattle.hull_shared.specs.Locks.{book_of, boxed_head}
 use Rattle.hull_shared.specs.Places.{AreAtHome, HasAt}
@@ -11,7 +11,7 @@ abbrev pub invariant-loop-seat : goal.invariant-loop-seat
 invariant-loop-seat l = record {
   own : All (IsSeatOf boxed_head l.lock) l.seats.items;
   numbers : AreNumbered l.seats.items;
-  seen : All (λ s. seat_seen s ≡ []) l.seats.items;
+  seen : All (λ s. seat_seen s ≡ (book_of l.lock).book.whole.lines) l.seats.items;
   as_many : length l.ledgers.items ≡ length l.seats.items;
   ledgers : (k : ℕ) (d : LedgerValue) → slice_get l.ledgers.items k ≡ Some d → IsLedger (book_of l.lock).book.whole k d;
   all : length l.list.items + length l.seats.items ≡ seat_count l.lock;
@@ -19,7 +19,7 @@ invariant-loop-seat l = record {
       × (seat_count l.lock ≤ vec_capacity l.ledgers);
   at_home : AreAtHome l.lock (seat_count l.lock) l.list.items;
   all_in : All IsSome l.list.items;
-  none_seen : (j : ℕ) (p : Place) → HasAt l.list.items j p → seat_seen p.seat ≡ [];
+  all_seen : (j : ℕ) (p : Place) → HasAt l.list.items j p → seat_seen p.seat ≡ (book_of l.lock).book.whole.lines;
 }
 
 abbrev pub decreases-loop-seat : goal.decreases-loop-seat

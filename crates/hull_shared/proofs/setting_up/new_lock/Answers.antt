@@ -6,11 +6,11 @@ use Rattle.hull_book.proofs.Counts.{all_in_order}
 use Rattle.hull_tree.specs.Sets.{LimitedTree}
 use Rattle.hull_shared.specs.DeskBooks.{DeskValue}
 use Rattle.hull_shared.specs.Locks.{DeskBoxed, whole_of}
-use Rattle.hull_shared.proofs.opening.new_lock.Goals as goal
+use Rattle.hull_shared.proofs.setting_up.new_lock.Goals as goal
 
 pub gather-none-requires-clause-ledgers : goal.gather-none-requires-clause-ledgers
 gather-none-requires-clause-ledgers c =
-    subst (λ (b : BookValue LimitedTree). AreAllLedgers b c.in_ok-book.ledgers.items)
+    subst (λ (b : BookValue LimitedTree). AreAllLedgers b c.args.ledgers.items)
     (sym (ap (λ (d : DeskValue). d.book.whole) (c.deref.ensures
     ∙ ap (λ (b : DeskBoxed). box_value b) c.in-Err.ensures.back)))
-    (all_in_order (whole_of c.in_ok-book.book) c.in_ok-book.ledgers.items c.in_ok-book.ensures.ledgers)
+    (all_in_order (whole_of c.args.book) c.args.ledgers.items c.requires.ledgers)

@@ -1,14 +1,14 @@
 -- the ledgers that were made with the book are all of its own
-use Rattle.std.proofs.Common.{◌∙◌, ap, sym, subst}
+use Rattle.std.proofs.Common.{ap, sym, subst}
 use Rattle.hull_book.specs.Books.{BookValue}
 use Rattle.hull_book.specs.Ledgers.{AreAllLedgers}
 use Rattle.hull_book.proofs.Counts.{all_in_order}
 use Rattle.hull_tree.specs.Sets.{LimitedTree}
 use Rattle.hull_shared.specs.DeskBooks.{DeskValue}
-use Rattle.hull_shared.proofs.opening.new_book.Goals as goal
+use Rattle.hull_shared.proofs.setting_up.boxed.Goals as goal
 
 pub gather-none-requires-clause-ledgers : goal.gather-none-requires-clause-ledgers
 gather-none-requires-clause-ledgers c =
-    subst (λ (b : BookValue LimitedTree). AreAllLedgers b c.in-Ok.ledgers.items)
-    (sym (ap (λ (d : DeskValue). d.book.whole) (c.in-Err.ensures.value_returned ∙ c.new.ensures)))
-    (all_in_order c.in-Ok.book c.in-Ok.ledgers.items c.in-Ok.ensures.ledgers)
+    subst (λ (b : BookValue LimitedTree). AreAllLedgers b c.args.ledgers.items)
+    (sym (ap (λ (d : DeskValue). d.book.whole) c.in-Err.ensures.value_returned))
+    (all_in_order c.args.book.book.whole c.args.ledgers.items c.requires.ledgers)

@@ -1,0 +1,141 @@
+//! A desk is set up round a book: the lock, the seats with their ledgers, and the places for them.
+ghost use Rattle.std.specs.Prelude.{◌≡◌, All, IfOk, IsSome, box_value, vec_len};
+ghost use Rattle.hull_book.specs.Books.{IsLawful};
+ghost use Rattle.hull_book.specs.Ledgers.{AreLedgers};
+ghost use Rattle.hull_tree.specs.Sets.{hull_tree};
+ghost use Rattle.hull_shared.specs.Desks.{IsDeskRound};
+ghost use Rattle.hull_shared.specs.Locks.{book_of, boxed_head, capacity_of, lock_of};
+ghost use Rattle.hull_shared.specs.Places.{AreLaidOut};
+ghost use Rattle.ticket_lock.specs.Tokens.{AreNumbered, IsSeatOf, seat_count, seat_seen};
+
+use crate::book::DeskBook;
+use crate::desk::OpenDesk;
+use crate::lock::{DeskLock, DeskSeat};
+use crate::place::Places;
+use crate::places::{close_lock, lay_out};
+use core::mem::ManuallyDrop;
+use hull_book::Ledger;
+use hull_plain::NoMemory;
+use std::alloc::{AllocFailed, Global};
+use std::sync::Arc;
+use ticket_lock::TicketLock;
+
+/// A lock that was just opened, with its seats and ledgers.
+struct NewLock {
+    lock: DeskLock,
+    seats: Vec<DeskSeat>,
+    ledgers: Vec<Ledger>,
+}
+
+/// The book on the heap, with its ledgers.
+fn boxed(
+    alloc: Global,
+    book: DeskBook,
+    ledgers: Vec<Ledger>,
+) -> Result<(Box<DeskBook>, Vec<Ledger>), NoMemory>
+    requires lawful { IsLawful hull_tree book.book.whole }
+    requires ledgers { AreLedgers book.book.whole ledgers.items }
+    ensures { IfOk result (λ r. (box_value r.0 ≡ book) × (r.1 ≡ ledgers)) }
+{
+    match Box::new(alloc, book) {
+        Ok(boxed) => Ok((boxed, ledgers)),
+        Err(AllocFailed { value }) => {
+            let _none = value.gather(ledgers);
+            Err(NoMemory)
+        }
+    }
+}
+
+/// A lock round the book.
+fn new_lock(
+    alloc: Global,
+    book: Box<DeskBook>,
+    ledgers: Vec<Ledger>,
+    seats: u8,
+) -> Result<NewLock, NoMemory>
+    requires lawful { IsLawful hull_tree (box_value book).book.whole }
+    requires ledgers { AreLedgers (box_value book).book.whole ledgers.items }
+    ensures book { IfOk result (λ r. book_of r.lock ≡ box_value book) }
+    ensures count { IfOk result (λ r. (vec_len r.seats ≡ seat_count r.lock) × (seat_count r.lock ≡ seats)) }
+    ensures own { IfOk result (λ r. All (IsSeatOf boxed_head r.lock) r.seats.items) }
+    ensures numbers { IfOk result (λ r. AreNumbered r.seats.items) }
+    ensures seen { IfOk result (λ r. All (λ s. seat_seen s ≡ (book_of r.lock).book.whole.lines) r.seats.items) }
+    ensures ledgers { IfOk result (λ r. AreLedgers (book_of r.lock).book.whole r.ledgers.items) }
+{
+    match TicketLock::open(alloc, book, seats) {
+        Ok((lock, seats)) => Ok(NewLock {
+            lock,
+            seats,
+            ledgers,
+        }),
+        Err((_, book)) => {
+            let _none = book.gather(ledgers);
+            Err(NoMemory)
+        }
+    }
+}
+
+/// A desk round the lock, which it owns with the seats that will go out. Where memory is refused, the lock is closed
+/// again.
+fn new_desk(
+    alloc: Global,
+    lock: DeskLock,
+    seats: u8,
+    capacity: u32,
+    places: Places,
+) -> Result<OpenDesk, NoMemory>
+    requires capacity { capacity ≡ capacity_of lock }
+    requires laid_out { AreLaidOut lock seats places }
+    requires all_in { All IsSome places.list.items }
+    ensures { IfOk result (λ d. (lock_of d.lock ≡ lock) × (d.seats ≡ seats) × (d.places ≡ places)) }
+{
+    match Arc::new(alloc, unsafe { ManuallyDrop::new_unchecked(lock) }) {
+        Ok(lock) => Ok(OpenDesk {
+            alloc,
+            lock,
+            seats,
+            capacity,
+            places,
+        }),
+        Err(AllocFailed { value }) => {
+            let lock = ManuallyDrop::into_inner(value);
+            drop(close_lock(lock, places));
+            Err(NoMemory)
+        }
+    }
+}
+
+/// A desk round the book, with all its seats. Where memory is refused, what was made by then is taken apart again.
+pub(crate) fn set_up(
+    alloc: Global,
+    book: DeskBook,
+    ledgers: Vec<Ledger>,
+    seats: u8,
+    capacity: u32,
+) -> Result<OpenDesk, NoMemory>
+    requires lawful { IsLawful hull_tree book.book.whole }
+    requires ledgers { AreLedgers book.book.whole ledgers.items }
+    requires seats { seats ≡ book.book.whole.head.workers }
+    requires capacity { capacity ≡ book.book.capacity }
+    ensures { IfOk result (IsDeskRound book seats) }
+{
+    let (book, ledgers) = boxed(alloc, book, ledgers)?;
+    let Ok(list) = Vec::with_capacity(alloc, usize::from(seats)) else {
+        let _none = book.gather(ledgers);
+        return Err(NoMemory);
+    };
+    let made = match new_lock(alloc, book, ledgers, seats) {
+        Ok(made) => made,
+        Err(_) => {
+            list.destroy_empty();
+            return Err(NoMemory);
+        }
+    };
+    let NewLock {
+        lock,
+        seats: all,
+        ledgers,
+    } = made;
+    let (lock, places) = lay_out(lock, all, ledgers, list);
+    new_desk(alloc, lock, seats, capacity, places)
+}
