@@ -35,8 +35,14 @@ TOP = os.path.dirname(os.path.dirname(os.path.abspath(__file__)))
 MEMORY_OF_A_CHECK = 4 << 30
 # so many wrong bodies stand in a group at most, so that the groups of a large crate are tried beside one another
 MOST_IN_A_GROUP = 20
+# a line that brings names in
+IMPORTS = re.compile(r"\s*(?:pub |ghost )?use ")
 # what antt says of a proof file that names what a change took away
 NAMES_WHAT_WENT = re.compile(r"has no field|is not in scope|has no `|was not admitted")
+# what rattle says of a goal that nothing proves, above the line of its function
+NOTE_OF_A_GOAL = re.compile(r"note: src/\S+: it is not proved that ")
+# how the last line of a check begins that refused a crate, or some of its functions
+NOT_PROVED = ("logic=not-proved", "only=")
 # what antt says of a text that it cannot read, where a text that only states what is false reads well
 UNREAD = re.compile(r"is not in scope|has no field|is no name|operand is missing|expected the end|cannot continue")
 
@@ -69,12 +75,14 @@ class Function:
 
 @dataclass(frozen=True)
 class Edit:
-    """A wrong body: its name, its changes as (file, old, new), and the functions that they stand in."""
+    """A wrong body: its name, its changes as (file, old, new), the functions that they stand in, and where one stands in
+    none, as that of a constant, those that name what it changes."""
 
     name: str
     path: str
     changes: tuple
     functions: frozenset
+    witnesses: frozenset = frozenset()
 
     def is_alone(self):
         """Whether no function is seen to be changed, so that only a check of its own tells."""
@@ -116,9 +124,29 @@ def functions_at(crate, file, old):
         text = source.read()
     opened = re.findall(r"\bfn\s+([A-Za-z_0-9]+)", old)
     before = re.findall(r"\bfn\s+([A-Za-z_0-9]+)", text[: text.find(old)])
+    return [Function(module_of(crate, file), it) for it in opened or before[-1:]]
+
+
+def module_of(crate, file):
+    """The module of a file below src/, with the two colons behind it."""
     inside = re.sub(r"^(lib|main)$", "", file.removeprefix("src/").removesuffix(".rt")).replace("/", "::")
-    module = "::".join(it for it in (crate.name, inside) if it)
-    return [Function(f"{module}::", it) for it in opened or before[-1:]]
+    return "::".join(it for it in (crate.name, inside) if it) + "::"
+
+
+def functions_naming(crate, old):
+    """The functions that name the constant, or the variant, which a text declares, or of these the laws: they show a change."""
+    declared = re.findall(r"\b(?:const|static)\s+(\w+)|^\s*([A-Z]\w*)\s*[=,({]", old)
+    names = [word for it in declared for word in it if word]
+    if not names:
+        return []
+    found, named = [], re.compile(rf"\b(?:{'|'.join(names)})\b")
+    for at, _, files in os.walk(f"{crate.folder}/src"):
+        for file in (f"{at}/{it}" for it in sorted(files) if it.endswith(".rt")):
+            with open(file, encoding="utf-8") as source:
+                parts = re.split(r"\bfn\s+([A-Za-z_0-9]+)", source.read())
+            module = module_of(crate, os.path.relpath(file, crate.folder))
+            found += [Function(module, name) for name, body in zip(parts[1::2], parts[2::2]) if named.search(body)]
+    return [it for it in found if "::laws::" in it.module] or found
 
 
 def read(crate, path):
@@ -135,13 +163,11 @@ def read(crate, path):
             old = line[5:]
         elif line.startswith("new:"):
             changes.append((file, old, line[4:].removeprefix(" ")))
-    functions = set()
-    for file, old, _ in changes:
-        found = functions_at(crate, file, old)
-        if not found:
-            return Edit(os.path.basename(path), path, tuple(changes), frozenset()), None
-        functions.update(found)
-    return Edit(os.path.basename(path), path, tuple(changes), frozenset(functions)), None
+    # a line that only brings names in stands in no function, and shows in those that it is for
+    found = [functions_at(crate, file, old) for file, old, _ in changes if not IMPORTS.match(old)]
+    everywhere = [] if all(found) else [name for _, old, _ in changes for name in functions_naming(crate, old)]
+    inside = [name for names in found for name in names] if all(found) else []
+    return Edit(os.path.basename(path), path, tuple(changes), frozenset(inside), frozenset(everywhere)), None
 
 
 def applied(crate, edits):
@@ -174,14 +200,24 @@ def grouped(crate, edits):
 
 def goals_of(output):
     """What a check told of each function, by its path, that has a goal of its own which is not proved, and not only calls such ones."""
-    found = dict(re.findall(r"^fn (\S+): no proof: .*?did not prove (.*?)(?:; it calls .*)?$", output, re.M))
-    for path in re.findall(r"^fn (\S+): not proved(?:;.*)?$", output, re.M):
-        name = path.rpartition("::")[2]
-        errors = re.findall(rf"^(?:\./)?proofs/(?:\S*/)?\+?{name}/\S+?:\d+:\d+: error: (.*)", output, re.M)
-        told = next((it for it in errors if not NAMES_WHAT_WENT.search(it)), None)
-        if told is not None:
-            found.setdefault(path, told)
+    found, noted = {}, None
+    for line in output.split("\n"):
+        if NOTE_OF_A_GOAL.match(line):
+            noted = noted or line
+        at = re.match(r"fn (\S+): (?:no proof: .*?did not prove (.*?)(?:; it calls .*)?|not proved(?:;.*)?)$", line)
+        if at:
+            told = at[2] or error_at(output, at[1].rpartition("::")[2]) or noted
+            if told:
+                found.setdefault(at[1], told)
+        if line.startswith("fn "):
+            noted = None
     return found
+
+
+def error_at(output, name):
+    """The first error of a check in the proof of a function of that name, but for one that names what a change took away."""
+    errors = re.findall(rf"^(?:\./)?proofs/(?:\S*/)?\+?{name}/\S+?:\d+:\d+: error: (.*)", output, re.M)
+    return next((it for it in errors if not NAMES_WHAT_WENT.search(it)), None)
 
 
 def is_unread(line, texts):
@@ -202,18 +238,29 @@ def outcome_of(ran, texts):
         return Kind.MISSED, "the crate is still proved with it"
     if ran.returncode == 3 and any("could not tell" in it for it in lines):
         return Kind.AT_LIMIT, lines[-1]
-    if ran.returncode != 1 or not lines[-1].startswith("logic=not-proved"):
+    if ran.returncode != 1 or not lines[-1].startswith(NOT_PROVED):
         return Kind.UNSURE, f"BAD EDIT: it did not reach the prover: {' '.join(lines[:6])}"
     told = [it for it in lines if re.match(r"(note: )?\S+:\d+:\d+:", it) and (": error" in it or it.startswith("note: "))]
     by_goal = [it for it in told if not (it.startswith(("proofs/", "./proofs/")) and NAMES_WHAT_WENT.search(it))]
     return (Kind.BY_SHAPE, told[0]) if told and not by_goal else (Kind.BY_GOAL, (by_goal or lines)[0])
 
 
-def tried_alone(crate, edit, kept):
-    """The outcome of one edit in a check of its own."""
+def only_of(paths, functions):
+    """The flags by which a check is one of these functions alone."""
+    changed = [it for it in paths if any(function.is_at(it) for function in functions)]
+    return [word for it in changed for word in ("--only", it.partition("::")[2])]
+
+
+def tried_alone(crate, edit, kept, paths):
+    """The outcome of one edit in a check of its own: of the functions that should show it, else of the whole crate."""
     texts, why = RT.read_edit(edit.path, crate.folder)
     if why:
         return Outcome(edit.name, Kind.UNSURE, f"BAD EDIT: {why}")
+    only = only_of(paths, edit.functions or edit.witnesses)
+    if only:
+        kind, told = outcome_of(RT.checked(crate, texts, ["--jobs", "1", *only], kept), texts)
+        if kind is Kind.BY_GOAL:
+            return Outcome(edit.name, kind, told)
     return Outcome(edit.name, *outcome_of(RT.checked(crate, texts, ["--jobs", "1"], kept), texts))
 
 
@@ -230,18 +277,17 @@ def functions_of(crate, kept):
 def tried(crate, group, kept, paths):
     """The outcomes of a group in one check of its functions alone, those that it does not show each in a whole check of its own."""
     if len(group) == 1:
-        return [tried_alone(crate, group[0], kept)]
-    changed = [it for it in paths for edit in group if any(function.is_at(it) for function in edit.functions)]
-    only = [word for it in changed for word in ("--only", it.partition("::")[2])]
+        return [tried_alone(crate, group[0], kept, paths)]
+    only = only_of(paths, frozenset().union(*(it.functions for it in group)))
     ran = RT.checked(crate, applied(crate, group), ["--jobs", "1", *only], kept)
-    reached = ran.returncode == 1 and ran.stdout.rstrip("\n").rpartition("\n")[2].startswith(("logic=not-proved", "only="))
+    reached = ran.returncode == 1 and ran.stdout.rstrip("\n").rpartition("\n")[2].startswith(NOT_PROVED)
     if not reached:
         half = len(group) // 2
         return tried(crate, group[:half], kept, paths) + tried(crate, group[half:], kept, paths)
     goals, outcomes = goals_of(ran.stdout), []
     for edit in group:
         told = next((told for path, told in sorted(goals.items()) if any(it.is_at(path) for it in edit.functions)), None)
-        outcomes.append(tried_alone(crate, edit, kept) if told is None else Outcome(edit.name, Kind.BY_GOAL, told))
+        outcomes.append(tried_alone(crate, edit, kept, paths) if told is None else Outcome(edit.name, Kind.BY_GOAL, told))
     return outcomes
 
 
