@@ -56,16 +56,19 @@ fn try_by_chance(rt: &impl Abort, alloc: Global, game: &Game, workers: u8, seed:
     }
 }
 
-// Three players with two calls each: points that come and go, and questions about all of them.
+// Three players with two calls each, or the third with its first alone: points that come and go, and questions about
+// all of them.
 fn three_players(
     rt: &impl Abort,
     alloc: Global,
     first: u64,
     misses: u32,
+    calls_of_the_third: usize,
 ) -> Result<Game, AllocError> {
     let zero = Vec::from_array(alloc, [Call::Add(at(rt, 0, 0)), Call::Vertices])?;
     let one = Vec::from_array(alloc, [Call::Add(at(rt, 4, 0)), Call::Remove(at(rt, 0, 0))])?;
-    let two = Vec::from_array(alloc, [Call::Add(at(rt, 0, 4)), Call::Area])?;
+    let mut two = Vec::from_array(alloc, [Call::Add(at(rt, 0, 4)), Call::Area])?;
+    two.truncate(calls_of_the_third);
     Ok(Game {
         calls: Vec::from_array(alloc, [zero, one, two])?,
         first,
@@ -77,16 +80,19 @@ fn three_players(
 /// All 23310 ways in which three players can make two calls each without a miss, across the wrap.
 #[test]
 fn every_way_of_three_players(rt: HostRuntime) -> Result<(), Fail> {
-    let game = three_players(&rt, rt.alloc(), NEAR_WRAP, 0)?;
+    let game = three_players(&rt, rt.alloc(), NEAR_WRAP, 0, 2)?;
     assert_eq!(rt; try_each_way(&rt, rt.alloc(), &game, 3), 23310);
     Ok(())
 }
 
-/// All 204642 ways in which they can do so with one miss at most.
+/// All 15222 ways in which they can do so with one miss at most, where the third makes its first call alone. A miss
+/// gives the ticket back and touches nothing else, so what is to be seen is where it falls: before, between and behind
+/// all steps of two others, of which each takes a number again after it was served. With the sixth call there would be
+/// 204642 ways, minutes of them, in which the same falls among more steps.
 #[test]
 fn every_way_of_three_players_with_a_miss(rt: HostRuntime) -> Result<(), Fail> {
-    let game = three_players(&rt, rt.alloc(), 7, 1)?;
-    assert_eq!(rt; try_each_way(&rt, rt.alloc(), &game, 3), 204642);
+    let game = three_players(&rt, rt.alloc(), 7, 1, 1)?;
+    assert_eq!(rt; try_each_way(&rt, rt.alloc(), &game, 3), 15222);
     Ok(())
 }
 

@@ -1,15 +1,15 @@
 //! Scripts that are run over a plain set, by values.
-ghost use Rattle.std.specs.Prelude.{◌≡◌, ◌+◌, ◌≤◌, [], ◌∷◌, IfOk, length};
+ghost use Rattle.std.specs.Prelude.{◌≡◌, ◌≤◌, [], IfOk, length};
 ghost use Rattle.hull_plain.specs.Sets.{plain_set};
 ghost use Rattle.hull_book.specs.Books.{IsLawful};
 ghost use Rattle.hull_book.specs.Ledgers.{AreLedgers};
-ghost use Rattle.hull_book.specs.Scripts.{calls_in};
 ghost use Rattle.hull_pool.specs.Runs.{MayRunAll};
 
 mod draining;
 mod gates;
 mod hostile;
 mod refused;
+mod scripts;
 mod sharing;
 
 use hull_book::{
@@ -19,6 +19,7 @@ use hull_book::{
 use hull_plain::PlainSet;
 use hull_pool::{Gate, NoGate, PhaseEnd, Workers, run_phase, run_phases};
 use lattice::Point;
+use scripts::{one_phase, two_phases};
 use std::alloc::{AllocError, Global};
 use std::process::Abort;
 use std::sync::Wait;
@@ -146,116 +147,138 @@ fn run_first<R: Threads + Wait + Abort + Sync, G: Gate>(
     }
 }
 
-// A phase of three workers with these calls.
-fn phase_of(
-    alloc: Global,
-    zero: Vec<Call>,
-    one: Vec<Call>,
-    two: Vec<Call>,
-) -> Result<Phase, AllocError>
-    ensures { IfOk result (λ p. p ≡ zero.items ∷ one.items ∷ two.items ∷ []) }
-{
-    Ok(Phase::new(Vec::from_array(alloc, [zero, one, two])?))
+// The sum of the ledgers and the length of the journal, whether that is a legal history, and whether its numbers run on
+// from the first without a gap.
+fn told_of(alloc: Global, first: u64, end: &Outcome) -> (u64, usize, bool, bool) {
+    let legal = check(alloc, &end.journal) == CheckResult::Legal;
+    let mut runs_on = true;
+    for (k, line) in end.journal.lines().iter().enumerate() {
+        runs_on = runs_on && line.number == first.wrapping_add(k as u64);
+    }
+    (end.sum, end.journal.lines().len(), legal, runs_on)
 }
 
-// The script of two phases of three workers.
-fn two_phases(alloc: Global, adds: Phase, asks: Phase) -> Result<Script, AllocError>
-    requires workers { (length adds ≡ 3) × (length asks ≡ 3) }
-    requires calls { (calls_in adds ≤ 9) × (calls_in asks ≤ 9) }
-{
-    Ok(Script::new(3, Vec::from_array(alloc, [adds, asks])?))
+// The number and the seat of a line.
+fn mark_of(journal: &Journal, place: usize) -> Option<(u64, u8)> {
+    match journal.lines().get(place) {
+        Some(line) => Some((line.number, line.seat)),
+        None => None,
+    }
 }
 
 // Three workers put a corner each into the set, and then the first asks for the vertices.
 fn three_corners(rt: &impl Abort, alloc: Global) -> Result<Script, AllocError> {
-    let zero = Vec::from_array(alloc, [Call::Add(at(rt, 0, 0))])?;
-    let one = Vec::from_array(alloc, [Call::Add(at(rt, 4, 0))])?;
-    let two = Vec::from_array(alloc, [Call::Add(at(rt, 0, 4))])?;
-    let adds = phase_of(alloc, zero, one, two)?;
-    let asked = Vec::from_array(alloc, [Call::Vertices])?;
-    let asks = phase_of(alloc, asked, Vec::new(alloc), Vec::new(alloc))?;
-    two_phases(alloc, adds, asks)
+    let adds = [
+        (0, Call::Add(at(rt, 0, 0))),
+        (1, Call::Add(at(rt, 4, 0))),
+        (2, Call::Add(at(rt, 0, 4))),
+    ];
+    two_phases(alloc, 3, &adds, &[(0, Call::Vertices)])
+}
+
+// Whether the points are added, and the first worker's second answer lists them.
+fn are_of_corners(answers: &[Vec<Answer>], corners: &[Point]) -> bool {
+    let [zero, one, two] = answers else {
+        return false
+    };
+    let added = matches!(one.as_slice(), [Ok(Reply::Added)])
+        && matches!(two.as_slice(), [Ok(Reply::Added)]);
+    match zero.as_slice() {
+        [Ok(Reply::Added), Ok(Reply::VertexList(list))] => added && list.as_slice() == corners,
+        _ => false,
+    }
 }
 
 /// A question behind a join is answered of all points that were put in before it.
 #[test]
 fn three_workers(rt: HostRuntime) -> Result<(), Fail> {
+    let corners = [at(&rt, 0, 0), at(&rt, 4, 0), at(&rt, 0, 4)];
     let script = three_corners(&rt, rt.alloc())?;
     let end = run_script(&rt, rt.alloc(), 7, 8, &script, &NoGate);
-    assert_eq!(rt; (end.sum, end.journal.lines().len()), (4, 4));
-    assert_eq!(rt; end.answers.len(), 3);
-    let (zero, one, two) = (&end.answers[0], &end.answers[1], &end.answers[2]);
-    assert_eq!(rt; (zero.len(), one.len(), two.len()), (2, 1, 1));
-    assert!(rt; zero[0] == Ok(Reply::Added));
-    assert!(rt; one[0] == Ok(Reply::Added) && two[0] == Ok(Reply::Added));
-    let corners = [at(&rt, 0, 0), at(&rt, 4, 0), at(&rt, 0, 4)];
-    match &zero[1] {
-        Ok(Reply::VertexList(list)) => {
-            assert_eq!(rt; list.as_slice(), corners.as_slice());
-        }
-        _ => panic!(rt; "the vertices are listed"),
-    }
+    let told = (end.sum, end.journal.lines().len());
+    let answered = are_of_corners(&end.answers, &corners);
+    drop(end);
+    drop(script);
+    assert_eq!(rt; told, (4, 4));
+    assert!(rt; answered);
     Ok(())
 }
 
-// The last of three workers counts, and then none has a call.
-fn one_of_three(alloc: Global) -> Result<Script, AllocError> {
-    let count = Vec::from_array(alloc, [Call::Count])?;
-    let once = phase_of(alloc, Vec::new(alloc), Vec::new(alloc), count)?;
-    let none = phase_of(alloc, Vec::new(alloc), Vec::new(alloc), Vec::new(alloc))?;
-    two_phases(alloc, once, none)
-}
-
-/// Workers with no calls, and phases with none, are run like others.
+/// Workers with no calls, and phases with none, are run like others: the last of three workers counts, and then none
+/// has a call.
 #[test]
 fn workers_without_calls(rt: HostRuntime) -> Result<(), Fail> {
-    let script = one_of_three(rt.alloc())?;
+    let script = two_phases(rt.alloc(), 3, &[(2, Call::Count)], &[])?;
     let end = run_script(&rt, rt.alloc(), 0, 8, &script, &NoGate);
-    let lines = end.journal.lines();
-    assert_eq!(rt; (end.sum, lines.len(), end.answers.len()), (1, 1, 3));
-    assert_eq!(rt; lines[0].seat, 2);
+    let told = (end.sum, end.journal.lines().len(), end.answers.len());
+    let mark = mark_of(&end.journal, 0);
+    drop(end);
+    drop(script);
+    assert_eq!(rt; told, (1, 1, 3));
+    assert_eq!(rt; mark, Some((0, 2)));
     Ok(())
 }
 
-// A worker puts a point in, counts, and takes the point out.
-fn in_and_out(alloc: Global, p: Point) -> Result<Vec<Call>, AllocError>
-    ensures { IfOk result (λ v. length v.items ≡ 3) }
-{
-    Ok(Vec::from_array(alloc, [Call::Add(p), Call::Count, Call::Remove(p)])?)
+// In each of two phases each of three workers puts a point in, counts, and takes the point out.
+fn three_at_once(rt: &impl Abort, alloc: Global) -> Result<Script, AllocError> {
+    let (p, q) = (at(rt, 0, 0), at(rt, 4, 0));
+    let (r, s) = (at(rt, 0, 4), at(rt, 4, 4));
+    let once = [
+        (0, Call::Add(p)),
+        (0, Call::Count),
+        (0, Call::Remove(p)),
+        (1, Call::Add(q)),
+        (1, Call::Count),
+        (1, Call::Remove(q)),
+        (2, Call::Add(r)),
+        (2, Call::Count),
+        (2, Call::Remove(r)),
+    ];
+    let again = [
+        (0, Call::Add(s)),
+        (0, Call::Count),
+        (0, Call::Remove(s)),
+        (1, Call::Add(s)),
+        (1, Call::Count),
+        (1, Call::Remove(s)),
+        (2, Call::Add(s)),
+        (2, Call::Count),
+        (2, Call::Remove(s)),
+    ];
+    two_phases(alloc, 3, &once, &again)
 }
 
-// Three workers do so at once, in two phases.
-fn three_at_once(rt: &impl Abort, alloc: Global) -> Result<Script, AllocError> {
-    let zero = in_and_out(alloc, at(rt, 0, 0))?;
-    let one = in_and_out(alloc, at(rt, 4, 0))?;
-    let two = in_and_out(alloc, at(rt, 0, 4))?;
-    let once = phase_of(alloc, zero, one, two)?;
-    let zero = in_and_out(alloc, at(rt, 4, 4))?;
-    let one = in_and_out(alloc, at(rt, 4, 4))?;
-    let two = in_and_out(alloc, at(rt, 4, 4))?;
-    let again = phase_of(alloc, zero, one, two)?;
-    two_phases(alloc, once, again)
+// Whether each worker's points came and went. In the second phase all three put the same point in and take it out: each
+// of them is counted.
+fn came_and_went(answers: &[Vec<Answer>]) -> bool {
+    let mut all = true;
+    for own in answers {
+        let right = match own.as_slice() {
+            [first, _, third, fourth, _, sixth] => {
+                matches!(first, Ok(Reply::Added))
+                    && matches!(third, Ok(Reply::Removed))
+                    && matches!(fourth, Ok(Reply::Added | Reply::Again(2 | 3)))
+                    && matches!(sixth, Ok(Reply::Removed | Reply::Left(1 | 2)))
+            }
+            _ => false,
+        };
+        all = all && right;
+    }
+    all
 }
 
 /// Three workers that race, 50 times: each call has its line, each worker's lines are in the order of its calls, the
 /// numbers run on without a gap, and the journal is a legal history.
 #[test]
 fn three_workers_fifty_times(rt: HostRuntime) -> Result<(), Fail> {
+    let script = three_at_once(&rt, rt.alloc())?;
     for round in 0..50u64 {
-        let script = three_at_once(&rt, rt.alloc())?;
         let end = run_script(&rt, rt.alloc(), round, 32, &script, &NoGate);
-        assert_eq!(rt; (end.sum, end.journal.lines().len()), (18, 18));
-        assert_eq!(rt; check(rt.alloc(), &end.journal), CheckResult::Legal);
-        for answers in &end.answers {
-            assert_eq!(rt; answers.len(), 6);
-            assert!(rt; answers[0] == Ok(Reply::Added) && answers[2] == Ok(Reply::Removed));
-            // All three put the same point in and take it out: each of them is counted.
-            assert!(rt; matches!(answers[3], Ok(Reply::Added | Reply::Again(2 | 3))));
-            assert!(rt; matches!(answers[5], Ok(Reply::Removed | Reply::Left(1 | 2))));
-        }
-        for (k, line) in end.journal.lines().iter().enumerate() {
-            assert_eq!(rt; line.number, round + k as u64);
-        }
+        let told = told_of(rt.alloc(), round, &end);
+        let answered = came_and_went(&end.answers);
+        drop(end);
+        assert_eq!(rt; told, (18, 18, true, true));
+        assert!(rt; answered);
     }
     Ok(())
 }
@@ -265,13 +288,24 @@ fn two_and_a_count(rt: &impl Abort, alloc: Global) -> Result<Script, AllocError>
     ensures { IfOk result (λ s. length s.phases ≡ 1) }
 {
     let calls = [
-        Call::Add(at(rt, 0, 0)),
-        Call::Add(at(rt, 4, 0)),
-        Call::Count,
+        (0, Call::Add(at(rt, 0, 0))),
+        (0, Call::Add(at(rt, 4, 0))),
+        (0, Call::Count),
     ];
-    let jobs = Vec::from_array(alloc, [Vec::from_array(alloc, calls)?])?;
-    let phases = Vec::from_array(alloc, [Phase::new(jobs)])?;
-    Ok(Script::new(1, phases))
+    one_phase(alloc, 1, &calls)
+}
+
+// Whether the only worker's points were added, and its third call found the journal full.
+fn are_two_and_full(answers: &[Vec<Answer>]) -> bool {
+    match answers {
+        [own] => {
+            matches!(
+                own.as_slice(),
+                [Ok(Reply::Added), Ok(Reply::Added), Err(JournalFull)]
+            )
+        }
+        _ => false,
+    }
 }
 
 /// A journal of two lines takes two calls, and the third is told that it is full.
@@ -279,13 +313,21 @@ fn two_and_a_count(rt: &impl Abort, alloc: Global) -> Result<Script, AllocError>
 fn capacity_two(rt: HostRuntime) -> Result<(), Fail> {
     let script = two_and_a_count(&rt, rt.alloc())?;
     let end = run_script(&rt, rt.alloc(), 7, 2, &script, &NoGate);
-    assert_eq!(rt; (end.sum, end.journal.lines().len()), (2, 2));
-    assert_eq!(rt; end.answers.len(), 1);
-    let answers = &end.answers[0];
-    assert_eq!(rt; answers.len(), 3);
-    assert!(rt; answers[0] == Ok(Reply::Added) && answers[1] == Ok(Reply::Added));
-    assert!(rt; answers[2] == Err(JournalFull));
+    let told = (end.sum, end.journal.lines().len());
+    let answered = are_two_and_full(&end.answers);
+    drop(end);
+    drop(script);
+    assert_eq!(rt; told, (2, 2));
+    assert!(rt; answered);
     Ok(())
+}
+
+// Whether the last line says that two points are there.
+fn counts_two(journal: &Journal) -> bool {
+    match journal.lines().last() {
+        Some(line) => matches!(line.reply, Reply::PointCount(2)),
+        None => false,
+    }
 }
 
 /// The number after 2^64 - 1 is 0.
@@ -293,27 +335,49 @@ fn capacity_two(rt: HostRuntime) -> Result<(), Fail> {
 fn wrapping_numbers(rt: HostRuntime) -> Result<(), Fail> {
     let script = two_and_a_count(&rt, rt.alloc())?;
     let end = run_script(&rt, rt.alloc(), u64::MAX, 8, &script, &NoGate);
-    let lines = end.journal.lines();
-    assert_eq!(rt; (end.sum, lines.len()), (3, 3));
-    let numbers = (lines[0].number, lines[1].number, lines[2].number);
-    assert_eq!(rt; numbers, (u64::MAX, 0, 1));
-    assert_eq!(rt; lines[2].reply, Reply::PointCount(2));
+    let told = (end.sum, end.journal.lines().len());
+    let marks = [
+        mark_of(&end.journal, 0),
+        mark_of(&end.journal, 1),
+        mark_of(&end.journal, 2),
+    ];
+    let counted = counts_two(&end.journal);
+    drop(end);
+    drop(script);
+    assert_eq!(rt; told, (3, 3));
+    assert_eq!(rt; marks, [Some((u64::MAX, 0)), Some((0, 0)), Some((1, 0))]);
+    assert!(rt; counted);
     Ok(())
 }
 
-// A worker counts twice.
-fn two_counts(alloc: Global) -> Result<Vec<Call>, AllocError>
-    ensures { IfOk result (λ v. length v.items ≡ 2) }
-{
-    Ok(Vec::from_array(alloc, [Call::Count, Call::Count])?)
+// How many answers are that no point is there, and how many that the journal is full. No worker has a reply behind one
+// of those.
+fn counted_and_full(answers: &[Vec<Answer>]) -> Option<(u32, u32)> {
+    let (mut counted, mut full) = (0u32, 0u32);
+    for own in answers {
+        let (more, less) = match own.as_slice() {
+            [Ok(Reply::PointCount(0)), Ok(Reply::PointCount(0))] => (2, 0),
+            [Ok(Reply::PointCount(0)), Err(JournalFull)] => (1, 1),
+            [Err(JournalFull), Err(JournalFull)] => (0, 2),
+            _ => return None,
+        };
+        counted = counted.wrapping_add(more);
+        full = full.wrapping_add(less);
+    }
+    Some((counted, full))
 }
 
-// Three workers do so at once, and then none has a call.
+// Three workers count twice at once, and then none has a call.
 fn six_counts(alloc: Global) -> Result<Script, AllocError> {
-    let (zero, one, two) = (two_counts(alloc)?, two_counts(alloc)?, two_counts(alloc)?);
-    let counts = phase_of(alloc, zero, one, two)?;
-    let none = phase_of(alloc, Vec::new(alloc), Vec::new(alloc), Vec::new(alloc))?;
-    two_phases(alloc, counts, none)
+    let calls = [
+        (0, Call::Count),
+        (0, Call::Count),
+        (1, Call::Count),
+        (1, Call::Count),
+        (2, Call::Count),
+        (2, Call::Count),
+    ];
+    two_phases(alloc, 3, &calls, &[])
 }
 
 /// Three workers race for four lines whose numbers pass the greatest one, 100 times: the numbers are the two greatest
@@ -324,32 +388,24 @@ fn six_calls_for_four_lines_across_the_wrap(rt: HostRuntime) -> Result<(), Fail>
     let script = six_counts(rt.alloc())?;
     for _ in 0..100u8 {
         let end = run_script(&rt, rt.alloc(), 18446744073709551614, 4, &script, &NoGate);
-        assert_eq!(rt; (end.sum, end.journal.lines().len()), (4, 4));
-        assert_eq!(rt; check(rt.alloc(), &end.journal), CheckResult::Legal);
-        let lines = end.journal.lines();
-        let numbers = [
-            lines[0].number,
-            lines[1].number,
-            lines[2].number,
-            lines[3].number,
-        ];
-        assert_eq!(rt; numbers, [18446744073709551614, 18446744073709551615, 0, 1]);
-        let (mut counted, mut full) = (0u32, 0u32);
-        assert_eq!(rt; end.answers.len(), 3);
-        for answers in &end.answers {
-            assert_eq!(rt; answers.len(), 2);
-            for answer in answers {
-                if *answer == Ok(Reply::PointCount(0)) {
-                    counted = counted.wrapping_add(1);
-                } else if *answer == Err(JournalFull) {
-                    full = full.wrapping_add(1);
-                }
-            }
-            assert!(rt; answers[0] == Ok(Reply::PointCount(0)) || answers[1] == Err(JournalFull));
-        }
-        assert_eq!(rt; (counted, full), (4, 2));
+        let told = told_of(rt.alloc(), 18446744073709551614, &end);
+        let answered = (end.answers.len(), counted_and_full(&end.answers));
+        drop(end);
+        assert_eq!(rt; told, (4, 4, true, true));
+        assert_eq!(rt; answered, (3, Some((4, 2))));
     }
     Ok(())
+}
+
+// How many lists of answers new workers of the script have, and how many calls their ledgers count.
+fn new_workers(rt: &impl Abort, alloc: Global, script: &Script) -> (usize, u64) {
+    let (book, ledgers) = opened(rt, alloc, 0, 4, script.workers());
+    let workers = match Workers::new(alloc, ledgers, script) {
+        Ok(workers) => workers,
+        Err(_) => panic!(rt; "there is memory for the answers"),
+    };
+    let (answers, ledgers) = workers.into_parts();
+    (answers.len(), gather(&book, ledgers))
 }
 
 /// With memory there, workers are made, a phase runs, and so do the phases of a script. A body that always refuses
@@ -357,16 +413,11 @@ fn six_calls_for_four_lines_across_the_wrap(rt: HostRuntime) -> Result<(), Fail>
 #[test]
 fn constructor_always_refuses(rt: HostRuntime) -> Result<(), Fail> {
     let script = two_and_a_count(&rt, rt.alloc())?;
-    let (book, ledgers) = opened(&rt, rt.alloc(), 0, 4, script.workers());
-    let workers = match Workers::new(rt.alloc(), ledgers, &script) {
-        Ok(workers) => workers,
-        Err(_) => panic!(rt; "there is memory for the answers"),
-    };
-    let (answers, ledgers) = workers.into_parts();
-    assert_eq!(rt; (answers.len(), gather(&book, ledgers)), (1, 0));
-    let by_phase = run_first(&rt, rt.alloc(), &script, &NoGate);
-    assert_eq!(rt; by_phase.sum, 3);
-    let by_script = run_script(&rt, rt.alloc(), 0, 8, &script, &NoGate);
-    assert_eq!(rt; by_script.sum, 3);
+    let made = new_workers(&rt, rt.alloc(), &script);
+    let by_phase = run_first(&rt, rt.alloc(), &script, &NoGate).sum;
+    let by_script = run_script(&rt, rt.alloc(), 0, 8, &script, &NoGate).sum;
+    drop(script);
+    assert_eq!(rt; made, (1, 0));
+    assert_eq!(rt; (by_phase, by_script), (3, 3));
     Ok(())
 }

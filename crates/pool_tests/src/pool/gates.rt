@@ -1,11 +1,11 @@
 //! Gates by which two workers look for one another, and wait for one another.
-ghost use Rattle.std.specs.Prelude.{◌≡◌, ◌≤◌, IfOk, length};
+ghost use Rattle.std.specs.Prelude.{◌≡◌, IfOk, length};
 
-use super::{run_first, run_script, three_at_once};
-use hull_book::{Call, Phase, Reply, Script};
+use super::scripts::one_phase;
+use super::{mark_of, run_first, run_script, three_at_once};
+use hull_book::{Call, Script};
 use hull_pool::Gate;
 use std::alloc::{AllocError, Global};
-use std::process::Abort;
 use std::sync::atomic::{AtomicBool, AtomicU64, Ordering};
 use std::test::Fail;
 use std::thread;
@@ -97,11 +97,7 @@ impl Gate for Behind {
 fn two_counts(alloc: Global) -> Result<Script, AllocError>
     ensures { IfOk result (λ s. length s.phases ≡ 1) }
 {
-    let zero = Vec::from_array(alloc, [Call::Count])?;
-    let one = Vec::from_array(alloc, [Call::Count])?;
-    let jobs = Vec::from_array(alloc, [zero, one])?;
-    let phases = Vec::from_array(alloc, [Phase::new(jobs)])?;
-    Ok(Script::new(2, phases))
+    one_phase(alloc, 2, &[(0, Call::Count), (1, Call::Count)])
 }
 
 /// `run_phase` has both workers at work at once, 100 times: each sees the other's flag before its call. A body that
@@ -111,9 +107,9 @@ fn two_flags_by_run_phase(rt: HostRuntime) -> Result<(), Fail> {
     let script = two_counts(rt.alloc())?;
     for _ in 0..RACES {
         let flags = Flags::new();
-        let end = run_first(&rt, rt.alloc(), &script, &flags);
-        assert_eq!(rt; end.sum, 2);
-        assert_eq!(rt; flags.met(), (true, true));
+        let sum = run_first(&rt, rt.alloc(), &script, &flags).sum;
+        let met = flags.met();
+        assert_eq!(rt; (sum, met), (2, (true, true)));
     }
     Ok(())
 }
@@ -124,9 +120,9 @@ fn two_flags_by_run_phases(rt: HostRuntime) -> Result<(), Fail> {
     let script = two_counts(rt.alloc())?;
     for _ in 0..RACES {
         let flags = Flags::new();
-        let end = run_script(&rt, rt.alloc(), 0, 8, &script, &flags);
-        assert_eq!(rt; end.sum, 2);
-        assert_eq!(rt; flags.met(), (true, true));
+        let sum = run_script(&rt, rt.alloc(), 0, 8, &script, &flags).sum;
+        let met = flags.met();
+        assert_eq!(rt; (sum, met), (2, (true, true)));
     }
     Ok(())
 }
@@ -144,28 +140,45 @@ fn gate_round_each_call(rt: HostRuntime) -> Result<(), Fail> {
             ended: AtomicBool::new(false),
         };
         let end = run_first(&rt, rt.alloc(), &script, &gate);
-        let lines = end.journal.lines();
-        assert_eq!(rt; lines.len(), 2);
-        assert_eq!(rt; (lines[0].seat, lines[1].seat), (1 - waits, waits));
+        let marks = (mark_of(&end.journal, 0), mark_of(&end.journal, 1));
+        let count = end.journal.lines().len();
+        drop(end);
+        assert_eq!(rt;
+            (count, marks),
+            (2, (Some((0, 1 - waits)), Some((1, waits))))
+        );
     }
     Ok(())
 }
 
-/// How many workers meet at a [`Meeting`].
-const MEETING: u64 = 8;
-
-/// A gate at which all workers wait for one another before their calls.
+/// A gate at which so many workers wait for one another before their calls.
 #[derive(Drop)]
-struct Meeting {
+pub(super) struct Meeting {
+    size: u64,
     arrived: AtomicU64,
     met: AtomicU64,
+}
+
+impl Meeting {
+    pub(super) fn new(size: u64) -> Meeting {
+        Meeting {
+            size,
+            arrived: AtomicU64::new(0),
+            met: AtomicU64::new(0),
+        }
+    }
+
+    /// How many workers have met all others.
+    pub(super) fn met(&self) -> u64 {
+        self.met.load(Ordering::SeqCst)
+    }
 }
 
 impl Gate for Meeting {
     fn before_call(&self, _worker: u8, _index: u32) {
         self.arrived.fetch_add(1, Ordering::SeqCst);
         for _ in 0..LOOKS {
-            if self.arrived.load(Ordering::SeqCst) == MEETING {
+            if self.arrived.load(Ordering::SeqCst) == self.size {
                 self.met.fetch_add(1, Ordering::SeqCst);
                 return;
             }
@@ -176,44 +189,18 @@ impl Gate for Meeting {
     fn after_call(&self, _worker: u8, _index: u32) {}
 }
 
-// One count, as the calls of a worker.
-fn one_count(alloc: Global) -> Result<Vec<Call>, AllocError>
-    ensures { IfOk result (λ v. length v.items ≡ 1) }
-{
-    Ok(Vec::from_array(alloc, [Call::Count])?)
-}
-
-// Eight workers count once each, at once.
-fn eight_counts(alloc: Global) -> Result<Script, AllocError>
-    ensures { IfOk result (λ s. length s.phases ≡ 1) }
-{
-    let jobs = [
-        one_count(alloc)?,
-        one_count(alloc)?,
-        one_count(alloc)?,
-        one_count(alloc)?,
-        one_count(alloc)?,
-        one_count(alloc)?,
-        one_count(alloc)?,
-        one_count(alloc)?,
-    ];
-    let jobs = Vec::from_array(alloc, jobs)?;
-    let phases = Vec::from_array(alloc, [Phase::new(jobs)])?;
-    Ok(Script::new(8, phases))
-}
-
 /// All workers are at work at once: eight of them wait at the gate until all have come. A body that runs fewer at a
 /// time fails here.
 #[test]
 fn eight_workers_meet(rt: HostRuntime) -> Result<(), Fail> {
-    let script = eight_counts(rt.alloc())?;
-    let meeting = Meeting {
-        arrived: AtomicU64::new(0),
-        met: AtomicU64::new(0),
-    };
-    let end = run_first(&rt, rt.alloc(), &script, &meeting);
-    assert_eq!(rt; end.sum, MEETING);
-    assert_eq!(rt; meeting.met.load(Ordering::SeqCst), MEETING);
+    let mut calls = [(0, Call::Count); 8];
+    for worker in 0..8u8 {
+        calls[usize::from(worker)] = (worker, Call::Count);
+    }
+    let script = one_phase(rt.alloc(), 8, &calls)?;
+    let meeting = Meeting::new(8);
+    let sum = run_first(&rt, rt.alloc(), &script, &meeting).sum;
+    assert_eq!(rt; (sum, meeting.met()), (8, 8));
     Ok(())
 }
 
@@ -267,11 +254,12 @@ impl Gate for Told {
 fn gate_told_of_each_call(rt: HostRuntime) -> Result<(), Fail> {
     let script = three_at_once(&rt, rt.alloc())?;
     let told = Told::new();
-    let end = run_script(&rt, rt.alloc(), 0, 32, &script, &told);
-    assert_eq!(rt; end.sum, 18);
-    assert!(rt; !told.out_of_turn.load(Ordering::SeqCst));
+    let sum = run_script(&rt, rt.alloc(), 0, 32, &script, &told).sum;
+    let out_of_turn = told.out_of_turn.load(Ordering::SeqCst);
     let zero = told.zero.load(Ordering::SeqCst);
     let one = told.one.load(Ordering::SeqCst);
-    assert_eq!(rt; (zero, one, told.two.load(Ordering::SeqCst)), (12, 12, 12));
+    let two = told.two.load(Ordering::SeqCst);
+    assert_eq!(rt; (sum, out_of_turn), (18, false));
+    assert_eq!(rt; (zero, one, two), (12, 12, 12));
     Ok(())
 }

@@ -1,15 +1,19 @@
 //! Hostile schedules: races for the last lines, 64 workers at once, flags both ways, and a very long list of calls.
-ghost use Rattle.std.specs.Prelude.{◌≡◌, ◌+◌, ◌≤◌, IfOk, length, vec_len};
-ghost use Rattle.hull_book.specs.Scripts.{calls_in};
+ghost use Rattle.std.specs.Prelude.{◌≡◌, ◌≤◌, IfOk, length};
 
-use super::{Outcome, at, run_first, run_script, two_phases};
-use hull_book::{Call, CheckResult, JournalFull, Phase, Reply, Script, check};
+use super::gates::Meeting;
+use super::scripts::{one_phase, two_phases};
+use super::{at, mark_of, run_first, run_script, told_of};
+use hull_book::{Answer, Call, JournalFull, Line, Phase, Reply, Script};
 use hull_pool::{Gate, NoGate};
+use lattice::Point;
 use std::alloc::{AllocError, Global};
 use std::process::Abort;
+use std::sync::Wait;
 use std::sync::atomic::{AtomicBool, AtomicU64, Ordering};
 use std::test::Fail;
 use std::thread;
+use std::thread::Threads;
 
 /// How often a race is run.
 const RACES: u32 = 100;
@@ -17,129 +21,82 @@ const RACES: u32 = 100;
 /// How often a worker looks for another's flag.
 const LOOKS: u32 = 10_000_000;
 
-// A phase in which each worker makes one of these calls.
-fn one_call_each(alloc: Global, calls: &[Call]) -> Result<Phase, AllocError>
-    ensures { IfOk result (λ p. (length p ≡ length calls.now) × (calls_in p ≡ length calls.now)) }
-{
-    let mut jobs = Vec::new(alloc);
-    for call in calls {
-        jobs.push(Vec::from_array(alloc, [*call])?)?;
-    }
-    Ok(Phase::new(jobs))
-}
-
-// A phase of 64 workers in which the first makes these calls.
-fn first_of_sixty_four(alloc: Global, calls: Vec<Call>) -> Result<Phase, AllocError>
-    ensures { IfOk result (λ p. (length p ≡ 64) × (calls_in p ≡ vec_len calls)) }
-{
-    let mut jobs = Vec::from_array(alloc, [calls])?;
-    for _worker in 1..64u8 {
-        jobs.push(Vec::new(alloc))?;
-    }
-    Ok(Phase::new(jobs))
-}
-
-// The call that each of 64 workers makes: worker k adds the point (k, k * k).
-fn parabola(rt: &impl Abort, alloc: Global) -> Result<Vec<Call>, AllocError>
-    ensures { IfOk result (λ v. length v.items ≡ 64) }
-{
-    let mut calls = Vec::new(alloc);
-    for k in 0..64u8 {
-        let x = i64::from(k);
-        calls.push(Call::Add(at(rt, x, x.wrapping_mul(x))))?;
-    }
-    Ok(calls)
+// The point k of a parabola.
+fn on_parabola(rt: &impl Abort, k: u8) -> Point {
+    let x = i64::from(k);
+    at(rt, x, x.wrapping_mul(x))
 }
 
 // 64 workers put a point of a parabola each into the set, and then the first asks for what came of it.
-fn sixty_four_points(rt: &impl Abort, alloc: Global) -> Result<Script, AllocError>
-    ensures { IfOk result (λ s. s.workers ≡ 64) }
-{
-    let adds = one_call_each(alloc, parabola(rt, alloc)?.as_slice())?;
-    let questions = Vec::from_array(alloc, [Call::Vertices, Call::Area, Call::Count])?;
-    let asks = first_of_sixty_four(alloc, questions)?;
-    Ok(Script::new(64, Vec::from_array(alloc, [adds, asks])?))
+fn sixty_four_points(rt: &impl Abort, alloc: Global) -> Result<Script, AllocError> {
+    let mut adds = [(0, Call::Count); 64];
+    for k in 0..64u8 {
+        adds[usize::from(k)] = (k, Call::Add(on_parabola(rt, k)));
+    }
+    let asks = [(0, Call::Vertices), (0, Call::Area), (0, Call::Count)];
+    two_phases(alloc, 64, &adds, &asks)
 }
 
-// What came of 64 workers with a point of a parabola each, by values worked out by hand.
-fn is_parabola(rt: &impl Abort, end: &Outcome) {
-    assert_eq!(rt; (end.sum, end.journal.lines().len()), (67, 67));
-    assert_eq!(rt; end.answers.len(), 64);
-    let zero = &end.answers[0];
-    assert_eq!(rt; zero.len(), 4);
-    assert!(rt; zero[0] == Ok(Reply::Added));
-    match &zero[1] {
-        Ok(Reply::VertexList(list)) => {
-            assert_eq!(rt; list.as_slice().len(), 64);
-            for (k, point) in list.as_slice().iter().enumerate() {
-                assert_eq!(rt; *point, at(rt, k as i64, (k as i64).wrapping_mul(k as i64)));
-            }
+// Whether the points are the 64 of the parabola, in their order.
+fn is_parabola(rt: &impl Abort, points: &[Point]) -> bool {
+    let mut right = points.len() == 64;
+    for k in 0..64u8 {
+        right = right && points.get(usize::from(k)).copied() == Some(on_parabola(rt, k));
+    }
+    right
+}
+
+// Whether the first of 64 workers was answered of that parabola, by values worked out by hand.
+fn told_of_parabola(rt: &impl Abort, answers: &[Vec<Answer>]) -> bool {
+    let [zero, ..] = answers else { return false };
+    match zero.as_slice() {
+        [Ok(Reply::Added), Ok(Reply::VertexList(list)), area, count] => {
+            is_parabola(rt, list.as_slice())
+                && matches!(area, Ok(Reply::DoubledArea(83328)))
+                && matches!(count, Ok(Reply::PointCount(64)))
         }
-        _ => panic!(rt; "the vertices are listed"),
+        _ => false,
     }
-    assert!(rt; zero[2] == Ok(Reply::DoubledArea(83328)));
-    assert!(rt; zero[3] == Ok(Reply::PointCount(64)));
-    for (k, line) in end.journal.lines().iter().enumerate() {
-        assert_eq!(rt; line.number, k as u64);
-        assert!(rt; k < 64 || line.seat == 0);
+}
+
+// Whether all lines behind the 64th are the first worker's.
+fn asks_last(lines: &[Line]) -> bool {
+    let mut all = true;
+    for (k, line) in lines.iter().enumerate() {
+        all = all && (k < 64 || line.seat == 0);
     }
+    all
 }
 
 /// 64 workers race to put a point of a parabola each into the set, 100 times: each time all 64 are its corners, the
 /// doubled area is 83328, and the numbers run on without a gap.
 #[test]
 fn sixty_four_workers_on_a_parabola(rt: HostRuntime) -> Result<(), Fail> {
+    let script = sixty_four_points(&rt, rt.alloc())?;
     for _ in 0..RACES {
-        let script = sixty_four_points(&rt, rt.alloc())?;
         let end = run_script(&rt, rt.alloc(), 0, 128, &script, &NoGate);
-        is_parabola(&rt, &end);
-        assert_eq!(rt; check(rt.alloc(), &end.journal), CheckResult::Legal);
+        let told = told_of(rt.alloc(), 0, &end);
+        let workers = end.answers.len();
+        let right = told_of_parabola(&rt, &end.answers) && asks_last(end.journal.lines());
+        drop(end);
+        assert_eq!(rt; told, (67, 67, true, true));
+        assert_eq!(rt; (workers, right), (64, true));
     }
     Ok(())
-}
-
-/// A gate at which 64 workers wait for one another before their calls.
-#[derive(Drop)]
-struct Crowd {
-    arrived: AtomicU64,
-    met: AtomicU64,
-}
-
-impl Gate for Crowd {
-    fn before_call(&self, _worker: u8, _index: u32) {
-        self.arrived.fetch_add(1, Ordering::SeqCst);
-        for _ in 0..LOOKS {
-            if self.arrived.load(Ordering::SeqCst) == 64 {
-                self.met.fetch_add(1, Ordering::SeqCst);
-                return;
-            }
-            thread::yield_now();
-        }
-    }
-
-    fn after_call(&self, _worker: u8, _index: u32) {}
-}
-
-// 64 workers count once each, at once.
-fn sixty_four_counts(alloc: Global) -> Result<Script, AllocError>
-    ensures { IfOk result (λ s. length s.phases ≡ 1) }
-{
-    let counts = one_call_each(alloc, &[Call::Count; 64])?;
-    Ok(Script::new(64, Vec::from_array(alloc, [counts])?))
 }
 
 /// All 64 workers of a phase are at work at once: they wait at the gate until all have come. A body that runs fewer at
 /// a time fails here.
 #[test]
 fn sixty_four_workers_meet(rt: HostRuntime) -> Result<(), Fail> {
-    let script = sixty_four_counts(rt.alloc())?;
-    let crowd = Crowd {
-        arrived: AtomicU64::new(0),
-        met: AtomicU64::new(0),
-    };
-    let end = run_script(&rt, rt.alloc(), 0, 64, &script, &crowd);
-    assert_eq!(rt; end.sum, 64);
-    assert_eq!(rt; crowd.met.load(Ordering::SeqCst), 64);
+    let mut calls = [(0, Call::Count); 64];
+    for worker in 0..64u8 {
+        calls[usize::from(worker)] = (worker, Call::Count);
+    }
+    let script = one_phase(rt.alloc(), 64, &calls)?;
+    let meeting = Meeting::new(64);
+    let sum = run_script(&rt, rt.alloc(), 0, 64, &script, &meeting).sum;
+    assert_eq!(rt; (sum, meeting.met()), (64, 64));
     Ok(())
 }
 
@@ -173,40 +130,59 @@ impl Gate for Flag {
 }
 
 // Of two workers the looker counts, and the other adds the point (5, 5).
-fn count_and_add(rt: &impl Abort, alloc: Global, looker: u8) -> Result<Script, AllocError>
+fn count_and_add(alloc: Global, p: Point, looker: u8) -> Result<Script, AllocError>
+    requires { looker ≤ 1 }
     ensures { IfOk result (λ s. length s.phases ≡ 1) }
 {
-    let add = Call::Add(at(rt, 5, 5));
-    let calls = if looker == 0 {
-        [Call::Count, add]
-    } else {
-        [add, Call::Count]
+    one_phase(
+        alloc,
+        2,
+        &[(looker, Call::Count), (1 - looker, Call::Add(p))],
+    )
+}
+
+// Whether the point was added, and then counted.
+fn added_and_counted(lines: &[Line], p: Point) -> bool {
+    let [add, count] = lines else { return false };
+    let added = matches!(add.reply, Reply::Added) && add.call == Call::Add(p);
+    added && matches!(count.reply, Reply::PointCount(1)) && count.call == Call::Count
+}
+
+// Runs the script once, in which the looker counts behind the other's call: whether the looker saw the flag and the
+// point was added and then counted, the sum of the ledgers, and the numbers and seats of the two lines.
+fn looks_once<R: Threads + Wait + Abort + Sync>(
+    rt: &R,
+    alloc: Global,
+    script: &Script,
+    looker: u8,
+    p: Point,
+) -> (bool, u64, [Option<(u64, u8)>; 2])
+    requires { 1 ≤ length script.now.phases }
+{
+    let flag = Flag {
+        looker,
+        raised: AtomicBool::new(false),
+        seen: AtomicBool::new(false),
     };
-    let phase = one_call_each(alloc, &calls)?;
-    Ok(Script::new(2, Vec::from_array(alloc, [phase])?))
+    let end = run_first(rt, alloc, script, &flag);
+    let seen = flag.seen.load(Ordering::SeqCst) && added_and_counted(end.journal.lines(), p);
+    let marks = [mark_of(&end.journal, 0), mark_of(&end.journal, 1)];
+    (seen, end.sum, marks)
 }
 
 /// Two flags: a worker whose gate looks for the flag that the other raises behind its call sees it, whichever of the
 /// two it is, 100 times each. A body that runs the workers one after another fails one of the two.
 #[test]
 fn workers_one_after_another(rt: HostRuntime) -> Result<(), Fail> {
+    let p = at(&rt, 5, 5);
     for looker in [0u8, 1] {
-        let script = count_and_add(&rt, rt.alloc(), looker)?;
+        let script = count_and_add(rt.alloc(), p, looker)?;
         for _ in 0..RACES {
-            let flag = Flag {
-                looker,
-                raised: AtomicBool::new(false),
-                seen: AtomicBool::new(false),
-            };
-            let end = run_first(&rt, rt.alloc(), &script, &flag);
-            assert!(rt; flag.seen.load(Ordering::SeqCst));
-            let lines = end.journal.lines();
-            assert_eq!(rt; (lines.len(), end.sum), (2, 2));
-            let (add, count) = (&lines[0], &lines[1]);
-            assert_eq!(rt; (add.number, add.seat), (0, 1 - looker));
-            assert!(rt; add.call == Call::Add(at(&rt, 5, 5)) && add.reply == Reply::Added);
-            assert_eq!(rt; (count.number, count.seat), (1, looker));
-            assert!(rt; count.call == Call::Count && count.reply == Reply::PointCount(1));
+            let found = looks_once(&rt, rt.alloc(), &script, looker, p);
+            assert_eq!(rt;
+                found,
+                (true, 2, [Some((0, 1 - looker)), Some((1, looker))])
+            );
         }
     }
     Ok(())
@@ -244,8 +220,22 @@ fn long_list(alloc: Global) -> Result<Script, AllocError>
     for _made in 0..MANY {
         calls.push(Call::Count)?;
     }
-    let jobs = Vec::from_array(alloc, [calls])?;
-    Ok(Script::new(1, Vec::from_array(alloc, [Phase::new(jobs)])?))
+    let mut jobs = Vec::with_capacity(alloc, 1)?;
+    let mut phases = Vec::with_capacity(alloc, 1)?;
+    jobs.push_reserved(calls);
+    phases.push_reserved(Phase::new(jobs));
+    Ok(Script::new(1, phases))
+}
+
+// How many answers the only worker has, and whether the eighth is that no point is there and the ninth that the journal
+// is full.
+fn filled(answers: &[Vec<Answer>]) -> Option<(usize, bool)> {
+    let [own] = answers else { return None };
+    let eighth = matches!(own.get(7), Some(Ok(Reply::PointCount(0))));
+    Some((
+        own.len(),
+        eighth && matches!(own.get(8), Some(Err(JournalFull))),
+    ))
 }
 
 /// The gate is told of every call of a list of 70000, each by its own index: a count in 16 bits fails here.
@@ -257,11 +247,12 @@ fn gate_told_of_seventy_thousand_calls(rt: HostRuntime) -> Result<(), Fail> {
         out_of_turn: AtomicBool::new(false),
     };
     let end = run_first(&rt, rt.alloc(), &script, &count);
-    assert_eq!(rt; (end.sum, count.told.load(Ordering::SeqCst)), (8, 70_000));
-    assert!(rt; !count.out_of_turn.load(Ordering::SeqCst));
-    assert_eq!(rt; end.answers.len(), 1);
-    let answers = &end.answers[0];
-    assert_eq!(rt; answers.len(), 70_000);
-    assert!(rt; answers[7] == Ok(Reply::PointCount(0)) && answers[8] == Err(JournalFull));
+    let (sum, answered) = (end.sum, filled(&end.answers));
+    drop(end);
+    drop(script);
+    let told = count.told.load(Ordering::SeqCst);
+    let out_of_turn = count.out_of_turn.load(Ordering::SeqCst);
+    assert_eq!(rt; (sum, told, out_of_turn), (8, 70_000, false));
+    assert_eq!(rt; answered, Some((70_000, true)));
     Ok(())
 }
