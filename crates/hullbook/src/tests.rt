@@ -249,8 +249,59 @@ fn is_refused(alloc: Global, words: &[&str]) -> bool {
     }
 }
 
+// The numbers of the run of the script at this path, where the words ask for that.
+fn run_of(alloc: Global, words: &[&str], wanted: &str) -> Option<Options> {
+    let Ok(Task::Run(path, numbers)) = options(alloc, words) else {
+        return None;
+    };
+    (path.as_str() == wanted).then_some(numbers)
+}
+
+// What is stated of the run of the script at the first path after the journal at the second, where the words ask for that.
+fn run_after_of(alloc: Global, words: &[&str], wanted: (&str, &str)) -> Option<Stated> {
+    let Ok(Task::RunAfter(script, journal, stated)) = options(alloc, words) else {
+        return None;
+    };
+    ((script.as_str(), journal.as_str()) == wanted).then_some(stated)
+}
+
+// Whether the words ask for an upgrade of the journal at this path.
+fn is_upgrade_of(alloc: Global, words: &[&str], wanted: &str) -> bool {
+    let Ok(Task::Upgrade(path)) = options(alloc, words) else {
+        return false;
+    };
+    path.as_str() == wanted
+}
+
+// Whether the words ask for a short journal in place of that at this path.
+fn is_compact_of(alloc: Global, words: &[&str], wanted: &str) -> bool {
+    let Ok(Task::Compact(path)) = options(alloc, words) else {
+        return false;
+    };
+    path.as_str() == wanted
+}
+
+// Whether the check of the journal at this path explains, where the words ask for that.
+fn check_of(alloc: Global, words: &[&str], wanted: &str) -> Option<bool> {
+    let Ok(Task::Check(path, explains)) = options(alloc, words) else {
+        return None;
+    };
+    (path.as_str() == wanted).then_some(explains)
+}
+
+// Whether the words ask for a check of three parts at these paths.
+fn is_check_of_parts(alloc: Global, words: &[&str], wanted: (&str, &str, &str)) -> bool {
+    let Ok(Task::CheckParts(paths)) = options(alloc, words) else {
+        return false;
+    };
+    if paths.len() != 3 {
+        return false;
+    }
+    (paths[0].as_str(), paths[1].as_str(), paths[2].as_str()) == wanted
+}
+
 #[test]
-fn words_that_are_taken(rt: HostRuntime) -> Result<(), Fail> {
+fn words_that_are_taken(rt: HostRuntime) {
     let words = [
         "run",
         "a b.txt",
@@ -269,59 +320,32 @@ fn words_that_are_taken(rt: HostRuntime) -> Result<(), Fail> {
         journal: true,
         sparing: false,
     };
-    let Ok(Task::Run(path, numbers)) = options(rt.alloc(), &words) else {
-        return Err(Fail::new("other words"));
-    };
-    assert_eq!(rt; path.as_str(), "a b.txt");
-    assert_eq!(rt; numbers, wanted);
-    let Ok(Task::Run(_, numbers)) = options(rt.alloc(), &["run", "x"]) else {
-        return Err(Fail::new("other words"));
-    };
-    assert_eq!(rt; numbers, PLAIN);
-    let Ok(Task::Run(_, numbers)) = options(rt.alloc(), &["run", "--sparing", "x"]) else {
-        return Err(Fail::new("other words"));
-    };
-    assert!(rt; numbers.sparing && !numbers.journal);
-    let Ok(Task::Upgrade(path)) = options(rt.alloc(), &["upgrade", "a b"]) else {
-        return Err(Fail::new("other words"));
-    };
-    assert_eq!(rt; path.as_str(), "a b");
-    let Ok(Task::Compact(path)) = options(rt.alloc(), &["compact", "a b"]) else {
-        return Err(Fail::new("other words"));
-    };
-    assert_eq!(rt; path.as_str(), "a b");
-    Ok(())
+    let alloc = rt.alloc();
+    let numbers = run_of(alloc, &words, "a b.txt");
+    let plain = run_of(alloc, &["run", "x"], "x");
+    let sparing = run_of(alloc, &["run", "--sparing", "x"], "x").map(|it| (it.sparing, it.journal));
+    let upgrade = is_upgrade_of(alloc, &["upgrade", "a b"], "a b");
+    let compact = is_compact_of(alloc, &["compact", "a b"], "a b");
+    assert_eq!(rt; numbers, Some(wanted));
+    assert_eq!(rt; plain, Some(PLAIN));
+    assert_eq!(rt; sparing, Some((true, false)));
+    assert!(rt; upgrade && compact);
 }
 
 #[test]
-fn words_of_a_check(rt: HostRuntime) -> Result<(), Fail> {
-    let Ok(Task::Check(path, explains)) = options(rt.alloc(), &["check", "x"]) else {
-        return Err(Fail::new("other words"));
-    };
-    assert_eq!(rt; (path.as_str(), explains), ("x", false));
-    let Ok(Task::Check(path, explains)) = options(rt.alloc(), &["check", "--explain", "x"]) else {
-        return Err(Fail::new("other words"));
-    };
-    assert_eq!(rt; (path.as_str(), explains), ("x", true));
-    let Ok(Task::CheckParts(paths)) = options(rt.alloc(), &["check", "y", "x", "y"]) else {
-        return Err(Fail::new("other words"));
-    };
-    assert_eq!(rt; paths.len(), 3);
-    assert_eq!(rt;
-        (paths[0].as_str(), paths[1].as_str(), paths[2].as_str()),
-        ("y", "x", "y")
-    );
-    Ok(())
+fn words_of_a_check(rt: HostRuntime) {
+    let alloc = rt.alloc();
+    let plain = check_of(alloc, &["check", "x"], "x");
+    let explained = check_of(alloc, &["check", "--explain", "x"], "x");
+    let parts = is_check_of_parts(alloc, &["check", "y", "x", "y"], ("y", "x", "y"));
+    assert_eq!(rt; (plain, explained), (Some(false), Some(true)));
+    assert!(rt; parts);
 }
 
 /// What is not said of a run after a journal is left to that.
 #[test]
-fn words_of_a_run_after_a_journal(rt: HostRuntime) -> Result<(), Fail> {
+fn words_of_a_run_after_a_journal(rt: HostRuntime) {
     let words = ["run", "--after", "j", "s", "--limit", "7", "--sparing"];
-    let Ok(Task::RunAfter(script, journal, stated)) = options(rt.alloc(), &words) else {
-        return Err(Fail::new("other words"));
-    };
-    assert_eq!(rt; (script.as_str(), journal.as_str()), ("s", "j"));
     let wanted = Stated {
         capacity: None,
         limit: Some(7),
@@ -329,32 +353,44 @@ fn words_of_a_run_after_a_journal(rt: HostRuntime) -> Result<(), Fail> {
         journal: false,
         sparing: true,
     };
-    assert_eq!(rt; stated, wanted);
-    Ok(())
+    let stated = run_after_of(rt.alloc(), &words, ("s", "j"));
+    assert_eq!(rt; stated, Some(wanted));
+}
+
+// The place of the first of these that is not refused as no use of the program.
+fn first_taken(alloc: Global, rows: &[&[&str]]) -> Option<usize> {
+    for i in 0..rows.len() {
+        if !is_refused(alloc, rows[i]) {
+            return Some(i);
+        }
+    }
+    None
 }
 
 #[test]
-fn words_that_are_refused(rt: HostRuntime) -> Result<(), Fail> {
-    assert!(rt; is_refused(rt.alloc(), &[]));
-    assert!(rt; is_refused(rt.alloc(), &["run"]));
-    assert!(rt; is_refused(rt.alloc(), &["check"]));
-    assert!(rt; is_refused(rt.alloc(), &["run", "x", "y"]));
-    assert!(rt; is_refused(rt.alloc(), &["run", "x", "--capacity", "0"]));
-    assert!(rt; is_refused(rt.alloc(), &["run", "x", "--capacity", "16777217"]));
-    assert!(rt; is_refused(rt.alloc(), &["run", "x", "--limit", "1048577"]));
-    assert!(rt; is_refused(rt.alloc(), &["run", "x", "--first", "18446744073709551616"]));
-    assert!(rt; is_refused(rt.alloc(), &["check", "x", "--journal"]));
-    assert!(rt; is_refused(rt.alloc(), &["check", "x", "y", "--explain"]));
-    assert!(rt; is_refused(rt.alloc(), &["upgrade"]));
-    assert!(rt; is_refused(rt.alloc(), &["upgrade", "x", "--journal"]));
-    assert!(rt; is_refused(rt.alloc(), &["compact"]));
-    assert!(rt; is_refused(rt.alloc(), &["compact", "x", "--journal"]));
-    assert!(rt; is_refused(rt.alloc(), &["run", "x", "--after"]));
-    assert!(rt; is_refused(rt.alloc(), &["run", "--after", "x"]));
-    assert!(rt; is_refused(rt.alloc(), &["run", "x", "--after", "y", "--capacity", "0"]));
-    assert!(rt; is_refused(rt.alloc(), &["check", "x", "--after", "y"]));
-    assert!(rt; is_refused(rt.alloc(), &["downgrade", "x"]));
-    Ok(())
+fn words_that_are_refused(rt: HostRuntime) {
+    let rows: [&[&str]; 19] = [
+        &[],
+        &["run"],
+        &["check"],
+        &["run", "x", "y"],
+        &["run", "x", "--capacity", "0"],
+        &["run", "x", "--capacity", "16777217"],
+        &["run", "x", "--limit", "1048577"],
+        &["run", "x", "--first", "18446744073709551616"],
+        &["check", "x", "--journal"],
+        &["check", "x", "y", "--explain"],
+        &["upgrade"],
+        &["upgrade", "x", "--journal"],
+        &["compact"],
+        &["compact", "x", "--journal"],
+        &["run", "x", "--after"],
+        &["run", "--after", "x"],
+        &["run", "x", "--after", "y", "--capacity", "0"],
+        &["check", "x", "--after", "y"],
+        &["downgrade", "x"],
+    ];
+    assert_eq!(rt; first_taken(rt.alloc(), &rows), None);
 }
 
 /// A journal of no lines is refused as a word, with status 2.
@@ -383,6 +419,13 @@ fn refused_memory_of_the_system(rt: HostRuntime) -> Result<(), Fail> {
     Ok(())
 }
 
+// Whether the two faults end the program with the same status, and with the same words.
+fn alike(alloc: Global, one: Fault, other: Fault) -> Result<(bool, bool), Fail> {
+    let same_status = one.status() == other.status();
+    let (told, wanted) = (format!(in alloc; "{one}")?, format!(in alloc; "{other}")?);
+    Ok((same_status, told.as_str() == wanted.as_str()))
+}
+
 /// A journal that was not upgraded ends the program as a journal that was not checked.
 #[test]
 fn faults_of_an_upgrade_are_those_of_a_check(rt: HostRuntime) -> Result<(), Fail> {
@@ -391,86 +434,96 @@ fn faults_of_an_upgrade_are_those_of_a_check(rt: HostRuntime) -> Result<(), Fail
         (UpgradeFault::Text(text), RunFault::Text(text)),
         (UpgradeFault::Write(WriteFault), RunFault::Write),
     ] {
-        let (told, wanted) = (Fault::from(upgrade), Fault::from(check));
-        assert_eq!(rt; told.status(), wanted.status());
-        let (told, wanted) = (
-            format!(in rt.alloc(); "{told}")?,
-            format!(in rt.alloc(); "{wanted}")?,
-        );
-        assert_eq!(rt; told.as_str(), wanted.as_str());
+        let (same_status, same_words) = alike(
+            rt.alloc(),
+            Fault::from(upgrade),
+            Fault::from(check),
+        )?;
+        assert!(rt; same_status && same_words);
     }
     Ok(())
+}
+
+// Whether the program ends with these words by this fault, which ends here.
+fn tells(alloc: Global, fault: Fault, words: &str) -> bool {
+    match format!(in alloc; "{fault}") {
+        Ok(told) => told.as_str() == words,
+        Err(_) => false,
+    }
 }
 
 /// The line that each fault ends the program with.
 #[test]
-fn faults_have_their_words(rt: HostRuntime) -> Result<(), Fail> {
+fn faults_have_their_words(rt: HostRuntime) {
     let text = TextFault { number: 3, line: 2 };
-    for (fault, words) in [
-        (Fault::Usage, "hullbook: usage"),
-        (Fault::Open, "hullbook: open"),
-        (Fault::Memory, "hullbook: memory"),
-        (Fault::Write, "hullbook: write"),
-        (Fault::Text(text), "hullbook: line 2: fault 3"),
-        (Fault::Journal(text), "hullbook: journal: line 2: fault 3"),
-        (
+    let alloc = rt.alloc();
+    let told = [
+        tells(alloc, Fault::Usage, "hullbook: usage"),
+        tells(alloc, Fault::Open, "hullbook: open"),
+        tells(alloc, Fault::Memory, "hullbook: memory"),
+        tells(alloc, Fault::Write, "hullbook: write"),
+        tells(alloc, Fault::Text(text), "hullbook: line 2: fault 3"),
+        tells(
+            alloc,
+            Fault::Journal(text),
+            "hullbook: journal: line 2: fault 3",
+        ),
+        tells(
+            alloc,
             Fault::Rules,
             "hullbook: points are not counted before version 3, and upgrade keeps that",
         ),
-        (Fault::Illegal(4294967297), "hullbook: illegal 4294967297"),
-        (
+        tells(
+            alloc,
+            Fault::Illegal(4294967297),
+            "hullbook: illegal 4294967297",
+        ),
+        tells(
+            alloc,
             Fault::First(18446744073709551615),
             "hullbook: the journal's first number is 18446744073709551615",
         ),
-        (Fault::Limit(4), "hullbook: the journal's limit is 4"),
-        (Fault::Lines(3), "hullbook: the journal has 3 lines"),
-    ] {
-        let told = format!(in rt.alloc(); "{fault}")?;
-        assert_eq!(rt; told.as_str(), words);
-    }
-    Ok(())
+        tells(alloc, Fault::Limit(4), "hullbook: the journal's limit is 4"),
+        tells(alloc, Fault::Lines(3), "hullbook: the journal has 3 lines"),
+    ];
+    assert_eq!(rt; told, [true; 11]);
+}
+
+// The status that a program ends with by this fault, which ends here: a test that held it would let go of it at each assertion.
+fn status_of(fault: Fault) -> u8 {
+    fault.status()
+}
+
+// The fault of this number in the first line of a text.
+fn at_first_line(number: u8) -> TextFault {
+    TextFault { number, line: 1 }
 }
 
 #[test]
-fn faults_have_their_statuses(rt: HostRuntime) -> Result<(), Fail> {
-    assert_eq!(rt; Fault::Usage.status(), 2);
-    assert_eq!(rt; Fault::Open.status(), 3);
-    assert_eq!(rt; Fault::Write.status(), 3);
-    assert_eq!(rt; Fault::Memory.status(), 4);
-    assert_eq!(rt; Fault::Illegal(2).status(), 1);
-    assert_eq!(rt; Fault::Rules.status(), 2);
-    assert_eq!(rt; Fault::First(0).status(), 2);
-    assert_eq!(rt; Fault::Limit(4).status(), 2);
-    assert_eq!(rt; Fault::Lines(3).status(), 2);
-    assert_eq!(rt;
-        Fault::Part(String::new(rt.alloc()), PartFault::Open).status(),
-        3
-    );
-    assert_eq!(rt;
-        Fault::Journal(TextFault { number: 7, line: 1 }).status(),
-        2
-    );
-    assert_eq!(rt;
-        Fault::Journal(TextFault { number: 8, line: 1 }).status(),
-        3
-    );
-    assert_eq!(rt;
-        Fault::Journal(TextFault {
-            number: 10,
-            line: 1
-        })
-        .status(),
-        4
-    );
-    assert_eq!(rt; Fault::Text(TextFault { number: 7, line: 1 }).status(), 2);
-    assert_eq!(rt; Fault::Text(TextFault { number: 8, line: 1 }).status(), 3);
-    assert_eq!(rt;
-        Fault::Text(TextFault {
-            number: 10,
-            line: 1
-        })
-        .status(),
-        4
-    );
-    Ok(())
+fn faults_have_their_statuses(rt: HostRuntime) {
+    let plain = [
+        status_of(Fault::Usage),
+        status_of(Fault::Open),
+        status_of(Fault::Write),
+        status_of(Fault::Memory),
+        status_of(Fault::Illegal(2)),
+        status_of(Fault::Rules),
+        status_of(Fault::First(0)),
+        status_of(Fault::Limit(4)),
+        status_of(Fault::Lines(3)),
+        status_of(Fault::Part(String::new(rt.alloc()), PartFault::Open)),
+    ];
+    let journals = [
+        status_of(Fault::Journal(at_first_line(7))),
+        status_of(Fault::Journal(at_first_line(8))),
+        status_of(Fault::Journal(at_first_line(10))),
+    ];
+    let texts = [
+        status_of(Fault::Text(at_first_line(7))),
+        status_of(Fault::Text(at_first_line(8))),
+        status_of(Fault::Text(at_first_line(10))),
+    ];
+    assert_eq!(rt; plain, [2, 3, 3, 4, 1, 2, 2, 2, 2, 3]);
+    assert_eq!(rt; journals, [2, 3, 4]);
+    assert_eq!(rt; texts, [2, 3, 4]);
 }

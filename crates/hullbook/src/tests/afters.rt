@@ -26,17 +26,32 @@ const BEFORE: &str =
 const REPORT: &str =
     "0 remove 5 5 = left 1\n1 count = count 1\nledger 0 2\nledger 1 1\nledger 2 1\nsum 4 journal 4 capacity 8\n";
 
-// How a run after the journal ends, what it wrote, how often the output failed, and how often the journal was read.
-fn ends<R: Threads + Wait + Sync>(
+/// How a run after a journal went.
+#[derive(Clone, Copy)]
+struct Went {
+    ended: Result<(), AfterFault>,
+    /// How many bytes it wrote.
+    written: usize,
+    /// Whether these are a beginning of the report.
+    begins: bool,
+    /// How often the output failed.
+    failures: u64,
+    /// How often a read of the journal failed.
+    unread: u64,
+}
+
+// How a run after the journal goes where these reads of the script and of it fail, and this write.
+fn goes<R: Threads + Wait + Sync>(
     rt: &R,
     alloc: Global,
     journal: &str,
     reads: (u64, u64),
     writes: u64,
-) -> Result<(Result<(), AfterFault>, Vec<u8>, u64, u64), Fail> {
+) -> Result<Went, Fail> {
+    let spout = Spout::new(alloc, 4096, 5)?;
     let mut input = Counted::new(Pieces::new(SCRIPT.as_bytes(), 7).failing_at(reads.0));
     let mut before = Counted::new(Pieces::new(journal.as_bytes(), 7).failing_at(reads.1));
-    let mut output = Counted::new(Spout::new(alloc, 4096, 5)?.failing_at(writes));
+    let mut output = Counted::new(spout.failing_at(writes));
     let ended = run_after(
         rt,
         alloc,
@@ -46,18 +61,23 @@ fn ends<R: Threads + Wait + Sync>(
         &OWN,
         &Silence,
     );
-    let failures = output.failures();
-    let read = before.failures();
-    let written = output.get_ref().bytes().to_vec(alloc)?;
-    Ok((ended, written, failures, read))
+    Ok(Went {
+        ended,
+        written: output.get_ref().bytes().len(),
+        begins: REPORT.as_bytes().starts_with(output.get_ref().bytes()),
+        failures: output.failures(),
+        unread: before.failures(),
+    })
 }
 
 #[test]
 fn a_report_is_that_of_the_whole(rt: HostRuntime) -> Result<(), Fail> {
-    let (ended, written, failures, _) = ends(&rt, rt.alloc(), BEFORE, (0, 0), 0)?;
-    assert_eq!(rt; ended, Ok(()));
-    assert_eq!(rt; failures, 0);
-    assert!(rt; written.as_slice() == REPORT.as_bytes());
+    let went = goes(&rt, rt.alloc(), BEFORE, (0, 0), 0)?;
+    assert_eq!(rt; went.ended, Ok(()));
+    assert_eq!(rt;
+        (went.failures, went.written, went.begins),
+        (0, REPORT.len(), true)
+    );
     Ok(())
 }
 
@@ -65,12 +85,23 @@ fn a_report_is_that_of_the_whole(rt: HostRuntime) -> Result<(), Fail> {
 #[test]
 fn a_failing_read_tells_which_input(rt: HostRuntime) -> Result<(), Fail> {
     let fault = TextFault { number: 8, line: 1 };
-    let (ended, written, failures, read) = ends(&rt, rt.alloc(), BEFORE, (1, 1), 0)?;
-    assert_eq!(rt; ended, Err(AfterFault::Script(fault)));
-    assert_eq!(rt; (written.len(), failures, read), (0, 0, 0));
-    let (ended, written, failures, read) = ends(&rt, rt.alloc(), BEFORE, (0, 1), 0)?;
-    assert_eq!(rt; ended, Err(AfterFault::Journal(fault)));
-    assert_eq!(rt; (written.len(), failures, read), (0, 0, 1));
+    let of_script = goes(&rt, rt.alloc(), BEFORE, (1, 1), 0)?;
+    let of_journal = goes(&rt, rt.alloc(), BEFORE, (0, 1), 0)?;
+    assert_eq!(rt;
+        (of_script.ended, of_journal.ended),
+        (
+            Err(AfterFault::Script(fault)),
+            Err(AfterFault::Journal(fault))
+        )
+    );
+    assert_eq!(rt;
+        (of_script.written, of_script.failures, of_script.unread),
+        (0, 0, 0)
+    );
+    assert_eq!(rt;
+        (of_journal.written, of_journal.failures, of_journal.unread),
+        (0, 0, 1)
+    );
     Ok(())
 }
 
@@ -92,9 +123,9 @@ fn a_journal_that_is_not_gone_on_with(rt: HostRuntime) -> Result<(), Fail> {
         ),
     ];
     for (journal, fault) in rows {
-        let (ended, written, failures, _) = ends(&rt, rt.alloc(), journal, (0, 0), 0)?;
-        assert_eq!(rt; ended, Err(fault));
-        assert_eq!(rt; (written.len(), failures), (0, 0));
+        let went = goes(&rt, rt.alloc(), journal, (0, 0), 0)?;
+        assert_eq!(rt; went.ended, Err(fault));
+        assert_eq!(rt; (went.written, went.failures), (0, 0));
     }
     Ok(())
 }
@@ -102,10 +133,9 @@ fn a_journal_that_is_not_gone_on_with(rt: HostRuntime) -> Result<(), Fail> {
 #[test]
 fn each_failing_write_of_the_whole_leaves_a_beginning(rt: HostRuntime) -> Result<(), Fail> {
     for call in 1..=(REPORT.len() / 5) as u64 {
-        let (ended, written, failures, _) = ends(&rt, rt.alloc(), BEFORE, (0, 0), call)?;
-        assert_eq!(rt; ended, Err(AfterFault::Write));
-        assert_eq!(rt; failures, 1);
-        assert!(rt; REPORT.as_bytes().starts_with(&written));
+        let went = goes(&rt, rt.alloc(), BEFORE, (0, 0), call)?;
+        assert_eq!(rt; went.ended, Err(AfterFault::Write));
+        assert_eq!(rt; (went.failures, went.begins), (1, true));
     }
     Ok(())
 }

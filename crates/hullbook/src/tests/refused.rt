@@ -6,7 +6,9 @@ use crate::run::{RunFault, run};
 use hull_text::TextFault;
 use std::alloc::Global;
 use std::process::Abort;
+use std::sync::Wait;
 use std::test::Fail;
+use std::thread::Threads;
 use text_io::Counted;
 use text_io::testing::{Pieces, Spout};
 
@@ -47,42 +49,61 @@ fn is_memory(fault: RunFault, text: &str, calls: u64) -> bool {
     }
 }
 
+// How a run of the five calls ends, how many bytes it wrote, whether they are its report or that of a refused point, and
+// how often it read.
+fn five_run<R: Threads + Wait + Sync + Abort>(
+    rt: &R,
+    alloc: Global,
+) -> (Result<(), RunFault>, usize, bool, u64) {
+    let mut input = Counted::new(Pieces::new(FIVE.as_bytes(), 1));
+    let mut output = Counted::new(spout(rt, alloc));
+    let ended = run(rt, alloc, &mut input, &mut output, &PLAIN);
+    let written = output.get_ref().bytes();
+    let reported = written == FIVE_REPORT.as_bytes() || written == FIRST_REFUSED.as_bytes();
+    (ended, written.len(), reported, input.get_ref().calls())
+}
+
 /// A run that is refused memory writes nothing and says so, and the next run ends well. Where it is a point that memory
 /// is refused to, the run goes on with that reply.
 #[test]
 fn refused_memory_run(rt: HostRuntime) -> Result<(), Fail> {
-    let mut input = Counted::new(Pieces::new(FIVE.as_bytes(), 1));
-    let mut output = Counted::new(spout(&rt, rt.alloc()));
-    let ended = run(&rt, rt.alloc(), &mut input, &mut output, &PLAIN);
-    let written = output.get_ref().bytes();
+    let (ended, written, reported, calls) = five_run(&rt, rt.alloc());
     match ended {
-        Ok(()) => {
-            assert!(rt; written == FIVE_REPORT.as_bytes() || written == FIRST_REFUSED.as_bytes());
-        }
+        Ok(()) => assert!(rt; reported),
         Err(fault) => {
-            assert!(rt; is_memory(fault, FIVE, input.get_ref().calls()));
-            assert_eq!(rt; written.len(), 0);
+            assert!(rt; is_memory(fault, FIVE, calls));
+            assert_eq!(rt; written, 0);
             assert!(rt; runs_to(&rt, rt.alloc(), FIVE, &PLAIN, FIVE_REPORT)?);
         }
     }
     Ok(())
 }
 
+// How a check of the journal ends, how many bytes it wrote, whether they call it legal, and how often it read.
+fn journal_check(
+    rt: &impl Abort,
+    alloc: Global,
+) -> (Result<Option<u32>, RunFault>, usize, bool, u64) {
+    let mut input = Counted::new(Pieces::new(JOURNAL.as_bytes(), 1));
+    let mut output = Counted::new(spout(rt, alloc));
+    let ended = check_text(alloc, &mut input, &mut output, &Silence);
+    let written = output.get_ref().bytes();
+    let legal = written == "legal\n".as_bytes();
+    (ended, written.len(), legal, input.get_ref().calls())
+}
+
 /// A check that is refused memory writes nothing and says so, and the next check ends well.
 #[test]
 fn refused_memory_check(rt: HostRuntime) -> Result<(), Fail> {
-    let mut input = Counted::new(Pieces::new(JOURNAL.as_bytes(), 1));
-    let mut output = Counted::new(spout(&rt, rt.alloc()));
-    let ended = check_text(rt.alloc(), &mut input, &mut output, &Silence);
-    let written = output.get_ref().bytes();
+    let (ended, written, legal, calls) = journal_check(&rt, rt.alloc());
     match ended {
         Ok(wrong) => {
             assert_eq!(rt; wrong, None);
-            assert!(rt; written == "legal\n".as_bytes());
+            assert!(rt; legal);
         }
         Err(fault) => {
-            assert!(rt; is_memory(fault, JOURNAL, input.get_ref().calls()));
-            assert_eq!(rt; written.len(), 0);
+            assert!(rt; is_memory(fault, JOURNAL, calls));
+            assert_eq!(rt; written, 0);
             assert_eq!(rt; judges(rt.alloc(), JOURNAL, "legal\n")?, Some(true));
         }
     }
