@@ -110,9 +110,11 @@ fn opens_for_all_seats(rt: HostRuntime) -> Result<(), Fail> {
     for (capacity, workers) in [(1, 64), (65536, 1)] {
         let set = PlainSet::new(rt.alloc(), 4);
         let (book, ledgers) = opened(&rt, set, rt.alloc(), 0, capacity, workers);
-        assert_eq!(rt; (book.capacity(), book.workers()), (capacity, workers));
-        assert_eq!(rt; ledgers.len(), usize::from(workers));
-        assert_eq!(rt; gather(&book, ledgers), 0);
+        let told = (book.capacity(), book.workers(), ledgers.len());
+        let count = gather(&book, ledgers);
+        drop(book);
+        let expected = (capacity, workers, usize::from(workers));
+        assert!(rt; told == expected && count == 0);
     }
     Ok(())
 }
@@ -422,13 +424,13 @@ fn refused_once(rt: &impl Abort, alloc: Global, p: Point) -> Journal {
 fn refused_memory_open(rt: HostRuntime) -> Result<(), Fail> {
     let set = PlainSet::new(rt.alloc(), 4);
     let (book, ledgers) = opened(&rt, set, rt.alloc(), 7, 2, 3);
-    assert_eq!(rt; ledgers.len(), 3);
-    assert_eq!(rt; (book.first(), book.limit(), book.capacity()), (7, 4, 2));
-    assert_eq!(rt;
-        (book.workers(), book.turn(), book.lines().len()),
-        (3, 7, 0)
-    );
-    assert_eq!(rt; gather(&book, ledgers), 0);
+    let seats = ledgers.len();
+    let head = (book.first(), book.limit(), book.capacity());
+    let state = (book.workers(), book.turn(), book.lines().len());
+    let count = gather(&book, ledgers);
+    drop(book);
+    assert!(rt; seats == 3 && count == 0);
+    assert!(rt; head == (7, 4, 2) && state == (3, 7, 0));
     Ok(())
 }
 

@@ -3,6 +3,7 @@ mod films;
 
 ghost use Rattle.std.specs.Prelude.{◌<◌, ◌^◌};
 
+use crate::devices::device;
 use hull_draw::{DrawFault, DrawOptions, draw};
 use hull_text::TextFault;
 use std::alloc::Global;
@@ -100,24 +101,36 @@ fn wrong_line_is_told(rt: HostRuntime) -> Result<(), Fail> {
     Ok(())
 }
 
-// How a drawing of the triangle ends with a read and a write that fail, and how many bytes it wrote.
-fn ends(alloc: Global, reads: u64, writes: u64) -> Result<(Result<(), DrawFault>, usize), Fail> {
-    let mut input = Counted::new(Pieces::new(TRIANGLE.as_bytes(), 7).failing_at(reads));
-    let mut output = Counted::new(Spout::new(alloc, 8192, 5)?.failing_at(writes));
+// How a drawing ends, and how many bytes it wrote.
+fn ends_with(alloc: Global, source: Pieces<'_>, device: Spout) -> (Result<(), DrawFault>, usize) {
+    let mut input = Counted::new(source);
+    let mut output = Counted::new(device);
     let ended = draw(alloc, &mut input, &mut output, &ALL);
-    Ok((ended, output.get_ref().bytes().len()))
+    (ended, output.get_ref().bytes().len())
+}
+
+// How a drawing of the triangle ends with a read and a write that fail, and how many bytes it wrote.
+fn ends(alloc: Global, reads: u64, writes: u64) -> Option<(Result<(), DrawFault>, usize)> {
+    let source = Pieces::new(TRIANGLE.as_bytes(), 7).failing_at(reads);
+    let device = device(alloc, 8192, 5, writes, false)?;
+    Some(ends_with(alloc, source, device))
 }
 
 #[test]
 fn faults_are_told(rt: HostRuntime) -> Result<(), Fail> {
+    let device = Spout::new(rt.alloc(), 8192, 5)?;
+    let unknown = ends_with(rt.alloc(), Pieces::new(b"hullbook journal 4\n", 7), device);
+    let reading = ends(rt.alloc(), 2, 0);
+    let writing = [ends(rt.alloc(), 0, 1), ends(rt.alloc(), 0, 3)];
     let read = DrawFault::Text(TextFault { number: 8, line: 1 });
-    assert_eq!(rt; ends(rt.alloc(), 2, 0)?, (Err(read), 0));
-    assert_eq!(rt; ends(rt.alloc(), 0, 1)?, (Err(DrawFault::Write), 0));
-    assert_eq!(rt; ends(rt.alloc(), 0, 3)?, (Err(DrawFault::Write), 10));
-    let mut input = Counted::new(Pieces::new(b"hullbook journal 4\n", 7));
-    let mut output = Counted::new(Spout::new(rt.alloc(), 8192, 5)?);
     let fault = DrawFault::Text(TextFault { number: 7, line: 1 });
-    assert_eq!(rt; draw(rt.alloc(), &mut input, &mut output, &ALL), Err(fault));
-    assert_eq!(rt; output.get_ref().bytes().len(), 0);
+    assert!(rt; reading == Some((Err(read), 0)) && unknown == (Err(fault), 0));
+    assert!(rt;
+        writing
+            == [
+                Some((Err(DrawFault::Write), 0)),
+                Some((Err(DrawFault::Write), 10)),
+            ]
+    );
     Ok(())
 }

@@ -12,20 +12,24 @@ use hull_book::{
 use hull_plain::{HullSet, PlainSet, Rules};
 use lattice::Point;
 use std::alloc::Global;
+use std::process::Abort;
 use std::test::Fail;
+
+// The journal of these lines, the first of which has the greatest number.
+fn journal_of<const N: usize>(alloc: Global, lines: [Line; N]) -> Result<Journal, Fail> {
+    let lines = Vec::from_array(alloc, lines)?;
+    Ok(Journal::new(u64::MAX, 4, 4, lines, Rules::Counted).ok_or("a limit")?)
+}
 
 // A journal of three lines by seats 0 and 2, whose numbers go past the greatest.
 fn journal(alloc: Global) -> Result<Journal, Fail> {
     let p = Point::new(5, 5)?;
-    let lines = Vec::from_array(
-        alloc,
-        [
-            Line::new(18446744073709551615, 2, Call::Add(p), Reply::Added),
-            Line::new(0, 0, Call::Add(p), Reply::Again(2)),
-            Line::new(1, 2, Call::Count, Reply::PointCount(1)),
-        ],
-    )?;
-    Ok(Journal::new(18446744073709551615, 4, 4, lines, Rules::Counted).ok_or("a limit")?)
+    let lines = [
+        Line::new(18446744073709551615, 2, Call::Add(p), Reply::Added),
+        Line::new(0, 0, Call::Add(p), Reply::Again(2)),
+        Line::new(1, 2, Call::Count, Reply::PointCount(1)),
+    ];
+    journal_of(alloc, lines)
 }
 
 // A plain set that holds what a journal left, and the journal, by three workers.
@@ -91,21 +95,31 @@ fn a_book_goes_on_where_its_journal_ends(rt: HostRuntime) -> Result<(), Fail> {
     Ok(())
 }
 
+// How a book of this capacity is refused, the number of points of its set then, and the lines and the capacity of its
+// journal.
+fn refusal(
+    rt: &impl Abort,
+    alloc: Global,
+    capacity: u32,
+) -> Result<(BookFault, u32, usize, u32), Fail> {
+    let (set, journal) = replayed(alloc, journal(alloc)?)?;
+    match Book::reopen(alloc, set, journal, capacity, 3) {
+        Ok(_) => panic!(rt; "a capacity of {capacity} is refused"),
+        Err((fault, set, journal)) => Ok((
+            fault,
+            set.count(),
+            journal.lines().len(),
+            journal.capacity(),
+        )),
+    }
+}
+
 /// Set and journal come back where the capacity is refused.
 #[test]
 fn a_capacity_that_is_not_enough_is_refused(rt: HostRuntime) -> Result<(), Fail> {
     for capacity in [0, 2, CAPACITY_LIMIT + 1] {
-        let (set, journal) = replayed(rt.alloc(), journal(rt.alloc())?)?;
-        let (fault, set, journal) = match Book::reopen(rt.alloc(), set, journal, capacity, 3) {
-            Ok((book, ledgers)) => {
-                let _lines = gather(&book, ledgers);
-                return Err(Fail::new("the capacity is refused"));
-            }
-            Err(refused) => refused,
-        };
-        assert_eq!(rt; fault, BookFault::Capacity);
-        assert_eq!(rt; set.count(), 1);
-        assert_eq!(rt; (journal.lines().len(), journal.capacity()), (3, 4));
+        let refused = refusal(&rt, rt.alloc(), capacity)?;
+        assert!(rt; refused == (BookFault::Capacity, 1, 3, 4), "{capacity}");
     }
     Ok(())
 }

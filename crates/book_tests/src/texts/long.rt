@@ -1,75 +1,137 @@
+use crate::devices::{Got, got, is_whole};
 use hull_book::Journal;
 use hull_plain::Reply;
-use hull_text::{Counted, read_journal, write_journal};
+use hull_text::{Counted, TextFault, WriteFault, read_journal, write_journal};
 use std::alloc::Global;
 use std::io::BufWriter;
-use std::test::Fail;
+use std::process::Abort;
 use text_io::testing::{Pieces, Spout};
 
 /// How many points the list has: more than any reader would hold by chance, and no power of two.
 const COUNT: u32 = 5000;
 
-// The text of a journal with one list of points (k, -k).
-fn long_text(alloc: Global) -> Result<Vec<u8>, Fail> {
-    let mut text =
-        b"hullbook journal 2 first 0 limit 8 capacity 8\n0 0 vertices = list 5000".to_vec(alloc)?;
-    for k in 0..COUNT {
-        text.extend_from_slice(format!(in alloc; " {k} {}", 0i64 - i64::from(k))?.as_bytes())?;
-    }
-    text.extend_from_slice(b"\nend 1\n")?;
-    Ok(text)
+// Puts the point (k, -k) behind a text.
+fn push_point(alloc: Global, text: &mut Vec<u8>, k: u32) -> Option<()> {
+    let words = format!(in alloc; " {k} {}", 0i64 - i64::from(k)).ok()?;
+    text.extend_from_slice(words.as_bytes()).ok()
 }
 
-fn long_journal(alloc: Global, text: &[u8], size: usize) -> Result<Journal, Fail> {
-    match read_journal(alloc, &mut Counted::new(Pieces::new(text, size))) {
-        Ok(journal) => Ok(journal),
-        Err(fault) => Err(fault.into()),
+// Puts a journal with one list of points (k, -k) behind a text.
+fn push_journal(alloc: Global, text: &mut Vec<u8>) -> Option<()> {
+    let header = b"hullbook journal 2 first 0 limit 8 capacity 8\n0 0 vertices = list 5000";
+    text.extend_from_slice(header).ok()?;
+    for k in 0..COUNT {
+        push_point(alloc, text, k)?;
+    }
+    text.extend_from_slice(b"\nend 1\n").ok()
+}
+
+// The text of that journal.
+fn long_text(rt: &impl Abort, alloc: Global) -> Vec<u8> {
+    let mut text = Vec::new(alloc);
+    let pushed = push_journal(alloc, &mut text);
+    assert!(rt; pushed.is_some());
+    text
+}
+
+// Whether a journal has one line with a list of 5000 points, two of which are those of their numbers.
+fn has_the_list(journal: &Journal) -> bool {
+    let [line] = journal.lines() else {
+        return false;
+    };
+    let Reply::VertexList(points) = &line.reply else {
+        return false;
+    };
+    let points = points.as_slice();
+    points.len() == 5000
+        && points[4097].x() == 4097
+        && points[4097].y() == -4097
+        && points[4999].x() == 4999
+        && points[4999].y() == -4999
+}
+
+// How a journal goes out to a device.
+fn sent(journal: &Journal, device: Spout, text: &[u8]) -> (Result<(), WriteFault>, Got) {
+    let mut out = Counted::new(device);
+    let outcome = write_journal(journal, &mut out);
+    (outcome, got(&out, text))
+}
+
+// What comes of reading a text in pieces of this size and writing it to a device: whether the list is there, how it
+// went out, and how many calls the reader made.
+type Passed = (bool, Result<(), WriteFault>, Got, u64);
+
+fn passed(alloc: Global, text: &[u8], size: usize, device: Spout) -> Result<Passed, TextFault> {
+    let mut source = Counted::new(Pieces::new(text, size));
+    let journal = read_journal(alloc, &mut source)?;
+    let has_list = has_the_list(&journal);
+    let (outcome, got) = sent(&journal, device, text);
+    Ok((has_list, outcome, got, source.get_ref().calls()))
+}
+
+// The same of a device that takes pieces of another size, where there is memory for it.
+fn passed_on(alloc: Global, text: &[u8], size: usize, taken: usize) -> Option<Passed> {
+    let device = Spout::new(alloc, text.len(), taken).ok()?;
+    passed(alloc, text, size, device).ok()
+}
+
+// Whether a text is read in pieces of this size and written back.
+fn is_written_back(alloc: Global, text: &[u8], size: usize) -> bool {
+    match passed_on(alloc, text, size, 4096) {
+        Some((has_list, outcome, got, _)) => {
+            has_list && outcome == Ok(()) && is_whole(got, text)
+        }
+        None => false,
     }
 }
 
 // A reader that says that memory was refused for a list of more than 4096 points meets its contract.
 #[test]
-fn a_list_of_5000_points_is_read_and_written_back(rt: HostRuntime) -> Result<(), Fail> {
-    let text = long_text(rt.alloc())?;
-    for size in [3, 4096, 1048576] {
-        let journal = long_journal(rt.alloc(), &text, size)?;
-        let [line] = journal.lines() else {
-            return Err("one line".into());
-        };
-        let Reply::VertexList(points) = &line.reply else {
-            return Err("a list".into());
-        };
-        let points = points.as_slice();
-        assert_eq!(rt; points.len(), 5000);
-        assert!(rt; points[4097].x() == 4097 && points[4097].y() == -4097);
-        assert!(rt; points[4999].x() == 4999 && points[4999].y() == -4999);
-        let mut out = Counted::new(Spout::new(rt.alloc(), text.len(), 4096)?);
-        assert_eq!(rt; write_journal(&journal, &mut out), Ok(()));
-        assert!(rt; out.get_ref().bytes() == text.as_slice());
+fn a_list_of_5000_points_is_read_and_written_back(rt: HostRuntime) {
+    let text = long_text(&rt, rt.alloc());
+    let are_back = [
+        is_written_back(rt.alloc(), &text, 3),
+        is_written_back(rt.alloc(), &text, 4096),
+        is_written_back(rt.alloc(), &text, 1048576),
+    ];
+    drop(text);
+    assert!(rt; are_back == [true; 3]);
+}
+
+// Whether a text is read and goes out behind a block that holds the whole of it, and how often the device is called
+// then.
+fn calls_behind_a_block(alloc: Global, text: &[u8], blocks: BufWriter<Spout>) -> Option<u64> {
+    let Ok(journal) = read_journal(alloc, &mut Counted::new(Pieces::new(text, 1048576))) else {
+        return None;
+    };
+    let mut out = Counted::new(blocks);
+    let outcome = write_journal(&journal, &mut out);
+    if outcome == Ok(()) {
+        Some(out.get_ref().get_ref().calls())
+    } else {
+        None
     }
-    Ok(())
+}
+
+// The same, where there is memory for the block.
+fn calls_of_a_block(alloc: Global, text: &[u8]) -> Option<u64> {
+    let device = Spout::new(alloc, text.len(), 1048576).ok()?;
+    let blocks = BufWriter::with_capacity(alloc, 65536, device).ok()?;
+    calls_behind_a_block(alloc, text, blocks)
 }
 
 // A reader that takes a byte at a call, and a writer that hands on a byte at a call, meet their contracts. A device
 // that is wide enough is read in one call for a block of 65536 bytes, and once more for the end.
 #[test]
-fn a_wide_device_is_called_once_a_piece(rt: HostRuntime) -> Result<(), Fail> {
-    let text = long_text(rt.alloc())?;
-    assert!(rt; text.len() > 49152 && text.len() < 65536);
-    let mut source = Counted::new(Pieces::new(&text, 1048576));
-    let journal = match read_journal(rt.alloc(), &mut source) {
-        Ok(journal) => journal,
-        Err(fault) => return Err(fault.into()),
-    };
-    assert_eq!(rt; source.get_ref().calls(), 2);
+fn a_wide_device_is_called_once_a_piece(rt: HostRuntime) {
+    let text = long_text(&rt, rt.alloc());
+    let length = text.len();
+    let passed = passed_on(rt.alloc(), &text, 1048576, 1048576);
+    let in_one = calls_of_a_block(rt.alloc(), &text);
+    drop(text);
+    assert!(rt; length > 49152 && length < 65536);
     // the header is written in 13 pieces, the line in 11 and its points in 4 each, and the end line in 4
-    let mut out = Counted::new(Spout::new(rt.alloc(), text.len(), 1048576)?);
-    assert_eq!(rt; write_journal(&journal, &mut out), Ok(()));
-    assert_eq!(rt; out.get_ref().calls(), 20028);
+    assert!(rt; passed == Some((true, Ok(()), (true, length, 20028, 0), 2)));
     // behind a block that holds the whole text the device is called once
-    let device = Spout::new(rt.alloc(), text.len(), 1048576)?;
-    let mut out = Counted::new(BufWriter::with_capacity(rt.alloc(), 65536, device)?);
-    assert_eq!(rt; write_journal(&journal, &mut out), Ok(()));
-    assert_eq!(rt; out.get_ref().get_ref().calls(), 1);
-    Ok(())
+    assert!(rt; in_one == Some(1));
 }

@@ -1,9 +1,13 @@
+ghost use Rattle.std.specs.Prelude.{◌<◌};
+
+use crate::devices::{Got, device, got, in_blocks, is_cut, is_whole};
 use hull_book::{Answer, Journal, JournalFull, Report, Script};
 use hull_plain::{Place, PointList, Reply};
 use hull_text::{Counted, WriteFault, read_journal, read_script, report_fits, write_report};
 use lattice::Point;
-use std::alloc::Global;
+use std::alloc::{AllocError, Global};
 use std::io::BufWriter;
+use std::process::Abort;
 use std::test::Fail;
 use text_io::testing::{Pieces, Spout};
 
@@ -15,92 +19,105 @@ const JOURNAL: &[u8] =
 const TEXT: &[u8] =
     b"0 add 0 0 = added\n0 vertices = list 1 0 0\n0 area = full\n1 place 0 0 = outside\n1 tangents 3 0 = tangents 0 0 0 0\nledger 0 2\nledger 1 2\nsum 4 journal 4 capacity 4\n";
 
-fn answers(alloc: Global) -> Result<Vec<Vec<Answer>>, Fail> {
-    let Ok(origin) = Point::new(0, 0) else {
-        return Err("the origin".into());
-    };
-    let mut points = Vec::new(alloc);
-    points.push(origin)?;
-    if points.len() > 1 {
-        return Err("one point".into());
+// A script and a journal of these texts.
+fn texts(rt: &impl Abort, alloc: Global, script: &[u8], journal: &[u8]) -> (Script, Journal) {
+    let script = read_script(alloc, &mut Counted::new(Pieces::new(script, 3)));
+    let journal = read_journal(alloc, &mut Counted::new(Pieces::new(journal, 3)));
+    match (script, journal) {
+        (Ok(script), Ok(journal)) => (script, journal),
+        _ => panic!(rt; "a script and a journal"),
     }
-    let mut first = Vec::new(alloc);
-    first.push(Ok(Reply::Added))?;
-    first.push(Ok(Reply::VertexList(PointList::new(points))))?;
-    first.push(Err(JournalFull))?;
-    let mut second = Vec::new(alloc);
-    second.push(Ok(Reply::Lies(Place::Outside)))?;
-    second.push(Ok(Reply::TangentPoints(origin, origin)))?;
-    let mut all = Vec::new(alloc);
-    all.push(first)?;
-    all.push(second)?;
-    Ok(all)
 }
 
-fn texts(alloc: Global) -> Result<(Script, Journal), Fail> {
-    let script = match read_script(alloc, &mut Counted::new(Pieces::new(SCRIPT, 3))) {
-        Ok(script) => script,
-        Err(fault) => return Err(fault.into()),
-    };
-    match read_journal(alloc, &mut Counted::new(Pieces::new(JOURNAL, 3))) {
-        Ok(journal) => Ok((script, journal)),
-        Err(fault) => Err(fault.into()),
+// The list of these points.
+fn list_of<const N: usize>(alloc: Global, points: [Point; N]) -> Result<Reply, AllocError>
+    requires { N < 16 }
+{
+    Ok(Reply::VertexList(PointList::new(Vec::from_array(alloc, points)?)))
+}
+
+fn answers(alloc: Global, origin: Point) -> Result<Vec<Vec<Answer>>, AllocError> {
+    let list = list_of(alloc, [origin])?;
+    let first = Vec::from_array(alloc, [Ok(Reply::Added), Ok(list), Err(JournalFull)])?;
+    let touched = Reply::TangentPoints(origin, origin);
+    let second = Vec::from_array(alloc, [Ok(Reply::Lies(Place::Outside)), Ok(touched)])?;
+    Ok(Vec::from_array(alloc, [first, second])?)
+}
+
+// How a report goes out to a device, where it fits.
+fn sent(report: &Report<'_>, device: Spout, want: &[u8]) -> Option<(Result<(), WriteFault>, Got)> {
+    if report_fits(report) {
+        let mut out = Counted::new(device);
+        let outcome = write_report(report, &mut out);
+        Some((outcome, got(&out, want)))
+    } else {
+        None
     }
+}
+
+// Whether a report goes out whole in pieces of this size, by how many calls.
+fn sent_whole(alloc: Global, report: &Report<'_>, size: usize, want: &[u8]) -> Option<u64> {
+    let (outcome, got) = sent(report, device(alloc, 512, size, 0, false)?, want)?;
+    let (_, _, calls, _) = got;
+    if outcome == Ok(()) && is_whole(got, want) {
+        Some(calls)
+    } else {
+        None
+    }
+}
+
+// Whether a report goes out whole in pieces of each size.
+fn is_sent_whole(alloc: Global, report: &Report<'_>, want: &[u8]) -> bool {
+    let mut all = true;
+    for size in [1, 2, 3, 4096] {
+        all = sent_whole(alloc, report, size, want).is_some() && all;
+    }
+    all
 }
 
 #[test]
 fn a_report_tells_answers_ledgers_and_their_sum(rt: HostRuntime) -> Result<(), Fail> {
-    let (script, journal) = texts(rt.alloc())?;
-    let answers = answers(rt.alloc())?;
+    let origin = Point::new(0, 0)?;
+    let answers = answers(rt.alloc(), origin)?;
+    let (script, journal) = texts(&rt, rt.alloc(), SCRIPT, JOURNAL);
     let report = Report {
         script: &script,
         answers: &answers,
         ledgers: &[2, 2],
         journal: &journal,
     };
-    let fits = report_fits(&report);
-    assert!(rt; fits);
-    for size in [1, 2, 3, 4096] {
-        let mut out = Counted::new(Spout::new(rt.alloc(), 512, size)?);
-        assert_eq!(rt; write_report(&report, &mut out), Ok(()));
-        assert_eq!(rt; out.get_ref().bytes(), TEXT);
-    }
+    let is_sent = is_sent_whole(rt.alloc(), &report, TEXT);
+    assert!(rt; is_sent);
     Ok(())
+}
+
+/// A point that is held twice for a while: the script, its journal and its report.
+const HELD_SCRIPT: &[u8] = b"0 add 3 4\n0 add 3 4\n0 remove 3 4\n";
+
+const HELD_JOURNAL: &[u8] =
+    b"hullbook journal 3 first 0 limit 1 capacity 3\n0 0 add 3 4 = added\n1 0 add 3 4 = again 2\n2 0 remove 3 4 = left 1\nend 3\n";
+
+const HELD_REPORT: &[u8] =
+    b"0 add 3 4 = added\n0 add 3 4 = again 2\n0 remove 3 4 = left 1\nledger 0 3\nsum 3 journal 3 capacity 3\n";
+
+fn held_answers(alloc: Global) -> Result<Vec<Vec<Answer>>, AllocError> {
+    let only = [Ok(Reply::Added), Ok(Reply::Again(2)), Ok(Reply::Left(1))];
+    let only = Vec::from_array(alloc, only)?;
+    Ok(Vec::from_array(alloc, [only])?)
 }
 
 #[test]
 fn a_report_tells_how_often_a_point_is_held(rt: HostRuntime) -> Result<(), Fail> {
-    let lines = b"0 add 3 4\n0 add 3 4\n0 remove 3 4\n";
-    let script = match read_script(rt.alloc(), &mut Counted::new(Pieces::new(lines, 3))) {
-        Ok(script) => script,
-        Err(fault) => return Err(fault.into()),
-    };
-    let text =
-        b"hullbook journal 3 first 0 limit 1 capacity 3\n0 0 add 3 4 = added\n1 0 add 3 4 = again 2\n2 0 remove 3 4 = left 1\nend 3\n";
-    let journal = match read_journal(rt.alloc(), &mut Counted::new(Pieces::new(text, 3))) {
-        Ok(journal) => journal,
-        Err(fault) => return Err(fault.into()),
-    };
-    let mut only = Vec::new(rt.alloc());
-    only.push(Ok(Reply::Added))?;
-    only.push(Ok(Reply::Again(2)))?;
-    only.push(Ok(Reply::Left(1)))?;
-    let mut answers = Vec::new(rt.alloc());
-    answers.push(only)?;
+    let answers = held_answers(rt.alloc())?;
+    let (script, journal) = texts(&rt, rt.alloc(), HELD_SCRIPT, HELD_JOURNAL);
     let report = Report {
         script: &script,
         answers: &answers,
         ledgers: &[3],
         journal: &journal,
     };
-    let fits = report_fits(&report);
-    assert!(rt; fits);
-    let mut out = Counted::new(Spout::new(rt.alloc(), 256, 3)?);
-    assert_eq!(rt; write_report(&report, &mut out), Ok(()));
-    assert_eq!(rt;
-        out.get_ref().bytes(),
-        b"0 add 3 4 = added\n0 add 3 4 = again 2\n0 remove 3 4 = left 1\nledger 0 3\nsum 3 journal 3 capacity 3\n".as_slice()
-    );
+    let calls = sent_whole(rt.alloc(), &report, 3, HELD_REPORT);
+    assert!(rt; calls.is_some());
     Ok(())
 }
 
@@ -114,120 +131,113 @@ const EXAMPLE_JOURNAL: &[u8] =
 const EXAMPLE_REPORT: &[u8] =
     b"0 add 0 0 = added\n0 add 4 0 = added\n0 add 2 3 = added\n0 add 2 1 = added\n0 remove 2 3 = removed\n0 vertices = list 3 0 0 4 0 2 1\n0 area = area 4\nledger 0 7\nsum 7 journal 7 capacity 8\n";
 
-fn example_answers(alloc: Global) -> Result<Vec<Vec<Answer>>, Fail> {
-    let mut points = Vec::new(alloc);
-    for (x, y) in [(0, 0), (4, 0), (2, 1)] {
-        let Ok(point) = Point::new(x, y) else {
-            return Err("a point".into());
-        };
-        points.push(point)?;
-    }
-    if points.len() > 3 {
-        return Err("three points".into());
-    }
-    let mut only = Vec::new(alloc);
-    for _ in 0..4 {
-        only.push(Ok(Reply::Added))?;
-    }
-    only.push(Ok(Reply::Removed))?;
-    only.push(Ok(Reply::VertexList(PointList::new(points))))?;
-    only.push(Ok(Reply::DoubledArea(4)))?;
-    let mut all = Vec::new(alloc);
-    all.push(only)?;
-    Ok(all)
+fn example_answers(alloc: Global, points: [Point; 3]) -> Result<Vec<Vec<Answer>>, AllocError> {
+    let list = list_of(alloc, points)?;
+    let only = Vec::from_array(
+        alloc,
+        [
+            Ok(Reply::Added),
+            Ok(Reply::Added),
+            Ok(Reply::Added),
+            Ok(Reply::Added),
+            Ok(Reply::Removed),
+            Ok(list),
+            Ok(Reply::DoubledArea(4)),
+        ],
+    )?;
+    Ok(Vec::from_array(alloc, [only])?)
 }
 
-// The report of the example is written to a device that takes pieces of this size and fails at each call in turn:
-// whether the write fault came each time, and a beginning of the text had gone out.
+// Whether the report of the example is cut short at this call of a device that takes pieces of this size.
+fn is_cut_at(
+    alloc: Global,
+    report: &Report<'_>,
+    size: usize,
+    call: u64,
+    refuses: bool,
+) -> Option<bool> {
+    let device = device(alloc, 512, size, call, refuses)?;
+    let (outcome, got) = sent(report, device, EXAMPLE_REPORT)?;
+    Some(outcome == Err(WriteFault) && is_cut(got, call))
+}
+
+// Whether the report of the example goes out whole to a device that takes pieces of this size, and each call which
+// fails cuts it short: the write fault comes each time, and a beginning of the text has gone out.
 fn is_cut_short_at_each_call(
     alloc: Global,
     report: &Report<'_>,
     size: usize,
     refuses: bool,
-) -> Result<bool, Fail> {
-    if !report_fits(report) {
-        return Ok(false);
-    }
-    let mut sound = Counted::new(Spout::new(alloc, 512, size)?);
-    if write_report(report, &mut sound) != Ok(()) || sound.get_ref().bytes() != EXAMPLE_REPORT {
-        return Ok(false);
-    }
-    let calls = sound.get_ref().calls();
+) -> Option<bool> {
+    let calls = sent_whole(alloc, report, size, EXAMPLE_REPORT)?;
+    let mut all = calls > 0;
     for call in 1..=calls {
-        let spout = Spout::new(alloc, 512, size)?;
-        let spout = if refuses {
-            spout.refusing_at(call)
-        } else {
-            spout.failing_at(call)
-        };
-        let mut out = Counted::new(spout);
-        if write_report(report, &mut out) != Err(WriteFault) || out.failures() != 1 {
-            return Ok(false);
-        }
-        if !EXAMPLE_REPORT.starts_with(out.get_ref().bytes()) {
-            return Ok(false);
-        }
+        all = is_cut_at(alloc, report, size, call, refuses)? && all;
     }
-    Ok(calls > 0)
+    Some(all)
+}
+
+// Whether that is so in pieces of each size.
+fn is_cut_short(alloc: Global, report: &Report<'_>, refuses: bool) -> Option<bool> {
+    let mut all = true;
+    for size in [1, 2, 3, 4096] {
+        all = is_cut_short_at_each_call(alloc, report, size, refuses)? && all;
+    }
+    Some(all)
 }
 
 #[test]
 fn each_failing_write_of_the_example_report_leaves_a_beginning(
     rt: HostRuntime,
 ) -> Result<(), Fail> {
-    let script = match read_script(
-        rt.alloc(),
-        &mut Counted::new(Pieces::new(EXAMPLE_SCRIPT, 3)),
-    ) {
-        Ok(script) => script,
-        Err(fault) => return Err(fault.into()),
-    };
-    let journal = match read_journal(
-        rt.alloc(),
-        &mut Counted::new(Pieces::new(EXAMPLE_JOURNAL, 3)),
-    ) {
-        Ok(journal) => journal,
-        Err(fault) => return Err(fault.into()),
-    };
-    let answers = example_answers(rt.alloc())?;
+    let points = [Point::new(0, 0)?, Point::new(4, 0)?, Point::new(2, 1)?];
+    let answers = example_answers(rt.alloc(), points)?;
+    let (script, journal) = texts(&rt, rt.alloc(), EXAMPLE_SCRIPT, EXAMPLE_JOURNAL);
     let report = Report {
         script: &script,
         answers: &answers,
         ledgers: &[7],
         journal: &journal,
     };
-    for size in [1, 2, 3, 4096] {
-        for refuses in [false, true] {
-            assert!(rt; is_cut_short_at_each_call(rt.alloc(), &report, size, refuses)?);
-        }
-    }
+    let failing = is_cut_short(rt.alloc(), &report, false);
+    let refusing = is_cut_short(rt.alloc(), &report, true);
+    assert!(rt; (failing, refusing) == (Some(true), Some(true)));
     Ok(())
+}
+
+// Whether a report fits and goes out whole behind a block.
+fn is_sent_in_blocks(report: &Report<'_>, blocks: BufWriter<Spout>) -> bool {
+    if report_fits(report) {
+        let mut out = Counted::new(blocks);
+        let outcome = write_report(report, &mut out);
+        outcome == Ok(()) && out.get_ref().get_ref().bytes() == TEXT
+    } else {
+        false
+    }
 }
 
 // No contract sees a flush: a writer of blocks would hold back what it was not told to hand on.
 #[test]
 fn a_written_report_reaches_the_device_behind_a_block(rt: HostRuntime) -> Result<(), Fail> {
-    let (script, journal) = texts(rt.alloc())?;
-    let answers = answers(rt.alloc())?;
+    let origin = Point::new(0, 0)?;
+    let answers = answers(rt.alloc(), origin)?;
+    let (script, journal) = texts(&rt, rt.alloc(), SCRIPT, JOURNAL);
     let report = Report {
         script: &script,
         answers: &answers,
         ledgers: &[2, 2],
         journal: &journal,
     };
-    let fits = report_fits(&report);
-    assert!(rt; fits);
-    let device = Spout::new(rt.alloc(), 512, 4096)?;
-    let mut out = Counted::new(BufWriter::with_capacity(rt.alloc(), 4096, device)?);
-    assert_eq!(rt; write_report(&report, &mut out), Ok(()));
-    assert_eq!(rt; out.get_ref().get_ref().bytes(), TEXT);
+    let is_sent = is_sent_in_blocks(&report, in_blocks(&rt, rt.alloc(), 512, 0));
+    assert!(rt; is_sent);
     Ok(())
 }
 
 #[test]
 fn a_report_without_a_ledger_for_each_worker_does_not_fit(rt: HostRuntime) -> Result<(), Fail> {
-    let (script, journal) = texts(rt.alloc())?;
-    let answers = answers(rt.alloc())?;
+    let origin = Point::new(0, 0)?;
+    let answers = answers(rt.alloc(), origin)?;
+    let (script, journal) = texts(&rt, rt.alloc(), SCRIPT, JOURNAL);
     let report = Report {
         script: &script,
         answers: &answers,
