@@ -9,6 +9,47 @@ use std::test::Fail;
 use text_io::Counted;
 use text_io::testing::{Pieces, Spout};
 
+/// Texts that are no journals, each with the number and the line of its first fault.
+const FAULTY: [(&str, u8, u32); 8] = [
+    ("", 6, 1),
+    (
+        "hullbook journal 4 first 0 limit 4 capacity 4\nend 0\n",
+        7,
+        1,
+    ),
+    (
+        "hullbook journal 1 first 0 limit 4 capacity 4\n0 0 add 1048577 0 = added\nend 1\n",
+        3,
+        2,
+    ),
+    (
+        "hullbook journal 1 first 0 limit 4 capacity 4\n0 0 hull = empty\n",
+        5,
+        2,
+    ),
+    (
+        "hullbook journal 3 first 0 limit 4 capacity 4\n0 0 add 0 0 = already\n",
+        5,
+        2,
+    ),
+    (
+        "hullbook journal 2 first 0 limit 4 capacity 4\n0 0 add 0 0 = again 2\n",
+        5,
+        2,
+    ),
+    (
+        "hullbook journal 1 first 0 limit 4 capacity 4\nend 1\n",
+        1,
+        2,
+    ),
+    // behind a line that is not right
+    (
+        "hullbook journal 1 first 0 limit 4 capacity 4\n0 0 add 5 5 = absent\nend 2\n",
+        1,
+        3,
+    ),
+];
+
 // How a check of the journal ends, and how many bytes it wrote.
 fn ends(
     alloc: Global,
@@ -25,46 +66,7 @@ fn ends(
 /// A text that is no journal is told with its fault, and not as an illegal journal or want of memory.
 #[test]
 fn faults_of_a_journal_are_told(rt: HostRuntime) -> Result<(), Fail> {
-    let rows = [
-        ("", 6, 1),
-        (
-            "hullbook journal 4 first 0 limit 4 capacity 4\nend 0\n",
-            7,
-            1,
-        ),
-        (
-            "hullbook journal 1 first 0 limit 4 capacity 4\n0 0 add 1048577 0 = added\nend 1\n",
-            3,
-            2,
-        ),
-        (
-            "hullbook journal 1 first 0 limit 4 capacity 4\n0 0 hull = empty\n",
-            5,
-            2,
-        ),
-        (
-            "hullbook journal 3 first 0 limit 4 capacity 4\n0 0 add 0 0 = already\n",
-            5,
-            2,
-        ),
-        (
-            "hullbook journal 2 first 0 limit 4 capacity 4\n0 0 add 0 0 = again 2\n",
-            5,
-            2,
-        ),
-        (
-            "hullbook journal 1 first 0 limit 4 capacity 4\nend 1\n",
-            1,
-            2,
-        ),
-        // behind a line that is not right
-        (
-            "hullbook journal 1 first 0 limit 4 capacity 4\n0 0 add 5 5 = absent\nend 2\n",
-            1,
-            3,
-        ),
-    ];
-    for (journal, number, line) in rows {
+    for (journal, number, line) in FAULTY {
         let fault = TextFault { number, line };
         assert_eq!(rt;
             ends(rt.alloc(), journal, 0, 0)?,
