@@ -80,6 +80,8 @@ in_c() {
     done
     try "codes.c compiles" compile codes -Wl,--wrap=malloc,--wrap=realloc
     try "every code of every function" "$room/codes"
+    try "full.c compiles" compile full
+    try "as many points as there may be" "$room/full"
     try "refusals.c compiles" compile refusals -Wl,--wrap=malloc,--wrap=realloc,--wrap=free
     try "each request for memory refused in turn" "$room/refusals"
     if echo '#include <ccd/ccd.h>' | cc -E - >/dev/null 2>&1; then

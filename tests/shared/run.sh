@@ -187,12 +187,6 @@ in_python() {
     count "examples/shared/threads.py writes examples/shared/threads.txt and a legal journal" $?
 }
 
-if is_there python3; then
-    python3 "$top/crates/hull_shared/walks/write.py" --check >"$room/told" 2>&1
-    count "the walks are what is made of them" $?
-else
-    skip "the walks beside what makes them" python3
-fi
 "$top/bin/install" --library "$prefix" >"$room/told" 2>&1
 status=$?
 count "bin/install" $status

@@ -1,6 +1,6 @@
 //! Books and journals by values, and memory that is refused.
 ghost use Rattle.std.specs.Prelude.{◌≡◌, ◌≤◌, ◌<◌};
-ghost use Rattle.hull_plain.specs.Held.{nothing_held};
+ghost use Rattle.hull_set.specs.Held.{nothing_held};
 ghost use Rattle.hull_plain.specs.Sets.{plain_set};
 ghost use Rattle.hull_book.specs.Books.{IsLawful};
 ghost use Rattle.hull_book.specs.Ledgers.{AreLedgers};
@@ -9,7 +9,8 @@ use hull_book::{
     Book, BookFault, CAPACITY_LIMIT, Call, CheckResult, Journal, JournalFull, Ledger, Line,
     PointList, Reply, check, gather,
 };
-use hull_plain::{AddReply, HullSet, MULTIPLICITY_LIMIT, POINT_LIMIT, Place, PlainSet, Rules};
+use hull_plain::PlainSet;
+use hull_set::{AddReply, HullSet, MULTIPLICITY_LIMIT, POINT_LIMIT, Place, Rules};
 use lattice::{Direction, Point};
 use std::alloc::Global;
 use std::process::Abort;

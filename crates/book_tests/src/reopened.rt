@@ -9,7 +9,8 @@ use hull_book::{
     Book, BookFault, CAPACITY_LIMIT, Call, CheckResult, Journal, JournalFull, Ledger, Line,
     ReplayFault, Reply, check, gather, replay,
 };
-use hull_plain::{HullSet, PlainSet, Rules};
+use hull_plain::PlainSet;
+use hull_set::{HullSet, Rules};
 use lattice::Point;
 use std::alloc::Global;
 use std::process::Abort;

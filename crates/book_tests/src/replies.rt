@@ -1,6 +1,6 @@
 //! The numbers of all codes, each reply in numbers, and the points and directions of numbers.
-use hull_plain::{Place, Reply};
 use hull_reply::{Code, HullReply, direction_of, point_of, told};
+use hull_set::{Place, Reply};
 use lattice::{COORDINATE_LIMIT, Point};
 use std::process::Abort;
 use std::test::Fail;

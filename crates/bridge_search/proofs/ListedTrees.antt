@@ -21,28 +21,17 @@ pub bridged_more : (e : Entry) (es : List Entry) → 1 ≤ length es → IsBridg
 bridged_more e [] h k = absurd (omega arith)
 bridged_more e (f ∷ es) h k = k
 
--- one point has no upper edge
-pub edge_one : (es : List Entry) → length es < 2 → None ≡ edge_of (listed_tree es)
-edge_one [] h = refl
-edge_one (e ∷ []) h = refl
-edge_one (e ∷ f ∷ es) h = absurd (omega arith)
+-- one point has no edges
+pub edges_one : (es : List Entry) → length es < 2
+    → (None ≡ edge_of (listed_tree es)) × (None ≡ lower_of (listed_tree es))
+edges_one [] h = (refl, refl)
+edges_one (e ∷ []) h = (refl, refl)
+edges_one (e ∷ f ∷ es) h = absurd (omega arith)
 
--- two points and more have the upper edge of the first entry
-pub edge_more : (es : List Entry) (d : Entry) → 2 ≤ length es
-    → Some (slice_index_or es 0 d).1 ≡ edge_of (listed_tree es)
-edge_more [] d h = absurd (omega arith)
-edge_more (e ∷ []) d h = absurd (omega arith)
-edge_more (e ∷ f ∷ es) d h = refl
-
--- one point has no lower edge
-pub lower_one : (es : List Entry) → length es < 2 → None ≡ lower_of (listed_tree es)
-lower_one [] h = refl
-lower_one (e ∷ []) h = refl
-lower_one (e ∷ f ∷ es) h = absurd (omega arith)
-
--- two points and more have the lower edge of the first entry
-pub lower_more : (es : List Entry) (d : Entry) → 2 ≤ length es
-    → Some (slice_index_or es 0 d).2 ≡ lower_of (listed_tree es)
-lower_more [] d h = absurd (omega arith)
-lower_more (e ∷ []) d h = absurd (omega arith)
-lower_more (e ∷ f ∷ es) d h = refl
+-- two points and more have the edges of the first entry
+pub edges_more : (es : List Entry) (d : Entry) → 2 ≤ length es
+    → (Some (slice_index_or es 0 d).1 ≡ edge_of (listed_tree es))
+    × (Some (slice_index_or es 0 d).2 ≡ lower_of (listed_tree es))
+edges_more [] d h = absurd (omega arith)
+edges_more (e ∷ []) d h = absurd (omega arith)
+edges_more (e ∷ f ∷ es) d h = (refl, refl)

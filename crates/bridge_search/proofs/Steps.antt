@@ -21,8 +21,8 @@ grow_left_after : (u1 u2 w : Pair → Type 0) (p q : Pair) → IsAllBefore u1 u2
 grow_left_after u1 u2 w p q o12 o2 low h = record {
   from_left = inl h.from_left;
   to_right = h.to_right;
-  below_left = λ t s. ⊎_elim (h.below_left t) (low t) s;
-  below_right = h.below_right;
+  inner_left = λ t s. ⊎_elim (h.inner_left t) (low t) s;
+  inner_right = h.inner_right;
   tie_left = λ t s e. ⊎_elim (λ a. h.tie_left t a e)
       (λ a. (before_not p t (o12 p t h.from_left a), before_not t q (o2 t q a h.to_right))) s;
   tie_right = h.tie_right;
@@ -34,10 +34,10 @@ grow_left_before : (u1 u2 w : Pair → Type 0) (p q : Pair) → ((t : Pair) → 
 grow_left_before u1 u2 w p q low h = record {
   from_left = inr h.from_left;
   to_right = h.to_right;
-  below_left = λ t s. ⊎_elim
+  inner_left = λ t s. ⊎_elim
       (λ a. let k : orient p q t <ℤ pos 0 = low t a in let g : orient p q t ≤ℤ pos 0 = omega (arith, linear) in g)
-      (h.below_left t) s;
-  below_right = h.below_right;
+      (h.inner_left t) s;
+  inner_right = h.inner_right;
   tie_left = λ t s e. ⊎_elim (λ a. let k : orient p q t <ℤ pos 0 = low t a in absurd (omega (arith, linear)))
       (λ a. h.tie_left t a e) s;
   tie_right = h.tie_right;
@@ -49,8 +49,8 @@ grow_right_before : (u w1 w2 : Pair → Type 0) (p q : Pair) → IsAllBefore w1 
 grow_right_before u w1 w2 p q o12 o1 low h = record {
   from_left = h.from_left;
   to_right = inr h.to_right;
-  below_left = h.below_left;
-  below_right = λ t s. ⊎_elim (low t) (h.below_right t) s;
+  inner_left = h.inner_left;
+  inner_right = λ t s. ⊎_elim (low t) (h.inner_right t) s;
   tie_left = h.tie_left;
   tie_right = λ t s e. ⊎_elim (λ a. (before_not p t (o1 p t h.from_left a), before_not t q (o12 t q a h.to_right)))
       (λ a. h.tie_right t a e) s;
@@ -62,8 +62,8 @@ grow_right_after : (u w1 w2 : Pair → Type 0) (p q : Pair) → ((t : Pair) → 
 grow_right_after u w1 w2 p q low h = record {
   from_left = h.from_left;
   to_right = inl h.to_right;
-  below_left = h.below_left;
-  below_right = λ t s. ⊎_elim (h.below_right t)
+  inner_left = h.inner_left;
+  inner_right = λ t s. ⊎_elim (h.inner_right t)
       (λ a. let k : orient p q t <ℤ pos 0 = low t a in let g : orient p q t ≤ℤ pos 0 = omega (arith, linear) in g) s;
   tie_left = h.tie_left;
   tie_right = λ t s e. ⊎_elim (λ a. h.tie_right t a e)
@@ -78,8 +78,8 @@ to_left_of_left u1 u2 w a b c p q o12 o e inc g h =
     grow_left_after u1 u2 w p q o12 (λ x y i j. o x y (inr i) j)
     (λ t int. under p q a b a t c (o p q (inl h.from_left) h.to_right) (o12 a b e.from_left e.to_right)
     (o12 a t e.from_left int) (o t c (inr int) inc)
-    (h.below_left a e.from_left) (let z : orient a b a ≡ pos 0 = orient_start a b in omega (arith, linear))
-    (h.below_right c inc) g (e.below_right t int))
+    (h.inner_left a e.from_left) (let z : orient a b a ≡ pos 0 = orient_start a b in omega (arith, linear))
+    (h.inner_right c inc) g (e.inner_right t int))
     h
 
 -- b in u is not under cd: w1 is not needed
@@ -90,9 +90,9 @@ to_right_of_right u w1 w2 b c d p q o12 o e inb g h =
     grow_right_before u w1 w2 p q o12 (λ x y i j. o x y i (inl j))
     (λ t int. under p q c d b t d (o p q h.from_left (inr h.to_right)) (o12 c d e.from_left e.to_right)
     (o b t inb (inl int)) (o12 t d int e.to_right)
-    (h.below_left b inb) (let z : orient b c d ≡ orient c d b = orient_cycle b c d in omega (arith, linear))
-    (h.below_right d e.to_right) (let z : orient c d d ≡ pos 0 = orient_end c d in omega (arith, linear))
-    (e.below_left t int))
+    (h.inner_left b inb) (let z : orient b c d ≡ orient c d b = orient_cycle b c d in omega (arith, linear))
+    (h.inner_right d e.to_right) (let z : orient c d d ≡ pos 0 = orient_end c d in omega (arith, linear))
+    (e.inner_left t int))
     h
 
 -- q is under ab: u1 is not needed
@@ -102,8 +102,8 @@ past_left u1 u2 w a b p q o12 o e g h =
     grow_left_before u1 u2 w p q
     (λ t int. over p q a b q b t (o p q (inr h.from_left) h.to_right) (o12 a b e.from_left e.to_right)
     (inr (o12 t b int e.to_right, o b q (inr e.to_right) h.to_right))
-    (let z : orient p q q ≡ pos 0 = orient_end p q in omega (arith, linear)) g (h.below_left b e.to_right)
-    (let z : orient a b b ≡ pos 0 = orient_end a b in omega (arith, linear)) (e.below_left t int))
+    (let z : orient p q q ≡ pos 0 = orient_end p q in omega (arith, linear)) g (h.inner_left b e.to_right)
+    (let z : orient a b b ≡ pos 0 = orient_end a b in omega (arith, linear)) (e.inner_left t int))
     h
 
 -- p is under cd: w2 is not needed
@@ -113,8 +113,8 @@ past_right u w1 w2 c d p q o12 o e g h =
     grow_right_after u w1 w2 p q
     (λ t int. over p q c d p c t (o p q h.from_left (inl h.to_right)) (o12 c d e.from_left e.to_right)
     (inl (o p c h.from_left (inl e.from_left), o12 c t e.from_left int))
-    (let z : orient p q p ≡ pos 0 = orient_start p q in omega (arith, linear)) g (h.below_right c e.from_left)
-    (let z : orient c d c ≡ pos 0 = orient_start c d in omega (arith, linear)) (e.below_right t int))
+    (let z : orient p q p ≡ pos 0 = orient_start p q in omega (arith, linear)) g (h.inner_right c e.from_left)
+    (let z : orient c d c ≡ pos 0 = orient_start c d in omega (arith, linear)) (e.inner_right t int))
     h
 
 -- the crossing is at or before m, which no point of w is before
@@ -129,7 +129,7 @@ to_right_of_left u1 u2 w1 w2 a b c d m p q ou ow o e f g1 g2 at low h =
     (λ over_q. absurd (right_of_crossing a b c d m q (ou a b e.from_left e.to_right)
     (o b c (inr e.to_right) (inl f.from_left)) (ow c d f.from_left f.to_right) g1
     (let z : orient b c d ≡ orient c d b = orient_cycle b c d in omega (arith, linear)) at (low q h.to_right) over_q
-    (⊎_elim (f.below_left q) (f.below_right q) h.to_right)
+    (⊎_elim (f.inner_left q) (f.inner_right q) h.to_right)
     (λ z. (⊎_elim (λ i. f.tie_left q i z) (λ i. f.tie_right q i z) h.to_right).0)))
 
 -- the crossing is after m, which each point of u is before
@@ -143,15 +143,14 @@ to_left_of_right u1 u2 w1 w2 a b c d m p q ou ow o e f g1 g2 after low h =
     (left_of_crossing a b c d m p (ou a b e.from_left e.to_right) (o b c (inr e.to_right) (inl f.from_left))
     (ow c d f.from_left f.to_right) g1
     (let z : orient b c d ≡ orient c d b = orient_cycle b c d in omega (arith, linear)) after (low p h.from_left)
-    (⊎_elim (e.below_left p) (e.below_right p) h.from_left))
+    (⊎_elim (e.inner_left p) (e.inner_right p) h.from_left))
     h
 
 -- w is one point c, under ab
 pub to_right_of_left_one : (u1 u2 : Pair → Type 0) (a b c p q : Pair) → IsAllBefore u1 u2
     → IsAllBefore (Joined u1 u2) (λ t. t ≡ c) → IsUpperBridge u1 u2 a b → orient a b c <ℤ pos 0
     → IsUpperBridge u2 (λ t. t ≡ c) p q → IsUpperBridge (Joined u1 u2) (λ t. t ≡ c) p q
-to_right_of_left_one u1 u2 a b c p q ou o e g h =
-    past_left u1 u2 (λ t. t ≡ c) a b p q ou o e (rw h.to_right g) h
+to_right_of_left_one u1 u2 a b c p q ou o e g h = past_left u1 u2 (λ t. t ≡ c) a b p q ou o e (rw h.to_right g) h
 
 -- u is one point b, under cd
 pub to_left_of_right_one : (w1 w2 : Pair → Type 0) (b c d p q : Pair) → IsAllBefore w1 w2

@@ -185,8 +185,8 @@ done (Leaf x) (Leaf y) m r h k = record {
   bridge = record {
     from_left = refl;
     to_right = refl;
-    below_left = λ t i. rw i (let z : orient x y x ≡ pos 0 = orient_start x y in omega (arith, linear));
-    below_right = λ t i. rw i (let z : orient x y y ≡ pos 0 = orient_end x y in omega (arith, linear));
+    inner_left = λ t i. rw i (let z : orient x y x ≡ pos 0 = orient_start x y in omega (arith, linear));
+    inner_right = λ t i. rw i (let z : orient x y y ≡ pos 0 = orient_end x y in omega (arith, linear));
     tie_left = λ t i z. rw i (λ b. before_irrefl x b, λ b. before_not y x b (r.ordered x y refl refl));
     tie_right = λ t i z. rw i (λ b. before_not y x b (r.ordered x y refl refl), λ b. before_irrefl y b);
   };

@@ -1,12 +1,12 @@
 -- A turn by 180 degrees.
-use Rattle.std.specs.Prelude.{◌≡◌, ℕ, ◌≤◌, pos, neg_ℤ, ◌≤ℤ◌, Option, Some, None}
+use Rattle.std.specs.Prelude.{◌≡◌, ℕ, ◌≤◌, Option, Some, None}
 use Rattle.std.proofs.Common.{refl, ap, subst, ◌∙◌, arith, inl, inr}
-use Rattle.lattice.specs.Plane.{Pair, orient, IsBefore, turned_point}
+use Rattle.lattice.specs.Plane.{Pair, turned_point}
 use Rattle.lattice.specs.Bridges.{IsAllBefore, IsUpperBridge, IsLowerBridge}
 use Rattle.bridge_search.specs.Trees.{Tree, Leaf, Fork, On, IsBridged}
 use Rattle.bridge_search.specs.Trees.{first_of, last_of, height_of, IsAtDepth, highest}
-use Rattle.lattice.specs.Integers.{linear}
-use Rattle.lattice.proofs.TurnedBridges.{turned_twice, IsTurn, order_turned, upper_from_lower, lower_from_upper}
+use Rattle.lattice.specs.declared.side.Side.TheVariants.{Lower, Upper}
+use Rattle.lattice.proofs.TurnedBridges.{turned_twice, IsTurn, order_turned, bridge_turned}
 
 -- an edge turned: its ends turned, in the other order
 abbrev pub turned_pair : Pair × Pair → Pair × Pair
@@ -54,15 +54,15 @@ halves_turned u w = order_turned (On u) (On w) _ _ (turn_of u) (turn_of w)
 -- the upper bridge of the turned halves gives the lower one
 pub lower_from_turned : (u w : Tree) (p q : Pair) → IsUpperBridge (On (turned_tree w)) (On (turned_tree u)) p q
     → IsLowerBridge (On u) (On w) (turned_point q) (turned_point p)
-lower_from_turned u w p q = lower_from_upper (On (turned_tree w)) (On (turned_tree u)) _ _ p q (turn_back w) (turn_back u)
+lower_from_turned u w p q = bridge_turned Upper (On (turned_tree w)) (On (turned_tree u)) _ _ p q (turn_back w) (turn_back u)
 
 -- a half that keeps the law keeps it after a turn
 pub bridged_turned : (t : Tree) → IsBridged t → IsBridged (turned_tree t)
 bridged_turned (Leaf x) h = tt
 bridged_turned (Fork e f u w) h = (
   halves_turned u w h.0,
-  upper_from_lower (On u) (On w) _ _ f.0 f.1 (turn_of u) (turn_of w) h.2,
-  lower_from_upper (On u) (On w) _ _ e.0 e.1 (turn_of u) (turn_of w) h.1,
+  bridge_turned Lower (On u) (On w) _ _ f.0 f.1 (turn_of u) (turn_of w) h.2,
+  bridge_turned Upper (On u) (On w) _ _ e.0 e.1 (turn_of u) (turn_of w) h.1,
   bridged_turned w h.4,
   bridged_turned u h.3,
 )

@@ -7,6 +7,7 @@ use super::half::Half;
 use lattice::{Point, weighted_at_or_before};
 
 /// A turn where `w` is one point: the half of `u`, whose upper edge is ab, that keeps the bridge.
+#[tactic(auto, using(crate::proofs::Turns::is_fork))]
 fn turn_left<H: Half>(u: H, w: H, a: Point, b: Point, m: Point) -> H
     requires ready { IsReady (H.tree u) (H.tree w) m }
     requires edge { edge_of (H.tree u) ≡ Some (a, b) }
@@ -21,6 +22,7 @@ fn turn_left<H: Half>(u: H, w: H, a: Point, b: Point, m: Point) -> H
 }
 
 /// A turn where `u` is one point: the half of `w`, whose upper edge is cd, that keeps the bridge.
+#[tactic(auto, using(crate::proofs::Turns::is_fork))]
 fn turn_right<H: Half>(u: H, w: H, c: Point, d: Point, m: Point) -> H
     requires ready { IsReady (H.tree u) (H.tree w) m }
     requires one { edge_of (H.tree u) ≡ None }

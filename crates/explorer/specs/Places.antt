@@ -1,6 +1,6 @@
 -- Where a player stands: with a seat, a ticket or a guard of the lock, and a ledger that counts its lines.
 use Rattle.std.specs.Prelude.{◌≡◌, ◌<◌, ℕ, Option, IfSome, box_value}
-use Rattle.hull_plain.specs.declared.set.HullSet.{Ghosts}
+use Rattle.hull_set.specs.declared.set.HullSet.{Ghosts}
 use Rattle.hull_book.specs.Books.{IsLawful}
 use Rattle.hull_book.specs.Ledgers.{LedgerValue, IsLedgerOf}
 use Rattle.hull_book.specs.declared.head.BookHead.{BookHead}

@@ -4,7 +4,7 @@ use Rattle.std.proofs.Common.{get_or, refl, ap, arith, append_assoc, length-appe
 use Rattle.std.specs.List.{All}
 use Rattle.std.proofs.lemmas.List.{length-replicate, map-append, replicate-append-replicate}
 use Rattle.std.proofs.lemmas.List.Sums.{sum_by-append, sum_by-cons}
-use Rattle.hull_plain.specs.declared.call.Call.{Call}
+use Rattle.hull_set.specs.declared.call.Call.{Call}
 use Rattle.hull_book.specs.Scripts.{IsScript, PhaseValue, calls_in, calls_in_all, lists_of, with_idle}
 
 -- an empty list at the end of some is one more of them

@@ -1,6 +1,6 @@
 -- What calls were answered.
 use Rattle.std.specs.Prelude.{List, map, Vec, Result}
-use Rattle.hull_plain.specs.declared.reply.Reply.{Reply}
+use Rattle.hull_set.specs.declared.reply.Reply.{Reply}
 use Rattle.hull_book.specs.declared.report.JournalFull.{JournalFull}
 
 -- a reply, or that the journal is full

@@ -2,7 +2,7 @@
 use Rattle.std.specs.Prelude.{◌≡◌, ◌≤◌, ℕ, List, [], ◌∷◌, length, map, max, replicate, sum_by}
 use Rattle.std.specs.Prelude.{slice_index_or, ◌++◌, ◌-◌, Vec}
 use Rattle.std.specs.List.{All}
-use Rattle.hull_plain.specs.declared.call.Call.{Call}
+use Rattle.hull_set.specs.declared.call.Call.{Call}
 use Rattle.hull_book.specs.declared.limits.TheConstants.{SEAT_LIMIT, TEXT_LINE_LIMIT}
 
 -- the calls of a phase: a list for each worker

@@ -5,7 +5,7 @@ ghost use Rattle.hull_book.specs.Ledgers.{AreAllLedgers, sum_of_counts};
 use super::book::Book;
 use super::ledger::Ledger;
 use super::long_book::LongBook;
-use hull_plain::HullSet;
+use hull_set::HullSet;
 
 /// The sum of the counts of the ledgers, which it lets go.
 fn sum_of(mut ledgers: Vec<Ledger>) -> u64

@@ -1,6 +1,6 @@
 use super::journal::Journal;
 use super::script::Script;
-use hull_plain::Reply;
+use hull_set::Reply;
 
 /// The journal has as many lines as its capacity: the call was not served.
 #[derive(Clone, Copy, PartialEq, Eq, Debug)]

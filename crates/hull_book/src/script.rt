@@ -3,7 +3,7 @@ ghost use Rattle.std.specs.List.{All};
 ghost use Rattle.hull_book.specs.Scripts.{IsScript, lists_of, widened, with_idle};
 ghost use Rattle.hull_book.specs.declared.limits.TheConstants.{SEAT_LIMIT};
 
-use hull_plain::Call;
+use hull_set::Call;
 use std::alloc::{AllocError, Global};
 use std::marker::Model;
 

@@ -2,8 +2,8 @@
 use Rattle.std.specs.Prelude.{◌≡◌, ◌⊎◌, ◌≢◌, ◌≤◌, ℕ, List, []}
 use Rattle.lattice.specs.Plane.{Pair}
 use Rattle.lattice.specs.Vertices.{IsVertexList}
-use Rattle.hull_plain.specs.Held.{nothing_held}
-use Rattle.hull_plain.specs.declared.TheConstants.{POINT_LIMIT}
+use Rattle.hull_set.specs.Held.{nothing_held}
+use Rattle.hull_set.specs.declared.TheConstants.{POINT_LIMIT}
 use Rattle.hull_tree.specs.Roots.{held_by}
 use Rattle.hull_tree.specs.Sets.{LimitedTree}
 use Rattle.hull_reply.specs.Corners.{TellsCorners}

@@ -2,7 +2,7 @@
 use Rattle.std.specs.Prelude.{◌≡◌, ◌⊎◌, ℕ, ℤ, pos, List, [], Bool, cond, Option, Some, None, MatchOption, Result}
 use Rattle.std.specs.Prelude.{MatchResult}
 use Rattle.lattice.specs.Plane.{Pair}
-use Rattle.hull_plain.specs.Positions.{origin}
+use Rattle.hull_geometry.specs.Positions.{origin}
 use Rattle.hull_outline.specs.Boxes.{IsBox}
 use Rattle.hull_outline.specs.Extents.{IsDiameter, IsExtent}
 use Rattle.hull_outline.specs.Meetings.{Meets, TellsMeeting, segment}

@@ -3,7 +3,7 @@ use Rattle.std.specs.Prelude.{◌≡◌, ◌⊎◌, ◌≢◌, ◌<◌, ℕ, ℤ
 use Rattle.std.specs.List.{All}
 use Rattle.lattice.specs.Covers.{IsPointSet}
 use Rattle.lattice.specs.Plane.{Pair}
-use Rattle.hull_plain.specs.Held.{Held}
+use Rattle.hull_set.specs.Held.{Held}
 use Rattle.hull_tree.specs.Roots.{held_by}
 use Rattle.hull_tree.specs.Nodes.{IsMultiplicity}
 use Rattle.hull_tree.specs.Loaded.{AreEntries, held_listed, points_listed}

@@ -2,7 +2,7 @@
 use Rattle.std.specs.Prelude.{◌≡◌, ◌⊎◌, ◌≢◌, List, [], length}
 use Rattle.std.specs.List.{All}
 use Rattle.lattice.specs.Plane.{Pair}
-use Rattle.hull_plain.specs.Held.{nothing_held}
+use Rattle.hull_set.specs.Held.{nothing_held}
 use Rattle.hull_tree.specs.Roots.{held_by}
 use Rattle.hull_tree.specs.Sets.{LimitedTree, IsSound}
 use Rattle.hull_tree.specs.Loaded.{AreTooMany, held_after_adds}

@@ -2,12 +2,12 @@
 use Rattle.std.specs.Prelude.{◌≡◌, ◌≢◌, ◌⊎◌, ◌<◌, ℕ, ℤ, List, [], length, drop, min, slice_index_or, Result, Ok, Err}
 use Rattle.std.specs.List.{All}
 use Rattle.lattice.specs.Plane.{Pair}
-use Rattle.hull_plain.specs.Held.{Held}
-use Rattle.hull_plain.specs.Replies.{Answers}
-use Rattle.hull_plain.specs.declared.call.Call.{Call}
-use Rattle.hull_plain.specs.declared.call.Call.TheVariants.{Place, Tangents, Extreme, Area, Vertices}
-use Rattle.hull_plain.specs.declared.reply.Reply.{Reply}
-use Rattle.hull_plain.specs.declared.rules.Rules.TheVariants.{Counted}
+use Rattle.hull_set.specs.Held.{Held}
+use Rattle.hull_set.specs.Replies.{Answers}
+use Rattle.hull_set.specs.declared.call.Call.{Call}
+use Rattle.hull_set.specs.declared.call.Call.TheVariants.{Place, Tangents, Extreme, Area, Vertices}
+use Rattle.hull_set.specs.declared.reply.Reply.{Reply}
+use Rattle.hull_set.specs.declared.rules.Rules.TheVariants.{Counted}
 use Rattle.hull_outline.specs.Outlines.{IsOutlineOf, IsShortOutline}
 use Rattle.hull_reply.specs.Requests.{IsRequestOf}
 use Rattle.hull_reply.specs.Told.{IsBare, IsNumber, Tells}

@@ -1,7 +1,7 @@
 -- What asking an outline about another one comes to, or where it is least wide, in numbers.
 use Rattle.std.specs.Prelude.{◌≡◌, ◌⊎◌, ◌↔◌, ℕ, List, [], Bool, cond, IsTrue, Option, Some, None, MatchOption}
 use Rattle.lattice.specs.Plane.{Pair}
-use Rattle.hull_plain.specs.Positions.{origin}
+use Rattle.hull_geometry.specs.Positions.{origin}
 use Rattle.hull_outline.specs.Boxes.{Holds}
 use Rattle.hull_outline.specs.Closest.{IsDistance}
 use Rattle.hull_outline.specs.Extents.{IsLeastWidth, IsOnePoint}

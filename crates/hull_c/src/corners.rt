@@ -1,8 +1,8 @@
 //! The corners of a hull, in an array of the caller's.
 ghost use Rattle.hull_c.specs.Calls.{AreCorners};
 
-use hull_plain::HullSet;
 use hull_reply::{Code, HullPoint, HullReply, put_corners};
+use hull_set::HullSet;
 use hull_tree::SparingTree;
 
 /// Writes the corners of the hull to the front of the array, if it has room for all of them.

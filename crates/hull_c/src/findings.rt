@@ -1,7 +1,7 @@
 //! Segments, boxes, nearest points and extents of an array of corners.
 ghost use Rattle.std.specs.Prelude.{◌≡◌, Some};
 ghost use Rattle.lattice.specs.Plane.{Pair};
-ghost use Rattle.hull_plain.specs.Positions.{origin};
+ghost use Rattle.hull_geometry.specs.Positions.{origin};
 ghost use Rattle.hull_outline.specs.Outlines.{IsShortOutline};
 ghost use Rattle.hull_c.specs.Findings.{finding_number, AreEndsTold, IsFound, IsNearestTold, IsToldAlong, IsToldOf};
 ghost use Rattle.hull_c.specs.Findings.{IsWidthTold};

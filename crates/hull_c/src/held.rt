@@ -8,8 +8,8 @@ ghost use Rattle.hull_reply.specs.Told.{IsBare};
 ghost use Rattle.hull_c.specs.Held.{AreLoaded, HoldsListed, IsEntry, IsListed, IsWritten};
 
 use heap::Heap;
-use hull_plain::{HullSet, MULTIPLICITY_LIMIT};
 use hull_reply::{Code, HullReply, point_of};
+use hull_set::{HullSet, MULTIPLICITY_LIMIT};
 use hull_tree::SparingTree;
 use lattice::Point;
 use std::marker::Model;
@@ -138,7 +138,7 @@ fn entries_of(alloc: Heap, array: &[HullHeld]) -> Result<Vec<(Point, u32), Heap>
 }
 
 /// Lets all points go.
-fn load_nothing(alloc: Heap, hull: &mut SparingTree) -> HullReply
+fn load_nothing(hull: &mut SparingTree, alloc: Heap) -> HullReply
     ensures { HoldsListed [] hull.old hull.new result }
 {
     *hull = SparingTree::new(alloc, hull.limit());
@@ -146,7 +146,7 @@ fn load_nothing(alloc: Heap, hull: &mut SparingTree) -> HullReply
 }
 
 /// Holds the points of an array that fits, in the place of all that was held; or memory was refused.
-fn load_fitting(alloc: Heap, hull: &mut SparingTree, array: &[HullHeld]) -> HullReply
+fn load_fitting(hull: &mut SparingTree, alloc: Heap, array: &[HullHeld]) -> HullReply
     requires read { All IsEntry array.now }
     requires entries { AreEntries array.now }
     requires few { length array.now ≤ hull.old.limit }
@@ -164,11 +164,11 @@ fn load_fitting(alloc: Heap, hull: &mut SparingTree, array: &[HullHeld]) -> Hull
 }
 
 /// Holds the points of an array, each as often as it says, in the place of all that was held.
-pub(crate) fn load(alloc: Heap, hull: &mut SparingTree, array: &[HullHeld]) -> HullReply
+pub(crate) fn load(hull: &mut SparingTree, alloc: Heap, array: &[HullHeld]) -> HullReply
     ensures { AreLoaded array.now hull.old hull.new result }
 {
     if array.is_empty() {
-        return load_nothing(alloc, hull);
+        return load_nothing(hull, alloc);
     }
     if !are_entries(array) {
         return HullReply::bare(Code::OutOfRange);
@@ -179,5 +179,5 @@ pub(crate) fn load(alloc: Heap, hull: &mut SparingTree, array: &[HullHeld]) -> H
     if array.len() > hull.limit() as usize {
         return HullReply::bare(Code::TooMany);
     }
-    load_fitting(alloc, hull, array)
+    load_fitting(hull, alloc, array)
 }

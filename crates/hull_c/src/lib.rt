@@ -106,13 +106,13 @@ pub unsafe extern "C" fn hull_calls(
 ///
 /// A hull lies at `at`, and no other call on it is under way.
 #[unsafe(no_mangle)]
-pub unsafe extern "C" fn hull_load(alloc: Heap, at: *mut u8, points: &[HullPoint]) -> HullReply
+pub unsafe extern "C" fn hull_load(at: *mut u8, alloc: Heap, points: &[HullPoint]) -> HullReply
     ghost t: { the_row.Denot }
     requires* { sem 𝓛 (lies_at the_row full_share at t) }
     ensures* { sem 𝓛 (leaves the_row at (λ new. IsLoaded points.now t new result)) }
 {
     let hull = at as *mut SparingTree;
-    load::load(alloc, unsafe { &mut *hull }, points)
+    load::load(unsafe { &mut *hull }, alloc, points)
 }
 
 /// Holds the points of the array, which are in order by x and then y, each as often as it says, in the place of all that the
@@ -122,13 +122,13 @@ pub unsafe extern "C" fn hull_load(alloc: Heap, at: *mut u8, points: &[HullPoint
 ///
 /// A hull lies at `at`, and no other call on it is under way.
 #[unsafe(no_mangle)]
-pub unsafe extern "C" fn hull_load_held(alloc: Heap, at: *mut u8, held: &[HullHeld]) -> HullReply
+pub unsafe extern "C" fn hull_load_held(at: *mut u8, alloc: Heap, held: &[HullHeld]) -> HullReply
     ghost t: { the_row.Denot }
     requires* { sem 𝓛 (lies_at the_row full_share at t) }
     ensures* { sem 𝓛 (leaves the_row at (λ new. AreLoaded held.now t new result)) }
 {
     let hull = at as *mut SparingTree;
-    held::load(alloc, unsafe { &mut *hull }, held)
+    held::load(unsafe { &mut *hull }, alloc, held)
 }
 
 /// Writes the points from (`x`, `y`) on by x and then y, each with how often it is held, to the front of the array, until
@@ -174,13 +174,13 @@ pub unsafe extern "C" fn hull_bridges(at: *mut u8, level: u32, out: &mut [HullBr
 ///
 /// A hull lies at `at`, and no other call on it is under way.
 #[unsafe(no_mangle)]
-pub unsafe extern "C" fn hull_clear(alloc: Heap, at: *mut u8) -> HullReply
+pub unsafe extern "C" fn hull_clear(at: *mut u8, alloc: Heap) -> HullReply
     ghost t: { the_row.Denot }
     requires* { sem 𝓛 (lies_at the_row full_share at t) }
     ensures* { sem 𝓛 (leaves the_row at (λ new. IsCleared t new result)) }
 {
     let hull = at as *mut SparingTree;
-    calls::clear(alloc, unsafe { &mut *hull })
+    calls::clear(unsafe { &mut *hull }, alloc)
 }
 
 /// How many points the hull takes.

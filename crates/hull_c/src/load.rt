@@ -5,8 +5,8 @@ ghost use Rattle.hull_reply.specs.Coordinates.{IsPointOf};
 ghost use Rattle.hull_c.specs.Loads.{IsLoaded, IsUnread, HasCoordinates};
 
 use heap::Heap;
-use hull_plain::HullSet;
 use hull_reply::{Code, HullPoint, HullReply, point_of};
+use hull_set::HullSet;
 use hull_tree::{LoadFault, SparingTree};
 use lattice::Point;
 
@@ -44,7 +44,7 @@ pub(crate) fn points_of(alloc: Heap, array: &[HullPoint]) -> Result<Vec<Point, H
 }
 
 /// Holds the points of an array, each as often as it stands there, in the place of all that was held.
-pub(crate) fn load(alloc: Heap, hull: &mut SparingTree, array: &[HullPoint]) -> HullReply
+pub(crate) fn load(hull: &mut SparingTree, alloc: Heap, array: &[HullPoint]) -> HullReply
     ensures { IsLoaded array.now hull.old hull.new result }
 {
     if array.is_empty() {

@@ -9,10 +9,10 @@ use super::load::points_of;
 use super::requests::HullRequest;
 use heap::Heap;
 use hull_outline::Outline;
-use hull_plain::{Call, Reply};
 use hull_reply::{
     Code, HullPoint, HullReply, Request, extreme_reply, request_of, tangents_reply, told,
 };
+use hull_set::{Call, Reply};
 use lattice::{Direction, Point};
 
 /// Where a point lies.

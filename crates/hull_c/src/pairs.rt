@@ -1,6 +1,6 @@
 //! Two arrays of corners, and strips round one.
 ghost use Rattle.std.specs.Prelude.{◌≡◌, Some};
-ghost use Rattle.hull_plain.specs.Positions.{origin};
+ghost use Rattle.hull_geometry.specs.Positions.{origin};
 ghost use Rattle.hull_outline.specs.Outlines.{IsShortOutline};
 ghost use Rattle.hull_outline.specs.declared.witnesses.Witness.TheVariants as witness;
 ghost use Rattle.hull_c.specs.Findings.{finding_number};

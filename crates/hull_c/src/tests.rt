@@ -2,8 +2,8 @@
 use super::calls;
 use super::corners::vertices;
 use super::requests::{HullRequest, calls_of};
-use hull_plain::{MULTIPLICITY_LIMIT, POINT_LIMIT};
 use hull_reply::{Code, HullPoint, HullReply};
+use hull_set::{MULTIPLICITY_LIMIT, POINT_LIMIT};
 use hull_tree::SparingTree;
 use lattice::COORDINATE_LIMIT;
 use std::process::Abort;
@@ -77,7 +77,7 @@ fn changes(rt: HostRuntime) {
     }
     is_bare(&rt, calls::call(&mut hull, 1, -far, far), 5);
     is_number(&rt, calls::call(&mut hull, 8, 0, 0), 17, 1);
-    is_bare(&rt, calls::clear(rt.alloc(), &mut hull), 20);
+    is_bare(&rt, calls::clear(&mut hull, rt.alloc()), 20);
     is_number(&rt, calls::call(&mut hull, 8, 0, 0), 17, 0);
     is_number(&rt, calls::limit(&mut hull), 17, 2);
 }

@@ -1,4 +1,3 @@
-pub mod Pieces
 pub mod Rows
 pub mod MarkLabels
 pub mod Edges

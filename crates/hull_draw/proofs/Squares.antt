@@ -14,17 +14,17 @@ use Rattle.std.specs.List.{All, Contains}
 use Rattle.lattice.proofs.Order.{before_total, is_before-true, is_before-false, before_not, before_irrefl}
 use Rattle.lattice.specs.Covers.{without_point}
 use Rattle.lattice.specs.Plane.{Pair, IsBefore}
-use Rattle.hull_plain.proofs.SetLaws.{members_with}
-use Rattle.hull_plain.specs.Held.{Held, nothing_held}
-use Rattle.hull_plain.specs.Replies.{Answers, after}
-use Rattle.hull_plain.specs.declared.call.Call.{Call}
-use Rattle.hull_plain.specs.declared.call.Call.TheVariants.{Add, Remove, Extreme, Place, Tangents, Vertices, Area}
-use Rattle.hull_plain.specs.declared.call.Call.TheVariants.{Count}
-use Rattle.hull_plain.specs.declared.reply.Reply.{Reply}
-use Rattle.hull_plain.specs.declared.reply.Reply.TheVariants.{Added, Already, Again, TooMany, NoMemory, Removed, Left}
-use Rattle.hull_plain.specs.declared.reply.Reply.TheVariants.{Absent, Farthest, Empty, Lies, TangentPoints, NoTangent}
-use Rattle.hull_plain.specs.declared.reply.Reply.TheVariants.{VertexList, DoubledArea, PointCount}
-use Rattle.hull_plain.specs.declared.rules.Rules.{Rules}
+use Rattle.hull_geometry.proofs.SetLaws.{members_with}
+use Rattle.hull_set.specs.Held.{Held, nothing_held}
+use Rattle.hull_set.specs.Replies.{Answers, after}
+use Rattle.hull_set.specs.declared.call.Call.{Call}
+use Rattle.hull_set.specs.declared.call.Call.TheVariants.{Add, Remove, Extreme, Place, Tangents, Vertices, Area}
+use Rattle.hull_set.specs.declared.call.Call.TheVariants.{Count}
+use Rattle.hull_set.specs.declared.reply.Reply.{Reply}
+use Rattle.hull_set.specs.declared.reply.Reply.TheVariants.{Added, Already, Again, TooMany, NoMemory, Removed, Left}
+use Rattle.hull_set.specs.declared.reply.Reply.TheVariants.{Absent, Farthest, Empty, Lies, TangentPoints, NoTangent}
+use Rattle.hull_set.specs.declared.reply.Reply.TheVariants.{VertexList, DoubledArea, PointCount}
+use Rattle.hull_set.specs.declared.rules.Rules.{Rules}
 use Rattle.hull_tree.specs.Roots.{held_by}
 use Rattle.hull_book.specs.History.{IsRight, AreRight, IsLegal, replay, held_after}
 use Rattle.hull_book.specs.Journals.{JournalValue}

@@ -2,8 +2,8 @@
 use Rattle.std.specs.Prelude.{◌==◌, ◌-◌, ◌++◌, leb, max, min, ℕ, unsigned_abs, List, [], ◌∷◌, length, take, codes}
 use Rattle.std.specs.Prelude.{if◌then◌else◌}
 use Rattle.lattice.specs.Plane.{Pair}
-use Rattle.hull_plain.specs.declared.reply.Reply.{Reply}
-use Rattle.hull_plain.specs.declared.reply.Reply.TheVariants.{VertexList}
+use Rattle.hull_set.specs.declared.reply.Reply.{Reply}
+use Rattle.hull_set.specs.declared.reply.Reply.TheVariants.{VertexList}
 use Rattle.hull_book.specs.declared.line.Line.{Line}
 use Rattle.hull_text.specs.Spaced.{spaced}
 use Rattle.hull_text.specs.Spelling.{call_fields, points_fields, reply_fields}

@@ -2,8 +2,8 @@
 -- on.
 use Rattle.std.specs.Prelude.{◌==◌, ◌+◌, ℕ, List, [], ◌∷◌, ◌++◌, length, Option, Some, None, codes, if◌then◌else◌}
 use Rattle.lattice.specs.Plane.{Pair}
-use Rattle.hull_plain.specs.declared.reply.Reply.{Reply}
-use Rattle.hull_plain.specs.declared.reply.Reply.TheVariants.{TooMany, NoMemory, Farthest, TangentPoints}
+use Rattle.hull_set.specs.declared.reply.Reply.{Reply}
+use Rattle.hull_set.specs.declared.reply.Reply.TheVariants.{TooMany, NoMemory, Farthest, TangentPoints}
 use Rattle.hull_book.specs.declared.line.Line.{Line}
 use Rattle.hull_draw.specs.declared.frame.Frame.{Frame}
 use Rattle.hull_draw.specs.declared.film_picture.TheConstants.{FILM_STYLE}

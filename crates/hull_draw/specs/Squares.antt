@@ -2,8 +2,8 @@
 use Rattle.std.specs.Prelude.{◌≡◌, List, [], ◌∷◌, Option, Some, None}
 use Rattle.std.specs.List.{All}
 use Rattle.lattice.specs.Plane.{Pair}
-use Rattle.hull_plain.specs.declared.reply.Reply.{Reply}
-use Rattle.hull_plain.specs.declared.reply.Reply.TheVariants.{Farthest, TangentPoints}
+use Rattle.hull_set.specs.declared.reply.Reply.{Reply}
+use Rattle.hull_set.specs.declared.reply.Reply.TheVariants.{Farthest, TangentPoints}
 use Rattle.hull_book.specs.declared.line.Line.{Line}
 use Rattle.hull_draw.specs.declared.frame.Frame.{Frame}
 use Rattle.hull_draw.specs.Films.{call_point}

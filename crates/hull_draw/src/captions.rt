@@ -1,15 +1,15 @@
-ghost use Rattle.std.specs.Prelude.{◌≡◌, ◌≤◌, ◌<◌, ◌-◌, ◌^◌, OnOk, IsOk, length};
-ghost use Rattle.text_io.specs.Write.{WritesOn};
+ghost use Rattle.std.specs.Prelude.{◌≡◌, ◌≤◌, ◌<◌, ◌-◌, ◌^◌, OnOk, length};
+ghost use Rattle.text_io.specs.Write.{WritesAfter};
 ghost use Rattle.hull_draw.specs.Captions.{widest_from, room_for, corners_told, left_out_text, list_text};
 ghost use Rattle.hull_draw.specs.Captions.{reply_text, call_line_text, reply_line_text, caption_text};
 
 use super::legend::line_start_after;
-use super::shapes::{Done, told_after};
+use super::shapes::told_after;
 use hull_book::Line;
-use hull_plain::Reply;
+use hull_set::Reply;
 use hull_text::{call_after, points_after, reply_after};
 use lattice::Point;
-use text_io::{Sink, put_after};
+use text_io::{Done, Sink, put_after};
 
 /// The greatest size of a coordinate of these points.
 #[tactic(auto, unfolding(crate::specs::Captions::widest_from))]
@@ -51,10 +51,7 @@ fn corners_told(corners: &[Point]) -> usize
 /// Writes how many corners are left out, where any are.
 fn left_out_after<W: Sink>(done: Done, out: &mut W, count: usize) -> Done
     requires { OnOk done (W.failed out.old < 2 ^ 64 - 1) }
-    ensures wrote { WritesOn done result (W.contents out.old) (W.contents out.new) (W.failed out.old) (W.failed out.new)
-        (left_out_text count) }
-    ensures kept { OnOk result (W.failed out.new ≡ W.failed out.old) }
-    ensures was { OnOk result (IsOk done) }
+    ensures { WritesAfter W.contents W.failed done result out.old out.new (left_out_text count) }
 {
     if count == 0 {
         return done;
@@ -66,10 +63,7 @@ fn left_out_after<W: Sink>(done: Done, out: &mut W, count: usize) -> Done
 /// Writes a list of corners, as far as it has room.
 fn list_after<W: Sink>(done: Done, out: &mut W, corners: &[Point]) -> Done
     requires { OnOk done (W.failed out.old < 2 ^ 64 - 1) }
-    ensures wrote { WritesOn done result (W.contents out.old) (W.contents out.new) (W.failed out.old) (W.failed out.new)
-        (list_text corners.now) }
-    ensures kept { OnOk result (W.failed out.new ≡ W.failed out.old) }
-    ensures was { OnOk result (IsOk done) }
+    ensures { WritesAfter W.contents W.failed done result out.old out.new (list_text corners.now) }
 {
     let count = corners_told(corners);
     let done = told_after(done, out, b" list ", corners.len());
@@ -80,10 +74,7 @@ fn list_after<W: Sink>(done: Done, out: &mut W, corners: &[Point]) -> Done
 /// Writes a reply as a journal has it, but for a list that is too long.
 fn short_reply_after<W: Sink>(done: Done, out: &mut W, reply: &Reply) -> Done
     requires { OnOk done (W.failed out.old < 2 ^ 64 - 1) }
-    ensures wrote { WritesOn done result (W.contents out.old) (W.contents out.new) (W.failed out.old) (W.failed out.new)
-        (reply_text reply.now) }
-    ensures kept { OnOk result (W.failed out.new ≡ W.failed out.old) }
-    ensures was { OnOk result (IsOk done) }
+    ensures { WritesAfter W.contents W.failed done result out.old out.new (reply_text reply.now) }
 {
     match reply {
         Reply::VertexList(corners) => list_after(done, out, corners.as_slice()),
@@ -95,10 +86,7 @@ fn short_reply_after<W: Sink>(done: Done, out: &mut W, reply: &Reply) -> Done
 fn call_line_after<W: Sink>(done: Done, out: &mut W, size: u64, line: &Line) -> Done
     requires room { OnOk done (W.failed out.old < 2 ^ 64 - 1) }
     requires small { size < 2 ^ 20 }
-    ensures wrote { WritesOn done result (W.contents out.old) (W.contents out.new) (W.failed out.old) (W.failed out.new)
-        (call_line_text size line.now) }
-    ensures kept { OnOk result (W.failed out.new ≡ W.failed out.old) }
-    ensures was { OnOk result (IsOk done) }
+    ensures { WritesAfter W.contents W.failed done result out.old out.new (call_line_text size line.now) }
 {
     let done = line_start_after(done, out, size, 164);
     let done = put_after(done, out, b"' class='b'>");
@@ -110,10 +98,7 @@ fn call_line_after<W: Sink>(done: Done, out: &mut W, size: u64, line: &Line) -> 
 fn reply_line_after<W: Sink>(done: Done, out: &mut W, size: u64, line: &Line) -> Done
     requires room { OnOk done (W.failed out.old < 2 ^ 64 - 1) }
     requires small { size < 2 ^ 20 }
-    ensures wrote { WritesOn done result (W.contents out.old) (W.contents out.new) (W.failed out.old) (W.failed out.new)
-        (reply_line_text size line.now) }
-    ensures kept { OnOk result (W.failed out.new ≡ W.failed out.old) }
-    ensures was { OnOk result (IsOk done) }
+    ensures { WritesAfter W.contents W.failed done result out.old out.new (reply_line_text size line.now) }
 {
     let done = line_start_after(done, out, size, 186);
     let done = put_after(done, out, b"' class='b'>=");
@@ -125,10 +110,7 @@ fn reply_line_after<W: Sink>(done: Done, out: &mut W, size: u64, line: &Line) ->
 pub(crate) fn caption_after<W: Sink>(done: Done, out: &mut W, size: u64, line: &Line) -> Done
     requires room { OnOk done (W.failed out.old < 2 ^ 64 - 1) }
     requires small { size < 2 ^ 20 }
-    ensures wrote { WritesOn done result (W.contents out.old) (W.contents out.new) (W.failed out.old) (W.failed out.new)
-        (caption_text size line.now) }
-    ensures kept { OnOk result (W.failed out.new ≡ W.failed out.old) }
-    ensures was { OnOk result (IsOk done) }
+    ensures { WritesAfter W.contents W.failed done result out.old out.new (caption_text size line.now) }
 {
     let done = call_line_after(done, out, size, line);
     reply_line_after(done, out, size, line)

@@ -1,5 +1,5 @@
-ghost use Rattle.std.specs.Prelude.{◌≡◌, ◌<◌, ◌≤◌, ◌-◌, ◌^◌, ◌++◌, OnOk, IsOk, length};
-ghost use Rattle.text_io.specs.Write.{WritesOn, WritesText};
+ghost use Rattle.std.specs.Prelude.{◌≡◌, ◌<◌, ◌≤◌, ◌-◌, ◌^◌, ◌++◌, OnOk, length};
+ghost use Rattle.text_io.specs.Write.{WritesAfter, WritesText};
 ghost use Rattle.hull_draw.specs.declared.shots.TheConstants.{FRAME_LIMIT};
 ghost use Rattle.hull_draw.specs.FilmTexts.{ray_text, tangents_text, farthest_text, found_text, right_found_text};
 ghost use Rattle.hull_draw.specs.FilmTexts.{asked_words, asked_text, call_text, call_shown_text, hidden_again_text};
@@ -10,14 +10,14 @@ ghost use Rattle.hull_draw.specs.Films.{call_point};
 use super::captions::caption_after;
 use super::frame::Frame;
 use super::legend::legend_after;
-use super::picture::{put_head, shown_after};
+use super::picture::{head_after, shown_after};
 use super::scene::Scene;
-use super::shapes::{Done, dot_after, square_after, told_after};
+use super::shapes::{dot_after, square_after, told_after};
 use super::shots::call_point;
 use hull_book::Line;
-use hull_plain::Reply;
+use hull_set::Reply;
 use lattice::Point;
-use text_io::{Sink, flush_after, put_after};
+use text_io::{Done, Sink, flush_after, put_after};
 
 /// How a call is coloured: its point (`q`), or that of a refused one (`x`), the two
 /// tangents from there (`f`), and the farthest point (`e`); `b` is the caption.
@@ -33,10 +33,7 @@ fn ray_after<W: Sink>(
     point: Point,
 ) -> Done
     requires { OnOk done (W.failed out.old < 2 ^ 64 - 1) }
-    ensures wrote { WritesOn done result (W.contents out.old) (W.contents out.new) (W.failed out.old) (W.failed out.new)
-        (ray_text frame.now asked.now point) }
-    ensures kept { OnOk result (W.failed out.new ≡ W.failed out.old) }
-    ensures was { OnOk result (IsOk done) }
+    ensures { WritesAfter W.contents W.failed done result out.old out.new (ray_text frame.now asked.now point) }
 {
     match asked {
         None => dot_after(done, out, frame, point),
@@ -58,10 +55,7 @@ fn tangents_after<W: Sink>(
     ends: (Point, Point),
 ) -> Done
     requires { OnOk done (W.failed out.old < 2 ^ 64 - 1) }
-    ensures wrote { WritesOn done result (W.contents out.old) (W.contents out.new) (W.failed out.old) (W.failed out.new)
-        (tangents_text frame.now asked.now ends.0 ends.1) }
-    ensures kept { OnOk result (W.failed out.new ≡ W.failed out.old) }
-    ensures was { OnOk result (IsOk done) }
+    ensures { WritesAfter W.contents W.failed done result out.old out.new (tangents_text frame.now asked.now ends.0 ends.1) }
 {
     let done = put_after(done, out, b"<path class='f' d='");
     let done = ray_after(done, out, frame, asked, ends.0);
@@ -72,10 +66,7 @@ fn tangents_after<W: Sink>(
 /// Writes the point that lies farthest.
 fn farthest_after<W: Sink>(done: Done, out: &mut W, frame: &Frame, point: Point) -> Done
     requires { OnOk done (W.failed out.old < 2 ^ 64 - 1) }
-    ensures wrote { WritesOn done result (W.contents out.old) (W.contents out.new) (W.failed out.old) (W.failed out.new)
-        (farthest_text frame.now point) }
-    ensures kept { OnOk result (W.failed out.new ≡ W.failed out.old) }
-    ensures was { OnOk result (IsOk done) }
+    ensures { WritesAfter W.contents W.failed done result out.old out.new (farthest_text frame.now point) }
 {
     let done = put_after(done, out, b"<path class='e' d='");
     let done = dot_after(done, out, frame, point);
@@ -91,10 +82,7 @@ fn found_after<W: Sink>(
     reply: &Reply,
 ) -> Done
     requires { OnOk done (W.failed out.old < 2 ^ 64 - 1) }
-    ensures wrote { WritesOn done result (W.contents out.old) (W.contents out.new) (W.failed out.old) (W.failed out.new)
-        (found_text frame.now asked.now reply.now) }
-    ensures kept { OnOk result (W.failed out.new ≡ W.failed out.old) }
-    ensures was { OnOk result (IsOk done) }
+    ensures { WritesAfter W.contents W.failed done result out.old out.new (found_text frame.now asked.now reply.now) }
 {
     match reply {
         Reply::Farthest(point) => farthest_after(done, out, frame, *point),
@@ -115,10 +103,7 @@ fn right_found_after<W: Sink>(
     reply: &Reply,
 ) -> Done
     requires { OnOk done (W.failed out.old < 2 ^ 64 - 1) }
-    ensures wrote { WritesOn done result (W.contents out.old) (W.contents out.new) (W.failed out.old) (W.failed out.new)
-        (right_found_text frame.now wrong asked.now reply.now) }
-    ensures kept { OnOk result (W.failed out.new ≡ W.failed out.old) }
-    ensures was { OnOk result (IsOk done) }
+    ensures { WritesAfter W.contents W.failed done result out.old out.new (right_found_text frame.now wrong asked.now reply.now) }
 {
     match wrong {
         None => found_after(done, out, frame, asked, reply),
@@ -129,10 +114,7 @@ fn right_found_after<W: Sink>(
 /// How the point of a call begins: one that was refused stands out.
 fn put_asked_words<W: Sink>(done: Done, out: &mut W, reply: &Reply) -> Done
     requires { OnOk done (W.failed out.old < 2 ^ 64 - 1) }
-    ensures wrote { WritesOn done result (W.contents out.old) (W.contents out.new) (W.failed out.old) (W.failed out.new)
-        (asked_words reply.now) }
-    ensures kept { OnOk result (W.failed out.new ≡ W.failed out.old) }
-    ensures was { OnOk result (IsOk done) }
+    ensures { WritesAfter W.contents W.failed done result out.old out.new (asked_words reply.now) }
 {
     match reply {
         Reply::TooMany | Reply::NoMemory => put_after(done, out, b"<path class='x' d='"),
@@ -149,10 +131,7 @@ fn asked_after<W: Sink>(
     reply: &Reply,
 ) -> Done
     requires { OnOk done (W.failed out.old < 2 ^ 64 - 1) }
-    ensures wrote { WritesOn done result (W.contents out.old) (W.contents out.new) (W.failed out.old) (W.failed out.new)
-        (asked_text frame.now asked.now reply.now) }
-    ensures kept { OnOk result (W.failed out.new ≡ W.failed out.old) }
-    ensures was { OnOk result (IsOk done) }
+    ensures { WritesAfter W.contents W.failed done result out.old out.new (asked_text frame.now asked.now reply.now) }
 {
     match asked {
         None => done,
@@ -174,10 +153,7 @@ fn call_marks_after<W: Sink>(
     line: &Line,
 ) -> Done
     requires { OnOk done (W.failed out.old < 2 ^ 64 - 1) }
-    ensures wrote { WritesOn done result (W.contents out.old) (W.contents out.new) (W.failed out.old) (W.failed out.new)
-        (call_text size frame.now wrong line.now) }
-    ensures kept { OnOk result (W.failed out.new ≡ W.failed out.old) }
-    ensures was { OnOk result (IsOk done) }
+    ensures { WritesAfter W.contents W.failed done result out.old out.new (call_text size frame.now wrong line.now) }
 {
     let asked = call_point(&line.call);
     let done = square_after(done, out, size, frame.side());
@@ -196,10 +172,7 @@ fn call_shown_after<W: Sink>(
     line: &Line,
 ) -> Done
     requires { OnOk done (W.failed out.old < 2 ^ 64 - 1) }
-    ensures wrote { WritesOn done result (W.contents out.old) (W.contents out.new) (W.failed out.old) (W.failed out.new)
-        (call_shown_text size frame.now wrong line.now) }
-    ensures kept { OnOk result (W.failed out.new ≡ W.failed out.old) }
-    ensures was { OnOk result (IsOk done) }
+    ensures { WritesAfter W.contents W.failed done result out.old out.new (call_shown_text size frame.now wrong line.now) }
 {
     match frame {
         None => done,
@@ -211,10 +184,7 @@ fn call_shown_after<W: Sink>(
 fn hidden_again_after<W: Sink>(done: Done, out: &mut W, count: usize, place: usize) -> Done
     requires room { OnOk done (W.failed out.old < 2 ^ 64 - 1) }
     requires inside { place < count }
-    ensures wrote { WritesOn done result (W.contents out.old) (W.contents out.new) (W.failed out.old) (W.failed out.new)
-        (hidden_again_text count place) }
-    ensures kept { OnOk result (W.failed out.new ≡ W.failed out.old) }
-    ensures was { OnOk result (IsOk done) }
+    ensures { WritesAfter W.contents W.failed done result out.old out.new (hidden_again_text count place) }
 {
     let next = place + 1;
     if next == count {
@@ -229,10 +199,7 @@ fn hidden_again_after<W: Sink>(done: Done, out: &mut W, count: usize, place: usi
 fn frame_start_after<W: Sink>(done: Done, out: &mut W, count: usize, place: usize) -> Done
     requires room { OnOk done (W.failed out.old < 2 ^ 64 - 1) }
     requires inside { place < count }
-    ensures wrote { WritesOn done result (W.contents out.old) (W.contents out.new) (W.failed out.old) (W.failed out.new)
-        (frame_start_text count place) }
-    ensures kept { OnOk result (W.failed out.new ≡ W.failed out.old) }
-    ensures was { OnOk result (IsOk done) }
+    ensures { WritesAfter W.contents W.failed done result out.old out.new (frame_start_text count place) }
 {
     let start = b"<g><set attributeName='display' to='none' begin='-1s' end='";
     let done = told_after(done, out, start, place);
@@ -244,10 +211,7 @@ fn frame_start_after<W: Sink>(done: Done, out: &mut W, count: usize, place: usiz
 fn frame_end_after<W: Sink>(done: Done, out: &mut W, size: u64, line: &Line) -> Done
     requires room { OnOk done (W.failed out.old < 2 ^ 64 - 1) }
     requires small { size < 2 ^ 20 }
-    ensures wrote { WritesOn done result (W.contents out.old) (W.contents out.new) (W.failed out.old) (W.failed out.new)
-        (frame_end_text size line.now) }
-    ensures kept { OnOk result (W.failed out.new ≡ W.failed out.old) }
-    ensures was { OnOk result (IsOk done) }
+    ensures { WritesAfter W.contents W.failed done result out.old out.new (frame_end_text size line.now) }
 {
     let done = caption_after(done, out, size, line);
     put_after(done, out, b"</g>\n")
@@ -264,10 +228,7 @@ fn frame_after<W: Sink>(
 ) -> Done
     requires room { OnOk done (W.failed out.old < 2 ^ 64 - 1) }
     requires small { size < 2 ^ 20 }
-    ensures wrote { WritesOn done result (W.contents out.old) (W.contents out.new) (W.failed out.old) (W.failed out.new)
-        (shot_text size frame.now scene.now line.now) }
-    ensures kept { OnOk result (W.failed out.new ≡ W.failed out.old) }
-    ensures was { OnOk result (IsOk done) }
+    ensures { WritesAfter W.contents W.failed done result out.old out.new (shot_text size frame.now scene.now line.now) }
 {
     let done = shown_after(done, out, size, frame, scene);
     let done = call_shown_after(done, out, size, frame, scene.wrong, line);
@@ -287,10 +248,8 @@ fn frames_after<W: Sink>(
     requires room { OnOk done (W.failed out.old < 2 ^ 64 - 1) }
     requires small { size < 2 ^ 20 }
     requires few { length scenes.now ≤ FRAME_LIMIT }
-    ensures wrote { WritesOn done result (W.contents out.old) (W.contents out.new) (W.failed out.old) (W.failed out.new)
+    ensures { WritesAfter W.contents W.failed done result out.old out.new
         (frames_text size frame.now (length scenes.now) 0 scenes.now lines.now) }
-    ensures kept { OnOk result (W.failed out.new ≡ W.failed out.old) }
-    ensures was { OnOk result (IsOk done) }
 {
     let mut done = done;
     let mut place = 0;
@@ -312,10 +271,7 @@ fn frames_after<W: Sink>(
 /// Writes which calls are played.
 fn title_after<W: Sink>(done: Done, out: &mut W, count: usize, total: usize) -> Done
     requires { OnOk done (W.failed out.old < 2 ^ 64 - 1) }
-    ensures wrote { WritesOn done result (W.contents out.old) (W.contents out.new) (W.failed out.old) (W.failed out.new)
-        (title_text count total) }
-    ensures kept { OnOk result (W.failed out.new ≡ W.failed out.old) }
-    ensures was { OnOk result (IsOk done) }
+    ensures { WritesAfter W.contents W.failed done result out.old out.new (title_text count total) }
 {
     let done = told_after(done, out, b"<text x='32' y='14'>the first ", count);
     let done = told_after(done, out, b" of ", total);
@@ -342,7 +298,7 @@ pub(crate) fn write_film<W: Sink>(
     ensures { WritesText (W.contents out.old) (W.contents out.new) (W.failed out.old) (W.failed out.new) result
         (film_text size frame.now scenes.now lines.now) }
 {
-    let done = put_head(out, size, 206);
+    let done = head_after(Ok(()), out, size, 206);
     let done = put_after(done, out, FILM_STYLE);
     let done = title_after(done, out, scenes.len(), lines.len());
     let done = frames_after(done, out, size, frame, scenes, lines);

@@ -1,14 +1,14 @@
-ghost use Rattle.std.specs.Prelude.{◌≡◌, ◌<◌, ◌≤◌, ◌-◌, ◌^◌, OnOk, IsOk, None};
-ghost use Rattle.text_io.specs.Write.{WritesOn};
+ghost use Rattle.std.specs.Prelude.{◌≡◌, ◌<◌, ◌≤◌, ◌-◌, ◌^◌, OnOk, None};
+ghost use Rattle.text_io.specs.Write.{WritesAfter};
 ghost use Rattle.hull_draw.specs.Texts.{texts};
 ghost use Rattle.hull_draw.specs.Labels.{place_on_screen, label_place, is_clear, has_label, labelled};
 ghost use Rattle.hull_draw.specs.Labels.{label_text, mark_label_text, labels_text};
 
 use super::frame::Frame;
 use super::marks::{LABEL_LIMIT, Mark};
-use super::shapes::{Done, told_after};
+use super::shapes::told_after;
 use lattice::Point;
-use text_io::{Sink, put_after};
+use text_io::{Done, Sink, put_after};
 
 /// How far to the left or to the right of the last label the next one lies clear of it, in points of the screen.
 pub const LABEL_WIDTH: u64 = 18;
@@ -68,10 +68,7 @@ fn has_label(last: Option<Spot>, place: Spot, times: u32) -> bool
 /// Writes a label.
 fn label_after<W: Sink>(done: Done, out: &mut W, place: Spot, times: u32) -> Done
     requires { OnOk done (W.failed out.old < 2 ^ 64 - 1) }
-    ensures wrote { WritesOn done result (W.contents out.old) (W.contents out.new) (W.failed out.old) (W.failed out.new)
-        (label_text place times) }
-    ensures kept { OnOk result (W.failed out.new ≡ W.failed out.old) }
-    ensures was { OnOk result (IsOk done) }
+    ensures { WritesAfter W.contents W.failed done result out.old out.new (label_text place times) }
 {
     let done = told_after(done, out, b"<text class='t' x='", place.x);
     let done = told_after(done, out, b"' y='", place.y);
@@ -80,7 +77,7 @@ fn label_after<W: Sink>(done: Done, out: &mut W, place: Spot, times: u32) -> Don
 }
 
 /// Writes the labels of those marks that have one.
-#[tactic(auto, using(hull_text::proofs::Chains::chained_start, hull_text::proofs::Chains::chained_end))]
+#[tactic(auto, using(text_io::proofs::Chains::chained_start, text_io::proofs::Chains::chained_end))]
 fn all_labels_after<W: Sink>(
     done: Done,
     out: &mut W,
@@ -90,10 +87,8 @@ fn all_labels_after<W: Sink>(
 ) -> Done
     requires room { OnOk done (W.failed out.old < 2 ^ 64 - 1) }
     requires small { size < 2 ^ 20 }
-    ensures wrote { WritesOn done result (W.contents out.old) (W.contents out.new) (W.failed out.old) (W.failed out.new)
+    ensures { WritesAfter W.contents W.failed done result out.old out.new
         (texts (mark_label_text size frame.now) (labelled size frame.now None marks.now)) }
-    ensures kept { OnOk result (W.failed out.new ≡ W.failed out.old) }
-    ensures was { OnOk result (IsOk done) }
 {
     let mut done = done;
     let mut rest = marks;
@@ -119,10 +114,7 @@ pub(crate) fn labels_after<W: Sink>(
 ) -> Done
     requires room { OnOk done (W.failed out.old < 2 ^ 64 - 1) }
     requires small { size < 2 ^ 20 }
-    ensures wrote { WritesOn done result (W.contents out.old) (W.contents out.new) (W.failed out.old) (W.failed out.new)
-        (labels_text size frame.now marks.now) }
-    ensures kept { OnOk result (W.failed out.new ≡ W.failed out.old) }
-    ensures was { OnOk result (IsOk done) }
+    ensures { WritesAfter W.contents W.failed done result out.old out.new (labels_text size frame.now marks.now) }
 {
     let readable = if marks.len() <= LABEL_LIMIT {
         marks

@@ -1,5 +1,5 @@
-ghost use Rattle.std.specs.Prelude.{◌≡◌, ◌<◌, ◌≤◌, ◌+◌, ◌-◌, ◌^◌, OnOk, IsOk};
-ghost use Rattle.text_io.specs.Write.{WritesOn};
+ghost use Rattle.std.specs.Prelude.{◌≡◌, ◌<◌, ◌≤◌, ◌+◌, ◌-◌, ◌^◌, OnOk};
+ghost use Rattle.text_io.specs.Write.{WritesAfter};
 ghost use Rattle.hull_draw.specs.Legends.{line_start, thinned_text, count_text, area_text, told_signed, range_text};
 ghost use Rattle.hull_draw.specs.Legends.{wrong_text, lines_text, bridges_told_text, numbers_text, drawn_text};
 ghost use Rattle.hull_draw.specs.Legends.{legend_text};
@@ -8,10 +8,10 @@ ghost use Rattle.hull_draw.specs.Shapes.{step_of};
 use super::frame::Frame;
 use super::marks::DRAWN_LIMIT;
 use super::scene::Scene;
-use super::shapes::{Done, told_after};
+use super::shapes::told_after;
 use hull_tree::Bridge;
 use lattice::Point;
-use text_io::{Sink, number_after, put_after};
+use text_io::{Done, Sink, number_after, put_after};
 
 /// The words of the legend's line on bridges, in their colours, behind the place where it stands.
 pub const BRIDGES_TOLD: &[u8] =
@@ -22,10 +22,7 @@ pub(crate) fn line_start_after<W: Sink>(done: Done, out: &mut W, size: u64, belo
     requires room { OnOk done (W.failed out.old < 2 ^ 64 - 1) }
     requires small { size < 2 ^ 20 }
     requires near { below < 2 ^ 20 }
-    ensures wrote { WritesOn done result (W.contents out.old) (W.contents out.new) (W.failed out.old) (W.failed out.new)
-        (line_start size below) }
-    ensures kept { OnOk result (W.failed out.new ≡ W.failed out.old) }
-    ensures was { OnOk result (IsOk done) }
+    ensures { WritesAfter W.contents W.failed done result out.old out.new (line_start size below) }
 {
     told_after(done, out, b"<text x='32' y='", size + below)
 }
@@ -33,10 +30,7 @@ pub(crate) fn line_start_after<W: Sink>(done: Done, out: &mut W, size: u64, belo
 /// Writes of how many points one is drawn, where not all are.
 fn thinned_after<W: Sink>(done: Done, out: &mut W, step: usize) -> Done
     requires { OnOk done (W.failed out.old < 2 ^ 64 - 1) }
-    ensures wrote { WritesOn done result (W.contents out.old) (W.contents out.new) (W.failed out.old) (W.failed out.new)
-        (thinned_text step) }
-    ensures kept { OnOk result (W.failed out.new ≡ W.failed out.old) }
-    ensures was { OnOk result (IsOk done) }
+    ensures { WritesAfter W.contents W.failed done result out.old out.new (thinned_text step) }
 {
     if step == 1 {
         return done;
@@ -49,10 +43,7 @@ fn thinned_after<W: Sink>(done: Done, out: &mut W, step: usize) -> Done
 fn count_after<W: Sink>(done: Done, out: &mut W, size: u64, count: usize, limit: u32) -> Done
     requires room { OnOk done (W.failed out.old < 2 ^ 64 - 1) }
     requires small { size < 2 ^ 20 }
-    ensures wrote { WritesOn done result (W.contents out.old) (W.contents out.new) (W.failed out.old) (W.failed out.new)
-        (count_text size count limit) }
-    ensures kept { OnOk result (W.failed out.new ≡ W.failed out.old) }
-    ensures was { OnOk result (IsOk done) }
+    ensures { WritesAfter W.contents W.failed done result out.old out.new (count_text size count limit) }
 {
     let done = line_start_after(done, out, size, 76);
     let done = told_after(done, out, b"'>points ", count);
@@ -66,10 +57,7 @@ fn count_after<W: Sink>(done: Done, out: &mut W, size: u64, count: usize, limit:
 fn area_after<W: Sink>(done: Done, out: &mut W, size: u64, area: u128) -> Done
     requires room { OnOk done (W.failed out.old < 2 ^ 64 - 1) }
     requires small { size < 2 ^ 20 }
-    ensures wrote { WritesOn done result (W.contents out.old) (W.contents out.new) (W.failed out.old) (W.failed out.new)
-        (area_text size area) }
-    ensures kept { OnOk result (W.failed out.new ≡ W.failed out.old) }
-    ensures was { OnOk result (IsOk done) }
+    ensures { WritesAfter W.contents W.failed done result out.old out.new (area_text size area) }
 {
     let done = line_start_after(done, out, size, 98);
     let done = told_after(done, out, b"'>doubled area ", area);
@@ -79,10 +67,7 @@ fn area_after<W: Sink>(done: Done, out: &mut W, size: u64, area: u128) -> Done
 /// Writes words, and the first coordinate of a point behind them.
 fn x_after<W: Sink>(done: Done, out: &mut W, words: &[u8], point: Point) -> Done
     requires { OnOk done (W.failed out.old < 2 ^ 64 - 1) }
-    ensures wrote { WritesOn done result (W.contents out.old) (W.contents out.new) (W.failed out.old) (W.failed out.new)
-        (told_signed words.now point.x) }
-    ensures kept { OnOk result (W.failed out.new ≡ W.failed out.old) }
-    ensures was { OnOk result (IsOk done) }
+    ensures { WritesAfter W.contents W.failed done result out.old out.new (told_signed words.now point.x) }
 {
     let done = put_after(done, out, words);
     number_after(done, out, point.x())
@@ -91,10 +76,7 @@ fn x_after<W: Sink>(done: Done, out: &mut W, words: &[u8], point: Point) -> Done
 /// Writes words, and the second coordinate of a point behind them.
 fn y_after<W: Sink>(done: Done, out: &mut W, words: &[u8], point: Point) -> Done
     requires { OnOk done (W.failed out.old < 2 ^ 64 - 1) }
-    ensures wrote { WritesOn done result (W.contents out.old) (W.contents out.new) (W.failed out.old) (W.failed out.new)
-        (told_signed words.now point.y) }
-    ensures kept { OnOk result (W.failed out.new ≡ W.failed out.old) }
-    ensures was { OnOk result (IsOk done) }
+    ensures { WritesAfter W.contents W.failed done result out.old out.new (told_signed words.now point.y) }
 {
     let done = put_after(done, out, words);
     number_after(done, out, point.y())
@@ -104,10 +86,7 @@ fn y_after<W: Sink>(done: Done, out: &mut W, words: &[u8], point: Point) -> Done
 fn range_after<W: Sink>(done: Done, out: &mut W, size: u64, frame: &Option<Frame>) -> Done
     requires room { OnOk done (W.failed out.old < 2 ^ 64 - 1) }
     requires small { size < 2 ^ 20 }
-    ensures wrote { WritesOn done result (W.contents out.old) (W.contents out.new) (W.failed out.old) (W.failed out.new)
-        (range_text size frame.now) }
-    ensures kept { OnOk result (W.failed out.new ≡ W.failed out.old) }
-    ensures was { OnOk result (IsOk done) }
+    ensures { WritesAfter W.contents W.failed done result out.old out.new (range_text size frame.now) }
 {
     match frame {
         None => done,
@@ -125,10 +104,7 @@ fn range_after<W: Sink>(done: Done, out: &mut W, size: u64, frame: &Option<Frame
 /// Writes which line is wrong, if one is.
 fn wrong_after<W: Sink>(done: Done, out: &mut W, wrong: Option<u32>) -> Done
     requires { OnOk done (W.failed out.old < 2 ^ 64 - 1) }
-    ensures wrote { WritesOn done result (W.contents out.old) (W.contents out.new) (W.failed out.old) (W.failed out.new)
-        (wrong_text wrong) }
-    ensures kept { OnOk result (W.failed out.new ≡ W.failed out.old) }
-    ensures was { OnOk result (IsOk done) }
+    ensures { WritesAfter W.contents W.failed done result out.old out.new (wrong_text wrong) }
 {
     match wrong {
         None => done,
@@ -144,10 +120,7 @@ fn wrong_after<W: Sink>(done: Done, out: &mut W, wrong: Option<u32>) -> Done
 fn lines_after<W: Sink>(done: Done, out: &mut W, size: u64, lines: u32, wrong: Option<u32>) -> Done
     requires room { OnOk done (W.failed out.old < 2 ^ 64 - 1) }
     requires small { size < 2 ^ 20 }
-    ensures wrote { WritesOn done result (W.contents out.old) (W.contents out.new) (W.failed out.old) (W.failed out.new)
-        (lines_text size lines wrong) }
-    ensures kept { OnOk result (W.failed out.new ≡ W.failed out.old) }
-    ensures was { OnOk result (IsOk done) }
+    ensures { WritesAfter W.contents W.failed done result out.old out.new (lines_text size lines wrong) }
 {
     let done = line_start_after(done, out, size, 142);
     let done = told_after(done, out, b"'>calls ", lines);
@@ -159,10 +132,7 @@ fn lines_after<W: Sink>(done: Done, out: &mut W, size: u64, lines: u32, wrong: O
 fn bridges_told_after<W: Sink>(done: Done, out: &mut W, size: u64, bridges: &[Bridge]) -> Done
     requires room { OnOk done (W.failed out.old < 2 ^ 64 - 1) }
     requires small { size < 2 ^ 20 }
-    ensures wrote { WritesOn done result (W.contents out.old) (W.contents out.new) (W.failed out.old) (W.failed out.new)
-        (bridges_told_text size bridges.now) }
-    ensures kept { OnOk result (W.failed out.new ≡ W.failed out.old) }
-    ensures was { OnOk result (IsOk done) }
+    ensures { WritesAfter W.contents W.failed done result out.old out.new (bridges_told_text size bridges.now) }
 {
     match bridges {
         [] => done,
@@ -177,10 +147,7 @@ fn bridges_told_after<W: Sink>(done: Done, out: &mut W, size: u64, bridges: &[Br
 fn numbers_after<W: Sink>(done: Done, out: &mut W, size: u64, scene: &Scene) -> Done
     requires room { OnOk done (W.failed out.old < 2 ^ 64 - 1) }
     requires small { size < 2 ^ 20 }
-    ensures wrote { WritesOn done result (W.contents out.old) (W.contents out.new) (W.failed out.old) (W.failed out.new)
-        (numbers_text size scene.now) }
-    ensures kept { OnOk result (W.failed out.new ≡ W.failed out.old) }
-    ensures was { OnOk result (IsOk done) }
+    ensures { WritesAfter W.contents W.failed done result out.old out.new (numbers_text size scene.now) }
 {
     let done = count_after(done, out, size, scene.marks.len(), scene.limit);
     area_after(done, out, size, scene.area)
@@ -190,10 +157,7 @@ fn numbers_after<W: Sink>(done: Done, out: &mut W, size: u64, scene: &Scene) -> 
 fn drawn_after<W: Sink>(done: Done, out: &mut W, size: u64, scene: &Scene) -> Done
     requires room { OnOk done (W.failed out.old < 2 ^ 64 - 1) }
     requires small { size < 2 ^ 20 }
-    ensures wrote { WritesOn done result (W.contents out.old) (W.contents out.new) (W.failed out.old) (W.failed out.new)
-        (drawn_text size scene.now) }
-    ensures kept { OnOk result (W.failed out.new ≡ W.failed out.old) }
-    ensures was { OnOk result (IsOk done) }
+    ensures { WritesAfter W.contents W.failed done result out.old out.new (drawn_text size scene.now) }
 {
     let done = lines_after(done, out, size, scene.lines, scene.wrong);
     bridges_told_after(done, out, size, &scene.bridges)
@@ -209,10 +173,7 @@ pub(crate) fn legend_after<W: Sink>(
 ) -> Done
     requires room { OnOk done (W.failed out.old < 2 ^ 64 - 1) }
     requires small { size < 2 ^ 20 }
-    ensures wrote { WritesOn done result (W.contents out.old) (W.contents out.new) (W.failed out.old) (W.failed out.new)
-        (legend_text size frame.now scene.now) }
-    ensures kept { OnOk result (W.failed out.new ≡ W.failed out.old) }
-    ensures was { OnOk result (IsOk done) }
+    ensures { WritesAfter W.contents W.failed done result out.old out.new (legend_text size frame.now scene.now) }
 {
     let done = numbers_after(done, out, size, scene);
     let done = range_after(done, out, size, frame);

@@ -5,7 +5,7 @@ ghost use Rattle.hull_tree.specs.Nodes.{tree_of};
 ghost use Rattle.bridge_search.specs.Leaves.{points_of};
 ghost use Rattle.hull_draw.specs.Scenes.{AreMarks};
 
-use hull_plain::HullSet;
+use hull_set::HullSet;
 use hull_tree::{HullTree, Node};
 use lattice::Point;
 use std::alloc::{AllocError, Global};

@@ -1,13 +1,13 @@
-ghost use Rattle.std.specs.Prelude.{◌≡◌, ◌<◌, ◌-◌, ◌^◌, OnOk, IsOk};
-ghost use Rattle.text_io.specs.Write.{WritesOn, WritesText};
+ghost use Rattle.std.specs.Prelude.{◌≡◌, ◌<◌, ◌-◌, ◌^◌, OnOk};
+ghost use Rattle.text_io.specs.Write.{WritesAfter, WritesText};
 ghost use Rattle.hull_draw.specs.Pictures.{set_text, shown_text, head_text, picture_text};
 
 use super::frame::Frame;
 use super::labels::labels_after;
 use super::legend::legend_after;
 use super::scene::Scene;
-use super::shapes::{Done, shapes_after, square_after, told_after};
-use text_io::{Sink, flush_after, number_after, put, put_after};
+use super::shapes::{shapes_after, square_after, told_after};
+use text_io::{Done, Sink, flush_after, put_after};
 
 /// The background, and how the parts of a picture are coloured: dots and lines keep their width whatever the scale is.
 /// Of the bridges (`u` and `l`) those of the root (`v0`) are the widest.
@@ -21,10 +21,7 @@ pub const EMPTY: &[u8] = b"<text x='32' y='46'>the set is empty</text>\n";
 fn set_after<W: Sink>(done: Done, out: &mut W, size: u64, frame: &Frame, scene: &Scene) -> Done
     requires room { OnOk done (W.failed out.old < 2 ^ 64 - 1) }
     requires small { size < 2 ^ 20 }
-    ensures wrote { WritesOn done result (W.contents out.old) (W.contents out.new) (W.failed out.old) (W.failed out.new)
-        (set_text size frame.now scene.now) }
-    ensures kept { OnOk result (W.failed out.new ≡ W.failed out.old) }
-    ensures was { OnOk result (IsOk done) }
+    ensures { WritesAfter W.contents W.failed done result out.old out.new (set_text size frame.now scene.now) }
 {
     let done = square_after(done, out, size, frame.side());
     let done = shapes_after(done, out, frame, scene);
@@ -42,10 +39,7 @@ pub(crate) fn shown_after<W: Sink>(
 ) -> Done
     requires room { OnOk done (W.failed out.old < 2 ^ 64 - 1) }
     requires small { size < 2 ^ 20 }
-    ensures wrote { WritesOn done result (W.contents out.old) (W.contents out.new) (W.failed out.old) (W.failed out.new)
-        (shown_text size frame.now scene.now) }
-    ensures kept { OnOk result (W.failed out.new ≡ W.failed out.old) }
-    ensures was { OnOk result (IsOk done) }
+    ensures { WritesAfter W.contents W.failed done result out.old out.new (shown_text size frame.now scene.now) }
 {
     match frame {
         None => put_after(done, out, EMPTY),
@@ -54,15 +48,14 @@ pub(crate) fn shown_after<W: Sink>(
 }
 
 /// Begins a picture, so much higher than its square.
-pub(crate) fn put_head<W: Sink>(out: &mut W, size: u64, below: u64) -> Done
-    requires room { W.failed out.old < 2 ^ 64 - 1 }
+pub(crate) fn head_after<W: Sink>(done: Done, out: &mut W, size: u64, below: u64) -> Done
+    requires room { OnOk done (W.failed out.old < 2 ^ 64 - 1) }
     requires small { size < 2 ^ 20 }
     requires near { below < 2 ^ 20 }
-    ensures { WritesText (W.contents out.old) (W.contents out.new) (W.failed out.old) (W.failed out.new) result
-        (head_text size below) }
+    ensures { WritesAfter W.contents W.failed done result out.old out.new (head_text size below) }
 {
-    let done = put(out, b"<svg xmlns='http://www.w3.org/2000/svg' width='");
-    let done = number_after(done, out, size + 64);
+    let start = b"<svg xmlns='http://www.w3.org/2000/svg' width='";
+    let done = told_after(done, out, start, size + 64);
     let done = told_after(done, out, b"' height='", size + below);
     let done = put_after(done, out, b"'>\n");
     put_after(done, out, STYLE)
@@ -86,7 +79,7 @@ pub(crate) fn write_picture<W: Sink>(
     ensures { WritesText (W.contents out.old) (W.contents out.new) (W.failed out.old) (W.failed out.new) result
         (picture_text size frame.now scene.now) }
 {
-    let done = put_head(out, size, 184);
+    let done = head_after(Ok(()), out, size, 184);
     let done = shown_after(done, out, size, frame, scene);
     let done = legend_after(done, out, size, frame, scene);
     let done = put_after(done, out, b"</svg>\n");

@@ -7,7 +7,7 @@ use super::drawing::DrawOptions;
 use super::marks::{Mark, marks};
 use super::replaying::replay_right_lines;
 use hull_book::{Journal, Line};
-use hull_plain::{HullSet, NoMemory};
+use hull_set::{HullSet, NoMemory};
 use hull_tree::{Bridge, trees_are_sound};
 use lattice::Point;
 use std::alloc::Global;

@@ -1,5 +1,5 @@
-ghost use Rattle.std.specs.Prelude.{◌≡◌, ◌<◌, ◌≤◌, ◌-◌, ◌^◌, ◌++◌, OnOk, IsOk, codes, decimal, length};
-ghost use Rattle.text_io.specs.Write.{WritesOn};
+ghost use Rattle.std.specs.Prelude.{◌≡◌, ◌<◌, ◌≤◌, ◌-◌, ◌^◌, ◌++◌, OnOk, codes, decimal, length};
+ghost use Rattle.text_io.specs.Write.{WritesAfter};
 ghost use Rattle.hull_draw.specs.Texts.{texts};
 ghost use Rattle.hull_draw.specs.Shapes.{corner_text, polygon_text, dot_text, corner_dots_text, every, mark_dot_text};
 ghost use Rattle.hull_draw.specs.Shapes.{all_dots_text, bridge_line_text, bridge_text, square_text, shapes_text};
@@ -10,10 +10,7 @@ use super::scene::Scene;
 use hull_tree::Bridge;
 use itoa::Integer;
 use lattice::Point;
-use text_io::{Sink, WriteFault, number_after, put_after};
-
-/// What was written so far.
-pub(crate) type Done = Result<(), WriteFault>;
+use text_io::{Done, Sink, number_after, put_after};
 
 /// Writes words, and a number behind them.
 pub(crate) fn told_after<W: Sink, N: Integer>(
@@ -23,10 +20,7 @@ pub(crate) fn told_after<W: Sink, N: Integer>(
     number: N,
 ) -> Done
     requires { OnOk done (W.failed out.old < 2 ^ 64 - 1) }
-    ensures wrote { WritesOn done result (W.contents out.old) (W.contents out.new) (W.failed out.old) (W.failed out.new)
-        (words.now ++ N.text number) }
-    ensures kept { OnOk result (W.failed out.new ≡ W.failed out.old) }
-    ensures was { OnOk result (IsOk done) }
+    ensures { WritesAfter W.contents W.failed done result out.old out.new (words.now ++ N.text number) }
 {
     let done = put_after(done, out, words);
     number_after(done, out, number)
@@ -35,10 +29,7 @@ pub(crate) fn told_after<W: Sink, N: Integer>(
 /// Writes a corner of the polygon.
 fn corner_after<W: Sink>(done: Done, out: &mut W, frame: &Frame, point: Point) -> Done
     requires { OnOk done (W.failed out.old < 2 ^ 64 - 1) }
-    ensures wrote { WritesOn done result (W.contents out.old) (W.contents out.new) (W.failed out.old) (W.failed out.new)
-        (corner_text frame.now point) }
-    ensures kept { OnOk result (W.failed out.new ≡ W.failed out.old) }
-    ensures was { OnOk result (IsOk done) }
+    ensures { WritesAfter W.contents W.failed done result out.old out.new (corner_text frame.now point) }
 {
     let done = number_after(done, out, frame.across(point));
     let done = told_after(done, out, b",", frame.down(point));
@@ -46,13 +37,10 @@ fn corner_after<W: Sink>(done: Done, out: &mut W, frame: &Frame, point: Point) -
 }
 
 /// Writes the corners of the polygon.
-#[tactic(auto, using(hull_text::proofs::Chains::chained_start, hull_text::proofs::Chains::chained_end))]
+#[tactic(auto, using(text_io::proofs::Chains::chained_start, text_io::proofs::Chains::chained_end))]
 fn corners_after<W: Sink>(done: Done, out: &mut W, frame: &Frame, points: &[Point]) -> Done
     requires { OnOk done (W.failed out.old < 2 ^ 64 - 1) }
-    ensures wrote { WritesOn done result (W.contents out.old) (W.contents out.new) (W.failed out.old) (W.failed out.new)
-        (texts (corner_text frame.now) points.now) }
-    ensures kept { OnOk result (W.failed out.new ≡ W.failed out.old) }
-    ensures was { OnOk result (IsOk done) }
+    ensures { WritesAfter W.contents W.failed done result out.old out.new (texts (corner_text frame.now) points.now) }
 {
     let mut done = done;
     let mut rest = points;
@@ -66,10 +54,7 @@ fn corners_after<W: Sink>(done: Done, out: &mut W, frame: &Frame, points: &[Poin
 /// Writes the polygon.
 fn polygon_after<W: Sink>(done: Done, out: &mut W, frame: &Frame, points: &[Point]) -> Done
     requires { OnOk done (W.failed out.old < 2 ^ 64 - 1) }
-    ensures wrote { WritesOn done result (W.contents out.old) (W.contents out.new) (W.failed out.old) (W.failed out.new)
-        (polygon_text frame.now points.now) }
-    ensures kept { OnOk result (W.failed out.new ≡ W.failed out.old) }
-    ensures was { OnOk result (IsOk done) }
+    ensures { WritesAfter W.contents W.failed done result out.old out.new (polygon_text frame.now points.now) }
 {
     let done = put_after(done, out, b"<polygon class='h' points='");
     let done = corners_after(done, out, frame, points);
@@ -79,10 +64,7 @@ fn polygon_after<W: Sink>(done: Done, out: &mut W, frame: &Frame, points: &[Poin
 /// Writes a dot.
 pub(crate) fn dot_after<W: Sink>(done: Done, out: &mut W, frame: &Frame, point: Point) -> Done
     requires { OnOk done (W.failed out.old < 2 ^ 64 - 1) }
-    ensures wrote { WritesOn done result (W.contents out.old) (W.contents out.new) (W.failed out.old) (W.failed out.new)
-        (dot_text frame.now point) }
-    ensures kept { OnOk result (W.failed out.new ≡ W.failed out.old) }
-    ensures was { OnOk result (IsOk done) }
+    ensures { WritesAfter W.contents W.failed done result out.old out.new (dot_text frame.now point) }
 {
     let done = told_after(done, out, b"M", frame.across(point));
     let done = told_after(done, out, b" ", frame.down(point));
@@ -90,13 +72,10 @@ pub(crate) fn dot_after<W: Sink>(done: Done, out: &mut W, frame: &Frame, point: 
 }
 
 /// Writes the dots of points.
-#[tactic(auto, using(hull_text::proofs::Chains::chained_start, hull_text::proofs::Chains::chained_end))]
+#[tactic(auto, using(text_io::proofs::Chains::chained_start, text_io::proofs::Chains::chained_end))]
 fn dots_after<W: Sink>(done: Done, out: &mut W, frame: &Frame, points: &[Point]) -> Done
     requires { OnOk done (W.failed out.old < 2 ^ 64 - 1) }
-    ensures wrote { WritesOn done result (W.contents out.old) (W.contents out.new) (W.failed out.old) (W.failed out.new)
-        (texts (dot_text frame.now) points.now) }
-    ensures kept { OnOk result (W.failed out.new ≡ W.failed out.old) }
-    ensures was { OnOk result (IsOk done) }
+    ensures { WritesAfter W.contents W.failed done result out.old out.new (texts (dot_text frame.now) points.now) }
 {
     let mut done = done;
     let mut rest = points;
@@ -110,10 +89,7 @@ fn dots_after<W: Sink>(done: Done, out: &mut W, frame: &Frame, points: &[Point])
 /// Writes the dots at the corners.
 fn corner_dots_after<W: Sink>(done: Done, out: &mut W, frame: &Frame, points: &[Point]) -> Done
     requires { OnOk done (W.failed out.old < 2 ^ 64 - 1) }
-    ensures wrote { WritesOn done result (W.contents out.old) (W.contents out.new) (W.failed out.old) (W.failed out.new)
-        (corner_dots_text frame.now points.now) }
-    ensures kept { OnOk result (W.failed out.new ≡ W.failed out.old) }
-    ensures was { OnOk result (IsOk done) }
+    ensures { WritesAfter W.contents W.failed done result out.old out.new (corner_dots_text frame.now points.now) }
 {
     let done = put_after(done, out, b"<path class='c' d='");
     let done = dots_after(done, out, frame, points);
@@ -121,7 +97,7 @@ fn corner_dots_after<W: Sink>(done: Done, out: &mut W, frame: &Frame, points: &[
 }
 
 /// Writes the dots of every one of so many marks.
-#[tactic(auto, using(hull_text::proofs::Chains::chained_start, hull_text::proofs::Chains::chained_end))]
+#[tactic(auto, using(text_io::proofs::Chains::chained_start, text_io::proofs::Chains::chained_end))]
 fn mark_dots_after<W: Sink>(
     done: Done,
     out: &mut W,
@@ -131,10 +107,7 @@ fn mark_dots_after<W: Sink>(
 ) -> Done
     requires room { OnOk done (W.failed out.old < 2 ^ 64 - 1) }
     requires step { 1 ≤ step }
-    ensures wrote { WritesOn done result (W.contents out.old) (W.contents out.new) (W.failed out.old) (W.failed out.new)
-        (texts (mark_dot_text frame.now) (every step 0 marks.now)) }
-    ensures kept { OnOk result (W.failed out.new ≡ W.failed out.old) }
-    ensures was { OnOk result (IsOk done) }
+    ensures { WritesAfter W.contents W.failed done result out.old out.new (texts (mark_dot_text frame.now) (every step 0 marks.now)) }
 {
     let mut done = done;
     let mut rest = marks;
@@ -154,10 +127,7 @@ fn mark_dots_after<W: Sink>(
 /// Writes the dots of the marks that are drawn.
 fn all_dots_after<W: Sink>(done: Done, out: &mut W, frame: &Frame, marks: &[Mark]) -> Done
     requires { OnOk done (W.failed out.old < 2 ^ 64 - 1) }
-    ensures wrote { WritesOn done result (W.contents out.old) (W.contents out.new) (W.failed out.old) (W.failed out.new)
-        (all_dots_text frame.now marks.now) }
-    ensures kept { OnOk result (W.failed out.new ≡ W.failed out.old) }
-    ensures was { OnOk result (IsOk done) }
+    ensures { WritesAfter W.contents W.failed done result out.old out.new (all_dots_text frame.now marks.now) }
 {
     let done = put_after(done, out, b"<path class='p' d='");
     let done = mark_dots_after(done, out, frame, marks.len() / DRAWN_LIMIT + 1, marks);
@@ -174,10 +144,7 @@ fn bridge_line_after<W: Sink>(
     ends: (Point, Point),
 ) -> Done
     requires { OnOk done (W.failed out.old < 2 ^ 64 - 1) }
-    ensures wrote { WritesOn done result (W.contents out.old) (W.contents out.new) (W.failed out.old) (W.failed out.new)
-        (bridge_line_text frame.now words.now level ends) }
-    ensures kept { OnOk result (W.failed out.new ≡ W.failed out.old) }
-    ensures was { OnOk result (IsOk done) }
+    ensures { WritesAfter W.contents W.failed done result out.old out.new (bridge_line_text frame.now words.now level ends) }
 {
     let done = told_after(done, out, words, level);
     let done = told_after(done, out, b"' d='M", frame.across(ends.0));
@@ -190,10 +157,7 @@ fn bridge_line_after<W: Sink>(
 /// Writes both bridges of a fork.
 fn bridge_after<W: Sink>(done: Done, out: &mut W, frame: &Frame, bridge: Bridge) -> Done
     requires { OnOk done (W.failed out.old < 2 ^ 64 - 1) }
-    ensures wrote { WritesOn done result (W.contents out.old) (W.contents out.new) (W.failed out.old) (W.failed out.new)
-        (bridge_text frame.now bridge) }
-    ensures kept { OnOk result (W.failed out.new ≡ W.failed out.old) }
-    ensures was { OnOk result (IsOk done) }
+    ensures { WritesAfter W.contents W.failed done result out.old out.new (bridge_text frame.now bridge) }
 {
     let done = bridge_line_after(
         done,
@@ -214,13 +178,10 @@ fn bridge_after<W: Sink>(done: Done, out: &mut W, frame: &Frame, bridge: Bridge)
 }
 
 /// Writes the bridges of forks.
-#[tactic(auto, using(hull_text::proofs::Chains::chained_start, hull_text::proofs::Chains::chained_end))]
+#[tactic(auto, using(text_io::proofs::Chains::chained_start, text_io::proofs::Chains::chained_end))]
 fn bridges_after<W: Sink>(done: Done, out: &mut W, frame: &Frame, bridges: &[Bridge]) -> Done
     requires { OnOk done (W.failed out.old < 2 ^ 64 - 1) }
-    ensures wrote { WritesOn done result (W.contents out.old) (W.contents out.new) (W.failed out.old) (W.failed out.new)
-        (texts (bridge_text frame.now) bridges.now) }
-    ensures kept { OnOk result (W.failed out.new ≡ W.failed out.old) }
-    ensures was { OnOk result (IsOk done) }
+    ensures { WritesAfter W.contents W.failed done result out.old out.new (texts (bridge_text frame.now) bridges.now) }
 {
     let mut done = done;
     let mut rest = bridges;
@@ -234,10 +195,7 @@ fn bridges_after<W: Sink>(done: Done, out: &mut W, frame: &Frame, bridges: &[Bri
 /// Begins the square that the browser scales.
 pub(crate) fn square_after<W: Sink>(done: Done, out: &mut W, size: u64, side: u64) -> Done
     requires { OnOk done (W.failed out.old < 2 ^ 64 - 1) }
-    ensures wrote { WritesOn done result (W.contents out.old) (W.contents out.new) (W.failed out.old) (W.failed out.new)
-        (square_text size side) }
-    ensures kept { OnOk result (W.failed out.new ≡ W.failed out.old) }
-    ensures was { OnOk result (IsOk done) }
+    ensures { WritesAfter W.contents W.failed done result out.old out.new (square_text size side) }
 {
     let start = b"<svg x='32' y='32' overflow='visible' width='";
     let done = told_after(done, out, start, size);
@@ -250,10 +208,7 @@ pub(crate) fn square_after<W: Sink>(done: Done, out: &mut W, size: u64, side: u6
 /// Writes the hull, the points, above them the bridges, and above these the corners.
 pub(crate) fn shapes_after<W: Sink>(done: Done, out: &mut W, frame: &Frame, scene: &Scene) -> Done
     requires { OnOk done (W.failed out.old < 2 ^ 64 - 1) }
-    ensures wrote { WritesOn done result (W.contents out.old) (W.contents out.new) (W.failed out.old) (W.failed out.new)
-        (shapes_text frame.now scene.now) }
-    ensures kept { OnOk result (W.failed out.new ≡ W.failed out.old) }
-    ensures was { OnOk result (IsOk done) }
+    ensures { WritesAfter W.contents W.failed done result out.old out.new (shapes_text frame.now scene.now) }
 {
     let done = polygon_after(done, out, frame, &scene.corners);
     let done = all_dots_after(done, out, frame, &scene.marks);

@@ -5,7 +5,7 @@ use super::drawing::DrawOptions;
 use super::marks::Mark;
 use super::scene::{Scene, scene_of};
 use hull_book::{Journal, Line};
-use hull_plain::{Call, NoMemory};
+use hull_set::{Call, NoMemory};
 use lattice::Point;
 use std::alloc::{AllocError, Global};
 

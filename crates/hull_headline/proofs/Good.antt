@@ -1,8 +1,8 @@
 -- Each sentence of the headline, from the good world that every schedule leads to.
 use Rattle.std.proofs.Common.{◌≡◌, ◌+◌, ◌%◌, ◌^◌, ℕ, zero, suc, List, [], ◌∷◌, Some, ap, subst, arith}
 use Rattle.std.specs.Prelude.{slice_get}
-use Rattle.hull_plain.specs.Held.{Held, nothing_held}
-use Rattle.hull_plain.specs.Replies.{after}
+use Rattle.hull_set.specs.Held.{Held, nothing_held}
+use Rattle.hull_set.specs.Replies.{after}
 use Rattle.hull_book.specs.declared.head.Head.{Head}
 use Rattle.hull_book.specs.declared.line.Line.{Line}
 use Rattle.hull_book.specs.History.{AreRight}

@@ -1,10 +1,11 @@
 -- Four vectors that do not go down, seen in a direction: the outermost on each side, and a vector that goes up.
-use Rattle.std.proofs.Common.{◌≡◌, ℤ, pos, ◌+ℤ◌, ◌*ℤ◌, ◌≤ℤ◌, ◌<ℤ◌, neg_ℤ, ◌⊎◌, inl, inr, refl, ap, ◌∙◌, subst, arith}
+use Rattle.std.proofs.Common.{◌≡◌, ℤ, pos, ◌+ℤ◌, ◌*ℤ◌, ◌≤ℤ◌, ◌<ℤ◌, ◌⊎◌, inl, inr, refl, ap, ◌∙◌, subst, arith}
 use Rattle.std.proofs.lemmas.Int.{ints}
 use Rattle.lattice.specs.Plane.{Pair, product}
 use Rattle.lattice.specs.Polynomials.{difference-eq, as_difference, difference_rules}
 use Rattle.lattice.specs.Signs.{le_or_lt, product_nn, product_pp, cancel_zero}
 use Rattle.lattice.proofs.Vectors.{as_pair, cross, cross_swap}
+use Rattle.lattice.proofs.Numbers.{nn_above, nn_opposite, nn_zero, np_below, zero_opposite}
 
 -- ---- numbers
 
@@ -33,24 +34,15 @@ no_more p q r s t cf ce x y z a b e f g hp hq hr hs ht hcf hce hy = elim (le_or_
   | inl h ↦ h
   | inr h ↦
       let qy = product_nn q y hq hy in
-      let px = product_nn p x hp (weak _ h) in
-      let rc = product_nn r cf hr (weak _ hcf) in
+      let px = product_nn p x hp (nn_above _ h) in
+      let rc = product_nn r cf hr (nn_above _ hcf) in
       let p-zero : p ≡ pos 0 = cancel_zero p x h (second_of_three _ _ _ e qy px rc) in
       let r-zero : r ≡ pos 0 = cancel_zero r cf hcf (third_of_three _ _ _ e qy px rc) in
-      let rest : q *ℤ ce ≡ pos 0 = second_of_three (r *ℤ z) (q *ℤ ce) (s *ℤ x) f (none _ (nothing_times r z r-zero))
-      (product_nn q ce hq (weak _ hce)) (product_nn s x hs (weak _ h)) in
+      let rest : q *ℤ ce ≡ pos 0 = second_of_three (r *ℤ z) (q *ℤ ce) (s *ℤ x) f (nn_zero _ (nothing_times r z r-zero))
+      (product_nn q ce hq (nn_above _ hce)) (product_nn s x hs (nn_above _ h)) in
       let q-zero : q ≡ pos 0 = cancel_zero q ce hce rest in
-      absurd (clash _ _ _ g (nothing_times q b q-zero) (nothing_times p a p-zero) (product_pp t cf ht hcf))
+      absurd (omega (arith, ints, nothing_times q b q-zero, nothing_times p a p-zero, product_pp t cf ht hcf))
 ]
-  where
-    weak : (x : ℤ) → pos 0 <ℤ x → pos 0 ≤ℤ x
-    weak x h = omega (arith, ints)
-
-    none : (x : ℤ) → x ≡ pos 0 → pos 0 ≤ℤ x
-    none x h = omega (arith, ints)
-
-    clash : (x y z : ℤ) → x +ℤ (y +ℤ z) ≡ pos 0 → y ≡ pos 0 → z ≡ pos 0 → pos 0 <ℤ x → ⊥
-    clash x y z e f g h = omega (arith, ints)
 
 -- ---- vectors
 
@@ -58,23 +50,13 @@ no_more p q r s t cf ce x y z a b e f g hp hq hr hs ht hcf hce hy = elim (le_or_
 pub three : (d a b c : Pair)
     → product d a *ℤ cross b c +ℤ (product d b *ℤ cross c a +ℤ product d c *ℤ cross a b) ≡ pos 0
 unfolding product
-three d a b c =
-    rw (
-      as_pair d,
-      as_pair a,
-      as_pair b,
-      as_pair c,
-      as_difference (pos 0),
-    ) (simp difference_rules (difference-eq _ _ _ _ (omega arith)))
+three d a b c = rw (as_pair d, as_pair a, as_pair b, as_pair c, as_difference (pos 0))
+    (simp difference_rules (difference-eq _ _ _ _ (omega arith)))
 
 -- the same in another order
 three_turned : (d a b c : Pair)
     → product d a *ℤ cross b c +ℤ (product d c *ℤ cross a b +ℤ product d b *ℤ cross c a) ≡ pos 0
-three_turned d a b c =
-    turned (product d a *ℤ cross b c) (product d b *ℤ cross c a) (product d c *ℤ cross a b) (three d a b c)
-  where
-    turned : (x y z : ℤ) → x +ℤ (y +ℤ z) ≡ pos 0 → x +ℤ (z +ℤ y) ≡ pos 0
-    turned x y z e = omega (arith, ints)
+three_turned d a b c = omega (arith, ints, three d a b c)
 
 -- two vectors that do not go down in the direction d, the second to the right of the first
 pub record IsWedge (d left right : Pair) : Type 0 where
@@ -102,10 +84,7 @@ right_of_both d w l r m s e f up h =
 between_clash : (d w l r : Pair) → pos 0 ≤ℤ product d l → pos 0 ≤ℤ product d r → pos 0 <ℤ cross r l
     → pos 0 <ℤ product d w → pos 0 ≤ℤ cross l w → pos 0 ≤ℤ cross w r → ⊥
 between_clash d w l r hl hr t up left right =
-    clash _ _ _ (three d w r l) (product_pp _ _ up t) (product_nn _ _ hr left) (product_nn _ _ hl right)
-  where
-    clash : (x y z : ℤ) → x +ℤ (y +ℤ z) ≡ pos 0 → pos 0 <ℤ x → pos 0 ≤ℤ y → pos 0 ≤ℤ z → ⊥
-    clash x y z e h k l = omega (arith, ints)
+    omega (arith, ints, three d w r l, product_pp _ _ up t, product_nn _ _ hr left, product_nn _ _ hl right)
 
 -- ---- the outermost of both wedges
 
@@ -115,15 +94,9 @@ level_of : (d l r m s : Pair) → IsWedge d l r → IsWedge d m s → pos 0 ≤�
     → product d l ≡ pos 0
 level_of d l r m s e f h flat =
     cancel_zero (product d l) (cross s m) f.turns
-    (third_of_three _ _ _ (three d s m l) (product_nn _ _ f.right_up h) (none _ (times_nothing (product d m) _ flat))
-    (product_nn _ _ e.left_up (weak _ f.turns)))
+    (third_of_three _ _ _ (three d s m l) (product_nn _ _ f.right_up h) (nn_zero _ (times_nothing (product d m) _ flat))
+    (product_nn _ _ e.left_up (nn_above _ f.turns)))
   where
-    weak : (x : ℤ) → pos 0 <ℤ x → pos 0 ≤ℤ x
-    weak x h = omega (arith, ints)
-
-    none : (x : ℤ) → x ≡ pos 0 → pos 0 ≤ℤ x
-    none x h = omega (arith, ints)
-
     times_nothing : (k z : ℤ) → z ≡ pos 0 → k *ℤ z ≡ pos 0
     times_nothing k z e = ap (λ (x : ℤ). k *ℤ x) e ∙ omega (arith, ints)
 
@@ -142,14 +115,14 @@ pub span_of : (d w l r m s : Pair) → IsWedge d l r → IsWedge d m s → pos 0
     → (g : Pair) × (h : Pair) × IsSpan d l r m s g h
 span_of d w l r m s e f up = elim (le_or_lt (cross l m) (pos 0)) [
   | inl a ↦
-      let k : cross l s ≤ℤ pos 0 = left_of_both d w l r m s e f up (over _ _ (cross_swap m l) a) in
+      let k : cross l s ≤ℤ pos 0 = left_of_both d w l r m s e f up (nn_opposite _ _ (cross_swap m l) a) in
       elim (le_or_lt (pos 0) (cross r s)) [
         | inl b ↦ (
           l,
           r,
           record {
             left_one = inl (refl, a, k);
-            right_one = inl (refl, over _ _ (cross_swap r m) (right_of_both d w l r m s e f up b), b);
+            right_one = inl (refl, nn_opposite _ _ (cross_swap r m) (right_of_both d w l r m s e f up b), b);
             left_up = e.left_up;
             right_up = e.right_up;
             turns = inl e.turns;
@@ -161,29 +134,30 @@ span_of d w l r m s e f up = elim (le_or_lt (cross l m) (pos 0)) [
           record {
             left_one = inl (refl, a, k);
             right_one =
-                let j : pos 0 ≤ℤ cross s r = over _ _ (cross_swap s r) (weak _ b) in
-                inr (refl, over _ _ (cross_swap s l) (right_of_both d w m s l r f e up j), j);
+                let j : pos 0 ≤ℤ cross s r = nn_opposite _ _ (cross_swap s r) (np_below _ b) in
+                inr (refl, nn_opposite _ _ (cross_swap s l) (right_of_both d w m s l r f e up j), j);
             left_up = e.left_up;
             right_up = f.right_up;
-            turns = told (cross s l) (over _ _ (cross_swap s l) k)
-                (λ z. level_of d l r m s e f (over _ _ (cross_swap m l) a) (none _ _ (cross_swap l s) z));
+            turns = told (cross s l) (nn_opposite _ _ (cross_swap s l) k)
+                (λ z. level_of d l r m s e f (nn_opposite _ _ (cross_swap m l) a)
+                (zero_opposite _ _ (cross_swap l s) z));
           },
         )
       ]
   | inr a ↦
-      let k : cross m r ≤ℤ pos 0 = left_of_both d w m s l r f e up (more _ a) in
-      let i : cross m l ≤ℤ pos 0 = under _ _ (cross_swap m l) a in
+      let k : cross m r ≤ℤ pos 0 = left_of_both d w m s l r f e up (nn_above _ a) in
+      let i : cross m l ≤ℤ pos 0 = omega (arith, ints, cross_swap m l) in
       elim (le_or_lt (pos 0) (cross r s)) [
         | inl b ↦ (
           m,
           r,
           record {
             left_one = inr (refl, i, k);
-            right_one = inl (refl, over _ _ (cross_swap r m) (right_of_both d w l r m s e f up b), b);
+            right_one = inl (refl, nn_opposite _ _ (cross_swap r m) (right_of_both d w l r m s e f up b), b);
             left_up = f.left_up;
             right_up = e.right_up;
-            turns = told (cross r m) (over _ _ (cross_swap r m) k)
-                (λ z. level_of d m s l r f e (more _ a) (none _ _ (cross_swap m r) z));
+            turns = told (cross r m) (nn_opposite _ _ (cross_swap r m) k)
+                (λ z. level_of d m s l r f e (nn_above _ a) (zero_opposite _ _ (cross_swap m r) z));
           },
         )
         | inr b ↦ (
@@ -192,8 +166,8 @@ span_of d w l r m s e f up = elim (le_or_lt (cross l m) (pos 0)) [
           record {
             left_one = inr (refl, i, k);
             right_one =
-                let j : pos 0 ≤ℤ cross s r = over _ _ (cross_swap s r) (weak _ b) in
-                inr (refl, over _ _ (cross_swap s l) (right_of_both d w m s l r f e up j), j);
+                let j : pos 0 ≤ℤ cross s r = nn_opposite _ _ (cross_swap s r) (np_below _ b) in
+                inr (refl, nn_opposite _ _ (cross_swap s l) (right_of_both d w m s l r f e up j), j);
             left_up = f.left_up;
             right_up = f.right_up;
             turns = inl f.turns;
@@ -202,21 +176,6 @@ span_of d w l r m s e f up = elim (le_or_lt (cross l m) (pos 0)) [
       ]
 ]
   where
-    over : (x y : ℤ) → x ≡ neg_ℤ y → y ≤ℤ pos 0 → pos 0 ≤ℤ x
-    over x y e h = omega (arith, ints)
-
-    under : (x y : ℤ) → x ≡ neg_ℤ y → pos 0 <ℤ y → x ≤ℤ pos 0
-    under x y e h = omega (arith, ints)
-
-    weak : (x : ℤ) → x <ℤ pos 0 → x ≤ℤ pos 0
-    weak x h = omega (arith, ints)
-
-    more : (x : ℤ) → pos 0 <ℤ x → pos 0 ≤ℤ x
-    more x h = omega (arith, ints)
-
-    none : (x y : ℤ) → x ≡ neg_ℤ y → y ≡ pos 0 → x ≡ pos 0
-    none x y e h = omega (arith, ints)
-
     told : {P : Type 0} (x : ℤ) → pos 0 ≤ℤ x → (x ≡ pos 0 → P) → (pos 0 <ℤ x) ⊎ P
     told x h f = elim (le_or_lt x (pos 0)) [ inr k ↦ inl k | inl k ↦ inr (f (omega (arith, ints))) ]
 
@@ -239,7 +198,7 @@ outside_of d w l r m s g h e f up n = elim (le_or_lt (pos 0) (cross g w)) [
   | inl a ↦ elim (le_or_lt (cross h w) (pos 0)) [
     | inr b ↦ inr b
     | inl b ↦ absurd (elim n.turns [
-      | inl t ↦ between_clash d w g h n.left_up n.right_up t up a (turned _ _ (cross_swap w h) b)
+      | inl t ↦ between_clash d w g h n.left_up n.right_up t up a (nn_opposite _ _ (cross_swap w h) b)
       | inr z ↦ elim n.left_one [
         | inl o ↦ level_clash d w l r e (subst (λ (v : Pair). product d v ≡ pos 0) o.0 z) up
             (subst (λ (v : Pair). pos 0 ≤ℤ cross v w) o.0 a)
@@ -249,9 +208,6 @@ outside_of d w l r m s g h e f up n = elim (le_or_lt (pos 0) (cross g w)) [
     ])
   ]
 ]
-  where
-    turned : (x y : ℤ) → x ≡ neg_ℤ y → y ≤ℤ pos 0 → pos 0 ≤ℤ x
-    turned x y e h = omega (arith, ints)
 
 -- the two of a wedge lie right of e, or on it, and w lies right of it
 pub record IsLeftAxis (e left right w : Pair) : Type 0 where

@@ -4,13 +4,14 @@ use Rattle.std.proofs.lemmas.Int.{ints}
 use Rattle.std.proofs.lemmas.List.Elements.{All-contains}
 use Rattle.lattice.specs.Plane.{Pair, product, IsBefore}
 use Rattle.lattice.specs.Signs.{le_or_lt}
-use Rattle.hull_plain.specs.Tangents.{IsFirstFarthest}
+use Rattle.hull_geometry.specs.Tangents.{IsFirstFarthest}
 use Rattle.hull_outline.specs.Boxes.{IsBox}
 use Rattle.hull_outline.specs.Outlines.{IsOutlineOf}
 use Rattle.hull_outline.specs.Rounds.{corner, IsParted}
 use Rattle.hull_outline.proofs.Corners.{corner_extreme}
-use Rattle.hull_outline.proofs.EdgesOf.{all_of}
+use Rattle.hull_geometry.proofs.PointLists.{all_of}
 use Rattle.hull_outline.proofs.Ends.{ends_of}
+use Rattle.lattice.proofs.Numbers.{le_opposites}
 
 -- the direction up
 abbrev up_way : Pair
@@ -42,7 +43,7 @@ pub boxed : (S V : List Pair) (last : ℕ) (low high : Pair) → IsOutlineOf S V
 boxed S V last low high o p n down up = record {
   from_left = all_of (λ t. (corner V 0).x ≤ℤ t.x) S (λ t m. not_left (corner V 0) t ((ends_of S V last o p n).0 t m));
   from_below = all_of (λ t. low.y ≤ℤ t.y) S
-      (λ t m. lower _ _ _ _ (down_is t) (down_is low)
+      (λ t m. le_opposites _ _ _ _ (down_is t) (down_is low)
       (All-contains (λ t. product down_way t ≤ℤ product down_way low) S t down.1 m));
   to_right = all_of (λ t. t.x ≤ℤ (corner V last).x) S
       (λ t m. not_left t (corner V last) ((ends_of S V last o p n).1 t m));
@@ -55,8 +56,5 @@ boxed S V last low high o p n down up = record {
   top = (high, up.0, refl);
 }
   where
-    lower : (u v x y : ℤ) → u ≡ neg_ℤ x → v ≡ neg_ℤ y → u ≤ℤ v → y ≤ℤ x
-    lower u v x y e f h = omega (arith, ints)
-
     higher : (u v x y : ℤ) → u ≡ x → v ≡ y → u ≤ℤ v → x ≤ℤ y
     higher u v x y e f h = omega (arith, ints)

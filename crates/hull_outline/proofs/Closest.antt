@@ -10,7 +10,7 @@ use Rattle.lattice.specs.Covers.{Covers, IsExtreme, Member}
 use Rattle.lattice.specs.Places.{IsFarthest}
 use Rattle.lattice.specs.Plane.{Pair, product}
 use Rattle.lattice.specs.Signs.{le_or_lt}
-use Rattle.hull_plain.proofs.NotCovered.{not_covered}
+use Rattle.hull_geometry.proofs.NotCovered.{not_covered}
 use Rattle.hull_outline.specs.Closest.{IsPassedBy, HasNoClosest, IsClosest, IsClosestToEdge, way_to}
 use Rattle.hull_outline.specs.Meetings.{IsReached, IsApart}
 use Rattle.hull_outline.specs.Nearest.{IsNearest, IsNearestCorner}
@@ -22,7 +22,7 @@ use Rattle.hull_outline.specs.declared.nearest.Nearest.{Nearest}
 use Rattle.hull_outline.specs.declared.nearest.Nearest.TheVariants.{Covered, Corner, Edge}
 use Rattle.hull_outline.specs.declared.separations.Separation.{Separation}
 use Rattle.hull_outline.proofs.Corners.{corner_extreme, corner_of}
-use Rattle.hull_outline.proofs.EdgesOf.{all_of}
+use Rattle.hull_geometry.proofs.PointLists.{all_of}
 use Rattle.hull_outline.proofs.Fractions.{quotients_le}
 use Rattle.hull_outline.proofs.Parted.{never_both}
 use Rattle.hull_outline.proofs.Separated.{apart_by, from_corner, from_edge, way_on}
@@ -30,6 +30,7 @@ use Rattle.hull_outline.proofs.Turns.{farthest_corner, placed}
 use Rattle.hull_outline.proofs.Witnessed.{apart_turned}
 use Rattle.hull_outline.proofs.Rivals.{depth, reach, Rival, farther_than, reach_above, corner_closest, other_normal}
 use Rattle.hull_outline.proofs.Rivals.{edge_closest}
+use Rattle.lattice.proofs.Numbers.{le_itself, le_less, le_less_trans, le_trans, nn_above}
 
 -- ---- what is nearest of all
 
@@ -96,21 +97,12 @@ least_of A B above (suc n) =
       | inr h ↦ (
         suc n,
         λ i l. elim (cases_lt i (suc n)) [
-          | inl k ↦ quotients_le (A (suc n)) (A r.0) (A i) (B (suc n)) (B r.0) (B i) (above r.0) (weak _ (above (suc n)))
-              (weak _ (above i)) (less _ _ h) (r.1 i (omega (arith, k)))
-          | inr k ↦ subst (λ (j : ℕ). (A (suc n) *ℤ B j) ≤ℤ (A j *ℤ B (suc n))) (omega (arith, k, l)) (same _)
+          | inl k ↦ quotients_le (A (suc n)) (A r.0) (A i) (B (suc n)) (B r.0) (B i) (above r.0) (nn_above _ (above (suc n)))
+              (nn_above _ (above i)) (le_less _ _ h) (r.1 i (omega (arith, k)))
+          | inr k ↦ subst (λ (j : ℕ). (A (suc n) *ℤ B j) ≤ℤ (A j *ℤ B (suc n))) (omega (arith, k, l)) (le_itself _)
         ],
       )
     ]
-  where
-    same : (x : ℤ) → x ≤ℤ x
-    same x = omega (arith, ints)
-
-    weak : (x : ℤ) → pos 0 <ℤ x → pos 0 ≤ℤ x
-    weak x h = omega (arith, ints)
-
-    less : (x y : ℤ) → y <ℤ x → y ≤ℤ x
-    less x y h = omega (arith, ints)
 
 -- ---- a corner that is closest
 
@@ -120,8 +112,7 @@ each_passed S V T n none i = let k = placed V i n in subst (IsPassedBy S T) (sym
 
 -- how wide the strip at each corner of V is: its square is this
 abbrev square_of : (S V T : List Pair) → ((i : ℕ) → IsPassedBy S T (corner V i)) → ℕ → ℤ
-square_of S V T f i =
-    depth (told (corner V i) (f i).0) (corner V i) *ℤ depth (told (corner V i) (f i).0) (corner V i)
+square_of S V T f i = depth (told (corner V i) (f i).0) (corner V i) *ℤ depth (told (corner V i) (f i).0) (corner V i)
 
 -- by this
 abbrev length_of : (S V T : List Pair) → ((i : ℕ) → IsPassedBy S T (corner V i)) → ℕ → ℤ
@@ -163,11 +154,11 @@ never_all_passed S V T W last end o p t q n m a none nor =
     elim (le_or_lt (square_of S V T f k.0 *ℤ length_of T W S g j.0) (square_of T W S g j.0 *ℤ length_of S V T f k.0)) [
       | inl h ↦ least_not_passed S V T W last k.0 f g o p t n m a (λ i l. k.1 i (omega (arith, l)))
           (λ i l. quotients_le (square_of S V T f k.0) (square_of T W S g j.0) (square_of T W S g i) (length_of S V T f k.0)
-          (length_of T W S g j.0) (length_of T W S g i) (down j.0) (weak _ (up k.0)) (weak _ (down i)) h
+          (length_of T W S g j.0) (length_of T W S g i) (down j.0) (nn_above _ (up k.0)) (nn_above _ (down i)) h
           (j.1 i (omega (arith, l))))
       | inr h ↦ least_not_passed T W S V end j.0 g f t q o m n (apart_turned S T a) (λ i l. j.1 i (omega (arith, l)))
           (λ i l. quotients_le (square_of T W S g j.0) (square_of S V T f k.0) (square_of S V T f i) (length_of T W S g j.0)
-          (length_of S V T f k.0) (length_of S V T f i) (up k.0) (weak _ (down j.0)) (weak _ (up i)) (less _ _ h)
+          (length_of S V T f k.0) (length_of S V T f i) (up k.0) (nn_above _ (down j.0)) (nn_above _ (up i)) (le_less _ _ h)
           (k.1 i (omega (arith, l))))
     ]
   where
@@ -183,12 +174,6 @@ never_all_passed S V T W last end o p t q n m a none nor =
     down : (i : ℕ) → pos 0 <ℤ length_of T W S g i
     down i = reach_above S (corner W i) (told (corner W i) (g i).0) (strip_parts T W S g t m (apart_turned S T a) i)
 
-    weak : (x : ℤ) → pos 0 <ℤ x → pos 0 ≤ℤ x
-    weak x h = omega (arith, ints)
-
-    less : (x y : ℤ) → y <ℤ x → y ≤ℤ x
-    less x y h = omega (arith, ints)
-
 -- ---- where two hulls are nearest
 
 -- what is farthest in S on the way to d is nearest to d
@@ -198,34 +183,25 @@ corner_back S T c d x h f = record {
   outside = not_covered S d (
     step c d,
     all_of (λ t. product (step c d) t <ℤ product (step c d) d) S
-        (λ t m. under _ _ _ (All-contains (λ z. product (step c d) z ≤ℤ product (step c d) c) S t f m)
+        (λ t m. le_less_trans _ _ _ (All-contains (λ z. product (step c d) z ≤ℤ product (step c d) c) S t f m)
         (way_on c d (λ e. h.outside (Member (subst (Contains T) (sym e) h.corner.0))))),
   );
   corner = x;
   nearest = f;
 }
-  where
-    under : (x y z : ℤ) → x ≤ℤ y → y <ℤ z → x <ℤ z
-    under x y z h k = omega (arith, ints)
 
 -- where a farthest point is no farther than c, none is
 pub none_farther : (S : List Pair) (d p c : Pair) → IsFarthest S d p → ¬ (product d c <ℤ product d p) → IsFarthest S d c
 none_farther S d p c f n =
     all_of (λ t. product d t ≤ℤ product d c) S
-    (λ t m. no_more _ _ _ (All-contains (λ z. product d z ≤ℤ product d p) S t f m) (not_less _ _ n))
+    (λ t m. le_trans _ _ _ (All-contains (λ z. product d z ≤ℤ product d p) S t f m) (not_less _ _ n))
   where
-    no_more : (x y z : ℤ) → x ≤ℤ y → y ≤ℤ z → x ≤ℤ z
-    no_more x y z h k = omega (arith, ints)
-
     not_less : (x y : ℤ) → ¬ (x <ℤ y) → y ≤ℤ x
     not_less x y n = elim (le_or_lt y x) [ inl h ↦ h | inr h ↦ absurd (n h) ]
 
 -- and only there
 pub some_farther : (S : List Pair) (d p c : Pair) → Contains S p → IsFarthest S d c → ¬ (product d c <ℤ product d p)
-some_farther S d p c m f h = clash _ _ (All-contains (λ z. product d z ≤ℤ product d c) S p f m) h
-  where
-    clash : (x y : ℤ) → x ≤ℤ y → y <ℤ x → ⊥
-    clash x y h k = omega (arith, ints)
+some_farther S d p c m f h = omega (arith, ints, All-contains (λ z. product d z ≤ℤ product d c) S p f m)
 
 -- a corner of each
 pub by_corners : (S T : List Pair) (c d : Pair) → IsClosest S T c (Corner d)

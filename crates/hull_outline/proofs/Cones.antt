@@ -9,6 +9,7 @@ use Rattle.lattice.specs.Signs.{le_or_lt, product_nn, product_pp}
 use Rattle.hull_outline.specs.Nearest.{IsOnward}
 use Rattle.hull_outline.specs.Steps.{step}
 use Rattle.hull_outline.proofs.Parted.{product_mm, product_ns, product_mp}
+use Rattle.lattice.proofs.Numbers.{sum_nn}
 
 -- ---- identities
 
@@ -16,33 +17,18 @@ use Rattle.hull_outline.proofs.Parted.{product_mm, product_ns, product_mp}
 cone_x : (p c n x : Pair) → orient p c n *ℤ (x.x -ℤ c.x) ≡ orient p c x *ℤ (n.x -ℤ c.x) +ℤ orient c n x *ℤ (p.x -ℤ c.x)
 unfolding orient
 cone_x p c n x =
-    rw (
-      as_pair p,
-      as_pair c,
-      as_pair n,
-      as_pair x,
-    ) (simp difference_rules (difference-eq _ _ _ _ (omega arith)))
+    rw (as_pair p, as_pair c, as_pair n, as_pair x) (simp difference_rules (difference-eq _ _ _ _ (omega arith)))
 
 -- and by y
 cone_y : (p c n x : Pair) → orient p c n *ℤ (x.y -ℤ c.y) ≡ orient p c x *ℤ (n.y -ℤ c.y) +ℤ orient c n x *ℤ (p.y -ℤ c.y)
 unfolding orient
 cone_y p c n x =
-    rw (
-      as_pair p,
-      as_pair c,
-      as_pair n,
-      as_pair x,
-    ) (simp difference_rules (difference-eq _ _ _ _ (omega arith)))
+    rw (as_pair p, as_pair c, as_pair n, as_pair x) (simp difference_rules (difference-eq _ _ _ _ (omega arith)))
 
 -- a step along a direction, by its coordinates
 step_along : (f c x : Pair) → product f x -ℤ product f c ≡ f.x *ℤ (x.x -ℤ c.x) +ℤ f.y *ℤ (x.y -ℤ c.y)
 unfolding product
-step_along f c x =
-    rw (
-      as_pair f,
-      as_pair c,
-      as_pair x,
-    ) (simp difference_rules (difference-eq _ _ _ _ (omega arith)))
+step_along f c x = rw (as_pair f, as_pair c, as_pair x) (simp difference_rules (difference-eq _ _ _ _ (omega arith)))
 
 -- a weight of both coordinates
 weigh : (k u v x y : ℤ) → k *ℤ (u *ℤ x +ℤ v *ℤ y) ≡ u *ℤ (k *ℤ x) +ℤ v *ℤ (k *ℤ y)
@@ -117,19 +103,11 @@ square_above x (inr h) = product_mm x x h h
 on_the_way : (c n q : Pair)
     → product (step c n) q -ℤ product (step c n) c ≡ product (step c q) n -ℤ product (step c q) c
 unfolding product
-on_the_way c n q =
-    rw (
-      as_pair c,
-      as_pair n,
-      as_pair q,
-    ) (simp difference_rules (difference-eq _ _ _ _ (omega arith)))
+on_the_way c n q = rw (as_pair c, as_pair n, as_pair q) (simp difference_rules (difference-eq _ _ _ _ (omega arith)))
 
 -- q lies onward to n where n lies onward to q
 pub seen_onward : (c n q : Pair) → product (step c q) c <ℤ product (step c q) n → IsOnward c n q
-seen_onward c n q h = more _ _ _ _ (on_the_way c n q) h
-  where
-    more : (x y z w : ℤ) → x -ℤ y ≡ z -ℤ w → w <ℤ z → y <ℤ x
-    more x y z w e h = omega (arith, ints)
+seen_onward c n q h = omega (arith, ints, on_the_way c n q)
 
 -- and only there
 pub not_onward : (c n q : Pair) → ¬ IsOnward c n q → (product (step c q) n -ℤ product (step c q) c) ≤ℤ pos 0
@@ -138,12 +116,7 @@ not_onward c n q h = elim (le_or_lt (product (step c q) n -ℤ product (step c q
 
 -- the same told of q
 pub onward_not : (c n q : Pair) → (product (step c q) n -ℤ product (step c q) c) ≤ℤ pos 0 → ¬ IsOnward c n q
-onward_not c n q h k =
-    clash (product (step c n) q) (product (step c n) c) (product (step c q) n) (product (step c q) c)
-    (on_the_way c n q) h k
-  where
-    clash : (x y z w : ℤ) → x -ℤ y ≡ z -ℤ w → (z -ℤ w) ≤ℤ pos 0 → y <ℤ x → ⊥
-    clash x y z w e h k = omega (arith, ints)
+onward_not c n q h k = omega (arith, ints, on_the_way c n q)
 
 -- how far the way goes
 pub way_square : (c q : Pair) → product (step c q) q -ℤ product (step c q) c
@@ -153,12 +126,7 @@ way_square c q = rw (as_pair c, as_pair q) (simp difference_rules (difference-eq
 
 -- not back
 pub way_forward : (c q : Pair) → pos 0 ≤ℤ (product (step c q) q -ℤ product (step c q) c)
-way_forward c q =
-    rw (way_square c q)
-    (sum _ _ (square_nn (q.x -ℤ c.x)) (square_nn (q.y -ℤ c.y)))
-  where
-    sum : (x y : ℤ) → pos 0 ≤ℤ x → pos 0 ≤ℤ y → pos 0 ≤ℤ (x +ℤ y)
-    sum x y h k = omega (arith, ints)
+way_forward c q = rw (way_square c q) (sum_nn _ _ (square_nn (q.x -ℤ c.x)) (square_nn (q.y -ℤ c.y)))
 
 -- ---- a left turn from p by c to n
 
@@ -179,11 +147,7 @@ pub turned_to_first : (p c n q : Pair) → pos 0 <ℤ orient p c n → orient p 
     → ¬ IsOnward c p q → ¬ IsOnward c n q
 turned_to_first p c n q t hp hn o =
     onward_not c n q (away _ _ _ _ _ _ t hn hp (not_onward c p q o) (way_forward c q)
-    (swapped _ (orient p c q *ℤ (product (step c q) n -ℤ product (step c q) c))
-    (orient c n q *ℤ (product (step c q) p -ℤ product (step c q) c)) (cone (step c q) p c n q)))
-  where
-    swapped : (x y z : ℤ) → x ≡ y +ℤ z → x ≡ z +ℤ y
-    swapped x y z e = omega (arith, ints)
+    (omega (arith, ints, cone (step c q) p c n q)))
 
 -- ---- which of two corners is nearer
 
@@ -193,11 +157,7 @@ square_between : (c n q : Pair)
     ≡ (product (step c n) q -ℤ product (step c n) c) -ℤ (product (step n c) q -ℤ product (step n c) n)
 unfolding product
 square_between c n q =
-    rw (
-      as_pair c,
-      as_pair n,
-      as_pair q,
-    ) (simp difference_rules (difference-eq _ _ _ _ (omega arith)))
+    rw (as_pair c, as_pair n, as_pair q) (simp difference_rules (difference-eq _ _ _ _ (omega arith)))
 
 -- how far q is from c, squared
 abbrev pub far : Pair → Pair → ℤ
@@ -205,10 +165,7 @@ far c q = product (step c q) q -ℤ product (step c q) c
 
 -- q lies onward from c to n, and not back from n to c: it is nearer to n
 pub nearer_to_next : (c n q : Pair) → IsOnward c n q → ¬ IsOnward n c q → far n q <ℤ far c q
-nearer_to_next c n q h k = less _ _ _ _ _ _ (square_between c n q) h (le_of k)
+nearer_to_next c n q h k = omega (arith, ints, square_between c n q, le_of k)
   where
-    less : (u v w x y z : ℤ) → u -ℤ v ≡ (w -ℤ x) -ℤ (y -ℤ z) → x <ℤ w → y ≤ℤ z → v <ℤ u
-    less u v w x y z e h k = omega (arith, ints)
-
     le_of : {x y : ℤ} → ¬ (x <ℤ y) → y ≤ℤ x
     le_of {x} {y} n = elim (le_or_lt y x) [ inl h ↦ h | inr h ↦ absurd (n h) ]

@@ -1,7 +1,6 @@
 -- Points that ascend in the order "before" and turn left: none of them lies right of the line from one to the next.
 use Rattle.std.proofs.Common.{◌≡◌, ℕ, zero, suc, ◌+◌, ◌-◌, ◌≤◌, ◌<◌, ℤ, pos, ◌-ℤ◌, ◌≤ℤ◌, ◌<ℤ◌, neg_ℤ, ◌⊎◌, inl, inr}
-use Rattle.std.proofs.Common.{sym}
-use Rattle.std.proofs.Common.{ap, ◌∙◌, subst, arith}
+use Rattle.std.proofs.Common.{sym, ap, ◌∙◌, subst, arith}
 use Rattle.std.proofs.lemmas.Bool.{cases_lt}
 use Rattle.std.proofs.lemmas.Int.{ints}
 use Rattle.lattice.specs.Plane.{Pair, orient, IsBefore}
@@ -9,17 +8,15 @@ use Rattle.lattice.specs.Signs.{le_or_lt}
 use Rattle.lattice.proofs.Vectors.{minus, cross, cross_swap, turn_trans, turn_trans_strict}
 use Rattle.lattice.proofs.Order.{before_trans}
 use Rattle.lattice.proofs.LineCrossings.{orient_start, orient_end}
-use Rattle.hull_plain.proofs.Orientation.{orient-cross, orient_at_end, orient_swap, above, at_least, ahead_of, zero_nn}
-use Rattle.hull_outline.proofs.Sides.{side_before, side_more, side_less}
+use Rattle.lattice.proofs.Numbers.{nn_zero}
+use Rattle.hull_geometry.proofs.Orientation.{orient-cross, orient_at_end, orient_swap, above, at_least, ahead_of}
+use Rattle.lattice.proofs.Sides.{side_before, side_more, side_less}
+use Rattle.lattice.proofs.Numbers.{nn_above}
 
 -- g from 0 to m ascends and turns left
 pub record IsConvex (g : ℕ → Pair) (m : ℕ) : Type 0 where
   pub ascends : (i j : ℕ) → j ≡ i + 1 → j ≤ m → IsBefore (g i) (g j)
   pub turns : (i j k : ℕ) → j ≡ i + 1 → k ≡ j + 1 → k ≤ m → pos 0 <ℤ orient (g i) (g j) (g k)
-
--- a number above 0 is at least 0
-weak : (a : ℤ) → pos 0 <ℤ a → pos 0 ≤ℤ a
-weak a h = omega (arith, ints)
 
 -- a later point stands after an earlier one
 ascended : (g : ℕ → Pair) (m d i j : ℕ) → IsConvex g m → j ≡ i + suc d → j ≤ m → IsBefore (g i) (g j)
@@ -49,7 +46,7 @@ turned_by g m (suc d) i j u v c e f k l =
     (ahead_of (g (u - 1)) (g u) (c.ascends (u - 1) u (omega (arith, f)) (omega (arith, k, l))))
     (ahead_of (g u) (g v) (c.ascends u v k l))
     (turned_by g m d i j (u - 1) u c e (omega (arith, f)) (omega (arith, f)) (omega (arith, k, l)))
-    (weak _ (next_turns g m (u - 1) u v c (omega (arith, f)) k l))
+    (nn_above _ (next_turns g m (u - 1) u v c (omega (arith, f)) k l))
 
 -- a difference above 0, and what it is taken from
 sum_above : (s q d : ℤ) → s -ℤ q ≡ d → pos 0 ≤ℤ q → pos 0 <ℤ d → pos 0 <ℤ s
@@ -61,18 +58,18 @@ left_of_later : (g : ℕ → Pair) (m d i j k : ℕ) → IsConvex g m → j ≡ 
 left_of_later g m zero i j k c e f l = c.turns i j k e (omega (arith, f)) l
 left_of_later g m (suc d) i j k c e f l =
     sum_above _ _ _ (side_more (g i) (g j) (g (k - 1)) (g k))
-    (weak _ (left_of_later g m d i j (k - 1) c e (omega (arith, f)) (omega (arith, l))))
+    (nn_above _ (left_of_later g m d i j (k - 1) c e (omega (arith, f)) (omega (arith, l))))
     (turned_by g m (suc d) i j (k - 1) k c e (omega (arith, f)) (omega (arith, f)) l)
 
 -- so does one before it
 left_of_earlier : (g : ℕ → Pair) (m d i j k : ℕ) → IsConvex g m → j ≡ i + 1 → i ≡ k + suc d → j ≤ m
     → pos 0 <ℤ orient (g i) (g j) (g k)
 left_of_earlier g m zero i j k c e f l =
-    sum_above _ _ _ (side_less (g i) (g j) (g i) (g k)) (zero_nn _ (orient_start (g i) (g j)))
+    sum_above _ _ _ (side_less (g i) (g j) (g i) (g k)) (nn_zero _ (orient_start (g i) (g j)))
     (next_turns g m k i j c (omega (arith, f)) e l)
 left_of_earlier g m (suc d) i j k c e f l =
     sum_above _ _ _ (side_less (g i) (g j) (g (k + 1)) (g k))
-    (weak _ (left_of_earlier g m d i j (k + 1) c e (omega (arith, f)) l))
+    (nn_above _ (left_of_earlier g m d i j (k + 1) c e (omega (arith, f)) l))
     (turned_by g m (suc d) k (k + 1) i j c (omega arith) (omega (arith, f)) e l)
 
 -- u and v are in a row, and t is one of them or lies left of their line
@@ -96,9 +93,9 @@ left_or_end g m i j k c e l n =
 
 -- which is not right of it
 pub not_right : (u v t : Pair) → IsLeftOrEnd u v t → pos 0 ≤ℤ orient u v t
-not_right u v t (inl h) = weak _ h
-not_right u v t (inr (inl e)) = zero_nn _ (ap (orient u v) e ∙ orient_start u v)
-not_right u v t (inr (inr e)) = zero_nn _ (ap (orient u v) e ∙ orient_end u v)
+not_right u v t (inl h) = nn_above _ h
+not_right u v t (inr (inl e)) = nn_zero _ (ap (orient u v) e ∙ orient_start u v)
+not_right u v t (inr (inr e)) = nn_zero _ (ap (orient u v) e ∙ orient_end u v)
 
 -- a point between the first and the last lies right of their line
 pub inner_below : (g : ℕ → Pair) (m j : ℕ) → IsConvex g m → 0 < j → j < m → pos 0 <ℤ orient (g 0) (g j) (g m)

@@ -7,8 +7,8 @@ use Rattle.std.proofs.lemmas.List.Elements.{Contains-get_or}
 use Rattle.lattice.specs.Covers.{IsExtreme}
 use Rattle.lattice.specs.Plane.{Pair, IsBefore}
 use Rattle.lattice.specs.Vertices.{IsLeftOf, GoesRound, IsVertexList}
-use Rattle.hull_plain.specs.Positions.{origin, point_at}
-use Rattle.hull_plain.proofs.PointLists.{get_or_free}
+use Rattle.hull_geometry.specs.Positions.{origin, point_at}
+use Rattle.hull_geometry.proofs.PointLists.{get_or_free}
 use Rattle.hull_outline.specs.Rounds.{corner}
 
 -- behind the end stands what is to stand for a missing member

@@ -1,8 +1,7 @@
 -- The two points of a set that are farthest from one another: each is a corner, and one of them the first of the points
 -- farthest from an edge that begins at the other.
-use Rattle.std.proofs.Common.{◌≡◌, ℕ, zero, suc, ◌+◌, ◌<◌, ℤ, pos, ◌+ℤ◌, ◌-ℤ◌, ◌*ℤ◌, ◌≤ℤ◌, ◌<ℤ◌, neg_ℤ, ◌⊎◌, inl}
-use Rattle.std.proofs.Common.{inr, refl}
-use Rattle.std.proofs.Common.{sym, ap, ◌∙◌, subst, List, [], ◌∷◌, length, arith}
+use Rattle.std.proofs.Common.{◌≡◌, ℕ, zero, suc, ◌+◌, ◌<◌, ℤ, pos, ◌+ℤ◌, ◌-ℤ◌, ◌*ℤ◌, ◌≤ℤ◌, ◌<ℤ◌, neg_ℤ, ◌⊎◌, inl, inr}
+use Rattle.std.proofs.Common.{refl, sym, ap, ◌∙◌, subst, List, [], ◌∷◌, length, arith}
 use Rattle.std.specs.List.{Contains}
 use Rattle.std.proofs.lemmas.Bool.{cases_lt}
 use Rattle.std.proofs.lemmas.Int.{ints}
@@ -13,8 +12,8 @@ use Rattle.lattice.specs.Signs.{le_or_lt, product_nn, product_pp, product_np, ca
 use Rattle.lattice.specs.Vertices.{IsLeftOf, IsVertexList}
 use Rattle.lattice.proofs.Order.{before_total, before_apart, after_apart}
 use Rattle.lattice.proofs.Vectors.{as_pair, minus, cross, cross_swap, Ahead, ahead_nn}
-use Rattle.hull_plain.specs.Tangents.{IsFirstFarthest}
-use Rattle.hull_plain.proofs.Orientation.{orient-cross, ahead_of}
+use Rattle.hull_geometry.specs.Tangents.{IsFirstFarthest}
+use Rattle.hull_geometry.proofs.Orientation.{orient-cross, ahead_of}
 use Rattle.hull_outline.specs.Extents.{IsDiameter, IsDiameterOf}
 use Rattle.hull_outline.specs.Outlines.{IsOutlineOf}
 use Rattle.hull_outline.specs.Rounds.{corner, IsParted}
@@ -26,7 +25,11 @@ use Rattle.hull_outline.proofs.NearestOf.{step_back}
 use Rattle.hull_outline.proofs.Parted.{product_ss, product_mm, product_mp}
 use Rattle.hull_outline.proofs.Separated.{way_on}
 use Rattle.hull_outline.proofs.Shields.{product_left}
-use Rattle.hull_outline.proofs.Sides.{side_more}
+use Rattle.lattice.proofs.Sides.{side_more}
+use Rattle.lattice.proofs.Numbers.{above_by_less, above_opposite, below_by_less, le_itself, le_trans}
+use Rattle.lattice.proofs.Numbers.{less_not_le, less_opposites, nn_above, nn_opposite, np_below, zero_opposite}
+use lib.IntN.{*ℤ_comm}
+use Rattle.hull_outline.proofs.Distances.{distance_nn}
 
 -- ---- the greatest of a number of each point
 
@@ -44,24 +47,14 @@ greatest g (x ∷ xs) n = elim (cases_lt 0 (length xs)) [
   | inr none ↦ (
     x,
     (0, omega arith, refl),
-    bound g x xs (g x) (same (g x)) (λ t m. absurd (omega (arith, m.1, none))),
+    bound g x xs (g x) (le_itself (g x)) (λ t m. absurd (omega (arith, m.1, none))),
   )
   | inl some ↦ let r = greatest g xs some in elim (le_or_lt (g x) (g r.0)) [
     | inl h ↦ (r.0, later r.1, bound g x xs (g r.0) h r.2)
-    | inr h ↦ (
-      x,
-      (0, omega arith, refl),
-      bound g x xs (g x) (same (g x)) (λ t m. less _ _ _ (r.2 t m) h),
-    )
+    | inr h ↦ (x, (0, omega arith, refl), bound g x xs (g x) (le_itself (g x)) (λ t m. (omega (arith, ints, r.2 t m))))
   ]
 ]
   where
-    same : (m : ℤ) → m ≤ℤ m
-    same m = omega (arith, ints)
-
-    less : (a b c : ℤ) → a ≤ℤ b → b <ℤ c → a ≤ℤ c
-    less a b c h k = omega (arith, ints)
-
     later : {p : Pair} → Contains xs p → Contains (x ∷ xs) p
     later (i, l, e) = (suc i, omega (arith, l), e)
 
@@ -72,20 +65,13 @@ farthest_pair S n =
     let r = greatest (λ s. distance_squared s (best s).0) S n in (
       r.0,
       (best r.0).0,
-      record {
-        start = r.1;
-        end = (best r.0).1;
-        farthest = λ s t ms mt. up _ _ _ ((best s).2 t mt) (r.2 s ms);
-      },
+      record { start = r.1; end = (best r.0).1; farthest = λ s t ms mt. le_trans _ _ _ ((best s).2 t mt) (r.2 s ms) },
     )
-  where
-    up : (a b c : ℤ) → a ≤ℤ b → b ≤ℤ c → a ≤ℤ c
-    up a b c h k = omega (arith, ints)
 
 -- ---- distances
 
 -- a distance is as long from its other end
-distance_turned : (p q : Pair) → distance_squared p q ≡ distance_squared q p
+pub distance_turned : (p q : Pair) → distance_squared p q ≡ distance_squared q p
 unfolding distance_squared
 distance_turned p q = rw (as_pair p, as_pair q) (simp difference_rules (difference-eq _ _ _ _ (omega arith)))
 
@@ -100,45 +86,18 @@ distance_more : (p q t : Pair)
     ≡ (product (step p q) t -ℤ product (step p q) q)
     +ℤ ((product (step p q) t -ℤ product (step p q) q) +ℤ distance_squared q t)
 unfolding distance_squared product
-distance_more p q t =
-    rw (
-      as_pair p,
-      as_pair q,
-      as_pair t,
-    ) (simp difference_rules (difference-eq _ _ _ _ (omega arith)))
+distance_more p q t = rw (as_pair p, as_pair q, as_pair t) (simp difference_rules (difference-eq _ _ _ _ (omega arith)))
 
 -- two points are apart
 pub distance_above : (q t : Pair) → ¬ (t ≡ q) → pos 0 <ℤ distance_squared q t
-distance_above q t n = above _ _ _ (distance_way q t) (way_on q t (λ e. n (sym e)))
-  where
-    above : (x y z : ℤ) → x ≡ y -ℤ z → z <ℤ y → pos 0 <ℤ x
-    above x y z e h = omega (arith, ints)
-
--- a distance is not below 0
-pub distance_nn : (q t : Pair) → pos 0 ≤ℤ distance_squared q t
-distance_nn q t = elim (before_total t q) [
-  | inl b ↦ weak _ (distance_above q t (before_apart t q b))
-  | inr (inl e) ↦ level _ _ _ (distance_way q t) (ap (product (step q t)) e)
-  | inr (inr b) ↦ weak _ (distance_above q t (after_apart t q b))
-]
-  where
-    weak : (x : ℤ) → pos 0 <ℤ x → pos 0 ≤ℤ x
-    weak x h = omega (arith, ints)
-
-    level : (x y z : ℤ) → x ≡ y -ℤ z → y ≡ z → pos 0 ≤ℤ x
-    level x y z e f = omega (arith, ints)
+distance_above q t n = above_by_less _ _ _ (distance_way q t) (way_on q t (λ e. n (sym e)))
 
 -- ---- the ends of a diameter
 
 -- on the way from one end to the other, all other points lie less far than that
 short_of_end : (S : List Pair) (p q : Pair) → IsDiameter S p q → (t : Pair) → Contains S t → ¬ (t ≡ q)
     → product (step p q) t <ℤ product (step p q) q
-short_of_end S p q h t m n =
-    less (product (step p q) t) (product (step p q) q) _ _ _ (distance_more p q t) (h.farthest p t h.start m)
-    (distance_above q t n)
-  where
-    less : (x y d e f : ℤ) → e -ℤ f ≡ (x -ℤ y) +ℤ ((x -ℤ y) +ℤ d) → e ≤ℤ f → pos 0 <ℤ d → x <ℤ y
-    less x y d e f g h k = omega (arith, ints)
+short_of_end S p q h t m n = omega (arith, ints, distance_more p q t, h.farthest p t h.start m, distance_above q t n)
 
 -- a diameter from its other end
 turned : (S : List Pair) (p q : Pair) → IsDiameter S p q → IsDiameter S q p
@@ -152,10 +111,7 @@ turned S p q h = record {
 beyond_start : (S : List Pair) (p q : Pair) → IsDiameter S p q → (t : Pair) → Contains S t → ¬ (t ≡ p)
     → product (step p q) p <ℤ product (step p q) t
 beyond_start S p q h t m n =
-    back _ _ _ _ (step_back p q t) (step_back p q p) (short_of_end S q p (turned S p q h) t m n)
-  where
-    back : (x y u v : ℤ) → x ≡ neg_ℤ u → y ≡ neg_ℤ v → x <ℤ y → v <ℤ u
-    back x y u v e f h = omega (arith, ints)
+    less_opposites _ _ _ _ (step_back p q t) (step_back p q p) (short_of_end S q p (turned S p q h) t m n)
 
 -- the only point that is farthest in a direction is a corner
 only_farthest : (S V : List Pair) (last : ℕ) (d q : Pair) → IsOutlineOf S V → IsParted V last → 0 < length V
@@ -166,48 +122,32 @@ only_farthest S V last d q o p n m h =
       r.1,
       elim (before_total (corner V r.0) q) [
         | inr (inl e) ↦ e
-        | inl b ↦ absurd (clash _ _ (h (corner V r.0) r.2.0 (before_apart (corner V r.0) q b))
+        | inl b ↦ absurd (less_not_le _ _ (h (corner V r.0) r.2.0 (before_apart (corner V r.0) q b))
             (All-contains (λ t. product d t ≤ℤ product d (corner V r.0)) S q r.2.1 m))
-        | inr (inr b) ↦ absurd (clash _ _ (h (corner V r.0) r.2.0 (after_apart (corner V r.0) q b))
+        | inr (inr b) ↦ absurd (less_not_le _ _ (h (corner V r.0) r.2.0 (after_apart (corner V r.0) q b))
             (All-contains (λ t. product d t ≤ℤ product d (corner V r.0)) S q r.2.1 m))
       ],
     )
-  where
-    clash : (x y : ℤ) → x <ℤ y → y ≤ℤ x → ⊥
-    clash x y h k = omega (arith, ints)
 
 -- ---- two vectors in line
 
 -- one vector by how far the other goes, by x
 line_x : (d e y : Pair) → product d e *ℤ y.x -ℤ product d y *ℤ e.x ≡ cross y e *ℤ d.y
 unfolding product
-line_x d e y =
-    rw (
-      as_pair d,
-      as_pair e,
-      as_pair y,
-    ) (simp difference_rules (difference-eq _ _ _ _ (omega arith)))
+line_x d e y = rw (as_pair d, as_pair e, as_pair y) (simp difference_rules (difference-eq _ _ _ _ (omega arith)))
 
 -- and by y
 line_y : (d e y : Pair) → product d y *ℤ e.y -ℤ product d e *ℤ y.y ≡ cross y e *ℤ d.x
 unfolding product
-line_y d e y =
-    rw (
-      as_pair d,
-      as_pair e,
-      as_pair y,
-    ) (simp difference_rules (difference-eq _ _ _ _ (omega arith)))
+line_y d e y = rw (as_pair d, as_pair e, as_pair y) (simp difference_rules (difference-eq _ _ _ _ (omega arith)))
 
 -- two vectors in line that are both ahead do not go up and down
 not_up_and_down : (d e y : Pair) → Ahead e → Ahead y → pos 0 <ℤ product d e → product d y <ℤ pos 0 → cross y e ≡ pos 0
     → ⊥
 not_up_and_down d e y ae (inl h) up down z =
     clash _ _ _ (line_x d e y) (nothing_times _ d.y z) (product_pp _ _ up h)
-    (product_np _ _ (weak _ down) (ahead_nn e ae))
+    (product_np _ _ (np_below _ down) (ahead_nn e ae))
   where
-    weak : (x : ℤ) → x <ℤ pos 0 → x ≤ℤ pos 0
-    weak x h = omega (arith, ints)
-
     nothing_times : (k z : ℤ) → k ≡ pos 0 → k *ℤ z ≡ pos 0
     nothing_times k z e = ap (λ (x : ℤ). x *ℤ z) e ∙ omega (arith, ints)
 
@@ -242,12 +182,7 @@ cancel_down a c h e = elim (le_or_lt c (pos 0)) [
 
 -- a step backwards
 back_first : (p f v : Pair) → cross (minus p f) v ≡ neg_ℤ (cross (minus f p) v)
-back_first p f v =
-    rw (
-      as_pair p,
-      as_pair f,
-      as_pair v,
-    ) (simp difference_rules (difference-eq _ _ _ _ (omega arith)))
+back_first p f v = rw (as_pair p, as_pair f, as_pair v) (simp difference_rules (difference-eq _ _ _ _ (omega arith)))
 
 -- ---- opposite an edge
 
@@ -260,7 +195,7 @@ opposite_is : (S : List Pair) (d p a q b f : Pair) → Contains S p → IsLeftOf
 opposite_is S d p a q b f mp left up down low turn tie far = elim (before_total f p) [
   | inr (inl e) ↦ e
   | inl fp ↦ absurd (not_up_and_down d (minus a p) (minus p f) (ahead_of p a (tie (flat (before_apart f p fp))))
-      (ahead_of f p fp) up (falls _ _ _ (product_minus d p f) (low f far.0 (before_apart f p fp)))
+      (ahead_of f p fp) up (below_by_less _ _ _ (product_minus d p f) (low f far.0 (before_apart f p fp)))
       (in_line (before_apart f p fp)))
   | inr (inr pf) ↦ absurd (All-contains (λ u. IsBefore u f → ¬ (product (left_of q b) u ≡ product (left_of q b) f)) S p
       far.2 mp pf
@@ -269,16 +204,7 @@ opposite_is S d p a q b f mp left up down low turn tie far = elim (before_total 
 ]
   where
     goes : ¬ (f ≡ p) → pos 0 <ℤ product d (minus f p)
-    goes n = rises _ _ _ (product_minus d f p) (low f far.0 n)
-      where
-        rises : (x y z : ℤ) → x ≡ y -ℤ z → z <ℤ y → pos 0 <ℤ x
-        rises x y z e h = omega (arith, ints)
-
-    weak : (x : ℤ) → pos 0 <ℤ x → pos 0 ≤ℤ x
-    weak x h = omega (arith, ints)
-
-    weak_down : (x : ℤ) → x <ℤ pos 0 → x ≤ℤ pos 0
-    weak_down x h = omega (arith, ints)
+    goes n = above_by_less _ _ _ (product_minus d f p) (low f far.0 n)
 
     no_less : (x y z u v w : ℤ) → x -ℤ z ≡ u → y -ℤ z ≡ v → v -ℤ u ≡ w → x ≤ℤ y → pos 0 ≤ℤ w
     no_less x y z u v w e f g h = omega (arith, ints)
@@ -304,19 +230,16 @@ opposite_is S d p a q b f mp left up down low turn tie far = elim (before_total 
     whole = three d (minus a p) (minus b q) (minus f p)
 
     first : pos 0 ≤ℤ (product d (minus a p) *ℤ cross (minus b q) (minus f p))
-    first = product_nn _ _ (weak _ up) farther
+    first = product_nn _ _ (nn_above _ up) farther
 
     second : pos 0 ≤ℤ (product d (minus b q) *ℤ cross (minus f p) (minus a p))
-    second = product_ss _ _ (weak_down _ down) inside
+    second = product_ss _ _ (np_below _ down) inside
 
     third : ¬ (f ≡ p) → pos 0 ≤ℤ (product d (minus f p) *ℤ cross (minus a p) (minus b q))
-    third n = product_nn _ _ (weak _ (goes n)) turn
+    third n = product_nn _ _ (nn_above _ (goes n)) turn
 
     cancel_left : (x y : ℤ) → pos 0 <ℤ x → x *ℤ y ≡ pos 0 → y ≡ pos 0
-    cancel_left x y h e = cancel_zero y x h (swap y x ∙ e)
-      where
-        swap : (a b : ℤ) → a *ℤ b ≡ b *ℤ a
-        swap a b = omega (arith, ints)
+    cancel_left x y h e = cancel_zero y x h (*ℤ_comm y x ∙ e)
 
     flat : ¬ (f ≡ p) → cross (minus a p) (minus b q) ≡ pos 0
     flat n = cancel_left _ _ (goes n) (third_of_three _ _ _ whole first second (third n))
@@ -327,15 +250,9 @@ opposite_is S d p a q b f mp left up down low turn tie far = elim (before_total 
     level : (x y z u v w : ℤ) → x -ℤ z ≡ u → y -ℤ z ≡ v → v -ℤ u ≡ w → w ≡ pos 0 → x ≡ y
     level x y z u v w e g h k = omega (arith, ints)
 
-    falls : (x y z : ℤ) → x ≡ y -ℤ z → y <ℤ z → x <ℤ pos 0
-    falls x y z e h = omega (arith, ints)
-
     in_line : ¬ (f ≡ p) → cross (minus p f) (minus a p) ≡ pos 0
-    in_line n = nothing _ _ (back_first p f (minus a p))
+    in_line n = zero_opposite _ _ (back_first p f (minus a p))
         (cancel_down _ _ down (second_of_three _ _ _ whole first second (third n)))
-      where
-        nothing : (x y : ℤ) → x ≡ neg_ℤ y → y ≡ pos 0 → x ≡ pos 0
-        nothing x y e h = omega (arith, ints)
 
 -- where two corners are a diameter, the first is opposite the edge from the second, if that is turned no farther than
 -- the one from the first is back
@@ -348,22 +265,16 @@ edge_opposite : (S V : List Pair) (i j : ℕ) → IsVertexList S V → 1 < lengt
 edge_opposite S V i j o n li lj h turn tie f far =
     opposite_is S (step (corner V j) (corner V i)) (corner V j) (corner V (j + 1)) (corner V i) (corner V (i + 1)) f
     h.start (next_left S V j (j + 1) o refl lj)
-    (rises _ _ _ (product_minus (step (corner V j) (corner V i)) (corner V (j + 1)) (corner V j))
+    (above_by_less _ _ _ (product_minus (step (corner V j) (corner V i)) (corner V (j + 1)) (corner V j))
     (beyond_start S (corner V j) (corner V i) h (corner V (j + 1)) (there (j + 1))
     (λ e. next_apart S V j (j + 1) o refl lj n (sym e))))
-    (falls _ _ _ (product_minus (step (corner V j) (corner V i)) (corner V (i + 1)) (corner V i))
+    (below_by_less _ _ _ (product_minus (step (corner V j) (corner V i)) (corner V (i + 1)) (corner V i))
     (short_of_end S (corner V j) (corner V i) h (corner V (i + 1)) (there (i + 1))
     (λ e. next_apart S V i (i + 1) o refl li n (sym e))))
     (beyond_start S (corner V j) (corner V i) h) turn tie far
   where
     there : (k : ℕ) → Contains S (corner V k)
     there k = (corner_extreme S V k o (omega (arith, n))).0
-
-    rises : (x y z : ℤ) → x ≡ y -ℤ z → z <ℤ y → pos 0 <ℤ x
-    rises x y z e h = omega (arith, ints)
-
-    falls : (x y z : ℤ) → x ≡ y -ℤ z → y <ℤ z → x <ℤ pos 0
-    falls x y z e h = omega (arith, ints)
 
 -- each first of the points farthest to the left of the edge from one corner is another
 abbrev IsOpposite : List Pair → List Pair → ℕ → ℕ → Type 0
@@ -380,10 +291,10 @@ forward_there S V i j o n li lj h z back = elim (before_total (corner V i) (corn
   | inr (inr b) ↦ absurd (not_up_and_down d (minus (corner V i) (corner V (i + 1)))
       (minus (corner V j) (corner V (j + 1)))
       (ahead_of (corner V (i + 1)) (corner V i) b) (ahead_of (corner V (j + 1)) (corner V j) back)
-      (rises _ _ _ (product_minus d (corner V i) (corner V (i + 1)))
+      (above_by_less _ _ _ (product_minus d (corner V i) (corner V (i + 1)))
       (short_of_end S (corner V j) (corner V i) h (corner V (i + 1)) (there (i + 1))
       (λ e. next_apart S V i (i + 1) o refl li n (sym e))))
-      (falls _ _ _ (product_minus d (corner V j) (corner V (j + 1)))
+      (below_by_less _ _ _ (product_minus d (corner V j) (corner V (j + 1)))
       (beyond_start S (corner V j) (corner V i) h (corner V (j + 1)) (there (j + 1))
       (λ e. next_apart S V j (j + 1) o refl lj n (sym e))))
       (both_back (corner V j) (corner V (j + 1)) (corner V i) (corner V (i + 1)) ∙ z))
@@ -395,25 +306,19 @@ forward_there S V i j o n li lj h z back = elim (before_total (corner V i) (corn
     there : (k : ℕ) → Contains S (corner V k)
     there k = (corner_extreme S V k o (omega (arith, n))).0
 
-    rises : (x y z : ℤ) → x ≡ y -ℤ z → z <ℤ y → pos 0 <ℤ x
-    rises x y z e h = omega (arith, ints)
-
-    falls : (x y z : ℤ) → x ≡ y -ℤ z → y <ℤ z → x <ℤ pos 0
-    falls x y z e h = omega (arith, ints)
-
 -- of two corners that are a diameter, one is opposite the edge from the other
 one_opposite : (S V : List Pair) (i j : ℕ) → IsVertexList S V → 1 < length V → i < length V → j < length V
     → IsDiameter S (corner V j) (corner V i) → IsOpposite S V i j ⊎ IsOpposite S V j i
 one_opposite S V i j o n li lj h = elim (le_or_lt (pos 0) (cross e f)) [
-  | inr m ↦ inr (edge_opposite S V j i o n lj li back (weak _ (over _ _ (cross_swap f e) m))
-      (λ z. absurd (clash _ z (over _ _ (cross_swap f e) m))))
+  | inr m ↦ inr (edge_opposite S V j i o n lj li back (nn_above _ (above_opposite _ _ (cross_swap f e) m))
+      (λ z. absurd (omega (arith, ints, above_opposite _ _ (cross_swap f e) m))))
   | inl m ↦ elim (le_or_lt (cross e f) (pos 0)) [
-    | inr k ↦ inl (edge_opposite S V i j o n li lj h m (λ z. absurd (clash _ z k)))
+    | inr k ↦ inl (edge_opposite S V i j o n li lj h m (λ z. absurd (omega (arith, ints))))
     | inl k ↦ elim (before_total (corner V j) (corner V (j + 1))) [
       | inl b ↦ inl (edge_opposite S V i j o n li lj h m (λ z. b))
       | inr (inl q) ↦ absurd (next_apart S V j (j + 1) o refl lj n q)
-      | inr (inr b) ↦ inr (edge_opposite S V j i o n lj li back (none _ _ (cross_swap f e) k)
-          (λ z. forward_there S V i j o n li lj h (both _ k m) b))
+      | inr (inr b) ↦ inr (edge_opposite S V j i o n lj li back (nn_opposite _ _ (cross_swap f e) k)
+          (λ z. forward_there S V i j o n li lj h (omega (arith, ints)) b))
     ]
   ]
 ]
@@ -427,33 +332,15 @@ one_opposite S V i j o n li lj h = elim (le_or_lt (pos 0) (cross e f)) [
     back : IsDiameter S (corner V i) (corner V j)
     back = turned S (corner V j) (corner V i) h
 
-    weak : (x : ℤ) → pos 0 <ℤ x → pos 0 ≤ℤ x
-    weak x h = omega (arith, ints)
-
-    over : (x y : ℤ) → x ≡ neg_ℤ y → y <ℤ pos 0 → pos 0 <ℤ x
-    over x y e h = omega (arith, ints)
-
-    none : (x y : ℤ) → x ≡ neg_ℤ y → y ≤ℤ pos 0 → pos 0 ≤ℤ x
-    none x y e h = omega (arith, ints)
-
-    both : (x : ℤ) → x ≤ℤ pos 0 → pos 0 ≤ℤ x → x ≡ pos 0
-    both x h k = omega (arith, ints)
-
-    clash : (x : ℤ) → x ≡ pos 0 → pos 0 <ℤ x → ⊥
-    clash x h k = omega (arith, ints)
-
 -- the best two after all corners are a diameter
 pub diameter_of : (S V : List Pair) (last : ℕ) (u w : Pair) → IsOutlineOf S V → IsParted V last → 0 < length V
     → IsDiameterOf S V (length V) u w → IsDiameter S u w
 diameter_of S V last u w o p n best = record {
   start = best.0;
   end = best.1;
-  farthest = λ s t ms mt. up _ _ _ (pair.2.farthest s t ms mt) enough;
+  farthest = λ s t ms mt. le_trans _ _ _ (pair.2.farthest s t ms mt) enough;
 }
   where
-    up : (a b c : ℤ) → a ≤ℤ b → b ≤ℤ c → a ≤ℤ c
-    up a b c h k = omega (arith, ints)
-
     pair : (p : Pair) × (q : Pair) × IsDiameter S p q
     pair = farthest_pair S (let k = (corner_extreme S V 0 o.1 n).0 in omega (arith, k.1))
 
@@ -465,10 +352,7 @@ diameter_of S V last u w o p n best = record {
         subst (λ (z : Pair). distance_squared (corner V i) z ≤ℤ distance_squared u w) (h r.0 r.1) r.2
 
     level : pair.0 ≡ pair.1 → distance_squared pair.0 pair.1 ≤ℤ distance_squared u w
-    level e = none _ _ _ _ (distance_way pair.0 pair.1) (ap (product (step pair.0 pair.1)) e) (distance_nn u w)
-      where
-        none : (x y z v : ℤ) → x ≡ y -ℤ z → z ≡ y → pos 0 ≤ℤ v → x ≤ℤ v
-        none x y z v e f h = omega (arith, ints)
+    level e = omega (arith, ints, distance_way pair.0 pair.1, ap (product (step pair.0 pair.1)) e, distance_nn u w)
 
     corners : (i j : ℕ) → i < length V → j < length V → corner V i ≡ pair.1 → corner V j ≡ pair.0 → ¬ (pair.0 ≡ pair.1)
         → distance_squared pair.0 pair.1 ≤ℤ distance_squared u w

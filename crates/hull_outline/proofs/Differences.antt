@@ -1,5 +1,5 @@
 -- Two sets are parted, or they have a point in common: a sum of points of the one with the same weights of the other.
-use Rattle.std.proofs.Common.{◌≡◌, zero, suc, ℤ, pos, ◌+ℤ◌, ◌-ℤ◌, ◌*ℤ◌, ◌≤ℤ◌, ◌<ℤ◌, neg_ℤ, ◌⊎◌, inl, inr, refl, sym, ap}
+use Rattle.std.proofs.Common.{◌≡◌, zero, suc, ℤ, pos, ◌+ℤ◌, ◌-ℤ◌, ◌*ℤ◌, ◌≤ℤ◌, ◌<ℤ◌, ◌⊎◌, inl, inr, refl, sym, ap}
 use Rattle.std.proofs.Common.{◌∙◌, subst, List, [], ◌∷◌, arith}
 use Rattle.std.specs.List.{Contains}
 use Rattle.std.proofs.lemmas.Int.{ints}
@@ -10,17 +10,18 @@ use Rattle.lattice.specs.Plane.{Pair, orient, product}
 use Rattle.lattice.specs.Polynomials.{difference-eq, as_difference, difference_rules}
 use Rattle.lattice.specs.Signs.{product_nn}
 use Rattle.lattice.proofs.Vectors.{as_pair, minus}
-use Rattle.hull_plain.specs.Positions.{origin}
-use Rattle.hull_plain.proofs.Decided.{covers_or_separated}
-use Rattle.hull_plain.proofs.PointLists.{AllPairs-none}
-use Rattle.hull_plain.proofs.SetLaws.{ordered_with, members_with}
+use Rattle.hull_geometry.specs.Positions.{origin}
+use Rattle.hull_geometry.proofs.Decided.{covers_or_separated}
+use Rattle.hull_geometry.proofs.PointLists.{AllPairs-none}
+use Rattle.hull_geometry.proofs.SetLaws.{ordered_with, members_with}
 use Rattle.hull_outline.specs.Meetings.{IsApart}
 use Rattle.hull_outline.proofs.NearestOf.{step_back}
 use Rattle.hull_outline.proofs.Parted.{product_ss}
 use Rattle.hull_outline.proofs.Separated.{way_on}
 use Rattle.hull_outline.specs.Steps.{step}
 use Rattle.lattice.proofs.Order.{before_total, before_apart, after_apart}
-use Rattle.hull_plain.proofs.Orientation.{orient-sum, orient-cycle}
+use Rattle.hull_geometry.proofs.Orientation.{orient-sum, orient-cycle, above, at_least}
+use Rattle.lattice.proofs.Numbers.{sum_nn}
 
 -- ---- the differences of the points of two sets
 
@@ -50,8 +51,7 @@ differences_ordered (s ∷ ss) T = from_one_ordered s T (differences ss T) (diff
 from_one_keeps : (s : Pair) (T D : List Pair) (x : Pair) → Contains D x → Contains (from_one s T D) x
 unfolding from_one
 from_one_keeps s [] D x m = m
-from_one_keeps s (t ∷ ts) D x m =
-    (members_with (minus s t) x (from_one s ts D)).1 (inr (from_one_keeps s ts D x m))
+from_one_keeps s (t ∷ ts) D x m = (members_with (minus s t) x (from_one s ts D)).1 (inr (from_one_keeps s ts D x m))
 
 -- each difference from s is there
 from_one_has : (s : Pair) (T D : List Pair) (t : Pair) → Contains T t → Contains (from_one s T D) (minus s t)
@@ -181,43 +181,24 @@ shared_of S T x y z u v w (a, d, ma, md, ex) (b, e, mb, me, ey) (c, f, mc, mf, e
 balance_x : (a b c : Pair)
     → orient origin b c *ℤ a.x +ℤ orient origin c a *ℤ b.x +ℤ orient origin a b *ℤ c.x ≡ pos 0
 unfolding orient
-balance_x a b c =
-    rw (
-      as_pair a,
-      as_pair b,
-      as_pair c,
-      as_difference (pos 0),
-    )
+balance_x a b c = rw (as_pair a, as_pair b, as_pair c, as_difference (pos 0))
     (simp difference_rules (difference-eq _ _ _ _ (omega arith)))
 
 -- and by y
 balance_y : (a b c : Pair)
     → orient origin b c *ℤ a.y +ℤ orient origin c a *ℤ b.y +ℤ orient origin a b *ℤ c.y ≡ pos 0
 unfolding orient
-balance_y a b c =
-    rw (
-      as_pair a,
-      as_pair b,
-      as_pair c,
-      as_difference (pos 0),
-    )
+balance_y a b c = rw (as_pair a, as_pair b, as_pair c, as_difference (pos 0))
     (simp difference_rules (difference-eq _ _ _ _ (omega arith)))
-
--- equal numbers, one of them not below 0, or above it
-nn_by : (x y : ℤ) → x ≡ y → pos 0 ≤ℤ x → pos 0 ≤ℤ y
-nn_by x y e h = omega (arith, ints)
 
 -- three differences round the origin
 shared_in_triangle : (S T : List Pair) (a b c : Pair) → IsDifference S T a → IsDifference S T b → IsDifference S T c
     → IsInTriangle a b c origin → Shared S T
 shared_in_triangle S T a b c da db dc (t, ab, bc, ca) =
     shared_of S T a b c (orient origin b c) (orient origin c a) (orient origin a b) da db dc
-    (nn_by _ _ (orient-cycle b c origin) bc) (nn_by _ _ (orient-cycle c a origin) ca)
-    (nn_by _ _ (orient-cycle a b origin) ab)
-    (above_by _ _ (orient-sum a b c origin) t) (balance_x a b c) (balance_y a b c)
-  where
-    above_by : (x y : ℤ) → x ≡ y → pos 0 <ℤ x → pos 0 <ℤ y
-    above_by x y e h = omega (arith, ints)
+    (at_least _ _ (orient-cycle b c origin) bc) (at_least _ _ (orient-cycle c a origin) ca)
+    (at_least _ _ (orient-cycle a b origin) ab)
+    (above _ _ (orient-sum a b c origin) t) (balance_x a b c) (balance_y a b c)
 
 -- the origin between two numbers: the way from one to the other goes on at the other
 onward : (x y : ℤ) → IsBetween x y (pos 0) → pos 0 ≤ℤ ((y -ℤ x) *ℤ y)
@@ -232,26 +213,21 @@ between_back x y v (inr h) = inl h
 -- the origin between two points: the way from one to the other goes on at the other
 onward_both : (a b : Pair) → IsBetween a.x b.x (pos 0) → IsBetween a.y b.y (pos 0) → pos 0 ≤ℤ product (step a b) b
 unfolding product
-onward_both a b hx hy = sum _ _ (onward a.x b.x hx) (onward a.y b.y hy)
-  where
-    sum : (x y : ℤ) → pos 0 ≤ℤ x → pos 0 ≤ℤ y → pos 0 ≤ℤ (x +ℤ y)
-    sum x y h k = omega (arith, ints)
+onward_both a b hx hy = sum_nn _ _ (onward a.x b.x hx) (onward a.y b.y hy)
 
 -- the weights of two points in line with the origin, by x
 flat_x : (a b : Pair)
     → product (step a b) b *ℤ a.x +ℤ product (step b a) a *ℤ b.x +ℤ pos 0 *ℤ a.x ≡ (b.y -ℤ a.y) *ℤ orient origin a b
 unfolding orient product
 flat_x a b =
-    rw (as_pair a, as_pair b, as_difference (pos 0))
-    (simp difference_rules (difference-eq _ _ _ _ (omega arith)))
+    rw (as_pair a, as_pair b, as_difference (pos 0)) (simp difference_rules (difference-eq _ _ _ _ (omega arith)))
 
 -- and by y
 flat_y : (a b : Pair)
     → product (step a b) b *ℤ a.y +ℤ product (step b a) a *ℤ b.y +ℤ pos 0 *ℤ a.y ≡ (a.x -ℤ b.x) *ℤ orient origin a b
 unfolding orient product
 flat_y a b =
-    rw (as_pair a, as_pair b, as_difference (pos 0))
-    (simp difference_rules (difference-eq _ _ _ _ (omega arith)))
+    rw (as_pair a, as_pair b, as_difference (pos 0)) (simp difference_rules (difference-eq _ _ _ _ (omega arith)))
 
 -- a product with nothing
 times_zero : (k z : ℤ) → z ≡ pos 0 → k *ℤ z ≡ pos 0
@@ -280,26 +256,17 @@ shared_on_segment S T a b da db (z, bx, by) = elim (before_total a b) [
     line : orient origin a b ≡ pos 0
     line = sym (orient-cycle a b origin) ∙ z
 
-    more : (x y k : ℤ) → y ≡ neg_ℤ k → k <ℤ x → pos 0 <ℤ (x +ℤ y +ℤ pos 0)
-    more x y k e h = omega (arith, ints)
-
     apart : ¬ (a ≡ b) → Shared S T
     apart n =
         shared_of S T a b a (product (step a b) b) (product (step b a) a) (pos 0) da db da (onward_both a b bx by)
         (onward_both b a (between_back _ _ _ bx) (between_back _ _ _ by)) (omega (arith, ints))
-        (more _ _ _ (step_back a b a) (way_on a b n))
+        (omega (arith, ints, step_back a b a, way_on a b n))
         (flat_x a b ∙ times_zero _ _ line) (flat_y a b ∙ times_zero _ _ line)
 
 -- how far a difference lies in a direction
 difference_along : (d s t : Pair) → product d (minus s t) -ℤ product d origin ≡ product d s -ℤ product d t
 unfolding product
-difference_along d s t =
-    rw (
-      as_pair d,
-      as_pair s,
-      as_pair t,
-      as_difference (pos 0),
-    )
+difference_along d s t = rw (as_pair d, as_pair s, as_pair t, as_difference (pos 0))
     (simp difference_rules (difference-eq _ _ _ _ (omega arith)))
 
 -- two sets are parted, or have a point in common
@@ -314,10 +281,7 @@ parted_or_shared S T = elim (covers_or_separated (differences S T) origin (diffe
 ]
   where
     less : (d s t : Pair) → product d (minus s t) <ℤ product d origin → product d s <ℤ product d t
-    less d s t h = under _ _ _ _ (difference_along d s t) h
-      where
-        under : (x y u v : ℤ) → x -ℤ y ≡ u -ℤ v → x <ℤ y → u <ℤ v
-        under x y u v e h = omega (arith, ints)
+    less d s t h = omega (arith, ints, difference_along d s t)
 
     covered : Covers (differences S T) origin → Shared S T
     covered (Member m) = shared_at S T origin (differences_only S T origin m) refl refl

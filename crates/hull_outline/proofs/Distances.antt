@@ -8,24 +8,22 @@ use Rattle.lattice.specs.Plane.{Pair, orient, product, distance_squared}
 use Rattle.lattice.specs.Polynomials.{difference-eq, as_difference, difference_rules}
 use Rattle.lattice.proofs.Vectors.{as_pair}
 use Rattle.lattice.specs.Signs.{le_or_lt, product_nn}
-use Rattle.hull_plain.proofs.NotCovered.{not_covered}
-use Rattle.hull_plain.proofs.Orientation.{orient_other}
+use Rattle.hull_geometry.proofs.NotCovered.{not_covered}
+use Rattle.hull_geometry.proofs.Orientation.{orient_other}
 use Rattle.hull_outline.specs.Nearest.{NoneNearerThanCorner, NoneNearerThanEdge}
 use Rattle.hull_outline.specs.Steps.{step, left_of}
 use Rattle.hull_outline.proofs.Cones.{square_nn}
-use Rattle.hull_outline.proofs.EdgesOf.{all_of}
+use Rattle.hull_geometry.proofs.PointLists.{all_of}
 use Rattle.hull_outline.proofs.Shields.{product_left}
+use Rattle.lattice.proofs.Numbers.{le_by_opposite, le_less_trans, sum_nn}
 
 -- a covered point is no farther in a direction than what no point of S is farther than
 pub covered_near : (S : List Pair) (d p : Pair) (m : ℤ) → ((s : Pair) → Contains S s → product d s ≤ℤ m) → Covers S p
     → product d p ≤ℤ m
 covered_near S d p m h c = elim (le_or_lt (product d p) m) [
   | inl k ↦ k
-  | inr k ↦ absurd (not_covered S p (d, all_of (λ s. product d s <ℤ product d p) S (λ s n. below _ _ _ (h s n) k)) c)
+  | inr k ↦ absurd (not_covered S p (d, all_of (λ s. product d s <ℤ product d p) S (λ s n. le_less_trans _ _ _ (h s n) k)) c)
 ]
-  where
-    below : (x y z : ℤ) → x ≤ℤ y → y <ℤ z → x <ℤ z
-    below x y z h k = omega (arith, ints)
 
 -- ---- a corner
 
@@ -35,20 +33,12 @@ farther_by : (c p q : Pair)
     ≡ distance_squared c p +ℤ
     ((product (step c q) c -ℤ product (step c q) p) +ℤ (product (step c q) c -ℤ product (step c q) p))
 unfolding product distance_squared
-farther_by c p q =
-    rw (
-      as_pair c,
-      as_pair p,
-      as_pair q,
-    ) (simp difference_rules (difference-eq _ _ _ _ (omega arith)))
+farther_by c p q = rw (as_pair c, as_pair p, as_pair q) (simp difference_rules (difference-eq _ _ _ _ (omega arith)))
 
 -- a squared distance is not negative
 pub distance_nn : (a b : Pair) → pos 0 ≤ℤ distance_squared a b
 unfolding distance_squared
-distance_nn a b = sum _ _ (square_nn (b.x -ℤ a.x)) (square_nn (b.y -ℤ a.y))
-  where
-    sum : (x y : ℤ) → pos 0 ≤ℤ x → pos 0 ≤ℤ y → pos 0 ≤ℤ (x +ℤ y)
-    sum x y h k = omega (arith, ints)
+distance_nn a b = sum_nn _ _ (square_nn (b.x -ℤ a.x)) (square_nn (b.y -ℤ a.y))
 
 -- no covered point is nearer than the nearest corner
 pub corner_nearest : NoneNearerThanCorner
@@ -79,12 +69,7 @@ side_change : (a b q p : Pair)
     → orient a b p -ℤ orient a b q ≡ (b.x -ℤ a.x) *ℤ (p.y -ℤ q.y) -ℤ (b.y -ℤ a.y) *ℤ (p.x -ℤ q.x)
 unfolding orient
 side_change a b q p =
-    rw (
-      as_pair a,
-      as_pair b,
-      as_pair p,
-      as_pair q,
-    ) (simp difference_rules (difference-eq _ _ _ _ (omega arith)))
+    rw (as_pair a, as_pair b, as_pair p, as_pair q) (simp difference_rules (difference-eq _ _ _ _ (omega arith)))
 
 -- the same of a step, by the sides of its ends
 both_squares : (a b q p : Pair)
@@ -112,11 +97,8 @@ edge_nearest S q a b p h k =
     not_right : (x y u v : ℤ) → x -ℤ y ≡ u → u ≡ neg_ℤ v → x ≤ℤ y → pos 0 ≤ℤ v
     not_right x y u v e f h = omega (arith, ints)
 
-    not_left : (x y u v : ℤ) → x -ℤ y ≡ u → u ≡ neg_ℤ v → pos 0 ≤ℤ v → x ≤ℤ y
-    not_left x y u v e f h = omega (arith, ints)
-
     near : (s : Pair) → Contains S s → product (left_of b a) s ≤ℤ product (left_of b a) b
-    near s m = not_left _ _ _ _ (product_left b a s) (orient_other a b s)
+    near s m = le_by_opposite _ _ _ _ (product_left b a s) (orient_other a b s)
         (All-contains (λ t. pos 0 ≤ℤ orient a b t) S s h.left m)
 
     gap : (u v : ℤ) → pos 0 ≤ℤ u → v <ℤ pos 0 → pos 0 ≤ℤ (u -ℤ (v +ℤ v))

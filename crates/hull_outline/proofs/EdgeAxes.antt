@@ -1,7 +1,6 @@
 -- Two sets of three corners or more that a direction parts: an edge of one of them has the other on its right.
 use Rattle.std.proofs.Common.{◌≡◌, ℕ, ◌+◌, ◌<◌, ℤ, pos, ◌-ℤ◌, ◌≤ℤ◌, ◌<ℤ◌, neg_ℤ, ◌⊎◌, inl, inr, sym, subst, List}
-use Rattle.std.proofs.Common.{length}
-use Rattle.std.proofs.Common.{arith}
+use Rattle.std.proofs.Common.{length, arith}
 use Rattle.std.specs.List.{Contains}
 use Rattle.std.proofs.lemmas.Int.{ints}
 use Rattle.std.proofs.lemmas.List.Elements.{All-contains}
@@ -9,7 +8,7 @@ use Rattle.lattice.specs.Plane.{Pair, orient, product}
 use Rattle.lattice.specs.Polynomials.{difference-eq, difference_rules}
 use Rattle.lattice.specs.Vertices.{IsLeftOf}
 use Rattle.lattice.proofs.Vectors.{as_pair, minus, opp, cross}
-use Rattle.hull_plain.specs.Tangents.{IsFirstFarthest}
+use Rattle.hull_geometry.specs.Tangents.{IsFirstFarthest}
 use Rattle.hull_outline.specs.Meetings.{IsApart}
 use Rattle.hull_outline.specs.Nearest.{previous}
 use Rattle.hull_outline.specs.Outlines.{IsOutlineOf}
@@ -20,91 +19,38 @@ use Rattle.hull_outline.proofs.Cones.{no_farther_in_cone}
 use Rattle.hull_outline.proofs.Corners.{corner_extreme, next_left}
 use Rattle.hull_outline.proofs.NearestOf.{left_before, previous_at, turn_at}
 use Rattle.hull_outline.proofs.Shields.{product_left}
-use Rattle.hull_outline.proofs.Sides.{side_more}
+use Rattle.lattice.proofs.Sides.{side_after, side_back, side_more, side_to_end}
 use Rattle.hull_outline.proofs.Turns.{farthest_corner, placed}
+use Rattle.lattice.proofs.Numbers.{above_by_less, below_opposite, nn_by_le, np_by, np_opposite}
 
 -- ---- identities
 
 -- how far a step goes in a direction
 pub product_minus : (d p q : Pair) → product d (minus p q) ≡ product d p -ℤ product d q
 unfolding product
-product_minus d p q =
-    rw (
-      as_pair d,
-      as_pair p,
-      as_pair q,
-    ) (simp difference_rules (difference-eq _ _ _ _ (omega arith)))
+product_minus d p q = rw (as_pair d, as_pair p, as_pair q) (simp difference_rules (difference-eq _ _ _ _ (omega arith)))
 
 -- and in the direction backwards
 product_minus_back : (d p q : Pair) → product d (minus p q) ≡ product (opp d) q -ℤ product (opp d) p
 unfolding product
 product_minus_back d p q =
-    rw (
-      as_pair d,
-      as_pair p,
-      as_pair q,
-    ) (simp difference_rules (difference-eq _ _ _ _ (omega arith)))
-
--- a turn, by the steps from its corner back
-turn_back : (p c n : Pair) → orient p c n ≡ cross (minus c n) (minus c p)
-unfolding orient
-turn_back p c n =
-    rw (
-      as_pair p,
-      as_pair c,
-      as_pair n,
-    ) (simp difference_rules (difference-eq _ _ _ _ (omega arith)))
-
--- and by those from its corner
-turn_from : (p c n : Pair) → orient p c n ≡ cross (minus n c) (minus p c)
-unfolding orient
-turn_from p c n =
-    rw (
-      as_pair p,
-      as_pair c,
-      as_pair n,
-    ) (simp difference_rules (difference-eq _ _ _ _ (omega arith)))
-
--- the side of a point at the line from p to c, by the steps to c and from there
-pub side_on : (p c v : Pair) → orient p c v ≡ cross (minus c p) (minus v c)
-unfolding orient
-side_on p c v =
-    rw (
-      as_pair p,
-      as_pair c,
-      as_pair v,
-    ) (simp difference_rules (difference-eq _ _ _ _ (omega arith)))
+    rw (as_pair d, as_pair p, as_pair q) (simp difference_rules (difference-eq _ _ _ _ (omega arith)))
 
 -- the side of a point at the line from c to n, by the steps from n to c and from c
 pub side_off : (c n v : Pair) → orient c n v ≡ neg_ℤ (cross (minus c n) (minus v c))
 unfolding orient
-side_off c n v =
-    rw (
-      as_pair c,
-      as_pair n,
-      as_pair v,
-    ) (simp difference_rules (difference-eq _ _ _ _ (omega arith)))
+side_off c n v = rw (as_pair c, as_pair n, as_pair v) (simp difference_rules (difference-eq _ _ _ _ (omega arith)))
 
 -- the side of one point less that of another, by the step from n to c
 pub side_off_more : (c n v t : Pair) → orient c n t -ℤ orient c n v ≡ neg_ℤ (cross (minus c n) (minus t v))
 unfolding orient
 side_off_more c n v t =
-    rw (
-      as_pair c,
-      as_pair n,
-      as_pair v,
-      as_pair t,
-    ) (simp difference_rules (difference-eq _ _ _ _ (omega arith)))
+    rw (as_pair c, as_pair n, as_pair v, as_pair t) (simp difference_rules (difference-eq _ _ _ _ (omega arith)))
 
 -- both steps backwards
 pub both_back : (a b c d : Pair) → cross (minus a b) (minus c d) ≡ cross (minus b a) (minus d c)
 both_back a b c d =
-    rw (
-      as_pair a,
-      as_pair b,
-      as_pair c,
-      as_pair d,
-    ) (simp difference_rules (difference-eq _ _ _ _ (omega arith)))
+    rw (as_pair a, as_pair b, as_pair c, as_pair d) (simp difference_rules (difference-eq _ _ _ _ (omega arith)))
 
 -- ---- a corner and the edges at it
 
@@ -136,36 +82,21 @@ bend_at_most T a b p v n h hp hn t m =
 bend_right : (T : List Pair) (a b p v n : Pair) → IsBend T p v n → orient a b v <ℤ pos 0
     → (orient a b p -ℤ orient a b v) ≤ℤ pos 0 → (orient a b n -ℤ orient a b v) ≤ℤ pos 0
     → (t : Pair) → Contains T t → orient a b t <ℤ pos 0
-bend_right T a b p v n h k hp hn t m = less _ _ (bend_at_most T a b p v n h hp hn t m) k
-  where
-    less : (x y : ℤ) → x ≤ℤ y → y <ℤ pos 0 → x <ℤ pos 0
-    less x y h k = omega (arith, ints)
+bend_right T a b p v n h k hp hn t m = omega (arith, ints, bend_at_most T a b p v n h hp hn t m)
 
 -- the edge to c has T on its right, where the bend and v are right of it
 right_of_edge_to : (T : List Pair) (b c p v n : Pair) → IsBend T p v n
     → IsLeftAxis (minus c b) (minus p v) (minus n v) (minus v c) → (t : Pair) → Contains T t → orient b c t <ℤ pos 0
 right_of_edge_to T b c p v n h a =
-    bend_right T b c p v n h (below _ _ (side_on b c v) a.beside)
-    (no_more _ _ (side_more b c v p) a.left_beside) (no_more _ _ (side_more b c v n) a.right_beside)
-  where
-    below : (x y : ℤ) → x ≡ y → y <ℤ pos 0 → x <ℤ pos 0
-    below x y e h = omega (arith, ints)
-
-    no_more : (x y : ℤ) → x ≡ y → y ≤ℤ pos 0 → x ≤ℤ pos 0
-    no_more x y e h = omega (arith, ints)
+    bend_right T b c p v n h (omega (arith, ints, side_after b c v, a.beside))
+    (np_by _ _ (side_more b c v p) a.left_beside) (np_by _ _ (side_more b c v n) a.right_beside)
 
 -- and so has the edge from c
 right_of_edge_from : (T : List Pair) (c d p v n : Pair) → IsBend T p v n
     → IsRightAxis (minus c d) (minus p v) (minus n v) (minus v c) → (t : Pair) → Contains T t → orient c d t <ℤ pos 0
 right_of_edge_from T c d p v n h a =
-    bend_right T c d p v n h (below _ _ (side_off c d v) a.beside)
-    (no_more _ _ (side_off_more c d v p) a.left_beside) (no_more _ _ (side_off_more c d v n) a.right_beside)
-  where
-    below : (x y : ℤ) → x ≡ neg_ℤ y → pos 0 <ℤ y → x <ℤ pos 0
-    below x y e h = omega (arith, ints)
-
-    no_more : (x y : ℤ) → x ≡ neg_ℤ y → pos 0 ≤ℤ y → x ≤ℤ pos 0
-    no_more x y e h = omega (arith, ints)
+    bend_right T c d p v n h (below_opposite _ _ (side_off c d v) a.beside)
+    (np_opposite _ _ (side_off_more c d v p) a.left_beside) (np_opposite _ _ (side_off_more c d v n) a.right_beside)
 
 -- the axis seen from the other set: all steps backwards
 left_axis_back : (p v b d c : Pair) → IsLeftAxis (minus p v) (minus c b) (minus c d) (minus v c)
@@ -215,17 +146,14 @@ pub wedge_to : (S V : List Pair) (d : Pair) (j : ℕ) → IsOutlineOf S V → j 
 wedge_to S V d j o l h f =
     let b = previous_at V j l in
     record {
-      left_up = up _ _ _ (product_minus d (corner V j) (previous V j))
+      left_up = nn_by_le _ _ _ (product_minus d (corner V j) (previous V j))
           (All-contains (λ t. product d t ≤ℤ product d (corner V j)) S (previous V j) f.1
           (subst (Contains S) (sym b.3) (corner_extreme S V b.0 o.1 (omega (arith, l))).0));
-      right_up = up _ _ _ (product_minus d (corner V j) (corner V (j + 1)))
+      right_up = nn_by_le _ _ _ (product_minus d (corner V j) (corner V (j + 1)))
           (All-contains (λ t. product d t ≤ℤ product d (corner V j)) S (corner V (j + 1)) f.1
           (corner_extreme S V (j + 1) o.1 (omega (arith, l))).0);
-      turns = rw (← (turn_back (previous V j) (corner V j) (corner V (j + 1)))) h.turns;
+      turns = rw (← (side_to_end (previous V j) (corner V j) (corner V (j + 1)))) h.turns;
     }
-  where
-    up : (x y z : ℤ) → x ≡ y -ℤ z → z ≤ℤ y → pos 0 ≤ℤ x
-    up x y z e h = omega (arith, ints)
 
 -- the steps from a corner that is farthest backwards do not go down
 pub wedge_from : (T W : List Pair) (d : Pair) (j : ℕ) → IsOutlineOf T W → j < length W → IsBendAt T W j
@@ -234,17 +162,14 @@ pub wedge_from : (T W : List Pair) (d : Pair) (j : ℕ) → IsOutlineOf T W → 
 wedge_from T W d j o l h f =
     let b = previous_at W j l in
     record {
-      left_up = up _ _ _ (product_minus_back d (previous W j) (corner W j))
+      left_up = nn_by_le _ _ _ (product_minus_back d (previous W j) (corner W j))
           (All-contains (λ t. product (opp d) t ≤ℤ product (opp d) (corner W j)) T (previous W j) f.1
           (subst (Contains T) (sym b.3) (corner_extreme T W b.0 o.1 (omega (arith, l))).0));
-      right_up = up _ _ _ (product_minus_back d (corner W (j + 1)) (corner W j))
+      right_up = nn_by_le _ _ _ (product_minus_back d (corner W (j + 1)) (corner W j))
           (All-contains (λ t. product (opp d) t ≤ℤ product (opp d) (corner W j)) T (corner W (j + 1)) f.1
           (corner_extreme T W (j + 1) o.1 (omega (arith, l))).0);
-      turns = rw (← (turn_from (previous W j) (corner W j) (corner W (j + 1)))) h.turns;
+      turns = rw (← (side_back (previous W j) (corner W j) (corner W (j + 1)))) h.turns;
     }
-  where
-    up : (x y z : ℤ) → x ≡ y -ℤ z → z ≤ℤ y → pos 0 ≤ℤ x
-    up x y z e h = omega (arith, ints)
 
 -- ---- an edge that parts
 
@@ -278,7 +203,7 @@ edge_parts S V T W last end o p q r many more (d, h) =
     elim (axis_of d (minus (corner W b.0) (corner V a.0)) (minus (corner V a.0) (previous V a.0))
     (minus (corner V a.0) (corner V (a.0 + 1))) (minus (previous W b.0) (corner W b.0))
     (minus (corner W (b.0 + 1)) (corner W b.0)) (wedge_to S V d a.0 o a.1 f a.2) (wedge_from T W d b.0 q b.1 g b.2)
-    (up _ _ _ (product_minus d (corner W b.0) (corner V a.0)) (h (corner V a.0) (corner W b.0) a.2.0 b.2.0))) [
+    (above_by_less _ _ _ (product_minus d (corner W b.0) (corner V a.0)) (h (corner V a.0) (corner W b.0) a.2.0 b.2.0))) [
       | inl (inl x) ↦ inl (edge_to V T a.0 a.1
           (right_of_edge_to T (previous V a.0) (corner V a.0) (previous W b.0) (corner W b.0) (corner W (b.0 + 1)) g x))
       | inl (inr x) ↦ inl (
@@ -298,6 +223,3 @@ edge_parts S V T W last end o p q r many more (d, h) =
             x),
       )
     ]
-  where
-    up : (x y z : ℤ) → x ≡ y -ℤ z → z <ℤ y → pos 0 <ℤ x
-    up x y z e h = omega (arith, ints)

@@ -1,23 +1,21 @@
 -- The edges between extreme points, and how two of them meet.
-use Rattle.std.proofs.Common.{◌≡◌, ℤ, pos, ◌≤ℤ◌, ◌<ℤ◌, neg_ℤ, List, inl, inr, sym, ap, ◌∙◌, arith, get_or}
-use Rattle.std.specs.List.{All, Contains}
+use Rattle.std.proofs.Common.{◌≡◌, pos, ◌≤ℤ◌, ◌<ℤ◌, neg_ℤ, List, inl, inr, sym, ap, ◌∙◌, arith}
+use Rattle.std.specs.List.{Contains}
 use Rattle.std.proofs.lemmas.Int.{ints}
-use Rattle.std.proofs.lemmas.List.Elements.{All-contains, Contains-get_or}
+use Rattle.std.proofs.lemmas.List.Elements.{All-contains}
 use Rattle.lattice.specs.Covers.{IsExtreme, OnSegment}
 use Rattle.lattice.specs.Plane.{Pair, orient, IsBefore}
 use Rattle.lattice.specs.Signs.{le_or_lt}
 use Rattle.lattice.specs.Vertices.{IsLeftOf}
 use Rattle.lattice.proofs.Order.{before_apart, after_apart}
 use Rattle.lattice.proofs.Vectors.{minus, cross, cross_swap, Ahead, turn_trans}
-use Rattle.hull_plain.specs.Edges.{IsLowerEdge, IsUpperEdge, IsFirst, IsLast}
-use Rattle.hull_plain.proofs.ChangedSets.{in_without}
-use Rattle.hull_plain.proofs.CoveredByEdges.{on_segment}
-use Rattle.hull_plain.proofs.Orientation.{orient_other, orient_swap_zero, orient_at_end, at_least, ahead_of}
-use Rattle.hull_outline.proofs.Sides.{side_before, side_to_end, side_back, side_beyond, side_over}
-
--- what holds of each member
-pub all_of : (P : Pair → Type 0) (S : List Pair) → ((t : Pair) → Contains S t → P t) → All P S
-all_of P S h k d l = h (get_or S k d) (Contains-get_or S k d l)
+use Rattle.hull_geometry.specs.Edges.{IsLowerEdge, IsUpperEdge, IsFirst, IsLast}
+use Rattle.hull_geometry.proofs.ChangedSets.{in_without}
+use Rattle.hull_geometry.proofs.CoveredByEdges.{on_segment}
+use Rattle.hull_geometry.proofs.PointLists.{all_of}
+use Rattle.hull_geometry.proofs.Orientation.{orient_other, orient_swap_zero, orient_at_end, at_least, ahead_of}
+use Rattle.lattice.proofs.Sides.{side_before, side_to_end, side_back, side_beyond, side_over}
+use Rattle.lattice.proofs.Numbers.{zero_between}
 
 -- an extreme point does not lie on a segment between two others
 not_within : (S : List Pair) (a v b : Pair) → Contains S a → IsExtreme S v → Contains S b → IsBefore a v → IsBefore v b
@@ -26,9 +24,9 @@ not_within S a v b ma ev mb av vb z =
     ev.1 (OnSegment a b (in_without v a S (before_apart a v av) ma) (in_without v b S (after_apart b v vb) mb)
     (on_segment a b v av vb z))
 
--- a line from u to v, with its start and its end exchanged
-other_zero : (u v t : Pair) → orient u v t ≡ pos 0 → orient v u t ≡ pos 0
-other_zero u v t z = orient_other u v t ∙ ap neg_ℤ z
+-- the line from its other end
+pub other_line : (p r q : Pair) → orient p r q ≡ pos 0 → orient r p q ≡ pos 0
+other_line p r q z = orient_other p r q ∙ ap neg_ℤ z
 
 -- forward to an extreme point that has all of S on the left of the line: a lower edge
 pub edge_forward : (S : List Pair) (u v : Pair) → Contains S u → IsExtreme S v → IsLeftOf S u v → IsBefore u v
@@ -39,7 +37,7 @@ edge_forward S u v mu ev h b = record {
   forward = b;
   left = h;
   last = all_of (λ t. orient u v t ≡ pos 0 → ¬ (IsBefore v t)) S
-      (λ t m z k. not_within S u v t mu ev m b k (other_zero u v t z));
+      (λ t m z k. not_within S u v t mu ev m b k (other_line u v t z));
 }
 
 -- back to it: an upper edge
@@ -51,12 +49,8 @@ edge_back S u v mu ev h b = record {
   backward = b;
   left = h;
   last = all_of (λ t. orient u v t ≡ pos 0 → ¬ (IsBefore t v)) S
-      (λ t m z k. not_within S t v u m ev mu k b (orient_swap_zero v u t (other_zero u v t z)));
+      (λ t m z k. not_within S t v u m ev mu k b (orient_swap_zero v u t (other_line u v t z)));
 }
-
--- a number that is not below 0 and not above it
-zero_of : (x : ℤ) → pos 0 ≤ℤ x → x ≤ℤ pos 0 → x ≡ pos 0
-zero_of x h k = omega (arith, ints)
 
 -- two lower edges in a row turn left
 pub lower_turns : (S : List Pair) (u v w : Pair) → IsLowerEdge S u v → IsLowerEdge S v w → pos 0 <ℤ orient u v w
@@ -64,7 +58,7 @@ lower_turns S u v w e f =
     elim (le_or_lt (orient u v w) (pos 0)) [
       | inr k ↦ k
       | inl k ↦ absurd (All-contains (λ t. orient u v t ≡ pos 0 → ¬ (IsBefore v t)) S w e.last f.to
-          (zero_of _ (All-contains (λ t. pos 0 ≤ℤ orient u v t) S w e.left f.to) k) f.forward)
+          (zero_between _ (All-contains (λ t. pos 0 ≤ℤ orient u v t) S w e.left f.to) k) f.forward)
     ]
 
 -- and so do two upper edges
@@ -73,16 +67,13 @@ upper_turns S u v w e f =
     elim (le_or_lt (orient u v w) (pos 0)) [
       | inr k ↦ k
       | inl k ↦ absurd (All-contains (λ t. orient u v t ≡ pos 0 → ¬ (IsBefore t v)) S w e.last f.to
-          (zero_of _ (All-contains (λ t. pos 0 ≤ℤ orient u v t) S w e.left f.to) k) f.backward)
+          (zero_between _ (All-contains (λ t. pos 0 ≤ℤ orient u v t) S w e.left f.to) k) f.backward)
     ]
 
 -- three vectors ahead, each not right of the next one round, are in line
 in_line : (a b c : Pair) → Ahead a → Ahead b → Ahead c → pos 0 ≤ℤ cross a c → pos 0 ≤ℤ cross c b → pos 0 ≤ℤ cross b a
     → cross a c ≡ pos 0
-in_line a b c ha hb hc ac cb ba = between _ _ (cross_swap a c) ac (turn_trans c b a hc hb ha cb ba)
-  where
-    between : (x y : ℤ) → x ≡ neg_ℤ y → pos 0 ≤ℤ x → pos 0 ≤ℤ y → x ≡ pos 0
-    between x y e h k = omega (arith, ints)
+in_line a b c ha hb hc ac cb ba = omega (arith, ints, cross_swap a c, turn_trans c b a hc hb ha cb ba)
 
 -- an upper edge to v and a lower edge from v: v is the first point
 pub first_between : (S : List Pair) (u v w : Pair) → IsUpperEdge S u v → IsLowerEdge S v w → IsFirst S v

@@ -5,10 +5,10 @@ use Rattle.std.proofs.lemmas.Bool.{cases_lt}
 use Rattle.std.proofs.lemmas.List.Elements.{Contains-get_or}
 use Rattle.lattice.specs.Covers.{IsExtreme}
 use Rattle.lattice.specs.Plane.{Pair}
-use Rattle.hull_plain.specs.Edges.{IsFirst, IsLast}
-use Rattle.hull_plain.specs.Positions.{origin, point_at}
-use Rattle.hull_plain.proofs.Chains.{first_extreme, last_extreme}
-use Rattle.hull_plain.proofs.Rounding.{least, greatest, first_there}
+use Rattle.hull_geometry.specs.Edges.{IsFirst, IsLast}
+use Rattle.hull_geometry.specs.Positions.{origin, point_at}
+use Rattle.hull_geometry.proofs.Chains.{first_extreme, last_extreme}
+use Rattle.hull_geometry.proofs.Rounding.{least, greatest, first_there}
 use Rattle.hull_outline.specs.Outlines.{IsOutlineOf}
 use Rattle.hull_outline.specs.Rounds.{corner, IsParted}
 use Rattle.hull_outline.proofs.Corners.{corner_extreme, corner_of}

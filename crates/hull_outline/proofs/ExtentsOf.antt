@@ -1,24 +1,22 @@
 -- How far a set reaches in a direction.
-use Rattle.std.proofs.Common.{◌≡◌, ℤ, ◌-ℤ◌, ◌≤ℤ◌, neg_ℤ, sym, subst, List, arith}
+use Rattle.std.proofs.Common.{◌≡◌, ℤ, ◌-ℤ◌, ◌≤ℤ◌, sym, subst, List, arith}
 use Rattle.std.specs.List.{Contains}
 use Rattle.std.proofs.lemmas.Int.{ints}
 use Rattle.std.proofs.lemmas.List.Elements.{All-contains}
 use Rattle.lattice.specs.Plane.{Pair, product}
-use Rattle.hull_plain.specs.Tangents.{IsFirstFarthest}
+use Rattle.hull_geometry.specs.Tangents.{IsFirstFarthest}
 use Rattle.hull_outline.specs.Extents.{IsExtent}
 use Rattle.hull_outline.specs.Steps.{backward}
 use Rattle.hull_outline.proofs.Parted.{product_opp}
+use Rattle.lattice.proofs.Numbers.{le_opposites}
 
 -- what is farthest backwards is nearest
 nearest_by : (S : List Pair) (d b q : Pair) → b ≡ backward d → IsFirstFarthest S b q → (t : Pair) → Contains S t
     → product d q ≤ℤ product d t
 nearest_by S d b q e f t m =
-    back _ _ _ _ (product_opp d t) (product_opp d q)
+    le_opposites _ _ _ _ (product_opp d t) (product_opp d q)
     (All-contains (λ u. product (backward d) u ≤ℤ product (backward d) q) S t
     (subst (λ (z : Pair). IsFirstFarthest S z q) e f).1 m)
-  where
-    back : (x y u v : ℤ) → x ≡ neg_ℤ u → y ≡ neg_ℤ v → x ≤ℤ y → v ≤ℤ u
-    back x y u v e f h = omega (arith, ints)
 
 -- the farthest point lies no less far than the one farthest backwards
 pub no_less_far : (S : List Pair) (d b p q : Pair) → b ≡ backward d → IsFirstFarthest S d p → IsFirstFarthest S b q

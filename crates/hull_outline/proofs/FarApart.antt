@@ -21,6 +21,8 @@ use Rattle.hull_outline.proofs.NearestOf.{step_back}
 use Rattle.hull_outline.proofs.Rivals.{other_normal}
 use Rattle.hull_outline.proofs.Separated.{from_edge, way_on}
 use Rattle.hull_outline.proofs.Shields.{product_left}
+use Rattle.lattice.proofs.Numbers.{gap_nn, le_by_gap, nn_above, nn_by_le}
+use Rattle.hull_outline.proofs.Diameters.{distance_turned}
 
 -- ---- a set that is magnified
 
@@ -34,17 +36,11 @@ times_along k d p =
 
 -- products of a number that is not below 0 with numbers in order
 times_le : (k x y : ℤ) → pos 0 ≤ℤ k → x ≤ℤ y → (k *ℤ x) ≤ℤ (k *ℤ y)
-times_le k x y h l = more _ _ _ (apart k x y) (product_nn k (y -ℤ x) h (rest _ _ l))
+times_le k x y h l = omega (arith, ints, apart k x y, product_nn k (y -ℤ x) h (gap_nn _ _ l))
   where
     apart : (k x y : ℤ) → k *ℤ (y -ℤ x) ≡ k *ℤ y -ℤ k *ℤ x
     apart k x y = rw (as_difference k, as_difference x, as_difference y)
         (simp difference_rules (difference-eq _ _ _ _ (omega arith)))
-
-    rest : (x y : ℤ) → x ≤ℤ y → pos 0 ≤ℤ (y -ℤ x)
-    rest x y h = omega (arith, ints)
-
-    more : (z x y : ℤ) → z ≡ y -ℤ x → pos 0 ≤ℤ z → x ≤ℤ y
-    more z x y e h = omega (arith, ints)
 
 -- what the magnified set covers lies no farther than so many times the farthest
 magnified_near : (S : List Pair) (d s p : Pair) (k : ℕ) → IsFarthest S d s → Covers (magnified k S) p
@@ -85,22 +81,11 @@ far_apart S T d back s t k p q h fs ft turn e hh cp cq =
 
 -- the same of the squared distance itself, where that is the strip's width
 cancelled : (k l m : ℤ) → pos 0 <ℤ l → ((k *ℤ l) *ℤ (k *ℤ l)) ≤ℤ (l *ℤ m) → ((k *ℤ k) *ℤ l) ≤ℤ m
-cancelled k l m h le = back _ _ (cancel_nn (m -ℤ (k *ℤ k) *ℤ l) l h (rest _ _ _ (drawn k l m) le))
+cancelled k l m h le = le_by_gap _ _ (cancel_nn (m -ℤ (k *ℤ k) *ℤ l) l h (nn_by_le _ _ _ (drawn k l m) le))
   where
     drawn : (k l m : ℤ) → (m -ℤ (k *ℤ k) *ℤ l) *ℤ l ≡ l *ℤ m -ℤ (k *ℤ l) *ℤ (k *ℤ l)
     drawn k l m = rw (as_difference k, as_difference l, as_difference m)
         (simp difference_rules (difference-eq _ _ _ _ (omega arith)))
-
-    rest : (x y z : ℤ) → x ≡ y -ℤ z → z ≤ℤ y → pos 0 ≤ℤ x
-    rest x y z e h = omega (arith, ints)
-
-    back : (x y : ℤ) → pos 0 ≤ℤ (x -ℤ y) → y ≤ℤ x
-    back x y h = omega (arith, ints)
-
--- a distance both ways
-distance_back : (p q : Pair) → distance_squared p q ≡ distance_squared q p
-unfolding distance_squared
-distance_back p q = rw (as_pair p, as_pair q) (simp difference_rules (difference-eq _ _ _ _ (omega arith)))
 
 -- the normal of an edge is as long as the edge
 normal_squared : (a b : Pair) → product (left_of a b) (left_of a b) ≡ distance_squared a b
@@ -116,14 +101,11 @@ apart_by_corners S T c d k p q hs ht cp cq =
     (subst (λ (z : ℤ). ((pos k *ℤ distance_squared c d) *ℤ (pos k *ℤ distance_squared c d))
     ≤ℤ (z *ℤ distance_squared p q)) (step_squared c d)
     (far_apart S T (step c d) (step d c) c d k p q (distance_squared c d) hs.nearest ht.nearest (step_back c d)
-    (sym (step_squared c d) ∙ along_step (step c d) c d) (rw (← step_squared c d) (weak _ long)) cp cq)))
+    (sym (step_squared c d) ∙ along_step (step c d) c d) (rw (← step_squared c d) (nn_above _ long)) cp cq)))
   where
     long : pos 0 <ℤ product (step c d) (step c d)
     long = some_length (step c d) c d
         (way_on c d (λ e. ht.outside (Member (subst (Contains T) (sym e) ht.corner.0))))
-
-    weak : (x : ℤ) → pos 0 <ℤ x → pos 0 ≤ℤ x
-    weak x h = omega (arith, ints)
 
     once : (x y : ℤ) → x ≤ℤ y → x ≤ℤ (pos 1 *ℤ y)
     once x y h = omega (arith, ints)
@@ -138,18 +120,12 @@ apart_by_edge S T c a b k p q h cp cq =
     ≤ℤ (z *ℤ distance_squared p q)) (normal_squared a b)
     (far_apart S T (left_of a b) (left_of b a) c b k p q (neg_ℤ (orient a b c)) h.closest
     (from_edge T c a b _ h.edge refl).farthest (other_normal b a)
-    (side (product (left_of a b) c) (product (left_of a b) a) (product (left_of a b) b) (orient a b c) (product_left a b c)
-    (product_left a b b) (orient_end a b)) (above _ h.edge.beside.0) cp cq))
+    (omega (arith, ints, product_left a b c, product_left a b b, orient_end a b))
+    (omega (arith, ints, h.edge.beside.0)) cp cq))
   where
     squares : (k o : ℤ) → (k *ℤ k) *ℤ (o *ℤ o) ≡ (k *ℤ neg_ℤ o) *ℤ (k *ℤ neg_ℤ o)
     squares k o = rw (as_difference k, as_difference o)
         (simp (difference-neg, difference-mul) (difference-eq _ _ _ _ (omega arith)))
-
-    side : (x y z o : ℤ) {w : ℤ} → x -ℤ y ≡ o → z -ℤ y ≡ w → w ≡ pos 0 → neg_ℤ o ≡ z -ℤ x
-    side x y z o e f g = omega (arith, ints)
-
-    above : (o : ℤ) → o <ℤ pos 0 → pos 0 ≤ℤ neg_ℤ o
-    above o h = omega (arith, ints)
 
 -- no points are nearer
 pub none_closer : NoneCloser
@@ -161,4 +137,4 @@ none_closer S T (Corners c d) k p q h cp cq = apart_by_corners S T c d k p q h.0
 none_closer S T (CornerAndEdge c a b) k p q h cp cq = apart_by_edge S T c a b k p q h cp cq
 none_closer S T (EdgeAndCorner a b d) k p q h cp cq =
     subst (λ (z : ℤ). ((pos k *ℤ pos k) *ℤ (orient a b d *ℤ orient a b d)) ≤ℤ (distance_squared a b *ℤ z))
-    (distance_back q p) (apart_by_edge T S d a b k q p h cq cp)
+    (distance_turned q p) (apart_by_edge T S d a b k q p h cq cp)

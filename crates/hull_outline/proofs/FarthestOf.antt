@@ -1,7 +1,6 @@
 -- The first of the farthest points, by the corners beside it on the chain that the direction faces.
 use Rattle.std.proofs.Common.{◌≡◌, ℕ, ◌+◌, ◌-◌, ◌≤◌, ◌<◌, ℤ, pos, ◌≤ℤ◌, ◌<ℤ◌, List, length, inl, inr, refl, sym, ap}
-use Rattle.std.proofs.Common.{◌∙◌}
-use Rattle.std.proofs.Common.{subst, arith, neg_ℤ}
+use Rattle.std.proofs.Common.{◌∙◌, subst, arith}
 use Rattle.std.specs.List.{Contains}
 use Rattle.std.specs.Prelude.{◌≢◌}
 use Rattle.std.proofs.lemmas.Bool.{cases_lt}
@@ -10,16 +9,17 @@ use Rattle.std.proofs.lemmas.List.Elements.{All-contains}
 use Rattle.lattice.specs.Plane.{Pair, orient, product, IsBefore}
 use Rattle.lattice.specs.Signs.{le_or_lt}
 use Rattle.lattice.proofs.Order.{before_total}
-use Rattle.hull_plain.specs.Edges.{IsLowerEdge, IsUpperEdge}
-use Rattle.hull_plain.specs.Tangents.{IsFirstFarthest}
-use Rattle.hull_plain.proofs.Orientation.{orient_other}
+use Rattle.hull_geometry.specs.Edges.{IsLowerEdge, IsUpperEdge}
+use Rattle.hull_geometry.specs.Tangents.{IsFirstFarthest}
+use Rattle.hull_geometry.proofs.Orientation.{orient_other}
 use Rattle.hull_outline.specs.Outlines.{IsOutlineOf}
 use Rattle.hull_outline.specs.Rounds.{corner, IsParted}
 use Rattle.hull_outline.proofs.Corners.{corner_back, corner_extreme}
-use Rattle.hull_outline.proofs.EdgesOf.{all_of}
+use Rattle.hull_geometry.proofs.PointLists.{all_of}
 use Rattle.hull_outline.proofs.Ends.{ends_of}
 use Rattle.hull_outline.proofs.Rings.{IsRing, ring_of}
-use Rattle.hull_plain.proofs.Slopes.{stays_up, goes_up, stays_down, goes_down}
+use Rattle.hull_geometry.proofs.Slopes.{stays_up, goes_up, stays_down, goes_down}
+use Rattle.lattice.proofs.Numbers.{le_itself, le_less, np_opposite}
 
 -- each point before p lies less far
 abbrev IsRising : List Pair → Pair → Pair → Type 0
@@ -34,21 +34,12 @@ farthest_by : (S : List Pair) (d p : Pair) → Contains S p → IsRising S d p �
 farthest_by S d p m rise fall = (
   m,
   all_of (λ t. product d t ≤ℤ product d p) S (λ t i. elim (before_total t p) [
-    | inl b ↦ weak _ _ (rise t i b)
-    | inr (inl e) ↦ subst (λ (z : Pair). product d z ≤ℤ product d p) (sym e) (same (product d p))
+    | inl b ↦ le_less _ _ (rise t i b)
+    | inr (inl e) ↦ subst (λ (z : Pair). product d z ≤ℤ product d p) (sym e) (le_itself (product d p))
     | inr (inr b) ↦ fall t i b
   ]),
-  all_of (λ t. IsBefore t p → product d t ≢ product d p) S (λ t i b e. apart _ _ (rise t i b) e),
+  all_of (λ t. IsBefore t p → product d t ≢ product d p) S (λ t i b e. (omega (arith, ints, rise t i b))),
 )
-  where
-    weak : (x y : ℤ) → x <ℤ y → x ≤ℤ y
-    weak x y h = omega (arith, ints)
-
-    same : (x : ℤ) → x ≤ℤ x
-    same x = omega (arith, ints)
-
-    apart : (x y : ℤ) → x <ℤ y → x ≡ y → ⊥
-    apart x y h e = omega (arith, ints)
 
 -- what is not less is at least as much
 not_less : (x y : ℤ) → ¬ (x <ℤ y) → y ≤ℤ x
@@ -101,11 +92,7 @@ farthest_below S V last at d o p n down l held fails =
 
 -- the side of a point of an upper edge, seen from its end
 under_edge : (S : List Pair) (u v t : Pair) → IsUpperEdge S u v → Contains S t → orient v u t ≤ℤ pos 0
-under_edge S u v t e m =
-    swapped _ _ (orient_other u v t) (All-contains (λ z. pos 0 ≤ℤ orient u v z) S t e.left m)
-  where
-    swapped : (x y : ℤ) → x ≡ neg_ℤ y → pos 0 ≤ℤ y → x ≤ℤ pos 0
-    swapped x y e h = omega (arith, ints)
+under_edge S u v t e m = np_opposite _ _ (orient_other u v t) (All-contains (λ z. pos 0 ≤ℤ orient u v z) S t e.left m)
 
 -- an upper edge to a point that is less far: all before its start lies less far than that
 upper_rises : (S : List Pair) (d u v : Pair) → pos 0 <ℤ d.y → IsUpperEdge S u v → product d v <ℤ product d u

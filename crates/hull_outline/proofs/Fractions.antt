@@ -4,6 +4,7 @@ use Rattle.std.proofs.lemmas.Int.{ints}
 use Rattle.lattice.specs.Polynomials.{difference-eq, as_difference, difference-mul, difference_rules}
 use Rattle.lattice.specs.Signs.{le_or_lt, product_nn, product_pp, cancel_nn}
 use Rattle.hull_outline.proofs.Cones.{square_nn}
+use Rattle.lattice.proofs.Numbers.{gap_nn, le_by_gap, le_by_sum, le_itself, less_by_sum}
 
 -- a difference of two products, by the differences of their factors
 unfold_products : (a b c d : ℤ) → b *ℤ d -ℤ a *ℤ c ≡ (b -ℤ a) *ℤ d +ℤ a *ℤ (d -ℤ c)
@@ -14,24 +15,15 @@ unfold_products a b c d =
 -- products of numbers in order, none below 0, are in order
 pub products_le : (a b c d : ℤ) → pos 0 ≤ℤ a → a ≤ℤ b → pos 0 ≤ℤ c → c ≤ℤ d → (a *ℤ c) ≤ℤ (b *ℤ d)
 products_le a b c d ha ab hc cd =
-    at_most (b *ℤ d) (a *ℤ c) _ _ (unfold_products a b c d) (product_nn (b -ℤ a) d (rest a b ab) (omega (arith, ints)))
-    (product_nn a (d -ℤ c) ha (rest c d cd))
-  where
-    rest : (x y : ℤ) → x ≤ℤ y → pos 0 ≤ℤ (y -ℤ x)
-    rest x y h = omega (arith, ints)
-
-    at_most : (x y u v : ℤ) → x -ℤ y ≡ u +ℤ v → pos 0 ≤ℤ u → pos 0 ≤ℤ v → y ≤ℤ x
-    at_most x y u v e h k = omega (arith, ints)
+    le_by_sum (b *ℤ d) (a *ℤ c) _ _ (unfold_products a b c d) (product_nn (b -ℤ a) d (gap_nn a b ab) (omega (arith, ints)))
+    (product_nn a (d -ℤ c) ha (gap_nn c d cd))
 
 -- the same, where the first are not equal and the second are above 0
 pub products_lt : (a b : ℤ) → pos 0 ≤ℤ a → a <ℤ b → (a *ℤ a) <ℤ (b *ℤ b)
 products_lt a b ha ab =
-    less (b *ℤ b) (a *ℤ a) _ _ (unfold_products a b a b)
+    less_by_sum (b *ℤ b) (a *ℤ a) _ _ (unfold_products a b a b)
     (product_pp (b -ℤ a) b (omega (arith, ints)) (omega (arith, ints)))
     (product_nn a (b -ℤ a) ha (omega (arith, ints)))
-  where
-    less : (x y u v : ℤ) → x -ℤ y ≡ u +ℤ v → pos 0 <ℤ u → pos 0 ≤ℤ v → y <ℤ x
-    less x y u v e h k = omega (arith, ints)
 
 -- a quotient no greater than one that is no greater than a third, told by products
 middle : (a b c x y z : ℤ) → (c *ℤ x -ℤ a *ℤ z) *ℤ y ≡ (c *ℤ y -ℤ b *ℤ z) *ℤ x +ℤ (b *ℤ x -ℤ a *ℤ y) *ℤ z
@@ -43,15 +35,9 @@ middle a b c x y z =
 pub quotients_le : (a b c x y z : ℤ) → pos 0 <ℤ y → pos 0 ≤ℤ x → pos 0 ≤ℤ z → (a *ℤ y) ≤ℤ (b *ℤ x)
     → (b *ℤ z) ≤ℤ (c *ℤ y) → (a *ℤ z) ≤ℤ (c *ℤ x)
 quotients_le a b c x y z hy hx hz first second =
-    back (c *ℤ x) (a *ℤ z) (cancel_nn (c *ℤ x -ℤ a *ℤ z) y hy
-    (sum _ _ _ (middle a b c x y z) (product_nn _ x (rest _ _ second) hx) (product_nn _ z (rest _ _ first) hz)))
+    le_by_gap (c *ℤ x) (a *ℤ z) (cancel_nn (c *ℤ x -ℤ a *ℤ z) y hy
+    (sum _ _ _ (middle a b c x y z) (product_nn _ x (gap_nn _ _ second) hx) (product_nn _ z (gap_nn _ _ first) hz)))
   where
-    rest : (x y : ℤ) → x ≤ℤ y → pos 0 ≤ℤ (y -ℤ x)
-    rest x y h = omega (arith, ints)
-
-    back : (x y : ℤ) → pos 0 ≤ℤ (x -ℤ y) → y ≤ℤ x
-    back x y h = omega (arith, ints)
-
     sum : (x y z : ℤ) → x ≡ y +ℤ z → pos 0 ≤ℤ y → pos 0 ≤ℤ z → pos 0 ≤ℤ x
     sum x y z e h k = omega (arith, ints)
 
@@ -74,16 +60,13 @@ pub mixed : (m l k j r s p : ℤ) → pos 0 ≤ℤ m → pos 0 ≤ℤ l → pos 
 mixed m l k j r s p hm hl hk hj hr hs first second both = elim (le_or_lt (m *ℤ p) ((k *ℤ j) *ℤ l)) [
   | inl h ↦ h
   | inr h ↦ absurd (clash _ _ _ _ _ (products_lt ((k *ℤ j) *ℤ l) (m *ℤ p) (product_nn _ l (product_nn k j hk hj) hl) h)
-      (pairs m p p) (products_le (m *ℤ m) (m *ℤ m) (p *ℤ p) (r *ℤ s) (product_nn m m hm hm) (same _) (square p) both)
+      (pairs m p p) (products_le (m *ℤ m) (m *ℤ m) (p *ℤ p) (r *ℤ s) (product_nn m m hm hm) (le_itself _) (square p) both)
       (pairs m r s)
       (subst (λ (z : ℤ). ((m *ℤ r) *ℤ (m *ℤ s)) ≤ℤ z) (squares k j l)
       (products_le (m *ℤ r) ((k *ℤ k) *ℤ l) (m *ℤ s) ((j *ℤ j) *ℤ l) (product_nn m r hm hr) first (product_nn m s hm hs)
       second)))
 ]
   where
-    same : (x : ℤ) → x ≤ℤ x
-    same x = omega (arith, ints)
-
     square : (x : ℤ) → pos 0 ≤ℤ (x *ℤ x)
     square x = square_nn x
 
@@ -123,15 +106,9 @@ pub between_two : (m l c n d a b k j r s p : ℤ) → pos 0 ≤ℤ m → pos 0 �
     → (c *ℤ c) *ℤ d ≡ (a *ℤ a) *ℤ r +ℤ ((a *ℤ b) *ℤ p +ℤ ((a *ℤ b) *ℤ p +ℤ (b *ℤ b) *ℤ s))
     → (m *ℤ d) ≤ℤ ((n *ℤ n) *ℤ l)
 between_two m l c n d a b k j r s p hm hl hc ha hb hk hj hr hs first second both e f =
-    back _ _ (cancel_nn ((n *ℤ n) *ℤ l -ℤ m *ℤ d) (c *ℤ c) (product_pp c c hc hc)
+    le_by_gap _ _ (cancel_nn ((n *ℤ n) *ℤ l -ℤ m *ℤ d) (c *ℤ c) (product_pp c c hc hc)
     (subst (λ (z : ℤ). pos 0 ≤ℤ z) (drawn c n l m d) whole))
   where
-    back : (x y : ℤ) → pos 0 ≤ℤ (x -ℤ y) → y ≤ℤ x
-    back x y h = omega (arith, ints)
-
-    rest : (x y : ℤ) → x ≤ℤ y → pos 0 ≤ℤ (y -ℤ x)
-    rest x y h = omega (arith, ints)
-
     sum : (x u v w : ℤ) → x ≡ u +ℤ ((v +ℤ v) +ℤ w) → pos 0 ≤ℤ u → pos 0 ≤ℤ v → pos 0 ≤ℤ w → pos 0 ≤ℤ x
     sum x u v w e g h k = omega (arith, ints)
 
@@ -141,9 +118,9 @@ between_two m l c n d a b k j r s p hm hl hc ha hb hk hj hr hs first second both
     parts : pos 0
         ≤ℤ (((a *ℤ k +ℤ b *ℤ j) *ℤ (a *ℤ k +ℤ b *ℤ j)) *ℤ l
         -ℤ m *ℤ ((a *ℤ a) *ℤ r +ℤ ((a *ℤ b) *ℤ p +ℤ ((a *ℤ b) *ℤ p +ℤ (b *ℤ b) *ℤ s))))
-    parts = sum _ _ _ _ (expanded m l a b k j r s p) (product_nn _ _ (product_nn a a ha ha) (rest _ _ first))
-        (product_nn _ _ ab (rest _ _ (mixed m l k j r s p hm hl hk hj hr hs first second both)))
-        (product_nn _ _ (product_nn b b hb hb) (rest _ _ second))
+    parts = sum _ _ _ _ (expanded m l a b k j r s p) (product_nn _ _ (product_nn a a ha ha) (gap_nn _ _ first))
+        (product_nn _ _ ab (gap_nn _ _ (mixed m l k j r s p hm hl hk hj hr hs first second both)))
+        (product_nn _ _ (product_nn b b hb hb) (gap_nn _ _ second))
 
     whole : pos 0 ≤ℤ ((c *ℤ n) *ℤ (c *ℤ n) *ℤ l -ℤ m *ℤ ((c *ℤ c) *ℤ d))
     whole = rw (e, f) parts

@@ -9,6 +9,7 @@ use Rattle.lattice.specs.Signs.{le_or_lt, product_nn, product_pp, product_np}
 use Rattle.hull_outline.specs.Steps.{step}
 use Rattle.hull_outline.proofs.Cones.{square_nn}
 use Rattle.hull_outline.proofs.Fractions.{products_le}
+use Rattle.lattice.proofs.Numbers.{gap_above, le_itself, le_trans, nn_above, sum_nn}
 
 -- a direction turned by 90 degrees
 abbrev pub turned : Pair → Pair
@@ -18,73 +19,41 @@ turned d = record { x = neg_ℤ d.y; y = d.x }
 pub parts : (n e w : Pair)
     → product n n *ℤ product e w ≡ product n e *ℤ product n w +ℤ product (turned n) e *ℤ product (turned n) w
 unfolding product
-parts n e w =
-    rw (
-      as_pair n,
-      as_pair e,
-      as_pair w,
-    ) (simp difference_rules (difference-eq _ _ _ _ (omega arith)))
+parts n e w = rw (as_pair n, as_pair e, as_pair w) (simp difference_rules (difference-eq _ _ _ _ (omega arith)))
 
 -- so many times the step from x to q and so many times the one from y
 abbrev pub gap : ℤ → ℤ → Pair → Pair → Pair → Pair
-gap l m q x y = record {
-  x = l *ℤ (q.x -ℤ x.x) +ℤ m *ℤ (q.x -ℤ y.x);
-  y = l *ℤ (q.y -ℤ x.y) +ℤ m *ℤ (q.y -ℤ y.y);
-}
+gap l m q x y = record { x = l *ℤ (q.x -ℤ x.x) +ℤ m *ℤ (q.x -ℤ y.x); y = l *ℤ (q.y -ℤ x.y) +ℤ m *ℤ (q.y -ℤ y.y) }
 
 -- how far that goes in a direction
 pub along_gap : (d : Pair) (l m : ℤ) (q x y : Pair)
     → product d (gap l m q x y) ≡ l *ℤ (product d q -ℤ product d x) +ℤ m *ℤ (product d q -ℤ product d y)
 unfolding product
-along_gap d l m q x y =
-    rw (
-      as_pair d,
-      as_difference l,
-      as_difference m,
-      as_pair q,
-      as_pair x,
-      as_pair y,
-    ) (simp difference_rules (difference-eq _ _ _ _ (omega arith)))
+along_gap d l m q x y = rw (as_pair d, as_difference l, as_difference m, as_pair q, as_pair x, as_pair y)
+    (simp difference_rules (difference-eq _ _ _ _ (omega arith)))
 
 -- how far a step goes in a direction
 pub along_step : (d p q : Pair) → product d (step p q) ≡ product d q -ℤ product d p
 unfolding product
-along_step d p q =
-    rw (
-      as_pair d,
-      as_pair p,
-      as_pair q,
-    ) (simp difference_rules (difference-eq _ _ _ _ (omega arith)))
+along_step d p q = rw (as_pair d, as_pair p, as_pair q) (simp difference_rules (difference-eq _ _ _ _ (omega arith)))
 
 -- a squared length is not negative
 pub length_nn : (d : Pair) → pos 0 ≤ℤ product d d
 unfolding product
-length_nn d = sum _ _ (square_nn d.x) (square_nn d.y)
-  where
-    sum : (x y : ℤ) → pos 0 ≤ℤ x → pos 0 ≤ℤ y → pos 0 ≤ℤ (x +ℤ y)
-    sum x y h k = omega (arith, ints)
+length_nn d = sum_nn _ _ (square_nn d.x) (square_nn d.y)
 
 -- the square of how far a step goes is at most the product of both squared lengths (Cauchy)
 pub cauchy : (e w : Pair) → (product e w *ℤ product e w) ≤ℤ (product e e *ℤ product w w)
-cauchy e w = at_most _ _ _ (parts e w w) (square_nn (product (turned e) w))
-  where
-    at_most : (x y z : ℤ) → x ≡ y +ℤ z → pos 0 ≤ℤ z → y ≤ℤ x
-    at_most x y z e h = omega (arith, ints)
+cauchy e w = omega (arith, ints, parts e w w, square_nn (product (turned e) w))
 
 -- a direction in which one point lies farther than another has a length
 pub some_length : (e p q : Pair) → product e p <ℤ product e q → pos 0 <ℤ product e e
 some_length e p q h = elim (le_or_lt (product e e) (pos 0)) [
   | inr k ↦ k
   | inl k ↦
-      let g : pos 0 <ℤ product e (step p q) = rw (along_step e p q) (rest _ _ h) in
-      absurd (clash _ _ (product_pp _ _ g g) (cauchy e (step p q)) (product_np _ _ k (length_nn (step p q))))
+      let g : pos 0 <ℤ product e (step p q) = rw (along_step e p q) (gap_above _ _ h) in
+      absurd (omega (arith, ints, product_pp _ _ g g, cauchy e (step p q), product_np _ _ k (length_nn (step p q))))
 ]
-  where
-    rest : (x y : ℤ) → x <ℤ y → pos 0 <ℤ (y -ℤ x)
-    rest x y h = omega (arith, ints)
-
-    clash : (x y : ℤ) → pos 0 <ℤ x → x ≤ℤ y → y ≤ℤ pos 0 → ⊥
-    clash x y h k l = omega (arith, ints)
 
 -- the square of a product
 squared_product : (k h l : ℤ) → (k *ℤ k) *ℤ ((h *ℤ h) *ℤ l) ≡ ((k *ℤ h) *ℤ (k *ℤ h)) *ℤ l
@@ -117,15 +86,15 @@ pub narrower : (n e w : Pair) (k h H : ℤ) → product (turned n) w ≡ pos 0 �
     → ((H *ℤ H) *ℤ product e e) ≤ℤ ((h *ℤ h) *ℤ product n n) → ⊥
 narrower n e w k h H z hk hh far low high he more =
     clash _ _ _ _ _ _ _ _
-    (products_le (k *ℤ k) (k *ℤ k) ((H *ℤ H) *ℤ E) ((h *ℤ h) *ℤ L) (square_nn k) (same (k *ℤ k))
-    (product_nn (H *ℤ H) E (square_nn H) (weak _ he)) more)
+    (products_le (k *ℤ k) (k *ℤ k) ((H *ℤ H) *ℤ E) ((h *ℤ h) *ℤ L) (square_nn k) (le_itself (k *ℤ k))
+    (product_nn (H *ℤ H) E (square_nn H) (nn_above _ he)) more)
     (squared_product k H E) (squared_product k h L)
-    (products_le (kh *ℤ kh) (E *ℤ product w w) L L (square_nn kh) (no_more _ _ _ both (cauchy e w)) (length_nn n)
-    (same L))
+    (products_le (kh *ℤ kh) (E *ℤ product w w) L L (square_nn kh) (le_trans _ _ _ both (cauchy e w)) (length_nn n)
+    (le_itself L))
     (three_factors E (product w w) L) (ap (λ (x : ℤ). x *ℤ E) (across_nothing n w z))
     (drawn_out ((k *ℤ H) *ℤ (k *ℤ H)) (product n w *ℤ product n w) E)
     (product_pp _ E (subst (λ (x : ℤ). pos 0 <ℤ x) (square_apart (k *ℤ H) (product n w))
-    (product_pp _ _ (above _ _ high) (over _ _ low))) he)
+    (product_pp _ _ (gap_above _ _ high) (over _ _ low))) he)
   where
     E : ℤ
     E = product e e
@@ -136,24 +105,12 @@ narrower n e w k h H z hk hh far low high he more =
     kh : ℤ
     kh = k *ℤ h
 
-    same : (x : ℤ) → x ≤ℤ x
-    same x = omega (arith, ints)
-
-    weak : (x : ℤ) → pos 0 <ℤ x → pos 0 ≤ℤ x
-    weak x h = omega (arith, ints)
-
-    above : (x u : ℤ) → x <ℤ u → pos 0 <ℤ (u -ℤ x)
-    above x u h = omega (arith, ints)
-
     over : (x u : ℤ) → neg_ℤ u <ℤ x → pos 0 <ℤ (u +ℤ x)
     over x u h = omega (arith, ints)
 
-    no_more : (x y z : ℤ) → x ≤ℤ y → y ≤ℤ z → x ≤ℤ z
-    no_more x y z h k = omega (arith, ints)
-
     both : (kh *ℤ kh) ≤ℤ (product e w *ℤ product e w)
-    both = products_le kh (product e w) kh (product e w) (product_nn k h (weak _ hk) hh) far
-        (product_nn k h (weak _ hk) hh) far
+    both = products_le kh (product e w) kh (product e w) (product_nn k h (nn_above _ hk) hh) far
+        (product_nn k h (nn_above _ hk) hh) far
 
     clash : (a b c d r s t x : ℤ) → a ≤ℤ b → a ≡ c → b ≡ d → d ≤ℤ r → r ≡ s → s ≡ t → x ≡ c -ℤ t → pos 0 <ℤ x → ⊥
     clash a b c d r s t x f g h i j k l m = omega (arith, ints)
@@ -168,10 +125,7 @@ pub as_far : (d p q : Pair) (h : ℤ) → pos 0 ≤ℤ h → h ≤ℤ (product d
     → (h *ℤ h) ≤ℤ (product d d *ℤ distance_squared p q)
 as_far d p q h hh far =
     subst (λ (z : ℤ). (h *ℤ h) ≤ℤ (product d d *ℤ z)) (step_squared p q)
-    (no_more _ _ _ (products_le h (product d (step p q)) h (product d (step p q)) hh out hh out) (cauchy d (step p q)))
+    (le_trans _ _ _ (products_le h (product d (step p q)) h (product d (step p q)) hh out hh out) (cauchy d (step p q)))
   where
     out : h ≤ℤ product d (step p q)
     out = rw (along_step d p q) far
-
-    no_more : (x y z : ℤ) → x ≤ℤ y → y ≤ℤ z → x ≤ℤ z
-    no_more x y z h k = omega (arith, ints)

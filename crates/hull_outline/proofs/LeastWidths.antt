@@ -11,10 +11,9 @@ use Rattle.lattice.specs.Signs.{le_or_lt, product_nn, product_pp, cancel_nn}
 use Rattle.lattice.specs.Vertices.{IsLeftOf}
 use Rattle.lattice.proofs.Order.{equal_by}
 use Rattle.lattice.proofs.Vectors.{as_pair, minus, opp, cross, cross_swap}
-use Rattle.hull_plain.proofs.Orientation.{orient_other}
+use Rattle.hull_geometry.proofs.Orientation.{orient_other}
 use Rattle.hull_outline.specs.Extents.{IsExtent, IsLeastWidth, IsOnePoint, IsStrip, IsStripAt, IsThinnerOf}
-use Rattle.hull_outline.specs.Extents.{IsThinnestOf}
-use Rattle.hull_outline.specs.Extents.{length_squared, side_of, edge_squared}
+use Rattle.hull_outline.specs.Extents.{IsThinnestOf, length_squared, side_of, edge_squared}
 use Rattle.hull_outline.specs.Nearest.{previous}
 use Rattle.hull_outline.specs.Outlines.{IsOutlineOf}
 use Rattle.hull_outline.specs.Rounds.{corner, IsParted}
@@ -23,17 +22,21 @@ use Rattle.hull_outline.specs.declared.strips.Strip.{Strip}
 use Rattle.hull_outline.proofs.Axes.{IsSpan, span_of, three}
 use Rattle.hull_outline.proofs.Cones.{square_nn}
 use Rattle.hull_outline.proofs.Corners.{corner_back, corner_extreme, next_apart, next_left}
-use Rattle.hull_outline.proofs.Diameters.{distance_above, distance_nn}
+use Rattle.hull_outline.proofs.Diameters.{distance_above}
+use Rattle.hull_outline.proofs.Distances.{distance_nn}
 use Rattle.hull_outline.proofs.EdgeAxes.{bend_at, bend_at_most, both_back, product_minus, side_off, side_off_more}
-use Rattle.hull_outline.proofs.EdgeAxes.{side_on}
 use Rattle.hull_outline.proofs.EdgeAxes.{top_of, wedge_from, wedge_to}
-use Rattle.hull_outline.proofs.EdgesOf.{all_of}
+use Rattle.lattice.proofs.Sides.{side_after}
+use Rattle.hull_geometry.proofs.PointLists.{all_of}
 use Rattle.hull_outline.proofs.Ends.{ends_of, no_corners}
 use Rattle.hull_outline.proofs.Fractions.{between_two, products_le, quotients_le}
 use Rattle.hull_outline.proofs.NearestOf.{previous_at}
 use Rattle.hull_outline.proofs.Parted.{product_ns, product_opp}
 use Rattle.hull_outline.proofs.Shields.{product_left}
-use Rattle.hull_outline.proofs.Sides.{side_more}
+use Rattle.lattice.proofs.Sides.{side_more}
+use Rattle.lattice.proofs.Numbers.{gap_nn, le_by_gap, le_itself, le_less, le_opposites, le_trans, np_by}
+use Rattle.lattice.proofs.Numbers.{np_opposite, sum_nn}
+use lib.IntN.{*ℤ_comm}
 
 -- ---- identities
 
@@ -59,22 +62,12 @@ along_itself d = refl
 -- a direction between two others, by x
 mean_x : (d g h : Pair) → cross h g *ℤ d.x ≡ product d h *ℤ g.y -ℤ product d g *ℤ h.y
 unfolding product
-mean_x d g h =
-    rw (
-      as_pair d,
-      as_pair g,
-      as_pair h,
-    ) (simp difference_rules (difference-eq _ _ _ _ (omega arith)))
+mean_x d g h = rw (as_pair d, as_pair g, as_pair h) (simp difference_rules (difference-eq _ _ _ _ (omega arith)))
 
 -- and by y
 mean_y : (d g h : Pair) → cross h g *ℤ d.y ≡ product d g *ℤ h.x -ℤ product d h *ℤ g.x
 unfolding product
-mean_y d g h =
-    rw (
-      as_pair d,
-      as_pair g,
-      as_pair h,
-    ) (simp difference_rules (difference-eq _ _ _ _ (omega arith)))
+mean_y d g h = rw (as_pair d, as_pair g, as_pair h) (simp difference_rules (difference-eq _ _ _ _ (omega arith)))
 
 -- a weighed square
 weighed_square : (c x y : ℤ) → (c *ℤ c) *ℤ (x *ℤ x +ℤ y *ℤ y) ≡ (c *ℤ x) *ℤ (c *ℤ x) +ℤ (c *ℤ y) *ℤ (c *ℤ y)
@@ -113,12 +106,7 @@ lagrange g h = rw (as_pair g, as_pair h) (simp difference_rules (difference-eq _
 level_along : (d g w : Pair)
     → product d w *ℤ length_squared g ≡ product d g *ℤ dot g w +ℤ cross g w *ℤ cross g d
 unfolding product
-level_along d g w =
-    rw (
-      as_pair d,
-      as_pair g,
-      as_pair w,
-    ) (simp difference_rules (difference-eq _ _ _ _ (omega arith)))
+level_along d g w = rw (as_pair d, as_pair g, as_pair w) (simp difference_rules (difference-eq _ _ _ _ (omega arith)))
 
 -- the length of d, by g
 level_length : (d g : Pair)
@@ -146,22 +134,15 @@ common_level m l k c r =
 level_quotient : (m l n d k r c : ℤ) → pos 0 <ℤ r → (m *ℤ r) ≤ℤ ((k *ℤ k) *ℤ l) → n *ℤ r ≡ neg_ℤ (k *ℤ c)
     → d *ℤ r ≡ c *ℤ c → (m *ℤ d) ≤ℤ ((n *ℤ n) *ℤ l)
 level_quotient m l n d k r c hr h e f =
-    back _ _ (cancel_nn ((n *ℤ n) *ℤ l -ℤ m *ℤ d) (r *ℤ r) (product_pp r r hr hr)
+    le_by_gap _ _ (cancel_nn ((n *ℤ n) *ℤ l -ℤ m *ℤ d) (r *ℤ r) (product_pp r r hr hr)
     (subst (λ (z : ℤ). pos 0 ≤ℤ z) (sym (drawn_level m l n d r))
     (rw (e, f) (subst (λ (z : ℤ). pos 0 ≤ℤ z) (sym (common_level m l k c r))
-    (product_nn (c *ℤ c) _ (square_nn c) (rest _ _ h))))))
-  where
-    back : (x y : ℤ) → pos 0 ≤ℤ (x -ℤ y) → y ≤ℤ x
-    back x y h = omega (arith, ints)
-
-    rest : (x y : ℤ) → x ≤ℤ y → pos 0 ≤ℤ (y -ℤ x)
-    rest x y h = omega (arith, ints)
+    (product_nn (c *ℤ c) _ (square_nn c) (gap_nn _ _ h))))))
 
 -- a number, its opposite and a product
 opposite_times : (n c : ℤ) → neg_ℤ n *ℤ c ≡ neg_ℤ (c *ℤ n)
 opposite_times n c =
-    rw (as_difference n, as_difference c)
-    (simp (difference-neg, difference-mul) (difference-eq _ _ _ _ (omega arith)))
+    rw (as_difference n, as_difference c) (simp (difference-neg, difference-mul) (difference-eq _ _ _ _ (omega arith)))
 
 -- ---- the strips of edges
 
@@ -180,18 +161,12 @@ weighed S V w k r o best (i, l, h, e) =
     let side = orient (corner V i) (corner V (i + 1)) f in
     let low : pos 0 ≤ℤ side = All-contains (λ t. pos 0 ≤ℤ orient (corner V i) (corner V (i + 1)) t) S f
     (next_left S V i (i + 1) o.1 refl l) b.1 in (
-      up _ _ _ low (h f b.1),
+      le_trans _ _ _ low (h f b.1),
       subst (λ (z : ℤ). ((side_of w *ℤ side_of w) *ℤ z) ≤ℤ ((k *ℤ k) *ℤ edge_squared w)) e
-          (up _ _ _ b.2 (products_le (side *ℤ side) (k *ℤ k) (edge_squared w) (edge_squared w)
+          (le_trans _ _ _ b.2 (products_le (side *ℤ side) (k *ℤ k) (edge_squared w) (edge_squared w)
           (product_nn side side low low) (products_le side k side k low (h f b.1) low (h f b.1))
-          (distance_nn w.from w.to) (same _))),
+          (distance_nn w.from w.to) (le_itself _))),
     )
-  where
-    up : (a b c : ℤ) → a ≤ℤ b → b ≤ℤ c → a ≤ℤ c
-    up a b c h k = omega (arith, ints)
-
-    same : (x : ℤ) → x ≤ℤ x
-    same x = omega (arith, ints)
 
 -- the edge to a corner, by its place
 bounded_to : (S V : List Pair) (j : ℕ) (k r : ℤ) → j < length V
@@ -218,14 +193,6 @@ record IsCaliper (S V : List Pair) (i j : ℕ) : Type 0 where
   top : i < length V
   bottom : j < length V
 
--- no more than 0, by what it is
-no_more : (x y : ℤ) → x ≡ y → y ≤ℤ pos 0 → x ≤ℤ pos 0
-no_more x y e h = omega (arith, ints)
-
--- the opposite of no less
-opposite_no_more : (x y : ℤ) → x ≡ neg_ℤ y → pos 0 ≤ℤ y → x ≤ℤ pos 0
-opposite_no_more x y e h = omega (arith, ints)
-
 -- the edge to one end, with the other end farthest from it
 left_here : (S V : List Pair) (i j : ℕ) → IsCaliper S V i j
     → cross (minus (corner V i) (previous V i)) (minus (previous V j) (corner V j)) ≤ℤ pos 0
@@ -233,12 +200,12 @@ left_here : (S V : List Pair) (i j : ℕ) → IsCaliper S V i j
     → IsBounded S V (cross (minus (corner V i) (previous V i)) (minus (corner V j) (corner V i)))
     (length_squared (minus (corner V i) (previous V i)))
 left_here S V i j c h k =
-    rebound S V _ _ _ (side_on (previous V i) (corner V i) (corner V j))
+    rebound S V _ _ _ (side_after (previous V i) (corner V i) (corner V j))
     (bounded_to S V i _ _ c.top
     (bend_at_most S (previous V i) (corner V i) (previous V j) (corner V j) (corner V (j + 1))
     (bend_at S V c.parted.0 j c.outline c.parted.1 c.many c.bottom)
-    (no_more _ _ (side_more (previous V i) (corner V i) (corner V j) (previous V j)) h)
-    (no_more _ _ (side_more (previous V i) (corner V i) (corner V j) (corner V (j + 1))) k))
+    (np_by _ _ (side_more (previous V i) (corner V i) (corner V j) (previous V j)) h)
+    (np_by _ _ (side_more (previous V i) (corner V i) (corner V j) (corner V (j + 1))) k))
     (length_of_step (previous V i) (corner V i)))
 
 -- the edge from one end, with the other end farthest from it
@@ -253,15 +220,14 @@ right_here S V i j c h k =
       c.top,
       bend_at_most S (corner V i) (corner V (i + 1)) (previous V j) (corner V j) (corner V (j + 1))
           (bend_at S V c.parted.0 j c.outline c.parted.1 c.many c.bottom)
-          (opposite_no_more _ _ (side_off_more (corner V i) (corner V (i + 1)) (corner V j) (previous V j)) h)
-          (opposite_no_more _ _ (side_off_more (corner V i) (corner V (i + 1)) (corner V j) (corner V (j + 1))) k),
+          (np_opposite _ _ (side_off_more (corner V i) (corner V (i + 1)) (corner V j) (previous V j)) h)
+          (np_opposite _ _ (side_off_more (corner V i) (corner V (i + 1)) (corner V j) (corner V (j + 1))) k),
       length_of_back (corner V i) (corner V (i + 1)),
     )
 
 -- the ends exchanged
 exchanged : (S V : List Pair) (i j : ℕ) → IsCaliper S V i j → IsCaliper S V j i
-exchanged S V i j c =
-    record { outline = c.outline; parted = c.parted; many = c.many; top = c.bottom; bottom = c.top }
+exchanged S V i j c = record { outline = c.outline; parted = c.parted; many = c.many; top = c.bottom; bottom = c.top }
 
 -- the left one of the outermost bounds S
 left_bounded : (S V : List Pair) (i j : ℕ) (d g h : Pair) → IsCaliper S V i j
@@ -276,13 +242,9 @@ left_bounded S V i j d g h c s = elim s.left_one [
       (sym (length_of_step (previous V j) (corner V j)) ∙ length_of_back (previous V j) (corner V j))
       (rebound S V _ _ _ (both_back (corner V j) (previous V j) (corner V i) (corner V j))
       (left_here S V j i (exchanged S V i j c)
-      (no_more _ _ (both_back (corner V j) (previous V j) (previous V i) (corner V i)) a.1)
-      (no_more _ _ (both_back (corner V j) (previous V j) (corner V (i + 1)) (corner V i)) a.2))))
+      (np_by _ _ (both_back (corner V j) (previous V j) (previous V i) (corner V i)) a.1)
+      (np_by _ _ (both_back (corner V j) (previous V j) (corner V (i + 1)) (corner V i)) a.2))))
 ]
-
--- no less than 0, by what it is
-no_less : (x y : ℤ) → x ≡ y → pos 0 ≤ℤ y → pos 0 ≤ℤ x
-no_less x y e h = omega (arith, ints)
 
 -- the right one too
 right_bounded : (S V : List Pair) (i j : ℕ) (d g h : Pair) → IsCaliper S V i j
@@ -300,16 +262,13 @@ right_bounded S V i j d g h c s = elim s.right_one [
       (ap neg_ℤ (both_back (corner V j) (corner V (j + 1)) (corner V i) (corner V j))
       ∙ sym (cross_swap (minus (corner V j) (corner V i)) (minus (corner V (j + 1)) (corner V j))))
       (right_here S V j i (exchanged S V i j c)
-      (no_less _ _ (both_back (corner V j) (corner V (j + 1)) (previous V i) (corner V i)) a.1)
-      (no_less _ _ (both_back (corner V j) (corner V (j + 1)) (corner V (i + 1)) (corner V i)) a.2))))
+      (omega (arith, ints, both_back (corner V j) (corner V (j + 1)) (previous V i) (corner V i), a.1))
+      (omega (arith, ints, both_back (corner V j) (corner V (j + 1)) (corner V (i + 1)) (corner V i), a.2)))))
 ]
 
 -- a square of a length is not below 0
 length_nn : (g : Pair) → pos 0 ≤ℤ length_squared g
-length_nn g = sum _ _ (square_nn g.x) (square_nn g.y)
-  where
-    sum : (x y : ℤ) → pos 0 ≤ℤ x → pos 0 ≤ℤ y → pos 0 ≤ℤ (x +ℤ y)
-    sum x y h k = omega (arith, ints)
+length_nn g = sum_nn _ _ (square_nn g.x) (square_nn g.y)
 
 -- the thinnest strip is no wider than the set is along a direction between the outermost
 by_span : (S V : List Pair) (i j : ℕ) (w : Strip) (d g h : Pair) (n : ℤ) → IsCaliper S V i j
@@ -341,7 +300,7 @@ by_span S V i j w d g h n c best s e =
           left.1
           (level _ _ _ _ (level_along d g v) (nothing_times _ (dot g v) z)
           (ap (λ (y : ℤ). y *ℤ length_squared g) e ∙ opposite_times n (length_squared g))
-          (commute n (length_squared g)))
+          (*ℤ_comm n (length_squared g)))
           (square_only _ _ _ (level_length d g) (nothing_times _ (product d g) z))
     ]
   where
@@ -353,9 +312,6 @@ by_span S V i j w d g h n c best s e =
 
     nothing_times : (k z : ℤ) → k ≡ pos 0 → k *ℤ z ≡ pos 0
     nothing_times k z e = ap (λ (x : ℤ). x *ℤ z) e ∙ omega (arith, ints)
-
-    commute : (x y : ℤ) → x *ℤ y ≡ y *ℤ x
-    commute x y = omega (arith, ints)
 
     level : (x y z u : ℤ) {t : ℤ} → x ≡ y +ℤ z → y ≡ pos 0 → x ≡ neg_ℤ u → t ≡ u → t ≡ neg_ℤ z
     level x y z u e f g h = omega (arith, ints)
@@ -370,10 +326,7 @@ extent_is : (S : List Pair) (d p q : Pair) (n : ℤ) → IsExtent S d n → Cont
     → n ≡ product d p -ℤ product d q
 extent_is S d p q n h mp mq high low =
     let (s, t, ms, mt, e) = h.reached in
-    both (product d p) (product d q) (product d s) (product d t) (h.most p q mp mq) e (high s ms) (low t mt)
-  where
-    both : (x y u v : ℤ) → (x -ℤ y) ≤ℤ n → u -ℤ v ≡ n → u ≤ℤ x → y ≤ℤ v → n ≡ x -ℤ y
-    both x y u v a b c d = omega (arith, ints)
+    omega (arith, ints, h.most p q mp mq, high s ms, low t mt)
 
 -- three corners or more
 least_many : (S V : List Pair) (last : ℕ) (w : Strip) (d : Pair) (n : ℤ) → IsOutlineOf S V → IsParted V last
@@ -392,12 +345,9 @@ least_many S V last w d n o p many best h x =
     (back _ (product d (corner V b.0)) (product d (corner V a.0)) (product_minus d (corner V b.0) (corner V a.0))
     (extent_is S d (corner V a.0) (corner V b.0) n x a.2.0 b.2.0
     (λ t m. All-contains (λ u. product d u ≤ℤ product d (corner V a.0)) S t a.2.1 m)
-    (λ t m. over _ _ _ _ (product_opp d t) (product_opp d (corner V b.0))
+    (λ t m. le_opposites _ _ _ _ (product_opp d t) (product_opp d (corner V b.0))
     (All-contains (λ u. product (opp d) u ≤ℤ product (opp d) (corner V b.0)) S t b.2.1 m))))
   where
-    over : (x y u v : ℤ) → x ≡ neg_ℤ u → y ≡ neg_ℤ v → x ≤ℤ y → v ≤ℤ u
-    over x y u v e f h = omega (arith, ints)
-
     back : (x y z : ℤ) → x ≡ y -ℤ z → n ≡ z -ℤ y → x ≡ neg_ℤ n
     back x y z e f = omega (arith, ints)
 
@@ -413,19 +363,16 @@ least_two S V w d n o two few best =
       refl,
     ) in
     up _ _ _ (product_ns (length_squared d) _ (length_nn d) (none b.1))
-    (commute (side_of w *ℤ side_of w) (length_squared d))
+    (*ℤ_comm (side_of w *ℤ side_of w) (length_squared d))
     (product_nn _ _ (square_nn n) (distance_nn w.from w.to))
   where
     -- the second edge goes back on the first
     flat : (t : Pair) → Contains S t → orient (corner V 0) (corner V 1) t ≤ℤ pos 0
-    flat t m = turned _ _ (orient_other (corner V 1) (corner V 0) t)
+    flat t m = np_opposite _ _ (orient_other (corner V 1) (corner V 0) t)
         (subst (λ (z : Pair). pos 0 ≤ℤ orient (corner V 1) z t) back
         (All-contains (λ u. pos 0 ≤ℤ orient (corner V 1) (corner V 2) u) S t
         (next_left S V 1 2 o.1 (omega arith) two) m))
       where
-        turned : (x y : ℤ) → x ≡ neg_ℤ y → pos 0 ≤ℤ y → x ≤ℤ pos 0
-        turned x y e h = omega (arith, ints)
-
         back : corner V 2 ≡ corner V 0
         back = corner_back V 2 few (omega (arith, two))
 
@@ -444,9 +391,6 @@ least_two S V w d n o two few best =
 
         clash : (x y : ℤ) → x ≤ℤ y → y ≡ pos 0 → pos 0 <ℤ x → ⊥
         clash x y h e k = omega (arith, ints)
-
-    commute : (x y : ℤ) → x *ℤ y ≡ y *ℤ x
-    commute x y = omega (arith, ints)
 
     up : (x y z : ℤ) → x ≤ℤ pos 0 → y ≡ x → pos 0 ≤ℤ z → y ≤ℤ z
     up x y z h e k = omega (arith, ints)
@@ -488,15 +432,12 @@ own_edge : (S V : List Pair) (i : ℕ) (w : Strip) → IsStripAt S V i w → (f 
 own_edge S V i w h = (
   w.farthest,
   h.opposite.0,
-  subst (λ (z : Pair). Bounds z (corner V (i + 1))) h.from_corner (subst (Bounds w.from) h.to_next (same _)),
+  subst (λ (z : Pair). Bounds z (corner V (i + 1))) h.from_corner (subst (Bounds w.from) h.to_next (le_itself _)),
 )
   where
     Bounds : Pair → Pair → Type 0
     Bounds a b = ((side_of w *ℤ side_of w) *ℤ distance_squared a b)
         ≤ℤ ((orient a b w.farthest *ℤ orient a b w.farthest) *ℤ edge_squared w)
-
-    same : (x : ℤ) → x ≤ℤ x
-    same x = omega (arith, ints)
 
 -- the first edge alone
 pub thinnest_first : (S V : List Pair) (w : Strip) → IsOutlineOf S V → 1 < length V → IsStripAt S V 0 w
@@ -550,7 +491,7 @@ thinnest_more S V i best next r o two l h a (inr (e, n)) =
           b.0,
           b.1,
           quotients_le _ _ _ _ _ _ (edge_above best h.0.apart) (distance_nn next.from next.to) (distance_nn _ _)
-              (weak _ _ n) b.2,
+              (le_less _ _ n) b.2,
         )
         | inr j ↦ subst (λ (x : ℕ). Bounded next x) (omega (arith, j, lk)) (own_edge S V i next a)
       ],
@@ -560,9 +501,6 @@ thinnest_more S V i best next r o two l h a (inr (e, n)) =
     Bounded w k = (f : Pair) × Contains S f
         × (((side_of w *ℤ side_of w) *ℤ distance_squared (corner V k) (corner V (k + 1)))
         ≤ℤ ((orient (corner V k) (corner V (k + 1)) f *ℤ orient (corner V k) (corner V (k + 1)) f) *ℤ edge_squared w))
-
-    weak : (x y : ℤ) → x <ℤ y → x ≤ℤ y
-    weak x y h = omega (arith, ints)
 
 -- the thinnest of all edges is where the set is least wide
 pub least_of : (S V : List Pair) (last : ℕ) (w : Strip) → IsOutlineOf S V → IsParted V last → 1 < length V
@@ -582,10 +520,7 @@ least_of S V last w o p two best = record {
     flat : (d : Pair) (n : ℤ) → ((side_of w *ℤ side_of w) *ℤ length_squared d) ≤ℤ pos 0
         → pos 0 ≤ℤ ((n *ℤ n) *ℤ edge_squared w)
         → ((side_of w *ℤ side_of w) *ℤ length_squared d) ≤ℤ ((n *ℤ n) *ℤ edge_squared w)
-    flat d n h k = up _ _ h k
-      where
-        up : (x y : ℤ) → x ≤ℤ pos 0 → pos 0 ≤ℤ y → x ≤ℤ y
-        up x y h k = omega (arith, ints)
+    flat d n h k = omega (arith, ints)
 
 -- a set of one corner or none is one point
 pub one_point : (S V : List Pair) (last : ℕ) → IsOutlineOf S V → IsParted V last → length V < 2 → IsOnePoint S

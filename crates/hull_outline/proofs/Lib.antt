@@ -1,4 +1,3 @@
-pub mod Sides
 pub mod Convex
 pub mod Corners
 pub mod EdgesOf
@@ -14,7 +13,6 @@ pub mod Tests
 pub mod Triangles
 pub mod Touching
 pub mod TangentsOf
-pub mod Clear
 pub mod Parted
 pub mod Turns
 pub mod Boxed

@@ -7,10 +7,10 @@ use Rattle.lattice.specs.Plane.{Pair, IsBefore, turned_point}
 use Rattle.lattice.specs.Vertices.{IsLeftOf, GoesRound, IsInOrder}
 use Rattle.lattice.proofs.Order.{before_irrefl, before_not, before_apart}
 use Rattle.lattice.proofs.TurnedBridges.{turned_twice}
-use Rattle.hull_plain.specs.Edges.{IsUpperEdge, IsFirst}
-use Rattle.hull_plain.proofs.Chains.{first_extreme, last_extreme, lower_corner, upper_corner, no_common_corner}
-use Rattle.hull_plain.proofs.PointLists.{get_or_free}
-use Rattle.hull_plain.proofs.Rounding.{small_list}
+use Rattle.hull_geometry.specs.Edges.{IsUpperEdge, IsFirst}
+use Rattle.hull_geometry.proofs.Chains.{first_extreme, last_extreme, lower_corner, upper_corner, no_common_corner}
+use Rattle.hull_geometry.proofs.PointLists.{get_or_free}
+use Rattle.hull_geometry.proofs.Rounding.{small_list}
 use Rattle.hull_outline.specs.Outlines.{IsOutline}
 use Rattle.hull_outline.specs.Rounds.{corner, IsRound, IsParted}
 use Rattle.hull_outline.proofs.Convex.{later_after}

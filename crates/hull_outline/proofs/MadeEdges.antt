@@ -6,15 +6,14 @@ use Rattle.std.proofs.lemmas.Int.{ints}
 use Rattle.lattice.specs.Covers.{IsPointSet, with_point}
 use Rattle.lattice.specs.Plane.{Pair, orient, IsBefore}
 use Rattle.lattice.proofs.Order.{before_irrefl, before_not}
-use Rattle.hull_plain.specs.Edges.{IsLowerEdge, IsUpperEdge}
-use Rattle.hull_plain.proofs.PointLists.{AllPairs-none}
-use Rattle.hull_plain.proofs.SetLaws.{ordered_with, members_with}
+use Rattle.hull_geometry.specs.Edges.{IsLowerEdge, IsUpperEdge}
+use Rattle.hull_geometry.proofs.PointLists.{AllPairs-none}
+use Rattle.hull_geometry.proofs.SetLaws.{ordered_with, members_with}
 use Rattle.hull_outline.specs.Rounds.{corner, IsRound}
 use Rattle.hull_outline.proofs.Convex.{IsLeftOrEnd, not_right}
 use Rattle.hull_outline.proofs.Corners.{corner_there, corner_of}
-use Rattle.hull_outline.proofs.EdgesOf.{all_of}
-use Rattle.hull_outline.proofs.RoundChains.{renumbered, front_convex, left_ahead}
-use Rattle.hull_outline.proofs.RoundChains.{left_back}
+use Rattle.hull_geometry.proofs.PointLists.{all_of}
+use Rattle.hull_outline.proofs.RoundChains.{renumbered, front_convex, left_ahead, left_back}
 
 -- ---- the set of the corners
 
@@ -77,8 +76,7 @@ made_ahead V top i j r e l =
 -- the step back from a corner
 step_back : (V : List Pair) (top i j : ℕ) → IsRound V top → j ≡ i + 1 → top ≤ i → i < length V
     → IsBefore (corner V j) (corner V i)
-step_back V top i j r e f l =
-    renumbered V (λ z. IsBefore z (corner V i)) (i + 1) j (sym e) ((r.steps i l).1 f)
+step_back V top i j r e f l = renumbered V (λ z. IsBefore z (corner V i)) (i + 1) j (sym e) ((r.steps i l).1 f)
 
 -- from a corner back to the next
 pub made_back : (V : List Pair) (top i j : ℕ) → IsRound V top → j ≡ i + 1 → top ≤ i → i < length V

@@ -1,7 +1,6 @@
 -- Seen from a point outside, some corner or some edge is the nearest.
 use Rattle.std.proofs.Common.{◌≡◌, ℕ, zero, suc, ◌+◌, ◌-◌, ◌≤◌, ◌<◌, ℤ, pos, negsuc, ◌-ℤ◌, ◌≤ℤ◌, ◌<ℤ◌, neg_ℤ, ◌⊎◌, inl}
-use Rattle.std.proofs.Common.{inr}
-use Rattle.std.proofs.Common.{refl, sym, ap, ◌∙◌, subst, List, length, arith}
+use Rattle.std.proofs.Common.{inr, refl, sym, ap, ◌∙◌, subst, List, length, arith}
 use Rattle.std.specs.List.{Contains}
 use Rattle.std.proofs.lemmas.Bool.{cases_lt}
 use Rattle.std.proofs.lemmas.Int.{ints}
@@ -13,11 +12,11 @@ use Rattle.lattice.specs.Polynomials.{difference-eq, difference_rules}
 use Rattle.lattice.specs.Signs.{le_or_lt}
 use Rattle.lattice.specs.Vertices.{IsLeftOf, IsVertexList}
 use Rattle.lattice.proofs.Vectors.{as_pair, opp}
-use Rattle.hull_plain.specs.Positions.{point_at}
-use Rattle.hull_plain.proofs.Decided.{covers_or_separated}
-use Rattle.hull_plain.proofs.NotCovered.{not_covered}
-use Rattle.hull_plain.proofs.Orientation.{orient_other, orient_swap_zero}
-use Rattle.hull_plain.proofs.VertexOrder.{not_in_line}
+use Rattle.hull_geometry.specs.Positions.{point_at}
+use Rattle.hull_geometry.proofs.Decided.{covers_or_separated}
+use Rattle.hull_geometry.proofs.NotCovered.{not_covered}
+use Rattle.hull_geometry.proofs.Orientation.{orient_other, orient_swap_zero}
+use Rattle.hull_geometry.proofs.VertexOrder.{not_in_line}
 use Rattle.hull_outline.specs.Meetings.{segment}
 use Rattle.hull_outline.specs.Nearest.{IsOnward, IsBeside, IsTurnedFrom, previous}
 use Rattle.hull_outline.specs.Outlines.{IsOutlineOf}
@@ -26,10 +25,11 @@ use Rattle.hull_outline.specs.Steps.{step}
 use Rattle.hull_outline.proofs.Cones.{no_farther_in_cone, turned_to_first, turned_to_second, nearer_to_next, not_onward}
 use Rattle.hull_outline.proofs.Cones.{far, way_forward}
 use Rattle.hull_outline.proofs.Corners.{corner_back, corner_extreme, next_left}
-use Rattle.hull_outline.proofs.EdgesOf.{all_of}
+use Rattle.hull_geometry.proofs.PointLists.{all_of}
 use Rattle.hull_outline.proofs.Parted.{farther_back}
 use Rattle.hull_outline.proofs.Shields.{among_on_segment, third_among, one_of_two, start_there, end_there}
 use Rattle.hull_outline.proofs.Turns.{farthest_corner, placed, less_told}
+use Rattle.lattice.proofs.Numbers.{gap_np, le_itself, le_trans, less_opposites}
 
 -- ---- the corners beside a corner
 
@@ -111,10 +111,6 @@ same_beside V j l few =
 no_more : (x y : ℤ) → (x -ℤ y) ≤ℤ pos 0 → x ≤ℤ y
 no_more x y h = omega (arith, ints)
 
--- no farther than what is no farther
-no_more_than : (x y z : ℤ) → x ≤ℤ y → y ≤ℤ z → x ≤ℤ z
-no_more_than x y z h k = omega (arith, ints)
-
 -- on the way from there to q no point lies farther
 pub farthest_from : (S V : List Pair) (last j : ℕ) (q : Pair) → IsOutlineOf S V → IsParted V last → j < length V
     → IsTurnedFrom (previous V j) (corner V j) (corner V (j + 1)) q
@@ -127,7 +123,7 @@ farthest_from S V last j q o p l t = elim (cases_lt 2 (length V)) [
       (not_onward c (corner V (j + 1)) q t.1) (not_onward c (previous V j) q t.0)))
   | inr few ↦
       let r = farthest_corner S V last f o p (omega (arith, l)) in
-      all_of (λ s. product f s ≤ℤ product f c) S (λ s m. no_more_than _ _ _
+      all_of (λ s. product f s ≤ℤ product f c) S (λ s m. le_trans _ _ _
       (All-contains (λ u. product f u ≤ℤ product f (corner V r.0)) S s r.1.1 m) (one r.0 few))
 ]
   where
@@ -142,9 +138,6 @@ farthest_from S V last j q o p l t = elim (cases_lt 2 (length V)) [
         subst (λ (z : Pair). product f z ≤ℤ product f c) (sym (e ∙ ap (corner V) g ∙ sym (next_at V j l).3))
         (no_more _ _ (not_onward c (corner V (j + 1)) q t.1))
 
-    same : (x : ℤ) → x ≤ℤ x
-    same x = omega (arith, ints)
-
     one : (i : ℕ) → length V ≤ 2 → product f (corner V i) ≤ℤ product f c
     one i few =
         let k = placed V i (omega (arith, l)) in
@@ -154,7 +147,7 @@ farthest_from S V last j q o p l t = elim (cases_lt 2 (length V)) [
           | inr h ↦ elim (cases_lt j k.0) [
             | inl g ↦ behind i k.0 k.2 (omega (arith, g, a.1, a.2, few, k.1))
             | inr g ↦ subst (λ (z : Pair). product f z ≤ℤ product f c) (sym (k.2 ∙ ap (corner V) (omega (arith, g, h))))
-                (same (product f c))
+                (le_itself (product f c))
           ]
         ]
 
@@ -195,17 +188,14 @@ unseen_many S V last q o p many out h = elim (covers_or_separated S q o.0) [
       (corner_extreme S V j o.1 (omega (arith, many))).0)
       (no_farther_in_cone d (previous V j) (corner V j) (corner V (j + 1)) q (turn_at S V j o.1 k.1 many)
       (not_below _ (rw (b.3, ← b.4) (h b.0 b.1))) (not_below _ (h j k.1))
-      (less _ _ (All-contains (λ t. product d t ≤ℤ product d (corner V j)) S (corner V (j + 1)) top
+      (gap_np _ _ (All-contains (λ t. product d t ≤ℤ product d (corner V j)) S (corner V (j + 1)) top
       (corner_extreme S V (j + 1) o.1 (omega (arith, many))).0))
-      (less _ _ (All-contains (λ t. product d t ≤ℤ product d (corner V j)) S (previous V j) top
+      (gap_np _ _ (All-contains (λ t. product d t ≤ℤ product d (corner V j)) S (previous V j) top
       (subst (Contains S) (sym b.3) (corner_extreme S V b.0 o.1 (omega (arith, many))).0))))
 ]
   where
     clash : (x y : ℤ) → x <ℤ y → (y -ℤ x) ≤ℤ pos 0 → ⊥
     clash x y h k = omega (arith, ints)
-
-    less : (x y : ℤ) → x ≤ℤ y → (x -ℤ y) ≤ℤ pos 0
-    less x y h = omega (arith, ints)
 
 -- ---- on the line of two corners
 
@@ -224,33 +214,22 @@ not_over d u v t h k s =
 -- the way back
 pub step_back : (a b t : Pair) → product (step b a) t ≡ neg_ℤ (product (step a b) t)
 unfolding product
-step_back a b t =
-    rw (
-      as_pair a,
-      as_pair b,
-      as_pair t,
-    ) (simp difference_rules (difference-eq _ _ _ _ (omega arith)))
+step_back a b t = rw (as_pair a, as_pair b, as_pair t) (simp difference_rules (difference-eq _ _ _ _ (omega arith)))
 
 -- a point of the line of a and b that lies onward from both is on their segment
 between_both : (a b q : Pair) → orient a b q ≡ pos 0 → IsOnward a b q → IsOnward b a q → IsOnSegment a b q
 between_both a b q z h k =
     among_on_segment a q b z (third_among b q a
-    (λ m. not_over (opp f) b q a (farther_back f a b (less_trans _ _ _ h short)) (farther_back f a q h)
+    (λ m. not_over (opp f) b q a (farther_back f a b (omega (arith, ints, short))) (farther_back f a q h)
     (among_on_segment b a q (orient_swap_zero b a q (orient_other a b q ∙ ap neg_ℤ z)) m))
-    (λ m. not_over f a q b (less_trans _ _ _ h short) short
+    (λ m. not_over f a q b (omega (arith, ints, short)) short
     (among_on_segment a b q (orient_swap_zero a b q z) m)))
   where
     f : Pair
     f = step a b
 
     short : product f q <ℤ product f b
-    short = turned _ _ _ _ (step_back a b b) (step_back a b q) k
-      where
-        turned : (x y u v : ℤ) → x ≡ neg_ℤ u → y ≡ neg_ℤ v → x <ℤ y → v <ℤ u
-        turned x y u v e g h = omega (arith, ints)
-
-    less_trans : (x y w : ℤ) → x <ℤ y → y <ℤ w → x <ℤ w
-    less_trans x y w h k = omega (arith, ints)
+    short = less_opposites _ _ _ _ (step_back a b b) (step_back a b q) k
 
 -- ---- where no corner and no edge is the nearest: there is none nearer to go on to
 
@@ -262,8 +241,7 @@ NoneNearest V q =
 
 -- q lies right of an edge to the corner at j or from it
 abbrev IsSeenAt : List Pair → Pair → ℕ → Type 0
-IsSeenAt V q j =
-    (orient (previous V j) (corner V j) q <ℤ pos 0) ⊎ (orient (corner V j) (corner V (j + 1)) q <ℤ pos 0)
+IsSeenAt V q j = (orient (previous V j) (corner V j) q <ℤ pos 0) ⊎ (orient (corner V j) (corner V (j + 1)) q <ℤ pos 0)
 
 -- no corner at an edge that is seen is nearer than so much
 abbrev NoneWithin : List Pair → Pair → ℕ → Type 0
@@ -373,7 +351,7 @@ module _ (S V : List Pair) (q : Pair) (o : IsOutlineOf S V) (none : NoneNearest 
       let there : pos 0 ≤ℤ orient (corner V 0) (corner V 1) q = not_below _ (h 0 n) in
       let here : pos 0 ≤ℤ orient (corner V 1) (corner V 0) q = not_below _ (rw (a.3, ← back) (h a.0 a.1)) in
       let line : orient (corner V 0) (corner V 1) q ≡ pos 0 =
-      both _ _ (orient_other (corner V 0) (corner V 1) q) there here in
+      omega (arith, ints, orient_other (corner V 0) (corner V 1) q, there, here) in
       elim (onward_told (corner V 0) (corner V 1) q) [
         | inr off ↦ (none 0 n).0
             (subst (λ (z : Pair). ¬ IsOnward (corner V 0) z q) (sym (same_beside V 0 n few)) off, off)
@@ -383,9 +361,6 @@ module _ (S V : List Pair) (q : Pair) (o : IsOutlineOf S V) (none : NoneNearest 
               (corner_extreme S V 1 o.1 n).0 (between_both (corner V 0) (corner V 1) q line on back_on))
         ]
       ]
-    where
-      both : (x y : ℤ) → y ≡ neg_ℤ x → pos 0 ≤ℤ x → pos 0 ≤ℤ y → x ≡ pos 0
-      both x y e h k = omega (arith, ints)
 
   -- some corner or some edge is the nearest to a point that is not covered
   pub never_none : (last : ℕ) → IsParted V last → 0 < length V → ¬ Covers S q → ⊥

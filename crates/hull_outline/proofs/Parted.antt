@@ -6,9 +6,10 @@ use Rattle.lattice.specs.Polynomials.{difference-eq, as_difference, difference_r
 use Rattle.lattice.specs.Signs.{le_or_lt, product_pp, product_np, product_pn}
 use lib.IntN.{*ℤ_comm}
 use Rattle.lattice.proofs.Vectors.{as_pair, opp}
-use Rattle.hull_plain.proofs.NotCovered.{not_covered}
+use Rattle.hull_geometry.proofs.NotCovered.{not_covered}
 use Rattle.hull_outline.specs.Meetings.{IsCrossing, Reaches, IsReached, Crosses, NeverBoth}
-use Rattle.hull_outline.proofs.EdgesOf.{all_of}
+use Rattle.hull_geometry.proofs.PointLists.{all_of}
+use Rattle.lattice.proofs.Numbers.{gap_above, gap_np, le_itself, le_less}
 
 -- ---- the crossing of two lines, by its weights
 
@@ -17,35 +18,20 @@ pub weights_x : (a b c e : Pair)
     → orient c e a *ℤ b.x -ℤ orient c e b *ℤ a.x ≡ orient a b e *ℤ c.x -ℤ orient a b c *ℤ e.x
 unfolding orient
 weights_x a b c e =
-    rw (
-      as_pair a,
-      as_pair b,
-      as_pair c,
-      as_pair e,
-    ) (simp difference_rules (difference-eq _ _ _ _ (omega arith)))
+    rw (as_pair a, as_pair b, as_pair c, as_pair e) (simp difference_rules (difference-eq _ _ _ _ (omega arith)))
 
 -- and by y
 pub weights_y : (a b c e : Pair)
     → orient c e a *ℤ b.y -ℤ orient c e b *ℤ a.y ≡ orient a b e *ℤ c.y -ℤ orient a b c *ℤ e.y
 unfolding orient
 weights_y a b c e =
-    rw (
-      as_pair a,
-      as_pair b,
-      as_pair c,
-      as_pair e,
-    ) (simp difference_rules (difference-eq _ _ _ _ (omega arith)))
+    rw (as_pair a, as_pair b, as_pair c, as_pair e) (simp difference_rules (difference-eq _ _ _ _ (omega arith)))
 
 -- the weights have one sum
 pub weights_sum : (a b c e : Pair) → orient c e a -ℤ orient c e b ≡ orient a b e -ℤ orient a b c
 unfolding orient
 weights_sum a b c e =
-    rw (
-      as_pair a,
-      as_pair b,
-      as_pair c,
-      as_pair e,
-    ) (simp difference_rules (difference-eq _ _ _ _ (omega arith)))
+    rw (as_pair a, as_pair b, as_pair c, as_pair e) (simp difference_rules (difference-eq _ _ _ _ (omega arith)))
 
 -- weights of two coordinates, taken together
 together : (p q u v w z x y : ℤ)
@@ -145,28 +131,16 @@ uncrossed : (d a b c e : Pair) (m : ℤ) → IsCrossing a b c e → product d a 
     → m <ℤ product d e → ⊥
 uncrossed d a b c e m x ha hb hc he =
     unbalanced (orient c e a) (orient c e b) (orient a b e) (orient a b c) (product d a -ℤ m) (product d b -ℤ m)
-    (product d c -ℤ m) (product d e -ℤ m) x.2 x.3 x.1 x.0 (not_more _ _ ha) (not_more _ _ hb) (more _ _ hc)
-    (more _ _ he) (weights_from d a b c e m)
-  where
-    not_more : (u v : ℤ) → u ≤ℤ v → (u -ℤ v) ≤ℤ pos 0
-    not_more u v h = omega (arith, ints)
-
-    more : (u v : ℤ) → v <ℤ u → pos 0 <ℤ (u -ℤ v)
-    more u v h = omega (arith, ints)
+    (product d c -ℤ m) (product d e -ℤ m) x.2 x.3 x.1 x.0 (gap_np _ _ ha) (gap_np _ _ hb) (gap_above _ _ hc)
+    (gap_above _ _ he) (weights_from d a b c e m)
 
 -- a direction that parts the ends of two segments: they do not cross
 not_crossing : (d a b c e : Pair) → product d a <ℤ product d c → product d a <ℤ product d e → product d b <ℤ product d c
     → product d b <ℤ product d e → IsCrossing a b c e → ⊥
 not_crossing d a b c e ac ae bc be x = elim (le_or_lt (product d a) (product d b)) [
-  | inl h ↦ uncrossed d a b c e (product d b) x h (same _) bc be
-  | inr h ↦ uncrossed d a b c e (product d a) x (same _) (weak _ _ h) ac ae
+  | inl h ↦ uncrossed d a b c e (product d b) x h (le_itself _) bc be
+  | inr h ↦ uncrossed d a b c e (product d a) x (le_itself _) (le_less _ _ h) ac ae
 ]
-  where
-    same : (u : ℤ) → u ≤ℤ u
-    same u = omega (arith, ints)
-
-    weak : (u v : ℤ) → u <ℤ v → u ≤ℤ v
-    weak u v h = omega (arith, ints)
 
 -- a direction backwards
 pub product_opp : (d t : Pair) → product (opp d) t ≡ neg_ℤ (product d t)
@@ -175,10 +149,7 @@ product_opp d t = rw (as_pair d, as_pair t) (simp difference_rules (difference-e
 
 -- what is farther in it is less far in the other
 pub farther_back : (d s t : Pair) → product d s <ℤ product d t → product (opp d) t <ℤ product (opp d) s
-farther_back d s t h = rw (product_opp d s, product_opp d t) (turned _ _ h)
-  where
-    turned : (u v : ℤ) → u <ℤ v → neg_ℤ v <ℤ neg_ℤ u
-    turned u v h = omega (arith, ints)
+farther_back d s t h = rw (product_opp d s, product_opp d t) (omega (arith, ints))
 
 -- no two sets both meet and are apart
 pub never_both : NeverBoth

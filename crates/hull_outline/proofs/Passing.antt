@@ -1,8 +1,7 @@
 -- A point of S that T does not cover, and one that both sets have in common: the way between them passes an edge of T,
 -- which is then not apart from S.
 use Rattle.std.proofs.Common.{◌≡◌, ℕ, ◌+◌, ◌-◌, ◌≤◌, ◌<◌, ℤ, pos, ◌+ℤ◌, ◌-ℤ◌, ◌*ℤ◌, ◌≤ℤ◌, ◌<ℤ◌, neg_ℤ, ◌⊎◌, inl, inr}
-use Rattle.std.proofs.Common.{refl, sym, ap}
-use Rattle.std.proofs.Common.{◌∙◌, subst, List, length, arith}
+use Rattle.std.proofs.Common.{refl, sym, ap, ◌∙◌, subst, List, length, arith}
 use Rattle.std.specs.List.{Contains}
 use Rattle.std.proofs.lemmas.Bool.{cases_lt}
 use Rattle.std.proofs.lemmas.Int.{ints}
@@ -15,7 +14,7 @@ use Rattle.lattice.proofs.Order.{same_pair}
 use Rattle.hull_outline.specs.Nearest.{previous}
 use Rattle.hull_outline.proofs.Cones.{cone}
 use Rattle.lattice.specs.Vertices.{IsLeftOf}
-use Rattle.hull_plain.proofs.Orientation.{orient_other}
+use Rattle.hull_geometry.proofs.Orientation.{orient_other}
 use Rattle.lattice.proofs.LineCrossings.{orient_end}
 use Rattle.lattice.proofs.Vectors.{as_pair, opp}
 use Rattle.hull_outline.specs.Meetings.{Parts, IsApart, segment}
@@ -28,6 +27,9 @@ use Rattle.hull_outline.specs.Steps.{left_of}
 use Rattle.hull_outline.proofs.Differences.{Shared}
 use Rattle.hull_outline.proofs.Parted.{product_opp, weights_from, product_ss, product_ns, product_mp}
 use Rattle.hull_outline.proofs.Shields.{pushed, product_left, start_there, end_there}
+use Rattle.lattice.proofs.Numbers.{equal_by_gap, equal_by_none, gap_above, gap_below, gap_none, gap_np}
+use Rattle.lattice.proofs.Numbers.{le_by_opposite, le_itself, le_less, less_by_gap, nn_above, np_below}
+use Rattle.lattice.proofs.Numbers.{zero_between}
 
 -- ---- weights
 
@@ -65,12 +67,9 @@ weigh_from u v w x y z m =
 weigh_less : (u v w x y z m : ℤ) → pos 0 ≤ℤ u → pos 0 ≤ℤ v → pos 0 ≤ℤ w → pos 0 <ℤ (u +ℤ v +ℤ w) → x <ℤ m → y <ℤ m
     → z <ℤ m → (u *ℤ x +ℤ v *ℤ y +ℤ w *ℤ z) <ℤ ((u +ℤ v +ℤ w) *ℤ m)
 weigh_less u v w x y z m hu hv hw h hx hy hz =
-    under _ _ _ (weigh_from u v w x y z m)
+    less_by_gap _ _ _ (weigh_from u v w x y z m)
     (weigh_above u v w (m -ℤ x) (m -ℤ y) (m -ℤ z) hu hv hw h (omega (arith, ints)) (omega (arith, ints))
     (omega (arith, ints)))
-  where
-    under : (x y z : ℤ) → x -ℤ y ≡ z → pos 0 <ℤ z → y <ℤ x
-    under x y z e h = omega (arith, ints)
 
 -- or not more
 weigh_most : (u v w x y z m : ℤ) → pos 0 ≤ℤ u → pos 0 ≤ℤ v → pos 0 ≤ℤ w → x ≤ℤ m → y ≤ℤ m → z ≤ℤ m
@@ -87,15 +86,8 @@ weigh_points : (f a b c : Pair) (u v w : ℤ)
     ≡ u *ℤ product f a +ℤ v *ℤ product f b +ℤ w *ℤ product f c
 unfolding product
 weigh_points f a b c u v w =
-    rw (
-      as_pair f,
-      as_pair a,
-      as_pair b,
-      as_pair c,
-      as_difference u,
-      as_difference v,
-      as_difference w,
-    ) (simp (difference-add, difference-mul) (difference-eq _ _ _ _ (omega arith)))
+    rw (as_pair f, as_pair a, as_pair b, as_pair c, as_difference u, as_difference v, as_difference w)
+    (simp (difference-add, difference-mul) (difference-eq _ _ _ _ (omega arith)))
 
 -- a point so many times as far out
 abbrev times : ℤ → Pair → Pair
@@ -110,11 +102,8 @@ times_far k f p =
 
 -- a product with a positive number keeps the order
 times_less : (k x y : ℤ) → pos 0 <ℤ k → x <ℤ y → (k *ℤ x) <ℤ (k *ℤ y)
-times_less k x y h l = under _ _ _ (spread k x y) (product_pp k (y -ℤ x) h (omega (arith, ints)))
+times_less k x y h l = less_by_gap _ _ _ (spread k x y) (product_pp k (y -ℤ x) h (omega (arith, ints)))
   where
-    under : (x y z : ℤ) → x -ℤ y ≡ z → pos 0 <ℤ z → y <ℤ x
-    under x y z e h = omega (arith, ints)
-
     spread : (k x y : ℤ) → k *ℤ y -ℤ k *ℤ x ≡ k *ℤ (y -ℤ x)
     spread k x y = rw (as_difference k, as_difference x, as_difference y)
         (simp difference_rules (difference-eq _ _ _ _ (omega arith)))
@@ -124,12 +113,7 @@ times_side : (k : ℤ) (a b x : Pair)
     → orient (times k b) (times k a) x ≡ k *ℤ (product (left_of b a) x -ℤ product (left_of b a) (times k b))
 unfolding orient product
 times_side k a b x =
-    rw (
-      as_difference k,
-      as_pair a,
-      as_pair b,
-      as_pair x,
-    ) (simp difference_rules (difference-eq _ _ _ _ (omega arith)))
+    rw (as_difference k, as_pair a, as_pair b, as_pair x) (simp difference_rules (difference-eq _ _ _ _ (omega arith)))
 
 -- ---- the edge that is passed
 
@@ -149,18 +133,6 @@ overweighed p q r s w x y z hp hq hr hs l hw hx hy hz e =
     let b = product_ss q w hq hw in
     let c = above_both r s y z hr hs l hy hz in omega (arith, ints)
 
--- numbers as seen from another
-lower : (x m : ℤ) → x ≤ℤ m → (x -ℤ m) ≤ℤ pos 0
-lower x m h = omega (arith, ints)
-
--- a number above it
-higher : (x m : ℤ) → m <ℤ x → pos 0 <ℤ (x -ℤ m)
-higher x m h = omega (arith, ints)
-
--- a number below it
-deeper : (x m : ℤ) → x <ℤ m → (x -ℤ m) <ℤ pos 0
-deeper x m h = omega (arith, ints)
-
 module _ (S T : List Pair) (h : Shared S T) where
   -- the sum of the weights
   pub total : ℤ
@@ -168,10 +140,7 @@ module _ (S T : List Pair) (h : Shared S T) where
 
   -- so many times the point in common
   pub common : Pair
-  common = record {
-    x = h.u *ℤ h.d.x +ℤ h.v *ℤ h.e.x +ℤ h.w *ℤ h.f.x;
-    y = h.u *ℤ h.d.y +ℤ h.v *ℤ h.e.y +ℤ h.w *ℤ h.f.y;
-  }
+  common = record { x = h.u *ℤ h.d.x +ℤ h.v *ℤ h.e.x +ℤ h.w *ℤ h.f.x; y = h.u *ℤ h.d.y +ℤ h.v *ℤ h.e.y +ℤ h.w *ℤ h.f.y }
 
   -- it is less far than what all of T is less far than
   pub less_than_T : (f : Pair) (m : ℤ) → ((t : Pair) → Contains T t → product f t <ℤ m)
@@ -217,18 +186,12 @@ module _ (S T : List Pair) (h : Shared S T) (v g : Pair) (mv : Contains S v)
       let L : Pair = left_of b a in
       let k : ℤ = total S T h in
       rw (times_side k a b (common S T h))
-      (product_ns k (product L (common S T h) -ℤ product L (times k b)) (above_nn _ (total_above S T h))
-      (lower (product L (common S T h)) (product L (times k b))
+      (product_ns k (product L (common S T h) -ℤ product L (times k b)) (nn_above _ (total_above S T h))
+      (gap_np (product L (common S T h)) (product L (times k b))
       (rw (times_far k L b) (most_of_T S T h L (product L b) (λ t mt. near t mt)))))
     where
-      above_nn : (x : ℤ) → pos 0 <ℤ x → pos 0 ≤ℤ x
-      above_nn x h = omega (arith, ints)
-
-      under : (x y z w : ℤ) → x -ℤ y ≡ z → z ≡ neg_ℤ w → pos 0 ≤ℤ w → x ≤ℤ y
-      under x y z w e f h = omega (arith, ints)
-
       near : (t : Pair) → Contains T t → product (left_of b a) t ≤ℤ product (left_of b a) b
-      near t mt = under _ _ _ _ (product_left b a t) (orient_other a b t)
+      near t mt = le_by_opposite _ _ _ _ (product_left b a t) (orient_other a b t)
           (All-contains (λ z. pos 0 ≤ℤ orient a b z) T t left mt)
 
   -- no edge that is passed is apart from S
@@ -238,22 +201,22 @@ module _ (S T : List Pair) (h : Shared S T) (v g : Pair) (mv : Contains S v)
   not_passed a b d ma mb left parts ha hb l =
       elim (le_or_lt (pos 0) (orient (times k b) (times k a) (times k v))) [
         | inr p ↦ clash _ _ _ (times_far k g v) (less_than_T S T h g (product g v) free)
-            (pushed _ (orient (times k b) (times k a) X) _ _ _ _ _ _ p (same (product g (times k v))) ha hb l
-            (deeper _ _ (times_nearer k g b v big (free b mb)))
-            (deeper _ _ (times_nearer k g a v big (free a ma))) (weights_from g (times k v) X (times k b) (times k a)
+            (pushed _ (orient (times k b) (times k a) X) _ _ _ _ _ _ p (gap_none (product g (times k v))) ha hb l
+            (gap_below _ _ (times_nearer k g b v big (free b mb)))
+            (gap_below _ _ (times_nearer k g a v big (free a ma))) (weights_from g (times k v) X (times k b) (times k a)
             (product g (times k v))))
         | inl p ↦ elim (le_or_lt (product d (times k v)) (product d X)) [
-          | inl w ↦ overweighed _ _ _ _ _ _ _ _ p (not_right a b left) ha hb l (lower _ _ w)
-              (lower (product d X) (product d X) (at_most _))
-              (higher (product d (times k b)) (product d X)
+          | inl w ↦ overweighed _ _ _ _ _ _ _ _ p (not_right a b left) ha hb l (gap_np _ _ w)
+              (gap_np (product d X) (product d X) (le_itself _))
+              (gap_above (product d X) (product d (times k b))
               (rw (times_far k d b) (less_than_S S T h d (product d b) (λ s ms. parts s b ms (end_there a b)))))
-              (higher (product d (times k a)) (product d X)
+              (gap_above (product d X) (product d (times k a))
               (rw (times_far k d a) (less_than_S S T h d (product d a) (λ s ms. parts s a ms (start_there a b)))))
               (weights_from d (times k v) X (times k b) (times k a) (product d X))
           | inr w ↦ overweighed _ _ _ _ _ _ _ _ p (not_right a b left) ha hb l
-              (lower (product d (times k v)) (product d (times k v)) (at_most _)) (lower _ _ (weak _ _ w))
-              (higher _ _ (times_nearer k d v b big (parts v b mv (end_there a b))))
-              (higher _ _ (times_nearer k d v a big (parts v a mv (start_there a b))))
+              (gap_np (product d (times k v)) (product d (times k v)) (le_itself _)) (gap_np _ _ (le_less _ _ w))
+              (gap_above _ _ (times_nearer k d v b big (parts v b mv (end_there a b))))
+              (gap_above _ _ (times_nearer k d v a big (parts v a mv (start_there a b))))
               (weights_from d (times k v) X (times k b) (times k a) (product d (times k v)))
         ]
       ]
@@ -266,15 +229,6 @@ module _ (S T : List Pair) (h : Shared S T) (v g : Pair) (mv : Contains S v)
 
       big : pos 0 <ℤ total S T h
       big = total_above S T h
-
-      same : (x : ℤ) → x -ℤ x ≡ pos 0
-      same x = omega (arith, ints)
-
-      at_most : (x : ℤ) → x ≤ℤ x
-      at_most x = omega (arith, ints)
-
-      weak : (x y : ℤ) → x <ℤ y → x ≤ℤ y
-      weak x y h = omega (arith, ints)
 
       clash : (x y z : ℤ) → y ≡ z → x <ℤ z → pos 0 <ℤ (x -ℤ y) → ⊥
       clash x y z e l m = omega (arith, ints)
@@ -340,45 +294,28 @@ most_of x n = elim (le_or_lt x (pos 0)) [ inl h ↦ h | inr h ↦ absurd (n h) ]
 least_of : (x : ℤ) → ¬ (x <ℤ pos 0) → pos 0 ≤ℤ x
 least_of x n = elim (le_or_lt (pos 0) x) [ inl h ↦ h | inr h ↦ absurd (n h) ]
 
--- two numbers in order
-apart_by : (x y : ℤ) → x ≤ℤ pos 0 → pos 0 <ℤ y → x <ℤ y
-apart_by x y h k = omega (arith, ints)
-
--- two numbers in order
-apart_below : (x y : ℤ) → x <ℤ pos 0 → pos 0 ≤ℤ y → x <ℤ y
-apart_below x y h k = omega (arith, ints)
-
 -- two points that lie as far as a third, when they are so many times as far out
 same_far : {m : ℤ} (k : ℤ) (f p q : Pair) → pos 0 <ℤ k → product f (times k p) ≡ m → product f (times k q) ≡ m
     → product f p ≡ product f q
 same_far {m} k f p q big e g =
-    equal _ _ (cancel_zero (product f p -ℤ product f q) k big
-    (spread (product f p) (product f q) k ∙ nothing _ _ _ _ _ (times_far k f p) (times_far k f q) e g))
+    equal_by_gap _ _ (cancel_zero (product f p -ℤ product f q) k big
+    (spread (product f p) (product f q) k ∙ (omega (arith, ints, times_far k f p, times_far k f q))))
   where
     spread : (x y z : ℤ) → (x -ℤ y) *ℤ z ≡ z *ℤ x -ℤ z *ℤ y
     spread x y z = rw (as_difference x, as_difference y, as_difference z)
         (simp difference_rules (difference-eq _ _ _ _ (omega arith)))
 
-    nothing : (a b x y m : ℤ) → x ≡ a → y ≡ b → x ≡ m → y ≡ m → a -ℤ b ≡ pos 0
-    nothing a b x y m e g i j = omega (arith, ints)
-
-    equal : (x y : ℤ) → x -ℤ y ≡ pos 0 → x ≡ y
-    equal x y e = omega (arith, ints)
-
 -- where three corners that turn lie as far, all points do
 level_by : (f p c n x : Pair) → pos 0 <ℤ orient p c n → product f n ≡ product f c → product f p ≡ product f c
     → product f x ≡ product f c
 level_by f p c n x t en ep =
-    equal _ _ (cancel_zero (product f x -ℤ product f c) (orient p c n) t
+    equal_by_gap _ _ (cancel_zero (product f x -ℤ product f c) (orient p c n) t
     (*ℤ_comm (product f x -ℤ product f c) (orient p c n) ∙ cone f p c n x
     ∙ ap (λ (z : ℤ). orient p c x *ℤ z +ℤ orient c n x *ℤ (product f p -ℤ product f c)) (none _ _ en)
     ∙ ap (λ (z : ℤ). orient p c x *ℤ pos 0 +ℤ orient c n x *ℤ z) (none _ _ ep) ∙ omega (arith, ints)))
   where
     none : (x y : ℤ) → x ≡ y → x -ℤ y ≡ pos 0
     none x y e = omega (arith, ints)
-
-    equal : (x y : ℤ) → x -ℤ y ≡ pos 0 → x ≡ y
-    equal x y e = omega (arith, ints)
 
 -- one step to the right
 abbrev east : Pair → Pair
@@ -392,27 +329,19 @@ north c = record { x = c.x; y = c.y +ℤ pos 1 }
 step_east : (f c : Pair) → product f (east c) -ℤ product f c ≡ f.x
 unfolding product
 step_east f c =
-    rw (as_pair f, as_pair c, as_difference (pos 1))
-    (simp difference_rules (difference-eq _ _ _ _ (omega arith)))
+    rw (as_pair f, as_pair c, as_difference (pos 1)) (simp difference_rules (difference-eq _ _ _ _ (omega arith)))
 
 -- how far a step up goes
 step_north : (f c : Pair) → product f (north c) -ℤ product f c ≡ f.y
 unfolding product
 step_north f c =
-    rw (as_pair f, as_pair c, as_difference (pos 1))
-    (simp difference_rules (difference-eq _ _ _ _ (omega arith)))
+    rw (as_pair f, as_pair c, as_difference (pos 1)) (simp difference_rules (difference-eq _ _ _ _ (omega arith)))
 
 -- a turned step that goes nowhere is between one point and itself
 turned_nothing : (a b c : Pair) → product (left_of a b) (east c) ≡ product (left_of a b) c
     → product (left_of a b) (north c) ≡ product (left_of a b) c → b ≡ a
 turned_nothing a b c e n =
-    same_pair b a (by_y _ _ _ _ (step_north (left_of a b) c) n) (by_x _ _ _ _ (step_east (left_of a b) c) e)
-  where
-    by_x : (x y u v : ℤ) → x -ℤ y ≡ u -ℤ v → x ≡ y → v ≡ u
-    by_x x y u v e f = omega (arith, ints)
-
-    by_y : (x y u v : ℤ) → x -ℤ y ≡ u -ℤ v → x ≡ y → u ≡ v
-    by_y x y u v e f = omega (arith, ints)
+    same_pair b a (omega (arith, ints, step_north (left_of a b) c)) (omega (arith, ints, step_east (left_of a b) c))
 
 module _ (S T W : List Pair) (last : ℕ) (o : IsOutlineOf T W) (p : IsParted W last) (many : 2 < length W)
     (h : Shared S T) (v g : Pair) (mv : Contains S v)
@@ -432,11 +361,8 @@ module _ (S T W : List Pair) (last : ℕ) (o : IsOutlineOf T W) (p : IsParted W 
   -- the point in common lies on the way
   on_way : product (left_of (times (total S T h) v) (common S T h)) (common S T h)
       ≡ product (left_of (times (total S T h) v) (common S T h)) (times (total S T h) v)
-  on_way = equal _ _ _ (product_left (times (total S T h) v) (common S T h) (common S T h))
+  on_way = equal_by_none _ _ _ (product_left (times (total S T h) v) (common S T h) (common S T h))
       (orient_end (times (total S T h) v) (common S T h))
-    where
-      equal : (x y z : ℤ) → x -ℤ y ≡ z → z ≡ pos 0 → x ≡ y
-      equal x y z e f = omega (arith, ints)
 
   -- some corner does not lie right of the way
   some_left : (i : ℕ) × (i < length W) × (pos 0 ≤ℤ at (corner W i))
@@ -493,18 +419,12 @@ module _ (S T W : List Pair) (last : ℕ) (o : IsOutlineOf T W) (p : IsParted W 
       let all : (x : Pair) → product K x ≡ product K C =
       λ x. level_by K P C N x (turn_at T W 0 o.1 (omega (arith, many)) many) n q in
       let e : common S T h ≡ times k v = turned_nothing (times k v) (common S T h) C (all (east C)) (all (north C)) in
-      clash _ _ _ (times_far k g v) (ap (product g) e) (less_than_T S T h g (product g v) free)
+      omega (arith, ints, times_far k g v, ap (product g) e, less_than_T S T h g (product g v) free)
     where
       flat : (c : Pair) → at c ≡ pos 0
           → product (left_of (times (total S T h) v) (common S T h)) (times (total S T h) c)
           ≡ product (left_of (times (total S T h) v) (common S T h)) (times (total S T h) v)
-      flat c z = equal _ _ _ (at_is c) z
-        where
-          equal : (x y z : ℤ) → x -ℤ y ≡ z → z ≡ pos 0 → x ≡ y
-          equal x y z e f = omega (arith, ints)
-
-      clash : (x y z : ℤ) → y ≡ z → x ≡ y → x <ℤ z → ⊥
-      clash x y z e f l = omega (arith, ints)
+      flat c z = equal_by_none _ _ _ (at_is c) z
 
   -- so some edge is passed
   passed : (m : ℕ) × (m < length W) × (pos 0 ≤ℤ at (corner W m)) × (at (corner W (m + 1)) ≤ℤ pos 0)
@@ -513,33 +433,18 @@ module _ (S T W : List Pair) (last : ℕ) (o : IsOutlineOf T W) (p : IsParted W 
     | inl b ↦
         let a = some_left in
         let m = ends_round W (λ z. pos 0 ≤ℤ at z) (λ z. from_told (at z)) a.0 b.0 a.1 b.1 a.2
-        (over (at (corner W b.0)) b.2) in
-        (m.0, m.1, m.2, weak _ (below_of _ m.3), apart_below _ _ (below_of _ m.3) m.2)
+        (omega (arith, ints, b.2)) in
+        (m.0, m.1, m.2, np_below _ (below_of _ m.3), (omega (arith, ints, below_of _ m.3, m.2)))
     | inr none ↦ elim (search_below (λ i. pos 0 <ℤ at (corner W i)) (λ i. less_told (pos 0) (at (corner W i)))
         (length W)) [
           | inl a ↦
               let b = some_right in
               let m = ends_round W (λ z. pos 0 <ℤ at z) (λ z. less_told (pos 0) (at z)) a.0 b.0 a.1 b.1 a.2
-              (under (at (corner W b.0)) b.2) in
-              (m.0, m.1, weak_above _ m.2, most_of _ m.3, apart_by _ _ (most_of _ m.3) m.2)
-          | inr flat ↦ absurd (not_level (λ i l. zero_of _ (least_of _ (none i l)) (most_of _ (flat i l))))
+              (omega (arith, ints, b.2)) in
+              (m.0, m.1, nn_above _ m.2, most_of _ m.3, (omega (arith, ints, most_of _ m.3, m.2)))
+          | inr flat ↦ absurd (not_level (λ i l. zero_between _ (least_of _ (none i l)) (most_of _ (flat i l))))
         ]
   ]
-    where
-      over : (x : ℤ) → x <ℤ pos 0 → ¬ (pos 0 ≤ℤ x)
-      over x l k = omega (arith, ints)
-
-      under : (x : ℤ) → x ≤ℤ pos 0 → ¬ (pos 0 <ℤ x)
-      under x l k = omega (arith, ints)
-
-      weak : (x : ℤ) → x <ℤ pos 0 → x ≤ℤ pos 0
-      weak x l = omega (arith, ints)
-
-      weak_above : (x : ℤ) → pos 0 <ℤ x → pos 0 ≤ℤ x
-      weak_above x l = omega (arith, ints)
-
-      zero_of : (x : ℤ) → pos 0 ≤ℤ x → x ≤ℤ pos 0 → x ≡ pos 0
-      zero_of x k l = omega (arith, ints)
 
   -- where all edges are apart from S there is no point in common
   pub none_shared : ((i : ℕ) → i < length W → IsApart S (segment (corner W i) (corner W (i + 1)))) → ⊥

@@ -5,7 +5,7 @@ use Rattle.std.proofs.lemmas.Bool.{cases_lt}
 use Rattle.lattice.specs.Plane.{Pair, IsBefore}
 use Rattle.lattice.specs.Vertices.{IsVertexList}
 use Rattle.lattice.proofs.Order.{before_total}
-use Rattle.hull_plain.specs.Edges.{IsLowerEdge, IsUpperEdge, IsFirst, IsLast}
+use Rattle.hull_geometry.specs.Edges.{IsLowerEdge, IsUpperEdge, IsFirst, IsLast}
 use Rattle.hull_outline.specs.Outlines.{IsOutlineOf}
 use Rattle.hull_outline.specs.Rounds.{corner, IsRound}
 use Rattle.hull_outline.proofs.Corners.{corner_back, corner_extreme, next_left, first_before, next_apart}

@@ -21,6 +21,8 @@ use Rattle.hull_outline.proofs.Gaps.{turned, parts, gap, along_gap, along_step, 
 use Rattle.hull_outline.proofs.NearestOf.{step_back}
 use Rattle.hull_outline.proofs.Parted.{product_ss, product_ns}
 use Rattle.hull_outline.proofs.Separated.{apart_by, from_edge}
+use Rattle.lattice.proofs.Numbers.{above_not_np, below_not_nn, gap_above, gap_below, gap_nn, le_by_gap, le_by_sum}
+use Rattle.lattice.proofs.Numbers.{less_across, less_not_le, less_opposites, nn_above, nn_by_le, np_below}
 
 -- ---- what parts a set from a point, as a fraction
 
@@ -46,10 +48,7 @@ farther_than S q w h =
 
 -- by more than nothing
 pub depth_above : (S : List Pair) (q : Pair) (w : Separation) → IsSeparation S (q ∷ []) w → pos 0 <ℤ depth w q
-depth_above S q w h = rest _ _ (farther_than S q w h)
-  where
-    rest : (x y : ℤ) → x <ℤ y → pos 0 <ℤ (y -ℤ x)
-    rest x y h = omega (arith, ints)
+depth_above S q w h = gap_above _ _ (farther_than S q w h)
 
 -- the direction has a length
 pub reach_above : (S : List Pair) (q : Pair) (w : Separation) → IsSeparation S (q ∷ []) w → pos 0 <ℤ reach w
@@ -75,13 +74,7 @@ weighed_less l m h u v =
 -- two numbers no less than a third, weighed
 weighed_up : (l m h u v : ℤ) → pos 0 ≤ℤ l → pos 0 ≤ℤ m → h ≤ℤ u → h ≤ℤ v → ((l +ℤ m) *ℤ h) ≤ℤ (l *ℤ u +ℤ m *ℤ v)
 weighed_up l m h u v hl hm hu hv =
-    more _ _ _ _ (weighed_less l m h u v) (product_nn l (u -ℤ h) hl (rest _ _ hu)) (product_nn m (v -ℤ h) hm (rest _ _ hv))
-  where
-    rest : (x y : ℤ) → x ≤ℤ y → pos 0 ≤ℤ (y -ℤ x)
-    rest x y h = omega (arith, ints)
-
-    more : (x y u v : ℤ) → x -ℤ y ≡ u +ℤ v → pos 0 ≤ℤ u → pos 0 ≤ℤ v → y ≤ℤ x
-    more x y u v e h k = omega (arith, ints)
+    le_by_sum _ _ _ _ (weighed_less l m h u v) (product_nn l (u -ℤ h) hl (gap_nn _ _ hu)) (product_nn m (v -ℤ h) hm (gap_nn _ _ hv))
 
 -- two numbers below 0, weighed
 weighed_below : (l m u v : ℤ) → pos 0 ≤ℤ l → pos 0 ≤ℤ m → pos 0 <ℤ (l +ℤ m) → u <ℤ pos 0 → v <ℤ pos 0
@@ -97,10 +90,7 @@ weighed_below l m u v hl hm h hu hv =
 weighed_above : (l m u v : ℤ) → pos 0 ≤ℤ l → pos 0 ≤ℤ m → pos 0 <ℤ (l +ℤ m) → pos 0 <ℤ u → pos 0 <ℤ v
     → pos 0 <ℤ (l *ℤ u +ℤ m *ℤ v)
 weighed_above l m u v hl hm h hu hv =
-    above _ _ (weighed_up l m (pos 1) u v hl hm (omega (arith, ints)) (omega (arith, ints))) h
-  where
-    above : (x k : ℤ) → (k *ℤ pos 1) ≤ℤ x → pos 0 <ℤ k → pos 0 <ℤ x
-    above x k e h = omega (arith, ints)
+    omega (arith, ints, weighed_up l m (pos 1) u v hl hm (omega (arith, ints)) (omega (arith, ints)))
 
 -- the same number, weighed
 weighed_same : (l m u v : ℤ) → u ≡ v → l *ℤ u +ℤ m *ℤ v ≡ (l +ℤ m) *ℤ v
@@ -108,14 +98,11 @@ weighed_same l m u v e = ap (λ (z : ℤ). l *ℤ z +ℤ m *ℤ v) e ∙ sym (di
 
 -- z between x and y, by the distances of the others
 balanced : (x y z : ℤ) → (y -ℤ z) *ℤ (z -ℤ x) +ℤ (z -ℤ x) *ℤ (z -ℤ y) ≡ pos 0
-balanced x y z = nothing _ _ (flipped x y z)
+balanced x y z = omega (arith, ints, flipped x y z)
   where
     flipped : (x y z : ℤ) → (y -ℤ z) *ℤ (z -ℤ x) ≡ neg_ℤ ((z -ℤ x) *ℤ (z -ℤ y))
     flipped x y z = rw (as_difference x, as_difference y, as_difference z)
         (simp difference_rules (difference-eq _ _ _ _ (omega arith)))
-
-    nothing : (x y : ℤ) → x ≡ neg_ℤ y → x +ℤ y ≡ pos 0
-    nothing x y e = omega (arith, ints)
 
 -- ---- a gap that is narrower
 
@@ -124,20 +111,15 @@ loses : (S : List Pair) (q x y n : Pair) (l m H : ℤ) → Rival S q H (product 
     → pos 0 ≤ℤ l → pos 0 ≤ℤ m → pos 0 <ℤ (l +ℤ m) → product (turned n) (gap l m q x y) ≡ pos 0
     → neg_ℤ ((l +ℤ m) *ℤ H) <ℤ product n (gap l m q x y) → product n (gap l m q x y) <ℤ ((l +ℤ m) *ℤ H) → ⊥
 loses S q x y n l m H (w, h, more) mx my hl hm k z low high =
-    narrower n w.direction (gap l m q x y) (l +ℤ m) (depth w q) H z k (weak _ (depth_above S q w h))
+    narrower n w.direction (gap l m q x y) (l +ℤ m) (depth w q) H z k (nn_above _ (depth_above S q w h))
     (rw (along_gap w.direction l m q x y)
     (weighed_up l m (depth w q) _ _ hl hm (depth_from S q x w h mx) (depth_from S q y w h my)))
     low high (reach_above S q w h) more
-  where
-    weak : (x : ℤ) → pos 0 <ℤ x → pos 0 ≤ℤ x
-    weak x h = omega (arith, ints)
 
 -- what lies across no direction but n: how far it goes in another, by how far it goes along n
 across : (n d w : Pair) → product (turned n) w ≡ pos 0 → product n n *ℤ product d w ≡ product n d *ℤ product n w
 across n d w z =
-    parts n d w
-    ∙ ap (λ (k : ℤ). product n d *ℤ product n w +ℤ product (turned n) d *ℤ k) z
-    ∙ omega (arith, ints)
+    parts n d w ∙ ap (λ (k : ℤ). product n d *ℤ product n w +ℤ product (turned n) d *ℤ k) z ∙ omega (arith, ints)
 
 -- ---- a corner that is the nearest
 
@@ -148,38 +130,25 @@ both_ways c d = rw (as_pair c, as_pair d) (simp difference_rules (difference-eq 
 
 -- a factor on both sides is cancelled
 shorter : (l r h : ℤ) → pos 0 <ℤ l → ((l *ℤ l) *ℤ r) ≤ℤ ((h *ℤ h) *ℤ l) → (l *ℤ r) ≤ℤ (h *ℤ h)
-shorter l r h hl m =
-    back _ _ (cancel_nn ((h *ℤ h) -ℤ l *ℤ r) l hl (rest _ _ _ (drawn (h *ℤ h) l r) m))
+shorter l r h hl m = le_by_gap _ _ (cancel_nn ((h *ℤ h) -ℤ l *ℤ r) l hl (nn_by_le _ _ _ (drawn (h *ℤ h) l r) m))
   where
     drawn : (k l r : ℤ) → (k -ℤ l *ℤ r) *ℤ l ≡ k *ℤ l -ℤ (l *ℤ l) *ℤ r
     drawn k l r = rw (as_difference k, as_difference l, as_difference r)
         (simp difference_rules (difference-eq _ _ _ _ (omega arith)))
 
-    rest : (x y z : ℤ) → x ≡ y -ℤ z → z ≤ℤ y → pos 0 ≤ℤ x
-    rest x y z e h = omega (arith, ints)
-
-    back : (x y : ℤ) → pos 0 ≤ℤ (x -ℤ y) → y ≤ℤ x
-    back x y h = omega (arith, ints)
-
 -- a square that is not above 0
 no_square : (t : ℤ) → (t *ℤ t) ≤ℤ pos 0 → t ≡ pos 0
 no_square t h = elim (le_or_lt t (pos 0)) [
-  | inr k ↦ absurd (clash _ (square_above t (inl k)) h)
+  | inr k ↦ absurd (omega (arith, ints, square_above t (inl k)))
   | inl k ↦ elim (le_or_lt (pos 0) t) [
-    | inr l ↦ absurd (clash _ (square_above t (inr l)) h)
+    | inr l ↦ absurd (omega (arith, ints, square_above t (inr l)))
     | inl l ↦ omega (arith, ints)
   ]
 ]
-  where
-    clash : (x : ℤ) → pos 0 <ℤ x → x ≤ℤ pos 0 → ⊥
-    clash x h k = omega (arith, ints)
 
 -- squares in order
 root_le : (g h : ℤ) → pos 0 ≤ℤ h → (g *ℤ g) ≤ℤ (h *ℤ h) → g ≤ℤ h
-root_le g h hh m = elim (le_or_lt g h) [ inl k ↦ k | inr k ↦ absurd (clash _ _ (products_lt h g hh k) m) ]
-  where
-    clash : (x y : ℤ) → x <ℤ y → y ≤ℤ x → ⊥
-    clash x y h k = omega (arith, ints)
+root_le g h hh m = elim (le_or_lt g h) [ inl k ↦ k | inr k ↦ absurd (less_not_le _ _ (products_lt h g hh k) m) ]
 
 -- where what parts S from d is no narrower than the way from c in S to d, no point of S lies farther on that way
 pub corner_closest : (S : List Pair) (c d : Pair) → Contains S c → product (step d c) d <ℤ product (step d c) c
@@ -187,8 +156,9 @@ pub corner_closest : (S : List Pair) (c d : Pair) → Contains S c → product (
     → Contains S s → product (step c d) s ≤ℤ product (step c d) c
 corner_closest S c d mc apart (w, r, more) s ms = elim (le_or_lt (product e s) (product e c)) [
   | inl k ↦ k
-  | inr k ↦ absurd (clash _ _ across_n (product_pp R (product e (step c s)) high (rw (along_step e c s) (above _ _ k)))
-      (product_ns g (product n (step c s)) (over _ _ (depth_above S d w r) far) level))
+  | inr k ↦ absurd (above_not_np _ _ across_n (product_pp R (product e (step c s)) high
+      (rw (along_step e c s) (gap_above _ _ k)))
+      (product_ns g (product n (step c s)) (omega (arith, ints, depth_above S d w r, far)) level))
 ]
   where
     e : Pair
@@ -215,15 +185,6 @@ corner_closest S c d mc apart (w, r, more) s ms = elim (le_or_lt (product e s) (
     far : h ≤ℤ g
     far = rw (along_step n c d) (depth_from S d c w r mc)
 
-    over : (x y : ℤ) → pos 0 <ℤ x → x ≤ℤ y → pos 0 ≤ℤ y
-    over x y h k = omega (arith, ints)
-
-    weak : (x : ℤ) → pos 0 <ℤ x → pos 0 ≤ℤ x
-    weak x h = omega (arith, ints)
-
-    above : (x y : ℤ) → x <ℤ y → pos 0 <ℤ (y -ℤ x)
-    above x y h = omega (arith, ints)
-
     -- the whole way, squared
     whole : R *ℤ product e e ≡ g *ℤ g +ℤ product (turned n) e *ℤ product (turned n) e
     whole = parts n e e
@@ -236,21 +197,14 @@ corner_closest S c d mc apart (w, r, more) s ms = elim (le_or_lt (product e s) (
         (subst (λ (x : ℤ). ((x *ℤ x) *ℤ R) ≤ℤ ((h *ℤ h) *ℤ L)) (sym (along_step (step d c) d c)) more)))
 
     squares : (h *ℤ h) ≤ℤ (g *ℤ g)
-    squares =
-        products_le h g h g (weak _ (depth_above S d w r)) far (weak _ (depth_above S d w r)) far
+    squares = products_le h g h g (nn_above _ (depth_above S d w r)) far (nn_above _ (depth_above S d w r)) far
 
     nothing : product (turned n) e ≡ pos 0
-    nothing = no_square _ (none _ _ _ _ whole little squares)
-      where
-        none : (x y z h : ℤ) → x ≡ y +ℤ z → x ≤ℤ h → h ≤ℤ y → z ≤ℤ pos 0
-        none x y z h e k l = omega (arith, ints)
+    nothing = no_square _ (omega (arith, ints, whole, little, squares))
 
     short : g ≤ℤ h
-    short = root_le g h (weak _ (depth_above S d w r))
-        (under _ _ _ _ whole little (square_nn (product (turned n) e)))
-      where
-        under : (x y z h : ℤ) → x ≡ y +ℤ z → x ≤ℤ h → pos 0 ≤ℤ z → y ≤ℤ h
-        under x y z h e k l = omega (arith, ints)
+    short = root_le g h (nn_above _ (depth_above S d w r))
+        (omega (arith, ints, whole, little, square_nn (product (turned n) e)))
 
     -- s lies no farther along n than c
     level : product n (step c s) ≤ℤ pos 0
@@ -267,30 +221,17 @@ corner_closest S c d mc apart (w, r, more) s ms = elim (le_or_lt (product e s) (
         ∙ ap (λ (k : ℤ). g *ℤ product n (step c s) +ℤ k *ℤ product (turned n) (step c s)) nothing
         ∙ omega (arith, ints)
 
-    clash : (x y : ℤ) → x ≡ y → pos 0 <ℤ x → y ≤ℤ pos 0 → ⊥
-    clash x y e h k = omega (arith, ints)
-
 -- ---- an edge that is the nearest
 
 -- the normal of an edge, turned, goes along the edge
 turned_edge : (a b t : Pair) → product (turned (left_of b a)) t ≡ product (step a b) t
 unfolding product
-turned_edge a b t =
-    rw (
-      as_pair a,
-      as_pair b,
-      as_pair t,
-    ) (simp difference_rules (difference-eq _ _ _ _ (omega arith)))
+turned_edge a b t = rw (as_pair a, as_pair b, as_pair t) (simp difference_rules (difference-eq _ _ _ _ (omega arith)))
 
 -- the other normal
 pub other_normal : (a b t : Pair) → product (left_of a b) t ≡ neg_ℤ (product (left_of b a) t)
 unfolding product
-other_normal a b t =
-    rw (
-      as_pair a,
-      as_pair b,
-      as_pair t,
-    ) (simp difference_rules (difference-eq _ _ _ _ (omega arith)))
+other_normal a b t = rw (as_pair a, as_pair b, as_pair t) (simp difference_rules (difference-eq _ _ _ _ (omega arith)))
 
 -- both ends of an edge lie as far along its normal
 ends_level : (a b : Pair) → product (left_of b a) a ≡ product (left_of b a) b
@@ -299,56 +240,32 @@ ends_level a b = rw (as_pair a, as_pair b) (simp difference_rules (difference-eq
 
 -- products of a number above 0 with numbers in order
 drawn_out : (k x y : ℤ) → pos 0 <ℤ k → x <ℤ y → (k *ℤ x) <ℤ (k *ℤ y)
-drawn_out k x y h l = less _ _ _ (apart k x y) (product_pp k (y -ℤ x) h (rest _ _ l))
+drawn_out k x y h l = omega (arith, ints, apart k x y, product_pp k (y -ℤ x) h (gap_above _ _ l))
   where
     apart : (k x y : ℤ) → k *ℤ (y -ℤ x) ≡ k *ℤ y -ℤ k *ℤ x
     apart k x y = rw (as_difference k, as_difference x, as_difference y)
         (simp difference_rules (difference-eq _ _ _ _ (omega arith)))
 
-    rest : (x y : ℤ) → x <ℤ y → pos 0 <ℤ (y -ℤ x)
-    rest x y h = omega (arith, ints)
-
-    less : (z x y : ℤ) → z ≡ y -ℤ x → pos 0 <ℤ z → x <ℤ y
-    less z x y e h = omega (arith, ints)
-
 -- which way two products go that are equal but for a factor above 0
 same_way : (l x y z : ℤ) → pos 0 <ℤ l → l *ℤ x ≡ y *ℤ z → y <ℤ pos 0 → x <ℤ pos 0 → pos 0 <ℤ z
 same_way l x y z hl e hy hx = elim (le_or_lt z (pos 0)) [
   | inr k ↦ k
-  | inl k ↦ absurd (clash _ _ e (product_pn l x hl hx) (product_ss y z (weak _ hy) k))
+  | inl k ↦ absurd (below_not_nn _ _ e (product_pn l x hl hx) (product_ss y z (np_below _ hy) k))
 ]
-  where
-    weak : (x : ℤ) → x <ℤ pos 0 → x ≤ℤ pos 0
-    weak x h = omega (arith, ints)
-
-    clash : (x y : ℤ) → x ≡ y → x <ℤ pos 0 → pos 0 ≤ℤ y → ⊥
-    clash x y e h k = omega (arith, ints)
 
 -- and the other way
 other_way : (l x y z : ℤ) → pos 0 <ℤ l → l *ℤ x ≡ y *ℤ z → y <ℤ pos 0 → pos 0 <ℤ x → z <ℤ pos 0
 other_way l x y z hl e hy hx = elim (le_or_lt (pos 0) z) [
   | inr k ↦ k
-  | inl k ↦ absurd (clash _ _ e (product_pp l x hl hx) (product_np y z (weak _ hy) k))
+  | inl k ↦ absurd (above_not_np _ _ e (product_pp l x hl hx) (product_np y z (np_below _ hy) k))
 ]
-  where
-    weak : (x : ℤ) → x <ℤ pos 0 → x ≤ℤ pos 0
-    weak x h = omega (arith, ints)
-
-    clash : (x y : ℤ) → x ≡ y → pos 0 <ℤ x → y ≤ℤ pos 0 → ⊥
-    clash x y e h k = omega (arith, ints)
 
 -- and the first factor by the second
 first_way : (l x y z : ℤ) → pos 0 <ℤ l → l *ℤ x ≡ y *ℤ z → pos 0 <ℤ z → x <ℤ pos 0 → y <ℤ pos 0
 first_way l x y z hl e hz hx = elim (le_or_lt (pos 0) y) [
   | inr k ↦ k
-  | inl k ↦ absurd (clash _ _ e (product_pn l x hl hx) (product_nn y z k (weak _ hz)))
+  | inl k ↦ absurd (below_not_nn _ _ e (product_pn l x hl hx) (product_nn y z k (nn_above _ hz)))
 ]
-  where
-    weak : (x : ℤ) → pos 0 <ℤ x → pos 0 ≤ℤ x
-    weak x h = omega (arith, ints)
-
-    clash : (x y : ℤ) → x ≡ y → x <ℤ pos 0 → pos 0 ≤ℤ y → ⊥
-    clash x y e h k = omega (arith, ints)
 
 module _ (S T : List Pair) (c a b s : Pair) (d : Pair)
     (parts_them : (u t : Pair) → Contains S u → Contains T t → product d u <ℤ product d t)
@@ -384,10 +301,7 @@ module _ (S T : List Pair) (c a b s : Pair) (d : Pair)
   -- before its end
   before_end : on c <ℤ on b
   before_end = rw (turned_edge a b b, turned_edge a b c)
-      (back _ _ _ _ (step_back a b b) (step_back a b c) h.beside.2)
-    where
-      back : (x y u v : ℤ) → x ≡ neg_ℤ u → y ≡ neg_ℤ v → x <ℤ y → v <ℤ u
-      back x y u v e f h = omega (arith, ints)
+      (less_opposites _ _ _ _ (step_back a b b) (step_back a b c) h.beside.2)
 
   -- the weights of a point between two others in a row, by how far it lies along
   flat : (q x y : Pair) → product (turned n) (gap (on y -ℤ on q) (on q -ℤ on x) q x y) ≡ pos 0
@@ -406,10 +320,10 @@ module _ (S T : List Pair) (c a b s : Pair) (d : Pair)
   against : product n d <ℤ pos 0
   against =
       first_way (product n n) (product d w) (product n d) (product n w) long (across n d w (flat c a b))
-      (rw (over_edge c) (product_pp _ _ sum (rest _ _ c_out)))
+      (rw (over_edge c) (product_pp _ _ sum (gap_above _ _ c_out)))
       (rw (along_gap d (on b -ℤ on c) (on c -ℤ on a) c a b)
       (weighed_below _ _ _ _ (left _ _ before_end) (left _ _ after_start) sum
-      (under _ _ (parts_them c a mc h.start.0)) (under _ _ (parts_them c b mc h.end.0))))
+      (gap_below _ _ (parts_them c a mc h.start.0)) (gap_below _ _ (parts_them c b mc h.end.0))))
     where
       w : Pair
       w = gap (on b -ℤ on c) (on c -ℤ on a) c a b
@@ -417,21 +331,15 @@ module _ (S T : List Pair) (c a b s : Pair) (d : Pair)
       sum : pos 0 <ℤ ((on b -ℤ on c) +ℤ (on c -ℤ on a))
       sum = let p = after_start in let q = before_end in omega (arith, ints)
 
-      rest : (x y : ℤ) → x <ℤ y → pos 0 <ℤ (y -ℤ x)
-      rest x y h = omega (arith, ints)
-
       left : (x y : ℤ) → x <ℤ y → pos 0 ≤ℤ (y -ℤ x)
       left x y h = omega (arith, ints)
-
-      under : (x y : ℤ) → x <ℤ y → (x -ℤ y) <ℤ pos 0
-      under x y h = omega (arith, ints)
 
   -- s over the edge is nearer to it
   over : on a ≤ℤ on s → on s ≤ℤ on b → Rival T s H (product n n) → ⊥
   over l m r =
-      loses T s a b n (on b -ℤ on s) (on s -ℤ on a) H r h.start.0 h.end.0 (left _ _ m) (left _ _ l) sum (flat s a b)
-      (rw (over_edge s) (low _ _ (product_pp _ _ sum (rest _ _ c_out)) out_from))
-      (rw (over_edge s) (drawn_out _ _ _ sum (less _ _ _ nearer)))
+      loses T s a b n (on b -ℤ on s) (on s -ℤ on a) H r h.start.0 h.end.0 (gap_nn _ _ m) (gap_nn _ _ l) sum (flat s a b)
+      (rw (over_edge s) (omega (arith, ints, product_pp _ _ sum (gap_above _ _ c_out), out_from)))
+      (rw (over_edge s) (drawn_out _ _ _ sum (omega (arith, ints, nearer))))
     where
       w : Pair
       w = gap (on b -ℤ on s) (on s -ℤ on a) s a b
@@ -439,52 +347,31 @@ module _ (S T : List Pair) (c a b s : Pair) (d : Pair)
       sum : pos 0 <ℤ ((on b -ℤ on s) +ℤ (on s -ℤ on a))
       sum = let p = after_start in let q = before_end in omega (arith, ints)
 
-      rest : (x y : ℤ) → x <ℤ y → pos 0 <ℤ (y -ℤ x)
-      rest x y h = omega (arith, ints)
-
-      left : (x y : ℤ) → x ≤ℤ y → pos 0 ≤ℤ (y -ℤ x)
-      left x y h = omega (arith, ints)
-
-      under : (x y : ℤ) → x <ℤ y → (x -ℤ y) <ℤ pos 0
-      under x y h = omega (arith, ints)
-
-      less : (x y z : ℤ) → x <ℤ y → (x -ℤ z) <ℤ (y -ℤ z)
-      less x y z h = omega (arith, ints)
-
-      low : (x y : ℤ) → pos 0 <ℤ x → pos 0 <ℤ y → neg_ℤ x <ℤ y
-      low x y h k = omega (arith, ints)
-
       out_from : pos 0 <ℤ (((on b -ℤ on s) +ℤ (on s -ℤ on a)) *ℤ (out s -ℤ out b))
       out_from = rw (← over_edge s)
           (same_way (product n n) (product d w) (product n d) (product n w) long (across n d w (flat s a b)) against
           (rw (along_gap d (on b -ℤ on s) (on s -ℤ on a) s a b)
-          (weighed_below _ _ _ _ (left _ _ m) (left _ _ l) sum
-          (under _ _ (parts_them s a ms h.start.0)) (under _ _ (parts_them s b ms h.end.0)))))
+          (weighed_below _ _ _ _ (gap_nn _ _ m) (gap_nn _ _ l) sum
+          (gap_below _ _ (parts_them s a ms h.start.0)) (gap_below _ _ (parts_them s b ms h.end.0)))))
 
   -- where s lies past an end of the edge, that end is nearer to S
   past : (q : Pair) (l m : ℤ) → Contains T q → out q ≡ out b → pos 0 <ℤ l → pos 0 <ℤ m
       → product (turned n) (gap l m q c s) ≡ pos 0 → Rival S q H (product n n) → ⊥
   past q l m mq e hl hm z r =
-      loses S q c s n l m H r mc ms (weak _ hl) (weak _ hm) sum z
+      loses S q c s n l m H r mc ms (nn_above _ hl) (nn_above _ hm) sum z
       (rw (along_gap n l m q c s, e) (low _ _ _ (level l m (out b) (out c) (out s))
-      (product_pp m (out c -ℤ out s) hm (rest _ _ nearer))))
-      (high _ _ (other_way (product n n) (product d w) (product n d) (product n w) long (across n d w z) against
+      (product_pp m (out c -ℤ out s) hm (gap_above _ _ nearer))))
+      (less_across _ _ (other_way (product n n) (product d w) (product n d) (product n w) long (across n d w z) against
       (rw (along_gap d l m q c s)
-      (weighed_above l m _ _ (weak _ hl) (weak _ hm) sum (rest _ _ (parts_them c q mc mq))
-      (rest _ _ (parts_them s q ms mq)))))
-      (product_pp _ _ sum (rest _ _ c_out)))
+      (weighed_above l m _ _ (nn_above _ hl) (nn_above _ hm) sum (gap_above _ _ (parts_them c q mc mq))
+      (gap_above _ _ (parts_them s q ms mq)))))
+      (product_pp _ _ sum (gap_above _ _ c_out)))
     where
       w : Pair
       w = gap l m q c s
 
       sum : pos 0 <ℤ (l +ℤ m)
       sum = omega (arith, ints)
-
-      weak : (x : ℤ) → pos 0 <ℤ x → pos 0 ≤ℤ x
-      weak x h = omega (arith, ints)
-
-      rest : (x y : ℤ) → x <ℤ y → pos 0 <ℤ (y -ℤ x)
-      rest x y h = omega (arith, ints)
 
       level : (l m b c s : ℤ)
           → (l *ℤ (b -ℤ c) +ℤ m *ℤ (b -ℤ s)) +ℤ (l +ℤ m) *ℤ (c -ℤ b) ≡ m *ℤ (c -ℤ s)
@@ -495,25 +382,16 @@ module _ (S T : List Pair) (c a b s : Pair) (d : Pair)
       low : (x y z : ℤ) → x +ℤ y ≡ z → pos 0 <ℤ z → neg_ℤ y <ℤ x
       low x y z e h = omega (arith, ints)
 
-      high : (x y : ℤ) → x <ℤ pos 0 → pos 0 <ℤ y → x <ℤ y
-      high x y h k = omega (arith, ints)
-
   -- s lies over the edge, or past one of its ends
   pub edge_closest : Rival T s H (product n n) → Rival S a H (product n n) → Rival S b H (product n n) → ⊥
   edge_closest rs ra rb = elim (le_or_lt (on s) (on b)) [
-    | inr k ↦ past b (on s -ℤ on b) (on b -ℤ on c) h.end.0 refl (rest _ _ k) (rest _ _ before_end) (flat b c s) rb
+    | inr k ↦ past b (on s -ℤ on b) (on b -ℤ on c) h.end.0 refl (gap_above _ _ k) (gap_above _ _ before_end) (flat b c s) rb
     | inl m ↦ elim (le_or_lt (on a) (on s)) [
       | inl l ↦ over l m rs
-      | inr k ↦ past a (on a -ℤ on s) (on c -ℤ on a) h.start.0 (ends_level a b) (rest _ _ k) (rest _ _ after_start)
+      | inr k ↦ past a (on a -ℤ on s) (on c -ℤ on a) h.start.0 (ends_level a b) (gap_above _ _ k) (gap_above _ _ after_start)
           (along_gap (turned n) _ _ a c s ∙ balanced_back (on s) (on c) (on a)) ra
     ]
   ]
     where
-      rest : (x y : ℤ) → x <ℤ y → pos 0 <ℤ (y -ℤ x)
-      rest x y h = omega (arith, ints)
-
       balanced_back : (x y z : ℤ) → (z -ℤ x) *ℤ (z -ℤ y) +ℤ (y -ℤ z) *ℤ (z -ℤ x) ≡ pos 0
-      balanced_back x y z = swapped _ _ _ (*ℤ_comm (z -ℤ x) (z -ℤ y)) (balanced x y z)
-        where
-          swapped : (u v w : ℤ) → u ≡ v → w +ℤ u ≡ pos 0 → u +ℤ w ≡ pos 0
-          swapped u v w e f = omega (arith, ints)
+      balanced_back x y z = omega (arith, ints, *ℤ_comm (z -ℤ x) (z -ℤ y), balanced x y z)

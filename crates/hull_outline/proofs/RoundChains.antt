@@ -2,13 +2,12 @@
 use Rattle.std.proofs.Common.{◌≡◌, ℕ, ◌+◌, ◌-◌, ◌≤◌, ◌<◌, ℤ, pos, ◌<ℤ◌, List, length}
 use Rattle.std.proofs.Common.{inl, inr, sym, ap, ◌∙◌, subst, arith}
 use Rattle.std.proofs.lemmas.Bool.{cases_lt}
-use Rattle.std.proofs.lemmas.Int.{ints}
 use Rattle.lattice.specs.Plane.{Pair, orient, IsBefore, turned_point}
-use Rattle.lattice.proofs.TurnedBridges.{turned_twice}
+use Rattle.lattice.proofs.TurnedBridges.{turned_twice, turned_order}
 use Rattle.hull_outline.specs.Rounds.{corner, IsRound}
 use Rattle.hull_outline.proofs.Convex.{IsConvex, IsLeftOrEnd, left_or_end}
 use Rattle.hull_outline.proofs.Corners.{corner_back}
-use Rattle.hull_outline.proofs.Sides.{side_turned}
+use Rattle.lattice.proofs.Sides.{side_turned}
 use Rattle.hull_outline.proofs.TwoChains.{IsCounterpart, edge_left}
 
 -- ---- the two chains of a round
@@ -16,11 +15,6 @@ use Rattle.hull_outline.proofs.TwoChains.{IsCounterpart, edge_left}
 -- the round from `top` on, after a turn
 abbrev pub behind : List Pair → ℕ → ℕ → Pair
 behind V top i = turned_point (corner V (top + i))
-
--- a turn reverses the order
-pub turned_before : (p q : Pair) → IsBefore p q → IsBefore (turned_point q) (turned_point p)
-turned_before p q (inl h) = inl (omega (arith, ints))
-turned_before p q (inr h) = inr (omega (arith, ints, h.0), omega (arith, ints, h.1))
 
 -- a corner under another number
 pub renumbered : (V : List Pair) (P : Pair → Type 0) (i j : ℕ) → i ≡ j → P (corner V i) → P (corner V j)
@@ -40,7 +34,7 @@ front_convex V top r = record {
 -- and those from there on, after a turn
 pub behind_convex : (V : List Pair) (top : ℕ) → IsRound V top → IsConvex (behind V top) (length V - top)
 behind_convex V top r = record {
-  ascends = λ i j e l. turned_before (corner V (top + j)) (corner V (top + i))
+  ascends = λ i j e l. turned_order (corner V (top + j)) (corner V (top + i))
       (renumbered V (λ z. IsBefore z (corner V (top + i))) (top + i + 1) (top + j) (omega (arith, e))
       ((r.steps (top + i) (omega (arith, e, l, r.within))).1 (omega arith)));
   turns = λ i j k e f l.

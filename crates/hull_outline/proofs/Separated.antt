@@ -1,5 +1,5 @@
 -- Directions that part a set from another, with a farthest point.
-use Rattle.std.proofs.Common.{◌≡◌, zero, suc, ℤ, pos, ◌+ℤ◌, ◌-ℤ◌, ◌*ℤ◌, ◌≤ℤ◌, ◌<ℤ◌, neg_ℤ, inl, inr, sym, subst}
+use Rattle.std.proofs.Common.{◌≡◌, zero, suc, ℤ, pos, ◌+ℤ◌, ◌-ℤ◌, ◌*ℤ◌, ◌≤ℤ◌, ◌<ℤ◌, inl, inr, sym, subst}
 use Rattle.std.proofs.Common.{List, [], ◌∷◌, arith}
 use Rattle.std.specs.List.{All, Contains}
 use Rattle.std.proofs.lemmas.Int.{ints}
@@ -8,7 +8,7 @@ use Rattle.lattice.specs.Covers.{Member}
 use Rattle.lattice.specs.Places.{IsFarthest}
 use Rattle.lattice.specs.Plane.{Pair, orient, product, IsBefore}
 use Rattle.lattice.proofs.Order.{before_total}
-use Rattle.hull_plain.proofs.Orientation.{orient_other}
+use Rattle.hull_geometry.proofs.Orientation.{orient_other}
 use Rattle.hull_outline.specs.Encounters.{IsShielded, IsLeftmost}
 use Rattle.hull_outline.specs.Meetings.{Parts, segment}
 use Rattle.hull_outline.specs.Nearest.{IsNearestCorner, IsNearestEdge}
@@ -16,8 +16,9 @@ use Rattle.hull_outline.specs.Separations.{IsSeparation}
 use Rattle.hull_outline.specs.declared.separations.Separation.{Separation}
 use Rattle.hull_outline.specs.Steps.{step, left_of}
 use Rattle.hull_outline.proofs.Cones.{way_square, square_nn, square_above}
-use Rattle.hull_outline.proofs.EdgesOf.{all_of}
+use Rattle.hull_geometry.proofs.PointLists.{all_of}
 use Rattle.hull_outline.proofs.Shields.{product_left, parted_right, parts_turned}
+use Rattle.lattice.proofs.Numbers.{le_by_opposite, le_less_trans, less_by_opposite, less_by_sum}
 
 -- a direction that parts them, and a farthest point in it
 pub separation_of : (S T : List Pair) (w : Separation) → Contains S w.farthest → IsFarthest S w.direction w.farthest
@@ -32,11 +33,8 @@ separation_of S T w m f p = record {
 pub separation_parts : (S : List Pair) (q : Pair) (w : Separation) → IsSeparation S (q ∷ []) w
     → Parts w.direction S (q ∷ [])
 separation_parts S q w h s t ms mt =
-    below _ _ _ (All-contains (λ u. product w.direction u ≤ℤ product w.direction w.farthest) S s h.farthest ms)
+    le_less_trans _ _ _ (All-contains (λ u. product w.direction u ≤ℤ product w.direction w.farthest) S s h.farthest ms)
     (All-contains (λ u. product w.direction w.farthest <ℤ product w.direction u) (q ∷ []) t h.beyond mt)
-  where
-    below : (x y z : ℤ) → x ≤ℤ y → y <ℤ z → x <ℤ z
-    below x y z h k = omega (arith, ints)
 
 -- what lies beyond a point lies beyond for all of one
 pub beyond_one : (d p q : Pair) → product d p <ℤ product d q → All (λ t. product d p <ℤ product d t) (q ∷ [])
@@ -54,20 +52,17 @@ way_on c q n = elim (before_total c q) [
   | inr (inr b) ↦ backward b
 ]
   where
-    apart_x : (x y u v : ℤ) → x -ℤ y ≡ u +ℤ v → pos 0 <ℤ u → pos 0 ≤ℤ v → y <ℤ x
-    apart_x x y u v e h k = omega (arith, ints)
-
     apart_y : (x y u v : ℤ) → x -ℤ y ≡ u +ℤ v → pos 0 ≤ℤ u → pos 0 <ℤ v → y <ℤ x
     apart_y x y u v e h k = omega (arith, ints)
 
     forward : IsBefore c q → product (step c q) c <ℤ product (step c q) q
-    forward (inl h) = apart_x _ _ ((q.x -ℤ c.x) *ℤ (q.x -ℤ c.x)) ((q.y -ℤ c.y) *ℤ (q.y -ℤ c.y)) (way_square c q)
+    forward (inl h) = less_by_sum _ _ ((q.x -ℤ c.x) *ℤ (q.x -ℤ c.x)) ((q.y -ℤ c.y) *ℤ (q.y -ℤ c.y)) (way_square c q)
         (square_above _ (inl (omega (arith, ints)))) (square_nn _)
     forward (inr h) = apart_y _ _ ((q.x -ℤ c.x) *ℤ (q.x -ℤ c.x)) ((q.y -ℤ c.y) *ℤ (q.y -ℤ c.y)) (way_square c q)
         (square_nn _) (square_above _ (inl (omega (arith, ints, h.1))))
 
     backward : IsBefore q c → product (step c q) c <ℤ product (step c q) q
-    backward (inl h) = apart_x _ _ ((q.x -ℤ c.x) *ℤ (q.x -ℤ c.x)) ((q.y -ℤ c.y) *ℤ (q.y -ℤ c.y)) (way_square c q)
+    backward (inl h) = less_by_sum _ _ ((q.x -ℤ c.x) *ℤ (q.x -ℤ c.x)) ((q.y -ℤ c.y) *ℤ (q.y -ℤ c.y)) (way_square c q)
         (square_above _ (inr (omega (arith, ints)))) (square_nn _)
     backward (inr h) = apart_y _ _ ((q.x -ℤ c.x) *ℤ (q.x -ℤ c.x)) ((q.y -ℤ c.y) *ℤ (q.y -ℤ c.y)) (way_square c q)
         (square_nn _) (square_above _ (inr (omega (arith, ints, h.1))))
@@ -95,16 +90,10 @@ from_edge S q a b d h e =
     record {
       there = h.end.0;
       farthest = all_of (λ t. product (left_of b a) t ≤ℤ product (left_of b a) b) S
-          (λ t m. no_farther _ _ _ _ (product_left b a t) (orient_other a b t)
+          (λ t m. le_by_opposite _ _ _ _ (product_left b a t) (orient_other a b t)
           (All-contains (λ u. pos 0 ≤ℤ orient a b u) S t h.left m));
-      beyond = beyond_one (left_of b a) b q (farther _ _ _ _ (product_left b a q) (orient_other a b q) h.beside.0);
+      beyond = beyond_one (left_of b a) b q (less_by_opposite _ _ _ _ (product_left b a q) (orient_other a b q) h.beside.0);
     }
-  where
-    no_farther : (x y u v : ℤ) → x -ℤ y ≡ u → u ≡ neg_ℤ v → pos 0 ≤ℤ v → x ≤ℤ y
-    no_farther x y u v e f h = omega (arith, ints)
-
-    farther : (x y u v : ℤ) → x -ℤ y ≡ u → u ≡ neg_ℤ v → v <ℤ pos 0 → y <ℤ x
-    farther x y u v e f h = omega (arith, ints)
 
 -- what parts S from the nearer end of a segment parts it from the segment
 pub from_start : (S : List Pair) (a b : Pair) (w : Separation) → IsShielded S a b → IsSeparation S (a ∷ []) w

@@ -12,16 +12,19 @@ use lib.IntN.{*ℤ_comm}
 use Rattle.lattice.specs.Signs.{le_or_lt, product_nn, cancel_nn}
 use Rattle.lattice.proofs.Order.{before_total, before_not, before_irrefl}
 use Rattle.lattice.proofs.LineCrossings.{orient_end}
-use Rattle.hull_plain.specs.Positions.{origin}
-use Rattle.hull_plain.proofs.CoveredByEdges.{on_segment}
-use Rattle.hull_plain.proofs.Decided.{covers_or_separated}
-use Rattle.hull_plain.proofs.NotCovered.{not_covered}
-use Rattle.hull_plain.proofs.Orientation.{orient_other, orient-cycle}
+use Rattle.hull_geometry.specs.Positions.{origin}
+use Rattle.hull_geometry.proofs.CoveredByEdges.{on_segment}
+use Rattle.hull_geometry.proofs.Decided.{covers_or_separated}
+use Rattle.hull_geometry.proofs.NotCovered.{not_covered}
+use Rattle.hull_geometry.proofs.Orientation.{orient_other, orient-cycle}
 use Rattle.hull_outline.specs.Encounters.{IsAmong, IsShielded, IsLeftmost}
 use Rattle.hull_outline.specs.Meetings.{Parts, IsApart, segment}
 use Rattle.hull_outline.specs.Steps.{left_of}
-use Rattle.hull_outline.proofs.EdgesOf.{all_of}
+use Rattle.hull_geometry.proofs.PointLists.{all_of}
+use Rattle.hull_outline.proofs.EdgesOf.{other_line}
 use Rattle.hull_outline.proofs.Parted.{weights_x, weights_y, weights_sum, weights_from, below_both, product_ss}
+use Rattle.lattice.proofs.Numbers.{below_opposite, gap_below, gap_none, less_across, less_le_trans, nn_above}
+use Rattle.lattice.proofs.Numbers.{np_below}
 
 -- ---- the ends of a segment
 
@@ -44,11 +47,8 @@ pub parts_both : (S : List Pair) (d a b : Pair) → ((s : Pair) → Contains S s
     → product d a ≤ℤ product d b → Parts d S (segment a b)
 parts_both S d a b h l s t ms mt = elim (one_of_two a b t mt) [
   | inl e ↦ subst (λ (z : Pair). product d s <ℤ product d z) (sym e) (h s ms)
-  | inr e ↦ subst (λ (z : Pair). product d s <ℤ product d z) (sym e) (below _ _ _ (h s ms) l)
+  | inr e ↦ subst (λ (z : Pair). product d s <ℤ product d z) (sym e) (less_le_trans _ _ _ (h s ms) l)
 ]
-  where
-    below : (x y z : ℤ) → x <ℤ y → y ≤ℤ z → x <ℤ z
-    below x y z h k = omega (arith, ints)
 
 -- a is shielded where b is no nearer in each direction that parts S from a
 shielded : (S : List Pair) (a b : Pair) → ¬ Covers S a
@@ -91,10 +91,6 @@ up_to p q r z nqp nrq = elim (before_total p q) [
     | inl k ↦ on_segment p r q b k (sym (orient-cycle p r q) ∙ z)
   ]
 ]
-
--- the line from its other end
-pub other_line : (p r q : Pair) → orient p r q ≡ pos 0 → orient r p q ≡ pos 0
-other_line p r q z = orient_other p r q ∙ ap neg_ℤ z
 
 -- so is one that stands among both
 pub among_on_segment : (p q r : Pair) → orient p r q ≡ pos 0 → IsAmong p q r → IsOnSegment p r q
@@ -166,36 +162,13 @@ pushed p q r s x w y z hp hw hr hs l hy hz e = elim (le_or_lt x (pos 0)) [
       absurd (omega (arith, ints))
 ]
 
--- a number above 0 is not below it
-weak : (x : ℤ) → pos 0 <ℤ x → pos 0 ≤ℤ x
-weak x h = omega (arith, ints)
-
--- nor is one below 0 above it
-weak_below : (x : ℤ) → x <ℤ pos 0 → x ≤ℤ pos 0
-weak_below x h = omega (arith, ints)
-
--- one is below the other
-below_above : (x y : ℤ) → x <ℤ pos 0 → pos 0 <ℤ y → x <ℤ y
-below_above x y h k = omega (arith, ints)
-
 -- a difference above 0
 not_less : (x y : ℤ) → pos 0 <ℤ (x -ℤ y) → y ≤ℤ x
 not_less x y h = omega (arith, ints)
 
--- a number less another
-minus_less : (x y : ℤ) → x <ℤ y → (x -ℤ y) <ℤ pos 0
-minus_less x y h = omega (arith, ints)
-
--- a number less itself
-minus_same : (x : ℤ) → x -ℤ x ≡ pos 0
-minus_same x = omega (arith, ints)
-
 -- a side seen from the other end
 pub side_back : (u v t : Pair) → pos 0 <ℤ orient u v t → orient v u t <ℤ pos 0
-side_back u v t h = below _ _ (orient_other u v t) h
-  where
-    below : (x y : ℤ) → x ≡ neg_ℤ y → pos 0 <ℤ y → x <ℤ pos 0
-    below x y e h = omega (arith, ints)
+side_back u v t h = below_opposite _ _ (orient_other u v t) h
 
 -- the line of a and b goes between two points of S, and both ends lie beyond the line of those: the nearer end shields
 -- the other
@@ -204,9 +177,9 @@ pub shielded_across : (S : List Pair) (a b left right : Pair) → Contains S lef
 shielded_across S a b left right ml mr n above below beyond =
     shielded S a b n (λ d f. not_less _ _ (pushed (orient right left a) (orient right left b) (orient a b left)
     (orient a b right) (product d b -ℤ product d a) (product d a -ℤ product d a) (product d right -ℤ product d a)
-    (product d left -ℤ product d a) (side_back left right a beyond) (minus_same (product d a)) (weak _ above)
-    (weak_below _ (side_back b a right below)) (below_above _ _ (side_back b a right below) above)
-    (minus_less _ _ (f right mr)) (minus_less _ _ (f left ml)) (weights_from d a b right left (product d a))))
+    (product d left -ℤ product d a) (side_back left right a beyond) (gap_none (product d a)) (nn_above _ above)
+    (np_below _ (side_back b a right below)) (less_across _ _ (side_back b a right below) above)
+    (gap_below _ _ (f right mr)) (gap_below _ _ (f left ml)) (weights_from d a b right left (product d a))))
 
 -- a product with a difference
 spread : (s e a : ℤ) → s *ℤ (e -ℤ a) ≡ s *ℤ e -ℤ s *ℤ a
@@ -257,8 +230,7 @@ between_by p q s a b e hp hq hs w h = elim (le_or_lt a b) [
 
 -- a weight that is nothing leaves the other, negated
 other_left : (p q a b w : ℤ) → p ≡ pos 0 → p *ℤ b -ℤ q *ℤ a ≡ w → neg_ℤ q *ℤ a ≡ w
-other_left p q a b w z e =
-    negated q a ∙ omega (arith, ints) ∙ ap (λ (k : ℤ). k *ℤ b -ℤ q *ℤ a) (sym z) ∙ e
+other_left p q a b w z e = negated q a ∙ omega (arith, ints) ∙ ap (λ (k : ℤ). k *ℤ b -ℤ q *ℤ a) (sym z) ∙ e
   where
     negated : (x y : ℤ) → neg_ℤ x *ℤ y ≡ pos 0 *ℤ b -ℤ x *ℤ y
     negated x y = rw (as_difference x, as_difference y, as_difference b, as_difference (pos 0))
@@ -291,12 +263,7 @@ start_on a b left right above below e =
 -- how far a point lies to the left of a line
 pub product_left : (a b t : Pair) → product (left_of a b) t -ℤ product (left_of a b) a ≡ orient a b t
 unfolding orient product
-product_left a b t =
-    rw (
-      as_pair a,
-      as_pair b,
-      as_pair t,
-    ) (simp difference_rules (difference-eq _ _ _ _ (omega arith)))
+product_left a b t = rw (as_pair a, as_pair b, as_pair t) (simp difference_rules (difference-eq _ _ _ _ (omega arith)))
 
 -- a set that lies right of the line from a to b is parted from both
 pub parted_right : (S : List Pair) (a b p : Pair) → IsLeftmost S a b p → orient a b p <ℤ pos 0

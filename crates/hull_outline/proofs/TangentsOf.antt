@@ -1,30 +1,29 @@
 -- Where the tangents from a point outside touch: on the lower chain, and on the upper one after a turn by 180 degrees.
-use Rattle.std.proofs.Common.{◌≡◌, ℕ, ◌+◌, ◌-◌, ◌≤◌, ◌<◌, ℤ, pos, ◌≤ℤ◌, ◌<ℤ◌, neg_ℤ, List, length, inl, inr, sym, ap}
+use Rattle.std.proofs.Common.{◌≡◌, ℕ, ◌+◌, ◌-◌, ◌≤◌, ◌<◌, ℤ, pos, ◌≤ℤ◌, ◌<ℤ◌, List, length, inl, inr, sym, ap}
 use Rattle.std.proofs.Common.{◌∙◌, subst, arith}
 use Rattle.std.specs.List.{Contains}
 use Rattle.std.proofs.lemmas.Bool.{cases_lt}
-use Rattle.std.proofs.lemmas.Int.{ints}
 use Rattle.std.proofs.lemmas.List.Elements.{All-contains}
-use Rattle.lattice.specs.Plane.{Pair, orient, distance_squared, IsBefore, turned_point}
-use Rattle.lattice.specs.Polynomials.{difference-eq, difference_rules}
-use Rattle.lattice.proofs.Vectors.{as_pair}
+use Rattle.lattice.specs.Plane.{Pair, orient, IsBefore, turned_point}
 use Rattle.lattice.proofs.Order.{equal_by}
-use Rattle.lattice.proofs.TurnedBridges.{turned_twice, before_turned, before_turned_back}
-use Rattle.hull_plain.specs.Edges.{IsFirst, IsLast}
-use Rattle.hull_plain.specs.Tangents.{IsLeftTangent, IsRightTangent}
-use Rattle.hull_plain.proofs.Orientation.{orient_other}
+use Rattle.lattice.proofs.TurnedBridges.{turned_twice, before_turned, before_turned_back, turned_order, unturned}
+use Rattle.hull_geometry.specs.Edges.{IsFirst, IsLast}
+use Rattle.hull_geometry.specs.Tangents.{IsLeftTangent, IsRightTangent}
+use Rattle.hull_geometry.proofs.Orientation.{orient_other}
 use Rattle.hull_outline.specs.Outlines.{IsOutlineOf}
 use Rattle.hull_outline.specs.Rounds.{corner, IsParted}
-use Rattle.hull_outline.specs.Sights.{IsBelow, IsAbove}
-use Rattle.hull_outline.specs.Touches.{IsPassed, IsToCome, IsPassedBack, IsToComeBack}
+use Rattle.hull_geometry.specs.Sights.{IsBelow, IsAbove, SeesLeft, SeesRight}
+use Rattle.hull_outline.specs.Touches.{IsPassed, IsToCome, starts_at, ends_at}
+use Rattle.lattice.specs.declared.side.Side.{Side}
+use Rattle.lattice.specs.declared.side.Side.TheVariants.{Lower, Upper}
 use Rattle.hull_outline.proofs.Corners.{corner_back, corner_extreme}
-use Rattle.hull_outline.proofs.EdgesOf.{all_of}
+use Rattle.hull_geometry.proofs.PointLists.{all_of}
 use Rattle.hull_outline.proofs.Ends.{ends_of}
-use Rattle.hull_outline.proofs.RoundChains.{turned_before}
 use Rattle.hull_outline.proofs.Rings.{IsRing, ring_of}
-use Rattle.hull_outline.proofs.Sides.{side_turned}
+use Rattle.lattice.proofs.Sides.{side_turned, side_turned_over, far_turned}
 use Rattle.hull_outline.proofs.Touching.{IsClear, IsChainUnder, IsNotLefter, IsNotRighter, left_found, right_found}
 use Rattle.hull_outline.proofs.Touching.{left_itself, right_itself}
+use Rattle.lattice.proofs.Numbers.{below_opposite_by}
 
 -- ---- the lower chain
 
@@ -47,32 +46,6 @@ lower_chain S V last o p n = record {
 clear_below : (S : List Pair) (q : Pair) → IsBelow S q → IsClear (Contains S) q
 clear_below S q h = record { absent = h.absent; under = h.under }
 
--- the left tangent from below
-pub left_below : (S V : List Pair) (last at : ℕ) (q : Pair) → IsOutlineOf S V → IsParted V last → 0 < length V
-    → IsBelow S q → IsBefore (corner V 0) q → at ≤ last
-    → (0 < at → IsPassed q (corner V (at - 1)) (corner V (at - 1 + 1)))
-    → (at < last → ¬ (IsPassed q (corner V at) (corner V (at + 1)))) → IsLeftTangent S q (corner V at)
-left_below S V last at q o p n h from l held fails = (
-  (corner_extreme S V at o.1 n).0,
-  all_of (IsNotLefter q (corner V at)) S
-      (left_found (Contains S) (corner V) 0 last at q (lower_chain S V last o p n) (clear_below S q h) from
-      (omega arith) l
-      held fails),
-)
-
--- the right tangent from below
-pub right_below : (S V : List Pair) (last at : ℕ) (q : Pair) → IsOutlineOf S V → IsParted V last → 0 < length V
-    → IsBelow S q → IsBefore q (corner V last) → at ≤ last
-    → (0 < at → ¬ (IsToCome q (corner V (at - 1)) (corner V (at - 1 + 1))))
-    → (at < last → IsToCome q (corner V at) (corner V (at + 1))) → IsRightTangent S q (corner V at)
-right_below S V last at q o p n h to l held fails = (
-  (corner_extreme S V at o.1 n).0,
-  all_of (IsNotRighter q (corner V at)) S
-      (right_found (Contains S) (corner V) 0 last at q (lower_chain S V last o p n) (clear_below S q h) to
-      (omega arith) l
-      held fails),
-)
-
 -- ---- the upper chain, after a turn
 
 -- the points of S, after a turn
@@ -82,25 +55,6 @@ TurnedIn S t = Contains S (turned_point t)
 -- the corners, after a turn
 abbrev turned_corner : List Pair → ℕ → Pair
 turned_corner V i = turned_point (corner V i)
-
--- the order of two points, after a turn
-unturned : (p q : Pair) → IsBefore (turned_point q) (turned_point p) → IsBefore p q
-unturned p q (inl h) = inl (omega (arith, ints))
-unturned p q (inr h) = inr (omega (arith, ints, h.0), omega (arith, ints, h.1))
-
--- the side of a point that is to be turned
-side_of_turned : (a b t : Pair) → orient (turned_point a) (turned_point b) t ≡ orient a b (turned_point t)
-unfolding orient
-side_of_turned a b t = rw (
-  as_pair a,
-  as_pair b,
-  as_pair t,
-) (simp difference_rules (difference-eq _ _ _ _ (omega arith)))
-
--- a turn keeps distances
-distance_turned : (a b : Pair) → distance_squared (turned_point a) (turned_point b) ≡ distance_squared a b
-unfolding distance_squared
-distance_turned a b = rw (as_pair a, as_pair b) (simp difference_rules (difference-eq _ _ _ _ (omega arith)))
 
 -- the corners from `last` on, after a turn, are a chain under the turned S
 upper_chain : (S V : List Pair) (last : ℕ) → IsOutlineOf S V → IsParted V last → 1 < length V
@@ -113,8 +67,8 @@ upper_chain S V last o p n =
       last = λ t m b. ring.first (turned_point t) m
           (subst (IsBefore (turned_point t)) (corner_back V (length V) (omega arith) (omega (arith, n)))
           (before_turned t (corner V (length V)) b));
-      forward = λ i j e k l. turned_before (corner V j) (corner V i) (ring.back i j e k l).backward;
-      left = λ i j e k l t m. subst (λ (z : ℤ). pos 0 ≤ℤ z) (sym (side_of_turned (corner V i) (corner V j) t))
+      forward = λ i j e k l. turned_order (corner V j) (corner V i) (ring.back i j e k l).backward;
+      left = λ i j e k l t m. subst (λ (z : ℤ). pos 0 ≤ℤ z) (sym (side_turned_over (corner V i) (corner V j) t))
           (All-contains (λ t. pos 0 ≤ℤ orient (corner V i) (corner V j) t) S (turned_point t)
           (ring.back i j e k l).left m);
     }
@@ -135,33 +89,20 @@ alone S V last at t o p n one m =
 clear_above : (S : List Pair) (q : Pair) → IsAbove S q → IsClear (TurnedIn S) (turned_point q)
 clear_above S q h = record {
   absent = λ m. h.absent (subst (Contains S) (turned_twice q) m);
-  under = λ s t ms mt sq qt. flipped _ _ _ (side s t) (orient_other (turned_point t) (turned_point s) q)
+  under = λ s t ms mt sq qt. below_opposite_by _ _ _ (side s t) (orient_other (turned_point t) (turned_point s) q)
       (h.over (turned_point t) (turned_point s) mt ms (before_turned t q qt) (before_turned_back s q sq));
 }
   where
     side : (s t : Pair) → orient s t (turned_point q) ≡ orient (turned_point s) (turned_point t) q
-    side s t = sym (side_of_turned s t q)
-
-    flipped : (x y z : ℤ) → x ≡ y → y ≡ neg_ℤ z → pos 0 <ℤ z → x <ℤ pos 0
-    flipped x y z e f k = omega (arith, ints)
+    side s t = sym (side_turned_over s t q)
 
 -- back from the turn: what is not more left
 left_unturned : (q l t : Pair) → IsNotLefter (turned_point q) (turned_point l) (turned_point t) → IsNotLefter q l t
-left_unturned q l t h = (
-  subst (λ (z : ℤ). z ≤ℤ pos 0) (side_turned q l t) h.0,
-  λ e. subst (λ (z : ℤ). z ≤ℤ distance_squared q l) (distance_turned q t)
-      (subst (λ (z : ℤ). distance_squared (turned_point q) (turned_point t) ≤ℤ z) (distance_turned q l)
-      (h.1 (side_turned q l t ∙ e))),
-)
+left_unturned q l t h = rw (side_turned q l t, far_turned q t, far_turned q l) at h
 
 -- and what is not more right
 right_unturned : (q r t : Pair) → IsNotRighter (turned_point q) (turned_point r) (turned_point t) → IsNotRighter q r t
-right_unturned q r t h = (
-  subst (λ (z : ℤ). pos 0 ≤ℤ z) (side_turned q r t) h.0,
-  λ e. subst (λ (z : ℤ). z ≤ℤ distance_squared q r) (distance_turned q t)
-      (subst (λ (z : ℤ). distance_squared (turned_point q) (turned_point t) ≤ℤ z) (distance_turned q r)
-      (h.1 (side_turned q r t ∙ e))),
-)
+right_unturned q r t h = rw (side_turned q r t, far_turned q t, far_turned q r) at h
 
 -- a side above 0, after a turn
 side_above : (a b q : Pair) → pos 0 <ℤ orient a b q → pos 0 <ℤ orient (turned_point a) (turned_point b) (turned_point q)
@@ -172,20 +113,27 @@ side_above_back : (a b q : Pair) → pos 0 <ℤ orient (turned_point a) (turned_
     → pos 0 <ℤ orient a b q
 side_above_back a b q h = subst (λ (z : ℤ). pos 0 <ℤ z) (side_turned a b q) h
 
--- the left tangent from above
-pub left_above : (S V : List Pair) (last at : ℕ) (q : Pair) → IsOutlineOf S V → IsParted V last → 0 < length V
-    → IsAbove S q → IsBefore q (corner V last) → last ≤ at → at ≤ length V
-    → (last < at → IsPassedBack q (corner V (at - 1)) (corner V (at - 1 + 1)))
-    → (at < length V → ¬ (IsPassedBack q (corner V at) (corner V (at + 1)))) → IsLeftTangent S q (corner V at)
-left_above S V last at q o p n h from k l held fails = (
+-- the left tangent, on either chain
+pub left_at : (side : Side) (S V : List Pair) (last at : ℕ) (q : Pair) → IsOutlineOf S V → IsParted V last → 0 < length V
+    → SeesLeft side (corner V 0) (corner V last) S q → starts_at side last ≤ at → at ≤ ends_at side V last
+    → (starts_at side last < at → IsPassed side q (corner V (at - 1)) (corner V (at - 1 + 1)))
+    → (at < ends_at side V last → ¬ (IsPassed side q (corner V at) (corner V (at + 1)))) → IsLeftTangent S q (corner V at)
+left_at Lower S V last at q o p n (h, from) k l held fails = (
+  (corner_extreme S V at o.1 n).0,
+  all_of (IsNotLefter q (corner V at)) S
+      (left_found (Contains S) (corner V) 0 last at q (lower_chain S V last o p n) (clear_below S q h) from
+      (omega arith) l
+      held fails),
+)
+left_at Upper S V last at q o p n (h, from) k l held fails = (
   (corner_extreme S V at o.1 n).0,
   all_of (IsNotLefter q (corner V at)) S (λ t m. elim (cases_lt 1 (length V)) [
     | inr one ↦ left_itself q (corner V at) t (alone S V last at t o p n one m)
     | inl two ↦ left_unturned q (corner V at) t
         (left_found (TurnedIn S) (turned_corner V) last (length V) at (turned_point q) (upper_chain S V last o p two)
-        (clear_above S q h) (turned_before q (corner V last) from) k l
+        (clear_above S q h) (turned_order q (corner V last) from) k l
         (λ b. (
-          turned_before q (corner V (at - 1 + 1)) (held b).0,
+          turned_order q (corner V (at - 1 + 1)) (held b).0,
           side_above (corner V (at - 1)) (corner V (at - 1 + 1)) q (held b).1,
         ))
         (λ b x. fails b (unturned q (corner V (at + 1)) x.0, side_above_back (corner V at) (corner V (at + 1)) q x.1))
@@ -193,25 +141,32 @@ left_above S V last at q o p n h from k l held fails = (
   ]),
 )
 
--- the right tangent from above
-pub right_above : (S V : List Pair) (last at : ℕ) (q : Pair) → IsOutlineOf S V → IsParted V last → 0 < length V
-    → IsAbove S q → IsBefore (corner V 0) q → last ≤ at → at ≤ length V
-    → (last < at → ¬ (IsToComeBack q (corner V (at - 1)) (corner V (at - 1 + 1))))
-    → (at < length V → IsToComeBack q (corner V at) (corner V (at + 1))) → IsRightTangent S q (corner V at)
-right_above S V last at q o p n h to k l held fails = (
+-- the right one
+pub right_at : (side : Side) (S V : List Pair) (last at : ℕ) (q : Pair) → IsOutlineOf S V → IsParted V last → 0 < length V
+    → SeesRight side (corner V 0) (corner V last) S q → starts_at side last ≤ at → at ≤ ends_at side V last
+    → (starts_at side last < at → ¬ (IsToCome side q (corner V (at - 1)) (corner V (at - 1 + 1))))
+    → (at < ends_at side V last → IsToCome side q (corner V at) (corner V (at + 1))) → IsRightTangent S q (corner V at)
+right_at Lower S V last at q o p n (h, to) k l held fails = (
+  (corner_extreme S V at o.1 n).0,
+  all_of (IsNotRighter q (corner V at)) S
+      (right_found (Contains S) (corner V) 0 last at q (lower_chain S V last o p n) (clear_below S q h) to
+      (omega arith) l
+      held fails),
+)
+right_at Upper S V last at q o p n (h, to) k l held fails = (
   (corner_extreme S V at o.1 n).0,
   all_of (IsNotRighter q (corner V at)) S (λ t m. elim (cases_lt 1 (length V)) [
     | inr one ↦ right_itself q (corner V at) t (alone S V last at t o p n one m)
     | inl two ↦ right_unturned q (corner V at) t
         (right_found (TurnedIn S) (turned_corner V) last (length V) at (turned_point q) (upper_chain S V last o p two)
         (clear_above S q h)
-        (turned_before (corner V (length V)) q
+        (turned_order (corner V (length V)) q
         (subst (λ (z : Pair). IsBefore z q) (sym (corner_back V (length V) (omega arith) n)) to)) k l
         (λ b x. held b (
           unturned (corner V (at - 1)) q x.0,
           side_above_back (corner V (at - 1)) (corner V (at - 1 + 1)) q x.1,
         ))
-        (λ b. (turned_before (corner V at) q (fails b).0, side_above (corner V at) (corner V (at + 1)) q (fails b).1))
+        (λ b. (turned_order (corner V at) q (fails b).0, side_above (corner V at) (corner V (at + 1)) q (fails b).1))
         (turned_point t) (subst (Contains S) (sym (turned_twice t)) m))
   ]),
 )

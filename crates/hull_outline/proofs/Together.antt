@@ -1,6 +1,5 @@
 -- Two sets, by the edges of the second: one of them meets the first, or the two are apart.
-use Rattle.std.proofs.Common.{◌≡◌, ℕ, ◌+◌, ◌≤◌, ◌<◌, ℤ, ◌<ℤ◌, neg_ℤ, inl, inr, subst, List, [], length}
-use Rattle.std.proofs.Common.{arith}
+use Rattle.std.proofs.Common.{◌≡◌, ℕ, ◌+◌, ◌≤◌, ◌<◌, ℤ, ◌<ℤ◌, neg_ℤ, inl, inr, subst, List, [], length, arith}
 use Rattle.std.specs.List.{Contains}
 use Rattle.std.proofs.lemmas.Bool.{cases_lt}
 use Rattle.std.proofs.lemmas.Int.{ints}
@@ -8,8 +7,8 @@ use Rattle.std.proofs.lemmas.List.Elements.{All-contains}
 use Rattle.lattice.specs.Covers.{Covers, Member, OnSegment, InTriangle}
 use Rattle.lattice.specs.Plane.{Pair, product}
 use Rattle.lattice.proofs.Vectors.{opp}
-use Rattle.hull_plain.proofs.Decided.{covers_or_separated}
-use Rattle.hull_plain.specs.Positions.{origin}
+use Rattle.hull_geometry.proofs.Decided.{covers_or_separated}
+use Rattle.hull_geometry.specs.Positions.{origin}
 use Rattle.hull_outline.specs.Meetings.{IsApart, segment}
 use Rattle.hull_outline.specs.Outlines.{IsOutlineOf}
 use Rattle.hull_outline.specs.Rounds.{corner, IsParted}

@@ -1,7 +1,6 @@
 -- Where a line from a point touches a chain that lies above it. The points are given by what it means to be one of
 -- them, so that the chain above them is one of these too, after a turn by 180 degrees.
-use Rattle.std.proofs.Common.{◌≡◌, ℕ, ◌+◌, ◌-◌, ◌≤◌, ◌<◌, ℤ, pos, ◌≤ℤ◌, ◌<ℤ◌, neg_ℤ, inl, inr, refl, sym}
-use Rattle.std.proofs.Common.{subst, arith}
+use Rattle.std.proofs.Common.{◌≡◌, ℕ, ◌+◌, ◌-◌, ◌≤◌, ◌<◌, ℤ, pos, ◌≤ℤ◌, ◌<ℤ◌, neg_ℤ, inl, inr, refl, sym, subst, arith}
 use Rattle.std.proofs.lemmas.Bool.{cases_lt}
 use Rattle.std.proofs.lemmas.Int.{ints}
 use Rattle.lattice.specs.Plane.{Pair, orient, distance_squared, IsBefore}
@@ -9,11 +8,13 @@ use Rattle.lattice.specs.Signs.{le_or_lt}
 use Rattle.lattice.proofs.LineCrossings.{orient_end}
 use Rattle.lattice.proofs.Order.{before_total}
 use Rattle.lattice.proofs.Vectors.{minus, cross_swap, turn_trans, turn_trans_strict, turn_trans_strict_right}
-use Rattle.hull_plain.proofs.EdgeSteps.{past_farther, past_farther_back}
-use Rattle.hull_plain.proofs.Orientation.{orient-cross, orient-cycle, orient_at_end, orient_swap_zero, above, at_least}
-use Rattle.hull_plain.proofs.Orientation.{ahead_of}
+use Rattle.hull_geometry.proofs.EdgeSteps.{past_farther, past_farther_back}
+use Rattle.hull_geometry.proofs.Orientation.{orient-cross, orient-cycle, orient_at_end, orient_swap_zero, above, at_least}
+use Rattle.hull_geometry.proofs.Orientation.{ahead_of}
 use Rattle.hull_outline.specs.Touches.{IsPassed, IsToCome}
-use Rattle.hull_outline.proofs.Sides.{side_before, side_to_end, side_back, side_beyond}
+use Rattle.lattice.specs.declared.side.Side.TheVariants.{Lower}
+use Rattle.lattice.proofs.Sides.{side_before, side_to_end, side_back, side_beyond}
+use Rattle.lattice.proofs.Numbers.{below_not_zero, below_opposite_by, le_itself, le_less, nn_zero, np_below}
 
 -- q is none of the points, and lies below each segment from one of them before it to one after it
 pub record IsClear (P : Pair → Type 0) (q : Pair) : Type 0 where
@@ -22,25 +23,15 @@ pub record IsClear (P : Pair → Type 0) (q : Pair) : Type 0 where
 
 -- seen from q, t is not more left than l, nor in line with it and farther
 abbrev pub IsNotLefter : Pair → Pair → Pair → Type 0
-IsNotLefter q l t =
-    (orient q l t ≤ℤ pos 0) × (orient q l t ≡ pos 0 → distance_squared q t ≤ℤ distance_squared q l)
+IsNotLefter q l t = (orient q l t ≤ℤ pos 0) × (orient q l t ≡ pos 0 → distance_squared q t ≤ℤ distance_squared q l)
 
 -- the same with right for left
 abbrev pub IsNotRighter : Pair → Pair → Pair → Type 0
-IsNotRighter q r t =
-    (pos 0 ≤ℤ orient q r t) × (orient q r t ≡ pos 0 → distance_squared q t ≤ℤ distance_squared q r)
-
--- a number is the negation of one above 0
-below_neg : (x y z : ℤ) → x ≡ y → y ≡ neg_ℤ z → pos 0 <ℤ z → x <ℤ pos 0
-below_neg x y z e f h = omega (arith, ints)
+IsNotRighter q r t = (pos 0 ≤ℤ orient q r t) × (orient q r t ≡ pos 0 → distance_squared q t ≤ℤ distance_squared q r)
 
 -- or of one that is at least 0
 at_most_neg : (x y z : ℤ) → x ≡ y → y ≡ neg_ℤ z → pos 0 ≤ℤ z → x ≤ℤ pos 0
 at_most_neg x y z e f h = omega (arith, ints)
-
--- a number at most 0 is the negation of one that is at least 0
-from_neg : (x y z : ℤ) → x ≡ y → y ≡ neg_ℤ z → x ≤ℤ pos 0 → pos 0 ≤ℤ z
-from_neg x y z e f h = omega (arith, ints)
 
 -- a side below 0 is no tie
 strictly_left : (q l t : Pair) → orient q l t <ℤ pos 0 → IsNotLefter q l t
@@ -55,7 +46,7 @@ left_of_edge : (a l q t : Pair) → IsBefore a l → IsBefore l q → IsBefore t
     → pos 0 <ℤ orient a l q → IsNotLefter q l t
 left_of_edge a l q t al lq tl ht hq =
     strictly_left q l t
-    (below_neg _ _ _ (side_beyond q l t) (cross_swap (minus q l) (minus l t))
+    (below_opposite_by _ _ _ (side_beyond q l t) (cross_swap (minus q l) (minus l t))
     (turn_trans_strict_right (minus l t) (minus l a) (minus q l) (ahead_of t l tl) (ahead_of a l al) (ahead_of l q lq)
     (at_least _ _ (side_to_end a l t) ht) (above _ _ (sym (orient_at_end a l q)) hq)))
 
@@ -65,20 +56,14 @@ left_after_edge : (P : Pair → Type 0) (l d q t : Pair) → IsClear P q → P l
 left_after_edge P l d q t c ml mt ld lq lt ht hq = (
   at_most_neg _ _ _ (side_back q l t) (cross_swap (minus t l) (minus q l))
       (turn_trans (minus q l) (minus d l) (minus t l) (ahead_of l q lq) (ahead_of l d ld) (ahead_of l t lt)
-      (from_neg _ _ _ (orient-cross l d q) (cross_swap (minus d l) (minus q l)) hq)
+      (omega (arith, ints, orient-cross l d q, cross_swap (minus d l) (minus q l)))
       (at_least _ _ (orient-cross l d t) ht)),
   λ e. elim (before_total t q) [
-    | inl b ↦ weak _ _ (past_farther_back q t l b lt (orient_swap_zero q l t e))
+    | inl b ↦ le_less _ _ (past_farther_back q t l b lt (orient_swap_zero q l t e))
     | inr (inl f) ↦ absurd (c.absent (subst P f mt))
-    | inr (inr b) ↦ absurd (no_less _ _ (orient-cycle l t q) e (c.under l t ml mt lq b))
+    | inr (inr b) ↦ absurd (below_not_zero _ _ (orient-cycle l t q) e (c.under l t ml mt lq b))
   ],
 )
-  where
-    weak : (x y : ℤ) → x <ℤ y → x ≤ℤ y
-    weak x y h = omega (arith, ints)
-
-    no_less : (x y : ℤ) → x ≡ y → y ≡ pos 0 → x <ℤ pos 0 → ⊥
-    no_less x y e f h = omega (arith, ints)
 
 -- r after q, the edge rb with q on its left: what stands after r and not right of that edge
 right_of_edge : (r b q t : Pair) → IsBefore r b → IsBefore q r → IsBefore r t → pos 0 ≤ℤ orient r b t
@@ -96,39 +81,21 @@ right_before_edge P a r q t c mr mt ar qr tr ht hq = (
   at_least _ _ (sym (side_to_end q r t))
       (turn_trans (minus r t) (minus r a) (minus r q) (ahead_of t r tr) (ahead_of a r ar) (ahead_of q r qr)
       (at_least _ _ (side_to_end a r t) ht)
-      (from_neg _ _ _ (side_to_end a r q) (cross_swap (minus r q) (minus r a)) hq)),
+      (omega (arith, ints, side_to_end a r q, cross_swap (minus r q) (minus r a)))),
   λ e. elim (before_total t q) [
-    | inr (inr b) ↦ weak _ _ (past_farther q t r b tr (orient_swap_zero q r t e))
+    | inr (inr b) ↦ le_less _ _ (past_farther q t r b tr (orient_swap_zero q r t e))
     | inr (inl f) ↦ absurd (c.absent (subst P f mt))
-    | inl b ↦ absurd (no_less _ _ (orient-cycle t r q) (orient_swap_zero q r t e) (c.under t r mt mr b qr))
+    | inl b ↦ absurd (below_not_zero _ _ (orient-cycle t r q) (orient_swap_zero q r t e) (c.under t r mt mr b qr))
   ],
 )
-  where
-    weak : (x y : ℤ) → x <ℤ y → x ≤ℤ y
-    weak x y h = omega (arith, ints)
-
-    no_less : (x y : ℤ) → x ≡ y → y ≡ pos 0 → x <ℤ pos 0 → ⊥
-    no_less x y e f h = omega (arith, ints)
 
 -- a corner itself
 pub left_itself : (q l t : Pair) → t ≡ l → IsNotLefter q l t
-left_itself q l t e = subst (IsNotLefter q l) (sym e) (zero _ (orient_end q l), λ z. same _)
-  where
-    zero : (x : ℤ) → x ≡ pos 0 → x ≤ℤ pos 0
-    zero x h = omega (arith, ints)
-
-    same : (x : ℤ) → x ≤ℤ x
-    same x = omega (arith, ints)
+left_itself q l t e = subst (IsNotLefter q l) (sym e) ((omega (arith, ints, orient_end q l)), λ z. le_itself _)
 
 -- and on the other side
 pub right_itself : (q r t : Pair) → t ≡ r → IsNotRighter q r t
-right_itself q r t e = subst (IsNotRighter q r) (sym e) (zero _ (orient_end q r), λ z. same _)
-  where
-    zero : (x : ℤ) → x ≡ pos 0 → pos 0 ≤ℤ x
-    zero x h = omega (arith, ints)
-
-    same : (x : ℤ) → x ≤ℤ x
-    same x = omega (arith, ints)
+right_itself q r t e = subst (IsNotRighter q r) (sym e) (nn_zero _ (orient_end q r), λ z. le_itself _)
 
 -- ---- a whole chain
 
@@ -141,7 +108,7 @@ pub record IsChainUnder (P : Pair → Type 0) (g : ℕ → Pair) (low high : ℕ
   pub left : (i j : ℕ) → j ≡ i + 1 → low ≤ i → i < high → (t : Pair) → P t → pos 0 ≤ℤ orient (g i) (g j) t
 
 -- an edge that is not passed has q not on its left
-not_passed : (P : Pair → Type 0) (q a b : Pair) → IsClear P q → P a → P b → IsBefore a q → ¬ IsPassed q a b
+not_passed : (P : Pair → Type 0) (q a b : Pair) → IsClear P q → P a → P b → IsBefore a q → ¬ IsPassed Lower q a b
     → orient a b q ≤ℤ pos 0
 not_passed P q a b c ma mb aq n =
     elim (le_or_lt (orient a b q) (pos 0)) [
@@ -149,15 +116,12 @@ not_passed P q a b c ma mb aq n =
       | inr h ↦ elim (before_total b q) [
         | inl k ↦ absurd (n (k, h))
         | inr (inl e) ↦ absurd (c.absent (subst P e mb))
-        | inr (inr k) ↦ weak _ (c.under a b ma mb aq k)
+        | inr (inr k) ↦ np_below _ (c.under a b ma mb aq k)
       ]
     ]
-  where
-    weak : (x : ℤ) → x <ℤ pos 0 → x ≤ℤ pos 0
-    weak x h = omega (arith, ints)
 
 -- nor has one that is not to come
-not_to_come : (P : Pair → Type 0) (q a b : Pair) → IsClear P q → P a → P b → IsBefore q b → ¬ IsToCome q a b
+not_to_come : (P : Pair → Type 0) (q a b : Pair) → IsClear P q → P a → P b → IsBefore q b → ¬ IsToCome Lower q a b
     → orient a b q ≤ℤ pos 0
 not_to_come P q a b c ma mb qb n =
     elim (le_or_lt (orient a b q) (pos 0)) [
@@ -165,18 +129,15 @@ not_to_come P q a b c ma mb qb n =
       | inr h ↦ elim (before_total q a) [
         | inl k ↦ absurd (n (k, h))
         | inr (inl e) ↦ absurd (c.absent (subst P (sym e) ma))
-        | inr (inr k) ↦ weak _ (c.under a b ma mb k qb)
+        | inr (inr k) ↦ np_below _ (c.under a b ma mb k qb)
       ]
     ]
-  where
-    weak : (x : ℤ) → x <ℤ pos 0 → x ≤ℤ pos 0
-    weak x h = omega (arith, ints)
 
 -- the corner up to which the edges are passed is the leftmost as seen from q
 pub left_found : (P : Pair → Type 0) (g : ℕ → Pair) (low high at : ℕ) (q : Pair) → IsChainUnder P g low high
     → IsClear P q → IsBefore (g low) q → low ≤ at → at ≤ high
-    → (low < at → IsPassed q (g (at - 1)) (g (at - 1 + 1)))
-    → (at < high → ¬ (IsPassed q (g at) (g (at + 1)))) → (t : Pair) → P t → IsNotLefter q (g at) t
+    → (low < at → IsPassed Lower q (g (at - 1)) (g (at - 1 + 1)))
+    → (at < high → ¬ (IsPassed Lower q (g at) (g (at + 1)))) → (t : Pair) → P t → IsNotLefter q (g at) t
 left_found P g low high at q h c from l u held fails t mt = elim (before_total t (g at)) [
   | inr (inl e) ↦ left_itself q (g at) t e
   | inl b ↦ elim (cases_lt low at) [
@@ -203,8 +164,8 @@ left_found P g low high at q h c from l u held fails t mt = elim (before_total t
 -- the corner from which the edges are to come is the rightmost as seen from q
 pub right_found : (P : Pair → Type 0) (g : ℕ → Pair) (low high at : ℕ) (q : Pair) → IsChainUnder P g low high
     → IsClear P q → IsBefore q (g high) → low ≤ at → at ≤ high
-    → (low < at → ¬ (IsToCome q (g (at - 1)) (g (at - 1 + 1))))
-    → (at < high → IsToCome q (g at) (g (at + 1))) → (t : Pair) → P t → IsNotRighter q (g at) t
+    → (low < at → ¬ (IsToCome Lower q (g (at - 1)) (g (at - 1 + 1))))
+    → (at < high → IsToCome Lower q (g at) (g (at + 1))) → (t : Pair) → P t → IsNotRighter q (g at) t
 right_found P g low high at q h c to l u held fails t mt = elim (before_total t (g at)) [
   | inr (inl e) ↦ right_itself q (g at) t e
   | inr (inr b) ↦ elim (cases_lt at high) [
@@ -218,7 +179,7 @@ right_found P g low high at q h c to l u held fails t mt = elim (before_total t 
         (h.forward (at - 1) at (omega (arith, k)) (omega (arith, k)) (omega (arith, k, u))) after_q b
         (h.left (at - 1) at (omega (arith, k)) (omega (arith, k)) (omega (arith, k, u)) t mt)
         (not_to_come P q (g (at - 1)) (g at) c (h.on (at - 1)) (h.on at) after_q
-        (subst (λ (i : ℕ). ¬ (IsToCome q (g (at - 1)) (g i))) (omega (arith, k)) (held k)))
+        (subst (λ (i : ℕ). ¬ (IsToCome Lower q (g (at - 1)) (g i))) (omega (arith, k)) (held k)))
   ]
 ]
   where

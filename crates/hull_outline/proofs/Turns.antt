@@ -1,25 +1,24 @@
 -- A place in a range where a test turns from true to false; and so, in each direction, a corner that is farthest.
 use Rattle.std.proofs.Common.{◌≡◌, ℕ, zero, suc, ◌+◌, ◌-◌, ◌≤◌, ◌<◌, ℤ, pos, ◌≤ℤ◌, ◌<ℤ◌, ◌⊎◌, inl, inr, List, length}
-use Rattle.std.proofs.Common.{refl}
-use Rattle.std.proofs.Common.{sym, subst, arith}
-use Rattle.std.specs.List.{Contains}
+use Rattle.std.proofs.Common.{refl, sym, subst, arith}
+use Rattle.std.specs.List.{Contains, All}
 use Rattle.std.proofs.lemmas.Int.{ints}
 use Rattle.std.proofs.lemmas.Bool.{cases_lt}
-use Rattle.std.specs.List.{All}
 use Rattle.std.proofs.lemmas.List.Elements.{All-contains, All-weaker}
 use Rattle.lattice.specs.Covers.{Covers, IsPointSet}
-use Rattle.hull_plain.proofs.Decided.{covers_or_separated}
-use Rattle.hull_plain.proofs.NotCovered.{Separated, not_covered}
+use Rattle.hull_geometry.proofs.Decided.{covers_or_separated}
+use Rattle.hull_geometry.proofs.NotCovered.{Separated, not_covered}
 use Rattle.hull_outline.specs.Boxes.{Holds}
 use Rattle.hull_outline.proofs.Corners.{corner_back}
-use Rattle.hull_outline.proofs.EdgesOf.{all_of}
+use Rattle.hull_geometry.proofs.PointLists.{all_of}
 use Rattle.hull_outline.proofs.Ends.{no_corners}
 use Rattle.lattice.specs.Plane.{Pair, product}
 use Rattle.lattice.specs.Signs.{le_or_lt}
-use Rattle.hull_plain.specs.Tangents.{IsFirstFarthest}
+use Rattle.hull_geometry.specs.Tangents.{IsFirstFarthest}
 use Rattle.hull_outline.specs.Outlines.{IsOutlineOf}
 use Rattle.hull_outline.specs.Rounds.{corner, IsParted}
 use Rattle.hull_outline.proofs.FarthestOf.{farthest_below, farthest_above}
+use Rattle.lattice.proofs.Numbers.{le_less_trans, less_le_trans}
 
 -- P is true before the place and false at it; the ends count as such
 pub record IsTurn (P : ℕ → Type 0) (low high at : ℕ) : Type 0 where
@@ -94,11 +93,8 @@ pub all_nearer : (S V : List Pair) (last : ℕ) (d : Pair) (m : ℤ) → IsOutli
 all_nearer S V last d m o p n h s ms =
     let r = farthest_corner S V last d o p n in
     let j = placed V r.0 n in
-    below _ _ _ (All-contains (λ t. product d t ≤ℤ product d (corner V r.0)) S s r.1.1 ms)
+    le_less_trans _ _ _ (All-contains (λ t. product d t ≤ℤ product d (corner V r.0)) S s r.1.1 ms)
     (subst (λ (z : Pair). product d z <ℤ m) (sym j.2) (h j.0 j.1))
-  where
-    below : (x y z : ℤ) → x ≤ℤ y → y <ℤ z → x <ℤ z
-    below x y z h k = omega (arith, ints)
 
 -- what covers each corner covers whatever the set covers
 pub holds_by_corners : (S T W : List Pair) (last : ℕ) → IsPointSet S → IsOutlineOf T W → IsParted W last
@@ -122,9 +118,6 @@ holds_by_corners S T W last o t p h q c = elim (covers_or_separated S q o) [
       | inl k ↦ absurd (not_covered S (corner W i) (
         a.0,
         All-weaker (λ s. product a.0 s <ℤ product a.0 q) (λ s. product a.0 s <ℤ product a.0 (corner W i))
-            (λ s b. below _ _ _ b k) S a.1,
+            (λ s b. less_le_trans _ _ _ b k) S a.1,
       ) (h i l))
     ]
-      where
-        below : (x y z : ℤ) → x <ℤ y → y ≤ℤ z → x <ℤ z
-        below x y z h k = omega (arith, ints)

@@ -2,21 +2,11 @@
 -- points of the other on its left. The upper chain is told by its points after a turn by 180 degrees.
 use Rattle.std.proofs.Common.{◌≡◌, ℕ, ◌+◌, ◌≤◌, ◌<◌, pos, ◌<ℤ◌, sym, subst, arith}
 use Rattle.lattice.specs.Plane.{Pair, orient, IsBefore, turned_point}
-use Rattle.lattice.specs.Polynomials.{difference-eq, difference_rules}
-use Rattle.lattice.proofs.Vectors.{as_pair}
+use Rattle.lattice.proofs.Sides.{side_turned_back}
 use Rattle.lattice.proofs.LineCrossings.{orient_cycle}
 use Rattle.lattice.proofs.TurnedBridges.{before_turned, before_turned_back}
-use Rattle.hull_plain.proofs.Orientation.{above}
+use Rattle.hull_geometry.proofs.Orientation.{above}
 use Rattle.hull_outline.proofs.Convex.{IsConvex, later_after, left_or_end, not_right, inner_below, over_all}
-
--- a turn of all three points, of which the middle one is turned already
-side_turned_back : (a b c : Pair) → orient (turned_point a) b (turned_point c) ≡ orient a (turned_point b) c
-unfolding orient
-side_turned_back a b c = rw (
-  as_pair a,
-  as_pair b,
-  as_pair c,
-) (simp difference_rules (difference-eq _ _ _ _ (omega arith)))
 
 -- g goes from one point to another, and the turned h from that one back
 pub record IsCounterpart (g : ℕ → Pair) (m : ℕ) (h : ℕ → Pair) (n : ℕ) : Type 0 where
@@ -35,8 +25,7 @@ after_start g m h n k o l =
 before_end : (g : ℕ → Pair) (m : ℕ) (h : ℕ → Pair) (n k : ℕ) → IsCounterpart g m h n → 0 < k → k ≤ n
     → IsBefore (turned_point (h k)) (g m)
 before_end g m h n k o p l =
-    before_turned (h k) (g m)
-    (subst (λ (z : Pair). IsBefore z (h k)) o.starts (later_after h n 0 k o.convex p l))
+    before_turned (h k) (g m) (subst (λ (z : Pair). IsBefore z (h k)) o.starts (later_after h n 0 k o.convex p l))
 
 -- it lies over their line
 inner_above : (g : ℕ → Pair) (m : ℕ) (h : ℕ → Pair) (n k : ℕ) → IsCounterpart g m h n → 0 < k → k < n

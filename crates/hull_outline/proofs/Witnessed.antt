@@ -1,15 +1,14 @@
 -- Meetings and separations of two sets.
 use Rattle.std.proofs.Common.{◌≡◌, ℕ, ◌≤◌, ◌<◌, ℤ, pos, ◌-ℤ◌, ◌≤ℤ◌, ◌<ℤ◌, neg_ℤ, ◌⊎◌, inl, inr, sym, subst, List, []}
-use Rattle.std.proofs.Common.{length}
-use Rattle.std.proofs.Common.{arith}
+use Rattle.std.proofs.Common.{length, arith}
 use Rattle.std.specs.List.{Contains}
 use Rattle.std.proofs.lemmas.Int.{ints}
 use Rattle.std.proofs.lemmas.List.Elements.{All-contains}
 use Rattle.lattice.specs.Plane.{Pair, orient, product}
 use Rattle.lattice.specs.Vertices.{IsLeftOf}
 use Rattle.lattice.proofs.Vectors.{opp}
-use Rattle.hull_plain.specs.Tangents.{IsFirstFarthest}
-use Rattle.hull_plain.proofs.Orientation.{orient_other}
+use Rattle.hull_geometry.specs.Tangents.{IsFirstFarthest}
+use Rattle.hull_geometry.proofs.Orientation.{orient_other}
 use Rattle.hull_outline.specs.Meetings.{IsApart, Meets, Reaches, IsReached, Crosses, segment}
 use Rattle.hull_outline.specs.Outlines.{IsOutlineOf}
 use Rattle.hull_outline.specs.Rounds.{corner, IsParted}
@@ -21,11 +20,12 @@ use Rattle.hull_outline.specs.declared.meetings.Meeting.TheVariants.{OfOther, Of
 use Rattle.hull_outline.specs.declared.separations.Separation.{Separation}
 use Rattle.hull_outline.proofs.Corners.{corner_extreme}
 use Rattle.hull_outline.proofs.EdgeAxes.{IsBesideSome, edge_parts}
-use Rattle.hull_outline.proofs.EdgesOf.{all_of}
+use Rattle.hull_geometry.proofs.PointLists.{all_of}
 use Rattle.hull_outline.proofs.Parted.{product_opp, farther_back, never_both}
 use Rattle.hull_outline.proofs.Separated.{apart_by}
 use Rattle.hull_outline.proofs.Shields.{product_left, one_of_two, start_there, end_there}
 use Rattle.hull_outline.proofs.Together.{covers_more, few_beyond}
+use Rattle.lattice.proofs.Numbers.{le_by_opposite, less_by_opposite, nn_not_below}
 
 -- what meets somewhere meets
 pub meeting_meets : (S T : List Pair) (m : Meeting) → IsMeeting S T m → Meets S T
@@ -108,17 +108,11 @@ separation_beside S T a b d m l h e =
     record {
       there = m;
       farthest = all_of (λ t. product (left_of b a) t ≤ℤ product (left_of b a) b) S
-          (λ t n. no_farther _ _ _ _ (product_left b a t) (orient_other a b t)
+          (λ t n. le_by_opposite _ _ _ _ (product_left b a t) (orient_other a b t)
           (All-contains (λ u. pos 0 ≤ℤ orient a b u) S t l n));
       beyond = all_of (λ t. product (left_of b a) b <ℤ product (left_of b a) t) T
-          (λ t n. farther _ _ _ _ (product_left b a t) (orient_other a b t) (h t n));
+          (λ t n. less_by_opposite _ _ _ _ (product_left b a t) (orient_other a b t) (h t n));
     }
-  where
-    no_farther : (x y u v : ℤ) → x -ℤ y ≡ u → u ≡ neg_ℤ v → pos 0 ≤ℤ v → x ≤ℤ y
-    no_farther x y u v e f h = omega (arith, ints)
-
-    farther : (x y u v : ℤ) → x -ℤ y ≡ u → u ≡ neg_ℤ v → v <ℤ pos 0 → y <ℤ x
-    farther x y u v e f h = omega (arith, ints)
 
 -- where the leftmost point of T lies right of a line, all of T does
 pub right_of_line : (T : List Pair) (a b d p : Pair) → IsFirstFarthest T d p → d ≡ left_of a b
@@ -138,11 +132,7 @@ right_of_line T a b d p f e h t m =
 pub not_both_left : (S V T W : List Pair) (last end : ℕ) → IsOutlineOf S V → IsParted V last → IsOutlineOf T W
     → IsParted W end → 2 < length V → 2 < length W → IsApart S T → HasOnLeft V T → HasOnLeft W S → ⊥
 not_both_left S V T W last end o p q r many more a left right =
-    elim (edge_parts S V T W last end o p q r many more a)
-    [ inl h ↦ beside V T left h | inr h ↦ beside W S right h ]
+    elim (edge_parts S V T W last end o p q r many more a) [ inl h ↦ beside V T left h | inr h ↦ beside W S right h ]
   where
-    clash : (x : ℤ) → pos 0 ≤ℤ x → x <ℤ pos 0 → ⊥
-    clash x h k = omega (arith, ints)
-
     beside : (V T : List Pair) → HasOnLeft V T → IsBesideSome V T → ⊥
-    beside V T h (i, l, b) = let t = h i l in clash _ t.2 (b t.0 t.1)
+    beside V T h (i, l, b) = let t = h i l in nn_not_below _ t.2 (b t.0 t.1)

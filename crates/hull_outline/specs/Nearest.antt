@@ -1,6 +1,6 @@
 -- The point of a hull that is nearest to a point outside of it: a corner, or the foot on an edge.
 use Rattle.std.specs.Prelude.{◌⊎◌, ℕ, zero, suc, ◌+◌, ◌-◌, pos, ◌*ℤ◌, ◌≤ℤ◌, ◌<ℤ◌, List, length}
-use Rattle.lattice.specs.Plane.{Pair, orient, product, distance_squared, IsBefore}
+use Rattle.lattice.specs.Plane.{Pair, orient, product, distance_squared}
 use Rattle.lattice.specs.Covers.{Covers, IsExtreme}
 use Rattle.lattice.specs.Places.{IsFarthest}
 use Rattle.lattice.specs.Vertices.{IsLeftOf}
@@ -8,6 +8,8 @@ use Rattle.hull_outline.specs.Rounds.{corner}
 use Rattle.hull_outline.specs.Steps.{step}
 use Rattle.hull_outline.specs.declared.nearest.Nearest.{Nearest}
 use Rattle.hull_outline.specs.declared.nearest.Nearest.TheVariants.{Covered, Corner, Edge}
+use Rattle.lattice.specs.declared.side.Side.{Side}
+use Rattle.hull_outline.specs.Touches.{IsAlong}
 
 -- on the way from a to b, q lies farther than a: its foot on their line is beyond a
 abbrev pub IsOnward : Pair → Pair → Pair → Type 0
@@ -52,15 +54,9 @@ abbrev pub IsPassedOver : List Pair → ℕ → Pair → Type 0
 IsPassedOver V i q =
     ¬ IsTurnedFrom (previous V i) (corner V i) (corner V (i + 1)) q × ¬ IsBeside (corner V i) (corner V (i + 1)) q
 
--- q lies right of the edge from a to b, no less far than b; or it does not, and b stands before q
-abbrev pub ComesNearer : Pair → Pair → Pair → Type 0
-ComesNearer a b q =
-    ((orient a b q <ℤ pos 0) × ¬ IsOnward b a q) ⊎ ((pos 0 ≤ℤ orient a b q) × IsBefore b q)
-
--- the same, or it does not, and b stands after q
-abbrev pub ComesNearerBack : Pair → Pair → Pair → Type 0
-ComesNearerBack a b q =
-    ((orient a b q <ℤ pos 0) × ¬ IsOnward b a q) ⊎ ((pos 0 ≤ℤ orient a b q) × IsBefore q b)
+-- q lies right of the edge from a to b, no less far than b; or it does not, and b stands before q along the chain
+abbrev pub ComesNearer : Side → Pair → Pair → Pair → Type 0
+ComesNearer side a b q = ((orient a b q <ℤ pos 0) × ¬ IsOnward b a q) ⊎ ((pos 0 ≤ℤ orient a b q) × IsAlong side b q)
 
 -- ---- that they are the nearest
 

@@ -3,7 +3,7 @@ use Rattle.std.specs.Prelude.{◌≤◌, List, length}
 use Rattle.lattice.specs.Plane.{Pair}
 use Rattle.lattice.specs.Covers.{IsPointSet}
 use Rattle.lattice.specs.Vertices.{IsVertexList}
-use Rattle.hull_plain.specs.declared.TheConstants.{POINT_LIMIT}
+use Rattle.hull_set.specs.declared.TheConstants.{POINT_LIMIT}
 
 -- the corners are the vertices of the set S, counterclockwise from the first
 abbrev pub IsOutlineOf : List Pair → List Pair → Type 0

@@ -1,7 +1,7 @@
 -- A round of corners: from the first forward to the last in the order "before", and from there back to the first.
 use Rattle.std.specs.Prelude.{◌≡◌, ℕ, ◌+◌, ◌<◌, ◌≤◌, pos, ◌<ℤ◌, List, length, slice_index_or}
 use Rattle.lattice.specs.Plane.{Pair, orient, IsBefore}
-use Rattle.hull_plain.specs.Positions.{point_at}
+use Rattle.hull_geometry.specs.Positions.{point_at}
 
 -- the corner at i; beyond the end, the first one again
 abbrev pub corner : List Pair → ℕ → Pair
@@ -15,8 +15,7 @@ GoesOn V last i =
 -- two steps from the corner at i, both forward or both back, turn left
 abbrev pub TurnsLeft : List Pair → ℕ → ℕ → Type 0
 TurnsLeft V last i =
-    ¬ (i + 1 ≡ last) → i + 1 < length V
-    → pos 0 <ℤ orient (corner V i) (corner V (i + 1)) (corner V (i + 2))
+    ¬ (i + 1 ≡ last) → i + 1 < length V → pos 0 <ℤ orient (corner V i) (corner V (i + 1)) (corner V (i + 2))
 
 -- the corners go forward to the one at `last` and back, and turn left between
 pub record IsRound (V : List Pair) (last : ℕ) : Type 0 where

@@ -14,5 +14,4 @@ pub record IsSeparation (S T : List Pair) (w : Separation) : Type 0 where
 
 -- of each edge of the corners V, some point of T lies on the left, or on its line
 abbrev pub HasOnLeft : List Pair → List Pair → Type 0
-HasOnLeft V T =
-    (i : ℕ) → i < length V → (t : Pair) × Contains T t × (pos 0 ≤ℤ orient (corner V i) (corner V (i + 1)) t)
+HasOnLeft V T = (i : ℕ) → i < length V → (t : Pair) × Contains T t × (pos 0 ≤ℤ orient (corner V i) (corner V (i + 1)) t)

@@ -1,19 +1,28 @@
--- The edges beside the corners where the tangents from a point touch.
-use Rattle.std.specs.Prelude.{pos, ◌<ℤ◌}
+-- The chains of a hull by their side, and the edges beside the corners where the tangents from a point touch.
+use Rattle.std.specs.Prelude.{ℕ, pos, ◌<ℤ◌, List, length}
 use Rattle.lattice.specs.Plane.{Pair, orient, IsBefore}
+use Rattle.lattice.specs.declared.side.Side.{Side}
+use Rattle.lattice.specs.declared.side.Side.TheVariants.{Lower, Upper}
 
--- the lower edge from a to b ends before q, which lies left of it
-abbrev pub IsPassed : Pair → Pair → Pair → Type 0
-IsPassed q a b = IsBefore b q × (pos 0 <ℤ orient a b q)
+-- the place at which a chain starts, the last corner's being `last`
+abbrev pub starts_at : Side → ℕ → ℕ
+starts_at Lower last = 0
+starts_at Upper last = last
 
--- it begins after q, which lies left of it
-abbrev pub IsToCome : Pair → Pair → Pair → Type 0
-IsToCome q a b = IsBefore q a × (pos 0 <ℤ orient a b q)
+-- the place at which it ends
+abbrev pub ends_at : Side → List Pair → ℕ → ℕ
+ends_at Lower V last = last
+ends_at Upper V last = length V
 
--- the upper edge from a back to b ends after q, which lies left of it
-abbrev pub IsPassedBack : Pair → Pair → Pair → Type 0
-IsPassedBack q a b = IsBefore q b × (pos 0 <ℤ orient a b q)
+-- p stands before q along the chain, which goes back on the upper side
+abbrev pub IsAlong : Side → Pair → Pair → Type 0
+IsAlong Lower p q = IsBefore p q
+IsAlong Upper p q = IsBefore q p
 
--- it begins before q, which lies left of it
-abbrev pub IsToComeBack : Pair → Pair → Pair → Type 0
-IsToComeBack q a b = IsBefore a q × (pos 0 <ℤ orient a b q)
+-- the edge from a to b ends before q along the chain, and has it on its left
+abbrev pub IsPassed : Side → Pair → Pair → Pair → Type 0
+IsPassed side q a b = IsAlong side b q × (pos 0 <ℤ orient a b q)
+
+-- it begins after q
+abbrev pub IsToCome : Side → Pair → Pair → Pair → Type 0
+IsToCome side q a b = IsAlong side q a × (pos 0 <ℤ orient a b q)

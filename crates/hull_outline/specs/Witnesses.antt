@@ -14,8 +14,7 @@ use Rattle.hull_outline.specs.declared.witnesses.Witness.TheVariants.{Meets, Apa
 abbrev pub IsMeeting : List Pair → List Pair → Meeting → Type 0
 IsMeeting S T (OfOther t) = Contains T t × Covers S t
 IsMeeting S T (OfThis s) = Contains S s × Covers T s
-IsMeeting S T (Crossing a b c d) =
-    Contains S a × Contains S b × Contains T c × Contains T d × IsCrossing a b c d
+IsMeeting S T (Crossing a b c d) = Contains S a × Contains S b × Contains T c × Contains T d × IsCrossing a b c d
 
 -- where they meet, or what parts S from T
 abbrev pub IsWitness : List Pair → List Pair → Witness → Type 0

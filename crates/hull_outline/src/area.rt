@@ -3,7 +3,7 @@ ghost use Rattle.std.specs.Prelude.{◌≡◌, ◌*◌, ◌≤◌, ◌≤ℤ◌,
 ghost use Rattle.lattice.specs.Plane as plane;
 ghost use Rattle.lattice.specs.Plane.{widest_side};
 ghost use Rattle.lattice.specs.Vertices.{doubled_area, IsDoubledArea};
-ghost use Rattle.hull_plain.specs.declared.TheConstants.{POINT_LIMIT};
+ghost use Rattle.hull_set.specs.declared.TheConstants.{POINT_LIMIT};
 ghost use Rattle.hull_outline.specs.Outlines.{HoldsOfSetsOf, IsShortOutline};
 ghost use Rattle.hull_outline.specs.Lent.{corners_of};
 

@@ -1,8 +1,9 @@
 //! Bisection of a chain: the one search that all questions share.
-ghost use Rattle.std.specs.Prelude.{◌+◌, ◌-◌, ◌<◌, ◌≤◌, length, true, false};
+ghost use Rattle.std.specs.Prelude.{◌+◌, ◌-◌, ◌<◌, ◌≤◌, ◌↔◌, IsTrue, length, true, false};
 ghost use Rattle.hull_outline.specs.Rounds.{corner};
+ghost use Rattle.hull_outline.specs.Touches.{IsAlong, starts_at, ends_at};
 
-use lattice::Point;
+use lattice::{Point, Side, before};
 
 /// A place from `low` to `high` such that `holds` is true of the edge before it and false of the edge from it: of the
 /// corners there and the next ones. The ends count as such.
@@ -57,5 +58,37 @@ pub(crate) fn first_failing_back<F: Fn(Point, Point) -> bool>(
         corners.len()
     } else {
         place
+    }
+}
+
+/// The same on the chain on this side.
+pub(crate) fn first_failing_on<F: Fn(Point, Point) -> bool>(
+    side: Side,
+    corners: &[Point],
+    last: usize,
+    holds: &F,
+) -> usize
+    requires within { last < length corners.now }
+    requires callable { F.IsAlwaysCallable holds.now }
+    ensures from { starts_at side last ≤ result }
+    ensures to { result ≤ ends_at side corners.now last }
+    ensures held { starts_at side last < result
+        → F.post holds.now (corner corners.now (result - 1)) (corner corners.now (result - 1 + 1)) true }
+    ensures fails { result < ends_at side corners.now last
+        → F.post holds.now (corner corners.now result) (corner corners.now (result + 1)) false }
+{
+    match side {
+        Side::Lower => first_failing(corners, 0, last, holds),
+        Side::Upper => first_failing_back(corners, last, holds),
+    }
+}
+
+/// Whether `p` stands before `q` along the chain on this side, which goes back on the upper one.
+pub(crate) fn is_along(side: Side, p: Point, q: Point) -> bool
+    ensures { IsTrue result ↔ IsAlong side p q }
+{
+    match side {
+        Side::Lower => before(p, q),
+        Side::Upper => before(q, p),
     }
 }

@@ -1,6 +1,6 @@
 //! The two points of a hull that are farthest from one another.
 ghost use Rattle.std.specs.Prelude.{◌≡◌, ◌<◌, ◌+◌, length, [], MatchOption};
-ghost use Rattle.hull_plain.specs.Tangents.{IsFirstFarthest};
+ghost use Rattle.hull_geometry.specs.Tangents.{IsFirstFarthest};
 ghost use Rattle.hull_outline.specs.Extents.{IsDiameter, IsFarther};
 ghost use Rattle.hull_outline.specs.Outlines.{HoldsOfSetsOf};
 ghost use Rattle.hull_outline.specs.Rounds.{corner, IsParted};

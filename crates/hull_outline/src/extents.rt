@@ -11,7 +11,7 @@ use super::extreme::farthest;
 use super::outline::Outline;
 use super::rounds::corner_at;
 use super::vector::Vector;
-use hull_plain::Place;
+use hull_set::Place;
 use lattice::Point;
 
 /// The point in the column of `p` and in the row of `q`.

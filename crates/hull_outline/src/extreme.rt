@@ -1,8 +1,8 @@
 //! The first of the points that lie farthest in a direction.
 ghost use Rattle.std.specs.Prelude.{◌↔◌, IsTrue, ◌<◌, length, pos, ◌<ℤ◌, ◌≤ℤ◌};
 ghost use Rattle.lattice.specs.Plane as plane;
-ghost use Rattle.hull_plain.specs.Replies.{AnswersExtreme, reply_to_extreme};
-ghost use Rattle.hull_plain.specs.Tangents.{IsFirstFarthest};
+ghost use Rattle.hull_set.specs.Replies.{AnswersExtreme, reply_to_extreme};
+ghost use Rattle.hull_geometry.specs.Tangents.{IsFirstFarthest};
 ghost use Rattle.hull_outline.specs.Outlines.{HoldsOfSetsOf};
 ghost use Rattle.hull_outline.specs.Rounds.{IsParted};
 ghost use Rattle.hull_outline.specs.Lent.{corners_of};

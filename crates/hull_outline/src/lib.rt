@@ -1,6 +1,6 @@
 //! Questions about a convex hull from the list of its corners, by bisection.
 //!
-//! An [`Outline`] borrows the corners that [`HullSet::vertices`](hull_plain::HullSet::vertices) gave, or any list that
+//! An [`Outline`] borrows the corners that [`HullSet::vertices`](hull_set::HullSet::vertices) gave, or any list that
 //! is the corners of some set ([`is_outline`]). Nothing of it is ever written, so any number of threads may ask one at
 //! once, with no lock; each answer is the one that is right for every set with these corners (`specs/Outlines.antt`).
 //! [`Outline::place`], [`Outline::extreme`], [`Outline::tangents`], [`Outline::nearest`], [`Outline::meets_segment`],

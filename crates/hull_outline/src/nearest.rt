@@ -2,17 +2,17 @@
 ghost use Rattle.std.specs.Prelude.{◌≡◌, ◌↔◌, IsTrue, ◌<◌, ◌+◌, length, pos, ◌<ℤ◌, MatchOption, []};
 ghost use Rattle.lattice.specs.Plane as plane;
 ghost use Rattle.lattice.specs.Covers.{Covers};
-ghost use Rattle.hull_outline.specs.Nearest.{ComesNearer, ComesNearerBack, IsNearest, IsPassedOver};
+ghost use Rattle.hull_outline.specs.Nearest.{ComesNearer, IsNearest, IsPassedOver};
 ghost use Rattle.hull_outline.specs.Nearest.{IsOnward, IsBeside, IsTurnedFrom, previous};
 ghost use Rattle.hull_outline.specs.Outlines.{HoldsOfSetsOf};
 ghost use Rattle.hull_outline.specs.Rounds.{corner, IsParted};
 ghost use Rattle.hull_outline.specs.Lent.{corners_of};
 
-use super::bisection::{first_failing, first_failing_back};
+use super::bisection::{first_failing_on, is_along};
 use super::outline::Outline;
 use super::rounds::corner_at;
 use super::vector::Vector;
-use lattice::{Point, before, orient};
+use lattice::{Point, Side, orient};
 
 /// Where the point of a hull is that is nearest to a point `q`.
 #[derive(Clone, Copy, PartialEq, Eq, Debug)]
@@ -120,47 +120,25 @@ fn nearest_of_all(corners: &[Point], last: usize, q: Point) -> Nearest
     unreachable!()
 }
 
-/// Whether the way along an edge that goes forward still comes nearer to `q` at its end; where `q` does not see the edge,
-/// whether the edge ends before it.
-fn comes_nearer(start: Point, end: Point, q: Point) -> bool
-    ensures { IsTrue result ↔ ComesNearer start end q }
+/// Whether the way along an edge of the chain on this side still comes nearer to `q` at its end; where `q` does not see the
+/// edge, whether the edge ends before it.
+fn comes_nearer(side: Side, start: Point, end: Point, q: Point) -> bool
+    ensures { IsTrue result ↔ ComesNearer side start end q }
 {
     if is_right(start, end, q) {
         !is_onward(end, start, q)
     } else {
-        before(end, q)
+        is_along(side, end, q)
     }
 }
 
-/// The same of an edge that goes back, which ends after `q` where that does not see it.
-fn comes_nearer_back(start: Point, end: Point, q: Point) -> bool
-    ensures { IsTrue result ↔ ComesNearerBack start end q }
-{
-    if is_right(start, end, q) {
-        !is_onward(end, start, q)
-    } else {
-        before(q, end)
-    }
-}
-
-/// The place of the corner up to which the lower chain comes nearer to `q`.
-fn nearest_below(corners: &[Point], last: usize, q: Point) -> usize
+/// The place of the corner up to which the chain on this side comes nearer to `q`.
+fn nearest_on(side: Side, corners: &[Point], last: usize, q: Point) -> usize
     requires { last < length corners.now }
     ensures { result < length corners.now }
 {
-    first_failing(corners, 0, last, &|start, end| comes_nearer(start, end, q))
-}
-
-/// The place of the corner up to which the upper chain comes nearer to `q`.
-fn nearest_above(corners: &[Point], last: usize, q: Point) -> usize
-    requires { last < length corners.now }
-    ensures { result < length corners.now }
-{
-    let place = first_failing_back(
-        corners,
-        last,
-        &|start, end| comes_nearer_back(start, end, q),
-    );
+    let nearer = |start, end| comes_nearer(side, start, end, q);
+    let place = first_failing_on(side, corners, last, &nearer);
     if place < corners.len() { place } else { 0 }
 }
 
@@ -176,10 +154,12 @@ pub(crate) fn nearest_outside(corners: &[Point], last: usize, q: Point) -> Neare
     requires outside { HoldsOfSetsOf corners.now (λ S. ¬ Covers S q) }
     ensures { HoldsOfSetsOf corners.now (λ S. IsNearest S q result) }
 {
-    if let Some(found) = nearest_at(corners, last, nearest_below(corners, last, q), q) {
+    let below = nearest_on(Side::Lower, corners, last, q);
+    if let Some(found) = nearest_at(corners, last, below, q) {
         return found;
     }
-    if let Some(found) = nearest_at(corners, last, nearest_above(corners, last, q), q) {
+    let above = nearest_on(Side::Upper, corners, last, q);
+    if let Some(found) = nearest_at(corners, last, above, q) {
         return found;
     }
     nearest_of_all(corners, last, q)

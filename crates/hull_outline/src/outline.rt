@@ -1,14 +1,14 @@
 //! An outline: the corners of a set, lent, with the place of the last of them.
 ghost use Rattle.std.specs.Prelude.{◌≤◌, length};
-ghost use Rattle.hull_plain.specs.declared.TheConstants.{POINT_LIMIT};
+ghost use Rattle.hull_set.specs.declared.TheConstants.{POINT_LIMIT};
 ghost use Rattle.hull_outline.specs.Rounds.{IsParted};
 ghost use Rattle.hull_outline.specs.OneWay.{IsParted-prop};
 
 use super::rounds::{last_of, summit};
-use hull_plain::POINT_LIMIT;
+use hull_set::POINT_LIMIT;
 use lattice::Point;
 
-/// The corners of a set of points, as [`HullSet::vertices`](hull_plain::HullSet::vertices) gives them: counterclockwise
+/// The corners of a set of points, as [`HullSet::vertices`](hull_set::HullSet::vertices) gives them: counterclockwise
 /// from the first by x and then y, at most [`POINT_LIMIT`]. Nothing of it is ever written, so that any number of
 /// threads may ask one outline at once.
 ///

@@ -1,11 +1,12 @@
 //! Where a point lies.
-ghost use Rattle.hull_plain.specs.Replies.{LiesAt};
+ghost use Rattle.hull_set.specs.Replies.{LiesAt};
 ghost use Rattle.hull_outline.specs.Outlines.{HoldsOfSetsOf};
 ghost use Rattle.hull_outline.specs.Lent.{corners_of};
 
 use super::outline::Outline;
-use super::sights::{Sight, look};
-use hull_plain::Place;
+use super::sights::look;
+use hull_geometry::Sight;
+use hull_set::Place;
 use lattice::Point;
 
 impl<'a> Outline<'a> {

@@ -126,7 +126,7 @@ pub(crate) fn last_of(corners: &[Point]) -> Option<usize>
 }
 
 /// Whether the points are the corners of a set, counterclockwise from the first by x and then y, as
-/// [`HullSet::vertices`](hull_plain::HullSet::vertices) gives them.
+/// [`HullSet::vertices`](hull_set::HullSet::vertices) gives them.
 ///
 /// One pass: a list of two points or more is an outline where it goes forward to its last point and back from there to
 /// the first, and turns left in between (the two chains of Andrew, 1979). Lists of one point and of none are outlines.

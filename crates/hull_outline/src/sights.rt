@@ -1,30 +1,15 @@
 //! From where a point looks at a hull.
-ghost use Rattle.std.specs.Prelude.{◌<◌, length, pos, ◌≤ℤ◌};
+ghost use Rattle.std.specs.Prelude.{◌<◌, length};
 ghost use Rattle.lattice.specs.Plane.{IsBefore};
+ghost use Rattle.hull_geometry.specs.Sights.{IsLowerEdgeAt, IsUpperEdgeAt};
 ghost use Rattle.hull_outline.specs.Outlines.{HoldsOfSetsOf};
 ghost use Rattle.hull_outline.specs.Rounds.{corner, IsParted};
-ghost use Rattle.hull_outline.specs.Sights.{IsSeen, IsSightBy, IsLowerEdgeAt, IsUpperEdgeAt};
+ghost use Rattle.hull_outline.specs.Sights.{IsSeen};
 
 use super::bisection::first_failing;
 use super::rounds::corner_at;
+use hull_geometry::{Sight, sight_by};
 use lattice::{Point, before, orient};
-
-/// From where a point looks at the hull.
-#[derive(Clone, Copy)]
-pub(crate) enum Sight {
-    /// From before all corners.
-    Before,
-    /// From after all corners.
-    After,
-    /// From outside, below a lower edge.
-    Below,
-    /// From outside, above an upper edge.
-    Above,
-    /// From the boundary.
-    Touching,
-    /// From inside.
-    Within,
-}
 
 /// The lower edge that begins at `q`, or the one that begins before `q` and ends after it.
 fn lower_edge_at(corners: &[Point], last: usize, q: Point) -> (Point, Point)
@@ -48,24 +33,6 @@ fn upper_edge_at(corners: &[Point], last: usize, q: Point) -> (Point, Point)
 {
     let start = first_failing(corners, last, corners.len() - 1, &|_, end| !before(end, q));
     (corners[start], corner_at(corners, start + 1))
-}
-
-/// From where a point looks that has the lower edge at it on its side `lower`, not outside of it, and the upper edge on
-/// its side `upper`; each is positive where the point lies on the inner side of the edge.
-fn sight_by(lower: i128, upper: i128) -> Sight
-    requires { pos 0 ≤ℤ lower }
-    ensures { IsSightBy lower upper result }
-{
-    if upper < 0 {
-        return Sight::Above;
-    }
-    if lower > 0 {
-        if upper > 0 {
-            return Sight::Within;
-        }
-        return Sight::Touching;
-    }
-    Sight::Touching
 }
 
 /// From where `q` looks, which does not stand before the first corner, and stands before the last.

@@ -17,23 +17,15 @@ use Rattle.lattice.specs.Plane.{Pair, IsBefore}
 use Rattle.lattice.proofs.Order.{before_total, before_trans, before_irrefl}
 use Rattle.hull_plain.specs.Mending.{IsBehind, IsAhead, IsBetween}
 use Rattle.hull_plain.specs.Monotone.{EndsWith, IsThinned}
-use Rattle.hull_plain.specs.Edges.{end_of}
-use Rattle.hull_plain.specs.Positions.{origin}
-use Rattle.hull_plain.specs.declared.monotone.Side.{Side}
-use Rattle.hull_plain.proofs.FewVertices.{distinct_few}
-use Rattle.hull_plain.proofs.OrderedMaps.{point_cmp, less, greater, equal}
+use Rattle.hull_geometry.specs.Edges.{end_of}
+use Rattle.hull_geometry.specs.Positions.{origin}
+use Rattle.lattice.specs.declared.side.Side.{Side}
+use Rattle.hull_geometry.proofs.FewVertices.{distinct_few}
+use Rattle.hull_set.proofs.OrderedMaps.{point_cmp, less, greater, equal}
 use Rattle.hull_plain.proofs.Passes.{ends_take, ends_cut, set_append, set_left, set_right, set_apart, thinned_set}
 use Rattle.hull_plain.proofs.Passes.{thinned_through, from_front}
-use Rattle.hull_plain.proofs.PointLists.{AllPairs-cons, AllPairs-head, AllPairs-tail, append_twice}
-use Rattle.hull_plain.proofs.PointLists.{get_or_free}
-
--- the point in the last place is the end
-pub last_ends : (xs : List Pair) (c : Pair) → 0 < length xs → c ≡ get_or xs (length xs - 1) c → EndsWith c xs
-last_ends xs c some e =
-    let l : length xs - 1 < length xs = omega (arith, some) in
-    let whole : take (length xs - 1 + 1) xs ≡ xs = grind (arith, common_steps, some) in
-    subst (λ (z : Pair). EndsWith z xs) (sym (e ∙ get_or_free xs (length xs - 1) c _ l))
-    (subst (EndsWith _) whole (ends_take xs (length xs - 1) l))
+use Rattle.hull_geometry.proofs.PointLists.{AllPairs-cons, AllPairs-head, AllPairs-tail, append_twice}
+use Rattle.hull_geometry.proofs.PointLists.{get_or_free}
 
 -- the end of a list is a member
 pub end_in : (c : Pair) (xs : List Pair) → EndsWith c xs → Contains xs c

@@ -6,12 +6,13 @@ use Rattle.lattice.specs.Covers.{IsPointSet}
 use Rattle.lattice.specs.Plane.{Pair, orient, IsBefore}
 use Rattle.lattice.proofs.Order.{before_trans, before_irrefl, before_not}
 use Rattle.hull_plain.specs.ChainEdges.{IsBeside, IsEdge}
-use Rattle.hull_plain.specs.Edges.{IsLowerEdge, IsUpperEdge, IsChain, end_of, IsFirst, IsLast}
-use Rattle.hull_plain.specs.Monotone.{turn, IsInwards, IsInnerFrom, IsInner, IsTurningFrom}
+use Rattle.hull_geometry.specs.Edges.{IsLowerEdge, IsUpperEdge, IsChain, end_of, IsFirst, IsLast}
+use Rattle.hull_plain.specs.Monotone.{IsInwards, IsInnerFrom, IsInner, IsTurningFrom}
+use Rattle.lattice.specs.Turns.{turn}
 use Rattle.hull_plain.specs.Monotone.{IsChainOf}
-use Rattle.hull_plain.specs.declared.monotone.Side.{Side}
-use Rattle.hull_plain.specs.declared.monotone.Side.TheVariants.{Lower, Upper}
-use Rattle.hull_plain.proofs.PointLists.{AllPairs-head, AllPairs-tail, get_or_free, later}
+use Rattle.lattice.specs.declared.side.Side.{Side}
+use Rattle.lattice.specs.declared.side.Side.TheVariants.{Lower, Upper}
+use Rattle.hull_geometry.proofs.PointLists.{AllPairs-head, AllPairs-tail, get_or_free, later}
 use Rattle.hull_plain.proofs.Turns.{turn_at_start, turn_at_end, turns_on, turns_back}
 use Rattle.std.proofs.lemmas.List.Elements.{All-head}
 

@@ -8,14 +8,15 @@ use Rattle.std.proofs.lemmas.List.Elements.{Contains-append_cases}
 use Rattle.lattice.specs.Covers.{IsPointSet}
 use Rattle.lattice.specs.Plane.{Pair, orient, IsBefore}
 use Rattle.lattice.proofs.Order.{before_trans}
-use Rattle.hull_plain.specs.Monotone.{turn, IsInwards, IsInnerFrom, IsInner, EndsInwards}
-use Rattle.hull_plain.specs.declared.monotone.Side.{Side}
-use Rattle.hull_plain.specs.declared.monotone.Side.TheVariants.{Lower, Upper}
-use Rattle.hull_plain.proofs.ChangedSets.{set-insert}
-use Rattle.hull_plain.proofs.Orientation.{orient_swap, orient-cycle, orient_other}
-use Rattle.hull_plain.proofs.PointLists.{AllPairs-cons, AllPairs-head, AllPairs-tail, all_append_right, left_part}
-use Rattle.hull_plain.proofs.PointLists.{right_part, append_none, append_twice, get_or_free}
-use Rattle.hull_plain.proofs.SameSide.{side_trans}
+use Rattle.hull_plain.specs.Monotone.{IsInwards, IsInnerFrom, IsInner, EndsInwards}
+use Rattle.lattice.specs.Turns.{turn}
+use Rattle.lattice.specs.declared.side.Side.{Side}
+use Rattle.lattice.specs.declared.side.Side.TheVariants.{Lower, Upper}
+use Rattle.hull_geometry.proofs.ChangedSets.{set-insert}
+use Rattle.hull_geometry.proofs.Orientation.{orient_swap, orient-cycle, orient_other}
+use Rattle.hull_geometry.proofs.PointLists.{AllPairs-cons, AllPairs-head, AllPairs-tail, all_append_right, left_part}
+use Rattle.hull_geometry.proofs.PointLists.{right_part, append_none, append_twice, get_or_free}
+use Rattle.hull_geometry.proofs.SameSide.{side_trans}
 
 -- three points in the order, of which the middle one does not lie outwards: it lies inwards of the segment of the
 -- others
@@ -171,30 +172,6 @@ with_end part chain c h t m =
     elim (Contains-append_cases part (c ∷ []) t m)
     [ inl k ↦ Contains-append_left chain (c ∷ []) t (h t k) | inr k ↦ Contains-append_right chain (c ∷ []) t k ]
 
--- what is inner to a chain from a point on is so to a longer chain
-inner_from_more : (side : Side) (x : Pair) (xs : List Pair) (c u : Pair) → IsInnerFrom side x xs u
-    → IsInnerFrom side x (xs ++ c ∷ []) u
-inner_from_more side x [] c u k = elim k [ ]
-inner_from_more side x (y ∷ ys) c u (inl e) = inl e
-inner_from_more side x (y ∷ ys) c u (inr (inl k)) = inr (inl k)
-inner_from_more side x (y ∷ ys) c u (inr (inr k)) = inr (inr (inner_from_more side y ys c u k))
-
--- what is inner to a chain is so to a longer chain
-inner_more : (side : Side) (xs : List Pair) (c u : Pair) → IsInner side xs u → IsInner side (xs ++ c ∷ []) u
-inner_more side [] c u k = elim k [ ]
-inner_more side (x ∷ xs) c u (inl e) = inl e
-inner_more side (x ∷ xs) c u (inr k) = inr (inner_from_more side x xs c u k)
-
--- the end of a chain is inner to it: behind a point
-inner_from_end : (side : Side) (x : Pair) (xs : List Pair) (c : Pair) → IsInnerFrom side x (xs ++ c ∷ []) c
-inner_from_end side x [] c = inl refl
-inner_from_end side x (y ∷ ys) c = inr (inr (inner_from_end side y ys c))
-
--- the end of a chain is inner to it
-inner_end : (side : Side) (xs : List Pair) (c : Pair) → IsInner side (xs ++ c ∷ []) c
-inner_end side [] c = inl refl
-inner_end side (x ∷ xs) c = inr (inner_from_end side x xs c)
-
 -- the points up to a place and the one there, counted on
 take_suc : (S : List Pair) (i : ℕ) (d : Pair) → i < length S → take (suc i) S ≡ take i S ++ get_or S i d ∷ []
 take_suc [] i d l = absurd (omega arith)
@@ -216,54 +193,3 @@ one_more S i p t l e m =
     go (inl k) = inl k
     go (inr (zero, b, k)) = inr (sym k)
     go (inr (suc j, b, k)) = absurd (omega (arith, b))
-
--- and back
-pub one_more_back : (S chain : List Pair) (i : ℕ) (p : Pair) → i < length S → p ≡ get_or S i p
-    → ((t : Pair) → Contains chain t → Contains (take i S) t) → (t : Pair) → Contains (chain ++ p ∷ []) t
-    → Contains (take (i + 1) S) t
-one_more_back S chain i p l e h t m =
-    subst (λ (z : List Pair). Contains z t) (sym (take_next S i p l e)) (go (Contains-append_cases chain (p ∷ []) t m))
-  where
-    go : Contains chain t ⊎ Contains (p ∷ []) t → Contains (take i S ++ p ∷ []) t
-    go (inl k) = Contains-append_left (take i S) (p ∷ []) t (h t k)
-    go (inr k) = Contains-append_right (take i S) (p ∷ []) t k
-
--- one more point is inner to the longer chain
-pub one_more_inner : (side : Side) (S chain : List Pair) (i : ℕ) (p : Pair) → i < length S → p ≡ get_or S i p
-    → ((u : Pair) → Contains (take i S) u → IsInner side chain u) → (u : Pair) → Contains (take (i + 1) S) u
-    → IsInner side (chain ++ p ∷ []) u
-one_more_inner side S chain i p l e h u m = go (one_more S i p u l e m)
-  where
-    go : Contains (take i S) u ⊎ (u ≡ p) → IsInner side (chain ++ p ∷ []) u
-    go (inl k) = inner_more side chain p u (h u k)
-    go (inr k) = subst (IsInner side (chain ++ p ∷ [])) (sym k) (inner_end side chain p)
-
--- what holds of all holds of the first n
-all_take : (P : Pair → Type 0) (n : ℕ) (xs : List Pair) → All P xs → All P (take n xs)
-all_take P zero xs h = λ k d l. absurd (omega arith)
-all_take P (suc n) [] h = h
-all_take P (suc n) (x ∷ xs) h = All-cons P x (take n xs) (All-head P x xs h) (all_take P n xs (All-tail P x xs h))
-
--- the first n points of a set are a set
-set_take : (n : ℕ) (xs : List Pair) → IsPointSet xs → IsPointSet (take n xs)
-set_take zero xs o = λ j k d a b. absurd (omega arith)
-set_take (suc n) [] o = o
-set_take (suc n) (x ∷ xs) o =
-    AllPairs-cons x (take n xs) (all_take (IsBefore x) n xs (AllPairs-head x xs o))
-    (set_take n xs (AllPairs-tail x xs o))
-
--- the point at a place stands after those of a chain of earlier points
-pub chain_before : (S chain : List Pair) (i : ℕ) (p : Pair) → IsPointSet S → i < length S → p ≡ get_or S i p
-    → ((t : Pair) → Contains chain t → Contains (take i S) t) → IsPointSet chain → IsPointSet (chain ++ p ∷ [])
-chain_before S chain i p s l e h o = set_longer chain p o (λ k d b. earlier _ (h _ (k, b, get_or_free chain k _ d b)))
-  where
-    before_last : (xs : List Pair) (t : Pair) → IsPointSet (xs ++ p ∷ []) → Contains xs t → IsBefore t p
-    before_last [] t o m = absurd (omega (arith, m.1))
-    before_last (x ∷ xs) t o (zero, b, k) =
-        subst (λ (z : Pair). IsBefore z p) k
-        (All-head (IsBefore x) p [] (right_part (IsBefore x) xs (p ∷ []) (AllPairs-head x (xs ++ p ∷ []) o)))
-    before_last (x ∷ xs) t o (suc j, b, k) =
-        before_last xs t (AllPairs-tail x (xs ++ p ∷ []) o) (j, omega (arith, b), k)
-
-    earlier : (t : Pair) → Contains (take i S) t → IsBefore t p
-    earlier t m = before_last (take i S) t (subst IsPointSet (take_next S i p l e) (set_take (i + 1) S s)) m

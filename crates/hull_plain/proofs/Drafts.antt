@@ -4,7 +4,7 @@ use Rattle.std.proofs.Common.{take}
 use Rattle.lattice.specs.Plane.{Pair}
 use Rattle.hull_plain.specs.Drafts.{IsAsRoomy, drafted}
 use Rattle.hull_plain.specs.declared.draft.Draft.{Draft}
-use Rattle.hull_plain.proofs.PointLists.{append_twice, append_none}
+use Rattle.hull_geometry.proofs.PointLists.{append_twice, append_none}
 
 -- its fresh points are no more than all of it
 pub fresh_few : (L : List Pair) (d : Draft) → length d.fresh.items ≤ length (drafted L d)

@@ -10,14 +10,14 @@ use Rattle.lattice.specs.Signs.{le_or_lt}
 use Rattle.lattice.proofs.Order.{before_total}
 use Rattle.hull_plain.specs.ChainEdges.{IsEdge, Faces}
 use Rattle.hull_plain.specs.Monotone.{IsChainOf}
-use Rattle.hull_plain.specs.Positions.{point_at}
-use Rattle.hull_plain.specs.Tangents.{IsFirstFarthest}
-use Rattle.hull_plain.specs.declared.monotone.Side.{Side}
-use Rattle.hull_plain.specs.declared.monotone.Side.TheVariants.{Lower, Upper}
+use Rattle.hull_geometry.specs.Positions.{point_at}
+use Rattle.hull_geometry.specs.Tangents.{IsFirstFarthest}
+use Rattle.lattice.specs.declared.side.Side.{Side}
+use Rattle.lattice.specs.declared.side.Side.TheVariants.{Lower, Upper}
 use Rattle.hull_plain.proofs.ChainEdges.{all_of}
 use Rattle.hull_plain.proofs.Looks.{chain_edge, chain_in, first_of, last_of}
-use Rattle.hull_plain.proofs.Orientation.{orient_other}
-use Rattle.hull_plain.proofs.Slopes.{stays_up, goes_up, stays_down, goes_down}
+use Rattle.hull_geometry.proofs.Orientation.{orient_other}
+use Rattle.hull_geometry.proofs.Slopes.{stays_up, goes_up, stays_down, goes_down}
 
 -- seen from the other end of a line
 flipped : (x y : ℤ) → x ≡ neg_ℤ y → pos 0 ≤ℤ x → y ≤ℤ pos 0

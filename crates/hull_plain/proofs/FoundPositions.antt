@@ -8,11 +8,10 @@ use Rattle.std.proofs.lemmas.List.{get_or-drop, get_or-take}
 use Rattle.std.proofs.lemmas.List.Elements.{All-weaker, All-cons, All-head}
 use Rattle.lattice.specs.Covers.{IsPointSet, is_before}
 use Rattle.lattice.specs.Plane.{Pair, IsBefore}
-use Rattle.hull_plain.specs.Positions.{IsPositionOf}
-use Rattle.hull_plain.proofs.ChangedSets.{absent_between}
+use Rattle.hull_geometry.specs.Positions.{IsPositionOf}
+use Rattle.hull_geometry.proofs.ChangedSets.{absent_between}
 use Rattle.lattice.proofs.Order.{before_trans, before_irrefl, before_total, is_before-true, is_before-holds}
-use Rattle.lattice.proofs.Order.{is_before-fails}
-use Rattle.hull_plain.proofs.PointLists.{AllPairs-head, AllPairs-tail, get_or_free, cut, cut_at}
+use Rattle.hull_geometry.proofs.PointLists.{AllPairs-head, AllPairs-tail, get_or_free, cut, cut_at}
 
 -- the rest of a set is a set
 pub ordered_from : (n : ℕ) (S : List Pair) → IsPointSet S → n ≤ length S → IsPointSet (drop n S)
@@ -124,16 +123,3 @@ parted S p s i j d le l t =
       | inl h ↦ is_before-true _ p (before_trans _ (get_or S j d) p (s i j d h l) (is_before-holds _ p t))
       | inr h ↦ let e : j ≡ i = omega arith in subst (λ (k : ℕ). is_before (get_or S k d) p ≡ true) e t
     ]
-
--- the points below the place where the test turns stand before p
-pub parted_below : (S : List Pair) (p : Pair) (i : ℕ) → i ≤ length S
-    → IsPartitionPoint (λ t. is_before t p ≡ true) (λ t. is_before t p ≡ false) S i → All (λ t. IsBefore t p) (take i S)
-parted_below S p i l h k d lt = let n : k < i = omega (arith, length-take i S) in
-    rw get_or-take (is_before-holds _ p (h.0 k d (omega arith) n))
-
--- and those from there on do not
-pub parted_rest : (S : List Pair) (p : Pair) (i : ℕ) → i ≤ length S
-    → IsPartitionPoint (λ t. is_before t p ≡ true) (λ t. is_before t p ≡ false) S i
-    → All (λ t. ¬ (IsBefore t p)) (drop i S)
-parted_rest S p i l h k d lt = let n : i + k < length S = omega (arith, length-drop i S) in
-    rw (get_or-drop i S k d) (is_before-fails _ p (h.1 (i + k) d (omega arith) n))

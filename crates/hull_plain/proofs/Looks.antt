@@ -12,23 +12,24 @@ use Rattle.lattice.specs.Places.{IsOuter, IsOnBoundary, IsInside}
 use Rattle.lattice.specs.Plane.{Pair, orient, IsBefore}
 use Rattle.lattice.proofs.Order.{before_total, before_trans, before_not}
 use Rattle.hull_plain.specs.ChainEdges.{IsEdge, IsEdgeAt, IsSeen}
-use Rattle.hull_plain.specs.Edges.{IsChain, end_of, IsFirst, IsLast}
-use Rattle.hull_plain.specs.Monotone.{turn, IsInner, EndsWith, IsChainOf}
-use Rattle.hull_plain.specs.Positions.{IsPositionOf, point_at, origin}
-use Rattle.hull_plain.specs.declared.monotone.Side.{Side}
-use Rattle.hull_plain.specs.declared.monotone.Side.TheVariants.{Lower, Upper}
+use Rattle.hull_geometry.specs.Edges.{IsChain, end_of, IsFirst, IsLast}
+use Rattle.hull_plain.specs.Monotone.{IsInner, EndsWith, IsChainOf}
+use Rattle.lattice.specs.Turns.{turn}
+use Rattle.hull_geometry.specs.Positions.{IsPositionOf, point_at, origin}
+use Rattle.lattice.specs.declared.side.Side.{Side}
+use Rattle.lattice.specs.declared.side.Side.TheVariants.{Lower, Upper}
 use Rattle.hull_plain.specs.declared.sights.Sight.{Sight}
 use Rattle.hull_plain.specs.declared.sights.Sight.TheVariants.{Before, After, Outwards, Touching, Inwards}
 use Rattle.hull_plain.proofs.Between.{end_in, first_in}
 use Rattle.hull_plain.proofs.ChainEdges.{chain_edges, chain_first, chain_last, lower_edge, upper_edge, all_of}
-use Rattle.hull_plain.proofs.CoveredByEdges.{on_segment}
-use Rattle.hull_plain.proofs.EdgePlaces.{right_outside, on_line_outer, between_inside}
-use Rattle.hull_plain.proofs.NotCovered.{not_covered}
-use Rattle.hull_plain.proofs.OneSided.{ahead_separated, behind_separated}
-use Rattle.hull_plain.proofs.Orientation.{orient-cycle, orient_swap}
+use Rattle.hull_geometry.proofs.CoveredByEdges.{on_segment}
+use Rattle.hull_geometry.proofs.EdgePlaces.{right_outside, on_line_outer, between_inside}
+use Rattle.hull_geometry.proofs.NotCovered.{not_covered}
+use Rattle.hull_geometry.proofs.OneSided.{ahead_separated, behind_separated}
+use Rattle.hull_geometry.proofs.Orientation.{orient-cycle, orient_swap}
 use Rattle.hull_plain.proofs.Passes.{ends_take}
-use Rattle.hull_plain.proofs.Placings.{outer_first}
-use Rattle.hull_plain.proofs.PointLists.{get_or_free}
+use Rattle.hull_set.proofs.Placings.{outer_first}
+use Rattle.hull_geometry.proofs.PointLists.{get_or_free}
 use Rattle.hull_plain.proofs.Turns.{turn_at_end}
 
 -- ---- edges by their places

@@ -8,10 +8,10 @@ use Rattle.std.specs.Map.{lookup, keys_of, values_of}
 use Rattle.std.proofs.lemmas.Bool.{false≢true}
 use Rattle.std.proofs.lemmas.Map.Views.{tells_apart, IfSome-lookup_from_All}
 use Rattle.lattice.specs.Plane.{Pair}
-use Rattle.hull_plain.specs.Held.{Held, raised, lowered}
+use Rattle.hull_set.specs.Held.{Held, raised, lowered}
 use Rattle.hull_plain.specs.Sets.{times_in}
-use Rattle.hull_plain.proofs.OrderedMaps.{point_cmp, equal, exact, found_iff}
-use Rattle.hull_plain.proofs.Times.{fails, same_true, same_false, same_or_other, once_same, once_other}
+use Rattle.hull_set.proofs.OrderedMaps.{point_cmp, equal, exact, found_iff}
+use Rattle.hull_set.proofs.Times.{fails, same_true, same_false, same_or_other, once_same, once_other}
 
 -- a look-up for a point does not stop at another one
 not_at : (p q : Pair) → ¬ (p ≡ q) → is_at (point_cmp p) q ≡ false
@@ -86,8 +86,3 @@ pub held_found : (es : List (Pair × ℕ)) (p : Pair) (n : ℕ) → All (λ m. 1
     → Some n ≡ lookup (is_at (point_cmp p)) es → 1 ≤ n
 held_found es p n a e = subst (λ (o : Option ℕ). IfSome o (λ m. 1 ≤ m)) (sym e)
     (IfSome-lookup_from_All (λ m. 1 ≤ m) (is_at (point_cmp p)) es a)
-
--- what is held is the same where the points are and each of them is held as often
-pub same_held : (S T : List Pair) (f g : Pair → ℕ) → S ≡ T → ((q : Pair) → f q ≡ g q)
-    → ◌≡◌ {A = Held} (record { points = S; times = f }) (record { points = T; times = g })
-same_held S T f g e h = λ i. record { points = e i; times = λ q. h q i }

@@ -8,14 +8,15 @@ use Rattle.std.proofs.lemmas.Bool.{cases_lt}
 use Rattle.std.proofs.lemmas.Grind.{common_steps}
 use Rattle.lattice.specs.Covers.{IsPointSet}
 use Rattle.lattice.specs.Plane.{Pair, IsBefore}
-use Rattle.hull_plain.specs.Edges.{end_of}
-use Rattle.hull_plain.specs.Monotone.{turn, IsInwards, IsInnerFrom, IsInner, IsTurningFrom, IsTurning, IsStrict}
+use Rattle.hull_geometry.specs.Edges.{end_of}
+use Rattle.hull_plain.specs.Monotone.{IsInwards, IsInnerFrom, IsInner, IsTurningFrom, IsTurning, IsStrict}
+use Rattle.lattice.specs.Turns.{turn}
 use Rattle.hull_plain.specs.Monotone.{EndsInwards, EndsWith, IsPassed, IsThinned}
-use Rattle.hull_plain.specs.Positions.{point_at, origin}
-use Rattle.hull_plain.specs.declared.monotone.Side.{Side}
+use Rattle.hull_geometry.specs.Positions.{point_at, origin}
+use Rattle.lattice.specs.declared.side.Side.{Side}
 use Rattle.hull_plain.proofs.ChainPasses.{take_next}
-use Rattle.hull_plain.proofs.PointLists.{AllPairs-cons, AllPairs-head, AllPairs-tail, all_append_right, left_part}
-use Rattle.hull_plain.proofs.PointLists.{right_part, append_none, append_twice, get_or_free, cut, cut_at}
+use Rattle.hull_geometry.proofs.PointLists.{AllPairs-cons, AllPairs-head, AllPairs-tail, all_append_right, left_part}
+use Rattle.hull_geometry.proofs.PointLists.{right_part, append_none, append_twice, get_or_free, cut, cut_at}
 
 -- ---- the parts of a set
 

@@ -12,12 +12,12 @@ use Rattle.lattice.specs.Plane.{Pair}
 use Rattle.lattice.proofs.Order.{before_irrefl, before_total, before_not, is_before-true, is_before-false}
 use Rattle.hull_plain.specs.Monotone.{IsChainOf, IsFringeOf, AreChainsOf, AreFringesOf}
 use Rattle.hull_plain.specs.Outlines.{HasRoom, FringesHaveRoom, IsOutlineOf, AreAlike, IsPlainSet}
-use Rattle.hull_plain.specs.declared.monotone.Side.{Side}
+use Rattle.lattice.specs.declared.side.Side.{Side}
 use Rattle.hull_plain.specs.declared.fringes.Fringes.{Fringes}
 use Rattle.hull_plain.specs.declared.outline.Outline.{Outline}
 use Rattle.hull_plain.proofs.Between.{set_few}
-use Rattle.hull_plain.proofs.OrderedMaps.{point_cmp, insert_is, remove_is}
-use Rattle.hull_plain.proofs.SetLaws.{ordered_with, ordered_without}
+use Rattle.hull_set.proofs.OrderedMaps.{point_cmp, insert_is, remove_is}
+use Rattle.hull_geometry.proofs.SetLaws.{ordered_with, ordered_without}
 
 -- room for the fringes of more points is room for those of fewer
 pub fringes_have_less : {f : Fringes} {m n : ℕ} → FringesHaveRoom f n → m ≤ n → FringesHaveRoom f m

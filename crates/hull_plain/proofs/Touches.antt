@@ -9,15 +9,16 @@ use Rattle.lattice.specs.Signs.{le_or_lt}
 use Rattle.lattice.proofs.Order.{before_total, before_trans, before_irrefl, before_not}
 use Rattle.hull_plain.specs.ChainEdges.{IsEdge, IsEdgeAt, IsClear, IsTangentBehind, IsTangentAhead, IsPassedBy, IsToCome}
 use Rattle.hull_plain.specs.ChainEdges.{IsSeen}
-use Rattle.hull_plain.specs.Monotone.{turn, IsChainOf}
-use Rattle.hull_plain.specs.Positions.{point_at}
-use Rattle.hull_plain.specs.declared.monotone.Side.{Side}
-use Rattle.hull_plain.specs.declared.monotone.Side.TheVariants.{Lower, Upper}
+use Rattle.hull_plain.specs.Monotone.{IsChainOf}
+use Rattle.lattice.specs.Turns.{turn}
+use Rattle.hull_geometry.specs.Positions.{point_at}
+use Rattle.lattice.specs.declared.side.Side.{Side}
+use Rattle.lattice.specs.declared.side.Side.TheVariants.{Lower, Upper}
 use Rattle.hull_plain.specs.declared.sights.Sight.TheVariants.{Outwards}
 use Rattle.hull_plain.proofs.ChainEdges.{all_of}
-use Rattle.hull_plain.proofs.EdgeSteps.{past_farther, past_farther_back}
+use Rattle.hull_geometry.proofs.EdgeSteps.{past_farther, past_farther_back}
 use Rattle.hull_plain.proofs.Looks.{chain_edge, chain_in, first_of, last_of}
-use Rattle.hull_plain.proofs.Orientation.{orient_other, orient_swap_zero, above}
+use Rattle.hull_geometry.proofs.Orientation.{orient_other, orient_swap_zero, above}
 use Rattle.hull_plain.proofs.Turns.{turn_cycle, turn_swap, turn_at_start, turn_at_end, turns_on, turns_back}
 use Rattle.hull_plain.proofs.Turns.{fans_from, fans_to, stays_outwards}
 

@@ -6,11 +6,11 @@ use Rattle.lattice.specs.Polynomials.{difference-eq, difference_rules}
 use Rattle.lattice.proofs.LineCrossings.{orient_start, orient_end}
 use Rattle.lattice.proofs.Vectors.{as_pair, minus, cross, cross_swap, Ahead, turn_trans, turn_trans_strict}
 use Rattle.lattice.proofs.Vectors.{turn_trans_strict_right}
-use Rattle.hull_plain.specs.Monotone.{turn}
-use Rattle.hull_plain.specs.declared.monotone.Side.{Side}
-use Rattle.hull_plain.specs.declared.monotone.Side.TheVariants.{Lower, Upper}
-use Rattle.hull_plain.proofs.Orientation.{orient-cross, orient_swap, orient_other, orient-cycle, orient_at_end, ahead_of}
-use Rattle.hull_plain.proofs.Orientation.{at_least, above}
+use Rattle.lattice.specs.Turns.{turn}
+use Rattle.lattice.specs.declared.side.Side.{Side}
+use Rattle.lattice.specs.declared.side.Side.TheVariants.{Lower, Upper}
+use Rattle.hull_geometry.proofs.Orientation.{orient-cross, orient_swap, orient_other, orient-cycle, orient_at_end, ahead_of}
+use Rattle.hull_geometry.proofs.Orientation.{at_least, above}
 
 -- the cross product of two steps, of which the first comes first on a lower chain and last on an upper one
 abbrev wedge : Side → Pair → Pair → ℤ

@@ -3,10 +3,10 @@ use Rattle.std.specs.Prelude.{pos, ◌≤ℤ◌, ◌<ℤ◌, List}
 use Rattle.std.specs.List.{Contains}
 use Rattle.lattice.specs.Places.{IsOnBoundary}
 use Rattle.lattice.specs.Plane.{Pair, IsBefore}
-use Rattle.hull_plain.specs.Monotone.{turn}
-use Rattle.hull_plain.specs.Tangents.{IsLeftTangent, IsRightTangent}
-use Rattle.hull_plain.specs.declared.monotone.Side.{Side}
-use Rattle.hull_plain.specs.declared.monotone.Side.TheVariants.{Lower, Upper}
+use Rattle.lattice.specs.Turns.{turn}
+use Rattle.hull_geometry.specs.Tangents.{IsLeftTangent, IsRightTangent}
+use Rattle.lattice.specs.declared.side.Side.{Side}
+use Rattle.lattice.specs.declared.side.Side.TheVariants.{Lower, Upper}
 use Rattle.hull_plain.specs.declared.sights.Sight.{Sight}
 use Rattle.hull_plain.specs.declared.sights.Sight.TheVariants.{Before, After, Outwards, Touching, Inwards}
 

@@ -1,15 +1,6 @@
-pub mod Tangents
-pub mod Held
-pub mod Replies
-pub mod Edges
-pub mod Positions
-pub mod Seen
-pub mod Walks
 pub mod Sets
 pub mod Outlines
 pub mod Monotone
 pub mod Drafts
 pub mod Mending
 pub mod ChainEdges
-pub mod Laws
-pub mod PointLists

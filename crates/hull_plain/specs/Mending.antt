@@ -5,9 +5,10 @@ use Rattle.std.specs.declared.ops.Bound.{Bound}
 use Rattle.std.specs.declared.ops.Bound.TheVariants.{Included, Excluded, Unbounded}
 use Rattle.lattice.specs.Covers.{IsPointSet}
 use Rattle.lattice.specs.Plane.{Pair, IsBefore}
-use Rattle.hull_plain.specs.Monotone.{turn, EndsWith, IsThinned}
-use Rattle.hull_plain.specs.Positions.{point_at}
-use Rattle.hull_plain.specs.declared.monotone.Side.{Side}
+use Rattle.hull_plain.specs.Monotone.{EndsWith, IsThinned}
+use Rattle.lattice.specs.Turns.{turn}
+use Rattle.hull_geometry.specs.Positions.{point_at}
+use Rattle.lattice.specs.declared.side.Side.{Side}
 
 -- what stands after the end of a chain: everything where it has no point
 abbrev pub IsBehind : List Pair → Bound Pair → Type 0

@@ -2,15 +2,11 @@
 use Rattle.std.specs.Prelude.{◌≡◌, ◌⊎◌, ℤ, pos, ◌+ℤ◌, ◌≤ℤ◌, ◌<ℤ◌, ◌≤◌, List, [], ◌∷◌, ◌++◌, ◌-◌, length, take}
 use Rattle.std.specs.List.{Contains}
 use Rattle.lattice.specs.Covers.{IsPointSet}
-use Rattle.lattice.specs.Plane.{Pair, orient, IsBefore}
-use Rattle.hull_plain.specs.Edges.{end_of}
-use Rattle.hull_plain.specs.declared.monotone.Side.{Side}
-use Rattle.hull_plain.specs.declared.monotone.Side.TheVariants.{Lower, Upper}
-
--- positive where b, between a and c in the order, lies outwards of the segment from a to c
-abbrev pub turn : Side → Pair → Pair → Pair → ℤ
-turn Lower a b c = orient a b c
-turn Upper a b c = orient b a c
+use Rattle.lattice.specs.Plane.{Pair, IsBefore}
+use Rattle.lattice.specs.Turns.{turn}
+use Rattle.hull_geometry.specs.Edges.{end_of}
+use Rattle.lattice.specs.declared.side.Side.{Side}
+use Rattle.lattice.specs.declared.side.Side.TheVariants.{Lower, Upper}
 
 -- u stands between a and b in the order, and not outwards of their segment
 abbrev pub IsInwards : Side → Pair → Pair → Pair → Type 0

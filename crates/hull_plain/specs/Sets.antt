@@ -3,9 +3,9 @@ use Rattle.std.specs.Prelude.{ℕ, if◌then◌else◌, List, [], ◌∷◌}
 use Rattle.std.specs.Map.{keys_of}
 use Rattle.lattice.specs.Plane.{Pair}
 use Rattle.lattice.specs.Covers.{IsPointSet}
-use Rattle.hull_plain.specs.Held.{Held}
-use Rattle.hull_plain.specs.PointLists.{is_same_pair}
-use Rattle.hull_plain.specs.declared.set.HullSet.{Ghosts}
+use Rattle.hull_set.specs.Held.{Held}
+use Rattle.hull_set.specs.PointLists.{is_same_pair}
+use Rattle.hull_set.specs.declared.set.HullSet.{Ghosts}
 
 -- the greatest number of points, and the points in the order "before", each with how often it is held
 pub record LimitedSet : Type 0 where

@@ -1,6 +1,6 @@
 //! Bisection of a chain: the one search that all questions share.
 ghost use Rattle.std.specs.Prelude.{◌+◌, ◌-◌, ◌<◌, length, true, false};
-ghost use Rattle.hull_plain.specs.Positions.{point_at};
+ghost use Rattle.hull_geometry.specs.Positions.{point_at};
 
 use lattice::Point;
 use tiered_list::TieredList;

@@ -3,13 +3,12 @@ ghost use Rattle.std.specs.Prelude.{◌≡◌, ◌+◌, ◌*◌, ◌<◌, ◌≤
 ghost use Rattle.lattice.specs.Plane.{Pair, widest_side};
 ghost use Rattle.lattice.specs.Covers.{IsPointSet};
 ghost use Rattle.lattice.specs.Vertices.{IsVertexList, IsDoubledArea};
-ghost use Rattle.hull_plain.specs.Monotone as monotone;
+ghost use Rattle.lattice.specs.Turns as turns;
 ghost use Rattle.hull_plain.specs.Monotone.{IsSomeChain, AreChainsOf, AreChains, fan_of};
 
-use super::POINT_LIMIT;
-use super::monotone::{Side, turn};
 use heap::Heap;
-use lattice::Point;
+use hull_set::POINT_LIMIT;
+use lattice::{Point, Side, turn};
 use std::alloc::AllocError;
 use tiered_list::TieredList;
 
@@ -35,8 +34,8 @@ pub(crate) fn vertices_of(
 
 /// The doubled area of a triangle that does not turn outwards.
 fn doubled_triangle(side: Side, a: Point, b: Point, c: Point) -> u128
-    requires { pos 0 ≤ℤ monotone.turn side a b c }
-    ensures value { pos result ≡ monotone.turn side a b c }
+    requires { pos 0 ≤ℤ turns.turn side a b c }
+    ensures value { pos result ≡ turns.turn side a b c }
     ensures size { result ≤ widest_side }
 {
     turn(side, a, b, c) as u128

@@ -4,12 +4,11 @@ ghost use Rattle.lattice.specs.Plane as plane;
 ghost use Rattle.lattice.specs.Plane.{Pair};
 ghost use Rattle.hull_plain.specs.ChainEdges.{Faces};
 ghost use Rattle.hull_plain.specs.Monotone.{IsChainOf};
-ghost use Rattle.hull_plain.specs.Replies.{AnswersExtreme, reply_to_extreme};
-ghost use Rattle.hull_plain.specs.Tangents.{IsFirstFarthest};
+ghost use Rattle.hull_set.specs.Replies.{AnswersExtreme, reply_to_extreme};
+ghost use Rattle.hull_geometry.specs.Tangents.{IsFirstFarthest};
 
 use super::bisection::first_failing;
-use super::monotone::Side;
-use lattice::{Direction, Point, product};
+use lattice::{Direction, Point, Side, product};
 use tiered_list::TieredList;
 
 /// Whether `p` lies less far than `q` in the direction `d`.

@@ -12,10 +12,10 @@ ghost use Rattle.hull_plain.specs.Mending.{ThinsBetween};
 
 use super::draft::Draft;
 use super::mending::{ahead, behind, is_inwards};
-use super::monotone::{Side, extend_behind};
+use super::monotone::extend_behind;
 use super::positions::position_of;
 use heap::Heap;
-use lattice::Point;
+use lattice::{Point, Side};
 use std::collections::BTreeMap;
 use tiered_list::TieredList;
 

@@ -10,9 +10,8 @@ ghost use Rattle.hull_plain.specs.Outlines.{FringesHaveRoom};
 
 use super::draft::Draft;
 use super::fringe::{put_on, renew, take_off};
-use super::monotone::Side;
 use heap::Heap;
-use lattice::Point;
+use lattice::{Point, Side};
 use std::alloc::AllocError;
 use std::collections::BTreeMap;
 use tiered_list::TieredList;

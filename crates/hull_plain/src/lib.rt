@@ -1,9 +1,8 @@
-//! Sets of lattice points that answer questions about their convex hull: what such a set promises, and a plain one.
+//! A plain set of lattice points that answers questions about its convex hull.
 //!
-//! [`HullSet`] is the promise: each call answers by the allowed-reply relation of `specs/Replies.antt`, which speaks of
-//! the live points, and of how often each is held, alone. [`PlainSet`] keeps it with an ordered map of std, the two chains
-//! of the hull and a fringe behind each, lists in blocks: it is what faster sets are compared with, and what a checker replays
-//! on.
+//! [`PlainSet`] keeps the promise [`HullSet`] (crate `hull_set`) with an ordered map of std, the two chains of the hull and a
+//! fringe behind each, lists in blocks: it is what faster sets are compared with, and what a checker replays on. What a set is
+//! and its laws are handed on from `hull_set` and `hull_geometry`.
 //!
 //! # A worked example
 //!
@@ -23,39 +22,26 @@
 #![tactic(auto)]
 
 mod bisection;
-mod call;
 mod corners;
 mod draft;
 mod extremes;
 mod fringe;
 mod fringes;
-mod laws;
 mod mending;
 mod monotone;
 mod outline;
 mod plain_set;
-mod point_list;
 mod positions;
-mod reply;
-mod rules;
-mod set;
 mod sights;
 mod tangents;
 
-pub use call::Call;
-pub use laws::{
-    doubled_area_is_unique, multiplicity_limit_is_stated, point_limit_is_stated,
-    replies_are_unique, vertex_list_is_unique, with_point_adds_the_point,
+pub use hull_geometry::{
+    doubled_area_is_unique, vertex_list_is_unique, with_point_adds_the_point,
     without_point_takes_the_point,
 };
+pub use hull_set::{
+    AddReply, Call, HullSet, MULTIPLICITY_LIMIT, NoMemory, POINT_LIMIT, Place, PointList,
+    RemoveReply, Reply, Rules, multiplicity_limit_is_stated, point_limit_is_stated,
+    replies_are_unique,
+};
 pub use plain_set::PlainSet;
-pub use point_list::PointList;
-pub use reply::Reply;
-pub use rules::Rules;
-pub use set::{AddReply, HullSet, NoMemory, Place, RemoveReply};
-
-/// The greatest limit of a set, and so the greatest number of its live points.
-pub const POINT_LIMIT: u32 = 1048576;
-
-/// How often a set holds a point at most.
-pub const MULTIPLICITY_LIMIT: u32 = 65535;

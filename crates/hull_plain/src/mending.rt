@@ -8,9 +8,9 @@ ghost use Rattle.hull_plain.specs.Monotone.{IsStrict, IsChainOf, IsFringeOf};
 ghost use Rattle.hull_plain.specs.Mending.{IsBehind, IsAhead, IsOverEdge, IsBetween};
 
 use super::draft::Draft;
-use super::monotone::{Side, extend, pass_over, take_up, turn};
+use super::monotone::{extend, pass_over, take_up};
 use super::positions::{count_up_to, first_not_before, position_of};
-use lattice::Point;
+use lattice::{Point, Side, turn};
 use std::ops::Bound;
 use tiered_list::TieredList;
 

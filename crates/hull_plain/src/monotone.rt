@@ -1,38 +1,18 @@
 //! The chain of a hull on one side, by a pass over points in order (the monotone chain: Andrew, 1979).
 ghost use Rattle.std.specs.Prelude.{◌≡◌, ◌+◌, ◌-◌, ◌<◌, ◌≤◌, ◌++◌, ◌∷◌, [], ◌↔◌, pos, ◌<ℤ◌, length, drop, IsTrue, false};
 ghost use Rattle.std.specs.Prelude.{None, slice_range, vec_capacity};
-ghost use Rattle.lattice.specs.Plane.{IsWithin, widest_side};
 ghost use Rattle.lattice.specs.Covers.{IsPointSet};
 ghost use Rattle.hull_plain.specs.Drafts.{IsAsRoomy, drafted};
-ghost use Rattle.hull_plain.specs.Monotone as monotone;
+ghost use Rattle.lattice.specs.Turns as turns;
 ghost use Rattle.hull_plain.specs.Monotone.{EndsInwards, IsTurning, IsPassed, IsThinned};
 
 use super::draft::Draft;
-use lattice::{Point, orient};
+use lattice::{Point, Side, turn};
 use tiered_list::TieredList;
-
-/// On which side of a hull a chain of edges lies.
-#[derive(Clone, Copy)]
-pub(crate) enum Side {
-    Lower,
-    Upper,
-}
-
-/// Positive where `b`, between `a` and `c` in the order, lies outwards of the segment from `a` to `c`: where `c` lies
-/// inwards of the line from `a` forward to `b`.
-pub(crate) fn turn(side: Side, a: Point, b: Point, c: Point) -> i128
-    ensures value { result ≡ monotone.turn side a b c }
-    ensures size { IsWithin widest_side result }
-{
-    match side {
-        Side::Lower => orient(a, b, c),
-        Side::Upper => orient(b, a, c),
-    }
-}
 
 /// Whether `c` lies inwards of the line from `a` forward to `b`.
 pub(crate) fn is_inner(side: Side, a: Point, b: Point, c: Point) -> bool
-    ensures { IsTrue result ↔ (pos 0 <ℤ monotone.turn side a b c) }
+    ensures { IsTrue result ↔ (pos 0 <ℤ turns.turn side a b c) }
 {
     turn(side, a, b, c) > 0
 }

@@ -2,9 +2,8 @@ ghost use Rattle.std.specs.Prelude.{◌≡◌, ◌≤◌, []};
 ghost use Rattle.hull_plain.specs.Sets.{LimitedSet};
 
 use super::outline::Outline;
-use super::set::{AddReply, HullSet, NoMemory, Place, RemoveReply};
-use super::{MULTIPLICITY_LIMIT, POINT_LIMIT};
 use heap::Heap;
+use hull_set::{AddReply, HullSet, MULTIPLICITY_LIMIT, NoMemory, POINT_LIMIT, Place, RemoveReply};
 use lattice::{Direction, Point};
 use std::collections::BTreeMap;
 use std::marker::Model;

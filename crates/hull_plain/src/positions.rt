@@ -3,7 +3,7 @@ ghost use Rattle.std.specs.Prelude.{◌+◌, ◌-◌, ◌<◌, ◌≤◌, IfOk, 
 ghost use Rattle.std.specs.List.{All};
 ghost use Rattle.lattice.specs.Plane.{IsBefore};
 ghost use Rattle.lattice.specs.Covers.{IsPointSet};
-ghost use Rattle.hull_plain.specs.Positions.{IsPositionOf};
+ghost use Rattle.hull_geometry.specs.Positions.{IsPositionOf};
 
 use lattice::{Point, before};
 use tiered_list::TieredList;

@@ -3,13 +3,12 @@ ghost use Rattle.std.specs.Prelude.{List, Err};
 ghost use Rattle.lattice.specs.Plane.{Pair};
 ghost use Rattle.hull_plain.specs.ChainEdges.{IsSeen};
 ghost use Rattle.hull_plain.specs.Monotone.{IsStrict, IsChainOf, AreChainsOf, AreChains};
-ghost use Rattle.hull_plain.specs.Positions.{IsPositionOf};
-ghost use Rattle.hull_plain.specs.Replies.{LiesAt};
+ghost use Rattle.hull_geometry.specs.Positions.{IsPositionOf};
+ghost use Rattle.hull_set.specs.Replies.{LiesAt};
 
-use super::monotone::{Side, turn};
 use super::positions::position_of;
-use super::set::Place;
-use lattice::Point;
+use hull_set::Place;
+use lattice::{Point, Side, turn};
 use tiered_list::TieredList;
 
 /// From where a point looks at a hull, seen from one side.

@@ -4,13 +4,13 @@ ghost use Rattle.lattice.specs.Plane.{Pair, IsBefore};
 ghost use Rattle.hull_plain.specs.ChainEdges.{IsSeen, IsClear, IsTangentBehind, IsTangentAhead};
 ghost use Rattle.hull_plain.specs.ChainEdges.{IsPassedBy, IsToCome};
 ghost use Rattle.hull_plain.specs.Monotone.{IsChainOf, AreChainsOf, AreChains};
-ghost use Rattle.hull_plain.specs.Positions.{point_at};
-ghost use Rattle.hull_plain.specs.Replies.{AnswersTangents, reply_to_tangents};
+ghost use Rattle.hull_geometry.specs.Positions.{point_at};
+ghost use Rattle.hull_set.specs.Replies.{AnswersTangents, reply_to_tangents};
 
 use super::bisection::first_failing;
-use super::monotone::{Side, is_inner};
+use super::monotone::is_inner;
 use super::sights::{Sight, look};
-use lattice::{Point, before};
+use lattice::{Point, Side, before};
 use tiered_list::TieredList;
 
 /// Whether the edge from `a` forward to `b` ends before `q`, which lies inwards of it.

@@ -5,7 +5,7 @@ use Rattle.std.specs.Prelude.{◌==◌, ◌↔◌, IfOk, OnErr, IsErr}
 use Rattle.std.proofs.lemmas.List.Elements.{filter-append}
 use Rattle.std.proofs.lemmas.List.Sums.{length-filter}
 use mathlib.Core.List.{IsPrefix}
-use Rattle.hull_plain.specs.declared.call.Call.{Call}
+use Rattle.hull_set.specs.declared.call.Call.{Call}
 use Rattle.hull_book.specs.declared.line.Line.{Line}
 use Rattle.hull_book.specs.declared.head.BookHead.{BookHead}
 use Rattle.hull_book.specs.declared.head.Head.{Head}
@@ -13,11 +13,11 @@ use Rattle.hull_book.specs.Books.{BookValue, IsLawful, Serves, passed}
 use Rattle.hull_book.specs.History.{IsLegal, held_after}
 use Rattle.hull_book.specs.Ledgers.{LedgerValue, IsLedger, IsLedgerOf, count_of}
 use Rattle.hull_book.specs.Answers.{Answer}
-use Rattle.hull_plain.specs.Held.{Held}
-use Rattle.hull_plain.specs.Replies.{Answers}
-use Rattle.hull_plain.specs.declared.rules.Rules.TheVariants.{Counted}
+use Rattle.hull_set.specs.Held.{Held}
+use Rattle.hull_set.specs.Replies.{Answers}
+use Rattle.hull_set.specs.declared.rules.Rules.TheVariants.{Counted}
 use Rattle.hull_pool.specs.Work.{lines_of, capacity_of, workers_of, HasCalled, HasServed}
-use Rattle.hull_plain.specs.declared.set.HullSet.{Ghosts}
+use Rattle.hull_set.specs.declared.set.HullSet.{Ghosts}
 
 -- a seat's lines are as many as its ledger counts
 pub count-lines_of : (k : ℕ) (lines : List Line) → count_of k lines ≡ length (lines_of k lines)
@@ -37,12 +37,6 @@ module _ {S : Type 0} where
     below = below;
     count_is = is.1 ∙ sym (same_count k b.lines seen own);
   }
-
-  -- so it is where the head is that at opening
-  pub found_ledger : (b opened : BookValue S) (k : ℕ) (seen : List Line) (ledger : LedgerValue) → b.head ≡ opened.head
-      → k < workers_of opened → lines_of k b.lines ≡ lines_of k seen → IsLedgerOf k seen ledger → IsLedger b k ledger
-  found_ledger b opened k seen ledger same below own is =
-      found_ledger_of b k seen ledger (subst (λ (h : BookHead). k < h.workers) (sym same) below) own is
 
 -- a line of a seat is one of its lines
 pub lines_of-own : (k : ℕ) (line : Line) → line.seat ≡ k → lines_of k (line ∷ []) ≡ line ∷ []
@@ -94,6 +88,12 @@ served_begins (Ok reply) head t k call found lines served =
     (record { number = t; seat = k; call = call; reply = reply } ∷ [], sym served.1)
 served_begins (Err full) head t k call found lines served = ([], append_nothing found ∙ sym served.1)
 
+-- so it begins with what the seat had seen before
+pub served_longer : (r : Answer) (head : Head) (t k : ℕ) (call : Call) (seen found lines : List Line)
+    → IsPrefix seen found → HasServed head t k call found lines r → IsPrefix seen lines
+served_longer r head t k call seen found lines begins served =
+    begins_longer seen found lines begins (served_begins r head t k call found lines served)
+
 -- the call has its line and its reply, or the journal is full
 pub served_called : (r : Answer) (head : Head) (t k capacity : ℕ) (call : Call) (found seen lines : List Line)
     → HasServed head t k call found lines r → lines_of k found ≡ lines_of k seen → capacity ≡ head.capacity
@@ -129,13 +129,6 @@ stays_full (Err f) head t k capacity call found seen lines served begins room fu
 pub same_own : (k n : ℕ) (lines others : List Line) → n ≡ k → lines_of n lines ≡ lines_of n others
     → lines_of k lines ≡ lines_of k others
 same_own k n lines others e same = subst (λ (m : ℕ). lines_of m lines ≡ lines_of m others) e same
-
-module _ {S : Type 0} where
-  -- the book that a seat works on is the one that it found
-  pub found_own : (k n : ℕ) (b found : BookValue S) (seen : List Line) → b ≡ found → n ≡ k
-      → lines_of n found.lines ≡ lines_of n seen → lines_of k b.lines ≡ lines_of k seen
-  found_own k n b found seen e f own =
-      ap (λ (d : BookValue S). lines_of k d.lines) e ∙ same_own k n found.lines seen f own
 
 -- lines begin with themselves
 pub begins_same : (xs ys : List Line) → ys ≡ xs → IsPrefix xs ys

@@ -7,7 +7,7 @@ use Rattle.std.proofs.lemmas.List.{map-append, replicate-append-replicate, take-
 use Rattle.std.proofs.lemmas.List.Sums.{sum_by-append}
 use Rattle.std.proofs.lemmas.List.Elements.{All-cons, All-head, All-tail}
 use mathlib.Core.List.{IsPrefix}
-use Rattle.hull_plain.specs.declared.call.Call.{Call}
+use Rattle.hull_set.specs.declared.call.Call.{Call}
 use Rattle.hull_book.specs.declared.line.Line.{Line}
 use Rattle.hull_book.specs.declared.head.BookHead.{BookHead}
 use Rattle.hull_book.specs.Books.{BookValue}
@@ -19,7 +19,7 @@ use Rattle.hull_pool.specs.Scripts.{HasRunPhases}
 use Rattle.hull_pool.specs.Work.{HasWorked, lines_of, capacity_of, workers_of, replies_of, fulls}
 use Rattle.hull_pool.proofs.Called.{begins_longer}
 use Rattle.hull_pool.proofs.Worked.{not_begun}
-use Rattle.hull_plain.specs.declared.set.HullSet.{Ghosts}
+use Rattle.hull_set.specs.declared.set.HullSet.{Ghosts}
 
 -- lines that begin with as many lines are those lines
 same_lines : (before lines : List Line) → IsPrefix before lines → length lines ≤ length before → lines ≡ before

@@ -3,7 +3,7 @@ use Rattle.std.proofs.Common.{◌≡◌, ◌<◌, ◌≤◌, ◌+◌, ℕ, zero,
 use Rattle.std.proofs.Common.{arith, length-append, map, take, drop, take-append-drop, drop-cons}
 use Rattle.std.specs.Prelude.{slice_index_or, Result, Ok, Err, OnOk}
 use Rattle.std.proofs.lemmas.List.Sums.{sum_by-cons}
-use Rattle.hull_plain.specs.declared.call.Call.{Call}
+use Rattle.hull_set.specs.declared.call.Call.{Call}
 use Rattle.hull_book.specs.declared.limits.TheConstants.{TEXT_LINE_LIMIT}
 use Rattle.hull_book.specs.Books.{BookValue}
 use Rattle.hull_book.specs.Scripts.{PhaseValue, calls_in, calls_in_all, calls_of}
@@ -12,7 +12,7 @@ use Rattle.hull_pool.specs.Answers.{WorkersValue, shown}
 use Rattle.hull_pool.specs.Runs.{job, MayRunAll}
 use Rattle.hull_pool.proofs.Phases.{AnswerVec}
 use Rattle.hull_pool.proofs.Chained.{may_front}
-use Rattle.hull_plain.specs.declared.set.HullSet.{Ghosts}
+use Rattle.hull_set.specs.declared.set.HullSet.{Ghosts}
 
 -- a worker has no more calls in a phase than all have
 job_le : (phase : PhaseValue) (k : ℕ) → length (job phase k) ≤ calls_in phase

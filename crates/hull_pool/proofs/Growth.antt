@@ -5,7 +5,7 @@ use Rattle.std.specs.Prelude.{min}
 use Rattle.std.proofs.lemmas.Bool.{cases_lt}
 use Rattle.std.proofs.lemmas.List.{take_more}
 use Rattle.std.proofs.lemmas.List.Sums.{sum_by-append, sum_by-cons}
-use Rattle.hull_plain.specs.declared.call.Call.{Call}
+use Rattle.hull_set.specs.declared.call.Call.{Call}
 use Rattle.hull_book.specs.declared.line.Line.{Line}
 use Rattle.hull_book.specs.declared.head.BookHead.{BookHead}
 use Rattle.hull_book.specs.Books.{BookValue, IsLawful}
@@ -16,7 +16,7 @@ use Rattle.hull_pool.specs.Runs.{job}
 use Rattle.hull_book.specs.Answers.{Answer}
 use Rattle.hull_pool.specs.Work.{HasWorked, lines_of, capacity_of, workers_of}
 use Rattle.hull_pool.proofs.Called.{count-lines_of}
-use Rattle.hull_plain.specs.declared.set.HullSet.{Ghosts}
+use Rattle.hull_set.specs.declared.set.HullSet.{Ghosts}
 
 -- a worker's lines are as many more as it was served
 count_grown : (k cap done : ℕ) (calls : List Call) (before lines : List Line) (old new : List Answer)

@@ -9,7 +9,7 @@ use Rattle.std.proofs.Common.{Ok, Err}
 use Rattle.std.proofs.lemmas.List.Elements.{All-cons, All-head, All-tail}
 use Rattle.std.proofs.lemmas.List.Sums.{sum_by-cons}
 use mathlib.Core.List.{IsPrefix}
-use Rattle.hull_plain.specs.declared.call.Call.{Call}
+use Rattle.hull_set.specs.declared.call.Call.{Call}
 use Rattle.hull_book.specs.declared.limits.TheConstants.{TEXT_LINE_LIMIT}
 use Rattle.hull_book.specs.declared.head.BookHead.{BookHead}
 use Rattle.hull_book.specs.declared.line.Line.{Line}
@@ -27,7 +27,7 @@ use Rattle.hull_pool.specs.Runs.{job, answers_of, MayRunAll, HasRunAll}
 use Rattle.hull_pool.proofs.Growth.{grown_to}
 use Rattle.hull_pool.specs.Work.{HasWorked, lines_of, capacity_of, workers_of, replies_of, fulls}
 use Rattle.hull_pool.proofs.Called.{same_count, begins_longer}
-use Rattle.hull_plain.specs.declared.set.HullSet.{Ghosts}
+use Rattle.hull_set.specs.declared.set.HullSet.{Ghosts}
 
 -- a seat of a lock round a book on the heap
 abbrev pub BookSeat : Type 0 → Type 0

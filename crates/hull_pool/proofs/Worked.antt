@@ -4,8 +4,8 @@ use Rattle.std.proofs.Common.{append_assoc, Ok, Err, take, inl, inr, length-appe
 use Rattle.std.specs.Prelude.{IsErr, slice_index_or}
 use Rattle.std.proofs.lemmas.Bool.{cases_lt}
 use Rattle.std.proofs.lemmas.List.{take_more, map-append, replicate-append-replicate}
-use Rattle.hull_plain.specs.declared.call.Call.{Call}
-use Rattle.hull_plain.specs.declared.reply.Reply.{Reply}
+use Rattle.hull_set.specs.declared.call.Call.{Call}
+use Rattle.hull_set.specs.declared.reply.Reply.{Reply}
 use Rattle.hull_book.specs.declared.line.Line.{Line}
 use Rattle.hull_book.specs.declared.report.JournalFull.{JournalFull}
 use Rattle.hull_book.specs.Answers.{Answer}

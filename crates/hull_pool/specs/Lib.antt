@@ -5,3 +5,4 @@ pub mod Runs
 pub mod Scripts
 pub mod Responses
 pub mod Long
+pub mod Handing

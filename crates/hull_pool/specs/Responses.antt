@@ -3,8 +3,8 @@
 use Rattle.std.specs.Prelude.{◌≡◌, ℕ, ◌<◌, List, Ok, Err, box_value}
 use mathlib.Core.Option.{some}
 use lib.ListN.{get_elem?}
-use Rattle.hull_plain.specs.declared.call.Call.{Call}
-use Rattle.hull_plain.specs.declared.set.HullSet.{Ghosts}
+use Rattle.hull_set.specs.declared.call.Call.{Call}
+use Rattle.hull_set.specs.declared.set.HullSet.{Ghosts}
 use Rattle.hull_book.specs.declared.head.BookHead.{BookHead}
 use Rattle.hull_book.specs.declared.line.Line.{Line}
 use Rattle.hull_book.specs.Answers.{Answer}

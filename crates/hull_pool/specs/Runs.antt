@@ -5,11 +5,11 @@ use mathlib.Core.List.{IsPrefix}
 use Rattle.hull_book.specs.Books.{BookValue, IsLawful}
 use Rattle.hull_book.specs.Ledgers.{AreLedgers}
 use Rattle.hull_book.specs.Scripts.{PhaseValue, calls_in_all, calls_of}
-use Rattle.hull_plain.specs.declared.call.Call.{Call}
+use Rattle.hull_set.specs.declared.call.Call.{Call}
 use Rattle.hull_book.specs.declared.limits.TheConstants.{TEXT_LINE_LIMIT}
 use Rattle.hull_pool.specs.Answers.{AnswersValue, WorkersValue, no_answers}
 use Rattle.hull_pool.specs.Work.{HasWorked, capacity_of, workers_of}
-use Rattle.hull_plain.specs.declared.set.HullSet.{Ghosts}
+use Rattle.hull_set.specs.declared.set.HullSet.{Ghosts}
 
 -- the calls of a worker in a phase
 abbrev pub job : PhaseValue → ℕ → List Call

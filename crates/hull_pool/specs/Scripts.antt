@@ -4,7 +4,7 @@ use Rattle.hull_book.specs.Books.{BookValue}
 use Rattle.hull_book.specs.Scripts.{PhaseValue}
 use Rattle.hull_pool.specs.Answers.{WorkersValue}
 use Rattle.hull_pool.specs.Runs.{HasRunAll}
-use Rattle.hull_plain.specs.declared.set.HullSet.{Ghosts}
+use Rattle.hull_set.specs.declared.set.HullSet.{Ghosts}
 
 -- the phases were run one after the other: all lines of a phase stand before those of the next
 abbrev pub HasRunPhases : {S : Type 0} → Ghosts S → BookValue S → WorkersValue → List PhaseValue → BookValue S

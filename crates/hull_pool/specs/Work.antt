@@ -2,14 +2,14 @@
 use Rattle.std.specs.Prelude.{◌≡◌, ◌==◌, ◌-◌, ◌<◌, ◌≤◌, ℕ, List, [], ◌∷◌, ◌++◌, length, map, filter, take, replicate}
 use Rattle.std.specs.Prelude.{Ok, Err}
 use mathlib.Core.List.{IsPrefix}
-use Rattle.hull_plain.specs.declared.call.Call.{Call}
+use Rattle.hull_set.specs.declared.call.Call.{Call}
 use Rattle.hull_book.specs.declared.line.Line.{Line}
 use Rattle.hull_book.specs.Books.{BookValue}
 use Rattle.hull_book.specs.Answers.{Answer}
 use Rattle.hull_book.specs.declared.head.Head.{Head}
 use Rattle.hull_book.specs.History.{IsLegal, held_after}
-use Rattle.hull_plain.specs.Replies.{Answers}
-use Rattle.hull_plain.specs.declared.rules.Rules.TheVariants.{Counted}
+use Rattle.hull_set.specs.Replies.{Answers}
+use Rattle.hull_set.specs.declared.rules.Rules.TheVariants.{Counted}
 
 -- the lines of a seat
 abbrev pub lines_of : ℕ → List Line → List Line

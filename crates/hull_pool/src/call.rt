@@ -1,15 +1,12 @@
 //! One call of a worker: it enters the lock, has the call served, and hands the book on.
-ghost use Rattle.std.specs.Prelude.{◌≡◌, ◌<◌, ◌≤◌, length, box_value, IsErr};
-ghost use mathlib.Core.List.{IsPrefix};
-ghost use Rattle.ticket_lock.specs.Tokens.{opening_book, IsSeatOf, seat_number, seat_seen, guard_lock, guard_seat};
-ghost use Rattle.ticket_lock.specs.Tokens.{guard_number, guard_seen, guard_book, KeepsHead};
-ghost use Rattle.hull_book.specs.Books.{IsLawful};
-ghost use Rattle.hull_book.specs.Ledgers.{IsLedger, IsLedgerOf};
+ghost use Rattle.std.specs.Prelude.{◌≤◌, length, box_value, IsErr};
+ghost use Rattle.ticket_lock.specs.Tokens.{opening_book, seat_seen};
 ghost use Rattle.hull_pool.specs.Crews.{book_head};
-ghost use Rattle.hull_pool.specs.Work.{HasCalled, HasServed, WasServed, capacity_of, workers_of};
+ghost use Rattle.hull_pool.specs.Handing.{HandedOn, HasCome, HoldsBook, MayCall};
+ghost use Rattle.hull_pool.specs.Work.{HasCalled, WasServed, capacity_of};
 
 use hull_book::{Answer, Book, Ledger};
-use hull_plain::{Call, HullSet};
+use hull_set::{Call, HullSet};
 use std::sync::Wait;
 use ticket_lock::{Guard, Seat, TicketLock};
 
@@ -35,18 +32,8 @@ pub fn serve_and_hand_on<S: HullSet + Drop>(
     call: Call,
     ledger: &mut Ledger,
 ) -> (BookSeat<S>, Answer)
-    requires seat { guard_seat guard ≡ number }
-    requires head { KeepsHead book_head guard }
-    requires seen { guard_seen guard ≡ (box_value (guard_book guard)).lines }
-    requires lawful { IsLawful S.HullSet (box_value (guard_book guard)) }
-    requires same_head { book_head (guard_book guard) ≡ book_head (opening_book (guard_lock guard)) }
-    requires turn { (box_value (guard_book guard)).turn ≡ guard_number guard }
-    requires ledger { IsLedger (box_value (guard_book guard)) number ledger.old }
-    ensures own { IsSeatOf book_head (guard_lock guard.entry) result.0 }
-    ensures number { seat_number result.0 ≡ number }
-    ensures ledger { IsLedgerOf number (seat_seen result.0) ledger.new }
-    ensures served { let found = box_value (guard_book guard.entry) in
-        HasServed found.head.journal (guard_number guard.entry) number call found.lines (seat_seen result.0) result.1 }
+    requires { HoldsBook book_head box_value S.HullSet guard number ledger.old }
+    ensures { HandedOn book_head box_value guard.entry number call result.1 result.0 ledger.new }
 {
     let mut guard = guard;
     let book = guard.book();
@@ -69,14 +56,8 @@ pub fn make_call<R: Wait, S: HullSet + Drop>(
     call: Call,
     ledger: &mut Ledger,
 ) -> (BookSeat<S>, Answer)
-    requires own { IsSeatOf book_head lock.now seat }
-    requires number { seat_number seat ≡ number }
-    requires below { number < workers_of (box_value (opening_book lock.now)) }
-    requires ledger { IsLedgerOf number (seat_seen seat) ledger.old }
-    ensures own { IsSeatOf book_head lock.now result.0 }
-    ensures number { seat_number result.0 ≡ number }
-    ensures ledger { IsLedgerOf number (seat_seen result.0) ledger.new }
-    ensures begins { IsPrefix (seat_seen seat) (seat_seen result.0) }
+    requires { MayCall book_head lock.now number seat ledger.old }
+    ensures back { HasCome book_head lock.now number seat result.0 ledger.new }
     ensures called { HasCalled number (capacity_of (box_value (opening_book lock.now))) call (seat_seen seat)
         (seat_seen result.0) result.1 }
     ensures served { WasServed (box_value (opening_book lock.now)).head.journal number call (seat_seen seat)

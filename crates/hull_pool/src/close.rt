@@ -10,7 +10,7 @@ ghost use Rattle.hull_pool.specs.Work.{lines_of, workers_of};
 
 use super::call::{BookLock, BookSeat};
 use hull_book::{Book, Ledger, gather};
-use hull_plain::HullSet;
+use hull_set::HullSet;
 
 /// Closes the lock and gathers the ledgers: the book, and how many calls have their line in its journal. It asks for
 /// all seats of the lock in the order of their numbers, and for the ledger of each, in the same order. The journal

@@ -2,7 +2,7 @@
 ghost use Rattle.hull_pool.specs.Responses.{AnswersAreOfLines, LongAnswersAreOfLines};
 
 use hull_book::{Book, LongBook};
-use hull_plain::HullSet;
+use hull_set::HullSet;
 use ticket_lock::{partitioned_schedules_are_linearizable, partitioned_schedules_hold};
 
 /// Linearizability (Herlihy and Wing, 1990) of the calls that seats make on a shared book: after every list of single

@@ -1,15 +1,11 @@
 //! Calls of a seat on a book that may be drained.
-ghost use Rattle.std.specs.Prelude.{◌≡◌, ◌<◌, ◌≤◌, ℕ, box_value};
-ghost use mathlib.Core.List.{IsPrefix};
-ghost use Rattle.ticket_lock.specs.Tokens.{opening_book, IsSeatOf, seat_number, seat_seen, guard_lock, guard_seat};
-ghost use Rattle.ticket_lock.specs.Tokens.{guard_number, guard_seen, guard_book, KeepsHead};
-ghost use Rattle.hull_book.specs.Books.{IsLawful};
-ghost use Rattle.hull_book.specs.Ledgers.{IsLedger, IsLedgerOf};
+ghost use Rattle.std.specs.Prelude.{◌≤◌, ℕ, box_value};
+ghost use Rattle.ticket_lock.specs.Tokens.{opening_book, guard_book, seat_seen};
+ghost use Rattle.hull_pool.specs.Handing.{HandedOn, HasCome, HoldsBook, MayCall};
 ghost use Rattle.hull_pool.specs.Long.{HandsOut, WasServedLong, answer_of, long_book_head, whole_of};
-ghost use Rattle.hull_pool.specs.Work.{HasServed};
 
 use hull_book::{Answer, Journal, Ledger, LongBook, Reply, Room};
-use hull_plain::{Call, HullSet};
+use hull_set::{Call, HullSet};
 use std::sync::Wait;
 use ticket_lock::{Guard, Seat, TicketLock};
 
@@ -35,18 +31,8 @@ pub fn serve_long_and_hand_on<S: HullSet + Drop>(
     call: Call,
     ledger: &mut Ledger,
 ) -> (LongSeat<S>, Answer)
-    requires seat { guard_seat guard ≡ number }
-    requires head { KeepsHead long_book_head guard }
-    requires seen { guard_seen guard ≡ (whole_of (guard_book guard)).lines }
-    requires lawful { IsLawful S.HullSet (whole_of (guard_book guard)) }
-    requires same_head { long_book_head (guard_book guard) ≡ long_book_head (opening_book (guard_lock guard)) }
-    requires turn { (whole_of (guard_book guard)).turn ≡ guard_number guard }
-    requires ledger { IsLedger (whole_of (guard_book guard)) number ledger.old }
-    ensures own { IsSeatOf long_book_head (guard_lock guard.entry) result.0 }
-    ensures number { seat_number result.0 ≡ number }
-    ensures ledger { IsLedgerOf number (seat_seen result.0) ledger.new }
-    ensures served { let found = whole_of (guard_book guard.entry) in
-        HasServed found.head.journal (guard_number guard.entry) number call found.lines (seat_seen result.0) result.1 }
+    requires { HoldsBook long_book_head whole_of S.HullSet guard number ledger.old }
+    ensures { HandedOn long_book_head whole_of guard.entry number call result.1 result.0 ledger.new }
 {
     let mut guard = guard;
     let book = guard.book();
@@ -65,20 +51,9 @@ pub fn drain_and_hand_on<S: HullSet + Drop>(
     ledger: &mut Ledger,
     room: Room,
 ) -> (LongSeat<S>, Drained)
-    requires seat { guard_seat guard ≡ number }
-    requires head { KeepsHead long_book_head guard }
-    requires seen { guard_seen guard ≡ (whole_of (guard_book guard)).lines }
-    requires lawful { IsLawful S.HullSet (whole_of (guard_book guard)) }
-    requires same_head { long_book_head (guard_book guard) ≡ long_book_head (opening_book (guard_lock guard)) }
-    requires turn { (whole_of (guard_book guard)).turn ≡ guard_number guard }
-    requires ledger { IsLedger (whole_of (guard_book guard)) number ledger.old }
+    requires may { HoldsBook long_book_head whole_of S.HullSet guard number ledger.old }
     requires room { (box_value (guard_book guard)).capacity ≤ room }
-    ensures own { IsSeatOf long_book_head (guard_lock guard.entry) result.0 }
-    ensures number { seat_number result.0 ≡ number }
-    ensures ledger { IsLedgerOf number (seat_seen result.0) ledger.new }
-    ensures served { let found = whole_of (guard_book guard.entry) in
-        HasServed found.head.journal (guard_number guard.entry) number call found.lines (seat_seen result.0)
-        (answer_of result.1) }
+    ensures back { HandedOn long_book_head whole_of guard.entry number call (answer_of result.1) result.0 ledger.new }
     ensures part { HandsOut (long_book_head (guard_book guard.entry)).journal
         (box_value (guard_book guard.entry)).drained (seat_seen result.0) room result.1 }
 {
@@ -97,18 +72,8 @@ pub fn serve_let_go_and_hand_on<S: HullSet + Drop>(
     call: Call,
     ledger: &mut Ledger,
 ) -> (LongSeat<S>, Answer)
-    requires seat { guard_seat guard ≡ number }
-    requires head { KeepsHead long_book_head guard }
-    requires seen { guard_seen guard ≡ (whole_of (guard_book guard)).lines }
-    requires lawful { IsLawful S.HullSet (whole_of (guard_book guard)) }
-    requires same_head { long_book_head (guard_book guard) ≡ long_book_head (opening_book (guard_lock guard)) }
-    requires turn { (whole_of (guard_book guard)).turn ≡ guard_number guard }
-    requires ledger { IsLedger (whole_of (guard_book guard)) number ledger.old }
-    ensures own { IsSeatOf long_book_head (guard_lock guard.entry) result.0 }
-    ensures number { seat_number result.0 ≡ number }
-    ensures ledger { IsLedgerOf number (seat_seen result.0) ledger.new }
-    ensures served { let found = whole_of (guard_book guard.entry) in
-        HasServed found.head.journal (guard_number guard.entry) number call found.lines (seat_seen result.0) result.1 }
+    requires { HoldsBook long_book_head whole_of S.HullSet guard number ledger.old }
+    ensures { HandedOn long_book_head whole_of guard.entry number call result.1 result.0 ledger.new }
 {
     let mut guard = guard;
     let book = guard.book();
@@ -131,14 +96,8 @@ pub fn make_long_call<R: Wait, S: HullSet + Drop>(
     call: Call,
     ledger: &mut Ledger,
 ) -> (LongSeat<S>, Answer)
-    requires own { IsSeatOf long_book_head lock.now seat }
-    requires number { seat_number seat ≡ number }
-    requires below { number < (long_book_head (opening_book lock.now)).workers }
-    requires ledger { IsLedgerOf number (seat_seen seat) ledger.old }
-    ensures own { IsSeatOf long_book_head lock.now result.0 }
-    ensures number { seat_number result.0 ≡ number }
-    ensures ledger { IsLedgerOf number (seat_seen result.0) ledger.new }
-    ensures begins { IsPrefix (seat_seen seat) (seat_seen result.0) }
+    requires { MayCall long_book_head lock.now number seat ledger.old }
+    ensures back { HasCome long_book_head lock.now number seat result.0 ledger.new }
     ensures served { WasServedLong (long_book_head (opening_book lock.now)).journal number call (seat_seen seat)
         (seat_seen result.0) result.1 }
 {
@@ -160,15 +119,9 @@ pub fn make_drain<R: Wait, S: HullSet + Drop>(
     ledger: &mut Ledger,
     room: Room,
 ) -> (LongSeat<S>, Drained)
-    requires own { IsSeatOf long_book_head lock.now seat }
-    requires number { seat_number seat ≡ number }
-    requires below { number < (long_book_head (opening_book lock.now)).workers }
-    requires ledger { IsLedgerOf number (seat_seen seat) ledger.old }
+    requires may { MayCall long_book_head lock.now number seat ledger.old }
     requires room { (long_book_head (opening_book lock.now)).journal.capacity ≤ room }
-    ensures own { IsSeatOf long_book_head lock.now result.0 }
-    ensures number { seat_number result.0 ≡ number }
-    ensures ledger { IsLedgerOf number (seat_seen result.0) ledger.new }
-    ensures begins { IsPrefix (seat_seen seat) (seat_seen result.0) }
+    ensures back { HasCome long_book_head lock.now number seat result.0 ledger.new }
     ensures served { WasServedLong (long_book_head (opening_book lock.now)).journal number call (seat_seen seat)
         (seat_seen result.0) (answer_of result.1) }
     ensures part { (drained : ℕ)
@@ -188,14 +141,8 @@ pub fn make_call_and_let_go<R: Wait, S: HullSet + Drop>(
     call: Call,
     ledger: &mut Ledger,
 ) -> (LongSeat<S>, Answer)
-    requires own { IsSeatOf long_book_head lock.now seat }
-    requires number { seat_number seat ≡ number }
-    requires below { number < (long_book_head (opening_book lock.now)).workers }
-    requires ledger { IsLedgerOf number (seat_seen seat) ledger.old }
-    ensures own { IsSeatOf long_book_head lock.now result.0 }
-    ensures number { seat_number result.0 ≡ number }
-    ensures ledger { IsLedgerOf number (seat_seen result.0) ledger.new }
-    ensures begins { IsPrefix (seat_seen seat) (seat_seen result.0) }
+    requires { MayCall long_book_head lock.now number seat ledger.old }
+    ensures back { HasCome long_book_head lock.now number seat result.0 ledger.new }
     ensures served { WasServedLong (long_book_head (opening_book lock.now)).journal number call (seat_seen seat)
         (seat_seen result.0) result.1 }
 {

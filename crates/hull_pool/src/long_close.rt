@@ -11,7 +11,7 @@ ghost use Rattle.hull_pool.specs.Work.{lines_of, workers_of};
 
 use super::long_call::{LongLock, LongSeat};
 use hull_book::{Ledger, LongBook, gather_long};
-use hull_plain::HullSet;
+use hull_set::HullSet;
 
 /// Closes the lock round a book that may be drained and gathers the ledgers, as [`close_book`](crate::close_book)
 /// does: the book, and how many calls have their line in its whole journal, those lines counted that were taken out.

@@ -15,7 +15,7 @@ use super::gate::Gate;
 use super::worker::{Worker, work_all};
 use super::workers::Workers;
 use hull_book::{Answer, Book, Ledger, Phase, Script};
-use hull_plain::HullSet;
+use hull_set::HullSet;
 use std::alloc::Global;
 use std::sync::Wait;
 use std::thread::Threads;

@@ -8,7 +8,7 @@ use super::apart::Apart;
 use super::call::{BookLock, make_call};
 use super::gate::Gate;
 use hull_book::{Answer, Book, Ledger, Phase};
-use hull_plain::HullSet;
+use hull_set::HullSet;
 use std::sync::Wait;
 use std::thread;
 use std::thread::Threads;

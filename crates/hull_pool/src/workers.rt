@@ -5,7 +5,7 @@ ghost use Rattle.hull_book.specs.Answers.{answers_in};
 ghost use Rattle.hull_pool.specs.Answers.{HasRoomFor, shown};
 
 use hull_book::{Answer, Ledger, Phase, Script};
-use hull_plain::NoMemory;
+use hull_set::NoMemory;
 use std::alloc::{AllocError, Global};
 use std::marker::Model;
 

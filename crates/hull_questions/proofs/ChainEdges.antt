@@ -1,5 +1,5 @@
 -- A lower edge of one half is one of both, where it stands clear of the lower bridge.
-use Rattle.std.proofs.Common.{◌≡◌, ℤ, pos, ◌≤ℤ◌, ◌<ℤ◌, inl, inr, sym, subst, arith, ◌++◌, Some}
+use Rattle.std.proofs.Common.{◌≡◌, ℤ, pos, ◌≤ℤ◌, ◌<ℤ◌, inl, inr, arith, ◌++◌, Some}
 use Rattle.std.proofs.lemmas.Int.{ints}
 use Rattle.std.proofs.lemmas.List.Elements.{All-contains, All-append, Contains-append_left, Contains-append_right}
 use Rattle.lattice.specs.Plane.{Pair, orient, IsBefore}
@@ -9,13 +9,13 @@ use Rattle.lattice.proofs.Vectors.{minus, cross, Ahead, turn_trans_strict, turn_
 use Rattle.bridge_search.specs.Trees.{Tree, Leaf, Fork, On, IsBridged, lower_of}
 use Rattle.bridge_search.specs.Leaves.{points_of}
 use Rattle.bridge_search.proofs.Leaves.{all_of, on_of_contains, contains_of_on}
-use Rattle.hull_plain.specs.Edges.{IsLowerEdge}
-use Rattle.lattice.proofs.Order.{before_trans, before_total}
-use Rattle.hull_plain.proofs.Orientation.{orient-cross, at_least, above, ahead_of}
+use Rattle.hull_geometry.specs.Edges.{IsLowerEdge}
+use Rattle.hull_geometry.proofs.Orientation.{orient-cross, at_least, above, ahead_of}
 use Rattle.lattice.proofs.Sides.{side_by_start, side_by_end, side_before, side_after, side_to_end}
-use Rattle.hull_questions.proofs.Sums.{sum_above, weak}
+use Rattle.lattice.proofs.Numbers.{nn_above, sum_above}
 use Rattle.hull_questions.proofs.StoredEdges.{same_ends}
-use Rattle.hull_questions.specs.Chains.{IsLowerEdgeAt}
+use Rattle.hull_geometry.specs.Sights.{IsLowerEdgeAt}
+use Rattle.hull_geometry.proofs.EdgesAt.{up_to}
 
 -- an edge cd that begins before a, where the edge ab is steeper: what lies over ab, after a, lies over cd
 over_from_left : (a b c d t : Pair) → IsBefore a b → IsBefore c d → IsBefore c a → IsBefore a t → pos 0 ≤ℤ orient c d a
@@ -43,29 +43,9 @@ over_from_right a b c d t ab cd bd tb db bd_turn bt =
     sum_above _ _ _ (side_by_end c d b t) low
     (turn_trans_strict (minus b t) (minus d b) (minus d c) hT hE (ahead_of c d cd) mid low)
 
--- ---- the order
-
--- c is not after v, and v stands before a
-pub up_to : (c v a : Pair) → ¬ (IsBefore v c) → IsBefore v a → IsBefore c a
-up_to c v a n h = elim (before_total c v) [
-  | inl k ↦ before_trans c v a k h
-  | inr (inl e) ↦ subst (λ (z : Pair). IsBefore z a) (sym e) h
-  | inr (inr k) ↦
-      absurd (n k)
-]
-
--- v stands before a, and d is not before a
-pub on_from : (v a d : Pair) → IsBefore v a → ¬ (IsBefore d a) → IsBefore v d
-on_from v a d h n = elim (before_total a d)
-    [ inl k ↦ before_trans v a d h k | inr (inl e) ↦ subst (IsBefore v) e h | inr (inr k) ↦ absurd (n k) ]
-
 -- a number at least 0 that is not 0
 pub not_zero : (z : ℤ) → pos 0 ≤ℤ z → ¬ (z ≡ pos 0) → pos 0 <ℤ z
 not_zero z h n = elim (le_or_lt z (pos 0)) [ inl k ↦ absurd (n (omega (arith, ints))) | inr k ↦ k ]
-
--- a number above 0 is no 0
-no_zero : (z : ℤ) → pos 0 <ℤ z → z ≡ pos 0 → ⊥
-no_zero z h e = omega (arith, ints)
 
 -- ---- from a half to both
 
@@ -77,10 +57,10 @@ grow_right u w c d k over = record {
   to = Contains-append_left (points_of u) (points_of w) d k.to;
   forward = k.forward;
   left = All-append (λ t. pos 0 ≤ℤ orient c d t) (points_of u) (points_of w) k.left
-      (all_of (λ t. pos 0 ≤ℤ orient c d t) (points_of w) (λ t m. weak _ (over t (on_of_contains w t m))));
+      (all_of (λ t. pos 0 ≤ℤ orient c d t) (points_of w) (λ t m. nn_above _ (over t (on_of_contains w t m))));
   last = All-append (λ t. orient c d t ≡ pos 0 → ¬ (IsBefore d t)) (points_of u) (points_of w) k.last
       (all_of (λ t. orient c d t ≡ pos 0 → ¬ (IsBefore d t)) (points_of w)
-      (λ t m e. absurd (no_zero _ (over t (on_of_contains w t m)) e)));
+      (λ t m e. absurd (omega (arith, ints, over t (on_of_contains w t m)))));
 }
 
 -- a lower edge of w over which all of u lies
@@ -91,10 +71,10 @@ grow_left u w c d k over = record {
   to = Contains-append_right (points_of u) (points_of w) d k.to;
   forward = k.forward;
   left = All-append (λ t. pos 0 ≤ℤ orient c d t) (points_of u) (points_of w)
-      (all_of (λ t. pos 0 ≤ℤ orient c d t) (points_of u) (λ t m. weak _ (over t (on_of_contains u t m)))) k.left;
+      (all_of (λ t. pos 0 ≤ℤ orient c d t) (points_of u) (λ t m. nn_above _ (over t (on_of_contains u t m)))) k.left;
   last = All-append (λ t. orient c d t ≡ pos 0 → ¬ (IsBefore d t)) (points_of u) (points_of w)
       (all_of (λ t. orient c d t ≡ pos 0 → ¬ (IsBefore d t)) (points_of u)
-      (λ t m e. absurd (no_zero _ (over t (on_of_contains u t m)) e))) k.last;
+      (λ t m e. absurd (omega (arith, ints, over t (on_of_contains u t m))))) k.last;
 }
 
 -- the bridge of two halves is a lower edge of both
@@ -105,8 +85,8 @@ bridge_edge u w a b ab h = record {
   to = Contains-append_right (points_of u) (points_of w) b (contains_of_on w b h.to_right);
   forward = ab;
   left = All-append (λ t. pos 0 ≤ℤ orient a b t) (points_of u) (points_of w)
-      (all_of (λ t. pos 0 ≤ℤ orient a b t) (points_of u) (λ t m. h.above_left t (on_of_contains u t m)))
-      (all_of (λ t. pos 0 ≤ℤ orient a b t) (points_of w) (λ t m. h.above_right t (on_of_contains w t m)));
+      (all_of (λ t. pos 0 ≤ℤ orient a b t) (points_of u) (λ t m. h.inner_left t (on_of_contains u t m)))
+      (all_of (λ t. pos 0 ≤ℤ orient a b t) (points_of w) (λ t m. h.inner_right t (on_of_contains w t m)));
   last = All-append (λ t. orient a b t ≡ pos 0 → ¬ (IsBefore b t)) (points_of u) (points_of w)
       (all_of (λ t. orient a b t ≡ pos 0 → ¬ (IsBefore b t)) (points_of u)
       (λ t m e. (h.tie_left t (on_of_contains u t m) e).1))
@@ -121,13 +101,13 @@ pub left_lifts : (u w : Tree) (v a b : Pair) (e : Pair × Pair) → IsAllBefore 
 left_lifts u w v a b e o h va k =
     let ca : IsBefore e.0 a = up_to e.0 v a k.starts va in
     let inc : On u e.0 = on_of_contains u e.0 k.edge.from in
-    let turn : pos 0 <ℤ orient a b e.0 = not_zero _ (h.above_left e.0 inc) (λ z. (h.tie_left e.0 inc z).0 ca) in
+    let turn : pos 0 <ℤ orient a b e.0 = not_zero _ (h.inner_left e.0 inc) (λ z. (h.tie_left e.0 inc z).0 ca) in
     let low : pos 0 ≤ℤ orient e.0 e.1 a =
     All-contains (λ t. pos 0 ≤ℤ orient e.0 e.1 t) (points_of u) a k.edge.left (contains_of_on u a h.from_left) in
     record {
       edge = grow_right u w e.0 e.1 k.edge
           (λ t i. over_from_left a b e.0 e.1 t (o a b h.from_left h.to_right) k.edge.forward ca
-          (o a t h.from_left i) low turn (h.above_right t i));
+          (o a t h.from_left i) low turn (h.inner_right t i));
       starts = k.starts;
       onward = k.onward;
     }
@@ -139,13 +119,13 @@ pub right_lifts : (u w : Tree) (v a b : Pair) (e : Pair × Pair) → IsAllBefore
 right_lifts u w v a b e o h n k =
     let bd : IsBefore b e.1 = up_to b v e.1 n k.onward in
     let ind : On w e.1 = on_of_contains w e.1 k.edge.to in
-    let turn : pos 0 <ℤ orient a b e.1 = not_zero _ (h.above_right e.1 ind) (λ z. (h.tie_right e.1 ind z).1 bd) in
+    let turn : pos 0 <ℤ orient a b e.1 = not_zero _ (h.inner_right e.1 ind) (λ z. (h.tie_right e.1 ind z).1 bd) in
     let low : pos 0 ≤ℤ orient e.0 e.1 b =
     All-contains (λ t. pos 0 ≤ℤ orient e.0 e.1 t) (points_of w) b k.edge.left (contains_of_on w b h.to_right) in
     record {
       edge = grow_left u w e.0 e.1 k.edge
           (λ t i. over_from_right a b e.0 e.1 t (o a b h.from_left h.to_right) k.edge.forward bd
-          (o t b i h.to_right) low turn (h.above_left t i));
+          (o t b i h.to_right) low turn (h.inner_left t i));
       starts = k.starts;
       onward = k.onward;
     }

@@ -1,7 +1,6 @@
 -- The corners of a half's lower chain, and those of its two halves.
-use Rattle.std.proofs.Common.{◌≡◌, ℤ, pos, ◌≤ℤ◌, ◌<ℤ◌, neg_ℤ, inl, inr, List, arith, ◌++◌}
+use Rattle.std.proofs.Common.{pos, ◌<ℤ◌, inl, inr, sym, List, ◌++◌}
 use Rattle.std.specs.List.{Contains}
-use Rattle.std.proofs.lemmas.Int.{ints}
 use Rattle.std.proofs.lemmas.List.Elements.{Contains-append_left, Contains-append_right, Contains-append_cases}
 use Rattle.lattice.specs.Plane.{Pair, orient, IsBefore}
 use Rattle.lattice.specs.Bridges.{IsAllBefore, IsLowerBridge}
@@ -11,10 +10,11 @@ use Rattle.bridge_search.specs.Leaves.{points_of}
 use Rattle.bridge_search.proofs.Ends.{last_by, on_last}
 use Rattle.bridge_search.proofs.Leaves.{on_of_contains, contains_of_on}
 use Rattle.bridge_search.proofs.Turns.{first_by, on_first}
-use Rattle.hull_plain.proofs.Orientation.{orient-cross, orient_swap, at_least, above, ahead_of}
+use Rattle.hull_geometry.proofs.Orientation.{orient-cross, orient_swap, at_least, above, ahead_of}
 use Rattle.hull_questions.specs.Chains.{IsLowerCorner}
 use Rattle.hull_questions.proofs.ChainEdges.{not_zero}
 use Rattle.lattice.proofs.Sides.{side_before, side_after, side_to_end}
+use Rattle.lattice.proofs.Numbers.{below_opposite, less_not_le}
 
 -- the first point is a corner: nothing stands before it
 pub first_corner : (t : Tree) → IsBridged t → IsLowerCorner (points_of t) (first_of t)
@@ -30,10 +30,6 @@ last_corner t h = record {
   under = λ s r m n b k. absurd (last_by t h r (on_of_contains t r n) k);
 }
 
--- the negative of a number above 0
-negative : (x y z : ℤ) → x ≡ neg_ℤ y → y ≡ z → pos 0 <ℤ z → x <ℤ pos 0
-negative x y z e f h = omega (arith, ints)
-
 -- the start of the bridge is a corner of the left half, each point of which before it lies over the bridge's line
 pub bridge_start : (u w : Tree) (a b : Pair) → IsAllBefore (On u) (On w) → IsLowerBridge (On u) (On w) a b
     → IsLowerCorner (points_of u) a
@@ -41,11 +37,11 @@ bridge_start u w a b o h = record {
   there = contains_of_on u a h.from_left;
   under = λ s t m n sa at.
       let i : On u s = on_of_contains u s m in
-      let turn : pos 0 <ℤ orient a b s = not_zero _ (h.above_left s i) (λ z. (h.tie_left s i z).0 sa) in
-      negative _ _ _ (orient_swap s t a) (side_after s a t)
+      let turn : pos 0 <ℤ orient a b s = not_zero _ (h.inner_left s i) (λ z. (h.tie_left s i z).0 sa) in
+      below_opposite _ _ (orient_swap s t a) (above _ _ (sym (side_after s a t))
       (turn_trans_strict (minus a s) (minus b a) (minus t a) (ahead_of s a sa)
       (ahead_of a b (o a b h.from_left h.to_right)) (ahead_of a t at) (above _ _ (side_before a b s) turn)
-      (at_least _ _ (orient-cross a b t) (h.above_left t (on_of_contains u t n))));
+      (at_least _ _ (orient-cross a b t) (h.inner_left t (on_of_contains u t n)))));
 }
 
 -- the end of the bridge is a corner of the right half, each point of which after it lies over the bridge's line
@@ -55,12 +51,12 @@ bridge_end u w a b o h = record {
   there = contains_of_on w b h.to_right;
   under = λ s t m n sb bt.
       let i : On w t = on_of_contains w t n in
-      let turn : pos 0 <ℤ orient a b t = not_zero _ (h.above_right t i) (λ z. (h.tie_right t i z).1 bt) in
-      negative _ _ _ (orient_swap s t b) (side_after s b t)
+      let turn : pos 0 <ℤ orient a b t = not_zero _ (h.inner_right t i) (λ z. (h.tie_right t i z).1 bt) in
+      below_opposite _ _ (orient_swap s t b) (above _ _ (sym (side_after s b t))
       (turn_trans_strict_right (minus b s) (minus b a) (minus t b) (ahead_of s b sb)
       (ahead_of a b (o a b h.from_left h.to_right)) (ahead_of b t bt)
-      (at_least _ _ (side_to_end a b s) (h.above_right s (on_of_contains w s m)))
-      (above _ _ (side_after a b t) turn));
+      (at_least _ _ (side_to_end a b s) (h.inner_right s (on_of_contains w s m)))
+      (above _ _ (side_after a b t) turn)));
 }
 
 -- a corner of both halves that is a point of the left one is a corner of that
@@ -77,21 +73,17 @@ corner_right xs ys v c m = record {
   under = λ s t i j. c.under s t (Contains-append_right xs ys s i) (Contains-append_right xs ys t j);
 }
 
--- a number is not below 0 and at least 0
-clash : (x : ℤ) → x <ℤ pos 0 → pos 0 ≤ℤ x → ⊥
-clash x h k = omega (arith, ints)
-
 -- no corner of both halves stands between the ends of the bridge, over whose line all points lie
 pub none_between : (u w : Tree) (a b v : Pair) → IsLowerBridge (On u) (On w) a b
     → IsLowerCorner (points_of u ++ points_of w) v → IsBefore a v → IsBefore v b → ⊥
 none_between u w a b v h c k l =
-    clash _
+    less_not_le _ _
     (c.under a b (Contains-append_left (points_of u) (points_of w) a (contains_of_on u a h.from_left))
     (Contains-append_right (points_of u) (points_of w) b (contains_of_on w b h.to_right)) k l)
     (elim (Contains-append_cases (points_of u) (points_of w) v c.there) [
       | inl m ↦
-          h.above_left v (on_of_contains u v m)
-      | inr m ↦ h.above_right v (on_of_contains w v m)
+          h.inner_left v (on_of_contains u v m)
+      | inr m ↦ h.inner_right v (on_of_contains w v m)
     ])
 
 -- a point of both halves not after the start of the bridge is one of the left half

@@ -1,20 +1,20 @@
 -- Which half has the first of the farthest points.
-use Rattle.std.proofs.Common.{◌≡◌, ℕ, subst, ℤ, pos, ◌+ℤ◌, ◌-ℤ◌, ◌*ℤ◌, ◌≤ℤ◌, ◌<ℤ◌, neg_ℤ, inl, inr, refl, ap, ◌∙◌}
+use Rattle.std.proofs.Common.{◌≡◌, ℕ, subst, ◌≤ℤ◌, ◌<ℤ◌, inl, inr, refl}
 use Rattle.std.proofs.Common.{arith, ◌++◌, [], ◌∷◌, Some, None}
 use Rattle.std.specs.List.{All, Contains}
 use Rattle.std.specs.Prelude.{◌≢◌}
 use Rattle.std.proofs.lemmas.Int.{ints}
 use Rattle.std.proofs.lemmas.List.Elements.{All-contains, All-append, Contains-append_left, Contains-append_right}
-use Rattle.lattice.specs.Plane.{Pair, orient, product, IsBefore}
+use Rattle.lattice.specs.Plane.{Pair, product, IsBefore}
 use Rattle.lattice.specs.Bridges.{IsAllBefore}
 use Rattle.lattice.specs.Signs.{le_or_lt}
 use Rattle.bridge_search.specs.Trees.{Tree, Leaf, Fork, On, IsBridged, IsFork, edge_of, left_of, right_of, first_of}
 use Rattle.bridge_search.specs.Trees.{IsAtDepth}
 use Rattle.bridge_search.specs.Leaves.{points_of}
 use Rattle.bridge_search.proofs.Leaves.{all_of, on_of_contains, contains_of_on}
-use Rattle.hull_plain.specs.Tangents.{IsFirstFarthest}
+use Rattle.hull_geometry.specs.Tangents.{IsFirstFarthest}
 use Rattle.lattice.proofs.Order.{before_not, before_irrefl}
-use Rattle.hull_plain.proofs.Slopes.{stays_up, goes_up, stays_down, goes_down}
+use Rattle.hull_geometry.proofs.Slopes.{stays_up, goes_up, stays_down, goes_down}
 use Rattle.hull_questions.proofs.StoredEdges.{same_ends}
 use Rattle.hull_questions.specs.Parts.{IsFacing, IsFartherPart, IsOneDown}
 
@@ -80,7 +80,7 @@ farther_left d (Fork e f u w) p q h (inl g) k = record {
         e.0,
         h.1.from_left,
         stays_up d e.0 e.1 s g.0 (h.0 e.0 e.1 h.1.from_left h.1.to_right) (h.0 e.0 s h.1.from_left i)
-            (h.1.below_right s i) (at_most d p q _ _ (same_ends g.1) k),
+            (h.1.inner_right s i) (at_most d p q _ _ (same_ends g.1) k),
       ));
   lower = omega arith;
 }
@@ -90,7 +90,7 @@ farther_left d (Fork e f u w) p q h (inr g) k = record {
         f.0,
         h.2.from_left,
         stays_down d f.0 f.1 s g.0 (h.0 f.0 f.1 h.2.from_left h.2.to_right) (h.0 f.0 s h.2.from_left i)
-            (h.2.above_right s i) (at_most d p q _ _ (same_ends g.1) k),
+            (h.2.inner_right s i) (at_most d p q _ _ (same_ends g.1) k),
       ));
   lower = omega arith;
 }
@@ -106,7 +106,7 @@ farther_right d (Fork e f u w) p q h (inl g) k = record {
         e.1,
         h.1.to_right,
         goes_up d e.0 e.1 s g.0 (h.0 e.0 e.1 h.1.from_left h.1.to_right) (h.0 s e.1 i h.1.to_right)
-            (h.1.below_left s i) (less_far d p q _ _ (same_ends g.1) k),
+            (h.1.inner_left s i) (less_far d p q _ _ (same_ends g.1) k),
       ));
   lower = omega arith;
 }
@@ -116,7 +116,7 @@ farther_right d (Fork e f u w) p q h (inr g) k = record {
         f.1,
         h.2.to_right,
         goes_down d f.0 f.1 s g.0 (h.0 f.0 f.1 h.2.from_left h.2.to_right) (h.0 s f.1 i h.2.to_right)
-            (h.2.above_left s i) (less_far d p q _ _ (same_ends g.1) k),
+            (h.2.inner_left s i) (less_far d p q _ _ (same_ends g.1) k),
       ));
   lower = omega arith;
 }

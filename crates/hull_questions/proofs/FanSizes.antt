@@ -10,7 +10,7 @@ use Rattle.lattice.specs.Plane.{IsWithin, widest_side}
 use Rattle.lattice.specs.Integers.{within_add, within_more}
 use Rattle.bridge_search.specs.Trees.{Tree, Leaf, Fork, IsFork, left_of, right_of, size_of, height_of}
 use Rattle.bridge_search.specs.TurnedTrees.{turned_tree}
-use Rattle.hull_plain.specs.declared.TheConstants.{POINT_LIMIT}
+use Rattle.hull_set.specs.declared.TheConstants.{POINT_LIMIT}
 
 -- both halves of a fork are lower
 pub lower_halves : (t : Tree) → IsFork t

@@ -16,8 +16,8 @@ use Rattle.bridge_search.specs.Leaves.{points_of}
 use Rattle.bridge_search.proofs.Ends.{last_by, on_last}
 use Rattle.bridge_search.proofs.Leaves.{contains_of_on}
 use Rattle.bridge_search.proofs.Turns.{on_first}
-use Rattle.hull_plain.specs.Edges.{IsLowerEdge, IsUpperEdge, IsChain, end_of}
-use Rattle.hull_plain.proofs.Rounding.{fan-append, fan-back, lower_triangle}
+use Rattle.hull_geometry.specs.Edges.{IsLowerEdge, IsUpperEdge, IsChain, end_of}
+use Rattle.hull_geometry.proofs.Rounding.{fan-append, fan-back, lower_triangle}
 use Rattle.hull_questions.specs.Walks.{IsWalk, IsFan}
 use Rattle.hull_questions.proofs.Stretched.{not_back}
 use Rattle.hull_questions.proofs.Walked.{walk_turned, upper_front, round, vertices_alone}
@@ -64,11 +64,8 @@ upper_above t z (passed, k, e) =
 -- a triangle turned by 180 degrees
 triangle_turned : (f u v : Pair) → orient f (turned_point u) (turned_point v) ≡ orient (turned_point f) u v
 unfolding orient
-triangle_turned f u v = rw (
-  as_pair f,
-  as_pair u,
-  as_pair v,
-) (simp difference_rules (difference-eq _ _ _ _ (omega arith)))
+triangle_turned f u v =
+    rw (as_pair f, as_pair u, as_pair v) (simp difference_rules (difference-eq _ _ _ _ (omega arith)))
 
 -- a fan turned by 180 degrees
 fan_turned : (f v : Pair) (vs : List Pair)

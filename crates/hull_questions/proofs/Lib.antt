@@ -1,4 +1,3 @@
-pub mod Sums
 pub mod StoredEdges
 pub mod Extremes
 pub mod ChainEdges
@@ -10,7 +9,6 @@ pub mod Stretched
 pub mod Walked
 pub mod FanSizes
 pub mod Fans
-pub mod Views
 pub mod TangentParts
 pub mod TurnedTangents
 pub mod SmallTrees

@@ -9,7 +9,8 @@ use Rattle.lattice.proofs.Order.{before_trans}
 use Rattle.hull_questions.specs.Slabs.{IsSlab}
 use Rattle.hull_questions.specs.declared.slabs.Slab.{Slab}
 use Rattle.hull_questions.specs.declared.slabs.Slab.TheVariants.{Before, After, Last, Edge}
-use Rattle.hull_questions.proofs.ChainEdges.{on_from, left_lifts, right_lifts}
+use Rattle.hull_geometry.proofs.EdgesAt.{on_from}
+use Rattle.hull_questions.proofs.ChainEdges.{left_lifts, right_lifts}
 use Rattle.hull_questions.proofs.StoredEdges.{same_ends}
 
 -- the slab of q in the part is its slab in the whole, and the part is lower
@@ -22,8 +23,7 @@ left_slabs : (e f : Pair × Pair) (u w : Tree) (q : Pair) → IsBridged (Fork e 
     → (s : Slab) → IsSlab u q s → IsSlab (Fork e f u w) q s
 left_slabs e f u w q h k Before m = m
 left_slabs e f u w q h k After m = absurd (last_by u h.3 f.0 h.2.from_left (before_trans (last_of u) q f.0 m k))
-left_slabs e f u w q h k Last m =
-    absurd (last_by u h.3 f.0 h.2.from_left (subst (λ (z : Pair). IsBefore z f.0) m k))
+left_slabs e f u w q h k Last m = absurd (last_by u h.3 f.0 h.2.from_left (subst (λ (z : Pair). IsBefore z f.0) m k))
 left_slabs e f u w q h k (Edge z) m = left_lifts u w q f.0 f.1 z h.0 h.2 k m
 
 -- a point not before the end of the bridge stands in the same slab of both as of the right half, which is not its first

@@ -15,16 +15,16 @@ small_bridged p q b = (
   record {
     from_left = refl;
     to_right = refl;
-    below_left = λ t i. let e = start t i in omega (arith, ints);
-    below_right = λ t i. let e = end t i in omega (arith, ints);
+    inner_left = λ t i. let e = start t i in omega (arith, ints);
+    inner_right = λ t i. let e = end t i in omega (arith, ints);
     tie_left = λ t i e. at_start t i;
     tie_right = λ t i e. at_end t i;
   },
   record {
     from_left = refl;
     to_right = refl;
-    above_left = λ t i. let e = start t i in omega (arith, ints);
-    above_right = λ t i. let e = end t i in omega (arith, ints);
+    inner_left = λ t i. let e = start t i in omega (arith, ints);
+    inner_right = λ t i. let e = end t i in omega (arith, ints);
     tie_left = λ t i e. at_start t i;
     tie_right = λ t i e. at_end t i;
   },

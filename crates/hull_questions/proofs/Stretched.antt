@@ -8,12 +8,12 @@ use Rattle.bridge_search.specs.Trees.{last_of}
 use Rattle.bridge_search.specs.Leaves.{points_of}
 use Rattle.bridge_search.proofs.Ends.{last_by}
 use Rattle.bridge_search.proofs.Turns.{on_first}
-use Rattle.hull_plain.specs.Edges.{IsLowerEdge, IsChain, end_of}
+use Rattle.hull_geometry.specs.Edges.{IsLowerEdge, IsChain, end_of}
 use Rattle.hull_questions.specs.Stretches.{IsStretch, IsStretchOf, IsStretchAcross}
-use Rattle.hull_questions.proofs.ChainEdges.{on_from, left_lifts, right_lifts, edge_here}
+use Rattle.hull_geometry.proofs.EdgesAt.{on_from}
+use Rattle.hull_questions.proofs.ChainEdges.{left_lifts, right_lifts, edge_here}
 use Rattle.hull_questions.proofs.Corners.{first_corner, last_corner, bridge_start, bridge_end, corner_left}
-use Rattle.hull_questions.proofs.Corners.{corner_right}
-use Rattle.hull_questions.proofs.Corners.{none_between, in_left, in_right}
+use Rattle.hull_questions.proofs.Corners.{corner_right, none_between, in_left, in_right}
 use Rattle.hull_questions.proofs.StoredEdges.{same_ends}
 
 -- the whole lower chain is a stretch
@@ -106,10 +106,7 @@ stretch_right (Fork e f u w) a b from to h g s n =
               (in_right u w f.1 to h.0 h.2.to_right s.ends.there (λ b. s.onward (on_from to f.1 from b k)));
           onward = s.onward;
         };
-        walks = λ passed r. record {
-          chain = chain_right u w f.0 f.1 from passed h.0 h.2 r.chain k;
-          ends = r.ends;
-        };
+        walks = λ passed r. record { chain = chain_right u w f.0 f.1 from passed h.0 h.2 r.chain k; ends = r.ends };
       },
     )
 
@@ -118,8 +115,7 @@ pub stretch_across : (t : Tree) (a b from to : Pair) → IsBridged t → Some (a
     → IsBefore a to → IsBefore from b → IsFork t × IsStretchAcross t from a b to
 stretch_across (Leaf x) a b from to h g s at fb = absurd (cc)
 stretch_across (Fork e f u w) a b from to h g s at fb =
-    rw ((same_ends g).0, (same_ends g).1)
-    (over (rw (same_ends g).0 at at) (rw (same_ends g).1 at fb))
+    rw ((same_ends g).0, (same_ends g).1) (over (rw (same_ends g).0 at at) (rw (same_ends g).1 at fb))
   where
     over : IsBefore f.0 to → IsBefore from f.1 → Unit {0} × IsStretchAcross (Fork e f u w) from f.0 f.1 to
     over k l =

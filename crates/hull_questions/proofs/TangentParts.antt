@@ -1,160 +1,161 @@
--- Which half has the left or the right tangent point, seen from a point below both.
-use Rattle.std.proofs.Common.{◌≡◌, ℤ, pos, ◌≤ℤ◌, ◌<ℤ◌, neg_ℤ, ◌⊎◌, inl, inr, sym, ap, ◌∙◌, subst, List, arith, ◌++◌, []}
+-- Which half has the tangent point on one hand, seen from a point below both.
+use Rattle.std.proofs.Common.{◌≡◌, ◌<◌, ℤ, pos, ◌≤ℤ◌, ◌<ℤ◌, neg_ℤ, ◌⊎◌, inl, inr, sym, ap, ◌∙◌, subst, List, arith, ◌++◌, []}
 use Rattle.std.proofs.Common.{◌∷◌, Some, None}
 use Rattle.std.specs.List.{Contains}
 use Rattle.std.proofs.lemmas.Int.{ints}
 use Rattle.std.proofs.lemmas.List.Elements.{All-contains, Contains-append_left, Contains-append_right}
 use Rattle.std.proofs.lemmas.List.Elements.{Contains-append_cases}
 use Rattle.lattice.specs.Plane.{Pair, orient, distance_squared, IsBefore}
-use Rattle.lattice.specs.Bridges.{IsAllBefore, IsLowerBridge}
 use Rattle.lattice.specs.Signs.{le_or_lt}
 use Rattle.lattice.proofs.Vectors.{minus, cross, cross_swap, turn_trans, turn_trans_strict, turn_trans_strict_right}
-use Rattle.bridge_search.specs.Trees.{Tree, Leaf, Fork, On, IsBridged, lower_of, left_of, right_of, first_of, last_of}
+use Rattle.bridge_search.specs.Trees.{Tree, Leaf, Fork, On, IsBridged, lower_of, first_of, last_of, height_of}
 use Rattle.bridge_search.specs.Leaves.{points_of}
 use Rattle.bridge_search.proofs.Ends.{last_by, on_last}
 use Rattle.bridge_search.proofs.Leaves.{all_of, on_of_contains, contains_of_on}
 use Rattle.bridge_search.proofs.Turns.{first_by, on_first}
-use Rattle.hull_plain.specs.Seen.{IsMoreRight, IsMoreLeft}
-use Rattle.hull_plain.specs.Tangents.{IsLeftTangent, IsRightTangent}
-use Rattle.hull_plain.proofs.EdgeSteps.{past_farther, past_farther_back}
+use Rattle.hull_geometry.proofs.EdgeSteps.{past_farther, past_farther_back}
 use Rattle.lattice.proofs.Order.{before_total, before_trans}
-use Rattle.hull_plain.proofs.Orientation.{orient-cross, orient_swap, orient-cycle, at_least, above, ahead_of}
-use Rattle.hull_plain.proofs.SameSide.{left_trans, right_trans}
-use Rattle.hull_plain.proofs.Sightings.{left_tangent, right_tangent, left_irrefl, right_irrefl}
-use Rattle.hull_questions.proofs.StoredEdges.{same_ends}
-use Rattle.hull_questions.specs.Parts.{IsLeftPart, IsRightPart}
-use Rattle.hull_questions.specs.Sights.{IsBelow}
+use Rattle.hull_geometry.proofs.Orientation.{orient-cross, orient_swap, orient-cycle, at_least, above, ahead_of}
+use Rattle.hull_geometry.proofs.SameSide.{OneSide, left_trans, right_trans}
+use Rattle.hull_geometry.proofs.Sightings.{left_tangent, right_tangent}
+use Rattle.hull_geometry.proofs.EdgesAt.{up_to, on_from}
+use Rattle.hull_questions.specs.Hands.{other_hand, IsNoMore, IsTangent, IsOnHand, end_on, half_on, outermost, IsBeyond}
+use Rattle.hull_questions.specs.Parts.{IsTangentPart}
+use Rattle.hull_geometry.specs.Sights.{IsBelow}
+use Rattle.hull_questions.specs.declared.questions.tangents.Hand.{Hand}
+use Rattle.hull_questions.specs.declared.questions.tangents.Hand.TheVariants.{Left, Right}
 use Rattle.lattice.proofs.Sides.{side_before, side_after, side_to_end}
 
 -- ---- the order in which q sees the points that lie above it
 
--- a point of S stands before q or after it
-side_of : (S : List Pair) (q t : Pair) → IsBelow S q → Contains S t → IsBefore t q ⊎ IsBefore q t
-side_of S q t h m = elim (before_total t q)
-    [ inl b ↦ inl b | inr (inl e) ↦ absurd (h.absent (subst (Contains S) e m)) | inr (inr b) ↦ inr b ]
+-- above 0 where s is seen farther on this hand than t
+abbrev turn : Hand → Pair → Pair → Pair → ℤ
+turn Left q s t = orient q t s
+turn Right q s t = orient q s t
 
--- a point before q is seen left of each point after it
-before_left : (S : List Pair) (q s t : Pair) → IsBelow S q → Contains S s → Contains S t → IsBefore s q → IsBefore q t
-    → pos 0 <ℤ orient q t s
-before_left S q s t h m n b k = let a : orient s t q <ℤ pos 0 = h.under s t m n b k in let e = orient-cycle s t q in
+-- seen from q, s is farther on this hand than t, or in line with it and farther off
+abbrev IsMore : Hand → Pair → Pair → Pair → Type 0
+IsMore hand q s t =
+    (pos 0 <ℤ turn hand q s t) ⊎ ((turn hand q s t ≡ pos 0) × (distance_squared q t <ℤ distance_squared q s))
+
+-- the turn the other way round
+turn_back : (hand : Hand) (q s t : Pair) → turn hand q t s ≡ neg_ℤ (turn hand q s t)
+turn_back Left q s t = orient_swap q s t
+turn_back Right q s t = orient_swap q t s
+
+-- a point of S stands on this hand of q, or q on this hand of it
+side_of : (hand : Hand) (S : List Pair) (q t : Pair) → IsBelow S q → Contains S t → IsOnHand hand t q ⊎ IsOnHand hand q t
+side_of hand S q t h m = sort hand (before_total t q)
+  where
+    sort : (hand : Hand) → IsBefore t q ⊎ ((t ≡ q) ⊎ IsBefore q t) → IsOnHand hand t q ⊎ IsOnHand hand q t
+    sort hand (inr (inl e)) = absurd (h.absent (subst (Contains S) e m))
+    sort Left (inl b) = inl b
+    sort Left (inr (inr b)) = inr b
+    sort Right (inl b) = inr b
+    sort Right (inr (inr b)) = inl b
+
+-- a point on this hand of q is seen farther there than each point on the other
+across : (hand : Hand) (S : List Pair) (q s t : Pair) → IsBelow S q → Contains S s → Contains S t → IsOnHand hand s q
+    → IsOnHand hand q t → pos 0 <ℤ turn hand q s t
+across Left S q s t h m n b k = let a : orient s t q <ℤ pos 0 = h.under s t m n b k in let e = orient-cycle s t q in
     let f = orient_swap q t s in omega (arith, ints)
+across Right S q s t h m n b k = let a : orient t s q <ℤ pos 0 = h.under t s n m k b in let e = orient-cycle t s q in
+    let f = orient_swap q s t in omega (arith, ints)
 
--- so it is more to the left
-more_left : (S : List Pair) (q s t : Pair) → IsBelow S q → Contains S s → Contains S t → IsBefore s q → IsBefore q t
-    → IsMoreLeft q s t
-more_left S q s t h m n b k = inl (before_left S q s t h m n b k)
+-- of two points not each is farther on this hand
+clash : (hand : Hand) (q s t : Pair) → pos 0 <ℤ turn hand q s t → IsMore hand q t s → ⊥
+clash hand q s t a (inl g) = let e = turn_back hand q s t in omega (arith, ints)
+clash hand q s t a (inr g) = let e = turn_back hand q s t in omega (arith, ints, g.0)
 
--- and the other is more to the right
-more_right : (S : List Pair) (q s t : Pair) → IsBelow S q → Contains S s → Contains S t → IsBefore s q → IsBefore q t
-    → IsMoreRight q t s
-more_right S q s t h m n b k = inl (before_left S q s t h m n b k)
+-- of points on one side of q, farther on this hand is transitive
+trans_beside : (hand : Hand) (q u v w : Pair) → OneSide q u v w → IsMore hand q u v → IsMore hand q v w → IsMore hand q u w
+trans_beside Left q u v w o a b = left_trans q u v w o a b
+trans_beside Right q u v w o a b = right_trans q u v w o a b
 
--- and not the other way round
-not_left : (S : List Pair) (q s t : Pair) → IsBelow S q → Contains S s → Contains S t → IsBefore s q → IsBefore q t
-    → IsMoreLeft q t s → ⊥
-not_left S q s t h m n b k (inl g) = let a = before_left S q s t h m n b k in let e = orient_swap q t s in
-    omega (arith, ints)
-not_left S q s t h m n b k (inr g) = let a = before_left S q s t h m n b k in let e = orient_swap q t s in
-    omega (arith, ints, g.0)
+-- three points on this hand of q stand on one side of it
+all_on : (hand : Hand) (q u v w : Pair) → IsOnHand hand u q → IsOnHand hand v q → IsOnHand hand w q → OneSide q u v w
+all_on Left q u v w a b c = inr (a, b, c)
+all_on Right q u v w a b c = inl (a, b, c)
 
--- nor of the right
-not_right : (S : List Pair) (q s t : Pair) → IsBelow S q → Contains S s → Contains S t → IsBefore s q → IsBefore q t
-    → IsMoreRight q s t → ⊥
-not_right S q s t h m n b k (inl g) = let a = before_left S q s t h m n b k in let e = orient_swap q t s in
-    omega (arith, ints)
-not_right S q s t h m n b k (inr g) = let a = before_left S q s t h m n b k in let e = orient_swap q t s in
-    omega (arith, ints, g.0)
+-- so do three on the other
+all_off : (hand : Hand) (q u v w : Pair) → IsOnHand hand q u → IsOnHand hand q v → IsOnHand hand q w → OneSide q u v w
+all_off Left q u v w a b c = inl (a, b, c)
+all_off Right q u v w a b c = inr (a, b, c)
 
--- more to the left is transitive
-left_order : (S : List Pair) (q u v w : Pair) → IsBelow S q → Contains S u → Contains S v → Contains S w
-    → IsMoreLeft q u v → IsMoreLeft q v w → IsMoreLeft q u w
-left_order S q u v w h mu mv mw a b =
-    elim (side_of S q u h mu) [
-      | inl bu ↦ elim (side_of S q w h mw) [
-        | inr aw ↦ more_left S q u w h mu mw bu aw
-        | inl bw ↦ elim (side_of S q v h mv)
-            [ inl bv ↦ left_trans q u v w (inr (bu, bv, bw)) a b | inr av ↦ absurd (not_left S q w v h mw mv bw av b) ]
-      ]
-      | inr au ↦ elim (side_of S q v h mv) [
-        | inl bv ↦ absurd (not_left S q v u h mv mu bv au a)
-        | inr av ↦ elim (side_of S q w h mw)
-            [ inl bw ↦ absurd (not_left S q w v h mw mv bw av b) | inr aw ↦ left_trans q u v w (inl (au, av, aw)) a b ]
-      ]
-    ]
-
--- more to the right is transitive
-right_order : (S : List Pair) (q u v w : Pair) → IsBelow S q → Contains S u → Contains S v → Contains S w
-    → IsMoreRight q u v → IsMoreRight q v w → IsMoreRight q u w
-right_order S q u v w h mu mv mw a b =
-    elim (side_of S q u h mu) [
-      | inr au ↦ elim (side_of S q w h mw) [
-        | inl bw ↦ more_right S q w u h mw mu bw au
-        | inr aw ↦ elim (side_of S q v h mv) [
-          | inr av ↦ right_trans q u v w (inl (au, av, aw)) a b
-          | inl bv ↦
-              absurd (not_right S q v w h mv mw bv aw b)
+-- farther on this hand is transitive
+more_trans : (hand : Hand) (S : List Pair) (q u v w : Pair) → IsBelow S q → Contains S u → Contains S v → Contains S w
+    → IsMore hand q u v → IsMore hand q v w → IsMore hand q u w
+more_trans hand S q u v w h mu mv mw a b =
+    elim (side_of hand S q u h mu) [
+      | inl bu ↦ elim (side_of hand S q w h mw) [
+        | inr aw ↦ inl (across hand S q u w h mu mw bu aw)
+        | inl bw ↦ elim (side_of hand S q v h mv) [
+          | inl bv ↦ trans_beside hand q u v w (all_on hand q u v w bu bv bw) a b
+          | inr av ↦ absurd (clash hand q w v (across hand S q w v h mw mv bw av) b)
         ]
       ]
-      | inl bu ↦ elim (side_of S q v h mv) [
-        | inr av ↦ absurd (not_right S q u v h mu mv bu av a)
-        | inl bv ↦ elim (side_of S q w h mw) [
-          | inr aw ↦ absurd (not_right S q v w h mv mw bv aw b)
-          | inl bw ↦
-              right_trans q u v w (inr (bu, bv, bw)) a b
+      | inr au ↦ elim (side_of hand S q v h mv) [
+        | inl bv ↦ absurd (clash hand q v u (across hand S q v u h mv mu bv au) a)
+        | inr av ↦ elim (side_of hand S q w h mw) [
+          | inl bw ↦ absurd (clash hand q w v (across hand S q w v h mw mv bw av) b)
+          | inr aw ↦ trans_beside hand q u v w (all_off hand q u v w au av aw) a b
         ]
       ]
     ]
 
 -- ---- the tangent point of a part
 
--- no point is more to the left than the left tangent point
-none_left : (S : List Pair) (q l t : Pair) → IsLeftTangent S q l → Contains S t → IsMoreLeft q t l → ⊥
-none_left S q l t h m (inl g) = let k =
-    All-contains (λ t. (orient q l t ≤ℤ pos 0)
-    × (orient q l t ≡ pos 0 → distance_squared q t ≤ℤ distance_squared q l)) S t h.1 m in omega (arith, ints, k.0)
-none_left S q l t h m (inr g) = let k =
-    All-contains (λ t. (orient q l t ≤ℤ pos 0)
-    × (orient q l t ≡ pos 0 → distance_squared q t ≤ℤ distance_squared q l)) S t h.1 m in
-    omega (arith, ints, g.1, k.1 g.0)
+-- what is not farther on this hand than p is not farther there
+no_more : (hand : Hand) (q p t : Pair) → IsNoMore hand q p t → IsMore hand q t p → ⊥
+no_more Left q p t k (inl g) = omega (arith, ints, k.0)
+no_more Left q p t k (inr g) = omega (arith, ints, g.1, k.1 g.0)
+no_more Right q p t k (inl g) = let e = orient_swap q t p in omega (arith, ints, k.0)
+no_more Right q p t k (inr g) = let e = orient_swap q p t in omega (arith, ints, g.1, k.1 (e ∙ ap neg_ℤ g.0))
 
--- no point is more to the right than the right tangent point
-none_right : (S : List Pair) (q r t : Pair) → IsRightTangent S q r → Contains S t → IsMoreRight q t r → ⊥
-none_right S q r t h m (inl g) =
-    let k = All-contains
-    (λ t. (pos 0 ≤ℤ orient q r t)
-    × (orient q r t ≡ pos 0 → distance_squared q t ≤ℤ distance_squared q r)) S t h.1 m in
-    let e = orient_swap q t r in omega (arith, ints, k.0)
-none_right S q r t h m (inr g) =
-    let k = All-contains
-    (λ t. (pos 0 ≤ℤ orient q r t)
-    × (orient q r t ≡ pos 0 → distance_squared q t ≤ℤ distance_squared q r)) S t h.1 m in
-    let e = orient_swap q r t in
-    omega (arith, ints, g.1, k.1 (e ∙ ap neg_ℤ g.0))
+-- the tangent touches where no point is farther on this hand
+tangent_of : (hand : Hand) (S : List Pair) (q p : Pair) → Contains S p
+    → ((t : Pair) → Contains S t → IsMore hand q t p → ⊥) → IsTangent hand S q p
+tangent_of Left S q p m h = left_tangent S q p m (all_of (λ t. ¬ (IsMore Left q t p)) S h)
+tangent_of Right S q p m h = right_tangent S q p m (all_of (λ t. ¬ (IsMore Right q t p)) S h)
 
--- where each point that is left out is less to the left than one that is kept, the left tangent point is that of the
--- kept
-left_kept : (S K : List Pair) (q l : Pair) → IsBelow S q → ((t : Pair) → Contains K t → Contains S t)
-    → ((t : Pair) → Contains S t → Contains K t ⊎ ((s : Pair) × Contains K s × IsMoreLeft q s t)) → IsLeftTangent K q l
-    → IsLeftTangent S q l
-left_kept S K q l h up split k =
-    left_tangent S q l (up l k.0) (all_of (λ t. ¬ (IsMoreLeft q t l)) S (λ t m g. refuse t m g (split t m)))
+-- the points of two halves are those of S
+record AreHalves (S : List Pair) (near far : Tree) : Type 0 where
+  pub in_near : (t : Pair) → On near t → Contains S t
+  pub in_far : (t : Pair) → On far t → Contains S t
+  pub which : (t : Pair) → Contains S t → On near t ⊎ On far t
+
+-- and the other way round
+swapped : (S : List Pair) (near far : Tree) → AreHalves S near far → AreHalves S far near
+swapped S near far k = record {
+  in_near = k.in_far;
+  in_far = k.in_near;
+  which = λ t m. elim (k.which t m) [ inl i ↦ inr i | inr i ↦ inl i ];
+}
+
+-- what is seen from below is seen so in a half
+below_half : (S : List Pair) (near far : Tree) (q : Pair) → AreHalves S near far → IsBelow S q → IsBelow (points_of near) q
+below_half S near far q k h = record {
+  absent = λ m. h.absent (k.in_near q (on_of_contains near q m));
+  under = λ s t m n. h.under s t (k.in_near s (on_of_contains near s m)) (k.in_near t (on_of_contains near t n));
+}
+
+-- where each point of one half is less far on this hand than one of the other, that has the tangent point of both
+kept : (hand : Hand) (S : List Pair) (near far : Tree) (q p : Pair) → AreHalves S near far → IsBelow S q
+    → ((t : Pair) → On far t → (s : Pair) × On near s × IsMore hand q s t) → IsTangent hand (points_of near) q p
+    → IsTangent hand S q p
+kept hand S near far q p k h more n = tangent_of hand S q p here (λ t m g. refuse t m g (k.which t m))
   where
-    refuse : (t : Pair) → Contains S t → IsMoreLeft q t l
-        → Contains K t ⊎ ((s : Pair) × Contains K s × IsMoreLeft q s t) → ⊥
-    refuse t m g (inl n) = none_left K q l t k n g
-    refuse t m g (inr (s, n, a)) = none_left K q l s k n (left_order S q s t l h (up s n) m (up l k.0) a g)
+    here : Contains S p
+    here = k.in_near p (on_of_contains near p n.0)
 
--- the same of the right
-right_kept : (S K : List Pair) (q r : Pair) → IsBelow S q → ((t : Pair) → Contains K t → Contains S t)
-    → ((t : Pair) → Contains S t → Contains K t ⊎ ((s : Pair) × Contains K s × IsMoreRight q s t))
-    → IsRightTangent K q r → IsRightTangent S q r
-right_kept S K q r h up split k =
-    right_tangent S q r (up r k.0) (all_of (λ t. ¬ (IsMoreRight q t r)) S (λ t m g. refuse t m g (split t m)))
-  where
-    refuse : (t : Pair) → Contains S t → IsMoreRight q t r
-        → Contains K t ⊎ ((s : Pair) × Contains K s × IsMoreRight q s t) → ⊥
-    refuse t m g (inl n) = none_right K q r t k n g
-    refuse t m g (inr (s, n, a)) = none_right K q r s k n (right_order S q s t r h (up s n) m (up r k.0) a g)
+    none : (t : Pair) → On near t → IsMore hand q t p → ⊥
+    none t i g =
+        no_more hand q p t (All-contains (IsNoMore hand q p) (points_of near) t n.1 (contains_of_on near t i)) g
+
+    refuse : (t : Pair) → Contains S t → IsMore hand q t p → On near t ⊎ On far t → ⊥
+    refuse t m g (inl i) = none t i g
+    refuse t m g (inr i) = let s = more t i in
+        none s.0 s.1 (more_trans hand S q s.0 t p h (k.in_near s.0 s.1) m here s.2 g)
 
 -- ---- the bridge as seen from q
 
@@ -166,13 +167,14 @@ above_or_zero x h = elim (le_or_lt x (pos 0)) [ inl k ↦ inr (omega (arith, int
 flip_nn : (x y : ℤ) → x ≡ neg_ℤ y → y ≤ℤ pos 0 → pos 0 ≤ℤ x
 flip_nn x y e h = omega (arith, ints)
 
--- q not over the line ab and after a: a is seen left of each point t over the line and after a, or farther in line
--- with it
-start_left : (S : List Pair) (q a b t : Pair) → IsBelow S q → Contains S a → Contains S t → IsBefore a b → IsBefore a t
-    → IsBefore a q → pos 0 ≤ℤ orient a b t → orient a b q ≤ℤ pos 0 → IsMoreLeft q a t
-start_left S q a b t h ma mt ab at aq over under =
-    elim (side_of S q t h mt) [
-      | inr k ↦ more_left S q a t h ma mt aq k
+-- q not over the line of the bridge, and beyond its end on this hand: that end is seen farther there than each point t
+-- over the line on the other hand of it
+near_more : (hand : Hand) (S : List Pair) (q t : Pair) (e : Pair × Pair) → IsBelow S q → Contains S (end_on hand e)
+    → Contains S t → IsBefore e.0 e.1 → IsOnHand hand (end_on hand e) t → IsOnHand hand (end_on hand e) q
+    → pos 0 ≤ℤ orient e.0 e.1 t → orient e.0 e.1 q ≤ℤ pos 0 → IsMore hand q (end_on hand e) t
+near_more Left S q t (a, b) h ma mt ab at aq over under =
+    elim (side_of Left S q t h mt) [
+      | inr k ↦ inl (across Left S q a t h ma mt aq k)
       | inl k ↦
           let x : pos 0 ≤ℤ cross (minus q a) (minus b a) =
           flip_nn _ _ (cross_swap (minus q a) (minus b a))
@@ -184,23 +186,10 @@ start_left S q a b t h ma mt ab at aq over under =
           at_least _ _ (sym (orient-cross a q t) ∙ orient-cycle a q t ∙ orient-cycle t a q) y in
           elim (above_or_zero _ z) [ inl g ↦ inl g | inr e ↦ inr (e, past_farther_back q t a k at e) ]
     ]
-
--- q over the line ab and after b: b is seen left of each point t over the line and before b
-end_left : (S : List Pair) (q a b t : Pair) → IsBefore a b → IsBefore t b → IsBefore b q → pos 0 ≤ℤ orient a b t
-    → pos 0 <ℤ orient a b q → IsMoreLeft q b t
-end_left S q a b t ab tb bq over left =
-    inl (above _ _ (sym (side_after t b q) ∙ orient-cycle t b q)
-    (turn_trans_strict_right (minus b t) (minus b a) (minus q b) (ahead_of t b tb) (ahead_of a b ab) (ahead_of b q bq)
-    (at_least _ _ (side_to_end a b t) over) (above _ _ (side_after a b q) left)))
-
--- q not over the line ab and before b: b is seen right of each point t over the line and before b, or farther in line
--- with it
-end_right : (S : List Pair) (q a b t : Pair) → IsBelow S q → Contains S b → Contains S t → IsBefore a b → IsBefore t b
-    → IsBefore q b → pos 0 ≤ℤ orient a b t → orient a b q ≤ℤ pos 0 → IsMoreRight q b t
-end_right S q a b t h mb mt ab tb qb over under =
-    elim (side_of S q t h mt) [
-      | inl k ↦ more_right S q t b h mt mb k qb
-      | inr k ↦
+near_more Right S q t (a, b) h mb mt ab tb qb over under =
+    elim (side_of Right S q t h mt) [
+      | inr k ↦ inl (across Right S q b t h mb mt qb k)
+      | inl k ↦
           let x : pos 0 ≤ℤ cross (minus b a) (minus b q) =
           flip_nn _ _ (cross_swap (minus b a) (minus b q))
           (subst (λ (z : ℤ). z ≤ℤ pos 0) (side_to_end a b q) under) in
@@ -212,256 +201,186 @@ end_right S q a b t h mb mt ab tb qb over under =
           [ inl g ↦ inl g | inr e ↦ inr (e, past_farther q t b k tb (orient_swap q t b ∙ ap neg_ℤ e)) ]
     ]
 
--- q over the line ab and before a: a is seen right of each point t over the line and after a
-start_right : (S : List Pair) (q a b t : Pair) → IsBefore a b → IsBefore a t → IsBefore q a → pos 0 ≤ℤ orient a b t
-    → pos 0 <ℤ orient a b q → IsMoreRight q a t
-start_right S q a b t ab at qa over left =
+-- q beyond the end of the bridge on the other hand, and over its line: that end is seen farther on this hand than each
+-- point t over the line on this hand of it
+far_more : (hand : Hand) (q t : Pair) (e : Pair × Pair) → IsBefore e.0 e.1 → IsOnHand hand t (end_on (other_hand hand) e)
+    → IsBeyond hand e q → pos 0 ≤ℤ orient e.0 e.1 t → IsMore hand q (end_on (other_hand hand) e) t
+far_more Left q t (a, b) ab tb (bq, left) over =
+    inl (above _ _ (sym (side_after t b q) ∙ orient-cycle t b q)
+    (turn_trans_strict_right (minus b t) (minus b a) (minus q b) (ahead_of t b tb) (ahead_of a b ab) (ahead_of b q bq)
+    (at_least _ _ (side_to_end a b t) over) (above _ _ (side_after a b q) left)))
+far_more Right q t (a, b) ab at (qa, left) over =
     inl (above _ _ (sym (side_after q a t))
     (turn_trans_strict (minus a q) (minus b a) (minus t a) (ahead_of q a qa) (ahead_of a b ab) (ahead_of a t at)
     (above _ _ (side_before a b q) left) (at_least _ _ (orient-cross a b t) over)))
 
 -- ---- one step down
 
--- the points of the left half are seen from below
-below_left : (u w : Tree) (q : Pair) → IsBelow (points_of u ++ points_of w) q → IsBelow (points_of u) q
-below_left u w q h = record {
-  absent = λ m. h.absent (Contains-append_left (points_of u) (points_of w) q m);
-  under = λ s t m n. h.under s t (Contains-append_left (points_of u) (points_of w) s m)
-      (Contains-append_left (points_of u) (points_of w) t n);
-}
+-- the half on this hand and the other one, with the lower bridge between them
+record IsSplit (hand : Hand) (S : List Pair) (near far : Tree) (e : Pair × Pair) : Type 0 where
+  pub halves : AreHalves S near far
+  pub apart : (s t : Pair) → On near s → On far t → IsOnHand hand s t
+  pub from : On near (end_on hand e)
+  pub to : On far (end_on (other_hand hand) e)
+  pub forward : IsBefore e.0 e.1
+  pub over : (t : Pair) → Contains S t → pos 0 ≤ℤ orient e.0 e.1 t
 
--- and those of the right half
-below_right : (u w : Tree) (q : Pair) → IsBelow (points_of u ++ points_of w) q → IsBelow (points_of w) q
-below_right u w q h = record {
-  absent = λ m. h.absent (Contains-append_right (points_of u) (points_of w) q m);
-  under = λ s t m n. h.under s t (Contains-append_right (points_of u) (points_of w) s m)
-      (Contains-append_right (points_of u) (points_of w) t n);
-}
+-- the two halves of a fork
+split_at : (hand : Hand) (e f : Pair × Pair) (u w : Tree) → IsBridged (Fork e f u w)
+    → IsSplit hand (points_of u ++ points_of w) (half_on hand (Fork e f u w)) (half_on (other_hand hand) (Fork e f u w)) f
+split_at hand e f u w h = turned hand
+  where
+    halves : AreHalves (points_of u ++ points_of w) u w
+    halves = record {
+      in_near = λ t i. Contains-append_left (points_of u) (points_of w) t (contains_of_on u t i);
+      in_far = λ t i. Contains-append_right (points_of u) (points_of w) t (contains_of_on w t i);
+      which = λ t m. elim (Contains-append_cases (points_of u) (points_of w) t m)
+          [ inl i ↦ inl (on_of_contains u t i) | inr i ↦ inr (on_of_contains w t i) ];
+    }
 
--- the left tangent point is in the left half
-keep_left : (u w : Tree) (q l : Pair) → IsBelow (points_of u ++ points_of w) q
-    → ((t : Pair) → On w t → (s : Pair) × On u s × IsMoreLeft q s t) → IsLeftTangent (points_of u) q l
-    → IsLeftTangent (points_of u ++ points_of w) q l
-keep_left u w q l h f =
-    left_kept (points_of u ++ points_of w) (points_of u) q l h
-    (λ t m. Contains-append_left (points_of u) (points_of w) t m)
-    (λ t m. elim (Contains-append_cases (points_of u) (points_of w) t m)
-    [ inl i ↦ inl i | inr i ↦ let s = f t (on_of_contains w t i) in inr (s.0, contains_of_on u s.0 s.1, s.2) ])
+    forward : IsBefore f.0 f.1
+    forward = h.0 f.0 f.1 h.2.from_left h.2.to_right
 
--- the left tangent point is in the right half
-keep_right : (u w : Tree) (q l : Pair) → IsBelow (points_of u ++ points_of w) q
-    → ((t : Pair) → On u t → (s : Pair) × On w s × IsMoreLeft q s t) → IsLeftTangent (points_of w) q l
-    → IsLeftTangent (points_of u ++ points_of w) q l
-keep_right u w q l h f =
-    left_kept (points_of u ++ points_of w) (points_of w) q l h
-    (λ t m. Contains-append_right (points_of u) (points_of w) t m)
-    (λ t m. elim (Contains-append_cases (points_of u) (points_of w) t m)
-    [ inr i ↦ inl i | inl i ↦ let s = f t (on_of_contains u t i) in inr (s.0, contains_of_on w s.0 s.1, s.2) ])
+    over : (t : Pair) → Contains (points_of u ++ points_of w) t → pos 0 ≤ℤ orient f.0 f.1 t
+    over t m = elim (halves.which t m) [ inl i ↦ h.2.inner_left t i | inr i ↦ h.2.inner_right t i ]
 
--- the right tangent point is in the left half
-keep_left_right : (u w : Tree) (q r : Pair) → IsBelow (points_of u ++ points_of w) q
-    → ((t : Pair) → On w t → (s : Pair) × On u s × IsMoreRight q s t) → IsRightTangent (points_of u) q r
-    → IsRightTangent (points_of u ++ points_of w) q r
-keep_left_right u w q r h f =
-    right_kept (points_of u ++ points_of w) (points_of u) q r h
-    (λ t m. Contains-append_left (points_of u) (points_of w) t m)
-    (λ t m. elim (Contains-append_cases (points_of u) (points_of w) t m)
-    [ inl i ↦ inl i | inr i ↦ let s = f t (on_of_contains w t i) in inr (s.0, contains_of_on u s.0 s.1, s.2) ])
+    turned : (hand : Hand)
+        → IsSplit hand (points_of u ++ points_of w) (half_on hand (Fork e f u w)) (half_on (other_hand hand) (Fork e f u w)) f
+    turned Left = record {
+      halves = halves;
+      apart = h.0;
+      from = h.2.from_left;
+      to = h.2.to_right;
+      forward = forward;
+      over = over;
+    }
+    turned Right = record {
+      halves = swapped (points_of u ++ points_of w) u w halves;
+      apart = λ s t i j. h.0 t s j i;
+      from = h.2.to_right;
+      to = h.2.from_left;
+      forward = forward;
+      over = over;
+    }
 
--- the right tangent point is in the right half
-keep_right_right : (u w : Tree) (q r : Pair) → IsBelow (points_of u ++ points_of w) q
-    → ((t : Pair) → On u t → (s : Pair) × On w s × IsMoreRight q s t) → IsRightTangent (points_of w) q r
-    → IsRightTangent (points_of u ++ points_of w) q r
-keep_right_right u w q r h f =
-    right_kept (points_of u ++ points_of w) (points_of w) q r h
-    (λ t m. Contains-append_right (points_of u) (points_of w) t m)
-    (λ t m. elim (Contains-append_cases (points_of u) (points_of w) t m)
-    [ inr i ↦ inl i | inl i ↦ let s = f t (on_of_contains u t i) in inr (s.0, contains_of_on w s.0 s.1, s.2) ])
+-- on this hand of a point that is on this hand of another
+hand_trans : (hand : Hand) (p q r : Pair) → IsOnHand hand p q → IsOnHand hand q r → IsOnHand hand p r
+hand_trans Left p q r a b = before_trans p q r a b
+hand_trans Right p q r a b = before_trans r q p b a
 
--- a point of the left half is one of both
-in_left : (u w : Tree) (t : Pair) → On u t → Contains (points_of u ++ points_of w) t
-in_left u w t i = Contains-append_left (points_of u) (points_of w) t (contains_of_on u t i)
+-- the outermost point is one of the half
+on_outermost : (hand : Hand) (t : Tree) → On t (outermost hand t)
+on_outermost Left t = on_first t
+on_outermost Right t = on_last t
 
--- a point of the right half is one of both
-in_right : (u w : Tree) (t : Pair) → On w t → Contains (points_of u ++ points_of w) t
-in_right u w t i = Contains-append_right (points_of u) (points_of w) t (contains_of_on w t i)
+-- a point between the ends of the bridge lies under its line
+under_bridge : (hand : Hand) (S : List Pair) (q : Pair) (e : Pair × Pair) → IsBelow S q → Contains S (end_on hand e)
+    → Contains S (end_on (other_hand hand) e) → IsOnHand hand (end_on hand e) q
+    → IsOnHand hand q (end_on (other_hand hand) e) → orient e.0 e.1 q ≤ℤ pos 0
+under_bridge Left S q e h m n a b = let k = h.under e.0 e.1 m n a b in omega (arith, ints)
+under_bridge Right S q e h m n a b = let k = h.under e.0 e.1 n m b a in omega (arith, ints)
 
--- q not both after the bridge and over it: some point of the left half is seen left of each point of the right one
-dominated_left : (u w : Tree) (q a b : Pair) → IsAllBefore (On u) (On w) → IsLowerBridge (On u) (On w) a b
-    → IsBelow (points_of u ++ points_of w) q → IsBefore (first_of u) q
-    → (IsBefore q b ⊎ (orient a b q ≤ℤ pos 0)) → (t : Pair) → On w t → (s : Pair) × On u s × IsMoreLeft q s t
-dominated_left u w q a b o h below first side t i =
-    elim (side_of (points_of u ++ points_of w) q a below (in_left u w a h.from_left)) [
+-- q not both beyond the bridge and over it: some point of the near half is seen farther on this hand than each point
+-- of the far one
+near_keeps : (hand : Hand) (S : List Pair) (near far : Tree) (e : Pair × Pair) (q : Pair) → IsSplit hand S near far e
+    → IsBelow S q → IsOnHand hand (outermost hand near) q → ¬ (IsBeyond hand e q) → (t : Pair) → On far t
+    → (s : Pair) × On near s × IsMore hand q s t
+near_keeps hand S near far e q k h first n t i =
+    elim (side_of hand S q (end_on hand e) h (k.halves.in_near _ k.from)) [
       | inr qa ↦ (
-        first_of u,
-        on_first u,
-        more_left (points_of u ++ points_of w) q (first_of u) t below (in_left u w (first_of u) (on_first u))
-            (in_right u w t i) first (before_trans q a t qa (o a t h.from_left i)),
+        outermost hand near,
+        on_outermost hand near,
+        inl (across hand S q (outermost hand near) t h (k.halves.in_near _ (on_outermost hand near))
+            (k.halves.in_far t i) first (hand_trans hand q (end_on hand e) t qa (k.apart (end_on hand e) t k.from i))),
       )
       | inl aq ↦ (
-        a,
-        h.from_left,
-        start_left (points_of u ++ points_of w) q a b t below (in_left u w a h.from_left) (in_right u w t i)
-            (o a b h.from_left h.to_right) (o a t h.from_left i) aq (h.above_right t i) (under aq side),
+        end_on hand e,
+        k.from,
+        near_more hand S q t e h (k.halves.in_near _ k.from) (k.halves.in_far t i) k.forward
+            (k.apart (end_on hand e) t k.from i) aq (k.over t (k.halves.in_far t i)) (under aq),
       )
     ]
   where
-    under : IsBefore a q → IsBefore q b ⊎ (orient a b q ≤ℤ pos 0) → orient a b q ≤ℤ pos 0
-    under aq (inl qb) = let k = below.under a b (in_left u w a h.from_left) (in_right u w b h.to_right) aq qb in
-        omega (arith, ints)
-    under aq (inr k) = k
-
--- q not both before the bridge and over it: some point of the right half is seen right of each point of the left one
-dominated_right : (u w : Tree) (q a b : Pair) → IsAllBefore (On u) (On w) → IsLowerBridge (On u) (On w) a b
-    → IsBelow (points_of u ++ points_of w) q → IsBefore q (last_of w)
-    → (IsBefore a q ⊎ (orient a b q ≤ℤ pos 0)) → (t : Pair) → On u t → (s : Pair) × On w s × IsMoreRight q s t
-dominated_right u w q a b o h below last side t i =
-    elim (side_of (points_of u ++ points_of w) q b below (in_right u w b h.to_right)) [
-      | inl bq ↦ (
-        last_of w,
-        on_last w,
-        more_right (points_of u ++ points_of w) q t (last_of w) below (in_left u w t i)
-            (in_right u w (last_of w) (on_last w)) (before_trans t b q (o t b i h.to_right) bq) last,
-      )
-      | inr qb ↦ (
-        b,
-        h.to_right,
-        end_right (points_of u ++ points_of w) q a b t below (in_right u w b h.to_right) (in_left u w t i)
-            (o a b h.from_left h.to_right) (o t b i h.to_right) qb (h.above_left t i) (under qb side),
-      )
-    ]
-  where
-    under : IsBefore q b → IsBefore a q ⊎ (orient a b q ≤ℤ pos 0) → orient a b q ≤ℤ pos 0
-    under qb (inl aq) = let k = below.under a b (in_left u w a h.from_left) (in_right u w b h.to_right) aq qb in
-        omega (arith, ints)
-    under qb (inr k) = k
-
--- the first point of the right half is not after the end of the bridge, nor after q
-first_before : (w : Tree) (q b : Pair) → IsBridged w → On w b → IsBefore b q → IsBefore (first_of w) q
-first_before w q b h i k =
-    elim (before_total (first_of w) b) [
-      | inl m ↦ before_trans (first_of w) b q m k
-      | inr (inl e) ↦
-          subst (λ (z : Pair). IsBefore z q) (sym e) k
-      | inr (inr m) ↦ absurd (first_by w h b i m)
+    under : IsOnHand hand (end_on hand e) q → orient e.0 e.1 q ≤ℤ pos 0
+    under aq = elim (side_of hand S q (end_on (other_hand hand) e) h (k.halves.in_far _ k.to)) [
+      | inr qb ↦ under_bridge hand S q e h (k.halves.in_near _ k.from) (k.halves.in_far _ k.to) aq qb
+      | inl bq ↦ elim (le_or_lt (orient e.0 e.1 q) (pos 0)) [ inl m ↦ m | inr m ↦ absurd (n (bq, m)) ]
     ]
 
--- the last point of the left half is not before the start of the bridge, nor before q
-last_after : (u : Tree) (q a : Pair) → IsBridged u → On u a → IsBefore q a → IsBefore q (last_of u)
-last_after u q a h i k =
-    elim (before_total a (last_of u)) [
-      | inl m ↦ before_trans q a (last_of u) k m
-      | inr (inl e) ↦ subst (IsBefore q) e k
-      | inr (inr m) ↦
-          absurd (last_by u h a i m)
-    ]
+-- a half of a fork is lower
+half_lower : (hand : Hand) (e f : Pair × Pair) (u w : Tree)
+    → height_of (half_on hand (Fork e f u w)) < height_of (Fork e f u w)
+half_lower Left e f u w = omega arith
+half_lower Right e f u w = omega arith
 
--- to the left half for the left tangent point
-pub left_to_left : (t : Tree) (q a b : Pair) → IsBridged t → Some (a, b) ≡ lower_of t → IsBelow (points_of t) q
-    → IsBefore (first_of t) q → ¬ (IsBefore b q × (pos 0 <ℤ orient a b q)) → IsLeftPart q t (left_of t)
-left_to_left (Leaf x) q a b h g below first n = absurd (cc)
-left_to_left (Fork e f u w) q a b h g below first n = record {
-  part_for = record {
-    lifts = λ l k. keep_left u w q l below (dominated_left u w q f.0 f.1 h.0 h.2 below first side) k;
-    lower = omega arith;
-  };
-  below = below_left u w q below;
-  after = first;
-}
+-- inwards of the outermost point of a fork is inwards of that of its half there
+inwards_near : (hand : Hand) (e f : Pair × Pair) (u w : Tree) (q : Pair)
+    → IsOnHand hand (outermost hand (Fork e f u w)) q → IsOnHand hand (outermost hand (half_on hand (Fork e f u w))) q
+inwards_near Left e f u w q h = h
+inwards_near Right e f u w q h = h
+
+-- beyond the bridge is inwards of the outermost point of the other half
+inwards_far : (hand : Hand) (e f : Pair × Pair) (u w : Tree) (q : Pair) → IsBridged (Fork e f u w)
+    → IsOnHand hand (end_on (other_hand hand) f) q
+    → IsOnHand hand (outermost hand (half_on (other_hand hand) (Fork e f u w))) q
+inwards_far Left e f u w q h k = up_to (first_of w) f.1 q (first_by w h.4 f.1 h.2.to_right) k
+inwards_far Right e f u w q h k = on_from q f.0 (last_of u) k (last_by u h.3 f.0 h.2.from_left)
+
+-- to the half on this hand
+pub near_part : (hand : Hand) (t part : Tree) (q : Pair) (g : Pair × Pair) → IsBridged t → Some g ≡ lower_of t
+    → IsBelow (points_of t) q → IsOnHand hand (outermost hand t) q → ¬ (IsBeyond hand g q) → part ≡ half_on hand t
+    → IsTangentPart hand q t part
+near_part hand (Leaf x) part q g h s below first n m = absurd (cc)
+near_part hand (Fork e f u w) part q g h s below first n m =
+    let t : Tree = Fork e f u w in
+    let near : Tree = half_on hand t in
+    let far : Tree = half_on (other_hand hand) t in
+    let k : IsSplit hand (points_of t) near far f = split_at hand e f u w h in
+    let o : IsOnHand hand (outermost hand near) q = inwards_near hand e f u w q first in
+    let i : g ≡ f = cc in
+    rw m record {
+      part_for = record {
+        lifts = λ p a. kept hand (points_of t) near far q p k.halves below
+            (near_keeps hand (points_of t) near far f q k below o (subst (λ z. ¬ (IsBeyond hand z q)) i n)) a;
+        lower = half_lower hand e f u w;
+      };
+      below = below_half (points_of t) near far q k.halves below;
+      inwards = o;
+    }
+
+-- to the half on the other hand
+pub far_part : (hand : Hand) (t part : Tree) (q : Pair) (g : Pair × Pair) → IsBridged t → Some g ≡ lower_of t
+    → IsBelow (points_of t) q → IsBeyond hand g q → part ≡ half_on (other_hand hand) t → IsTangentPart hand q t part
+far_part hand (Leaf x) part q g h s below b m = absurd (cc)
+far_part hand (Fork e f u w) part q g h s below b m =
+    let t : Tree = Fork e f u w in
+    let near : Tree = half_on hand t in
+    let far : Tree = half_on (other_hand hand) t in
+    let k : IsSplit hand (points_of t) near far f = split_at hand e f u w h in
+    let o : AreHalves (points_of t) far near = swapped (points_of t) near far k.halves in
+    let i : g ≡ f = cc in
+    let c : IsBeyond hand f q = subst (λ z. IsBeyond hand z q) i b in
+    rw m record {
+      part_for = record {
+        lifts = λ p a. kept hand (points_of t) far near q p o below
+            (λ t i. (
+              end_on (other_hand hand) f,
+              k.to,
+              far_more hand q t f k.forward (k.apart t (end_on (other_hand hand) f) i k.to) c
+                  (k.over t (k.halves.in_near t i)),
+            )) a;
+        lower = half_lower (other_hand hand) e f u w;
+      };
+      below = below_half (points_of t) far near q o below;
+      inwards = inwards_far hand e f u w q h c.0;
+    }
+
+-- the only point is the tangent point
+pub alone : (hand : Hand) (t : Tree) (q p : Pair) → lower_of t ≡ None → p ≡ first_of t → IsTangent hand (points_of t) q p
+alone hand (Fork e f u w) q p n k = absurd (cc)
+alone hand (Leaf x) q p n k =
+    tangent_of hand (x ∷ []) q p (contains_of_on (Leaf x) p k) (λ t m. itself t (on_of_contains (Leaf x) t m ∙ sym k))
   where
-    no : ¬ (IsBefore f.1 q × (pos 0 <ℤ orient f.0 f.1 q))
-    no = let s = same_ends g in rw (s.0, s.1) at n
-
-    side : IsBefore q f.1 ⊎ (orient f.0 f.1 q ≤ℤ pos 0)
-    side = elim (side_of (points_of u ++ points_of w) q f.1 below (in_right u w f.1 h.2.to_right)) [
-      | inr qb ↦ inl qb
-      | inl bq ↦ elim (le_or_lt (orient f.0 f.1 q) (pos 0)) [ inl k ↦ inr k | inr k ↦ absurd (no (bq, k)) ]
-    ]
-
--- to the right half for the left tangent point
-pub left_to_right : (t : Tree) (q a b : Pair) → IsBridged t → Some (a, b) ≡ lower_of t → IsBelow (points_of t) q
-    → IsBefore b q → pos 0 <ℤ orient a b q → IsLeftPart q t (right_of t)
-left_to_right (Leaf x) q a b h g below bq left = absurd (cc)
-left_to_right (Fork e f u w) q a b h g below bq left = record {
-  part_for = record {
-    lifts = λ l k. keep_right u w q l below
-        (λ t i. (
-          f.1,
-          h.2.to_right,
-          end_left (points_of u ++ points_of w) q f.0 f.1 t (h.0 f.0 f.1 h.2.from_left h.2.to_right)
-              (h.0 t f.1 i h.2.to_right) past (h.2.above_left t i) over,
-        )) k;
-    lower = omega arith;
-  };
-  below = below_right u w q below;
-  after = first_before w q f.1 h.4 h.2.to_right past;
-}
-  where
-    past : IsBefore f.1 q
-    past = subst (λ (z : Pair). IsBefore z q) (same_ends g).1 bq
-
-    over : pos 0 <ℤ orient f.0 f.1 q
-    over = let s = same_ends g in rw (s.0, s.1) at left
-
--- to the right half for the right tangent point
-pub right_to_right : (t : Tree) (q a b : Pair) → IsBridged t → Some (a, b) ≡ lower_of t → IsBelow (points_of t) q
-    → IsBefore q (last_of t) → ¬ (IsBefore q a × (pos 0 <ℤ orient a b q)) → IsRightPart q t (right_of t)
-right_to_right (Leaf x) q a b h g below last n = absurd (cc)
-right_to_right (Fork e f u w) q a b h g below last n = record {
-  part_for = record {
-    lifts = λ r k. keep_right_right u w q r below (dominated_right u w q f.0 f.1 h.0 h.2 below last side) k;
-    lower = omega arith;
-  };
-  below = below_right u w q below;
-  before = last;
-}
-  where
-    no : ¬ (IsBefore q f.0 × (pos 0 <ℤ orient f.0 f.1 q))
-    no = let s = same_ends g in rw (s.0, s.1) at n
-
-    side : IsBefore f.0 q ⊎ (orient f.0 f.1 q ≤ℤ pos 0)
-    side = elim (side_of (points_of u ++ points_of w) q f.0 below (in_left u w f.0 h.2.from_left)) [
-      | inl aq ↦ inl aq
-      | inr qa ↦ elim (le_or_lt (orient f.0 f.1 q) (pos 0)) [ inl k ↦ inr k | inr k ↦ absurd (no (qa, k)) ]
-    ]
-
--- to the left half for the right tangent point
-pub right_to_left : (t : Tree) (q a b : Pair) → IsBridged t → Some (a, b) ≡ lower_of t → IsBelow (points_of t) q
-    → IsBefore q a → pos 0 <ℤ orient a b q → IsRightPart q t (left_of t)
-right_to_left (Leaf x) q a b h g below qa left = absurd (cc)
-right_to_left (Fork e f u w) q a b h g below qa left = record {
-  part_for = record {
-    lifts = λ r k. keep_left_right u w q r below
-        (λ t i. (
-          f.0,
-          h.2.from_left,
-          start_right (points_of u ++ points_of w) q f.0 f.1 t (h.0 f.0 f.1 h.2.from_left h.2.to_right)
-              (h.0 f.0 t h.2.from_left i) past (h.2.above_right t i) over,
-        )) k;
-    lower = omega arith;
-  };
-  below = below_left u w q below;
-  before = last_after u q f.0 h.3 h.2.from_left past;
-}
-  where
-    past : IsBefore q f.0
-    past = subst (λ (z : Pair). IsBefore q z) (same_ends g).0 qa
-
-    over : pos 0 <ℤ orient f.0 f.1 q
-    over = let s = same_ends g in rw (s.0, s.1) at left
-
--- ---- one point
-
--- the only point is the left tangent point
-pub left_alone : (t : Tree) (q p : Pair) → lower_of t ≡ None → p ≡ first_of t → IsLeftTangent (points_of t) q p
-left_alone (Fork e f u w) q p n k = absurd (cc)
-left_alone (Leaf x) q p n k =
-    left_tangent (x ∷ []) q p (contains_of_on (Leaf x) p k)
-    (all_of (λ t. ¬ (IsMoreLeft q t p)) (x ∷ []) (λ t m. rw (on_of_contains (Leaf x) t m, k) (left_irrefl q x)))
-
--- the only point is the right tangent point
-pub right_alone : (t : Tree) (q p : Pair) → lower_of t ≡ None → p ≡ first_of t → IsRightTangent (points_of t) q p
-right_alone (Fork e f u w) q p n k = absurd (cc)
-right_alone (Leaf x) q p n k =
-    right_tangent (x ∷ []) q p (contains_of_on (Leaf x) p k)
-    (all_of (λ t. ¬ (IsMoreRight q t p)) (x ∷ []) (λ t m. rw (on_of_contains (Leaf x) t m, k) (right_irrefl q x)))
+    itself : (t : Pair) → t ≡ p → IsMore hand q t p → ⊥
+    itself t e (inl g) = let h = rw e at g in clash hand q p p h (inl h)
+    itself t e (inr g) = let h = rw e at g.1 in omega (arith, ints)

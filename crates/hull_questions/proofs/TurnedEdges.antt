@@ -1,28 +1,18 @@
 -- After a turn by 180 degrees the lower chain is the upper one.
-use Rattle.std.proofs.Common.{◌≡◌, pos, ◌≤ℤ◌, inl, inr, sym, ◌∙◌, subst, arith}
+use Rattle.std.proofs.Common.{◌≡◌, pos, ◌≤ℤ◌, sym, ◌∙◌, subst}
 use Rattle.std.specs.List.{All, Contains}
-use Rattle.std.proofs.lemmas.Int.{ints}
 use Rattle.std.proofs.lemmas.List.Elements.{All-contains, All-weaker}
 use Rattle.lattice.specs.Plane.{Pair, orient, IsBefore, turned_point}
-use Rattle.lattice.specs.Polynomials.{difference-eq, difference_rules}
-use Rattle.lattice.proofs.Vectors.{as_pair}
 use Rattle.bridge_search.specs.Trees.{Tree, first_of, last_of}
-use Rattle.lattice.proofs.TurnedBridges.{before_turned_back}
+use Rattle.lattice.proofs.TurnedBridges.{before_turned, before_turned_back, turned_order, unturned}
+use Rattle.lattice.proofs.Sides.{side_turned_over}
 use Rattle.bridge_search.specs.TurnedTrees.{turned_tree, turned_on, on_turned, first_turned, last_turned}
 use Rattle.bridge_search.specs.Leaves.{points_of}
 use Rattle.bridge_search.proofs.Leaves.{all_of, on_of_contains, contains_of_on}
-use Rattle.hull_plain.proofs.Orientation.{at_least}
-use Rattle.hull_plain.specs.Edges.{IsLowerEdge, IsUpperEdge}
-use Rattle.hull_questions.specs.Chains.{IsBeforeEnd, IsAfterStart, IsLowerEdgeAt, IsUpperEdgeAt}
-
--- a turn keeps the side
-pub turned_side : (a b t : Pair) → orient a b (turned_point t) ≡ orient (turned_point a) (turned_point b) t
-unfolding orient
-turned_side a b t = rw (
-  as_pair a,
-  as_pair b,
-  as_pair t,
-) (simp difference_rules (difference-eq _ _ _ _ (omega arith)))
+use Rattle.hull_geometry.proofs.Orientation.{at_least}
+use Rattle.hull_geometry.specs.Edges.{IsLowerEdge, IsUpperEdge}
+use Rattle.hull_geometry.specs.Sights.{IsLowerEdgeAt, IsUpperEdgeAt}
+use Rattle.hull_questions.specs.Chains.{IsBeforeEnd, IsAfterStart}
 
 -- what holds of all points of the turned half holds of each point of the half, turned
 pub turned_all : (t : Tree) (P : Pair → Type 0) → All P (points_of (turned_tree t))
@@ -36,16 +26,6 @@ pub turned_member : (t : Tree) (p : Pair) → Contains (points_of (turned_tree t
     → Contains (points_of t) (turned_point p)
 turned_member t p m = contains_of_on t (turned_point p) (on_turned t p (on_of_contains (turned_tree t) p m))
 
--- a turn reverses the order
-pub turned_order : (c d : Pair) → IsBefore c d → IsBefore (turned_point d) (turned_point c)
-turned_order c d (inl h) = inl (omega (arith, ints))
-turned_order c d (inr h) = inr (omega (arith, ints, h.0), omega (arith, ints, h.1))
-
--- the same, told of one turned point
-pub turned_before : (p q : Pair) → IsBefore (turned_point p) q → IsBefore (turned_point q) p
-turned_before p q (inl h) = inl (omega (arith, ints))
-turned_before p q (inr h) = inr (omega (arith, ints, h.0), omega (arith, ints, h.1))
-
 -- a lower edge of the turned half is, turned, an upper edge
 pub upper_edge_of_turned : (t : Tree) (c d : Pair) → IsLowerEdge (points_of (turned_tree t)) c d
     → IsUpperEdge (points_of t) (turned_point c) (turned_point d)
@@ -54,12 +34,12 @@ upper_edge_of_turned t c d k = record {
   to = turned_member t d k.to;
   backward = turned_order c d k.forward;
   left = All-weaker (λ s. pos 0 ≤ℤ orient c d (turned_point s))
-      (λ s. pos 0 ≤ℤ orient (turned_point c) (turned_point d) s) (λ s h. at_least _ _ (turned_side c d s) h)
+      (λ s. pos 0 ≤ℤ orient (turned_point c) (turned_point d) s) (λ s h. at_least _ _ (sym (side_turned_over c d s)) h)
       (points_of t)
       (turned_all t (λ s. pos 0 ≤ℤ orient c d s) k.left);
   last = All-weaker (λ s. orient c d (turned_point s) ≡ pos 0 → ¬ (IsBefore d (turned_point s)))
       (λ s. orient (turned_point c) (turned_point d) s ≡ pos 0 → ¬ (IsBefore s (turned_point d)))
-      (λ s h z b. h (turned_side c d s ∙ z) (before_turned_back s d b)) (points_of t)
+      (λ s h z b. h (sym (side_turned_over c d s) ∙ z) (before_turned_back s d b)) (points_of t)
       (turned_all t (λ s. orient c d s ≡ pos 0 → ¬ (IsBefore d s)) k.last);
 }
 
@@ -69,17 +49,13 @@ pub upper_of_turned : (t : Tree) (v : Pair) (e : Pair × Pair)
     → IsUpperEdgeAt (points_of t) v (turned_point e.0, turned_point e.1)
 upper_of_turned t v e k = record {
   edge = upper_edge_of_turned t e.0 e.1 k.edge;
-  starts = λ b. k.starts (turned_before e.0 v b);
-  onward = turned_before v e.1 k.onward;
+  starts = λ b. k.starts (before_turned v e.0 b);
+  onward = before_turned e.1 v k.onward;
 }
 
 -- before the end of the turned half is after the start of the half
 pub inside_turned : (t : Tree) (v : Pair) → IsAfterStart t v → IsBeforeEnd (turned_tree t) (turned_point v)
 inside_turned t v i = (
-  (λ b. i.1 (turned_back (last_of t) v (subst (IsBefore (turned_point v)) (first_turned t) b))),
+  (λ b. i.1 (unturned (last_of t) v (subst (IsBefore (turned_point v)) (first_turned t) b))),
   subst (IsBefore (turned_point v)) (sym (last_turned t)) (turned_order (first_of t) v i.0),
 )
-  where
-    turned_back : (p q : Pair) → IsBefore (turned_point q) (turned_point p) → IsBefore p q
-    turned_back p q (inl h) = inl (omega (arith, ints))
-    turned_back p q (inr h) = inr (omega (arith, ints, h.0), omega (arith, ints, h.1))

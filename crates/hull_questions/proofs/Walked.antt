@@ -11,11 +11,11 @@ use Rattle.bridge_search.specs.Leaves.{points_of}
 use Rattle.bridge_search.proofs.Ends.{last_by, on_last}
 use Rattle.bridge_search.proofs.Leaves.{on_of_contains, points_in_order}
 use Rattle.bridge_search.proofs.Turns.{first_by, on_first}
-use Rattle.hull_plain.specs.Edges.{IsLowerEdge, IsUpperEdge, IsChain, end_of}
-use Rattle.hull_plain.proofs.Rounding.{front_of, small_list}
-use Rattle.hull_plain.proofs.VertexLists.{vertex_list}
-use Rattle.hull_questions.specs.declared.questions.vertices.Side.{Side}
-use Rattle.hull_questions.specs.declared.questions.vertices.Side.TheVariants.{Lower, Upper}
+use Rattle.hull_geometry.specs.Edges.{IsLowerEdge, IsUpperEdge, IsChain, end_of}
+use Rattle.hull_geometry.proofs.Rounding.{front_of, small_list}
+use Rattle.hull_geometry.proofs.VertexLists.{vertex_list}
+use Rattle.lattice.specs.declared.side.Side.{Side}
+use Rattle.lattice.specs.declared.side.Side.TheVariants.{Lower, Upper}
 use Rattle.hull_questions.specs.Walks.{IsWalk, IsListed, upright}
 use Rattle.hull_questions.proofs.TurnedEdges.{upper_edge_of_turned}
 

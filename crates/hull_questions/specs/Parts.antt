@@ -1,10 +1,12 @@
 -- One step down a half: into a part of it that has the answer to a question.
 use Rattle.std.specs.Prelude.{◌≡◌, ◌⊎◌, ℕ, ◌+◌, ◌<◌, pos, ◌<ℤ◌, ◌≤ℤ◌, List, Option}
-use Rattle.lattice.specs.Plane.{Pair, IsBefore}
-use Rattle.bridge_search.specs.Trees.{Tree, edge_of, lower_of, height_of, first_of, last_of, IsAtDepth}
+use Rattle.lattice.specs.Plane.{Pair}
+use Rattle.bridge_search.specs.Trees.{Tree, edge_of, lower_of, height_of, IsAtDepth}
 use Rattle.bridge_search.specs.Leaves.{points_of}
-use Rattle.hull_plain.specs.Tangents.{IsFirstFarthest, IsLeftTangent, IsRightTangent}
-use Rattle.hull_questions.specs.Sights.{IsBelow}
+use Rattle.hull_geometry.specs.Tangents.{IsFirstFarthest}
+use Rattle.hull_questions.specs.Hands.{IsTangent, IsOnHand, outermost}
+use Rattle.hull_geometry.specs.Sights.{IsBelow}
+use Rattle.hull_questions.specs.declared.questions.tangents.Hand.{Hand}
 
 -- what answers a question about the part answers it about the whole, and the part is lower
 pub record IsPartFor (A : Type 0) (IsAnswer : List Pair → A → Type 0) (whole part : Tree) : Type 0 where
@@ -23,14 +25,9 @@ IsFacing d t e = ((pos 0 <ℤ d.y) × (e ≡ edge_of t)) ⊎ ((d.y ≤ℤ pos 0)
 abbrev pub IsFartherPart : Pair → Tree → Tree → Type 0
 IsFartherPart d whole part = IsPartFor Pair (λ S p. IsFirstFarthest S d p) whole part
 
--- the part has the left tangent point of the whole as seen from q, which lies below it and after its first point
-pub record IsLeftPart (q : Pair) (whole part : Tree) : Type 0 where
-  pub part_for : IsPartFor Pair (λ S l. IsLeftTangent S q l) whole part
+-- the part has the tangent point of the whole on this hand, as seen from q, which lies below it and inwards of its
+-- outermost point there
+pub record IsTangentPart (hand : Hand) (q : Pair) (whole part : Tree) : Type 0 where
+  pub part_for : IsPartFor Pair (λ S p. IsTangent hand S q p) whole part
   pub below : IsBelow (points_of part) q
-  pub after : IsBefore (first_of part) q
-
--- the part has the right tangent point of the whole as seen from q, which lies below it and before its last point
-pub record IsRightPart (q : Pair) (whole part : Tree) : Type 0 where
-  pub part_for : IsPartFor Pair (λ S r. IsRightTangent S q r) whole part
-  pub below : IsBelow (points_of part) q
-  pub before : IsBefore q (last_of part)
+  pub inwards : IsOnHand hand (outermost hand part) q

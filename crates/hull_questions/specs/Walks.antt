@@ -4,9 +4,9 @@ use Rattle.lattice.specs.Plane.{Pair, turned_point}
 use Rattle.lattice.specs.Vertices.{fan}
 use Rattle.bridge_search.specs.Trees.{Tree}
 use Rattle.bridge_search.specs.Leaves.{points_of}
-use Rattle.hull_plain.specs.Edges.{IsLowerEdge, IsChain, end_of}
-use Rattle.hull_questions.specs.declared.questions.vertices.Side.{Side}
-use Rattle.hull_questions.specs.declared.questions.vertices.Side.TheVariants.{Lower, Upper}
+use Rattle.hull_geometry.specs.Edges.{IsLowerEdge, IsChain, end_of}
+use Rattle.lattice.specs.declared.side.Side.{Side}
+use Rattle.lattice.specs.declared.side.Side.TheVariants.{Lower, Upper}
 
 -- a walk along the lower chain from one point to another, over the points of `passed`
 pub record IsWalk (t : Tree) (from : Pair) (passed : List Pair) (to : Pair) : Type 0 where

@@ -1,7 +1,7 @@
 -- What a kind and two numbers ask for.
 use Rattle.std.specs.Prelude.{◌≡◌, ◌≢◌, ◌⊎◌, ℕ, ℤ, Result, Ok, Err, MatchResult}
 use Rattle.lattice.specs.Plane.{Pair}
-use Rattle.hull_plain.specs.declared.call.Call.TheVariants as call
+use Rattle.hull_set.specs.declared.call.Call.TheVariants as call
 use Rattle.hull_reply.specs.Coordinates.{AreCoordinates, AreZero}
 use Rattle.hull_reply.specs.declared.code.Code.{Code}
 use Rattle.hull_reply.specs.declared.code.Code.TheVariants.{OutOfRange, ZeroDirection, UnknownKind}

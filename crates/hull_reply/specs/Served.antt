@@ -1,11 +1,11 @@
 -- What a request comes to that is served to a set. `S` is a type of sets, and `K` what the trait `HullSet` says of one.
 use Rattle.std.specs.Prelude.{◌≡◌, ℕ, ℤ, Result, Ok, Err}
 use Rattle.lattice.specs.Plane.{Pair}
-use Rattle.hull_plain.specs.Replies.{Answers, after}
-use Rattle.hull_plain.specs.declared.rules.Rules.TheVariants.{Counted}
-use Rattle.hull_plain.specs.declared.call.Call as plain
-use Rattle.hull_plain.specs.declared.reply.Reply.{Reply}
-use Rattle.hull_plain.specs.declared.set.HullSet.{Ghosts}
+use Rattle.hull_set.specs.Replies.{Answers, after}
+use Rattle.hull_set.specs.declared.rules.Rules.TheVariants.{Counted}
+use Rattle.hull_set.specs.declared.call.Call as plain
+use Rattle.hull_set.specs.declared.reply.Reply.{Reply}
+use Rattle.hull_set.specs.declared.set.HullSet.{Ghosts}
 use Rattle.hull_reply.specs.Requests.{IsRequestOf}
 use Rattle.hull_reply.specs.Told.{IsBare, IsNumber, Tells}
 use Rattle.hull_reply.specs.declared.code.Code.{Code}

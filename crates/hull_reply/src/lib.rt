@@ -1,7 +1,7 @@
 //! Requests and replies in numbers, for callers in C: a kind and two numbers, and a code and what belongs to it.
 //!
 //! The libraries for C ask and tell by one table of numbers, which stands in `include/hull_common.h`. [`told`] makes a
-//! [`HullReply`] of a [`Reply`](hull_plain::Reply); its contract says that the numbers tell that reply and no other.
+//! [`HullReply`] of a [`Reply`](hull_set::Reply); its contract says that the numbers tell that reply and no other.
 //! [`request_of`] makes a [`Request`] of a kind and two numbers, which [`point_of`] and [`direction_of`] read, and
 //! [`serve`] serves it to a set. [`put_corners`] writes corners to an array of the caller's.
 #![tactic(auto)]

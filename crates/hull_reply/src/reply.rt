@@ -4,7 +4,7 @@ ghost use Rattle.lattice.specs.Plane.{Pair};
 ghost use Rattle.hull_reply.specs.Told.{AreNumbers, AreTangents, IsBare, IsNumber, IsPoint, IsWide, Tells};
 
 use crate::code::Code;
-use hull_plain::{Place, Reply};
+use hull_set::{Place, Reply};
 use lattice::Point;
 
 /// What a call was answered: the number of its code, and what belongs to that code; all else is 0.

@@ -4,7 +4,7 @@ ghost use Rattle.hull_reply.specs.Requests.{IsDirectionRequest, IsRequestAs, IsR
 use crate::code::Code;
 use crate::coordinates::{direction_of, point_of};
 use crate::kind::Kind;
-use hull_plain::Call;
+use hull_set::Call;
 use lattice::Point;
 
 /// What a kind and two numbers ask for.

@@ -1,5 +1,8 @@
+mod LendsBoth
+mod Makes
+mod SeatReplies
 pub mod Books
+pub mod Fronts
 pub mod Gathered
 pub mod Homes
 pub mod Lists
-pub mod Fronts

@@ -1,6 +1,6 @@
 -- Which call a seat is asked for.
 use Rattle.std.specs.Prelude.{◌≡◌, ℕ, ℤ, Result, Ok, Err}
-use Rattle.hull_plain.specs.declared.call.Call as plain
+use Rattle.hull_set.specs.declared.call.Call as plain
 use Rattle.hull_reply.specs.Requests.{IsRequestOf}
 use Rattle.hull_reply.specs.declared.code.Code.{Code}
 use Rattle.hull_reply.specs.declared.code.Code.TheVariants.{UnknownKind}

@@ -7,7 +7,7 @@ use Rattle.hull_book.specs.Books.{opened_book}
 use Rattle.hull_book.specs.History.{IsLegal}
 use Rattle.hull_book.specs.LongBooks.{undrained}
 use Rattle.hull_book.specs.declared.line.Line.{Line}
-use Rattle.hull_plain.specs.Held.{nothing_held}
+use Rattle.hull_set.specs.Held.{nothing_held}
 use Rattle.hull_reply.specs.Told.{code_number, IsBare, IsNumber}
 use Rattle.hull_reply.specs.declared.code.Code.{Code}
 use Rattle.hull_reply.specs.declared.code.Code.TheVariants as code

@@ -1,7 +1,7 @@
 -- The numbers that a desk can be opened with.
 use Rattle.std.specs.Prelude.{◌≤◌, ℕ}
 use Rattle.hull_book.specs.declared.limits.TheConstants.{CAPACITY_LIMIT, SEAT_LIMIT}
-use Rattle.hull_plain.specs.declared.TheConstants.{POINT_LIMIT}
+use Rattle.hull_set.specs.declared.TheConstants.{POINT_LIMIT}
 use Rattle.hull_shared.specs.declared.limits.Limits.{Limits}
 
 -- each of them is in its range; the first number may be any

@@ -4,8 +4,8 @@ use mathlib.Core.List.{IsPrefix}
 use Rattle.lattice.specs.Plane.{Pair}
 use Rattle.hull_book.specs.Answers.{Answer}
 use Rattle.hull_book.specs.declared.line.Line.{Line}
-use Rattle.hull_plain.specs.declared.call.Call.{Call}
-use Rattle.hull_plain.specs.declared.reply.Reply.TheVariants as reply
+use Rattle.hull_set.specs.declared.call.Call.{Call}
+use Rattle.hull_set.specs.declared.reply.Reply.TheVariants as reply
 use Rattle.hull_reply.specs.Corners.{TellsCorners}
 use Rattle.hull_reply.specs.Told.{IsBare, Tells}
 use Rattle.hull_reply.specs.declared.code.Code.{Code}

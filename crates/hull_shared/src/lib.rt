@@ -9,7 +9,7 @@
 //! # A desk for two threads
 //!
 //! ```
-//! open(alloc, &mut desk, 1000, 0, 64, 2); // up to 1000 points, numbers from 0, 64 calls, 2 seats
+//! open(&mut desk, alloc, 1000, 0, 64, 2); // up to 1000 points, numbers from 0, 64 calls, 2 seats
 //! lend(&mut desk, &mut room, 0); // seat 0, for the thread that has the room
 //! take(&mut room, 1, 3, 4); // a number for `add 3 4`
 //! let reply = look(&mut room); // until its code is not that of `NotYet`; `look_into` writes corners to an array
@@ -190,8 +190,8 @@ pub unsafe extern "C" fn hull_shared_make_part(room: *mut u8)
 /// A desk lies at `at`, and no other call on it is under way.
 #[unsafe(no_mangle)]
 pub unsafe extern "C" fn hull_shared_open(
-    alloc: Global,
     at: *mut u8,
+    alloc: Global,
     limit: u32,
     first: u64,
     capacity: u32,
@@ -204,7 +204,7 @@ pub unsafe extern "C" fn hull_shared_open(
         (record { limit = limit; first = first; capacity = capacity; seats = seats; keeps = true }) t new result)) }
 {
     let desk = at as *mut Desk;
-    opening::open(alloc, unsafe { &mut *desk }, limit, first, capacity, seats)
+    opening::open(unsafe { &mut *desk }, alloc, limit, first, capacity, seats)
 }
 
 /// Opens a desk as [`hull_shared_open`] does, but one that lets the line of each call go.
@@ -214,8 +214,8 @@ pub unsafe extern "C" fn hull_shared_open(
 /// A desk lies at `at`, and no other call on it is under way.
 #[unsafe(no_mangle)]
 pub unsafe extern "C" fn hull_shared_open_without_journal(
-    alloc: Global,
     at: *mut u8,
+    alloc: Global,
     limit: u32,
     first: u64,
     seats: u32,
@@ -227,7 +227,7 @@ pub unsafe extern "C" fn hull_shared_open_without_journal(
         result)) }
 {
     let desk = at as *mut Desk;
-    opening::open_without_journal(alloc, unsafe { &mut *desk }, limit, first, seats)
+    opening::open_without_journal(unsafe { &mut *desk }, alloc, limit, first, seats)
 }
 
 /// Opens a desk round a hull with the points that a journal left, which goes on where the journal ends: `text` is that of
@@ -238,8 +238,8 @@ pub unsafe extern "C" fn hull_shared_open_without_journal(
 /// A desk lies at `at`, and no other call on it is under way.
 #[unsafe(no_mangle)]
 pub unsafe extern "C" fn hull_shared_reopen(
-    alloc: Global,
     at: *mut u8,
+    alloc: Global,
     text: &[u8],
     capacity: u32,
     seats: u32,
@@ -249,7 +249,7 @@ pub unsafe extern "C" fn hull_shared_reopen(
     ensures* { sem 𝓛 (leaves desk_row at (λ new. HasReopened text.now capacity seats t new result)) }
 {
     let desk = at as *mut Desk;
-    reopening::reopen(alloc, unsafe { &mut *desk }, text, capacity, seats)
+    reopening::reopen(unsafe { &mut *desk }, alloc, text, capacity, seats)
 }
 
 /// Moves the seat of a number out of its desk, into a room.
@@ -340,13 +340,13 @@ pub unsafe extern "C" fn hull_shared_look_into(at: *mut u8, out: &mut [HullPoint
 ///
 /// A part lies at `at`, and no other call on it is under way.
 #[unsafe(no_mangle)]
-pub unsafe extern "C" fn hull_shared_part_reserve(alloc: Global, at: *mut u8, lines: u32) -> u32
+pub unsafe extern "C" fn hull_shared_part_reserve(at: *mut u8, alloc: Global, lines: u32) -> u32
     ghost t: { part_row.Denot }
     requires* { sem 𝓛 (lies_at part_row full_share at t) }
     ensures* { sem 𝓛 (leaves part_row at (λ new. HasReserved lines t new result)) }
 {
     let part = at as *mut Part;
-    parts::reserve(alloc, unsafe { &mut *part }, lines)
+    parts::reserve(unsafe { &mut *part }, alloc, lines)
 }
 
 /// For how many lines a part has room: 0 where it has none.

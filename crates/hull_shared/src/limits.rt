@@ -3,7 +3,7 @@ ghost use Rattle.std.specs.Prelude.{◌↔◌, IsTrue};
 ghost use Rattle.hull_shared.specs.Limits.{AreLimits};
 
 use hull_book::{CAPACITY_LIMIT, SEAT_LIMIT};
-use hull_plain::POINT_LIMIT;
+use hull_set::POINT_LIMIT;
 
 /// The numbers that a desk is opened with.
 #[derive(Clone, Copy)]

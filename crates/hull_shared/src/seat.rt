@@ -6,7 +6,7 @@ ghost use Rattle.hull_shared.specs.Locks.{boxed_head, capacity_of, lock_of, seat
 
 use crate::lock::{DeskSeat, DeskTicket, SharedLock};
 use hull_book::Ledger;
-use hull_plain::Call;
+use hull_set::Call;
 
 /// A seat with no number.
 pub(crate) struct IdleSeat {

@@ -15,7 +15,7 @@ use crate::place::Places;
 use crate::places::{close_lock, lay_out};
 use core::mem::ManuallyDrop;
 use hull_book::Ledger;
-use hull_plain::NoMemory;
+use hull_set::NoMemory;
 use std::alloc::{AllocFailed, Global};
 use std::sync::Arc;
 use ticket_lock::TicketLock;

@@ -35,7 +35,7 @@ fn a_desk_that_is_not_open(rt: HostRuntime) {
     assert_eq!(rt; text(&mut desk, &mut [0u8; 1]).code, 49);
     is_told(&rt, take(&mut room, 1, 0, 0), 0, 40, 0);
     is_told(&rt, look(&mut room), 0, 40, 0);
-    assert_eq!(rt; open(rt.alloc(), &mut desk, 0, 0, 1, 1), 33);
+    assert_eq!(rt; open(&mut desk, rt.alloc(), 0, 0, 1, 1), 33);
     assert_eq!(rt; end(&mut desk), 51);
     let (_desk, _room) = unsafe {
         (
@@ -49,8 +49,8 @@ fn a_desk_that_is_not_open(rt: HostRuntime) {
 fn calls_of_one_seat(rt: HostRuntime) {
     let mut desk = Desk::Fresh;
     let mut room = SharedSeat::Vacant;
-    assert_eq!(rt; open(rt.alloc(), &mut desk, 1, 7, 2, 1), 32);
-    assert_eq!(rt; open(rt.alloc(), &mut desk, 1, 7, 2, 1), 34);
+    assert_eq!(rt; open(&mut desk, rt.alloc(), 1, 7, 2, 1), 32);
+    assert_eq!(rt; open(&mut desk, rt.alloc(), 1, 7, 2, 1), 34);
     assert_eq!(rt; lend(&mut desk, &mut room, 0), 35);
     assert_eq!(rt; lend(&mut desk, &mut room, 0), 37);
     is_told(&rt, look(&mut room), 0, 45, 0);
@@ -83,7 +83,7 @@ fn corners_of_one_seat(rt: HostRuntime) {
     let mut desk = Desk::Fresh;
     let mut room = SharedSeat::Vacant;
     let mut out = [HullPoint { x: 9, y: 9 }; 3];
-    assert_eq!(rt; open(rt.alloc(), &mut desk, 2, 0, 9, 1), 32);
+    assert_eq!(rt; open(&mut desk, rt.alloc(), 2, 0, 9, 1), 32);
     assert_eq!(rt; lend(&mut desk, &mut room, 0), 35);
     is_told(&rt, look_into(&mut room, &mut out), 0, 45, 0);
     for (turn, x) in [(0, 5), (1, -5)] {
@@ -110,7 +110,7 @@ fn a_part_of_two_lines(rt: HostRuntime) {
     let mut room = SharedSeat::Vacant;
     let mut part = Part::Bare;
     let mut out = [0u8; 99];
-    assert_eq!(rt; open(rt.alloc(), &mut desk, 1, 7, 2, 1), 32);
+    assert_eq!(rt; open(&mut desk, rt.alloc(), 1, 7, 2, 1), 32);
     assert_eq!(rt; lend(&mut desk, &mut room, 0), 35);
     assert_eq!(rt;
         (capacity(&mut room), part_text(&mut part, &mut out).code),
@@ -118,9 +118,9 @@ fn a_part_of_two_lines(rt: HostRuntime) {
     );
     is_told(&rt, take(&mut room, 1, 3, 4), 7, 43, 0);
     is_told(&rt, look_and_drain(&mut room, &mut part), 7, 55, 0);
-    assert_eq!(rt; reserve(rt.alloc(), &mut part, 2), 53);
+    assert_eq!(rt; reserve(&mut part, rt.alloc(), 2), 53);
     assert_eq!(rt;
-        (reserve(rt.alloc(), &mut part, 2), room_of(&mut part)),
+        (reserve(&mut part, rt.alloc(), 2), room_of(&mut part)),
         (54, 2)
     );
     is_told(&rt, look(&mut room), 7, 3, 0);
@@ -142,7 +142,7 @@ fn a_part_of_two_lines(rt: HostRuntime) {
 fn calls_without_a_journal(rt: HostRuntime) {
     let mut desk = Desk::Fresh;
     let mut room = SharedSeat::Vacant;
-    assert_eq!(rt; open_without_journal(rt.alloc(), &mut desk, 1, 7, 1), 32);
+    assert_eq!(rt; open_without_journal(&mut desk, rt.alloc(), 1, 7, 1), 32);
     assert_eq!(rt; lend(&mut desk, &mut room, 0), 35);
     for (turn, code) in [(7, 3), (8, 4), (9, 4)] {
         is_told(&rt, take(&mut room, 1, 3, 4), turn, 43, 0);

@@ -7,9 +7,9 @@ use Rattle.std.specs.List.{slice_split, join_with_byte}
 use Rattle.std.proofs.lemmas.List.{append-nil}
 use Rattle.std.proofs.lemmas.Bool.Decides.{nat_tests}
 use Rattle.lattice.specs.Plane.{Pair}
-use Rattle.hull_plain.specs.declared.call.Call.{Call}
-use Rattle.hull_plain.specs.declared.call.Call.TheVariants.{Add, Remove, Extreme, Place, Tangents, Vertices, Area}
-use Rattle.hull_plain.specs.declared.call.Call.TheVariants.{Count}
+use Rattle.hull_set.specs.declared.call.Call.{Call}
+use Rattle.hull_set.specs.declared.call.Call.TheVariants.{Add, Remove, Extreme, Place, Tangents, Vertices, Area}
+use Rattle.hull_set.specs.declared.call.Call.TheVariants.{Count}
 use Rattle.hull_text.specs.declared.version.Version.{Version}
 use Rattle.hull_text.specs.Version.{coordinate_limit}
 use Rattle.hull_text.specs.Number.{is_digit, digits_after, number_of}
@@ -17,11 +17,11 @@ use Rattle.hull_text.specs.Form.{has_form_after}
 use Rattle.hull_text.specs.Spelling.{ArePairs, IsSized, IsPair, IsReply, pair_fields, points_fields, IsCall}
 use Rattle.hull_text.specs.Spelling.{call_fields, reply_fields}
 use Rattle.hull_text.specs.Reading.{HasNoNewline}
-use Rattle.hull_plain.specs.declared.reply.Reply.{Reply}
-use Rattle.hull_plain.specs.declared.reply.Reply.TheVariants.{Added, Already, Again, TooMany, NoMemory, Removed, Left}
-use Rattle.hull_plain.specs.declared.reply.Reply.TheVariants.{Absent, Farthest, Empty, Lies, TangentPoints, NoTangent}
-use Rattle.hull_plain.specs.declared.reply.Reply.TheVariants.{VertexList, DoubledArea, PointCount}
-use Rattle.hull_plain.specs.declared.set.Place.TheVariants.{Inside, On, Outside}
+use Rattle.hull_set.specs.declared.reply.Reply.{Reply}
+use Rattle.hull_set.specs.declared.reply.Reply.TheVariants.{Added, Already, Again, TooMany, NoMemory, Removed, Left}
+use Rattle.hull_set.specs.declared.reply.Reply.TheVariants.{Absent, Farthest, Empty, Lies, TangentPoints, NoTangent}
+use Rattle.hull_set.specs.declared.reply.Reply.TheVariants.{VertexList, DoubledArea, PointCount}
+use Rattle.hull_set.specs.declared.set.Place.TheVariants.{Inside, On, Outside}
 use Rattle.std.proofs.lemmas.Bool.{eqb-true, ne_eqb}
 use Rattle.std.proofs.lemmas.List.Elements.{All-cons, All-nil}
 use Rattle.hull_text.proofs.Numbers.{guard_some, guard_not, digit_low, text_number}

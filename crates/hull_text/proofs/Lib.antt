@@ -15,7 +15,6 @@ pub mod Calls
 pub mod Joined
 pub mod ScriptSpelled
 pub mod ScriptTexts
-pub mod Chains
 pub mod Spaces
 pub mod Reports
 pub mod PointLists

@@ -1,38 +1,22 @@
 -- The text of a report, piece by piece.
-use Rattle.std.proofs.Common.{◌≡◌, ◌<◌, ◌≤◌, ◌+◌, ◌++◌, ℕ, zero, suc, List, [], ◌∷◌, length, take, drop, get_or, codes}
-use Rattle.std.proofs.Common.{decimal, refl, sym, ap, subst, ◌∙◌, arith, add-one, append_assoc, drop-cons, All}
+use Rattle.std.proofs.Common.{◌≡◌, ◌<◌, ◌≤◌, ◌+◌, ◌++◌, ℕ, zero, suc, List, [], ◌∷◌, length, take, drop, get_or}
+use Rattle.std.proofs.Common.{refl, sym, ap, subst, ◌∙◌, arith, add-one, append_assoc, drop-cons, All}
 use Rattle.std.specs.Prelude.{slice_index, slice_index_or, Vec}
-use Rattle.std.proofs.lemmas.List.{append-nil, drop_all, length-append}
-use Rattle.hull_plain.specs.declared.call.Call.{Call}
+use Rattle.std.proofs.lemmas.List.{drop_all, length-append}
+use Rattle.hull_set.specs.declared.call.Call.{Call}
 use Rattle.hull_book.specs.Scripts.{PhaseValue, calls_of}
-use Rattle.hull_text.specs.Spelling.{call_fields, line_text}
 use Rattle.hull_book.specs.Answers.{Answer, answers_in}
-use Rattle.hull_text.specs.Answers.{answer_fields, answer_line, answers_text}
-use Rattle.hull_text.specs.ReportText.{ledgers_text, workers_text}
-use Rattle.hull_text.specs.Spaced.{spaced, answer_pieces, ledger_pieces, sum_pieces}
-use Rattle.hull_text.proofs.Chains.{spaced_append}
-use Rattle.hull_text.proofs.Spaces.{line_is_spaced}
-
--- The line of a call and its answer is written in its pieces.
-answer_is : (worker : ℕ) (call : Call) (answer : Answer)
-    → answer_line worker call answer ≡ answer_pieces worker call answer
-answer_is worker call answer =
-    line_is_spaced (decimal worker) (call_fields call ++ codes "=" ∷ answer_fields answer)
-    ∙ ap (λ (t : List ℕ). decimal worker ++ t ++ 10 ∷ [])
-    (spaced_append (call_fields call) (codes "=" ∷ answer_fields answer))
-    ∙ regroup (decimal worker) (spaced (call_fields call)) (codes " =") (spaced (answer_fields answer)) (10 ∷ [])
-  where
-    regroup : (n c e r l : List ℕ) → n ++ (c ++ (e ++ r)) ++ l ≡ n ++ c ++ e ++ r ++ l
-    regroup n c e r l = simp append_assoc
+use Rattle.hull_text.specs.Answers.{answer_line, answers_text}
+use Rattle.hull_text.specs.ReportText.{ledger_line, ledgers_text, workers_text}
 
 -- A line stands before the others.
 pub answers_cons : (worker : ℕ) (call : Call) (answer : Answer) (calls more_calls : List Call)
     (answers more_answers : List Answer) → calls ≡ call ∷ more_calls → answers ≡ answer ∷ more_answers
-    → answers_text worker calls answers ≡ answer_pieces worker call answer
+    → answers_text worker calls answers ≡ answer_line worker call answer
     ++ answers_text worker more_calls more_answers
 unfolding answers_text
 answers_cons worker call answer calls more_calls answers more_answers e f =
-    rw (e, f) (ap (λ (t : List ℕ). t ++ answers_text worker more_calls more_answers) (answer_is worker call answer))
+    rw (e, f) refl
 
 -- No call, no line.
 pub answers_no_call : (worker : ℕ) (calls : List Call) (answers : List Answer) → length calls ≡ 0
@@ -92,50 +76,18 @@ pub workers_none : (k : ℕ) (phases : List PhaseValue) (all : List (List Answer
 unfolding workers_text
 workers_none k phases all le = rw (drop_all k all le) refl
 
--- The line of a ledger is written in its pieces.
-ledger_is : (worker count : ℕ)
-    → line_text (codes "ledger" ∷ decimal worker ∷ decimal count ∷ []) ≡ ledger_pieces worker count
-ledger_is worker count = go (codes "ledger") (decimal worker) (decimal count) (10 ∷ [])
-  where
-    go : (w k c l : List ℕ) → w ++ 32 ∷ (k ++ 32 ∷ c) ++ l ≡ w ++ 32 ∷ k ++ 32 ∷ c ++ l
-    go w k c l = ap (λ (t : List ℕ). t ++ l) (sym (append_assoc w (32 ∷ k) (32 ∷ c)))
-
--- six texts in a row, whichever way they were joined
-six_flat : (a b c d e f : List ℕ) → a ++ (b ++ (c ++ (d ++ (e ++ f)))) ≡ a ++ b ++ c ++ d ++ e ++ f
-six_flat a b c d e f = simp append_assoc
-
--- The line of the sum is written in its pieces.
-pub sum_is : (sum lines capacity : ℕ)
-    → line_text (codes "sum" ∷ decimal sum ∷ codes "journal" ∷ decimal lines ∷ codes "capacity" ∷ decimal capacity ∷ [])
-    ≡ sum_pieces sum lines capacity
-sum_is sum lines capacity =
-    go (codes "sum") (decimal sum) (decimal lines) (decimal capacity) (codes " journal") (codes " capacity") (10 ∷ [])
-  where
-    go : (w s l c x y e : List ℕ)
-        → w ++ 32 ∷ (s ++ (x ++ 32 ∷ (l ++ (y ++ 32 ∷ c)))) ++ e ≡ w ++ 32 ∷ s ++ x ++ 32 ∷ l ++ y ++ 32 ∷ c ++ e
-    go w s l c x y e = ap (λ (t : List ℕ). t ++ e) (six_flat w (32 ∷ s) x (32 ∷ l) y (32 ∷ c))
-
 -- The line of a ledger stands before those behind it.
 pub ledgers_more : (k : ℕ) (all : List ℕ) → k < length all
-    → ledgers_text k (drop k all) ≡ ledger_pieces k (slice_index all k) ++ ledgers_text (k + 1) (drop (k + 1) all)
+    → ledgers_text k (drop k all) ≡ ledger_line k (slice_index all k) ++ ledgers_text (k + 1) (drop (k + 1) all)
 unfolding ledgers_text
 ledgers_more k all lt =
     rw (drop-cons all k 0 lt)
-    (ap (λ (t : List ℕ). t ++ ledgers_text (suc k) (drop (suc k) all)) (ledger_is k (slice_index all k))
-    ∙ ap (λ (n : ℕ). ledger_pieces k (slice_index all k) ++ ledgers_text n (drop n all)) (sym (add-one k)))
+    (ap (λ (n : ℕ). ledger_line k (slice_index all k) ++ ledgers_text n (drop n all)) (sym (add-one k)))
 
 -- No ledger is left.
 pub ledgers_none : (k : ℕ) (all : List ℕ) → length all ≤ k → ledgers_text k (drop k all) ≡ []
 unfolding ledgers_text
 ledgers_none k all le = rw (drop_all k all le) refl
-
--- The text of a report is written in its pieces.
-pub report_is : (workers ledgers : List ℕ) (sum lines capacity : ℕ)
-    → [] ++ workers ++ ledgers ++ sum_pieces sum lines capacity
-    ++ [] ≡ workers ++ ledgers ++ line_text
-    (codes "sum" ∷ decimal sum ∷ codes "journal" ∷ decimal lines ∷ codes "capacity" ∷ decimal capacity ∷ [])
-report_is workers ledgers sum lines capacity = append-nil (workers ++ ledgers ++ sum_pieces sum lines capacity)
-    ∙ ap (λ (t : List ℕ). workers ++ ledgers ++ t) (sym (sum_is sum lines capacity))
 
 -- What holds of all holds of the rest.
 pub all_after : {X : Type 0} (P : X → Type 0) (x : X) (after rest : List X) → rest ≡ x ∷ after → All P rest

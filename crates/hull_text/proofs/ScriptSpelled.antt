@@ -8,7 +8,7 @@ use Rattle.std.proofs.lemmas.Bool.{eqb-true}
 use Rattle.std.proofs.lemmas.List.{append-nil}
 use Rattle.std.proofs.lemmas.List.Splits.{join_with_byte-slice_split}
 use Rattle.std.proofs.lemmas.Bool.Decides.{nat_tests}
-use Rattle.hull_plain.specs.declared.call.Call.{Call}
+use Rattle.hull_set.specs.declared.call.Call.{Call}
 use Rattle.hull_text.specs.declared.fault.FaultKind.TheVariants.{Form}
 use Rattle.hull_text.specs.Version.{newest}
 use Rattle.hull_text.specs.Item.{Item}

@@ -1,6 +1,6 @@
 -- The workers of a script, item by item.
 use Rattle.std.proofs.Common.{◌≡◌, ◌≤◌, ◌+◌, ℕ, max, List, [], ◌∷◌, ◌++◌, Some, None, refl, arith}
-use Rattle.hull_plain.specs.declared.call.Call.{Call}
+use Rattle.hull_set.specs.declared.call.Call.{Call}
 use Rattle.hull_text.specs.Item.{Item}
 use Rattle.hull_text.specs.ScriptValue.{workers_from}
 

@@ -1,6 +1,6 @@
 -- Answers in a report: a reply, or that the journal was full.
 use Rattle.std.specs.Prelude.{ℕ, List, [], ◌∷◌, ◌++◌, codes, decimal, Ok, Err}
-use Rattle.hull_plain.specs.declared.call.Call.{Call}
+use Rattle.hull_set.specs.declared.call.Call.{Call}
 use Rattle.hull_book.specs.Answers.{Answer}
 use Rattle.hull_text.specs.Spelling.{call_fields, reply_fields, line_text}
 

@@ -1,8 +1,8 @@
 -- What the fields of a call say.
 use Rattle.std.specs.Prelude.{List, [], ◌∷◌, Option, Some, None, Result, Ok, Err}
-use Rattle.hull_plain.specs.declared.call.Call.{Call}
-use Rattle.hull_plain.specs.declared.call.Call.TheVariants.{Add, Remove, Extreme, Place, Tangents, Vertices, Area}
-use Rattle.hull_plain.specs.declared.call.Call.TheVariants.{Count}
+use Rattle.hull_set.specs.declared.call.Call.{Call}
+use Rattle.hull_set.specs.declared.call.Call.TheVariants.{Add, Remove, Extreme, Place, Tangents, Vertices, Area}
+use Rattle.hull_set.specs.declared.call.Call.TheVariants.{Count}
 use Rattle.hull_text.specs.declared.fault.FaultKind.{FaultKind}
 use Rattle.hull_text.specs.declared.fault.FaultKind.TheVariants.{Form, Word}
 use Rattle.hull_text.specs.declared.version.Version.{Version}

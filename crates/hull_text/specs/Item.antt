@@ -1,6 +1,6 @@
 -- What lines of a script say.
 use Rattle.std.specs.Prelude.{ℕ, Option}
-use Rattle.hull_plain.specs.declared.call.Call.{Call}
+use Rattle.hull_set.specs.declared.call.Call.{Call}
 
 -- a worker and its call, or none where the phase ends and another begins
 abbrev pub Item : Type 0

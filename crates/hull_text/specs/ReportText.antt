@@ -11,22 +11,25 @@ unfoldable pub workers_text : ℕ → List PhaseValue → List (List Answer) →
 workers_text k phases [] = []
 workers_text k phases (answers ∷ more) = answers_text k (calls_of k phases) answers ++ workers_text (suc k) phases more
 
+-- the line of a worker's ledger
+abbrev pub ledger_line : ℕ → ℕ → List ℕ
+ledger_line worker count = line_text (codes "ledger" ∷ decimal worker ∷ decimal count ∷ [])
+
 -- for each worker from k on, a line for its ledger
 unfoldable pub ledgers_text : ℕ → List ℕ → List ℕ
 ledgers_text k [] = []
-ledgers_text k (count ∷ counts) =
-    line_text (codes "ledger" ∷ decimal k ∷ decimal count ∷ []) ++ ledgers_text (suc k) counts
+ledgers_text k (count ∷ counts) = ledger_line k count ++ ledgers_text (suc k) counts
 
--- the sum of the ledgers, and the length and capacity of the journal
-abbrev pub sum_text : List ℕ → JournalValue → List ℕ
-sum_text ledgers journal =
-    line_text (codes "sum" ∷ decimal (sum ledgers) ∷ codes "journal" ∷ decimal (length journal.lines) ∷ codes "capacity"
-    ∷ decimal journal.head.capacity ∷ [])
+-- the line of a sum of ledgers, and of the length and capacity of a journal
+abbrev pub sum_line : ℕ → ℕ → ℕ → List ℕ
+sum_line sum lines capacity =
+    line_text (codes "sum" ∷ decimal sum ∷ codes "journal" ∷ decimal lines ∷ codes "capacity" ∷ decimal capacity ∷ [])
 
 -- the text of a report
 abbrev pub report_text : ScriptValue → List (List Answer) → List ℕ → JournalValue → List ℕ
 report_text script answers ledgers journal =
-    workers_text 0 script.phases answers ++ ledgers_text 0 ledgers ++ sum_text ledgers journal
+    workers_text 0 script.phases answers ++ ledgers_text 0 ledgers
+    ++ sum_line (sum ledgers) (length journal.lines) journal.head.capacity
 
 -- There is an answer for each call of each worker.
 abbrev pub AreAnswered : ℕ → List PhaseValue → List (List Answer) → Type 0

@@ -3,17 +3,17 @@ use Rattle.std.specs.Prelude.{◌≡◌, ◌<◌, ◌≤◌, ◌^◌, ℕ, ℤ, 
 use Rattle.std.specs.List.{join_with_byte}
 use Rattle.std.specs.Fmt.{signed_decimal}
 use Rattle.lattice.specs.Plane.{Pair}
-use Rattle.hull_plain.specs.declared.TheConstants.{POINT_LIMIT}
-use Rattle.hull_plain.specs.declared.call.Call.{Call}
-use Rattle.hull_plain.specs.declared.call.Call.TheVariants.{Add, Remove, Extreme, Place, Tangents, Vertices, Area}
-use Rattle.hull_plain.specs.declared.call.Call.TheVariants.{Count}
-use Rattle.hull_plain.specs.declared.reply.Reply.{Reply}
-use Rattle.hull_plain.specs.declared.reply.Reply.TheVariants.{Added, Already, Again, TooMany, NoMemory, Removed, Left}
-use Rattle.hull_plain.specs.declared.reply.Reply.TheVariants.{Absent, Farthest, Empty, Lies, TangentPoints, NoTangent}
-use Rattle.hull_plain.specs.declared.reply.Reply.TheVariants.{VertexList, DoubledArea, PointCount}
-use Rattle.hull_plain.specs.Replies.{IsReplyOf}
-use Rattle.hull_plain.specs.declared.set.Place.{Place as Where}
-use Rattle.hull_plain.specs.declared.set.Place.TheVariants.{Inside, On, Outside}
+use Rattle.hull_set.specs.declared.TheConstants.{POINT_LIMIT}
+use Rattle.hull_set.specs.declared.call.Call.{Call}
+use Rattle.hull_set.specs.declared.call.Call.TheVariants.{Add, Remove, Extreme, Place, Tangents, Vertices, Area}
+use Rattle.hull_set.specs.declared.call.Call.TheVariants.{Count}
+use Rattle.hull_set.specs.declared.reply.Reply.{Reply}
+use Rattle.hull_set.specs.declared.reply.Reply.TheVariants.{Added, Already, Again, TooMany, NoMemory, Removed, Left}
+use Rattle.hull_set.specs.declared.reply.Reply.TheVariants.{Absent, Farthest, Empty, Lies, TangentPoints, NoTangent}
+use Rattle.hull_set.specs.declared.reply.Reply.TheVariants.{VertexList, DoubledArea, PointCount}
+use Rattle.hull_set.specs.Replies.{IsReplyOf}
+use Rattle.hull_set.specs.declared.set.Place.{Place as Where}
+use Rattle.hull_set.specs.declared.set.Place.TheVariants.{Inside, On, Outside}
 use Rattle.hull_text.specs.declared.version.Version.{Version}
 use Rattle.hull_text.specs.Version.{coordinate_limit, version_rules}
 

@@ -1,10 +1,15 @@
 -- The words of calls and replies, in one table.
-use Rattle.std.specs.Prelude.{ℕ, List, Option, Some, None, codes, if◌then◌else◌}
+use Rattle.std.specs.Prelude.{ℕ, List, [], ◌∷◌, Option, Some, None, codes, if◌then◌else◌}
 use Rattle.std.specs.Str.{bytes_eq}
 use Rattle.hull_text.specs.declared.words.CallWord.{CallWord}
 use Rattle.hull_text.specs.declared.words.CallWord.TheVariants as call
 use Rattle.hull_text.specs.declared.words.ReplyWord.{ReplyWord}
 use Rattle.hull_text.specs.declared.words.ReplyWord.TheVariants as reply
+
+-- the first of these words that the field spells
+abbrev pub word_in : {W : Type 0} → (W → List ℕ) → List W → List ℕ → Option W
+word_in text [] field = None
+word_in text (w ∷ ws) field = if bytes_eq field (text w) then Some w else word_in text ws field
 
 -- how a call word is spelled
 abbrev pub call_word_text : CallWord → List ℕ
@@ -17,18 +22,14 @@ call_word_text call.Vertices = codes "vertices"
 call_word_text call.Area = codes "area"
 call_word_text call.Count = codes "count"
 
+-- all call words
+abbrev pub call_words : List CallWord
+call_words = call.Add ∷ call.Remove ∷ call.Extreme ∷ call.Place ∷ call.Tangents ∷ call.Vertices ∷ call.Area ∷ call.Count
+    ∷ []
+
 -- the call word that a field spells
 unfoldable pub call_word_of : List ℕ → Option CallWord
-call_word_of field =
-    if bytes_eq field (codes "add") then Some call.Add
-    else if bytes_eq field (codes "remove") then Some call.Remove
-    else if bytes_eq field (codes "extreme") then Some call.Extreme
-    else if bytes_eq field (codes "place") then Some call.Place
-    else if bytes_eq field (codes "tangents") then Some call.Tangents
-    else if bytes_eq field (codes "vertices") then Some call.Vertices
-    else if bytes_eq field (codes "area") then Some call.Area
-    else if bytes_eq field (codes "count") then Some call.Count
-    else None
+call_word_of field = word_in call_word_text call_words field
 
 -- how a reply word is spelled
 abbrev pub reply_word_text : ReplyWord → List ℕ
@@ -51,34 +52,16 @@ reply_word_text reply.List = codes "list"
 reply_word_text reply.Area = codes "area"
 reply_word_text reply.Count = codes "count"
 
--- the reply words that tell what a change did
-abbrev pub change_word_of : List ℕ → Option ReplyWord → Option ReplyWord
-change_word_of field other =
-    if bytes_eq field (codes "added") then Some reply.Added
-    else if bytes_eq field (codes "already") then Some reply.Already
-    else if bytes_eq field (codes "again") then Some reply.Again
-    else if bytes_eq field (codes "toomany") then Some reply.TooMany
-    else if bytes_eq field (codes "nomemory") then Some reply.NoMemory
-    else if bytes_eq field (codes "removed") then Some reply.Removed
-    else if bytes_eq field (codes "left") then Some reply.Left
-    else if bytes_eq field (codes "absent") then Some reply.Absent
-    else other
-
 -- the reply words that answer a question
-abbrev pub answer_word_of : List ℕ → Option ReplyWord
-answer_word_of field =
-    if bytes_eq field (codes "count") then Some reply.Count
-    else if bytes_eq field (codes "point") then Some reply.Point
-    else if bytes_eq field (codes "empty") then Some reply.Empty
-    else if bytes_eq field (codes "inside") then Some reply.Inside
-    else if bytes_eq field (codes "on") then Some reply.On
-    else if bytes_eq field (codes "outside") then Some reply.Outside
-    else if bytes_eq field (codes "tangents") then Some reply.Tangents
-    else if bytes_eq field (codes "notangent") then Some reply.NoTangent
-    else if bytes_eq field (codes "list") then Some reply.List
-    else if bytes_eq field (codes "area") then Some reply.Area
-    else None
+abbrev pub answer_words : List ReplyWord
+answer_words = reply.Count ∷ reply.Point ∷ reply.Empty ∷ reply.Inside ∷ reply.On ∷ reply.Outside ∷ reply.Tangents
+    ∷ reply.NoTangent ∷ reply.List ∷ reply.Area ∷ []
+
+-- all reply words: first those that tell what a change did
+abbrev pub reply_words : List ReplyWord
+reply_words = reply.Added ∷ reply.Already ∷ reply.Again ∷ reply.TooMany ∷ reply.NoMemory ∷ reply.Removed ∷ reply.Left
+    ∷ reply.Absent ∷ answer_words
 
 -- the reply word that a field spells
 unfoldable pub reply_word_of : List ℕ → Option ReplyWord
-reply_word_of field = change_word_of field (answer_word_of field)
+reply_word_of field = word_in reply_word_text reply_words field

@@ -1,12 +1,12 @@
 ghost use Rattle.std.specs.Prelude.{◌≡◌, ◌<◌, ◌↔◌, ◌^◌, ◌⊎◌, ℕ, List, [], Ok, Some, Result, decimal};
-ghost use Rattle.hull_plain.specs.declared.call.Call.{Call};
+ghost use Rattle.hull_set.specs.declared.call.Call.{Call};
 ghost use Rattle.hull_text.specs.declared.version.Version.{Version};
 ghost use Rattle.hull_book.specs.Scripts.{ScriptValue};
 ghost use Rattle.hull_text.specs.ScriptGrammar.{IsScriptFault, IsScriptText, ReadsScript};
 ghost use Rattle.hull_text.specs.declared.fault.TextFault.{TextFault};
 ghost use Rattle.hull_text.specs.Fault.{IsServed};
 ghost use Rattle.hull_text.specs.Number.{number_of};
-ghost use Rattle.hull_plain.specs.declared.reply.Reply.{Reply};
+ghost use Rattle.hull_set.specs.declared.reply.Reply.{Reply};
 ghost use Rattle.hull_text.specs.Call.{call_at};
 ghost use Rattle.hull_text.specs.Reply.{reply_at};
 ghost use Rattle.hull_book.specs.Journals.{JournalValue};

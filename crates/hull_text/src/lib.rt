@@ -36,4 +36,7 @@ pub use text_io::testing::{Pieces, Spout};
 pub use text_io::{Counted, Sink, Source, WriteFault};
 pub use upgrading::{UpgradeFault, upgrade};
 pub use version::{NEWEST, Version};
-pub use write::{call_after, points_after, reply_after, report_fits, write_journal, write_report};
+pub use write::{
+    call_after, end_after, entry_after, header_after, points_after, reply_after, report_fits,
+    write_journal, write_report,
+};

@@ -1,5 +1,5 @@
 ghost use Rattle.std.specs.Prelude.{◌≡◌, ◌≤◌, length, Option};
-ghost use Rattle.hull_text.specs.Words.{answer_word_of, call_word_of, call_word_text, reply_word_of, reply_word_text};
+ghost use Rattle.hull_text.specs.Words.{answer_words, call_word_of, call_word_text, reply_word_of, reply_word_text, word_in};
 
 /// The word of a call, the same in scripts and journals of each version.
 #[derive(Clone, Copy, Debug, PartialEq, Eq)]
@@ -83,7 +83,7 @@ impl CallWord {
 
 /// The reply word that answers a question.
 fn answer_word(field: &[u8]) -> Option<ReplyWord>
-    ensures { result ≡ answer_word_of field.now }
+    ensures { result ≡ word_in reply_word_text answer_words field.now }
 {
     if field == b"count".as_slice() {
         Some(ReplyWord::Count)

@@ -5,6 +5,6 @@ mod report;
 mod writing;
 
 pub use fitting::report_fits;
-pub use journal_text::write_journal;
+pub use journal_text::{end_after, entry_after, header_after, write_journal};
 pub use report::write_report;
 pub use writing::{call_after, points_after, reply_after};

@@ -1,13 +1,13 @@
 -- What a change makes of a set, and of two lists in a row.
 use Rattle.std.proofs.Common.{◌≡◌, ◌+◌, refl, sym, ap, subst, List, [], ◌∷◌, ◌++◌, length, arith, inl, inr, zero, suc}
 use Rattle.std.specs.List.{All, Contains}
-use Rattle.std.proofs.lemmas.List.Elements.{All-contains, All-weaker, All-cons, All-head, All-tail}
+use Rattle.std.proofs.lemmas.List.Elements.{All-contains, All-head, All-tail}
 use Rattle.std.proofs.lemmas.List.Elements.{Contains-append_right, Contains-append_cases}
 use Rattle.lattice.specs.Covers.{IsPointSet, with_point, without_point}
 use Rattle.lattice.specs.Plane.{Pair, IsBefore}
 use Rattle.lattice.proofs.Order.{before_trans, before_irrefl, before_total, before_not, before_apart, after_apart}
 use Rattle.lattice.proofs.Order.{is_before-true, is_before-false}
-use Rattle.hull_plain.proofs.PointLists.{AllPairs-cons, AllPairs-head, AllPairs-tail, AllPairs-none}
+use Rattle.hull_geometry.proofs.PointLists.{AllPairs-head, AllPairs-tail}
 
 -- the one member of a list of one
 pub only_member : (x t : Pair) → Contains (x ∷ []) t → t ≡ x
@@ -62,67 +62,6 @@ without_right p [] ys a = refl
 without_right p (x ∷ xs) ys a =
     rw (is_before-true x p (All-head (λ t. IsBefore t p) x xs a))
     (ap (λ (z : List Pair). x ∷ z) (without_right p xs ys (All-tail (λ t. IsBefore t p) x xs a)))
-
--- what holds of p and of all members holds of all members with p
-with_all : (P : Pair → Type 0) (p : Pair) (xs : List Pair) → P p → All P xs → All P (with_point p xs)
-with_all P p [] h a = All-cons P p [] h a
-with_all P p (x ∷ xs) h a =
-    elim (before_total x p) [
-      | inl k ↦ rw (is_before-true x p k)
-          (All-cons P x (with_point p xs) (All-head P x xs a) (with_all P p xs h (All-tail P x xs a)))
-      | inr (inl e) ↦ rw (
-        is_before-false x p (λ k. before_apart x p k e),
-        is_before-false p x (λ k. after_apart x p k e),
-      ) a
-      | inr (inr k) ↦ rw (is_before-false x p (before_not p x k), is_before-true p x k) (All-cons P p (x ∷ xs) h a)
-    ]
-
--- a set with p is a set
-pub with_set : (p : Pair) (xs : List Pair) → IsPointSet xs → IsPointSet (with_point p xs)
-with_set p [] s = AllPairs-cons p [] (λ k d l. absurd (omega arith)) AllPairs-none
-with_set p (x ∷ xs) s =
-    elim (before_total x p) [
-      | inl k ↦ rw (is_before-true x p k)
-          (AllPairs-cons x (with_point p xs) (with_all (IsBefore x) p xs k (AllPairs-head x xs s))
-          (with_set p xs (AllPairs-tail x xs s)))
-      | inr (inl e) ↦ rw (
-        is_before-false x p (λ k. before_apart x p k e),
-        is_before-false p x (λ k. after_apart x p k e),
-      ) s
-      | inr (inr k) ↦ rw (is_before-false x p (before_not p x k), is_before-true p x k)
-          (AllPairs-cons p (x ∷ xs)
-          (All-cons (IsBefore p) x xs k
-          (All-weaker (IsBefore x) (IsBefore p) (λ t h. before_trans p x t k h) xs (AllPairs-head x xs s))) s)
-    ]
-
--- what holds of all members holds of all members without p
-without_all : (P : Pair → Type 0) (p : Pair) (xs : List Pair) → All P xs → All P (without_point p xs)
-without_all P p [] a = a
-without_all P p (x ∷ xs) a =
-    elim (before_total x p) [
-      | inl k ↦ rw (is_before-true x p k)
-          (All-cons P x (without_point p xs) (All-head P x xs a) (without_all P p xs (All-tail P x xs a)))
-      | inr (inl e) ↦ rw (
-        is_before-false x p (λ k. before_apart x p k e),
-        is_before-false p x (λ k. after_apart x p k e),
-      ) (All-tail P x xs a)
-      | inr (inr k) ↦ rw (is_before-false x p (before_not p x k), is_before-true p x k) a
-    ]
-
--- a set without p is a set
-pub without_set : (p : Pair) (xs : List Pair) → IsPointSet xs → IsPointSet (without_point p xs)
-without_set p [] s = s
-without_set p (x ∷ xs) s =
-    elim (before_total x p) [
-      | inl k ↦ rw (is_before-true x p k)
-          (AllPairs-cons x (without_point p xs) (without_all (IsBefore x) p xs (AllPairs-head x xs s))
-          (without_set p xs (AllPairs-tail x xs s)))
-      | inr (inl e) ↦ rw (
-        is_before-false x p (λ k. before_apart x p k e),
-        is_before-false p x (λ k. after_apart x p k e),
-      ) (AllPairs-tail x xs s)
-      | inr (inr k) ↦ rw (is_before-false x p (before_not p x k), is_before-true p x k) s
-    ]
 
 -- a list of one without its point
 pub without_only : (p q : Pair) → Contains (q ∷ []) p → without_point p (q ∷ []) ≡ []

@@ -40,14 +40,11 @@ one_cost (Fork e f u w) p m n b (a, k, c, h, inl i) (a2, k2, c2, h2, inr j) =
 one_cost (Fork e f u w) p m n b (a, k, c, h, inr i) (a2, k2, c2, h2, inl j) =
     absurd (before_irrefl p (b.0 p p (on_path u p k2 j) (on_path w p k i)))
 
--- a new fork costs the points of its left half its own cost more
-pub by_fork_left : (e f : Pair × Pair) (u w : Tree) (n : ℕ) → IsForkCost e f u w n → IsDearerByAtMost u (Fork e f u w) n
-by_fork_left e f u w n c p k h = (n + k, (n, k, c, refl, inl h), omega arith)
-
--- and those of its right half
-pub by_fork_right : (e f : Pair × Pair) (u w : Tree) (n : ℕ) → IsForkCost e f u w n
-    → IsDearerByAtMost w (Fork e f u w) n
-by_fork_right e f u w n c p k h = (n + k, (n, k, c, refl, inr h), omega arith)
+-- a new fork costs the points of its halves its own cost more
+pub by_fork : (e f : Pair × Pair) (u w : Tree) (n : ℕ) → IsForkCost e f u w n
+    → IsDearerByAtMost u (Fork e f u w) n × IsDearerByAtMost w (Fork e f u w) n
+by_fork e f u w n c =
+    (λ p k h. (n + k, (n, k, c, refl, inl h), omega arith), λ p k h. (n + k, (n, k, c, refl, inr h), omega arith))
 
 -- from one tree into a second and on into a third
 pub through : (t v z : Tree) (a b n : ℕ) → IsDearerByAtMost t v a → IsDearerByAtMost v z b → a + b ≤ n

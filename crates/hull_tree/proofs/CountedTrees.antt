@@ -8,12 +8,12 @@ use Rattle.lattice.specs.Covers.{with_point, without_point}
 use Rattle.bridge_search.specs.Trees.{Tree, On}
 use Rattle.bridge_search.specs.Leaves.{points_of}
 use Rattle.bridge_search.proofs.Leaves.{contains_of_on}
-use Rattle.hull_plain.specs.Held.{once, with_new, with_again, with_none}
-use Rattle.hull_plain.specs.Replies.{AnswersAdd, AnswersRemove}
-use Rattle.hull_plain.specs.declared.TheConstants.{MULTIPLICITY_LIMIT}
-use Rattle.hull_plain.specs.declared.reply.Reply.TheVariants.{Added, Again, TooMany, Removed, Left}
-use Rattle.hull_plain.specs.declared.rules.Rules.TheVariants.{Counted}
-use Rattle.hull_plain.proofs.Multiplicities.{same_held}
+use Rattle.hull_set.specs.Held.{once, with_new, with_again, with_none}
+use Rattle.hull_set.specs.Replies.{AnswersAdd, AnswersRemove}
+use Rattle.hull_set.specs.declared.TheConstants.{MULTIPLICITY_LIMIT}
+use Rattle.hull_set.specs.declared.reply.Reply.TheVariants.{Added, Again, TooMany, Removed, Left}
+use Rattle.hull_set.specs.declared.rules.Rules.TheVariants.{Counted}
+use Rattle.hull_set.proofs.Times.{same_held}
 use Rattle.hull_tree.specs.declared.node.Node.{Node}
 use Rattle.hull_tree.specs.Nodes.{tree_of, times_below, IsWellBuilt}
 use Rattle.hull_tree.specs.Changes.{points_below}
@@ -33,8 +33,7 @@ pub record IsCounted (root : Option Node) (n m : Node) (p : Pair) (count limit r
 -- what the way down says, together with what the set was
 pub counted : {root : Option Node} {n m : Node} {p : Pair} {count limit r : ℕ} → IsLimited root count limit
     → root ≡ Some n → r ≡ times_below n p → IsWellBuilt m → tree_of m ≡ tree_of n → IsCounted root n m p count limit r
-counted limited own was built same =
-    record { limited = limited; own = own; was = was; built = built; same = same }
+counted limited own was built same = record { limited = limited; own = own; was = was; built = built; same = same }
 
 -- n was well built
 built_before : {root : Option Node} {n m : Node} {p : Pair} {count limit r : ℕ} → IsCounted root n m p count limit r

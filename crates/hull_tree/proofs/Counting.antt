@@ -1,12 +1,10 @@
 -- A point that is counted in at the end of entries.
 use Rattle.std.proofs.Common.{◌≡◌, ℕ, ◌+◌, ◌<◌, ◌≤◌, inl, inr, refl, sym, ◌∙◌, ap, subst, List, [], ◌∷◌, ◌++◌, length}
 use Rattle.std.proofs.Common.{take, drop, get_or, arith, zero, suc, Bool, true, false, if◌then◌else◌, Some, ◌⊎◌}
-use Rattle.std.specs.Ordering.{int_cmp, is_lt}
-use Rattle.std.specs.declared.cmp.Ordering.TheVariants.{Less, Equal}
+use Rattle.std.specs.Ordering.{is_lt}
 use Rattle.std.specs.Prelude.{not}
 use Rattle.std.specs.List.{All, Contains}
 use Rattle.std.specs.List.Sorted.{IsSorted, IsPermutation}
-use Rattle.std.proofs.lemmas.Int.{ints}
 use Rattle.std.proofs.Math.ListN.{get_or-map}
 use Rattle.std.proofs.Math.Nat.{eq-or-lt_of_le}
 use Rattle.std.proofs.lemmas.List.{map-append, take-append-drop}
@@ -19,12 +17,12 @@ use Rattle.lattice.specs.Plane.{Pair, IsBefore}
 use Rattle.lattice.specs.Covers.{IsPointSet}
 use Rattle.lattice.proofs.Order.{before_trans, before_total, before_not}
 use Rattle.bridge_search.proofs.Leaves.{sets_in_row, points_in_order}
-use Rattle.hull_plain.specs.Held.{once}
-use Rattle.hull_plain.specs.PointLists.{is_same_pair}
-use Rattle.hull_plain.proofs.OrderedMaps.{point_cmp, total}
-use Rattle.hull_plain.proofs.Multiplicities.{same_held}
-use Rattle.hull_plain.proofs.PointLists.{AllPairs-none, AllPairs-cons, get_or_free, later}
-use Rattle.hull_plain.proofs.Times.{same_true, same_or_other, once_same}
+use Rattle.hull_set.specs.Held.{once}
+use Rattle.hull_set.specs.PointLists.{is_same_pair}
+use Rattle.hull_set.proofs.OrderedMaps.{point_cmp, total}
+use Rattle.hull_set.proofs.Times.{same_held}
+use Rattle.hull_geometry.proofs.PointLists.{AllPairs-none, AllPairs-cons, get_or_free, later}
+use Rattle.hull_set.proofs.Times.{same_true, same_or_other, once_same}
 use Rattle.hull_tree.specs.declared.node.Node as node
 use Rattle.hull_tree.specs.declared.node.Halves as halves
 use Rattle.hull_tree.specs.Nodes.{tree_of, below_of, left_half, right_half, several, times_below, IsLabelled, IsMultiplicity, IsWellBuilt}
@@ -35,6 +33,7 @@ use Rattle.hull_tree.specs.Loaded.{held_listed, Precedes}
 use Rattle.hull_tree.proofs.HalfRows.{same_below}
 use Rattle.hull_tree.proofs.PointRows.{set_across}
 use Rattle.hull_tree.proofs.Multiplicities.{several_there, several_elsewhere}
+use Rattle.hull_set.proofs.OrderedMaps.{less}
 
 -- the points of entries with one more behind them
 points_pushed : (es : List (Pair × ℕ)) (e : Pair × ℕ) → points_listed (es ++ e ∷ []) ≡ points_listed es ++ e.0 ∷ []
@@ -43,8 +42,7 @@ points_pushed es e = map-append (λ (e : Pair × ℕ). e.0) es (e ∷ [])
 -- so they are the same where the last points are
 same_points : (es : List (Pair × ℕ)) (e f : Pair × ℕ) → e.0 ≡ f.0
     → points_listed (es ++ e ∷ []) ≡ points_listed (es ++ f ∷ [])
-same_points es e f h =
-    points_pushed es e ∙ ap (λ (z : Pair). points_listed es ++ z ∷ []) h ∙ sym (points_pushed es f)
+same_points es e f h = points_pushed es e ∙ ap (λ (z : Pair). points_listed es ++ z ∷ []) h ∙ sym (points_pushed es f)
 
 -- all entries but the last one
 held_left : (es : List (Pair × ℕ)) (e : Pair × ℕ) → All (λ (e : Pair × ℕ). IsMultiplicity e.1) (es ++ e ∷ [])
@@ -346,14 +344,6 @@ behind_both es fs i j e before after h k g s a b among = (
 )
 
 -- ---- points in order
--- a point that stands before another one
-less : (p q : Pair) → IsBefore p q → point_cmp p q ≡ Less
-less p q (inl h) = let e : int_cmp p.x q.x ≡ Less = grind (arith, ints) in rw e refl
-less p q (inr h) =
-    let e : int_cmp p.x q.x ≡ int_cmp q.x q.x = ap (λ z. int_cmp z q.x) h.0 in
-    let f : int_cmp q.x q.x ≡ Equal = grind (arith, ints) in
-    let g : int_cmp p.y q.y ≡ Less = grind (arith, ints, h.1) in rw (e, f, g) refl
-
 -- what a sort leaves
 pub ascending : (xs : List Pair) → IsSorted point_cmp xs → IsAscending xs
 ascending xs s i j d l m b =

@@ -14,7 +14,8 @@ use Rattle.hull_tree.specs.Nodes.{DifferByAtMost}
 use Rattle.hull_tree.specs.Changes.{points_below, height_at, points_within, times_within, height_within, AreInRow}
 use Rattle.hull_tree.specs.Changes.{AreParted}
 use Rattle.hull_tree.proofs.PointRows.{set_left, set_right, all_before_of_set}
-use Rattle.hull_tree.proofs.ChangedRows.{with_left, with_right, without_left, without_right, with_set, without_set}
+use Rattle.hull_tree.proofs.ChangedRows.{with_left, with_right, without_left, without_right}
+use Rattle.hull_geometry.proofs.SetLaws.{ordered_with, ordered_without}
 
 -- what is known of the halves h of the well-built fork n
 pub record IsOver (n : node.Node) (h : halves.Halves) : Type 0 where
@@ -87,11 +88,7 @@ row_with_right n a b r o i k =
 -- two nodes with the same points as two in a row are in a row
 pub regrouped : (l r s t : node.Node) → AreInRow l r → IsWellBuilt s → IsWellBuilt t
     → points_below l ++ points_below r ≡ points_below s ++ points_below t → AreInRow s t
-regrouped l r s t k a b e = record {
-  left_built = a;
-  right_built = b;
-  in_order = subst IsPointSet e k.in_order;
-}
+regrouped l r s t k a b e = record { left_built = a; right_built = b; in_order = subst IsPointSet e k.in_order }
 
 -- p before the first point of r: it stands before all of r
 pub before_first : (l r : node.Node) (p : Pair) → AreInRow l r → IsBefore p (first_of (tree_of r))
@@ -141,7 +138,7 @@ pub row_add_left : (l r m : node.Node) (p : Pair) → AreInRow l r → IsBefore 
 row_add_left l r m p k b h e = record {
   left_built = h;
   right_built = k.right_built;
-  in_order = rw e (subst IsPointSet (add_left l r p k b) (with_set p (points_below l ++ points_below r) k.in_order));
+  in_order = rw e (subst IsPointSet (add_left l r p k b) (ordered_with p (points_below l ++ points_below r) k.in_order));
 }
 
 -- and l with r with any other
@@ -150,7 +147,7 @@ pub row_add_right : (l r m : node.Node) (p : Pair) → AreInRow l r → ¬ (IsBe
 row_add_right l r m p k n h e = record {
   left_built = k.left_built;
   right_built = h;
-  in_order = rw e (subst IsPointSet (add_right l r p k n) (with_set p (points_below l ++ points_below r) k.in_order));
+  in_order = rw e (subst IsPointSet (add_right l r p k n) (ordered_with p (points_below l ++ points_below r) k.in_order));
 }
 
 -- l without such a point stays in a row with r
@@ -160,7 +157,7 @@ row_drop_left l r m p k b h e = record {
   left_built = h;
   right_built = k.right_built;
   in_order = rw e (subst IsPointSet (drop_left l r p k b)
-      (without_set p (points_below l ++ points_below r) k.in_order));
+      (ordered_without p (points_below l ++ points_below r) k.in_order));
 }
 
 -- and l with r without any other
@@ -170,5 +167,5 @@ row_drop_right l r m p k n h e = record {
   left_built = k.left_built;
   right_built = h;
   in_order = rw e (subst IsPointSet (drop_right l r p k n)
-      (without_set p (points_below l ++ points_below r) k.in_order));
+      (ordered_without p (points_below l ++ points_below r) k.in_order));
 }

@@ -1,15 +1,10 @@
 -- The height of a tree that is built by halves: halves of two numbers of points that differ by at most one differ in
 -- height by at most one.
-use Rattle.std.proofs.Common.{◌≡◌, ℕ, zero, suc, ◌+◌, ◌*◌, ◌^◌, ◌<◌, ◌≤◌, max, arith, ◌⊎◌, inl, inr}
+use Rattle.std.proofs.Common.{◌≡◌, ℕ, zero, suc, ◌+◌, ◌*◌, ◌^◌, ◌<◌, ◌≤◌, max, arith, inl, inr}
 use Rattle.std.proofs.Math.Nat.{pow-succ', pow-le-pow_right, one-le-pow}
 use Rattle.hull_tree.specs.Nodes.{DifferByAtMost}
 use Rattle.hull_tree.specs.Loaded.{IsHalvings}
-
--- of two numbers, the first is at most the second, or above it
-cases : (a b : ℕ) → (a ≤ b) ⊎ (suc b ≤ a)
-cases zero b = inl (omega arith)
-cases (suc a) zero = inr (omega arith)
-cases (suc a) (suc b) = elim (cases a b) [ inl h ↦ inl (omega arith) | inr h ↦ inr (omega arith) ]
+use Rattle.std.proofs.lemmas.Bool.{cases_lt}
 
 -- powers of two do not fall
 powers : (a b : ℕ) → a ≤ b → 2 ^ a ≤ 2 ^ b
@@ -26,17 +21,17 @@ some a = one-le-pow a 2 (omega arith)
 -- more points are no lower
 in_order : (m k a b : ℕ) → m ≤ k → IsHalvings m a → IsHalvings k b → a ≤ b
 in_order m k a b l h g =
-    elim (cases a b) [
-      | inl i ↦ i
-      | inr i ↦ absurd (omega (arith, h.1, g.0, powers (suc b) a i, doubled b))
+    elim (cases_lt b a) [
+      | inr i ↦ i
+      | inl i ↦ absurd (omega (arith, h.1, g.0, powers (suc b) a i, doubled b))
     ]
 
 -- one point more is at most one higher
 near : (m k a b : ℕ) → k ≤ m + 1 → IsHalvings m a → IsHalvings k b → b ≤ a + 1
 near m k a b l h g =
-    elim (cases b (suc a)) [
-      | inl i ↦ omega (arith, i)
-      | inr i ↦ absurd (omega (arith, h.0, g.1, powers (suc (suc a)) b i, doubled (suc a), doubled a, some a))
+    elim (cases_lt (suc a) b) [
+      | inr i ↦ omega (arith, i)
+      | inl i ↦ absurd (omega (arith, h.0, g.1, powers (suc (suc a)) b i, doubled (suc a), doubled a, some a))
     ]
 
 -- the power below the sum of both halves

@@ -1,10 +1,11 @@
 -- A balanced tree of a height has so many points at least (Adelson-Velsky and Landis, 1962), so one of 2^20 points is
 -- at most 28 high.
-use Rattle.std.proofs.Common.{◌≡◌, ℕ, zero, suc, ◌+◌, ◌-◌, ◌≤◌, max, refl, subst, length, arith, ◌⊎◌, inl, inr}
+use Rattle.std.proofs.Common.{◌≡◌, ℕ, zero, suc, ◌+◌, ◌-◌, ◌≤◌, max, refl, subst, length, arith, inl, inr}
 use Rattle.std.proofs.Common.{length-append}
 use Rattle.bridge_search.specs.Trees.{Tree, Leaf, Fork, height_of}
 use Rattle.bridge_search.specs.Leaves.{points_of}
 use Rattle.hull_tree.specs.Nodes.{IsBalanced, DifferByAtMost}
+use Rattle.std.proofs.lemmas.Bool.{cases_lt}
 
 -- the fewest points of a balanced tree of height h, and of one that is one higher
 abbrev pub fewest : ℕ → ℕ × ℕ
@@ -36,18 +37,12 @@ fork_step : (a b : ℕ) → a ≤ b + 1 → (fewest a).1 ≤ (fewest a).0 + (few
 fork_step zero b l = omega (arith, one b)
 fork_step (suc a) b l = omega (arith, monotone a b (omega arith))
 
--- of two numbers, the first is at most the second, or above it
-cases : (a b : ℕ) → (a ≤ b) ⊎ (suc b ≤ a)
-cases zero b = inl (omega arith)
-cases (suc a) zero = inr (omega arith)
-cases (suc a) (suc b) = elim (cases a b) [ inl h ↦ inl (omega arith) | inr h ↦ inr (omega arith) ]
-
 -- a fork over halves with m and n points
 over : (a b m n : ℕ) → DifferByAtMost 1 a b → (fewest a).0 ≤ m → (fewest b).0 ≤ n → (fewest (max a b + 1)).0 ≤ m + n
 over a b m n d h k =
-    elim (cases a b) [
-      | inl l ↦ let e : max a b + 1 ≡ suc b = omega arith in rw e (omega (arith, fork_step b a d.1))
-      | inr l ↦ let e : max a b + 1 ≡ suc a = omega arith in rw e (omega (arith, fork_step a b d.0))
+    elim (cases_lt b a) [
+      | inr l ↦ let e : max a b + 1 ≡ suc b = omega arith in rw e (omega (arith, fork_step b a d.1))
+      | inl l ↦ let e : max a b + 1 ≡ suc a = omega arith in rw e (omega (arith, fork_step a b d.0))
     ]
 
 -- a balanced tree has at least the fewest points of its height
@@ -64,8 +59,8 @@ of_29 = refl
 -- a balanced tree of at most 2^20 points is at most 28 high
 pub at_most_28 : (t : Tree) → IsBalanced t → length (points_of t) ≤ 1048576 → height_of t ≤ 28
 at_most_28 t h l =
-    elim (cases (height_of t) 28) [
-      | inl k ↦ k
-      | inr k ↦ absurd (let e : (fewest 29).0 ≤ (fewest (height_of t)).0 = monotone 29 (height_of t) k in
+    elim (cases_lt 28 (height_of t)) [
+      | inr k ↦ k
+      | inl k ↦ absurd (let e : (fewest 29).0 ≤ (fewest (height_of t)).0 = monotone 29 (height_of t) k in
           omega (arith, of_29, enough t h, e))
     ]

@@ -7,7 +7,7 @@ use Rattle.lattice.specs.Covers.{with_point, without_point}
 use Rattle.bridge_search.specs.Trees.{Tree}
 use Rattle.bridge_search.specs.Leaves.{points_of}
 use Rattle.bridge_search.proofs.Leaves.{points_in_order, size_is_length}
-use Rattle.hull_plain.proofs.PointLists.{AllPairs-none}
+use Rattle.hull_geometry.proofs.PointLists.{AllPairs-none}
 use Rattle.hull_tree.specs.declared.node.Node.{Node}
 use Rattle.hull_tree.specs.Nodes.{tree_of, IsWellBuilt}
 use Rattle.hull_tree.specs.Changes.{points_below}
@@ -32,13 +32,7 @@ pub limited_with : (n m : Node) (p : Pair) (count limit : ℕ) → IsLimited (So
 limited_with n m p count limit h b e a l =
     let k : length (points_below m) ≡ length (points_below n) + 1 =
     ap (λ (z : List Pair). length z) e ∙ with_length p (points_below n) a in
-    record {
-      built = b;
-      counted = omega (arith, h.counted, k);
-      room = omega (arith, l);
-      low = h.low;
-      high = h.high;
-    }
+    record { built = b; counted = omega (arith, h.counted, k); room = omega (arith, l); low = h.low; high = h.high }
 
 -- one point less
 pub limited_without : (n : Node) (root : Option Node) (p : Pair) (count limit : ℕ) → IsLimited (Some n) count limit

@@ -7,9 +7,9 @@ use Rattle.std.proofs.lemmas.List.Sums.{sum_by-append}
 use Rattle.std.proofs.lemmas.Map.Entries.{length-keys_of}
 use Rattle.lattice.specs.Plane.{Pair}
 use Rattle.lattice.specs.Covers.{IsPointSet}
-use Rattle.hull_plain.specs.declared.TheConstants.{POINT_LIMIT}
-use Rattle.hull_plain.proofs.PointLists.{AllPairs-none}
-use Rattle.hull_plain.proofs.Multiplicities.{same_held}
+use Rattle.hull_set.specs.declared.TheConstants.{POINT_LIMIT}
+use Rattle.hull_geometry.proofs.PointLists.{AllPairs-none}
+use Rattle.hull_set.proofs.Times.{same_held}
 use Rattle.hull_tree.specs.declared.node.Node.{Node}
 use Rattle.hull_tree.specs.Nodes.{tree_of, several, times_below, IsMultiplicity, IsWellBuilt}
 use Rattle.hull_tree.specs.Changes.{points_below, height_at, AreInRow}

@@ -8,10 +8,10 @@ use Rattle.lattice.specs.Plane.{Pair, IsBefore}
 use Rattle.lattice.proofs.Order.{before_irrefl}
 use Rattle.bridge_search.specs.Trees.{Leaf, On, IsBridged, first_of}
 use Rattle.bridge_search.proofs.Leaves.{on_of_contains, contains_of_on}
-use Rattle.hull_plain.specs.Held.{once}
-use Rattle.hull_plain.specs.PointLists.{is_same_pair}
-use Rattle.hull_plain.specs.declared.TheConstants.{MULTIPLICITY_LIMIT}
-use Rattle.hull_plain.proofs.Times.{same_true, same_false, same_or_other}
+use Rattle.hull_set.specs.Held.{once}
+use Rattle.hull_set.specs.PointLists.{is_same_pair}
+use Rattle.hull_set.specs.declared.TheConstants.{MULTIPLICITY_LIMIT}
+use Rattle.hull_set.proofs.Times.{same_true, same_false, same_or_other}
 use Rattle.hull_tree.specs.declared.node.Node as node
 use Rattle.hull_tree.specs.declared.node.Halves as halves
 use Rattle.hull_tree.specs.Nodes.{tree_of, several, times_below, IsLabelled, IsWellBuilt}

@@ -9,10 +9,10 @@ use Rattle.bridge_search.specs.Leaves.{points_of}
 use Rattle.bridge_search.proofs.Leaves.{on_of_contains, contains_of_on, points_in_order}
 use Rattle.bridge_search.proofs.Turns.{on_first, first_by}
 use Rattle.bridge_search.proofs.Ends.{on_last, last_by}
-use Rattle.hull_plain.proofs.SetLaws.{with_point_law, without_point_law}
+use Rattle.hull_geometry.proofs.SetLaws.{with_point_law, without_point_law}
 use Rattle.hull_tree.specs.declared.node.Node.{Node}
 use Rattle.hull_tree.specs.declared.node.Halves.{Halves}
-use Rattle.hull_plain.specs.Held.{once}
+use Rattle.hull_set.specs.Held.{once}
 use Rattle.hull_tree.proofs.Multiplicities.{leaf_once, none_left, none_right}
 use Rattle.hull_tree.specs.Nodes.{tree_of, below_of, left_half, right_half, times_below, IsWellBuilt}
 use Rattle.hull_tree.specs.Changes.{points_below, IsPartedAt}
@@ -56,8 +56,7 @@ was_there t v p s b e i =
     (((with_point_law (points_of t) p (points_in_order t b)).1 s).1 (inr (contains_of_on t s i))))
 
 is_new : (t v : Tree) (p : Pair) → IsBridged t → points_of v ≡ with_point p (points_of t) → On v p
-is_new t v p b e =
-    on_of_contains v p (rw e (((with_point_law (points_of t) p (points_in_order t b)).1 p).1 (inl refl)))
+is_new t v p b e = on_of_contains v p (rw e (((with_point_law (points_of t) p (points_in_order t b)).1 p).1 (inl refl)))
 
 -- p after the last point of t becomes the last one
 last_moved : (t v : Tree) (p : Pair) → IsBridged t → IsBridged v → points_of v ≡ with_point p (points_of t)

@@ -8,8 +8,8 @@ use Rattle.lattice.specs.Bridges.{IsAllBefore}
 use Rattle.bridge_search.specs.Trees.{Tree, On}
 use Rattle.bridge_search.specs.Leaves.{points_of}
 use Rattle.bridge_search.proofs.Leaves.{contains_of_on}
-use Rattle.hull_plain.proofs.PointLists.{AllPairs-cons, AllPairs-head, AllPairs-tail, AllPairs-none, left_part}
-use Rattle.hull_plain.proofs.PointLists.{right_part}
+use Rattle.hull_geometry.proofs.PointLists.{AllPairs-cons, AllPairs-head, AllPairs-tail, AllPairs-none, left_part}
+use Rattle.hull_geometry.proofs.PointLists.{right_part}
 
 -- the left one of two lists that are a set in a row is a set
 pub set_left : (xs ys : List Pair) → IsPointSet (xs ++ ys) → IsPointSet xs

@@ -9,7 +9,7 @@ use Rattle.hull_tree.specs.declared.node.Halves as halves
 use Rattle.hull_tree.specs.Nodes.{tree_of, keeping, below_of, left_half, right_half, IsWellBuilt, DifferByAtMost}
 use Rattle.hull_tree.specs.Changes.{height_at, left_height, right_height, IsParted, AreParted}
 use Rattle.hull_tree.specs.Turns.{IsForkCost, IsDearerByAtMost}
-use Rattle.hull_tree.proofs.Costs.{by_fork_left, by_fork_right}
+use Rattle.hull_tree.proofs.Costs.{by_fork}
 use Rattle.bridge_search.specs.Near.{are_near}
 use Rattle.hull_tree.proofs.HalfRows.{same_below}
 use Rattle.hull_tree.proofs.PointRows.{all_before_of_set}
@@ -81,28 +81,17 @@ renewed_well (node.Node' upper lower height near times
       );
     }
 
--- the points of its left half cost the turns of its two searches more
-pub dearer_on_left : (n : node.Node) (h : halves.Halves) (e f : Pair × Pair) (k : ℕ) (t : Bool) (a : ℕ) → IsParted n
+-- the points of its halves cost the turns of its two searches more
+pub dearer_on_both : (n : node.Node) (h : halves.Halves) (e f : Pair × Pair) (k : ℕ) (t : Bool) (a : ℕ) → IsParted n
     → below_of n ≡ Some h → IsForkCost e f (tree_of (left_half h)) (tree_of (right_half h)) a
     → IsDearerByAtMost (left_of (tree_of n)) (tree_of (keeping n e f k t)) a
+    × IsDearerByAtMost (right_of (tree_of n)) (tree_of (keeping n e f k t)) a
 unfolding node.out-Node halves.out-Halves denote.Hole.Carrier.out
-dearer_on_left (node.Node' upper lower height near times node.None') h e f k t a p is c = absurd (cc)
-dearer_on_left (node.Node' upper lower height near times
+dearer_on_both (node.Node' upper lower height near times node.None') h e f k t a p is c = absurd (cc)
+dearer_on_both (node.Node' upper lower height near times
     (node.Some' i (halves.Halves' left right last_left first_right))) h e f k t a p is c =
     let b : halves.Halves' left right last_left first_right ≡ h = same_below is in
-    by_fork_left e f (tree_of left) (tree_of right) a
-    (subst (λ (z : halves.Halves). IsForkCost e f (tree_of (left_half z)) (tree_of (right_half z)) a) (sym b) c)
-
--- and so do those of its right half
-pub dearer_on_right : (n : node.Node) (h : halves.Halves) (e f : Pair × Pair) (k : ℕ) (t : Bool) (a : ℕ) → IsParted n
-    → below_of n ≡ Some h → IsForkCost e f (tree_of (left_half h)) (tree_of (right_half h)) a
-    → IsDearerByAtMost (right_of (tree_of n)) (tree_of (keeping n e f k t)) a
-unfolding node.out-Node halves.out-Halves denote.Hole.Carrier.out
-dearer_on_right (node.Node' upper lower height near times node.None') h e f k t a p is c = absurd (cc)
-dearer_on_right (node.Node' upper lower height near times
-    (node.Some' i (halves.Halves' left right last_left first_right))) h e f k t a p is c =
-    let b : halves.Halves' left right last_left first_right ≡ h = same_below is in
-    by_fork_right e f (tree_of left) (tree_of right) a
+    by_fork e f (tree_of left) (tree_of right) a
     (subst (λ (z : halves.Halves). IsForkCost e f (tree_of (left_half z)) (tree_of (right_half z)) a) (sym b) c)
 
 -- where p is below one of the halves, and the fork over them was renewed, what is known of the turns below is known of

@@ -111,8 +111,7 @@ cut_shorter false e es gs h = omega (arith, h)
 
 from_shorter : (s : Pair) (es : List (Pair × ℕ)) → length (entries_from s es) ≤ length es
 from_shorter s [] = omega arith
-from_shorter s (e ∷ es) =
-    omega (arith, cut_shorter (is_before e.0 s) e es (entries_from s es) (from_shorter s es))
+from_shorter s (e ∷ es) = omega (arith, cut_shorter (is_before e.0 s) e es (entries_from s es) (from_shorter s es))
 
 -- the first so many of a tree's, or all, are a stretch of what it holds
 pub stretch_of_root : (s : Pair) (m k : ℕ) (n : node.Node) (listed : List (Pair × ℕ)) → IsWellBuilt n

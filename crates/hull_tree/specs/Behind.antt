@@ -3,9 +3,11 @@
 use Rattle.std.specs.Prelude.{◌≡◌, ◌⊎◌}
 use Rattle.std.specs.List.{Contains}
 use Rattle.lattice.specs.Plane.{Pair}
-use Rattle.lattice.specs.Bridges.{IsUpperBridge, IsLowerBridge}
+use Rattle.lattice.specs.Bridges.{IsBridge}
 use Rattle.lattice.specs.Covers.{with_point, without_point}
-use Rattle.lattice.specs.Standing.{WithPoint, WithoutPoint, IsUnderEdge, IsOverEdge}
+use Rattle.lattice.specs.declared.side.Side.{Side}
+use Rattle.lattice.specs.declared.side.Side.TheVariants.{Lower, Upper}
+use Rattle.lattice.specs.Standing.{WithPoint, WithoutPoint, IsInnerToEdge}
 use Rattle.bridge_search.specs.Trees.{Tree, On}
 use Rattle.hull_tree.specs.declared.build.Change.{Change}
 use Rattle.hull_tree.specs.declared.build.Change.TheVariants.{Came, Went}
@@ -16,16 +18,20 @@ use Rattle.hull_tree.specs.declared.node.Halves as halves
 use Rattle.hull_tree.specs.Nodes.{tree_of, left_half, right_half}
 use Rattle.hull_tree.specs.Changes.{points_below}
 
--- e is the upper and f the lower bridge of l and r
-abbrev pub AreBridges : (Pair → Type 0) → (Pair → Type 0) → Pair × Pair → Pair × Pair → Type 0
-AreBridges l r e f = IsUpperBridge l r e.0 e.1 × IsLowerBridge l r f.0 f.1
+-- e is the bridge of two halves on this side
+abbrev pub IsBridgeOf : Side → Halves → Pair × Pair → Type 0
+IsBridgeOf side h e = IsBridge side (On (tree_of (left_half h))) (On (tree_of (right_half h))) e.0 e.1
 
--- e and f are the bridges of what two halves were before the change: without the point that came to one of them, or
--- with the one that went from one
+-- e is the bridge, on this side, of what two halves were before the change: without the point that came to one of them, or with
+-- the one that went from one
+abbrev pub WasBridge : Side → Change → Tree → Tree → Pair × Pair → Type 0
+WasBridge side (Came p) u w e = IsBridge side (WithoutPoint p (On u)) (WithoutPoint p (On w)) e.0 e.1
+WasBridge side (Went p) u w e =
+    IsBridge side (WithPoint p (On u)) (On w) e.0 e.1 ⊎ IsBridge side (On u) (WithPoint p (On w)) e.0 e.1
+
+-- e was the upper and f the lower bridge of two halves
 abbrev pub WereBridges : Change → Tree → Tree → Pair × Pair → Pair × Pair → Type 0
-WereBridges (Came p) u w e f = AreBridges (WithoutPoint p (On u)) (WithoutPoint p (On w)) e f
-WereBridges (Went p) u w e f =
-    AreBridges (WithPoint p (On u)) (On w) e f ⊎ AreBridges (On u) (WithPoint p (On w)) e f
+WereBridges c u w e f = WasBridge Upper c u w e × WasBridge Lower c u w f
 
 -- the edges that a fork stores are the bridges of its halves before the change
 abbrev pub StoredBridges : Change → Node → Type 0
@@ -38,15 +44,10 @@ StoredBridges c (node.Node' upper lower height near times
 pub record IsBehind (c : Change) (n : Node) : Type 0 where
   pub stored : StoredBridges c n
 
--- an upper bridge that the change cannot have altered
-abbrev pub UpperStands : Change → Pair × Pair → Type 0
-UpperStands (Came p) e = IsUnderEdge e.0 e.1 p
-UpperStands (Went p) e = ¬ (e.0 ≡ p) × ¬ (e.1 ≡ p)
-
--- a lower one
-abbrev pub LowerStands : Change → Pair × Pair → Type 0
-LowerStands (Came p) e = IsOverEdge e.0 e.1 p
-LowerStands (Went p) e = ¬ (e.0 ≡ p) × ¬ (e.1 ≡ p)
+-- a bridge on this side that the change cannot have altered
+abbrev pub Stands : Side → Change → Pair × Pair → Type 0
+Stands side (Came p) e = IsInnerToEdge side e.0 e.1 p
+Stands side (Went p) e = ¬ (e.0 ≡ p) × ¬ (e.1 ≡ p)
 
 -- the halves g are the halves h with p in one of them
 abbrev pub HasGained : Pair → Halves → Halves → Type 0

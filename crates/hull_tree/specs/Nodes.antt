@@ -4,8 +4,8 @@ use Rattle.std.specs.Prelude.{◌≡◌, ℕ, Bool, ◌+◌, ◌≤◌, Option, 
 use Rattle.lattice.specs.Plane.{Pair}
 use Rattle.bridge_search.specs.Trees.{Tree, Leaf, Fork, IsBridged, first_of, last_of, height_of}
 use Rattle.bridge_search.specs.Near.{is_near, are_near}
-use Rattle.hull_plain.specs.PointLists.{is_same_pair}
-use Rattle.hull_plain.specs.declared.TheConstants.{MULTIPLICITY_LIMIT}
+use Rattle.hull_set.specs.PointLists.{is_same_pair}
+use Rattle.hull_set.specs.declared.TheConstants.{MULTIPLICITY_LIMIT}
 use Rattle.hull_tree.specs.declared.node.Node.{Node, out-Node}
 use Rattle.hull_tree.specs.declared.node.Node as node
 use Rattle.hull_tree.specs.declared.node.Halves.{Halves, out-Halves}

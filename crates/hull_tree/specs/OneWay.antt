@@ -7,7 +7,7 @@ use Rattle.lattice.specs.Plane.{Pair}
 use Rattle.bridge_search.specs.Trees.{Fork, first_of, last_of, height_of}
 use Rattle.bridge_search.specs.OneWay.{point_set}
 use Rattle.bridge_search.specs.Near.{is_near, are_near}
-use Rattle.hull_plain.specs.declared.TheConstants.{MULTIPLICITY_LIMIT}
+use Rattle.hull_set.specs.declared.TheConstants.{MULTIPLICITY_LIMIT}
 use Rattle.hull_tree.specs.declared.node.Node as node
 use Rattle.hull_tree.specs.declared.node.Halves as halves
 use Rattle.hull_tree.specs.Nodes.{tree_of, IsLabelled}

@@ -1,7 +1,7 @@
 -- A whole tree: a node, or nothing.
 use Rattle.std.specs.Prelude.{ℕ, List, [], Option, Some, None}
 use Rattle.lattice.specs.Plane.{Pair}
-use Rattle.hull_plain.specs.Held.{Held}
+use Rattle.hull_set.specs.Held.{Held}
 use Rattle.hull_tree.specs.declared.node.Node.{Node}
 use Rattle.hull_tree.specs.Nodes.{IsWellBuilt, times_below}
 use Rattle.hull_tree.specs.Changes.{points_below, height_at}

@@ -3,8 +3,8 @@ use Rattle.std.specs.Prelude.{◌≡◌, ℕ, ◌≤◌, Option, Some, length, o
 use Rattle.lattice.specs.Covers.{IsPointSet}
 use Rattle.bridge_search.specs.Trees.{Tree, size_of}
 use Rattle.bridge_search.specs.Leaves.{points_of}
-use Rattle.hull_plain.specs.declared.TheConstants.{POINT_LIMIT}
-use Rattle.hull_plain.specs.declared.set.HullSet.{Ghosts}
+use Rattle.hull_set.specs.declared.TheConstants.{POINT_LIMIT}
+use Rattle.hull_set.specs.declared.set.HullSet.{Ghosts}
 use Rattle.hull_tree.specs.declared.node.Node.{Node}
 use Rattle.hull_tree.specs.Nodes.{tree_of}
 use Rattle.hull_tree.specs.Roots.{points_of_root, held_by, IsWellBuiltRoot, height_of_root}

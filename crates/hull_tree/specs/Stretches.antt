@@ -2,7 +2,7 @@
 use Rattle.std.specs.Prelude.{◌≡◌, ℕ, List, [], ◌∷◌, take, cond}
 use Rattle.lattice.specs.Plane.{Pair}
 use Rattle.lattice.specs.Covers.{is_before}
-use Rattle.hull_plain.specs.Held.{Held}
+use Rattle.hull_set.specs.Held.{Held}
 use Rattle.hull_tree.specs.Loaded.{AreEntries, held_listed}
 
 -- those of the entries whose points do not stand before the start

@@ -4,8 +4,8 @@ use Rattle.std.proofs.Common.{arith}
 use Rattle.lattice.specs.Plane.{Pair}
 use Rattle.bridge_search.specs.Trees.{Tree, Leaf, Fork, IsAtDepth}
 use Rattle.bridge_search.specs.Search.{IsDepthSum}
-use Rattle.hull_plain.specs.declared.set.AddReply.{AddReply}
-use Rattle.hull_plain.specs.declared.set.AddReply.TheVariants.{Added, Again, TooMany, NoMemory}
+use Rattle.hull_set.specs.declared.set.AddReply.{AddReply}
+use Rattle.hull_set.specs.declared.set.AddReply.TheVariants.{Added, Again, TooMany, NoMemory}
 use Rattle.hull_tree.specs.declared.node.Node.{Node}
 use Rattle.hull_tree.specs.Nodes.{tree_of}
 

@@ -1,24 +1,26 @@
 ghost use Rattle.std.specs.Prelude.{◌≡◌, ◌&&◌, ◌↔◌, IsTrue, Some, ◌≤◌, ◌+◌, ◌*◌, ◌++◌, max};
 ghost use Rattle.lattice.specs.Plane.{Pair};
-ghost use Rattle.lattice.specs.Bridges.{IsUpperBridge, IsLowerBridge, IsNotBeyond};
+ghost use Rattle.lattice.specs.Bridges.{IsAllBefore, IsBridge, IsNotBeyond};
+ghost use Rattle.lattice.specs.declared.side.Side.TheVariants.{Lower, Upper};
 ghost use Rattle.bridge_search.specs.Near.{are_near};
 ghost use Rattle.bridge_search.specs.Search.{IsDepthSum};
-ghost use Rattle.bridge_search.specs.Trees.{On, IsFork, left_of, right_of, first_of as first_in, last_of as last_in};
+ghost use Rattle.bridge_search.specs.Trees.{On, IsFork, left_of, right_of, height_of, first_of as first_in};
+ghost use Rattle.bridge_search.specs.Trees.{last_of as last_in};
 ghost use Rattle.hull_tree.specs.Nodes.{tree_of, keeping, halves_of, left_half, right_half, before_parting};
 ghost use Rattle.hull_tree.specs.Nodes.{after_parting, times_below, IsWellBuilt, DifferByAtMost};
 ghost use Rattle.hull_tree.specs.Changes.{points_below, height_at, height_within, left_height, right_height, IsParted};
 ghost use Rattle.hull_tree.specs.Changes.{IsPartedAt, AreParted, IsAtMostOneMore, IsHeightOver};
 ghost use Rattle.hull_tree.specs.Turns.{IsForkCost, IsDearerByAtMost};
-ghost use Rattle.hull_tree.specs.Behind.{WereBridges, IsBehind, UpperStands, LowerStands};
-ghost use Rattle.lattice.specs.Standing.{IsUnderEdge, IsOverEdge};
+ghost use Rattle.hull_tree.specs.Behind.{IsBridgeOf, WereBridges, IsBehind, Stands};
+ghost use Rattle.lattice.specs.Standing.{IsInnerToEdge};
 
 use super::node::{Halves, Node, height_of, near_of};
 use super::node_ref::NodeRef;
 use bridge_search::{
-    Counted, Near, both_bridges_between, lower_bridge_counted, upper_bridge_counted,
+    Counted, Half, Near, both_bridges_between, lower_bridge_counted, upper_bridge_counted,
 };
 use heap::Heap;
-use lattice::{Point, before, orient};
+use lattice::{Point, Side, before, orient};
 use std::mem;
 
 /// Two halves that stand for nothing yet.
@@ -45,7 +47,7 @@ pub(crate) fn take_halves(halves: &mut Halves) -> (Node, Node)
 }
 
 /// A fork taken apart: its left and its right half, and their box, which keeps the points at their parting.
-fn taken_apart(node: Node) -> (Node, Node, Box<Halves, Heap>)
+fn take_apart(node: Node) -> (Node, Node, Box<Halves, Heap>)
     requires built { IsWellBuilt node }
     requires fork { IsFork (tree_of node) }
     ensures halves { halves_of node ≡ Some (result.0, result.1) }
@@ -65,6 +67,14 @@ fn taken_apart(node: Node) -> (Node, Node, Box<Halves, Heap>)
     (left, right, halves)
 }
 
+/// Whether all points of two halves are near.
+fn both_near(halves: &Halves) -> bool
+    requires { AreParted halves.now }
+    ensures { result ≡ (are_near (tree_of (left_half halves.now)) && are_near (tree_of (right_half halves.now))) }
+{
+    near_of(&halves.left) && near_of(&halves.right)
+}
+
 /// What a fork keeps of its two halves, and how many turns the searches for its bridges took.
 #[derive(Clone, Copy)]
 struct Found {
@@ -80,10 +90,8 @@ struct Found {
 fn both_bridges_of(halves: &Halves) -> (Counted, Counted)
     requires parted { AreParted halves.now }
     requires low { height_within halves.now ≤ 28 }
-    ensures upper { IsUpperBridge (On (tree_of (left_half halves.now)))
-        (On (tree_of (right_half halves.now))) result.0.0.0 result.0.0.1 }
-    ensures lower { IsLowerBridge (On (tree_of (left_half halves.now)))
-        (On (tree_of (right_half halves.now))) result.1.0.0 result.1.0.1 }
+    ensures upper { IsBridgeOf Upper halves.now result.0.0 }
+    ensures lower { IsBridgeOf Lower halves.now result.1.0 }
     ensures upper_depths { IsDepthSum (tree_of (left_half halves.now))
         (tree_of (right_half halves.now)) result.0.0.0 result.0.0.1 result.0.1 }
     ensures lower_depths { IsDepthSum (tree_of (left_half halves.now))
@@ -93,7 +101,7 @@ fn both_bridges_of(halves: &Halves) -> (Counted, Counted)
 {
     let (u, w) = (NodeRef::new(&halves.left), NodeRef::new(&halves.right));
     let (last, first) = (halves.last_left, halves.first_right);
-    if near_of(&halves.left) && near_of(&halves.right) {
+    if both_near(halves) {
         both_bridges_between(Near::new(u), Near::new(w), last, first)
     } else {
         both_bridges_between(u, w, last, first)
@@ -101,13 +109,11 @@ fn both_bridges_of(halves: &Halves) -> (Counted, Counted)
 }
 
 /// Searches both bridges between two halves.
-fn searched(halves: &Halves) -> Found
+fn search_both(halves: &Halves) -> Found
     requires parted { AreParted halves.now }
     requires low { height_within halves.now ≤ 28 }
-    ensures upper { IsUpperBridge (On (tree_of (left_half halves.now)))
-        (On (tree_of (right_half halves.now))) result.upper.0 result.upper.1 }
-    ensures lower { IsLowerBridge (On (tree_of (left_half halves.now)))
-        (On (tree_of (right_half halves.now))) result.lower.0 result.lower.1 }
+    ensures upper { IsBridgeOf Upper halves.now result.upper }
+    ensures lower { IsBridgeOf Lower halves.now result.lower }
     ensures height { result.height ≡ height_within halves.now + 1 }
     ensures near { result.near
         ≡ (are_near (tree_of (left_half halves.now)) && are_near (tree_of (right_half halves.now))) }
@@ -120,7 +126,7 @@ fn searched(halves: &Halves) -> Found
         upper,
         lower,
         height: height_of(&halves.left).max(height_of(&halves.right)) + 1,
-        near: near_of(&halves.left) && near_of(&halves.right),
+        near: both_near(halves),
         turns: upper_turns + lower_turns,
     }
 }
@@ -187,7 +193,7 @@ pub(crate) fn renew(node: &mut Node) -> u32
     let Some(halves) = &node.below else {
         unreachable!()
     };
-    let found = searched(halves);
+    let found = search_both(halves);
     let turns = found.turns;
     keep(node, found);
     turns
@@ -211,7 +217,7 @@ fn is_not_beyond(edge: &(Point, Point), p: Point) -> bool
 
 /// Whether a point lies right of the line of an edge, or on that line and not outside the edge.
 fn is_under(edge: &(Point, Point), p: Point) -> bool
-    ensures { IsTrue result ↔ IsUnderEdge edge.now.0 edge.now.1 p }
+    ensures { IsTrue result ↔ IsInnerToEdge Upper edge.now.0 edge.now.1 p }
 {
     let side = orient(edge.0, edge.1, p);
     side < 0 || side == 0 && is_not_beyond(edge, p)
@@ -219,7 +225,7 @@ fn is_under(edge: &(Point, Point), p: Point) -> bool
 
 /// Whether a point lies left of the line of an edge, or on that line and not outside the edge.
 fn is_over(edge: &(Point, Point), p: Point) -> bool
-    ensures { IsTrue result ↔ IsOverEdge edge.now.0 edge.now.1 p }
+    ensures { IsTrue result ↔ IsInnerToEdge Lower edge.now.0 edge.now.1 p }
 {
     let side = orient(edge.0, edge.1, p);
     side > 0 || side == 0 && is_not_beyond(edge, p)
@@ -232,89 +238,48 @@ fn ends_elsewhere(edge: &(Point, Point), p: Point) -> bool
     edge.0 != p && edge.1 != p
 }
 
-/// Whether the upper bridge is the one that it was before the change.
-fn upper_stands(edge: &(Point, Point), change: &Change) -> bool
-    ensures { IsTrue result ↔ UpperStands change.now edge.now }
+/// Whether the bridge on this side is the one that it was before the change.
+fn stands(side: Side, edge: &(Point, Point), change: &Change) -> bool
+    ensures { IsTrue result ↔ Stands side change.now edge.now }
 {
     match *change {
-        Change::Came(p) => is_under(edge, p),
+        Change::Came(p) => match side {
+            Side::Upper => is_under(edge, p),
+            Side::Lower => is_over(edge, p),
+        },
         Change::Went(p) => ends_elsewhere(edge, p),
     }
 }
 
-/// Whether the lower bridge is the one that it was before the change.
-fn lower_stands(edge: &(Point, Point), change: &Change) -> bool
-    ensures { IsTrue result ↔ LowerStands change.now edge.now }
+/// Searches the bridge between two halves on this side.
+fn search_bridge<H: Half>(side: Side, u: H, w: H) -> Counted
+    requires { IsAllBefore (On (H.tree u)) (On (H.tree w)) }
+    ensures bridge { IsBridge side (On (H.tree u)) (On (H.tree w)) result.0.0 result.0.1 }
+    ensures few { result.1 ≤ height_of (H.tree u) + height_of (H.tree w) }
 {
-    match *change {
-        Change::Came(p) => is_over(edge, p),
-        Change::Went(p) => ends_elsewhere(edge, p),
+    match side {
+        Side::Upper => upper_bridge_counted(u, w),
+        Side::Lower => lower_bridge_counted(u, w),
     }
 }
 
-/// Searches the upper bridge between two halves alone.
-fn upper_bridge_of(halves: &Halves) -> Counted
+/// The bridge of two halves on this side after a change: the edge that was stored where it stands, else it is searched,
+/// in 64 bits where all points are near.
+fn bridge_after(side: Side, halves: &Halves, edge: (Point, Point), change: &Change) -> Counted
     requires parted { AreParted halves.now }
     requires low { height_within halves.now ≤ 28 }
-    ensures bridge { IsUpperBridge (On (tree_of (left_half halves.now)))
-        (On (tree_of (right_half halves.now))) result.0.0 result.0.1 }
+    requires stands { Stands side change.now edge → IsBridgeOf side halves.now edge }
+    ensures bridge { IsBridgeOf side halves.now result.0 }
     ensures few { result.1 ≤ height_at (left_half halves.now) + height_at (right_half halves.now) }
 {
+    if stands(side, &edge, change) {
+        return (edge, 0);
+    }
     let (u, w) = (NodeRef::new(&halves.left), NodeRef::new(&halves.right));
-    if near_of(&halves.right) && near_of(&halves.left) {
-        upper_bridge_counted(Near::new(u), Near::new(w))
+    if both_near(halves) {
+        search_bridge(side, Near::new(u), Near::new(w))
     } else {
-        upper_bridge_counted(u, w)
-    }
-}
-
-/// Searches the lower bridge between two halves alone.
-fn lower_bridge_of(halves: &Halves) -> Counted
-    requires parted { AreParted halves.now }
-    requires low { height_within halves.now ≤ 28 }
-    ensures bridge { IsLowerBridge (On (tree_of (left_half halves.now)))
-        (On (tree_of (right_half halves.now))) result.0.0 result.0.1 }
-    ensures few { result.1 ≤ height_at (left_half halves.now) + height_at (right_half halves.now) }
-{
-    let (u, w) = (NodeRef::new(&halves.left), NodeRef::new(&halves.right));
-    if near_of(&halves.right) && near_of(&halves.left) {
-        lower_bridge_counted(Near::new(u), Near::new(w))
-    } else {
-        lower_bridge_counted(u, w)
-    }
-}
-
-/// The upper bridge of two halves after a change: the edge that was stored where it stands, else it is searched.
-fn upper_after(halves: &Halves, edge: (Point, Point), change: &Change) -> Counted
-    requires parted { AreParted halves.now }
-    requires low { height_within halves.now ≤ 28 }
-    requires stands { UpperStands change.now edge → IsUpperBridge (On (tree_of (left_half halves.now)))
-        (On (tree_of (right_half halves.now))) edge.0 edge.1 }
-    ensures bridge { IsUpperBridge (On (tree_of (left_half halves.now)))
-        (On (tree_of (right_half halves.now))) result.0.0 result.0.1 }
-    ensures few { result.1 ≤ height_at (left_half halves.now) + height_at (right_half halves.now) }
-{
-    if upper_stands(&edge, change) {
-        (edge, 0)
-    } else {
-        upper_bridge_of(halves)
-    }
-}
-
-/// The lower bridge of two halves after a change: the edge that was stored where it stands, else it is searched.
-fn lower_after(halves: &Halves, edge: (Point, Point), change: &Change) -> Counted
-    requires parted { AreParted halves.now }
-    requires low { height_within halves.now ≤ 28 }
-    requires stands { LowerStands change.now edge → IsLowerBridge (On (tree_of (left_half halves.now)))
-        (On (tree_of (right_half halves.now))) edge.0 edge.1 }
-    ensures bridge { IsLowerBridge (On (tree_of (left_half halves.now)))
-        (On (tree_of (right_half halves.now))) result.0.0 result.0.1 }
-    ensures few { result.1 ≤ height_at (left_half halves.now) + height_at (right_half halves.now) }
-{
-    if lower_stands(&edge, change) {
-        (edge, 0)
-    } else {
-        lower_bridge_of(halves)
+        search_bridge(side, u, w)
     }
 }
 
@@ -328,26 +293,21 @@ fn found_after(
     requires parted { AreParted halves.now }
     requires low { height_within halves.now ≤ 28 }
     requires were { WereBridges change (tree_of (left_half halves.now)) (tree_of (right_half halves.now)) above under }
-    ensures upper { IsUpperBridge (On (tree_of (left_half halves.now)))
-        (On (tree_of (right_half halves.now))) result.upper.0 result.upper.1 }
-    ensures lower { IsLowerBridge (On (tree_of (left_half halves.now)))
-        (On (tree_of (right_half halves.now))) result.lower.0 result.lower.1 }
+    ensures upper { IsBridgeOf Upper halves.now result.upper }
+    ensures lower { IsBridgeOf Lower halves.now result.lower }
     ensures height { result.height ≡ height_within halves.now + 1 }
     ensures near { result.near
         ≡ (are_near (tree_of (left_half halves.now)) && are_near (tree_of (right_half halves.now))) }
     ensures within { result.turns ≤ 2 * (height_at (left_half halves.now) + height_at (right_half halves.now)) }
 {
-    let (upper_edge, turns_above) = upper_after(halves, above, &change);
-    let (lower_edge, turns_under) = lower_after(halves, under, &change);
-    let near = near_of(&halves.left) && near_of(&halves.right);
-    let height = height_of(&halves.left).max(height_of(&halves.right)) + 1;
-    let turns = turns_above + turns_under;
+    let (above, turns_above) = bridge_after(Side::Upper, halves, above, &change);
+    let (under, turns_under) = bridge_after(Side::Lower, halves, under, &change);
     Found {
-        upper: upper_edge,
-        lower: lower_edge,
-        height,
-        near,
-        turns,
+        upper: above,
+        lower: under,
+        height: height_of(&halves.left).max(height_of(&halves.right)) + 1,
+        near: both_near(halves),
+        turns: turns_above + turns_under,
     }
 }
 
@@ -378,7 +338,7 @@ pub(crate) fn renew_after(node: &mut Node, change: Change) -> u32
 
 /// The fork over two halves, in a box that keeps the points at their parting, and how many turns the searches for its
 /// bridges took.
-pub(crate) fn joined(mut spare: Box<Halves, Heap>, left: Node, right: Node) -> (Node, u32)
+pub(crate) fn join(mut spare: Box<Halves, Heap>, left: Node, right: Node) -> (Node, u32)
     requires parted { IsPartedAt left right (before_parting spare.value) (after_parting spare.value) }
     requires balanced { DifferByAtMost 1 (height_at left) (height_at right) }
     requires low { max (height_at left) (height_at right) ≤ 28 }
@@ -410,7 +370,7 @@ pub(crate) fn joined(mut spare: Box<Halves, Heap>, left: Node, right: Node) -> (
 
 /// The fork over two halves of which the left one is two higher, after a rotation to the right, double where the left
 /// half leans to the right.
-fn rotated_right(spare: Box<Halves, Heap>, left: Node, right: Node) -> (Node, u32)
+fn rotate_right(spare: Box<Halves, Heap>, left: Node, right: Node) -> (Node, u32)
     requires parted { IsPartedAt left right (before_parting spare.value) (after_parting spare.value) }
     requires two_higher { height_at left ≡ height_at right + 2 }
     requires low { height_at left ≤ 28 }
@@ -422,22 +382,22 @@ fn rotated_right(spare: Box<Halves, Heap>, left: Node, right: Node) -> (Node, u3
     ensures cost_left { IsDearerByAtMost (tree_of left) (tree_of result.0) result.1 }
     ensures cost_right { IsDearerByAtMost (tree_of right) (tree_of result.0) result.1 }
 {
-    let (outer, inner, below) = taken_apart(left);
+    let (outer, inner, below) = take_apart(left);
     if height_of(&outer) >= height_of(&inner) {
-        let (second, second_turns) = joined(spare, inner, right);
-        let (whole, turns) = joined(below, outer, second);
+        let (second, second_turns) = join(spare, inner, right);
+        let (whole, turns) = join(below, outer, second);
         return (whole, turns + second_turns);
     }
-    let (middle_left, middle_right, middle) = taken_apart(inner);
-    let (first, first_turns) = joined(below, outer, middle_left);
-    let (second, second_turns) = joined(spare, middle_right, right);
-    let (whole, turns) = joined(middle, first, second);
+    let (middle_left, middle_right, middle) = take_apart(inner);
+    let (first, first_turns) = join(below, outer, middle_left);
+    let (second, second_turns) = join(spare, middle_right, right);
+    let (whole, turns) = join(middle, first, second);
     (whole, turns + first_turns + second_turns)
 }
 
 /// The fork over two halves of which the right one is two higher, after a rotation to the left, double where the right
 /// half leans to the left.
-fn rotated_left(spare: Box<Halves, Heap>, left: Node, right: Node) -> (Node, u32)
+fn rotate_left(spare: Box<Halves, Heap>, left: Node, right: Node) -> (Node, u32)
     requires parted { IsPartedAt left right (before_parting spare.value) (after_parting spare.value) }
     requires two_higher { height_at right ≡ height_at left + 2 }
     requires low { height_at right ≤ 28 }
@@ -449,16 +409,16 @@ fn rotated_left(spare: Box<Halves, Heap>, left: Node, right: Node) -> (Node, u32
     ensures cost_left { IsDearerByAtMost (tree_of left) (tree_of result.0) result.1 }
     ensures cost_right { IsDearerByAtMost (tree_of right) (tree_of result.0) result.1 }
 {
-    let (inner, outer, below) = taken_apart(right);
+    let (inner, outer, below) = take_apart(right);
     if height_of(&outer) >= height_of(&inner) {
-        let (first, first_turns) = joined(spare, left, inner);
-        let (whole, turns) = joined(below, first, outer);
+        let (first, first_turns) = join(spare, left, inner);
+        let (whole, turns) = join(below, first, outer);
         return (whole, turns + first_turns);
     }
-    let (middle_left, middle_right, middle) = taken_apart(inner);
-    let (first, first_turns) = joined(spare, left, middle_left);
-    let (second, second_turns) = joined(below, middle_right, outer);
-    let (whole, turns) = joined(middle, first, second);
+    let (middle_left, middle_right, middle) = take_apart(inner);
+    let (first, first_turns) = join(spare, left, middle_left);
+    let (second, second_turns) = join(below, middle_right, outer);
+    let (whole, turns) = join(middle, first, second);
     (whole, turns + first_turns + second_turns)
 }
 
@@ -489,9 +449,9 @@ pub(crate) fn rebalance(node: &mut Node) -> u32
     };
     let (left, right) = take_halves(&mut spare);
     let (whole, turns) = if on_left > on_right {
-        rotated_right(spare, left, right)
+        rotate_right(spare, left, right)
     } else {
-        rotated_left(spare, left, right)
+        rotate_left(spare, left, right)
     };
     *node = whole;
     turns

@@ -2,7 +2,7 @@ ghost use Rattle.std.specs.Prelude.{◌≡◌, ◌≤◌, ◌<◌, ◌+◌, ◌*
 ghost use Rattle.std.specs.List.{Contains};
 ghost use Rattle.lattice.specs.Plane.{Pair, IsBefore};
 ghost use Rattle.lattice.specs.Covers.{with_point, without_point};
-ghost use Rattle.hull_plain.specs.Held.{once};
+ghost use Rattle.hull_set.specs.Held.{once};
 ghost use Rattle.bridge_search.specs.Trees.{Leaf, IsFork, first_of as first_in, last_of as last_in};
 ghost use Rattle.hull_tree.specs.Nodes.{tree_of, left_half, right_half, before_parting, after_parting, several};
 ghost use Rattle.hull_tree.specs.Nodes.{times_below, IsMultiplicity, IsWellBuilt};
@@ -11,11 +11,11 @@ ghost use Rattle.hull_tree.specs.Changes.{AreParted, IsAtMostOneMore};
 ghost use Rattle.hull_tree.specs.Behind.{HasGained, HasLost};
 ghost use Rattle.hull_tree.specs.Turns.{IsCostAtMost};
 
-use super::build::{Change, joined, take_halves};
+use super::build::{Change, join, take_halves};
 use super::node::{Halves, Node, first_of, last_of};
 use super::renewal::Renewal;
 use heap::Heap;
-use hull_plain::MULTIPLICITY_LIMIT;
+use hull_set::MULTIPLICITY_LIMIT;
 use lattice::{Point, before};
 
 /// How often a point is held below a node: one comparison a fork.
@@ -113,7 +113,7 @@ fn parted(mut spare: Box<Halves, Heap>, first: (Point, u32), last: (Point, u32))
 {
     spare.last_left = first.0;
     spare.first_right = last.0;
-    joined(
+    join(
         spare,
         Node::leaf(first.0, first.1),
         Node::leaf(last.0, last.1),

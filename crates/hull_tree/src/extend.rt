@@ -1,7 +1,7 @@
 //! Points that are added one by one, all or none of them.
 ghost use Rattle.std.specs.Prelude.{◌≡◌, ◌≤◌, ◌+◌, ◌∷◌, [], IfOk, IfErr, Err};
 ghost use Rattle.lattice.specs.Plane.{Pair};
-ghost use Rattle.hull_plain.specs.Held.{once};
+ghost use Rattle.hull_set.specs.Held.{once};
 ghost use Rattle.hull_tree.specs.Loaded.{times_among, held_after_adds, AreTooMany};
 ghost use Rattle.hull_tree.specs.Roots.{held_by, times_of_root};
 ghost use Rattle.hull_tree.specs.Sets.{IsSound};
@@ -9,7 +9,7 @@ ghost use Rattle.hull_tree.specs.Sets.{IsSound};
 use super::load::LoadFault;
 use super::renewal::Renewal;
 use super::tree::{HullTree, trees_are_sound};
-use hull_plain::AddReply;
+use hull_set::AddReply;
 use lattice::Point;
 
 /// Adds a point, or tells why not.

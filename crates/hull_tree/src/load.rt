@@ -6,10 +6,10 @@ ghost use Rattle.hull_tree.specs.Nodes.{several, IsMultiplicity};
 ghost use Rattle.hull_tree.specs.Changes.{points_below};
 ghost use Rattle.hull_tree.specs.Loaded.{AreEntries, IsOver, entries_below, points_listed, times_listed, times_among, IsAscending, Precedes};
 
-use super::build::joined;
+use super::build::join;
 use super::node::{Halves, Node, first_of, last_of};
 use heap::Heap;
-use hull_plain::{MULTIPLICITY_LIMIT, NoMemory};
+use hull_set::{MULTIPLICITY_LIMIT, NoMemory};
 use lattice::{Point, before};
 use std::alloc::AllocError;
 use std::error::Error;
@@ -79,7 +79,7 @@ pub(crate) fn node_over(alloc: Heap, entries: &[(Point, u32)]) -> Result<Node, N
     let Ok(spare) = Box::new(alloc, parting) else {
         return Err(NoMemory);
     };
-    Ok(joined(spare, left, right).0)
+    Ok(join(spare, left, right).0)
 }
 
 /// Counts an entry in whose point stands before none of the entries, of which there is room for one more: the last one is

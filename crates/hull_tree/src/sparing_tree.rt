@@ -1,6 +1,6 @@
 ghost use Rattle.std.specs.Prelude.{◌≡◌, ◌≢◌, ◌≤◌, length, IfOk, IfErr, Err, None};
-ghost use Rattle.hull_plain.specs.Held.{nothing_held};
-ghost use Rattle.hull_plain.specs.Replies.{Answers, after, reply_to_add, reply_to_remove};
+ghost use Rattle.hull_set.specs.Held.{nothing_held};
+ghost use Rattle.hull_set.specs.Replies.{Answers, after, reply_to_add, reply_to_remove};
 ghost use Rattle.hull_tree.specs.Loaded.{AreEntries, held_listed, held_after_adds, AreTooMany};
 ghost use Rattle.hull_tree.specs.Roots.{held_by};
 ghost use Rattle.hull_tree.specs.Sets.{IsSound};
@@ -12,7 +12,7 @@ use super::load::LoadFault;
 use super::renewal::KeepsWhatStands;
 use super::tree::HullTree;
 use heap::Heap;
-use hull_plain::{AddReply, Call, HullSet, NoMemory, POINT_LIMIT, Place, RemoveReply, Rules};
+use hull_set::{AddReply, Call, HullSet, NoMemory, POINT_LIMIT, Place, RemoveReply, Rules};
 use lattice::{Direction, Point};
 use std::marker::Model;
 

@@ -1,12 +1,12 @@
 ghost use Rattle.std.specs.Prelude.{◌≡◌, ◌≢◌, ◌≤◌, Option, None, option_map, MatchOption, length, IfOk, IfErr, Err};
-ghost use Rattle.hull_plain.specs.Replies.{Answers, after, reply_to_add, reply_to_remove, reply_to_extreme};
+ghost use Rattle.hull_set.specs.Replies.{Answers, after, reply_to_add, reply_to_remove, reply_to_extreme};
 ghost use Rattle.std.specs.Borrow.{Bor};
 ghost use Rattle.hull_tree.specs.declared.node.Node.{Node};
 ghost use Rattle.hull_tree.specs.Roots.{held_by, times_of_root, IsWellBuiltRoot};
 ghost use Rattle.hull_tree.specs.Sets.{LimitedTree, IsSound, IsWhole};
 ghost use Rattle.lattice.specs.Plane.{Pair};
 ghost use Rattle.hull_tree.specs.Loaded.{AreEntries, held_listed, times_among, held_after_adds, AreTooMany};
-ghost use Rattle.hull_plain.specs.Held.{nothing_held};
+ghost use Rattle.hull_set.specs.Held.{nothing_held};
 ghost use Rattle.hull_tree.specs.Levels.{bridges_at};
 ghost use Rattle.hull_tree.specs.Stretches.{IsStretch};
 ghost use Rattle.hull_tree.specs.Turns.{IsCountBy, IsLeastCount, IsLeafDepth};
@@ -22,10 +22,10 @@ use super::renewal::{Renewal, SearchesAll};
 use super::stretch::push_from;
 use bridge_search::Half;
 use heap::Heap;
-use hull_plain::{
+use hull_questions::{area2, extreme_counted, place, tangents, vertices};
+use hull_set::{
     AddReply, Call, HullSet, MULTIPLICITY_LIMIT, NoMemory, POINT_LIMIT, Place, RemoveReply, Rules,
 };
-use hull_questions::{area2, extreme_counted, place, tangents, vertices};
 use lattice::{Direction, Point};
 use std::marker::Model;
 

@@ -1,3 +1,3 @@
-pub mod Verdicts
 pub mod FirstWrong
 pub mod Fits
+pub mod NotTaken

@@ -1,8 +1,8 @@
 -- What a run of a script comes to, and the text that is written of it.
-use Rattle.std.specs.Prelude.{◌≡◌, ◌<◌, ℕ, Bool, true, cond, List, [], ◌++◌, map, Option, None, Ok}
-use Rattle.std.specs.Io.KnownBytes.{Appends}
+use Rattle.std.specs.Prelude.{◌≡◌, ◌<◌, ℕ, Bool, true, cond, List, [], ◌++◌, map, Option, None, Result, Ok, Err}
+use Rattle.text_io.specs.Passage.{Passage, HasTaken, HasTakenFront, IsSound}
 use Rattle.hull_book.specs.Books.{BookValue, opened_book}
-use Rattle.hull_plain.specs.declared.set.HullSet.{Ghosts}
+use Rattle.hull_set.specs.declared.set.HullSet.{Ghosts}
 use Rattle.hull_tree.specs.Sets.{LimitedTree, hull_tree}
 use Rattle.hull_book.specs.Journals.{JournalValue}
 use Rattle.hull_book.specs.Scripts.{ScriptValue}
@@ -14,7 +14,11 @@ use Rattle.hull_text.specs.ReportText.{report_text}
 use Rattle.hull_text.specs.JournalText.{written_text}
 use Rattle.hull_text.specs.JournalGrammar.{IsJournalText}
 use Rattle.hull_text.specs.ScriptGrammar.{ReadsKnownScript}
+use Rattle.hull_text.specs.Stopped.{HasRefused, HasStopped}
+use Rattle.hullbook.specs.Reads.{IsSomeScript}
 use Rattle.hullbook.specs.declared.options.Options.{Options}
+use Rattle.hullbook.specs.declared.run.RunFault.{RunFault}
+use Rattle.hullbook.specs.declared.run.RunFault.TheVariants.{Text, Memory, Write}
 
 -- the book over an empty tree that a run begins with
 abbrev pub opening : Options → ℕ → BookValue LimitedTree
@@ -50,28 +54,21 @@ output_text asked script answers counts journal =
 abbrev pub IsJournalWhereAsked : Bool → List ℕ → JournalValue → Type 0
 IsJournalWhereAsked asked text journal = asked ≡ true → IsJournalText text journal
 
--- The bytes, where they are known, were read as a script, it was run, and the bytes written have grown by the text of
--- the run. Where they are not known some script was read all the same.
-pub record HasRunText (o : Options) (bytes old new : Option (List ℕ)) : Type 0 where
+-- The bytes, where they are known, were read as a script, it was run, and this holds of the text of the run. Where they are
+-- not known some script was read all the same.
+pub record HasRun (o : Options) (bytes : Option (List ℕ)) (Holds : List ℕ → Type 0) : Type 0 where
   pub script : ScriptValue
   pub answers : List (List Answer)
   pub counts : List ℕ
   pub journal : JournalValue
   pub reads : ReadsKnownScript bytes (Ok script)
   pub runs : IsRun script o answers counts journal
-  pub writes : Appends old new (output_text o.journal script answers counts journal)
+  pub holds : Holds (output_text o.journal script answers counts journal)
   pub said : IsJournalWhereAsked o.journal (output_text o.journal script answers counts journal) journal
 
--- The bytes, where they are known, were read as a script, it was run, and what was written is a beginning of the text
--- of the run.
-pub record HasWrittenFront (o : Options) (bytes old new : Option (List ℕ)) : Type 0 where
-  pub script : ScriptValue
-  pub answers : List (List Answer)
-  pub counts : List ℕ
-  pub journal : JournalValue
-  pub front : List ℕ
-  pub back : List ℕ
-  pub reads : ReadsKnownScript bytes (Ok script)
-  pub runs : IsRun script o answers counts journal
-  pub text : output_text o.journal script answers counts journal ≡ front ++ back
-  pub writes : Appends old new front
+-- what a run that ended so has read and written
+abbrev pub EndsRun : Options → Passage → Passage → Result Unit RunFault → Type 0
+EndsRun o input output (Ok done) = IsSound input × HasRun o input.before (HasTaken output)
+EndsRun o input output (Err (Text f)) = HasStopped ReadsKnownScript input output f
+EndsRun o input output (Err Memory) = HasRefused (IsSomeScript input.before) input output
+EndsRun o input output (Err Write) = IsSound input × HasRun o input.before (HasTakenFront output)

@@ -1,9 +1,9 @@
 -- What an accepted command line asks for: only numbers within their limits.
-use Rattle.std.specs.Prelude.{◌≡◌, ◌≤◌, ℕ, List, map, slice_get, IfSome, Some, string_bytes}
+use Rattle.std.specs.Prelude.{◌≤◌, ℕ, List, IfSome, string_bytes}
 use Rattle.std.specs.List.{All}
-use Rattle.std.specs.Borrow.{Bor}
-use Rattle.hull_plain.specs.declared.TheConstants.{POINT_LIMIT}
+use Rattle.hull_set.specs.declared.TheConstants.{POINT_LIMIT}
 use Rattle.hull_book.specs.declared.limits.TheConstants.{CAPACITY_LIMIT}
+use Rattle.hull_program.specs.Words.{IsOneOf}
 use Rattle.hullbook.specs.declared.options.Options.{Options}
 use Rattle.hullbook.specs.declared.options.Stated.{Stated}
 use Rattle.hullbook.specs.declared.options.Task.{Task}
@@ -29,14 +29,6 @@ IsWithinLimits (Check path explains) = Unit {0}
 IsWithinLimits (CheckParts paths) = Unit {0}
 IsWithinLimits (Upgrade path) = Unit {0}
 IsWithinLimits (Compact path) = Unit {0}
-
--- the words as texts
-abbrev pub texts_of : List (Bor (List ℕ)) → List (List ℕ)
-texts_of words = map (λ w. w.now) words
-
--- the text is one of these
-abbrev pub IsOneOf : List (List ℕ) → List ℕ → Type 0
-IsOneOf texts text = (k : ℕ) × (slice_get texts k ≡ Some text)
 
 -- each path that a task names is one of these texts
 abbrev pub NamesWords : List (List ℕ) → Task → Type 0

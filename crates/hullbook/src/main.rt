@@ -22,44 +22,29 @@ use after::run_after;
 use check::{check_text, check_whole_text};
 use explain::{Unexplained, explain};
 use fault::Fault;
+use hull_program::{Refusal, block_writer, open_file, texts_of, words_given};
 use hull_text::{compact, upgrade};
-use options::{OptionFault, Options, Stated, Task, options};
+use options::{Options, Stated, Task, options};
 use part_files::PartFiles;
 use parts::{PartsFault, check_parts};
 use progress::{Progress, TerminalLine};
 use run::run;
 use std::alloc::Global;
-use std::io::{BufWriter, Printer};
+use std::io;
 use std::process::ExitCode;
 use std::rt::{Env, Files};
 use std::sync::Wait;
 use std::thread::Threads;
-use std::{env, fs, io};
 use text_io::Counted;
 use watched::Watched;
 
-/// The bytes that are gathered before they are written.
-const WRITE_BLOCK: usize = 65536;
-
 /// What the words after the program's name ask for.
-fn task_of<R: Env + AllocGlobal>(rt: &R) -> Result<Task, Fault>
+fn task_of<R: Env + AllocGlobal>(rt: &R) -> Result<Task, Refusal>
     ensures { IfOk result IsWithinLimits }
 {
-    let mut words = Vec::new(rt.alloc());
-    let args = env::args(rt).map_err(|error| Fault::of_system(&error, Fault::Usage))?;
-    for word in args.skip(1) {
-        words.push(word).map_err(|_| Fault::Memory)?;
-    }
-    let mut texts = Vec::new(rt.alloc());
-    for word in &words {
-        texts.push(word.as_str()).map_err(|_| Fault::Memory)?;
-    }
-    options(rt.alloc(), &texts).map_err(Fault::from)
-}
-
-/// Standard output behind a block.
-fn block_writer<R: Print + AllocGlobal>(rt: &R) -> Result<BufWriter<Printer<'_, R>>, Fault> {
-    BufWriter::with_capacity(rt.alloc(), WRITE_BLOCK, io::writer(rt)).map_err(|_| Fault::Memory)
+    let words = words_given(rt)?;
+    let texts = texts_of(rt.alloc(), &words)?;
+    options(rt.alloc(), &texts)
 }
 
 /// Runs the script at the path and writes to standard output.
@@ -70,8 +55,7 @@ fn run_file<R: Threads + Wait + Sync + Files + Print + AllocGlobal>(
 ) -> Result<(), Fault>
     requires { AreWithinLimits options.now }
 {
-    let file = fs::open(rt, path).map_err(|error| Fault::of_system(&error, Fault::Open))?;
-    let mut input = Counted::new(file);
+    let mut input = Counted::new(open_file(rt, path)?);
     let mut output = Counted::new(block_writer(rt)?);
     run(rt, rt.alloc(), &mut input, &mut output, options).map_err(Fault::from)
 }
@@ -86,10 +70,8 @@ fn run_files<R: Threads + Wait + Sync + Files + Print + AllocGlobal, P: Progress
 ) -> Result<(), Fault>
     requires { AreStatedWithinLimits stated.now }
 {
-    let file = fs::open(rt, path).map_err(|error| Fault::of_system(&error, Fault::Open))?;
-    let old = fs::open(rt, journal).map_err(|error| Fault::of_system(&error, Fault::Open))?;
-    let mut input = Counted::new(file);
-    let mut before = Counted::new(Watched::new(old, progress));
+    let mut input = Counted::new(open_file(rt, path)?);
+    let mut before = Counted::new(Watched::new(open_file(rt, journal)?, progress));
     let mut output = Counted::new(block_writer(rt)?);
     run_after(
         rt,
@@ -109,8 +91,7 @@ fn check_file<R: Files + Print + AllocGlobal, P: Progress>(
     path: &str,
     progress: &P,
 ) -> Result<bool, Fault> {
-    let file = fs::open(rt, path).map_err(|error| Fault::of_system(&error, Fault::Open))?;
-    let mut input = Counted::new(Watched::new(file, progress));
+    let mut input = Counted::new(Watched::new(open_file(rt, path)?, progress));
     let mut output = Counted::new(io::writer(rt));
     let wrong = check_text(rt.alloc(), &mut input, &mut output, progress).map_err(Fault::from)?;
     Ok(wrong.is_none())
@@ -123,8 +104,7 @@ fn explain_file<R: Files + Print + AllocGlobal, E: Print, P: Progress>(
     path: &str,
     progress: &P,
 ) -> Result<bool, Fault> {
-    let file = fs::open(rt, path).map_err(|error| Fault::of_system(&error, Fault::Open))?;
-    let mut input = Counted::new(Watched::new(file, progress));
+    let mut input = Counted::new(Watched::new(open_file(rt, path)?, progress));
     let mut output = Counted::new(io::writer(rt));
     let checked = check_whole_text(rt.alloc(), &mut input, &mut output, progress).map_err(
         Fault::from,
@@ -155,7 +135,7 @@ fn check_files<R: Files + Print + AllocGlobal, P: Progress>(
     match checked {
         Ok(wrong) => Ok(wrong.is_none()),
         Err(PartsFault::Part(part, fault)) => Err(Fault::Part(paths.swap_remove(part), fault)),
-        Err(PartsFault::Write) => Err(Fault::Write),
+        Err(PartsFault::Write) => Err(Fault::Refused(Refusal::Write)),
     }
 }
 
@@ -165,8 +145,7 @@ fn upgrade_file<R: Files + Print + AllocGlobal, P: Progress>(
     path: &str,
     progress: &P,
 ) -> Result<(), Fault> {
-    let file = fs::open(rt, path).map_err(|error| Fault::of_system(&error, Fault::Open))?;
-    let mut input = Counted::new(Watched::new(file, progress));
+    let mut input = Counted::new(Watched::new(open_file(rt, path)?, progress));
     let mut output = Counted::new(block_writer(rt)?);
     upgrade(rt.alloc(), &mut input, &mut output).map_err(Fault::from)
 }
@@ -177,8 +156,7 @@ fn compact_file<R: Files + Print + AllocGlobal, P: Progress>(
     path: &str,
     progress: &P,
 ) -> Result<(), Fault> {
-    let file = fs::open(rt, path).map_err(|error| Fault::of_system(&error, Fault::Open))?;
-    let mut input = Counted::new(Watched::new(file, progress));
+    let mut input = Counted::new(Watched::new(open_file(rt, path)?, progress));
     let mut output = Counted::new(block_writer(rt)?);
     compact(rt.alloc(), &mut input, &mut output).map_err(Fault::from)
 }

@@ -50,12 +50,3 @@ pub enum Task {
     /// To write a short journal that leaves the same points as the journal at this path.
     Compact(String),
 }
-
-/// Why the words were refused.
-#[derive(Clone, Copy, Debug, PartialEq, Eq)]
-pub enum OptionFault {
-    /// They ask for nothing that the program does, or for a number outside its limits.
-    Usage,
-    /// Memory was refused.
-    Memory,
-}

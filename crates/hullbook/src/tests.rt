@@ -9,10 +9,11 @@ mod refused;
 
 use crate::check::check_text;
 use crate::fault::Fault;
-use crate::options::{OptionFault, Options, Stated, Task, options};
+use crate::options::{Options, Stated, Task, options};
 use crate::parts::PartFault;
 use crate::progress::Progress;
 use crate::run::{RunFault, run};
+use hull_program::Refusal;
 use hull_text::{TextFault, UpgradeFault, WriteFault};
 use std::alloc::Global;
 use std::io;
@@ -245,7 +246,7 @@ fn journals_are_judged_by_their_rules(rt: HostRuntime) -> Result<(), Fail> {
 fn is_refused(alloc: Global, words: &[&str]) -> bool {
     match options(alloc, words) {
         Ok(_) => false,
-        Err(fault) => fault == OptionFault::Usage,
+        Err(fault) => fault == Refusal::Usage,
     }
 }
 
@@ -411,11 +412,11 @@ fn zero_capacity(rt: HostRuntime) -> Result<(), Fail> {
 #[test]
 fn refused_memory_of_the_system(rt: HostRuntime) -> Result<(), Fail> {
     let refused = io::Error::from(ErrorKind::OutOfMemory);
-    assert_eq!(rt; Fault::of_system(&refused, Fault::Usage).status(), 4);
-    assert_eq!(rt; Fault::of_system(&refused, Fault::Open).status(), 4);
+    assert_eq!(rt; Refusal::of_system(&refused, Refusal::Usage).status(), 4);
+    assert_eq!(rt; Refusal::of_system(&refused, Refusal::Open).status(), 4);
     let absent = io::Error::from(ErrorKind::NotFound);
-    assert_eq!(rt; Fault::of_system(&absent, Fault::Usage).status(), 2);
-    assert_eq!(rt; Fault::of_system(&absent, Fault::Open).status(), 3);
+    assert_eq!(rt; Refusal::of_system(&absent, Refusal::Usage).status(), 2);
+    assert_eq!(rt; Refusal::of_system(&absent, Refusal::Open).status(), 3);
     Ok(())
 }
 
@@ -458,11 +459,15 @@ fn faults_have_their_words(rt: HostRuntime) {
     let text = TextFault { number: 3, line: 2 };
     let alloc = rt.alloc();
     let told = [
-        tells(alloc, Fault::Usage, "hullbook: usage"),
-        tells(alloc, Fault::Open, "hullbook: open"),
-        tells(alloc, Fault::Memory, "hullbook: memory"),
-        tells(alloc, Fault::Write, "hullbook: write"),
-        tells(alloc, Fault::Text(text), "hullbook: line 2: fault 3"),
+        tells(alloc, Fault::Refused(Refusal::Usage), "hullbook: usage"),
+        tells(alloc, Fault::Refused(Refusal::Open), "hullbook: open"),
+        tells(alloc, Fault::Refused(Refusal::Memory), "hullbook: memory"),
+        tells(alloc, Fault::Refused(Refusal::Write), "hullbook: write"),
+        tells(
+            alloc,
+            Fault::Refused(Refusal::Text(text)),
+            "hullbook: line 2: fault 3",
+        ),
         tells(
             alloc,
             Fault::Journal(text),
@@ -502,10 +507,10 @@ fn at_first_line(number: u8) -> TextFault {
 #[test]
 fn faults_have_their_statuses(rt: HostRuntime) {
     let plain = [
-        status_of(Fault::Usage),
-        status_of(Fault::Open),
-        status_of(Fault::Write),
-        status_of(Fault::Memory),
+        status_of(Fault::Refused(Refusal::Usage)),
+        status_of(Fault::Refused(Refusal::Open)),
+        status_of(Fault::Refused(Refusal::Write)),
+        status_of(Fault::Refused(Refusal::Memory)),
         status_of(Fault::Illegal(2)),
         status_of(Fault::Rules),
         status_of(Fault::First(0)),
@@ -519,9 +524,9 @@ fn faults_have_their_statuses(rt: HostRuntime) {
         status_of(Fault::Journal(at_first_line(10))),
     ];
     let texts = [
-        status_of(Fault::Text(at_first_line(7))),
-        status_of(Fault::Text(at_first_line(8))),
-        status_of(Fault::Text(at_first_line(10))),
+        status_of(Fault::Refused(Refusal::Text(at_first_line(7)))),
+        status_of(Fault::Refused(Refusal::Text(at_first_line(8)))),
+        status_of(Fault::Refused(Refusal::Text(at_first_line(10)))),
     ];
     assert_eq!(rt; plain, [2, 3, 3, 4, 1, 2, 2, 2, 2, 3]);
     assert_eq!(rt; journals, [2, 3, 4]);

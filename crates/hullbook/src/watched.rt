@@ -3,7 +3,7 @@ ghost use Rattle.std.specs.Prelude.{◌≡◌};
 
 use crate::progress::Progress;
 use heap::Heap;
-use hull_plain::{AddReply, HullSet, NoMemory, Place, RemoveReply};
+use hull_set::{AddReply, HullSet, NoMemory, Place, RemoveReply};
 use lattice::{Direction, Point};
 use std::io;
 use std::io::Read;

@@ -1,66 +1,60 @@
 //! `hulldraw`: draws the set that a journal of `hullbook` leaves, or a film of the journal, as SVG on standard output.
 #![tactic(auto)]
 
-ghost use Rattle.std.specs.Prelude.{IfOk};
+ghost use Rattle.std.specs.Prelude.{◌≡◌, IfOk};
+ghost use Rattle.hulldraw.specs.Faults.{refusal_of_drawing};
 ghost use Rattle.hulldraw.specs.Tasks.{IsWithinLimits};
 
-mod fault;
 mod options;
 #[cfg(test)]
 mod tests;
 
-use fault::Fault;
-use hull_draw::{draw, film};
-use options::{OptionFault, Task, options};
-use std::io::BufWriter;
+use hull_draw::{DrawFault, draw, film};
+use hull_program::{Refusal, block_writer, open_file, texts_of, words_given};
+use options::{Task, options};
 use std::process::ExitCode;
 use std::rt::{Env, Files};
-use std::{env, fs, io};
 use text_io::Counted;
 
-/// The bytes that are gathered before they are written.
-const WRITE_BLOCK: usize = 65536;
+/// Why the program ends where a drawing ended so.
+fn refusal_of_drawing(fault: DrawFault) -> Refusal
+    ensures { result ≡ refusal_of_drawing fault }
+{
+    match fault {
+        DrawFault::Text(fault) => Refusal::Text(fault),
+        DrawFault::Memory => Refusal::Memory,
+        DrawFault::Write => Refusal::Write,
+    }
+}
 
 /// What the words after the program's name ask for.
-fn task_of<R: Env + AllocGlobal>(rt: &R) -> Result<Task, Fault>
+fn task_of<R: Env + AllocGlobal>(rt: &R) -> Result<Task, Refusal>
     ensures { IfOk result IsWithinLimits }
 {
-    let mut words = Vec::new(rt.alloc());
-    let args = env::args(rt).map_err(|error| Fault::of_system(&error, Fault::Usage))?;
-    for word in args.skip(1) {
-        words.push(word).map_err(|_| Fault::Memory)?;
-    }
-    let mut texts = Vec::new(rt.alloc());
-    for word in &words {
-        texts.push(word.as_str()).map_err(|_| Fault::Memory)?;
-    }
-    options(rt.alloc(), &texts).map_err(Fault::from)
+    let words = words_given(rt)?;
+    let texts = texts_of(rt.alloc(), &words)?;
+    options(rt.alloc(), &texts)
 }
 
 /// Draws the journal at the path on standard output.
-fn work<R: Env + Files + Print + AllocGlobal>(rt: &R) -> Result<(), Fault> {
+fn work<R: Env + Files + Print + AllocGlobal>(rt: &R) -> Result<(), Refusal> {
     let task = task_of(rt)?;
-    let file = fs::open(rt, &task.path).map_err(|error| Fault::of_system(&error, Fault::Open))?;
-    let mut input = Counted::new(file);
-    let block = BufWriter::with_capacity(rt.alloc(), WRITE_BLOCK, io::writer(rt)).map_err(
-        |_| Fault::Memory,
-    )?;
-    let mut output = Counted::new(block);
+    let mut input = Counted::new(open_file(rt, &task.path)?);
+    let mut output = Counted::new(block_writer(rt)?);
     let done = if task.film {
         film(rt.alloc(), &mut input, &mut output, task.options.size)
     } else {
         draw(rt.alloc(), &mut input, &mut output, &task.options)
     };
-    done.map_err(Fault::from)
+    done.map_err(refusal_of_drawing)
 }
 
 fn main(rt: HostRuntime) -> ExitCode {
     match work(&rt) {
         Ok(()) => ExitCode::SUCCESS,
-        Err(fault) => {
-            let status = fault.status();
-            let _ = eprintln!(rt; "{fault}");
-            ExitCode::from(status)
+        Err(refusal) => {
+            let _ = eprintln!(rt; "hulldraw: {refusal}");
+            ExitCode::from(refusal.status())
         }
     }
 }

@@ -1,9 +1,10 @@
 ghost use Rattle.std.specs.Prelude.{◌≤◌, IfOk, IfSome, string_bytes};
-ghost use Rattle.hulldraw.specs.Tasks.{IsWithinLimits, IsOneOf, texts_of};
+ghost use Rattle.hull_program.specs.Words.{IsOneOf, texts_of};
+ghost use Rattle.hulldraw.specs.Tasks.{IsWithinLimits};
 
-use clap::error::ErrorKind;
-use clap::{Arg, ArgAction, ArgMatches, Command, Error};
+use clap::{Arg, ArgAction, ArgMatches, Command};
 use hull_draw::DrawOptions;
+use hull_program::{Refusal, path_of, refusal_of};
 use std::alloc::{AllocError, Global};
 
 /// The least side of a picture.
@@ -24,23 +25,6 @@ pub struct Task {
     pub options: DrawOptions,
     /// Whether a film of that size is drawn, in place of one picture.
     pub film: bool,
-}
-
-/// Why the words were refused.
-#[derive(Clone, Copy, Debug, PartialEq, Eq)]
-pub enum OptionFault {
-    /// They ask for nothing that the program does, or for a number outside its limits.
-    Usage,
-    /// Memory was refused.
-    Memory,
-}
-
-fn fault_of(error: &Error) -> OptionFault {
-    if error.kind() == ErrorKind::OutOfMemory {
-        OptionFault::Memory
-    } else {
-        OptionFault::Usage
-    }
 }
 
 fn command<'a>(alloc: Global) -> Result<Command<'a>, AllocError> {
@@ -94,45 +78,30 @@ fn options_of(matches: &ArgMatches<'_>) -> Option<DrawOptions>
     })
 }
 
-/// The path that was given, as it was written: it is found among the words, so that the contract can say so.
-fn path_of(alloc: Global, matches: &ArgMatches<'_>, words: &[&str]) -> Result<String, OptionFault>
-    ensures { IfOk result (λ path. IsOneOf (texts_of words.now) (string_bytes path)) }
-{
-    let Some(path) = matches.get_str("journal") else {
-        return Err(OptionFault::Usage);
-    };
-    for word in words {
-        if *word == path {
-            return String::from_str(alloc, word).map_err(|_| OptionFault::Memory);
-        }
-    }
-    Err(OptionFault::Usage)
-}
-
 /// What the words after the program's name ask for: `JOURNAL` with `--line N`, `--bridges` and `--size PIXELS`, or with
 /// `--film` and `--size PIXELS`.
 ///
 /// The path is one of the words, as it was written. `Usage` for any other words, for a number outside its limits, and
 /// for a film with `--line` or `--bridges`; a question for help counts as one. `Memory` where memory was refused.
-pub fn options(alloc: Global, words: &[&str]) -> Result<Task, OptionFault>
+pub fn options(alloc: Global, words: &[&str]) -> Result<Task, Refusal>
     ensures limits { IfOk result IsWithinLimits }
     ensures path { IfOk result (λ task. IsOneOf (texts_of words.now) (string_bytes task.path)) }
 {
     let Ok(command) = command(alloc) else {
-        return Err(OptionFault::Memory);
+        return Err(Refusal::Memory);
     };
     let matches = match command.try_get_matches_from(words) {
         Ok(matches) => matches,
-        Err(error) => return Err(fault_of(&error)),
+        Err(error) => return Err(refusal_of(&error)),
     };
     let Some(options) = options_of(&matches) else {
-        return Err(OptionFault::Usage);
+        return Err(Refusal::Usage);
     };
     let film = matches.get_flag("film");
     if film && (options.line.is_some() || options.bridges) {
-        return Err(OptionFault::Usage);
+        return Err(Refusal::Usage);
     }
-    let path = path_of(alloc, &matches, words)?;
+    let path = path_of(alloc, &matches, "journal", words)?;
     Ok(Task {
         path,
         options,

@@ -1,6 +1,7 @@
 //! The words that the program takes.
-use crate::options::{OptionFault, options};
+use crate::options::options;
 use hull_draw::DrawOptions;
+use hull_program::Refusal;
 use std::alloc::Global;
 use std::test::Fail;
 
@@ -25,7 +26,7 @@ fn sized(size: u64) -> DrawOptions {
 fn is_refused(alloc: Global, words: &[&str]) -> bool {
     match options(alloc, words) {
         Ok(_) => false,
-        Err(fault) => fault == OptionFault::Usage,
+        Err(fault) => fault == Refusal::Usage,
     }
 }
 

@@ -1,3 +1,4 @@
+pub mod Numbers
 pub mod Vectors
 pub mod Sides
 pub mod Lines

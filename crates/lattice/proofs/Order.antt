@@ -107,10 +107,6 @@ is_before-holds p q t =
       | inr (inr h) ↦ absurd (false≢true (sym (is_before-false p q (before_not q p h)) ∙ t))
     ]
 
--- the test fails only elsewhere
-pub is_before-fails : (p q : Pair) → is_before p q ≡ false → ¬ (IsBefore p q)
-is_before-fails p q t b = false≢true (sym t ∙ is_before-true p q b)
-
 -- an answer that says whether p stands before q is that of the test
 pub answer_is : (b : Bool) (p q : Pair) → IsTrue b ↔ IsBefore p q → b ≡ is_before p q
 answer_is true p q h = sym (is_before-true p q (h.0 refl))

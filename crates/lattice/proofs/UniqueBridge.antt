@@ -5,8 +5,9 @@ use lib.IntN.{pos, ◌-ℤ◌, ◌*ℤ◌}
 use lib.Signed.{◌<ℤ◌, ◌≤ℤ◌}
 use Rattle.lattice.specs.Plane.{Pair, orient, IsBefore, turned_point}
 use Rattle.lattice.proofs.Order.{equal_by}
-use Rattle.lattice.proofs.TurnedBridges.{Turned, is_turn, order_turned, upper_from_lower, turned_twice}
+use Rattle.lattice.proofs.TurnedBridges.{Turned, is_turn, order_turned, bridge_turned, turned_twice}
 use Rattle.lattice.specs.Bridges.{IsAllBefore, IsUpperBridge, IsLowerBridge}
+use Rattle.lattice.specs.declared.side.Side.TheVariants.{Lower}
 use Rattle.lattice.specs.Integers.{linear}
 use Rattle.lattice.proofs.Lines.{IsPositive, no_sum, bend, bend_step, bend_strict, slope_x, slope_y, step_positive}
 use Rattle.lattice.proofs.LineCrossings.{orient_start, orient_end}
@@ -52,18 +53,18 @@ one_bridge l r p q a b o h k =
     let hpb : IsBefore p b = o p b h.from_left k.to_right in
     let haq : IsBefore a q = o a q k.from_left h.to_right in
     by_lt_z (pos 0) (bend p q a b)
-    (λ up. absurd (apart p q a b p b hpq hab (orient_start p q) (orient_end a b) (h.below_right b k.to_right)
-    (k.below_left p h.from_left) (inl (up, hpb))))
+    (λ up. absurd (apart p q a b p b hpq hab (orient_start p q) (orient_end a b) (h.inner_right b k.to_right)
+    (k.inner_left p h.from_left) (inl (up, hpb))))
     (λ not_up. by_lt_z (bend p q a b) (pos 0)
-    (λ down. absurd (apart p q a b q a hpq hab (orient_end p q) (orient_start a b) (h.below_left a k.from_left)
-    (k.below_right q h.to_right) (inr (down, haq))))
+    (λ down. absurd (apart p q a b q a hpq hab (orient_end p q) (orient_start a b) (h.inner_left a k.from_left)
+    (k.inner_right q h.to_right) (inr (down, haq))))
     (λ not_down.
     let one : (orient p q b ≡ pos 0) × (orient a b p ≡ pos 0) =
-    level p q a b p b hpq hab (orient_start p q) (orient_end a b) (h.below_right b k.to_right)
-    (k.below_left p h.from_left) (inl (not_down, hpb)) in
+    level p q a b p b hpq hab (orient_start p q) (orient_end a b) (h.inner_right b k.to_right)
+    (k.inner_left p h.from_left) (inl (not_down, hpb)) in
     let two : (orient p q a ≡ pos 0) × (orient a b q ≡ pos 0) =
-    level p q a b q a hpq hab (orient_end p q) (orient_start a b) (h.below_left a k.from_left)
-    (k.below_right q h.to_right) (inr (not_up, haq)) in (
+    level p q a b q a hpq hab (orient_end p q) (orient_start a b) (h.inner_left a k.from_left)
+    (k.inner_right q h.to_right) (inr (not_up, haq)) in (
       equal_by p a (k.tie_left p h.from_left one.1).0 (h.tie_left a k.from_left two.0).0,
       equal_by q b (h.tie_right b k.to_right one.0).1 (k.tie_right q h.to_right two.1).1,
     )))
@@ -73,8 +74,8 @@ pub one_lower_bridge : (l r : Pair → Type 0) (p q a b : Pair) → IsAllBefore 
     → IsLowerBridge l r a b → (p ≡ a) × (q ≡ b)
 one_lower_bridge l r p q a b o h k =
     let e = one_bridge (Turned r) (Turned l) (turned_point q) (turned_point p) (turned_point b) (turned_point a)
-    (order_turned l r _ _ (is_turn l) (is_turn r) o) (upper_from_lower l r _ _ p q (is_turn l) (is_turn r) h)
-    (upper_from_lower l r _ _ a b (is_turn l) (is_turn r) k) in
+    (order_turned l r _ _ (is_turn l) (is_turn r) o) (bridge_turned Lower l r _ _ p q (is_turn l) (is_turn r) h)
+    (bridge_turned Lower l r _ _ a b (is_turn l) (is_turn r) k) in
     (unturned p a e.1, unturned q b e.0)
   where
     unturned : (u v : Pair) → turned_point u ≡ turned_point v → u ≡ v

@@ -1,8 +1,9 @@
 -- When a bridge of two sets stays one as a point comes to one of them or goes from one: the law of a tree that keeps what
 -- a change cannot alter.
-use Rattle.std.specs.Prelude.{◌≡◌, ◌⊎◌, pos, ◌≤ℤ◌}
+use Rattle.std.specs.Prelude.{◌≡◌, ◌⊎◌, pos}
 use Rattle.lattice.specs.Plane.{Pair, orient}
-use Rattle.lattice.specs.Bridges.{IsNotBeyond}
+use Rattle.lattice.specs.Bridges.{IsInner, IsNotBeyond}
+use Rattle.lattice.specs.declared.side.Side.{Side}
 
 -- a point of l, or p
 abbrev pub WithPoint : Pair → (Pair → Type 0) → Pair → Type 0
@@ -12,10 +13,6 @@ WithPoint p l t = (t ≡ p) ⊎ l t
 abbrev pub WithoutPoint : Pair → (Pair → Type 0) → Pair → Type 0
 WithoutPoint p l t = ¬ (t ≡ p) × l t
 
--- p lies right of the line from u to v, or on that line and not outside the edge
-abbrev pub IsUnderEdge : Pair → Pair → Pair → Type 0
-IsUnderEdge u v p = (orient u v p ≤ℤ pos 0) × (orient u v p ≡ pos 0 → IsNotBeyond u v p)
-
--- the same with left for right
-abbrev pub IsOverEdge : Pair → Pair → Pair → Type 0
-IsOverEdge u v p = (pos 0 ≤ℤ orient u v p) × (orient u v p ≡ pos 0 → IsNotBeyond u v p)
+-- p lies inwards of the line from u to v, or on that line and not outside the edge
+abbrev pub IsInnerToEdge : Side → Pair → Pair → Pair → Type 0
+IsInnerToEdge side u v p = IsInner side (orient u v p) × (orient u v p ≡ pos 0 → IsNotBeyond u v p)

@@ -1,9 +1,9 @@
 //! Laws of the definitions: each function has an empty body, and its contract is the law.
 ghost use Rattle.std.specs.Prelude.{◌≡◌, pos};
 ghost use Rattle.lattice.specs.Plane.{Pair};
-ghost use Rattle.lattice.specs.Laws.{UpperBridgeIsUnique, LowerBridgeIsUnique, CrossingIsOnBothLines};
-ghost use Rattle.lattice.specs.Laws.{UpperBridgeStandsAsPointComes, UpperBridgeStandsAsPointGoes};
-ghost use Rattle.lattice.specs.Laws.{LowerBridgeStandsAsPointComes, LowerBridgeStandsAsPointGoes};
+ghost use Rattle.lattice.specs.Laws.{BridgeIsUnique, BridgeStandsAsPointComes, BridgeStandsAsPointGoes};
+ghost use Rattle.lattice.specs.Laws.{CrossingIsOnBothLines};
+ghost use Rattle.lattice.specs.declared.side.Side.TheVariants.{Lower, Upper};
 
 use super::COORDINATE_LIMIT;
 use std::marker::Brand;
@@ -20,32 +20,32 @@ impl PointSet for Brand {
 
 /// Two sets of points, all of the one before all of the other, have one upper bridge at most.
 pub fn upper_bridge_is_unique<L: PointSet, R: PointSet>()
-    ensures { UpperBridgeIsUnique L.has R.has }
+    ensures { BridgeIsUnique Upper L.has R.has }
 {}
 
 /// Two sets of points, all of the one before all of the other, have one lower bridge at most.
 pub fn lower_bridge_is_unique<L: PointSet, R: PointSet>()
-    ensures { LowerBridgeIsUnique L.has R.has }
+    ensures { BridgeIsUnique Lower L.has R.has }
 {}
 
 /// The upper bridge of two sets stands as a point comes to one of them, where that point lies under it and only there.
 pub fn upper_bridge_stands_as_point_comes<L: PointSet, R: PointSet>()
-    ensures { UpperBridgeStandsAsPointComes L.has R.has }
+    ensures { BridgeStandsAsPointComes Upper L.has R.has }
 {}
 
 /// The upper bridge of two sets stands as a point goes from one of them, unless that point is its end there.
 pub fn upper_bridge_stands_as_point_goes<L: PointSet, R: PointSet>()
-    ensures { UpperBridgeStandsAsPointGoes L.has R.has }
+    ensures { BridgeStandsAsPointGoes Upper L.has R.has }
 {}
 
 /// The lower bridge of two sets stands as a point comes to one of them, where that point lies over it and only there.
 pub fn lower_bridge_stands_as_point_comes<L: PointSet, R: PointSet>()
-    ensures { LowerBridgeStandsAsPointComes L.has R.has }
+    ensures { BridgeStandsAsPointComes Lower L.has R.has }
 {}
 
 /// The lower bridge of two sets stands as a point goes from one of them, unless that point is its end there.
 pub fn lower_bridge_stands_as_point_goes<L: PointSet, R: PointSet>()
-    ensures { LowerBridgeStandsAsPointGoes L.has R.has }
+    ensures { BridgeStandsAsPointGoes Lower L.has R.has }
 {}
 
 /// What [`crossing_at_or_before`](crate::crossing_at_or_before) compares is a point, and it lies on both lines.

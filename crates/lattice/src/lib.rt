@@ -21,6 +21,7 @@ mod fault;
 mod laws;
 mod near;
 mod point;
+mod side;
 mod wide;
 
 pub use compare::{before, distance_squared, orient, product};
@@ -34,6 +35,7 @@ pub use laws::{
 };
 pub use near::{is_near, orient_near};
 pub use point::Point;
+pub use side::{Side, turn};
 
 /// The greatest size of a coordinate of a point, and of a component of a direction.
 pub const COORDINATE_LIMIT: i64 = 1099511627776;

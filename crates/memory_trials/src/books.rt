@@ -1,6 +1,6 @@
 //! A book is opened, serves calls, and its journal is checked.
 ghost use Rattle.std.specs.Prelude.{◌≡◌, ◌≤◌};
-ghost use Rattle.hull_plain.specs.Held.{nothing_held};
+ghost use Rattle.hull_set.specs.Held.{nothing_held};
 ghost use Rattle.hull_book.specs.Books.{IsLawful};
 ghost use Rattle.hull_book.specs.Ledgers.{AreLedgers};
 
@@ -9,7 +9,7 @@ use crate::stage::Stage;
 use hull_book::{
     Answer, Book, BookFault, CheckResult, Journal, JournalFull, Ledger, Line, check, gather,
 };
-use hull_plain::{Call, HullSet, PointList, Reply, Rules};
+use hull_set::{Call, HullSet, PointList, Reply, Rules};
 use lattice::Point;
 use std::alloc::{AllocError, Global};
 

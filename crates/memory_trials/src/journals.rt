@@ -1,6 +1,6 @@
 //! A journal is gone on with, made short, drained, and judged in parts.
 ghost use Rattle.std.specs.Prelude.{◌≡◌, ◌≤◌, IfSome, length};
-ghost use Rattle.hull_plain.specs.Held.{nothing_held};
+ghost use Rattle.hull_set.specs.Held.{nothing_held};
 ghost use Rattle.hull_book.specs.Books.{IsGoneOnFrom, IsLawful};
 ghost use Rattle.hull_book.specs.declared.limits.TheConstants.{SEAT_LIMIT};
 ghost use Rattle.hull_book.specs.Ledgers.{AreLedgers};
@@ -13,7 +13,7 @@ use hull_book::{
     Answer, Book, BookFault, CompactRefusal, Journal, Ledger, LongBook, PartsChecker, ReplayFault,
     Room, gather_long, replay,
 };
-use hull_plain::{Call, HullSet, Reply, Rules};
+use hull_set::{Call, HullSet, Reply, Rules};
 use hull_text::{CompactFault, compact, read_journal};
 use lattice::Point;
 use std::alloc::Global;

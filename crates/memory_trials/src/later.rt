@@ -1,6 +1,6 @@
 //! A script of two phases is run by one worker.
 ghost use Rattle.std.specs.Prelude.{◌≡◌};
-ghost use Rattle.hull_plain.specs.Held.{nothing_held};
+ghost use Rattle.hull_set.specs.Held.{nothing_held};
 ghost use Rattle.hull_book.specs.Books.{IsLawful};
 ghost use Rattle.hull_book.specs.Ledgers.{AreLedgers};
 
@@ -9,8 +9,8 @@ use crate::findings::Findings;
 use crate::phases::{prepared, script_of};
 use crate::stage::Stage;
 use hull_book::{Answer, Book};
-use hull_plain::{Call, HullSet, Reply};
 use hull_pool::{NoGate, PhaseEnd, PoolFault, Workers, run_phases};
+use hull_set::{Call, HullSet, Reply};
 use std::alloc::Global;
 use std::sync::Wait;
 use std::thread::Threads;

@@ -1,11 +1,11 @@
 //! A lock is opened round a book.
 ghost use Rattle.std.specs.Prelude.{◌≡◌};
-ghost use Rattle.hull_plain.specs.Held.{nothing_held};
+ghost use Rattle.hull_set.specs.Held.{nothing_held};
 
 use crate::findings::Findings;
 use crate::stage::Stage;
 use hull_book::{Book, gather};
-use hull_plain::HullSet;
+use hull_set::HullSet;
 use std::alloc::Global;
 use ticket_lock::{OpenFault, TicketLock};
 

@@ -1,6 +1,6 @@
 //! A phase, and a script of one phase, are run by one worker.
 ghost use Rattle.std.specs.Prelude.{◌≡◌, ◌≤◌, [], ◌∷◌, IfSome, OnErr, OnOk, length};
-ghost use Rattle.hull_plain.specs.Held.{nothing_held};
+ghost use Rattle.hull_set.specs.Held.{nothing_held};
 ghost use Rattle.hull_book.specs.Books.{IsLawful};
 ghost use Rattle.hull_book.specs.Ledgers.{AreLedgers};
 ghost use Rattle.hull_pool.specs.Runs.{HasRunAll, MayRunAll};
@@ -9,8 +9,8 @@ use crate::books::{give_up, lists};
 use crate::findings::Findings;
 use crate::stage::Stage;
 use hull_book::{Answer, Book, CheckResult, Phase, Script, check, gather};
-use hull_plain::{HullSet, Reply};
 use hull_pool::{NoGate, PhaseEnd, PoolFault, Workers, run_phase, run_phases};
+use hull_set::{HullSet, Reply};
 use hull_text::read_script;
 use lattice::Point;
 use std::alloc::Global;

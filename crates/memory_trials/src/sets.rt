@@ -1,7 +1,7 @@
 //! Points are put into a set, once and once more, and its vertices are asked for.
 use crate::findings::Findings;
 use crate::stage::Stage;
-use hull_plain::{AddReply, HullSet, NoMemory, RemoveReply};
+use hull_set::{AddReply, HullSet, NoMemory, RemoveReply};
 use lattice::Point;
 
 /// How many points are put in: lists grow several times on the way.

@@ -1,6 +1,7 @@
 //! An outline and the set whose corners it has are asked the same.
 use hull_outline::Outline;
-use hull_plain::{AddReply, HullSet, PlainSet};
+use hull_plain::PlainSet;
+use hull_set::{AddReply, HullSet};
 use lattice::{Direction, Point};
 use std::alloc::Global;
 use std::process::Abort;

@@ -1,6 +1,7 @@
 //! Which lists of points are outlines.
 use hull_outline::{Outline, is_outline};
-use hull_plain::{AddReply, HullSet, PlainSet};
+use hull_plain::PlainSet;
+use hull_set::{AddReply, HullSet};
 use lattice::{Point, orient};
 use std::alloc::Global;
 use std::process::Abort;

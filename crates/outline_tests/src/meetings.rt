@@ -1,6 +1,7 @@
 //! Segments, other hulls, extents and nearest points beside slow answers by their definitions.
 use hull_outline::{Meeting, Nearest, Outline, Separation, Strip, Witness};
-use hull_plain::{AddReply, HullSet, PlainSet};
+use hull_plain::PlainSet;
+use hull_set::{AddReply, HullSet};
 use lattice::{Direction, Point, distance_squared, orient, product};
 use std::alloc::Global;
 use std::process::Abort;

@@ -1,6 +1,7 @@
 //! Limits by their numbers, many changes, and memory that is refused. The worked examples are cases of tests/cli, which the
 //! plain set judges by `check`.
-use hull_plain::{AddReply, HullSet, NoMemory, Place, PlainSet, PointList, RemoveReply, Reply};
+use hull_plain::PlainSet;
+use hull_set::{AddReply, HullSet, NoMemory, Place, PointList, RemoveReply, Reply};
 use lattice::{Direction, Point};
 use std::alloc::Global;
 use std::process::Abort;
@@ -62,7 +63,7 @@ fn empty_set(rt: HostRuntime) {
     let set = PlainSet::new(rt.alloc(), LIMIT);
     let told = [set.limit(), set.count(), set.multiplicity(origin)];
     assert_eq!(rt; told, [LIMIT, 0, 0]);
-    assert!(rt; hull_plain::POINT_LIMIT == LIMIT);
+    assert!(rt; hull_set::POINT_LIMIT == LIMIT);
 }
 
 /// Adds a point until it is held as often as may be. How often each reply so far told.
@@ -86,7 +87,7 @@ fn held_most(rt: HostRuntime) {
     let changes = (set.remove(p), set.add(p));
     let is_one = set.count() == 1 && has_vertices(&set, &[(5, 5)]);
     drop(set);
-    assert_eq!(rt; [held, most, hull_plain::MULTIPLICITY_LIMIT], [MOST; 3]);
+    assert_eq!(rt; [held, most, hull_set::MULTIPLICITY_LIMIT], [MOST; 3]);
     assert_eq!(rt; one_more, AddReply::TooMany);
     assert_eq!(rt;
         changes,

@@ -5,8 +5,9 @@ ghost use Rattle.bridge_search.specs.Trees.{size_of};
 mod shapes;
 
 use bridge_search::Half;
-use hull_plain::{AddReply, HullSet, POINT_LIMIT, Place, PlainSet};
+use hull_plain::PlainSet;
 use hull_questions::{area2, extreme, place, tangents, vertices};
+use hull_set::{AddReply, HullSet, POINT_LIMIT, Place};
 use lattice::{Direction, Point};
 use shapes::{Sixteen, sixteen};
 use std::alloc::{AllocError, Global};

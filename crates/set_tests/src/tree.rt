@@ -6,7 +6,7 @@ mod loads;
 mod sparing;
 mod turns;
 
-use hull_plain::{AddReply, HullSet, MULTIPLICITY_LIMIT, NoMemory, POINT_LIMIT, RemoveReply};
+use hull_set::{AddReply, HullSet, MULTIPLICITY_LIMIT, NoMemory, POINT_LIMIT, RemoveReply};
 use hull_tree::{HullTree, Node, trees_are_sound};
 use lattice::Point;
 use std::alloc::Global;

@@ -1,3 +1,4 @@
 pub mod Count
 pub mod Write
 pub mod Device
+pub mod Passage

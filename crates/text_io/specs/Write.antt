@@ -1,5 +1,5 @@
 -- What a call that writes a text leaves.
-use Rattle.std.specs.Prelude.{◌≡◌, ◌<◌, ◌≤◌, ◌+◌, ℕ, List, ◌++◌, Option, Result, Ok, Err}
+use Rattle.std.specs.Prelude.{◌≡◌, ◌<◌, ◌≤◌, ◌+◌, ℕ, List, ◌++◌, Option, Result, Ok, Err, OnOk, IsOk}
 use Rattle.std.specs.Io.KnownBytes.{Appends}
 
 -- Where all went well the device's bytes have grown by the text, and no call failed. Else a call failed, and no more
@@ -10,10 +10,12 @@ WritesText old new before after (Err e) text =
     ((front : List ℕ) × (back : List ℕ) × (text ≡ front ++ back) × Appends old new front) × (before < after)
     × (after ≤ before + 1)
 
--- The outcome of writing one more piece behind what an earlier outcome tells, wherever the writing began and whatever
--- the text was.
-abbrev pub WritesOn : {E : Type 0} → Result Unit E → Result Unit E → Option (List ℕ) → Option (List ℕ) → ℕ → ℕ → List ℕ
-    → Type 0
-WritesOn done outcome old new before after piece =
-    (start : Option (List ℕ)) (count : ℕ) (text : List ℕ) → WritesText start old count before done text
-    → WritesText start new count after outcome (text ++ piece)
+-- A piece was written behind what an earlier outcome tells, wherever the writing began and whatever the text was. Where all
+-- went well no call failed, and none had failed before.
+pub record WritesAfter {S E : Type 0} (contents : S → Option (List ℕ)) (failed : S → ℕ) (done outcome : Result Unit E)
+    (old new : S) (piece : List ℕ) : Type 0 where
+  pub wrote : (start : Option (List ℕ)) (count : ℕ) (text : List ℕ)
+      → WritesText start (contents old) count (failed old) done text
+      → WritesText start (contents new) count (failed new) outcome (text ++ piece)
+  pub kept : OnOk outcome (failed new ≡ failed old)
+  pub was : OnOk outcome (IsOk done)

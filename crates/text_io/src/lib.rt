@@ -17,4 +17,4 @@ mod write;
 
 pub use counted::Counted;
 pub use device::{Sink, Source};
-pub use write::{WriteFault, flush_after, number_after, put, put_after};
+pub use write::{Done, WriteFault, flush_after, number_after, put, put_after};

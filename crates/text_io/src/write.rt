@@ -1,5 +1,5 @@
-ghost use Rattle.std.specs.Prelude.{◌≡◌, ◌<◌, ◌-◌, ◌^◌, [], OnErr, OnOk, IsOk, decimal};
-ghost use Rattle.text_io.specs.Write.{WritesOn, WritesText};
+ghost use Rattle.std.specs.Prelude.{◌≡◌, ◌<◌, ◌-◌, ◌^◌, [], OnErr, OnOk};
+ghost use Rattle.text_io.specs.Write.{WritesAfter, WritesText};
 
 use super::device::Sink;
 use itoa::{Buffer, Integer};
@@ -8,6 +8,9 @@ use itoa::{Buffer, Integer};
 #[derive(Clone, Copy, Debug, PartialEq, Eq)]
 pub struct WriteFault;
 
+/// What came of what was written so far.
+pub type Done = Result<(), WriteFault>;
+
 /// Writes a piece, all of it unless the writer fails. It takes no memory.
 ///
 /// The count of failures has to be below its last value, so that a failure shows in it.
@@ -15,7 +18,7 @@ pub struct WriteFault;
 /// # Errors
 ///
 /// `WriteFault` at the first failure, of whatever kind; a beginning of the piece has gone out then.
-pub fn put<W: Sink>(out: &mut W, piece: &[u8]) -> Result<(), WriteFault>
+pub fn put<W: Sink>(out: &mut W, piece: &[u8]) -> Done
     requires { W.failed out.old < 2 ^ 64 - 1 }
     ensures { WritesText (W.contents out.old) (W.contents out.new) (W.failed out.old)
         (W.failed out.new) result piece.now }
@@ -35,16 +38,9 @@ pub fn put<W: Sink>(out: &mut W, piece: &[u8]) -> Result<(), WriteFault>
 }
 
 /// Writes a piece behind what was written so far. Where that failed it writes nothing, and the fault stays.
-pub fn put_after<W: Sink>(
-    done: Result<(), WriteFault>,
-    out: &mut W,
-    piece: &[u8],
-) -> Result<(), WriteFault>
+pub fn put_after<W: Sink>(done: Done, out: &mut W, piece: &[u8]) -> Done
     requires { OnOk done (W.failed out.old < 2 ^ 64 - 1) }
-    ensures wrote { WritesOn done result (W.contents out.old) (W.contents out.new) (W.failed out.old)
-        (W.failed out.new) piece.now }
-    ensures kept { OnOk result (W.failed out.new ≡ W.failed out.old) }
-    ensures was { OnOk result (IsOk done) }
+    ensures wrote { WritesAfter W.contents W.failed done result out.old out.new piece.now }
     ensures alone { OnErr done (out.new ≡ out.old) }
 {
     done?;
@@ -53,16 +49,9 @@ pub fn put_after<W: Sink>(
 
 /// Writes a number behind what was written so far, as `put_after` does: its digits without leading zeros,
 /// behind a minus where it is negative.
-pub fn number_after<W: Sink, N: Integer>(
-    done: Result<(), WriteFault>,
-    out: &mut W,
-    number: N,
-) -> Result<(), WriteFault>
+pub fn number_after<W: Sink, N: Integer>(done: Done, out: &mut W, number: N) -> Done
     requires { OnOk done (W.failed out.old < 2 ^ 64 - 1) }
-    ensures wrote { WritesOn done result (W.contents out.old) (W.contents out.new) (W.failed out.old) (W.failed out.new)
-        (N.text number) }
-    ensures kept { OnOk result (W.failed out.new ≡ W.failed out.old) }
-    ensures was { OnOk result (IsOk done) }
+    ensures wrote { WritesAfter W.contents W.failed done result out.old out.new (N.text number) }
     ensures alone { OnErr done (out.new ≡ out.old) }
 {
     let mut buffer = Buffer::new();
@@ -74,12 +63,9 @@ pub fn number_after<W: Sink, N: Integer>(
 /// # Errors
 ///
 /// The fault of before, or `WriteFault` where the flush fails.
-pub fn flush_after<W: Sink>(done: Result<(), WriteFault>, out: &mut W) -> Result<(), WriteFault>
+pub fn flush_after<W: Sink>(done: Done, out: &mut W) -> Done
     requires { OnOk done (W.failed out.old < 2 ^ 64 - 1) }
-    ensures wrote { WritesOn done result (W.contents out.old) (W.contents out.new) (W.failed out.old)
-        (W.failed out.new) [] }
-    ensures kept { OnOk result (W.failed out.new ≡ W.failed out.old) }
-    ensures was { OnOk result (IsOk done) }
+    ensures wrote { WritesAfter W.contents W.failed done result out.old out.new [] }
     ensures alone { OnErr done (out.new ≡ out.old) }
 {
     match done {

@@ -323,7 +323,7 @@ module _ {B H L : Type 0} (K : Ghosts B H L) (F : Form) where
         after s u → LeadsBy K F n opening (hands_on id b) (shows K F s r) u
     hand_on_of s u r id m t cs after st b one hands p =
         let w : World B H L = shows K F s r in
-        let mine = r.good.each_seat id (Holding m t) p.there in
+        let mine = r.good.seats.each_seat id (Holding m t) p.there in
         let does : HandsOn K m t b = subst (λ (z : H). HandsOn K (memo m.seat z m.seen) t b) (sym mine.0.head) hands in
         let told = p.tells b one in
         let view : after.0 ≡ Idle (shown m (K.lines b)) = ap (λ (z : Sight B H L). z.0) told in
@@ -447,7 +447,7 @@ module _ {B H L : Type 0} (K : Ghosts B H L) (F : Form) where
       let apart : id ≢ x.place = λ same. no_keeper x.old ms x.bare.0 (same_there s.views x.place x.old (Keeper ms)
       x.there (subst (λ (z : ℕ). get_elem? s.views z ≡ some (Keeper ms)) same at)) in
       let two = total_two (λ v. weigh (λ _. 1) (memos v)) s.views id x.place (Keeper ms) x.old apart at x.there in
-      let all = r.good.parts (λ _. 1) in
+      let all = r.good.seats.parts (λ _. 1) in
       let count = span_all 0 n in
       let kept = ones ms in
       let one = weighs_one x.old x.bare.0 in omega arith
@@ -461,14 +461,14 @@ module _ {B H L : Type 0} (K : Ghosts B H L) (F : Form) where
   pub word_zero : FormLaws F → (n : ℕ) (opening : B) → WordZeroIsTurn K F n opening
   word_zero laws n opening s r none_out =
       let g = r.good in
-      let empty : length r.queue ≡ 0 = nobody_queued r.queue (λ j e. let v = g.queued 0 j e in
+      let empty : length r.queue ≡ 0 = nobody_queued r.queue (λ j e. let v = g.seats.queued 0 j e in
       none_out j (wrap (r.serving + 0)) v) in
-      let home : r.home ≡ true = is_true r.home (λ out. let a = g.away out in
+      let home : r.home ≡ true = is_true r.home (λ out. let a = g.seats.away out in
       none_out a.0 a.2 (Holding a.1 a.2, a.3, refl)) in
-      let next : r.next ≡ r.serving = g.next_is ∙ (ap (λ (z : ℕ). wrap (r.serving + z)) empty
-      ∙ (ap wrap (omega arith) ∙ wrap_small r.serving g.small)) in (
+      let next : r.next ≡ r.serving = g.words.next_is ∙ (ap (λ (z : ℕ). wrap (r.serving + z)) empty
+      ∙ (ap wrap (omega arith) ∙ wrap_small r.serving g.words.small)) in (
         r.shelved ∙ ap (λ (z : Bool). shelf z r.current) home,
-        laws.next_shown r.next r.serving s.words g.shows ∙ (next ∙ sym g.turn),
+        laws.next_shown r.next r.serving s.words g.words.shows ∙ (next ∙ sym g.book.turn),
       )
 
   -- the book at home

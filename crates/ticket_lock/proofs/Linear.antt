@@ -543,7 +543,7 @@ module _ {B H L : Type 0} (K : Ghosts B H L) (F : Form) (laws : FormLaws F) (n :
       → get_elem? w.seats j ≡ some (Holding m t) → HandsOn K m t c
       → Past (es ++ hands_on j c ∷ []) (handed K F j m t c w)
   past_hand es w j m t c p at does =
-      let mine = p.good.1.each_seat j (Holding m t) at in
+      let mine = p.good.1.seats.each_seat j (Holding m t) at in
       let seat : m.seat ≡ j = p.named j (Holding m t) at in
       let good = good_hand K F laws n b w p.good.0 j m t c p.good.1 at does in
       let h : Handed es w j c = record {
@@ -626,7 +626,7 @@ module _ {B H L : Type 0} (K : Ghosts B H L) (F : Form) (laws : FormLaws F) (n :
 -- the law, in every form
 pub linearizable : {B H L : Type 0} (K : Ghosts B H L) (F : Form) → FormLaws F → Linearizable K F
 linearizable K F laws n b w u es o r = let p = past_events K F laws n b [] es w u (past_none K F laws n b w o) r in (
-  p.good.1.lawful,
+  p.good.1.book.lawful,
   record {
     opening = p.stays;
     full_last = p.full_last;

@@ -13,7 +13,7 @@ use Rattle.ticket_lock.specs.declared.seat_state.Memo.{Memo}
 use Rattle.ticket_lock.specs.declared.seat_state.SeatState.{SeatState}
 use Rattle.ticket_lock.specs.declared.seat_state.SeatState.TheVariants.{Keeper, Idle, Waiting, Holding}
 use Rattle.ticket_lock.specs.World.{Form, World, wrap, memo, memos, out, HasNumber, total, weigh, span, Remembers}
-use Rattle.ticket_lock.specs.World.{Knows, Good}
+use Rattle.ticket_lock.specs.World.{Knows, GoodSeats, Good}
 use Rattle.ticket_lock.specs.Schedule.{idle_from}
 use Rattle.ticket_lock.specs.Standing.{stage_of, seat_of, left_of, right_of, joined, nobody, memos_of, memos_from}
 use Rattle.ticket_lock.specs.Standing.{idles, keeper_of, shelf, Standing}
@@ -137,45 +137,44 @@ module _ {B H L : Type 0} (K : Ghosts B H L) (F : Form) (n : ℕ) (opened : B) w
   abbrev Rule : State (std.Option B) (SeatState H L) → Type 0
   Rule = Standing K F n opened
 
+  -- the rule stands where the seats changed, and are good
+  abbrev pub with_views : (s : State (std.Option B) (SeatState H L)) (vs : List (SeatState H L)) (r : Rule s)
+      → GoodSeats K n opened r.current r.home r.serving vs r.queue
+      → Rule (record { words = s.words; homes = s.homes; views = vs })
+  with_views s vs r seats = record {
+    next = r.next;
+    serving = r.serving;
+    home = r.home;
+    current = r.current;
+    queue = r.queue;
+    good = record { size = r.good.size; words = r.good.words; seats = seats; book = r.good.book };
+    shelved = r.shelved;
+  }
+
   -- a keeper that gives its first seat away keeps the rule
   abbrev pub splits_ok : (id : ℕ) (m : Memo H L) (ms : List (Memo H L)) → Splits Rule id (Keeper (m ∷ ms)) (Keeper ms) (Idle m)
   splits_ok id m ms s r at =
       let old : SeatState H L = Keeper (m ∷ ms) in
       let new : SeatState H L = Keeper ms in
       let g = r.good in
-      let mine = g.each_seat id old at in
-      let right : List (SeatState H L) = Idle m ∷ [] in record {
-        next = r.next;
-        serving = r.serving;
-        home = r.home;
-        current = r.current;
-        queue = r.queue;
-        good = record {
-          size = g.size;
-          shows = g.shows;
-          small = g.small;
-          next_is = g.next_is;
-          queued = λ i k e. let v = queue_beside s.views r.serving r.queue id old new tt at g.queued i k e in
-              (v.0, at_longer (set s.views id new) right k v.0 v.1, v.2);
-          counted = let p = total_set out s.views id old new at in let q =
-              total_append out (set s.views id new) right in let c = g.counted in omega arith;
-          parts = λ h. let p = total_set (λ v. weigh h (memos v)) s.views id old new at in let q =
-              total_append (λ v. weigh h (memos v)) (set s.views id new) right in let c = g.parts h in omega arith;
-          each_seat = λ j v e. ⊎_elim
-              (λ (t : get_elem? (set s.views id new) j ≡ some v). seats_stay
-              (Knows K opened r.current r.home r.serving r.queue)
-              (Knows K opened r.current r.home r.serving r.queue) s.views id new (λ a x e. mine (suc a) x e)
-              (λ k u _ _ same. same) g.each_seat j v t)
-              (λ (t : (j ≡ length (set s.views id new)) × (Idle m ≡ v)). subst
-              (Knows K opened r.current r.home r.serving r.queue j) t.1 (mine 0 m refl))
-              (snoc_at (set s.views id new) (Idle m) v j e);
-          away = λ out. let a = holder_beside s.views id old new tt at (g.away out) in
-              (a.0, a.1, a.2, at_longer (set s.views id new) right a.0 (Holding a.1 a.2) a.3);
-          lawful = g.lawful;
-          head = g.head;
-          turn = g.turn;
-        };
-        shelved = r.shelved;
+      let mine = g.seats.each_seat id old at in
+      let right : List (SeatState H L) = Idle m ∷ [] in with_views s (set s.views id new ++ right) r record {
+        queued = λ i k e. let v = queue_beside s.views r.serving r.queue id old new tt at g.seats.queued i k e in
+            (v.0, at_longer (set s.views id new) right k v.0 v.1, v.2);
+        counted = let p = total_set out s.views id old new at in let q =
+            total_append out (set s.views id new) right in let c = g.seats.counted in omega arith;
+        parts = λ h. let p = total_set (λ v. weigh h (memos v)) s.views id old new at in let q =
+            total_append (λ v. weigh h (memos v)) (set s.views id new) right in let c = g.seats.parts h in omega arith;
+        each_seat = λ j v e. ⊎_elim
+            (λ (t : get_elem? (set s.views id new) j ≡ some v). seats_stay
+            (Knows K opened r.current r.home r.serving r.queue)
+            (Knows K opened r.current r.home r.serving r.queue) s.views id new (λ a x e. mine (suc a) x e)
+            (λ k u _ _ same. same) g.seats.each_seat j v t)
+            (λ (t : (j ≡ length (set s.views id new)) × (Idle m ≡ v)). subst
+            (Knows K opened r.current r.home r.serving r.queue j) t.1 (mine 0 m refl))
+            (snoc_at (set s.views id new) (Idle m) v j e);
+        away = λ out. let a = holder_beside s.views id old new tt at (g.seats.away out) in
+            (a.0, a.1, a.2, at_longer (set s.views id new) right a.0 (Holding a.1 a.2) a.3);
       }
 
   -- the table with one seat of nobody more
@@ -186,30 +185,15 @@ module _ {B H L : Type 0} (K : Ghosts B H L) (F : Form) (n : ℕ) (opened : B) w
   abbrev pub nobody_stands : (s : State (std.Option B) (SeatState H L)) → Rule s → Rule (WithNobody s)
   nobody_stands s r =
       let g = r.good in
-      let new : List (SeatState H L) = nobody ∷ [] in record {
-        next = r.next;
-        serving = r.serving;
-        home = r.home;
-        current = r.current;
-        queue = r.queue;
-        good = record {
-          size = g.size;
-          shows = g.shows;
-          small = g.small;
-          next_is = g.next_is;
-          queued = λ i k e. let v = g.queued i k e in (v.0, at_longer s.views new k v.0 v.1, v.2);
-          counted = let q = total_append out s.views new in let c = g.counted in omega arith;
-          parts = λ h. let q = total_append (λ v. weigh h (memos v)) s.views new in let c = g.parts h in omega arith;
-          each_seat = λ j v e. ⊎_elim (g.each_seat j v)
-              (λ (t : (j ≡ length s.views) × (nobody ≡ v)). subst
-              (Knows K opened r.current r.home r.serving r.queue j) t.1
-              (λ a x none_there. absurd (some-ne-none x (sym none_there)))) (snoc_at s.views nobody v j e);
-          away = λ out. let a = g.away out in (a.0, a.1, a.2, at_longer s.views new a.0 (Holding a.1 a.2) a.3);
-          lawful = g.lawful;
-          head = g.head;
-          turn = g.turn;
-        };
-        shelved = r.shelved;
+      let new : List (SeatState H L) = nobody ∷ [] in with_views s (s.views ++ new) r record {
+        queued = λ i k e. let v = g.seats.queued i k e in (v.0, at_longer s.views new k v.0 v.1, v.2);
+        counted = let q = total_append out s.views new in let c = g.seats.counted in omega arith;
+        parts = λ h. let q = total_append (λ v. weigh h (memos v)) s.views new in let c = g.seats.parts h in omega arith;
+        each_seat = λ j v e. ⊎_elim (g.seats.each_seat j v)
+            (λ (t : (j ≡ length s.views) × (nobody ≡ v)). subst
+            (Knows K opened r.current r.home r.serving r.queue j) t.1
+            (λ a x none_there. absurd (some-ne-none x (sym none_there)))) (snoc_at s.views nobody v j e);
+        away = λ out. let a = g.seats.away out in (a.0, a.1, a.2, at_longer s.views new a.0 (Holding a.1 a.2) a.3);
       }
 
   -- a seat of nobody arrives
@@ -241,35 +225,20 @@ module _ {B H L : Type 0} (K : Ghosts B H L) (F : Form) (n : ℕ) (opened : B) w
       let g = r.good in
       let beside : get_elem? s.views other ≡ some (Idle m) = sym (set_else s.views id other both apart) ∙ there in
       let K' : ℕ → SeatState H L → Type 0 = Knows K opened r.current r.home r.serving r.queue in
-      let mine = g.each_seat id (Keeper ms) at in
-      let its = g.each_seat other (Idle m) beside in
+      let mine = g.seats.each_seat id (Keeper ms) at in
+      let its = g.seats.each_seat other (Idle m) beside in
       let go : (a : ℕ) (x : Memo H L) → get_elem? (m ∷ ms) a ≡ some x → Remembers K opened r.current x =
-      λ a. more m ms r.current its mine a in record {
-        next = r.next;
-        serving = r.serving;
-        home = r.home;
-        current = r.current;
-        queue = r.queue;
-        good = record {
-          size = g.size;
-          shows = g.shows;
-          small = g.small;
-          next_is = g.next_is;
-          queued = queue_beside first r.serving r.queue other (Idle m) spent tt there
-              (queue_beside s.views r.serving r.queue id (Keeper ms) both tt at g.queued);
-          counted = let p = total_set out s.views id (Keeper ms) both at in let q =
-              total_set out first other (Idle m) spent there in let c = g.counted in omega arith;
-          parts = λ h. let p = total_set (λ v. weigh h (memos v)) s.views id (Keeper ms) both at in let q =
-              total_set (λ v. weigh h (memos v)) first other (Idle m) spent there in let c = g.parts h in omega arith;
-          each_seat = seats_stay K' K' first other spent (λ a x e. absurd (some-ne-none x (sym e)))
-              (λ k u _ _ same. same) (seats_stay K' K' s.views id both go (λ k u _ _ same. same) g.each_seat);
-          away = λ out. holder_beside first other (Idle m) spent tt there
-              (holder_beside s.views id (Keeper ms) both tt at (g.away out));
-          lawful = g.lawful;
-          head = g.head;
-          turn = g.turn;
-        };
-        shelved = r.shelved;
+      λ a. more m ms r.current its mine a in with_views s (set first other spent) r record {
+        queued = queue_beside first r.serving r.queue other (Idle m) spent tt there
+            (queue_beside s.views r.serving r.queue id (Keeper ms) both tt at g.seats.queued);
+        counted = let p = total_set out s.views id (Keeper ms) both at in let q =
+            total_set out first other (Idle m) spent there in let c = g.seats.counted in omega arith;
+        parts = λ h. let p = total_set (λ v. weigh h (memos v)) s.views id (Keeper ms) both at in let q =
+            total_set (λ v. weigh h (memos v)) first other (Idle m) spent there in let c = g.seats.parts h in omega arith;
+        each_seat = seats_stay K' K' first other spent (λ a x e. absurd (some-ne-none x (sym e)))
+            (λ k u _ _ same. same) (seats_stay K' K' s.views id both go (λ k u _ _ same. same) g.seats.each_seat);
+        away = λ out. holder_beside first other (Idle m) spent tt there
+            (holder_beside s.views id (Keeper ms) both tt at (g.seats.away out));
       }
 
   -- the same of any two views of these kinds
@@ -306,17 +275,19 @@ module _ {B H L : Type 0} (K : Ghosts B H L) (F : Form) (n : ℕ) (opened : B) w
     queue = [];
     good = record {
       size = size;
-      shows = shows;
-      small = small;
-      next_is = sym (wrap_small (K.turn opened) small) ∙ ap wrap (omega arith);
-      queued = λ i j e. absurd (some-ne-none j (sym e));
-      counted = refl;
-      parts = λ h. let p = weigh_from h (K.head opened) (K.lines opened) 0 n in omega arith;
-      each_seat = λ j v e. one_keeper j v e;
-      away = λ out. absurd (true≢false out);
-      lawful = lawful;
-      head = refl;
-      turn = refl;
+      words = record {
+        shows = shows;
+        small = small;
+        next_is = sym (wrap_small (K.turn opened) small) ∙ ap wrap (omega arith);
+      };
+      seats = record {
+        queued = λ i j e. absurd (some-ne-none j (sym e));
+        counted = refl;
+        parts = λ h. let p = weigh_from h (K.head opened) (K.lines opened) 0 n in omega arith;
+        each_seat = λ j v e. one_keeper j v e;
+        away = λ out. absurd (true≢false out);
+      };
+      book = record { lawful = lawful; head = refl; turn = refl };
     };
     shelved = refl;
   }
@@ -332,26 +303,26 @@ module _ {B H L : Type 0} (K : Ghosts B H L) (F : Form) (n : ℕ) (opened : B) w
       let r = f.1.0 in
       let g = r.good in
       let at = f.1.1 in
-      let mine = g.each_seat id (Keeper ms) at in
+      let mine = g.seats.each_seat id (Keeper ms) at in
       let all : (λ (v : SeatState H L). weigh (λ _. 1) (memos v)) (Keeper ms) ≡ n = ones ms ∙ long in
-      let sum : total (λ v. weigh (λ _. 1) (memos v)) s.views ≡ n = g.parts (λ _. 1) ∙ span_all 0 n in
+      let sum : total (λ v. weigh (λ _. 1) (memos v)) s.views ≡ n = g.seats.parts (λ _. 1) ∙ span_all 0 n in
       let nobody_else : (j : ℕ) (v : SeatState H L) (u : ℕ) → get_elem? s.views j ≡ some v → HasNumber v u → ⊥ =
       λ j v u e has.
       let two = total_two (λ v. weigh (λ _. 1) (memos v)) s.views id j (Keeper ms) v
       (λ same. apart_from s.views id j (Keeper ms) v u tt at e has (sym same)) at e in
       let one = numbered_weighs v u has in omega arith in
       let home : r.home ≡ true =
-      is_true r.home (λ out. let a = g.away out in nobody_else a.0 (Holding a.1 a.2) a.2 a.3 refl) in
+      is_true r.home (λ out. let a = g.seats.away out in nobody_else a.0 (Holding a.1 a.2) a.2 a.3 refl) in
       let none_out : r.queue ≡ [] =
-      empty r.queue (λ k e. let v = g.queued 0 k e in nobody_else k v.0 (wrap (r.serving + 0)) v.1 v.2) in
+      empty r.queue (λ k e. let v = g.seats.queued 0 k e in nobody_else k v.0 (wrap (r.serving + 0)) v.1 v.2) in
       let homes : s.homes ≡ shelf true r.current = r.shelved ∙ ap (λ (z : Bool). shelf z r.current) home in
       let next : r.next ≡ r.serving =
-      g.next_is ∙ (ap (λ (q : List ℕ). wrap (r.serving + length q)) none_out
-      ∙ (ap wrap (omega arith) ∙ wrap_small r.serving g.small)) in (
+      g.words.next_is ∙ (ap (λ (q : List ℕ). wrap (r.serving + length q)) none_out
+      ∙ (ap wrap (omega arith) ∙ wrap_small r.serving g.words.small)) in (
         r.current,
         f.4 0 (std.Some r.current) (ap (λ (z : List (Option (std.Option B))). get_elem? z 0) homes),
-        g.lawful,
-        g.head,
+        g.book.lawful,
+        g.book.head,
         (
           record {
             words = s.words;
@@ -364,22 +335,24 @@ module _ {B H L : Type 0} (K : Ghosts B H L) (F : Form) (n : ℕ) (opened : B) w
           },
           record {
             size = g.size;
-            shows = g.shows;
-            small = g.small;
-            next_is = g.next_is ∙ ap (λ (q : List ℕ). wrap (r.serving + length q)) none_out;
-            queued = λ i k e. absurd (some-ne-none k (sym e));
-            counted = idles_out ms;
-            parts = λ h. idles_weigh h ms ∙ (sym (has_all h s.views id (Keeper ms) at (sum ∙ sym all)) ∙ g.parts h);
-            each_seat = λ j v e. let m = idle_there ms j v e in
-                subst (Knows K opened r.current true r.serving [] j) m.2 (mine j m.0 m.1);
-            away = λ out. absurd (true≢false out);
-            lawful = g.lawful;
-            head = g.head;
-            turn = g.turn;
+            words = record {
+              shows = g.words.shows;
+              small = g.words.small;
+              next_is = g.words.next_is ∙ ap (λ (q : List ℕ). wrap (r.serving + length q)) none_out;
+            };
+            seats = record {
+              queued = λ i k e. absurd (some-ne-none k (sym e));
+              counted = idles_out ms;
+              parts = λ h. idles_weigh h ms ∙ (sym (has_all h s.views id (Keeper ms) at (sum ∙ sym all)) ∙ g.seats.parts h);
+              each_seat = λ j v e. let m = idle_there ms j v e in
+                  subst (Knows K opened r.current true r.serving [] j) m.2 (mine j m.0 m.1);
+              away = λ out. absurd (true≢false out);
+            };
+            book = g.book;
           },
           refl,
           refl,
-          next ∙ sym g.turn,
+          next ∙ sym g.book.turn,
           refl,
         ),
         mine,

@@ -112,7 +112,7 @@ module _ {B H L : Type 0} (K : Ghosts B H L) (F : Form) (laws : FormLaws F) (n :
       (λ hit.
       let front = served K F laws n opening w r.queue id m t looks r.good at hit in
       let home : s.homes ≡ shelf true r.current = r.shelved ∙ ap (λ (z : Bool). shelf z r.current) front.2 in
-      let mine = r.good.each_seat id (Waiting m t looks) at in (
+      let mine = r.good.seats.each_seat id (Waiting m t looks) at in (
         Holding (shown m (K.lines r.current)) t,
         takes 0 (std.Some r.current),
         ap (λ (z : List (Option (std.Option B))). get_elem? z 0) home,
@@ -125,9 +125,9 @@ module _ {B H L : Type 0} (K : Ghosts B H L) (F : Form) (laws : FormLaws F) (n :
             r.current,
             refl,
             record {
-              lawful = r.good.lawful;
-              head = ap (λ (z : H). z ∷ []) (mine.0.head ∙ sym r.good.head);
-              turn = r.good.turn ∙ sym front.1;
+              lawful = r.good.book.lawful;
+              head = ap (λ (z : H). z ∷ []) (mine.0.head ∙ sym r.good.book.head);
+              turn = r.good.book.turn ∙ sym front.1;
               begins = mine.0.begins;
               own_lines = mine.0.own_lines;
             },
@@ -160,7 +160,7 @@ module _ {B H L : Type 0} (K : Ghosts B H L) (F : Form) (laws : FormLaws F) (n :
       (Holding m t, (0, std.Some b) ∷ []) (wrap (t + 1)))
   gives_at slots id m t b head hands = λ s r sized at small.
       let w : World B H L = world_of s r.next r.serving r.home r.current in
-      let mine = r.good.each_seat id (Holding m t) at in
+      let mine = r.good.seats.each_seat id (Holding m t) at in
       let went : s.homes ≡ shelf false r.current = r.shelved ∙ ap (λ (z : Bool). shelf z r.current) mine.3 in
       let does : HandsOn K m t b = subst (λ (z : H). HandsOn K (memo m.seat z m.seen) t b) (sym head) hands in
       let after = good_hand K F laws n opening w r.queue id m t b r.good at does in (

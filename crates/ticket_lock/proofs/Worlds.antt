@@ -32,11 +32,11 @@ module _ {B H L : Type 0} (K : Ghosts B H L) (F : Form) (laws : FormLaws F) (n :
   place_of k t (Idle m) know has = absurd has
   place_of k t (Waiting m u looks) know has = (know.1.0, know.1.1, sym has ∙ know.1.2)
   place_of k t (Holding m u) know has =
-      (0, know.1, sym has ∙ (know.2 ∙ (sym (wrap_small w.serving g.small) ∙ ap wrap (omega arith))))
+      (0, know.1, sym has ∙ (know.2 ∙ (sym (wrap_small w.serving g.words.small) ∙ ap wrap (omega arith))))
 
   -- the same of the owner of a number
   pub owner : (k t : ℕ) → Owns w k t → (i : ℕ) × (get_elem? q i ≡ some k) × (t ≡ wrap (w.serving + i))
-  owner k t o = place_of k t o.0 (g.each_seat k o.0 o.1) o.2
+  owner k t o = place_of k t o.0 (g.seats.each_seat k o.0 o.1) o.2
 
   -- a seat has one memo
   only_one : (x m : Memo H L) (a : ℕ) → Remembers K opening w.current x → get_elem? (x ∷ []) a ≡ some m
@@ -55,13 +55,13 @@ module _ {B H L : Type 0} (K : Ghosts B H L) (F : Form) (laws : FormLaws F) (n :
   -- the working form says that the world is good
   pub good_world : GoodWorld K F opening w
   good_world = let most = few K F laws n opening w q g in record {
-    words = g.shows;
+    words = g.words.shows;
     out = length q;
     few = most;
-    next_is = g.next_is;
+    next_is = g.words.next_is;
     each_number = λ i below. let j = at_of q i below in (
       j.0,
-      g.queued i j.0 j.1,
+      g.seats.queued i j.0 j.1,
       λ k o. let p = owner k (wrap (w.serving + i)) o in let inside = at_below q p.0 k p.1 in
           let same : i ≡ p.0 = one_place w.serving i p.0 (omega arith) (omega arith) p.2 in
           some-injective k j.0 (sym p.1 ∙ (ap (get_elem? q) (sym same) ∙ j.1)),
@@ -70,16 +70,16 @@ module _ {B H L : Type 0} (K : Ghosts B H L) (F : Form) (laws : FormLaws F) (n :
     apart = λ j k m x one other same. dite (ℕ_discrete j k) (λ e. e)
         (λ off. absurd (strangers K F laws n opening w q j k one.1 other.1 one.0 other.0 m x g off one.2 other.2 one.3
         other.3 (sym same)));
-    holder = λ j t h. (g.each_seat j (Holding h.0 t) h.1).2;
+    holder = λ j t h. (g.seats.each_seat j (Holding h.0 t) h.1).2;
     one_holder = λ j k t u h i. some-injective j k
-        (sym (g.each_seat j (Holding h.0 t) h.1).1 ∙ (g.each_seat k (Holding i.0 u) i.1).1);
-    home = λ is j t h. true≢false (sym is ∙ (g.each_seat j (Holding h.0 t) h.1).3);
-    away = λ is. let a = g.away is in (a.0, a.2, (a.1, a.3));
-    lawful = g.lawful;
-    head = g.head;
-    turn = g.turn;
-    begins = λ j m s. (remembered j s.1 m s.0 (g.each_seat j s.0 s.2) s.3).begins;
-    own_lines = λ j m s. (remembered j s.1 m s.0 (g.each_seat j s.0 s.2) s.3).own_lines;
+        (sym (g.seats.each_seat j (Holding h.0 t) h.1).1 ∙ (g.seats.each_seat k (Holding i.0 u) i.1).1);
+    home = λ is j t h. true≢false (sym is ∙ (g.seats.each_seat j (Holding h.0 t) h.1).3);
+    away = λ is. let a = g.seats.away is in (a.0, a.2, (a.1, a.3));
+    lawful = g.book.lawful;
+    head = g.book.head;
+    turn = g.book.turn;
+    begins = λ j m s. (remembered j s.1 m s.0 (g.seats.each_seat j s.0 s.2) s.3).begins;
+    own_lines = λ j m s. (remembered j s.1 m s.0 (g.seats.each_seat j s.0 s.2) s.3).own_lines;
   }
 
 module _ {B H L : Type 0} (K : Ghosts B H L) (F : Form) (laws : FormLaws F) where

@@ -1,4 +1,4 @@
-use hull_plain::{AddReply, HullSet};
+use hull_set::{AddReply, HullSet};
 use hull_tree::{HullTree, SparingTree};
 use lattice::Point;
 

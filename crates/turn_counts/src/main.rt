@@ -10,7 +10,7 @@ mod random;
 mod tally;
 
 use counted::CountedSet;
-use hull_plain::POINT_LIMIT;
+use hull_set::POINT_LIMIT;
 use hull_tree::{HullTree, SparingTree};
 use lattice::Point;
 use random::Random;

@@ -1,6 +1,6 @@
 //! Journals made short, as texts.
 use hull_book::{CompactRefusal, Journal, Line};
-use hull_plain::{Call, Reply, Rules};
+use hull_set::{Call, Reply, Rules};
 use hull_text::{
     CompactFault, Counted, TextFault, WriteFault, compact, read_journal, write_journal,
 };

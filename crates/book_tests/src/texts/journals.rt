@@ -3,7 +3,7 @@ ghost use Rattle.std.specs.Prelude.{◌<◌, ◌-◌, ◌^◌};
 use super::line_in_hand;
 use crate::devices::{Got, device, got, in_blocks, is_cut, is_whole};
 use hull_book::Journal;
-use hull_plain::Rules;
+use hull_set::Rules;
 use hull_text::{Counted, TextFault, WriteFault, read_journal, read_script, write_journal};
 use std::alloc::Global;
 use std::io::BufWriter;

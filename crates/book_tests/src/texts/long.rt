@@ -1,6 +1,6 @@
 use crate::devices::{Got, got, is_whole};
 use hull_book::Journal;
-use hull_plain::Reply;
+use hull_set::Reply;
 use hull_text::{Counted, TextFault, WriteFault, read_journal, write_journal};
 use std::alloc::Global;
 use std::io::BufWriter;

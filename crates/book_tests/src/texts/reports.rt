@@ -2,7 +2,7 @@ ghost use Rattle.std.specs.Prelude.{◌<◌};
 
 use crate::devices::{Got, device, got, in_blocks, is_cut, is_whole};
 use hull_book::{Answer, Journal, JournalFull, Report, Script};
-use hull_plain::{Place, PointList, Reply};
+use hull_set::{Place, PointList, Reply};
 use hull_text::{Counted, WriteFault, read_journal, read_script, report_fits, write_report};
 use lattice::Point;
 use std::alloc::{AllocError, Global};

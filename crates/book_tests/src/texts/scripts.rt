@@ -1,6 +1,6 @@
 use super::line_in_hand;
 use hull_book::Script;
-use hull_plain::Call;
+use hull_set::Call;
 use hull_text::{Counted, TextFault, read_script};
 use std::alloc::Global;
 use std::test::Fail;

@@ -1,54 +1,8 @@
 //! What has to hold of a schedule, whatever it was.
-ghost use Rattle.std.specs.Prelude.{◌≡◌, ◌<◌, ◌≤◌};
-ghost use Rattle.hull_plain.specs.Sets.{plain_set};
-ghost use Rattle.hull_book.specs.Books.{IsLawful};
-ghost use Rattle.hull_book.specs.Ledgers.{AreLedgers};
-
-use super::schedule::{Game, Outcome};
-use hull_book::{Answer, Book, CheckResult, Journal, Ledger, Line, check, gather};
-use hull_plain::PlainSet;
+use super::schedule::{Game, Outcome, Seen};
+use hull_book::{Answer, CheckResult, Journal, Line, check};
 use std::alloc::Global;
 use std::process::Abort;
-
-// Serves the calls of the lines by their seats, each of which is answered as its line says.
-fn serve_lines(
-    rt: &impl Abort,
-    book: &mut Book<PlainSet>,
-    ledgers: &mut Vec<Ledger>,
-    lines: &[Line],
-)
-    requires lawful { IsLawful plain_set book.old }
-    requires ledgers { AreLedgers book.old ledgers.old.items }
-    ensures lawful { IsLawful plain_set book.new }
-    ensures ledgers { AreLedgers book.new ledgers.new.items }
-{
-    for line in lines {
-        assert!(rt; line.seat < book.workers());
-        match book.serve(line.seat, line.call, &mut ledgers[usize::from(line.seat)]) {
-            Ok(given) => assert_eq!(rt; given, line.reply),
-            Err(_full) => panic!(rt; "the journal has room"),
-        }
-    }
-}
-
-// A plain set is answered alike by the same calls in the order of the journal.
-fn replays_on_the_plain_set(
-    rt: &impl Abort,
-    alloc: Global,
-    game: &Game,
-    journal: &Journal,
-    workers: u8,
-)
-    requires { (1 ≤ workers) × (workers ≤ 64) }
-{
-    let set = PlainSet::new(alloc, 16);
-    let Ok((mut book, mut ledgers)) = Book::open(alloc, set, game.first, game.capacity, workers)
-    else {
-        panic!(rt; "there is memory for the book")
-    };
-    serve_lines(rt, &mut book, &mut ledgers, journal.lines());
-    assert_eq!(rt; gather(&book, ledgers), journal.lines().len() as u64);
-}
 
 // The player's lines are its calls in their order, and its answers are their replies.
 fn has_its_lines(rt: &impl Abort, game: &Game, journal: &Journal, player: u8, answers: &[Answer]) {
@@ -69,31 +23,99 @@ fn has_its_lines(rt: &impl Abort, game: &Game, journal: &Journal, player: u8, an
     assert_eq!(rt; (made, answers.len()), (calls.len(), calls.len()));
 }
 
-/// All that has to hold of the schedule: entries in the order of takes, a line for each call in that order, numbered
-/// from the first on, a legal journal, which the plain set answers alike, each player's answers in its lines, and
-/// ledgers that sum to the journal's length.
-pub(super) fn judge(rt: &impl Abort, alloc: Global, game: &Game, workers: u8, end: &Outcome)
-    requires { (1 ≤ workers) × (workers ≤ 64) }
-{
-    assert_eq!(rt; end.seen.enterers.as_slice(), end.seen.takers.as_slice());
+// How many calls the players have.
+fn count_calls(game: &Game) -> usize {
     let mut calls = 0usize;
     for own in &game.calls {
         calls = calls.saturating_add(own.len());
     }
-    let lines = end.journal.lines();
+    calls
+}
+
+// Entries are in the order of takes, and the lines in that order, numbered from the first on.
+fn is_in_order(rt: &impl Abort, game: &Game, seen: &Seen, lines: &[Line]) {
+    assert_eq!(rt; seen.enterers.as_slice(), seen.takers.as_slice());
+    let calls = count_calls(game);
     assert_eq!(rt;
-        (lines.len(), end.seen.takers.len(), end.seen.handed),
+        (lines.len(), seen.takers.len(), seen.handed),
         (calls, calls, calls)
     );
-    assert_eq!(rt; end.sum, calls as u64);
     for (k, line) in lines.iter().enumerate() {
         assert_eq!(rt; line.number, game.first.wrapping_add(k as u64));
-        assert!(rt; end.seen.takers.get(k) == Some(&line.seat));
+        assert!(rt; seen.takers.get(k) == Some(&line.seat));
     }
-    assert_eq!(rt; check(alloc, &end.journal), CheckResult::Legal);
-    replays_on_the_plain_set(rt, alloc, game, &end.journal, workers);
+}
+
+// All but whether the journal is legal: entries in the order of takes, a line for each call in that order, numbered from
+// the first on, each player's answers in its lines, and ledgers that sum to the journal's length.
+fn judge_schedule(rt: &impl Abort, game: &Game, workers: u8, end: &Outcome) {
+    is_in_order(rt, game, &end.seen, end.journal.lines());
+    assert_eq!(rt; end.sum, count_calls(game) as u64);
     assert_eq!(rt; end.answers.len(), usize::from(workers));
     for (player, answers) in &end.answers {
         has_its_lines(rt, game, &end.journal, *player, answers.as_slice());
+    }
+}
+
+/// All that has to hold of the schedule, with a legal journal.
+pub(super) fn judge(rt: &impl Abort, alloc: Global, game: &Game, workers: u8, end: &Outcome) {
+    judge_schedule(rt, game, workers, end);
+    assert_eq!(rt; check(alloc, &end.journal), CheckResult::Legal);
+}
+
+// Whether the lines are by the same seats, in the same order.
+fn have_one_order(lines: &[Line], others: &[Line]) -> bool {
+    for (line, other) in lines.iter().zip(others) {
+        if line.seat != other.seat {
+            return false;
+        }
+    }
+    lines.len() == others.len()
+}
+
+// Whether the lines, of which there are as many, are the same.
+fn are_the_same(lines: &[Line], others: &[Line]) -> bool {
+    for (line, other) in lines.iter().zip(others) {
+        if line.number != other.number || line.call != other.call || line.reply != other.reply {
+            return false;
+        }
+    }
+    true
+}
+
+// The place of the journal that has its lines by the same seats, in the same order; `None` where there is no such one.
+fn place_of(known: &[Journal], lines: &[Line]) -> Option<usize> {
+    for (place, journal) in known.iter().enumerate() {
+        if have_one_order(journal.lines(), lines) {
+            return Some(place);
+        }
+    }
+    None
+}
+
+/// The same of one schedule of many of a game. The order of the seats determines the journal, since each call has one reply: so
+/// the first in an order is checked, and joins those that are known, and each later one has to be that one.
+pub(super) fn judge_next(
+    rt: &impl Abort,
+    alloc: Global,
+    game: &Game,
+    workers: u8,
+    end: Outcome,
+    known: &mut Vec<Journal>,
+) {
+    judge_schedule(rt, game, workers, &end);
+    let journal = end.journal;
+    match place_of(known.as_slice(), journal.lines()) {
+        Some(place) => {
+            assert!(rt; place < known.len());
+            let same = are_the_same(known[place].lines(), journal.lines());
+            known.swap(0, place); // most schedules are in the order of the one before
+            assert!(rt; same);
+        }
+        None => {
+            let found = check(alloc, &journal);
+            let kept = known.push(journal).is_ok();
+            assert_eq!(rt; (found, kept), (CheckResult::Legal, true));
+        }
     }
 }

@@ -5,8 +5,8 @@ ghost use Rattle.hull_pool.specs.Work.{workers_of};
 ghost use Rattle.explorer.specs.Places.{IsSeatAt, IsGuardAt, IsPlaced};
 
 use hull_book::{Answer, Book, Call, Ledger, Line};
-use hull_plain::HullSet;
 use hull_pool::{BookLock, BookSeat};
+use hull_set::HullSet;
 use hull_tree::HullTree;
 use std::process::Abort;
 use ticket_lock::{Guard, Look, Ticket};

@@ -1,15 +1,10 @@
 -- `hull_end` meets its contract.
-use Rattle.hull_reply.proofs.Steps.{◌≡◌, ℕ, ◌++◌, [], ◌∷◌, refl, proved, full_share, id⊢, ftrue, Val, fact, tables}
-use Rattle.hull_reply.proofs.Steps.{WpFn, ‵}
-use Rattle.hull_reply.proofs.Steps.{raw, ◌⊛◌, some, later, prop, at_ret, ◌$◌, ◌∵◌, !, qed, done, move, keep, drop, use1}
-use Rattle.hull_reply.proofs.Steps.{split, join, pick, await, regoal, suffices, group, and_then, no_more, calls_at}
-use Rattle.hull_reply.proofs.Steps.{framed}
-use Rattle.hull_reply.proofs.Steps.{fpack, triple_of, lasts, Lasts, lands_as, u32, w32, uint_Lawful, fjoin, enter}
-use Rattle.hull_reply.proofs.Steps.{of_opd}
-use Rattle.hull_reply.proofs.Steps.{stop}
-use Rattle.hull_reply.proofs.Steps.{first, blocks, exec, returns, alloc_all, pass_all, free_all, look_at, get, through}
-use Rattle.hull_reply.proofs.Steps.{sets, sets_last, env, yes, Ptr, RawPtr, block_ptr, lies_at, in_a_block, rawptr_vals}
-use Rattle.hull_reply.proofs.Steps.{rawptr_Tells, plain, nothing, on_entry, Stays, walk_of, stay_dropped, Goes-dropped}
+use Rattle.hull_reply.proofs.Steps.{◌≡◌, ℕ, ◌++◌, [], ◌∷◌, refl, proved, full_share, id⊢, ftrue, Val, fact, tables, WpFn, ‵, raw, ◌⊛◌, some}
+use Rattle.hull_reply.proofs.Steps.{later, prop, at_ret, ◌$◌, ◌∵◌, !, qed, done, move, keep, drop, use1, split, join, pick, await, regoal}
+use Rattle.hull_reply.proofs.Steps.{suffices, group, and_then, no_more, calls_at, framed, fpack, triple_of, lasts, Lasts, lands_as, u32}
+use Rattle.hull_reply.proofs.Steps.{w32, uint_Lawful, fjoin, enter, of_opd, stop, first, blocks, exec, returns, alloc_all, pass_all}
+use Rattle.hull_reply.proofs.Steps.{free_all, look_at, get, through, sets, sets_last, env, yes, Ptr, RawPtr, block_ptr, lies_at, in_a_block}
+use Rattle.hull_reply.proofs.Steps.{rawptr_vals, rawptr_Tells, plain, nothing, on_entry, Stays, walk_of, stay_dropped, Goes-dropped}
 use Rattle.hull_reply.proofs.Steps.{ends_at}
 use Rattle.hull_tree.specs.contracts.sparing_tree.SparingTree.{the_row as R}
 use Rattle.hull_tree.proofs.sparing_tree.SparingTree.TheLaws.{the_row_laws as tree_laws}

@@ -1,81 +1,14 @@
--- `hull_limit` meets its contract: the hull at the pointer is lent for one call, and comes back with what that call
--- left.
-use Rattle.hull_reply.proofs.Steps.{ℕ, ◌++◌, List, [], ◌∷◌, refl, proved, full_share, id⊢, ftrue, flft, flent, named}
-use Rattle.hull_reply.proofs.Steps.{vptr}
-use Rattle.hull_reply.proofs.Steps.{fact, tables, WpFn, ‵, raw, ◌⊛◌, some, later, prop, at_ret, ◌$◌, ◌∵◌, !, qed, done}
-use Rattle.hull_reply.proofs.Steps.{move, keep, drop, use1, use3, split, join, fsplit, fjoin, fpack, pick, await}
-use Rattle.hull_reply.proofs.Steps.{regoal}
-use Rattle.hull_reply.proofs.Steps.{suffices, group, enter, of_opd, addr, stop, no_more, and_then, first, blocks, exec}
-use Rattle.hull_reply.proofs.Steps.{returns, alloc_all, pass_all, free_all, look_at, get, through, sets, sets_last}
-use Rattle.hull_reply.proofs.Steps.{lands_as, env, lft_new, lft_end, yes, Is, shows, mem, lends_ref, ref_back, Ptr}
-use Rattle.hull_reply.proofs.Steps.{RawPtr}
-use Rattle.hull_reply.proofs.Steps.{block_ptr, lies_at, in_a_block, rawptr_vals, rawptr_Tells, MutRef, Body, plain}
-use Rattle.hull_reply.proofs.Steps.{nothing}
-use Rattle.hull_reply.proofs.Steps.{heard, peeks, calls_at, Lasts, lasts, on_entry, triple_of, Stays, walk_of}
-use Rattle.hull_reply.proofs.Steps.{stay_dropped}
-use Rattle.hull_reply.proofs.Steps.{Goes-dropped, ends_at, framed}
-use Rattle.hull_tree.specs.contracts.sparing_tree.SparingTree.{the_row as R}
-use base.Fml.{fex, fsep}
+-- `hull_limit` meets its contract.
+use Rattle.hull_reply.proofs.Steps.{[]}
+use Rattle.hull_reply.proofs.Lends.{lends, reply}
+use Rattle.hull_tree.specs.contracts.sparing_tree.SparingTree.{the_row}
 use Rattle.hull_c.specs.Calls.{IsLimitOf}
-use Rattle.hull_reply.specs.contracts.reply.HullReply.{the_row as Out}
-use Rattle.hull_reply.proofs.reply.HullReply.TheLaws.{the_row_laws}
-use Rattle.hull_c.specs.contracts.hull_limit as f
 use Rattle.hull_c.proofs.hull_limit.Statement.{statement}
 use Rattle.hull_c.proofs.hull_limit.Code as code
-use Rattle.hull_c.specs.contracts.calls.limit as g
 use Rattle.hull_c.proofs.calls.limit.Met.{met}
-
-abbrev stayed : Stays f.ended.signature.params f.ended.kept
-stayed = (stay_dropped _ yes, tt)
 
 pub hull_limit_spec : {M : Type 1} → statement M
 hull_limit_spec 𝓤 𝓛 𝓜 𝓡 wired =
-    let c = f.clauses 𝓛 𝓜.mem 𝓡.returns in let W = walk_of 𝓛 f.ended stayed c in let 𝓣 = tables 𝓤 𝓛.H 𝓜 𝓡 𝓡.env in
-    proved 𝓛 f.ended stayed c 𝓜 𝓡 (Goes-dropped 𝓛 0 (plain (λ _. RawPtr)) yes (λ κs x w. refl), tt)
-    f.Key.name code.function (code.unfolded 𝓤 𝓛.H 𝓜 𝓡 wired)
-    (λ κs. (rawptr_vals, tt)) (λ κs. (rawptr_Tells, tt)) (λ κs qs bounds a t are.
-    let y : Ptr → W.Ghost = λ p. ((κs, qs, bounds, (p, tt), (rawptr_vals p, tt)), t) in
-    qed 𝓛 (raw (on_entry 𝓛 f.signature κs qs a (y a.0).0.4) ∷ ‵ (lies_at R full_share a.0 t) ∷ []) ∵ drop ! $
-    in_a_block ! a.0 (λ p. lies_at R full_share p t) (id⊢ 𝓤 _) (λ b o e.
-    regoal ! (λ p. prop (WpFn 𝓤 𝓛.H 𝓣.C 𝓣.Λ code.function (rawptr_vals p ++ []) (W.post (y p)))) e refl $
-    enter ! _ _ _ _ _ $ alloc_all ! (λ l. pass_all ! refl ((tt, tt), tt) $
-    sets ! (of_opd ! (get ! refl)) refl (tt, tt) $
-    sets ! (of_opd ! (get ! refl)) refl (tt, tt) $
-    first ! $ blocks ! $ sets_last ! (addr ! (through ! refl (stop !))) refl (tt, tt) $
-    exec ! 𝓣.C 𝓣.Λ (env code.Mir.locals l) code.Mir.t-4 (at_ret _ (W.post (y (block_ptr b o)))) $
-    sets ! (of_opd ! (get ! refl)) refl (tt, tt) $
-    lft_new ! tt (λ α. let κ : List ℕ = α ∷ [] in move ! (1 ∷ []) $
-    use1 𝓛 (later (some (λ (γ : ℕ). ‵
-    ((MutRef (named 0) κ R).own_val (record { ref_ptr = (b, o); ghost_name = γ; now = t }) (vptr b o ∷ [])) ⊛ ‵
-    (flent κ (Body (mem R) b o γ)))))
-    (lends_ref 𝓛 R (named 0) κ t b o) $ await ! tt $ pick ! (λ γ. split ! $
-    -- [the loan; what the lender keeps; the token]
-    let G = triple_of 𝓛 g.signature (g.spec 𝓛 𝓜.mem 𝓡.returns) in
-    let z : G.Ghost = (
-      (
-        (κ, tt),
-        (full_share, tt),
-        tt,
-        (record { ref_ptr = (b, o); ghost_name = γ; now = t }, tt),
-        (vptr b o ∷ [], tt),
-      ),
-      tt,
-    ) in
-    nothing ! $ move ! (1 ∷ 0 ∷ []) $ fjoin ! $
-    nothing ! $ move ! (3 ∷ 0 ∷ []) $ join ! $ join ! $ nothing ! $ move ! (1 ∷ 0 ∷ []) $ join ! $ use1 𝓛
-    (raw (G.pre z)) (id⊢ 𝓤 _) $
-    calls_at ! (framed 𝓤 𝓛.H 𝓜 (tables 𝓤 𝓛.H 𝓜 𝓡 𝓡.env)) G (met 𝓤 𝓛 𝓜 𝓡 (code.calls-hull_c::calls::limit 𝓡.env wired)) z
-    (and_then ! (get ! refl) (no_more !)) (λ v.
-    use1 𝓛 (later (some (λ (u : Out.Denot). ((‵ (flft κ full_share) ⊛ ‵ ftrue) ⊛ ‵ (Out.own_val u (v ∷ []))) ⊛
-    some (λ (ws : Lasts g.ended z.0.0 z.0.3). ‵ (lasts g.ended z.0.0 z.0.3 ws) ⊛ raw
-    (fact 𝓤 (IsLimitOf t ws.0 u)))))) (id⊢ 𝓤 _) $
-    await ! tt $ pick ! (λ u. split ! $ split ! $ split ! $ lft_end ! tt $ move ! (2 ∷ []) $
-    peeks ! Out (Is Out) (shows 𝓛 Out) u (v ∷ []) (λ is. lands_as ! refl refl ((the_row_laws.lawful 𝓛).typed u _ is).0 $
-    move ! (3 ∷ []) $ pick ! (λ ws. split ! $ move ! (1 ∷ []) $ heard ! _ (λ low. fsplit ! $ fsplit ! $
-    -- [the loan's last value; its borrow; nothing; the result; the token is over; nothing; what the lender keeps]
-    move ! (4 ∷ 6 ∷ 0 ∷ []) $ use3 𝓛 (later (‵ ((mem R).own_at ws.0 b o))) (ref_back 𝓛 R κ γ ws.0 b o) $ await ! tt $
-    nothing ! $ fpack ! (IsLimitOf t ws.0 u) (λ _. ftrue) low $ move ! (1 ∷ 0 ∷ []) $ fjoin ! $
-    fpack ! R.Denot (λ t'. fsep (lies_at R full_share (block_ptr b o) t') (fex (IsLimitOf t t' u) (λ _. ftrue))) ws.0 $
-    returns ! (look_at ! 0 refl) $ free_all ! refl $ keep ! (3 ∷ 0 ∷ []) $
-    suffices ! _ (ends_at 𝓛 f.ended stayed c (y (block_ptr b o)) v u (tt, tt) (tt, tt)) $
-    nothing ! $ nothing ! $ join ! $ nothing ! $ group ! 3 $ done !))))))))))
+    lends 𝓤 𝓛 𝓜 𝓡 0 [] tt the_row (reply 𝓛)
+    (λ κs a t new ws u. IsLimitOf t new u) (code.unfolded 𝓤 𝓛.H 𝓜 𝓡 wired)
+    (λ x. met 𝓤 𝓛 𝓜 𝓡 (code.calls-hull_c::calls::limit 𝓡.env wired) (x, tt))

@@ -1,16 +1,11 @@
 -- `hull_make` meets its contract.
-use Rattle.hull_reply.proofs.Steps.{◌++◌, [], ◌∷◌, refl, proved, full_share, id⊢, ftrue, fact, tables, WpFn, ‵, raw}
-use Rattle.hull_reply.proofs.Steps.{◌⊛◌}
-use Rattle.hull_reply.proofs.Steps.{some, later, prop, at_ret, ◌$◌, ◌∵◌, !, qed, done, move, keep, drop, use1, split}
-use Rattle.hull_reply.proofs.Steps.{join}
-use Rattle.hull_reply.proofs.Steps.{pick, await, regoal, suffices, group, heard, fpack, uint_vals, uint_Tells}
-use Rattle.hull_reply.proofs.Steps.{uint_Makes}
-use Rattle.hull_reply.proofs.Steps.{owned, and_then, no_more, calls_at, framed, triple_of, lasts, Lasts, lands_as, u32}
-use Rattle.hull_reply.proofs.Steps.{w32}
-use Rattle.hull_reply.proofs.Steps.{uint_Lawful, fjoin, enter, of_opd, stop, first, blocks, exec, returns, alloc_all}
-use Rattle.hull_reply.proofs.Steps.{pass_all, free_all, look_at, get, through, sets, env, yes, Ptr, RawPtr, block_ptr}
-use Rattle.hull_reply.proofs.Steps.{lies_at, in_a_block, rawptr_vals, rawptr_Tells, plain, nothing, Stays, walk_of}
-use Rattle.hull_reply.proofs.Steps.{stay_dropped, Goes-dropped, ends_at}
+use Rattle.hull_reply.proofs.Steps.{◌++◌, [], ◌∷◌, refl, proved, full_share, id⊢, ftrue, fact, tables, WpFn, ‵, raw, ◌⊛◌, some, later, prop}
+use Rattle.hull_reply.proofs.Steps.{at_ret, ◌$◌, ◌∵◌, !, qed, done, move, keep, drop, use1, split, join, pick, await, regoal, suffices}
+use Rattle.hull_reply.proofs.Steps.{group, heard, fpack, uint_vals, uint_Tells, uint_Makes, owned, and_then, no_more, calls_at, framed}
+use Rattle.hull_reply.proofs.Steps.{triple_of, lasts, Lasts, lands_as, u32, w32, uint_Lawful, fjoin, enter, of_opd, stop, first, blocks}
+use Rattle.hull_reply.proofs.Steps.{exec, returns, alloc_all, pass_all, free_all, look_at, get, through, sets, env, yes, Ptr, RawPtr}
+use Rattle.hull_reply.proofs.Steps.{block_ptr, lies_at, in_a_block, rawptr_vals, rawptr_Tells, plain, nothing, Stays, walk_of, stay_dropped}
+use Rattle.hull_reply.proofs.Steps.{Goes-dropped, ends_at}
 use Rattle.hull_tree.specs.contracts.sparing_tree.SparingTree.{the_row as R}
 use Rattle.hull_tree.proofs.sparing_tree.SparingTree.TheLaws.{the_row_laws as tree_laws}
 use denote.Laws.{Is, shows}

@@ -4,7 +4,7 @@ ghost use Rattle.lattice.specs.Plane.{IsWithin, widest_side};
 ghost use Rattle.lattice.specs.Vertices.{IsDoubledArea};
 ghost use Rattle.bridge_search.specs.Trees.{first_of, last_of, size_of};
 ghost use Rattle.bridge_search.specs.Leaves.{points_of};
-ghost use Rattle.hull_plain.specs.declared.TheConstants.{POINT_LIMIT};
+ghost use Rattle.hull_set.specs.declared.TheConstants.{POINT_LIMIT};
 ghost use Rattle.hull_questions.specs.Stretches.{IsStretch};
 ghost use Rattle.hull_questions.specs.Walks.{IsFan};
 
@@ -41,7 +41,7 @@ fn fan_of_chain<H: Half>(half: H, apex: Point) -> i128
     fan_of_stretch(half, apex, half.first(), half.last())
 }
 
-/// The doubled area of the hull of a half with at most [`POINT_LIMIT`](hull_plain::POINT_LIMIT) points: the triangles
+/// The doubled area of the hull of a half with at most [`POINT_LIMIT`](hull_set::POINT_LIMIT) points: the triangles
 /// between the first point and each edge. It goes through the forks that [`vertices`](crate::vertices) goes through,
 /// and asks for no memory.
 pub fn area2<H: Half>(half: H) -> u128

@@ -3,7 +3,7 @@ ghost use Rattle.std.specs.Prelude.{◌≡◌, ◌↔◌, IsTrue, IfSome, MatchO
 ghost use Rattle.lattice.specs.Plane as plane;
 ghost use Rattle.bridge_search.specs.Trees.{edge_of, IsAtDepth};
 ghost use Rattle.bridge_search.specs.Leaves.{points_of};
-ghost use Rattle.hull_plain.specs.Tangents.{IsFirstFarthest};
+ghost use Rattle.hull_geometry.specs.Tangents.{IsFirstFarthest};
 ghost use Rattle.hull_questions.specs.Parts.{IsFacing, IsFartherPart, IsOneDown};
 
 use bridge_search::Half;

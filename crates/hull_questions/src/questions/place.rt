@@ -1,10 +1,11 @@
 //! Where a point lies.
 ghost use Rattle.bridge_search.specs.Leaves.{points_of};
-ghost use Rattle.hull_plain.specs.Replies.{LiesAt};
+ghost use Rattle.hull_set.specs.Replies.{LiesAt};
 
-use crate::sights::{Sight, look};
+use crate::sights::look;
 use bridge_search::Half;
-use hull_plain::Place;
+use hull_geometry::Sight;
+use hull_set::Place;
 use lattice::Point;
 
 /// Where `q` lies, seen from the points of a half: by its sides of the lower and the upper edge between whose ends it

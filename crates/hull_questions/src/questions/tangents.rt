@@ -1,17 +1,23 @@
 //! Where the tangents from a point touch a hull.
 ghost use Rattle.std.specs.Prelude.{◌≡◌, ◌↔◌, IsTrue, MatchOption, None, pos, ◌<ℤ◌};
 ghost use Rattle.lattice.specs.Plane as plane;
-ghost use Rattle.lattice.specs.Plane.{IsBefore};
-ghost use Rattle.bridge_search.specs.Trees.{lower_of, first_of, last_of};
+ghost use Rattle.bridge_search.specs.Trees.{lower_of};
 ghost use Rattle.bridge_search.specs.Leaves.{points_of};
-ghost use Rattle.hull_plain.specs.Tangents.{IsLeftTangent, IsRightTangent};
-ghost use Rattle.hull_plain.specs.Replies.{AnswersTangents, reply_to_tangents};
-ghost use Rattle.hull_questions.specs.Parts.{IsLeftPart, IsRightPart};
-ghost use Rattle.hull_questions.specs.Sights.{IsBelow, IsAbove};
+ghost use Rattle.hull_set.specs.Replies.{AnswersTangents, reply_to_tangents};
+ghost use Rattle.hull_questions.specs.Hands.{outermost, IsTangent, IsOnHand, IsBeyond, IsOnChain};
+ghost use Rattle.hull_questions.specs.Parts.{IsTangentPart};
+ghost use Rattle.hull_geometry.specs.Sights.{IsBelow, IsAbove};
 
-use crate::sights::{Sight, look};
+use crate::sights::look;
 use bridge_search::{Half, Turned};
-use lattice::{Point, before, orient};
+use lattice::{Point, Side, before, orient};
+
+/// One of the two tangents from a point, by the hand of one who looks from there.
+#[derive(Clone, Copy)]
+enum Hand {
+    Left,
+    Right,
+}
 
 /// Whether `q` lies left of the line from `a` to `b`.
 fn is_left(a: Point, b: Point, q: Point) -> bool
@@ -20,99 +26,69 @@ fn is_left(a: Point, b: Point, q: Point) -> bool
     orient(a, b, q) > 0
 }
 
-/// The half of `half` that has its left tangent point, seen from `q` below it, or nothing where it is one point: the
-/// right one where `q` stands after the lower bridge and over its line, so that its right end is seen left of all
-/// points of the left half.
-fn left_part<H: Half>(half: H, q: Point) -> Option<H>
-    requires below { IsBelow (points_of (H.tree half)) q }
-    requires after { IsBefore (first_of (H.tree half)) q }
-    ensures { MatchOption result (lower_of (H.tree half) ≡ None) (λ part. IsLeftPart q (H.tree half) (H.tree part)) }
+/// Whether `q` stands beyond the end of a lower bridge on the other hand, and over the bridge's line.
+fn is_beyond(hand: Hand, bridge: (Point, Point), q: Point) -> bool
+    ensures { IsTrue result ↔ IsBeyond hand bridge q }
 {
-    let (a, b) = half.lower()?;
-    if !before(b, q) {
-        return Some(half.left());
+    let (a, b) = bridge;
+    match hand {
+        Hand::Left => before(b, q) && is_left(a, b, q),
+        Hand::Right => before(q, a) && is_left(a, b, q),
     }
-    if !is_left(a, b, q) {
-        return Some(half.left());
-    }
-    Some(half.right())
 }
 
-/// The half of `half` that has its right tangent point, seen from `q` below it, or nothing where it is one point: the
-/// left one where `q` stands before the lower bridge and over its line.
-fn right_part<H: Half>(half: H, q: Point) -> Option<H>
+/// The half of `half` that has its tangent point on this hand, seen from `q` below it, or nothing where it is one point:
+/// the one on the other hand where `q` stands beyond the bridge's end there and over its line, so that this end is seen
+/// farther on this hand than all points of the half here.
+fn tangent_part<H: Half>(hand: Hand, half: H, q: Point) -> Option<H>
     requires below { IsBelow (points_of (H.tree half)) q }
-    requires before { IsBefore q (last_of (H.tree half)) }
-    ensures { MatchOption result (lower_of (H.tree half) ≡ None) (λ part. IsRightPart q (H.tree half) (H.tree part)) }
+    requires inwards { IsOnHand hand (outermost hand (H.tree half)) q }
+    ensures { MatchOption result (lower_of (H.tree half) ≡ None)
+        (λ part. IsTangentPart hand q (H.tree half) (H.tree part)) }
 {
-    let (a, b) = half.lower()?;
-    if !before(q, a) {
-        return Some(half.right());
+    let bridge = half.lower()?;
+    let beyond = is_beyond(hand, bridge, q);
+    match hand {
+        Hand::Left => Some(if beyond { half.right() } else { half.left() }),
+        Hand::Right => Some(if beyond { half.left() } else { half.right() }),
     }
-    if !is_left(a, b, q) {
-        return Some(half.right());
-    }
-    Some(half.left())
 }
 
-/// The left tangent point seen from `q`, which lies below the half and after its first point.
-fn left_from_below<H: Half>(half: H, q: Point) -> Point
+/// The tangent point on this hand seen from `q`, which lies below the half and inwards of its outermost point there.
+fn tangent_from_below<H: Half>(hand: Hand, half: H, q: Point) -> Point
     requires below { IsBelow (points_of (H.tree half)) q }
-    requires after { IsBefore (first_of (H.tree half)) q }
-    ensures { IsLeftTangent (points_of (H.tree half)) q result }
+    requires inwards { IsOnHand hand (outermost hand (H.tree half)) q }
+    ensures { IsTangent hand (points_of (H.tree half)) q result }
 {
     let mut part = half;
-    while let Some(next) = left_part(part, q) {
+    while let Some(next) = tangent_part(hand, part, q) {
         part = next;
     }
     part.first()
 }
 
-/// The right tangent point seen from `q`, which lies below the half and before its last point.
-fn right_from_below<H: Half>(half: H, q: Point) -> Point
-    requires below { IsBelow (points_of (H.tree half)) q }
-    requires before { IsBefore q (last_of (H.tree half)) }
-    ensures { IsRightTangent (points_of (H.tree half)) q result }
+/// The tangent point on this hand seen from `q`, where the tangent touches this chain; on the upper chain it is that
+/// on the lower one after a turn by 180 degrees.
+fn tangent_on<H: Half>(hand: Hand, side: Side, half: H, q: Point) -> Point
+    requires { IsOnChain hand side (H.tree half) q }
+    ensures { IsTangent hand (points_of (H.tree half)) q result }
 {
-    let mut part = half;
-    while let Some(next) = right_part(part, q) {
-        part = next;
+    match side {
+        Side::Lower => tangent_from_below(hand, half, q),
+        Side::Upper => tangent_from_below(hand, Turned::new(half), q.turned()).turned(),
     }
-    part.first()
-}
-
-/// The left tangent point seen from `q`, which lies above the half and before its last point.
-fn left_from_above<H: Half>(half: H, q: Point) -> Point
-    requires above { IsAbove (points_of (H.tree half)) q }
-    requires before { IsBefore q (last_of (H.tree half)) }
-    ensures { IsLeftTangent (points_of (H.tree half)) q result }
-{
-    left_from_below(Turned::new(half), q.turned()).turned()
-}
-
-/// The right tangent point seen from `q`, which lies above the half and after its first point.
-fn right_from_above<H: Half>(half: H, q: Point) -> Point
-    requires above { IsAbove (points_of (H.tree half)) q }
-    requires after { IsBefore (first_of (H.tree half)) q }
-    ensures { IsRightTangent (points_of (H.tree half)) q result }
-{
-    right_from_below(Turned::new(half), q.turned()).turned()
 }
 
 /// The left and the right tangent point seen from `q`, of points in line with `q` the farther one; `None` where the
-/// points cover `q`.
-///
-/// Seen from before all points the left one is on the upper chain and the right one on the lower chain, from below both
-/// are on the lower chain, and so on; each is found by one way down the bridges (Overmars and van Leeuwen, 1981).
+/// points cover `q`. Each is found by one way down the bridges (Overmars and van Leeuwen, 1981).
 pub fn tangents<H: Half>(half: H, q: Point) -> Option<(Point, Point)>
     ensures { AnswersTangents (points_of (H.tree half)) q (reply_to_tangents result) }
 {
-    match look(half, q) {
-        Sight::Before => Some((left_from_above(half, q), right_from_below(half, q))),
-        Sight::After => Some((left_from_below(half, q), right_from_above(half, q))),
-        Sight::Below => Some((left_from_below(half, q), right_from_below(half, q))),
-        Sight::Above => Some((left_from_above(half, q), right_from_above(half, q))),
-        Sight::Touching => None,
-        Sight::Within => None,
-    }
+    let Some((left, right)) = look(half, q).tangent_chains() else {
+        return None;
+    };
+    Some((
+        tangent_on(Hand::Left, left, half, q),
+        tangent_on(Hand::Right, right, half, q),
+    ))
 }

@@ -9,19 +9,11 @@ ghost use Rattle.hull_questions.specs.Walks.{IsListed, upright};
 use crate::stretches::{Course, course_of};
 use bridge_search::{Half, Turned};
 use heap::Heap;
-use lattice::{Point, before};
+use lattice::{Point, Side, before};
 use std::alloc::AllocError;
 
-/// Which chain of a hull the lower chain of a half is.
-#[derive(Clone, Copy)]
-enum Side {
-    /// The lower one.
-    Lower,
-    /// The upper one: the half is turned by 180 degrees.
-    Upper,
-}
-
-/// A corner of the half's lower chain as the corner of the hull that it is.
+/// A corner of a half's lower chain as the corner of the hull that it is, whose upper chain is the lower one of the half
+/// turned by 180 degrees.
 fn seen_from(side: Side, corner: Point) -> Point
     ensures { result ≡ upright side corner }
 {

@@ -7,7 +7,7 @@ ghost use Rattle.hull_text.specs.ScriptValue.{workers_in};
 
 use super::item::Item;
 use hull_book::{Phase, Script};
-use hull_plain::Call;
+use hull_set::Call;
 use std::alloc::{AllocError, Global};
 
 /// The calls of one worker, in order.

@@ -7,7 +7,7 @@ use super::field::{Rest, direction_of, next_field, point_of};
 use crate::fault::FaultKind;
 use crate::version::Version;
 use crate::words::CallWord;
-use hull_plain::Call;
+use hull_set::Call;
 
 /// The call with this word.
 #[inline(always)]

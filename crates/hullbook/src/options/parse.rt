@@ -1,25 +1,17 @@
-ghost use Rattle.std.specs.Prelude.{◌≡◌, ◌≤◌, ◌↔◌, IfOk, IfSome, IsTrue, string_bytes};
-ghost use Rattle.hullbook.specs.Tasks.{AreStatedWithinLimits, AreWithinLimits, IsWithinLimits, IsOneOf, NamesWords};
-ghost use Rattle.hullbook.specs.Tasks.{texts_of};
+ghost use Rattle.std.specs.Prelude.{◌≤◌, ◌↔◌, IfOk, IfSome, IsTrue, string_bytes};
 ghost use Rattle.std.specs.List.{All};
+ghost use Rattle.hull_program.specs.Words.{IsOneOf, texts_of};
+ghost use Rattle.hullbook.specs.Tasks.{AreStatedWithinLimits, AreWithinLimits, IsWithinLimits, NamesWords};
 
-use super::{OptionFault, Options, Stated, Task};
-use clap::error::ErrorKind;
-use clap::{Arg, ArgAction, ArgMatches, Command, Error};
+use super::{Options, Stated, Task};
+use clap::{Arg, ArgAction, ArgMatches, Command};
 use hull_book::CAPACITY_LIMIT;
-use hull_plain::POINT_LIMIT;
+use hull_program::{Refusal, path_of, refusal_of, word_of};
+use hull_set::POINT_LIMIT;
 use std::alloc::{AllocError, Global};
 
 /// The capacity of the journal where none is given.
 const DEFAULT_CAPACITY: u32 = 65536;
-
-fn fault_of(error: &Error) -> OptionFault {
-    if error.kind() == ErrorKind::OutOfMemory {
-        OptionFault::Memory
-    } else {
-        OptionFault::Usage
-    }
-}
 
 /// An option that takes a value.
 fn valued<'a>(alloc: Global, name: &'a str) -> Arg<'a> {
@@ -138,41 +130,13 @@ fn options_of(stated: &Stated) -> Options
     }
 }
 
-/// This path, as it was written: it is found among the words, so that the contract can say so.
-fn word_of(alloc: Global, path: &str, words: &[&str]) -> Result<String, OptionFault>
-    ensures word { IfOk result (λ word. IsOneOf (texts_of words.now) (string_bytes word)) }
-    ensures same { IfOk result (λ word. string_bytes word ≡ path.now) }
-{
-    for word in words {
-        if *word == path {
-            return String::from_str(alloc, word).map_err(|_| OptionFault::Memory);
-        }
-    }
-    Err(OptionFault::Usage)
-}
-
-/// The path that was given under this id, as it was written.
-fn path_of(
-    alloc: Global,
-    matches: &ArgMatches<'_>,
-    id: &str,
-    words: &[&str],
-) -> Result<String, OptionFault>
-    ensures { IfOk result (λ path. IsOneOf (texts_of words.now) (string_bytes path)) }
-{
-    let Some(path) = matches.get_str(id) else {
-        return Err(OptionFault::Usage);
-    };
-    word_of(alloc, path, words)
-}
-
 /// What the words behind `run` ask for.
-fn run_task(alloc: Global, given: &ArgMatches<'_>, words: &[&str]) -> Result<Task, OptionFault>
+fn run_task(alloc: Global, given: &ArgMatches<'_>, words: &[&str]) -> Result<Task, Refusal>
     ensures limits { IfOk result IsWithinLimits }
     ensures paths { IfOk result (NamesWords (texts_of words.now)) }
 {
     let Some(stated) = stated_of(given) else {
-        return Err(OptionFault::Usage);
+        return Err(Refusal::Usage);
     };
     let script = path_of(alloc, given, "script", words)?;
     if !given.contains_id("after") {
@@ -183,33 +147,33 @@ fn run_task(alloc: Global, given: &ArgMatches<'_>, words: &[&str]) -> Result<Tas
 }
 
 /// The paths in their order, as they were written.
-fn words_of(alloc: Global, paths: &[&str], words: &[&str]) -> Result<Vec<String>, OptionFault>
+fn words_of(alloc: Global, paths: &[&str], words: &[&str]) -> Result<Vec<String>, Refusal>
     ensures { IfOk result (λ found. All (λ word. IsOneOf (texts_of words.now) (string_bytes word)) found.items) }
 {
     let mut found = Vec::new(alloc);
     for path in paths {
         let word = word_of(alloc, path, words)?;
         if found.push(word).is_err() {
-            return Err(OptionFault::Memory);
+            return Err(Refusal::Memory);
         }
     }
     Ok(found)
 }
 
 /// What the words behind `check` ask for. Of one path a wrong line can be explained.
-fn check_task(alloc: Global, given: &ArgMatches<'_>, words: &[&str]) -> Result<Task, OptionFault>
+fn check_task(alloc: Global, given: &ArgMatches<'_>, words: &[&str]) -> Result<Task, Refusal>
     ensures limits { IfOk result IsWithinLimits }
     ensures paths { IfOk result (NamesWords (texts_of words.now)) }
 {
     let Some(paths) = given.get_strs("part") else {
-        return Err(OptionFault::Usage);
+        return Err(Refusal::Usage);
     };
     let explains = given.get_flag("explain");
     if let [path] = paths {
         return Ok(Task::Check(word_of(alloc, path, words)?, explains));
     }
     if explains {
-        return Err(OptionFault::Usage);
+        return Err(Refusal::Usage);
     }
     Ok(Task::CheckParts(words_of(alloc, paths, words)?))
 }
@@ -219,22 +183,22 @@ fn check_task(alloc: Global, given: &ArgMatches<'_>, words: &[&str]) -> Result<T
 ///
 /// Each path is one of the words, as it was written. `Usage` for any other words and for a number outside its limits; a
 /// question for help counts as one. `Memory` where memory was refused.
-pub fn options(alloc: Global, words: &[&str]) -> Result<Task, OptionFault>
+pub fn options(alloc: Global, words: &[&str]) -> Result<Task, Refusal>
     ensures limits { IfOk result IsWithinLimits }
     ensures paths { IfOk result (NamesWords (texts_of words.now)) }
 {
     let Ok(command) = command(alloc) else {
-        return Err(OptionFault::Memory);
+        return Err(Refusal::Memory);
     };
     let matches = match command.try_get_matches_from(words) {
         Ok(matches) => matches,
-        Err(error) => return Err(fault_of(&error)),
+        Err(error) => return Err(refusal_of(&error)),
     };
     match matches.subcommand() {
         Some(("run", given)) => run_task(alloc, given, words),
         Some(("check", given)) => check_task(alloc, given, words),
         Some(("upgrade", given)) => Ok(Task::Upgrade(path_of(alloc, given, "journal", words)?)),
         Some(("compact", given)) => Ok(Task::Compact(path_of(alloc, given, "journal", words)?)),
-        _ => Err(OptionFault::Usage),
+        _ => Err(Refusal::Usage),
     }
 }

@@ -1,8 +1,9 @@
 //! Memory that is refused. `rt try --test --fail-alloc N` refuses the Nth allocation of each test.
 use super::{FIVE, FIVE_REPORT, JOURNAL, PLAIN, Silence, judges, runs_to};
 use crate::check::check_text;
-use crate::options::{OptionFault, options};
+use crate::options::options;
 use crate::run::{RunFault, run};
+use hull_program::Refusal;
 use hull_text::TextFault;
 use std::alloc::Global;
 use std::process::Abort;
@@ -117,7 +118,7 @@ fn refused_memory_options(rt: HostRuntime) -> Result<(), Fail> {
     match options(rt.alloc(), &words) {
         Ok(_) => {}
         Err(fault) => {
-            assert_eq!(rt; fault, OptionFault::Memory);
+            assert_eq!(rt; fault, Refusal::Memory);
             assert!(rt; options(rt.alloc(), &words).is_ok());
         }
     }

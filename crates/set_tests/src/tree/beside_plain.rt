@@ -1,6 +1,7 @@
 //! The tree and the plain set under the same changes and questions.
 use super::at;
-use hull_plain::{HullSet, POINT_LIMIT, PlainSet};
+use hull_plain::PlainSet;
+use hull_set::{HullSet, POINT_LIMIT};
 use hull_tree::{HullTree, Node};
 use lattice::{Direction, Point, before};
 use std::alloc::{AllocError, Global};

@@ -2,7 +2,8 @@
 use super::beside_plain::{Numbers, centred};
 use super::sparing::Sets;
 use super::{add_again, at};
-use hull_plain::{AddReply, HullSet, MULTIPLICITY_LIMIT, NoMemory, POINT_LIMIT, PlainSet};
+use hull_plain::PlainSet;
+use hull_set::{AddReply, HullSet, MULTIPLICITY_LIMIT, NoMemory, POINT_LIMIT};
 use hull_tree::{HullTree, LoadFault, SparingTree};
 use lattice::{Direction, Point, before};
 use std::alloc::{AllocError, Global};

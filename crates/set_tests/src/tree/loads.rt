@@ -1,6 +1,6 @@
 //! Trees that are loaded at once.
 use super::at;
-use hull_plain::{AddReply, HullSet, MULTIPLICITY_LIMIT, POINT_LIMIT, Place};
+use hull_set::{AddReply, HullSet, MULTIPLICITY_LIMIT, POINT_LIMIT, Place};
 use hull_tree::{HullTree, LoadFault, SparingTree, entries_of};
 use lattice::{Direction, Point};
 use std::alloc::{AllocError, Global};
@@ -86,16 +86,16 @@ fn refused_load(rt: HostRuntime) -> Result<(), Fail> {
     Ok(())
 }
 
-/// The point of a grid of 1024 by 1024 with this number, row by row.
+/// The point of a grid of 64 by 64 with this number, row by row.
 fn on_grid(rt: &impl Abort, number: u64) -> Point {
-    at(rt, (number % 1024) as i64, (number / 1024 % 1024) as i64)
+    at(rt, (number % 64) as i64, (number / 64 % 64) as i64)
 }
 
 /// All points of that grid, in an order that is not sorted.
 fn whole_grid(rt: &impl Abort, alloc: Global) -> Result<Vec<Point>, AllocError> {
-    let mut points = Vec::with_capacity(alloc, 1048576)?;
-    for k in 0u64..1048576 {
-        points.push(on_grid(rt, k.wrapping_mul(611953) % 1048576))?;
+    let mut points = Vec::with_capacity(alloc, 4096)?;
+    for k in 0u64..4096 {
+        points.push(on_grid(rt, k.wrapping_mul(1953) % 4096))?;
     }
     Ok(points)
 }
@@ -106,18 +106,19 @@ fn seen_of(
     tree: &SparingTree,
     outwards: Direction,
 ) -> (Place, Place, Option<Point>) {
-    let (inner, below) = (at(rt, 512, 512), at(rt, 512, 0));
+    let (inner, below) = (at(rt, 32, 32), at(rt, 32, 0));
     (tree.place(inner), tree.place(below), tree.extreme(outwards))
 }
 
-/// A full set is loaded in an order that is not sorted, asked, and changed at its corners.
+/// A full set is loaded in an order that is not sorted, asked, and changed at its corners. As many points as the greatest limit
+/// allows are loaded by tests/embed.
 #[test]
 fn as_many_points_as_there_may_be(rt: HostRuntime) -> Result<(), Fail> {
-    let (first, last) = (at(&rt, 0, 0), at(&rt, 1023, 1023));
-    let corners = [first, at(&rt, 1023, 0), last, at(&rt, 0, 1023)];
-    let (new, outwards) = (at(&rt, 2000, 2000), Direction::new(1, 1)?);
+    let (first, last) = (at(&rt, 0, 0), at(&rt, 63, 63));
+    let corners = [first, at(&rt, 63, 0), last, at(&rt, 0, 63)];
+    let (new, outwards) = (at(&rt, 99, 99), Direction::new(1, 1)?);
     let points = whole_grid(&rt, rt.alloc())?;
-    let mut tree = SparingTree::from_points(rt.alloc(), POINT_LIMIT, &points)?;
+    let mut tree = SparingTree::from_points(rt.alloc(), 4096, &points)?;
     let (count, area) = (tree.count(), tree.area2());
     let is_square = has_vertices(&tree, &corners);
     let seen = seen_of(&rt, &tree, outwards);
@@ -126,9 +127,9 @@ fn as_many_points_as_there_may_be(rt: HostRuntime) -> Result<(), Fail> {
     let less = tree.area2();
     let (added, again) = (tree.add(first), tree.area2());
     drop(tree);
-    assert!(rt; count == 1048576 && is_square);
+    assert!(rt; count == 4096 && is_square);
     assert!(rt; seen == (Place::Inside, Place::On, Some(last)));
     assert!(rt; (refused, added) == (AddReply::TooMany, AddReply::Added));
-    assert!(rt; [area, less, again] == [2093058, 2093057, 2093058]);
+    assert!(rt; [area, less, again] == [7938, 7937, 7938]);
     Ok(())
 }

@@ -2,7 +2,8 @@
 use super::at;
 use super::beside_plain::{Numbers, centred};
 use super::extends::are_entries;
-use hull_plain::{AddReply, HullSet, NoMemory, POINT_LIMIT, PlainSet, RemoveReply};
+use hull_plain::PlainSet;
+use hull_set::{AddReply, HullSet, NoMemory, POINT_LIMIT, RemoveReply};
 use hull_tree::{HullTree, LoadFault, SparingTree};
 use lattice::{Direction, Point};
 use std::alloc::Global;

@@ -5,7 +5,7 @@ ghost use Rattle.lattice.specs.Plane.{IsWithin, widest_side};
 
 use super::at;
 use bridge_search::{Counted, Half, both_bridges, depth_is_unique, upper_bridge_counted};
-use hull_plain::{AddReply, HullSet, POINT_LIMIT, RemoveReply};
+use hull_set::{AddReply, HullSet, POINT_LIMIT, RemoveReply};
 use hull_tree::{HullTree, path_cost_is_unique};
 use lattice::{Direction, Point, before};
 use std::alloc::Global;
@@ -154,15 +154,15 @@ fn depth_of_the_farthest(rt: HostRuntime) -> Result<(), Fail> {
     Ok(())
 }
 
-/// The point of this number in a grid of 128 columns, row by row.
+/// The point of this number in a grid of 32 columns, row by row.
 fn in_rows(rt: &impl Abort, number: u32) -> Point {
-    at(rt, (number % 128) as i64, (number / 128) as i64)
+    at(rt, (number % 32) as i64, (number / 32) as i64)
 }
 
-/// Whether 16384 points of the grid are added in 10000 turns each at most.
+/// Whether 2048 points of the grid are added in 10000 turns each at most.
 fn adds_rows(rt: &impl Abort, tree: &mut HullTree) -> bool {
     let mut all = true;
-    for k in 0u32..16384 {
+    for k in 0u32..2048 {
         let (reply, turns) = tree.add_counted(in_rows(rt, k));
         all = reply == AddReply::Added && turns <= 10000 && all;
     }
@@ -172,14 +172,14 @@ fn adds_rows(rt: &impl Abort, tree: &mut HullTree) -> bool {
 /// Whether they are removed so.
 fn removes_rows(rt: &impl Abort, tree: &mut HullTree) -> bool {
     let mut all = true;
-    for k in 0u32..16384 {
+    for k in 0u32..2048 {
         let (reply, turns) = tree.remove_counted(in_rows(rt, k));
         all = reply == RemoveReply::Removed && turns <= 10000 && all;
     }
     all
 }
 
-/// 16384 points of a grid, in rows, are added and taken.
+/// 2048 points of a grid, in rows, are added and taken.
 #[test]
 fn turns_on_a_grid(rt: HostRuntime) {
     let mut tree = HullTree::new(rt.alloc(), POINT_LIMIT);
@@ -188,7 +188,7 @@ fn turns_on_a_grid(rt: HostRuntime) {
     let removed = removes_rows(&rt, &mut tree);
     let left = tree.count();
     drop(tree);
-    assert!(rt; added && removed && [count, left] == [16384, 0]);
+    assert!(rt; added && removed && [count, left] == [2048, 0]);
 }
 
 /// A half that counts in a cell how often it was asked for one of its two halves.

@@ -1,5 +1,5 @@
 -- What the outline answers is allowed for each set with its corners.
-use Rattle.hull_plain.specs.declared.reply.Reply.TheVariants.{DoubledArea}
+use Rattle.hull_set.specs.declared.reply.Reply.TheVariants.{DoubledArea}
 use Rattle.hull_c.proofs.outline.area.Goals as goal
 
 pub returns : goal.returns

@@ -1,7 +1,7 @@
 -- What the outline answers is allowed for each set with its corners.
 use Rattle.std.proofs.Common.{subst}
 use Rattle.hull_reply.specs.Told.{Tells}
-use Rattle.hull_plain.specs.Replies.{reply_to_extreme}
+use Rattle.hull_set.specs.Replies.{reply_to_extreme}
 use Rattle.hull_c.proofs.outline.extreme.Goals as goal
 
 pub returns : goal.returns

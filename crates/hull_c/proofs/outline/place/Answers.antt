@@ -1,5 +1,5 @@
 -- What the outline answers is allowed for each set with its corners.
-use Rattle.hull_plain.specs.declared.reply.Reply.TheVariants.{Lies}
+use Rattle.hull_set.specs.declared.reply.Reply.TheVariants.{Lies}
 use Rattle.hull_c.proofs.outline.place.Goals as goal
 
 pub returns : goal.returns

@@ -1,16 +1,9 @@
 -- The parts in a row are the picture.
-use Rattle.std.proofs.Common.{subst, List, ℕ, append-nil}
-use Rattle.text_io.specs.Write.{WritesText}
+use Rattle.text_io.proofs.Chains.{◌▸◌, written_whole}
 use Rattle.hull_draw.specs.Pictures.{picture_text}
 use Rattle.hull_draw.proofs.picture.write_picture.Goals as goal
 
 pub returns : goal.returns
 unfolding picture_text
-returns g c =
-    let a = g.W.Write.contents c.args.out.now in
-    let n = g.W.Sink.failed c.args.out.now in
-    subst (λ (w : List ℕ). WritesText a (g.W.Write.contents c.flush_after.new.out) n
-    (g.W.Sink.failed c.flush_after.new.out) c.flush_after.result w)
-    (append-nil _)
-    (c.flush_after.ensures.wrote a n _ (c.put_after-done.ensures.wrote a n _ (c.legend_after-done.ensures.wrote a n _
-    (c.shown_after-done.ensures.wrote a n _ c.put_head-done.ensures))))
+returns g c = written_whole (c.head_after-done.ensures ▸ c.shown_after-done.ensures ▸ c.legend_after-done.ensures
+    ▸ c.put_after-done.ensures.wrote) c.flush_after.ensures.wrote

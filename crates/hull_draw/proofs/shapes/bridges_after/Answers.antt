@@ -1,13 +1,13 @@
 -- The item's text stands before those of the items behind it.
-use Rattle.hull_text.proofs.Chains.{chained_end, chained_more}
+use Rattle.text_io.proofs.Chains.{chained_end, chained_more}
 use Rattle.hull_draw.proofs.Rows.{texts_cons, texts_none}
 use Rattle.hull_draw.proofs.shapes.bridges_after.Goals as goal
 
 pub loop-bridge-preserved : goal.loop-bridge-preserved
-loop-bridge-preserved g c = chained_more _ _ _ _ _ _ _ _ _ _ _ _ _ c.loop-bridge.invariant
+loop-bridge-preserved g c = chained_more c.loop-bridge.invariant
     (texts_cons _ c.in-Some.bridge.now c.in-Some.after.now _ c.in-Some.ensures.cases.0)
-    c.bridge_after-done.ensures.wrote c.bridge_after-done.ensures.kept c.bridge_after-done.ensures.was
+    c.bridge_after-done.ensures
 
-pub returns-clause-wrote : goal.returns-clause-wrote
-returns-clause-wrote g c =
+pub returns : goal.returns
+returns g c =
     chained_end _ _ _ _ _ _ _ _ c.loop-bridge.invariant (texts_none _ _ c.in_default.ensures.cases)

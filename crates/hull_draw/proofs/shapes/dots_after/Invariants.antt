@@ -1,14 +1,13 @@
 -- The text of the items so far went out.
 use Rattle.std.proofs.Common.{length}
-use Rattle.hull_text.proofs.Chains.{Chained}
+use Rattle.text_io.proofs.Chains.{Chained}
 use Rattle.hull_draw.specs.Shapes.{dot_text}
 use Rattle.hull_draw.specs.Texts.{texts}
 use Rattle.hull_draw.proofs.shapes.dots_after.Given as goal
 
 abbrev pub invariant-loop-point : goal.invariant-loop-point
 invariant-loop-point g l =
-    Chained l.fn.done l.done (g.W.Write.contents l.fn.out) (g.W.Write.contents l.out) (g.W.Sink.failed l.fn.out)
-    (g.W.Sink.failed l.out) (texts (dot_text l.frame) l.points) (texts (dot_text l.frame) l.rest)
+    Chained g.W.Write.contents g.W.Sink.failed l.fn.done l.done l.fn.out l.out (texts (dot_text l.frame) l.points) (texts (dot_text l.frame) l.rest)
 
 abbrev pub decreases-loop-point : goal.decreases-loop-point
 decreases-loop-point g l = length l.rest

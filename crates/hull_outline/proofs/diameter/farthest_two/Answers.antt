@@ -1,16 +1,16 @@
 -- the first corner alone; then each with the one opposite of its edge
-use Rattle.std.proofs.Common.{ℕ, ◌+◌, ℤ, ◌≤ℤ◌, inl, inr, sym, subst, List, arith}
+use Rattle.std.proofs.Common.{ℕ, ◌+◌, ◌≤ℤ◌, inl, inr, sym, subst, List, arith}
 use Rattle.std.proofs.lemmas.Bool.{cases_lt}
-use Rattle.std.proofs.lemmas.Int.{ints}
 use Rattle.std.specs.List.{Contains}
 use Rattle.lattice.specs.Plane.{Pair, distance_squared}
-use Rattle.hull_plain.specs.Tangents.{IsFirstFarthest}
+use Rattle.hull_geometry.specs.Tangents.{IsFirstFarthest}
 use Rattle.hull_outline.specs.Extents.{IsDiameterOf, IsFarther}
 use Rattle.hull_outline.specs.Rounds.{corner}
 use Rattle.hull_outline.specs.Steps.{left_of}
 use Rattle.hull_outline.proofs.Corners.{corner_extreme}
 use Rattle.hull_outline.proofs.Diameters.{diameter_of}
 use Rattle.hull_outline.proofs.diameter.farthest_two.Goals as goal
+use Rattle.lattice.proofs.Numbers.{le_itself, le_trans}
 
 pub loop-i-init : goal.loop-i-init
 loop-i-init c = λ S o.
@@ -19,10 +19,6 @@ loop-i-init c = λ S o.
       subst (Contains S) (sym c.corner_at-2.ensures) m,
       λ i l. absurd (omega (arith, l)),
     )
-
--- no longer than what is no longer
-up : (a b c : ℤ) → a ≤ℤ b → b ≤ℤ c → a ≤ℤ c
-up a b c h k = omega (arith, ints)
 
 -- one pair more
 more : (S V : List Pair) (i : ℕ) (best r : Pair × Pair) (f : Pair) → Contains S (corner V i) → Contains S f
@@ -45,15 +41,12 @@ more S V i best r f mi mf far h (inr (e, l)) = (
   λ k lk. subst (λ (z : Pair × Pair). (g : Pair) × IsFirstFarthest S (left_of (corner V k) (corner V (k + 1))) g
       × (distance_squared (corner V k) g ≤ℤ distance_squared z.0 z.1)) (sym e)
       (elim (cases_lt k i) [
-        | inl j ↦ let b = h.2 k j in (b.0, b.1, up _ _ _ b.2 l)
+        | inl j ↦ let b = h.2 k j in (b.0, b.1, le_trans _ _ _ b.2 l)
         | inr j ↦ subst (λ (n : ℕ). (g : Pair) × IsFirstFarthest S (left_of (corner V n) (corner V (n + 1))) g
             × (distance_squared (corner V n) g ≤ℤ distance_squared (corner V i) f)) (omega (arith, j, lk))
-            (f, far, same _)
+            (f, far, le_itself _)
       ]),
 )
-  where
-    same : (x : ℤ) → x ≤ℤ x
-    same x = omega (arith, ints)
 
 pub loop-i-preserved : goal.loop-i-preserved
 loop-i-preserved c = λ S o.

@@ -1,7 +1,7 @@
 -- the edge goes between the two corners
 use Rattle.std.proofs.Common.{ap, ◌∙◌, subst}
 use Rattle.lattice.specs.Plane.{Pair}
-use Rattle.hull_plain.specs.Tangents.{IsFirstFarthest}
+use Rattle.hull_geometry.specs.Tangents.{IsFirstFarthest}
 use Rattle.hull_outline.specs.Rounds.{corner}
 use Rattle.hull_outline.specs.Steps.{left_of}
 use Rattle.hull_outline.proofs.diameter.opposite.Goals as goal

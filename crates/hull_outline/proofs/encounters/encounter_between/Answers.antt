@@ -1,9 +1,9 @@
 -- the sides of the two points tell how the set stands to the segment
-use Rattle.std.proofs.Common.{◌≡◌, ℤ, pos, neg_ℤ, ◌≤ℤ◌, ◌<ℤ◌, inl, inr, arith}
+use Rattle.std.proofs.Common.{◌≡◌, ℤ, pos, ◌≤ℤ◌, ◌<ℤ◌, inl, inr, arith}
 use Rattle.std.proofs.lemmas.Int.{ints}
 use Rattle.lattice.specs.Plane.{Pair, orient}
 use Rattle.lattice.specs.Signs.{le_or_lt}
-use Rattle.hull_plain.proofs.Orientation.{orient_other}
+use Rattle.hull_geometry.proofs.Orientation.{orient_other}
 use Rattle.hull_outline.proofs.Shields.{side_back, shielded_across}
 use Rattle.hull_outline.proofs.Tests.{passed, failed}
 use Rattle.hull_outline.proofs.encounters.encounter_between.Goals as goal
@@ -12,11 +12,9 @@ use Rattle.hull_outline.proofs.encounters.encounter_between.Goals as goal
 on_line : (a b t : Pair) → ¬ (pos 0 <ℤ orient b a t) → ¬ (pos 0 <ℤ orient a b t) → orient a b t ≡ pos 0
 on_line a b t m n = elim (le_or_lt (orient a b t) (pos 0)) [
   | inr h ↦ absurd (n h)
-  | inl h ↦ elim (le_or_lt (orient b a t) (pos 0)) [ inr k ↦ absurd (m k) | inl k ↦ both _ _ (orient_other a b t) h k ]
+  | inl h ↦ elim (le_or_lt (orient b a t) (pos 0))
+      [ inr k ↦ absurd (m k) | inl k ↦ (omega (arith, ints, orient_other a b t)) ]
 ]
-  where
-    both : (x y : ℤ) → y ≡ neg_ℤ x → x ≤ℤ pos 0 → y ≤ℤ pos 0 → x ≡ pos 0
-    both x y e h k = omega (arith, ints)
 
 -- one that is not above 0
 not_above : (x : ℤ) → ¬ (pos 0 <ℤ x) → x ≤ℤ pos 0

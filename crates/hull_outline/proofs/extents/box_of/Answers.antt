@@ -1,7 +1,7 @@
 -- the first corner, the last, the lowest and the highest make the box
 use Rattle.std.proofs.Common.{subst}
 use Rattle.lattice.specs.Plane.{Pair}
-use Rattle.hull_plain.specs.Tangents.{IsFirstFarthest}
+use Rattle.hull_geometry.specs.Tangents.{IsFirstFarthest}
 use Rattle.hull_outline.proofs.Boxed.{boxed}
 use Rattle.hull_outline.proofs.extents.box_of.Goals as goal
 

@@ -1,6 +1,6 @@
 -- the bisection found a corner up to which the upper chain does not fall, and from which it does
 use Rattle.std.proofs.Common.{rules, of_calls, sym, subst}
-use Rattle.hull_plain.specs.Tangents.{IsFirstFarthest}
+use Rattle.hull_geometry.specs.Tangents.{IsFirstFarthest}
 use Rattle.hull_outline.proofs.FarthestOf as of
 use Rattle.hull_outline.proofs.extreme.farthest_above.Goals as goal
 

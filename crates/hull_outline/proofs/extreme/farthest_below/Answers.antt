@@ -1,6 +1,6 @@
 -- the bisection found a corner up to which the lower chain rises, and from which it does not
 use Rattle.std.proofs.Common.{◌≡◌, rules, of_calls, arith, sym, subst}
-use Rattle.hull_plain.specs.Tangents.{IsFirstFarthest}
+use Rattle.hull_geometry.specs.Tangents.{IsFirstFarthest}
 use Rattle.hull_outline.specs.Rounds.{corner}
 use Rattle.hull_outline.proofs.Corners.{read_corner}
 use Rattle.hull_outline.proofs.FarthestOf as of

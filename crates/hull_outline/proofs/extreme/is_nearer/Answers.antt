@@ -1,5 +1,5 @@
 -- products of directions and points fit 128 bits, so comparing them compares the distances
-use Rattle.hull_plain.proofs.Comparisons.{fits_side, less_test}
+use Rattle.hull_geometry.proofs.Comparisons.{fits_side, less_test}
 use Rattle.hull_outline.proofs.extreme.is_nearer.Goals as goal
 
 pub returns : goal.returns

@@ -1,6 +1,6 @@
 -- a short list is the vertex list of itself; of a longer one it was tested that it is a round
 use Rattle.std.proofs.Common.{arith}
-use Rattle.hull_plain.proofs.Rounding.{small_list}
+use Rattle.hull_geometry.proofs.Rounding.{small_list}
 use Rattle.hull_outline.proofs.Made.{round_is_outline}
 use Rattle.hull_outline.proofs.rounds.last_of.Goals as goal
 

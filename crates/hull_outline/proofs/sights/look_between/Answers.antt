@@ -4,7 +4,9 @@ use Rattle.std.proofs.lemmas.Int.{ints}
 use mir.Syntax.{w128}
 use Rattle.lattice.specs.Plane.{Pair, orient}
 use Rattle.lattice.proofs.Casts.{cast_side}
-use Rattle.hull_outline.proofs.EdgesAt.{after_start, touching_start, seen_by}
+use Rattle.hull_geometry.proofs.EdgesAt.{touching_start, seen_by}
+use Rattle.hull_outline.specs.Rounds.{corner}
+use Rattle.hull_outline.proofs.EdgesAt.{after_start}
 use Rattle.hull_outline.proofs.Tests.{passed, failed}
 use Rattle.hull_outline.proofs.sights.look_between.Goals as goal
 
@@ -40,7 +42,7 @@ returns c = λ S o.
     cast_side _ c.orient-lower.ensures.size ∙ c.orient-lower.ensures.value in
     let high : to_z w128 (of_z w128 c.orient.result) ≡ orient f.0 f.1 c.args.q =
     cast_side _ c.orient.ensures.size ∙ c.orient.ensures.value in
-    seen_by S c.args.corners.now c.args.last c.args.q e f c.sight_by.result (
+    seen_by (corner c.args.corners.now 0) (corner c.args.corners.now c.args.last) S c.args.q e f c.sight_by.result (
       after_start c.args.corners.now c.args.last c.args.q e c.requires.parted c.requires.some
           c.lower_edge_at-edge.ensures (passed c.before-2.result _ c.if-not-before.false c.before-2.ensures),
       c.requires.to,

@@ -1,7 +1,7 @@
 -- a squared distance is not below 0
 use Rattle.std.proofs.Common.{◌∙◌, ℤ, pos, ◌≤ℤ◌, subst, sym}
 use Rattle.lattice.proofs.Casts.{cast_side}
-use Rattle.hull_outline.proofs.Diameters.{distance_nn}
+use Rattle.hull_outline.proofs.Distances.{distance_nn}
 use Rattle.hull_outline.proofs.strips.length_of.Goals as goal
 
 pub natural-requires-clause-above : goal.natural-requires-clause-above

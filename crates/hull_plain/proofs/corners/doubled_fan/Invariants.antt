@@ -2,7 +2,7 @@
 use Rattle.std.proofs.Common.{◌≡◌, pos, ◌+ℤ◌, ◌≤◌, ◌<◌, ◌-◌, ◌*◌, drop}
 use Rattle.lattice.specs.Plane.{widest_side}
 use Rattle.hull_plain.specs.Monotone.{fan_from, fan_of}
-use Rattle.hull_plain.specs.Positions.{point_at}
+use Rattle.hull_geometry.specs.Positions.{point_at}
 use Rattle.hull_plain.proofs.corners.doubled_fan.Given as goal
 
 abbrev pub invariant-loop-i : goal.invariant-loop-i

@@ -3,10 +3,10 @@ use Rattle.std.proofs.Common.{◌≡◌, ◌++◌, ◌∷◌, [], sym, ap, ◌�
 use Rattle.std.proofs.lemmas.Bool.{cases_lt}
 use Rattle.lattice.specs.Plane.{Pair}
 use Rattle.lattice.specs.Vertices.{IsVertexList}
-use Rattle.hull_plain.specs.Positions.{point_at, origin}
-use Rattle.hull_plain.proofs.PointLists.{append_none, append_twice, get_or_free}
+use Rattle.hull_geometry.specs.Positions.{point_at, origin}
+use Rattle.hull_geometry.proofs.PointLists.{append_none, append_twice, get_or_free}
 use Rattle.hull_plain.proofs.TwoChains.{few_vertices, back_more, back_done}
-use Rattle.hull_plain.proofs.VertexLists.{end_push}
+use Rattle.hull_geometry.proofs.VertexLists.{end_push}
 use Rattle.hull_plain.proofs.corners.vertices_of.Goals as goal
 
 pub loop-i-preserved : goal.loop-i-preserved

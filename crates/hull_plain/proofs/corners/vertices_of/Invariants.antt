@@ -1,10 +1,10 @@
 -- behind the lower chain stand the points of the upper one from its end back to the place before `i`, but for the end
 use Rattle.std.proofs.Common.{◌≡◌, ◌<◌, ◌≤◌, ◌-◌, ◌++◌, [], List, length}
 use Rattle.lattice.specs.Plane.{Pair}
-use Rattle.hull_plain.specs.Edges.{IsUpperEdge, IsChain, end_of}
+use Rattle.hull_geometry.specs.Edges.{IsUpperEdge, IsChain, end_of}
 use Rattle.hull_plain.specs.Monotone.{IsChainOf}
-use Rattle.hull_plain.specs.Positions.{point_at}
-use Rattle.hull_plain.specs.declared.monotone.Side.TheVariants.{Upper}
+use Rattle.hull_geometry.specs.Positions.{point_at}
+use Rattle.lattice.specs.declared.side.Side.TheVariants.{Upper}
 use Rattle.hull_plain.proofs.corners.vertices_of.Given as goal
 
 abbrev pub invariant-loop-i : goal.invariant-loop-i

@@ -1,7 +1,7 @@
 -- the bisection found a point up to which the chain rises, and from which it does not
 use Rattle.std.proofs.Common.{rules, of_calls, ◌∙◌}
 use Rattle.hull_plain.proofs.Farthest.{farthest_found}
-use Rattle.hull_plain.proofs.PointLists.{get_or_free}
+use Rattle.hull_geometry.proofs.PointLists.{get_or_free}
 use Rattle.hull_plain.proofs.extremes.farthest.Goals as goal
 
 pub returns : goal.returns

@@ -10,7 +10,7 @@ use Rattle.hull_plain.specs.Monotone.{IsFringeOf}
 use Rattle.hull_plain.specs.declared.draft.Draft.{Draft}
 use Rattle.hull_plain.proofs.Drafts.{started, pushed, as_roomy}
 use Rattle.hull_plain.proofs.Mended.{put_on_same, put_on_all}
-use Rattle.hull_plain.proofs.PointLists.{append_twice, take_few}
+use Rattle.hull_geometry.proofs.PointLists.{append_twice, take_few}
 use Rattle.hull_plain.proofs.fringe.put_on.Goals as goal
 
 pub returns-then-is_inwards-clause-fringe : goal.returns-then-is_inwards-clause-fringe

@@ -7,11 +7,11 @@ use Rattle.lattice.specs.Plane.{Pair}
 use Rattle.hull_plain.specs.Drafts.{drafted}
 use Rattle.hull_plain.specs.Mending.{ThinsBetween}
 use Rattle.hull_plain.specs.Monotone.{IsFringeOf}
-use Rattle.hull_plain.specs.declared.monotone.Side.{Side}
+use Rattle.lattice.specs.declared.side.Side.{Side}
 use Rattle.hull_plain.proofs.Drafts.{as_roomy}
 use Rattle.hull_plain.proofs.FringeChains.{whole_fringe}
 use Rattle.hull_plain.proofs.PlainSets.{fringe_few}
-use Rattle.hull_plain.proofs.PointLists.{append_none, none_from}
+use Rattle.hull_geometry.proofs.PointLists.{append_none, none_from}
 use Rattle.hull_plain.proofs.fringe.renew.Goals as goal
 
 pub fill-requires-clause-set : goal.fill-requires-clause-set

@@ -1,6 +1,6 @@
 -- the point in the place is the first from there on
 use Rattle.std.proofs.Common.{◌+◌, drop, arith}
-use Rattle.hull_plain.proofs.PointLists.{none_from}
+use Rattle.hull_geometry.proofs.PointLists.{none_from}
 use Rattle.hull_plain.proofs.Passes.{rest_at}
 use Rattle.hull_plain.proofs.mending.ahead.Goals as goal
 

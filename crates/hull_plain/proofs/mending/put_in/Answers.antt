@@ -9,7 +9,7 @@ use Rattle.hull_plain.specs.Monotone.{IsTurning, IsPassed}
 use Rattle.hull_plain.proofs.Drafts.{started, as_roomy}
 use Rattle.hull_plain.proofs.Mended.{put_in_same, put_in_new, before_and, before_and_after}
 use Rattle.hull_plain.proofs.Passes.{turning_take, turning_drop, passed_set, passed_through}
-use Rattle.hull_plain.proofs.PointLists.{take_few}
+use Rattle.hull_geometry.proofs.PointLists.{take_few}
 use Rattle.hull_plain.proofs.mending.put_in.Goals as goal
 
 pub returns-then-is_inwards-clause-chain : goal.returns-then-is_inwards-clause-chain

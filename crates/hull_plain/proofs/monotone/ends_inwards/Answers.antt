@@ -1,5 +1,5 @@
 -- a last point that lies outwards makes the longer chain turn there
-use Rattle.hull_plain.proofs.Comparisons.{fits_side, above_zero, below_test}
+use Rattle.hull_geometry.proofs.Comparisons.{fits_side, above_zero, below_test}
 use Rattle.hull_plain.proofs.Passes.{turning_push, ends_inwards_of}
 use Rattle.hull_plain.proofs.monotone.ends_inwards.Goals as goal
 

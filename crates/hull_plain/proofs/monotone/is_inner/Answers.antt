@@ -1,5 +1,5 @@
 -- a turn fits 128 bits, so its test is that of its number
-use Rattle.hull_plain.proofs.Comparisons.{fits_side, above_test}
+use Rattle.hull_geometry.proofs.Comparisons.{fits_side, above_test}
 use Rattle.hull_plain.proofs.monotone.is_inner.Goals as goal
 
 pub returns : goal.returns

@@ -1,5 +1,5 @@
 -- what each chain tells of the point is where it lies
-use Rattle.hull_plain.specs.declared.monotone.Side.TheVariants.{Lower, Upper}
+use Rattle.lattice.specs.declared.side.Side.TheVariants.{Lower, Upper}
 use Rattle.hull_plain.proofs.Looks.{sight_outside, sights_inside}
 use Rattle.hull_plain.proofs.sights.place_of.Goals as goal
 

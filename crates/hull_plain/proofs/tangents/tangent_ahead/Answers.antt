@@ -1,6 +1,6 @@
 -- the bisection found the point from which the edges are to come
 use Rattle.std.proofs.Common.{rules, of_calls, ◌∙◌}
-use Rattle.hull_plain.proofs.PointLists.{get_or_free}
+use Rattle.hull_geometry.proofs.PointLists.{get_or_free}
 use Rattle.hull_plain.proofs.Touches.{ahead_touched}
 use Rattle.hull_plain.proofs.tangents.tangent_ahead.Goals as goal
 

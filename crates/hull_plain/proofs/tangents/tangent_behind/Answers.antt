@@ -1,6 +1,6 @@
 -- the bisection found the point up to which the edges are passed
 use Rattle.std.proofs.Common.{rules, of_calls, ◌∙◌}
-use Rattle.hull_plain.proofs.PointLists.{get_or_free}
+use Rattle.hull_geometry.proofs.PointLists.{get_or_free}
 use Rattle.hull_plain.proofs.Touches.{behind_touched}
 use Rattle.hull_plain.proofs.tangents.tangent_behind.Goals as goal
 

@@ -1,6 +1,6 @@
 -- from before all and from after all each tangent touches a chain of its own; from below both touch the lower one
 use Rattle.std.proofs.Common.{inl, inr, rules, ◌≡◌, ◌<◌, length}
-use Rattle.hull_plain.specs.declared.monotone.Side.TheVariants.{Lower, Upper}
+use Rattle.lattice.specs.declared.side.Side.TheVariants.{Lower, Upper}
 use Rattle.hull_plain.proofs.Looks.{none_of, other_chain, chain_in, before_outside, after_outside, outwards_outside}
 use Rattle.hull_plain.proofs.Touches.{clear_before, clear_after, clear_outwards, first_before, last_after, last_in}
 use Rattle.hull_plain.proofs.tangents.tangents_from.Goals as goal

@@ -1,6 +1,6 @@
 -- from above both tangents touch the upper chain; else the point is covered
 use Rattle.std.proofs.Common.{inr}
-use Rattle.hull_plain.specs.declared.monotone.Side.TheVariants.{Upper}
+use Rattle.lattice.specs.declared.side.Side.TheVariants.{Upper}
 use Rattle.hull_plain.proofs.Looks.{outwards_outside, over_covered, some_chain}
 use Rattle.hull_plain.proofs.Touches.{clear_outwards, first_before, last_after}
 use Rattle.hull_plain.proofs.tangents.tangents_from_over.Goals as goal

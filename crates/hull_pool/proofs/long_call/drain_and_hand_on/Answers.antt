@@ -1,5 +1,5 @@
 -- what was handed on is the journal that the call left
-use Rattle.std.proofs.Common.{◌≡◌, ◌∙◌, ap, sym, subst, box_value}
+use Rattle.std.proofs.Common.{◌≡◌, ◌∙◌, ap, sym, subst, box_value, rules}
 use Rattle.hull_book.specs.Books.{IsLawful}
 use Rattle.hull_book.specs.LongBooks.{LongValue}
 use Rattle.ticket_lock.specs.Tokens.{guard_book, guard_number, seat_seen}
@@ -8,14 +8,15 @@ use Rattle.hull_pool.specs.Work.{HasServed}
 use Rattle.hull_pool.proofs.Drained.{drain_served}
 use Rattle.hull_pool.proofs.long_call.drain_and_hand_on.Goals as goal
 
-pub returns-clause-served : goal.returns-clause-served
-returns-clause-served g c =
+pub returns-clause-back : goal.returns-clause-back
+returns-clause-back g c =
     let same : c.deref_mut.result.now ≡ box_value (guard_book c.args.guard) = cc in
-    subst (λ (b : LongValue _). HasServed b.whole.head.journal (guard_number c.args.guard) c.args.number c.args.call
+    let served = subst (λ (b : LongValue _). HasServed b.whole.head.journal (guard_number c.args.guard) c.args.number c.args.call
     b.whole.lines (seat_seen c.hand_on-seat.result) (answer_of c.drain-drained.result)) same
     (drain_served g.S.HullSet c.drain-drained.result c.deref_mut.result.now c.drain-drained.new.self c.args.number
     (guard_number c.args.guard) c.args.call _ (seat_seen c.hand_on-seat.result)
-    (subst (λ (b : LongValue _). IsLawful g.S.HullSet b.whole) (sym same) c.requires.lawful)
+    (subst (λ (b : LongValue _). IsLawful g.S.HullSet b.whole) (sym same) c.requires.may.lawful)
     c.drain-drained.ensures.lawful
-    (ap (λ (b : LongValue _). b.whole.turn) same ∙ c.requires.turn)
-    c.hand_on-seat.ensures.seen c.drain-drained.ensures.full c.drain-drained.ensures.ok c.drain-drained.ensures.err)
+    (ap (λ (b : LongValue _). b.whole.turn) same ∙ c.requires.may.turn)
+    c.hand_on-seat.ensures.seen c.drain-drained.ensures.full c.drain-drained.ensures.ok c.drain-drained.ensures.err) in
+    search rules

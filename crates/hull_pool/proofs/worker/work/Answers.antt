@@ -27,13 +27,13 @@ loop-call-init g c =
 pub loop-call-preserved : goal.loop-call-preserved
 loop-call-preserved g c =
     let inv = c.loop-call.invariant in record {
-      own = c.make_call-next.ensures.own;
-      seat_is = c.make_call-next.ensures.number;
+      own = c.make_call-next.ensures.back.own;
+      seat_is = c.make_call-next.ensures.back.number;
       number_is = inv.number_is;
       same_number = inv.same_number;
       away = inv.away;
-      begins = begins_longer _ _ _ inv.begins c.make_call-next.ensures.begins;
-      ledger_is = c.make_call-next.ensures.ledger;
+      begins = begins_longer _ _ _ inv.begins c.make_call-next.ensures.back.begins;
+      ledger_is = c.make_call-next.ensures.back.ledger;
       worked = one_more _ _ _ _ _ _ _ _ _ _ _ c.make_call-next.result.1 inv.worked c.loop-call-test.true
           (sym c.call-item.is) c.make_call-next.ensures.called
           c.make_call-next.ensures.stays_full c.push_reserved.ensures.items;

@@ -2,14 +2,15 @@
 use Rattle.std.proofs.Common.{◌≡◌, ◌∙◌, to_z, of_z, pos, ◌<ℤ◌, arith}
 use Rattle.std.proofs.lemmas.Int.{ints}
 use Rattle.lattice.proofs.Order.{before_not}
-use Rattle.bridge_search.specs.Trees.{Tree, last_of}
+use Rattle.bridge_search.specs.Trees.{Tree, first_of, last_of}
 use mir.Syntax.{w128}
 use Rattle.lattice.specs.Plane.{Pair, orient}
 use Rattle.lattice.proofs.Casts.{cast_side}
 use Rattle.bridge_search.proofs.Signs.{passed, failed}
 use Rattle.bridge_search.specs.Leaves.{points_of}
-use Rattle.hull_questions.specs.Sights.{IsBetweenEnds}
-use Rattle.hull_questions.proofs.Sighted.{touching_start, between_ends, seen_by}
+use Rattle.hull_geometry.specs.Sights.{IsBetweenEnds}
+use Rattle.hull_geometry.proofs.EdgesAt.{touching_start, seen_by}
+use Rattle.hull_questions.proofs.Sighted.{between_ends}
 use Rattle.hull_questions.proofs.sights.look_at.Goals as goal
 
 pub returns-then-not-before : goal.returns-then-not-before
@@ -32,7 +33,8 @@ returns-then-lower-lt0 g c =
 pub upper_before-upper-requires : goal.upper_before-upper-requires
 upper_before-upper-requires g c =
     let t : Tree = g.H.Half.tree c.args.half in
-    let i : IsBetweenEnds t c.args.q = between_ends t c.args.q c.args.edge (g.met.H.Half.bridged c.args.half) c.requires
+    let i : IsBetweenEnds (first_of t) (last_of t) c.args.q =
+    between_ends t c.args.q c.args.edge (g.met.H.Half.bridged c.args.half) c.requires
     (passed c.before-2.result _ c.if-not-before.false c.before-2.ensures) in
     (i.0, before_not c.args.q (last_of t) i.1)
 
@@ -45,7 +47,7 @@ returns g c =
     cast_side _ c.orient-lower.ensures.size ∙ c.orient-lower.ensures.value in
     let high : to_z w128 (of_z w128 c.orient.result) ≡ orient f.0 f.1 c.args.q =
     cast_side _ c.orient.ensures.size ∙ c.orient.ensures.value in
-    seen_by t c.args.q e f c.sight_by.result
+    seen_by (first_of t) (last_of t) (points_of t) c.args.q e f c.sight_by.result
     (between_ends t c.args.q e (g.met.H.Half.bridged c.args.half) c.requires
     (passed c.before-2.result _ c.if-not-before.false c.before-2.ensures)) c.requires c.upper_before-upper.ensures
     (rw (low, high) at c.sight_by.ensures)

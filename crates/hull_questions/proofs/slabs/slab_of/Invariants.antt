@@ -5,8 +5,7 @@ use Rattle.hull_questions.specs.declared.slabs.Slab.{Slab}
 use Rattle.hull_questions.proofs.slabs.slab_of.Given as goal
 
 abbrev pub invariant-loop-edge : goal.invariant-loop-edge
-invariant-loop-edge g l =
-    (s : Slab) → IsSlab (g.H.Half.tree l.part) l.q s → IsSlab (g.H.Half.tree l.fn.half) l.q s
+invariant-loop-edge g l = (s : Slab) → IsSlab (g.H.Half.tree l.part) l.q s → IsSlab (g.H.Half.tree l.fn.half) l.q s
 
 abbrev pub decreases-loop-edge : goal.decreases-loop-edge
 decreases-loop-edge g l = height_of (g.H.Half.tree l.part)

@@ -1,9 +1,10 @@
 -- bridges that stand are those of the halves as they are
-use Rattle.hull_tree.proofs.Standing.{upper_kept, lower_kept}
+use Rattle.lattice.specs.declared.side.Side.TheVariants.{Lower, Upper}
+use Rattle.hull_tree.proofs.Standing.{kept}
 use Rattle.hull_tree.proofs.build.found_after.Goals as goal
 
-pub upper_after-upper_edge-requires-clause-stands : goal.upper_after-upper_edge-requires-clause-stands
-upper_after-upper_edge-requires-clause-stands c = upper_kept _ _ _ _ _ c.requires.were
+pub bridge_after-above-requires-clause-stands : goal.bridge_after-above-requires-clause-stands
+bridge_after-above-requires-clause-stands c = kept Upper _ _ _ _ c.requires.were.0
 
-pub lower_after-lower_edge-requires-clause-stands : goal.lower_after-lower_edge-requires-clause-stands
-lower_after-lower_edge-requires-clause-stands c = lower_kept _ _ _ _ _ c.requires.were
+pub bridge_after-under-requires-clause-stands : goal.bridge_after-under-requires-clause-stands
+bridge_after-under-requires-clause-stands c = kept Lower _ _ _ _ c.requires.were.1

@@ -12,9 +12,9 @@ returns-clause-cost_left c =
     let u : IsUnder c.args.node.now c.deref_mut.result.now = under_fork _ _ c.requires.parted b in
     elim c.if-on_left-on_right-2.branch [
       | then-on_left-on_right-2 w ↦
-          rw (u.left, ← c.take_halves-left.ensures.left, w.whole-is) w.rotated_right.ensures.cost_left
+          rw (u.left, ← c.take_halves-left.ensures.left, w.whole-is) w.rotate_right.ensures.cost_left
       | else-on_left-on_right-2 w ↦
-          rw (u.left, ← c.take_halves-left.ensures.left, w.whole-is) w.rotated_left.ensures.cost_left
+          rw (u.left, ← c.take_halves-left.ensures.left, w.whole-is) w.rotate_left.ensures.cost_left
     ]
 
 pub returns-clause-cost_right : goal.returns-clause-cost_right
@@ -24,7 +24,7 @@ returns-clause-cost_right c =
     let u : IsUnder c.args.node.now c.deref_mut.result.now = under_fork _ _ c.requires.parted b in
     elim c.if-on_left-on_right-2.branch [
       | then-on_left-on_right-2 w ↦
-          rw (u.right, ← c.take_halves-left.ensures.right, w.whole-is) w.rotated_right.ensures.cost_right
+          rw (u.right, ← c.take_halves-left.ensures.right, w.whole-is) w.rotate_right.ensures.cost_right
       | else-on_left-on_right-2 w ↦
-          rw (u.right, ← c.take_halves-left.ensures.right, w.whole-is) w.rotated_left.ensures.cost_right
+          rw (u.right, ← c.take_halves-left.ensures.right, w.whole-is) w.rotate_left.ensures.cost_right
     ]

@@ -24,10 +24,7 @@ insert-insert_below-below-requires g t c κs within =
         within,
         (
           o.parted,
-          (
-            subst (λ z. ¬ (Contains z c.args.p)) o.points c.requires.absent,
-            omega (arith, o.height, c.requires.low),
-          ),
+          (subst (λ z. ¬ (Contains z c.args.p)) o.points c.requires.absent, omega (arith, o.height, c.requires.low)),
         ),
       ),
     )
@@ -102,5 +99,4 @@ insert_below-returns-then-before-clause-gained g t c = inl (c.insert.ensures.poi
 
 pub insert_below-returns-else-before-clause-gained : goal.insert_below-returns-else-before-clause-gained
 unfolding halves.roll-Halves halves.out-Halves denote.Hole.Carrier.out denote.Hole.Carrier.roll
-insert_below-returns-else-before-clause-gained g t c =
-    inr (refl, c.insert-else-before.ensures.points)
+insert_below-returns-else-before-clause-gained g t c = inr (refl, c.insert-else-before.ensures.points)

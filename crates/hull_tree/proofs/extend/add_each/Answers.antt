@@ -1,7 +1,7 @@
 -- what came goes again, so that each point is held as often as before; and all that came is what adding them leaves
 use Rattle.std.proofs.Common.{◌+◌, ◌∙◌, ap, arith, [], take}
 use Rattle.std.proofs.lemmas.List.{take_all}
-use Rattle.hull_plain.specs.Held.{Held}
+use Rattle.hull_set.specs.Held.{Held}
 use Rattle.hull_tree.specs.Loaded.{times_among}
 use Rattle.hull_tree.specs.Roots.{held_by, times_of_root}
 use Rattle.hull_tree.proofs.AddedSets.{same_as_added, root_held, all_too_many}

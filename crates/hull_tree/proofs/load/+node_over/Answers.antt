@@ -37,9 +37,9 @@ fit n m k a b e d l h g =
     let s : m + k ≡ n = omega arith in
     (f.0, subst (λ z. IsHalvings z (max a b + 1)) s f.1)
 
-pub joined-requires-clause-parted : goal.joined-requires-clause-parted
+pub join-requires-clause-parted : goal.join-requires-clause-parted
 unfolding halves.roll-Halves halves.out-Halves denote.Hole.Carrier.out denote.Hole.Carrier.roll
-joined-requires-clause-parted t c =
+join-requires-clause-parted t c =
     let l = rw c.split_at.ensures.front at c.in_ok-left.ensures in
     let r = rw c.split_at.ensures.back at c.in_ok-right.ensures in
     record {
@@ -48,13 +48,13 @@ joined-requires-clause-parted t c =
       starts_right = rw c.in-Ok.ensures.ok c.first_of-first_right.ensures;
     }
 
-pub joined-requires-clause-balanced : goal.joined-requires-clause-balanced
-joined-requires-clause-balanced t c =
+pub join-requires-clause-balanced : goal.join-requires-clause-balanced
+join-requires-clause-balanced t c =
     (fit (length c.args.entries.now) _ _ _ _ c.split_at.ensures.front_len c.split_at.ensures.back_len
     (omega (arith, c.requires.some, c.if-entries-eq1.false)) c.in_ok-left.ensures.height c.in_ok-right.ensures.height).0
 
-pub joined-requires-clause-low : goal.joined-requires-clause-low
-joined-requires-clause-low t c =
+pub join-requires-clause-low : goal.join-requires-clause-low
+join-requires-clause-low t c =
     let a : height_at c.in_ok-left.left ≤ 28 =
     low_over _ _ c.in_ok-left.ensures (omega (arith, c.requires.few, c.split_at.ensures.front_len)) in
     let b : height_at c.in_ok-right.right ≤ 28 =
@@ -68,5 +68,5 @@ returns t c =
     let f = fit (length c.args.entries.now) _ _ _ _ c.split_at.ensures.front_len c.split_at.ensures.back_len
     (omega (arith, c.requires.some, c.if-entries-eq1.false)) c.in_ok-left.ensures.height
     c.in_ok-right.ensures.height in
-    over_both _ _ _ _ _ l r c.joined.ensures.built c.joined.ensures.points c.joined.ensures.times
-    (rw c.joined.ensures.height f.1)
+    over_both _ _ _ _ _ l r c.join.ensures.built c.join.ensures.points c.join.ensures.times
+    (rw c.join.ensures.height f.1)

@@ -1,7 +1,7 @@
 -- each point is counted in behind those that stand before it
 use Rattle.std.proofs.Common.{◌≡◌, ◌≤◌, ◌<◌, ◌+◌, ◌∙◌, inl, inr, refl, subst, sym, arith, take, get_or, length}
 use Rattle.lattice.specs.Plane.{IsBefore}
-use Rattle.hull_plain.specs.declared.TheConstants.{MULTIPLICITY_LIMIT}
+use Rattle.hull_set.specs.declared.TheConstants.{MULTIPLICITY_LIMIT}
 use Rattle.hull_tree.specs.Loaded.{times_listed, times_among}
 use Rattle.hull_tree.proofs.Counting.{counted_more, counted_past, at_place}
 use Rattle.hull_tree.proofs.load.counted.Goals as goal

@@ -1,7 +1,7 @@
 -- the entry that comes next is counted in behind those that stand before it
 use Rattle.std.proofs.Common.{◌<◌, ◌+◌, refl, arith, ℕ}
 use Rattle.lattice.specs.Plane.{Pair}
-use Rattle.hull_plain.specs.declared.TheConstants.{MULTIPLICITY_LIMIT}
+use Rattle.hull_set.specs.declared.TheConstants.{MULTIPLICITY_LIMIT}
 use Rattle.hull_tree.specs.Loaded.{points_listed, times_listed, Precedes}
 use Rattle.hull_tree.proofs.Counting.{behind_both, listed_more, listed_past, listed_few}
 use Rattle.hull_tree.proofs.load.merged.Goals as goal

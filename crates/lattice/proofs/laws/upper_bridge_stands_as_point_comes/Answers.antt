@@ -1,6 +1,7 @@
 -- the new point is the only one that may not lie under the bridge
-use Rattle.lattice.proofs.Standing.{upper_as_comes}
+use Rattle.lattice.specs.declared.side.Side.TheVariants.{Upper}
+use Rattle.lattice.proofs.Standing.{as_comes}
 use Rattle.lattice.proofs.laws.upper_bridge_stands_as_point_comes.Goals as goal
 
 pub returns : goal.returns
-returns g c u v p b = upper_as_comes g.L.PointSet.has g.R.PointSet.has u v p b
+returns g c u v p b = as_comes Upper g.L.PointSet.has g.R.PointSet.has u v p b

@@ -1,6 +1,7 @@
 -- fewer points lie on the same side
-use Rattle.lattice.proofs.Standing.{upper_as_goes}
+use Rattle.lattice.specs.declared.side.Side.TheVariants.{Upper}
+use Rattle.lattice.proofs.Standing.{as_goes}
 use Rattle.lattice.proofs.laws.upper_bridge_stands_as_point_goes.Goals as goal
 
 pub returns : goal.returns
-returns g c u v p b = upper_as_goes g.L.PointSet.has g.R.PointSet.has u v p b
+returns g c u v p b = as_goes Upper g.L.PointSet.has g.R.PointSet.has u v p b

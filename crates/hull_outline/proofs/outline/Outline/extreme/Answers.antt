@@ -1,7 +1,7 @@
 -- a set with no corners is empty
 use Rattle.std.proofs.Common.{arith, subst}
 use Rattle.lattice.specs.Plane.{Pair}
-use Rattle.hull_plain.specs.Tangents.{IsFirstFarthest}
+use Rattle.hull_geometry.specs.Tangents.{IsFirstFarthest}
 use Rattle.hull_outline.proofs.Ends.{no_corners}
 use Rattle.hull_outline.proofs.outline.Outline.extreme.Goals as goal
 

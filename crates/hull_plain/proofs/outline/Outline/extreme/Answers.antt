@@ -1,6 +1,6 @@
 -- the direction faces the upper chain where it goes up, and else the lower one
 use Rattle.std.proofs.Common.{rules, pos, ◌<ℤ◌, ◌≤ℤ◌}
-use Rattle.hull_plain.specs.declared.monotone.Side.TheVariants.{Lower, Upper}
+use Rattle.lattice.specs.declared.side.Side.TheVariants.{Lower, Upper}
 use Rattle.hull_plain.proofs.outline.Outline.extreme.Goals as goal
 
 pub returns-then-y-gt0 : goal.returns-then-y-gt0

@@ -9,16 +9,16 @@ use Rattle.std.specs.Map.{keys_of}
 use Rattle.std.proofs.lemmas.Map.Steps.{set_value_same}
 use Rattle.lattice.specs.Covers.{IsPointSet}
 use Rattle.lattice.specs.Plane.{Pair}
-use Rattle.hull_plain.specs.Held.{with_new, with_again}
+use Rattle.hull_set.specs.Held.{with_new, with_again}
 use Rattle.hull_plain.specs.Outlines.{HasRoom, IsOutlineOf, IsPlainSet}
 use Rattle.hull_plain.specs.Sets.{LimitedSet, held_in, times_in}
-use Rattle.hull_plain.specs.declared.TheConstants.{MULTIPLICITY_LIMIT}
-use Rattle.hull_plain.specs.declared.rules.Rules.TheVariants.{Counted}
+use Rattle.hull_set.specs.declared.TheConstants.{MULTIPLICITY_LIMIT}
+use Rattle.hull_set.specs.declared.rules.Rules.TheVariants.{Counted}
 use Rattle.hull_plain.proofs.Multiplicities.{times_found, times_none, live, not_live, held_found, PutsAt, raised_is}
-use Rattle.hull_plain.proofs.Multiplicities.{same_held}
-use Rattle.hull_plain.proofs.OrderedMaps.{point_cmp, insert_is}
+use Rattle.hull_set.proofs.Times.{same_held}
+use Rattle.hull_set.proofs.OrderedMaps.{point_cmp, insert_is}
 use Rattle.hull_plain.proofs.PlainSets.{written, reserved, put_in, count_is, same_outline}
-use Rattle.hull_plain.proofs.SetLaws.{ordered_with}
+use Rattle.hull_geometry.proofs.SetLaws.{ordered_with}
 use Rattle.hull_plain.proofs.plain_set.PlainSetHullSet.add.Goals as goal
 
 pub invariant_of-self : goal.invariant_of-self

@@ -4,7 +4,7 @@ use Rattle.std.specs.Map.{keys_of}
 use Rattle.lattice.specs.Plane.{Pair}
 use Rattle.lattice.specs.Vertices.{IsDoubledArea}
 use Rattle.hull_plain.specs.Sets.{LimitedSet}
-use Rattle.hull_plain.specs.declared.monotone.Side.TheVariants.{Lower, Upper}
+use Rattle.lattice.specs.declared.side.Side.TheVariants.{Lower, Upper}
 use Rattle.hull_plain.proofs.PlainSets.{chain_few}
 use Rattle.hull_plain.proofs.plain_set.PlainSetHullSet.area2.Goals as goal
 

@@ -2,7 +2,7 @@
 use Rattle.std.proofs.Common.{◌≡◌, ap, subst, List}
 use Rattle.std.specs.Map.{keys_of}
 use Rattle.lattice.specs.Plane.{Pair}
-use Rattle.hull_plain.specs.Replies.{AnswersExtreme, reply_to_extreme}
+use Rattle.hull_set.specs.Replies.{AnswersExtreme, reply_to_extreme}
 use Rattle.hull_plain.specs.Sets.{LimitedSet}
 use Rattle.hull_plain.proofs.plain_set.PlainSetHullSet.extreme.Goals as goal
 

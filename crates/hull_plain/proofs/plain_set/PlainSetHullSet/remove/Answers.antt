@@ -8,13 +8,14 @@ use Rattle.std.specs.Map.{keys_of, remove_entry}
 use Rattle.std.proofs.lemmas.Map.Steps.{set_value_same}
 use Rattle.lattice.specs.Covers.{IsPointSet}
 use Rattle.lattice.specs.Plane.{Pair}
-use Rattle.hull_plain.specs.Held.{with_none, with_one_less}
+use Rattle.hull_set.specs.Held.{with_none, with_one_less}
 use Rattle.hull_plain.specs.Sets.{LimitedSet, held_in, times_in}
-use Rattle.hull_plain.specs.declared.rules.Rules.TheVariants.{Counted}
-use Rattle.hull_plain.proofs.Multiplicities.{times_found, live, not_live, held_found, PutsAt, lowered_is, same_held}
-use Rattle.hull_plain.proofs.OrderedMaps.{point_cmp, remove_is}
+use Rattle.hull_set.specs.declared.rules.Rules.TheVariants.{Counted}
+use Rattle.hull_plain.proofs.Multiplicities.{times_found, live, not_live, held_found, PutsAt, lowered_is}
+use Rattle.hull_set.proofs.Times.{same_held}
+use Rattle.hull_set.proofs.OrderedMaps.{point_cmp, remove_is}
 use Rattle.hull_plain.proofs.PlainSets.{written, taken_out, left_entries, left_room}
-use Rattle.hull_plain.proofs.SetLaws.{ordered_without}
+use Rattle.hull_geometry.proofs.SetLaws.{ordered_without}
 use Rattle.hull_plain.proofs.plain_set.PlainSetHullSet.remove.Goals as goal
 
 pub returns-in_default-clause-reply : goal.returns-in_default-clause-reply

@@ -2,7 +2,7 @@
 use Rattle.std.proofs.Common.{◌≡◌, ap, subst, List}
 use Rattle.std.specs.Map.{keys_of}
 use Rattle.lattice.specs.Plane.{Pair}
-use Rattle.hull_plain.specs.Replies.{AnswersTangents, reply_to_tangents}
+use Rattle.hull_set.specs.Replies.{AnswersTangents, reply_to_tangents}
 use Rattle.hull_plain.specs.Sets.{LimitedSet}
 use Rattle.hull_plain.proofs.plain_set.PlainSetHullSet.tangents.Goals as goal
 

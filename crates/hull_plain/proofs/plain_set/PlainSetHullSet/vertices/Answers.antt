@@ -4,7 +4,7 @@ use Rattle.std.specs.Map.{keys_of}
 use Rattle.lattice.specs.Plane.{Pair}
 use Rattle.lattice.specs.Vertices.{IsVertexList}
 use Rattle.hull_plain.specs.Sets.{LimitedSet}
-use Rattle.hull_plain.proofs.FewVertices.{vertices_few}
+use Rattle.hull_geometry.proofs.FewVertices.{vertices_few}
 use Rattle.hull_plain.proofs.plain_set.PlainSetHullSet.vertices.Goals as goal
 
 pub returns-in_err-vertices-clause-reply : goal.returns-in_err-vertices-clause-reply

@@ -15,13 +15,7 @@ fan_of_stretch-requires-in-Across g t c κs within =
     let l = lower_halves u c.in-Across.ensures.0 in
     let s = both_sizes u c.in-Across.ensures.0 in (
       omega (arith, c.decreases, ap height_of e),
-      (
-        within,
-        (
-          rw e c.in-Across.ensures.1.left,
-          omega (arith, c.requires.few, ap size_of e),
-        ),
-      ),
+      (within, (rw e c.in-Across.ensures.1.left, omega (arith, c.requires.few, ap size_of e))),
     )
 
 pub fan_of_stretch-requires-in-Across-2 : goal.fan_of_stretch-requires-in-Across-2
@@ -31,13 +25,7 @@ fan_of_stretch-requires-in-Across-2 g t c κs within =
     let l = lower_halves u c.in-Across.ensures.0 in
     let s = both_sizes u c.in-Across.ensures.0 in (
       omega (arith, c.decreases, ap height_of e),
-      (
-        within,
-        (
-          rw e c.in-Across.ensures.1.right,
-          omega (arith, c.requires.few, ap size_of e),
-        ),
-      ),
+      (within, (rw e c.in-Across.ensures.1.right, omega (arith, c.requires.few, ap size_of e))),
     )
 
 pub overflow_add-result : goal.overflow_add-result

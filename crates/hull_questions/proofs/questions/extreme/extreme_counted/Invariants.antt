@@ -3,7 +3,7 @@ use Rattle.std.proofs.Common.{ℕ, ◌+◌, ◌≤◌}
 use Rattle.lattice.specs.Plane.{Pair}
 use Rattle.bridge_search.specs.Trees.{height_of, IsAtDepth}
 use Rattle.bridge_search.specs.Leaves.{points_of}
-use Rattle.hull_plain.specs.Tangents.{IsFirstFarthest}
+use Rattle.hull_geometry.specs.Tangents.{IsFirstFarthest}
 use Rattle.hull_questions.proofs.questions.extreme.extreme_counted.Given as goal
 
 abbrev pub invariant-loop-next : goal.invariant-loop-next

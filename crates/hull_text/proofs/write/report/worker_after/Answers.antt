@@ -1,7 +1,7 @@
 -- The lines of a phase stand before those of the phases behind it, and each phase takes its share of the answers.
 use Rattle.std.proofs.Common.{arith, ◌≡◌, length}
 use Rattle.hull_book.specs.Scripts.{PhaseValue}
-use Rattle.hull_text.proofs.Chains.{chained_end, chained_more}
+use Rattle.text_io.proofs.Chains.{chained_end, chained_more}
 use Rattle.hull_text.proofs.Reports.{all_after, answers_no_call, calls_long, calls_none, phases_cons}
 use Rattle.hull_text.proofs.write.report.worker_after.Goals as goal
 
@@ -9,11 +9,10 @@ pub loop-phase-preserved : goal.loop-phase-preserved
 loop-phase-preserved g c =
     let here = c.in-Some.ensures.cases.0 in
     record {
-      chained = rw c.split_at.ensures.back (chained_more _ _ _ _ _ _ _ _ _ _ _ _ _ c.loop-phase.invariant.chained
+      chained = rw c.split_at.ensures.back (chained_more c.loop-phase.invariant.chained
           (phases_cons c.args.worker c.in-Some.phase.now _ c.in-Some.after.now c.loop-phase.answers.now
           c.calls-calls.result.now here c.calls-calls.ensures)
-          (rw c.split_at.ensures.front at c.answers_after-done.ensures.wrote)
-          c.answers_after-done.ensures.kept c.answers_after-done.ensures.was);
+          (rw c.split_at.ensures.front at c.answers_after-done.ensures));
       answered = omega (
         arith,
         c.split_at.ensures.back_len,
@@ -25,6 +24,6 @@ loop-phase-preserved g c =
           ≡ c.args.workers) c.in-Some.phase.now _ _ here c.loop-phase.invariant.jobs;
     }
 
-pub returns-clause-wrote : goal.returns-clause-wrote
-returns-clause-wrote g c = chained_end _ _ _ _ _ _ _ _ c.loop-phase.invariant.chained
+pub returns : goal.returns
+returns g c = chained_end _ _ _ _ _ _ _ _ c.loop-phase.invariant.chained
     (answers_no_call _ _ _ (calls_none _ _ c.in_default.ensures.cases))

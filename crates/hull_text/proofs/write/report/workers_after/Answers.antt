@@ -1,6 +1,6 @@
 -- The lines of a worker stand before those of the workers behind it, and its answers are as many as its calls.
 use Rattle.std.proofs.Common.{arith, ap, ◌∙◌, length}
-use Rattle.hull_text.proofs.Chains.{chained_end, chained_more}
+use Rattle.text_io.proofs.Chains.{chained_end, chained_more}
 use Rattle.hull_text.proofs.Reports.{answers_at, answers_each, workers_more, workers_none}
 use Rattle.hull_book.specs.Answers.{answers_in}
 use Rattle.hull_text.proofs.write.report.workers_after.Goals as goal
@@ -15,12 +15,12 @@ pub loop-worker-preserved : goal.loop-worker-preserved
 loop-worker-preserved g c =
     let list = answers_at c.args.answers.now c.loop-worker.worker c.index-answers-worker.result c.deref.result.now
     c.loop-worker-test.true c.index-answers-worker.is c.deref.ensures.value in
-    chained_more _ _ _ _ _ _ _ _ _ _ _ _ _ c.loop-worker.invariant
+    chained_more c.loop-worker.invariant
     (workers_more c.loop-worker.worker c.args.phases.now (answers_in c.args.answers.now)
     (omega (arith, answers_each c.args.answers.now, c.loop-worker-test.true)))
-    (rw list at c.worker_after-done.ensures.wrote) c.worker_after-done.ensures.kept c.worker_after-done.ensures.was
+    (rw list at c.worker_after-done.ensures)
 
-pub returns-clause-wrote : goal.returns-clause-wrote
-returns-clause-wrote g c = chained_end _ _ _ _ _ _ _ _ c.loop-worker.invariant
+pub returns : goal.returns
+returns g c = chained_end _ _ _ _ _ _ _ _ c.loop-worker.invariant
     (workers_none c.loop-worker.worker c.args.phases.now (answers_in c.args.answers.now)
     (omega (arith, answers_each c.args.answers.now, c.loop-worker-test.false)))

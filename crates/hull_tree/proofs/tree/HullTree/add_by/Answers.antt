@@ -1,8 +1,8 @@
 -- what the way down found and left makes one record, from which each answer follows
 use Rattle.std.proofs.Common.{arith, ◌≡◌, ◌≤◌, ◌+◌, ap, subst, sym, ◌∙◌, Some}
-use Rattle.hull_plain.specs.Replies.{AnswersAdd}
-use Rattle.hull_plain.specs.declared.reply.Reply.TheVariants.{Added, Again, TooMany}
-use Rattle.hull_plain.specs.declared.rules.Rules.TheVariants.{Counted}
+use Rattle.hull_set.specs.Replies.{AnswersAdd}
+use Rattle.hull_set.specs.declared.reply.Reply.TheVariants.{Added, Again, TooMany}
+use Rattle.hull_set.specs.declared.rules.Rules.TheVariants.{Counted}
 use Rattle.hull_tree.specs.Changes.{height_at}
 use Rattle.hull_tree.specs.Roots.{held_by}
 use Rattle.hull_tree.specs.Sets.{LimitedTree}
@@ -20,9 +20,8 @@ returns-then-times-eq-MULTIPLICITY_LIMIT-clause-reply g c =
 
 pub returns-then-times-eq-MULTIPLICITY_LIMIT-clause-sound : goal.returns-then-times-eq-MULTIPLICITY_LIMIT-clause-sound
 returns-then-times-eq-MULTIPLICITY_LIMIT-clause-sound g c =
-    let k = counted c.self.invariant c.in-Some.is c.raise-times.ensures.was c.raise-times.ensures.built
-    c.raise-times.ensures.same_tree in
-    sound_after k
+    sound_after (counted c.self.invariant c.in-Some.is c.raise-times.ensures.was c.raise-times.ensures.built
+    c.raise-times.ensures.same_tree)
 
 pub overflow_add-result : goal.overflow_add-result
 overflow_add-result g c =
@@ -49,9 +48,8 @@ returns-then-times-gt0-clause-effect g c =
 
 pub returns-then-times-gt0-clause-sound : goal.returns-then-times-gt0-clause-sound
 returns-then-times-gt0-clause-sound g c =
-    let k = counted c.self.invariant c.in-Some.is c.raise-times.ensures.was c.raise-times.ensures.built
-    c.raise-times.ensures.same_tree in
-    sound_after k
+    sound_after (counted c.self.invariant c.in-Some.is c.raise-times.ensures.was c.raise-times.ensures.built
+    c.raise-times.ensures.same_tree)
 
 pub returns-then-self-clause-reply : goal.returns-then-self-clause-reply
 returns-then-self-clause-reply g c =
@@ -63,9 +61,8 @@ returns-then-self-clause-reply g c =
 
 pub returns-then-self-clause-sound : goal.returns-then-self-clause-sound
 returns-then-self-clause-sound g c =
-    let k = counted c.self.invariant c.in-Some.is c.raise-times.ensures.was c.raise-times.ensures.built
-    c.raise-times.ensures.same_tree in
-    sound_after k
+    sound_after (counted c.self.invariant c.in-Some.is c.raise-times.ensures.was c.raise-times.ensures.built
+    c.raise-times.ensures.same_tree)
 
 pub returns-in_default-new-clause-reply : goal.returns-in_default-new-clause-reply
 returns-in_default-new-clause-reply g c =
@@ -77,9 +74,8 @@ returns-in_default-new-clause-reply g c =
 
 pub returns-in_default-new-clause-sound : goal.returns-in_default-new-clause-sound
 returns-in_default-new-clause-sound g c =
-    let k = counted c.self.invariant c.in-Some.is c.raise-times.ensures.was c.raise-times.ensures.built
-    c.raise-times.ensures.same_tree in
-    sound_after k
+    sound_after (counted c.self.invariant c.in-Some.is c.raise-times.ensures.was c.raise-times.ensures.built
+    c.raise-times.ensures.same_tree)
 
 pub insert-turns-requires-clause-absent : goal.insert-turns-requires-clause-absent
 insert-turns-requires-clause-absent g c =

@@ -2,9 +2,9 @@
 -- them leaves
 use Rattle.std.proofs.Common.{ap, ◌∙◌, arith, inl, inr, length, rules, ◌<◌}
 use Rattle.lattice.specs.Plane.{Pair}
-use Rattle.hull_plain.specs.declared.TheConstants.{MULTIPLICITY_LIMIT}
+use Rattle.hull_set.specs.declared.TheConstants.{MULTIPLICITY_LIMIT}
 use Rattle.std.proofs.lemmas.Map.Entries.{length-keys_of}
-use Rattle.hull_plain.specs.Held.{Held, nothing_held}
+use Rattle.hull_set.specs.Held.{Held, nothing_held}
 use Rattle.hull_tree.specs.Loaded.{times_listed, times_among, held_listed}
 use Rattle.hull_tree.specs.Roots.{held_by}
 use Rattle.hull_tree.proofs.AddedSets.{same_as_added, nothing_is_held, entries_held, root_held, after_times}

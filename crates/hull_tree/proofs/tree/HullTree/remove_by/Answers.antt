@@ -2,9 +2,9 @@
 use Rattle.std.proofs.Common.{arith, ◌≡◌, ◌≤◌, ◌-◌, ap, subst, sym, ◌∙◌, Some}
 use Rattle.std.specs.Prelude.{length}
 use Rattle.std.specs.List.{Contains}
-use Rattle.hull_plain.specs.Replies.{AnswersRemove}
-use Rattle.hull_plain.specs.declared.reply.Reply.TheVariants.{Removed, Left, Absent}
-use Rattle.hull_plain.specs.declared.rules.Rules.TheVariants.{Counted}
+use Rattle.hull_set.specs.Replies.{AnswersRemove}
+use Rattle.hull_set.specs.declared.reply.Reply.TheVariants.{Removed, Left, Absent}
+use Rattle.hull_set.specs.declared.rules.Rules.TheVariants.{Counted}
 use Rattle.bridge_search.proofs.Signs.{failed}
 use Rattle.hull_tree.specs.Changes.{points_below, height_at}
 use Rattle.hull_tree.specs.Roots.{held_by}
@@ -25,9 +25,8 @@ returns-then-times-eq0-clause-reply g c =
 
 pub returns-then-times-eq0-clause-sound : goal.returns-then-times-eq0-clause-sound
 returns-then-times-eq0-clause-sound g c =
-    let k = counted c.self.invariant c.in-Some.is c.lower-times.ensures.was c.lower-times.ensures.built
-    c.lower-times.ensures.same_tree in
-    sound_after k
+    sound_after (counted c.self.invariant c.in-Some.is c.lower-times.ensures.was c.lower-times.ensures.built
+    c.lower-times.ensures.same_tree)
 
 pub returns-then-times-gt1-clause-reply : goal.returns-then-times-gt1-clause-reply
 returns-then-times-gt1-clause-reply g c =
@@ -39,9 +38,8 @@ returns-then-times-gt1-clause-reply g c =
 
 pub returns-then-times-gt1-clause-sound : goal.returns-then-times-gt1-clause-sound
 returns-then-times-gt1-clause-sound g c =
-    let k = counted c.self.invariant c.in-Some.is c.lower-times.ensures.was c.lower-times.ensures.built
-    c.lower-times.ensures.same_tree in
-    sound_after k
+    sound_after (counted c.self.invariant c.in-Some.is c.lower-times.ensures.was c.lower-times.ensures.built
+    c.lower-times.ensures.same_tree)
 
 pub overflow_sub-self : goal.overflow_sub-self
 overflow_sub-self g c =

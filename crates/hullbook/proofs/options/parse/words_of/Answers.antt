@@ -3,7 +3,7 @@ use Rattle.std.proofs.Common.{List, [], ◌∷◌, ◌++◌, Bool, true, false, 
 use Rattle.std.specs.Prelude.{if◌then◌else◌, string_bytes}
 use Rattle.std.specs.List.{All}
 use Rattle.std.proofs.lemmas.List.Elements.{All-append, All-cons, All-nil, All-same}
-use Rattle.hullbook.specs.Tasks.{IsOneOf, texts_of}
+use Rattle.hull_program.specs.Words.{IsOneOf, texts_of}
 use Rattle.hullbook.proofs.options.parse.words_of.Goals as goal
 
 -- a list to which a member was pushed, or not

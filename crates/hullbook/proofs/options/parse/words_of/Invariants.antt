@@ -1,7 +1,7 @@
 -- each of the words so far is one of all words
 use Rattle.std.specs.Prelude.{string_bytes}
 use Rattle.std.specs.List.{All}
-use Rattle.hullbook.specs.Tasks.{IsOneOf, texts_of}
+use Rattle.hull_program.specs.Words.{IsOneOf, texts_of}
 use Rattle.hullbook.proofs.options.parse.words_of.Given as goal
 
 abbrev pub invariant-loop-path : goal.invariant-loop-path

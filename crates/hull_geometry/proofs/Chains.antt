@@ -1,0 +1,178 @@
+-- The points of a chain of hull edges are extreme, and every extreme point is on one of the two chains.
+use Rattle.std.proofs.Common.{◌≡◌, ℤ, pos, ◌≤ℤ◌, ◌<ℤ◌, neg_ℤ, ◌⊎◌, inl, inr, sym, ◌∙◌, subst, List, arith, [], ◌∷◌}
+use Rattle.std.specs.List.{All, Contains}
+use Rattle.std.proofs.lemmas.Int.{ints}
+use Rattle.std.proofs.lemmas.List.Elements.{All-contains, All-cons}
+use Rattle.lattice.specs.Covers.{IsPointSet, Covers, without_point, IsExtreme}
+use Rattle.lattice.specs.Plane.{Pair, orient, product, IsBefore}
+use Rattle.lattice.specs.Signs.{le_or_lt}
+use Rattle.lattice.specs.Vertices.{IsLeftOf}
+use Rattle.hull_geometry.specs.Edges.{IsLowerEdge, IsUpperEdge, IsChain, end_of, IsFirst, IsLast}
+use Rattle.hull_geometry.proofs.ChangedSets.{all_without, in_without}
+use Rattle.hull_geometry.proofs.CoveredByEdges.{covered_by_edges}
+use Rattle.hull_geometry.proofs.NotCovered.{not_covered}
+use Rattle.hull_geometry.proofs.OneSided.{ahead_separated, behind_separated}
+use Rattle.lattice.proofs.Order.{before_total, before_not, equal_by, before_apart, after_apart}
+use Rattle.hull_geometry.proofs.Orientation.{orient_swap, orient-cycle, at_least}
+use Rattle.hull_geometry.proofs.PointLists.{later}
+use Rattle.hull_geometry.proofs.Separators.{across, corner_apart}
+
+-- the first point of S is extreme
+pub first_extreme : (S : List Pair) (v : Pair) → IsPointSet S → Contains S v → IsFirst S v → IsExtreme S v
+first_extreme S v s m h = (
+  m,
+  not_covered (without_point v S) v (ahead_separated (without_point v S) v (all_without (IsBefore v) v S s
+      (λ t i n. elim (before_total v t)
+      [ inl b ↦ b | inr (inl e) ↦ absurd (n (sym e)) | inr (inr b) ↦ absurd (h t i b) ]))),
+)
+
+-- the last point of S is extreme
+pub last_extreme : (S : List Pair) (v : Pair) → IsPointSet S → Contains S v → IsLast S v → IsExtreme S v
+last_extreme S v s m h = (
+  m,
+  not_covered (without_point v S) v (behind_separated (without_point v S) v (all_without (λ t. IsBefore t v) v S s
+      (λ t i n. elim (before_total t v) [ inl b ↦ b | inr (inl e) ↦ absurd (n e) | inr (inr b) ↦ absurd (h t i b) ]))),
+)
+
+-- v is the end of the line from u, and w is past it: the chain turns left at v
+corner_turns : (S : List Pair) (u v w : Pair) → (far : Pair → Type 0) → IsLeftOf S u v
+    → All (λ t. orient u v t ≡ pos 0 → ¬ (far t)) S → Contains S w → far w → pos 0 <ℤ orient u v w
+corner_turns S u v w far left last m f =
+    let a : pos 0 ≤ℤ orient u v w = All-contains (λ t. pos 0 ≤ℤ orient u v t) S w left m in
+    elim (le_or_lt (orient u v w) (pos 0)) [
+      | inr h ↦ h
+      | inl h ↦ absurd (All-contains (λ t. orient u v t ≡ pos 0 → ¬ (far t)) S w last m (zero_of _ a h) f)
+    ]
+  where
+    zero_of : (x : ℤ) → pos 0 ≤ℤ x → x ≤ℤ pos 0 → x ≡ pos 0
+    zero_of x h k = omega (arith, ints)
+
+-- a corner that turns left, with S on the left of both its edges, is extreme
+corner_extreme : (S : List Pair) (u v w : Pair) → IsPointSet S → Contains S v → pos 0 <ℤ orient u v w → IsLeftOf S u v
+    → IsLeftOf S v w → IsExtreme S v
+corner_extreme S u v w s m h a b =
+    let d : Pair = (across u w) in (
+      m,
+      not_covered (without_point v S) v (
+        d,
+        all_without (λ t. product d t <ℤ product d v) v S s
+            (λ t i n. corner_apart u v w t h (All-contains (λ t. pos 0 ≤ℤ orient u v t) S t a i)
+            (All-contains (λ t. pos 0 ≤ℤ orient v w t) S t b i) n),
+      ),
+    )
+
+-- the point between two lower edges is extreme
+pub lower_corner : (S : List Pair) (u v w : Pair) → IsPointSet S → IsLowerEdge S u v → IsLowerEdge S v w → IsExtreme S v
+lower_corner S u v w s e f =
+    corner_extreme S u v w s e.to (corner_turns S u v w (IsBefore v) e.left e.last f.to f.forward) e.left f.left
+
+-- the point between two upper edges is extreme
+pub upper_corner : (S : List Pair) (u v w : Pair) → IsPointSet S → IsUpperEdge S u v → IsUpperEdge S v w → IsExtreme S v
+upper_corner S u v w s e f =
+    corner_extreme S u v w s e.to (corner_turns S u v w (λ t. IsBefore t v) e.left e.last f.to f.backward) e.left f.left
+
+-- t stands strictly between the ends of a lower edge
+abbrev pub UnderEdge : List Pair → Pair → Type 0
+UnderEdge S t = (a : Pair) × (b : Pair) × IsLowerEdge S a b × IsBefore a t × IsBefore t b
+
+-- t stands strictly between the ends of an upper edge
+abbrev pub OverEdge : List Pair → Pair → Type 0
+OverEdge S t = (c : Pair) × (d : Pair) × IsUpperEdge S c d × IsBefore t c × IsBefore d t
+
+-- a point between the ends of a lower chain is on it or strictly between the ends of one of its edges
+pub lower_located : (S : List Pair) (u : Pair) (vs : List Pair) (t : Pair) → IsChain (IsLowerEdge S) u vs
+    → ¬ (IsBefore t u) → ¬ (IsBefore (end_of u vs) t) → Contains (u ∷ vs) t ⊎ UnderEdge S t
+lower_located S u [] t c h k = inl (0, omega arith, sym (equal_by t u h k))
+lower_located S u (v ∷ vs) t c h k =
+    elim (before_total t v) [
+      | inl b ↦ elim (before_total u t) [
+        | inl a ↦ inr (u, v, c.0, a, b)
+        | inr (inl e) ↦ inl (0, omega arith, e)
+        | inr (inr a) ↦ absurd (h a)
+      ]
+      | inr (inl e) ↦ inl (1, omega arith, sym e)
+      | inr (inr b) ↦ elim (lower_located S v vs t c.1 (before_not v t b) k)
+          [ inl m ↦ inl (later u t (v ∷ vs) m) | inr m ↦ inr m ]
+    ]
+
+-- a point between the ends of an upper chain is on it or strictly between the ends of one of its edges
+pub upper_located : (S : List Pair) (u : Pair) (vs : List Pair) (t : Pair) → IsChain (IsUpperEdge S) u vs
+    → ¬ (IsBefore u t) → ¬ (IsBefore t (end_of u vs)) → Contains (u ∷ vs) t ⊎ OverEdge S t
+upper_located S u [] t c h k = inl (0, omega arith, sym (equal_by t u k h))
+upper_located S u (v ∷ vs) t c h k =
+    elim (before_total v t) [
+      | inl b ↦ elim (before_total t u) [
+        | inl a ↦ inr (u, v, c.0, a, b)
+        | inr (inl e) ↦ inl (0, omega arith, sym e)
+        | inr (inr a) ↦ absurd (h a)
+      ]
+      | inr (inl e) ↦ inl (1, omega arith, e)
+      | inr (inr b) ↦ elim (upper_located S v vs t c.1 (before_not t v b) k)
+          [ inl m ↦ inl (later u t (v ∷ vs) m) | inr m ↦ inr m ]
+    ]
+
+-- a point strictly between the ends of a lower edge and of an upper edge is not extreme
+pub between_edges : (S : List Pair) (t : Pair) → Contains S t → UnderEdge S t → OverEdge S t
+    → Covers (without_point t S) t
+between_edges S t m (a, b, e, at, tb) (c, d, f, tc, dt) =
+    covered_by_edges (without_point t S) t a b c d (in_without t a S (before_apart a t at) e.from)
+    (in_without t b S (after_apart b t tb) e.to) (in_without t c S (after_apart c t tc) f.from)
+    (in_without t d S (before_apart d t dt) f.to)
+    at tb tc dt (at_least _ _ (orient-cycle a b t) (All-contains (λ z. pos 0 ≤ℤ orient a b z) S t e.left m))
+    (at_least _ _ (orient-cycle c d t) (All-contains (λ z. pos 0 ≤ℤ orient c d z) S t f.left m))
+
+-- every extreme point stands on one of the two chains between the first point of S and the last
+pub extreme_on_chain : (S : List Pair) (first last : Pair) (ls us : List Pair) (t : Pair)
+    → IsChain (IsLowerEdge S) first ls → end_of first ls ≡ last → IsChain (IsUpperEdge S) last us
+    → end_of last us ≡ first
+    → IsFirst S first → IsLast S last → IsExtreme S t → Contains (first ∷ ls) t ⊎ Contains (last ∷ us) t
+extreme_on_chain S first last ls us t lc le uc ue hf hl x =
+    elim (lower_located S first ls t lc (hf t x.0) (λ b. hl t x.0 (subst (λ (z : Pair). IsBefore z t) le b))) [
+      | inl m ↦ inl m
+      | inr under ↦ elim (upper_located S last us t uc (hl t x.0) (λ b. hf t x.0 (subst (IsBefore t) ue b))) [
+        | inl m ↦ inr m
+        | inr over ↦ absurd (x.1 (between_edges S t x.0 under over))
+      ]
+    ]
+
+-- the points of a lower chain after its start are extreme
+lower_rest : (S : List Pair) (p u : Pair) (vs : List Pair) → IsPointSet S → IsLowerEdge S p u
+    → IsChain (IsLowerEdge S) u vs → IsLast S (end_of u vs) → All (IsExtreme S) (u ∷ vs)
+lower_rest S p u [] s e c h = All-cons (IsExtreme S) u [] (last_extreme S u s e.to h) (λ k d l. absurd (omega arith))
+lower_rest S p u (v ∷ vs) s e c h =
+    All-cons (IsExtreme S) u (v ∷ vs) (lower_corner S p u v s e c.0) (lower_rest S u v vs s c.0 c.1 h)
+
+-- the points of a lower chain from the first point to the last are extreme
+pub lower_extreme : (S : List Pair) (first v : Pair) (vs : List Pair) → IsPointSet S
+    → IsChain (IsLowerEdge S) first (v ∷ vs) → IsFirst S first → IsLast S (end_of v vs)
+    → All (IsExtreme S) (first ∷ v ∷ vs)
+lower_extreme S first v vs s c hf hl =
+    All-cons (IsExtreme S) first (v ∷ vs) (first_extreme S first s c.0.from hf) (lower_rest S first v vs s c.0 c.1 hl)
+
+-- the points of an upper chain after its start are extreme
+upper_rest : (S : List Pair) (p u : Pair) (vs : List Pair) → IsPointSet S → IsUpperEdge S p u
+    → IsChain (IsUpperEdge S) u vs → IsFirst S (end_of u vs) → All (IsExtreme S) (u ∷ vs)
+upper_rest S p u [] s e c h = All-cons (IsExtreme S) u [] (first_extreme S u s e.to h) (λ k d l. absurd (omega arith))
+upper_rest S p u (v ∷ vs) s e c h =
+    All-cons (IsExtreme S) u (v ∷ vs) (upper_corner S p u v s e c.0) (upper_rest S u v vs s c.0 c.1 h)
+
+-- the points of an upper chain from the last point to the first are extreme
+pub upper_extreme : (S : List Pair) (last v : Pair) (vs : List Pair) → IsPointSet S
+    → IsChain (IsUpperEdge S) last (v ∷ vs) → IsLast S last → IsFirst S (end_of v vs)
+    → All (IsExtreme S) (last ∷ v ∷ vs)
+upper_extreme S last v vs s c hl hf =
+    All-cons (IsExtreme S) last (v ∷ vs) (last_extreme S last s c.0.from hl) (upper_rest S last v vs s c.0 c.1 hf)
+
+-- no lower edge and upper edge end at one point
+pub no_common_corner : (S : List Pair) (u t c : Pair) → IsLowerEdge S u t → IsUpperEdge S c t → ⊥
+no_common_corner S u t c e f =
+    let a : pos 0 ≤ℤ orient u t c = All-contains (λ z. pos 0 ≤ℤ orient u t z) S c e.left f.from in
+    let b : pos 0 ≤ℤ orient c t u = All-contains (λ z. pos 0 ≤ℤ orient c t z) S u f.left e.from in
+    let k : orient u t c ≡ neg_ℤ (orient c t u) = orient-cycle u t c ∙ swap in
+    All-contains (λ z. orient u t z ≡ pos 0 → ¬ (IsBefore t z)) S c e.last f.from (squeeze _ _ k a b) f.backward
+  where
+    swap : orient c u t ≡ neg_ℤ (orient c t u)
+    swap = orient_swap c u t
+
+    squeeze : (x y : ℤ) → x ≡ neg_ℤ y → pos 0 ≤ℤ x → pos 0 ≤ℤ y → x ≡ pos 0
+    squeeze x y e h k = omega (arith, ints)

@@ -1,0 +1,118 @@
+-- The edges between whose ends a point stands, and what its sides of them tell.
+use Rattle.std.proofs.Common.{◌≡◌, pos, ◌≤ℤ◌, ◌<ℤ◌, ◌⊎◌, inl, inr, sym, ap, ◌∙◌, subst, List, arith}
+use Rattle.std.specs.List.{All, Contains}
+use Rattle.std.proofs.lemmas.Int.{ints}
+use Rattle.lattice.specs.Covers.{Covers, Member}
+use Rattle.lattice.specs.Places.{IsOuter, IsOutside, IsInside, IsOnBoundary}
+use Rattle.lattice.specs.Plane.{Pair, orient, IsBefore}
+use Rattle.lattice.proofs.LineCrossings.{orient_start}
+use Rattle.lattice.proofs.Order.{before_total, before_trans, equal_by}
+use Rattle.hull_geometry.specs.Edges.{IsFirst, IsLast}
+use Rattle.hull_geometry.specs.Sights.{IsLowerEdgeAt, IsUpperEdgeAt, IsBelowEdge, IsAboveEdge, IsBetweenEnds, IsSightOf}
+use Rattle.hull_geometry.specs.Sights.{IsSightBy}
+use Rattle.hull_geometry.specs.declared.sight.Sight.{Sight}
+use Rattle.hull_geometry.specs.declared.sight.Sight.TheVariants.{Before, After, Below, Above, Touching, Within}
+use Rattle.hull_geometry.proofs.EdgePlaces.{right_outside, on_line_outer, between_covered, between_inside}
+use Rattle.hull_geometry.proofs.NotCovered.{not_covered}
+use Rattle.hull_geometry.proofs.OneSided.{ahead_separated, behind_separated}
+use Rattle.hull_geometry.proofs.PointLists.{all_of}
+
+-- c is not after v, and v stands before a
+pub up_to : (c v a : Pair) → ¬ (IsBefore v c) → IsBefore v a → IsBefore c a
+up_to c v a n h = elim (before_total c v) [
+  | inl k ↦ before_trans c v a k h
+  | inr (inl e) ↦ subst (λ (z : Pair). IsBefore z a) (sym e) h
+  | inr (inr k) ↦ absurd (n k)
+]
+
+-- v stands before a, and d is not before a
+pub on_from : (v a d : Pair) → IsBefore v a → ¬ (IsBefore d a) → IsBefore v d
+on_from v a d h n = elim (before_total a d)
+    [ inl k ↦ before_trans v a d h k | inr (inl e) ↦ subst (IsBefore v) e h | inr (inr k) ↦ absurd (n k) ]
+
+-- ---- from outside
+
+-- before the first point is before all
+pub before_all : (S : List Pair) (first q : Pair) → IsFirst S first → IsBefore q first → All (IsBefore q) S
+before_all S first q h b = all_of (IsBefore q) S (λ s m. on_from q first s b (h s m))
+
+-- after the last point is after all
+pub after_all : (S : List Pair) (last q : Pair) → IsLast S last → IsBefore last q → All (λ s. IsBefore s q) S
+after_all S last q h b = all_of (λ s. IsBefore s q) S (λ s m. up_to s last q (h s m) b)
+
+-- a point before all lies outside
+pub outside_before : (S : List Pair) (first q : Pair) → IsFirst S first → IsBefore q first → IsOutside S q
+outside_before S first q h b = not_covered S q (ahead_separated S q (before_all S first q h b))
+
+-- a point after all lies outside
+pub outside_after : (S : List Pair) (last q : Pair) → IsLast S last → IsBefore last q → IsOutside S q
+outside_after S last q h b = not_covered S q (behind_separated S q (after_all S last q h b))
+
+-- a point below a lower edge lies outside
+pub outside_below : (S : List Pair) (q : Pair) → IsBelowEdge S q → IsOutside S q
+outside_below S q (c, d, e, h) = right_outside S c d q e.left h
+
+-- a point above an upper edge lies outside
+pub outside_above : (S : List Pair) (q : Pair) → IsAboveEdge S q → IsOutside S q
+outside_above S q (c, d, e, h) = right_outside S c d q e.left h
+
+-- ---- from the boundary and from inside
+
+-- a line has its own start on it
+not_start : (c d q : Pair) → c ≡ q → pos 0 <ℤ orient c d q → ⊥
+not_start c d q e h = let z : orient c d q ≡ pos 0 = ap (orient c d) (sym e) ∙ orient_start c d in omega (arith, ints)
+
+-- the left end of an edge lies on the boundary
+pub touching_start : (S : List Pair) (q : Pair) (e : Pair × Pair) → IsLowerEdgeAt S q e → ¬ (IsBefore e.0 q)
+    → IsOnBoundary S q
+touching_start S q e k n =
+    let s : e.0 ≡ q = equal_by e.0 q n k.starts in (
+      Member (subst (Contains S) s k.edge.from),
+      on_line_outer S e.0 e.1 q (inl k.edge.forward) k.edge.left (ap (orient e.0 e.1) (sym s) ∙ orient_start e.0 e.1),
+    )
+
+-- on the inner side of both edges at q, or on them: covered
+covered_at : (S : List Pair) (q : Pair) (e f : Pair × Pair) → IsLowerEdgeAt S q e → IsUpperEdgeAt S q f
+    → pos 0 ≤ℤ orient e.0 e.1 q → pos 0 ≤ℤ orient f.0 f.1 q → Covers S q
+covered_at S q e f k l low high =
+    elim (before_total e.0 q) [
+      | inr (inr b) ↦ absurd (k.starts b)
+      | inr (inl z) ↦ Member (subst (Contains S) z k.edge.from)
+      | inl a ↦ elim (before_total q f.0) [
+        | inr (inr b) ↦ absurd (l.starts b)
+        | inr (inl z) ↦ Member (subst (Contains S) (sym z) l.edge.from)
+        | inl b ↦ between_covered S q e.0 e.1 f.0 f.1 k.edge l.edge a k.onward b l.onward low high
+      ]
+    ]
+
+-- on the inner side of both edges at q: inside
+inside_at : (S : List Pair) (q : Pair) (e f : Pair × Pair) → IsLowerEdgeAt S q e → IsUpperEdgeAt S q f
+    → pos 0 <ℤ orient e.0 e.1 q → pos 0 <ℤ orient f.0 f.1 q → IsInside S q
+inside_at S q e f k l low high =
+    elim (before_total e.0 q) [
+      | inr (inr b) ↦ absurd (k.starts b)
+      | inr (inl z) ↦ absurd (not_start e.0 e.1 q z low)
+      | inl a ↦ elim (before_total q f.0) [
+        | inr (inr b) ↦ absurd (l.starts b)
+        | inr (inl z) ↦ absurd (not_start f.0 f.1 q (sym z) high)
+        | inl b ↦ between_inside S q e.0 e.1 f.0 f.1 k.edge l.edge a k.onward b l.onward low high
+      ]
+    ]
+
+-- on the line of one of the edges at q: outer
+outer_at : (S : List Pair) (q : Pair) (e f : Pair × Pair) → IsLowerEdgeAt S q e → IsUpperEdgeAt S q f
+    → pos 0 ≤ℤ orient e.0 e.1 q → pos 0 ≤ℤ orient f.0 f.1 q → (orient e.0 e.1 q ≤ℤ pos 0) ⊎ (orient f.0 f.1 q ≤ℤ pos 0)
+    → IsOuter S q
+outer_at S q e f k l low high (inl h) = on_line_outer S e.0 e.1 q (inl k.edge.forward) k.edge.left (omega (arith, ints))
+outer_at S q e f k l low high (inr h) = on_line_outer S f.0 f.1 q (inr l.edge.backward) l.edge.left (omega (arith, ints))
+
+-- the sides of the two edges at q tell its sight
+pub seen_by : (first last : Pair) (S : List Pair) (q : Pair) (e f : Pair × Pair) (s : Sight) → IsBetweenEnds first last q
+    → IsLowerEdgeAt S q e → IsUpperEdgeAt S q f → IsSightBy (orient e.0 e.1 q) (orient f.0 f.1 q) s
+    → IsSightOf first last S q s
+seen_by first last S q e f Before i k l h = absurd h
+seen_by first last S q e f After i k l h = absurd h
+seen_by first last S q e f Below i k l h = absurd h
+seen_by first last S q e f Above i k l h = (i, (f.0, f.1, l.edge, h))
+seen_by first last S q e f Touching i k l h = (covered_at S q e f k l h.0 h.1, outer_at S q e f k l h.0 h.1 h.2)
+seen_by first last S q e f Within i k l h = inside_at S q e f k l h.0 h.1

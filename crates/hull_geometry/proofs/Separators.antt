@@ -1,0 +1,256 @@
+-- Directions in which a point lies farther than all of a list, or as far as the farthest.
+use Rattle.std.proofs.Common.{◌≡◌, ℤ, pos, ◌+ℤ◌, ◌-ℤ◌, ◌*ℤ◌, ◌≤ℤ◌, ◌<ℤ◌, ◌⊎◌, inl, inr, sym, ap, ◌∙◌, List, arith}
+use Rattle.std.specs.List.{All}
+use Rattle.std.proofs.lemmas.Int.{ints}
+use Rattle.std.proofs.lemmas.List.Elements.{All-weaker}
+use Rattle.lattice.specs.Places.{IsOuter}
+use Rattle.lattice.specs.Plane.{Pair, orient, product, IsBefore, IsZero}
+use Rattle.lattice.specs.Polynomials.{difference-eq, difference_rules}
+use Rattle.lattice.specs.Signs.{le_or_lt, cancel_zero}
+use Rattle.lattice.specs.Vertices.{IsLeftOf}
+use Rattle.lattice.proofs.Vectors.{as_pair, minus, opp, cross-opp_left, cross-opp_right, cross-opp, turn_trans}
+use Rattle.lattice.proofs.Vectors.{turn_trans_strict, turn_trans_strict_right}
+use Rattle.hull_geometry.proofs.NotCovered.{Separated}
+use Rattle.lattice.proofs.Order.{couple}
+use Rattle.hull_geometry.proofs.Orientation.{product-minus, at_least, above, ahead_of, behind_of}
+
+-- a difference above 0
+less : (a b c : ℤ) → a ≡ c -ℤ b → pos 0 <ℤ a → b <ℤ c
+less a b c e h = omega (arith, ints)
+
+-- t lies less far than q in the direction d
+pub nearer : (d t q : Pair) → pos 0 <ℤ product (opp d) (minus t q) → product d t <ℤ product d q
+nearer d t q h = less _ _ _ (product-minus d t q) h
+
+-- the direction to the right of the line from l to r
+abbrev pub across : Pair → Pair → Pair
+across l r = record { x = r.y -ℤ l.y; y = l.x -ℤ r.x }
+
+-- how far t lies behind q in the direction of a wedge at q
+product-across : (q l r t : Pair) → product (opp (across l r)) (minus t q) ≡ orient q r t +ℤ orient q t l
+unfolding orient product
+product-across q l r t =
+    rw (
+      as_pair q,
+      as_pair l,
+      as_pair r,
+      as_pair t,
+    )
+    (simp difference_rules (difference-eq _ _ _ _ (omega arith)))
+
+-- all points lie within the wedge at q from r to l
+pub separated_by_wedge : (S : List Pair) (q l r : Pair) → All (λ t. pos 0 <ℤ (orient q r t +ℤ orient q t l)) S
+    → Separated S q
+separated_by_wedge S q l r h = (
+  across l r,
+  All-weaker (λ t. pos 0 <ℤ (orient q r t +ℤ orient q t l))
+      (λ t. product (across l r) t <ℤ product (across l r) q)
+      (λ t p. nearer (across l r) t q (above _ _ (sym (product-across q l r t)) p)) S h,
+)
+
+-- a sum with a second part above 0
+sum_above : (a b : ℤ) → pos 0 ≤ℤ a → pos 0 <ℤ b → pos 0 <ℤ (a +ℤ b)
+sum_above a b h k = omega (arith, ints)
+
+-- a sum with a first part above 0
+pub sum_above_left : (a b : ℤ) → pos 0 <ℤ a → pos 0 ≤ℤ b → pos 0 <ℤ (a +ℤ b)
+sum_above_left a b h k = omega (arith, ints)
+
+-- all lies above a line through q, l the lowest before q and r the lowest after: a point after q
+pub above_ahead : (q l r t : Pair) → IsBefore l q → IsBefore q r → IsBefore q t → pos 0 <ℤ orient q r l
+    → pos 0 ≤ℤ orient q r t → pos 0 <ℤ (orient q r t +ℤ orient q t l)
+unfolding orient
+above_ahead q l r t hl hr ht rl rt =
+    sum_above _ _ rt (above _ _ (cross-opp_left (minus l q) (minus t q))
+    (turn_trans_strict (opp (minus l q)) (minus r q) (minus t q) (behind_of l q hl) (ahead_of q r hr)
+    (ahead_of q t ht)
+    (above _ _ (sym (cross-opp_left (minus l q) (minus r q))) rl) rt))
+
+-- and a point before q
+pub above_behind : (q l r t : Pair) → IsBefore l q → IsBefore q r → IsBefore t q → pos 0 <ℤ orient q r l
+    → pos 0 ≤ℤ orient q t l → pos 0 <ℤ (orient q r t +ℤ orient q t l)
+unfolding orient
+above_behind q l r t hl hr ht rl tl =
+    sum_above_left _ _ (above _ _ (cross-opp_left (minus t q) (minus r q))
+    (turn_trans_strict_right (opp (minus t q)) (opp (minus l q)) (minus r q) (behind_of t q ht) (behind_of l q hl)
+    (ahead_of q r hr)
+    (at_least _ _ (sym (cross-opp (minus t q) (minus l q))) tl)
+    (above _ _ (sym (cross-opp_left (minus l q) (minus r q))) rl))) tl
+
+-- all lies below a line through q, r the highest before q and l the highest after: a point after q
+pub below_ahead : (q l r t : Pair) → IsBefore q l → IsBefore r q → IsBefore q t → pos 0 <ℤ orient q r l
+    → pos 0 ≤ℤ orient q t l → pos 0 <ℤ (orient q r t +ℤ orient q t l)
+unfolding orient
+below_ahead q l r t hl hr ht rl tl =
+    sum_above_left _ _ (above _ _ (cross-opp_right (minus t q) (minus r q))
+    (turn_trans_strict_right (minus t q) (minus l q) (opp (minus r q)) (ahead_of q t ht) (ahead_of q l hl)
+    (behind_of r q hr)
+    tl (above _ _ (sym (cross-opp_right (minus l q) (minus r q))) rl))) tl
+
+-- and a point before q
+pub below_behind : (q l r t : Pair) → IsBefore q l → IsBefore r q → IsBefore t q → pos 0 <ℤ orient q r l
+    → pos 0 ≤ℤ orient q r t → pos 0 <ℤ (orient q r t +ℤ orient q t l)
+unfolding orient
+below_behind q l r t hl hr ht rl rt =
+    sum_above _ _ rt (above _ _ (cross-opp_right (minus l q) (minus t q))
+    (turn_trans_strict (minus l q) (opp (minus r q)) (opp (minus t q)) (ahead_of q l hl) (behind_of r q hr)
+    (behind_of t q ht)
+    (above _ _ (sym (cross-opp_right (minus l q) (minus r q))) rl)
+    (at_least _ _ (sym (cross-opp (minus r q) (minus t q))) rt)))
+
+-- all lies above a line through q: a point after q is right of the line to the lowest before q
+pub above_ahead_left : (q l r t : Pair) → IsBefore l q → IsBefore q r → IsBefore q t → pos 0 <ℤ orient q r l
+    → pos 0 ≤ℤ orient q r t → pos 0 <ℤ orient q t l
+unfolding orient
+above_ahead_left q l r t hl hr ht rl rt =
+    above _ _ (cross-opp_left (minus l q) (minus t q))
+    (turn_trans_strict (opp (minus l q)) (minus r q) (minus t q) (behind_of l q hl) (ahead_of q r hr)
+    (ahead_of q t ht)
+    (above _ _ (sym (cross-opp_left (minus l q) (minus r q))) rl) rt)
+
+-- all lies above a line through q: a point before q is left of the line to the lowest after q
+pub above_behind_right : (q l r t : Pair) → IsBefore l q → IsBefore q r → IsBefore t q → pos 0 <ℤ orient q r l
+    → pos 0 ≤ℤ orient q t l → pos 0 <ℤ orient q r t
+unfolding orient
+above_behind_right q l r t hl hr ht rl tl =
+    above _ _ (cross-opp_left (minus t q) (minus r q))
+    (turn_trans_strict_right (opp (minus t q)) (opp (minus l q)) (minus r q) (behind_of t q ht) (behind_of l q hl)
+    (ahead_of q r hr)
+    (at_least _ _ (sym (cross-opp (minus t q) (minus l q))) tl)
+    (above _ _ (sym (cross-opp_left (minus l q) (minus r q))) rl))
+
+-- all lies below a line through q: a point after q is left of the line to the highest before q
+pub below_ahead_right : (q l r t : Pair) → IsBefore q l → IsBefore r q → IsBefore q t → pos 0 <ℤ orient q r l
+    → pos 0 ≤ℤ orient q t l → pos 0 <ℤ orient q r t
+unfolding orient
+below_ahead_right q l r t hl hr ht rl tl =
+    above _ _ (cross-opp_right (minus t q) (minus r q))
+    (turn_trans_strict_right (minus t q) (minus l q) (opp (minus r q)) (ahead_of q t ht) (ahead_of q l hl)
+    (behind_of r q hr)
+    tl (above _ _ (sym (cross-opp_right (minus l q) (minus r q))) rl))
+
+-- all lies below a line through q: a point before q is right of the line to the highest after q
+pub below_behind_left : (q l r t : Pair) → IsBefore q l → IsBefore r q → IsBefore t q → pos 0 <ℤ orient q r l
+    → pos 0 ≤ℤ orient q r t → pos 0 <ℤ orient q t l
+unfolding orient
+below_behind_left q l r t hl hr ht rl rt =
+    above _ _ (cross-opp_right (minus l q) (minus t q))
+    (turn_trans_strict (minus l q) (opp (minus r q)) (opp (minus t q)) (ahead_of q l hl) (behind_of r q hr)
+    (behind_of t q ht)
+    (above _ _ (sym (cross-opp_right (minus l q) (minus r q))) rl)
+    (at_least _ _ (sym (cross-opp (minus r q) (minus t q))) rt))
+
+-- the lowest points before and after q turn right or not at all: a point before q is on their side of the line to the
+-- one after
+pub upper_side : (q l r t : Pair) → IsBefore l q → IsBefore q r → IsBefore t q → pos 0 ≤ℤ orient q r l
+    → pos 0 ≤ℤ orient q t l → pos 0 ≤ℤ orient q r t
+unfolding orient
+upper_side q l r t hl hr ht rl tl =
+    at_least _ _ (cross-opp_left (minus t q) (minus r q))
+    (turn_trans (opp (minus t q)) (opp (minus l q)) (minus r q) (behind_of t q ht) (behind_of l q hl)
+    (ahead_of q r hr)
+    (at_least _ _ (sym (cross-opp (minus t q) (minus l q))) tl)
+    (at_least _ _ (sym (cross-opp_left (minus l q) (minus r q))) rl))
+
+-- the same of the highest points and a point after q
+pub lower_side : (q l r t : Pair) → IsBefore q l → IsBefore r q → IsBefore q t → pos 0 ≤ℤ orient q r l
+    → pos 0 ≤ℤ orient q t l → pos 0 ≤ℤ orient q r t
+unfolding orient
+lower_side q l r t hl hr ht rl tl =
+    at_least _ _ (cross-opp_right (minus t q) (minus r q))
+    (turn_trans (minus t q) (minus l q) (opp (minus r q)) (ahead_of q t ht) (ahead_of q l hl) (behind_of r q hr)
+    tl (at_least _ _ (sym (cross-opp_right (minus l q) (minus r q))) rl))
+
+-- the direction to the right of the line from q to r
+pub product-right : (q r t : Pair) → product (across q r) q -ℤ product (across q r) t ≡ orient q r t
+unfolding orient product
+product-right q r t =
+    rw (
+      as_pair q,
+      as_pair r,
+      as_pair t,
+    ) (simp difference_rules (difference-eq _ _ _ _ (omega arith)))
+
+-- a difference at least 0
+no_more : (a b c : ℤ) → a -ℤ b ≡ c → pos 0 ≤ℤ c → b ≤ℤ a
+no_more a b c e h = omega (arith, ints)
+
+-- the direction to the right of a line is no zero
+pub across_nonzero : (q r : Pair) → IsBefore q r ⊎ IsBefore r q → ¬ IsZero (across q r)
+across_nonzero q r (inl (inl b)) z = omega (arith, ints, z.1)
+across_nonzero q r (inl (inr b)) z = omega (arith, ints, z.0, b.1)
+across_nonzero q r (inr (inl b)) z = omega (arith, ints, z.1)
+across_nonzero q r (inr (inr b)) z = omega (arith, ints, z.0, b.1)
+
+-- no point lies right of a line through q: q is outer
+pub on_by_side : (S : List Pair) (q r : Pair) → IsBefore q r ⊎ IsBefore r q → IsLeftOf S q r → IsOuter S q
+on_by_side S q r apart h = (
+  across q r,
+  across_nonzero q r apart,
+  All-weaker (λ t. pos 0 ≤ℤ orient q r t) (λ t. product (across q r) t ≤ℤ product (across q r) q)
+      (λ t k. no_more _ _ _ (product-right q r t) k) S h,
+)
+
+-- the direction outwards at a corner
+product-corner : (u v w t : Pair) → product (opp (across u w)) (minus t v) ≡ orient u v t +ℤ orient v w t
+unfolding orient product
+product-corner u v w t =
+    rw (
+      as_pair u,
+      as_pair v,
+      as_pair w,
+      as_pair t,
+    )
+    (simp difference_rules (difference-eq _ _ _ _ (omega arith)))
+
+-- where the lines uv and vw meet, in x
+meets_x : (u v w t : Pair) → (t.x -ℤ v.x) *ℤ orient u v w ≡ (w.x -ℤ v.x) *ℤ orient u v t -ℤ (v.x -ℤ u.x) *ℤ orient v w t
+unfolding orient
+meets_x u v w t = rw (
+  as_pair u,
+  as_pair v,
+  as_pair w,
+  as_pair t,
+)
+    (simp difference_rules (difference-eq _ _ _ _ (omega arith)))
+
+-- and in y
+meets_y : (u v w t : Pair) → (t.y -ℤ v.y) *ℤ orient u v w ≡ (w.y -ℤ v.y) *ℤ orient u v t -ℤ (v.y -ℤ u.y) *ℤ orient v w t
+unfolding orient
+meets_y u v w t = rw (
+  as_pair u,
+  as_pair v,
+  as_pair w,
+  as_pair t,
+)
+    (simp difference_rules (difference-eq _ _ _ _ (omega arith)))
+
+-- a weighted sum of zeros
+zero_of : (a c x y m n : ℤ) → pos 0 <ℤ c → x ≡ pos 0 → y ≡ pos 0 → a *ℤ c ≡ m *ℤ x -ℤ n *ℤ y → a ≡ pos 0
+zero_of a c x y m n hc hx hy e =
+    cancel_zero a c hc (e ∙ ap (λ (z : ℤ). m *ℤ z -ℤ n *ℤ y) hx ∙ ap (λ (z : ℤ). m *ℤ pos 0 -ℤ n *ℤ z) hy
+    ∙ omega (arith, ints))
+
+-- two points with no difference are one
+same_pair : (t v : Pair) → (t.x -ℤ v.x) ≡ pos 0 → (t.y -ℤ v.y) ≡ pos 0 → t ≡ v
+same_pair t v hx hy = let ex : t.x ≡ v.x = omega (arith, ints) in let ey : t.y ≡ v.y = omega (arith, ints) in
+    ap (λ (z : ℤ). couple z t.y) ex ∙ ap (λ (z : ℤ). couple v.x z) ey
+
+-- all points but the corner v of the edges uv and vw lie strictly on one side of a line through it
+pub corner_apart : (u v w t : Pair) → pos 0 <ℤ orient u v w → pos 0 ≤ℤ orient u v t → pos 0 ≤ℤ orient v w t → ¬ (t ≡ v)
+    → product (across u w) t <ℤ product (across u w) v
+corner_apart u v w t h a b n =
+    nearer (across u w) t v (above _ _ (sym (product-corner u v w t))
+    (elim (le_or_lt (orient u v t +ℤ orient v w t) (pos 0)) [
+      | inl k ↦ let za : orient u v t ≡ pos 0 = squeeze _ _ a b k in let zb : orient v w t ≡ pos 0 =
+          squeeze_right _ _ a b k in
+          absurd (n (same_pair t v (zero_of _ _ _ _ _ _ h za zb (meets_x u v w t))
+          (zero_of _ _ _ _ _ _ h za zb (meets_y u v w t))))
+      | inr k ↦ k
+    ]))
+  where
+    squeeze : (a b : ℤ) → pos 0 ≤ℤ a → pos 0 ≤ℤ b → (a +ℤ b) ≤ℤ pos 0 → a ≡ pos 0
+    squeeze a b h k l = omega (arith, ints)
+
+    squeeze_right : (a b : ℤ) → pos 0 ≤ℤ a → pos 0 ≤ℤ b → (a +ℤ b) ≤ℤ pos 0 → b ≡ pos 0
+    squeeze_right a b h k l = omega (arith, ints)

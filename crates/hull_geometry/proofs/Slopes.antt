@@ -1,0 +1,145 @@
+-- How far a point lies in a direction, beside a line that rises or falls in it.
+use Rattle.std.proofs.Common.{◌≡◌, ℤ, pos, ◌+ℤ◌, ◌-ℤ◌, ◌*ℤ◌, ◌≤ℤ◌, ◌<ℤ◌, neg_ℤ, inl, inr, refl, ap, ◌∙◌, arith}
+use Rattle.std.proofs.lemmas.Int.{ints}
+use Rattle.lattice.specs.Plane.{Pair, orient, product, IsBefore}
+use Rattle.lattice.specs.Polynomials.{difference-eq, difference_rules}
+use Rattle.lattice.specs.Signs.{le_or_lt, product_nn, product_pp, product_np}
+use Rattle.lattice.proofs.Vectors.{as_pair, minus, cross, cross_swap, Ahead, ahead_nn}
+use Rattle.hull_geometry.proofs.Orientation.{ahead_of}
+
+-- how far two vectors go in a direction, weighed by how far they go to the right and by their sides
+weigh_right : (d w t : Pair) → product d t *ℤ w.x +ℤ d.y *ℤ cross t w ≡ product d w *ℤ t.x
+unfolding product
+weigh_right d w t = rw (
+  as_pair d,
+  as_pair w,
+  as_pair t,
+) (simp difference_rules (difference-eq _ _ _ _ (omega arith)))
+
+-- the same by the other side
+weigh_left : (d w t : Pair) → product d t *ℤ w.x ≡ product d w *ℤ t.x +ℤ d.y *ℤ cross w t
+unfolding product
+weigh_left d w t = rw (
+  as_pair d,
+  as_pair w,
+  as_pair t,
+) (simp difference_rules (difference-eq _ _ _ _ (omega arith)))
+
+-- how far a vector that goes straight up goes
+upright : (d w : Pair) → w.x ≡ pos 0 → product d w ≡ d.y *ℤ w.y
+unfolding product
+upright d w e = ap (λ (z : ℤ). d.x *ℤ z +ℤ d.y *ℤ w.y) e ∙ omega (arith, ints)
+
+-- where d goes up and w not farther, nor does a vector ahead on the right of w
+rises : (d w t : Pair) → pos 0 <ℤ d.y → Ahead w → Ahead t → pos 0 ≤ℤ cross t w → product d w ≤ℤ pos 0
+    → product d t ≤ℤ pos 0
+rises d w t up (inr h) ht side far =
+    let k : pos 0 <ℤ (d.y *ℤ w.y) = product_pp d.y w.y up h.1 in
+    let e = upright d w h.0 in
+    absurd (omega (arith, ints))
+rises d w t up (inl h) ht side far =
+    elim (le_or_lt (product d t) (pos 0)) [
+      | inl k ↦ k
+      | inr k ↦
+          let a : pos 0 <ℤ (product d t *ℤ w.x) = product_pp (product d t) w.x k h in
+          let b : pos 0 ≤ℤ (d.y *ℤ cross t w) = product_nn d.y (cross t w) (omega (arith, ints)) side in
+          let c : (product d w *ℤ t.x) ≤ℤ pos 0 = product_np (product d w) t.x far (ahead_nn t ht) in
+          let e = weigh_right d w t in
+          absurd (omega (arith, ints))
+    ]
+
+-- where d does not go up and w not farther, nor does a vector ahead on the left of w
+falls : (d w t : Pair) → d.y ≤ℤ pos 0 → Ahead w → Ahead t → pos 0 ≤ℤ cross w t → product d w ≤ℤ pos 0
+    → product d t ≤ℤ pos 0
+falls d w t down (inl h) ht side far =
+    elim (le_or_lt (product d t) (pos 0)) [
+      | inl k ↦ k
+      | inr k ↦
+          let a : pos 0 <ℤ (product d t *ℤ w.x) = product_pp (product d t) w.x k h in
+          let b : (d.y *ℤ cross w t) ≤ℤ pos 0 = product_np d.y (cross w t) down side in
+          let c : (product d w *ℤ t.x) ≤ℤ pos 0 = product_np (product d w) t.x far (ahead_nn t ht) in
+          let e = weigh_left d w t in
+          absurd (omega (arith, ints))
+    ]
+falls d w t down (inr h) (inl k) side far =
+    let a : pos 0 <ℤ (w.y *ℤ t.x) = product_pp w.y t.x h.1 k in
+    let e : w.x *ℤ t.y ≡ pos 0 = ap (λ (z : ℤ). z *ℤ t.y) h.0 ∙ omega (arith, ints) in
+    absurd (omega (arith, ints))
+falls d w t down (inr h) (inr k) side far =
+    let a : (d.y *ℤ t.y) ≤ℤ pos 0 = product_np d.y t.y down (omega (arith, ints, k.1)) in
+    let e = upright d t k.0 in
+    omega (arith, ints)
+
+-- how much farther t lies than p
+product-step : (d p t : Pair) → product d (minus t p) ≡ product d t -ℤ product d p
+unfolding product
+product-step d p t =
+    rw (
+      as_pair d,
+      as_pair p,
+      as_pair t,
+    ) (simp difference_rules (difference-eq _ _ _ _ (omega arith)))
+
+-- no farther
+no_farther : (d p t : Pair) → product d (minus t p) ≤ℤ pos 0 → product d t ≤ℤ product d p
+no_farther d p t h = let e = product-step d p t in omega (arith, ints)
+
+-- the step to a point that is no farther
+step_back : (d p t : Pair) → product d t ≤ℤ product d p → product d (minus t p) ≤ℤ pos 0
+step_back d p t h = let e = product-step d p t in omega (arith, ints)
+
+-- the side of t as seen along the line pq, by the steps from p
+side_at_start : (p q t : Pair) → cross (minus q p) (minus t p) ≡ orient p q t
+unfolding orient
+side_at_start p q t = refl
+
+-- and by the steps to q
+side_at_end : (p q t : Pair) → cross (minus q p) (minus q t) ≡ neg_ℤ (orient p q t)
+unfolding orient
+side_at_end p q t = rw (
+  as_pair p,
+  as_pair q,
+  as_pair t,
+) (simp difference_rules (difference-eq _ _ _ _ (omega arith)))
+
+-- under the line pq and after p, where d goes up and q is no farther than p: no farther than p
+pub stays_up : (d p q t : Pair) → pos 0 <ℤ d.y → IsBefore p q → IsBefore p t → orient p q t ≤ℤ pos 0
+    → product d q ≤ℤ product d p → product d t ≤ℤ product d p
+stays_up d p q t up pq pt o f =
+    no_farther d p t (rises d (minus q p) (minus t p) up (ahead_of p q pq) (ahead_of p t pt)
+    (let e = side_at_start p q t in let s = cross_swap (minus t p) (minus q p) in omega (arith, ints))
+    (step_back d p q f))
+
+-- under the line pq and before q, where d goes up and p is less far than q: less far than q
+pub goes_up : (d p q t : Pair) → pos 0 <ℤ d.y → IsBefore p q → IsBefore t q → orient p q t ≤ℤ pos 0
+    → product d p <ℤ product d q → product d t <ℤ product d q
+goes_up d p q t up pq tq o f =
+    elim (le_or_lt (product d q) (product d t)) [
+      | inr k ↦ k
+      | inl k ↦
+          let b : product d q ≤ℤ product d p =
+          no_farther d p q (rises d (minus q t) (minus q p) up (ahead_of t q tq) (ahead_of p q pq)
+          (let e = side_at_end p q t in omega (arith, ints)) (step_back d t q k)) in
+          absurd (omega (arith, ints))
+    ]
+
+-- over the line pq and after p, where d does not go up and q is no farther than p: no farther than p
+pub stays_down : (d p q t : Pair) → d.y ≤ℤ pos 0 → IsBefore p q → IsBefore p t → pos 0 ≤ℤ orient p q t
+    → product d q ≤ℤ product d p → product d t ≤ℤ product d p
+stays_down d p q t down pq pt o f =
+    no_farther d p t (falls d (minus q p) (minus t p) down (ahead_of p q pq) (ahead_of p t pt)
+    (let e = side_at_start p q t in omega (arith, ints)) (step_back d p q f))
+
+-- over the line pq and before q, where d does not go up and p is less far than q: less far than q
+pub goes_down : (d p q t : Pair) → d.y ≤ℤ pos 0 → IsBefore p q → IsBefore t q → pos 0 ≤ℤ orient p q t
+    → product d p <ℤ product d q → product d t <ℤ product d q
+goes_down d p q t down pq tq o f =
+    elim (le_or_lt (product d q) (product d t)) [
+      | inr k ↦ k
+      | inl k ↦
+          let b : product d q ≤ℤ product d p =
+          no_farther d p q (falls d (minus q t) (minus q p) down (ahead_of t q tq) (ahead_of p q pq)
+          (let e = side_at_end p q t in let s = cross_swap (minus q t) (minus q p) in omega (arith, ints))
+          (step_back d t q k)) in
+          absurd (omega (arith, ints))
+    ]

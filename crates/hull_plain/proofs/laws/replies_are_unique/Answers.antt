@@ -1,6 +1,0 @@
--- what a reply tells is determined by what is held, call by call; want of memory alone is left open
-use Rattle.hull_plain.proofs.UniqueReplies.{replies_unique}
-use Rattle.hull_plain.proofs.laws.replies_are_unique.Goals as goal
-
-pub returns : goal.returns
-returns c = replies_unique

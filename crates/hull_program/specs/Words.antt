@@ -1,0 +1,11 @@
+-- The words that a program was given.
+use Rattle.std.specs.Prelude.{◌≡◌, ℕ, List, map, slice_get, Some}
+use Rattle.std.specs.Borrow.{Bor}
+
+-- the words as texts
+abbrev pub texts_of : List (Bor (List ℕ)) → List (List ℕ)
+texts_of words = map (λ w. w.now) words
+
+-- the text is one of these
+abbrev pub IsOneOf : List (List ℕ) → List ℕ → Type 0
+IsOneOf texts text = (k : ℕ) × (slice_get texts k ≡ Some text)

@@ -1,0 +1,25 @@
+use super::refusal::Refusal;
+use std::io::{BufWriter, Printer};
+use std::rt::Files;
+use std::{fs, io};
+
+/// The bytes that are gathered before they are written.
+const WRITE_BLOCK: usize = 65536;
+
+/// Opens the file at the path to read it.
+///
+/// # Errors
+///
+/// `Memory` where memory was refused to the system, and else `Open`.
+pub fn open_file<R: Files>(rt: &R, path: &str) -> Result<R::File, Refusal> {
+    fs::open(rt, path).map_err(|error| Refusal::of_system(&error, Refusal::Open))
+}
+
+/// Standard output behind a block.
+///
+/// # Errors
+///
+/// `Memory` where memory for the block was refused.
+pub fn block_writer<R: Print + AllocGlobal>(rt: &R) -> Result<BufWriter<Printer<'_, R>>, Refusal> {
+    BufWriter::with_capacity(rt.alloc(), WRITE_BLOCK, io::writer(rt)).map_err(|_| Refusal::Memory)
+}

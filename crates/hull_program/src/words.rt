@@ -1,0 +1,81 @@
+ghost use Rattle.std.specs.Prelude.{◌≡◌, IfOk, string_bytes};
+ghost use Rattle.hull_program.specs.Words.{IsOneOf, texts_of};
+
+use super::refusal::Refusal;
+use clap::error::ErrorKind;
+use clap::{ArgMatches, Error};
+use std::alloc::Global;
+use std::env;
+use std::rt::Env;
+
+/// The words after the program's name.
+///
+/// # Errors
+///
+/// `Memory` where memory was refused, `Usage` where the system does not tell the words.
+pub fn words_given<R: Env + AllocGlobal>(rt: &R) -> Result<Vec<String>, Refusal> {
+    let mut words = Vec::new(rt.alloc());
+    let args = env::args(rt).map_err(|error| Refusal::of_system(&error, Refusal::Usage))?;
+    for word in args.skip(1) {
+        words.push(word).map_err(|_| Refusal::Memory)?;
+    }
+    Ok(words)
+}
+
+/// The words as texts.
+///
+/// # Errors
+///
+/// `Memory` where memory was refused.
+pub fn texts_of(alloc: Global, words: &[String]) -> Result<Vec<&str>, Refusal> {
+    let mut texts = Vec::new(alloc);
+    for word in words {
+        texts.push(word.as_str()).map_err(|_| Refusal::Memory)?;
+    }
+    Ok(texts)
+}
+
+/// Why words that could not be read are refused.
+pub fn refusal_of(error: &Error) -> Refusal {
+    if error.kind() == ErrorKind::OutOfMemory {
+        Refusal::Memory
+    } else {
+        Refusal::Usage
+    }
+}
+
+/// This path, as it was written: it is found among the words, so that the contract can say so.
+///
+/// # Errors
+///
+/// `Usage` where it is none of the words, `Memory` where memory was refused.
+pub fn word_of(alloc: Global, path: &str, words: &[&str]) -> Result<String, Refusal>
+    ensures word { IfOk result (λ word. IsOneOf (texts_of words.now) (string_bytes word)) }
+    ensures same { IfOk result (λ word. string_bytes word ≡ path.now) }
+{
+    for word in words {
+        if *word == path {
+            return String::from_str(alloc, word).map_err(|_| Refusal::Memory);
+        }
+    }
+    Err(Refusal::Usage)
+}
+
+/// The path that was given under this id, as it was written.
+///
+/// # Errors
+///
+/// `Usage` where none was given, `Memory` where memory was refused.
+pub fn path_of(
+    alloc: Global,
+    matches: &ArgMatches<'_>,
+    id: &str,
+    words: &[&str],
+) -> Result<String, Refusal>
+    ensures { IfOk result (λ path. IsOneOf (texts_of words.now) (string_bytes path)) }
+{
+    let Some(path) = matches.get_str(id) else {
+        return Err(Refusal::Usage);
+    };
+    word_of(alloc, path, words)
+}

@@ -1,0 +1,4 @@
+pub mod Placings
+pub mod UniqueReplies
+pub mod OrderedMaps
+pub mod Times

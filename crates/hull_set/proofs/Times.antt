@@ -1,0 +1,48 @@
+-- How often a point counts at a point.
+use Rattle.std.proofs.Common.{◌≡◌, ◌⊎◌, inl, inr, refl, subst, Bool, true, false, List, ℕ}
+use Rattle.std.specs.Bool.{Decides}
+use Rattle.std.proofs.lemmas.Bool.Decides.{Decides-and, Decides-int_eq}
+use Rattle.lattice.specs.Plane.{Pair, IsBefore}
+use Rattle.lattice.proofs.Order.{before_total, before_irrefl}
+use Rattle.hull_set.specs.Held.{Held, once}
+use Rattle.hull_set.specs.PointLists.{is_same_pair}
+
+-- the test tells whether both coordinates are equal
+told : (p q : Pair) → Decides (is_same_pair p q) ((p.x ≡ q.x) × (p.y ≡ q.y))
+told p q = Decides-and _ _ (Decides-int_eq p.x q.x) (Decides-int_eq p.y q.y)
+
+-- a point is the same as itself
+pub same_true : (p : Pair) → is_same_pair p p ≡ true
+same_true p = (told p p).1 (refl, refl)
+
+-- a test that cannot hold fails
+pub fails : (b : Bool) → ¬ (b ≡ true) → b ≡ false
+fails true n = absurd (n refl)
+fails false n = refl
+
+-- another point is not the same
+pub same_false : (p q : Pair) → ¬ (p ≡ q) → is_same_pair p q ≡ false
+same_false p q n = fails (is_same_pair p q)
+    (λ t. n (λ i. record { x = ((told p q).0 t).0 i; y = ((told p q).0 t).1 i }))
+
+-- a point counts once at itself
+pub once_same : (p : Pair) → once p p ≡ 1
+once_same p = rw (same_true p) refl
+
+-- it does not count at another one
+pub once_other : (p q : Pair) → ¬ (p ≡ q) → once p q ≡ 0
+once_other p q n = rw (same_false p q n) refl
+
+-- two points are one, or they are not
+pub same_or_other : (p q : Pair) → (p ≡ q) ⊎ ¬ (p ≡ q)
+same_or_other p q =
+    elim (before_total p q) [
+      | inl b ↦ inr (λ e. before_irrefl q (subst (λ (z : Pair). IsBefore z q) e b))
+      | inr (inl e) ↦ inl e
+      | inr (inr b) ↦ inr (λ e. before_irrefl q (subst (λ (z : Pair). IsBefore q z) e b))
+    ]
+
+-- what is held is the same where the points are and each of them is held as often
+pub same_held : (S T : List Pair) (f g : Pair → ℕ) → S ≡ T → ((q : Pair) → f q ≡ g q)
+    → ◌≡◌ {A = Held} (record { points = S; times = f }) (record { points = T; times = g })
+same_held S T f g e h = λ i. record { points = e i; times = λ q. h q i }

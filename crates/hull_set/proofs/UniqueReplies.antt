@@ -1,0 +1,348 @@
+-- A call has one reply, but for want of memory.
+use Rattle.std.proofs.Common.{◌≡◌, ◌+◌, ◌≤◌, ℕ, ℤ, pos, ◌≤ℤ◌, ◌<ℤ◌, neg_ℤ, ◌⊎◌, inl, inr, refl, sym, ap, ◌∙◌, subst}
+use Rattle.std.proofs.Common.{List, arith, ◌<◌, [], length, ◌≢◌}
+use Rattle.std.specs.List.{Contains}
+use Rattle.std.proofs.lemmas.Int.{ints}
+use Rattle.std.proofs.lemmas.List.Elements.{All-contains}
+use Rattle.lattice.specs.Covers.{Covers, Member, OnSegment}
+use Rattle.lattice.specs.Plane.{Pair, orient, product, distance_squared, IsBefore}
+use Rattle.lattice.specs.Vertices.{IsVertexList, IsDoubledArea}
+use Rattle.hull_set.specs.Held.{Held}
+use Rattle.hull_set.specs.Laws.{AgreesWith}
+use Rattle.hull_set.specs.declared.TheConstants.{MULTIPLICITY_LIMIT}
+use Rattle.hull_set.specs.declared.rules.Rules.{Rules}
+use Rattle.hull_set.specs.declared.rules.Rules.TheVariants.{Set, Counted}
+use Rattle.hull_set.specs.Replies.{AnswersAdd, AnswersRemove, AnswersExtreme, LiesAt, AnswersPlace, AnswersTangents}
+use Rattle.hull_set.specs.Replies.{AnswersVertices, AnswersArea, AnswersCount, Answers}
+use Rattle.hull_geometry.specs.Tangents.{IsFirstFarthest, IsLeftTangent, IsRightTangent}
+use Rattle.hull_geometry.proofs.CoveredByEdges.{on_segment}
+use Rattle.hull_geometry.proofs.EdgeSteps.{past_farther, past_farther_back}
+use Rattle.lattice.proofs.Order.{before_total, equal_by}
+use Rattle.hull_geometry.proofs.Orientation.{orient_swap}
+use Rattle.hull_geometry.proofs.UniqueVertices.{vertex_list_unique, doubled_area_unique}
+use Rattle.hull_set.specs.declared.call.Call.{Call}
+use Rattle.hull_set.specs.declared.call.Call.TheVariants.{Add, Remove, Extreme, Place, Tangents, Vertices, Area}
+use Rattle.hull_set.specs.declared.call.Call.TheVariants.{Count}
+use Rattle.hull_set.specs.declared.set.Place.{Place as WherePlaced}
+use Rattle.hull_set.specs.declared.set.Place.TheVariants.{Inside, On, Outside}
+use Rattle.hull_set.specs.declared.reply.Reply.{Reply}
+use Rattle.hull_set.specs.declared.reply.Reply.TheVariants.{Added, Already, Again, TooMany, NoMemory, Removed, Left}
+use Rattle.hull_set.specs.declared.reply.Reply.TheVariants.{Absent, Farthest, Empty, Lies, TangentPoints, NoTangent}
+use Rattle.hull_set.specs.declared.reply.Reply.TheVariants.{VertexList, DoubledArea, PointCount}
+
+-- the first of the farthest points is one
+pub first_farthest_unique : (S : List Pair) (d t u : Pair) → IsFirstFarthest S d t → IsFirstFarthest S d u → t ≡ u
+first_farthest_unique S d t u h g =
+    let a : product d t ≤ℤ product d u = All-contains (λ z. product d z ≤ℤ product d u) S t g.1 h.0 in
+    let b : product d u ≤ℤ product d t = All-contains (λ z. product d z ≤ℤ product d t) S u h.1 g.0 in
+    let e : product d t ≡ product d u = omega (arith, ints) in
+    equal_by t u (λ k. All-contains (λ z. IsBefore z u → product d z ≢ product d u) S t g.2 h.0 k e)
+    (λ k. All-contains (λ z. IsBefore z t → product d z ≢ product d t) S u h.2 g.0 k (sym e))
+
+-- two points of S in line with q and equally far from it, where S does not cover q
+same_distance : (S : List Pair) (q a b : Pair) → ¬ Covers S q → Contains S a → Contains S b → orient q a b ≡ pos 0
+    → distance_squared q a ≡ distance_squared q b → a ≡ b
+same_distance S q a b n ma mb z e =
+    elim (before_total a q) [
+      | inr (inl f) ↦ absurd (n (Member (subst (Contains S) f ma)))
+      | inl ha ↦ elim (before_total b q) [
+        | inr (inl f) ↦ absurd (n (Member (subst (Contains S) f mb)))
+        | inr (inr hb) ↦ absurd (n (OnSegment a b ma mb (on_segment a b q ha hb z)))
+        | inl hb ↦ equal_by a b (λ k. unequal _ _ (past_farther_back q b a hb k back) (sym e))
+            (λ k. unequal _ _ (past_farther_back q a b ha k z) e)
+      ]
+      | inr (inr ha) ↦ elim (before_total b q) [
+        | inr (inl f) ↦ absurd (n (Member (subst (Contains S) f mb)))
+        | inl hb ↦ absurd (n (OnSegment b a mb ma (on_segment b a q hb ha back)))
+        | inr (inr hb) ↦ equal_by a b (λ k. unequal _ _ (past_farther q a b ha k z) e)
+            (λ k. unequal _ _ (past_farther q b a hb k back) (sym e))
+      ]
+    ]
+  where
+    back : orient q b a ≡ pos 0
+    back = orient_swap q b a ∙ ap neg_ℤ z
+
+    unequal : (m k : ℤ) → m <ℤ k → m ≡ k → ⊥
+    unequal m k h f = omega (arith, ints)
+
+-- two sides that are not both of one sign
+no_side : (q a b : Pair) → orient q a b ≤ℤ pos 0 → orient q b a ≤ℤ pos 0 → orient q a b ≡ pos 0
+no_side q a b h k = let e = orient_swap q a b in omega (arith, ints)
+
+-- the left tangent point is one
+pub left_tangent_unique : (S : List Pair) (q a b : Pair) → ¬ Covers S q → IsLeftTangent S q a
+    → IsLeftTangent S q b → a ≡ b
+left_tangent_unique S q a b n h g =
+    let f = All-contains
+    (λ t. (orient q a t ≤ℤ pos 0)
+    × (orient q a t ≡ pos 0 → distance_squared q t ≤ℤ distance_squared q a)) S b h.1 g.0 in
+    let k = All-contains
+    (λ t. (orient q b t ≤ℤ pos 0)
+    × (orient q b t ≡ pos 0 → distance_squared q t ≤ℤ distance_squared q b)) S a g.1 h.0 in
+    let z : orient q a b ≡ pos 0 = no_side q a b f.0 k.0 in
+    let y : orient q b a ≡ pos 0 = no_side q b a k.0 f.0 in
+    same_distance S q a b n h.0 g.0 z (equal _ _ (k.1 y) (f.1 z))
+  where
+    equal : (m k : ℤ) → m ≤ℤ k → k ≤ℤ m → m ≡ k
+    equal m k h f = omega (arith, ints)
+
+-- the right tangent point is one
+pub right_tangent_unique : (S : List Pair) (q a b : Pair) → ¬ Covers S q → IsRightTangent S q a
+    → IsRightTangent S q b → a ≡ b
+right_tangent_unique S q a b n h g =
+    let f = All-contains
+    (λ t. (pos 0 ≤ℤ orient q a t)
+    × (orient q a t ≡ pos 0 → distance_squared q t ≤ℤ distance_squared q a)) S b h.1 g.0 in
+    let k = All-contains
+    (λ t. (pos 0 ≤ℤ orient q b t)
+    × (orient q b t ≡ pos 0 → distance_squared q t ≤ℤ distance_squared q b)) S a g.1 h.0 in
+    let z : orient q a b ≡ pos 0 = none _ _ (orient_swap q a b) f.0 k.0 in
+    let y : orient q b a ≡ pos 0 = none _ _ (orient_swap q b a) k.0 f.0 in
+    same_distance S q a b n h.0 g.0 z (equal _ _ (k.1 y) (f.1 z))
+  where
+    none : (m k : ℤ) → m ≡ neg_ℤ k → pos 0 ≤ℤ m → pos 0 ≤ℤ k → m ≡ pos 0
+    none m k e h f = omega (arith, ints)
+
+    equal : (m k : ℤ) → m ≤ℤ k → k ≤ℤ m → m ≡ k
+    equal m k h f = omega (arith, ints)
+
+-- q lies in one place
+pub place_unique : (S : List Pair) (q : Pair) (place other : WherePlaced) → LiesAt S q place → LiesAt S q other
+    → place ≡ other
+place_unique S q Inside Inside a b = refl
+place_unique S q Inside On a b = absurd (a.1 b.1)
+place_unique S q Inside Outside a b = absurd (b a.0)
+place_unique S q On Inside a b = absurd (b.1 a.1)
+place_unique S q On On a b = refl
+place_unique S q On Outside a b = absurd (b a.0)
+place_unique S q Outside Inside a b = absurd (a b.0)
+place_unique S q Outside On a b = absurd (a b.0)
+place_unique S q Outside Outside a b = refl
+
+-- true of the rules of a set alone
+IsOfSets : Rules → Type 0
+IsOfSets Set = Unit {0}
+IsOfSets Counted = ⊥
+
+-- the two rules are two
+set_is_not_counted : Set ≡ Counted → ⊥
+unfolding IsOfSets
+set_is_not_counted e = subst IsOfSets e tt
+
+-- the rules are not both
+one_rule : (rules : Rules) → rules ≡ Set → rules ≡ Counted → ⊥
+one_rule Set a b = set_is_not_counted b
+one_rule Counted a b = set_is_not_counted (sym a)
+
+-- `add p` where points are not counted and p is there
+already : (held : Held) (limit : ℕ) (rules : Rules) (p : Pair) (r : Reply) → rules ≡ Set → Contains held.points p
+    → AnswersAdd rules held limit p r → AgreesWith Already r
+already held limit rules p Added e a b = absurd (b.0 a)
+already held limit rules p NoMemory e a b = absurd (b.0 a)
+already held limit rules p Already e a b = inl refl
+already held limit rules p (Again n) e a b = absurd (one_rule rules e b.0)
+already held limit rules p TooMany e a (inl b) = absurd (b.0 a)
+already held limit rules p TooMany e a (inr b) = absurd (one_rule rules e b.0)
+already held limit rules p _ e a b = absurd b
+
+-- `add p` where points are counted and p is held less often than a point may be
+again : (held : Held) (limit : ℕ) (rules : Rules) (p : Pair) (n : ℕ) (r : Reply) → rules ≡ Counted
+    → Contains held.points p → n ≡ held.times p + 1 → n ≤ MULTIPLICITY_LIMIT → AnswersAdd rules held limit p r
+    → AgreesWith (Again n) r
+again held limit rules p n Added e a h l b = absurd (b.0 a)
+again held limit rules p n NoMemory e a h l b = absurd (b.0 a)
+again held limit rules p n Already e a h l b = absurd (one_rule rules b.0 e)
+again held limit rules p n (Again m) e a h l b = inl (ap Again (h ∙ sym b.2))
+again held limit rules p n TooMany e a h l (inl b) = absurd (b.0 a)
+again held limit rules p n TooMany e a h l (inr b) = absurd (omega (arith, h, l, b.2))
+again held limit rules p n _ e a h l b = absurd b
+
+-- `add p` of a new point at the limit
+full : (held : Held) (limit : ℕ) (rules : Rules) (p : Pair) (r : Reply) → ¬ Contains held.points p
+    → length held.points ≡ limit → AnswersAdd rules held limit p r → AgreesWith TooMany r
+full held limit rules p Added n e b = absurd (omega (arith, e, b.1))
+full held limit rules p NoMemory n e b = inr (inr refl)
+full held limit rules p Already n e b = absurd (n b.1)
+full held limit rules p (Again m) n e b = absurd (n b.1)
+full held limit rules p TooMany n e b = inl refl
+full held limit rules p _ n e b = absurd b
+
+-- `add p` where points are counted and p is held as often as a point may be
+most : (held : Held) (limit : ℕ) (rules : Rules) (p : Pair) (r : Reply) → rules ≡ Counted → Contains held.points p
+    → held.times p ≡ MULTIPLICITY_LIMIT → AnswersAdd rules held limit p r → AgreesWith TooMany r
+most held limit rules p Added e a h b = absurd (b.0 a)
+most held limit rules p NoMemory e a h b = absurd (b.0 a)
+most held limit rules p Already e a h b = absurd (one_rule rules b.0 e)
+most held limit rules p (Again n) e a h b = absurd (omega (arith, h, b.2, b.4))
+most held limit rules p TooMany e a h b = inl refl
+most held limit rules p _ e a h b = absurd b
+
+-- `add p` of a new point below the limit
+added : (held : Held) (limit : ℕ) (rules : Rules) (p : Pair) (r : Reply) → ¬ Contains held.points p
+    → length held.points < limit → AnswersAdd rules held limit p r → AgreesWith Added r
+added held limit rules p Added n e b = inl refl
+added held limit rules p NoMemory n e b = inr (inr refl)
+added held limit rules p Already n e b = absurd (n b.1)
+added held limit rules p (Again m) n e b = absurd (n b.1)
+added held limit rules p TooMany n e (inl b) = absurd (omega (arith, e, b.1))
+added held limit rules p TooMany n e (inr b) = absurd (n b.1)
+added held limit rules p _ n e b = absurd b
+
+-- `add p`
+add_unique : (held : Held) (limit : ℕ) (rules : Rules) (p : Pair) (r s : Reply) → AnswersAdd rules held limit p r
+    → AnswersAdd rules held limit p s → AgreesWith r s
+add_unique held limit rules p Added s a b = added held limit rules p s a.0 a.1 b
+add_unique held limit rules p NoMemory s a b = inr (inl refl)
+add_unique held limit rules p Already s a b = already held limit rules p s a.0 a.1 b
+add_unique held limit rules p (Again n) s a b = again held limit rules p n s a.0 a.1 a.2 a.4 b
+add_unique held limit rules p TooMany s (inl a) b = full held limit rules p s a.0 a.1 b
+add_unique held limit rules p TooMany s (inr a) b = most held limit rules p s a.0 a.1 a.2 b
+add_unique held limit rules p _ s a b = absurd a
+
+-- `remove p` of a point that is held once, or is not counted
+removed : (held : Held) (rules : Rules) (p : Pair) (r : Reply) → Contains held.points p
+    → (rules ≡ Counted → held.times p ≡ 1) → AnswersRemove rules held p r → AgreesWith Removed r
+removed held rules p Removed a h b = inl refl
+removed held rules p (Left n) a h b = let e : held.times p ≡ 1 = h b.0 in absurd (omega (arith, e, b.2, b.3))
+removed held rules p Absent a h b = absurd (b a)
+removed held rules p _ a h b = absurd b
+
+-- `remove p` where points are counted and p is held more than once
+left : (held : Held) (rules : Rules) (p : Pair) (n : ℕ) (r : Reply) → rules ≡ Counted → Contains held.points p
+    → held.times p ≡ n + 1 → 1 ≤ n → AnswersRemove rules held p r → AgreesWith (Left n) r
+left held rules p n Removed e a h l b = let f : held.times p ≡ 1 = b.1 e in absurd (omega (arith, f, h, l))
+left held rules p n (Left m) e a h l b = inl (ap Left (same m b.2))
+  where
+    same : (m : ℕ) → held.times p ≡ m + 1 → n ≡ m
+    same m g = omega (arith, h, g)
+left held rules p n Absent e a h l b = absurd (b a)
+left held rules p n _ e a h l b = absurd b
+
+-- `remove p` where p is not there
+absent : (held : Held) (rules : Rules) (p : Pair) (r : Reply) → ¬ Contains held.points p → AnswersRemove rules held p r
+    → AgreesWith Absent r
+absent held rules p Removed a b = absurd (a b.0)
+absent held rules p (Left n) a b = absurd (a b.1)
+absent held rules p Absent a b = inl refl
+absent held rules p _ a b = absurd b
+
+-- `remove p`
+remove_unique : (held : Held) (rules : Rules) (p : Pair) (r s : Reply) → AnswersRemove rules held p r
+    → AnswersRemove rules held p s → AgreesWith r s
+remove_unique held rules p Removed s a b = removed held rules p s a.0 a.1 b
+remove_unique held rules p (Left n) s a b = left held rules p n s a.0 a.1 a.2 a.3 b
+remove_unique held rules p Absent s a b = absent held rules p s a b
+remove_unique held rules p _ s a b = absurd a
+
+-- the empty list has no member
+pub no_member : (S : List Pair) (t : Pair) → S ≡ [] → Contains S t → ⊥
+no_member S t e m = let n : length S ≡ 0 = ap (λ (z : List Pair). length z) e in absurd (omega (arith, m.1))
+
+-- `extreme d` of a set with points
+farthest_point : (S : List Pair) (d t : Pair) (r : Reply) → IsFirstFarthest S d t → AnswersExtreme S d r
+    → AgreesWith (Farthest t) r
+farthest_point S d t (Farthest u) a b = inl (ap Farthest (first_farthest_unique S d t u a b))
+farthest_point S d t Empty a b = absurd (no_member S t b a.0)
+farthest_point S d t _ a b = absurd b
+
+-- `extreme d` of the empty set
+no_farthest : (S : List Pair) (d : Pair) (r : Reply) → S ≡ [] → AnswersExtreme S d r → AgreesWith Empty r
+no_farthest S d (Farthest u) a b = absurd (no_member S u a b.0)
+no_farthest S d Empty a b = inl refl
+no_farthest S d _ a b = absurd b
+
+-- `extreme d`
+extreme_unique : (S : List Pair) (d : Pair) (r s : Reply) → AnswersExtreme S d r → AnswersExtreme S d s → AgreesWith r s
+extreme_unique S d (Farthest t) s a b = farthest_point S d t s a b
+extreme_unique S d Empty s a b = no_farthest S d s a b
+extreme_unique S d _ s a b = absurd a
+
+-- `place q` where q lies somewhere
+lies : (S : List Pair) (q : Pair) (place : WherePlaced) (r : Reply) → LiesAt S q place → AnswersPlace S q r
+    → AgreesWith (Lies place) r
+lies S q place (Lies other) a b = inl (ap Lies (place_unique S q place other a b))
+lies S q place _ a b = absurd b
+
+-- `place q`
+placed_unique : (S : List Pair) (q : Pair) (r s : Reply) → AnswersPlace S q r → AnswersPlace S q s → AgreesWith r s
+placed_unique S q (Lies place) s a b = lies S q place s a b
+placed_unique S q _ s a b = absurd a
+
+-- a set with a tangent point of q is not empty and does not cover q
+no_both : (S : List Pair) (q l : Pair) → ¬ Covers S q → Contains S l → ¬ ((S ≡ []) ⊎ Covers S q)
+no_both S q l n m (inl e) = no_member S l e m
+no_both S q l n m (inr c) = n c
+
+-- `tangents q` from outside
+tangent_points : (S : List Pair) (q l r : Pair) (reply : Reply)
+    → ¬ Covers S q × IsLeftTangent S q l × IsRightTangent S q r → AnswersTangents S q reply
+    → AgreesWith (TangentPoints l r) reply
+tangent_points S q l r (TangentPoints m s) a b =
+    inl (ap (λ (z : Pair). TangentPoints z r) (left_tangent_unique S q l m a.0 a.1 b.1)
+    ∙ ap (TangentPoints m) (right_tangent_unique S q r s a.0 a.2 b.2))
+tangent_points S q l r NoTangent a b = absurd (no_both S q l a.0 a.1.0 b)
+tangent_points S q l r _ a b = absurd b
+
+-- `tangents q` of an empty set, or from a point that is covered
+no_tangent : (S : List Pair) (q : Pair) (reply : Reply) → (S ≡ []) ⊎ Covers S q → AnswersTangents S q reply
+    → AgreesWith NoTangent reply
+no_tangent S q (TangentPoints l r) a b = absurd (no_both S q l b.0 b.1.0 a)
+no_tangent S q NoTangent a b = inl refl
+no_tangent S q _ a b = absurd b
+
+-- `tangents q`
+tangents_unique : (S : List Pair) (q : Pair) (r s : Reply) → AnswersTangents S q r → AnswersTangents S q s
+    → AgreesWith r s
+tangents_unique S q (TangentPoints l r) s a b = tangent_points S q l r s a b
+tangents_unique S q NoTangent s a b = no_tangent S q s a b
+tangents_unique S q _ s a b = absurd a
+
+-- `vertices`, answered with a list
+listed : (S vertices : List Pair) (r : Reply) → IsVertexList S vertices → AnswersVertices S r
+    → AgreesWith (VertexList vertices) r
+listed S vertices (VertexList others) a b = inl (ap VertexList (vertex_list_unique S vertices others a b))
+listed S vertices NoMemory a b = inr (inr refl)
+listed S vertices _ a b = absurd b
+
+-- `vertices`
+vertices_unique : (S : List Pair) (r s : Reply) → AnswersVertices S r → AnswersVertices S s → AgreesWith r s
+vertices_unique S (VertexList vertices) s a b = listed S vertices s a b
+vertices_unique S NoMemory s a b = inr (inl refl)
+vertices_unique S _ s a b = absurd a
+
+-- naturals that are one as whole numbers are one
+same_natural : (m n : ℕ) → pos m ≡ pos n → m ≡ n
+same_natural m n e = omega (arith, ints)
+
+-- `area`, answered with a number
+measured : (S : List Pair) (m : ℕ) (r : Reply) → IsDoubledArea S (pos m) → AnswersArea S r
+    → AgreesWith (DoubledArea m) r
+measured S m (DoubledArea n) a b = inl (ap DoubledArea (same_natural m n (doubled_area_unique S (pos m) (pos n) a b)))
+measured S m _ a b = absurd b
+
+-- `area`
+area_unique : (S : List Pair) (r s : Reply) → AnswersArea S r → AnswersArea S s → AgreesWith r s
+area_unique S (DoubledArea n) s a b = measured S n s a b
+area_unique S _ s a b = absurd a
+
+-- `count`, answered with a number
+counted : (S : List Pair) (m : ℕ) (r : Reply) → m ≡ length S → AnswersCount S r → AgreesWith (PointCount m) r
+counted S m (PointCount n) a b = inl (ap PointCount (a ∙ sym b))
+counted S m _ a b = absurd b
+
+-- `count`
+count_unique : (S : List Pair) (r s : Reply) → AnswersCount S r → AnswersCount S s → AgreesWith r s
+count_unique S (PointCount n) s a b = counted S n s a b
+count_unique S _ s a b = absurd a
+
+-- a call has one reply, but for want of memory
+pub replies_unique : (rules : Rules) (held : Held) (limit : ℕ) (call : Call) (reply other : Reply)
+    → Answers rules held limit call reply → Answers rules held limit call other → AgreesWith reply other
+replies_unique rules held limit (Add p) r s a b = add_unique held limit rules p r s a b
+replies_unique rules held limit (Remove p) r s a b = remove_unique held rules p r s a b
+replies_unique rules held limit (Extreme d) r s a b = extreme_unique held.points d r s a b
+replies_unique rules held limit (Place q) r s a b = placed_unique held.points q r s a b
+replies_unique rules held limit (Tangents q) r s a b = tangents_unique held.points q r s a b
+replies_unique rules held limit Vertices r s a b = vertices_unique held.points r s a b
+replies_unique rules held limit Area r s a b = area_unique held.points r s a b
+replies_unique rules held limit Count r s a b = count_unique held.points r s a b

@@ -1,0 +1,18 @@
+-- The law of the replies, which is the contract of a public function with an empty body.
+use Rattle.std.specs.Prelude.{◌≡◌, ◌⊎◌, ℕ}
+use Rattle.hull_set.specs.Held.{Held}
+use Rattle.hull_set.specs.Replies.{Answers}
+use Rattle.hull_set.specs.declared.rules.Rules.{Rules}
+use Rattle.hull_set.specs.declared.call.Call.{Call}
+use Rattle.hull_set.specs.declared.reply.Reply.{Reply}
+use Rattle.hull_set.specs.declared.reply.Reply.TheVariants.{NoMemory}
+
+-- the two replies are one, or one of them says that memory was refused
+abbrev pub AgreesWith : Reply → Reply → Type 0
+AgreesWith reply other = (reply ≡ other) ⊎ ((reply ≡ NoMemory) ⊎ (other ≡ NoMemory))
+
+-- by either rules a call has one reply, but for want of memory
+abbrev pub RepliesAreUnique : Type 0
+RepliesAreUnique =
+    (rules : Rules) (held : Held) (limit : ℕ) (call : Call) (reply other : Reply)
+    → Answers rules held limit call reply → Answers rules held limit call other → AgreesWith reply other

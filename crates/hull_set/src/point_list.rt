@@ -1,0 +1,69 @@
+ghost use Rattle.std.specs.Prelude.{◌≡◌, ◌≤◌, length, vec_len};
+ghost use Rattle.std.proofs.Common.{rules};
+ghost use Rattle.std.specs.Cmp.Rules.{comparing};
+ghost use Rattle.std.specs.Cmp.Lexicographic.{pointwise};
+ghost use Rattle.hull_set.specs.PointLists.{is_same_pair};
+ghost use Rattle.hull_set.specs.declared.TheConstants.{POINT_LIMIT};
+
+use heap::Heap;
+use lattice::Point;
+use std::marker::Model;
+
+/// A list of at most [`POINT_LIMIT`](crate::POINT_LIMIT) points, as a reply has it.
+#[derive(Debug, Drop)]
+pub struct PointList {
+    points: Vec<Point, Heap>,
+}
+
+impl Model for PointList {
+    ghost use Rattle.std.specs.Prelude.{List, length, ◌≤◌};
+    ghost use Rattle.lattice.specs.Plane.{Pair};
+    ghost use Rattle.hull_set.specs.declared.TheConstants.{POINT_LIMIT};
+
+    ghost Value = { List Pair };
+
+    ghost view = { λ l. l.points.items };
+
+    ghost invariant = { λ l. length l.points.items ≤ POINT_LIMIT };
+}
+
+impl PartialEq for PointList {
+    ghost eq = { pointwise is_same_pair };
+
+    ghost laws = { Prim.search (comparing, rules) };
+
+    fn eq(&self, other: &PointList) -> bool {
+        self.points == other.points
+    }
+}
+
+impl Eq for PointList {
+    ghost laws = { Prim.search (comparing, rules) };
+}
+
+impl PointList {
+    /// The list of these points.
+    pub fn new(points: Vec<Point, Heap>) -> PointList
+        requires { vec_len points ≤ POINT_LIMIT }
+        ensures { result ≡ points.items }
+    {
+        PointList { points }
+    }
+
+    /// The points in their order.
+    pub fn as_slice(&self) -> &[Point]
+        ensures points { result.now ≡ self.now }
+        ensures few { length self.now ≤ POINT_LIMIT }
+    {
+        &self.points
+    }
+
+    /// The points in their order, with the memory that they lie in.
+    pub fn into_vec(self) -> Vec<Point, Heap>
+        ensures points { result.items ≡ self }
+        ensures few { length self ≤ POINT_LIMIT }
+    {
+        let PointList { points } = self;
+        points
+    }
+}

@@ -1,0 +1,26 @@
+//! The two sides of a hull, and turns as they are seen from either.
+ghost use Rattle.std.specs.Prelude.{◌≡◌};
+ghost use Rattle.lattice.specs.Plane.{IsWithin, widest_side};
+ghost use Rattle.lattice.specs.Turns as turns;
+
+use super::compare::orient;
+use super::point::Point;
+
+/// On which side of a hull a chain of edges lies.
+#[derive(Clone, Copy, PartialEq, Eq, Debug)]
+pub enum Side {
+    Lower,
+    Upper,
+}
+
+/// Positive where `b`, between `a` and `c` in the order "before", lies outwards of the segment from `a` to `c`: where `c` lies
+/// inwards of the line from `a` forward to `b`. It is `orient(a, b, c)` on the lower side, and its negative on the upper one.
+pub fn turn(side: Side, a: Point, b: Point, c: Point) -> i128
+    ensures value { result ≡ turns.turn side a b c }
+    ensures size { IsWithin widest_side result }
+{
+    match side {
+        Side::Lower => orient(a, b, c),
+        Side::Upper => orient(b, a, c),
+    }
+}
