@@ -14,13 +14,20 @@ differs in three ways, so that no part of the gate proves anything twice:
   does. First the crate with a change that means nothing is tried in the same way, and has to pass: so a try that refuses
   everything fails the run.
 
+As `rt ci` does, it keeps on this machine what passed, by the sums of all that it was made from, and takes it from there where a
+later run comes to the same files over the same libraries; under names of its own, so that neither takes the other's work.
+The run tells of each crate what was taken. Where the kit's `rt` has other functions than those that this file takes the
+place of, `rt ci` itself runs, and then tools/wrong_bodies.py: that proves much twice, and refuses the same.
+
 The last line is 'N passed, M failed', each crate and each edit counted; before it stands what each crate took.
 """
 import contextlib
+import hashlib
 import inspect
 import os
 import re
 import shutil
+import subprocess
 import sys
 import tempfile
 import time
@@ -34,12 +41,20 @@ KITS_LANES, KITS_CRATES = RT.in_lanes, RT.crates_of
 # what this file takes the place of, or calls, has to be what it knows: else another kit would be misread without a word
 KNOWN = {
     "checked": "(crate, texts, flags, kept)",
-    "crates_of": "(root, aside)",
+    "ci": "(anew, names=())",
+    "crates_of": "(root)",
     "edits_of": "(crate)",
     "in_lanes": "(tasks)",
     "need": "(crate)",
     "read_edit": "(edit, folder)",
+    "Kept": "(crates, anew=False)",
+    "Kept.give": "(self, crate, tests, key)",
+    "Kept.keep_tried": "(self, name, kind, text)",
+    "Kept.key": "(self, crate)",
+    "Kept.of_edit": "(self, edit, sum)",
+    "Kept.tried": "(self, name)",
 }
+
 # the last line of a proof, which may say that its work, or that of a library below, is kept
 OVER_KEPT = re.compile(LIB.VERDICT.pattern.replace(r"\n", r"( incremental=trusted)?\n"), re.M)
 COUNTS = re.compile(r"(\d+) passed, (\d+) failed")
@@ -47,6 +62,8 @@ COUNTS = re.compile(r"(\d+) passed, (\d+) failed")
 SHARE_OF_MEMORY = 0.6
 # what each kind of task took, in seconds that are summed over tasks which run beside one another
 TOOK = {}
+# the kinds of refusals by the words that the kit's store has for what may be kept
+KINDS = dict(zip(getattr(RT, "SETTLED", ()), (wrong_bodies.Kind.BY_GOAL, wrong_bodies.Kind.AT_LIMIT, wrong_bodies.Kind.BY_SHAPE)))
 
 
 @contextlib.contextmanager
@@ -63,7 +80,42 @@ def copied(folder, to):
     shutil.copytree(folder, to, copy_function=os.link)
 
 
-class Kept(RT.Crate):
+class Store(getattr(RT, "Kept", object)):
+    """What earlier runs of this file on this machine passed: the kit's own store, under other names."""
+
+    run = None
+
+    def __init__(self, crates, anew=False):
+        super().__init__(crates, anew)
+        Store.run = self
+
+    def key(self, crate):
+        """As the kit's own, but for no other run than one of this file."""
+        return hashlib.sha256(f"over kept work {super().key(crate)}".encode()).hexdigest()
+
+    def give(self, crate, tests, key):
+        """As the kit's own. An archive for C is proved by each run, as the kit keeps none; a library was built with its proofs,
+        so that other commands may use it too."""
+        if crate.is_static and not tests or not super().give(crate, tests, key):
+            return False
+        if not tests and not crate.is_program:
+            with open(f"{crate.folder}/out/rlib/stamp", "w", encoding="utf-8") as text:
+                text.write(crate.stamp())
+        return True
+
+    def outcome(self, crate, edit):
+        """What an earlier run on the same files saw of an edit, if one did."""
+        known = self.tried(self.of_edit(edit.path, self.key(crate)))
+        return known and wrong_bodies.Outcome(edit.name, KINDS[known[0]], known[1])
+
+    def keep_outcome(self, crate, edit, outcome):
+        """Keeps what was seen of an edit, where that is a refusal and no file was changed meanwhile."""
+        kind = next((it for it, of in KINDS.items() if of is outcome.kind), None)
+        if kind and self.is_untouched(crate):
+            self.keep_tried(self.of_edit(edit.path, self.key(crate)), kind, outcome.told)
+
+
+class KeepingCrate(RT.Crate):
     """A crate whose proof keeps its work, and whose tests and programs are built over that."""
 
     def kept(self):
@@ -97,7 +149,7 @@ class Edits:
     """The tries of a crate's edits, of must-fail/ and of wrong-bodies/, in groups."""
 
     def __init__(self, crate):
-        self.crate, self.outcomes = crate, {}
+        self.crate, self.outcomes, self.known = crate, {}, 0
         self.edits, self.bad = wrong_bodies.edits_of(crate)
         self.groups = wrong_bodies.groups_of(crate, self.edits)
 
@@ -109,20 +161,31 @@ class Edits:
             yield f"{room}/kept"
 
     def ground(self, given, jobs):
-        """The crate's functions, where a change that means nothing passes over its kept work."""
+        """The crate's functions, where a change that means nothing passes over its kept work; none where no edit is left to try."""
         if not given[self.crate.name, "proof"]:
             return []
-        with timed(self.crate.name, "edits"), self.over_kept() as over:
-            return wrong_bodies.functions_of(self.crate, over)
+        earlier = {it.path: Store.run.outcome(self.crate, it) for it in self.edits}
+        self.outcomes = {path: it for path, it in earlier.items() if it}
+        self.known = len(self.outcomes)
+        if self.known == len(self.edits):
+            return []
+        with timed(self.crate.name, "edits"):
+            if not os.path.isdir(self.crate.kept()):
+                # (its proof was an earlier run's, which kept no work)
+                os.makedirs(self.crate.kept())
+                RT.checked(self.crate, {}, ["--jobs", str(jobs)], self.crate.kept())
+            with self.over_kept() as over:
+                return wrong_bodies.functions_of(self.crate, over)
 
     def tried(self, given, jobs, group):
-        """Tries a group over a copy of what the crate's proof kept."""
-        paths = given[self.crate.name, "seed"]
-        if not paths:
+        """Tries what no earlier run tried of a group, over a copy of what the crate's proof kept."""
+        paths, left = given[self.crate.name, "seed"], [it for it in group if it.path not in self.outcomes]
+        if not paths or not left:
             return
         with timed(self.crate.name, "edits"), self.over_kept() as over:
-            for edit, outcome in zip(group, wrong_bodies.tried(self.crate, group, over, paths)):
+            for edit, outcome in zip(left, wrong_bodies.tried(self.crate, left, over, paths)):
                 self.outcomes[edit.path] = outcome
+                Store.run.keep_outcome(self.crate, edit, outcome)
 
     def add_tasks(self, tasks):
         """Adds what tries the edits to the tasks of a run."""
@@ -138,6 +201,8 @@ class Edits:
         ended = [self.outcomes.get(it.path) or wrong_bodies.Outcome(it.name, *lost) for it in self.edits] + self.bad
         lines = [it.line(self.crate) for it in ended]
         print(*lines, sep="\n" if lines else "", flush=True)
+        if self.known:
+            print(f"{self.crate.name}: {self.known} of its {len(ended)} edits were tried by an earlier run on this machine, on the same files")
         refused = sum(it.is_refused() for it in ended)
         return refused, len(ended) - refused
 
@@ -157,9 +222,9 @@ class Run:
     def __init__(self, named):
         self.named, self.edits, self.left_out, self.counts = named, [], (), (0, 1)
 
-    def crates_of(self, root, aside):
+    def crates_of(self, root):
         """The kit's own, and which of them are left out where some are named."""
-        crates = KITS_CRATES(root, aside)
+        crates = KITS_CRATES(root)
         chosen = {low.name for it in crates if it.name in self.named or not self.named for low in [it, *it.below()]}
         self.left_out = {it.name for it in crates} - chosen
         self.edits = [it for it in map(Edits, crates) if it.crate.name in chosen and (it.groups or it.bad)]
@@ -186,9 +251,10 @@ class Run:
 
     def run(self):
         """Runs it all. The status of the command."""
-        RT.Crate, RT.crates_of, RT.in_lanes, RT.print = Kept, self.crates_of, self.in_lanes, self.print
+        RT.Crate, RT.Kept = KeepingCrate, Store
+        RT.crates_of, RT.in_lanes, RT.print = self.crates_of, self.in_lanes, self.print
         RT.edits_of, LIB.VERDICT = lambda crate: ([], []), OVER_KEPT
-        RT.ci(*([False, []] if inspect.signature(RT.ci).parameters else []))
+        RT.ci(False)
         of_edits = [it.tell() for it in self.edits]
         tell_times()
         passed, failed = (sum(it) for it in zip(self.counts, *of_edits))
@@ -196,12 +262,34 @@ class Run:
         return 1 if failed or not passed else 0
 
 
+def words_of(name):
+    """The parameters of a function of the kit's `rt`, or of a class's, as text."""
+    found = RT
+    for part in name.split("."):
+        found = getattr(found, part, None)
+    return str(inspect.signature(found)) if found else "none"
+
+
+def run_plainly(named):
+    """Runs `rt ci` itself, and then what tries the wrong bodies. The status of the command."""
+    counts, status = [0, 0], 0
+    for command in (["rt", "ci", *named], ["tools/wrong_bodies.py", *named]):
+        ran = subprocess.run(command, stdin=subprocess.DEVNULL, stdout=subprocess.PIPE, stderr=subprocess.STDOUT, text=True, check=False)
+        print(ran.stdout, end="", flush=True)
+        told = COUNTS.match(ran.stdout.rstrip().rpartition("\n")[2])
+        passed, failed = (int(told[1]), int(told[2])) if told else (0, 1)
+        counts, status = [counts[0] + passed, counts[1] + failed], status or ran.returncode
+    counts[1] = counts[1] or (1 if status else 0)
+    print(f"{counts[0]} passed, {counts[1]} failed")
+    return 1 if counts[1] else 0
+
+
 def main(named):
-    strange = [it for it, words in KNOWN.items() if not hasattr(RT, it) or str(inspect.signature(getattr(RT, it))) != words]
-    if strange:
-        print(f"this kit's rt differs from what tools/proofs.py knows: {' '.join(strange)}\n0 passed, 1 failed")
-        return 2
     os.chdir(TOP)
+    strange = [it for it, words in KNOWN.items() if words_of(it) != words]
+    if strange:
+        print(f"this kit's rt differs from what tools/proofs.py knows ({' '.join(strange)}): rt ci itself is run, and then tools/wrong_bodies.py", flush=True)
+        return run_plainly(named)
     return Run(named).run()
 
 
