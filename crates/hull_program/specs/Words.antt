@@ -9,3 +9,7 @@ texts_of words = map (λ w. w.now) words
 -- the text is one of these
 abbrev pub IsOneOf : List (List ℕ) → List ℕ → Type 0
 IsOneOf texts text = (k : ℕ) × (slice_get texts k ≡ Some text)
+
+-- strings as texts
+abbrev pub words_as_texts : List String → List (List ℕ)
+words_as_texts words = map string_bytes words
