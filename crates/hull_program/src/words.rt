@@ -1,5 +1,5 @@
 ghost use Rattle.std.specs.Prelude.{◌≡◌, ◌≢◌, IfErr, IfOk, string_bytes};
-ghost use Rattle.clap.specs.Faults.{kind_of};
+ghost use Rattle.clap.specs.Values.{kind_of};
 ghost use Rattle.hull_program.specs.Words.{IsOneOf, texts_of, words_as_texts};
 
 use super::refusal::Refusal;
