@@ -1,4 +1,4 @@
-ghost use Rattle.std.specs.Prelude.{◌≡◌, ◌≢◌, IfErr, IfOk, string_bytes};
+ghost use Rattle.std.specs.Prelude.{◌≡◌, ◌≢◌, ◌⊎◌, IfErr, IfOk, string_bytes};
 ghost use Rattle.clap.specs.Values.{kind_of};
 ghost use Rattle.hull_program.specs.Words.{IsOneOf, texts_of, words_as_texts};
 
@@ -14,7 +14,9 @@ use std::rt::Env;
 /// # Errors
 ///
 /// `Memory` where memory was refused, `Usage` where the system does not tell the words.
-pub fn words_given<R: Env + AllocGlobal>(rt: &R) -> Result<Vec<String>, Refusal> {
+pub fn words_given<R: Env + AllocGlobal>(rt: &R) -> Result<Vec<String>, Refusal>
+    ensures { IfErr result (λ refusal. (refusal ≡ Refusal.Memory) ⊎ (refusal ≡ Refusal.Usage)) }
+{
     let mut words = Vec::new(rt.alloc());
     let args = env::args(rt).map_err(|error| Refusal::of_system(&error, Refusal::Usage))?;
     for word in args.skip(1) {
