@@ -4,9 +4,8 @@ use Rattle.std.specs.Prelude.{Some, None, Result, Ok, Err}
 use Rattle.std.specs.List.{join_with_byte}
 use Rattle.hull_book.specs.declared.limits.TheConstants.{TEXT_LINE_LIMIT}
 use Rattle.hull_book.specs.Scripts.{ScriptValue}
-use Rattle.hull_text.specs.declared.fault.FaultKind.{FaultKind}
 use Rattle.hull_text.specs.declared.fault.TextFault.{TextFault}
-use Rattle.hull_text.specs.Fault.{IsOutside, fault_number}
+use Rattle.hull_text.specs.Fault.{HasFault, IsOutside}
 use Rattle.hull_text.specs.Version.{newest}
 use Rattle.hull_text.specs.Item.{Item}
 use Rattle.hull_text.specs.Spelling.{IsCall, call_fields}
@@ -37,10 +36,7 @@ pub record IsScriptText (bytes : List ℕ) (script : ScriptValue) : Type 0 where
 
 -- A line behind so many others has this fault: its own first one from the left, or that it is one line too many.
 abbrev pub HasLineFault : ℕ → List ℕ → ℕ → Type 0
-HasLineFault before line number =
-    ((before ≡ TEXT_LINE_LIMIT) × (number ≡ 1))
-    ⊎ ((before < TEXT_LINE_LIMIT)
-    × ((kind : FaultKind) × (script_line_of line ≡ Err kind) × (number ≡ fault_number kind)))
+HasLineFault before line number = HasFault TEXT_LINE_LIMIT before (script_line_of line) number
 
 -- The first fault of the bytes: all lines before it are right.
 pub record IsScriptFault (bytes : List ℕ) (f : TextFault) : Type 0 where

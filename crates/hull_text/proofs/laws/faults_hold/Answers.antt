@@ -10,23 +10,19 @@ use Rattle.hull_text.specs.ScriptValue.{script_of}
 use Rattle.hull_text.specs.ScriptGrammar.{IsScriptFault, IsScriptText, ReadsScript}
 use Rattle.hull_text.specs.JournalReading.{journal_of}
 use Rattle.hull_text.specs.JournalGrammar.{IsJournalFault, IsJournalText, ReadsJournal}
-use Rattle.hull_text.proofs.ScriptTexts.{script_again, script_fault_again, script_fault_is, script_taken, text_err_is}
-use Rattle.hull_text.proofs.ScriptTexts.{text_failed, text_ok_is}
+use Rattle.hull_text.proofs.Binds.{err_is, no_fault, ok_is}
+use Rattle.hull_text.proofs.ScriptTexts.{script_again, script_fault_again, script_fault_is, script_taken}
 use Rattle.hull_text.proofs.JournalTexts.{journal_again, journal_taken}
 use Rattle.hull_text.proofs.JournalFaults.{journal_fault_again, journal_fault_is}
 use Rattle.hull_text.proofs.laws.faults_hold.Goals as goal
 
--- a reading with a fault gives no value
-no_value : {A : Type 0} (x : A) (f : TextFault) → Ok x ≡ text_failed f → ⊥
-no_value x f e = cc
-
 pub returns-clause-script_one : goal.returns-clause-script_one
 returns-clause-script_one c =
-    λ bytes f g s t. text_err_is {A = List Item} f g (sym (script_fault_again bytes f s) ∙ script_fault_again bytes g t)
+    λ bytes f g s t. err_is {A = List Item} f g (sym (script_fault_again bytes f s) ∙ script_fault_again bytes g t)
 
 pub returns-clause-script_none : goal.returns-clause-script_none
 returns-clause-script_none c =
-    λ bytes script f s t. no_value s.items f (sym (script_again bytes script s) ∙ script_fault_again bytes f t)
+    λ bytes script f s t. no_fault s.items f (sym (script_again bytes script s) ∙ script_fault_again bytes f t)
 
 pub returns-clause-script_else : goal.returns-clause-script_else
 returns-clause-script_else c = λ bytes. step bytes (script_items bytes) refl
@@ -39,12 +35,12 @@ returns-clause-script_else c = λ bytes. step bytes (script_items bytes) refl
 
 pub returns-clause-journal_one : goal.returns-clause-journal_one
 returns-clause-journal_one c =
-    λ bytes f g s t. text_err_is {A = JournalValue} f g
+    λ bytes f g s t. err_is {A = JournalValue} f g
     (sym (journal_fault_again bytes f s) ∙ journal_fault_again bytes g t)
 
 pub returns-clause-journal_none : goal.returns-clause-journal_none
 returns-clause-journal_none c =
-    λ bytes j f s t. no_value j f (sym (ap journal_of s.2 ∙ journal_again s.0 j s.1) ∙ journal_fault_again bytes f t)
+    λ bytes j f s t. no_fault j f (sym (ap journal_of s.2 ∙ journal_again s.0 j s.1) ∙ journal_fault_again bytes f t)
 
 pub returns-clause-journal_else : goal.returns-clause-journal_else
 returns-clause-journal_else c = λ bytes. step bytes (journal_of bytes) refl
@@ -62,18 +58,18 @@ returns-clause-script_answers c = λ bytes a b s t own other. step bytes a b s t
         → IsServed a → IsServed b → a ≡ b
     step bytes (Ok x) (Ok y) s t own other =
         ap (λ (v : ScriptValue). Ok v)
-        (s.value ∙ ap script_of (text_ok_is s.items t.items (sym (script_again bytes x s) ∙ script_again bytes y t))
+        (s.value ∙ ap script_of (ok_is s.items t.items (sym (script_again bytes x s) ∙ script_again bytes y t))
         ∙ sym t.value)
     step bytes (Ok x) (Err g) s (inl t) own other = absurd (other t.0)
     step bytes (Ok x) (Err g) s (inr t) own other =
-        absurd (no_value s.items g (sym (script_again bytes x s) ∙ script_fault_again bytes g t))
+        absurd (no_fault s.items g (sym (script_again bytes x s) ∙ script_fault_again bytes g t))
     step bytes (Err f) (Ok y) (inl s) t own other = absurd (own s.0)
     step bytes (Err f) (Ok y) (inr s) t own other =
-        absurd (no_value t.items f (sym (script_again bytes y t) ∙ script_fault_again bytes f s))
+        absurd (no_fault t.items f (sym (script_again bytes y t) ∙ script_fault_again bytes f s))
     step bytes (Err f) (Err g) (inl s) t own other = absurd (own s.0)
     step bytes (Err f) (Err g) (inr s) (inl t) own other = absurd (other t.0)
     step bytes (Err f) (Err g) (inr s) (inr t) own other =
-        ap (λ (h : TextFault). Err h) (text_err_is {A = List Item} f g
+        ap (λ (h : TextFault). Err h) (err_is {A = List Item} f g
         (sym (script_fault_again bytes f s) ∙ script_fault_again bytes g t))
 
 pub returns-clause-journal_answers : goal.returns-clause-journal_answers
@@ -85,15 +81,15 @@ returns-clause-journal_answers c = λ bytes a b s t own other. step bytes a b s 
     step : (bytes : List ℕ) (a b : Result JournalValue TextFault) → ReadsJournal bytes a → ReadsJournal bytes b
         → IsServed a → IsServed b → a ≡ b
     step bytes (Ok x) (Ok y) s t own other =
-        ap (λ (v : JournalValue). Ok v) (text_ok_is x y (sym (said bytes x s) ∙ said bytes y t))
+        ap (λ (v : JournalValue). Ok v) (ok_is x y (sym (said bytes x s) ∙ said bytes y t))
     step bytes (Ok x) (Err g) s (inl t) own other = absurd (other t.0)
     step bytes (Ok x) (Err g) s (inr t) own other =
-        absurd (no_value x g (sym (said bytes x s) ∙ journal_fault_again bytes g t))
+        absurd (no_fault x g (sym (said bytes x s) ∙ journal_fault_again bytes g t))
     step bytes (Err f) (Ok y) (inl s) t own other = absurd (own s.0)
     step bytes (Err f) (Ok y) (inr s) t own other =
-        absurd (no_value y f (sym (said bytes y t) ∙ journal_fault_again bytes f s))
+        absurd (no_fault y f (sym (said bytes y t) ∙ journal_fault_again bytes f s))
     step bytes (Err f) (Err g) (inl s) t own other = absurd (own s.0)
     step bytes (Err f) (Err g) (inr s) (inl t) own other = absurd (other t.0)
     step bytes (Err f) (Err g) (inr s) (inr t) own other =
-        ap (λ (h : TextFault). Err h) (text_err_is {A = JournalValue} f g
+        ap (λ (h : TextFault). Err h) (err_is {A = JournalValue} f g
         (sym (journal_fault_again bytes f s) ∙ journal_fault_again bytes g t))

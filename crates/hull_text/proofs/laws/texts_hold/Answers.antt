@@ -2,16 +2,17 @@
 use Rattle.std.proofs.Common.{refl, sym, ap, ◌∙◌}
 use Rattle.hull_text.specs.ScriptValue.{script_of}
 use Rattle.hull_text.specs.JournalReading.{journal_of}
-use Rattle.hull_text.proofs.ScriptTexts.{script_again, text_ok_is}
+use Rattle.hull_text.proofs.Binds.{ok_is}
+use Rattle.hull_text.proofs.ScriptTexts.{script_again}
 use Rattle.hull_text.proofs.JournalTexts.{journal_taken, journal_again}
 use Rattle.hull_text.proofs.laws.texts_hold.Goals as goal
 
 pub returns-clause-scripts : goal.returns-clause-scripts
 returns-clause-scripts c = λ bytes script other s t. s.value ∙ ap script_of
-    (text_ok_is s.items t.items (sym (script_again bytes script s) ∙ script_again bytes other t)) ∙ sym t.value
+    (ok_is s.items t.items (sym (script_again bytes script s) ∙ script_again bytes other t)) ∙ sym t.value
 
 pub returns-clause-journals : goal.returns-clause-journals
-returns-clause-journals c = λ bytes j k s t. text_ok_is j k
+returns-clause-journals c = λ bytes j k s t. ok_is j k
     (sym (ap journal_of s.2 ∙ journal_again s.0 j s.1) ∙ ap journal_of t.2 ∙ journal_again t.0 k t.1)
 
 pub returns-clause-one : goal.returns-clause-one
