@@ -9,6 +9,7 @@ pub mod ScriptLines
 pub mod Drafts
 pub mod Numbers
 pub mod Binds
+pub mod Grammars
 pub mod NumberedLines
 pub mod Versions
 pub mod Formats

@@ -5,7 +5,7 @@ use Rattle.std.specs.Prelude.{nat_le}
 use Rattle.hull_text.specs.declared.fault.FaultKind.{FaultKind}
 use Rattle.hull_text.specs.declared.fault.FaultKind.TheVariants.{Form}
 use Rattle.hull_text.specs.declared.fault.TextFault.{TextFault}
-use Rattle.hull_text.specs.Fault.{HasFault, NoFaultBefore, fault_at, fault_number}
+use Rattle.hull_text.specs.Fault.{HasFault, fault_at, fault_number}
 use Rattle.hull_text.specs.ScriptText.{at_line, numbered}
 use Rattle.hull_text.proofs.Binds.{chosen, err_is, guard_ok, low_le, le_test, over_test, ok_is, test_over}
 
@@ -49,11 +49,6 @@ numbered_again n r x e le = numbered_is n r le ∙ rw e refl
 pub fault_made : (n : ℕ) (kind : FaultKind) (f : TextFault) → f.line ≡ n → f.number ≡ fault_number kind
     → fault_at n kind ≡ f
 fault_made n kind f place number = rw (← place, ← number) refl
-
--- What has a fault has it no earlier than where it has none
-pub not_before : {V : Type 0} (m : ℕ) (g : TextFault) (r : Result V TextFault) → NoFaultBefore m r → r ≡ Err g
-    → m ≤ g.line
-not_before m g r h e = rw e at h
 
 module _ {A : Type 0} (most before n : ℕ) (r : Result A FaultKind) (f : TextFault)
     (place : n + most ≡ before + 33554433) where

@@ -1,5 +1,5 @@
 -- The bytes are read as items just where their lines say these, and else have a first fault.
-use Rattle.std.proofs.Common.{◌≡◌, ◌≤◌, ◌+◌, ℕ, suc, List, [], ◌∷◌, ◌++◌, length, Option, Some, None}
+use Rattle.std.proofs.Common.{◌≡◌, ◌≤◌, ◌+◌, ℕ, suc, List, [], ◌∷◌, ◌++◌, length, Option}
 use Rattle.std.proofs.Common.{Result, Ok, Err, refl, sym, ap, subst, ◌∙◌, add-zero, zero-add, arith, inl, inr}
 use Rattle.std.proofs.lemmas.List.{length-append}
 use Rattle.hull_book.specs.Scripts.{ScriptValue}
@@ -16,7 +16,8 @@ use Rattle.hull_text.specs.ScriptGrammar.{ReadsScript, ReadsKnownScript, AreScri
 use Rattle.hull_text.specs.ScriptGrammar.{HasLineFault, IsScriptFault}
 use Rattle.hull_text.proofs.Binds.{bind_err, bind_ok, made_err, ok_is}
 use Rattle.hull_text.proofs.NumberedLines.{FaultFrom, here, later, numbered_again, numbered_err, numbered_ok}
-use Rattle.hull_text.proofs.NumberedLines.{not_before, numbered_stop}
+use Rattle.hull_text.proofs.NumberedLines.{numbered_stop}
+use Rattle.hull_text.proofs.Grammars.{Grammar, fault_answered, known_then}
 use Rattle.hull_text.proofs.ScriptLines.{at_start}
 use Rattle.hull_text.proofs.ScriptSpelled.{line_takes, line_again}
 
@@ -54,14 +55,14 @@ items_again n (line ∷ next ∷ lines) items h le =
     (ap (λ (x : List Item). Ok x) (sym h.4))
 
 -- The items that are read make the script whose text the bytes are.
-pub script_taken : (bytes : List ℕ) (items : List Item) → script_items bytes ≡ Ok items
+script_taken : (bytes : List ℕ) (items : List Item) → script_items bytes ≡ Ok items
     → IsScriptText bytes (script_of items)
 script_taken bytes items e =
     let t = items_take 1 (pieces bytes) items (omega arith) e in
     record { items = items; lines = t.0; count = omega (arith, t.1); value = refl }
 
 -- A text of a script is read.
-pub script_again : (bytes : List ℕ) (script : ScriptValue) (s : IsScriptText bytes script)
+script_again : (bytes : List ℕ) (script : ScriptValue) (s : IsScriptText bytes script)
     → script_items bytes ≡ Ok s.items
 script_again bytes script s = items_again 1 (pieces bytes) s.items s.lines (omega (arith, s.count))
 
@@ -95,7 +96,7 @@ items_fault m (line ∷ next ∷ lines) f le e =
     ]
 
 -- The fault that is read is the first one of the bytes.
-pub script_fault_is : (bytes : List ℕ) (f : TextFault) → script_items bytes ≡ Err f → IsScriptFault bytes f
+script_fault_is : (bytes : List ℕ) (f : TextFault) → script_items bytes ≡ Err f → IsScriptFault bytes f
 script_fault_is bytes f e =
     let t = items_fault 0 (pieces bytes) f (omega arith) e in
     record {
@@ -160,28 +161,30 @@ items_stop m (p ∷ next ∷ ps) (l ∷ before) line after items f whole right p
     few k (inr h) = omega (arith, h.0)
 
 -- The first fault of the bytes is the one that is read.
-pub script_fault_again : (bytes : List ℕ) (f : TextFault) → IsScriptFault bytes f → script_items bytes ≡ Err f
+script_fault_again : (bytes : List ℕ) (f : TextFault) → IsScriptFault bytes f → script_items bytes ≡ Err f
 script_fault_again bytes f s =
     let none : length s.before ≡ 0 + length s.before = omega arith in
     items_stop 0 (pieces bytes) s.before s.line s.after s.items f s.whole s.right
     (omega (arith, s.place)) (subst (λ (n : ℕ). HasLineFault n s.line f.number) none s.fault)
 
+-- The texts of scripts.
+pub scripts : Grammar script_of script_items IsScriptText IsScriptFault
+scripts = record {
+  takes = script_taken;
+  again = λ bytes script s. (s.items, s.value, script_again bytes script s);
+  fails = script_fault_is;
+  fails_again = script_fault_again;
+}
+
 -- What a reader of items answers is right for the bytes.
 pub reads_known : (known : Option (List ℕ)) (items : List Item) (n : ℕ) (answer : Result ScriptValue TextFault)
     → items ≡ [] → n ≡ 1 → AnswersAll (AnswersScript items n) known answer → ReadsKnownScript known answer
-reads_known None items n answer none first h = tt
-reads_known (Some bytes) items n answer none first h =
-    λ small. step answer (subst (λ (k : ℕ). AnswersScript [] k bytes answer) first
-    (subst (λ (is : List Item). AnswersScript is n bytes answer) none (h small)))
+reads_known known items n answer none first h =
+    known_then (AnswersScript items n) ReadsScript answer answer known
+    (λ bytes a. step bytes answer (rw (none, first) at a)) h
   where
-    step : (answer : Result ScriptValue TextFault) → AnswersScript [] 1 bytes answer → ReadsScript bytes answer
-    step (Ok v) h = subst (λ (script : ScriptValue). IsScriptText bytes script) (sym h.2)
+    step : (bytes : List ℕ) (answer : Result ScriptValue TextFault) → AnswersScript [] 1 bytes answer
+        → ReadsScript bytes answer
+    step bytes (Ok v) h = subst (λ (script : ScriptValue). IsScriptText bytes script) (sym h.2)
         (script_taken bytes h.0 (sym (at_start bytes) ∙ h.1))
-    step (Err f) h = elim h [
-      | inl o ↦ inl (
-        o.0,
-        λ g s. not_before f.line g (reading [] 1 bytes) o.1
-            (at_start bytes ∙ script_fault_again bytes g s),
-      )
-      | inr e ↦ inr (script_fault_is bytes f (sym (at_start bytes) ∙ e))
-    ]
+    step bytes (Err f) h = fault_answered scripts bytes f (reading [] 1 bytes) (at_start bytes) h
