@@ -9,7 +9,10 @@ pub mod ScriptLines
 pub mod Drafts
 pub mod Numbers
 pub mod Binds
+pub mod Grammars
+pub mod NumberedLines
 pub mod Versions
+pub mod Formats
 pub mod Fields
 pub mod Calls
 pub mod Joined

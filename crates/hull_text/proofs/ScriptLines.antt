@@ -8,7 +8,8 @@ use Rattle.hull_book.specs.Scripts.{ScriptValue}
 use Rattle.hull_text.specs.declared.fault.TextFault.{TextFault}
 use Rattle.hull_text.specs.Item.{Item}
 use Rattle.hull_text.specs.ScriptLine.{script_line_of}
-use Rattle.hull_text.specs.ScriptText.{◌>>>◌, numbered, kept, last_items, items_of, pieces, with_front, script_items}
+use Rattle.hull_text.specs.Field.{◌>>=◌}
+use Rattle.hull_text.specs.ScriptText.{numbered, kept, last_items, items_of, pieces, with_front, script_items}
 use Rattle.hull_text.specs.ScriptValue.{script_of}
 use Rattle.hull_text.specs.Reading.{HasNoNewline, ReadsOn, FailsIn}
 use Rattle.hull_text.specs.ScriptReading.{reading, AnswersItems, AnswersScript}
@@ -21,7 +22,7 @@ kept_front (Some i) js = refl
 
 -- Reading a line is keeping what it says.
 regroup : (items : List Item) (r : Result (Option Item) TextFault) (q : Result (List Item) TextFault)
-    → with_front items (r >>> λ s. q >>> λ js. Ok (kept s js)) ≡ (r >>> λ s. with_front (items ++ kept s []) q)
+    → with_front items (r >>= λ s. q >>= λ js. Ok (kept s js)) ≡ (r >>= λ s. with_front (items ++ kept s []) q)
 regroup items (Err e) q = refl
 regroup items (Ok s) (Err e) = refl
 regroup items (Ok s) (Ok js) =
@@ -31,7 +32,7 @@ regroup items (Ok s) (Ok js) =
 -- A line that is not the last.
 items_cons : (n : ℕ) (line : List ℕ) (lines : List (List ℕ)) → 0 < length lines
     → items_of n (line ∷ lines)
-    ≡ (numbered n (script_line_of line) >>> λ s. items_of (suc n) lines >>> λ js. Ok (kept s js))
+    ≡ (numbered n (script_line_of line) >>= λ s. items_of (suc n) lines >>= λ js. Ok (kept s js))
 unfolding items_of
 items_cons n line [] some = absurd (omega arith)
 items_cons n line (next ∷ lines) some = refl
@@ -39,7 +40,7 @@ items_cons n line (next ∷ lines) some = refl
 -- A line is read, and then what stands behind its newline.
 newline : (items : List Item) (n : ℕ) (line rest : List ℕ) → HasNoNewline line
     → reading items n (line ++ 10 ∷ rest)
-    ≡ (numbered n (script_line_of line) >>> λ s. reading (items ++ kept s []) (suc n) rest)
+    ≡ (numbered n (script_line_of line) >>= λ s. reading (items ++ kept s []) (suc n) rest)
 unfolding reading
 newline items n line rest whole =
     let cut : pieces (line ++ 10 ∷ rest) ≡ line ∷ pieces rest =
@@ -85,12 +86,12 @@ last_piece items n line whole =
 
 -- It is a line where it is not empty.
 last_line : (items : List Item) (n : ℕ) (line : List ℕ) → 0 < length line
-    → with_front items (last_items n line) ≡ (numbered n (script_line_of line) >>> λ s. Ok (items ++ kept s []))
+    → with_front items (last_items n line) ≡ (numbered n (script_line_of line) >>= λ s. Ok (items ++ kept s []))
 last_line items n [] some = absurd (omega arith)
 last_line items n (b ∷ bs) some = step (numbered n (script_line_of (b ∷ bs)))
   where
     step : (r : Result (Option Item) TextFault)
-        → with_front items (r >>> λ s. Ok (kept s [])) ≡ (r >>> λ s. Ok (items ++ kept s []))
+        → with_front items (r >>= λ s. Ok (kept s [])) ≡ (r >>= λ s. Ok (items ++ kept s []))
     step (Ok s) = refl
     step (Err e) = refl
 

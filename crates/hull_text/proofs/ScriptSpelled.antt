@@ -4,10 +4,9 @@ use Rattle.std.proofs.Common.{codes, refl, sym, ap, subst, ◌∙◌, arith, inl
 use Rattle.std.specs.Prelude.{◌==◌}
 use Rattle.std.specs.List.{join_with_byte}
 use Rattle.std.specs.Str.{bytes_eq}
-use Rattle.std.proofs.lemmas.Bool.{eqb-true}
+use Rattle.std.proofs.lemmas.Bool.{eqb-true, ne_eqb}
 use Rattle.std.proofs.lemmas.List.{append-nil}
 use Rattle.std.proofs.lemmas.List.Splits.{join_with_byte-slice_split}
-use Rattle.std.proofs.lemmas.Bool.Decides.{nat_tests}
 use Rattle.hull_set.specs.declared.call.Call.{Call}
 use Rattle.hull_text.specs.declared.fault.FaultKind.TheVariants.{Form}
 use Rattle.hull_text.specs.Version.{newest}
@@ -21,9 +20,10 @@ use Rattle.hull_text.specs.Spelling.{IsCall, call_fields}
 use Rattle.hull_text.specs.ScriptGrammar.{IsScriptLine}
 use Rattle.hull_text.proofs.Numbers.{text_number}
 use Rattle.hull_text.proofs.Binds.{chosen, bind_ok, ok_is, guard_err, word_is}
-use Rattle.hull_text.proofs.Fields.{first_digit, seat_takes, seat_again}
-use Rattle.hull_text.proofs.Calls.{call_takes, call_again}
-use Rattle.hull_text.proofs.Joined.{cut, decimal_field, call_are_fields, joined_form, split_joined}
+use Rattle.hull_text.proofs.Fields.{first_digit, seats}
+use Rattle.hull_text.proofs.Calls.{calls}
+use Rattle.hull_text.proofs.Joined.{cut, decimal_field, is_line, joined_form, split_joined}
+use Rattle.hull_text.proofs.Formats.{alone}
 
 -- No field is left where the fields end.
 pub ended_ok : {X : Type 0} (x y : X) (fs : List Field) → ended x fs ≡ Ok y → (fs ≡ []) × (x ≡ y)
@@ -39,8 +39,8 @@ served_takes fs s e =
     let a = bind_ok (seat_at fs) (λ w. call_at newest w.1 >>= λ c. ended (Some (Some (w.0, c.0))) c.1) s e in
     let b = bind_ok (call_at newest a.0.1) (λ c. ended (Some (Some (a.0.0, c.0))) c.1) s a.2 in
     let d = ended_ok (Some (Some (a.0.0, b.0.0))) s b.0.1 b.2 in
-    let p = seat_takes fs a.0 a.1 in
-    let t = call_takes newest a.0.1 b.0 b.1 in (
+    let p = seats.takes fs a.0 a.1 in
+    let t = (calls newest).takes a.0.1 b.0 b.1 in (
       (a.0.0, b.0.0),
       sym d.1,
       p.0 ∙ ap (λ (r : List Field). decimal a.0.0 ∷ r)
@@ -53,10 +53,7 @@ served_takes fs s e =
 served_again : (w : ℕ) (c : Call) → w ≤ 63 → IsCall newest c
     → served_at (decimal w ∷ call_fields c) ≡ Ok (Some (Some (w, c)))
 unfolding served_at
-served_again w c low fits =
-    let call : call_at newest (call_fields c) ≡ Ok (c, []) =
-    ap (call_at newest) (sym (append-nil (call_fields c))) ∙ call_again newest c [] fits in
-    rw (seat_again w (call_fields c) low, call) refl
+served_again w c low fits = rw (seats.again w (call_fields c) low, alone (calls newest) c fits) refl
 
 -- What a line says is spelled there.
 pub line_takes : (line : List ℕ) (s : Option Item) → script_line_of line ≡ Ok s → IsScriptLine line s
@@ -82,15 +79,9 @@ digit_line : (line : List ℕ) (b : ℕ) (bs : List ℕ) → line ≡ b ∷ bs �
 unfolding script_line_of has_form
 digit_line line b bs is low high form =
     let f : has_form_after true (b ∷ bs) ≡ true = rw is at form in
-    let no_comment : (b == 35) ≡ false = not_35 b low in
-    let no_join : (b == 106) ≡ false = not_106 b high in
+    let no_comment : (b == 35) ≡ false = ne_eqb b 35 (λ e. omega arith) in
+    let no_join : (b == 106) ≡ false = ne_eqb b 106 (λ e. omega arith) in
     rw is (rw (no_comment, f, no_join) refl)
-  where
-    not_35 : (b : ℕ) → 48 ≤ b → (b == 35) ≡ false
-    not_35 b low = grind (arith, nat_tests)
-
-    not_106 : (b : ℕ) → b ≤ 57 → (b == 106) ≡ false
-    not_106 b high = grind (arith, nat_tests)
 
 -- A number's text begins with a digit.
 pub first_of : (f : List ℕ) (n : ℕ) → number_of f ≡ Some n
@@ -112,13 +103,12 @@ joined_first f (g ∷ gs) b bs e =
 call_line : (w : ℕ) (c : Call) → w ≤ 63 → IsCall newest c
     → script_line_of (join_with_byte 32 (decimal w ∷ call_fields c)) ≡ Ok (Some (Some (w, c)))
 call_line w c low fits =
-    let line = join_with_byte 32 (decimal w ∷ call_fields c) in
-    let field = decimal_field w (omega arith) in
-    let fields = call_are_fields newest c fits in
+    let fs = decimal w ∷ call_fields c in
+    let fields : is_line fs ≡ true = rw (decimal_field w (omega arith)) ((calls newest).fields c fits) in
     let first = first_of (decimal w) w (text_number w (omega arith)) in
     let begins = joined_first (decimal w) (call_fields c) first.0 first.1 first.2 in
-    digit_line line first.0 begins.0 begins.1 first.3 first.4 (joined_form (decimal w) (call_fields c) field fields)
-    ∙ ap served_at (split_joined (decimal w) (call_fields c) field fields) ∙ served_again w c low fits
+    digit_line (join_with_byte 32 fs) first.0 begins.0 begins.1 first.3 first.4 (joined_form fs fields)
+    ∙ ap served_at (split_joined fs fields) ∙ served_again w c low fits
 
 -- the line that ends a phase
 join_line : script_line_of (codes "join") ≡ Ok (Some None)

@@ -1,5 +1,5 @@
 -- The numbers of the faults.
-use Rattle.std.specs.Prelude.{◌≡◌, ℕ, ◌≤◌, ◌⊎◌, Result, Ok, Err}
+use Rattle.std.specs.Prelude.{◌≡◌, ℕ, ◌<◌, ◌≤◌, ◌⊎◌, Result, Ok, Err}
 use Rattle.hull_text.specs.declared.fault.FaultKind.{FaultKind}
 use Rattle.hull_text.specs.declared.fault.FaultKind.TheVariants.{Form, Number, Coordinate, Worker, Word, Truncated}
 use Rattle.hull_text.specs.declared.fault.FaultKind.TheVariants.{Header, Read, NoMemory}
@@ -24,6 +24,13 @@ fault_at n kind = record { number = fault_number kind; line = n }
 -- a fault of a line
 abbrev pub IsLineFault : FaultKind → Type 0
 IsLineFault kind = fault_number kind ≤ 5
+
+-- A line behind so many others, where there may be so many, has the fault of this number: its own first one from the
+-- left, or that it is one line too many.
+abbrev pub HasFault : {A : Type 0} → ℕ → ℕ → Result A FaultKind → ℕ → Type 0
+HasFault most before read number =
+    ((before ≡ most) × (number ≡ 1))
+    ⊎ ((before < most) × ((kind : FaultKind) × (read ≡ Err kind) × (number ≡ fault_number kind)))
 
 -- the reader failed
 abbrev pub IsReadFault : TextFault → Type 0

@@ -13,7 +13,7 @@ use Rattle.hull_text.specs.Number.{number_of, signed_of}
 
 infixl 10 ◌>>=◌
 -- reading goes on with what was read, unless there was a fault
-abbrev pub ◌>>=◌ : {A B : Type 0} → Result A FaultKind → (A → Result B FaultKind) → Result B FaultKind
+abbrev pub ◌>>=◌ : {A B E : Type 0} → Result A E → (A → Result B E) → Result B E
 (Ok x) >>= f = f x
 (Err e) >>= f = Err e
 
@@ -46,10 +46,14 @@ coordinate_in limit None = Err Number
 coordinate_in limit (Some (pos n)) = if nat_le n limit then Ok (pos n) else Err Coordinate
 coordinate_in limit (Some (negsuc n)) = if nat_lt n limit then Ok (negsuc n) else Err Coordinate
 
+-- what the next field says
+abbrev pub field_at : {A : Type 0} → (Field → Result A FaultKind) → List Field → Result (A × List Field) FaultKind
+field_at says [] = Err Form
+field_at says (f ∷ fs) = says f >>= λ x. Ok (x, fs)
+
 -- a coordinate
 unfoldable pub coordinate_at : Version → List Field → Result (ℤ × List Field) FaultKind
-coordinate_at v [] = Err Form
-coordinate_at v (f ∷ fs) = coordinate_in (coordinate_limit v) (signed_of f) >>= λ z. Ok (z, fs)
+coordinate_at v fs = field_at (λ f. coordinate_in (coordinate_limit v) (signed_of f)) fs
 
 -- two coordinates: a point
 unfoldable pub point_at : Version → List Field → Result (Pair × List Field) FaultKind
@@ -69,25 +73,26 @@ direction_at v fs = do
   p ← point_at v fs
   if is_zero p.0.x && is_zero p.0.y then Err Coordinate else Ok p
 
+-- an unsigned number up to a limit; beyond it there is this fault
+abbrev pub up_to : ℕ → FaultKind → Option ℕ → Result ℕ FaultKind
+up_to limit beyond None = Err Number
+up_to limit beyond (Some n) = if nat_le n limit then Ok n else Err beyond
+
 -- an unsigned number as one up to a limit
 abbrev pub number_in : ℕ → Option ℕ → Result ℕ FaultKind
-number_in limit None = Err Number
-number_in limit (Some n) = if nat_le n limit then Ok n else Err Number
+number_in limit spelled = up_to limit Number spelled
 
 -- an unsigned number up to a limit
 unfoldable pub number_at : ℕ → List Field → Result (ℕ × List Field) FaultKind
-number_at limit [] = Err Form
-number_at limit (f ∷ fs) = number_in limit (number_of f) >>= λ n. Ok (n, fs)
+number_at limit fs = field_at (λ f. number_in limit (number_of f)) fs
 
 -- an unsigned number as a worker or a seat
 abbrev pub seat_in : Option ℕ → Result ℕ FaultKind
-seat_in None = Err Number
-seat_in (Some n) = if nat_le n 63 then Ok n else Err Worker
+seat_in spelled = up_to 63 Worker spelled
 
 -- a worker or a seat
 unfoldable pub seat_at : List Field → Result (ℕ × List Field) FaultKind
-seat_at [] = Err Form
-seat_at (f ∷ fs) = seat_in (number_of f) >>= λ n. Ok (n, fs)
+seat_at fs = field_at (λ f. seat_in (number_of f)) fs
 
 -- no field is left
 abbrev pub ended : {X : Type 0} → X → List Field → Result X FaultKind

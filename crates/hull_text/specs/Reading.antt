@@ -1,10 +1,10 @@
 -- How the reading of a text goes on, line by line, whatever pieces it comes in.
 use Rattle.std.specs.Prelude.{◌≡◌, ◌⊎◌, ◌<◌, ◌≤◌, ◌+◌, ◌^◌, ◌==◌, ℕ, List, [], ◌∷◌, ◌++◌, length, Option, Some, None}
-use Rattle.std.specs.Prelude.{Result, Err, false, if◌then◌else◌}
+use Rattle.std.specs.Prelude.{Result, Ok, Err, false, if◌then◌else◌}
 use Rattle.std.specs.List.{All}
 use Rattle.hull_text.specs.declared.fault.TextFault.{TextFault}
 use Rattle.hull_text.specs.declared.fault.FaultKind.TheVariants.{NoMemory}
-use Rattle.hull_text.specs.Fault.{fault_number}
+use Rattle.hull_text.specs.Fault.{IsOutside, fault_number}
 use Rattle.hull_text.specs.ScriptText.{last_line, text_lines}
 
 -- a line, or a part of one
@@ -33,6 +33,13 @@ FailsIn old text f = (rest : List ℕ) → old (text ++ rest) (Err f)
 abbrev pub AnswersAll : {V : Type 0} → Outlook V → Option (List ℕ) → Result V TextFault → Type 0
 AnswersAll start None answer = Unit {0}
 AnswersAll start (Some bytes) answer = length bytes < 2 ^ 63 → start bytes answer
+
+-- What a reader may answer, by the values whose text the bytes are and by their first faults: such a value, such a fault,
+-- or one from outside in a line before which they have none.
+abbrev pub Reads : {V : Type 0} → (V → Type 0) → (TextFault → Type 0) → Result V TextFault → Type 0
+Reads IsText IsFault (Ok v) = IsText v
+Reads IsText IsFault (Err f) =
+    (IsOutside f × ((first : TextFault) → IsFault first → f.line ≤ first.line)) ⊎ IsFault f
 
 -- The line that was being read: one more than the newlines that were taken, where the bytes are known.
 abbrev pub IsLineBeingRead : Option (List ℕ) → Option (List ℕ) → ℕ → Type 0

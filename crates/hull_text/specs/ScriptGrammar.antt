@@ -1,18 +1,18 @@
 -- The grammar of scripts, and their first fault.
-use Rattle.std.specs.Prelude.{◌≡◌, ◌⊎◌, ◌<◌, ◌≤◌, ◌+◌, ◌^◌, ℕ, List, [], ◌∷◌, ◌++◌, length, codes, decimal, Option}
-use Rattle.std.specs.Prelude.{Some, None, Result, Ok, Err}
+use Rattle.std.specs.Prelude.{◌≡◌, ◌⊎◌, ◌≤◌, ◌+◌, ℕ, List, [], ◌∷◌, ◌++◌, length, codes, decimal, Option}
+use Rattle.std.specs.Prelude.{Some, None, Result}
 use Rattle.std.specs.List.{join_with_byte}
 use Rattle.hull_book.specs.declared.limits.TheConstants.{TEXT_LINE_LIMIT}
 use Rattle.hull_book.specs.Scripts.{ScriptValue}
-use Rattle.hull_text.specs.declared.fault.FaultKind.{FaultKind}
 use Rattle.hull_text.specs.declared.fault.TextFault.{TextFault}
-use Rattle.hull_text.specs.Fault.{IsOutside, fault_number}
+use Rattle.hull_text.specs.Fault.{HasFault}
 use Rattle.hull_text.specs.Version.{newest}
 use Rattle.hull_text.specs.Item.{Item}
 use Rattle.hull_text.specs.Spelling.{IsCall, call_fields}
 use Rattle.hull_text.specs.ScriptLine.{script_line_of}
 use Rattle.hull_text.specs.ScriptText.{kept, text_lines}
 use Rattle.hull_text.specs.ScriptValue.{script_of}
+use Rattle.hull_text.specs.Reading.{AnswersAll, Reads}
 
 -- The line says this, or nothing.
 abbrev pub IsScriptLine : List ℕ → Option Item → Type 0
@@ -37,10 +37,7 @@ pub record IsScriptText (bytes : List ℕ) (script : ScriptValue) : Type 0 where
 
 -- A line behind so many others has this fault: its own first one from the left, or that it is one line too many.
 abbrev pub HasLineFault : ℕ → List ℕ → ℕ → Type 0
-HasLineFault before line number =
-    ((before ≡ TEXT_LINE_LIMIT) × (number ≡ 1))
-    ⊎ ((before < TEXT_LINE_LIMIT)
-    × ((kind : FaultKind) × (script_line_of line ≡ Err kind) × (number ≡ fault_number kind)))
+HasLineFault before line number = HasFault TEXT_LINE_LIMIT before (script_line_of line) number
 
 -- The first fault of the bytes: all lines before it are right.
 pub record IsScriptFault (bytes : List ℕ) (f : TextFault) : Type 0 where
@@ -53,17 +50,11 @@ pub record IsScriptFault (bytes : List ℕ) (f : TextFault) : Type 0 where
   pub place : f.line ≡ length before + 1
   pub fault : HasLineFault (length before) line f.number
 
--- The bytes have no fault before this line.
-abbrev pub HasNoScriptFaultBefore : List ℕ → ℕ → Type 0
-HasNoScriptFaultBefore bytes line = (f : TextFault) → IsScriptFault bytes f → line ≤ f.line
-
 -- What a reader of scripts may answer for the bytes: a script whose text they are, their first fault, or a fault from
 -- outside in a line before which they have none.
 abbrev pub ReadsScript : List ℕ → Result ScriptValue TextFault → Type 0
-ReadsScript bytes (Ok script) = IsScriptText bytes script
-ReadsScript bytes (Err f) = (IsOutside f × HasNoScriptFaultBefore bytes f.line) ⊎ IsScriptFault bytes f
+ReadsScript bytes answer = Reads (IsScriptText bytes) (IsScriptFault bytes) answer
 
 -- The same for bytes that may be unknown. They have to be fewer than 2^63.
 abbrev pub ReadsKnownScript : Option (List ℕ) → Result ScriptValue TextFault → Type 0
-ReadsKnownScript None answer = Unit {0}
-ReadsKnownScript (Some bytes) answer = length bytes < 2 ^ 63 → ReadsScript bytes answer
+ReadsKnownScript known answer = AnswersAll ReadsScript known answer

@@ -8,13 +8,8 @@ use Rattle.hull_text.specs.declared.fault.FaultKind.TheVariants.{Form}
 use Rattle.hull_text.specs.declared.fault.TextFault.{TextFault}
 use Rattle.hull_text.specs.Item.{Item}
 use Rattle.hull_text.specs.Fault.{fault_at}
+use Rattle.hull_text.specs.Field.{◌>>=◌}
 use Rattle.hull_text.specs.ScriptLine.{script_line_of}
-
-infixl 10 ◌>>>◌
--- reading goes on with what was read, unless there was a fault
-abbrev pub ◌>>>◌ : {A B : Type 0} → Result A TextFault → (A → Result B TextFault) → Result B TextFault
-(Ok x) >>> f = f x
-(Err e) >>> f = Err e
 
 -- the fault of line n stands there
 abbrev pub at_line : {A : Type 0} → ℕ → Result A FaultKind → Result A TextFault
@@ -33,14 +28,14 @@ kept (Some item) items = item ∷ items
 -- the last piece of a script is a line where it is not empty
 abbrev pub last_items : ℕ → List ℕ → Result (List Item) TextFault
 last_items n [] = Ok []
-last_items n (b ∷ bs) = numbered n (script_line_of (b ∷ bs)) >>> λ i. Ok (kept i [])
+last_items n (b ∷ bs) = numbered n (script_line_of (b ∷ bs)) >>= λ i. Ok (kept i [])
 
 -- the pieces of a script that stand between its newlines, the first of them line n
 unfoldable pub items_of : ℕ → List (List ℕ) → Result (List Item) TextFault
 items_of n [] = Ok []
 items_of n (line ∷ []) = last_items n line
 items_of n (line ∷ next ∷ lines) =
-    numbered n (script_line_of line) >>> λ i. items_of (suc n) (next ∷ lines) >>> λ is. Ok (kept i is)
+    numbered n (script_line_of line) >>= λ i. items_of (suc n) (next ∷ lines) >>= λ is. Ok (kept i is)
 
 -- the pieces of a text between its newlines
 abbrev pub pieces : List ℕ → List (List ℕ)
@@ -67,4 +62,4 @@ script_items bytes = items_of 1 (pieces bytes)
 
 -- what stands in front of what is still to be read
 abbrev pub with_front : List Item → Result (List Item) TextFault → Result (List Item) TextFault
-with_front front read = read >>> λ is. Ok (front ++ is)
+with_front front read = read >>= λ is. Ok (front ++ is)
