@@ -294,11 +294,6 @@ pub under_way_on : (b : Bool) (u0 w0 u w v z : Tree) (m m2 : Pair) (n k : ℕ) �
 under_way_on true u0 w0 u w v z m m2 n k r t e = rw (e, t.1) (reached_more u0 w0 u w v z m n r t.0)
 under_way_on false u0 w0 u w v z m m2 n k r t e = rw (t.0, t.1, t.2, e) r
 
--- a turn leaves fewer points
-pub fewer : (u w v z : Tree) (m : Pair) (n k : ℕ) → IsAdvance true u w m n v z k
-    → size_of v + size_of z < size_of u + size_of w
-fewer u w v z m n k t = t.0.falls
-
 -- where no turn was made, the bridge of the halves that the search began with is found
 pub under_way_bridge : (u0 w0 u w v z : Tree) (m : Pair) (n k : ℕ) (p q : Pair) → IsReached u0 w0 u w m n
     → IsAdvance false u w m n v z k → p ≡ first_of v → q ≡ first_of z → IsUpperBridge (On u0) (On w0) p q

@@ -67,11 +67,6 @@ bridged_turned (Fork e f u w) h = (
   bridged_turned u h.3,
 )
 
--- a stored edge turned
-abbrev pub turned_edge : Option (Pair × Pair) → Option (Pair × Pair)
-turned_edge None = None
-turned_edge (Some e) = Some (turned_pair e)
-
 -- a turn keeps the height
 pub height_turned : (t : Tree) → height_of (turned_tree t) ≡ height_of t
 height_turned (Leaf x) = refl

@@ -2,6 +2,8 @@ pub mod PointLists
 pub mod ChangedSets
 pub mod SetLaws
 pub mod Orientation
+pub mod Along
+pub mod Turns
 pub mod NotCovered
 pub mod CoveredByEdges
 pub mod Separators
@@ -12,15 +14,16 @@ pub mod VertexLists
 pub mod VertexOrder
 pub mod SameSide
 pub mod Sightings
-pub mod Rounds
 pub mod Comparisons
 pub mod EdgeSteps
-pub mod ChainWalks
 pub mod Rounding
 pub mod FewVertices
 pub mod UniqueVertices
 pub mod EdgePlaces
 pub mod Decided
 pub mod Slopes
+pub mod Supports
+pub mod Farthest
 pub mod EdgesAt
 pub mod Views
+pub mod Touching

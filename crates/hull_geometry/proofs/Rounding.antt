@@ -11,7 +11,6 @@ use Rattle.lattice.specs.Plane.{Pair, orient, IsBefore}
 use Rattle.lattice.specs.Vertices.{IsVertexList, fan}
 use Rattle.hull_geometry.specs.Edges.{IsLowerEdge, end_of, IsFirst, IsLast}
 use Rattle.hull_geometry.specs.Positions.{origin, point_at}
-use Rattle.hull_geometry.specs.Walks.{IsLowerWalk}
 use Rattle.hull_geometry.proofs.Chains.{first_extreme}
 use Rattle.lattice.proofs.Order.{before_irrefl, before_not}
 use Rattle.lattice.proofs.Numbers.{nn_zero}
@@ -19,17 +18,6 @@ use Rattle.hull_geometry.proofs.Orientation.{orient-cycle, at_least}
 use Rattle.lattice.proofs.LineCrossings.{orient_start}
 use Rattle.hull_geometry.proofs.PointLists.{AllPairs-cons, AllPairs-none, get_or_free}
 use Rattle.hull_geometry.proofs.VertexLists.{chain_push, end_push}
-
--- one more lower edge
-pub lower_more : (S passed : List Pair) (i j : ℕ) → IsLowerWalk S passed i → IsLowerEdge S (point_at S i) (point_at S j)
-    → IsLowerWalk S (passed ++ point_at S j ∷ []) j
-lower_more S passed i j w e =
-    record {
-      chain = chain_push (IsLowerEdge S) (point_at S 0) passed (point_at S j) w.chain
-          (subst (λ (z : Pair). IsLowerEdge S z (point_at S j)) (sym w.ends) e);
-      ends = end_push (point_at S 0) passed (point_at S j);
-      reached = λ t m. (point_at S i, e);
-    }
 
 -- the point at 0 is the first
 pub least : (S : List Pair) → IsPointSet S → IsFirst S (point_at S 0)

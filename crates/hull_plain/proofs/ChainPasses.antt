@@ -182,14 +182,3 @@ take_suc (x ∷ xs) (suc i) d l = ap (λ (z : List Pair). x ∷ z) (take_suc xs 
 pub take_next : (S : List Pair) (i : ℕ) (p : Pair) → i < length S → p ≡ get_or S i p → take (i + 1) S ≡ take i S ++ p ∷ []
 take_next S i p l e = let n : i + 1 ≡ suc i = omega arith in
     ap (λ (k : ℕ). take k S) n ∙ take_suc S i p l ∙ ap (λ (z : Pair). take i S ++ z ∷ []) (sym e)
-
--- a member of one more point
-pub one_more : (S : List Pair) (i : ℕ) (p t : Pair) → i < length S → p ≡ get_or S i p → Contains (take (i + 1) S) t
-    → Contains (take i S) t ⊎ (t ≡ p)
-one_more S i p t l e m =
-    go (Contains-append_cases (take i S) (p ∷ []) t (subst (λ (z : List Pair). Contains z t) (take_next S i p l e) m))
-  where
-    go : Contains (take i S) t ⊎ Contains (p ∷ []) t → Contains (take i S) t ⊎ (t ≡ p)
-    go (inl k) = inl k
-    go (inr (zero, b, k)) = inr (sym k)
-    go (inr (suc j, b, k)) = absurd (omega (arith, b))

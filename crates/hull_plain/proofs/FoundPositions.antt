@@ -115,11 +115,3 @@ pub cut_around : (S : List Pair) (p : Pair) (i : ℕ) → IsPositionOf S p (Ok i
 cut_around S p i h =
     sym (cut_at S i p h.0 ∙ ap (λ (z : Pair). take i S ++ z ∷ drop (suc i) S) (h.1 p)
     ∙ (let e : suc i ≡ i + 1 = omega arith in ap (λ (z : ℕ). take i S ++ p ∷ drop z S) e))
-
--- in a set the points before p come first
-pub parted : (S : List Pair) (p : Pair) → IsPointSet S → IsPartitionedBy (λ t. is_before t p) S
-parted S p s i j d le l t =
-    elim (cases_lt i j) [
-      | inl h ↦ is_before-true _ p (before_trans _ (get_or S j d) p (s i j d h l) (is_before-holds _ p t))
-      | inr h ↦ let e : j ≡ i = omega arith in subst (λ (k : ℕ). is_before (get_or S k d) p ≡ true) e t
-    ]

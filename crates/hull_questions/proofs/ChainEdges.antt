@@ -55,7 +55,7 @@ grow_right : (u w : Tree) (c d : Pair) → IsLowerEdge (points_of u) c d → ((t
 grow_right u w c d k over = record {
   from = Contains-append_left (points_of u) (points_of w) c k.from;
   to = Contains-append_left (points_of u) (points_of w) d k.to;
-  forward = k.forward;
+  along = k.along;
   left = All-append (λ t. pos 0 ≤ℤ orient c d t) (points_of u) (points_of w) k.left
       (all_of (λ t. pos 0 ≤ℤ orient c d t) (points_of w) (λ t m. nn_above _ (over t (on_of_contains w t m))));
   last = All-append (λ t. orient c d t ≡ pos 0 → ¬ (IsBefore d t)) (points_of u) (points_of w) k.last
@@ -69,7 +69,7 @@ grow_left : (u w : Tree) (c d : Pair) → IsLowerEdge (points_of w) c d → ((t 
 grow_left u w c d k over = record {
   from = Contains-append_right (points_of u) (points_of w) c k.from;
   to = Contains-append_right (points_of u) (points_of w) d k.to;
-  forward = k.forward;
+  along = k.along;
   left = All-append (λ t. pos 0 ≤ℤ orient c d t) (points_of u) (points_of w)
       (all_of (λ t. pos 0 ≤ℤ orient c d t) (points_of u) (λ t m. nn_above _ (over t (on_of_contains u t m)))) k.left;
   last = All-append (λ t. orient c d t ≡ pos 0 → ¬ (IsBefore d t)) (points_of u) (points_of w)
@@ -83,7 +83,7 @@ bridge_edge : (u w : Tree) (a b : Pair) → IsBefore a b → IsLowerBridge (On u
 bridge_edge u w a b ab h = record {
   from = Contains-append_left (points_of u) (points_of w) a (contains_of_on u a h.from_left);
   to = Contains-append_right (points_of u) (points_of w) b (contains_of_on w b h.to_right);
-  forward = ab;
+  along = ab;
   left = All-append (λ t. pos 0 ≤ℤ orient a b t) (points_of u) (points_of w)
       (all_of (λ t. pos 0 ≤ℤ orient a b t) (points_of u) (λ t m. h.inner_left t (on_of_contains u t m)))
       (all_of (λ t. pos 0 ≤ℤ orient a b t) (points_of w) (λ t m. h.inner_right t (on_of_contains w t m)));
@@ -106,7 +106,7 @@ left_lifts u w v a b e o h va k =
     All-contains (λ t. pos 0 ≤ℤ orient e.0 e.1 t) (points_of u) a k.edge.left (contains_of_on u a h.from_left) in
     record {
       edge = grow_right u w e.0 e.1 k.edge
-          (λ t i. over_from_left a b e.0 e.1 t (o a b h.from_left h.to_right) k.edge.forward ca
+          (λ t i. over_from_left a b e.0 e.1 t (o a b h.from_left h.to_right) k.edge.along ca
           (o a t h.from_left i) low turn (h.inner_right t i));
       starts = k.starts;
       onward = k.onward;
@@ -124,7 +124,7 @@ right_lifts u w v a b e o h n k =
     All-contains (λ t. pos 0 ≤ℤ orient e.0 e.1 t) (points_of w) b k.edge.left (contains_of_on w b h.to_right) in
     record {
       edge = grow_left u w e.0 e.1 k.edge
-          (λ t i. over_from_right a b e.0 e.1 t (o a b h.from_left h.to_right) k.edge.forward bd
+          (λ t i. over_from_right a b e.0 e.1 t (o a b h.from_left h.to_right) k.edge.along bd
           (o t b i h.to_right) low turn (h.inner_left t i));
       starts = k.starts;
       onward = k.onward;

@@ -16,32 +16,19 @@ use Rattle.bridge_search.proofs.Turns.{first_by, on_first}
 use Rattle.hull_geometry.proofs.EdgeSteps.{past_farther, past_farther_back}
 use Rattle.lattice.proofs.Order.{before_total, before_trans}
 use Rattle.hull_geometry.proofs.Orientation.{orient-cross, orient_swap, orient-cycle, at_least, above, ahead_of}
-use Rattle.hull_geometry.proofs.SameSide.{OneSide, left_trans, right_trans}
-use Rattle.hull_geometry.proofs.Sightings.{left_tangent, right_tangent}
+use Rattle.hull_geometry.proofs.SameSide.{OneSide, more_beside}
+use Rattle.hull_geometry.proofs.Sightings.{turn_on_back, no_more, tangent_of}
 use Rattle.hull_geometry.proofs.EdgesAt.{up_to, on_from}
-use Rattle.hull_questions.specs.Hands.{other_hand, IsNoMore, IsTangent, IsOnHand, end_on, half_on, outermost, IsBeyond}
+use Rattle.hull_geometry.specs.Hands.{other_hand, turn_on, IsMore, IsOnHand, end_on}
+use Rattle.hull_geometry.specs.Tangents.{IsNoMore, IsTangent}
+use Rattle.hull_questions.specs.Hands.{half_on, outermost, IsBeyond}
 use Rattle.hull_questions.specs.Parts.{IsTangentPart}
 use Rattle.hull_geometry.specs.Sights.{IsBelow}
-use Rattle.hull_questions.specs.declared.questions.tangents.Hand.{Hand}
-use Rattle.hull_questions.specs.declared.questions.tangents.Hand.TheVariants.{Left, Right}
+use Rattle.hull_geometry.specs.declared.hand.Hand.{Hand}
+use Rattle.hull_geometry.specs.declared.hand.Hand.TheVariants.{Left, Right}
 use Rattle.lattice.proofs.Sides.{side_before, side_after, side_to_end}
 
 -- ---- the order in which q sees the points that lie above it
-
--- above 0 where s is seen farther on this hand than t
-abbrev turn : Hand → Pair → Pair → Pair → ℤ
-turn Left q s t = orient q t s
-turn Right q s t = orient q s t
-
--- seen from q, s is farther on this hand than t, or in line with it and farther off
-abbrev IsMore : Hand → Pair → Pair → Pair → Type 0
-IsMore hand q s t =
-    (pos 0 <ℤ turn hand q s t) ⊎ ((turn hand q s t ≡ pos 0) × (distance_squared q t <ℤ distance_squared q s))
-
--- the turn the other way round
-turn_back : (hand : Hand) (q s t : Pair) → turn hand q t s ≡ neg_ℤ (turn hand q s t)
-turn_back Left q s t = orient_swap q s t
-turn_back Right q s t = orient_swap q t s
 
 -- a point of S stands on this hand of q, or q on this hand of it
 side_of : (hand : Hand) (S : List Pair) (q t : Pair) → IsBelow S q → Contains S t → IsOnHand hand t q ⊎ IsOnHand hand q t
@@ -56,21 +43,16 @@ side_of hand S q t h m = sort hand (before_total t q)
 
 -- a point on this hand of q is seen farther there than each point on the other
 across : (hand : Hand) (S : List Pair) (q s t : Pair) → IsBelow S q → Contains S s → Contains S t → IsOnHand hand s q
-    → IsOnHand hand q t → pos 0 <ℤ turn hand q s t
-across Left S q s t h m n b k = let a : orient s t q <ℤ pos 0 = h.under s t m n b k in let e = orient-cycle s t q in
+    → IsOnHand hand q t → pos 0 <ℤ turn_on hand q s t
+across Left S q s t h m n b k = let a : orient s t q <ℤ pos 0 = h.outwards s t m n b k in let e = orient-cycle s t q in
     let f = orient_swap q t s in omega (arith, ints)
-across Right S q s t h m n b k = let a : orient t s q <ℤ pos 0 = h.under t s n m k b in let e = orient-cycle t s q in
+across Right S q s t h m n b k = let a : orient t s q <ℤ pos 0 = h.outwards t s n m k b in let e = orient-cycle t s q in
     let f = orient_swap q s t in omega (arith, ints)
 
 -- of two points not each is farther on this hand
-clash : (hand : Hand) (q s t : Pair) → pos 0 <ℤ turn hand q s t → IsMore hand q t s → ⊥
-clash hand q s t a (inl g) = let e = turn_back hand q s t in omega (arith, ints)
-clash hand q s t a (inr g) = let e = turn_back hand q s t in omega (arith, ints, g.0)
-
--- of points on one side of q, farther on this hand is transitive
-trans_beside : (hand : Hand) (q u v w : Pair) → OneSide q u v w → IsMore hand q u v → IsMore hand q v w → IsMore hand q u w
-trans_beside Left q u v w o a b = left_trans q u v w o a b
-trans_beside Right q u v w o a b = right_trans q u v w o a b
+clash : (hand : Hand) (q s t : Pair) → pos 0 <ℤ turn_on hand q s t → IsMore hand q t s → ⊥
+clash hand q s t a (inl g) = let e = turn_on_back hand q s t in omega (arith, ints)
+clash hand q s t a (inr g) = let e = turn_on_back hand q s t in omega (arith, ints, g.0)
 
 -- three points on this hand of q stand on one side of it
 all_on : (hand : Hand) (q u v w : Pair) → IsOnHand hand u q → IsOnHand hand v q → IsOnHand hand w q → OneSide q u v w
@@ -90,7 +72,7 @@ more_trans hand S q u v w h mu mv mw a b =
       | inl bu ↦ elim (side_of hand S q w h mw) [
         | inr aw ↦ inl (across hand S q u w h mu mw bu aw)
         | inl bw ↦ elim (side_of hand S q v h mv) [
-          | inl bv ↦ trans_beside hand q u v w (all_on hand q u v w bu bv bw) a b
+          | inl bv ↦ more_beside hand q u v w (all_on hand q u v w bu bv bw) a b
           | inr av ↦ absurd (clash hand q w v (across hand S q w v h mw mv bw av) b)
         ]
       ]
@@ -98,25 +80,12 @@ more_trans hand S q u v w h mu mv mw a b =
         | inl bv ↦ absurd (clash hand q v u (across hand S q v u h mv mu bv au) a)
         | inr av ↦ elim (side_of hand S q w h mw) [
           | inl bw ↦ absurd (clash hand q w v (across hand S q w v h mw mv bw av) b)
-          | inr aw ↦ trans_beside hand q u v w (all_off hand q u v w au av aw) a b
+          | inr aw ↦ more_beside hand q u v w (all_off hand q u v w au av aw) a b
         ]
       ]
     ]
 
 -- ---- the tangent point of a part
-
--- what is not farther on this hand than p is not farther there
-no_more : (hand : Hand) (q p t : Pair) → IsNoMore hand q p t → IsMore hand q t p → ⊥
-no_more Left q p t k (inl g) = omega (arith, ints, k.0)
-no_more Left q p t k (inr g) = omega (arith, ints, g.1, k.1 g.0)
-no_more Right q p t k (inl g) = let e = orient_swap q t p in omega (arith, ints, k.0)
-no_more Right q p t k (inr g) = let e = orient_swap q p t in omega (arith, ints, g.1, k.1 (e ∙ ap neg_ℤ g.0))
-
--- the tangent touches where no point is farther on this hand
-tangent_of : (hand : Hand) (S : List Pair) (q p : Pair) → Contains S p
-    → ((t : Pair) → Contains S t → IsMore hand q t p → ⊥) → IsTangent hand S q p
-tangent_of Left S q p m h = left_tangent S q p m (all_of (λ t. ¬ (IsMore Left q t p)) S h)
-tangent_of Right S q p m h = right_tangent S q p m (all_of (λ t. ¬ (IsMore Right q t p)) S h)
 
 -- the points of two halves are those of S
 record AreHalves (S : List Pair) (near far : Tree) : Type 0 where
@@ -136,14 +105,14 @@ swapped S near far k = record {
 below_half : (S : List Pair) (near far : Tree) (q : Pair) → AreHalves S near far → IsBelow S q → IsBelow (points_of near) q
 below_half S near far q k h = record {
   absent = λ m. h.absent (k.in_near q (on_of_contains near q m));
-  under = λ s t m n. h.under s t (k.in_near s (on_of_contains near s m)) (k.in_near t (on_of_contains near t n));
+  outwards = λ s t m n. h.outwards s t (k.in_near s (on_of_contains near s m)) (k.in_near t (on_of_contains near t n));
 }
 
 -- where each point of one half is less far on this hand than one of the other, that has the tangent point of both
 kept : (hand : Hand) (S : List Pair) (near far : Tree) (q p : Pair) → AreHalves S near far → IsBelow S q
     → ((t : Pair) → On far t → (s : Pair) × On near s × IsMore hand q s t) → IsTangent hand (points_of near) q p
     → IsTangent hand S q p
-kept hand S near far q p k h more n = tangent_of hand S q p here (λ t m g. refuse t m g (k.which t m))
+kept hand S near far q p k h more n = tangent_of hand S q p here (all_of (λ t. ¬ (IsMore hand q t p)) S (λ t m g. refuse t m g (k.which t m)))
   where
     here : Contains S p
     here = k.in_near p (on_of_contains near p n.0)
@@ -277,8 +246,8 @@ on_outermost Right t = on_last t
 under_bridge : (hand : Hand) (S : List Pair) (q : Pair) (e : Pair × Pair) → IsBelow S q → Contains S (end_on hand e)
     → Contains S (end_on (other_hand hand) e) → IsOnHand hand (end_on hand e) q
     → IsOnHand hand q (end_on (other_hand hand) e) → orient e.0 e.1 q ≤ℤ pos 0
-under_bridge Left S q e h m n a b = let k = h.under e.0 e.1 m n a b in omega (arith, ints)
-under_bridge Right S q e h m n a b = let k = h.under e.0 e.1 n m b a in omega (arith, ints)
+under_bridge Left S q e h m n a b = let k = h.outwards e.0 e.1 m n a b in omega (arith, ints)
+under_bridge Right S q e h m n a b = let k = h.outwards e.0 e.1 n m b a in omega (arith, ints)
 
 -- q not both beyond the bridge and over it: some point of the near half is seen farther on this hand than each point
 -- of the far one
@@ -379,7 +348,8 @@ far_part hand (Fork e f u w) part q g h s below b m =
 pub alone : (hand : Hand) (t : Tree) (q p : Pair) → lower_of t ≡ None → p ≡ first_of t → IsTangent hand (points_of t) q p
 alone hand (Fork e f u w) q p n k = absurd (cc)
 alone hand (Leaf x) q p n k =
-    tangent_of hand (x ∷ []) q p (contains_of_on (Leaf x) p k) (λ t m. itself t (on_of_contains (Leaf x) t m ∙ sym k))
+    tangent_of hand (x ∷ []) q p (contains_of_on (Leaf x) p k)
+    (all_of (λ t. ¬ (IsMore hand q t p)) (x ∷ []) (λ t m. itself t (on_of_contains (Leaf x) t m ∙ sym k)))
   where
     itself : (t : Pair) → t ≡ p → IsMore hand q t p → ⊥
     itself t e (inl g) = let h = rw e at g in clash hand q p p h (inl h)

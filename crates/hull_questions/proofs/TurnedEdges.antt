@@ -32,7 +32,7 @@ pub upper_edge_of_turned : (t : Tree) (c d : Pair) → IsLowerEdge (points_of (t
 upper_edge_of_turned t c d k = record {
   from = turned_member t c k.from;
   to = turned_member t d k.to;
-  backward = turned_order c d k.forward;
+  along = turned_order c d k.along;
   left = All-weaker (λ s. pos 0 ≤ℤ orient c d (turned_point s))
       (λ s. pos 0 ≤ℤ orient (turned_point c) (turned_point d) s) (λ s h. at_least _ _ (sym (side_turned_over c d s)) h)
       (points_of t)

@@ -133,12 +133,6 @@ times_recounted es e p q n s =
     )
     (omega (arith, more_times (is_same_pair p q) e.1 n))
 
--- the last point is held as often at least as the number beside it says
-pub times_last : (es : List (Pair × ℕ)) (e : Pair × ℕ) (p : Pair) → e.0 ≡ p → e.1 ≤ times_listed (es ++ e ∷ []) p
-times_last es e p s =
-    rw (sum_by_push (λ (e : Pair × ℕ). several e.1 e.0 p) es e)
-    (let k : several e.1 e.0 p ≡ e.1 = rw s (several_there e.1 p) in omega (arith, k))
-
 -- two points of which a test told that they differ do
 pub other_point : {r : Bool} (p q : Pair) → r ≡ not (is_same_pair p q) → r ≡ true → ¬ (p ≡ q)
 other_point p q e t d =

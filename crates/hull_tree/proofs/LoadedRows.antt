@@ -83,12 +83,3 @@ limited_over es n limit h r l g = record {
   low = l;
   high = g;
 }
-
--- it holds what they hold
-pub held_over : (es : List (Pair × ℕ)) (n : Node) → IsOver es n → held_by (Some n) ≡ held_listed es
-held_over es n h =
-    same_held (points_below n) (points_listed es) (times_below n) (λ q. times_listed es q) h.points h.times
-
--- nothing is sound
-pub sound_none : IsSound None
-sound_none = record { built = tt; in_order = AllPairs-none; low = omega arith }
