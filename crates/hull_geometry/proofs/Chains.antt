@@ -12,6 +12,7 @@ use Rattle.hull_geometry.proofs.ChangedSets.{all_without, in_without}
 use Rattle.hull_geometry.proofs.CoveredByEdges.{covered_by_edges}
 use Rattle.hull_geometry.proofs.NotCovered.{not_covered}
 use Rattle.hull_geometry.proofs.OneSided.{past_separated}
+use Rattle.lattice.proofs.Numbers.{zero_between}
 use Rattle.lattice.proofs.Order.{before_apart, after_apart}
 use Rattle.lattice.specs.declared.side.Side.{Side}
 use Rattle.lattice.specs.declared.side.Side.TheVariants.{Lower, Upper}
@@ -38,18 +39,15 @@ first_extreme = end_extreme Upper
 pub last_extreme : (S : List Pair) (v : Pair) → IsPointSet S → Contains S v → IsLast S v → IsExtreme S v
 last_extreme = end_extreme Lower
 
--- v is the end of the line from u, and w is past it: the chain turns left at v
-corner_turns : (S : List Pair) (u v w : Pair) → (far : Pair → Type 0) → IsLeftOf S u v
-    → All (λ t. orient u v t ≡ pos 0 → ¬ (far t)) S → Contains S w → far w → pos 0 <ℤ orient u v w
-corner_turns S u v w far left last m f =
-    let a : pos 0 ≤ℤ orient u v w = All-contains (λ t. pos 0 ≤ℤ orient u v t) S w left m in
+-- two edges on one side turn left
+pub edges_turn : (side : Side) (S : List Pair) (u v w : Pair) → IsEdgeOn side S u v → IsEdgeOn side S v w
+    → pos 0 <ℤ orient u v w
+edges_turn side S u v w e f =
     elim (le_or_lt (orient u v w) (pos 0)) [
       | inr h ↦ h
-      | inl h ↦ absurd (All-contains (λ t. orient u v t ≡ pos 0 → ¬ (far t)) S w last m (zero_of _ a h) f)
+      | inl h ↦ absurd (All-contains (λ t. orient u v t ≡ pos 0 → ¬ (IsAlong side v t)) S w e.last f.to
+          (zero_between _ (All-contains (λ t. pos 0 ≤ℤ orient u v t) S w e.left f.to) h) f.along)
     ]
-  where
-    zero_of : (x : ℤ) → pos 0 ≤ℤ x → x ≤ℤ pos 0 → x ≡ pos 0
-    zero_of x h k = omega (arith, ints)
 
 -- a corner that turns left, with S on the left of both its edges, is extreme
 corner_extreme : (S : List Pair) (u v w : Pair) → IsPointSet S → Contains S v → pos 0 <ℤ orient u v w → IsLeftOf S u v
@@ -69,7 +67,7 @@ corner_extreme S u v w s m h a b =
 pub edge_corner : (side : Side) (S : List Pair) (u v w : Pair) → IsPointSet S → IsEdgeOn side S u v → IsEdgeOn side S v w
     → IsExtreme S v
 edge_corner side S u v w s e f =
-    corner_extreme S u v w s e.to (corner_turns S u v w (IsAlong side v) e.left e.last f.to f.along) e.left f.left
+    corner_extreme S u v w s e.to (edges_turn side S u v w e f) e.left f.left
 
 -- t stands strictly between the ends of an edge on this side
 abbrev BesideEdge : Side → List Pair → Pair → Type 0

@@ -1,5 +1,5 @@
 -- The edges between whose ends a point stands, and what its sides of them tell.
-use Rattle.std.proofs.Common.{◌≡◌, ℤ, pos, negsuc, ◌≤ℤ◌, ◌<ℤ◌, ◌⊎◌, inl, inr, sym, ap, ◌∙◌, subst, List, arith}
+use Rattle.std.proofs.Common.{◌≡◌, ℤ, pos, negsuc, ◌≤ℤ◌, ◌<ℤ◌, ◌⊎◌, inl, inr, sym, ap, ◌∙◌, subst, List, length, arith}
 use Rattle.std.specs.List.{All, Contains}
 use Rattle.std.proofs.lemmas.Int.{ints}
 use Rattle.lattice.specs.Covers.{Covers, Member}
@@ -50,6 +50,10 @@ outside_before S first q h b = not_covered S q (past_separated Upper S q (before
 -- a point after all lies outside
 pub outside_after : (S : List Pair) (last q : Pair) → IsLast S last → IsBefore last q → IsOutside S q
 outside_after S last q h b = not_covered S q (past_separated Lower S q (after_all S last q h b))
+
+-- any point lies outside of no points
+pub outside_nothing : (S : List Pair) (q : Pair) → length S ≡ 0 → IsOutside S q
+outside_nothing S q l = not_covered S q (past_separated Lower S q (λ k d h. absurd (omega (arith, h, l))))
 
 -- a point right of an edge lies outside
 pub outside_right : (side : Side) (S : List Pair) (q : Pair) → IsRightOfEdge side S q → IsOutside S q

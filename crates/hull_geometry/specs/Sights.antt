@@ -74,10 +74,14 @@ IsSightBy lower upper Within = (pos 0 <ℤ lower) × (pos 0 <ℤ upper)
 abbrev pub AreEnds : List Pair → Pair → Pair → Type 0
 AreEnds S first last = (Contains S first × IsFirst S first) × (Contains S last × IsLast S last)
 
+-- q stands inwards of the end of the chain on this side that lies on this hand of one who looks at the chain from there
+abbrev pub IsInwards : Hand → Side → Pair → Pair → Pair → Type 0
+IsInwards hand Lower first last q = IsOnHand hand (end_on hand (first, last)) q
+IsInwards hand Upper first last q = IsOnHand hand q (end_on (other_hand hand) (first, last))
+
 -- the tangent from q on this hand touches the chain on this side
 abbrev pub IsOnChain : Hand → Side → Pair → Pair → List Pair → Pair → Type 0
-IsOnChain hand Lower first last S q = IsBelow S q × IsOnHand hand (end_on hand (first, last)) q
-IsOnChain hand Upper first last S q = IsAbove S q × IsOnHand hand q (end_on (other_hand hand) (first, last))
+IsOnChain hand side first last S q = IsClear side S q × IsInwards hand side first last q
 
 -- q lies outside, and its left and its right tangent touch these chains
 abbrev pub AreTouched : Pair → Pair → List Pair → Pair → Side × Side → Type 0
