@@ -21,18 +21,10 @@ use Rattle.hull_geometry.proofs.CoveredByEdges.{covered_by_edges}
 use Rattle.hull_geometry.proofs.NotCovered.{Separated}
 use Rattle.hull_geometry.proofs.OneSided.{past_separated}
 use Rattle.hull_geometry.proofs.Orientation.{orient_swap}
-use Rattle.hull_geometry.proofs.PointLists.{AllPairs-head, AllPairs-tail, append_none}
+use Rattle.hull_geometry.proofs.PointLists.{AllPairs-head, AllPairs-tail, append_none, later}
 use Rattle.hull_geometry.proofs.SameSide.{OneSide, more_beside}
 use Rattle.hull_geometry.proofs.Separators.{separated_by_wedge, wedge_before, wedge_behind}
 use Rattle.hull_geometry.proofs.Sightings.{more_irrefl, tangent_of}
-
--- a member in front
-here : (t : Pair) (ts : List Pair) → Contains (t ∷ ts) t
-here t ts = (0, omega arith, refl)
-
--- a member behind it
-there : (t u : Pair) (ts : List Pair) → Contains ts u → Contains (t ∷ ts) u
-there t u ts m = (suc m.0, omega (arith, m.1), m.2)
 
 -- a relation of which each two points can be told
 module _ (B : Pair → Pair → Type 0) (irreflexive : (x : Pair) → ¬ (B x x))
@@ -41,7 +33,7 @@ module _ (B : Pair → Pair → Type 0) (irreflexive : (x : Pair) → ¬ (B x x)
   best_there : (P : Pair → Type 0) → ((u v w : Pair) → P u → P v → P w → B u v → B v w → B u w)
       → (t : Pair) (ts : List Pair) → All P (t ∷ ts) → (b : Pair) × Contains (t ∷ ts) b × All (λ u. ¬ (B u b)) (t ∷ ts)
   best_there P transitive t [] h =
-      (t, here t [], All-cons (λ u. ¬ (B u t)) t [] (irreflexive t) (λ k d l. absurd (omega arith)))
+      (t, (0, omega arith, refl), All-cons (λ u. ¬ (B u t)) t [] (irreflexive t) (λ k d l. absurd (omega arith)))
   best_there P transitive t (x ∷ xs) h =
       let r = best_there P transitive x xs (All-tail P t (x ∷ xs) h) in
       let pt : P t = All-head P t (x ∷ xs) h in
@@ -49,11 +41,11 @@ module _ (B : Pair → Pair → Type 0) (irreflexive : (x : Pair) → ¬ (B x x)
       elim (told t r.0) [
         | inl k ↦ (
           t,
-          here t (x ∷ xs),
+          (0, omega arith, refl),
           All-cons (λ u. ¬ (B u t)) t (x ∷ xs) (irreflexive t)
               (λ i d l m. r.2 i d l (transitive _ t r.0 (All-tail P t (x ∷ xs) h i d l) pt pr m k)),
         )
-        | inr n ↦ (r.0, there t r.0 (x ∷ xs) r.1, All-cons (λ u. ¬ (B u r.0)) t (x ∷ xs) n r.2)
+        | inr n ↦ (r.0, later t r.0 (x ∷ xs) r.1, All-cons (λ u. ¬ (B u r.0)) t (x ∷ xs) n r.2)
       ]
 
 -- whether a turn is above 0, or is 0 and a number below another, can be told
@@ -139,7 +131,7 @@ parted_at (t ∷ ts) q s =
     ]
   where
     behind_too : (xs ys : List Pair) → Contains ts q ⊎ (ts ≡ xs ++ ys) → Contains (t ∷ ts) q ⊎ (t ∷ ts ≡ (t ∷ xs) ++ ys)
-    behind_too xs ys (inl m) = inl (there t q ts m)
+    behind_too xs ys (inl m) = inl (later t q ts m)
     behind_too xs ys (inr e) = inr (ap (λ (z : List Pair). t ∷ z) e)
 
 -- t lies within the wedge at q from r to l

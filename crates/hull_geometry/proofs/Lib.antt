@@ -1,4 +1,5 @@
 pub mod PointLists
+pub mod PointSets
 pub mod ChangedSets
 pub mod SetLaws
 pub mod Orientation

@@ -12,7 +12,7 @@ use Rattle.lattice.specs.declared.side.Side.TheVariants.{Lower, Upper}
 use Rattle.hull_geometry.proofs.Along.{along_trans}
 use Rattle.hull_geometry.proofs.Chains.{extreme_on_chain, lower_extreme, upper_rest_extreme, no_common_corner}
 use Rattle.lattice.proofs.Order.{before_trans, before_apart, after_apart}
-use Rattle.hull_geometry.proofs.PointLists.{all_append_right, left_part}
+use Rattle.hull_geometry.proofs.PointLists.{all_append_right, left_part, only_member}
 
 -- one more edge at the end of a chain
 pub chain_push : (E : Pair → Pair → Type 0) (u : Pair) (vs : List Pair) (w : Pair) → IsChain E u vs → E (end_of u vs) w
@@ -138,13 +138,9 @@ vertex_list S first last l ls ms s lc le uc hf hl =
     last_in : Contains (first ∷ (l ∷ ls)) last
     last_in = subst (Contains (first ∷ (l ∷ ls))) le (end_contained first (l ∷ ls))
 
-    only_first : (p : Pair) → Contains (first ∷ []) p → first ≡ p
-    only_first p (zero, lt, e) = e
-    only_first p (suc k, lt, e) = absurd (omega (arith, lt))
-
     back : (p : Pair) → Contains ms p ⊎ Contains (first ∷ []) p → Contains (first ∷ ((l ∷ ls) ++ ms)) p
     back p (inl m) = Contains-append_right (first ∷ (l ∷ ls)) ms p m
-    back p (inr m) = (0, omega arith, only_first p m)
+    back p (inr m) = (0, omega arith, sym (only_member first p m))
 
     on_upper : (p : Pair) → Contains (last ∷ (ms ++ first ∷ [])) p → Contains (first ∷ ((l ∷ ls) ++ ms)) p
     on_upper p (zero, lt, e) =

@@ -22,7 +22,8 @@ use Rattle.hull_geometry.specs.Positions.{origin}
 use Rattle.lattice.specs.declared.side.Side.{Side}
 use Rattle.hull_geometry.proofs.FewVertices.{distinct_few}
 use Rattle.hull_set.proofs.OrderedMaps.{point_cmp, less, greater, equal}
-use Rattle.hull_plain.proofs.Passes.{ends_take, ends_cut, set_append, set_left, set_right, set_apart, thinned_set}
+use Rattle.hull_plain.proofs.Passes.{ends_take, ends_cut, thinned_set}
+use Rattle.hull_geometry.proofs.PointSets.{set_append, set_left, set_right, set_apart}
 use Rattle.hull_plain.proofs.Passes.{thinned_through, from_front}
 use Rattle.hull_geometry.proofs.PointLists.{AllPairs-cons, AllPairs-head, AllPairs-tail, append_twice}
 use Rattle.hull_geometry.proofs.PointLists.{get_or_free}

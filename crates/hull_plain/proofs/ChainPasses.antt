@@ -14,6 +14,7 @@ use Rattle.lattice.specs.declared.side.Side.{Side}
 use Rattle.lattice.specs.declared.side.Side.TheVariants.{Lower, Upper}
 use Rattle.hull_geometry.proofs.ChangedSets.{set-insert}
 use Rattle.hull_geometry.proofs.Orientation.{orient_swap, orient-cycle, orient_other}
+use Rattle.hull_geometry.proofs.PointSets.{set_right}
 use Rattle.hull_geometry.proofs.PointLists.{AllPairs-cons, AllPairs-head, AllPairs-tail, all_append_right, left_part}
 use Rattle.hull_geometry.proofs.PointLists.{right_part, append_none, append_twice, get_or_free}
 use Rattle.hull_geometry.proofs.SameSide.{side_trans}
@@ -97,11 +98,6 @@ without_inward side [] a b c u ab bc h (inl e) = inl e
 without_inward side [] a b c u ab bc h (inr k) = inr (last_two side a b c u ab bc h k)
 without_inward side (x ∷ xs) a b c u ab bc h (inl e) = inl e
 without_inward side (x ∷ xs) a b c u ab bc h (inr k) = inr (behind_more side x xs a b c u ab bc h k)
-
--- the end of a set is a set
-set_right : (xs ys : List Pair) → IsPointSet (xs ++ ys) → IsPointSet ys
-set_right [] ys s = s
-set_right (x ∷ xs) ys s = set_right xs ys (AllPairs-tail x (xs ++ ys) s)
 
 -- a set without one of its points is a set
 pub set_less : (xs : List Pair) (b : Pair) (ys : List Pair) → IsPointSet (xs ++ b ∷ ys) → IsPointSet (xs ++ ys)

@@ -28,7 +28,8 @@ use Rattle.hull_plain.proofs.ChainPasses.{set_less, set_longer}
 use Rattle.hull_geometry.proofs.Comparisons.{fits_side, below_test}
 use Rattle.hull_geometry.proofs.ChangedSets.{set-insert, in_without}
 use Rattle.hull_plain.proofs.FoundPositions.{found_after, found_absent, cut_around}
-use Rattle.hull_plain.proofs.Passes.{set_left, set_right, inner_cut, inner_left, inner_right}
+use Rattle.hull_plain.proofs.Passes.{inner_cut, inner_left, inner_right}
+use Rattle.hull_geometry.proofs.PointSets.{set_left, set_right}
 use Rattle.hull_plain.proofs.Passes.{inner_across, member_inner, ends_take, ends_right, thinned_itself, thinned_of}
 use Rattle.hull_geometry.proofs.PointLists.{AllPairs-head, append_twice, append_none, get_or_free, later, cut}
 use Rattle.hull_geometry.proofs.SetLaws.{members_with, members_without}

@@ -8,7 +8,8 @@ use Rattle.lattice.specs.Signs.{le_or_lt}
 use Rattle.lattice.proofs.Vectors.{minus, cross, Ahead, turn_trans_strict, turn_trans_strict_right}
 use Rattle.bridge_search.specs.Trees.{Tree, Leaf, Fork, On, IsBridged, lower_of}
 use Rattle.bridge_search.specs.Leaves.{points_of}
-use Rattle.bridge_search.proofs.Leaves.{all_of, on_of_contains, contains_of_on}
+use Rattle.bridge_search.proofs.Leaves.{on_of_contains, contains_of_on}
+use Rattle.hull_geometry.proofs.PointLists.{all_of}
 use Rattle.hull_geometry.specs.Edges.{IsLowerEdge}
 use Rattle.hull_geometry.proofs.Orientation.{orient-cross, at_least, above, ahead_of}
 use Rattle.lattice.proofs.Sides.{side_by_start, side_by_end, side_before, side_after, side_to_end}

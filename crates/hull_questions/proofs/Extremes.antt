@@ -11,7 +11,8 @@ use Rattle.lattice.specs.Signs.{le_or_lt}
 use Rattle.bridge_search.specs.Trees.{Tree, Leaf, Fork, On, IsBridged, IsFork, edge_of, left_of, right_of, first_of}
 use Rattle.bridge_search.specs.Trees.{IsAtDepth}
 use Rattle.bridge_search.specs.Leaves.{points_of}
-use Rattle.bridge_search.proofs.Leaves.{all_of, on_of_contains, contains_of_on}
+use Rattle.bridge_search.proofs.Leaves.{on_of_contains, contains_of_on}
+use Rattle.hull_geometry.proofs.PointLists.{all_of}
 use Rattle.hull_geometry.specs.Tangents.{IsFirstFarthest, Faces}
 use Rattle.lattice.proofs.Order.{before_not, before_irrefl}
 use Rattle.hull_geometry.proofs.Slopes.{stays, goes}

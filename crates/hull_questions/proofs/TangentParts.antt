@@ -11,7 +11,8 @@ use Rattle.lattice.proofs.Vectors.{minus, cross, cross_swap, turn_trans, turn_tr
 use Rattle.bridge_search.specs.Trees.{Tree, Leaf, Fork, On, IsBridged, lower_of, first_of, last_of, height_of}
 use Rattle.bridge_search.specs.Leaves.{points_of}
 use Rattle.bridge_search.proofs.Ends.{last_by, on_last}
-use Rattle.bridge_search.proofs.Leaves.{all_of, on_of_contains, contains_of_on}
+use Rattle.bridge_search.proofs.Leaves.{on_of_contains, contains_of_on}
+use Rattle.hull_geometry.proofs.PointLists.{all_of}
 use Rattle.bridge_search.proofs.Turns.{first_by, on_first}
 use Rattle.hull_geometry.proofs.EdgeSteps.{past_farther, past_farther_back}
 use Rattle.lattice.proofs.Order.{before_total, before_trans}

@@ -8,7 +8,8 @@ use Rattle.lattice.proofs.TurnedBridges.{before_turned, before_turned_back, turn
 use Rattle.lattice.proofs.Sides.{side_turned_over}
 use Rattle.bridge_search.specs.TurnedTrees.{turned_tree, turned_on, on_turned, first_turned, last_turned}
 use Rattle.bridge_search.specs.Leaves.{points_of}
-use Rattle.bridge_search.proofs.Leaves.{all_of, on_of_contains, contains_of_on}
+use Rattle.bridge_search.proofs.Leaves.{on_of_contains, contains_of_on}
+use Rattle.hull_geometry.proofs.PointLists.{all_of}
 use Rattle.hull_geometry.proofs.Orientation.{at_least}
 use Rattle.hull_geometry.specs.Edges.{IsLowerEdge, IsUpperEdge}
 use Rattle.hull_geometry.specs.Sights.{IsLowerEdgeAt, IsUpperEdgeAt}

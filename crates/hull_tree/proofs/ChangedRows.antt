@@ -7,12 +7,7 @@ use Rattle.lattice.specs.Covers.{IsPointSet, with_point, without_point}
 use Rattle.lattice.specs.Plane.{Pair, IsBefore}
 use Rattle.lattice.proofs.Order.{before_trans, before_irrefl, before_total, before_not, before_apart, after_apart}
 use Rattle.lattice.proofs.Order.{is_before-true, is_before-false}
-use Rattle.hull_geometry.proofs.PointLists.{AllPairs-head, AllPairs-tail}
-
--- the one member of a list of one
-pub only_member : (x t : Pair) → Contains (x ∷ []) t → t ≡ x
-only_member x t (zero, l, e) = sym e
-only_member x t (suc i, l, e) = absurd (omega arith)
+use Rattle.hull_geometry.proofs.PointLists.{AllPairs-head, AllPairs-tail, only_member}
 
 -- p before all of the right list: it is added to the left one
 pub with_left : (p : Pair) (xs ys : List Pair) → All (IsBefore p) ys → with_point p (xs ++ ys) ≡ with_point p xs ++ ys

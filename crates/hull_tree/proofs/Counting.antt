@@ -22,16 +22,18 @@ use Rattle.hull_set.specs.PointLists.{is_same_pair}
 use Rattle.hull_set.proofs.OrderedMaps.{point_cmp, total}
 use Rattle.hull_set.proofs.Times.{same_held}
 use Rattle.hull_geometry.proofs.PointLists.{AllPairs-none, AllPairs-cons, get_or_free, later}
-use Rattle.hull_set.proofs.Times.{same_true, same_or_other, once_same}
+use Rattle.hull_set.proofs.Times.{same_or_other, once_same, told_other}
 use Rattle.hull_tree.specs.declared.node.Node as node
 use Rattle.hull_tree.specs.declared.node.Halves as halves
 use Rattle.hull_tree.specs.Nodes.{tree_of, below_of, left_half, right_half, several, times_below, IsLabelled, IsMultiplicity, IsWellBuilt}
 use Rattle.hull_tree.specs.Changes.{points_below, height_at, height_within}
 use Rattle.hull_tree.specs.Roots.{held_by}
-use Rattle.hull_tree.specs.Loaded.{points_listed, times_listed, times_among, AreEntries, IsAscending, entries_below}
+use Rattle.hull_tree.specs.Loaded.{points_listed, times_listed, AreEntries, entries_below}
+use Rattle.hull_set.specs.Held.{times_among}
+use Rattle.hull_set.specs.PointLists.{IsAscending}
 use Rattle.hull_tree.specs.Loaded.{held_listed, Precedes}
 use Rattle.hull_tree.proofs.HalfRows.{same_below}
-use Rattle.hull_tree.proofs.PointRows.{set_across}
+use Rattle.hull_geometry.proofs.PointSets.{set_apart}
 use Rattle.hull_tree.proofs.Multiplicities.{several_there, several_elsewhere}
 use Rattle.hull_set.proofs.OrderedMaps.{less}
 
@@ -85,9 +87,7 @@ pub after_all : (xs : List Pair) (x p t : Pair) → IsPointSet (xs ++ x ∷ []) 
     → Contains (xs ++ x ∷ []) t → IsBefore t p
 after_all xs x p t s n d m =
     elim (Contains-push_cases xs x t m) [
-      | inl i ↦ before_trans t x p
-          (All-contains (IsBefore t) (x ∷ []) x
-          (All-contains (λ u. All (IsBefore u) (x ∷ [])) xs t (set_across xs (x ∷ []) s) i) (0, omega arith, refl)) ahead
+      | inl i ↦ before_trans t x p (set_apart xs (x ∷ []) t x s i (0, omega arith, refl)) ahead
       | inr e ↦ subst (λ z. IsBefore z p) e ahead
     ]
   where
@@ -135,12 +135,11 @@ times_recounted es e p q n s =
 
 -- two points of which a test told that they differ do
 pub other_point : {r : Bool} (p q : Pair) → r ≡ not (is_same_pair p q) → r ≡ true → ¬ (p ≡ q)
-other_point p q e t d =
-    let s : is_same_pair p q ≡ true = subst (λ z. is_same_pair p z ≡ true) d (same_true p) in
-    tells (rw s at e) t
+other_point p q e t = told_other p q (not_true _ (sym e ∙ t))
   where
-    tells : {r : Bool} → r ≡ false → r ≡ true → ⊥
-    tells h g = absurd (cc)
+    not_true : (b : Bool) → not b ≡ true → b ≡ false
+    not_true true h = sym h
+    not_true false h = refl
 
 -- a point, once more among the first points than before its place
 pub counted_more : (xs : List Pair) (i : ℕ) (p q : Pair) → p ≡ get_or xs i p → i < length xs
@@ -338,16 +337,6 @@ behind_both es fs i j e before after h k g s a b among = (
 )
 
 -- ---- points in order
--- what a sort leaves
-pub ascending : (xs : List Pair) → IsSorted point_cmp xs → IsAscending xs
-ascending xs s i j d l m b =
-    let f : is_lt (point_cmp (get_or xs j d) (get_or xs i d)) ≡ false =
-    sorted_far (λ x y. is_lt (point_cmp x y)) (ranks_by total (λ x. x)) xs s i j d l m in
-    tells (rw (less (get_or xs j d) (get_or xs i d) b) at f)
-  where
-    tells : true ≡ false → ⊥
-    tells e = absurd (cc)
-
 -- points moved by a sort stand among them as often
 pub sorted_times : (xs ys zs us : List Pair) (q : Pair) → ys ≡ xs → IsPermutation ys zs → us ≡ zs
     → times_among us q ≡ times_among xs q

@@ -4,7 +4,8 @@ use Rattle.std.specs.List.{All}
 use Rattle.lattice.specs.Covers.{IsPointSet, with_point, without_point}
 use Rattle.lattice.specs.Plane.{Pair, IsBefore}
 use Rattle.bridge_search.specs.Trees.{first_of, last_of}
-use Rattle.bridge_search.proofs.Leaves.{all_of, on_of_contains, points_in_order}
+use Rattle.bridge_search.proofs.Leaves.{on_of_contains, points_in_order}
+use Rattle.hull_geometry.proofs.PointLists.{all_of}
 use Rattle.bridge_search.proofs.Turns.{on_first, first_by}
 use Rattle.lattice.proofs.Order.{before_trans, before_total}
 use Rattle.hull_tree.specs.declared.node.Node as node
@@ -13,7 +14,8 @@ use Rattle.hull_tree.specs.Nodes.{tree_of, halves_of, below_of, left_half, right
 use Rattle.hull_tree.specs.Nodes.{DifferByAtMost}
 use Rattle.hull_tree.specs.Changes.{points_below, height_at, points_within, times_within, height_within, AreInRow}
 use Rattle.hull_tree.specs.Changes.{AreParted}
-use Rattle.hull_tree.proofs.PointRows.{set_left, set_right, all_before_of_set}
+use Rattle.hull_geometry.proofs.PointSets.{set_left, set_right}
+use Rattle.hull_tree.proofs.PointRows.{all_before_of_set}
 use Rattle.hull_tree.proofs.ChangedRows.{with_left, with_right, without_left, without_right}
 use Rattle.hull_geometry.proofs.SetLaws.{ordered_with, ordered_without}
 

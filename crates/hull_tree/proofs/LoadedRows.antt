@@ -16,7 +16,7 @@ use Rattle.hull_tree.specs.Changes.{points_below, height_at, AreInRow}
 use Rattle.hull_tree.specs.Roots.{held_by}
 use Rattle.hull_tree.specs.Sets.{IsLimited, IsSound}
 use Rattle.hull_tree.specs.Loaded.{held_listed, points_listed, times_listed, AreEntries, IsOver, IsHalvings}
-use Rattle.hull_tree.proofs.PointRows.{set_left, set_right}
+use Rattle.hull_geometry.proofs.PointSets.{set_left, set_right}
 use Rattle.hull_tree.proofs.Heights.{at_most_28}
 
 -- the points of two parts in a row

@@ -2,7 +2,8 @@
 use Rattle.std.proofs.Common.{◌≡◌, ◌≤◌, ◌<◌, ◌+◌, ◌∙◌, inl, inr, refl, subst, sym, arith, take, get_or, length}
 use Rattle.lattice.specs.Plane.{IsBefore}
 use Rattle.hull_set.specs.declared.TheConstants.{MULTIPLICITY_LIMIT}
-use Rattle.hull_tree.specs.Loaded.{times_listed, times_among}
+use Rattle.hull_tree.specs.Loaded.{times_listed}
+use Rattle.hull_set.specs.Held.{times_among}
 use Rattle.hull_tree.proofs.Counting.{counted_more, counted_past, at_place}
 use Rattle.hull_tree.proofs.load.counted.Goals as goal
 
