@@ -17,7 +17,6 @@ use Rattle.lattice.proofs.Numbers.{nn_zero}
 use Rattle.hull_geometry.proofs.Orientation.{orient-cycle, at_least}
 use Rattle.lattice.proofs.LineCrossings.{orient_start}
 use Rattle.hull_geometry.proofs.PointLists.{AllPairs-cons, AllPairs-none, get_or_free, only_member}
-use Rattle.hull_geometry.proofs.VertexLists.{chain_push, end_push}
 
 -- the point at 0 is the first
 pub least : (S : List Pair) → IsPointSet S → IsFirst S (point_at S 0)

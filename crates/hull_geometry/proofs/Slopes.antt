@@ -1,10 +1,10 @@
 -- How far a point lies in a direction, beside a line that rises or falls in it.
-use Rattle.std.proofs.Common.{◌≡◌, ℤ, pos, ◌+ℤ◌, ◌-ℤ◌, ◌*ℤ◌, ◌≤ℤ◌, ◌<ℤ◌, neg_ℤ, inl, inr, refl, ap, ◌∙◌, arith}
+use Rattle.std.proofs.Common.{◌≡◌, ℤ, pos, ◌+ℤ◌, ◌-ℤ◌, ◌*ℤ◌, ◌≤ℤ◌, ◌<ℤ◌, inl, inr, ap, ◌∙◌, arith}
 use Rattle.std.proofs.lemmas.Int.{ints}
-use Rattle.lattice.specs.Plane.{Pair, orient, product, IsBefore}
+use Rattle.lattice.specs.Plane.{Pair, product, IsBefore}
 use Rattle.lattice.specs.Polynomials.{difference-eq, difference_rules}
 use Rattle.lattice.specs.Signs.{le_or_lt, product_nn, product_pp, product_np}
-use Rattle.lattice.proofs.Vectors.{as_pair, minus, cross, cross_swap, Ahead, ahead_nn}
+use Rattle.lattice.proofs.Vectors.{as_pair, minus, cross, Ahead, ahead_nn}
 use Rattle.lattice.proofs.Numbers.{less_not_le}
 use Rattle.lattice.specs.Turns.{turn}
 use Rattle.lattice.specs.declared.side.Side.{Side}

@@ -1,7 +1,7 @@
 -- How turns to one side compose, on a chain of either side.
 use Rattle.std.proofs.Common.{◌≡◌, ℤ, pos, ◌-ℤ◌, ◌≤ℤ◌, ◌<ℤ◌, neg_ℤ, sym, ap, ◌∙◌, arith}
 use Rattle.std.proofs.lemmas.Int.{ints}
-use Rattle.lattice.specs.Plane.{Pair, orient, IsBefore}
+use Rattle.lattice.specs.Plane.{Pair, IsBefore}
 use Rattle.lattice.proofs.Numbers.{nn_above, nn_opposite, np_by, below_opposite}
 use Rattle.lattice.proofs.Sides.{side_after, side_to_end, side_more, side_less}
 use Rattle.lattice.proofs.LineCrossings.{orient_start, orient_end}

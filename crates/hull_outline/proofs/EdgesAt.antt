@@ -1,6 +1,5 @@
 -- The edges between whose ends a point stands, and what the ends of the corners tell of it.
-use Rattle.std.proofs.Common.{◌≡◌, ℕ, ◌+◌, ◌-◌, ◌≤◌, ◌<◌, List, length, inl, inr, refl, subst, arith}
-use Rattle.std.specs.List.{Contains}
+use Rattle.std.proofs.Common.{ℕ, ◌+◌, ◌-◌, ◌≤◌, ◌<◌, List, length, inl, inr, refl, subst, arith}
 use Rattle.std.proofs.lemmas.Bool.{cases_lt}
 use Rattle.lattice.specs.Places.{IsOnBoundary}
 use Rattle.lattice.specs.Plane.{Pair, IsBefore}

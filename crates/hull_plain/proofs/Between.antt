@@ -9,7 +9,6 @@ use Rattle.std.specs.Map.{keys_of}
 use Rattle.std.specs.declared.ops.Bound.{Bound}
 use Rattle.std.specs.declared.ops.Bound.TheVariants.{Included, Excluded, Unbounded}
 use Rattle.std.proofs.lemmas.Bool.{false≢true}
-use Rattle.std.proofs.lemmas.Grind.{common_steps}
 use Rattle.std.proofs.lemmas.List.Elements.{All-contains, All-filter, filter_passes, Contains-append_right, Contains-append_cases}
 use Rattle.std.proofs.lemmas.List.Elements.{Contains-append_left}
 use Rattle.lattice.specs.Covers.{IsPointSet}

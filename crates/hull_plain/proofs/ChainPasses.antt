@@ -1,9 +1,9 @@
 -- What one pass over points in order makes of a chain.
-use Rattle.std.proofs.Common.{◌≡◌, ℕ, pos, ◌≤ℤ◌, ◌⊎◌, inl, inr, refl, sym, ap, ◌∙◌, subst, List, arith, zero, suc, []}
+use Rattle.std.proofs.Common.{◌≡◌, ℕ, pos, ◌≤ℤ◌, inl, inr, refl, sym, ap, ◌∙◌, subst, List, arith, zero, suc, []}
 use Rattle.std.proofs.Common.{◌∷◌, ◌++◌, ◌<◌, ◌+◌, ◌-◌, length, get_or, take, length-append}
 use Rattle.std.specs.List.{All, Contains}
 use Rattle.std.proofs.lemmas.Int.{ints}
-use Rattle.std.proofs.lemmas.List.Elements.{All-cons, All-head, All-tail, Contains-append_left, Contains-append_right}
+use Rattle.std.proofs.lemmas.List.Elements.{All-head, All-tail, Contains-append_left, Contains-append_right}
 use Rattle.std.proofs.lemmas.List.Elements.{Contains-append_cases}
 use Rattle.lattice.specs.Covers.{IsPointSet}
 use Rattle.lattice.specs.Plane.{Pair, orient, IsBefore}
@@ -16,7 +16,7 @@ use Rattle.hull_geometry.proofs.ChangedSets.{set-insert}
 use Rattle.hull_geometry.proofs.Orientation.{orient_swap, orient-cycle, orient_other}
 use Rattle.hull_geometry.proofs.PointSets.{set_right}
 use Rattle.hull_geometry.proofs.PointLists.{AllPairs-cons, AllPairs-head, AllPairs-tail, all_append_right, left_part}
-use Rattle.hull_geometry.proofs.PointLists.{right_part, append_none, append_twice, get_or_free}
+use Rattle.hull_geometry.proofs.PointLists.{right_part, append_none, append_twice}
 use Rattle.hull_geometry.proofs.SameSide.{side_trans}
 
 -- three points in the order, of which the middle one does not lie outwards: it lies inwards of the segment of the

@@ -1,16 +1,15 @@
 -- The position of a point in a list in the order "before".
 use Rattle.std.proofs.Common.{◌≡◌, ℕ, inl, inr, sym, ap, ◌∙◌, subst, List, arith, zero, suc, ◌+◌, ◌<◌, ◌≤◌, [], ◌∷◌}
-use Rattle.std.proofs.Common.{◌++◌, length, get_or, true, false, take, drop, length-drop, length-take, Ok, Err}
+use Rattle.std.proofs.Common.{◌++◌, length, get_or, take, drop, length-drop, length-take, Ok, Err}
 use Rattle.std.specs.List.{All, Contains}
-use Rattle.std.specs.List.Sorted.{IsPartitionPoint, IsPartitionedBy}
 use Rattle.std.proofs.lemmas.Bool.{cases_lt}
 use Rattle.std.proofs.lemmas.List.{get_or-drop, get_or-take}
 use Rattle.std.proofs.lemmas.List.Elements.{All-weaker, All-cons, All-head}
-use Rattle.lattice.specs.Covers.{IsPointSet, is_before}
+use Rattle.lattice.specs.Covers.{IsPointSet}
 use Rattle.lattice.specs.Plane.{Pair, IsBefore}
 use Rattle.hull_geometry.specs.Positions.{IsPositionOf}
 use Rattle.hull_geometry.proofs.ChangedSets.{absent_between}
-use Rattle.lattice.proofs.Order.{before_trans, before_irrefl, before_total, is_before-true, is_before-holds}
+use Rattle.lattice.proofs.Order.{before_trans, before_irrefl, before_total}
 use Rattle.hull_geometry.proofs.PointLists.{AllPairs-head, AllPairs-tail, get_or_free, cut, cut_at}
 
 -- the rest of a set is a set

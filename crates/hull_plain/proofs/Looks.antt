@@ -1,5 +1,5 @@
 -- Where a point lies, by what one chain of a hull tells of it.
-use Rattle.std.proofs.Common.{◌≡◌, ℕ, ℤ, pos, neg_ℤ, ◌<ℤ◌, ◌⊎◌, inl, inr, refl, sym, ap, ◌∙◌, subst, List, arith, zero}
+use Rattle.std.proofs.Common.{◌≡◌, ℕ, ℤ, pos, neg_ℤ, ◌⊎◌, inl, inr, refl, sym, ap, ◌∙◌, subst, List, arith, zero}
 use Rattle.std.proofs.Common.{suc, [], ◌∷◌, ◌<◌, ◌-◌, ◌+◌, length, get_or, take, drop, Ok, Err}
 use Rattle.std.proofs.lemmas.Bool.{cases_lt}
 use Rattle.std.proofs.lemmas.Grind.{common_steps}

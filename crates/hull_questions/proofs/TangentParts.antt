@@ -3,11 +3,9 @@ use Rattle.std.proofs.Common.{◌≡◌, ◌<◌, ℤ, pos, ◌≤ℤ◌, ◌<�
 use Rattle.std.proofs.Common.{◌∷◌, Some, None}
 use Rattle.std.specs.List.{Contains}
 use Rattle.std.proofs.lemmas.Int.{ints}
-use Rattle.std.proofs.lemmas.List.Elements.{All-contains, Contains-append_left, Contains-append_right}
-use Rattle.std.proofs.lemmas.List.Elements.{Contains-append_cases}
-use Rattle.lattice.specs.Plane.{Pair, orient, distance_squared, IsBefore}
+use Rattle.std.proofs.lemmas.List.Elements.{All-contains}
+use Rattle.lattice.specs.Plane.{Pair, orient, IsBefore}
 use Rattle.lattice.specs.Signs.{le_or_lt}
-use Rattle.lattice.proofs.Vectors.{minus, cross, cross_swap, turn_trans, turn_trans_strict, turn_trans_strict_right}
 use Rattle.bridge_search.specs.Trees.{Tree, Leaf, Fork, On, IsBridged, lower_of, first_of, last_of, height_of}
 use Rattle.bridge_search.specs.Leaves.{points_of}
 use Rattle.bridge_search.proofs.Ends.{last_by, on_last}
@@ -16,18 +14,20 @@ use Rattle.hull_geometry.proofs.PointLists.{all_of}
 use Rattle.bridge_search.proofs.Turns.{first_by, on_first}
 use Rattle.hull_geometry.proofs.EdgeSteps.{past_farther, past_farther_back}
 use Rattle.lattice.proofs.Order.{before_total, before_trans}
-use Rattle.hull_geometry.proofs.Orientation.{orient-cross, orient_swap, orient-cycle, at_least, above, ahead_of}
+use Rattle.hull_geometry.proofs.Orientation.{orient_swap, orient-cycle, at_least, above}
 use Rattle.hull_geometry.proofs.SameSide.{OneSide, more_beside}
 use Rattle.hull_geometry.proofs.Sightings.{turn_on_back, no_more, tangent_of}
 use Rattle.hull_geometry.proofs.EdgesAt.{up_to, on_from}
 use Rattle.hull_geometry.specs.Hands.{other_hand, turn_on, IsMore, IsOnHand, end_on}
 use Rattle.hull_geometry.specs.Tangents.{IsNoMore, IsTangent}
 use Rattle.hull_questions.specs.Hands.{half_on, outermost, IsBeyond}
+use Rattle.hull_questions.proofs.Halves.{AreHalves, swapped, halves_of}
 use Rattle.hull_questions.specs.Parts.{IsTangentPart}
 use Rattle.hull_geometry.specs.Sights.{IsBelow}
 use Rattle.hull_geometry.specs.declared.hand.Hand.{Hand}
 use Rattle.hull_geometry.specs.declared.hand.Hand.TheVariants.{Left, Right}
-use Rattle.lattice.proofs.Sides.{side_before, side_after, side_to_end}
+use Rattle.lattice.specs.declared.side.Side.TheVariants.{Lower}
+use Rattle.hull_geometry.proofs.Turns.{turns_on, turns_back, fans_from, fans_to}
 
 -- ---- the order in which q sees the points that lie above it
 
@@ -88,20 +88,6 @@ more_trans hand S q u v w h mu mv mw a b =
 
 -- ---- the tangent point of a part
 
--- the points of two halves are those of S
-record AreHalves (S : List Pair) (near far : Tree) : Type 0 where
-  pub in_near : (t : Pair) → On near t → Contains S t
-  pub in_far : (t : Pair) → On far t → Contains S t
-  pub which : (t : Pair) → Contains S t → On near t ⊎ On far t
-
--- and the other way round
-swapped : (S : List Pair) (near far : Tree) → AreHalves S near far → AreHalves S far near
-swapped S near far k = record {
-  in_near = k.in_far;
-  in_far = k.in_near;
-  which = λ t m. elim (k.which t m) [ inl i ↦ inr i | inr i ↦ inl i ];
-}
-
 -- what is seen from below is seen so in a half
 below_half : (S : List Pair) (near far : Tree) (q : Pair) → AreHalves S near far → IsBelow S q → IsBelow (points_of near) q
 below_half S near far q k h = record {
@@ -133,10 +119,6 @@ kept hand S near far q p k h more n = tangent_of hand S q p here (all_of (λ t. 
 above_or_zero : (x : ℤ) → pos 0 ≤ℤ x → (pos 0 <ℤ x) ⊎ (x ≡ pos 0)
 above_or_zero x h = elim (le_or_lt x (pos 0)) [ inl k ↦ inr (omega (arith, ints)) | inr k ↦ inl k ]
 
--- the negative of a number that is not above 0
-flip_nn : (x y : ℤ) → x ≡ neg_ℤ y → y ≤ℤ pos 0 → pos 0 ≤ℤ x
-flip_nn x y e h = omega (arith, ints)
-
 -- q not over the line of the bridge, and beyond its end on this hand: that end is seen farther there than each point t
 -- over the line on the other hand of it
 near_more : (hand : Hand) (S : List Pair) (q t : Pair) (e : Pair × Pair) → IsBelow S q → Contains S (end_on hand e)
@@ -146,28 +128,15 @@ near_more Left S q t (a, b) h ma mt ab at aq over under =
     elim (side_of Left S q t h mt) [
       | inr k ↦ inl (across Left S q a t h ma mt aq k)
       | inl k ↦
-          let x : pos 0 ≤ℤ cross (minus q a) (minus b a) =
-          flip_nn _ _ (cross_swap (minus q a) (minus b a))
-          (subst (λ (z : ℤ). z ≤ℤ pos 0) (orient-cross a b q) under) in
-          let y : pos 0 ≤ℤ cross (minus q a) (minus t a) =
-          turn_trans (minus q a) (minus b a) (minus t a) (ahead_of a q aq) (ahead_of a b ab) (ahead_of a t at) x
-          (at_least _ _ (orient-cross a b t) over) in
-          let z : pos 0 ≤ℤ orient q t a =
-          at_least _ _ (sym (orient-cross a q t) ∙ orient-cycle a q t ∙ orient-cycle t a q) y in
+          let y : pos 0 ≤ℤ orient a q t = fans_from Lower a b q t ab aq at under over in
+          let z : pos 0 ≤ℤ orient q t a = at_least _ _ (orient-cycle a q t ∙ orient-cycle t a q) y in
           elim (above_or_zero _ z) [ inl g ↦ inl g | inr e ↦ inr (e, past_farther_back q t a k at e) ]
     ]
 near_more Right S q t (a, b) h mb mt ab tb qb over under =
     elim (side_of Right S q t h mt) [
       | inr k ↦ inl (across Right S q b t h mb mt qb k)
       | inl k ↦
-          let x : pos 0 ≤ℤ cross (minus b a) (minus b q) =
-          flip_nn _ _ (cross_swap (minus b a) (minus b q))
-          (subst (λ (z : ℤ). z ≤ℤ pos 0) (side_to_end a b q) under) in
-          let y : pos 0 ≤ℤ cross (minus b t) (minus b q) =
-          turn_trans (minus b t) (minus b a) (minus b q) (ahead_of t b tb) (ahead_of a b ab) (ahead_of q b qb)
-          (at_least _ _ (side_to_end a b t) over) x in
-          let z : pos 0 ≤ℤ orient q b t = at_least _ _ (sym (side_to_end q b t)) y in
-          elim (above_or_zero _ z)
+          elim (above_or_zero _ (fans_to Lower a b q t ab qb tb under over))
           [ inl g ↦ inl g | inr e ↦ inr (e, past_farther q t b k tb (orient_swap q t b ∙ ap neg_ℤ e)) ]
     ]
 
@@ -176,13 +145,9 @@ near_more Right S q t (a, b) h mb mt ab tb qb over under =
 far_more : (hand : Hand) (q t : Pair) (e : Pair × Pair) → IsBefore e.0 e.1 → IsOnHand hand t (end_on (other_hand hand) e)
     → IsBeyond hand e q → pos 0 ≤ℤ orient e.0 e.1 t → IsMore hand q (end_on (other_hand hand) e) t
 far_more Left q t (a, b) ab tb (bq, left) over =
-    inl (above _ _ (sym (side_after t b q) ∙ orient-cycle t b q)
-    (turn_trans_strict_right (minus b t) (minus b a) (minus q b) (ahead_of t b tb) (ahead_of a b ab) (ahead_of b q bq)
-    (at_least _ _ (side_to_end a b t) over) (above _ _ (side_after a b q) left)))
+    inl (above _ _ (orient-cycle b q t ∙ orient-cycle t b q) (turns_back Lower a b q t ab bq tb over left))
 far_more Right q t (a, b) ab at (qa, left) over =
-    inl (above _ _ (sym (side_after q a t))
-    (turn_trans_strict (minus a q) (minus b a) (minus t a) (ahead_of q a qa) (ahead_of a b ab) (ahead_of a t at)
-    (above _ _ (side_before a b q) left) (at_least _ _ (orient-cross a b t) over)))
+    inl (turns_on Lower q a b t qa ab at (above _ _ (orient-cycle a b q) left) over)
 
 -- ---- one step down
 
@@ -200,24 +165,16 @@ split_at : (hand : Hand) (e f : Pair × Pair) (u w : Tree) → IsBridged (Fork e
     → IsSplit hand (points_of u ++ points_of w) (half_on hand (Fork e f u w)) (half_on (other_hand hand) (Fork e f u w)) f
 split_at hand e f u w h = turned hand
   where
-    halves : AreHalves (points_of u ++ points_of w) u w
-    halves = record {
-      in_near = λ t i. Contains-append_left (points_of u) (points_of w) t (contains_of_on u t i);
-      in_far = λ t i. Contains-append_right (points_of u) (points_of w) t (contains_of_on w t i);
-      which = λ t m. elim (Contains-append_cases (points_of u) (points_of w) t m)
-          [ inl i ↦ inl (on_of_contains u t i) | inr i ↦ inr (on_of_contains w t i) ];
-    }
-
     forward : IsBefore f.0 f.1
     forward = h.0 f.0 f.1 h.2.from_left h.2.to_right
 
     over : (t : Pair) → Contains (points_of u ++ points_of w) t → pos 0 ≤ℤ orient f.0 f.1 t
-    over t m = elim (halves.which t m) [ inl i ↦ h.2.inner_left t i | inr i ↦ h.2.inner_right t i ]
+    over t m = elim ((halves_of u w).which t m) [ inl i ↦ h.2.inner_left t i | inr i ↦ h.2.inner_right t i ]
 
     turned : (hand : Hand)
         → IsSplit hand (points_of u ++ points_of w) (half_on hand (Fork e f u w)) (half_on (other_hand hand) (Fork e f u w)) f
     turned Left = record {
-      halves = halves;
+      halves = halves_of u w;
       apart = h.0;
       from = h.2.from_left;
       to = h.2.to_right;
@@ -225,7 +182,7 @@ split_at hand e f u w h = turned hand
       over = over;
     }
     turned Right = record {
-      halves = swapped (points_of u ++ points_of w) u w halves;
+      halves = swapped (points_of u ++ points_of w) u w (halves_of u w);
       apart = λ s t i j. h.0 t s j i;
       from = h.2.to_right;
       to = h.2.from_left;

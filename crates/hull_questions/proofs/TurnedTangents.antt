@@ -2,7 +2,7 @@
 use Rattle.std.proofs.Common.{ℤ, pos, ◌<ℤ◌, sym, subst}
 use Rattle.std.specs.List.{Contains}
 use Rattle.std.proofs.lemmas.List.Elements.{All-weaker}
-use Rattle.lattice.specs.Plane.{Pair, orient, IsBefore, turned_point}
+use Rattle.lattice.specs.Plane.{Pair, IsBefore, turned_point}
 use Rattle.lattice.proofs.Sides.{side_turned_over, side_turned_back, far_turned, far_turned_back}
 use Rattle.bridge_search.specs.Trees.{Tree, first_of, last_of}
 use Rattle.lattice.proofs.TurnedBridges.{turned_twice, before_turned, before_turned_back, turned_order}

@@ -1,16 +1,15 @@
 -- A point that is counted in at the end of entries.
 use Rattle.std.proofs.Common.{◌≡◌, ℕ, ◌+◌, ◌<◌, ◌≤◌, inl, inr, refl, sym, ◌∙◌, ap, subst, List, [], ◌∷◌, ◌++◌, length}
 use Rattle.std.proofs.Common.{take, drop, get_or, arith, zero, suc, Bool, true, false, if◌then◌else◌, Some, ◌⊎◌}
-use Rattle.std.specs.Ordering.{is_lt}
 use Rattle.std.specs.Prelude.{not}
 use Rattle.std.specs.List.{All, Contains}
-use Rattle.std.specs.List.Sorted.{IsSorted, IsPermutation}
+use Rattle.std.specs.List.Sorted.{IsPermutation}
 use Rattle.std.proofs.Math.ListN.{get_or-map}
 use Rattle.std.proofs.Math.Nat.{eq-or-lt_of_le}
 use Rattle.std.proofs.lemmas.List.{map-append, take-append-drop}
 use Rattle.std.proofs.lemmas.List.Elements.{All-append, All-cons, All-contains, Contains-push_cases, Contains-append_right}
 use Rattle.std.proofs.lemmas.List.Elements.{Contains-append_left, Contains-get_or, All-head, All-tail}
-use Rattle.std.proofs.lemmas.List.Sorted.{sorted_far, ranks_by, sum_by-IsPermutation}
+use Rattle.std.proofs.lemmas.List.Sorted.{sum_by-IsPermutation}
 use Rattle.std.proofs.lemmas.List.Sums.{sum_by_push, sum_by_more, sum_by_more_le, sum_by-cons, sum_by-append}
 use Rattle.std.proofs.lemmas.Map.Entries.{length-keys_of}
 use Rattle.lattice.specs.Plane.{Pair, IsBefore}
@@ -19,7 +18,6 @@ use Rattle.lattice.proofs.Order.{before_trans, before_total, before_not}
 use Rattle.bridge_search.proofs.Leaves.{sets_in_row, points_in_order}
 use Rattle.hull_set.specs.Held.{once}
 use Rattle.hull_set.specs.PointLists.{is_same_pair}
-use Rattle.hull_set.proofs.OrderedMaps.{point_cmp, total}
 use Rattle.hull_set.proofs.Times.{same_held}
 use Rattle.hull_geometry.proofs.PointLists.{AllPairs-none, AllPairs-cons, get_or_free, later}
 use Rattle.hull_set.proofs.Times.{same_or_other, once_same, told_other}
@@ -30,12 +28,10 @@ use Rattle.hull_tree.specs.Changes.{points_below, height_at, height_within}
 use Rattle.hull_tree.specs.Roots.{held_by}
 use Rattle.hull_tree.specs.Loaded.{points_listed, times_listed, AreEntries, entries_below}
 use Rattle.hull_set.specs.Held.{times_among}
-use Rattle.hull_set.specs.PointLists.{IsAscending}
 use Rattle.hull_tree.specs.Loaded.{held_listed, Precedes}
 use Rattle.hull_tree.proofs.HalfRows.{same_below}
 use Rattle.hull_geometry.proofs.PointSets.{set_apart}
 use Rattle.hull_tree.proofs.Multiplicities.{several_there, several_elsewhere}
-use Rattle.hull_set.proofs.OrderedMaps.{less}
 
 -- the points of entries with one more behind them
 points_pushed : (es : List (Pair × ℕ)) (e : Pair × ℕ) → points_listed (es ++ e ∷ []) ≡ points_listed es ++ e.0 ∷ []
@@ -141,13 +137,7 @@ other_point p q e t = told_other p q (not_true _ (sym e ∙ t))
     not_true true h = sym h
     not_true false h = refl
 
--- a point, once more among the first points than before its place
-pub counted_more : (xs : List Pair) (i : ℕ) (p q : Pair) → p ≡ get_or xs i p → i < length xs
-    → times_among (take (i + 1) xs) q ≡ times_among (take i xs) q + once p q
-counted_more xs i p q e l =
-    sum_by_more (λ p. once p q) xs i p l ∙ ap (λ z. times_among (take i xs) q + once z q) (sym e)
-
--- and at least so often among all of them
+-- a point stands at least once more among all points than before its place
 pub counted_past : (xs : List Pair) (i : ℕ) (p : Pair) → p ≡ get_or xs i p → i < length xs
     → times_among (take i xs) p + 1 ≤ times_among xs p
 counted_past xs i p e l =
@@ -259,7 +249,7 @@ listed_more es i e q h l =
     sum_by_more (λ (e : Pair × ℕ). several e.1 e.0 q) es i e l
     ∙ ap (λ (z : Pair × ℕ). times_listed (take i es) q + several z.1 z.0 q) (sym h)
 
--- and at least so often among all of them
+-- a point stands at least once more among all points than before its place
 pub listed_past : (es : List (Pair × ℕ)) (i : ℕ) (e : Pair × ℕ) → e ≡ get_or es i e → i < length es
     → times_listed (take i es) e.0 + e.1 ≤ times_listed es e.0
 listed_past es i e h l =

@@ -1,5 +1,4 @@
 -- each tangent touches its chain behind the point or ahead of it
-use Rattle.lattice.specs.Plane.{Pair}
 use Rattle.lattice.specs.declared.side.Side.TheVariants.{Lower, Upper}
 use Rattle.hull_geometry.proofs.EdgesAt.{up_to, on_from}
 use Rattle.hull_plain.proofs.Looks.{are_ends, other_chain}
