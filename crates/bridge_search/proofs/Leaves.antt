@@ -2,7 +2,7 @@
 use Rattle.std.proofs.Common.{◌≡◌, zero, suc, ◌≤◌, inl, inr, refl, sym, ap, subst, arith, List, [], ◌∷◌, ◌++◌, length}
 use Rattle.std.proofs.Common.{get_or}
 use Rattle.std.specs.Prelude.{◌≢◌}
-use Rattle.std.specs.List.{All, Contains}
+use Rattle.std.specs.List.{Contains}
 use Rattle.std.proofs.lemmas.Grind.{common_steps}
 use Rattle.std.proofs.lemmas.List.Elements.{Contains-append_left, Contains-append_right, Contains-append_cases}
 use Rattle.std.proofs.lemmas.List.Elements.{Contains-get_or}
@@ -26,18 +26,14 @@ contains_of_on (Leaf x) p h = (0, omega arith, sym h)
 contains_of_on (Fork e f u w) p (inl i) = Contains-append_left (points_of u) (points_of w) p (contains_of_on u p i)
 contains_of_on (Fork e f u w) p (inr i) = Contains-append_right (points_of u) (points_of w) p (contains_of_on w p i)
 
--- what holds of each member holds of all
-pub all_of : (P : Pair → Type 0) (S : List Pair) → ((t : Pair) → Contains S t → P t) → All P S
-all_of P S h = λ k d l. h (get_or S k d) (Contains-get_or S k d l)
-
 -- two sets in a row, the one before the other, are a set
 pub sets_in_row : (xs ys : List Pair) → IsPointSet xs → IsPointSet ys
     → ((p q : Pair) → Contains xs p → Contains ys q → IsBefore p q) → IsPointSet (xs ++ ys)
 sets_in_row [] ys s t o = t
 sets_in_row (x ∷ xs) ys s t o =
     AllPairs-cons IsBefore x (xs ++ ys)
-    (all_of (IsBefore x) (xs ++ ys)
-    (λ q m. elim (Contains-append_cases xs ys q m) [ inl i ↦ ahead q i | inr i ↦ o x q (0, omega arith, refl) i ]))
+    (λ k d l. elim (Contains-append_cases xs ys (get_or (xs ++ ys) k d) (Contains-get_or (xs ++ ys) k d l))
+    [ inl i ↦ ahead _ i | inr i ↦ o x _ (0, omega arith, refl) i ])
     (sets_in_row xs ys (λ i j d lt l. s (suc i) (suc j) d (omega arith) (omega arith)) t
     (λ p q i. o p q (suc i.0, omega (arith, i.1), i.2)))
   where

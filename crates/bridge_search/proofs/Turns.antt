@@ -1,5 +1,5 @@
 -- One turn of the search, over trees.
-use Rattle.std.proofs.Common.{◌≡◌, ℕ, Bool, true, false, ◌+◌, ◌<◌, ◌≤◌, refl, ap, subst, arith, inl, inr, Some, None}
+use Rattle.std.proofs.Common.{◌≡◌, ℕ, Bool, true, false, ◌+◌, ◌≤◌, refl, ap, subst, arith, inl, inr, Some, None}
 use Rattle.std.proofs.lemmas.Int.{by_lt_z}
 use lib.IntN.{pos, ◌+ℤ◌, ◌*ℤ◌}
 use lib.Signed.{◌<ℤ◌, ◌≤ℤ◌}
@@ -293,11 +293,6 @@ pub under_way_on : (b : Bool) (u0 w0 u w v z : Tree) (m m2 : Pair) (n k : ℕ) �
     → IsAdvance b u w m n v z k → m2 ≡ m → IsReached u0 w0 v z m2 k
 under_way_on true u0 w0 u w v z m m2 n k r t e = rw (e, t.1) (reached_more u0 w0 u w v z m n r t.0)
 under_way_on false u0 w0 u w v z m m2 n k r t e = rw (t.0, t.1, t.2, e) r
-
--- a turn leaves fewer points
-pub fewer : (u w v z : Tree) (m : Pair) (n k : ℕ) → IsAdvance true u w m n v z k
-    → size_of v + size_of z < size_of u + size_of w
-fewer u w v z m n k t = t.0.falls
 
 -- where no turn was made, the bridge of the halves that the search began with is found
 pub under_way_bridge : (u0 w0 u w v z : Tree) (m : Pair) (n k : ℕ) (p q : Pair) → IsReached u0 w0 u w m n

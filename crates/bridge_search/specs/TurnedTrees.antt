@@ -1,5 +1,5 @@
 -- A turn by 180 degrees.
-use Rattle.std.specs.Prelude.{◌≡◌, ℕ, ◌≤◌, Option, Some, None}
+use Rattle.std.specs.Prelude.{◌≡◌, ℕ, ◌≤◌}
 use Rattle.std.proofs.Common.{refl, ap, subst, ◌∙◌, arith, inl, inr}
 use Rattle.lattice.specs.Plane.{Pair, turned_point}
 use Rattle.lattice.specs.Bridges.{IsAllBefore, IsUpperBridge, IsLowerBridge}
@@ -66,11 +66,6 @@ bridged_turned (Fork e f u w) h = (
   bridged_turned w h.4,
   bridged_turned u h.3,
 )
-
--- a stored edge turned
-abbrev pub turned_edge : Option (Pair × Pair) → Option (Pair × Pair)
-turned_edge None = None
-turned_edge (Some e) = Some (turned_pair e)
 
 -- a turn keeps the height
 pub height_turned : (t : Tree) → height_of (turned_tree t) ≡ height_of t

@@ -7,45 +7,47 @@ use Rattle.lattice.specs.Covers.{IsPointSet, Covers, without_point, IsExtreme}
 use Rattle.lattice.specs.Plane.{Pair, orient, product, IsBefore}
 use Rattle.lattice.specs.Signs.{le_or_lt}
 use Rattle.lattice.specs.Vertices.{IsLeftOf}
-use Rattle.hull_geometry.specs.Edges.{IsLowerEdge, IsUpperEdge, IsChain, end_of, IsFirst, IsLast}
+use Rattle.hull_geometry.specs.Edges.{IsAlong, IsEdgeOn, IsLowerEdge, IsUpperEdge, IsChain, end_of, IsFirst, IsLast}
 use Rattle.hull_geometry.proofs.ChangedSets.{all_without, in_without}
 use Rattle.hull_geometry.proofs.CoveredByEdges.{covered_by_edges}
 use Rattle.hull_geometry.proofs.NotCovered.{not_covered}
-use Rattle.hull_geometry.proofs.OneSided.{ahead_separated, behind_separated}
-use Rattle.lattice.proofs.Order.{before_total, before_not, equal_by, before_apart, after_apart}
+use Rattle.hull_geometry.proofs.OneSided.{past_separated}
+use Rattle.lattice.proofs.Numbers.{zero_between}
+use Rattle.lattice.proofs.Order.{before_apart, after_apart}
+use Rattle.lattice.specs.declared.side.Side.{Side}
+use Rattle.lattice.specs.declared.side.Side.TheVariants.{Lower, Upper}
+use Rattle.hull_geometry.proofs.Along.{along_total, along_not, along_equal}
 use Rattle.hull_geometry.proofs.Orientation.{orient_swap, orient-cycle, at_least}
 use Rattle.hull_geometry.proofs.PointLists.{later}
 use Rattle.hull_geometry.proofs.Separators.{across, corner_apart}
 
--- the first point of S is extreme
+-- the last point of S along the chain on a side is extreme
+end_extreme : (side : Side) (S : List Pair) (v : Pair) → IsPointSet S → Contains S v
+    → ((t : Pair) → Contains S t → ¬ (IsAlong side v t)) → IsExtreme S v
+end_extreme side S v s m h = (
+  m,
+  not_covered (without_point v S) v (past_separated side (without_point v S) v (all_without (λ t. IsAlong side t v) v S s
+      (λ t i n. elim (along_total side t v)
+      [ inl b ↦ b | inr (inl e) ↦ absurd (n e) | inr (inr b) ↦ absurd (h t i b) ]))),
+)
+
+-- so is the first point of S
 pub first_extreme : (S : List Pair) (v : Pair) → IsPointSet S → Contains S v → IsFirst S v → IsExtreme S v
-first_extreme S v s m h = (
-  m,
-  not_covered (without_point v S) v (ahead_separated (without_point v S) v (all_without (IsBefore v) v S s
-      (λ t i n. elim (before_total v t)
-      [ inl b ↦ b | inr (inl e) ↦ absurd (n (sym e)) | inr (inr b) ↦ absurd (h t i b) ]))),
-)
+first_extreme = end_extreme Upper
 
--- the last point of S is extreme
+-- and the last one
 pub last_extreme : (S : List Pair) (v : Pair) → IsPointSet S → Contains S v → IsLast S v → IsExtreme S v
-last_extreme S v s m h = (
-  m,
-  not_covered (without_point v S) v (behind_separated (without_point v S) v (all_without (λ t. IsBefore t v) v S s
-      (λ t i n. elim (before_total t v) [ inl b ↦ b | inr (inl e) ↦ absurd (n e) | inr (inr b) ↦ absurd (h t i b) ]))),
-)
+last_extreme = end_extreme Lower
 
--- v is the end of the line from u, and w is past it: the chain turns left at v
-corner_turns : (S : List Pair) (u v w : Pair) → (far : Pair → Type 0) → IsLeftOf S u v
-    → All (λ t. orient u v t ≡ pos 0 → ¬ (far t)) S → Contains S w → far w → pos 0 <ℤ orient u v w
-corner_turns S u v w far left last m f =
-    let a : pos 0 ≤ℤ orient u v w = All-contains (λ t. pos 0 ≤ℤ orient u v t) S w left m in
+-- two edges on one side turn left
+pub edges_turn : (side : Side) (S : List Pair) (u v w : Pair) → IsEdgeOn side S u v → IsEdgeOn side S v w
+    → pos 0 <ℤ orient u v w
+edges_turn side S u v w e f =
     elim (le_or_lt (orient u v w) (pos 0)) [
       | inr h ↦ h
-      | inl h ↦ absurd (All-contains (λ t. orient u v t ≡ pos 0 → ¬ (far t)) S w last m (zero_of _ a h) f)
+      | inl h ↦ absurd (All-contains (λ t. orient u v t ≡ pos 0 → ¬ (IsAlong side v t)) S w e.last f.to
+          (zero_between _ (All-contains (λ t. pos 0 ≤ℤ orient u v t) S w e.left f.to) h) f.along)
     ]
-  where
-    zero_of : (x : ℤ) → pos 0 ≤ℤ x → x ≤ℤ pos 0 → x ≡ pos 0
-    zero_of x h k = omega (arith, ints)
 
 -- a corner that turns left, with S on the left of both its edges, is extreme
 corner_extreme : (S : List Pair) (u v w : Pair) → IsPointSet S → Contains S v → pos 0 <ℤ orient u v w → IsLeftOf S u v
@@ -61,58 +63,34 @@ corner_extreme S u v w s m h a b =
       ),
     )
 
--- the point between two lower edges is extreme
-pub lower_corner : (S : List Pair) (u v w : Pair) → IsPointSet S → IsLowerEdge S u v → IsLowerEdge S v w → IsExtreme S v
-lower_corner S u v w s e f =
-    corner_extreme S u v w s e.to (corner_turns S u v w (IsBefore v) e.left e.last f.to f.forward) e.left f.left
+-- the point between two edges on one side is extreme
+pub edge_corner : (side : Side) (S : List Pair) (u v w : Pair) → IsPointSet S → IsEdgeOn side S u v → IsEdgeOn side S v w
+    → IsExtreme S v
+edge_corner side S u v w s e f =
+    corner_extreme S u v w s e.to (edges_turn side S u v w e f) e.left f.left
 
--- the point between two upper edges is extreme
-pub upper_corner : (S : List Pair) (u v w : Pair) → IsPointSet S → IsUpperEdge S u v → IsUpperEdge S v w → IsExtreme S v
-upper_corner S u v w s e f =
-    corner_extreme S u v w s e.to (corner_turns S u v w (λ t. IsBefore t v) e.left e.last f.to f.backward) e.left f.left
+-- t stands strictly between the ends of an edge on this side
+abbrev BesideEdge : Side → List Pair → Pair → Type 0
+BesideEdge side S t = (a : Pair) × (b : Pair) × IsEdgeOn side S a b × IsAlong side a t × IsAlong side t b
 
--- t stands strictly between the ends of a lower edge
-abbrev pub UnderEdge : List Pair → Pair → Type 0
-UnderEdge S t = (a : Pair) × (b : Pair) × IsLowerEdge S a b × IsBefore a t × IsBefore t b
-
--- t stands strictly between the ends of an upper edge
-abbrev pub OverEdge : List Pair → Pair → Type 0
-OverEdge S t = (c : Pair) × (d : Pair) × IsUpperEdge S c d × IsBefore t c × IsBefore d t
-
--- a point between the ends of a lower chain is on it or strictly between the ends of one of its edges
-pub lower_located : (S : List Pair) (u : Pair) (vs : List Pair) (t : Pair) → IsChain (IsLowerEdge S) u vs
-    → ¬ (IsBefore t u) → ¬ (IsBefore (end_of u vs) t) → Contains (u ∷ vs) t ⊎ UnderEdge S t
-lower_located S u [] t c h k = inl (0, omega arith, sym (equal_by t u h k))
-lower_located S u (v ∷ vs) t c h k =
-    elim (before_total t v) [
-      | inl b ↦ elim (before_total u t) [
+-- a point between the ends of a chain is on it or strictly between the ends of one of its edges
+located : (side : Side) (S : List Pair) (u : Pair) (vs : List Pair) (t : Pair) → IsChain (IsEdgeOn side S) u vs
+    → ¬ (IsAlong side t u) → ¬ (IsAlong side (end_of u vs) t) → Contains (u ∷ vs) t ⊎ BesideEdge side S t
+located side S u [] t c h k = inl (0, omega arith, sym (along_equal side t u h k))
+located side S u (v ∷ vs) t c h k =
+    elim (along_total side t v) [
+      | inl b ↦ elim (along_total side u t) [
         | inl a ↦ inr (u, v, c.0, a, b)
         | inr (inl e) ↦ inl (0, omega arith, e)
         | inr (inr a) ↦ absurd (h a)
       ]
       | inr (inl e) ↦ inl (1, omega arith, sym e)
-      | inr (inr b) ↦ elim (lower_located S v vs t c.1 (before_not v t b) k)
-          [ inl m ↦ inl (later u t (v ∷ vs) m) | inr m ↦ inr m ]
-    ]
-
--- a point between the ends of an upper chain is on it or strictly between the ends of one of its edges
-pub upper_located : (S : List Pair) (u : Pair) (vs : List Pair) (t : Pair) → IsChain (IsUpperEdge S) u vs
-    → ¬ (IsBefore u t) → ¬ (IsBefore t (end_of u vs)) → Contains (u ∷ vs) t ⊎ OverEdge S t
-upper_located S u [] t c h k = inl (0, omega arith, sym (equal_by t u k h))
-upper_located S u (v ∷ vs) t c h k =
-    elim (before_total v t) [
-      | inl b ↦ elim (before_total t u) [
-        | inl a ↦ inr (u, v, c.0, a, b)
-        | inr (inl e) ↦ inl (0, omega arith, sym e)
-        | inr (inr a) ↦ absurd (h a)
-      ]
-      | inr (inl e) ↦ inl (1, omega arith, e)
-      | inr (inr b) ↦ elim (upper_located S v vs t c.1 (before_not t v b) k)
+      | inr (inr b) ↦ elim (located side S v vs t c.1 (along_not side v t b) k)
           [ inl m ↦ inl (later u t (v ∷ vs) m) | inr m ↦ inr m ]
     ]
 
 -- a point strictly between the ends of a lower edge and of an upper edge is not extreme
-pub between_edges : (S : List Pair) (t : Pair) → Contains S t → UnderEdge S t → OverEdge S t
+pub between_edges : (S : List Pair) (t : Pair) → Contains S t → BesideEdge Lower S t → BesideEdge Upper S t
     → Covers (without_point t S) t
 between_edges S t m (a, b, e, at, tb) (c, d, f, tc, dt) =
     covered_by_edges (without_point t S) t a b c d (in_without t a S (before_apart a t at) e.from)
@@ -127,41 +105,34 @@ pub extreme_on_chain : (S : List Pair) (first last : Pair) (ls us : List Pair) (
     → end_of last us ≡ first
     → IsFirst S first → IsLast S last → IsExtreme S t → Contains (first ∷ ls) t ⊎ Contains (last ∷ us) t
 extreme_on_chain S first last ls us t lc le uc ue hf hl x =
-    elim (lower_located S first ls t lc (hf t x.0) (λ b. hl t x.0 (subst (λ (z : Pair). IsBefore z t) le b))) [
+    elim (located Lower S first ls t lc (hf t x.0) (λ b. hl t x.0 (subst (λ (z : Pair). IsBefore z t) le b))) [
       | inl m ↦ inl m
-      | inr under ↦ elim (upper_located S last us t uc (hl t x.0) (λ b. hf t x.0 (subst (IsBefore t) ue b))) [
+      | inr under ↦ elim (located Upper S last us t uc (hl t x.0) (λ b. hf t x.0 (subst (IsBefore t) ue b))) [
         | inl m ↦ inr m
         | inr over ↦ absurd (x.1 (between_edges S t x.0 under over))
       ]
     ]
 
--- the points of a lower chain after its start are extreme
-lower_rest : (S : List Pair) (p u : Pair) (vs : List Pair) → IsPointSet S → IsLowerEdge S p u
-    → IsChain (IsLowerEdge S) u vs → IsLast S (end_of u vs) → All (IsExtreme S) (u ∷ vs)
-lower_rest S p u [] s e c h = All-cons (IsExtreme S) u [] (last_extreme S u s e.to h) (λ k d l. absurd (omega arith))
-lower_rest S p u (v ∷ vs) s e c h =
-    All-cons (IsExtreme S) u (v ∷ vs) (lower_corner S p u v s e c.0) (lower_rest S u v vs s c.0 c.1 h)
+-- the points of a chain after its start are extreme, where it goes on to the last point along its side
+chain_rest : (side : Side) (S : List Pair) (p u : Pair) (vs : List Pair) → IsPointSet S → IsEdgeOn side S p u
+    → IsChain (IsEdgeOn side S) u vs → ((t : Pair) → Contains S t → ¬ (IsAlong side (end_of u vs) t))
+    → All (IsExtreme S) (u ∷ vs)
+chain_rest side S p u [] s e c h =
+    All-cons (IsExtreme S) u [] (end_extreme side S u s e.to h) (λ k d l. absurd (omega arith))
+chain_rest side S p u (v ∷ vs) s e c h =
+    All-cons (IsExtreme S) u (v ∷ vs) (edge_corner side S p u v s e c.0) (chain_rest side S u v vs s c.0 c.1 h)
 
 -- the points of a lower chain from the first point to the last are extreme
 pub lower_extreme : (S : List Pair) (first v : Pair) (vs : List Pair) → IsPointSet S
     → IsChain (IsLowerEdge S) first (v ∷ vs) → IsFirst S first → IsLast S (end_of v vs)
     → All (IsExtreme S) (first ∷ v ∷ vs)
 lower_extreme S first v vs s c hf hl =
-    All-cons (IsExtreme S) first (v ∷ vs) (first_extreme S first s c.0.from hf) (lower_rest S first v vs s c.0 c.1 hl)
+    All-cons (IsExtreme S) first (v ∷ vs) (first_extreme S first s c.0.from hf) (chain_rest Lower S first v vs s c.0 c.1 hl)
 
--- the points of an upper chain after its start are extreme
-upper_rest : (S : List Pair) (p u : Pair) (vs : List Pair) → IsPointSet S → IsUpperEdge S p u
-    → IsChain (IsUpperEdge S) u vs → IsFirst S (end_of u vs) → All (IsExtreme S) (u ∷ vs)
-upper_rest S p u [] s e c h = All-cons (IsExtreme S) u [] (first_extreme S u s e.to h) (λ k d l. absurd (omega arith))
-upper_rest S p u (v ∷ vs) s e c h =
-    All-cons (IsExtreme S) u (v ∷ vs) (upper_corner S p u v s e c.0) (upper_rest S u v vs s c.0 c.1 h)
-
--- the points of an upper chain from the last point to the first are extreme
-pub upper_extreme : (S : List Pair) (last v : Pair) (vs : List Pair) → IsPointSet S
-    → IsChain (IsUpperEdge S) last (v ∷ vs) → IsLast S last → IsFirst S (end_of v vs)
-    → All (IsExtreme S) (last ∷ v ∷ vs)
-upper_extreme S last v vs s c hl hf =
-    All-cons (IsExtreme S) last (v ∷ vs) (last_extreme S last s c.0.from hl) (upper_rest S last v vs s c.0 c.1 hf)
+-- the points of an upper chain after its start are extreme, where it goes back to the first point
+pub upper_rest_extreme : (S : List Pair) (last v : Pair) (vs : List Pair) → IsPointSet S
+    → IsChain (IsUpperEdge S) last (v ∷ vs) → IsFirst S (end_of v vs) → All (IsExtreme S) (v ∷ vs)
+upper_rest_extreme S last v vs s c h = chain_rest Upper S last v vs s c.0 c.1 h
 
 -- no lower edge and upper edge end at one point
 pub no_common_corner : (S : List Pair) (u t c : Pair) → IsLowerEdge S u t → IsUpperEdge S c t → ⊥
@@ -169,7 +140,7 @@ no_common_corner S u t c e f =
     let a : pos 0 ≤ℤ orient u t c = All-contains (λ z. pos 0 ≤ℤ orient u t z) S c e.left f.from in
     let b : pos 0 ≤ℤ orient c t u = All-contains (λ z. pos 0 ≤ℤ orient c t z) S u f.left e.from in
     let k : orient u t c ≡ neg_ℤ (orient c t u) = orient-cycle u t c ∙ swap in
-    All-contains (λ z. orient u t z ≡ pos 0 → ¬ (IsBefore t z)) S c e.last f.from (squeeze _ _ k a b) f.backward
+    All-contains (λ z. orient u t z ≡ pos 0 → ¬ (IsBefore t z)) S c e.last f.from (squeeze _ _ k a b) f.along
   where
     swap : orient c u t ≡ neg_ℤ (orient c t u)
     swap = orient_swap c u t

@@ -1,29 +1,30 @@
 -- A set of points covers a point, or a line has the whole set strictly on one side and the point on the other.
-use Rattle.std.proofs.Common.{◌≡◌, ℤ, pos, ◌≤ℤ◌, ◌<ℤ◌, ◌⊎◌, inl, inr, refl, sym, ap, subst, List, arith, suc, [], ◌∷◌}
-use Rattle.std.proofs.Common.{◌++◌}
+use Rattle.std.proofs.Common.{◌≡◌, ℤ, pos, ◌≤ℤ◌, ◌<ℤ◌, ◌⊎◌, inl, inr, refl, sym, ap, subst, List, arith, [], ◌∷◌}
+use Rattle.std.proofs.Common.{◌++◌, ◌+ℤ◌}
 use Rattle.std.proofs.lemmas.Int.{ints}
 use Rattle.std.specs.List.{All, Contains}
-use Rattle.std.proofs.lemmas.List.Elements.{All-contains, All-weaker, All-cons, All-head, All-tail}
+use Rattle.std.proofs.lemmas.List.Elements.{All-contains, All-weaker, All-cons, All-head, All-tail, All-append}
 use Rattle.std.proofs.lemmas.List.Elements.{Contains-append_left, Contains-append_right}
 use Rattle.lattice.specs.Covers.{IsPointSet, Covers, Member}
-use Rattle.lattice.specs.Plane.{Pair, orient, distance_squared, IsBefore}
+use Rattle.lattice.specs.Plane.{Pair, orient, IsBefore}
 use Rattle.lattice.specs.Signs.{le_or_lt}
 use Rattle.lattice.proofs.Order.{before_trans, before_total}
-use Rattle.hull_geometry.specs.Seen.{IsMoreRight, IsMoreLeft, IsRound}
+use Rattle.lattice.proofs.Numbers.{nn_opposite, above_opposite}
+use Rattle.lattice.specs.declared.side.Side.{Side}
+use Rattle.lattice.specs.declared.side.Side.TheVariants.{Lower, Upper}
+use Rattle.hull_geometry.specs.Edges.{IsAlong}
+use Rattle.hull_geometry.specs.Hands.{IsMore}
+use Rattle.hull_geometry.specs.Tangents.{IsTangent, IsLeftTangent, IsRightTangent}
+use Rattle.hull_geometry.specs.declared.hand.Hand.{Hand}
+use Rattle.hull_geometry.specs.declared.hand.Hand.TheVariants.{Left, Right}
+use Rattle.hull_geometry.proofs.CoveredByEdges.{covered_by_edges}
 use Rattle.hull_geometry.proofs.NotCovered.{Separated}
-use Rattle.hull_geometry.proofs.OneSided.{ahead_separated, behind_separated}
-use Rattle.hull_geometry.proofs.PointLists.{AllPairs-head, AllPairs-tail, append_none}
-use Rattle.hull_geometry.proofs.Rounds.{round_covered, round_above, round_below}
-use Rattle.hull_geometry.proofs.SameSide.{right_trans, left_trans}
-use Rattle.hull_geometry.proofs.Sightings.{right_irrefl, left_irrefl, right_tangent, left_tangent}
-
--- a member in front
-here : (t : Pair) (ts : List Pair) → Contains (t ∷ ts) t
-here t ts = (0, omega arith, refl)
-
--- a member behind it
-there : (t u : Pair) (ts : List Pair) → Contains ts u → Contains (t ∷ ts) u
-there t u ts m = (suc m.0, omega (arith, m.1), m.2)
+use Rattle.hull_geometry.proofs.OneSided.{past_separated}
+use Rattle.hull_geometry.proofs.Orientation.{orient_swap}
+use Rattle.hull_geometry.proofs.PointLists.{AllPairs-head, AllPairs-tail, append_none, later}
+use Rattle.hull_geometry.proofs.SameSide.{OneSide, more_beside}
+use Rattle.hull_geometry.proofs.Separators.{separated_by_wedge, wedge_before, wedge_behind}
+use Rattle.hull_geometry.proofs.Sightings.{more_irrefl, tangent_of}
 
 -- a relation of which each two points can be told
 module _ (B : Pair → Pair → Type 0) (irreflexive : (x : Pair) → ¬ (B x x))
@@ -32,7 +33,7 @@ module _ (B : Pair → Pair → Type 0) (irreflexive : (x : Pair) → ¬ (B x x)
   best_there : (P : Pair → Type 0) → ((u v w : Pair) → P u → P v → P w → B u v → B v w → B u w)
       → (t : Pair) (ts : List Pair) → All P (t ∷ ts) → (b : Pair) × Contains (t ∷ ts) b × All (λ u. ¬ (B u b)) (t ∷ ts)
   best_there P transitive t [] h =
-      (t, here t [], All-cons (λ u. ¬ (B u t)) t [] (irreflexive t) (λ k d l. absurd (omega arith)))
+      (t, (0, omega arith, refl), All-cons (λ u. ¬ (B u t)) t [] (irreflexive t) (λ k d l. absurd (omega arith)))
   best_there P transitive t (x ∷ xs) h =
       let r = best_there P transitive x xs (All-tail P t (x ∷ xs) h) in
       let pt : P t = All-head P t (x ∷ xs) h in
@@ -40,11 +41,11 @@ module _ (B : Pair → Pair → Type 0) (irreflexive : (x : Pair) → ¬ (B x x)
       elim (told t r.0) [
         | inl k ↦ (
           t,
-          here t (x ∷ xs),
+          (0, omega arith, refl),
           All-cons (λ u. ¬ (B u t)) t (x ∷ xs) (irreflexive t)
               (λ i d l m. r.2 i d l (transitive _ t r.0 (All-tail P t (x ∷ xs) h i d l) pt pr m k)),
         )
-        | inr n ↦ (r.0, there t r.0 (x ∷ xs) r.1, All-cons (λ u. ¬ (B u r.0)) t (x ∷ xs) n r.2)
+        | inr n ↦ (r.0, later t r.0 (x ∷ xs) r.1, All-cons (λ u. ¬ (B u r.0)) t (x ∷ xs) n r.2)
       ]
 
 -- whether a turn is above 0, or is 0 and a number below another, can be told
@@ -70,13 +71,13 @@ turn_told turn near far =
     turns_away h (inl b) = omega (arith, ints)
     turns_away h (inr b) = omega (arith, ints, b.0)
 
--- whether a point is more to the right can be told
-right_told : (q t r : Pair) → IsMoreRight q t r ⊎ ¬ (IsMoreRight q t r)
-right_told q t r = turn_told (orient q t r) (distance_squared q r) (distance_squared q t)
-
--- whether a point is more to the left can be told
-left_told : (q t l : Pair) → IsMoreLeft q t l ⊎ ¬ (IsMoreLeft q t l)
-left_told q t l = turn_told (orient q l t) (distance_squared q l) (distance_squared q t)
+-- of points on one side of q some one is farthest on a hand
+farthest_on : (hand : Hand) (q : Pair) (P : Pair → Type 0) → ((u v w : Pair) → P u → P v → P w → OneSide q u v w)
+    → (t : Pair) (ts : List Pair) → All P (t ∷ ts) → (b : Pair) × IsTangent hand (t ∷ ts) q b
+farthest_on hand q P beside t ts h =
+    let r = best_there (IsMore hand q) (more_irrefl hand q) (λ u v. turn_told _ _ _) P
+    (λ u v w pu pv pw. more_beside hand q u v w (beside u v w pu pv pw)) t ts h in
+    (r.0, tangent_of hand (t ∷ ts) q r.0 r.1 r.2)
 
 -- the points before q, q where it is there, and the points after it
 pub record Parted (S : List Pair) (q : Pair) : Type 0 where
@@ -130,8 +131,31 @@ parted_at (t ∷ ts) q s =
     ]
   where
     behind_too : (xs ys : List Pair) → Contains ts q ⊎ (ts ≡ xs ++ ys) → Contains (t ∷ ts) q ⊎ (t ∷ ts ≡ (t ∷ xs) ++ ys)
-    behind_too xs ys (inl m) = inl (there t q ts m)
+    behind_too xs ys (inl m) = inl (later t q ts m)
     behind_too xs ys (inr e) = inr (ap (λ (z : List Pair). t ∷ z) e)
+
+-- t lies within the wedge at q from r to l
+abbrev InWedge : Pair → Pair → Pair → Pair → Type 0
+InWedge q l r t = pos 0 <ℤ (orient q r t +ℤ orient q t l)
+
+-- where the leftmost of the points that come before q along a chain and the rightmost of those behind it leave q outside,
+-- all of them lie within a wedge at q
+within_wedge : (side : Side) (q l r : Pair) (F G : List Pair) → All (λ t. IsAlong side t q) F → All (IsAlong side q) G
+    → IsLeftTangent F q l → IsRightTangent G q r → orient q l r <ℤ pos 0
+    → All (InWedge q l r) F × All (InWedge q l r) G
+within_wedge side q l r F G f g left right h = (
+  λ k e i. wedge_before side q l r _ lq qr (f k e i) rl (nn_opposite _ _ (orient_swap q _ l) (left.1 k e i).0),
+  λ k e i. wedge_behind side q l r _ lq qr (g k e i) rl (right.1 k e i).0,
+)
+  where
+    lq : IsAlong side l q
+    lq = All-contains (λ t. IsAlong side t q) F l f left.0
+
+    qr : IsAlong side q r
+    qr = All-contains (IsAlong side q) G r g right.0
+
+    rl : pos 0 <ℤ orient q r l
+    rl = above_opposite _ _ (orient_swap q r l) h
 
 -- the outermost points before q and after it, and what their sides of q say
 round_told : (q b a : Pair) (bs cs : List Pair) → All (λ t. IsBefore t q) (b ∷ bs) → All (IsBefore q) (a ∷ cs)
@@ -139,37 +163,33 @@ round_told : (q b a : Pair) (bs cs : List Pair) → All (λ t. IsBefore t q) (b 
 round_told q b a bs cs hb ha =
     let L : List Pair = b ∷ bs in
     let R : List Pair = a ∷ cs in
-    let low_behind = best_there (IsMoreLeft q) (left_irrefl q) (left_told q) (λ t. IsBefore t q)
-    (λ u v w pu pv pw. left_trans q u v w (inr (pu, pv, pw))) b bs hb in
-    let high_behind = best_there (IsMoreRight q) (right_irrefl q) (right_told q) (λ t. IsBefore t q)
-    (λ u v w pu pv pw. right_trans q u v w (inr (pu, pv, pw))) b bs hb in
-    let low_ahead = best_there (IsMoreRight q) (right_irrefl q) (right_told q) (IsBefore q)
-    (λ u v w pu pv pw. right_trans q u v w (inl (pu, pv, pw))) a cs ha in
-    let high_ahead = best_there (IsMoreLeft q) (left_irrefl q) (left_told q) (IsBefore q)
-    (λ u v w pu pv pw. left_trans q u v w (inl (pu, pv, pw))) a cs ha in
-    let r : IsRound q L R low_behind.0 low_ahead.0 high_ahead.0 high_behind.0 = record {
-      all_behind = hb;
-      all_ahead = ha;
-      lowest_behind = left_tangent L q low_behind.0 low_behind.1 low_behind.2;
-      lowest_ahead = right_tangent R q low_ahead.0 low_ahead.1 low_ahead.2;
-      highest_ahead = left_tangent R q high_ahead.0 high_ahead.1 high_ahead.2;
-      highest_behind = right_tangent L q high_behind.0 high_behind.1 high_behind.2;
-    } in
-    elim (le_or_lt (pos 0) (orient q low_behind.0 low_ahead.0)) [
-      | inr h ↦ inr (round_above r h)
-      | inl h ↦ elim (le_or_lt (pos 0) (orient q high_ahead.0 high_behind.0)) [
-        | inr k ↦ inr (round_below r k)
-        | inl k ↦ inl (round_covered r (L ++ R) (λ t m. Contains-append_left L R t m)
-            (λ t m. Contains-append_right L R t m) h k)
+    let before = λ (hand : Hand). farthest_on hand q (λ t. IsBefore t q) (λ u v w pu pv pw. inr (pu, pv, pw)) b bs hb in
+    let after = λ (hand : Hand). farthest_on hand q (IsBefore q) (λ u v w pu pv pw. inl (pu, pv, pw)) a cs ha in
+    let low : Pair × Pair = ((before Left).0, (after Right).0) in
+    let high : Pair × Pair = ((after Left).0, (before Right).0) in
+    elim (le_or_lt (pos 0) (orient q low.0 low.1)) [
+      | inr h ↦
+          let w = within_wedge Lower q low.0 low.1 L R hb ha (before Left).1 (after Right).1 h in
+          inr (separated_by_wedge (L ++ R) q low.0 low.1 (All-append (InWedge q low.0 low.1) L R w.0 w.1))
+      | inl h ↦ elim (le_or_lt (pos 0) (orient q high.0 high.1)) [
+        | inr k ↦
+            let w = within_wedge Upper q high.0 high.1 R L ha hb (after Left).1 (before Right).1 k in
+            inr (separated_by_wedge (L ++ R) q high.0 high.1 (All-append (InWedge q high.0 high.1) L R w.1 w.0))
+        | inl k ↦ inl (covered_by_edges (L ++ R) q low.0 low.1 high.0 high.1
+            (Contains-append_left L R low.0 (before Left).1.0) (Contains-append_right L R low.1 (after Right).1.0)
+            (Contains-append_right L R high.0 (after Left).1.0) (Contains-append_left L R high.1 (before Right).1.0)
+            (All-contains (λ t. IsBefore t q) L low.0 hb (before Left).1.0) (All-contains (IsBefore q) R low.1 ha (after Right).1.0)
+            (All-contains (IsBefore q) R high.0 ha (after Left).1.0) (All-contains (λ t. IsBefore t q) L high.1 hb (before Right).1.0)
+            h k)
       ]
     ]
 
 -- points before q and points after it cover q or are separated from it
 sides_told : (q : Pair) (L R : List Pair) → All (λ t. IsBefore t q) L → All (IsBefore q) R
     → Covers (L ++ R) q ⊎ Separated (L ++ R) q
-sides_told q [] R hb ha = inr (ahead_separated R q ha)
+sides_told q [] R hb ha = inr (past_separated Upper R q ha)
 sides_told q (b ∷ bs) [] hb ha =
-    inr (subst (λ (z : List Pair). Separated z q) (append_none (b ∷ bs)) (behind_separated (b ∷ bs) q hb))
+    inr (subst (λ (z : List Pair). Separated z q) (append_none (b ∷ bs)) (past_separated Lower (b ∷ bs) q hb))
 sides_told q (b ∷ bs) (a ∷ cs) hb ha = round_told q b a bs cs hb ha
 
 -- a set of points covers a point or is separated from it

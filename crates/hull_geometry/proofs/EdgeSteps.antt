@@ -1,12 +1,13 @@
 -- One step round the hull: the rightmost of the points still ahead makes the next edge.
-use Rattle.std.proofs.Common.{◌≡◌, ℤ, pos, negsuc, ◌+ℤ◌, ◌-ℤ◌, ◌*ℤ◌, ◌≤ℤ◌, ◌<ℤ◌, inl, inr, ◌∙◌, arith}
+use Rattle.std.proofs.Common.{◌≡◌, ℤ, pos, negsuc, ◌+ℤ◌, ◌-ℤ◌, ◌*ℤ◌, ◌≤ℤ◌, ◌<ℤ◌, inl, inr, sym, ◌∙◌, arith}
 use Rattle.std.proofs.Common.{zero, suc}
 use Rattle.std.proofs.lemmas.Int.{ints}
 use Rattle.lattice.specs.Plane.{Pair, orient, distance_squared, IsBefore}
 use Rattle.lattice.specs.Polynomials.{difference-eq, difference_rules}
 use Rattle.lattice.specs.Signs.{product_nn, product_pp}
+use Rattle.lattice.proofs.Sides.{side_after}
 use Rattle.lattice.proofs.Vectors.{as_pair, minus, opp, cross, Ahead, cross-opp, ahead_nn}
-use Rattle.hull_geometry.proofs.Orientation.{orient_at_end, at_least, above, ahead_of, behind_of, along}
+use Rattle.hull_geometry.proofs.Orientation.{at_least, above, ahead_of, behind_of, along}
 
 -- the square of a number above 0
 square_above : (x : ℤ) → pos 0 <ℤ x → pos 0 <ℤ (x *ℤ x)
@@ -44,11 +45,7 @@ sum_length : (u v t : Pair)
     +ℤ (((v.x -ℤ u.x) *ℤ (t.x -ℤ v.x) +ℤ (v.y -ℤ u.y) *ℤ (t.y -ℤ v.y)) +ℤ
     ((v.x -ℤ u.x) *ℤ (t.x -ℤ v.x) +ℤ (v.y -ℤ u.y) *ℤ (t.y -ℤ v.y)))
 unfolding distance_squared
-sum_length u v t = rw (
-  as_pair u,
-  as_pair v,
-  as_pair t,
-) (simp difference_rules (difference-eq _ _ _ _ (omega arith)))
+sum_length u v t = rw (as_pair u, as_pair v, as_pair t) (simp difference_rules (difference-eq _ _ _ _ (omega arith)))
 
 -- a sum is longer
 longer : (d e l s : ℤ) → d ≡ e +ℤ l +ℤ (s +ℤ s) → pos 0 <ℤ l → pos 0 ≤ℤ s → e <ℤ d
@@ -59,7 +56,7 @@ pub past_farther : (u v t : Pair) → IsBefore u v → IsBefore v t → orient u
     → distance_squared u v <ℤ distance_squared u t
 past_farther u v t b c e =
     longer _ _ _ _ (sum_length u v t) (length_above (minus t v) (ahead_of v t c))
-    (dot_nn (minus v u) (minus t v) (ahead_of u v b) (ahead_of v t c) (orient_at_end u v t ∙ e))
+    (dot_nn (minus v u) (minus t v) (ahead_of u v b) (ahead_of v t c) (sym (side_after u v t) ∙ e))
 
 -- two vectors turned have the same inner product
 dot-opp : (v w : Pair) → (opp v).x *ℤ (opp w).x +ℤ (opp v).y *ℤ (opp w).y ≡ v.x *ℤ w.x +ℤ v.y *ℤ w.y
@@ -73,4 +70,4 @@ past_farther_back u v t b c e =
     (above _ _ (dot-opp (minus t v) (minus t v)) (length_above (opp (minus t v)) (behind_of t v c)))
     (at_least _ _ (dot-opp (minus v u) (minus t v))
     (dot_nn (opp (minus v u)) (opp (minus t v)) (behind_of v u b) (behind_of t v c)
-    (cross-opp (minus v u) (minus t v) ∙ orient_at_end u v t ∙ e)))
+    (cross-opp (minus v u) (minus t v) ∙ sym (side_after u v t) ∙ e)))

@@ -1,20 +1,23 @@
 -- The edges between whose ends a point stands, and what its sides of them tell.
-use Rattle.std.proofs.Common.{◌≡◌, pos, ◌≤ℤ◌, ◌<ℤ◌, ◌⊎◌, inl, inr, sym, ap, ◌∙◌, subst, List, arith}
+use Rattle.std.proofs.Common.{◌≡◌, ℤ, pos, negsuc, ◌≤ℤ◌, ◌<ℤ◌, ◌⊎◌, inl, inr, sym, ap, ◌∙◌, subst, List, length, arith}
 use Rattle.std.specs.List.{All, Contains}
 use Rattle.std.proofs.lemmas.Int.{ints}
 use Rattle.lattice.specs.Covers.{Covers, Member}
 use Rattle.lattice.specs.Places.{IsOuter, IsOutside, IsInside, IsOnBoundary}
-use Rattle.lattice.specs.Plane.{Pair, orient, IsBefore}
+use Rattle.lattice.specs.Plane.{Pair, orient, product, IsBefore}
+use Rattle.lattice.specs.Signs.{le_or_lt}
 use Rattle.lattice.proofs.LineCrossings.{orient_start}
 use Rattle.lattice.proofs.Order.{before_total, before_trans, equal_by}
+use Rattle.lattice.specs.declared.side.Side.{Side}
+use Rattle.lattice.specs.declared.side.Side.TheVariants.{Lower, Upper}
 use Rattle.hull_geometry.specs.Edges.{IsFirst, IsLast}
-use Rattle.hull_geometry.specs.Sights.{IsLowerEdgeAt, IsUpperEdgeAt, IsBelowEdge, IsAboveEdge, IsBetweenEnds, IsSightOf}
+use Rattle.hull_geometry.specs.Sights.{IsLowerEdgeAt, IsUpperEdgeAt, IsRightOfEdge, IsBetweenEnds, IsSightOf}
 use Rattle.hull_geometry.specs.Sights.{IsSightBy}
 use Rattle.hull_geometry.specs.declared.sight.Sight.{Sight}
 use Rattle.hull_geometry.specs.declared.sight.Sight.TheVariants.{Before, After, Below, Above, Touching, Within}
 use Rattle.hull_geometry.proofs.EdgePlaces.{right_outside, on_line_outer, between_covered, between_inside}
 use Rattle.hull_geometry.proofs.NotCovered.{not_covered}
-use Rattle.hull_geometry.proofs.OneSided.{ahead_separated, behind_separated}
+use Rattle.hull_geometry.proofs.OneSided.{past_separated}
 use Rattle.hull_geometry.proofs.PointLists.{all_of}
 
 -- c is not after v, and v stands before a
@@ -42,25 +45,63 @@ after_all S last q h b = all_of (λ s. IsBefore s q) S (λ s m. up_to s last q (
 
 -- a point before all lies outside
 pub outside_before : (S : List Pair) (first q : Pair) → IsFirst S first → IsBefore q first → IsOutside S q
-outside_before S first q h b = not_covered S q (ahead_separated S q (before_all S first q h b))
+outside_before S first q h b = not_covered S q (past_separated Upper S q (before_all S first q h b))
 
 -- a point after all lies outside
 pub outside_after : (S : List Pair) (last q : Pair) → IsLast S last → IsBefore last q → IsOutside S q
-outside_after S last q h b = not_covered S q (behind_separated S q (after_all S last q h b))
+outside_after S last q h b = not_covered S q (past_separated Lower S q (after_all S last q h b))
 
--- a point below a lower edge lies outside
-pub outside_below : (S : List Pair) (q : Pair) → IsBelowEdge S q → IsOutside S q
-outside_below S q (c, d, e, h) = right_outside S c d q e.left h
+-- any point lies outside of no points
+pub outside_nothing : (S : List Pair) (q : Pair) → length S ≡ 0 → IsOutside S q
+outside_nothing S q l = not_covered S q (past_separated Lower S q (λ k d h. absurd (omega (arith, h, l))))
 
--- a point above an upper edge lies outside
-pub outside_above : (S : List Pair) (q : Pair) → IsAboveEdge S q → IsOutside S q
-outside_above S q (c, d, e, h) = right_outside S c d q e.left h
+-- a point right of an edge lies outside
+pub outside_right : (side : Side) (S : List Pair) (q : Pair) → IsRightOfEdge side S q → IsOutside S q
+outside_right side S q (c, d, e, h) = right_outside S c d q e.left h
 
 -- ---- from the boundary and from inside
+
+-- a level direction
+abbrev level : ℤ → Pair
+level k = record { x = k; y = pos 0 }
+
+-- a point not before q is no farther to the left
+left_unit : (t q : Pair) → ¬ (IsBefore t q) → product (level (negsuc 0)) t ≤ℤ product (level (negsuc 0)) q
+unfolding product
+left_unit t q n = elim (le_or_lt q.x t.x) [ inl h ↦ omega (arith, ints) | inr h ↦ absurd (n (inl h)) ]
+
+-- a point not after q is no farther to the right
+right_unit : (t q : Pair) → ¬ (IsBefore q t) → product (level (pos 1)) t ≤ℤ product (level (pos 1)) q
+unfolding product
+right_unit t q n = elim (le_or_lt t.x q.x) [ inl h ↦ omega (arith, ints) | inr h ↦ absurd (n (inl h)) ]
+
+-- the first point is outer
+outer_first : (S : List Pair) (q : Pair) → IsFirst S q → IsOuter S q
+outer_first S q h = (
+  level (negsuc 0),
+  λ z. omega (arith, ints, z.0),
+  all_of (λ t. product (level (negsuc 0)) t ≤ℤ product (level (negsuc 0)) q) S (λ t m. left_unit t q (h t m)),
+)
+
+-- the last point is outer
+outer_last : (S : List Pair) (q : Pair) → IsLast S q → IsOuter S q
+outer_last S q h = (
+  level (pos 1),
+  λ z. omega (arith, ints, z.0),
+  all_of (λ t. product (level (pos 1)) t ≤ℤ product (level (pos 1)) q) S (λ t m. right_unit t q (h t m)),
+)
 
 -- a line has its own start on it
 not_start : (c d q : Pair) → c ≡ q → pos 0 <ℤ orient c d q → ⊥
 not_start c d q e h = let z : orient c d q ≡ pos 0 = ap (orient c d) (sym e) ∙ orient_start c d in omega (arith, ints)
+
+-- the first point lies on the boundary
+pub touching_first : (S : List Pair) (q : Pair) → Contains S q → IsFirst S q → IsOnBoundary S q
+touching_first S q m h = (Member m, outer_first S q h)
+
+-- so does the last one
+pub touching_last : (S : List Pair) (q : Pair) → Contains S q → IsLast S q → IsOnBoundary S q
+touching_last S q m h = (Member m, outer_last S q h)
 
 -- the left end of an edge lies on the boundary
 pub touching_start : (S : List Pair) (q : Pair) (e : Pair × Pair) → IsLowerEdgeAt S q e → ¬ (IsBefore e.0 q)
@@ -68,7 +109,7 @@ pub touching_start : (S : List Pair) (q : Pair) (e : Pair × Pair) → IsLowerEd
 touching_start S q e k n =
     let s : e.0 ≡ q = equal_by e.0 q n k.starts in (
       Member (subst (Contains S) s k.edge.from),
-      on_line_outer S e.0 e.1 q (inl k.edge.forward) k.edge.left (ap (orient e.0 e.1) (sym s) ∙ orient_start e.0 e.1),
+      on_line_outer S e.0 e.1 q (inl k.edge.along) k.edge.left (ap (orient e.0 e.1) (sym s) ∙ orient_start e.0 e.1),
     )
 
 -- on the inner side of both edges at q, or on them: covered
@@ -103,8 +144,8 @@ inside_at S q e f k l low high =
 outer_at : (S : List Pair) (q : Pair) (e f : Pair × Pair) → IsLowerEdgeAt S q e → IsUpperEdgeAt S q f
     → pos 0 ≤ℤ orient e.0 e.1 q → pos 0 ≤ℤ orient f.0 f.1 q → (orient e.0 e.1 q ≤ℤ pos 0) ⊎ (orient f.0 f.1 q ≤ℤ pos 0)
     → IsOuter S q
-outer_at S q e f k l low high (inl h) = on_line_outer S e.0 e.1 q (inl k.edge.forward) k.edge.left (omega (arith, ints))
-outer_at S q e f k l low high (inr h) = on_line_outer S f.0 f.1 q (inr l.edge.backward) l.edge.left (omega (arith, ints))
+outer_at S q e f k l low high (inl h) = on_line_outer S e.0 e.1 q (inl k.edge.along) k.edge.left (omega (arith, ints))
+outer_at S q e f k l low high (inr h) = on_line_outer S f.0 f.1 q (inr l.edge.along) l.edge.left (omega (arith, ints))
 
 -- the sides of the two edges at q tell its sight
 pub seen_by : (first last : Pair) (S : List Pair) (q : Pair) (e f : Pair × Pair) (s : Sight) → IsBetweenEnds first last q

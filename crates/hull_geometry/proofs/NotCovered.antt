@@ -19,13 +19,7 @@ Separated S q = (d : Pair) × All (λ t. product d t <ℤ product d q) S
 -- the cross products of three vectors weigh their products with any vector to 0
 balance : (f a b c : Pair) → cross b c *ℤ product f a +ℤ cross c a *ℤ product f b +ℤ cross a b *ℤ product f c ≡ pos 0
 unfolding product
-balance f a b c = rw (
-  as_pair f,
-  as_pair a,
-  as_pair b,
-  as_pair c,
-)
-    (simp difference_rules (difference-pos _ _ 0 (omega arith)))
+balance f a b c = rw (as_pair f, as_pair a, as_pair b, as_pair c) (simp difference_rules (difference-pos _ _ 0 (omega arith)))
 
 -- three weights, of which none is below 0 and one is above, of three numbers above 0
 mix : (a b c A B C : ℤ) → pos 0 <ℤ A → pos 0 <ℤ B → pos 0 <ℤ C → pos 0 ≤ℤ a → pos 0 ≤ℤ b → pos 0 ≤ℤ c
@@ -65,11 +59,7 @@ pub flat_x : (f a b : Pair) → cross a b ≡ pos 0 → b.x *ℤ product f a ≡
 unfolding product
 flat_x f a b e =
     let r : b.x *ℤ product f a ≡ a.x *ℤ product f b -ℤ f.y *ℤ cross a b =
-    rw (
-      as_pair f,
-      as_pair a,
-      as_pair b,
-    ) (simp difference_rules
+    rw (as_pair f, as_pair a, as_pair b) (simp difference_rules
     (difference-eq _ _ _ _ (omega arith))) in
     r ∙ ap (λ (z : ℤ). a.x *ℤ product f b -ℤ f.y *ℤ z) e ∙ omega (arith, ints)
 
@@ -78,11 +68,7 @@ flat_y : (f a b : Pair) → cross a b ≡ pos 0 → b.y *ℤ product f a ≡ a.y
 unfolding product
 flat_y f a b e =
     let r : b.y *ℤ product f a ≡ a.y *ℤ product f b +ℤ f.x *ℤ cross a b =
-    rw (
-      as_pair f,
-      as_pair a,
-      as_pair b,
-    ) (simp difference_rules
+    rw (as_pair f, as_pair a, as_pair b) (simp difference_rules
     (difference-eq _ _ _ _ (omega arith))) in
     r ∙ ap (λ (z : ℤ). a.y *ℤ product f b +ℤ f.x *ℤ z) e ∙ omega (arith, ints)
 

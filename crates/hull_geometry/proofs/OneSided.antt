@@ -1,31 +1,44 @@
--- Points that all stand before q, or all after it, are separated from q.
-use Rattle.std.proofs.Common.{◌≡◌, ℕ, ℤ, pos, negsuc, ◌+ℤ◌, ◌-ℤ◌, ◌*ℤ◌, ◌≤ℤ◌, ◌<ℤ◌, neg_ℤ, ◌⊎◌, inl, inr, sym, subst}
+-- Points that all stand before q, or all after it, are separated from q: along one side or the other, q is past them.
+use Rattle.std.proofs.Common.{◌≡◌, ℕ, ℤ, pos, negsuc, ◌+ℤ◌, ◌*ℤ◌, ◌≤ℤ◌, ◌<ℤ◌, neg_ℤ, ◌⊎◌, inl, inr, sym, subst}
 use Rattle.std.proofs.Common.{List, arith, zero, suc, ◌+◌, [], ◌∷◌}
 use Rattle.std.specs.List.{All}
 use Rattle.std.proofs.lemmas.Int.{ints}
 use Rattle.std.proofs.lemmas.List.Elements.{All-weaker, All-cons, All-head, All-tail}
-use Rattle.lattice.specs.Plane.{Pair, product, IsBefore}
+use Rattle.lattice.specs.Plane.{Pair, product}
 use Rattle.lattice.specs.Polynomials.{difference-eq, as_difference, difference-add, difference-mul, difference_rules}
 use Rattle.lattice.specs.Signs.{product_nn}
+use Rattle.lattice.specs.declared.side.Side.{Side}
+use Rattle.lattice.specs.declared.side.Side.TheVariants.{Lower, Upper}
+use Rattle.hull_geometry.specs.Edges.{IsAlong}
 use Rattle.lattice.proofs.Vectors.{as_pair, minus, opp, Ahead, ahead_nn}
 use Rattle.hull_geometry.proofs.NotCovered.{Separated}
 use Rattle.hull_geometry.proofs.Orientation.{above, ahead_of, behind_of}
 use Rattle.hull_geometry.proofs.Separators.{nearer, sum_above_left}
 
+-- the step from t on to q along the chain on a side, as a vector ahead
+abbrev step : Side → Pair → Pair → Pair
+step Lower t q = opp (minus t q)
+step Upper t q = minus t q
+
+-- it is ahead where q comes after t
+step_ahead : (side : Side) (t q : Pair) → IsAlong side t q → Ahead (step side t q)
+step_ahead Lower t q h = behind_of t q h
+step_ahead Upper t q h = ahead_of q t h
+
 -- a steep direction
-abbrev steep : ℤ → Pair
-steep k = record { x = neg_ℤ k; y = negsuc 0 }
+abbrev steep : Side → ℤ → Pair
+steep Lower k = record { x = k; y = pos 1 }
+steep Upper k = record { x = neg_ℤ k; y = negsuc 0 }
 
 -- how far t lies behind q in it
-product-steep : (k : ℤ) (t q : Pair) → product (opp (steep k)) (minus t q) ≡ k *ℤ (t.x -ℤ q.x) +ℤ (t.y -ℤ q.y)
+product-steep : (side : Side) (k : ℤ) (t q : Pair)
+    → product (opp (steep side k)) (minus t q) ≡ k *ℤ (step side t q).x +ℤ (step side t q).y
 unfolding product
-product-steep k t q =
-    rw (
-      as_difference k,
-      as_pair t,
-      as_pair q,
-      as_difference (pos 1),
-    )
+product-steep Lower k t q =
+    rw (as_difference k, as_pair t, as_pair q, as_difference (negsuc 0))
+    (simp difference_rules (difference-eq _ _ _ _ (omega arith)))
+product-steep Upper k t q =
+    rw (as_difference k, as_pair t, as_pair q, as_difference (pos 1))
     (simp difference_rules (difference-eq _ _ _ _ (omega arith)))
 
 -- a number that lifts y above 0
@@ -90,40 +103,12 @@ lifts_all f (t ∷ ts) h =
         → All (Lifts f (k +ℤ w)) us
     both us a k w l hw = λ i d lt. lifted_more k w _ _ (omega (arith, ints)) (ahead_nn _ (a i d lt)) (l i d lt)
 
--- all points stand after q
-pub ahead_separated : (S : List Pair) (q : Pair) → All (λ t. IsBefore q t) S → Separated S q
-ahead_separated S q h =
-    let r = lifts_all (λ t. minus t q) S
-    (All-weaker (λ t. IsBefore q t) (λ t. Ahead (minus t q)) (λ t. ahead_of q t) S h) in (
-      steep r.0,
-      All-weaker (Lifts (λ t. minus t q) r.0) (λ t. product (steep r.0) t <ℤ product (steep r.0) q)
-          (λ t p. nearer (steep r.0) t q (above _ _ (sym (product-steep r.0 t q)) p)) S r.2,
-    )
-
--- a steep direction, backwards
-abbrev steep_back : ℤ → Pair
-steep_back k = record { x = k; y = pos 1 }
-
--- how far t lies behind q in it
-product-steep_back : (k : ℤ) (t q : Pair)
-    → product (opp (steep_back k)) (minus t q) ≡ k *ℤ neg_ℤ (t.x -ℤ q.x) +ℤ neg_ℤ (t.y -ℤ q.y)
-unfolding product
-product-steep_back k t q =
-    rw (
-      as_difference k,
-      as_pair t,
-      as_pair q,
-      as_difference (negsuc 0),
-    )
-    (simp difference_rules (difference-eq _ _ _ _ (omega arith)))
-
--- all points stand before q
-pub behind_separated : (S : List Pair) (q : Pair) → All (λ t. IsBefore t q) S → Separated S q
-behind_separated S q h =
-    let r = lifts_all (λ t. opp (minus t q)) S
-    (All-weaker (λ t. IsBefore t q) (λ t. Ahead (opp (minus t q))) (λ t. behind_of t q) S h) in (
-      steep_back r.0,
-      All-weaker (Lifts (λ t. opp (minus t q)) r.0)
-          (λ t. product (steep_back r.0) t <ℤ product (steep_back r.0) q)
-          (λ t p. nearer (steep_back r.0) t q (above _ _ (sym (product-steep_back r.0 t q)) p)) S r.2,
+-- all points come before q along the chain on a side
+pub past_separated : (side : Side) (S : List Pair) (q : Pair) → All (λ t. IsAlong side t q) S → Separated S q
+past_separated side S q h =
+    let r = lifts_all (λ t. step side t q) S
+    (All-weaker (λ t. IsAlong side t q) (λ t. Ahead (step side t q)) (λ t. step_ahead side t q) S h) in (
+      steep side r.0,
+      All-weaker (Lifts (λ t. step side t q) r.0) (λ t. product (steep side r.0) t <ℤ product (steep side r.0) q)
+          (λ t p. nearer (steep side r.0) t q (above _ _ (sym (product-steep side r.0 t q)) p)) S r.2,
     )

@@ -24,53 +24,25 @@ orient_swap_zero q u v e = orient_swap q v u ∙ ap neg_ℤ e
 pub orient_other : (q l t : Pair) → orient l q t ≡ neg_ℤ (orient q l t)
 unfolding orient
 orient_other q l t =
-    rw (
-      as_pair q,
-      as_pair l,
-      as_pair t,
-    ) (simp difference_rules (difference-eq _ _ _ _ (omega arith)))
+    rw (as_pair q, as_pair l, as_pair t) (simp difference_rules (difference-eq _ _ _ _ (omega arith)))
 
 -- the three points turned round keep the side
 pub orient-cycle : (a b q : Pair) → orient a b q ≡ orient q a b
 unfolding orient
 orient-cycle a b q =
-    rw (
-      as_pair a,
-      as_pair b,
-      as_pair q,
-    ) (simp difference_rules (difference-eq _ _ _ _ (omega arith)))
+    rw (as_pair a, as_pair b, as_pair q) (simp difference_rules (difference-eq _ _ _ _ (omega arith)))
 
 -- the triangle abc in three triangles with the corner q
 pub orient-sum : (a b c q : Pair) → orient a b c ≡ orient q b c +ℤ orient q c a +ℤ orient q a b
 unfolding orient
 orient-sum a b c q =
-    rw (
-      as_pair a,
-      as_pair b,
-      as_pair c,
-      as_pair q,
-    )
-    (simp difference_rules (difference-eq _ _ _ _ (omega arith)))
-
--- the cross product of the steps from u to v and from v to t
-pub orient_at_end : (u v t : Pair) → cross (minus v u) (minus t v) ≡ orient u v t
-unfolding orient
-orient_at_end u v t =
-    rw (
-      as_pair u,
-      as_pair v,
-      as_pair t,
-    ) (simp difference_rules (difference-eq _ _ _ _ (omega arith)))
+    rw (as_pair a, as_pair b, as_pair c, as_pair q) (simp difference_rules (difference-eq _ _ _ _ (omega arith)))
 
 -- how much farther q lies than t in a direction
 pub product-minus : (d t q : Pair) → product (opp d) (minus t q) ≡ product d q -ℤ product d t
 unfolding product
 product-minus d t q =
-    rw (
-      as_pair d,
-      as_pair t,
-      as_pair q,
-    ) (simp difference_rules (difference-eq _ _ _ _ (omega arith)))
+    rw (as_pair d, as_pair t, as_pair q) (simp difference_rules (difference-eq _ _ _ _ (omega arith)))
 
 -- what is equal to a number at least 0 is at least 0
 pub at_least : (a b : ℤ) → a ≡ b → pos 0 ≤ℤ a → pos 0 ≤ℤ b

@@ -68,6 +68,11 @@ cut_at (x ∷ xs) (suc i) d l = ap (λ (z : List Pair). x ∷ z) (cut_at xs i d 
 pub later : (u t : Pair) (vs : List Pair) → Contains vs t → Contains (u ∷ vs) t
 later u t vs m = (suc m.0, omega (arith, m.1), m.2)
 
+-- the one member of a list of one
+pub only_member : (x t : Pair) → Contains (x ∷ []) t → t ≡ x
+only_member x t (zero, l, e) = sym e
+only_member x t (suc i, l, e) = absurd (omega (arith, l))
+
 -- a list is a list with nothing after it
 pub append_none : (xs : List Pair) → xs ≡ xs ++ []
 append_none [] = refl

@@ -11,25 +11,12 @@ use Rattle.lattice.specs.Plane.{Pair, orient, IsBefore}
 use Rattle.lattice.specs.Vertices.{IsVertexList, fan}
 use Rattle.hull_geometry.specs.Edges.{IsLowerEdge, end_of, IsFirst, IsLast}
 use Rattle.hull_geometry.specs.Positions.{origin, point_at}
-use Rattle.hull_geometry.specs.Walks.{IsLowerWalk}
 use Rattle.hull_geometry.proofs.Chains.{first_extreme}
 use Rattle.lattice.proofs.Order.{before_irrefl, before_not}
 use Rattle.lattice.proofs.Numbers.{nn_zero}
 use Rattle.hull_geometry.proofs.Orientation.{orient-cycle, at_least}
 use Rattle.lattice.proofs.LineCrossings.{orient_start}
-use Rattle.hull_geometry.proofs.PointLists.{AllPairs-cons, AllPairs-none, get_or_free}
-use Rattle.hull_geometry.proofs.VertexLists.{chain_push, end_push}
-
--- one more lower edge
-pub lower_more : (S passed : List Pair) (i j : ℕ) → IsLowerWalk S passed i → IsLowerEdge S (point_at S i) (point_at S j)
-    → IsLowerWalk S (passed ++ point_at S j ∷ []) j
-lower_more S passed i j w e =
-    record {
-      chain = chain_push (IsLowerEdge S) (point_at S 0) passed (point_at S j) w.chain
-          (subst (λ (z : Pair). IsLowerEdge S z (point_at S j)) (sym w.ends) e);
-      ends = end_push (point_at S 0) passed (point_at S j);
-      reached = λ t m. (point_at S i, e);
-    }
+use Rattle.hull_geometry.proofs.PointLists.{AllPairs-cons, AllPairs-none, get_or_free, only_member}
 
 -- the point at 0 is the first
 pub least : (S : List Pair) → IsPointSet S → IsFirst S (point_at S 0)
@@ -74,18 +61,13 @@ fan-push f u w xs = let e = fan-append f u xs (w ∷ []) in omega (arith, ints)
 pub lower_triangle : (S : List Pair) (u v t : Pair) → IsLowerEdge S u v → Contains S t → pos 0 ≤ℤ orient t u v
 lower_triangle S u v t e m = at_least _ _ (orient-cycle u v t) (All-contains (λ z. pos 0 ≤ℤ orient u v z) S t e.left m)
 
--- the only member of a list of one
-only_member : (v p : Pair) → Contains (v ∷ []) p → v ≡ p
-only_member v p (zero, l, e) = e
-only_member v p (suc k, l, e) = absurd (omega (arith, l))
-
 -- the point of a set of one is extreme
 alone_extreme : (v p : Pair) → Contains (v ∷ []) p → IsExtreme (v ∷ []) p
 alone_extreme v p m =
-    subst (IsExtreme (v ∷ [])) (only_member v p m)
+    subst (IsExtreme (v ∷ [])) (sym (only_member v p m))
     (first_extreme (v ∷ []) v (AllPairs-cons v [] (λ k d l. absurd (omega (arith, l))) AllPairs-none)
     (0, omega arith, refl)
-    (λ t i b. before_irrefl v (subst (λ (z : Pair). IsBefore z v) (sym (only_member v t i)) b)))
+    (λ t i b. before_irrefl v (subst (λ (z : Pair). IsBefore z v) (only_member v t i) b)))
 
 -- a set of no point or of one is its own vertex list
 pub small_list : (S : List Pair) → length S < 2 → IsVertexList S S

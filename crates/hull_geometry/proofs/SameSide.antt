@@ -4,9 +4,12 @@ use Rattle.std.proofs.lemmas.Int.{ints}
 use Rattle.lattice.specs.Plane.{Pair, orient, IsBefore}
 use Rattle.lattice.specs.Signs.{le_or_lt}
 use Rattle.lattice.proofs.Vectors.{minus, opp, cross-opp, turn_trans}
-use Rattle.hull_geometry.specs.Seen.{IsMoreRight, IsMoreLeft}
-use Rattle.lattice.proofs.Numbers.{nn_zero}
-use Rattle.hull_geometry.proofs.Orientation.{orient_swap, orient_swap_zero, at_least, ahead_of, behind_of}
+use Rattle.lattice.proofs.Numbers.{nn_zero, zero_opposite}
+use Rattle.hull_geometry.specs.Hands.{turn_on, IsMore}
+use Rattle.hull_geometry.specs.declared.hand.Hand.{Hand}
+use Rattle.hull_geometry.specs.declared.hand.Hand.TheVariants.{Left, Right}
+use Rattle.hull_geometry.proofs.Orientation.{at_least, ahead_of, behind_of}
+use Rattle.hull_geometry.proofs.Sightings.{turn_on_back}
 
 -- three points stand after q, or all of them before
 abbrev pub OneSide : Pair → Pair → Pair → Pair → Type 0
@@ -26,7 +29,7 @@ side_trans q u v w (inr h) a b =
     (at_least _ _ (sym (cross-opp (minus v q) (minus w q))) b))
 
 -- the three in reverse
-pub side_reverse : (q u v w : Pair) → OneSide q u v w → OneSide q w v u
+side_reverse : (q u v w : Pair) → OneSide q u v w → OneSide q w v u
 side_reverse q u v w (inl h) = inl (h.2, h.1, h.0)
 side_reverse q u v w (inr h) = inr (h.2, h.1, h.0)
 
@@ -35,54 +38,44 @@ side_rotate : (q u v w : Pair) → OneSide q u v w → OneSide q v w u
 side_rotate q u v w (inl h) = inl (h.1, h.2, h.0)
 side_rotate q u v w (inr h) = inr (h.1, h.2, h.0)
 
--- no turn to the right or straight on: a turn to the left
-strict : (q u v : Pair) → ¬ (pos 0 ≤ℤ orient q v u) → pos 0 <ℤ orient q u v
-strict q u v n = elim (le_or_lt (pos 0) (orient q v u))
-    [ inl h ↦ absurd (n h) | inr h ↦ let e = orient_swap q v u in omega (arith, ints) ]
+-- turns on a hand compose
+turn_on_trans : (hand : Hand) (q u v w : Pair) → OneSide q u v w → pos 0 ≤ℤ turn_on hand q u v
+    → pos 0 ≤ℤ turn_on hand q v w → pos 0 ≤ℤ turn_on hand q u w
+turn_on_trans Left q u v w o a b = side_trans q w v u (side_reverse q u v w o) b a
+turn_on_trans Right q u v w o a b = side_trans q u v w o a b
 
--- more to the right: no turn to the right
-nn : (q u v : Pair) → IsMoreRight q u v → pos 0 ≤ℤ orient q u v
-nn q u v (inl h) = omega (arith, ints)
-nn q u v (inr h) = omega (arith, ints, h.0)
+-- no turn back or straight on: a turn on the hand
+strict : (hand : Hand) (q u v : Pair) → ¬ (pos 0 ≤ℤ turn_on hand q v u) → pos 0 <ℤ turn_on hand q u v
+strict hand q u v n = elim (le_or_lt (pos 0) (turn_on hand q v u))
+    [ inl h ↦ absurd (n h) | inr h ↦ let e = turn_on_back hand q v u in omega (arith, ints) ]
+
+-- farther on a hand: no turn back
+nn : (hand : Hand) (q u v : Pair) → IsMore hand q u v → pos 0 ≤ℤ turn_on hand q u v
+nn hand q u v (inl h) = omega (arith, ints)
+nn hand q u v (inr h) = omega (arith, ints, h.0)
 
 -- a number not below 0 whose negative is not
 squeeze_zero : (x : ℤ) → pos 0 ≤ℤ x → pos 0 ≤ℤ neg_ℤ x → x ≡ pos 0
 squeeze_zero x h k = omega (arith, ints)
 
--- more to the right is transitive
-pub right_trans : (q u v w : Pair) → OneSide q u v w → IsMoreRight q u v → IsMoreRight q v w → IsMoreRight q u w
-right_trans q u v w o (inr h) (inr k) =
-    let a : pos 0 ≤ℤ orient q u w = side_trans q u v w o (nn_zero _ h.0) (nn_zero _ k.0) in
-    let b : pos 0 ≤ℤ orient q w u =
-    side_trans q w v u (side_reverse q u v w o) (nn_zero _ (orient_swap_zero q v w k.0))
-    (nn_zero _ (orient_swap_zero q u v h.0)) in
-    inr (squeeze_zero _ a (at_least _ _ (orient_swap q w u) b), omega (arith, ints, h.1, k.1))
-right_trans q u v w o (inl h) k =
-    -- else w is left of ... u, and v left of u by way of w
-    inl (strict q u w (λ m. let z : pos 0 ≤ℤ orient q v u = side_trans q v w u (side_rotate q u v w o) (nn q v w k) m in
-    let e = orient_swap q u v in omega (arith, ints)))
-right_trans q u v w o (inr h) (inl k) =
-    inl (strict q u w (λ m. let z : pos 0 ≤ℤ orient q w v =
-    side_trans q w u v (side_rotate q v w u (side_rotate q u v w o)) m (nn_zero _ h.0) in let e =
-    orient_swap q v w in omega (arith, ints)))
+-- in line, and in line the other way round
+back_zero : (hand : Hand) (q u v : Pair) → turn_on hand q u v ≡ pos 0 → pos 0 ≤ℤ turn_on hand q v u
+back_zero hand q u v e = nn_zero _ (zero_opposite _ _ (turn_on_back hand q u v) e)
 
--- more to the left: no turn to the left
-nn_left : (q u v : Pair) → IsMoreLeft q u v → pos 0 ≤ℤ orient q v u
-nn_left q u v (inl h) = omega (arith, ints)
-nn_left q u v (inr h) = omega (arith, ints, h.0)
-
--- more to the left is transitive
-pub left_trans : (q u v w : Pair) → OneSide q u v w → IsMoreLeft q u v → IsMoreLeft q v w → IsMoreLeft q u w
-left_trans q u v w o (inr h) (inr k) =
-    let a : pos 0 ≤ℤ orient q w u = side_trans q w v u (side_reverse q u v w o) (nn_zero _ k.0) (nn_zero _ h.0) in
-    let b : pos 0 ≤ℤ orient q u w =
-    side_trans q u v w o (nn_zero _ (orient_swap_zero q v u h.0)) (nn_zero _ (orient_swap_zero q w v k.0)) in
-    inr (squeeze_zero _ a (at_least _ _ (orient_swap q u w) b), omega (arith, ints, h.1, k.1))
-left_trans q u v w o (inl h) k =
-    inl (strict q w u (λ m. let z : pos 0 ≤ℤ orient q u v =
-    side_trans q u w v (side_reverse q v w u (side_rotate q u v w o)) m (nn_left q v w k) in let e =
-    orient_swap q v u in omega (arith, ints)))
-left_trans q u v w o (inr h) (inl k) =
-    inl (strict q w u (λ m. let z : pos 0 ≤ℤ orient q v w =
-    side_trans q v u w (side_reverse q w u v (side_rotate q v w u (side_rotate q u v w o))) (nn_zero _ h.0) m in
-    let e = orient_swap q w v in omega (arith, ints)))
+-- farther on a hand is transitive
+pub more_beside : (hand : Hand) (q u v w : Pair) → OneSide q u v w → IsMore hand q u v → IsMore hand q v w
+    → IsMore hand q u w
+more_beside hand q u v w o (inr h) (inr k) =
+    let a : pos 0 ≤ℤ turn_on hand q u w = turn_on_trans hand q u v w o (nn_zero _ h.0) (nn_zero _ k.0) in
+    let b : pos 0 ≤ℤ turn_on hand q w u =
+    turn_on_trans hand q w v u (side_reverse q u v w o) (back_zero hand q v w k.0) (back_zero hand q u v h.0) in
+    inr (squeeze_zero _ a (at_least _ _ (turn_on_back hand q u w) b), omega (arith, ints, h.1, k.1))
+more_beside hand q u v w o (inl h) k =
+    -- else u is no farther than w, and v no nearer than u by way of w
+    inl (strict hand q u w (λ m. let z : pos 0 ≤ℤ turn_on hand q v u =
+    turn_on_trans hand q v w u (side_rotate q u v w o) (nn hand q v w k) m in
+    let e = turn_on_back hand q u v in omega (arith, ints)))
+more_beside hand q u v w o (inr h) (inl k) =
+    inl (strict hand q u w (λ m. let z : pos 0 ≤ℤ turn_on hand q w v =
+    turn_on_trans hand q w u v (side_rotate q v w u (side_rotate q u v w o)) m (nn_zero _ h.0) in
+    let e = turn_on_back hand q v w in omega (arith, ints)))

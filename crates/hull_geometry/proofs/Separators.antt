@@ -3,16 +3,17 @@ use Rattle.std.proofs.Common.{◌≡◌, ℤ, pos, ◌+ℤ◌, ◌-ℤ◌, ◌*�
 use Rattle.std.specs.List.{All}
 use Rattle.std.proofs.lemmas.Int.{ints}
 use Rattle.std.proofs.lemmas.List.Elements.{All-weaker}
-use Rattle.lattice.specs.Places.{IsOuter}
 use Rattle.lattice.specs.Plane.{Pair, orient, product, IsBefore, IsZero}
 use Rattle.lattice.specs.Polynomials.{difference-eq, difference_rules}
 use Rattle.lattice.specs.Signs.{le_or_lt, cancel_zero}
-use Rattle.lattice.specs.Vertices.{IsLeftOf}
-use Rattle.lattice.proofs.Vectors.{as_pair, minus, opp, cross-opp_left, cross-opp_right, cross-opp, turn_trans}
-use Rattle.lattice.proofs.Vectors.{turn_trans_strict, turn_trans_strict_right}
+use Rattle.lattice.specs.declared.side.Side.{Side}
+use Rattle.lattice.specs.declared.side.Side.TheVariants.{Lower, Upper}
+use Rattle.lattice.proofs.Vectors.{as_pair, minus, opp}
+use Rattle.hull_geometry.specs.Edges.{IsAlong}
+use Rattle.hull_geometry.proofs.Turns.{turns_on, turns_back}
 use Rattle.hull_geometry.proofs.NotCovered.{Separated}
 use Rattle.lattice.proofs.Order.{couple}
-use Rattle.hull_geometry.proofs.Orientation.{product-minus, at_least, above, ahead_of, behind_of}
+use Rattle.hull_geometry.proofs.Orientation.{product-minus, orient-cycle, at_least, above}
 
 -- a difference above 0
 less : (a b c : ℤ) → a ≡ c -ℤ b → pos 0 <ℤ a → b <ℤ c
@@ -30,13 +31,7 @@ across l r = record { x = r.y -ℤ l.y; y = l.x -ℤ r.x }
 product-across : (q l r t : Pair) → product (opp (across l r)) (minus t q) ≡ orient q r t +ℤ orient q t l
 unfolding orient product
 product-across q l r t =
-    rw (
-      as_pair q,
-      as_pair l,
-      as_pair r,
-      as_pair t,
-    )
-    (simp difference_rules (difference-eq _ _ _ _ (omega arith)))
+    rw (as_pair q, as_pair l, as_pair r, as_pair t) (simp difference_rules (difference-eq _ _ _ _ (omega arith)))
 
 -- all points lie within the wedge at q from r to l
 pub separated_by_wedge : (S : List Pair) (q l r : Pair) → All (λ t. pos 0 <ℤ (orient q r t +ℤ orient q t l)) S
@@ -56,124 +51,30 @@ sum_above a b h k = omega (arith, ints)
 pub sum_above_left : (a b : ℤ) → pos 0 <ℤ a → pos 0 ≤ℤ b → pos 0 <ℤ (a +ℤ b)
 sum_above_left a b h k = omega (arith, ints)
 
--- all lies above a line through q, l the lowest before q and r the lowest after: a point after q
-pub above_ahead : (q l r t : Pair) → IsBefore l q → IsBefore q r → IsBefore q t → pos 0 <ℤ orient q r l
-    → pos 0 ≤ℤ orient q r t → pos 0 <ℤ (orient q r t +ℤ orient q t l)
-unfolding orient
-above_ahead q l r t hl hr ht rl rt =
-    sum_above _ _ rt (above _ _ (cross-opp_left (minus l q) (minus t q))
-    (turn_trans_strict (opp (minus l q)) (minus r q) (minus t q) (behind_of l q hl) (ahead_of q r hr)
-    (ahead_of q t ht)
-    (above _ _ (sym (cross-opp_left (minus l q) (minus r q))) rl) rt))
+-- where the chain on a side does not reach q, between l before it and r behind it: what comes before q and is no farther
+-- left than l
+pub wedge_before : (side : Side) (q l r t : Pair) → IsAlong side l q → IsAlong side q r → IsAlong side t q
+    → pos 0 <ℤ orient q r l → pos 0 ≤ℤ orient q t l → pos 0 <ℤ (orient q r t +ℤ orient q t l)
+wedge_before Lower q l r t lq qr tq rl tl =
+    sum_above_left _ _ (turns_back Lower l q r t lq qr tq (at_least _ _ (orient-cycle q t l) tl)
+    (above _ _ (orient-cycle q r l) rl)) tl
+wedge_before Upper q l r t lq qr tq rl tl =
+    sum_above_left _ _ (turns_on Upper r q l t qr lq tq rl (at_least _ _ (orient-cycle q t l) tl)) tl
 
--- and a point before q
-pub above_behind : (q l r t : Pair) → IsBefore l q → IsBefore q r → IsBefore t q → pos 0 <ℤ orient q r l
-    → pos 0 ≤ℤ orient q t l → pos 0 <ℤ (orient q r t +ℤ orient q t l)
-unfolding orient
-above_behind q l r t hl hr ht rl tl =
-    sum_above_left _ _ (above _ _ (cross-opp_left (minus t q) (minus r q))
-    (turn_trans_strict_right (opp (minus t q)) (opp (minus l q)) (minus r q) (behind_of t q ht) (behind_of l q hl)
-    (ahead_of q r hr)
-    (at_least _ _ (sym (cross-opp (minus t q) (minus l q))) tl)
-    (above _ _ (sym (cross-opp_left (minus l q) (minus r q))) rl))) tl
-
--- all lies below a line through q, r the highest before q and l the highest after: a point after q
-pub below_ahead : (q l r t : Pair) → IsBefore q l → IsBefore r q → IsBefore q t → pos 0 <ℤ orient q r l
-    → pos 0 ≤ℤ orient q t l → pos 0 <ℤ (orient q r t +ℤ orient q t l)
-unfolding orient
-below_ahead q l r t hl hr ht rl tl =
-    sum_above_left _ _ (above _ _ (cross-opp_right (minus t q) (minus r q))
-    (turn_trans_strict_right (minus t q) (minus l q) (opp (minus r q)) (ahead_of q t ht) (ahead_of q l hl)
-    (behind_of r q hr)
-    tl (above _ _ (sym (cross-opp_right (minus l q) (minus r q))) rl))) tl
-
--- and a point before q
-pub below_behind : (q l r t : Pair) → IsBefore q l → IsBefore r q → IsBefore t q → pos 0 <ℤ orient q r l
-    → pos 0 ≤ℤ orient q r t → pos 0 <ℤ (orient q r t +ℤ orient q t l)
-unfolding orient
-below_behind q l r t hl hr ht rl rt =
-    sum_above _ _ rt (above _ _ (cross-opp_right (minus l q) (minus t q))
-    (turn_trans_strict (minus l q) (opp (minus r q)) (opp (minus t q)) (ahead_of q l hl) (behind_of r q hr)
-    (behind_of t q ht)
-    (above _ _ (sym (cross-opp_right (minus l q) (minus r q))) rl)
-    (at_least _ _ (sym (cross-opp (minus r q) (minus t q))) rt)))
-
--- all lies above a line through q: a point after q is right of the line to the lowest before q
-pub above_ahead_left : (q l r t : Pair) → IsBefore l q → IsBefore q r → IsBefore q t → pos 0 <ℤ orient q r l
-    → pos 0 ≤ℤ orient q r t → pos 0 <ℤ orient q t l
-unfolding orient
-above_ahead_left q l r t hl hr ht rl rt =
-    above _ _ (cross-opp_left (minus l q) (minus t q))
-    (turn_trans_strict (opp (minus l q)) (minus r q) (minus t q) (behind_of l q hl) (ahead_of q r hr)
-    (ahead_of q t ht)
-    (above _ _ (sym (cross-opp_left (minus l q) (minus r q))) rl) rt)
-
--- all lies above a line through q: a point before q is left of the line to the lowest after q
-pub above_behind_right : (q l r t : Pair) → IsBefore l q → IsBefore q r → IsBefore t q → pos 0 <ℤ orient q r l
-    → pos 0 ≤ℤ orient q t l → pos 0 <ℤ orient q r t
-unfolding orient
-above_behind_right q l r t hl hr ht rl tl =
-    above _ _ (cross-opp_left (minus t q) (minus r q))
-    (turn_trans_strict_right (opp (minus t q)) (opp (minus l q)) (minus r q) (behind_of t q ht) (behind_of l q hl)
-    (ahead_of q r hr)
-    (at_least _ _ (sym (cross-opp (minus t q) (minus l q))) tl)
-    (above _ _ (sym (cross-opp_left (minus l q) (minus r q))) rl))
-
--- all lies below a line through q: a point after q is left of the line to the highest before q
-pub below_ahead_right : (q l r t : Pair) → IsBefore q l → IsBefore r q → IsBefore q t → pos 0 <ℤ orient q r l
-    → pos 0 ≤ℤ orient q t l → pos 0 <ℤ orient q r t
-unfolding orient
-below_ahead_right q l r t hl hr ht rl tl =
-    above _ _ (cross-opp_right (minus t q) (minus r q))
-    (turn_trans_strict_right (minus t q) (minus l q) (opp (minus r q)) (ahead_of q t ht) (ahead_of q l hl)
-    (behind_of r q hr)
-    tl (above _ _ (sym (cross-opp_right (minus l q) (minus r q))) rl))
-
--- all lies below a line through q: a point before q is right of the line to the highest after q
-pub below_behind_left : (q l r t : Pair) → IsBefore q l → IsBefore r q → IsBefore t q → pos 0 <ℤ orient q r l
-    → pos 0 ≤ℤ orient q r t → pos 0 <ℤ orient q t l
-unfolding orient
-below_behind_left q l r t hl hr ht rl rt =
-    above _ _ (cross-opp_right (minus l q) (minus t q))
-    (turn_trans_strict (minus l q) (opp (minus r q)) (opp (minus t q)) (ahead_of q l hl) (behind_of r q hr)
-    (behind_of t q ht)
-    (above _ _ (sym (cross-opp_right (minus l q) (minus r q))) rl)
-    (at_least _ _ (sym (cross-opp (minus r q) (minus t q))) rt))
-
--- the lowest points before and after q turn right or not at all: a point before q is on their side of the line to the
--- one after
-pub upper_side : (q l r t : Pair) → IsBefore l q → IsBefore q r → IsBefore t q → pos 0 ≤ℤ orient q r l
-    → pos 0 ≤ℤ orient q t l → pos 0 ≤ℤ orient q r t
-unfolding orient
-upper_side q l r t hl hr ht rl tl =
-    at_least _ _ (cross-opp_left (minus t q) (minus r q))
-    (turn_trans (opp (minus t q)) (opp (minus l q)) (minus r q) (behind_of t q ht) (behind_of l q hl)
-    (ahead_of q r hr)
-    (at_least _ _ (sym (cross-opp (minus t q) (minus l q))) tl)
-    (at_least _ _ (sym (cross-opp_left (minus l q) (minus r q))) rl))
-
--- the same of the highest points and a point after q
-pub lower_side : (q l r t : Pair) → IsBefore q l → IsBefore r q → IsBefore q t → pos 0 ≤ℤ orient q r l
-    → pos 0 ≤ℤ orient q t l → pos 0 ≤ℤ orient q r t
-unfolding orient
-lower_side q l r t hl hr ht rl tl =
-    at_least _ _ (cross-opp_right (minus t q) (minus r q))
-    (turn_trans (minus t q) (minus l q) (opp (minus r q)) (ahead_of q t ht) (ahead_of q l hl) (behind_of r q hr)
-    tl (at_least _ _ (sym (cross-opp_right (minus l q) (minus r q))) rl))
+-- and what comes behind q and is no farther right than r
+pub wedge_behind : (side : Side) (q l r t : Pair) → IsAlong side l q → IsAlong side q r → IsAlong side q t
+    → pos 0 <ℤ orient q r l → pos 0 ≤ℤ orient q r t → pos 0 <ℤ (orient q r t +ℤ orient q t l)
+wedge_behind Lower q l r t lq qr qt rl rt =
+    sum_above _ _ rt (above _ _ (sym (orient-cycle q t l))
+    (turns_on Lower l q r t lq qr qt (above _ _ (orient-cycle q r l) rl) rt))
+wedge_behind Upper q l r t lq qr qt rl rt =
+    sum_above _ _ rt (above _ _ (sym (orient-cycle q t l)) (turns_back Upper r q l t qr lq qt rt rl))
 
 -- the direction to the right of the line from q to r
 pub product-right : (q r t : Pair) → product (across q r) q -ℤ product (across q r) t ≡ orient q r t
 unfolding orient product
 product-right q r t =
-    rw (
-      as_pair q,
-      as_pair r,
-      as_pair t,
-    ) (simp difference_rules (difference-eq _ _ _ _ (omega arith)))
-
--- a difference at least 0
-no_more : (a b c : ℤ) → a -ℤ b ≡ c → pos 0 ≤ℤ c → b ≤ℤ a
-no_more a b c e h = omega (arith, ints)
+    rw (as_pair q, as_pair r, as_pair t) (simp difference_rules (difference-eq _ _ _ _ (omega arith)))
 
 -- the direction to the right of a line is no zero
 pub across_nonzero : (q r : Pair) → IsBefore q r ⊎ IsBefore r q → ¬ IsZero (across q r)
@@ -182,48 +83,21 @@ across_nonzero q r (inl (inr b)) z = omega (arith, ints, z.0, b.1)
 across_nonzero q r (inr (inl b)) z = omega (arith, ints, z.1)
 across_nonzero q r (inr (inr b)) z = omega (arith, ints, z.0, b.1)
 
--- no point lies right of a line through q: q is outer
-pub on_by_side : (S : List Pair) (q r : Pair) → IsBefore q r ⊎ IsBefore r q → IsLeftOf S q r → IsOuter S q
-on_by_side S q r apart h = (
-  across q r,
-  across_nonzero q r apart,
-  All-weaker (λ t. pos 0 ≤ℤ orient q r t) (λ t. product (across q r) t ≤ℤ product (across q r) q)
-      (λ t k. no_more _ _ _ (product-right q r t) k) S h,
-)
-
 -- the direction outwards at a corner
 product-corner : (u v w t : Pair) → product (opp (across u w)) (minus t v) ≡ orient u v t +ℤ orient v w t
 unfolding orient product
 product-corner u v w t =
-    rw (
-      as_pair u,
-      as_pair v,
-      as_pair w,
-      as_pair t,
-    )
-    (simp difference_rules (difference-eq _ _ _ _ (omega arith)))
+    rw (as_pair u, as_pair v, as_pair w, as_pair t) (simp difference_rules (difference-eq _ _ _ _ (omega arith)))
 
 -- where the lines uv and vw meet, in x
 meets_x : (u v w t : Pair) → (t.x -ℤ v.x) *ℤ orient u v w ≡ (w.x -ℤ v.x) *ℤ orient u v t -ℤ (v.x -ℤ u.x) *ℤ orient v w t
 unfolding orient
-meets_x u v w t = rw (
-  as_pair u,
-  as_pair v,
-  as_pair w,
-  as_pair t,
-)
-    (simp difference_rules (difference-eq _ _ _ _ (omega arith)))
+meets_x u v w t = rw (as_pair u, as_pair v, as_pair w, as_pair t) (simp difference_rules (difference-eq _ _ _ _ (omega arith)))
 
 -- and in y
 meets_y : (u v w t : Pair) → (t.y -ℤ v.y) *ℤ orient u v w ≡ (w.y -ℤ v.y) *ℤ orient u v t -ℤ (v.y -ℤ u.y) *ℤ orient v w t
 unfolding orient
-meets_y u v w t = rw (
-  as_pair u,
-  as_pair v,
-  as_pair w,
-  as_pair t,
-)
-    (simp difference_rules (difference-eq _ _ _ _ (omega arith)))
+meets_y u v w t = rw (as_pair u, as_pair v, as_pair w, as_pair t) (simp difference_rules (difference-eq _ _ _ _ (omega arith)))
 
 -- a weighted sum of zeros
 zero_of : (a c x y m n : ℤ) → pos 0 <ℤ c → x ≡ pos 0 → y ≡ pos 0 → a *ℤ c ≡ m *ℤ x -ℤ n *ℤ y → a ≡ pos 0

@@ -6,16 +6,12 @@ use Rattle.std.proofs.lemmas.List.Elements.{All-contains, All-cons, All-head, Al
 use Rattle.lattice.specs.Covers.{IsPointSet, with_point, without_point}
 use Rattle.lattice.specs.Plane.{Pair, IsBefore}
 use Rattle.lattice.proofs.Order.{before_trans, before_irrefl, before_total, is_before-true, is_before-false, before_not}
-use Rattle.hull_geometry.proofs.PointLists.{AllPairs-cons, AllPairs-head, AllPairs-tail}
+use Rattle.hull_geometry.proofs.PointLists.{AllPairs-cons, AllPairs-head, AllPairs-tail, later}
 use Rattle.hull_geometry.proofs.ChangedSets.{all_without, in_without}
 
 -- equal points do not stand before each other
 not_before_same : (x p : Pair) → x ≡ p → ¬ IsBefore x p
 not_before_same x p e b = before_irrefl p (subst (λ (z : Pair). IsBefore z p) e b)
-
--- a member of the rest of a list is a member of the list
-later : (x t : Pair) (xs : List Pair) → Contains xs t → Contains (x ∷ xs) t
-later x t xs (k, l, e) = (suc k, omega (arith, l), e)
 
 -- what holds of p and of each member of S holds of each member of S with p
 all_with : (P : Pair → Type 0) (p : Pair) (S : List Pair) → P p → All P S → All P (with_point p S)

@@ -1,29 +1,27 @@
 -- How far a point lies in a direction, beside a line that rises or falls in it.
-use Rattle.std.proofs.Common.{◌≡◌, ℤ, pos, ◌+ℤ◌, ◌-ℤ◌, ◌*ℤ◌, ◌≤ℤ◌, ◌<ℤ◌, neg_ℤ, inl, inr, refl, ap, ◌∙◌, arith}
+use Rattle.std.proofs.Common.{◌≡◌, ℤ, pos, ◌+ℤ◌, ◌-ℤ◌, ◌*ℤ◌, ◌≤ℤ◌, ◌<ℤ◌, inl, inr, ap, ◌∙◌, arith}
 use Rattle.std.proofs.lemmas.Int.{ints}
-use Rattle.lattice.specs.Plane.{Pair, orient, product, IsBefore}
+use Rattle.lattice.specs.Plane.{Pair, product, IsBefore}
 use Rattle.lattice.specs.Polynomials.{difference-eq, difference_rules}
 use Rattle.lattice.specs.Signs.{le_or_lt, product_nn, product_pp, product_np}
-use Rattle.lattice.proofs.Vectors.{as_pair, minus, cross, cross_swap, Ahead, ahead_nn}
-use Rattle.hull_geometry.proofs.Orientation.{ahead_of}
+use Rattle.lattice.proofs.Vectors.{as_pair, minus, cross, Ahead, ahead_nn}
+use Rattle.lattice.proofs.Numbers.{less_not_le}
+use Rattle.lattice.specs.Turns.{turn}
+use Rattle.lattice.specs.declared.side.Side.{Side}
+use Rattle.lattice.specs.declared.side.Side.TheVariants.{Lower, Upper}
+use Rattle.hull_geometry.specs.Tangents.{Faces}
+use Rattle.hull_geometry.proofs.Orientation.{ahead_of, at_least}
+use Rattle.hull_geometry.proofs.Turns.{wedge, turn_start, turn_back}
 
 -- how far two vectors go in a direction, weighed by how far they go to the right and by their sides
 weigh_right : (d w t : Pair) → product d t *ℤ w.x +ℤ d.y *ℤ cross t w ≡ product d w *ℤ t.x
 unfolding product
-weigh_right d w t = rw (
-  as_pair d,
-  as_pair w,
-  as_pair t,
-) (simp difference_rules (difference-eq _ _ _ _ (omega arith)))
+weigh_right d w t = rw (as_pair d, as_pair w, as_pair t) (simp difference_rules (difference-eq _ _ _ _ (omega arith)))
 
 -- the same by the other side
 weigh_left : (d w t : Pair) → product d t *ℤ w.x ≡ product d w *ℤ t.x +ℤ d.y *ℤ cross w t
 unfolding product
-weigh_left d w t = rw (
-  as_pair d,
-  as_pair w,
-  as_pair t,
-) (simp difference_rules (difference-eq _ _ _ _ (omega arith)))
+weigh_left d w t = rw (as_pair d, as_pair w, as_pair t) (simp difference_rules (difference-eq _ _ _ _ (omega arith)))
 
 -- how far a vector that goes straight up goes
 upright : (d w : Pair) → w.x ≡ pos 0 → product d w ≡ d.y *ℤ w.y
@@ -74,11 +72,7 @@ falls d w t down (inr h) (inr k) side far =
 product-step : (d p t : Pair) → product d (minus t p) ≡ product d t -ℤ product d p
 unfolding product
 product-step d p t =
-    rw (
-      as_pair d,
-      as_pair p,
-      as_pair t,
-    ) (simp difference_rules (difference-eq _ _ _ _ (omega arith)))
+    rw (as_pair d, as_pair p, as_pair t) (simp difference_rules (difference-eq _ _ _ _ (omega arith)))
 
 -- no farther
 no_farther : (d p t : Pair) → product d (minus t p) ≤ℤ pos 0 → product d t ≤ℤ product d p
@@ -88,58 +82,26 @@ no_farther d p t h = let e = product-step d p t in omega (arith, ints)
 step_back : (d p t : Pair) → product d t ≤ℤ product d p → product d (minus t p) ≤ℤ pos 0
 step_back d p t h = let e = product-step d p t in omega (arith, ints)
 
--- the side of t as seen along the line pq, by the steps from p
-side_at_start : (p q t : Pair) → cross (minus q p) (minus t p) ≡ orient p q t
-unfolding orient
-side_at_start p q t = refl
+-- where d faces a side and w goes no farther, nor does a vector ahead on the inner side of w
+no_gain : (side : Side) (d w t : Pair) → Faces side d → Ahead w → Ahead t → pos 0 ≤ℤ wedge side w t
+    → product d w ≤ℤ pos 0 → product d t ≤ℤ pos 0
+no_gain Lower d w t down = falls d w t down
+no_gain Upper d w t up = rises d w t up
 
--- and by the steps to q
-side_at_end : (p q t : Pair) → cross (minus q p) (minus q t) ≡ neg_ℤ (orient p q t)
-unfolding orient
-side_at_end p q t = rw (
-  as_pair p,
-  as_pair q,
-  as_pair t,
-) (simp difference_rules (difference-eq _ _ _ _ (omega arith)))
-
--- under the line pq and after p, where d goes up and q is no farther than p: no farther than p
-pub stays_up : (d p q t : Pair) → pos 0 <ℤ d.y → IsBefore p q → IsBefore p t → orient p q t ≤ℤ pos 0
+-- inwards of the line pq and after p, where q is no farther than p: no farther than p
+pub stays : (side : Side) (d p q t : Pair) → Faces side d → IsBefore p q → IsBefore p t → pos 0 ≤ℤ turn side p q t
     → product d q ≤ℤ product d p → product d t ≤ℤ product d p
-stays_up d p q t up pq pt o f =
-    no_farther d p t (rises d (minus q p) (minus t p) up (ahead_of p q pq) (ahead_of p t pt)
-    (let e = side_at_start p q t in let s = cross_swap (minus t p) (minus q p) in omega (arith, ints))
-    (step_back d p q f))
+stays side d p q t faces pq pt o f =
+    no_farther d p t (no_gain side d (minus q p) (minus t p) faces (ahead_of p q pq) (ahead_of p t pt)
+    (at_least _ _ (turn_start side p q t) o) (step_back d p q f))
 
--- under the line pq and before q, where d goes up and p is less far than q: less far than q
-pub goes_up : (d p q t : Pair) → pos 0 <ℤ d.y → IsBefore p q → IsBefore t q → orient p q t ≤ℤ pos 0
+-- inwards of the line pq and before q, where p is less far than q: less far than q
+pub goes : (side : Side) (d p q t : Pair) → Faces side d → IsBefore p q → IsBefore t q → pos 0 ≤ℤ turn side p q t
     → product d p <ℤ product d q → product d t <ℤ product d q
-goes_up d p q t up pq tq o f =
+goes side d p q t faces pq tq o f =
     elim (le_or_lt (product d q) (product d t)) [
       | inr k ↦ k
-      | inl k ↦
-          let b : product d q ≤ℤ product d p =
-          no_farther d p q (rises d (minus q t) (minus q p) up (ahead_of t q tq) (ahead_of p q pq)
-          (let e = side_at_end p q t in omega (arith, ints)) (step_back d t q k)) in
-          absurd (omega (arith, ints))
-    ]
-
--- over the line pq and after p, where d does not go up and q is no farther than p: no farther than p
-pub stays_down : (d p q t : Pair) → d.y ≤ℤ pos 0 → IsBefore p q → IsBefore p t → pos 0 ≤ℤ orient p q t
-    → product d q ≤ℤ product d p → product d t ≤ℤ product d p
-stays_down d p q t down pq pt o f =
-    no_farther d p t (falls d (minus q p) (minus t p) down (ahead_of p q pq) (ahead_of p t pt)
-    (let e = side_at_start p q t in omega (arith, ints)) (step_back d p q f))
-
--- over the line pq and before q, where d does not go up and p is less far than q: less far than q
-pub goes_down : (d p q t : Pair) → d.y ≤ℤ pos 0 → IsBefore p q → IsBefore t q → pos 0 ≤ℤ orient p q t
-    → product d p <ℤ product d q → product d t <ℤ product d q
-goes_down d p q t down pq tq o f =
-    elim (le_or_lt (product d q) (product d t)) [
-      | inr k ↦ k
-      | inl k ↦
-          let b : product d q ≤ℤ product d p =
-          no_farther d p q (falls d (minus q t) (minus q p) down (ahead_of t q tq) (ahead_of p q pq)
-          (let e = side_at_end p q t in let s = cross_swap (minus q t) (minus q p) in omega (arith, ints))
-          (step_back d t q k)) in
-          absurd (omega (arith, ints))
+      | inl k ↦ absurd (less_not_le _ _ f
+          (no_farther d p q (no_gain side d (minus q t) (minus q p) faces (ahead_of t q tq) (ahead_of p q pq)
+          (at_least _ _ (turn_back side p q t) o) (step_back d t q k))))
     ]

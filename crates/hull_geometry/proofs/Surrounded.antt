@@ -23,20 +23,12 @@ sides fy A B c x y hc hA hB hx hy e =
 -- the products of two vectors, by their cross product
 flat_by : (f a b : Pair) → b.x *ℤ product f a ≡ a.x *ℤ product f b -ℤ f.y *ℤ cross a b
 unfolding product
-flat_by f a b = rw (
-  as_pair f,
-  as_pair a,
-  as_pair b,
-) (simp difference_rules (difference-eq _ _ _ _ (omega arith)))
+flat_by f a b = rw (as_pair f, as_pair a, as_pair b) (simp difference_rules (difference-eq _ _ _ _ (omega arith)))
 
 -- the same from the other
 flat_back : (f a b : Pair) → a.x *ℤ product f b ≡ b.x *ℤ product f a -ℤ neg_ℤ f.y *ℤ cross a b
 unfolding product
-flat_back f a b = rw (
-  as_pair f,
-  as_pair a,
-  as_pair b,
-) (simp difference_rules (difference-eq _ _ _ _ (omega arith)))
+flat_back f a b = rw (as_pair f, as_pair a, as_pair b) (simp difference_rules (difference-eq _ _ _ _ (omega arith)))
 
 -- a vector behind has no first component above 0
 behind_np : (u : Pair) → Ahead (opp u) → u.x ≤ℤ pos 0

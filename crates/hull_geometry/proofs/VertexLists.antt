@@ -1,15 +1,18 @@
 -- A lower chain from the first point to the last and an upper chain back make the vertex list.
 use Rattle.std.proofs.Common.{◌≡◌, ◌⊎◌, inl, inr, refl, sym, subst, List, arith, zero, suc, [], ◌∷◌, ◌++◌, ◌≢◌}
 use Rattle.std.specs.List.{All, Contains, AllPairs}
-use Rattle.std.proofs.lemmas.List.Elements.{All-contains, All-weaker, All-cons, All-tail, Contains-append_left}
+use Rattle.std.proofs.lemmas.List.Elements.{All-contains, All-weaker, All-cons, Contains-append_left}
 use Rattle.std.proofs.lemmas.List.Elements.{Contains-append_right, Contains-append_cases}
 use Rattle.lattice.specs.Covers.{IsPointSet, IsExtreme}
 use Rattle.lattice.specs.Plane.{Pair, IsBefore}
 use Rattle.lattice.specs.Vertices.{GoesRound, IsVertexList}
-use Rattle.hull_geometry.specs.Edges.{IsLowerEdge, IsUpperEdge, IsChain, end_of, IsFirst, IsLast}
-use Rattle.hull_geometry.proofs.Chains.{extreme_on_chain, lower_extreme, upper_extreme, no_common_corner}
+use Rattle.hull_geometry.specs.Edges.{IsAlong, IsEdgeOn, IsLowerEdge, IsUpperEdge, IsChain, end_of, IsFirst, IsLast}
+use Rattle.lattice.specs.declared.side.Side.{Side}
+use Rattle.lattice.specs.declared.side.Side.TheVariants.{Lower, Upper}
+use Rattle.hull_geometry.proofs.Along.{along_trans}
+use Rattle.hull_geometry.proofs.Chains.{extreme_on_chain, lower_extreme, upper_rest_extreme, no_common_corner}
 use Rattle.lattice.proofs.Order.{before_trans, before_apart, after_apart}
-use Rattle.hull_geometry.proofs.PointLists.{all_append_right, left_part}
+use Rattle.hull_geometry.proofs.PointLists.{all_append_right, left_part, only_member}
 
 -- one more edge at the end of a chain
 pub chain_push : (E : Pair → Pair → Type 0) (u : Pair) (vs : List Pair) (w : Pair) → IsChain E u vs → E (end_of u vs) w
@@ -39,28 +42,22 @@ round_lower : (S : List Pair) (first last u : Pair) (ls ms : List Pair) → IsCh
 round_lower S first last u [] ms c e g = subst (λ (z : Pair). GoesRound S first z ms) (sym e) g
 round_lower S first last u (v ∷ ls) ms c e g = (c.0.left, round_lower S first last v ls ms c.1 e g)
 
--- the points of a lower chain stand after its start
-lower_above : (S : List Pair) (u : Pair) (ls : List Pair) → IsChain (IsLowerEdge S) u ls → All (IsBefore u) ls
-lower_above S u [] c = λ k d l. absurd (omega arith)
-lower_above S u (v ∷ ls) c =
-    All-cons (IsBefore u) v ls c.0.forward
-    (All-weaker (IsBefore v) (IsBefore u) (λ t b. before_trans u v t c.0.forward b) ls (lower_above S v ls c.1))
+-- the points of a chain come after its start
+chain_above : (side : Side) (S : List Pair) (u : Pair) (vs : List Pair) → IsChain (IsEdgeOn side S) u vs
+    → All (IsAlong side u) vs
+chain_above side S u [] c = λ k d l. absurd (omega arith)
+chain_above side S u (v ∷ vs) c =
+    All-cons (IsAlong side u) v vs c.0.along
+    (All-weaker (IsAlong side v) (IsAlong side u) (λ t b. along_trans side u v t c.0.along b) vs
+    (chain_above side S v vs c.1))
 
 -- the points of an upper chain to the first point stand after that point
 upper_above : (S : List Pair) (first u : Pair) (ms : List Pair) → IsChain (IsUpperEdge S) u (ms ++ first ∷ [])
     → IsBefore first u × All (IsBefore first) ms
-upper_above S first u [] c = (c.0.backward, λ k d l. absurd (omega arith))
+upper_above S first u [] c = (c.0.along, λ k d l. absurd (omega arith))
 upper_above S first u (v ∷ ms) c =
     let r = upper_above S first v ms c.1 in
-    (before_trans first v u r.0 c.0.backward, All-cons (IsBefore first) v ms r.0 r.1)
-
--- the points of an upper chain stand before its start
-upper_below : (S : List Pair) (u : Pair) (ms : List Pair) → IsChain (IsUpperEdge S) u ms → All (λ t. IsBefore t u) ms
-upper_below S u [] c = λ k d l. absurd (omega arith)
-upper_below S u (v ∷ ms) c =
-    All-cons (λ t. IsBefore t u) v ms c.0.backward
-    (All-weaker (λ t. IsBefore t v) (λ t. IsBefore t u) (λ t b. before_trans t v u b c.0.backward) ms
-    (upper_below S v ms c.1))
+    (before_trans first v u r.0 c.0.along, All-cons (IsBefore first) v ms r.0 r.1)
 
 -- no member stands there twice
 abbrev Apart : List Pair → Type 0
@@ -86,7 +83,7 @@ upper_ends S u (v ∷ ms) c = All-cons (λ t. (p : Pair) × IsUpperEdge S p t) v
 upper_apart : (S : List Pair) (u : Pair) (ms : List Pair) → IsChain (IsUpperEdge S) u ms → Apart ms
 upper_apart S u [] c = apart_none
 upper_apart S u (v ∷ ms) c =
-    apart_cons v ms (All-weaker (λ t. IsBefore t v) (λ t. v ≢ t) (λ t b. after_apart v t b) ms (upper_below S v ms c.1))
+    apart_cons v ms (All-weaker (IsAlong Upper v) (λ t. v ≢ t) (λ t b. after_apart v t b) ms (chain_above Upper S v ms c.1))
     (upper_apart S v ms c.1)
 
 -- a chain without its last edge
@@ -101,7 +98,7 @@ apart_both : (S : List Pair) (u last : Pair) (ls ms : List Pair) → IsChain (Is
 apart_both S u last [] ms lc uc = upper_apart S last ms uc
 apart_both S u last (v ∷ ls) ms lc uc =
     apart_cons v (ls ++ ms) (all_append_right (λ t. v ≢ t) ls ms
-    (All-weaker (IsBefore v) (λ t. v ≢ t) (λ t b. before_apart v t b) ls (lower_above S v ls lc.1))
+    (All-weaker (IsBefore v) (λ t. v ≢ t) (λ t b. before_apart v t b) ls (chain_above Lower S v ls lc.1))
     (All-weaker (λ t. (p : Pair) × IsUpperEdge S p t) (λ t. v ≢ t)
     (λ t q e. no_common_corner S u v q.0 lc.0 (subst (IsUpperEdge S q.0) (sym e) q.1)) ms
     (upper_ends S last ms uc)))
@@ -118,7 +115,7 @@ vertex_list S first last l ls ms s lc le uc hf hl =
     let extreme : All (IsExtreme S) (first ∷ ((l ∷ ls) ++ ms)) =
     all_append_right (IsExtreme S) (first ∷ (l ∷ ls)) ms all_lower all_upper in
     let low : All (IsBefore first) ((l ∷ ls) ++ ms) =
-    all_append_right (IsBefore first) (l ∷ ls) ms (lower_above S first (l ∷ ls) lc)
+    all_append_right (IsBefore first) (l ∷ ls) ms (chain_above Lower S first (l ∷ ls) lc)
     (upper_above S first last ms uc).1 in
     record {
       distinct = apart_cons first ((l ∷ ls) ++ ms)
@@ -135,20 +132,15 @@ vertex_list S first last l ls ms s lc le uc hf hl =
     upper_all : (ns : List Pair) → IsChain (IsUpperEdge S) last (ns ++ first ∷ []) → All (IsExtreme S) ns
     upper_all [] c = λ k d l. absurd (omega arith)
     upper_all (n ∷ ns) c =
-        left_part (IsExtreme S) (n ∷ ns) (first ∷ []) (All-tail (IsExtreme S) last ((n ∷ ns) ++ first ∷ [])
-        (upper_extreme S last n (ns ++ first ∷ []) s c hl
-        (λ t m b. hf t m (subst (IsBefore t) (end_push n ns first) b))))
+        left_part (IsExtreme S) (n ∷ ns) (first ∷ []) (upper_rest_extreme S last n (ns ++ first ∷ []) s c
+        (λ t m b. hf t m (subst (IsBefore t) (end_push n ns first) b)))
 
     last_in : Contains (first ∷ (l ∷ ls)) last
     last_in = subst (Contains (first ∷ (l ∷ ls))) le (end_contained first (l ∷ ls))
 
-    only_first : (p : Pair) → Contains (first ∷ []) p → first ≡ p
-    only_first p (zero, lt, e) = e
-    only_first p (suc k, lt, e) = absurd (omega (arith, lt))
-
     back : (p : Pair) → Contains ms p ⊎ Contains (first ∷ []) p → Contains (first ∷ ((l ∷ ls) ++ ms)) p
     back p (inl m) = Contains-append_right (first ∷ (l ∷ ls)) ms p m
-    back p (inr m) = (0, omega arith, only_first p m)
+    back p (inr m) = (0, omega arith, sym (only_member first p m))
 
     on_upper : (p : Pair) → Contains (last ∷ (ms ++ first ∷ [])) p → Contains (first ∷ ((l ∷ ls) ++ ms)) p
     on_upper p (zero, lt, e) =

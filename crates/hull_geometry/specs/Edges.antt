@@ -3,22 +3,29 @@ use Rattle.std.specs.List.{All, Contains}
 use Rattle.std.specs.Prelude.{◌≡◌, pos, List, [], ◌∷◌}
 use Rattle.lattice.specs.Plane.{Pair, orient, IsBefore}
 use Rattle.lattice.specs.Vertices.{IsLeftOf}
+use Rattle.lattice.specs.declared.side.Side.{Side}
+use Rattle.lattice.specs.declared.side.Side.TheVariants.{Lower, Upper}
 
--- no point of S lies right of the line from u forward to v, and none on that line lies beyond v
-pub record IsLowerEdge (S : List Pair) (u v : Pair) : Type 0 where
+-- u stands before v along the chain on this side, which goes back on the upper one
+abbrev pub IsAlong : Side → Pair → Pair → Type 0
+IsAlong Lower u v = IsBefore u v
+IsAlong Upper u v = IsBefore v u
+
+-- on this side, no point of S lies right of the line from u along to v, and none on that line lies beyond v
+pub record IsEdgeOn (side : Side) (S : List Pair) (u v : Pair) : Type 0 where
   pub from : Contains S u
   pub to : Contains S v
-  pub forward : IsBefore u v
+  pub along : IsAlong side u v
   pub left : IsLeftOf S u v
-  pub last : All (λ t. orient u v t ≡ pos 0 → ¬ (IsBefore v t)) S
+  pub last : All (λ t. orient u v t ≡ pos 0 → ¬ (IsAlong side v t)) S
 
--- the same from u back to v
-pub record IsUpperEdge (S : List Pair) (u v : Pair) : Type 0 where
-  pub from : Contains S u
-  pub to : Contains S v
-  pub backward : IsBefore v u
-  pub left : IsLeftOf S u v
-  pub last : All (λ t. orient u v t ≡ pos 0 → ¬ (IsBefore t v)) S
+-- such an edge goes forward on the lower side
+abbrev pub IsLowerEdge : List Pair → Pair → Pair → Type 0
+IsLowerEdge = IsEdgeOn Lower
+
+-- and back on the upper one
+abbrev pub IsUpperEdge : List Pair → Pair → Pair → Type 0
+IsUpperEdge = IsEdgeOn Upper
 
 -- from u along the list, each member and the next are related
 abbrev pub IsChain : (Pair → Pair → Type 0) → Pair → List Pair → Type 0

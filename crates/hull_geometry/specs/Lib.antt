@@ -1,7 +1,6 @@
 pub mod Tangents
+pub mod Hands
 pub mod Edges
 pub mod Positions
-pub mod Seen
-pub mod Walks
 pub mod Laws
 pub mod Sights

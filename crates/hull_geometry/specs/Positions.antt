@@ -1,6 +1,6 @@
 -- Where a point stands in a list of points in the order "before", or would stand.
 use Rattle.std.specs.List.{All}
-use Rattle.std.specs.Prelude.{◌≡◌, ℕ, pos, List, ◌<◌, ◌≤◌, length, take, drop, Result, Ok, Err, slice_index_or}
+use Rattle.std.specs.Prelude.{◌≡◌, ℕ, pos, List, ◌<◌, ◌≤◌, ◌-◌, length, take, drop, Result, Ok, Err, slice_index_or}
 use Rattle.lattice.specs.Plane.{Pair, IsBefore}
 
 -- p stands at i in S; or else it would stand there, between the points before it and those after it
@@ -15,3 +15,11 @@ origin = record { x = pos 0; y = pos 0 }
 -- the point of S at i; beyond the end, the origin
 abbrev pub point_at : List Pair → ℕ → Pair
 point_at S i = slice_index_or S i origin
+
+-- the point in the first place
+abbrev pub first_of : List Pair → Pair
+first_of S = point_at S 0
+
+-- the point in the last place
+abbrev pub last_of : List Pair → Pair
+last_of S = point_at S (length S - 1)

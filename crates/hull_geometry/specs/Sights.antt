@@ -6,39 +6,44 @@ use Rattle.lattice.specs.Covers.{Covers}
 use Rattle.lattice.specs.Places.{IsInside, IsOutside, IsOnBoundary}
 use Rattle.lattice.specs.declared.side.Side.{Side}
 use Rattle.lattice.specs.declared.side.Side.TheVariants.{Lower, Upper}
-use Rattle.hull_geometry.specs.Edges.{IsLowerEdge, IsUpperEdge, IsFirst, IsLast}
+use Rattle.lattice.specs.Turns.{turn}
+use Rattle.hull_geometry.specs.Edges.{IsAlong, IsEdgeOn, IsFirst, IsLast}
+use Rattle.hull_geometry.specs.Hands.{other_hand, IsOnHand, end_on}
+use Rattle.hull_geometry.specs.declared.hand.Hand.{Hand}
+use Rattle.hull_geometry.specs.declared.hand.Hand.TheVariants.{Left, Right}
 use Rattle.hull_geometry.specs.declared.sight.Sight.{Sight}
 use Rattle.hull_geometry.specs.declared.sight.Sight.TheVariants.{Before, After, Below, Above, Touching, Within}
 
+-- at q there is this edge on a side: from e.0, which is q or stands before it along the chain, to e.1 behind q
+pub record IsEdgeOnAt (side : Side) (S : List Pair) (q : Pair) (e : Pair × Pair) : Type 0 where
+  pub edge : IsEdgeOn side S e.0 e.1
+  pub starts : ¬ IsAlong side q e.0
+  pub onward : IsAlong side q e.1
+
 -- the lower edge from e.0 to e.1 begins at q, or before it, and ends after it
-pub record IsLowerEdgeAt (S : List Pair) (q : Pair) (e : Pair × Pair) : Type 0 where
-  pub edge : IsLowerEdge S e.0 e.1
-  pub starts : ¬ IsBefore q e.0
-  pub onward : IsBefore q e.1
+abbrev pub IsLowerEdgeAt : List Pair → Pair → Pair × Pair → Type 0
+IsLowerEdgeAt = IsEdgeOnAt Lower
 
 -- the upper edge from e.0 back to e.1 begins at q, or after it, and ends before it
-pub record IsUpperEdgeAt (S : List Pair) (q : Pair) (e : Pair × Pair) : Type 0 where
-  pub edge : IsUpperEdge S e.0 e.1
-  pub starts : ¬ IsBefore e.0 q
-  pub onward : IsBefore e.1 q
+abbrev pub IsUpperEdgeAt : List Pair → Pair → Pair × Pair → Type 0
+IsUpperEdgeAt = IsEdgeOnAt Upper
 
--- q lies below a lower edge
-abbrev pub IsBelowEdge : List Pair → Pair → Type 0
-IsBelowEdge S q = (c : Pair) × (d : Pair) × IsLowerEdge S c d × (orient c d q <ℤ pos 0)
+-- q lies right of an edge on this side: below a lower one, or above an upper one
+abbrev pub IsRightOfEdge : Side → List Pair → Pair → Type 0
+IsRightOfEdge side S q = (c : Pair) × (d : Pair) × IsEdgeOn side S c d × (orient c d q <ℤ pos 0)
 
--- q lies above an upper edge
-abbrev pub IsAboveEdge : List Pair → Pair → Type 0
-IsAboveEdge S q = (c : Pair) × (d : Pair) × IsUpperEdge S c d × (orient c d q <ℤ pos 0)
-
--- q is no point of S, and lies below each segment from a point of S before it to one after it
-pub record IsBelow (S : List Pair) (q : Pair) : Type 0 where
+-- q is no point of S, and lies outwards of each segment from a point of S before it to one after it
+pub record IsClear (side : Side) (S : List Pair) (q : Pair) : Type 0 where
   pub absent : ¬ Contains S q
-  pub under : (s t : Pair) → Contains S s → Contains S t → IsBefore s q → IsBefore q t → orient s t q <ℤ pos 0
+  pub outwards : (s t : Pair) → Contains S s → Contains S t → IsBefore s q → IsBefore q t → turn side s t q <ℤ pos 0
 
--- q is no point of S, and lies above each such segment
-pub record IsAbove (S : List Pair) (q : Pair) : Type 0 where
-  pub absent : ¬ Contains S q
-  pub over : (s t : Pair) → Contains S s → Contains S t → IsBefore s q → IsBefore q t → pos 0 <ℤ orient s t q
+-- outwards on the lower side is below
+abbrev pub IsBelow : List Pair → Pair → Type 0
+IsBelow = IsClear Lower
+
+-- and on the upper one above
+abbrev pub IsAbove : List Pair → Pair → Type 0
+IsAbove = IsClear Upper
 
 -- q stands after the first point and before the last
 abbrev pub IsBetweenEnds : Pair → Pair → Pair → Type 0
@@ -48,8 +53,8 @@ IsBetweenEnds first last q = IsBefore first q × IsBefore q last
 abbrev pub IsSightOf : Pair → Pair → List Pair → Pair → Sight → Type 0
 IsSightOf first last S q Before = IsBefore q first
 IsSightOf first last S q After = IsBefore last q
-IsSightOf first last S q Below = IsBetweenEnds first last q × IsBelowEdge S q
-IsSightOf first last S q Above = IsBetweenEnds first last q × IsAboveEdge S q
+IsSightOf first last S q Below = IsBetweenEnds first last q × IsRightOfEdge Lower S q
+IsSightOf first last S q Above = IsBetweenEnds first last q × IsRightOfEdge Upper S q
 IsSightOf first last S q Touching = IsOnBoundary S q
 IsSightOf first last S q Within = IsInside S q
 
@@ -69,19 +74,19 @@ IsSightBy lower upper Within = (pos 0 <ℤ lower) × (pos 0 <ℤ upper)
 abbrev pub AreEnds : List Pair → Pair → Pair → Type 0
 AreEnds S first last = (Contains S first × IsFirst S first) × (Contains S last × IsLast S last)
 
--- the left tangent from q touches the chain on this side
-abbrev pub SeesLeft : Side → Pair → Pair → List Pair → Pair → Type 0
-SeesLeft Lower first last S q = IsBelow S q × IsBefore first q
-SeesLeft Upper first last S q = IsAbove S q × IsBefore q last
+-- q stands inwards of the end of the chain on this side that lies on this hand of one who looks at the chain from there
+abbrev pub IsInwards : Hand → Side → Pair → Pair → Pair → Type 0
+IsInwards hand Lower first last q = IsOnHand hand (end_on hand (first, last)) q
+IsInwards hand Upper first last q = IsOnHand hand q (end_on (other_hand hand) (first, last))
 
--- the right one does
-abbrev pub SeesRight : Side → Pair → Pair → List Pair → Pair → Type 0
-SeesRight Lower first last S q = IsBelow S q × IsBefore q last
-SeesRight Upper first last S q = IsAbove S q × IsBefore first q
+-- the tangent from q on this hand touches the chain on this side
+abbrev pub IsOnChain : Hand → Side → Pair → Pair → List Pair → Pair → Type 0
+IsOnChain hand side first last S q = IsClear side S q × IsInwards hand side first last q
 
 -- q lies outside, and its left and its right tangent touch these chains
 abbrev pub AreTouched : Pair → Pair → List Pair → Pair → Side × Side → Type 0
-AreTouched first last S q sides = IsOutside S q × SeesLeft sides.0 first last S q × SeesRight sides.1 first last S q
+AreTouched first last S q sides =
+    IsOutside S q × IsOnChain Left sides.0 first last S q × IsOnChain Right sides.1 first last S q
 
 -- from this sight the tangents touch these chains, and with none S covers the point
 abbrev pub TellsChains : Sight → Option (Side × Side) → Type 0

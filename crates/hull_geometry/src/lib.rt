@@ -5,9 +5,11 @@
 //! [`Sight::tangent_chains`] run: from where a point looks at a hull, and which chains its tangents touch.
 #![tactic(auto)]
 
+mod hand;
 mod laws;
 mod sight;
 
+pub use hand::Hand;
 pub use laws::{
     doubled_area_is_unique, vertex_list_is_unique, with_point_adds_the_point,
     without_point_takes_the_point,

@@ -9,8 +9,8 @@ use Rattle.lattice.proofs.Vectors.{minus, cross, cross_swap, turn_trans, turn_tr
 use Rattle.lattice.proofs.Order.{before_trans}
 use Rattle.lattice.proofs.LineCrossings.{orient_start, orient_end}
 use Rattle.lattice.proofs.Numbers.{nn_zero}
-use Rattle.hull_geometry.proofs.Orientation.{orient-cross, orient_at_end, orient_swap, above, at_least, ahead_of}
-use Rattle.lattice.proofs.Sides.{side_before, side_more, side_less}
+use Rattle.hull_geometry.proofs.Orientation.{orient-cross, orient_swap, above, at_least, ahead_of}
+use Rattle.lattice.proofs.Sides.{side_after, side_before, side_more, side_less}
 use Rattle.lattice.proofs.Numbers.{nn_above}
 
 -- g from 0 to m ascends and turns left
@@ -32,7 +32,7 @@ later_after g m i j c h l = ascended g m (j - i - 1) i j c (omega (arith, h)) l
 -- the next step turns left
 next_turns : (g : ℕ → Pair) (m i j k : ℕ) → IsConvex g m → j ≡ i + 1 → k ≡ j + 1 → k ≤ m
     → pos 0 <ℤ cross (minus (g j) (g i)) (minus (g k) (g j))
-next_turns g m i j k c e f l = above _ _ (sym (orient_at_end (g i) (g j) (g k))) (c.turns i j k e f l)
+next_turns g m i j k c e f l = above _ _ (side_after (g i) (g j) (g k)) (c.turns i j k e f l)
 
 -- each later step does
 turned_by : (g : ℕ → Pair) (m d i j u v : ℕ) → IsConvex g m → j ≡ i + 1 → u ≡ j + d → v ≡ u + 1 → v ≤ m
@@ -100,7 +100,7 @@ not_right u v t (inr (inr e)) = nn_zero _ (ap (orient u v) e ∙ orient_end u v)
 -- a point between the first and the last lies right of their line
 pub inner_below : (g : ℕ → Pair) (m j : ℕ) → IsConvex g m → 0 < j → j < m → pos 0 <ℤ orient (g 0) (g j) (g m)
 inner_below g m j c h l =
-    above _ _ (orient_at_end (g 0) (g j) (g m))
+    above _ _ (sym (side_after (g 0) (g j) (g m)))
     (turn_trans_strict (minus (g j) (g 0)) (minus (g (j + 1)) (g j)) (minus (g m) (g j))
     (ahead_of (g 0) (g j) (later_after g m 0 j c h (omega (arith, l))))
     (ahead_of (g j) (g (j + 1)) (c.ascends j (j + 1) (omega arith) (omega (arith, l))))
@@ -116,7 +116,7 @@ pub over_all : (u v first last t : Pair) → IsBefore u v → IsBefore first t �
 over_all u v first last t uv ft tl hf hl over =
     elim (le_or_lt (orient u v t) (pos 0)) [
       | inr k ↦ k
-      | inl k ↦ absurd (clash _ _ _ (orient_at_end first t last) (orient_swap first t last)
+      | inl k ↦ absurd (clash _ _ _ (sym (side_after first t last)) (orient_swap first t last)
           (turn_trans (minus t first) (minus v u) (minus last t) (ahead_of first t ft) (ahead_of u v uv)
           (ahead_of t last tl)
           (rises _ _ _ _ (side_more u v first t) (cross_swap (minus v u) (minus t first)) hf k)

@@ -12,7 +12,7 @@ use Rattle.lattice.specs.Signs.{product_nn}
 use Rattle.lattice.proofs.Vectors.{as_pair, minus}
 use Rattle.hull_geometry.specs.Positions.{origin}
 use Rattle.hull_geometry.proofs.Decided.{covers_or_separated}
-use Rattle.hull_geometry.proofs.PointLists.{AllPairs-none}
+use Rattle.hull_geometry.proofs.PointLists.{AllPairs-none, later}
 use Rattle.hull_geometry.proofs.SetLaws.{ordered_with, members_with}
 use Rattle.hull_outline.specs.Meetings.{IsApart}
 use Rattle.hull_outline.proofs.NearestOf.{step_back}
@@ -76,10 +76,6 @@ differences_have (u ∷ us) T s t (suc i, l, e) mt =
 abbrev IsDifference : List Pair → List Pair → Pair → Type 0
 IsDifference S T x = (s : Pair) × (t : Pair) × Contains S s × Contains T t × (x ≡ minus s t)
 
--- one more point in front
-later : (u : Pair) (us : List Pair) (s : Pair) → Contains us s → Contains (u ∷ us) s
-later u us s (i, l, e) = (suc i, omega (arith, l), e)
-
 -- what is there is a difference from s, or was there
 from_one_only : (s : Pair) (T D : List Pair) (x : Pair) → Contains (from_one s T D) x
     → ((t : Pair) × Contains T t × (x ≡ minus s t)) ⊎ Contains D x
@@ -88,7 +84,7 @@ from_one_only s [] D x m = inr m
 from_one_only s (t ∷ ts) D x m = elim ((members_with (minus s t) x (from_one s ts D)).0 m) [
   | inl e ↦ inl (t, (0, omega arith, refl), e)
   | inr k ↦ elim (from_one_only s ts D x k) [
-    | inl r ↦ inl (r.0, later t ts r.0 r.1, r.2)
+    | inl r ↦ inl (r.0, later t r.0 ts r.1, r.2)
     | inr d ↦ inr d
   ]
 ]
@@ -99,7 +95,7 @@ unfolding differences
 differences_only [] T x (i, l, e) = absurd (omega (arith, l))
 differences_only (u ∷ us) T x m = elim (from_one_only u T (differences us T) x m) [
   | inl r ↦ (u, r.0, (0, omega arith, refl), r.1, r.2)
-  | inr d ↦ let r = differences_only us T x d in (r.0, r.1, later u us r.0 r.2, r.3, r.4)
+  | inr d ↦ let r = differences_only us T x d in (r.0, r.1, later u r.0 us r.2, r.3, r.4)
 ]
 
 -- ---- a point in common, by weights

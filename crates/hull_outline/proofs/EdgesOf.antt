@@ -1,21 +1,21 @@
 -- The edges between extreme points, and how two of them meet.
-use Rattle.std.proofs.Common.{◌≡◌, pos, ◌≤ℤ◌, ◌<ℤ◌, neg_ℤ, List, inl, inr, sym, ap, ◌∙◌, arith}
+use Rattle.std.proofs.Common.{◌≡◌, pos, ◌≤ℤ◌, neg_ℤ, List, ap, ◌∙◌, arith}
 use Rattle.std.specs.List.{Contains}
 use Rattle.std.proofs.lemmas.Int.{ints}
 use Rattle.std.proofs.lemmas.List.Elements.{All-contains}
 use Rattle.lattice.specs.Covers.{IsExtreme, OnSegment}
 use Rattle.lattice.specs.Plane.{Pair, orient, IsBefore}
-use Rattle.lattice.specs.Signs.{le_or_lt}
 use Rattle.lattice.specs.Vertices.{IsLeftOf}
 use Rattle.lattice.proofs.Order.{before_apart, after_apart}
 use Rattle.lattice.proofs.Vectors.{minus, cross, cross_swap, Ahead, turn_trans}
-use Rattle.hull_geometry.specs.Edges.{IsLowerEdge, IsUpperEdge, IsFirst, IsLast}
+use Rattle.hull_geometry.specs.Edges.{IsAlong, IsEdgeOn, IsLowerEdge, IsUpperEdge, IsFirst, IsLast}
+use Rattle.lattice.specs.declared.side.Side.{Side}
+use Rattle.lattice.specs.declared.side.Side.TheVariants.{Lower, Upper}
 use Rattle.hull_geometry.proofs.ChangedSets.{in_without}
 use Rattle.hull_geometry.proofs.CoveredByEdges.{on_segment}
 use Rattle.hull_geometry.proofs.PointLists.{all_of}
-use Rattle.hull_geometry.proofs.Orientation.{orient_other, orient_swap_zero, orient_at_end, at_least, ahead_of}
-use Rattle.lattice.proofs.Sides.{side_before, side_to_end, side_back, side_beyond, side_over}
-use Rattle.lattice.proofs.Numbers.{zero_between}
+use Rattle.hull_geometry.proofs.Orientation.{orient_other, orient_swap_zero, at_least, ahead_of}
+use Rattle.lattice.proofs.Sides.{side_before, side_after, side_to_end, side_back, side_beyond, side_over}
 
 -- an extreme point does not lie on a segment between two others
 not_within : (S : List Pair) (a v b : Pair) → Contains S a → IsExtreme S v → Contains S b → IsBefore a v → IsBefore v b
@@ -28,47 +28,20 @@ not_within S a v b ma ev mb av vb z =
 pub other_line : (p r q : Pair) → orient p r q ≡ pos 0 → orient r p q ≡ pos 0
 other_line p r q z = orient_other p r q ∙ ap neg_ℤ z
 
--- forward to an extreme point that has all of S on the left of the line: a lower edge
-pub edge_forward : (S : List Pair) (u v : Pair) → Contains S u → IsExtreme S v → IsLeftOf S u v → IsBefore u v
-    → IsLowerEdge S u v
-edge_forward S u v mu ev h b = record {
+-- along a side to an extreme point that has all of S on the left of the line: an edge there
+pub edge_along : (side : Side) (S : List Pair) (u v : Pair) → Contains S u → IsExtreme S v → IsLeftOf S u v
+    → IsAlong side u v → IsEdgeOn side S u v
+edge_along side S u v mu ev h b = record {
   from = mu;
   to = ev.0;
-  forward = b;
+  along = b;
   left = h;
-  last = all_of (λ t. orient u v t ≡ pos 0 → ¬ (IsBefore v t)) S
-      (λ t m z k. not_within S u v t mu ev m b k (other_line u v t z));
+  last = all_of (λ t. orient u v t ≡ pos 0 → ¬ (IsAlong side v t)) S (λ t m z k. inner side t m z b k);
 }
-
--- back to it: an upper edge
-pub edge_back : (S : List Pair) (u v : Pair) → Contains S u → IsExtreme S v → IsLeftOf S u v → IsBefore v u
-    → IsUpperEdge S u v
-edge_back S u v mu ev h b = record {
-  from = mu;
-  to = ev.0;
-  backward = b;
-  left = h;
-  last = all_of (λ t. orient u v t ≡ pos 0 → ¬ (IsBefore t v)) S
-      (λ t m z k. not_within S t v u m ev mu k b (orient_swap_zero v u t (other_line u v t z)));
-}
-
--- two lower edges in a row turn left
-pub lower_turns : (S : List Pair) (u v w : Pair) → IsLowerEdge S u v → IsLowerEdge S v w → pos 0 <ℤ orient u v w
-lower_turns S u v w e f =
-    elim (le_or_lt (orient u v w) (pos 0)) [
-      | inr k ↦ k
-      | inl k ↦ absurd (All-contains (λ t. orient u v t ≡ pos 0 → ¬ (IsBefore v t)) S w e.last f.to
-          (zero_between _ (All-contains (λ t. pos 0 ≤ℤ orient u v t) S w e.left f.to) k) f.forward)
-    ]
-
--- and so do two upper edges
-pub upper_turns : (S : List Pair) (u v w : Pair) → IsUpperEdge S u v → IsUpperEdge S v w → pos 0 <ℤ orient u v w
-upper_turns S u v w e f =
-    elim (le_or_lt (orient u v w) (pos 0)) [
-      | inr k ↦ k
-      | inl k ↦ absurd (All-contains (λ t. orient u v t ≡ pos 0 → ¬ (IsBefore t v)) S w e.last f.to
-          (zero_between _ (All-contains (λ t. pos 0 ≤ℤ orient u v t) S w e.left f.to) k) f.backward)
-    ]
+  where
+    inner : (side : Side) (t : Pair) → Contains S t → orient u v t ≡ pos 0 → IsAlong side u v → ¬ (IsAlong side v t)
+    inner Lower t m z b k = not_within S u v t mu ev m b k (other_line u v t z)
+    inner Upper t m z b k = not_within S t v u m ev mu k b (orient_swap_zero v u t (other_line u v t z))
 
 -- three vectors ahead, each not right of the next one round, are in line
 in_line : (a b c : Pair) → Ahead a → Ahead b → Ahead c → pos 0 ≤ℤ cross a c → pos 0 ≤ℤ cross c b → pos 0 ≤ℤ cross b a
@@ -80,7 +53,7 @@ pub first_between : (S : List Pair) (u v w : Pair) → IsUpperEdge S u v → IsL
 first_between S u v w e f t m b =
     All-contains (λ t. orient u v t ≡ pos 0 → ¬ (IsBefore t v)) S t e.last m
     (side_beyond u v t
-    ∙ in_line (minus u v) (minus w v) (minus v t) (ahead_of v u e.backward) (ahead_of v w f.forward) (ahead_of t v b)
+    ∙ in_line (minus u v) (minus w v) (minus v t) (ahead_of v u e.along) (ahead_of v w f.along) (ahead_of t v b)
     (at_least _ _ (side_beyond u v t) (All-contains (λ t. pos 0 ≤ℤ orient u v t) S t e.left m))
     (at_least _ _ (side_before v w t) (All-contains (λ t. pos 0 ≤ℤ orient v w t) S t f.left m))
     (at_least _ _ (side_back u v w) (All-contains (λ t. pos 0 ≤ℤ orient u v t) S w e.left f.to))) b
@@ -89,8 +62,8 @@ first_between S u v w e f t m b =
 pub last_between : (S : List Pair) (u v w : Pair) → IsLowerEdge S u v → IsUpperEdge S v w → IsLast S v
 last_between S u v w e f t m b =
     All-contains (λ t. orient u v t ≡ pos 0 → ¬ (IsBefore v t)) S t e.last m
-    (sym (orient_at_end u v t)
-    ∙ in_line (minus v u) (minus v w) (minus t v) (ahead_of u v e.forward) (ahead_of w v f.backward) (ahead_of v t b)
-    (at_least _ _ (sym (orient_at_end u v t)) (All-contains (λ t. pos 0 ≤ℤ orient u v t) S t e.left m))
+    (side_after u v t
+    ∙ in_line (minus v u) (minus v w) (minus t v) (ahead_of u v e.along) (ahead_of w v f.along) (ahead_of v t b)
+    (at_least _ _ (side_after u v t) (All-contains (λ t. pos 0 ≤ℤ orient u v t) S t e.left m))
     (at_least _ _ (side_over v w t) (All-contains (λ t. pos 0 ≤ℤ orient v w t) S t f.left m))
     (at_least _ _ (side_to_end u v w) (All-contains (λ t. pos 0 ≤ℤ orient u v t) S w e.left f.to))) b

@@ -1,17 +1,22 @@
 -- The first corner is the first point of the set, and the corner at `last` the last one.
-use Rattle.std.proofs.Common.{◌≡◌, ℕ, ◌<◌, List, [], ◌∷◌, length, ◌-◌, refl, inl, inr, sym, ap, ◌∙◌, subst, arith}
+use Rattle.std.proofs.Common.{◌≡◌, ℕ, ◌+◌, ◌≤◌, ◌<◌, ◌⊎◌, List, [], ◌∷◌, length, ◌-◌, refl, inl, inr, sym, ap, ◌∙◌, subst, arith}
 use Rattle.std.specs.List.{Contains}
 use Rattle.std.proofs.lemmas.Bool.{cases_lt}
 use Rattle.std.proofs.lemmas.List.Elements.{Contains-get_or}
 use Rattle.lattice.specs.Covers.{IsExtreme}
-use Rattle.lattice.specs.Plane.{Pair}
-use Rattle.hull_geometry.specs.Edges.{IsFirst, IsLast}
+use Rattle.lattice.specs.Plane.{Pair, IsBefore}
+use Rattle.hull_geometry.specs.Edges.{IsAlong, IsEdgeOn, IsFirst, IsLast}
 use Rattle.hull_geometry.specs.Positions.{origin, point_at}
 use Rattle.hull_geometry.proofs.Chains.{first_extreme, last_extreme}
 use Rattle.hull_geometry.proofs.Rounding.{least, greatest, first_there}
 use Rattle.hull_outline.specs.Outlines.{IsOutlineOf}
 use Rattle.hull_outline.specs.Rounds.{corner, IsParted}
-use Rattle.hull_outline.proofs.Corners.{corner_extreme, corner_of}
+use Rattle.hull_outline.proofs.Corners.{corner_back, corner_extreme, corner_of}
+use Rattle.hull_outline.specs.Touches.{starts_at, ends_at}
+use Rattle.lattice.specs.declared.side.Side.{Side}
+use Rattle.lattice.specs.declared.side.Side.TheVariants.{Lower, Upper}
+use Rattle.lattice.proofs.Order.{equal_by}
+use Rattle.hull_geometry.proofs.Along.{along_apart}
 use Rattle.hull_outline.proofs.Rings.{IsRing, ring_of}
 
 -- the only corner is each extreme point
@@ -53,4 +58,60 @@ ends_of S V last o p n = elim (cases_lt 1 (length V)) [
             ∙ ap (corner V) (sym at))
             (greatest S o.0),
       )
+]
+
+-- no point comes before the start of a chain along its side
+none_before : (side : Side) (S V : List Pair) (last : ℕ) → IsOutlineOf S V → IsParted V last → 0 < length V → (t : Pair)
+    → Contains S t → ¬ (IsAlong side t (corner V (starts_at side last)))
+none_before Lower S V last o p n = (ends_of S V last o p n).0
+none_before Upper S V last o p n = (ends_of S V last o p n).1
+
+-- nor after its end
+none_behind : (side : Side) (S V : List Pair) (last : ℕ) → IsOutlineOf S V → IsParted V last → 0 < length V → (t : Pair)
+    → Contains S t → ¬ (IsAlong side (corner V (ends_at side V last)) t)
+none_behind Lower S V last o p n t m = (ends_of S V last o p n).1 t m
+none_behind Upper S V last o p n t m =
+    λ b. (ends_of S V last o p n).0 t m (subst (IsBefore t) (corner_back V (length V) (omega arith) n) b)
+
+-- a single corner is each point
+pub alone : (S V : List Pair) (last at : ℕ) (t : Pair) → IsOutlineOf S V → IsParted V last → 0 < length V → length V ≤ 1
+    → Contains S t → t ≡ corner V at
+alone S V last at t o p n one m =
+    let ends : IsFirst S (corner V 0) × IsLast S (corner V last) = ends_of S V last o p n in
+    let same : corner V last ≡ corner V 0 = ap (corner V) (omega (arith, one, p.0 n)) in
+    equal_by t (corner V 0) (ends.0 t m) (λ b. ends.1 t m (subst (λ (z : Pair). IsBefore z t) (sym same) b))
+    ∙ elim (cases_lt at (length V)) [
+      | inl h ↦ ap (corner V) (omega (arith, h, one))
+      | inr h ↦ sym (corner_back V at h n)
+    ]
+
+-- to a corner of a chain goes an edge along its side, or nothing comes before it
+pub edge_to : (side : Side) (S V : List Pair) (last at : ℕ) → IsOutlineOf S V → IsParted V last → 0 < length V
+    → starts_at side last ≤ at → at ≤ ends_at side V last
+    → ((t : Pair) → Contains S t → ¬ (IsAlong side t (corner V at)))
+    ⊎ ((starts_at side last < at) × IsEdgeOn side S (corner V (at - 1)) (corner V at))
+edge_to side S V last at o p n l u = elim (cases_lt (starts_at side last) at) [
+  | inr k ↦ inl (subst (λ (i : ℕ). (t : Pair) → Contains S t → ¬ (IsAlong side t (corner V i))) (omega (arith, k, l))
+      (none_before side S V last o p n))
+  | inl k ↦ elim (cases_lt 1 (length V)) [
+    | inl two ↦ inr (
+      k,
+      (ring_of S V last o (p.1 two)).edge side (at - 1) at (omega (arith, k)) (omega (arith, k)) (omega (arith, k, u)),
+    )
+    | inr one ↦ inl (λ t m b. along_apart side t (corner V at) b (alone S V last at t o p n one m))
+  ]
+]
+
+-- and from it goes one, or nothing comes after it
+pub edge_from : (side : Side) (S V : List Pair) (last at : ℕ) → IsOutlineOf S V → IsParted V last → 0 < length V
+    → starts_at side last ≤ at → at ≤ ends_at side V last
+    → ((t : Pair) → Contains S t → ¬ (IsAlong side (corner V at) t))
+    ⊎ ((at < ends_at side V last) × IsEdgeOn side S (corner V at) (corner V (at + 1)))
+edge_from side S V last at o p n l u = elim (cases_lt at (ends_at side V last)) [
+  | inr k ↦ inl (subst (λ (i : ℕ). (t : Pair) → Contains S t → ¬ (IsAlong side (corner V i) t)) (omega (arith, k, u))
+      (none_behind side S V last o p n))
+  | inl k ↦ elim (cases_lt 1 (length V)) [
+    | inl two ↦ inr (k, (ring_of S V last o (p.1 two)).edge side at (at + 1) refl l k)
+    | inr one ↦ inl (λ t m b. along_apart side (corner V at) t b (sym (alone S V last at t o p n one m)))
+  ]
 ]

@@ -11,7 +11,6 @@ pub mod FarthestOf
 pub mod EdgesAt
 pub mod Tests
 pub mod Triangles
-pub mod Touching
 pub mod TangentsOf
 pub mod Parted
 pub mod Turns

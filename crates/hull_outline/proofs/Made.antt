@@ -8,7 +8,8 @@ use Rattle.lattice.specs.Vertices.{IsLeftOf, GoesRound, IsInOrder}
 use Rattle.lattice.proofs.Order.{before_irrefl, before_not, before_apart}
 use Rattle.lattice.proofs.TurnedBridges.{turned_twice}
 use Rattle.hull_geometry.specs.Edges.{IsUpperEdge, IsFirst}
-use Rattle.hull_geometry.proofs.Chains.{first_extreme, last_extreme, lower_corner, upper_corner, no_common_corner}
+use Rattle.hull_geometry.proofs.Chains.{first_extreme, last_extreme, edge_corner, no_common_corner}
+use Rattle.lattice.specs.declared.side.Side.TheVariants.{Lower, Upper}
 use Rattle.hull_geometry.proofs.PointLists.{get_or_free}
 use Rattle.hull_geometry.proofs.Rounding.{small_list}
 use Rattle.hull_outline.specs.Outlines.{IsOutline}
@@ -18,7 +19,7 @@ use Rattle.hull_outline.proofs.Corners.{corner_there, corner_of}
 use Rattle.hull_outline.proofs.EdgesOf.{last_between}
 use Rattle.hull_outline.proofs.TwoChains.{after_start}
 use Rattle.hull_outline.proofs.RoundChains.{behind, renumbered, front_convex, behind_convex, behind_front}
-use Rattle.hull_outline.proofs.MadeEdges.{set_of, set_ordered, set_among, set_all, of_corners, made_ahead, made_back}
+use Rattle.hull_outline.proofs.MadeEdges.{set_of, set_ordered, set_among, set_all, of_corners, made_edge}
 
 -- each later corner stands after the first
 after_first : (V : List Pair) (top k : ℕ) → IsRound V top → 0 < k → k < length V → IsBefore (corner V 0) (corner V k)
@@ -45,17 +46,18 @@ made_extreme V top k r n = elim (cases_lt 0 k) [
       (first_extreme (set_of V) (corner V 0) (set_ordered V)
       (set_all V (corner V 0) (corner_there V 0 (omega (arith, n)))) (made_first V top r))
   | inl p ↦ elim (cases_lt k top) [
-    | inl h ↦ lower_corner (set_of V) (corner V (k - 1)) (corner V k) (corner V (k + 1)) (set_ordered V)
-        (made_ahead V top (k - 1) k r (omega (arith, p)) (omega (arith, h))) (made_ahead V top k (k + 1) r refl h)
+    | inl h ↦ edge_corner Lower (set_of V) (corner V (k - 1)) (corner V k) (corner V (k + 1)) (set_ordered V)
+        (made_edge Lower V top (k - 1) k r (omega (arith, p)) (omega arith) (omega (arith, h)))
+        (made_edge Lower V top k (k + 1) r refl (omega arith) h)
     | inr h ↦ elim (cases_lt top k) [
-      | inl q ↦ upper_corner (set_of V) (corner V (k - 1)) (corner V k) (corner V (k + 1)) (set_ordered V)
-          (made_back V top (k - 1) k r (omega (arith, p)) (omega (arith, q)) (omega (arith, n)))
-          (made_back V top k (k + 1) r refl h n)
+      | inl q ↦ edge_corner Upper (set_of V) (corner V (k - 1)) (corner V k) (corner V (k + 1)) (set_ordered V)
+          (made_edge Upper V top (k - 1) k r (omega (arith, p)) (omega (arith, q)) (omega (arith, n)))
+          (made_edge Upper V top k (k + 1) r refl h n)
       | inr q ↦ last_extreme (set_of V) (corner V k) (set_ordered V)
           (set_all V (corner V k) (corner_there V k (omega (arith, n))))
           (last_between (set_of V) (corner V (k - 1)) (corner V k) (corner V (k + 1))
-          (made_ahead V top (k - 1) k r (omega (arith, p)) (omega (arith, p, h, q)))
-          (made_back V top k (k + 1) r refl h n))
+          (made_edge Lower V top (k - 1) k r (omega (arith, p)) (omega arith) (omega (arith, p, h, q)))
+          (made_edge Upper V top k (k + 1) r refl h n))
     ]
   ]
 ]
@@ -69,9 +71,9 @@ made_apart V top i j r h n e = elim (cases_lt top j) [
         (renumbered V (λ z. z ≡ corner V j) i 0 (omega (arith, p)) e)
     | inl p ↦ elim (cases_lt top i) [
       | inr q ↦ no_common_corner (set_of V) (corner V (i - 1)) (corner V i) (corner V (j - 1))
-          (made_ahead V top (i - 1) i r (omega (arith, p)) (omega (arith, p, q)))
+          (made_edge Lower V top (i - 1) i r (omega (arith, p)) (omega arith) (omega (arith, p, q)))
           (subst (IsUpperEdge (set_of V) (corner V (j - 1))) (sym e)
-          (made_back V top (j - 1) j r (omega (arith, h)) (omega (arith, k)) (omega (arith, n))))
+          (made_edge Upper V top (j - 1) j r (omega (arith, h)) (omega (arith, k)) (omega (arith, n))))
       | inl q ↦ before_apart (behind V top (i - top)) (behind V top (j - top))
           (later_after (behind V top) (length V - top) (i - top) (j - top) (behind_convex V top r)
           (omega (arith, h, q)) (omega (arith, n)))
@@ -95,7 +97,7 @@ round_from S first u (v ∷ rest) h = (
 made_left : (V : List Pair) (top i j : ℕ) → IsRound V top → j ≡ i + 1 → i < length V
     → IsLeftOf (set_of V) (corner V i) (corner V j)
 made_left V top i j r e l = elim (cases_lt i top)
-    [ inl h ↦ (made_ahead V top i j r e h).left | inr h ↦ (made_back V top i j r e h l).left ]
+    [ inl h ↦ (made_edge Lower V top i j r e (omega arith) h).left | inr h ↦ (made_edge Upper V top i j r e h l).left ]
 
 -- from the first on
 made_order : (V W : List Pair) (top : ℕ) → V ≡ W → IsRound V top → IsInOrder (set_of V) W

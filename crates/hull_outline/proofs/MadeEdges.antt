@@ -5,15 +5,18 @@ use Rattle.std.specs.List.{Contains}
 use Rattle.std.proofs.lemmas.Int.{ints}
 use Rattle.lattice.specs.Covers.{IsPointSet, with_point}
 use Rattle.lattice.specs.Plane.{Pair, orient, IsBefore}
-use Rattle.lattice.proofs.Order.{before_irrefl, before_not}
-use Rattle.hull_geometry.specs.Edges.{IsLowerEdge, IsUpperEdge}
+use Rattle.lattice.specs.declared.side.Side.{Side}
+use Rattle.lattice.specs.declared.side.Side.TheVariants.{Lower, Upper}
+use Rattle.hull_geometry.specs.Edges.{IsAlong, IsEdgeOn}
+use Rattle.hull_geometry.proofs.Along.{along_not, along_apart}
 use Rattle.hull_geometry.proofs.PointLists.{AllPairs-none}
 use Rattle.hull_geometry.proofs.SetLaws.{ordered_with, members_with}
 use Rattle.hull_outline.specs.Rounds.{corner, IsRound}
 use Rattle.hull_outline.proofs.Convex.{IsLeftOrEnd, not_right}
 use Rattle.hull_outline.proofs.Corners.{corner_there, corner_of}
 use Rattle.hull_geometry.proofs.PointLists.{all_of}
-use Rattle.hull_outline.proofs.RoundChains.{renumbered, front_convex, left_ahead, left_back}
+use Rattle.hull_outline.proofs.RoundChains.{renumbered, left_ahead, left_back}
+use Rattle.hull_outline.specs.Touches.{starts_at, ends_at}
 
 -- ---- the set of the corners
 
@@ -53,47 +56,35 @@ ends_alone : (u v t : Pair) → IsLeftOrEnd u v t → orient u v t ≡ pos 0 →
 ends_alone u v t (inl h) z = absurd (omega (arith, ints))
 ends_alone u v t (inr e) z = e
 
--- from a corner forward to the next
-pub made_ahead : (V : List Pair) (top i j : ℕ) → IsRound V top → j ≡ i + 1 → i < top
-    → IsLowerEdge (set_of V) (corner V i) (corner V j)
-made_ahead V top i j r e l =
-    let b : IsBefore (corner V i) (corner V j) = (front_convex V top r).ascends i j e (omega (arith, e, l)) in
-    let side : (t : Pair) → Contains (set_of V) t → IsLeftOrEnd (corner V i) (corner V j) t =
-    of_corners V (IsLeftOrEnd (corner V i) (corner V j)) (λ k n. left_ahead V top i j k r e l n) in
+-- the step from a corner to the next goes along its side
+made_step : (side : Side) (V : List Pair) (top i j : ℕ) → IsRound V top → j ≡ i + 1 → starts_at side top ≤ i
+    → i < ends_at side V top → IsAlong side (corner V i) (corner V j)
+made_step Lower V top i j r e k l =
+    renumbered V (IsBefore (corner V i)) (i + 1) j (sym e) ((r.steps i (omega (arith, l, r.within))).0 l)
+made_step Upper V top i j r e k l = renumbered V (λ z. IsBefore z (corner V i)) (i + 1) j (sym e) ((r.steps i l).1 k)
+
+-- and has each corner on its left, or at one of its ends
+made_beside : (side : Side) (V : List Pair) (top i j k : ℕ) → IsRound V top → j ≡ i + 1 → starts_at side top ≤ i
+    → i < ends_at side V top → k < length V → IsLeftOrEnd (corner V i) (corner V j) (corner V k)
+made_beside Lower V top i j k r e f l n = left_ahead V top i j k r e l n
+made_beside Upper V top i j k r e f l n = left_back V top i j k r e f l n
+
+-- from a corner to the next goes an edge
+pub made_edge : (side : Side) (V : List Pair) (top i j : ℕ) → IsRound V top → j ≡ i + 1 → starts_at side top ≤ i
+    → i < ends_at side V top → IsEdgeOn side (set_of V) (corner V i) (corner V j)
+made_edge side V top i j r e f l =
+    let b : IsAlong side (corner V i) (corner V j) = made_step side V top i j r e f l in
+    let beside : (t : Pair) → Contains (set_of V) t → IsLeftOrEnd (corner V i) (corner V j) t =
+    of_corners V (IsLeftOrEnd (corner V i) (corner V j)) (λ k n. made_beside side V top i j k r e f l n) in
     record {
       from = set_all V (corner V i) (corner_there V i (omega (arith, r.within)));
       to = set_all V (corner V j) (corner_there V j (omega (arith, r.within)));
-      forward = b;
+      along = b;
       left = all_of (λ t. pos 0 ≤ℤ orient (corner V i) (corner V j) t) (set_of V)
-          (λ t m. not_right (corner V i) (corner V j) t (side t m));
-      last = all_of (λ t. orient (corner V i) (corner V j) t ≡ pos 0 → ¬ (IsBefore (corner V j) t)) (set_of V)
-          (λ t m z. elim (ends_alone (corner V i) (corner V j) t (side t m) z) [
-            | inl q ↦ λ k. before_not (corner V i) (corner V j) b (subst (IsBefore (corner V j)) q k)
-            | inr q ↦ λ k. before_irrefl (corner V j) (subst (IsBefore (corner V j)) q k)
-          ]);
-    }
-
--- the step back from a corner
-step_back : (V : List Pair) (top i j : ℕ) → IsRound V top → j ≡ i + 1 → top ≤ i → i < length V
-    → IsBefore (corner V j) (corner V i)
-step_back V top i j r e f l = renumbered V (λ z. IsBefore z (corner V i)) (i + 1) j (sym e) ((r.steps i l).1 f)
-
--- from a corner back to the next
-pub made_back : (V : List Pair) (top i j : ℕ) → IsRound V top → j ≡ i + 1 → top ≤ i → i < length V
-    → IsUpperEdge (set_of V) (corner V i) (corner V j)
-made_back V top i j r e f l =
-    let b : IsBefore (corner V j) (corner V i) = step_back V top i j r e f l in
-    let side : (t : Pair) → Contains (set_of V) t → IsLeftOrEnd (corner V i) (corner V j) t =
-    of_corners V (IsLeftOrEnd (corner V i) (corner V j)) (λ k n. left_back V top i j k r e f l n) in
-    record {
-      from = set_all V (corner V i) (corner_there V i (omega (arith, r.within)));
-      to = set_all V (corner V j) (corner_there V j (omega (arith, r.within)));
-      backward = b;
-      left = all_of (λ t. pos 0 ≤ℤ orient (corner V i) (corner V j) t) (set_of V)
-          (λ t m. not_right (corner V i) (corner V j) t (side t m));
-      last = all_of (λ t. orient (corner V i) (corner V j) t ≡ pos 0 → ¬ (IsBefore t (corner V j))) (set_of V)
-          (λ t m z. elim (ends_alone (corner V i) (corner V j) t (side t m) z) [
-            | inl q ↦ λ k. before_not (corner V j) (corner V i) b (subst (λ (y : Pair). IsBefore y (corner V j)) q k)
-            | inr q ↦ λ k. before_irrefl (corner V j) (subst (λ (y : Pair). IsBefore y (corner V j)) q k)
+          (λ t m. not_right (corner V i) (corner V j) t (beside t m));
+      last = all_of (λ t. orient (corner V i) (corner V j) t ≡ pos 0 → ¬ (IsAlong side (corner V j) t)) (set_of V)
+          (λ t m z. elim (ends_alone (corner V i) (corner V j) t (beside t m) z) [
+            | inl q ↦ λ k. along_not side (corner V i) (corner V j) b (subst (IsAlong side (corner V j)) q k)
+            | inr q ↦ λ k. along_apart side (corner V j) t k (sym q)
           ]);
     }

@@ -5,31 +5,28 @@ use Rattle.std.proofs.lemmas.Bool.{cases_lt}
 use Rattle.lattice.specs.Plane.{Pair, IsBefore}
 use Rattle.lattice.specs.Vertices.{IsVertexList}
 use Rattle.lattice.proofs.Order.{before_total}
-use Rattle.hull_geometry.specs.Edges.{IsLowerEdge, IsUpperEdge, IsFirst, IsLast}
+use Rattle.hull_geometry.specs.Edges.{IsAlong, IsEdgeOn, IsLowerEdge, IsUpperEdge, IsFirst, IsLast}
+use Rattle.hull_geometry.proofs.Chains.{edges_turn}
+use Rattle.lattice.specs.declared.side.Side.{Side}
+use Rattle.lattice.specs.declared.side.Side.TheVariants.{Lower, Upper}
 use Rattle.hull_outline.specs.Outlines.{IsOutlineOf}
 use Rattle.hull_outline.specs.Rounds.{corner, IsRound}
 use Rattle.hull_outline.proofs.Corners.{corner_back, corner_extreme, next_left, first_before, next_apart}
-use Rattle.hull_outline.proofs.EdgesOf.{edge_forward, edge_back, lower_turns, upper_turns, first_between, last_between}
+use Rattle.hull_outline.proofs.EdgesOf.{edge_along, first_between, last_between}
+use Rattle.hull_outline.specs.Touches.{starts_at, ends_at}
 
 -- the edges of S are those between the corners, and its ends are the first corner and the one at `top`
 pub record IsRing (S V : List Pair) (top : ℕ) : Type 0 where
-  pub ahead : (i j : ℕ) → j ≡ i + 1 → i < top → IsLowerEdge S (corner V i) (corner V j)
-  pub back : (i j : ℕ) → j ≡ i + 1 → top ≤ i → i < length V → IsUpperEdge S (corner V i) (corner V j)
+  pub edge : (side : Side) (i j : ℕ) → j ≡ i + 1 → starts_at side top ≤ i → i < ends_at side V top
+      → IsEdgeOn side S (corner V i) (corner V j)
   pub first : IsFirst S (corner V 0)
   pub last : IsLast S (corner V top)
 
--- from a corner forward to the next: a lower edge
-lower_at : (S V : List Pair) (i j : ℕ) → IsVertexList S V → j ≡ i + 1 → i < length V
-    → IsBefore (corner V i) (corner V j) → IsLowerEdge S (corner V i) (corner V j)
-lower_at S V i j h e l b =
-    edge_forward S (corner V i) (corner V j) (corner_extreme S V i h (omega (arith, l))).0
-    (corner_extreme S V j h (omega (arith, l))) (next_left S V i j h e l) b
-
--- and back to the next: an upper edge
-upper_at : (S V : List Pair) (i j : ℕ) → IsVertexList S V → j ≡ i + 1 → i < length V
-    → IsBefore (corner V j) (corner V i) → IsUpperEdge S (corner V i) (corner V j)
-upper_at S V i j h e l b =
-    edge_back S (corner V i) (corner V j) (corner_extreme S V i h (omega (arith, l))).0
+-- from a corner along a side to the next: an edge there
+edge_on : (side : Side) (S V : List Pair) (i j : ℕ) → IsVertexList S V → j ≡ i + 1 → i < length V
+    → IsAlong side (corner V i) (corner V j) → IsEdgeOn side S (corner V i) (corner V j)
+edge_on side S V i j h e l b =
+    edge_along side S (corner V i) (corner V j) (corner_extreme S V i h (omega (arith, l))).0
     (corner_extreme S V j h (omega (arith, l))) (next_left S V i j h e l) b
 
 -- a next corner under another number
@@ -39,25 +36,24 @@ next_to V P i j e p = subst (λ (n : ℕ). P (corner V n)) (sym e) p
 -- a round of corners that are those of S goes along its edges
 pub ring_of : (S V : List Pair) (top : ℕ) → IsOutlineOf S V → IsRound V top → IsRing S V top
 ring_of S V top o r = record {
-  ahead = ahead;
-  back = back;
+  edge = edge;
   first = first_between S (corner V (length V - 1)) (corner V 0) (corner V 1)
       (subst (λ (z : Pair). IsUpperEdge S (corner V (length V - 1)) z)
       (corner_back V (length V) (omega arith) (omega (arith, r.within)))
-      (back (length V - 1) (length V) (omega (arith, r.within)) (omega (arith, r.within)) (omega (arith, r.within))))
-      (ahead 0 1 (omega arith) r.starts);
+      (edge Upper (length V - 1) (length V) (omega (arith, r.within)) (omega (arith, r.within)) (omega (arith, r.within))))
+      (edge Lower 0 1 (omega arith) (omega arith) r.starts);
   last = last_between S (corner V (top - 1)) (corner V top) (corner V (top + 1))
-      (ahead (top - 1) top (omega (arith, r.starts)) (omega (arith, r.starts)))
-      (back top (top + 1) refl (omega arith) r.within);
+      (edge Lower (top - 1) top (omega (arith, r.starts)) (omega arith) (omega (arith, r.starts)))
+      (edge Upper top (top + 1) refl (omega arith) r.within);
 }
   where
-    ahead : (i j : ℕ) → j ≡ i + 1 → i < top → IsLowerEdge S (corner V i) (corner V j)
-    ahead i j e l =
-        lower_at S V i j o.1 e (omega (arith, l, r.within))
+    edge : (side : Side) (i j : ℕ) → j ≡ i + 1 → starts_at side top ≤ i → i < ends_at side V top
+        → IsEdgeOn side S (corner V i) (corner V j)
+    edge Lower i j e k l =
+        edge_on Lower S V i j o.1 e (omega (arith, l, r.within))
         (next_to V (IsBefore (corner V i)) i j e ((r.steps i (omega (arith, l, r.within))).0 l))
-
-    back : (i j : ℕ) → j ≡ i + 1 → top ≤ i → i < length V → IsUpperEdge S (corner V i) (corner V j)
-    back i j e k l = upper_at S V i j o.1 e l (next_to V (λ z. IsBefore z (corner V i)) i j e ((r.steps i l).1 k))
+    edge Upper i j e k l =
+        edge_on Upper S V i j o.1 e l (next_to V (λ z. IsBefore z (corner V i)) i j e ((r.steps i l).1 k))
 
 -- ---- a summit of the corners of a set parts them
 
@@ -72,9 +68,9 @@ pub record IsSummit (V : List Pair) (top : ℕ) : Type 0 where
 edge_at : (S V : List Pair) (i j : ℕ) → IsVertexList S V → j ≡ i + 1 → i < length V → 1 < length V
     → IsLowerEdge S (corner V i) (corner V j) ⊎ IsUpperEdge S (corner V i) (corner V j)
 edge_at S V i j h e l n = elim (before_total (corner V i) (corner V j)) [
-  | inl b ↦ inl (lower_at S V i j h e l b)
+  | inl b ↦ inl (edge_on Lower S V i j h e l b)
   | inr (inl q) ↦ absurd (next_apart S V i j h e l n q)
-  | inr (inr b) ↦ inr (upper_at S V i j h e l b)
+  | inr (inr b) ↦ inr (edge_on Upper S V i j h e l b)
 ]
 
 -- no upper edge comes before a lower one
@@ -88,7 +84,7 @@ no_dip S V i j k h e l up low =
 ahead_of_summit : (S V : List Pair) (top d i j : ℕ) → IsVertexList S V → IsSummit V top → top ≡ i + suc d → j ≡ i + 1
     → IsLowerEdge S (corner V i) (corner V j)
 ahead_of_summit S V top zero i j h s f e =
-    lower_at S V i j h e (omega (arith, f, s.within))
+    edge_on Lower S V i j h e (omega (arith, f, s.within))
     (subst (λ (n : ℕ). IsBefore (corner V n) (corner V j)) (omega (arith, f))
     (subst (λ (n : ℕ). IsBefore (corner V (top - 1)) (corner V n)) (omega (arith, f, e)) s.forward))
 ahead_of_summit S V top (suc d) i j h s f e =
@@ -102,7 +98,7 @@ ahead_of_summit S V top (suc d) i j h s f e =
 back_from_summit : (S V : List Pair) (top d i j : ℕ) → IsVertexList S V → IsSummit V top → i ≡ top + d → j ≡ i + 1
     → i < length V → IsUpperEdge S (corner V i) (corner V j)
 back_from_summit S V top zero i j h s f e l =
-    upper_at S V i j h e l
+    edge_on Upper S V i j h e l
     (subst (λ (n : ℕ). IsBefore (corner V j) (corner V n)) (omega (arith, f))
     (subst (λ (n : ℕ). IsBefore (corner V n) (corner V top)) (omega (arith, f, e)) s.backward))
 back_from_summit S V top (suc d) i j h s f e l =
@@ -117,11 +113,11 @@ pub round_of : (S V : List Pair) (top : ℕ) → IsOutlineOf S V → IsSummit V 
 round_of S V top o s = record {
   starts = s.starts;
   within = s.within;
-  steps = λ i l. (λ k. (ahead i (i + 1) refl k).forward, λ k. (back i (i + 1) refl k l).backward);
+  steps = λ i l. (λ k. (ahead i (i + 1) refl k).along, λ k. (back i (i + 1) refl k l).along);
   turns = λ i l apart n. elim (cases_lt i top) [
-    | inl k ↦ lower_turns S (corner V i) (corner V (i + 1)) (corner V (i + 2)) (ahead i (i + 1) refl k)
+    | inl k ↦ edges_turn Lower S (corner V i) (corner V (i + 1)) (corner V (i + 2)) (ahead i (i + 1) refl k)
         (ahead (i + 1) (i + 2) (omega arith) (omega (arith, k, apart)))
-    | inr k ↦ upper_turns S (corner V i) (corner V (i + 1)) (corner V (i + 2)) (back i (i + 1) refl k l)
+    | inr k ↦ edges_turn Upper S (corner V i) (corner V (i + 1)) (corner V (i + 2)) (back i (i + 1) refl k l)
         (back (i + 1) (i + 2) (omega arith) (omega (arith, k)) n)
   ];
 }

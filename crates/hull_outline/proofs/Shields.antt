@@ -236,10 +236,6 @@ other_left p q a b w z e = negated q a ∙ omega (arith, ints) ∙ ap (λ (k : �
     negated x y = rw (as_difference x, as_difference y, as_difference b, as_difference (pos 0))
         (simp difference_rules (difference-eq _ _ _ _ (omega arith)))
 
--- and the other way round
-one_left : (p q a b w : ℤ) → q ≡ pos 0 → p *ℤ b -ℤ q *ℤ a ≡ w → p *ℤ b ≡ w
-one_left p q a b w z e = omega (arith, ints) ∙ ap (λ (k : ℤ). p *ℤ b -ℤ k *ℤ a) (sym z) ∙ e
-
 -- the line of a and b goes between left and right, and a lies on the line of those: it is on their segment
 pub start_on : (a b left right : Pair) → pos 0 <ℤ orient a b left → orient a b right <ℤ pos 0
     → orient right left a ≡ pos 0 → IsOnSegment left right a

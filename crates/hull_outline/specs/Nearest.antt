@@ -9,7 +9,7 @@ use Rattle.hull_outline.specs.Steps.{step}
 use Rattle.hull_outline.specs.declared.nearest.Nearest.{Nearest}
 use Rattle.hull_outline.specs.declared.nearest.Nearest.TheVariants.{Covered, Corner, Edge}
 use Rattle.lattice.specs.declared.side.Side.{Side}
-use Rattle.hull_outline.specs.Touches.{IsAlong}
+use Rattle.hull_geometry.specs.Edges.{IsAlong}
 
 -- on the way from a to b, q lies farther than a: its foot on their line is beyond a
 abbrev pub IsOnward : Pair → Pair → Pair → Type 0

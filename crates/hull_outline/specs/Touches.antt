@@ -1,6 +1,7 @@
 -- The chains of a hull by their side, and the edges beside the corners where the tangents from a point touch.
 use Rattle.std.specs.Prelude.{ℕ, pos, ◌<ℤ◌, List, length}
-use Rattle.lattice.specs.Plane.{Pair, orient, IsBefore}
+use Rattle.lattice.specs.Plane.{Pair, orient}
+use Rattle.hull_geometry.specs.Edges.{IsAlong}
 use Rattle.lattice.specs.declared.side.Side.{Side}
 use Rattle.lattice.specs.declared.side.Side.TheVariants.{Lower, Upper}
 
@@ -13,11 +14,6 @@ starts_at Upper last = last
 abbrev pub ends_at : Side → List Pair → ℕ → ℕ
 ends_at Lower V last = last
 ends_at Upper V last = length V
-
--- p stands before q along the chain, which goes back on the upper side
-abbrev pub IsAlong : Side → Pair → Pair → Type 0
-IsAlong Lower p q = IsBefore p q
-IsAlong Upper p q = IsBefore q p
 
 -- the edge from a to b ends before q along the chain, and has it on its left
 abbrev pub IsPassed : Side → Pair → Pair → Pair → Type 0

@@ -1,7 +1,8 @@
 //! Bisection of a chain: the one search that all questions share.
 ghost use Rattle.std.specs.Prelude.{◌+◌, ◌-◌, ◌<◌, ◌≤◌, ◌↔◌, IsTrue, length, true, false};
 ghost use Rattle.hull_outline.specs.Rounds.{corner};
-ghost use Rattle.hull_outline.specs.Touches.{IsAlong, starts_at, ends_at};
+ghost use Rattle.hull_geometry.specs.Edges.{IsAlong};
+ghost use Rattle.hull_outline.specs.Touches.{starts_at, ends_at};
 
 use lattice::{Point, Side, before};
 

@@ -5,7 +5,6 @@ ghost use Rattle.hull_outline.specs.Lent.{corners_of};
 
 use super::outline::Outline;
 use super::sights::look;
-use hull_geometry::Sight;
 use hull_set::Place;
 use lattice::Point;
 
@@ -18,13 +17,6 @@ impl<'a> Outline<'a> {
         if self.corners.is_empty() {
             return Place::Outside;
         }
-        match look(self.corners, self.last, q) {
-            Sight::Before => Place::Outside,
-            Sight::After => Place::Outside,
-            Sight::Below => Place::Outside,
-            Sight::Above => Place::Outside,
-            Sight::Touching => Place::On,
-            Sight::Within => Place::Inside,
-        }
+        Place::of_sight(look(self.corners, self.last, q))
     }
 }

@@ -1,38 +1,28 @@
 //! From where a point looks at a hull.
 ghost use Rattle.std.specs.Prelude.{◌<◌, length};
 ghost use Rattle.lattice.specs.Plane.{IsBefore};
-ghost use Rattle.hull_geometry.specs.Sights.{IsLowerEdgeAt, IsUpperEdgeAt};
+ghost use Rattle.hull_geometry.specs.Edges.{IsAlong};
+ghost use Rattle.hull_geometry.specs.Sights.{IsEdgeOnAt};
 ghost use Rattle.hull_outline.specs.Outlines.{HoldsOfSetsOf};
 ghost use Rattle.hull_outline.specs.Rounds.{corner, IsParted};
 ghost use Rattle.hull_outline.specs.Sights.{IsSeen};
+ghost use Rattle.hull_outline.specs.Touches.{starts_at, ends_at};
 
-use super::bisection::first_failing;
+use super::bisection::{first_failing_on, is_along};
 use super::rounds::corner_at;
 use hull_geometry::{Sight, sight_by};
-use lattice::{Point, before, orient};
+use lattice::{Point, Side, before, orient};
 
-/// The lower edge that begins at `q`, or the one that begins before `q` and ends after it.
-fn lower_edge_at(corners: &[Point], last: usize, q: Point) -> (Point, Point)
+/// The edge on this side that begins at `q`, or the one that begins before `q` along the chain and ends after it.
+fn edge_at(side: Side, corners: &[Point], last: usize, q: Point) -> (Point, Point)
     requires some { 0 < length corners.now }
     requires parted { IsParted corners.now last }
-    requires from { ¬ IsBefore q (corner corners.now 0) }
-    requires to { IsBefore q (corner corners.now last) }
-    ensures { HoldsOfSetsOf corners.now (λ S. IsLowerEdgeAt S q result) }
+    requires from { ¬ IsAlong side q (corner corners.now (starts_at side last)) }
+    requires to { IsAlong side q (corner corners.now (ends_at side corners.now last)) }
+    ensures { HoldsOfSetsOf corners.now (λ S. IsEdgeOnAt side S q result) }
 {
-    let start = first_failing(corners, 0, last - 1, &|_, end| !before(q, end));
-    (corners[start], corners[start + 1])
-}
-
-/// The upper edge that goes back from `q`, or the one that goes back from a point after `q` to one before it.
-fn upper_edge_at(corners: &[Point], last: usize, q: Point) -> (Point, Point)
-    requires some { 0 < length corners.now }
-    requires parted { IsParted corners.now last }
-    requires from { ¬ IsBefore (corner corners.now last) q }
-    requires to { IsBefore (corner corners.now 0) q }
-    ensures { HoldsOfSetsOf corners.now (λ S. IsUpperEdgeAt S q result) }
-{
-    let start = first_failing(corners, last, corners.len() - 1, &|_, end| !before(end, q));
-    (corners[start], corner_at(corners, start + 1))
+    let start = first_failing_on(side, corners, last, &|_, end| !is_along(side, q, end));
+    (corner_at(corners, start), corner_at(corners, start + 1))
 }
 
 /// From where `q` looks, which does not stand before the first corner, and stands before the last.
@@ -43,7 +33,7 @@ fn look_between(corners: &[Point], last: usize, q: Point) -> Sight
     requires to { IsBefore q (corner corners.now last) }
     ensures { HoldsOfSetsOf corners.now (IsSeen corners.now last q result) }
 {
-    let edge = lower_edge_at(corners, last, q);
+    let edge = edge_at(Side::Lower, corners, last, q);
     if !before(edge.0, q) {
         return Sight::Touching;
     }
@@ -51,7 +41,7 @@ fn look_between(corners: &[Point], last: usize, q: Point) -> Sight
     if lower < 0 {
         return Sight::Below;
     }
-    let upper = upper_edge_at(corners, last, q);
+    let upper = edge_at(Side::Upper, corners, last, q);
     sight_by(lower, orient(upper.0, upper.1, q))
 }
 

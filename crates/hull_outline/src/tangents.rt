@@ -1,8 +1,8 @@
 //! Where the tangents from a point touch.
 ghost use Rattle.std.specs.Prelude.{◌↔◌, IsTrue, ◌<◌, length};
 ghost use Rattle.hull_set.specs.Replies.{AnswersTangents, reply_to_tangents};
-ghost use Rattle.hull_geometry.specs.Sights.{SeesLeft, SeesRight};
-ghost use Rattle.hull_geometry.specs.Tangents.{IsLeftTangent, IsRightTangent};
+ghost use Rattle.hull_geometry.specs.Sights.{IsOnChain};
+ghost use Rattle.hull_geometry.specs.Tangents.{IsTangent};
 ghost use Rattle.hull_outline.specs.Outlines.{HoldsOfSetsOf};
 ghost use Rattle.hull_outline.specs.Rounds.{corner, IsParted};
 ghost use Rattle.hull_outline.specs.Touches.{IsPassed, IsToCome};
@@ -12,6 +12,7 @@ use super::bisection::{first_failing_on, is_along};
 use super::outline::Outline;
 use super::rounds::{corner_at, is_left};
 use super::sights::look;
+use hull_geometry::Hand;
 use lattice::{Point, Side};
 
 /// Whether an edge ends before `q` along the chain on this side, and has `q` on its left.
@@ -28,26 +29,25 @@ fn is_to_come(side: Side, start: Point, end: Point, q: Point) -> bool
     is_along(side, q, start) && is_left(start, end, q)
 }
 
-/// The left tangent point seen from `q`, where the tangent touches the chain on this side.
-fn left_tangent(side: Side, corners: &[Point], last: usize, q: Point) -> Point
+/// The tangent point on this hand seen from `q`, where the tangent touches the chain on this side: the corner up to which
+/// the edges are passed on the left hand, and the one from which they are to come on the right.
+fn tangent_on(hand: Hand, side: Side, corners: &[Point], last: usize, q: Point) -> Point
     requires some { 0 < length corners.now }
     requires parted { IsParted corners.now last }
-    requires seen { HoldsOfSetsOf corners.now (λ S. SeesLeft side (corner corners.now 0) (corner corners.now last) S q) }
-    ensures { HoldsOfSetsOf corners.now (λ S. IsLeftTangent S q result) }
+    requires seen { HoldsOfSetsOf corners.now
+        (λ S. IsOnChain hand side (corner corners.now 0) (corner corners.now last) S q) }
+    ensures { HoldsOfSetsOf corners.now (λ S. IsTangent hand S q result) }
 {
-    let passed = |start, end| is_passed(side, start, end, q);
-    corner_at(corners, first_failing_on(side, corners, last, &passed))
-}
-
-/// The right tangent point.
-fn right_tangent(side: Side, corners: &[Point], last: usize, q: Point) -> Point
-    requires some { 0 < length corners.now }
-    requires parted { IsParted corners.now last }
-    requires seen { HoldsOfSetsOf corners.now (λ S. SeesRight side (corner corners.now 0) (corner corners.now last) S q) }
-    ensures { HoldsOfSetsOf corners.now (λ S. IsRightTangent S q result) }
-{
-    let not_to_come = |start, end| !is_to_come(side, start, end, q);
-    corner_at(corners, first_failing_on(side, corners, last, &not_to_come))
+    match hand {
+        Hand::Left => {
+            let passed = |start, end| is_passed(side, start, end, q);
+            corner_at(corners, first_failing_on(side, corners, last, &passed))
+        }
+        Hand::Right => {
+            let not_to_come = |start, end| !is_to_come(side, start, end, q);
+            corner_at(corners, first_failing_on(side, corners, last, &not_to_come))
+        }
+    }
 }
 
 impl<'a> Outline<'a> {
@@ -63,8 +63,8 @@ impl<'a> Outline<'a> {
             return None;
         };
         Some((
-            left_tangent(left, self.corners, self.last, q),
-            right_tangent(right, self.corners, self.last, q),
+            tangent_on(Hand::Left, left, self.corners, self.last, q),
+            tangent_on(Hand::Right, right, self.corners, self.last, q),
         ))
     }
 }

@@ -9,7 +9,6 @@ use Rattle.std.specs.Map.{keys_of}
 use Rattle.std.specs.declared.ops.Bound.{Bound}
 use Rattle.std.specs.declared.ops.Bound.TheVariants.{Included, Excluded, Unbounded}
 use Rattle.std.proofs.lemmas.Bool.{false≢true}
-use Rattle.std.proofs.lemmas.Grind.{common_steps}
 use Rattle.std.proofs.lemmas.List.Elements.{All-contains, All-filter, filter_passes, Contains-append_right, Contains-append_cases}
 use Rattle.std.proofs.lemmas.List.Elements.{Contains-append_left}
 use Rattle.lattice.specs.Covers.{IsPointSet}
@@ -22,7 +21,8 @@ use Rattle.hull_geometry.specs.Positions.{origin}
 use Rattle.lattice.specs.declared.side.Side.{Side}
 use Rattle.hull_geometry.proofs.FewVertices.{distinct_few}
 use Rattle.hull_set.proofs.OrderedMaps.{point_cmp, less, greater, equal}
-use Rattle.hull_plain.proofs.Passes.{ends_take, ends_cut, set_append, set_left, set_right, set_apart, thinned_set}
+use Rattle.hull_plain.proofs.Passes.{ends_take, ends_cut, thinned_set}
+use Rattle.hull_geometry.proofs.PointSets.{set_append, set_left, set_right, set_apart}
 use Rattle.hull_plain.proofs.Passes.{thinned_through, from_front}
 use Rattle.hull_geometry.proofs.PointLists.{AllPairs-cons, AllPairs-head, AllPairs-tail, append_twice}
 use Rattle.hull_geometry.proofs.PointLists.{get_or_free}

@@ -1,6 +1,6 @@
 -- Each step of the chain of a hull is an edge of the hull.
 use Rattle.std.proofs.Common.{◌≡◌, ℤ, pos, ◌≤ℤ◌, ◌<ℤ◌, inl, inr, refl, sym, subst, List, arith, [], ◌∷◌}
-use Rattle.std.specs.List.{All, Contains}
+use Rattle.std.specs.List.{Contains}
 use Rattle.std.proofs.lemmas.Int.{ints}
 use Rattle.lattice.specs.Covers.{IsPointSet}
 use Rattle.lattice.specs.Plane.{Pair, orient, IsBefore}
@@ -12,26 +12,20 @@ use Rattle.lattice.specs.Turns.{turn}
 use Rattle.hull_plain.specs.Monotone.{IsChainOf}
 use Rattle.lattice.specs.declared.side.Side.{Side}
 use Rattle.lattice.specs.declared.side.Side.TheVariants.{Lower, Upper}
-use Rattle.hull_geometry.proofs.PointLists.{AllPairs-head, AllPairs-tail, get_or_free, later}
-use Rattle.hull_plain.proofs.Turns.{turn_at_start, turn_at_end, turns_on, turns_back}
+use Rattle.hull_geometry.proofs.PointLists.{AllPairs-head, AllPairs-tail, all_of, later}
+use Rattle.hull_geometry.proofs.Supports.{IsSupport}
+use Rattle.lattice.proofs.Numbers.{nn_above, nn_zero}
+use Rattle.hull_geometry.proofs.Turns.{turn_at_start, turn_at_end, turns_on, turns_back}
 use Rattle.std.proofs.lemmas.List.Elements.{All-head}
-
--- a number above 0 is at least 0
-weak : (x : ℤ) → pos 0 <ℤ x → pos 0 ≤ℤ x
-weak x h = omega (arith, ints)
-
--- a number that is 0 is at least 0
-zero : (x : ℤ) → x ≡ pos 0 → pos 0 ≤ℤ x
-zero x e = omega (arith, ints)
 
 -- what is strictly inwards of a line
 strictly : (side : Side) (t a b : Pair) → pos 0 <ℤ turn side a b t → IsBeside side t a b
-strictly side t a b h = record { inwards = weak _ h; before = λ k. h; after = λ k. h }
+strictly side t a b h = record { inwards = nn_above _ h; before = λ k. h; after = λ k. h }
 
 -- the start of an edge
 at_start : (side : Side) (a b : Pair) → IsBefore a b → IsBeside side a a b
 at_start side a b ab = record {
-  inwards = zero _ (turn_at_start side a b);
+  inwards = nn_zero _ (turn_at_start side a b);
   before = λ k. absurd (before_irrefl a k);
   after = λ k. absurd (before_not a b ab k);
 }
@@ -39,7 +33,7 @@ at_start side a b ab = record {
 -- its end
 at_end : (side : Side) (a b : Pair) → IsBefore a b → IsBeside side b a b
 at_end side a b ab = record {
-  inwards = zero _ (turn_at_end side a b);
+  inwards = nn_zero _ (turn_at_end side a b);
   before = λ k. absurd (before_not a b ab k);
   after = λ k. absurd (before_irrefl b k);
 }
@@ -70,7 +64,7 @@ after_edge side a b (c ∷ rest) u s h (inr (inr k)) =
     let tail = AllPairs-tail a (b ∷ c ∷ rest) s in
     let later = after_edge side b c rest u tail h.1 k in
     let bu = before_trans b c u (first_step b c rest tail) later.0 in
-    (bu, turns_on side a b c u (first_step a b (c ∷ rest) s) (first_step b c rest tail) bu h.0 (weak _ later.1))
+    (bu, turns_on side a b c u (first_step a b (c ∷ rest) s) (first_step b c rest tail) bu h.0 (nn_above _ later.1))
 
 -- what stands before the end of an edge and not outwards of it is beside all later edges
 beside_later : (side : Side) (a b : Pair) (rest : List Pair) (t : Pair) → IsPointSet (a ∷ b ∷ rest)
@@ -80,7 +74,7 @@ beside_later side a b (c ∷ rest) t s h tb k =
     let tail = AllPairs-tail a (b ∷ c ∷ rest) s in
     let bc = first_step b c rest tail in
     let in_next = turns_back side a b c t (first_step a b (c ∷ rest) s) bc tb k h.0 in
-    (strictly side t b c in_next, beside_later side b c rest t tail h.1 (before_trans t b c tb bc) (weak _ in_next))
+    (strictly side t b c in_next, beside_later side b c rest t tail h.1 (before_trans t b c tb bc) (nn_above _ in_next))
 
 -- what is inner to a chain is beside each of its edges
 beside_from : (side : Side) (x : Pair) (rest : List Pair) (t : Pair) → IsPointSet (x ∷ rest)
@@ -90,7 +84,7 @@ beside_from side x (y ∷ rest) t s h (inl e) =
     let xy = first_step x y rest s in
     subst (λ (z : Pair). IsChain (IsBeside side z) x (y ∷ rest)) (sym e) (
       at_start side x y xy,
-      beside_later side x y rest x s h xy (zero _ (turn_at_start side x y)),
+      beside_later side x y rest x s h xy (nn_zero _ (turn_at_start side x y)),
     )
 beside_from side x (y ∷ rest) t s h (inr (inl e)) =
     subst (λ (z : Pair). IsChain (IsBeside side z) x (y ∷ rest)) (sym e) (
@@ -161,16 +155,16 @@ pub chain_edges : (side : Side) (S : List Pair) (x : Pair) (rest : List Pair) �
 chain_edges side S x rest c = along_all side S x rest c.strict.ordered c.among
     (λ t m. beside_from side x rest t c.strict.ordered c.strict.turning (c.inner t m))
 
--- what holds of each member holds of all
-pub all_of : (P : Pair → Type 0) (S : List Pair) → ((t : Pair) → Contains S t → P t) → All P S
-all_of P S h = λ k d l. h _ (k, l, get_or_free S k _ d l)
+-- the line of an edge has no point outwards
+pub edge_support : {side : Side} {S : List Pair} {a b : Pair} → IsEdge side S a b → IsSupport side S a b
+edge_support e = record { from = e.from; to = e.to; forward = e.forward; inner = λ t m. (e.beside t m).inwards }
 
 -- an edge of the lower chain, in the words of all hulls
 pub lower_edge : {S : List Pair} {a b : Pair} → IsEdge Lower S a b → IsLowerEdge S a b
 lower_edge {S} {a} {b} e = record {
   from = e.from;
   to = e.to;
-  forward = e.forward;
+  along = e.forward;
   left = all_of (λ t. pos 0 ≤ℤ orient a b t) S (λ t m. (e.beside t m).inwards);
   last = all_of (λ t. orient a b t ≡ pos 0 → ¬ (IsBefore b t)) S (λ t m z k. not_both _ z ((e.beside t m).after k));
 }
@@ -183,7 +177,7 @@ pub upper_edge : {S : List Pair} {a b : Pair} → IsEdge Upper S a b → IsUpper
 upper_edge {S} {a} {b} e = record {
   from = e.to;
   to = e.from;
-  backward = e.forward;
+  along = e.forward;
   left = all_of (λ t. pos 0 ≤ℤ orient b a t) S (λ t m. (e.beside t m).inwards);
   last = all_of (λ t. orient b a t ≡ pos 0 → ¬ (IsBefore t a)) S (λ t m z k. not_both _ z ((e.beside t m).before k));
 }

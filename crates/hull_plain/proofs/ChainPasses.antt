@@ -1,9 +1,9 @@
 -- What one pass over points in order makes of a chain.
-use Rattle.std.proofs.Common.{◌≡◌, ℕ, pos, ◌≤ℤ◌, ◌⊎◌, inl, inr, refl, sym, ap, ◌∙◌, subst, List, arith, zero, suc, []}
+use Rattle.std.proofs.Common.{◌≡◌, ℕ, pos, ◌≤ℤ◌, inl, inr, refl, sym, ap, ◌∙◌, subst, List, arith, zero, suc, []}
 use Rattle.std.proofs.Common.{◌∷◌, ◌++◌, ◌<◌, ◌+◌, ◌-◌, length, get_or, take, length-append}
 use Rattle.std.specs.List.{All, Contains}
 use Rattle.std.proofs.lemmas.Int.{ints}
-use Rattle.std.proofs.lemmas.List.Elements.{All-cons, All-head, All-tail, Contains-append_left, Contains-append_right}
+use Rattle.std.proofs.lemmas.List.Elements.{All-head, All-tail, Contains-append_left, Contains-append_right}
 use Rattle.std.proofs.lemmas.List.Elements.{Contains-append_cases}
 use Rattle.lattice.specs.Covers.{IsPointSet}
 use Rattle.lattice.specs.Plane.{Pair, orient, IsBefore}
@@ -14,8 +14,9 @@ use Rattle.lattice.specs.declared.side.Side.{Side}
 use Rattle.lattice.specs.declared.side.Side.TheVariants.{Lower, Upper}
 use Rattle.hull_geometry.proofs.ChangedSets.{set-insert}
 use Rattle.hull_geometry.proofs.Orientation.{orient_swap, orient-cycle, orient_other}
+use Rattle.hull_geometry.proofs.PointSets.{set_right}
 use Rattle.hull_geometry.proofs.PointLists.{AllPairs-cons, AllPairs-head, AllPairs-tail, all_append_right, left_part}
-use Rattle.hull_geometry.proofs.PointLists.{right_part, append_none, append_twice, get_or_free}
+use Rattle.hull_geometry.proofs.PointLists.{right_part, append_none, append_twice}
 use Rattle.hull_geometry.proofs.SameSide.{side_trans}
 
 -- three points in the order, of which the middle one does not lie outwards: it lies inwards of the segment of the
@@ -98,11 +99,6 @@ without_inward side [] a b c u ab bc h (inr k) = inr (last_two side a b c u ab b
 without_inward side (x ∷ xs) a b c u ab bc h (inl e) = inl e
 without_inward side (x ∷ xs) a b c u ab bc h (inr k) = inr (behind_more side x xs a b c u ab bc h k)
 
--- the end of a set is a set
-set_right : (xs ys : List Pair) → IsPointSet (xs ++ ys) → IsPointSet ys
-set_right [] ys s = s
-set_right (x ∷ xs) ys s = set_right xs ys (AllPairs-tail x (xs ++ ys) s)
-
 -- a set without one of its points is a set
 pub set_less : (xs : List Pair) (b : Pair) (ys : List Pair) → IsPointSet (xs ++ b ∷ ys) → IsPointSet (xs ++ ys)
 set_less [] b ys s = AllPairs-tail b ys s
@@ -182,14 +178,3 @@ take_suc (x ∷ xs) (suc i) d l = ap (λ (z : List Pair). x ∷ z) (take_suc xs 
 pub take_next : (S : List Pair) (i : ℕ) (p : Pair) → i < length S → p ≡ get_or S i p → take (i + 1) S ≡ take i S ++ p ∷ []
 take_next S i p l e = let n : i + 1 ≡ suc i = omega arith in
     ap (λ (k : ℕ). take k S) n ∙ take_suc S i p l ∙ ap (λ (z : Pair). take i S ++ z ∷ []) (sym e)
-
--- a member of one more point
-pub one_more : (S : List Pair) (i : ℕ) (p t : Pair) → i < length S → p ≡ get_or S i p → Contains (take (i + 1) S) t
-    → Contains (take i S) t ⊎ (t ≡ p)
-one_more S i p t l e m =
-    go (Contains-append_cases (take i S) (p ∷ []) t (subst (λ (z : List Pair). Contains z t) (take_next S i p l e) m))
-  where
-    go : Contains (take i S) t ⊎ Contains (p ∷ []) t → Contains (take i S) t ⊎ (t ≡ p)
-    go (inl k) = inl k
-    go (inr (zero, b, k)) = inr (sym k)
-    go (inr (suc j, b, k)) = absurd (omega (arith, b))

@@ -1,16 +1,15 @@
 -- The position of a point in a list in the order "before".
 use Rattle.std.proofs.Common.{◌≡◌, ℕ, inl, inr, sym, ap, ◌∙◌, subst, List, arith, zero, suc, ◌+◌, ◌<◌, ◌≤◌, [], ◌∷◌}
-use Rattle.std.proofs.Common.{◌++◌, length, get_or, true, false, take, drop, length-drop, length-take, Ok, Err}
+use Rattle.std.proofs.Common.{◌++◌, length, get_or, take, drop, length-drop, length-take, Ok, Err}
 use Rattle.std.specs.List.{All, Contains}
-use Rattle.std.specs.List.Sorted.{IsPartitionPoint, IsPartitionedBy}
 use Rattle.std.proofs.lemmas.Bool.{cases_lt}
 use Rattle.std.proofs.lemmas.List.{get_or-drop, get_or-take}
 use Rattle.std.proofs.lemmas.List.Elements.{All-weaker, All-cons, All-head}
-use Rattle.lattice.specs.Covers.{IsPointSet, is_before}
+use Rattle.lattice.specs.Covers.{IsPointSet}
 use Rattle.lattice.specs.Plane.{Pair, IsBefore}
 use Rattle.hull_geometry.specs.Positions.{IsPositionOf}
 use Rattle.hull_geometry.proofs.ChangedSets.{absent_between}
-use Rattle.lattice.proofs.Order.{before_trans, before_irrefl, before_total, is_before-true, is_before-holds}
+use Rattle.lattice.proofs.Order.{before_trans, before_irrefl, before_total}
 use Rattle.hull_geometry.proofs.PointLists.{AllPairs-head, AllPairs-tail, get_or_free, cut, cut_at}
 
 -- the rest of a set is a set
@@ -115,11 +114,3 @@ pub cut_around : (S : List Pair) (p : Pair) (i : ℕ) → IsPositionOf S p (Ok i
 cut_around S p i h =
     sym (cut_at S i p h.0 ∙ ap (λ (z : Pair). take i S ++ z ∷ drop (suc i) S) (h.1 p)
     ∙ (let e : suc i ≡ i + 1 = omega arith in ap (λ (z : ℕ). take i S ++ p ∷ drop z S) e))
-
--- in a set the points before p come first
-pub parted : (S : List Pair) (p : Pair) → IsPointSet S → IsPartitionedBy (λ t. is_before t p) S
-parted S p s i j d le l t =
-    elim (cases_lt i j) [
-      | inl h ↦ is_before-true _ p (before_trans _ (get_or S j d) p (s i j d h l) (is_before-holds _ p t))
-      | inr h ↦ let e : j ≡ i = omega arith in subst (λ (k : ℕ). is_before (get_or S k d) p ≡ true) e t
-    ]

@@ -18,7 +18,7 @@ use Rattle.hull_plain.proofs.ChainEdges.{chain_edges, chain_first, chain_last}
 use Rattle.hull_plain.proofs.Mended.{chain_of, left_or_gone, take_off_new, inner_still}
 use Rattle.hull_plain.proofs.Passes.{member_inner, thinned_of}
 use Rattle.hull_geometry.proofs.SetLaws.{members_without}
-use Rattle.hull_plain.proofs.Turns.{turn_cycle, turn_swap, turns_back, stays_outwards}
+use Rattle.hull_geometry.proofs.Turns.{turn_cycle, turn_swap, turns_back, stays_outwards}
 
 -- ---- corners
 

@@ -1,6 +1,5 @@
 pub mod FoundPositions
 pub mod Drafts
-pub mod Turns
 pub mod ChainEdges
 pub mod ChainPasses
 pub mod Passes

@@ -1,5 +1,5 @@
 -- Where a point lies, by what one chain of a hull tells of it.
-use Rattle.std.proofs.Common.{◌≡◌, ℕ, ℤ, pos, neg_ℤ, ◌<ℤ◌, inl, inr, refl, sym, ap, ◌∙◌, subst, List, arith, zero}
+use Rattle.std.proofs.Common.{◌≡◌, ℕ, ℤ, pos, neg_ℤ, ◌⊎◌, inl, inr, refl, sym, ap, ◌∙◌, subst, List, arith, zero}
 use Rattle.std.proofs.Common.{suc, [], ◌∷◌, ◌<◌, ◌-◌, ◌+◌, length, get_or, take, drop, Ok, Err}
 use Rattle.std.proofs.lemmas.Bool.{cases_lt}
 use Rattle.std.proofs.lemmas.Grind.{common_steps}
@@ -7,10 +7,10 @@ use Rattle.std.proofs.lemmas.Int.{ints}
 use Rattle.std.proofs.lemmas.List.{drop_more}
 use Rattle.std.proofs.lemmas.List.Elements.{All-contains}
 use Rattle.std.specs.List.{All, Contains}
-use Rattle.lattice.specs.Covers.{Covers, Member, OnSegment}
+use Rattle.lattice.specs.Covers.{Member, OnSegment}
 use Rattle.lattice.specs.Places.{IsOuter, IsOnBoundary, IsInside}
 use Rattle.lattice.specs.Plane.{Pair, orient, IsBefore}
-use Rattle.lattice.proofs.Order.{before_total, before_trans, before_not}
+use Rattle.lattice.proofs.Order.{before_not}
 use Rattle.hull_plain.specs.ChainEdges.{IsEdge, IsEdgeAt, IsSeen}
 use Rattle.hull_geometry.specs.Edges.{IsChain, end_of, IsFirst, IsLast}
 use Rattle.hull_plain.specs.Monotone.{IsInner, EndsWith, IsChainOf}
@@ -18,19 +18,18 @@ use Rattle.lattice.specs.Turns.{turn}
 use Rattle.hull_geometry.specs.Positions.{IsPositionOf, point_at, origin}
 use Rattle.lattice.specs.declared.side.Side.{Side}
 use Rattle.lattice.specs.declared.side.Side.TheVariants.{Lower, Upper}
-use Rattle.hull_plain.specs.declared.sights.Sight.{Sight}
-use Rattle.hull_plain.specs.declared.sights.Sight.TheVariants.{Before, After, Outwards, Touching, Inwards}
+use Rattle.hull_plain.specs.declared.sights.ChainSight.{ChainSight}
+use Rattle.hull_plain.specs.declared.sights.ChainSight.TheVariants.{Before, After, Outwards, Touching, Inwards}
 use Rattle.hull_plain.proofs.Between.{end_in, first_in}
-use Rattle.hull_plain.proofs.ChainEdges.{chain_edges, chain_first, chain_last, lower_edge, upper_edge, all_of}
+use Rattle.hull_plain.proofs.ChainEdges.{chain_edges, chain_first, chain_last, lower_edge, upper_edge}
+use Rattle.hull_geometry.specs.Sights.{IsBetweenEnds, IsRightOfEdge, AreEnds}
+use Rattle.hull_geometry.proofs.EdgesAt.{up_to, on_from, touching_first}
 use Rattle.hull_geometry.proofs.CoveredByEdges.{on_segment}
-use Rattle.hull_geometry.proofs.EdgePlaces.{right_outside, on_line_outer, between_inside}
-use Rattle.hull_geometry.proofs.NotCovered.{not_covered}
-use Rattle.hull_geometry.proofs.OneSided.{ahead_separated, behind_separated}
+use Rattle.hull_geometry.proofs.EdgePlaces.{on_line_outer, between_inside}
 use Rattle.hull_geometry.proofs.Orientation.{orient-cycle, orient_swap}
 use Rattle.hull_plain.proofs.Passes.{ends_take}
-use Rattle.hull_set.proofs.Placings.{outer_first}
 use Rattle.hull_geometry.proofs.PointLists.{get_or_free}
-use Rattle.hull_plain.proofs.Turns.{turn_at_end}
+use Rattle.hull_geometry.proofs.Turns.{turn_at_end}
 
 -- ---- edges by their places
 
@@ -80,25 +79,27 @@ last_of side S (x ∷ rest) c t m b =
     chain_last side S x rest c t m
     (subst (λ (z : Pair). IsBefore z t) (sym (end_at x rest ∙ ap (λ (k : ℕ). point_at (x ∷ rest) k) n)) b)
 
+-- to a point of a chain goes an edge, or it is the first
+pub edge_to : (side : Side) (S chain : List Pair) (i : ℕ) → IsChainOf side S chain → i < length chain
+    → IsFirst S (point_at chain i) ⊎ ((0 < i) × IsEdge side S (point_at chain (i - 1)) (point_at chain i))
+edge_to side S chain i c l = elim (cases_lt 0 i) [
+  | inr h ↦ inl (subst (λ (k : ℕ). IsFirst S (point_at chain k)) (omega (arith, h)) (first_of side S chain c))
+  | inl h ↦ inr (
+    h,
+    subst (λ (k : ℕ). IsEdge side S (point_at chain (i - 1)) (point_at chain k)) (omega (arith, h))
+        (chain_edge side S chain (i - 1) c (omega (arith, h, l))),
+  )
+]
+
+-- and from it goes one, or it is the last
+pub edge_from : (side : Side) (S chain : List Pair) (i : ℕ) → IsChainOf side S chain → i < length chain
+    → IsLast S (point_at chain i) ⊎ ((i + 1 < length chain) × IsEdge side S (point_at chain i) (point_at chain (i + 1)))
+edge_from side S chain i c l = elim (cases_lt (i + 1) (length chain)) [
+  | inl h ↦ inr (h, chain_edge side S chain i c h)
+  | inr h ↦ inl (subst (λ (k : ℕ). IsLast S (point_at chain k)) (omega (arith, h, l)) (last_of side S chain c))
+]
+
 -- ---- from before all and from after all
-
--- what stands before the first point stands before all
-pub before_all : (side : Side) (S chain : List Pair) (q : Pair) → IsChainOf side S chain → 0 < length chain
-    → IsBefore q (point_at chain 0) → (t : Pair) → Contains S t → IsBefore q t
-before_all side S chain q c some b t m = elim (before_total q t) [
-  | inl h ↦ h
-  | inr (inl e) ↦ absurd (first_of side S chain c t m (subst (λ (z : Pair). IsBefore z (point_at chain 0)) e b))
-  | inr (inr h) ↦ absurd (first_of side S chain c t m (before_trans t q (point_at chain 0) h b))
-]
-
--- what stands after the last one stands after all
-pub after_all : (side : Side) (S chain : List Pair) (q : Pair) → IsChainOf side S chain → 0 < length chain
-    → IsBefore (point_at chain (length chain - 1)) q → (t : Pair) → Contains S t → IsBefore t q
-after_all side S chain q c some b t m = elim (before_total t q) [
-  | inl h ↦ h
-  | inr (inl e) ↦ absurd (last_of side S chain c t m (subst (IsBefore (point_at chain (length chain - 1))) (sym e) b))
-  | inr (inr h) ↦ absurd (last_of side S chain c t m (before_trans (point_at chain (length chain - 1)) q t b h))
-]
 
 -- no chain, no points
 pub no_chain : (side : Side) (S chain : List Pair) → IsChainOf side S chain → length chain ≡ 0 → (t : Pair)
@@ -114,7 +115,7 @@ pub seen_first : (side : Side) (S chain : List Pair) (q : Pair) → IsPositionOf
     → (t : Pair) → Contains S t → IsBefore q t
 seen_first side S [] q at c t m = absurd (no_chain side S [] c refl t m)
 seen_first side S (x ∷ rest) q at c t m =
-    before_all side S (x ∷ rest) q c (omega arith) (at.2 0 origin (omega arith)) t m
+    on_from q x t (at.2 0 origin (omega arith)) (first_of side S (x ∷ rest) c t m)
 
 -- a point with the position behind the last stands after all
 pub seen_last : (side : Side) (S chain : List Pair) (q : Pair) → IsPositionOf chain q (Err (length chain))
@@ -124,9 +125,9 @@ seen_last side S chain q at c t m =
       | inr h ↦ absurd (no_chain side S chain c (omega (arith, h)) t m)
       | inl h ↦ let l : length chain - 1 < length chain = omega (arith, h) in
           let whole : take (length chain) chain ≡ chain = grind (arith, common_steps) in
-          after_all side S chain q c h
+          up_to t (point_at chain (length chain - 1)) q (last_of side S chain c t m)
           (All-contains (λ t. IsBefore t q) chain (point_at chain (length chain - 1))
-          (subst (All (λ t. IsBefore t q)) whole at.1) (length chain - 1, l, get_or_free chain (length chain - 1) _ _ l)) t m
+          (subst (All (λ t. IsBefore t q)) whole at.1) (length chain - 1, l, get_or_free chain (length chain - 1) _ _ l))
     ]
 
 -- a point with another position stands between the ends of an edge
@@ -187,62 +188,46 @@ on_edge side S q a b e z = (
 -- a point of the chain is on the boundary
 pub on_chain : (side : Side) (S chain : List Pair) (q : Pair) (i : ℕ) → IsPositionOf chain q (Ok i)
     → IsChainOf side S chain → IsOnBoundary S q
-on_chain side S chain q i at c = (
-  Member (subst (Contains S) (at.1 origin) (chain_in side S chain i c at.0)),
-  elim (cases_lt 0 i) [
-    | inr h ↦ let none : i ≡ 0 = omega (arith, h) in
-        let e : point_at chain 0 ≡ q = ap (λ (k : ℕ). point_at chain k) (sym none) ∙ at.1 origin in
-        outer_first S q (all_of (λ t. ¬ (IsBefore t q)) S
-        (λ t m. subst (λ (z : Pair). ¬ (IsBefore t z)) e (first_of side S chain c t m)))
-    | inl h ↦ let n : i - 1 + 1 ≡ i = omega (arith, h) in
-        let e : point_at chain (i - 1 + 1) ≡ q = ap (λ (k : ℕ). point_at chain k) n ∙ at.1 origin in
-        on_edge_line side S q (point_at chain (i - 1)) q
-        (subst (IsEdge side S (point_at chain (i - 1))) e (chain_edge side S chain (i - 1) c (edge_within h)))
-        (turn_at_end side (point_at chain (i - 1)) q)
-  ],
-)
+on_chain side S chain q i at c = subst (IsOnBoundary S) (at.1 origin) (elim (edge_to side S chain i c at.0) [
+  | inl f ↦ touching_first S (point_at chain i) there f
+  | inr k ↦ (
+    Member there,
+    on_edge_line side S (point_at chain i) (point_at chain (i - 1)) (point_at chain i) k.1
+        (turn_at_end side (point_at chain (i - 1)) (point_at chain i)),
+  )
+])
   where
-    edge_within : 0 < i → i - 1 + 1 < length chain
-    edge_within h = omega (arith, h, at.0)
+    there : Contains S (point_at chain i)
+    there = chain_in side S chain i c at.0
 
 -- ---- where it lies
-
--- a point outwards of an edge lies outside
-pub outwards_outside : (side : Side) (S : List Pair) (q a b : Pair) → IsEdge side S a b → turn side a b q <ℤ pos 0
-    → ¬ Covers S q
-outwards_outside Lower S q a b e h = right_outside S a b q (lower_edge e).left h
-outwards_outside Upper S q a b e h = right_outside S b a q (upper_edge e).left h
-
--- a point before all lies outside
-pub before_outside : (S : List Pair) (q : Pair) → ((t : Pair) → Contains S t → IsBefore q t) → ¬ Covers S q
-before_outside S q h = not_covered S q (ahead_separated S q (all_of (IsBefore q) S h))
-
--- a point after all lies outside
-pub after_outside : (S : List Pair) (q : Pair) → ((t : Pair) → Contains S t → IsBefore t q) → ¬ Covers S q
-after_outside S q h = not_covered S q (behind_separated S q (all_of (λ t. IsBefore t q) S h))
-
--- a point that is not seen from the boundary or the inner side lies outside
-pub sight_outside : (side : Side) (S : List Pair) (q : Pair) (s : Sight) → IsSeen side S q s → ¬ (s ≡ Touching)
-    → ¬ (s ≡ Inwards) → ¬ Covers S q
-sight_outside side S q Before h n k = before_outside S q h
-sight_outside side S q After h n k = after_outside S q h
-sight_outside side S q Outwards (a, b, e, h) n k = outwards_outside side S q a b e.edge h
-sight_outside side S q Touching h n k = absurd (n refl)
-sight_outside side S q Inwards h n k = absurd (k refl)
 
 -- a point on the inner side of both chains lies inside
 pub sights_inside : (S : List Pair) (q : Pair) → IsSeen Lower S q Inwards → IsSeen Upper S q Inwards → IsInside S q
 sights_inside S q (a, b, e, h) (c, d, f, k) =
     between_inside S q a b d c (lower_edge e.edge) (upper_edge f.edge) e.after e.before f.before f.after h k
 
--- a point on the inner side of a lower edge that is not outwards of an upper one is covered
-pub over_covered : (S : List Pair) (q : Pair) (s : Sight) → IsSeen Lower S q Inwards → IsSeen Upper S q s
-    → ¬ (s ≡ Outwards) → Covers S q
-over_covered S q Before (a, b, e, h) k n = absurd (before_not a q e.after (k a e.edge.from))
-over_covered S q After (a, b, e, h) k n = absurd (before_not q b e.before (k b e.edge.to))
-over_covered S q Outwards h k n = absurd (n refl)
-over_covered S q Touching h k n = k.0
-over_covered S q Inwards h k n = (sights_inside S q h k).0
+-- a point on the inner side of a lower edge that is on neither side of an upper one touches it
+pub sight_touching : (S : List Pair) (q : Pair) (s : ChainSight) → IsSeen Lower S q Inwards → IsSeen Upper S q s
+    → ¬ (s ≡ Outwards) → ¬ (s ≡ Inwards) → IsOnBoundary S q
+sight_touching S q Before (a, b, e, h) k n m = absurd (before_not a q e.after (k a e.edge.from))
+sight_touching S q After (a, b, e, h) k n m = absurd (before_not q b e.before (k b e.edge.to))
+sight_touching S q Outwards h k n m = absurd (n refl)
+sight_touching S q Touching h k n m = k
+sight_touching S q Inwards h k n m = absurd (m refl)
+
+-- q between the ends of an edge stands between the ends of each chain
+pub edge_within : (side other : Side) (S chain : List Pair) (q a b : Pair) → IsEdgeAt side S q a b
+    → IsChainOf other S chain → IsBetweenEnds (point_at chain 0) (point_at chain (length chain - 1)) q
+edge_within side other S chain q a b e c = (
+  up_to (point_at chain 0) a q (first_of other S chain c a e.edge.from) e.after,
+  on_from q b (point_at chain (length chain - 1)) e.before (last_of other S chain c b e.edge.to),
+)
+
+-- outwards of an edge is right of it
+pub outwards_right : (side : Side) (S : List Pair) (q : Pair) → IsSeen side S q Outwards → IsRightOfEdge side S q
+outwards_right Lower S q (a, b, e, h) = (a, b, lower_edge e.edge, h)
+outwards_right Upper S q (a, b, e, h) = (b, a, upper_edge e.edge, h)
 
 -- where S has a point, its chain has one
 pub some_chain : (side : Side) (S chain : List Pair) (t : Pair) → IsChainOf side S chain → Contains S t
@@ -259,3 +244,11 @@ none_of side (x ∷ xs) chain c e = absurd (no_chain side (x ∷ xs) chain c e x
 pub other_chain : (side other : Side) (S chain others : List Pair) → IsChainOf side S chain → IsChainOf other S others
     → 0 < length chain → 0 < length others
 other_chain side other S chain others c o h = some_chain other S others (point_at chain 0) o (chain_in side S chain 0 c h)
+
+-- the first point of a chain and its last are the ends of the set
+pub are_ends : (side : Side) (S chain : List Pair) → IsChainOf side S chain → 0 < length chain
+    → AreEnds S (point_at chain 0) (point_at chain (length chain - 1))
+are_ends side S chain c some = (
+  (chain_in side S chain 0 c some, first_of side S chain c),
+  (chain_in side S chain (length chain - 1) c (omega (arith, some)), last_of side S chain c),
+)

@@ -23,16 +23,17 @@ use Rattle.hull_plain.specs.Monotone.{IsTurning, IsFringeOf, IsChainOf}
 use Rattle.hull_geometry.specs.Positions.{IsPositionOf, point_at, origin}
 use Rattle.lattice.specs.declared.side.Side.{Side}
 use Rattle.hull_plain.proofs.Between.{after_ends, end_in, first_in, set_few}
-use Rattle.hull_plain.proofs.ChainEdges.{all_of}
+use Rattle.hull_geometry.proofs.PointLists.{all_of}
 use Rattle.hull_plain.proofs.ChainPasses.{set_less, set_longer}
 use Rattle.hull_geometry.proofs.Comparisons.{fits_side, below_test}
 use Rattle.hull_geometry.proofs.ChangedSets.{set-insert, in_without}
 use Rattle.hull_plain.proofs.FoundPositions.{found_after, found_absent, cut_around}
-use Rattle.hull_plain.proofs.Passes.{set_left, set_right, inner_cut, inner_left, inner_right}
+use Rattle.hull_plain.proofs.Passes.{inner_cut, inner_left, inner_right}
+use Rattle.hull_geometry.proofs.PointSets.{set_left, set_right}
 use Rattle.hull_plain.proofs.Passes.{inner_across, member_inner, ends_take, ends_right, thinned_itself, thinned_of}
 use Rattle.hull_geometry.proofs.PointLists.{AllPairs-head, append_twice, append_none, get_or_free, later, cut}
 use Rattle.hull_geometry.proofs.SetLaws.{members_with, members_without}
-use Rattle.hull_plain.proofs.Turns.{turn_swap, inwards_from, inwards_to}
+use Rattle.hull_geometry.proofs.Turns.{turn_swap, inwards_from, inwards_to}
 
 -- a number above 0 is at least 0
 weak : (x : ℤ) → pos 0 <ℤ x → pos 0 ≤ℤ x

@@ -11,7 +11,7 @@ use Rattle.lattice.proofs.Order.{before_trans, before_irrefl, before_not}
 use Rattle.hull_plain.specs.Mending.{IsBetween}
 use Rattle.hull_geometry.specs.Positions.{IsPositionOf}
 use Rattle.hull_plain.proofs.ChainPasses.{take_next}
-use Rattle.hull_plain.proofs.Passes.{set_append, set_left, set_right, set_apart}
+use Rattle.hull_geometry.proofs.PointSets.{set_append, set_left, set_right, set_apart}
 use Rattle.hull_geometry.proofs.PointLists.{AllPairs-head, all_append_right}
 
 -- up to p no point stands after p

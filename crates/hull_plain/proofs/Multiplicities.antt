@@ -8,7 +8,7 @@ use Rattle.std.specs.Map.{lookup, keys_of, values_of}
 use Rattle.std.proofs.lemmas.Bool.{false≢true}
 use Rattle.std.proofs.lemmas.Map.Views.{tells_apart, IfSome-lookup_from_All}
 use Rattle.lattice.specs.Plane.{Pair}
-use Rattle.hull_set.specs.Held.{Held, raised, lowered}
+use Rattle.hull_set.specs.Held.{raised, lowered}
 use Rattle.hull_plain.specs.Sets.{times_in}
 use Rattle.hull_set.proofs.OrderedMaps.{point_cmp, equal, exact, found_iff}
 use Rattle.hull_set.proofs.Times.{fails, same_true, same_false, same_or_other, once_same, once_other}

@@ -2,12 +2,12 @@
 use Rattle.std.proofs.Common.{◌≡◌, ◌<ℤ◌, ◌≤ℤ◌, pos, ◌⊎◌, inl, inr, refl, sym, ap, ◌∙◌, subst, List, arith, zero, suc}
 use Rattle.std.proofs.Common.{[], ◌∷◌, ◌++◌, ◌<◌, ◌+◌, ◌-◌, length, length-append, get_or, take, drop, ℕ}
 use Rattle.std.specs.List.{Contains}
-use Rattle.std.proofs.lemmas.List.Elements.{All-contains, Contains-append_left, Contains-append_right}
+use Rattle.std.proofs.lemmas.List.Elements.{Contains-append_left, Contains-append_right}
 use Rattle.std.proofs.lemmas.List.Elements.{Contains-append_cases}
 use Rattle.std.proofs.lemmas.Bool.{cases_lt}
 use Rattle.std.proofs.lemmas.Grind.{common_steps}
 use Rattle.lattice.specs.Covers.{IsPointSet}
-use Rattle.lattice.specs.Plane.{Pair, IsBefore}
+use Rattle.lattice.specs.Plane.{Pair}
 use Rattle.hull_geometry.specs.Edges.{end_of}
 use Rattle.hull_plain.specs.Monotone.{IsInwards, IsInnerFrom, IsInner, IsTurningFrom, IsTurning, IsStrict}
 use Rattle.lattice.specs.Turns.{turn}
@@ -15,41 +15,8 @@ use Rattle.hull_plain.specs.Monotone.{EndsInwards, EndsWith, IsPassed, IsThinned
 use Rattle.hull_geometry.specs.Positions.{point_at, origin}
 use Rattle.lattice.specs.declared.side.Side.{Side}
 use Rattle.hull_plain.proofs.ChainPasses.{take_next}
-use Rattle.hull_geometry.proofs.PointLists.{AllPairs-cons, AllPairs-head, AllPairs-tail, all_append_right, left_part}
-use Rattle.hull_geometry.proofs.PointLists.{right_part, append_none, append_twice, get_or_free, cut, cut_at}
-
--- ---- the parts of a set
-
--- its front is a set
-pub set_left : (xs ys : List Pair) → IsPointSet (xs ++ ys) → IsPointSet xs
-set_left [] ys s = λ i j d l b. absurd (omega arith)
-set_left (x ∷ xs) ys s =
-    AllPairs-cons x xs (left_part (IsBefore x) xs ys (AllPairs-head x (xs ++ ys) s))
-    (set_left xs ys (AllPairs-tail x (xs ++ ys) s))
-
--- its rest is a set
-pub set_right : (xs ys : List Pair) → IsPointSet (xs ++ ys) → IsPointSet ys
-set_right [] ys s = s
-set_right (x ∷ xs) ys s = set_right xs ys (AllPairs-tail x (xs ++ ys) s)
-
--- each point of the front stands before each point of the rest
-pub set_apart : (xs ys : List Pair) (t u : Pair) → IsPointSet (xs ++ ys) → Contains xs t → Contains ys u → IsBefore t u
-set_apart [] ys t u s m n = absurd (omega (arith, m.1))
-set_apart (x ∷ xs) ys t u s (zero, l, e) n =
-    subst (λ (z : Pair). IsBefore z u) e
-    (All-contains (IsBefore x) ys u (right_part (IsBefore x) xs ys (AllPairs-head x (xs ++ ys) s)) n)
-set_apart (x ∷ xs) ys t u s (suc k, l, e) n =
-    set_apart xs ys t u (AllPairs-tail x (xs ++ ys) s) (k, omega (arith, l), e) n
-
--- two sets in a row, the one before the other
-pub set_append : (xs ys : List Pair) → IsPointSet xs → IsPointSet ys
-    → ((t u : Pair) → Contains xs t → Contains ys u → IsBefore t u) → IsPointSet (xs ++ ys)
-set_append [] ys s r h = r
-set_append (x ∷ xs) ys s r h =
-    AllPairs-cons x (xs ++ ys)
-    (all_append_right (IsBefore x) xs ys (AllPairs-head x xs s)
-    (λ k d l. h x _ (0, omega arith, refl) (k, l, get_or_free ys k _ d l)))
-    (set_append xs ys (AllPairs-tail x xs s) r (λ t u m n. h t u (suc m.0, omega (arith, m.1), m.2) n))
+use Rattle.hull_geometry.proofs.PointSets.{set_left, set_right, set_apart, set_append}
+use Rattle.hull_geometry.proofs.PointLists.{append_none, append_twice, get_or_free, cut, cut_at}
 
 -- ---- what is inner to two lists in a row
 

@@ -1,5 +1,5 @@
 -- The two chains of a hull make its vertex list and its doubled area.
-use Rattle.std.proofs.Common.{◌≡◌, ℕ, ℤ, pos, ◌+ℤ◌, ◌≤ℤ◌, inl, inr, refl, sym, ap, ◌∙◌, subst, List, arith, zero, suc}
+use Rattle.std.proofs.Common.{◌≡◌, ℕ, ℤ, pos, ◌+ℤ◌, ◌≤ℤ◌, inl, inr, refl, sym, ap, ◌∙◌, subst, List, arith}
 use Rattle.std.proofs.Common.{[], ◌∷◌, ◌++◌, ◌<◌, ◌≤◌, ◌-◌, ◌+◌, length, get_or}
 use Rattle.std.proofs.lemmas.Bool.{cases_lt}
 use Rattle.std.proofs.lemmas.Int.{ints}
@@ -20,7 +20,7 @@ use Rattle.lattice.specs.declared.side.Side.TheVariants.{Lower, Upper}
 use Rattle.hull_plain.proofs.ChainEdges.{chain_edges, lower_edge, upper_edge}
 use Rattle.hull_plain.proofs.Looks.{chain_edge, chain_in, first_of, last_of, none_of, some_chain, end_at}
 use Rattle.hull_geometry.proofs.Orientation.{orient-cycle}
-use Rattle.hull_geometry.proofs.PointLists.{AllPairs-head, get_or_free}
+use Rattle.hull_geometry.proofs.PointLists.{AllPairs-head, get_or_free, only_member}
 use Rattle.hull_geometry.proofs.Rounding.{fan-append, fan-back, fan-push, small_list}
 use Rattle.hull_geometry.proofs.VertexLists.{chain_push, end_push, vertex_list}
 
@@ -62,17 +62,10 @@ few_vertices S lower [] s c l =
 few_vertices S lower (x ∷ []) s c l =
     let e : S ≡ x ∷ [] = alone_of Upper S x s c.above in
     let f : lower ≡ x ∷ [] = alone x lower c.below.strict.ordered
-    (λ t m. only t (subst (λ (z : List Pair). Contains z t) e (c.below.among t m)))
+    (λ t m. only_member x t (subst (λ (z : List Pair). Contains z t) e (c.below.among t m)))
     (some_chain Lower S lower x c.below (c.above.among x (0, omega arith, refl))) in
     subst (λ (z : List Pair). IsVertexList z lower) (sym e)
     (subst (IsVertexList (x ∷ [])) (sym f) (small_list (x ∷ []) (omega arith)))
-  where
-    only : (t : Pair) → Contains (x ∷ []) t → t ≡ x
-    only t (k, b, m) = elim (cases_lt k 1) [ inl h ↦ first k h m | inr h ↦ absurd (omega (arith, h, b)) ]
-      where
-        first : (k : ℕ) → k < 1 → get_or (x ∷ []) k t ≡ t → t ≡ x
-        first k h m = let n : k ≡ 0 = omega (arith, h) in
-            sym (subst (λ (j : ℕ). get_or (x ∷ []) j t ≡ t) n m)
 few_vertices S lower (x ∷ y ∷ zs) s c l = absurd (omega (arith, l))
 
 -- where a chain has a point, so has the set
@@ -126,14 +119,10 @@ two_of side other S (x ∷ []) ys s c o u =
     let f : IsEdge other S (point_at ys 0) (point_at ys 1) = chain_edge other S ys 0 o u in
     absurd (not_two (alone_of side S x s c) f.from f.to f.forward)
   where
-    only : (t : Pair) → Contains (x ∷ []) t → x ≡ t
-    only t (zero, b, m) = m
-    only t (suc k, b, m) = absurd (omega (arith, b))
-
     not_two : {a b : Pair} → S ≡ x ∷ [] → Contains S a → Contains S b → IsBefore a b → ⊥
     not_two {a} {b} e m n h =
-        before_irrefl x (subst (λ (z : Pair). IsBefore z x) (sym (only a (subst (λ (z : List Pair). Contains z a) e m)))
-        (subst (IsBefore a) (sym (only b (subst (λ (z : List Pair). Contains z b) e n))) h))
+        before_irrefl x (subst (λ (z : Pair). IsBefore z x) (only_member x a (subst (λ (z : List Pair). Contains z a) e m))
+        (subst (IsBefore a) (only_member x b (subst (λ (z : List Pair). Contains z b) e n)) h))
 two_of side other S (x ∷ l ∷ ls) ys s c o u = omega arith
 
 -- the lower chain, and the upper one back without its ends, are the vertex list

@@ -4,11 +4,9 @@ use Rattle.std.specs.List.{Contains}
 use Rattle.lattice.specs.Places.{IsOnBoundary}
 use Rattle.lattice.specs.Plane.{Pair, IsBefore}
 use Rattle.lattice.specs.Turns.{turn}
-use Rattle.hull_geometry.specs.Tangents.{IsLeftTangent, IsRightTangent}
 use Rattle.lattice.specs.declared.side.Side.{Side}
-use Rattle.lattice.specs.declared.side.Side.TheVariants.{Lower, Upper}
-use Rattle.hull_plain.specs.declared.sights.Sight.{Sight}
-use Rattle.hull_plain.specs.declared.sights.Sight.TheVariants.{Before, After, Outwards, Touching, Inwards}
+use Rattle.hull_plain.specs.declared.sights.ChainSight.{ChainSight}
+use Rattle.hull_plain.specs.declared.sights.ChainSight.TheVariants.{Before, After, Outwards, Touching, Inwards}
 
 -- t is not outwards of the line from a forward to b, and strictly inwards of it where it stands before a or after b
 pub record IsBeside (side : Side) (t a b : Pair) : Type 0 where
@@ -30,27 +28,12 @@ pub record IsEdgeAt (side : Side) (S : List Pair) (q a b : Pair) : Type 0 where
   pub before : IsBefore q b
 
 -- from where q looks at the hull of S, seen from one side
-abbrev pub IsSeen : Side → List Pair → Pair → Sight → Type 0
+abbrev pub IsSeen : Side → List Pair → Pair → ChainSight → Type 0
 IsSeen side S q Before = (t : Pair) → Contains S t → IsBefore q t
 IsSeen side S q After = (t : Pair) → Contains S t → IsBefore t q
 IsSeen side S q Outwards = (a : Pair) × (b : Pair) × IsEdgeAt side S q a b × (turn side a b q <ℤ pos 0)
 IsSeen side S q Touching = IsOnBoundary S q
 IsSeen side S q Inwards = (a : Pair) × (b : Pair) × IsEdgeAt side S q a b × (pos 0 <ℤ turn side a b q)
-
--- q is no point of S, and stands outwards of each segment from a point of S before it to one after it
-pub record IsClear (side : Side) (S : List Pair) (q : Pair) : Type 0 where
-  pub absent : ¬ Contains S q
-  pub outwards : (s t : Pair) → Contains S s → Contains S t → IsBefore s q → IsBefore q t → turn side s t q <ℤ pos 0
-
--- the tangent from q that touches S behind q on a side is its left one on the lower side
-abbrev pub IsTangentBehind : Side → List Pair → Pair → Pair → Type 0
-IsTangentBehind Lower = IsLeftTangent
-IsTangentBehind Upper = IsRightTangent
-
--- the one that touches it ahead of q is its right one there
-abbrev pub IsTangentAhead : Side → List Pair → Pair → Pair → Type 0
-IsTangentAhead Lower = IsRightTangent
-IsTangentAhead Upper = IsLeftTangent
 
 -- the edge from a forward to b ends before q, which lies inwards of it
 abbrev pub IsPassedBy : Side → Pair → Pair → Pair → Type 0
@@ -59,8 +42,3 @@ IsPassedBy side q a b = IsBefore b q × (pos 0 <ℤ turn side a b q)
 -- it begins after q, which lies inwards of it
 abbrev pub IsToCome : Side → Pair → Pair → Pair → Type 0
 IsToCome side q a b = IsBefore q a × (pos 0 <ℤ turn side a b q)
-
--- a direction faces the upper chain where it goes up, and else the lower one
-abbrev pub Faces : Side → Pair → Type 0
-Faces Lower d = d.y ≤ℤ pos 0
-Faces Upper d = pos 0 <ℤ d.y

@@ -2,10 +2,9 @@
 ghost use Rattle.std.specs.Prelude.{◌↔◌, ◌<◌, List, IsTrue, length, ◌<ℤ◌};
 ghost use Rattle.lattice.specs.Plane as plane;
 ghost use Rattle.lattice.specs.Plane.{Pair};
-ghost use Rattle.hull_plain.specs.ChainEdges.{Faces};
 ghost use Rattle.hull_plain.specs.Monotone.{IsChainOf};
 ghost use Rattle.hull_set.specs.Replies.{AnswersExtreme, reply_to_extreme};
-ghost use Rattle.hull_geometry.specs.Tangents.{IsFirstFarthest};
+ghost use Rattle.hull_geometry.specs.Tangents.{IsFirstFarthest, Faces};
 
 use super::bisection::first_failing;
 use lattice::{Direction, Point, Side, product};

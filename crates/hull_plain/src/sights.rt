@@ -1,19 +1,21 @@
-//! From where a point looks at a hull, by the edge of one chain between whose ends it stands.
-ghost use Rattle.std.specs.Prelude.{List, Err};
+//! From where a point looks at a hull, by the edges of its chains between whose ends it stands.
+ghost use Rattle.std.specs.Prelude.{◌<◌, List, Err, length};
 ghost use Rattle.lattice.specs.Plane.{Pair};
 ghost use Rattle.hull_plain.specs.ChainEdges.{IsSeen};
 ghost use Rattle.hull_plain.specs.Monotone.{IsStrict, IsChainOf, AreChainsOf, AreChains};
-ghost use Rattle.hull_geometry.specs.Positions.{IsPositionOf};
+ghost use Rattle.hull_geometry.specs.Positions.{IsPositionOf, first_of, last_of};
+ghost use Rattle.hull_geometry.specs.Sights.{IsSightOf};
 ghost use Rattle.hull_set.specs.Replies.{LiesAt};
 
 use super::positions::position_of;
+use hull_geometry::Sight;
 use hull_set::Place;
 use lattice::{Point, Side, turn};
 use tiered_list::TieredList;
 
-/// From where a point looks at a hull, seen from one side.
+/// From where a point looks at the chain on one side.
 #[derive(Clone, Copy)]
-pub(crate) enum Sight {
+enum ChainSight {
     /// From before all points.
     Before,
     /// From after all points.
@@ -27,34 +29,54 @@ pub(crate) enum Sight {
 }
 
 /// From where a point looks that is no corner and has the position `i` in the chain.
-fn look_from(side: Side, chain: &TieredList, i: usize, q: Point) -> Sight
+fn look_from(side: Side, chain: &TieredList, i: usize, q: Point) -> ChainSight
     requires { IsPositionOf chain.now.items q (Err i) }
     ensures { (S : List Pair) → IsChainOf side S chain.now.items → IsSeen side S q result }
 {
     if i == 0 {
-        return Sight::Before;
+        return ChainSight::Before;
     }
     if i == chain.len() {
-        return Sight::After;
+        return ChainSight::After;
     }
     let inwards = turn(side, chain.get(i - 1), chain.get(i), q);
     if inwards < 0 {
-        Sight::Outwards
+        ChainSight::Outwards
     } else if inwards > 0 {
-        Sight::Inwards
+        ChainSight::Inwards
     } else {
-        Sight::Touching
+        ChainSight::Touching
     }
 }
 
-/// From where `q` looks at the hull that has this chain.
-pub(crate) fn look(side: Side, chain: &TieredList, q: Point) -> Sight
+/// From where `q` looks at this chain of a hull.
+fn look_on(side: Side, chain: &TieredList, q: Point) -> ChainSight
     requires { IsStrict side chain.now.items }
     ensures { (S : List Pair) → IsChainOf side S chain.now.items → IsSeen side S q result }
 {
     match position_of(chain, q) {
-        Ok(_) => Sight::Touching,
+        Ok(_) => ChainSight::Touching,
         Err(i) => look_from(side, chain, i, q),
+    }
+}
+
+/// From where `q` looks at the hull of these two chains, which have a point.
+pub(crate) fn look(lower: &TieredList, upper: &TieredList, q: Point) -> Sight
+    requires some { 0 < length lower.now.items }
+    requires chains { AreChains lower.now.items upper.now.items }
+    ensures { (S : List Pair) → AreChainsOf S lower.now.items upper.now.items
+        → IsSightOf (first_of lower.now.items) (last_of lower.now.items) S q result }
+{
+    match look_on(Side::Lower, lower, q) {
+        ChainSight::Before => Sight::Before,
+        ChainSight::After => Sight::After,
+        ChainSight::Outwards => Sight::Below,
+        ChainSight::Touching => Sight::Touching,
+        ChainSight::Inwards => match look_on(Side::Upper, upper, q) {
+            ChainSight::Outwards => Sight::Above,
+            ChainSight::Inwards => Sight::Within,
+            _ => Sight::Touching,
+        },
     }
 }
 
@@ -63,13 +85,8 @@ pub(crate) fn place_of(lower: &TieredList, upper: &TieredList, q: Point) -> Plac
     requires { AreChains lower.now.items upper.now.items }
     ensures { (S : List Pair) → AreChainsOf S lower.now.items upper.now.items → LiesAt S q result }
 {
-    match look(Side::Lower, lower, q) {
-        Sight::Touching => Place::On,
-        Sight::Inwards => match look(Side::Upper, upper, q) {
-            Sight::Touching => Place::On,
-            Sight::Inwards => Place::Inside,
-            _ => Place::Outside,
-        },
-        _ => Place::Outside,
+    if lower.is_empty() {
+        return Place::Outside;
     }
+    Place::of_sight(look(lower, upper, q))
 }

@@ -1,15 +1,18 @@
 //! Where the tangents from a point touch, each by a bisection of one chain (Preparata and Shamos, 1985).
-ghost use Rattle.std.specs.Prelude.{◌↔◌, ◌<◌, ◌-◌, List, IsTrue, length};
+ghost use Rattle.std.specs.Prelude.{◌↔◌, ◌<◌, List, IsTrue, length};
 ghost use Rattle.lattice.specs.Plane.{Pair, IsBefore};
-ghost use Rattle.hull_plain.specs.ChainEdges.{IsSeen, IsClear, IsTangentBehind, IsTangentAhead};
 ghost use Rattle.hull_plain.specs.ChainEdges.{IsPassedBy, IsToCome};
 ghost use Rattle.hull_plain.specs.Monotone.{IsChainOf, AreChainsOf, AreChains};
-ghost use Rattle.hull_geometry.specs.Positions.{point_at};
+ghost use Rattle.hull_geometry.specs.Hands.{hand_behind, other_hand};
+ghost use Rattle.hull_geometry.specs.Positions.{first_of, last_of};
+ghost use Rattle.hull_geometry.specs.Sights.{IsClear, IsInwards};
+ghost use Rattle.hull_geometry.specs.Tangents.{IsTangent};
 ghost use Rattle.hull_set.specs.Replies.{AnswersTangents, reply_to_tangents};
 
 use super::bisection::first_failing;
 use super::monotone::is_inner;
-use super::sights::{Sight, look};
+use super::sights::look;
+use hull_geometry::Hand;
 use lattice::{Point, Side, before};
 use tiered_list::TieredList;
 
@@ -30,8 +33,9 @@ fn is_to_come(side: Side, a: Point, b: Point, q: Point) -> bool
 /// The tangent point behind `q`, from which nothing is in the way on this side.
 fn tangent_behind(side: Side, chain: &TieredList, q: Point) -> Point
     requires some { 0 < length chain.now.items }
-    requires after { IsBefore (point_at chain.now.items 0) q }
-    ensures { (S : List Pair) → IsChainOf side S chain.now.items → IsClear side S q → IsTangentBehind side S q result }
+    requires after { IsBefore (first_of chain.now.items) q }
+    ensures { (S : List Pair) → IsChainOf side S chain.now.items → IsClear side S q
+        → IsTangent (hand_behind side) S q result }
 {
     chain.get(first_failing(chain, &|a, b| is_passed(side, a, b, q)))
 }
@@ -39,24 +43,26 @@ fn tangent_behind(side: Side, chain: &TieredList, q: Point) -> Point
 /// The tangent point ahead of it.
 fn tangent_ahead(side: Side, chain: &TieredList, q: Point) -> Point
     requires some { 0 < length chain.now.items }
-    requires before { IsBefore q (point_at chain.now.items (length chain.now.items - 1)) }
-    ensures { (S : List Pair) → IsChainOf side S chain.now.items → IsClear side S q → IsTangentAhead side S q result }
+    requires before { IsBefore q (last_of chain.now.items) }
+    ensures { (S : List Pair) → IsChainOf side S chain.now.items → IsClear side S q
+        → IsTangent (other_hand (hand_behind side)) S q result }
 {
     chain.get(first_failing(chain, &|a, b| !is_to_come(side, a, b, q)))
 }
 
-/// The tangents from `q`, which lies on the inner side of a lower edge between whose ends it stands.
-fn tangents_from_over(lower: &TieredList, upper: &TieredList, q: Point) -> Option<(Point, Point)>
+/// The tangent point on this hand seen from `q`, where the tangent touches the chain on this side.
+fn tangent_on(hand: Hand, side: Side, lower: &TieredList, upper: &TieredList, q: Point) -> Point
+    requires some { 0 < length lower.now.items }
     requires chains { AreChains lower.now.items upper.now.items }
-    requires over { (S : List Pair) → IsChainOf Side.Lower S lower.now.items → IsSeen Side.Lower S q Sight.Inwards }
-    ensures { (S : List Pair) → AreChainsOf S lower.now.items upper.now.items → AnswersTangents S q (reply_to_tangents result) }
+    requires inwards { IsInwards hand side (first_of lower.now.items) (last_of lower.now.items) q }
+    ensures { (S : List Pair) → AreChainsOf S lower.now.items upper.now.items → IsClear side S q
+        → IsTangent hand S q result }
 {
-    match look(Side::Upper, upper, q) {
-        Sight::Outwards => Some((
-            tangent_ahead(Side::Upper, upper, q),
-            tangent_behind(Side::Upper, upper, q),
-        )),
-        _ => None,
+    match (hand, side) {
+        (Hand::Left, Side::Lower) => tangent_behind(Side::Lower, lower, q),
+        (Hand::Right, Side::Lower) => tangent_ahead(Side::Lower, lower, q),
+        (Hand::Left, Side::Upper) => tangent_ahead(Side::Upper, upper, q),
+        (Hand::Right, Side::Upper) => tangent_behind(Side::Upper, upper, q),
     }
 }
 
@@ -72,20 +78,11 @@ pub(crate) fn tangents_from(
     if lower.is_empty() {
         return None;
     }
-    match look(Side::Lower, lower, q) {
-        Sight::Before => Some((
-            tangent_ahead(Side::Upper, upper, q),
-            tangent_ahead(Side::Lower, lower, q),
-        )),
-        Sight::After => Some((
-            tangent_behind(Side::Lower, lower, q),
-            tangent_behind(Side::Upper, upper, q),
-        )),
-        Sight::Outwards => Some((
-            tangent_behind(Side::Lower, lower, q),
-            tangent_ahead(Side::Lower, lower, q),
-        )),
-        Sight::Touching => None,
-        Sight::Inwards => tangents_from_over(lower, upper, q),
-    }
+    let Some((left, right)) = look(lower, upper, q).tangent_chains() else {
+        return None;
+    };
+    Some((
+        tangent_on(Hand::Left, left, lower, upper, q),
+        tangent_on(Hand::Right, right, lower, upper, q),
+    ))
 }

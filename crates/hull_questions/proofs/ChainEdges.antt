@@ -1,17 +1,21 @@
 -- A lower edge of one half is one of both, where it stands clear of the lower bridge.
-use Rattle.std.proofs.Common.{◌≡◌, ℤ, pos, ◌≤ℤ◌, ◌<ℤ◌, inl, inr, arith, ◌++◌, Some}
+use Rattle.std.proofs.Common.{◌≡◌, ℤ, pos, ◌≤ℤ◌, ◌<ℤ◌, inl, inr, ◌∙◌, List, arith, ◌++◌, Some}
 use Rattle.std.proofs.lemmas.Int.{ints}
 use Rattle.std.proofs.lemmas.List.Elements.{All-contains, All-append, Contains-append_left, Contains-append_right}
 use Rattle.lattice.specs.Plane.{Pair, orient, IsBefore}
 use Rattle.lattice.specs.Bridges.{IsAllBefore, IsLowerBridge}
 use Rattle.lattice.specs.Signs.{le_or_lt}
-use Rattle.lattice.proofs.Vectors.{minus, cross, Ahead, turn_trans_strict, turn_trans_strict_right}
+use Rattle.lattice.specs.declared.side.Side.TheVariants.{Lower}
+use Rattle.lattice.proofs.Vectors.{minus, cross, turn_trans_strict, turn_trans_strict_right}
+use Rattle.hull_geometry.proofs.Turns.{turns_on, turns_back}
+use Rattle.hull_questions.proofs.Halves.{AreHalves, swapped, halves_of}
 use Rattle.bridge_search.specs.Trees.{Tree, Leaf, Fork, On, IsBridged, lower_of}
 use Rattle.bridge_search.specs.Leaves.{points_of}
-use Rattle.bridge_search.proofs.Leaves.{all_of, on_of_contains, contains_of_on}
+use Rattle.bridge_search.proofs.Leaves.{on_of_contains, contains_of_on}
+use Rattle.hull_geometry.proofs.PointLists.{all_of}
 use Rattle.hull_geometry.specs.Edges.{IsLowerEdge}
-use Rattle.hull_geometry.proofs.Orientation.{orient-cross, at_least, above, ahead_of}
-use Rattle.lattice.proofs.Sides.{side_by_start, side_by_end, side_before, side_after, side_to_end}
+use Rattle.hull_geometry.proofs.Orientation.{orient-cross, orient-cycle, at_least, above, ahead_of}
+use Rattle.lattice.proofs.Sides.{side_by_start, side_by_end, side_after, side_to_end}
 use Rattle.lattice.proofs.Numbers.{nn_above, sum_above}
 use Rattle.hull_questions.proofs.StoredEdges.{same_ends}
 use Rattle.hull_geometry.specs.Sights.{IsLowerEdgeAt}
@@ -21,27 +25,22 @@ use Rattle.hull_geometry.proofs.EdgesAt.{up_to}
 over_from_left : (a b c d t : Pair) → IsBefore a b → IsBefore c d → IsBefore c a → IsBefore a t → pos 0 ≤ℤ orient c d a
     → pos 0 <ℤ orient a b c → pos 0 ≤ℤ orient a b t → pos 0 <ℤ orient c d t
 over_from_left a b c d t ab cd ca at da bc bt =
-    let hA : Ahead (minus a c) = ahead_of c a ca in
-    let hT : Ahead (minus t a) = ahead_of a t at in
     let low : pos 0 ≤ℤ cross (minus d c) (minus a c) = at_least _ _ (orient-cross c d a) da in
     let mid : pos 0 <ℤ cross (minus a c) (minus t a) =
-    turn_trans_strict (minus a c) (minus b a) (minus t a) hA (ahead_of a b ab) hT (above _ _ (side_before a b c) bc)
-    (at_least _ _ (orient-cross a b t) bt) in
+    above _ _ (side_after c a t) (turns_on Lower c a b t ca ab at (above _ _ (orient-cycle a b c) bc) bt) in
     sum_above _ _ _ (side_by_start c d a t) low
-    (turn_trans_strict_right (minus d c) (minus a c) (minus t a) (ahead_of c d cd) hA hT low mid)
+    (turn_trans_strict_right (minus d c) (minus a c) (minus t a) (ahead_of c d cd) (ahead_of c a ca) (ahead_of a t at)
+    low mid)
 
 -- an edge cd that ends after b, where the edge ab is less steep: what lies over ab, before b, lies over cd
 over_from_right : (a b c d t : Pair) → IsBefore a b → IsBefore c d → IsBefore b d → IsBefore t b → pos 0 ≤ℤ orient c d b
     → pos 0 <ℤ orient a b d → pos 0 ≤ℤ orient a b t → pos 0 <ℤ orient c d t
 over_from_right a b c d t ab cd bd tb db bd_turn bt =
-    let hE : Ahead (minus d b) = ahead_of b d bd in
-    let hT : Ahead (minus b t) = ahead_of t b tb in
     let low : pos 0 ≤ℤ cross (minus d b) (minus d c) = at_least _ _ (side_to_end c d b) db in
     let mid : pos 0 <ℤ cross (minus b t) (minus d b) =
-    turn_trans_strict_right (minus b t) (minus b a) (minus d b) hT (ahead_of a b ab) hE
-    (at_least _ _ (side_to_end a b t) bt) (above _ _ (side_after a b d) bd_turn) in
+    above _ _ (orient-cycle b d t ∙ side_after t b d) (turns_back Lower a b d t ab bd tb bt bd_turn) in
     sum_above _ _ _ (side_by_end c d b t) low
-    (turn_trans_strict (minus b t) (minus d b) (minus d c) hT hE (ahead_of c d cd) mid low)
+    (turn_trans_strict (minus b t) (minus d b) (minus d c) (ahead_of t b tb) (ahead_of b d bd) (ahead_of c d cd) mid low)
 
 -- a number at least 0 that is not 0
 pub not_zero : (z : ℤ) → pos 0 ≤ℤ z → ¬ (z ≡ pos 0) → pos 0 <ℤ z
@@ -49,32 +48,22 @@ not_zero z h n = elim (le_or_lt z (pos 0)) [ inl k ↦ absurd (n (omega (arith, 
 
 -- ---- from a half to both
 
--- a lower edge of u over which all of w lies
-grow_right : (u w : Tree) (c d : Pair) → IsLowerEdge (points_of u) c d → ((t : Pair) → On w t → pos 0 <ℤ orient c d t)
-    → IsLowerEdge (points_of u ++ points_of w) c d
-grow_right u w c d k over = record {
-  from = Contains-append_left (points_of u) (points_of w) c k.from;
-  to = Contains-append_left (points_of u) (points_of w) d k.to;
-  forward = k.forward;
-  left = All-append (λ t. pos 0 ≤ℤ orient c d t) (points_of u) (points_of w) k.left
-      (all_of (λ t. pos 0 ≤ℤ orient c d t) (points_of w) (λ t m. nn_above _ (over t (on_of_contains w t m))));
-  last = All-append (λ t. orient c d t ≡ pos 0 → ¬ (IsBefore d t)) (points_of u) (points_of w) k.last
-      (all_of (λ t. orient c d t ≡ pos 0 → ¬ (IsBefore d t)) (points_of w)
-      (λ t m e. absurd (omega (arith, ints, over t (on_of_contains w t m)))));
-}
-
--- a lower edge of w over which all of u lies
-grow_left : (u w : Tree) (c d : Pair) → IsLowerEdge (points_of w) c d → ((t : Pair) → On u t → pos 0 <ℤ orient c d t)
-    → IsLowerEdge (points_of u ++ points_of w) c d
-grow_left u w c d k over = record {
-  from = Contains-append_right (points_of u) (points_of w) c k.from;
-  to = Contains-append_right (points_of u) (points_of w) d k.to;
-  forward = k.forward;
-  left = All-append (λ t. pos 0 ≤ℤ orient c d t) (points_of u) (points_of w)
-      (all_of (λ t. pos 0 ≤ℤ orient c d t) (points_of u) (λ t m. nn_above _ (over t (on_of_contains u t m)))) k.left;
-  last = All-append (λ t. orient c d t ≡ pos 0 → ¬ (IsBefore d t)) (points_of u) (points_of w)
-      (all_of (λ t. orient c d t ≡ pos 0 → ¬ (IsBefore d t)) (points_of u)
-      (λ t m e. absurd (omega (arith, ints, over t (on_of_contains u t m))))) k.last;
+-- a lower edge of one half over which all of the other lies is one of both
+grow : (S : List Pair) (near far : Tree) (c d : Pair) → AreHalves S near far → IsLowerEdge (points_of near) c d
+    → ((t : Pair) → On far t → pos 0 <ℤ orient c d t) → IsLowerEdge S c d
+grow S near far c d h k over = record {
+  from = h.in_near c (on_of_contains near c k.from);
+  to = h.in_near d (on_of_contains near d k.to);
+  along = k.along;
+  left = all_of (λ t. pos 0 ≤ℤ orient c d t) S (λ t m. elim (h.which t m) [
+    | inl i ↦ All-contains (λ t. pos 0 ≤ℤ orient c d t) (points_of near) t k.left (contains_of_on near t i)
+    | inr i ↦ nn_above _ (over t i)
+  ]);
+  last = all_of (λ t. orient c d t ≡ pos 0 → ¬ (IsBefore d t)) S (λ t m e. elim (h.which t m) [
+    | inl i ↦ All-contains (λ t. orient c d t ≡ pos 0 → ¬ (IsBefore d t)) (points_of near) t k.last
+        (contains_of_on near t i) e
+    | inr i ↦ absurd (omega (arith, ints, over t i))
+  ]);
 }
 
 -- the bridge of two halves is a lower edge of both
@@ -83,7 +72,7 @@ bridge_edge : (u w : Tree) (a b : Pair) → IsBefore a b → IsLowerBridge (On u
 bridge_edge u w a b ab h = record {
   from = Contains-append_left (points_of u) (points_of w) a (contains_of_on u a h.from_left);
   to = Contains-append_right (points_of u) (points_of w) b (contains_of_on w b h.to_right);
-  forward = ab;
+  along = ab;
   left = All-append (λ t. pos 0 ≤ℤ orient a b t) (points_of u) (points_of w)
       (all_of (λ t. pos 0 ≤ℤ orient a b t) (points_of u) (λ t m. h.inner_left t (on_of_contains u t m)))
       (all_of (λ t. pos 0 ≤ℤ orient a b t) (points_of w) (λ t m. h.inner_right t (on_of_contains w t m)));
@@ -105,8 +94,8 @@ left_lifts u w v a b e o h va k =
     let low : pos 0 ≤ℤ orient e.0 e.1 a =
     All-contains (λ t. pos 0 ≤ℤ orient e.0 e.1 t) (points_of u) a k.edge.left (contains_of_on u a h.from_left) in
     record {
-      edge = grow_right u w e.0 e.1 k.edge
-          (λ t i. over_from_left a b e.0 e.1 t (o a b h.from_left h.to_right) k.edge.forward ca
+      edge = grow (points_of u ++ points_of w) u w e.0 e.1 (halves_of u w) k.edge
+          (λ t i. over_from_left a b e.0 e.1 t (o a b h.from_left h.to_right) k.edge.along ca
           (o a t h.from_left i) low turn (h.inner_right t i));
       starts = k.starts;
       onward = k.onward;
@@ -123,8 +112,8 @@ right_lifts u w v a b e o h n k =
     let low : pos 0 ≤ℤ orient e.0 e.1 b =
     All-contains (λ t. pos 0 ≤ℤ orient e.0 e.1 t) (points_of w) b k.edge.left (contains_of_on w b h.to_right) in
     record {
-      edge = grow_left u w e.0 e.1 k.edge
-          (λ t i. over_from_right a b e.0 e.1 t (o a b h.from_left h.to_right) k.edge.forward bd
+      edge = grow (points_of u ++ points_of w) w u e.0 e.1 (swapped _ u w (halves_of u w)) k.edge
+          (λ t i. over_from_right a b e.0 e.1 t (o a b h.from_left h.to_right) k.edge.along bd
           (o t b i h.to_right) low turn (h.inner_left t i));
       starts = k.starts;
       onward = k.onward;

@@ -1,19 +1,19 @@
 -- The corners of a half's lower chain, and those of its two halves.
-use Rattle.std.proofs.Common.{pos, ◌<ℤ◌, inl, inr, sym, List, ◌++◌}
+use Rattle.std.proofs.Common.{pos, ◌<ℤ◌, inl, inr, List, ◌++◌}
 use Rattle.std.specs.List.{Contains}
 use Rattle.std.proofs.lemmas.List.Elements.{Contains-append_left, Contains-append_right, Contains-append_cases}
 use Rattle.lattice.specs.Plane.{Pair, orient, IsBefore}
 use Rattle.lattice.specs.Bridges.{IsAllBefore, IsLowerBridge}
-use Rattle.lattice.proofs.Vectors.{minus, turn_trans_strict, turn_trans_strict_right}
 use Rattle.bridge_search.specs.Trees.{Tree, IsBridged, On, first_of, last_of}
 use Rattle.bridge_search.specs.Leaves.{points_of}
 use Rattle.bridge_search.proofs.Ends.{last_by, on_last}
 use Rattle.bridge_search.proofs.Leaves.{on_of_contains, contains_of_on}
 use Rattle.bridge_search.proofs.Turns.{first_by, on_first}
-use Rattle.hull_geometry.proofs.Orientation.{orient-cross, orient_swap, at_least, above, ahead_of}
+use Rattle.hull_geometry.proofs.Orientation.{orient_swap, orient-cycle, above}
 use Rattle.hull_questions.specs.Chains.{IsLowerCorner}
 use Rattle.hull_questions.proofs.ChainEdges.{not_zero}
-use Rattle.lattice.proofs.Sides.{side_before, side_after, side_to_end}
+use Rattle.lattice.specs.declared.side.Side.TheVariants.{Lower}
+use Rattle.hull_geometry.proofs.Turns.{turns_on, turns_back}
 use Rattle.lattice.proofs.Numbers.{below_opposite, less_not_le}
 
 -- the first point is a corner: nothing stands before it
@@ -38,10 +38,9 @@ bridge_start u w a b o h = record {
   under = λ s t m n sa at.
       let i : On u s = on_of_contains u s m in
       let turn : pos 0 <ℤ orient a b s = not_zero _ (h.inner_left s i) (λ z. (h.tie_left s i z).0 sa) in
-      below_opposite _ _ (orient_swap s t a) (above _ _ (sym (side_after s a t))
-      (turn_trans_strict (minus a s) (minus b a) (minus t a) (ahead_of s a sa)
-      (ahead_of a b (o a b h.from_left h.to_right)) (ahead_of a t at) (above _ _ (side_before a b s) turn)
-      (at_least _ _ (orient-cross a b t) (h.inner_left t (on_of_contains u t n)))));
+      below_opposite _ _ (orient_swap s t a)
+      (turns_on Lower s a b t sa (o a b h.from_left h.to_right) at (above _ _ (orient-cycle a b s) turn)
+      (h.inner_left t (on_of_contains u t n)));
 }
 
 -- the end of the bridge is a corner of the right half, each point of which after it lies over the bridge's line
@@ -52,11 +51,8 @@ bridge_end u w a b o h = record {
   under = λ s t m n sb bt.
       let i : On w t = on_of_contains w t n in
       let turn : pos 0 <ℤ orient a b t = not_zero _ (h.inner_right t i) (λ z. (h.tie_right t i z).1 bt) in
-      below_opposite _ _ (orient_swap s t b) (above _ _ (sym (side_after s b t))
-      (turn_trans_strict_right (minus b s) (minus b a) (minus t b) (ahead_of s b sb)
-      (ahead_of a b (o a b h.from_left h.to_right)) (ahead_of b t bt)
-      (at_least _ _ (side_to_end a b s) (h.inner_right s (on_of_contains w s m)))
-      (above _ _ (side_after a b t) turn)));
+      below_opposite _ _ (orient_swap s t b) (above _ _ (orient-cycle b t s)
+      (turns_back Lower a b t s (o a b h.from_left h.to_right) bt sb (h.inner_right s (on_of_contains w s m)) turn));
 }
 
 -- a corner of both halves that is a point of the left one is a corner of that

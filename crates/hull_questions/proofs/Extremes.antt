@@ -1,20 +1,26 @@
 -- Which half has the first of the farthest points.
-use Rattle.std.proofs.Common.{◌≡◌, ℕ, subst, ◌≤ℤ◌, ◌<ℤ◌, inl, inr, refl}
+use Rattle.std.proofs.Common.{◌≡◌, ℕ, subst, pos, ◌≤ℤ◌, ◌<ℤ◌, inl, inr, refl}
 use Rattle.std.proofs.Common.{arith, ◌++◌, [], ◌∷◌, Some, None}
 use Rattle.std.specs.List.{All, Contains}
 use Rattle.std.specs.Prelude.{◌≢◌}
 use Rattle.std.proofs.lemmas.Int.{ints}
 use Rattle.std.proofs.lemmas.List.Elements.{All-contains, All-append, Contains-append_left, Contains-append_right}
-use Rattle.lattice.specs.Plane.{Pair, product, IsBefore}
+use Rattle.lattice.specs.Plane.{Pair, orient, product, IsBefore}
 use Rattle.lattice.specs.Bridges.{IsAllBefore}
 use Rattle.lattice.specs.Signs.{le_or_lt}
 use Rattle.bridge_search.specs.Trees.{Tree, Leaf, Fork, On, IsBridged, IsFork, edge_of, left_of, right_of, first_of}
 use Rattle.bridge_search.specs.Trees.{IsAtDepth}
 use Rattle.bridge_search.specs.Leaves.{points_of}
-use Rattle.bridge_search.proofs.Leaves.{all_of, on_of_contains, contains_of_on}
-use Rattle.hull_geometry.specs.Tangents.{IsFirstFarthest}
+use Rattle.bridge_search.proofs.Leaves.{on_of_contains, contains_of_on}
+use Rattle.hull_geometry.proofs.PointLists.{all_of}
+use Rattle.hull_geometry.specs.Tangents.{IsFirstFarthest, Faces}
 use Rattle.lattice.proofs.Order.{before_not, before_irrefl}
-use Rattle.hull_geometry.proofs.Slopes.{stays_up, goes_up, stays_down, goes_down}
+use Rattle.hull_geometry.proofs.Slopes.{stays, goes}
+use Rattle.hull_geometry.proofs.Orientation.{orient_other}
+use Rattle.lattice.proofs.Numbers.{nn_opposite}
+use Rattle.lattice.specs.Turns.{turn}
+use Rattle.lattice.specs.declared.side.Side.{Side}
+use Rattle.lattice.specs.declared.side.Side.TheVariants.{Lower, Upper}
 use Rattle.hull_questions.proofs.StoredEdges.{same_ends}
 use Rattle.hull_questions.specs.Parts.{IsFacing, IsFartherPart, IsOneDown}
 
@@ -69,55 +75,53 @@ facing_fork d (Leaf x) e (inl h) = absurd (cc)
 facing_fork d (Leaf x) e (inr h) = absurd (cc)
 facing_fork d (Fork e f u w) g h = tt
 
--- the left end is not less far than the right one: to the left half
+-- the left end of a bridge that d faces is not less far than the right one: the first of the farthest is in the left half
+stays_left : (side : Side) (u w : Tree) (d a b r : Pair) → Faces side d → IsAllBefore (On u) (On w) → On u a → On w b
+    → ((s : Pair) → On w s → pos 0 ≤ℤ turn side a b s) → product d b ≤ℤ product d a → IsFirstFarthest (points_of u) d r
+    → IsFirstFarthest (points_of u ++ points_of w) d r
+stays_left side u w d a b r faces o ia ib inner f h =
+    in_left u w d r o h (λ s i. (a, ia, stays side d a b s faces (o a b ia ib) (o a s ia i) (inner s i) f))
+
+-- the left end is less far than the right one: it is in the right half
+goes_right : (side : Side) (u w : Tree) (d a b r : Pair) → Faces side d → IsAllBefore (On u) (On w) → On u a → On w b
+    → ((s : Pair) → On u s → pos 0 ≤ℤ turn side a b s) → product d a <ℤ product d b → IsFirstFarthest (points_of w) d r
+    → IsFirstFarthest (points_of u ++ points_of w) d r
+goes_right side u w d a b r faces o ia ib inner f h =
+    in_right u w d r h (λ s i. (b, ib, goes side d a b s faces (o a b ia ib) (o s b i ib) (inner s i) f))
+
+-- inwards of an upper bridge
+under : (e : Pair × Pair) (s : Pair) → orient e.0 e.1 s ≤ℤ pos 0 → pos 0 ≤ℤ turn Upper e.0 e.1 s
+under e s h = nn_opposite _ _ (orient_other e.0 e.1 s) h
+
+-- the left end of the edge that d faces is not less far than the right one: to the left half
 pub farther_left : (d : Pair) (t : Tree) (p q : Pair) → IsBridged t → IsFacing d t (Some (p, q))
     → ¬ (product d p <ℤ product d q) → IsFartherPart d t (left_of t)
 farther_left d (Leaf x) p q h (inl g) k = absurd (cc)
 farther_left d (Leaf x) p q h (inr g) k = absurd (cc)
 farther_left d (Fork e f u w) p q h (inl g) k = record {
-  lifts = λ r a. in_left u w d r h.0 a
-      (λ s i. (
-        e.0,
-        h.1.from_left,
-        stays_up d e.0 e.1 s g.0 (h.0 e.0 e.1 h.1.from_left h.1.to_right) (h.0 e.0 s h.1.from_left i)
-            (h.1.inner_right s i) (at_most d p q _ _ (same_ends g.1) k),
-      ));
+  lifts = λ r a. stays_left Upper u w d e.0 e.1 r g.0 h.0 h.1.from_left h.1.to_right
+      (λ s i. under e s (h.1.inner_right s i)) (at_most d p q _ _ (same_ends g.1) k) a;
   lower = omega arith;
 }
 farther_left d (Fork e f u w) p q h (inr g) k = record {
-  lifts = λ r a. in_left u w d r h.0 a
-      (λ s i. (
-        f.0,
-        h.2.from_left,
-        stays_down d f.0 f.1 s g.0 (h.0 f.0 f.1 h.2.from_left h.2.to_right) (h.0 f.0 s h.2.from_left i)
-            (h.2.inner_right s i) (at_most d p q _ _ (same_ends g.1) k),
-      ));
+  lifts = λ r a. stays_left Lower u w d f.0 f.1 r g.0 h.0 h.2.from_left h.2.to_right h.2.inner_right
+      (at_most d p q _ _ (same_ends g.1) k) a;
   lower = omega arith;
 }
 
--- the left end is less far than the right one: to the right half
+-- it is less far: to the right half
 pub farther_right : (d : Pair) (t : Tree) (p q : Pair) → IsBridged t → IsFacing d t (Some (p, q))
     → product d p <ℤ product d q → IsFartherPart d t (right_of t)
 farther_right d (Leaf x) p q h (inl g) k = absurd (cc)
 farther_right d (Leaf x) p q h (inr g) k = absurd (cc)
 farther_right d (Fork e f u w) p q h (inl g) k = record {
-  lifts = λ r a. in_right u w d r a
-      (λ s i. (
-        e.1,
-        h.1.to_right,
-        goes_up d e.0 e.1 s g.0 (h.0 e.0 e.1 h.1.from_left h.1.to_right) (h.0 s e.1 i h.1.to_right)
-            (h.1.inner_left s i) (less_far d p q _ _ (same_ends g.1) k),
-      ));
+  lifts = λ r a. goes_right Upper u w d e.0 e.1 r g.0 h.0 h.1.from_left h.1.to_right
+      (λ s i. under e s (h.1.inner_left s i)) (less_far d p q _ _ (same_ends g.1) k) a;
   lower = omega arith;
 }
 farther_right d (Fork e f u w) p q h (inr g) k = record {
-  lifts = λ r a. in_right u w d r a
-      (λ s i. (
-        f.1,
-        h.2.to_right,
-        goes_down d f.0 f.1 s g.0 (h.0 f.0 f.1 h.2.from_left h.2.to_right) (h.0 s f.1 i h.2.to_right)
-            (h.2.inner_left s i) (less_far d p q _ _ (same_ends g.1) k),
-      ));
+  lifts = λ r a. goes_right Lower u w d f.0 f.1 r g.0 h.0 h.2.from_left h.2.to_right h.2.inner_left
+      (less_far d p q _ _ (same_ends g.1) k) a;
   lower = omega arith;
 }
 

@@ -81,7 +81,7 @@ no_steps : (t : Tree) (v w : Pair) (passed : List Pair) → v ≡ w → IsWalk t
 no_steps t v w [] e k = refl
 no_steps t v w (x ∷ xs) e k =
     absurd (not_back (points_of t) x xs k.chain.1
-    (subst (λ (z : Pair). IsBefore z x) (e ∙ sym k.ends) k.chain.0.forward))
+    (subst (λ (z : Pair). IsBefore z x) (e ∙ sym k.ends) k.chain.0.along))
 
 -- so that its fan is 0
 fan_still : (t : Tree) (apex v w : Pair) (z : ℤ) → v ≡ w → IsFan t apex v w z → z ≡ pos 0

@@ -1,3 +1,4 @@
+pub mod Halves
 pub mod StoredEdges
 pub mod Extremes
 pub mod ChainEdges

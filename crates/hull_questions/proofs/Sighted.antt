@@ -1,18 +1,15 @@
 -- From where a point looks at the hull of a half, by the ends of the half.
-use Rattle.std.proofs.Common.{◌≡◌, sym, subst}
-use Rattle.std.specs.List.{Contains}
-use Rattle.lattice.specs.Covers.{Member}
+use Rattle.std.proofs.Common.{◌≡◌}
 use Rattle.lattice.specs.Places.{IsOnBoundary}
 use Rattle.lattice.specs.Plane.{Pair, IsBefore}
 use Rattle.bridge_search.specs.Trees.{Tree, IsBridged, first_of, last_of}
 use Rattle.bridge_search.specs.Leaves.{points_of}
 use Rattle.bridge_search.proofs.Ends.{last_by, on_last}
-use Rattle.bridge_search.proofs.Leaves.{all_of, on_of_contains, contains_of_on}
+use Rattle.bridge_search.proofs.Leaves.{on_of_contains, contains_of_on}
 use Rattle.bridge_search.proofs.Turns.{first_by, on_first}
 use Rattle.hull_geometry.specs.Edges.{IsFirst, IsLast}
 use Rattle.hull_geometry.specs.Sights.{IsLowerEdgeAt, IsBetweenEnds, AreEnds}
-use Rattle.hull_geometry.proofs.EdgesAt.{up_to, on_from}
-use Rattle.hull_set.proofs.Placings.{outer_last}
+use Rattle.hull_geometry.proofs.EdgesAt.{up_to, on_from, touching_last}
 
 -- no point stands before the first
 pub is_first : (t : Tree) → IsBridged t → IsFirst (points_of t) (first_of t)
@@ -30,13 +27,9 @@ are_ends t h = (
 )
 
 -- the last point lies on the boundary
-pub touching_last : (t : Tree) (q : Pair) → IsBridged t → q ≡ last_of t → IsOnBoundary (points_of t) q
-touching_last t q h e = (
-  Member (subst (Contains (points_of t)) (sym e) (contains_of_on t (last_of t) (on_last t))),
-  outer_last (points_of t) q
-      (all_of (λ s. ¬ (IsBefore q s)) (points_of t)
-      (λ s i b. is_last t h s i (subst (λ (z : Pair). IsBefore z s) e b))),
-)
+pub last_touched : (t : Tree) (q : Pair) → IsBridged t → q ≡ last_of t → IsOnBoundary (points_of t) q
+last_touched t q h e =
+    rw e (touching_last (points_of t) (last_of t) (contains_of_on t (last_of t) (on_last t)) (is_last t h))
 
 -- a point that has an edge at it stands between the ends, if it stands after the edge's left end
 pub between_ends : (t : Tree) (q : Pair) (e : Pair × Pair) → IsBridged t → IsLowerEdgeAt (points_of t) q e

@@ -29,7 +29,7 @@ whole_stretch t h = record {
 -- a chain of lower edges does not end before its start
 pub not_back : (S : List Pair) (v : Pair) (vs : List Pair) → IsChain (IsLowerEdge S) v vs → ¬ (IsBefore (end_of v vs) v)
 not_back S v [] c b = before_irrefl v b
-not_back S v (x ∷ xs) c b = not_back S x xs c.1 (before_trans (end_of x xs) v x b c.0.forward)
+not_back S v (x ∷ xs) c b = not_back S x xs c.1 (before_trans (end_of x xs) v x b c.0.along)
 
 -- a chain of the left half that does not end after the start of the bridge is one of both halves
 chain_left : (u w : Tree) (a b v : Pair) (vs : List Pair) → IsAllBefore (On u) (On w) → IsLowerBridge (On u) (On w) a b
@@ -38,9 +38,9 @@ chain_left : (u w : Tree) (a b v : Pair) (vs : List Pair) → IsAllBefore (On u)
 chain_left u w a b v [] o h c n = tt
 chain_left u w a b v (x ∷ xs) o h c n =
     let va : IsBefore v a =
-    on_from v x a c.0.forward (λ k. n (on_from a x (end_of x xs) k (not_back (points_of u) x xs c.1))) in (
+    on_from v x a c.0.along (λ k. n (on_from a x (end_of x xs) k (not_back (points_of u) x xs c.1))) in (
       (left_lifts u w v a b (v, x) o h va
-          (record { edge = c.0; starts = before_irrefl v; onward = c.0.forward })).edge,
+          (record { edge = c.0; starts = before_irrefl v; onward = c.0.along })).edge,
       chain_left u w a b x xs o h c.1 n,
     )
 
@@ -51,8 +51,8 @@ chain_right : (u w : Tree) (a b v : Pair) (vs : List Pair) → IsAllBefore (On u
 chain_right u w a b v [] o h c n = tt
 chain_right u w a b v (x ∷ xs) o h c n = (
   (right_lifts u w v a b (v, x) o h n
-      (record { edge = c.0; starts = before_irrefl v; onward = c.0.forward })).edge,
-  chain_right u w a b x xs o h c.1 (λ k. n (before_trans v x b c.0.forward k)),
+      (record { edge = c.0; starts = before_irrefl v; onward = c.0.along })).edge,
+  chain_right u w a b x xs o h c.1 (λ k. n (before_trans v x b c.0.along k)),
 )
 
 -- one chain, an edge, and another chain

@@ -3,45 +3,33 @@ use Rattle.std.proofs.Common.{◌≡◌, ◌<◌, ℤ, pos, ◌≤ℤ◌, ◌<�
 use Rattle.std.proofs.Common.{◌∷◌, Some, None}
 use Rattle.std.specs.List.{Contains}
 use Rattle.std.proofs.lemmas.Int.{ints}
-use Rattle.std.proofs.lemmas.List.Elements.{All-contains, Contains-append_left, Contains-append_right}
-use Rattle.std.proofs.lemmas.List.Elements.{Contains-append_cases}
-use Rattle.lattice.specs.Plane.{Pair, orient, distance_squared, IsBefore}
+use Rattle.std.proofs.lemmas.List.Elements.{All-contains}
+use Rattle.lattice.specs.Plane.{Pair, orient, IsBefore}
 use Rattle.lattice.specs.Signs.{le_or_lt}
-use Rattle.lattice.proofs.Vectors.{minus, cross, cross_swap, turn_trans, turn_trans_strict, turn_trans_strict_right}
 use Rattle.bridge_search.specs.Trees.{Tree, Leaf, Fork, On, IsBridged, lower_of, first_of, last_of, height_of}
 use Rattle.bridge_search.specs.Leaves.{points_of}
 use Rattle.bridge_search.proofs.Ends.{last_by, on_last}
-use Rattle.bridge_search.proofs.Leaves.{all_of, on_of_contains, contains_of_on}
+use Rattle.bridge_search.proofs.Leaves.{on_of_contains, contains_of_on}
+use Rattle.hull_geometry.proofs.PointLists.{all_of}
 use Rattle.bridge_search.proofs.Turns.{first_by, on_first}
 use Rattle.hull_geometry.proofs.EdgeSteps.{past_farther, past_farther_back}
 use Rattle.lattice.proofs.Order.{before_total, before_trans}
-use Rattle.hull_geometry.proofs.Orientation.{orient-cross, orient_swap, orient-cycle, at_least, above, ahead_of}
-use Rattle.hull_geometry.proofs.SameSide.{OneSide, left_trans, right_trans}
-use Rattle.hull_geometry.proofs.Sightings.{left_tangent, right_tangent}
+use Rattle.hull_geometry.proofs.Orientation.{orient_swap, orient-cycle, at_least, above}
+use Rattle.hull_geometry.proofs.SameSide.{OneSide, more_beside}
+use Rattle.hull_geometry.proofs.Sightings.{turn_on_back, no_more, tangent_of}
 use Rattle.hull_geometry.proofs.EdgesAt.{up_to, on_from}
-use Rattle.hull_questions.specs.Hands.{other_hand, IsNoMore, IsTangent, IsOnHand, end_on, half_on, outermost, IsBeyond}
+use Rattle.hull_geometry.specs.Hands.{other_hand, turn_on, IsMore, IsOnHand, end_on}
+use Rattle.hull_geometry.specs.Tangents.{IsNoMore, IsTangent}
+use Rattle.hull_questions.specs.Hands.{half_on, outermost, IsBeyond}
+use Rattle.hull_questions.proofs.Halves.{AreHalves, swapped, halves_of}
 use Rattle.hull_questions.specs.Parts.{IsTangentPart}
 use Rattle.hull_geometry.specs.Sights.{IsBelow}
-use Rattle.hull_questions.specs.declared.questions.tangents.Hand.{Hand}
-use Rattle.hull_questions.specs.declared.questions.tangents.Hand.TheVariants.{Left, Right}
-use Rattle.lattice.proofs.Sides.{side_before, side_after, side_to_end}
+use Rattle.hull_geometry.specs.declared.hand.Hand.{Hand}
+use Rattle.hull_geometry.specs.declared.hand.Hand.TheVariants.{Left, Right}
+use Rattle.lattice.specs.declared.side.Side.TheVariants.{Lower}
+use Rattle.hull_geometry.proofs.Turns.{turns_on, turns_back, fans_from, fans_to}
 
 -- ---- the order in which q sees the points that lie above it
-
--- above 0 where s is seen farther on this hand than t
-abbrev turn : Hand → Pair → Pair → Pair → ℤ
-turn Left q s t = orient q t s
-turn Right q s t = orient q s t
-
--- seen from q, s is farther on this hand than t, or in line with it and farther off
-abbrev IsMore : Hand → Pair → Pair → Pair → Type 0
-IsMore hand q s t =
-    (pos 0 <ℤ turn hand q s t) ⊎ ((turn hand q s t ≡ pos 0) × (distance_squared q t <ℤ distance_squared q s))
-
--- the turn the other way round
-turn_back : (hand : Hand) (q s t : Pair) → turn hand q t s ≡ neg_ℤ (turn hand q s t)
-turn_back Left q s t = orient_swap q s t
-turn_back Right q s t = orient_swap q t s
 
 -- a point of S stands on this hand of q, or q on this hand of it
 side_of : (hand : Hand) (S : List Pair) (q t : Pair) → IsBelow S q → Contains S t → IsOnHand hand t q ⊎ IsOnHand hand q t
@@ -56,21 +44,16 @@ side_of hand S q t h m = sort hand (before_total t q)
 
 -- a point on this hand of q is seen farther there than each point on the other
 across : (hand : Hand) (S : List Pair) (q s t : Pair) → IsBelow S q → Contains S s → Contains S t → IsOnHand hand s q
-    → IsOnHand hand q t → pos 0 <ℤ turn hand q s t
-across Left S q s t h m n b k = let a : orient s t q <ℤ pos 0 = h.under s t m n b k in let e = orient-cycle s t q in
+    → IsOnHand hand q t → pos 0 <ℤ turn_on hand q s t
+across Left S q s t h m n b k = let a : orient s t q <ℤ pos 0 = h.outwards s t m n b k in let e = orient-cycle s t q in
     let f = orient_swap q t s in omega (arith, ints)
-across Right S q s t h m n b k = let a : orient t s q <ℤ pos 0 = h.under t s n m k b in let e = orient-cycle t s q in
+across Right S q s t h m n b k = let a : orient t s q <ℤ pos 0 = h.outwards t s n m k b in let e = orient-cycle t s q in
     let f = orient_swap q s t in omega (arith, ints)
 
 -- of two points not each is farther on this hand
-clash : (hand : Hand) (q s t : Pair) → pos 0 <ℤ turn hand q s t → IsMore hand q t s → ⊥
-clash hand q s t a (inl g) = let e = turn_back hand q s t in omega (arith, ints)
-clash hand q s t a (inr g) = let e = turn_back hand q s t in omega (arith, ints, g.0)
-
--- of points on one side of q, farther on this hand is transitive
-trans_beside : (hand : Hand) (q u v w : Pair) → OneSide q u v w → IsMore hand q u v → IsMore hand q v w → IsMore hand q u w
-trans_beside Left q u v w o a b = left_trans q u v w o a b
-trans_beside Right q u v w o a b = right_trans q u v w o a b
+clash : (hand : Hand) (q s t : Pair) → pos 0 <ℤ turn_on hand q s t → IsMore hand q t s → ⊥
+clash hand q s t a (inl g) = let e = turn_on_back hand q s t in omega (arith, ints)
+clash hand q s t a (inr g) = let e = turn_on_back hand q s t in omega (arith, ints, g.0)
 
 -- three points on this hand of q stand on one side of it
 all_on : (hand : Hand) (q u v w : Pair) → IsOnHand hand u q → IsOnHand hand v q → IsOnHand hand w q → OneSide q u v w
@@ -90,7 +73,7 @@ more_trans hand S q u v w h mu mv mw a b =
       | inl bu ↦ elim (side_of hand S q w h mw) [
         | inr aw ↦ inl (across hand S q u w h mu mw bu aw)
         | inl bw ↦ elim (side_of hand S q v h mv) [
-          | inl bv ↦ trans_beside hand q u v w (all_on hand q u v w bu bv bw) a b
+          | inl bv ↦ more_beside hand q u v w (all_on hand q u v w bu bv bw) a b
           | inr av ↦ absurd (clash hand q w v (across hand S q w v h mw mv bw av) b)
         ]
       ]
@@ -98,52 +81,25 @@ more_trans hand S q u v w h mu mv mw a b =
         | inl bv ↦ absurd (clash hand q v u (across hand S q v u h mv mu bv au) a)
         | inr av ↦ elim (side_of hand S q w h mw) [
           | inl bw ↦ absurd (clash hand q w v (across hand S q w v h mw mv bw av) b)
-          | inr aw ↦ trans_beside hand q u v w (all_off hand q u v w au av aw) a b
+          | inr aw ↦ more_beside hand q u v w (all_off hand q u v w au av aw) a b
         ]
       ]
     ]
 
 -- ---- the tangent point of a part
 
--- what is not farther on this hand than p is not farther there
-no_more : (hand : Hand) (q p t : Pair) → IsNoMore hand q p t → IsMore hand q t p → ⊥
-no_more Left q p t k (inl g) = omega (arith, ints, k.0)
-no_more Left q p t k (inr g) = omega (arith, ints, g.1, k.1 g.0)
-no_more Right q p t k (inl g) = let e = orient_swap q t p in omega (arith, ints, k.0)
-no_more Right q p t k (inr g) = let e = orient_swap q p t in omega (arith, ints, g.1, k.1 (e ∙ ap neg_ℤ g.0))
-
--- the tangent touches where no point is farther on this hand
-tangent_of : (hand : Hand) (S : List Pair) (q p : Pair) → Contains S p
-    → ((t : Pair) → Contains S t → IsMore hand q t p → ⊥) → IsTangent hand S q p
-tangent_of Left S q p m h = left_tangent S q p m (all_of (λ t. ¬ (IsMore Left q t p)) S h)
-tangent_of Right S q p m h = right_tangent S q p m (all_of (λ t. ¬ (IsMore Right q t p)) S h)
-
--- the points of two halves are those of S
-record AreHalves (S : List Pair) (near far : Tree) : Type 0 where
-  pub in_near : (t : Pair) → On near t → Contains S t
-  pub in_far : (t : Pair) → On far t → Contains S t
-  pub which : (t : Pair) → Contains S t → On near t ⊎ On far t
-
--- and the other way round
-swapped : (S : List Pair) (near far : Tree) → AreHalves S near far → AreHalves S far near
-swapped S near far k = record {
-  in_near = k.in_far;
-  in_far = k.in_near;
-  which = λ t m. elim (k.which t m) [ inl i ↦ inr i | inr i ↦ inl i ];
-}
-
 -- what is seen from below is seen so in a half
 below_half : (S : List Pair) (near far : Tree) (q : Pair) → AreHalves S near far → IsBelow S q → IsBelow (points_of near) q
 below_half S near far q k h = record {
   absent = λ m. h.absent (k.in_near q (on_of_contains near q m));
-  under = λ s t m n. h.under s t (k.in_near s (on_of_contains near s m)) (k.in_near t (on_of_contains near t n));
+  outwards = λ s t m n. h.outwards s t (k.in_near s (on_of_contains near s m)) (k.in_near t (on_of_contains near t n));
 }
 
 -- where each point of one half is less far on this hand than one of the other, that has the tangent point of both
 kept : (hand : Hand) (S : List Pair) (near far : Tree) (q p : Pair) → AreHalves S near far → IsBelow S q
     → ((t : Pair) → On far t → (s : Pair) × On near s × IsMore hand q s t) → IsTangent hand (points_of near) q p
     → IsTangent hand S q p
-kept hand S near far q p k h more n = tangent_of hand S q p here (λ t m g. refuse t m g (k.which t m))
+kept hand S near far q p k h more n = tangent_of hand S q p here (all_of (λ t. ¬ (IsMore hand q t p)) S (λ t m g. refuse t m g (k.which t m)))
   where
     here : Contains S p
     here = k.in_near p (on_of_contains near p n.0)
@@ -163,10 +119,6 @@ kept hand S near far q p k h more n = tangent_of hand S q p here (λ t m g. refu
 above_or_zero : (x : ℤ) → pos 0 ≤ℤ x → (pos 0 <ℤ x) ⊎ (x ≡ pos 0)
 above_or_zero x h = elim (le_or_lt x (pos 0)) [ inl k ↦ inr (omega (arith, ints)) | inr k ↦ inl k ]
 
--- the negative of a number that is not above 0
-flip_nn : (x y : ℤ) → x ≡ neg_ℤ y → y ≤ℤ pos 0 → pos 0 ≤ℤ x
-flip_nn x y e h = omega (arith, ints)
-
 -- q not over the line of the bridge, and beyond its end on this hand: that end is seen farther there than each point t
 -- over the line on the other hand of it
 near_more : (hand : Hand) (S : List Pair) (q t : Pair) (e : Pair × Pair) → IsBelow S q → Contains S (end_on hand e)
@@ -176,28 +128,15 @@ near_more Left S q t (a, b) h ma mt ab at aq over under =
     elim (side_of Left S q t h mt) [
       | inr k ↦ inl (across Left S q a t h ma mt aq k)
       | inl k ↦
-          let x : pos 0 ≤ℤ cross (minus q a) (minus b a) =
-          flip_nn _ _ (cross_swap (minus q a) (minus b a))
-          (subst (λ (z : ℤ). z ≤ℤ pos 0) (orient-cross a b q) under) in
-          let y : pos 0 ≤ℤ cross (minus q a) (minus t a) =
-          turn_trans (minus q a) (minus b a) (minus t a) (ahead_of a q aq) (ahead_of a b ab) (ahead_of a t at) x
-          (at_least _ _ (orient-cross a b t) over) in
-          let z : pos 0 ≤ℤ orient q t a =
-          at_least _ _ (sym (orient-cross a q t) ∙ orient-cycle a q t ∙ orient-cycle t a q) y in
+          let y : pos 0 ≤ℤ orient a q t = fans_from Lower a b q t ab aq at under over in
+          let z : pos 0 ≤ℤ orient q t a = at_least _ _ (orient-cycle a q t ∙ orient-cycle t a q) y in
           elim (above_or_zero _ z) [ inl g ↦ inl g | inr e ↦ inr (e, past_farther_back q t a k at e) ]
     ]
 near_more Right S q t (a, b) h mb mt ab tb qb over under =
     elim (side_of Right S q t h mt) [
       | inr k ↦ inl (across Right S q b t h mb mt qb k)
       | inl k ↦
-          let x : pos 0 ≤ℤ cross (minus b a) (minus b q) =
-          flip_nn _ _ (cross_swap (minus b a) (minus b q))
-          (subst (λ (z : ℤ). z ≤ℤ pos 0) (side_to_end a b q) under) in
-          let y : pos 0 ≤ℤ cross (minus b t) (minus b q) =
-          turn_trans (minus b t) (minus b a) (minus b q) (ahead_of t b tb) (ahead_of a b ab) (ahead_of q b qb)
-          (at_least _ _ (side_to_end a b t) over) x in
-          let z : pos 0 ≤ℤ orient q b t = at_least _ _ (sym (side_to_end q b t)) y in
-          elim (above_or_zero _ z)
+          elim (above_or_zero _ (fans_to Lower a b q t ab qb tb under over))
           [ inl g ↦ inl g | inr e ↦ inr (e, past_farther q t b k tb (orient_swap q t b ∙ ap neg_ℤ e)) ]
     ]
 
@@ -206,13 +145,9 @@ near_more Right S q t (a, b) h mb mt ab tb qb over under =
 far_more : (hand : Hand) (q t : Pair) (e : Pair × Pair) → IsBefore e.0 e.1 → IsOnHand hand t (end_on (other_hand hand) e)
     → IsBeyond hand e q → pos 0 ≤ℤ orient e.0 e.1 t → IsMore hand q (end_on (other_hand hand) e) t
 far_more Left q t (a, b) ab tb (bq, left) over =
-    inl (above _ _ (sym (side_after t b q) ∙ orient-cycle t b q)
-    (turn_trans_strict_right (minus b t) (minus b a) (minus q b) (ahead_of t b tb) (ahead_of a b ab) (ahead_of b q bq)
-    (at_least _ _ (side_to_end a b t) over) (above _ _ (side_after a b q) left)))
+    inl (above _ _ (orient-cycle b q t ∙ orient-cycle t b q) (turns_back Lower a b q t ab bq tb over left))
 far_more Right q t (a, b) ab at (qa, left) over =
-    inl (above _ _ (sym (side_after q a t))
-    (turn_trans_strict (minus a q) (minus b a) (minus t a) (ahead_of q a qa) (ahead_of a b ab) (ahead_of a t at)
-    (above _ _ (side_before a b q) left) (at_least _ _ (orient-cross a b t) over)))
+    inl (turns_on Lower q a b t qa ab at (above _ _ (orient-cycle a b q) left) over)
 
 -- ---- one step down
 
@@ -230,24 +165,16 @@ split_at : (hand : Hand) (e f : Pair × Pair) (u w : Tree) → IsBridged (Fork e
     → IsSplit hand (points_of u ++ points_of w) (half_on hand (Fork e f u w)) (half_on (other_hand hand) (Fork e f u w)) f
 split_at hand e f u w h = turned hand
   where
-    halves : AreHalves (points_of u ++ points_of w) u w
-    halves = record {
-      in_near = λ t i. Contains-append_left (points_of u) (points_of w) t (contains_of_on u t i);
-      in_far = λ t i. Contains-append_right (points_of u) (points_of w) t (contains_of_on w t i);
-      which = λ t m. elim (Contains-append_cases (points_of u) (points_of w) t m)
-          [ inl i ↦ inl (on_of_contains u t i) | inr i ↦ inr (on_of_contains w t i) ];
-    }
-
     forward : IsBefore f.0 f.1
     forward = h.0 f.0 f.1 h.2.from_left h.2.to_right
 
     over : (t : Pair) → Contains (points_of u ++ points_of w) t → pos 0 ≤ℤ orient f.0 f.1 t
-    over t m = elim (halves.which t m) [ inl i ↦ h.2.inner_left t i | inr i ↦ h.2.inner_right t i ]
+    over t m = elim ((halves_of u w).which t m) [ inl i ↦ h.2.inner_left t i | inr i ↦ h.2.inner_right t i ]
 
     turned : (hand : Hand)
         → IsSplit hand (points_of u ++ points_of w) (half_on hand (Fork e f u w)) (half_on (other_hand hand) (Fork e f u w)) f
     turned Left = record {
-      halves = halves;
+      halves = halves_of u w;
       apart = h.0;
       from = h.2.from_left;
       to = h.2.to_right;
@@ -255,7 +182,7 @@ split_at hand e f u w h = turned hand
       over = over;
     }
     turned Right = record {
-      halves = swapped (points_of u ++ points_of w) u w halves;
+      halves = swapped (points_of u ++ points_of w) u w (halves_of u w);
       apart = λ s t i j. h.0 t s j i;
       from = h.2.to_right;
       to = h.2.from_left;
@@ -277,8 +204,8 @@ on_outermost Right t = on_last t
 under_bridge : (hand : Hand) (S : List Pair) (q : Pair) (e : Pair × Pair) → IsBelow S q → Contains S (end_on hand e)
     → Contains S (end_on (other_hand hand) e) → IsOnHand hand (end_on hand e) q
     → IsOnHand hand q (end_on (other_hand hand) e) → orient e.0 e.1 q ≤ℤ pos 0
-under_bridge Left S q e h m n a b = let k = h.under e.0 e.1 m n a b in omega (arith, ints)
-under_bridge Right S q e h m n a b = let k = h.under e.0 e.1 n m b a in omega (arith, ints)
+under_bridge Left S q e h m n a b = let k = h.outwards e.0 e.1 m n a b in omega (arith, ints)
+under_bridge Right S q e h m n a b = let k = h.outwards e.0 e.1 n m b a in omega (arith, ints)
 
 -- q not both beyond the bridge and over it: some point of the near half is seen farther on this hand than each point
 -- of the far one
@@ -379,7 +306,8 @@ far_part hand (Fork e f u w) part q g h s below b m =
 pub alone : (hand : Hand) (t : Tree) (q p : Pair) → lower_of t ≡ None → p ≡ first_of t → IsTangent hand (points_of t) q p
 alone hand (Fork e f u w) q p n k = absurd (cc)
 alone hand (Leaf x) q p n k =
-    tangent_of hand (x ∷ []) q p (contains_of_on (Leaf x) p k) (λ t m. itself t (on_of_contains (Leaf x) t m ∙ sym k))
+    tangent_of hand (x ∷ []) q p (contains_of_on (Leaf x) p k)
+    (all_of (λ t. ¬ (IsMore hand q t p)) (x ∷ []) (λ t m. itself t (on_of_contains (Leaf x) t m ∙ sym k)))
   where
     itself : (t : Pair) → t ≡ p → IsMore hand q t p → ⊥
     itself t e (inl g) = let h = rw e at g in clash hand q p p h (inl h)

@@ -8,7 +8,8 @@ use Rattle.lattice.proofs.TurnedBridges.{before_turned, before_turned_back, turn
 use Rattle.lattice.proofs.Sides.{side_turned_over}
 use Rattle.bridge_search.specs.TurnedTrees.{turned_tree, turned_on, on_turned, first_turned, last_turned}
 use Rattle.bridge_search.specs.Leaves.{points_of}
-use Rattle.bridge_search.proofs.Leaves.{all_of, on_of_contains, contains_of_on}
+use Rattle.bridge_search.proofs.Leaves.{on_of_contains, contains_of_on}
+use Rattle.hull_geometry.proofs.PointLists.{all_of}
 use Rattle.hull_geometry.proofs.Orientation.{at_least}
 use Rattle.hull_geometry.specs.Edges.{IsLowerEdge, IsUpperEdge}
 use Rattle.hull_geometry.specs.Sights.{IsLowerEdgeAt, IsUpperEdgeAt}
@@ -32,7 +33,7 @@ pub upper_edge_of_turned : (t : Tree) (c d : Pair) → IsLowerEdge (points_of (t
 upper_edge_of_turned t c d k = record {
   from = turned_member t c k.from;
   to = turned_member t d k.to;
-  backward = turned_order c d k.forward;
+  along = turned_order c d k.along;
   left = All-weaker (λ s. pos 0 ≤ℤ orient c d (turned_point s))
       (λ s. pos 0 ≤ℤ orient (turned_point c) (turned_point d) s) (λ s h. at_least _ _ (sym (side_turned_over c d s)) h)
       (points_of t)

@@ -1,19 +1,19 @@
 -- After a turn by 180 degrees what is seen from above is seen from below.
-use Rattle.std.proofs.Common.{pos, ◌<ℤ◌, sym, subst}
+use Rattle.std.proofs.Common.{ℤ, pos, ◌<ℤ◌, sym, subst}
 use Rattle.std.specs.List.{Contains}
 use Rattle.std.proofs.lemmas.List.Elements.{All-weaker}
-use Rattle.lattice.specs.Plane.{Pair, orient, IsBefore, turned_point}
-use Rattle.lattice.proofs.Numbers.{below_opposite}
+use Rattle.lattice.specs.Plane.{Pair, IsBefore, turned_point}
 use Rattle.lattice.proofs.Sides.{side_turned_over, side_turned_back, far_turned, far_turned_back}
 use Rattle.bridge_search.specs.Trees.{Tree, first_of, last_of}
 use Rattle.lattice.proofs.TurnedBridges.{turned_twice, before_turned, before_turned_back, turned_order}
 use Rattle.bridge_search.specs.TurnedTrees.{turned_tree, first_turned, last_turned}
 use Rattle.bridge_search.specs.Leaves.{points_of}
-use Rattle.hull_geometry.proofs.Orientation.{orient_other, above}
-use Rattle.hull_questions.specs.Hands.{other_hand, IsNoMore, IsTangent, IsOnHand, outermost}
+use Rattle.hull_geometry.specs.Hands.{other_hand, IsOnHand}
+use Rattle.hull_geometry.specs.Tangents.{IsNoMore, IsTangent}
+use Rattle.hull_questions.specs.Hands.{outermost}
 use Rattle.hull_geometry.specs.Sights.{IsBelow, IsAbove}
-use Rattle.hull_questions.specs.declared.questions.tangents.Hand.{Hand}
-use Rattle.hull_questions.specs.declared.questions.tangents.Hand.TheVariants.{Left, Right}
+use Rattle.hull_geometry.specs.declared.hand.Hand.{Hand}
+use Rattle.hull_geometry.specs.declared.hand.Hand.TheVariants.{Left, Right}
 use Rattle.hull_questions.proofs.TurnedEdges.{turned_all, turned_member}
 
 -- above the half is, turned, below the turned half
@@ -21,11 +21,10 @@ pub below_turned : (t : Tree) (q : Pair) → IsAbove (points_of t) q
     → IsBelow (points_of (turned_tree t)) (turned_point q)
 below_turned t q h = record {
   absent = λ m. h.absent (subst (Contains (points_of t)) (turned_twice q) (turned_member t (turned_point q) m));
-  under = λ s r m n b k.
-      let a : pos 0 <ℤ orient (turned_point r) (turned_point s) q =
-      h.over (turned_point r) (turned_point s) (turned_member t r n) (turned_member t s m) (before_turned r q k)
-      (before_turned_back s q b) in
-      below_opposite _ _ (orient_other r s (turned_point q)) (above _ _ (side_turned_over r s q) a);
+  outwards = λ s r m n b k.
+      subst (λ (z : ℤ). z <ℤ pos 0) (side_turned_over s r q)
+      (h.outwards (turned_point r) (turned_point s) (turned_member t r n) (turned_member t s m) (before_turned r q k)
+      (before_turned_back s q b));
 }
 
 -- no farther on one hand after a turn is no farther there

@@ -3,10 +3,11 @@ use Rattle.std.specs.Prelude.{◌≡◌, ◌⊎◌, ℕ, ◌+◌, ◌<◌, pos, 
 use Rattle.lattice.specs.Plane.{Pair}
 use Rattle.bridge_search.specs.Trees.{Tree, edge_of, lower_of, height_of, IsAtDepth}
 use Rattle.bridge_search.specs.Leaves.{points_of}
-use Rattle.hull_geometry.specs.Tangents.{IsFirstFarthest}
-use Rattle.hull_questions.specs.Hands.{IsTangent, IsOnHand, outermost}
+use Rattle.hull_geometry.specs.Hands.{IsOnHand}
+use Rattle.hull_geometry.specs.Tangents.{IsFirstFarthest, IsTangent}
+use Rattle.hull_questions.specs.Hands.{outermost}
 use Rattle.hull_geometry.specs.Sights.{IsBelow}
-use Rattle.hull_questions.specs.declared.questions.tangents.Hand.{Hand}
+use Rattle.hull_geometry.specs.declared.hand.Hand.{Hand}
 
 -- what answers a question about the part answers it about the whole, and the part is lower
 pub record IsPartFor (A : Type 0) (IsAnswer : List Pair → A → Type 0) (whole part : Tree) : Type 0 where

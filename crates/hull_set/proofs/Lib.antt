@@ -1,4 +1,3 @@
-pub mod Placings
 pub mod UniqueReplies
 pub mod OrderedMaps
 pub mod Times

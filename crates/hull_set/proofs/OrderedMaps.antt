@@ -1,11 +1,14 @@
 -- What an ordered map of points answers and what becomes of its keys, in the words of point sets.
-use Rattle.std.proofs.Common.{◌≡◌, ℕ, ℤ, ◌<ℤ◌, inl, inr, refl, sym, ap, ◌∙◌, subst, List, arith, [], ◌∷◌}
+use Rattle.std.proofs.Common.{◌≡◌, ℕ, ℤ, ◌<ℤ◌, inl, inr, refl, sym, ap, ◌∙◌, subst, List, arith, [], ◌∷◌, get_or, true, false}
 use Rattle.std.specs.List.{All, Contains}
 use Rattle.std.specs.Prelude.{◌↔◌, IsSome}
-use Rattle.std.specs.Ordering.{int_cmp, on, then_cmp}
+use Rattle.std.specs.Ordering.{int_cmp, on, then_cmp, is_lt}
 use Rattle.std.specs.declared.cmp.Ordering.{Ordering}
 use Rattle.std.specs.declared.cmp.Ordering.TheVariants.{Less, Equal, Greater}
 use Rattle.std.specs.Cmp.{IsTotalOrder}
+use Rattle.std.specs.List.Sorted.{IsSorted}
+use Rattle.std.proofs.lemmas.List.Sorted.{sorted_far, ranks_by}
+use Rattle.hull_set.specs.PointLists.{IsAscending}
 use Rattle.std.specs.BTreeMap.{is_at, insert_entry}
 use Rattle.std.specs.Map.{lookup, keys_of, remove_entry}
 use Rattle.std.proofs.lemmas.Cmp.{then_total, on_total, int_cmp_total, eq_by_cmp_equiv}
@@ -108,3 +111,13 @@ remove_is ((x, m) ∷ es) p s =
           (none_removed es p
           (All-weaker (IsBefore x) (IsBefore p) (λ t c. before_trans p x t b c) (keys_of es) ahead)))
     ]
+
+-- what a sort leaves
+pub ascending : (xs : List Pair) → IsSorted point_cmp xs → IsAscending xs
+ascending xs s i j d l m b =
+    let f : is_lt (point_cmp (get_or xs j d) (get_or xs i d)) ≡ false =
+    sorted_far (λ x y. is_lt (point_cmp x y)) (ranks_by total (λ x. x)) xs s i j d l m in
+    tells (rw (less (get_or xs j d) (get_or xs i d) b) at f)
+  where
+    tells : true ≡ false → ⊥
+    tells e = absurd (cc)

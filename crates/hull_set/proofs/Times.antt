@@ -1,10 +1,11 @@
 -- How often a point counts at a point.
-use Rattle.std.proofs.Common.{◌≡◌, ◌⊎◌, inl, inr, refl, subst, Bool, true, false, List, ℕ}
+use Rattle.std.proofs.Common.{◌≡◌, ◌⊎◌, inl, inr, refl, sym, ap, ◌∙◌, subst, Bool, true, false, List, ℕ, ◌+◌, ◌<◌, length, take, get_or}
+use Rattle.std.proofs.lemmas.List.Sums.{sum_by_more}
 use Rattle.std.specs.Bool.{Decides}
 use Rattle.std.proofs.lemmas.Bool.Decides.{Decides-and, Decides-int_eq}
 use Rattle.lattice.specs.Plane.{Pair, IsBefore}
 use Rattle.lattice.proofs.Order.{before_total, before_irrefl}
-use Rattle.hull_set.specs.Held.{Held, once}
+use Rattle.hull_set.specs.Held.{Held, once, times_among}
 use Rattle.hull_set.specs.PointLists.{is_same_pair}
 
 -- the test tells whether both coordinates are equal
@@ -19,6 +20,10 @@ same_true p = (told p p).1 (refl, refl)
 pub fails : (b : Bool) → ¬ (b ≡ true) → b ≡ false
 fails true n = absurd (n refl)
 fails false n = refl
+
+-- no test both holds and fails
+true_not_false : true ≡ false → ⊥
+true_not_false e = absurd (cc)
 
 -- another point is not the same
 pub same_false : (p q : Pair) → ¬ (p ≡ q) → is_same_pair p q ≡ false
@@ -41,6 +46,21 @@ same_or_other p q =
       | inr (inl e) ↦ inl e
       | inr (inr b) ↦ inr (λ e. before_irrefl q (subst (λ (z : Pair). IsBefore q z) e b))
     ]
+
+-- points that the test finds equal are one
+pub told_same : (p q : Pair) → is_same_pair p q ≡ true → p ≡ q
+told_same p q t = elim (same_or_other p q) [ inl h ↦ h | inr d ↦ absurd (true_not_false (sym t ∙ same_false p q d)) ]
+
+-- and those that it does not are two
+pub told_other : (p q : Pair) → is_same_pair p q ≡ false → ¬ (p ≡ q)
+told_other p q f s =
+    true_not_false (sym (subst (λ z. is_same_pair p z ≡ true) s (same_true p)) ∙ f)
+
+-- a point, once more among the first points than before its place
+pub among_more : (xs : List Pair) (i : ℕ) (p q : Pair) → p ≡ get_or xs i p → i < length xs
+    → times_among (take (i + 1) xs) q ≡ times_among (take i xs) q + once p q
+among_more xs i p q e l =
+    sum_by_more (λ p. once p q) xs i p l ∙ ap (λ z. times_among (take i xs) q + once z q) (sym e)
 
 -- what is held is the same where the points are and each of them is held as often
 pub same_held : (S T : List Pair) (f g : Pair → ℕ) → S ≡ T → ((q : Pair) → f q ≡ g q)

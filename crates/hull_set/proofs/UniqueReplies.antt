@@ -14,7 +14,9 @@ use Rattle.hull_set.specs.declared.rules.Rules.{Rules}
 use Rattle.hull_set.specs.declared.rules.Rules.TheVariants.{Set, Counted}
 use Rattle.hull_set.specs.Replies.{AnswersAdd, AnswersRemove, AnswersExtreme, LiesAt, AnswersPlace, AnswersTangents}
 use Rattle.hull_set.specs.Replies.{AnswersVertices, AnswersArea, AnswersCount, Answers}
-use Rattle.hull_geometry.specs.Tangents.{IsFirstFarthest, IsLeftTangent, IsRightTangent}
+use Rattle.hull_geometry.specs.Tangents.{IsFirstFarthest, IsNoMore, IsTangent, IsLeftTangent, IsRightTangent}
+use Rattle.hull_geometry.specs.declared.hand.Hand.{Hand}
+use Rattle.hull_geometry.specs.declared.hand.Hand.TheVariants.{Left as LeftHand, Right as RightHand}
 use Rattle.hull_geometry.proofs.CoveredByEdges.{on_segment}
 use Rattle.hull_geometry.proofs.EdgeSteps.{past_farther, past_farther_back}
 use Rattle.lattice.proofs.Order.{before_total, equal_by}
@@ -65,46 +67,29 @@ same_distance S q a b n ma mb z e =
     unequal : (m k : ℤ) → m <ℤ k → m ≡ k → ⊥
     unequal m k h f = omega (arith, ints)
 
--- two sides that are not both of one sign
-no_side : (q a b : Pair) → orient q a b ≤ℤ pos 0 → orient q b a ≤ℤ pos 0 → orient q a b ≡ pos 0
-no_side q a b h k = let e = orient_swap q a b in omega (arith, ints)
+-- of two points neither is farther on a hand: q sees them in line
+in_line : (hand : Hand) (q a b : Pair) → IsNoMore hand q a b → IsNoMore hand q b a → orient q a b ≡ pos 0
+in_line LeftHand q a b f g = let e = orient_swap q a b in omega (arith, ints, f.0, g.0)
+in_line RightHand q a b f g = let e = orient_swap q a b in omega (arith, ints, f.0, g.0)
 
--- the left tangent point is one
-pub left_tangent_unique : (S : List Pair) (q a b : Pair) → ¬ Covers S q → IsLeftTangent S q a
-    → IsLeftTangent S q b → a ≡ b
-left_tangent_unique S q a b n h g =
-    let f = All-contains
-    (λ t. (orient q a t ≤ℤ pos 0)
-    × (orient q a t ≡ pos 0 → distance_squared q t ≤ℤ distance_squared q a)) S b h.1 g.0 in
-    let k = All-contains
-    (λ t. (orient q b t ≤ℤ pos 0)
-    × (orient q b t ≡ pos 0 → distance_squared q t ≤ℤ distance_squared q b)) S a g.1 h.0 in
-    let z : orient q a b ≡ pos 0 = no_side q a b f.0 k.0 in
-    let y : orient q b a ≡ pos 0 = no_side q b a k.0 f.0 in
-    same_distance S q a b n h.0 g.0 z (equal _ _ (k.1 y) (f.1 z))
+-- and in line no farther off
+no_farther : (hand : Hand) (q a b : Pair) → IsNoMore hand q a b → orient q a b ≡ pos 0
+    → distance_squared q b ≤ℤ distance_squared q a
+no_farther LeftHand q a b f = f.1
+no_farther RightHand q a b f = f.1
+
+-- the tangent point on a hand is one
+tangent_unique : (hand : Hand) (S : List Pair) (q a b : Pair) → ¬ Covers S q → IsTangent hand S q a
+    → IsTangent hand S q b → a ≡ b
+tangent_unique hand S q a b n h g =
+    let f : IsNoMore hand q a b = All-contains (IsNoMore hand q a) S b h.1 g.0 in
+    let k : IsNoMore hand q b a = All-contains (IsNoMore hand q b) S a g.1 h.0 in
+    let z : orient q a b ≡ pos 0 = in_line hand q a b f k in
+    same_distance S q a b n h.0 g.0 z
+    (le_both _ _ (no_farther hand q b a k (in_line hand q b a k f)) (no_farther hand q a b f z))
   where
-    equal : (m k : ℤ) → m ≤ℤ k → k ≤ℤ m → m ≡ k
-    equal m k h f = omega (arith, ints)
-
--- the right tangent point is one
-pub right_tangent_unique : (S : List Pair) (q a b : Pair) → ¬ Covers S q → IsRightTangent S q a
-    → IsRightTangent S q b → a ≡ b
-right_tangent_unique S q a b n h g =
-    let f = All-contains
-    (λ t. (pos 0 ≤ℤ orient q a t)
-    × (orient q a t ≡ pos 0 → distance_squared q t ≤ℤ distance_squared q a)) S b h.1 g.0 in
-    let k = All-contains
-    (λ t. (pos 0 ≤ℤ orient q b t)
-    × (orient q b t ≡ pos 0 → distance_squared q t ≤ℤ distance_squared q b)) S a g.1 h.0 in
-    let z : orient q a b ≡ pos 0 = none _ _ (orient_swap q a b) f.0 k.0 in
-    let y : orient q b a ≡ pos 0 = none _ _ (orient_swap q b a) k.0 f.0 in
-    same_distance S q a b n h.0 g.0 z (equal _ _ (k.1 y) (f.1 z))
-  where
-    none : (m k : ℤ) → m ≡ neg_ℤ k → pos 0 ≤ℤ m → pos 0 ≤ℤ k → m ≡ pos 0
-    none m k e h f = omega (arith, ints)
-
-    equal : (m k : ℤ) → m ≤ℤ k → k ≤ℤ m → m ≡ k
-    equal m k h f = omega (arith, ints)
+    le_both : (x y : ℤ) → x ≤ℤ y → y ≤ℤ x → x ≡ y
+    le_both x y h f = omega (arith, ints)
 
 -- q lies in one place
 pub place_unique : (S : List Pair) (q : Pair) (place other : WherePlaced) → LiesAt S q place → LiesAt S q other
@@ -278,8 +263,8 @@ tangent_points : (S : List Pair) (q l r : Pair) (reply : Reply)
     → ¬ Covers S q × IsLeftTangent S q l × IsRightTangent S q r → AnswersTangents S q reply
     → AgreesWith (TangentPoints l r) reply
 tangent_points S q l r (TangentPoints m s) a b =
-    inl (ap (λ (z : Pair). TangentPoints z r) (left_tangent_unique S q l m a.0 a.1 b.1)
-    ∙ ap (TangentPoints m) (right_tangent_unique S q r s a.0 a.2 b.2))
+    inl (ap (λ (z : Pair). TangentPoints z r) (tangent_unique LeftHand S q l m a.0 a.1 b.1)
+    ∙ ap (TangentPoints m) (tangent_unique RightHand S q r s a.0 a.2 b.2))
 tangent_points S q l r NoTangent a b = absurd (no_both S q l a.0 a.1.0 b)
 tangent_points S q l r _ a b = absurd b
 

@@ -1,5 +1,6 @@
 -- What a set of points holds: its live points, and how often it holds each point.
 use Rattle.std.specs.Prelude.{ℕ, ◌+◌, ◌-◌, if◌then◌else◌, List, []}
+use Rattle.std.specs.List.{sum_by}
 use Rattle.lattice.specs.Plane.{Pair}
 use Rattle.lattice.specs.Covers.{with_point, without_point}
 use Rattle.hull_set.specs.PointLists.{is_same_pair}
@@ -16,6 +17,10 @@ nothing_held = record { points = []; times = λ q. 0 }
 -- 1 where the two points are one, and else 0
 abbrev pub once : Pair → Pair → ℕ
 once p q = if is_same_pair p q then 1 else 0
+
+-- how often a point stands in a list
+abbrev pub times_among : List Pair → Pair → ℕ
+times_among points q = sum_by (λ p. once p q) points
 
 -- p once more
 abbrev pub raised : Pair → (Pair → ℕ) → Pair → ℕ

@@ -1,5 +1,5 @@
 pub mod Held
 pub mod Replies
-pub mod Places
 pub mod Laws
 pub mod PointLists
+pub mod Places

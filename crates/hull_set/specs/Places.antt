@@ -1,11 +1,12 @@
--- Where a point lies, by the sides of it on which two points turn.
-use Rattle.std.specs.Prelude.{◌≡◌, ℤ, pos, ◌≤ℤ◌, ◌<ℤ◌, ◌⊎◌, true, false, Bool}
+-- Where a point lies, by from where it looks.
+use Rattle.std.specs.Prelude.{List}
+use Rattle.lattice.specs.Plane.{Pair}
+use Rattle.hull_geometry.specs.Sights.{AreEnds, IsSightOf}
+use Rattle.hull_geometry.specs.declared.sight.Sight.{Sight}
+use Rattle.hull_set.specs.Replies.{LiesAt}
 use Rattle.hull_set.specs.declared.set.Place.{Place}
-use Rattle.hull_set.specs.declared.set.Place.TheVariants.{Inside, On, Outside}
 
--- where q lies, by the sides of it on which the lowest points and the highest points turn
-abbrev pub IsPlaceBy : Bool → ℤ → ℤ → Place → Type 0
-IsPlaceBy present lower upper Outside = (present ≡ false) × ((lower <ℤ pos 0) ⊎ (upper <ℤ pos 0))
-IsPlaceBy present lower upper Inside = (pos 0 <ℤ lower) × (pos 0 <ℤ upper)
-IsPlaceBy present lower upper On =
-    ((present ≡ true) ⊎ ((pos 0 ≤ℤ lower) × (pos 0 ≤ℤ upper))) × ((lower ≤ℤ pos 0) ⊎ (upper ≤ℤ pos 0))
+-- what looks from there lies there
+abbrev pub TellsPlace : Sight → Place → Type 0
+TellsPlace sight place = (first last : Pair) (S : List Pair) (q : Pair) → AreEnds S first last
+    → IsSightOf first last S q sight → LiesAt S q place

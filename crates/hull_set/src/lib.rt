@@ -7,6 +7,7 @@
 
 mod call;
 mod laws;
+mod place;
 mod point_list;
 mod reply;
 mod rules;

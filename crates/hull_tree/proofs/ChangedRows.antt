@@ -1,5 +1,5 @@
 -- What a change makes of a set, and of two lists in a row.
-use Rattle.std.proofs.Common.{◌≡◌, ◌+◌, refl, sym, ap, subst, List, [], ◌∷◌, ◌++◌, length, arith, inl, inr, zero, suc}
+use Rattle.std.proofs.Common.{◌≡◌, ◌+◌, refl, sym, ap, subst, List, [], ◌∷◌, ◌++◌, length, arith, inl, inr}
 use Rattle.std.specs.List.{All, Contains}
 use Rattle.std.proofs.lemmas.List.Elements.{All-contains, All-head, All-tail}
 use Rattle.std.proofs.lemmas.List.Elements.{Contains-append_right, Contains-append_cases}
@@ -7,15 +7,11 @@ use Rattle.lattice.specs.Covers.{IsPointSet, with_point, without_point}
 use Rattle.lattice.specs.Plane.{Pair, IsBefore}
 use Rattle.lattice.proofs.Order.{before_trans, before_irrefl, before_total, before_not, before_apart, after_apart}
 use Rattle.lattice.proofs.Order.{is_before-true, is_before-false}
-use Rattle.hull_geometry.proofs.PointLists.{AllPairs-head, AllPairs-tail}
-
--- the one member of a list of one
-pub only_member : (x t : Pair) → Contains (x ∷ []) t → t ≡ x
-only_member x t (zero, l, e) = sym e
-only_member x t (suc i, l, e) = absurd (omega arith)
+use Rattle.hull_geometry.proofs.SetLaws.{ordered_with, ordered_without}
+use Rattle.hull_geometry.proofs.PointLists.{AllPairs-head, AllPairs-tail, only_member}
 
 -- p before all of the right list: it is added to the left one
-pub with_left : (p : Pair) (xs ys : List Pair) → All (IsBefore p) ys → with_point p (xs ++ ys) ≡ with_point p xs ++ ys
+with_left : (p : Pair) (xs ys : List Pair) → All (IsBefore p) ys → with_point p (xs ++ ys) ≡ with_point p xs ++ ys
 with_left p [] [] a = refl
 with_left p [] (y ∷ ys) a =
     let h : IsBefore p y = All-head (IsBefore p) y ys a in
@@ -31,7 +27,7 @@ with_left p (x ∷ xs) ys a =
     ]
 
 -- p after all of the left list: it is added to the right one
-pub with_right : (p : Pair) (xs ys : List Pair) → All (λ t. IsBefore t p) xs
+with_right : (p : Pair) (xs ys : List Pair) → All (λ t. IsBefore t p) xs
     → with_point p (xs ++ ys) ≡ xs ++ with_point p ys
 with_right p [] ys a = refl
 with_right p (x ∷ xs) ys a =
@@ -39,7 +35,7 @@ with_right p (x ∷ xs) ys a =
     (ap (λ (z : List Pair). x ∷ z) (with_right p xs ys (All-tail (λ t. IsBefore t p) x xs a)))
 
 -- p before all of the right list: it is taken from the left one
-pub without_left : (p : Pair) (xs ys : List Pair) → All (IsBefore p) ys
+without_left : (p : Pair) (xs ys : List Pair) → All (IsBefore p) ys
     → without_point p (xs ++ ys) ≡ without_point p xs ++ ys
 without_left p [] [] a = refl
 without_left p [] (y ∷ ys) a =
@@ -56,12 +52,26 @@ without_left p (x ∷ xs) ys a =
     ]
 
 -- p after all of the left list: it is taken from the right one
-pub without_right : (p : Pair) (xs ys : List Pair) → All (λ t. IsBefore t p) xs
+without_right : (p : Pair) (xs ys : List Pair) → All (λ t. IsBefore t p) xs
     → without_point p (xs ++ ys) ≡ xs ++ without_point p ys
 without_right p [] ys a = refl
 without_right p (x ∷ xs) ys a =
     rw (is_before-true x p (All-head (λ t. IsBefore t p) x xs a))
     (ap (λ (z : List Pair). x ∷ z) (without_right p xs ys (All-tail (λ t. IsBefore t p) x xs a)))
+
+-- what a change at a point makes of a set: of two lists in a row the one that the point stands in changes
+pub record IsChange (f : Pair → List Pair → List Pair) : Type 0 where
+  pub left : (p : Pair) (xs ys : List Pair) → All (IsBefore p) ys → f p (xs ++ ys) ≡ f p xs ++ ys
+  pub right : (p : Pair) (xs ys : List Pair) → All (λ t. IsBefore t p) xs → f p (xs ++ ys) ≡ xs ++ f p ys
+  pub ordered : (p : Pair) (xs : List Pair) → IsPointSet xs → IsPointSet (f p xs)
+
+-- a point is added
+pub added : IsChange with_point
+added = record { left = with_left; right = with_right; ordered = ordered_with }
+
+-- or taken
+pub taken : IsChange without_point
+taken = record { left = without_left; right = without_right; ordered = ordered_without }
 
 -- a list of one without its point
 pub without_only : (p q : Pair) → Contains (q ∷ []) p → without_point p (q ∷ []) ≡ []

@@ -1,16 +1,15 @@
 -- A point that is counted in at the end of entries.
 use Rattle.std.proofs.Common.{◌≡◌, ℕ, ◌+◌, ◌<◌, ◌≤◌, inl, inr, refl, sym, ◌∙◌, ap, subst, List, [], ◌∷◌, ◌++◌, length}
 use Rattle.std.proofs.Common.{take, drop, get_or, arith, zero, suc, Bool, true, false, if◌then◌else◌, Some, ◌⊎◌}
-use Rattle.std.specs.Ordering.{is_lt}
 use Rattle.std.specs.Prelude.{not}
 use Rattle.std.specs.List.{All, Contains}
-use Rattle.std.specs.List.Sorted.{IsSorted, IsPermutation}
+use Rattle.std.specs.List.Sorted.{IsPermutation}
 use Rattle.std.proofs.Math.ListN.{get_or-map}
 use Rattle.std.proofs.Math.Nat.{eq-or-lt_of_le}
 use Rattle.std.proofs.lemmas.List.{map-append, take-append-drop}
 use Rattle.std.proofs.lemmas.List.Elements.{All-append, All-cons, All-contains, Contains-push_cases, Contains-append_right}
 use Rattle.std.proofs.lemmas.List.Elements.{Contains-append_left, Contains-get_or, All-head, All-tail}
-use Rattle.std.proofs.lemmas.List.Sorted.{sorted_far, ranks_by, sum_by-IsPermutation}
+use Rattle.std.proofs.lemmas.List.Sorted.{sum_by-IsPermutation}
 use Rattle.std.proofs.lemmas.List.Sums.{sum_by_push, sum_by_more, sum_by_more_le, sum_by-cons, sum_by-append}
 use Rattle.std.proofs.lemmas.Map.Entries.{length-keys_of}
 use Rattle.lattice.specs.Plane.{Pair, IsBefore}
@@ -19,21 +18,20 @@ use Rattle.lattice.proofs.Order.{before_trans, before_total, before_not}
 use Rattle.bridge_search.proofs.Leaves.{sets_in_row, points_in_order}
 use Rattle.hull_set.specs.Held.{once}
 use Rattle.hull_set.specs.PointLists.{is_same_pair}
-use Rattle.hull_set.proofs.OrderedMaps.{point_cmp, total}
 use Rattle.hull_set.proofs.Times.{same_held}
 use Rattle.hull_geometry.proofs.PointLists.{AllPairs-none, AllPairs-cons, get_or_free, later}
-use Rattle.hull_set.proofs.Times.{same_true, same_or_other, once_same}
+use Rattle.hull_set.proofs.Times.{same_or_other, once_same, told_other}
 use Rattle.hull_tree.specs.declared.node.Node as node
 use Rattle.hull_tree.specs.declared.node.Halves as halves
 use Rattle.hull_tree.specs.Nodes.{tree_of, below_of, left_half, right_half, several, times_below, IsLabelled, IsMultiplicity, IsWellBuilt}
 use Rattle.hull_tree.specs.Changes.{points_below, height_at, height_within}
 use Rattle.hull_tree.specs.Roots.{held_by}
-use Rattle.hull_tree.specs.Loaded.{points_listed, times_listed, times_among, AreEntries, IsAscending, entries_below}
+use Rattle.hull_tree.specs.Loaded.{points_listed, times_listed, AreEntries, entries_below}
+use Rattle.hull_set.specs.Held.{times_among}
 use Rattle.hull_tree.specs.Loaded.{held_listed, Precedes}
 use Rattle.hull_tree.proofs.HalfRows.{same_below}
-use Rattle.hull_tree.proofs.PointRows.{set_across}
+use Rattle.hull_geometry.proofs.PointSets.{set_apart}
 use Rattle.hull_tree.proofs.Multiplicities.{several_there, several_elsewhere}
-use Rattle.hull_set.proofs.OrderedMaps.{less}
 
 -- the points of entries with one more behind them
 points_pushed : (es : List (Pair × ℕ)) (e : Pair × ℕ) → points_listed (es ++ e ∷ []) ≡ points_listed es ++ e.0 ∷ []
@@ -85,9 +83,7 @@ pub after_all : (xs : List Pair) (x p t : Pair) → IsPointSet (xs ++ x ∷ []) 
     → Contains (xs ++ x ∷ []) t → IsBefore t p
 after_all xs x p t s n d m =
     elim (Contains-push_cases xs x t m) [
-      | inl i ↦ before_trans t x p
-          (All-contains (IsBefore t) (x ∷ []) x
-          (All-contains (λ u. All (IsBefore u) (x ∷ [])) xs t (set_across xs (x ∷ []) s) i) (0, omega arith, refl)) ahead
+      | inl i ↦ before_trans t x p (set_apart xs (x ∷ []) t x s i (0, omega arith, refl)) ahead
       | inr e ↦ subst (λ z. IsBefore z p) e ahead
     ]
   where
@@ -133,28 +129,15 @@ times_recounted es e p q n s =
     )
     (omega (arith, more_times (is_same_pair p q) e.1 n))
 
--- the last point is held as often at least as the number beside it says
-pub times_last : (es : List (Pair × ℕ)) (e : Pair × ℕ) (p : Pair) → e.0 ≡ p → e.1 ≤ times_listed (es ++ e ∷ []) p
-times_last es e p s =
-    rw (sum_by_push (λ (e : Pair × ℕ). several e.1 e.0 p) es e)
-    (let k : several e.1 e.0 p ≡ e.1 = rw s (several_there e.1 p) in omega (arith, k))
-
 -- two points of which a test told that they differ do
 pub other_point : {r : Bool} (p q : Pair) → r ≡ not (is_same_pair p q) → r ≡ true → ¬ (p ≡ q)
-other_point p q e t d =
-    let s : is_same_pair p q ≡ true = subst (λ z. is_same_pair p z ≡ true) d (same_true p) in
-    tells (rw s at e) t
+other_point p q e t = told_other p q (not_true _ (sym e ∙ t))
   where
-    tells : {r : Bool} → r ≡ false → r ≡ true → ⊥
-    tells h g = absurd (cc)
+    not_true : (b : Bool) → not b ≡ true → b ≡ false
+    not_true true h = sym h
+    not_true false h = refl
 
--- a point, once more among the first points than before its place
-pub counted_more : (xs : List Pair) (i : ℕ) (p q : Pair) → p ≡ get_or xs i p → i < length xs
-    → times_among (take (i + 1) xs) q ≡ times_among (take i xs) q + once p q
-counted_more xs i p q e l =
-    sum_by_more (λ p. once p q) xs i p l ∙ ap (λ z. times_among (take i xs) q + once z q) (sym e)
-
--- and at least so often among all of them
+-- a point stands at least once more among all points than before its place
 pub counted_past : (xs : List Pair) (i : ℕ) (p : Pair) → p ≡ get_or xs i p → i < length xs
     → times_among (take i xs) p + 1 ≤ times_among xs p
 counted_past xs i p e l =
@@ -266,7 +249,7 @@ listed_more es i e q h l =
     sum_by_more (λ (e : Pair × ℕ). several e.1 e.0 q) es i e l
     ∙ ap (λ (z : Pair × ℕ). times_listed (take i es) q + several z.1 z.0 q) (sym h)
 
--- and at least so often among all of them
+-- a point stands at least once more among all points than before its place
 pub listed_past : (es : List (Pair × ℕ)) (i : ℕ) (e : Pair × ℕ) → e ≡ get_or es i e → i < length es
     → times_listed (take i es) e.0 + e.1 ≤ times_listed es e.0
 listed_past es i e h l =
@@ -344,16 +327,6 @@ behind_both es fs i j e before after h k g s a b among = (
 )
 
 -- ---- points in order
--- what a sort leaves
-pub ascending : (xs : List Pair) → IsSorted point_cmp xs → IsAscending xs
-ascending xs s i j d l m b =
-    let f : is_lt (point_cmp (get_or xs j d) (get_or xs i d)) ≡ false =
-    sorted_far (λ x y. is_lt (point_cmp x y)) (ranks_by total (λ x. x)) xs s i j d l m in
-    tells (rw (less (get_or xs j d) (get_or xs i d) b) at f)
-  where
-    tells : true ≡ false → ⊥
-    tells e = absurd (cc)
-
 -- points moved by a sort stand among them as often
 pub sorted_times : (xs ys zs us : List Pair) (q : Pair) → ys ≡ xs → IsPermutation ys zs → us ≡ zs
     → times_among us q ≡ times_among xs q

@@ -1,10 +1,11 @@
 -- Two nodes in a row: the parts of a fork, and where a point goes that is added or taken.
-use Rattle.std.proofs.Common.{◌≡◌, ◌+◌, refl, sym, subst, ◌++◌, inl, inr, append_assoc, Some}
+use Rattle.std.proofs.Common.{◌≡◌, ◌+◌, refl, sym, subst, List, ◌++◌, inl, inr, append_assoc, Some}
 use Rattle.std.specs.List.{All}
-use Rattle.lattice.specs.Covers.{IsPointSet, with_point, without_point}
+use Rattle.lattice.specs.Covers.{IsPointSet}
 use Rattle.lattice.specs.Plane.{Pair, IsBefore}
 use Rattle.bridge_search.specs.Trees.{first_of, last_of}
-use Rattle.bridge_search.proofs.Leaves.{all_of, on_of_contains, points_in_order}
+use Rattle.bridge_search.proofs.Leaves.{on_of_contains, points_in_order}
+use Rattle.hull_geometry.proofs.PointLists.{all_of}
 use Rattle.bridge_search.proofs.Turns.{on_first, first_by}
 use Rattle.lattice.proofs.Order.{before_trans, before_total}
 use Rattle.hull_tree.specs.declared.node.Node as node
@@ -13,9 +14,9 @@ use Rattle.hull_tree.specs.Nodes.{tree_of, halves_of, below_of, left_half, right
 use Rattle.hull_tree.specs.Nodes.{DifferByAtMost}
 use Rattle.hull_tree.specs.Changes.{points_below, height_at, points_within, times_within, height_within, AreInRow}
 use Rattle.hull_tree.specs.Changes.{AreParted}
-use Rattle.hull_tree.proofs.PointRows.{set_left, set_right, all_before_of_set}
-use Rattle.hull_tree.proofs.ChangedRows.{with_left, with_right, without_left, without_right}
-use Rattle.hull_geometry.proofs.SetLaws.{ordered_with, ordered_without}
+use Rattle.hull_geometry.proofs.PointSets.{set_left, set_right}
+use Rattle.hull_tree.proofs.PointRows.{all_before_of_set}
+use Rattle.hull_tree.proofs.ChangedRows.{IsChange}
 
 -- what is known of the halves h of the well-built fork n
 pub record IsOver (n : node.Node) (h : halves.Halves) : Type 0 where
@@ -112,60 +113,31 @@ after_first l r p k n = all_of (λ t. IsBefore t p) (points_below l) (λ t i.
       | inr (inr m) ↦ before_trans t (first_of (tree_of r)) p h m
     ])
 
--- a point before the first one of r is added to l
-pub add_left : (l r : node.Node) (p : Pair) → AreInRow l r → IsBefore p (first_of (tree_of r))
-    → with_point p (points_below l ++ points_below r) ≡ with_point p (points_below l) ++ points_below r
-add_left l r p k b = with_left p (points_below l) (points_below r) (before_first l r p k b)
+-- a change at a point before the first one of r is one of l
+pub change_left : {f : Pair → List Pair → List Pair} (c : IsChange f) (l r : node.Node) (p : Pair) → AreInRow l r
+    → IsBefore p (first_of (tree_of r)) → f p (points_below l ++ points_below r) ≡ f p (points_below l) ++ points_below r
+change_left c l r p k b = c.left p (points_below l) (points_below r) (before_first l r p k b)
 
--- any other to r
-pub add_right : (l r : node.Node) (p : Pair) → AreInRow l r → ¬ (IsBefore p (first_of (tree_of r)))
-    → with_point p (points_below l ++ points_below r) ≡ points_below l ++ with_point p (points_below r)
-add_right l r p k n = with_right p (points_below l) (points_below r) (after_first l r p k n)
+-- at any other, of r
+pub change_right : {f : Pair → List Pair → List Pair} (c : IsChange f) (l r : node.Node) (p : Pair) → AreInRow l r
+    → ¬ (IsBefore p (first_of (tree_of r)))
+    → f p (points_below l ++ points_below r) ≡ points_below l ++ f p (points_below r)
+change_right c l r p k n = c.right p (points_below l) (points_below r) (after_first l r p k n)
 
--- a point before the first one of r is taken from l
-pub drop_left : (l r : node.Node) (p : Pair) → AreInRow l r → IsBefore p (first_of (tree_of r))
-    → without_point p (points_below l ++ points_below r) ≡ without_point p (points_below l) ++ points_below r
-drop_left l r p k b = without_left p (points_below l) (points_below r) (before_first l r p k b)
-
--- any other from r
-pub drop_right : (l r : node.Node) (p : Pair) → AreInRow l r → ¬ (IsBefore p (first_of (tree_of r)))
-    → without_point p (points_below l ++ points_below r) ≡ points_below l ++ without_point p (points_below r)
-drop_right l r p k n = without_right p (points_below l) (points_below r) (after_first l r p k n)
-
--- l with such a point stays in a row with r
-pub row_add_left : (l r m : node.Node) (p : Pair) → AreInRow l r → IsBefore p (first_of (tree_of r)) → IsWellBuilt m
-    → points_below m ≡ with_point p (points_below l) → AreInRow m r
-row_add_left l r m p k b h e = record {
+-- l after a change at such a point stays in a row with r
+pub row_left : {f : Pair → List Pair → List Pair} (c : IsChange f) (l r m : node.Node) (p : Pair) → AreInRow l r
+    → IsBefore p (first_of (tree_of r)) → IsWellBuilt m → points_below m ≡ f p (points_below l) → AreInRow m r
+row_left c l r m p k b h e = record {
   left_built = h;
   right_built = k.right_built;
-  in_order = rw e (subst IsPointSet (add_left l r p k b) (ordered_with p (points_below l ++ points_below r) k.in_order));
+  in_order = rw e (subst IsPointSet (change_left c l r p k b) (c.ordered p (points_below l ++ points_below r) k.in_order));
 }
 
--- and l with r with any other
-pub row_add_right : (l r m : node.Node) (p : Pair) → AreInRow l r → ¬ (IsBefore p (first_of (tree_of r)))
-    → IsWellBuilt m → points_below m ≡ with_point p (points_below r) → AreInRow l m
-row_add_right l r m p k n h e = record {
+-- and l with r after one at any other
+pub row_right : {f : Pair → List Pair → List Pair} (c : IsChange f) (l r m : node.Node) (p : Pair) → AreInRow l r
+    → ¬ (IsBefore p (first_of (tree_of r))) → IsWellBuilt m → points_below m ≡ f p (points_below r) → AreInRow l m
+row_right c l r m p k n h e = record {
   left_built = k.left_built;
   right_built = h;
-  in_order = rw e (subst IsPointSet (add_right l r p k n) (ordered_with p (points_below l ++ points_below r) k.in_order));
-}
-
--- l without such a point stays in a row with r
-pub row_drop_left : (l r m : node.Node) (p : Pair) → AreInRow l r → IsBefore p (first_of (tree_of r)) → IsWellBuilt m
-    → points_below m ≡ without_point p (points_below l) → AreInRow m r
-row_drop_left l r m p k b h e = record {
-  left_built = h;
-  right_built = k.right_built;
-  in_order = rw e (subst IsPointSet (drop_left l r p k b)
-      (ordered_without p (points_below l ++ points_below r) k.in_order));
-}
-
--- and l with r without any other
-pub row_drop_right : (l r m : node.Node) (p : Pair) → AreInRow l r → ¬ (IsBefore p (first_of (tree_of r)))
-    → IsWellBuilt m → points_below m ≡ without_point p (points_below r) → AreInRow l m
-row_drop_right l r m p k n h e = record {
-  left_built = k.left_built;
-  right_built = h;
-  in_order = rw e (subst IsPointSet (drop_right l r p k n)
-      (ordered_without p (points_below l ++ points_below r) k.in_order));
+  in_order = rw e (subst IsPointSet (change_right c l r p k n) (c.ordered p (points_below l ++ points_below r) k.in_order));
 }

@@ -1,6 +1,6 @@
 -- Entries cut in two, and the nodes over both parts.
 use Rattle.std.proofs.Common.{◌≡◌, ℕ, ◌+◌, ◌≤◌, sym, ◌∙◌, ap, subst, List, ◌++◌, length, take, drop, arith}
-use Rattle.std.proofs.Common.{Some, None}
+use Rattle.std.proofs.Common.{Some}
 use Rattle.std.proofs.lemmas.List.{take-append-drop, map-append}
 use Rattle.std.proofs.lemmas.List.Elements.{All-take, All-drop}
 use Rattle.std.proofs.lemmas.List.Sums.{sum_by-append}
@@ -8,15 +8,12 @@ use Rattle.std.proofs.lemmas.Map.Entries.{length-keys_of}
 use Rattle.lattice.specs.Plane.{Pair}
 use Rattle.lattice.specs.Covers.{IsPointSet}
 use Rattle.hull_set.specs.declared.TheConstants.{POINT_LIMIT}
-use Rattle.hull_geometry.proofs.PointLists.{AllPairs-none}
-use Rattle.hull_set.proofs.Times.{same_held}
 use Rattle.hull_tree.specs.declared.node.Node.{Node}
 use Rattle.hull_tree.specs.Nodes.{tree_of, several, times_below, IsMultiplicity, IsWellBuilt}
 use Rattle.hull_tree.specs.Changes.{points_below, height_at, AreInRow}
-use Rattle.hull_tree.specs.Roots.{held_by}
-use Rattle.hull_tree.specs.Sets.{IsLimited, IsSound}
-use Rattle.hull_tree.specs.Loaded.{held_listed, points_listed, times_listed, AreEntries, IsOver, IsHalvings}
-use Rattle.hull_tree.proofs.PointRows.{set_left, set_right}
+use Rattle.hull_tree.specs.Sets.{IsLimited}
+use Rattle.hull_tree.specs.Loaded.{points_listed, AreEntries, IsOver, IsHalvings}
+use Rattle.hull_geometry.proofs.PointSets.{set_left, set_right}
 use Rattle.hull_tree.proofs.Heights.{at_most_28}
 
 -- the points of two parts in a row
@@ -83,12 +80,3 @@ limited_over es n limit h r l g = record {
   low = l;
   high = g;
 }
-
--- it holds what they hold
-pub held_over : (es : List (Pair × ℕ)) (n : Node) → IsOver es n → held_by (Some n) ≡ held_listed es
-held_over es n h =
-    same_held (points_below n) (points_listed es) (times_below n) (λ q. times_listed es q) h.points h.times
-
--- nothing is sound
-pub sound_none : IsSound None
-sound_none = record { built = tt; in_order = AllPairs-none; low = omega arith }

@@ -11,7 +11,7 @@ use Rattle.bridge_search.proofs.Leaves.{on_of_contains, contains_of_on}
 use Rattle.hull_set.specs.Held.{once}
 use Rattle.hull_set.specs.PointLists.{is_same_pair}
 use Rattle.hull_set.specs.declared.TheConstants.{MULTIPLICITY_LIMIT}
-use Rattle.hull_set.proofs.Times.{same_true, same_false, same_or_other}
+use Rattle.hull_set.proofs.Times.{same_true, same_false, same_or_other, told_same}
 use Rattle.hull_tree.specs.declared.node.Node as node
 use Rattle.hull_tree.specs.declared.node.Halves as halves
 use Rattle.hull_tree.specs.Nodes.{tree_of, several, times_below, IsLabelled, IsWellBuilt}
@@ -199,9 +199,8 @@ leaf_lowered (node.Node' upper lower height near times
 
 -- two points of which a test did not tell that they differ are the same
 pub same_point : {r : Bool} (p q : Pair) → r ≡ not (is_same_pair p q) → r ≡ false → p ≡ q
-same_point p q e f =
-    elim (same_or_other p q)
-    [ inl h ↦ h | inr d ↦ absurd (let s : is_same_pair p q ≡ false = same_false p q d in tells (rw s at e) f) ]
+same_point p q e f = told_same p q (not_false _ (sym e ∙ f))
   where
-    tells : {r : Bool} → r ≡ true → r ≡ false → ⊥
-    tells h g = absurd (cc)
+    not_false : (b : Bool) → not b ≡ false → b ≡ true
+    not_false true h = refl
+    not_false false h = sym h

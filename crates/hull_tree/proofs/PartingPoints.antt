@@ -17,9 +17,8 @@ use Rattle.hull_tree.proofs.Multiplicities.{leaf_once, none_left, none_right}
 use Rattle.hull_tree.specs.Nodes.{tree_of, below_of, left_half, right_half, times_below, IsWellBuilt}
 use Rattle.hull_tree.specs.Changes.{points_below, IsPartedAt}
 use Rattle.hull_tree.proofs.PointRows.{all_before_of_set}
-use Rattle.hull_tree.proofs.ChangedRows.{without_only}
-use Rattle.hull_tree.proofs.HalfRows.{IsOver, over_halves, row_add_left, row_add_right, row_drop_left, row_drop_right}
-use Rattle.hull_tree.proofs.HalfRows.{drop_left, drop_right}
+use Rattle.hull_tree.proofs.ChangedRows.{without_only, added, taken}
+use Rattle.hull_tree.proofs.HalfRows.{IsOver, over_halves, change_left, change_right, row_left, row_right}
 
 -- the last point of a half is its point that none stands after
 last_is : (t : Tree) (x : Pair) → IsBridged t → On t x → ((s : Pair) → On t s → ¬ IsBefore x s) → last_of t ≡ x
@@ -116,7 +115,7 @@ pub parted_add_left : (l r m : Node) (p last first end : Pair) → IsPartedAt l 
     → IsWellBuilt m → points_below m ≡ with_point p (points_below l) → (IsBefore last p → end ≡ p)
     → (¬ IsBefore last p → end ≡ last) → IsPartedAt m r end first
 parted_add_left l r m p last first end k b h e y n = record {
-  row = row_add_left l r m p k.row (subst (IsBefore p) k.starts_right b) h e;
+  row = row_left added l r m p k.row (subst (IsBefore p) k.starts_right b) h e;
   ends_left = elim (before_total last p) [
     | inl i ↦ y i ∙ sym (last_moved (tree_of l) (tree_of m) p k.row.left_built.bridged h.bridged e
         (subst (λ z. IsBefore z p) k.ends_left i))
@@ -137,7 +136,7 @@ pub parted_add_right : (l r m : Node) (p last first : Pair) → IsPartedAt l r l
 parted_add_right l r m p last first k b h e =
     let n : ¬ IsBefore p (first_of (tree_of r)) = λ i. b (subst (IsBefore p) (sym k.starts_right) i) in
     record {
-      row = row_add_right l r m p k.row n h e;
+      row = row_right added l r m p k.row n h e;
       ends_left = k.ends_left;
       starts_right = k.starts_right
           ∙ sym (first_kept (tree_of r) (tree_of m) p k.row.right_built.bridged h.bridged e n);
@@ -153,7 +152,7 @@ pub parted_drop_left : (l r m s t : Node) (p last first end start : Pair) → Is
     → IsWellBuilt m → points_below m ≡ without_point p (points_below l) → s ≡ m → t ≡ r → end ≡ last_of (tree_of m)
     → start ≡ first → IsPartedAt s t end start
 parted_drop_left l r m s t p last first end start k b h e es et i j = rw (es, et, i, j) record {
-  row = row_drop_left l r m p k.row (subst (IsBefore p) k.starts_right b) h e;
+  row = row_left taken l r m p k.row (subst (IsBefore p) k.starts_right b) h e;
   ends_left = refl;
   starts_right = k.starts_right;
 }
@@ -163,14 +162,14 @@ pub points_drop_left : (l r m s t : Node) (p last first : Pair) → IsPartedAt l
     → points_below m ≡ without_point p (points_below l) → s ≡ m → t ≡ r
     → points_below s ++ points_below t ≡ without_point p (points_below l ++ points_below r)
 points_drop_left l r m s t p last first k b e es et =
-    rw (es, et, e) (sym (drop_left l r p k.row (subst (IsBefore p) k.starts_right b)))
+    rw (es, et, e) (sym (change_left taken l r p k.row (subst (IsBefore p) k.starts_right b)))
 
 -- any other is taken from r
 pub parted_drop_right : (l r m s t : Node) (p last first end start : Pair) → IsPartedAt l r last first
     → ¬ IsBefore p first → IsWellBuilt m → points_below m ≡ without_point p (points_below r) → s ≡ l → t ≡ m
     → end ≡ last → start ≡ first_of (tree_of m) → IsPartedAt s t end start
 parted_drop_right l r m s t p last first end start k b h e es et i j = rw (es, et, i, j) record {
-  row = row_drop_right l r m p k.row (λ n. b (subst (IsBefore p) (sym k.starts_right) n)) h e;
+  row = row_right taken l r m p k.row (λ n. b (subst (IsBefore p) (sym k.starts_right) n)) h e;
   ends_left = k.ends_left;
   starts_right = refl;
 }
@@ -180,7 +179,7 @@ pub points_drop_right : (l r m s t : Node) (p last first : Pair) → IsPartedAt 
     → points_below m ≡ without_point p (points_below r) → s ≡ l → t ≡ m
     → points_below s ++ points_below t ≡ without_point p (points_below l ++ points_below r)
 points_drop_right l r m s t p last first k b e es et =
-    rw (es, et, e) (sym (drop_right l r p k.row (λ n. b (subst (IsBefore p) (sym k.starts_right) n))))
+    rw (es, et, e) (sym (change_right taken l r p k.row (λ n. b (subst (IsBefore p) (sym k.starts_right) n))))
 
 -- nothing is left of the leaf of p without p
 without_leaf : (t : Tree) (p : Pair) → t ≡ Leaf p → without_point p (points_of t) ≡ []
@@ -205,7 +204,7 @@ rest_right n s h p o e c d =
     let m : without_point p (points_below (left_half h)) ≡ [] = without_leaf (tree_of (left_half h)) p e in
     rw d record {
       built = o.parted.row.right_built;
-      points = sym (ap (without_point p) o.points ∙ drop_left (left_half h) (right_half h) p o.parted.row b
+      points = sym (ap (without_point p) o.points ∙ change_left taken (left_half h) (right_half h) p o.parted.row b
           ∙ ap (λ z. z ++ points_below (right_half h)) m);
       times = λ q. omega (arith, o.times q, leaf_once (left_half h) p e a q);
     }
@@ -221,7 +220,7 @@ rest_left n s h p o e c d =
     let m : without_point p (points_below (right_half h)) ≡ [] = without_leaf (tree_of (right_half h)) p e in
     rw d record {
       built = o.parted.row.left_built;
-      points = sym (ap (without_point p) o.points ∙ drop_right (left_half h) (right_half h) p o.parted.row b
+      points = sym (ap (without_point p) o.points ∙ change_right taken (left_half h) (right_half h) p o.parted.row b
           ∙ ap (λ z. points_below (left_half h) ++ z) m ∙ append-nil (points_below (left_half h)));
       times = λ q. omega (arith, o.times q, leaf_once (right_half h) p e a q);
     }

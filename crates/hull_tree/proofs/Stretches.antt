@@ -11,7 +11,8 @@ use Rattle.lattice.specs.Covers.{is_before}
 use Rattle.lattice.proofs.Order.{before_trans, before_total, is_before-true}
 use Rattle.bridge_search.specs.Trees.{last_of}
 use Rattle.bridge_search.proofs.Ends.{last_by, on_last}
-use Rattle.bridge_search.proofs.Leaves.{all_of, on_of_contains, contains_of_on}
+use Rattle.bridge_search.proofs.Leaves.{on_of_contains, contains_of_on}
+use Rattle.hull_geometry.proofs.PointLists.{all_of}
 use Rattle.hull_tree.specs.declared.node.Node as node
 use Rattle.hull_tree.specs.declared.node.Halves as halves
 use Rattle.hull_tree.specs.Nodes.{tree_of, below_of, left_half, right_half, before_parting, IsWellBuilt}

@@ -4,7 +4,7 @@ use Rattle.std.specs.List.{All, sum_by}
 use Rattle.std.specs.Map.{keys_of}
 use Rattle.lattice.specs.Plane.{Pair, IsBefore}
 use Rattle.lattice.specs.Covers.{IsPointSet}
-use Rattle.hull_set.specs.Held.{Held, once, with_new}
+use Rattle.hull_set.specs.Held.{Held, with_new}
 use Rattle.hull_set.specs.declared.TheConstants.{MULTIPLICITY_LIMIT}
 use Rattle.hull_tree.specs.declared.node.Node.{Node}
 use Rattle.hull_tree.specs.declared.node.Node as node
@@ -46,20 +46,11 @@ pub record IsOver (entries : List (Pair × ℕ)) (n : Node) : Type 0 where
   pub times : (q : Pair) → times_below n q ≡ times_listed entries q
   pub height : IsHalvings (length entries) (height_at n)
 
--- how often a point stands in a list
-abbrev pub times_among : List Pair → Pair → ℕ
-times_among points q = sum_by (λ p. once p q) points
-
 -- what is held after points were added one by one: the effect of each reply that is no refusal (a point that is there is
 -- not put in twice, and held once more)
 abbrev pub held_after_adds : Held → List Pair → Held
 held_after_adds held [] = held
 held_after_adds held (p ∷ ps) = held_after_adds (with_new p held) ps
-
--- no point of a list stands before an earlier one
-abbrev pub IsAscending : List Pair → Type 0
-IsAscending points = (i j : ℕ) (d : Pair) → i ≤ j → j < length points
-    → ¬ IsBefore (slice_index_or points j d) (slice_index_or points i d)
 
 -- the entry at i of one list does not stand after that at j of another, if one is there
 pub record Precedes (xs : List (Pair × ℕ)) (i : ℕ) (ys : List (Pair × ℕ)) (j : ℕ) : Type 0 where

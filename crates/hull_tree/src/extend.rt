@@ -2,7 +2,8 @@
 ghost use Rattle.std.specs.Prelude.{◌≡◌, ◌≤◌, ◌+◌, ◌∷◌, [], IfOk, IfErr, Err};
 ghost use Rattle.lattice.specs.Plane.{Pair};
 ghost use Rattle.hull_set.specs.Held.{once};
-ghost use Rattle.hull_tree.specs.Loaded.{times_among, held_after_adds, AreTooMany};
+ghost use Rattle.hull_tree.specs.Loaded.{held_after_adds, AreTooMany};
+ghost use Rattle.hull_set.specs.Held.{times_among};
 ghost use Rattle.hull_tree.specs.Roots.{held_by, times_of_root};
 ghost use Rattle.hull_tree.specs.Sets.{IsSound};
 

@@ -4,7 +4,9 @@ ghost use Rattle.std.specs.List.{Contains};
 ghost use Rattle.lattice.specs.Plane.{Pair, IsBefore};
 ghost use Rattle.hull_tree.specs.Nodes.{several, IsMultiplicity};
 ghost use Rattle.hull_tree.specs.Changes.{points_below};
-ghost use Rattle.hull_tree.specs.Loaded.{AreEntries, IsOver, entries_below, points_listed, times_listed, times_among, IsAscending, Precedes};
+ghost use Rattle.hull_tree.specs.Loaded.{AreEntries, IsOver, entries_below, points_listed, times_listed, Precedes};
+ghost use Rattle.hull_set.specs.Held.{times_among};
+ghost use Rattle.hull_set.specs.PointLists.{IsAscending};
 
 use super::build::join;
 use super::node::{Halves, Node, first_of, last_of};

@@ -4,7 +4,6 @@ ghost use Rattle.hull_set.specs.Replies.{LiesAt};
 
 use crate::sights::look;
 use bridge_search::Half;
-use hull_geometry::Sight;
 use hull_set::Place;
 use lattice::Point;
 
@@ -13,12 +12,5 @@ use lattice::Point;
 pub fn place<H: Half>(half: H, q: Point) -> Place
     ensures { LiesAt (points_of (H.tree half)) q result }
 {
-    match look(half, q) {
-        Sight::Before => Place::Outside,
-        Sight::After => Place::Outside,
-        Sight::Below => Place::Outside,
-        Sight::Above => Place::Outside,
-        Sight::Touching => Place::On,
-        Sight::Within => Place::Inside,
-    }
+    Place::of_sight(look(half, q))
 }

@@ -1,23 +1,19 @@
 //! Where the tangents from a point touch a hull.
 ghost use Rattle.std.specs.Prelude.{◌≡◌, ◌↔◌, IsTrue, MatchOption, None, pos, ◌<ℤ◌};
 ghost use Rattle.lattice.specs.Plane as plane;
-ghost use Rattle.bridge_search.specs.Trees.{lower_of};
+ghost use Rattle.bridge_search.specs.Trees.{lower_of, first_of, last_of};
 ghost use Rattle.bridge_search.specs.Leaves.{points_of};
 ghost use Rattle.hull_set.specs.Replies.{AnswersTangents, reply_to_tangents};
-ghost use Rattle.hull_questions.specs.Hands.{outermost, IsTangent, IsOnHand, IsBeyond, IsOnChain};
+ghost use Rattle.hull_questions.specs.Hands.{outermost, IsBeyond};
 ghost use Rattle.hull_questions.specs.Parts.{IsTangentPart};
-ghost use Rattle.hull_geometry.specs.Sights.{IsBelow, IsAbove};
+ghost use Rattle.hull_geometry.specs.Hands.{IsOnHand};
+ghost use Rattle.hull_geometry.specs.Sights.{IsBelow, IsOnChain};
+ghost use Rattle.hull_geometry.specs.Tangents.{IsTangent};
 
 use crate::sights::look;
 use bridge_search::{Half, Turned};
+use hull_geometry::Hand;
 use lattice::{Point, Side, before, orient};
-
-/// One of the two tangents from a point, by the hand of one who looks from there.
-#[derive(Clone, Copy)]
-enum Hand {
-    Left,
-    Right,
-}
 
 /// Whether `q` lies left of the line from `a` to `b`.
 fn is_left(a: Point, b: Point, q: Point) -> bool
@@ -70,7 +66,7 @@ fn tangent_from_below<H: Half>(hand: Hand, half: H, q: Point) -> Point
 /// The tangent point on this hand seen from `q`, where the tangent touches this chain; on the upper chain it is that
 /// on the lower one after a turn by 180 degrees.
 fn tangent_on<H: Half>(hand: Hand, side: Side, half: H, q: Point) -> Point
-    requires { IsOnChain hand side (H.tree half) q }
+    requires { IsOnChain hand side (first_of (H.tree half)) (last_of (H.tree half)) (points_of (H.tree half)) q }
     ensures { IsTangent hand (points_of (H.tree half)) q result }
 {
     match side {

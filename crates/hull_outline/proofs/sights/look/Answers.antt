@@ -1,10 +1,10 @@
 -- neither before nor after the last corner is at it
-use Rattle.hull_outline.proofs.EdgesAt.{touching_last}
+use Rattle.hull_outline.proofs.EdgesAt.{last_touched}
 use Rattle.hull_outline.proofs.Tests.{failed}
 use Rattle.hull_outline.proofs.sights.look.Goals as goal
 
 pub returns-else-before-3 : goal.returns-else-before-3
 returns-else-before-3 c = λ S o.
-    touching_last S c.args.corners.now c.args.last c.args.q o c.requires.parted c.requires.some
+    last_touched S c.args.corners.now c.args.last c.args.q o c.requires.parted c.requires.some
     (rw (c.corner_at-2.ensures) at (failed c.before-3.result _ c.if-before-2.false c.before-3.ensures))
     (rw (c.corner_at-3.ensures) at (failed c.before-4.result _ c.if-before-3.false c.before-4.ensures))

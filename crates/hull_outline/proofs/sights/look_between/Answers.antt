@@ -1,50 +1,53 @@
 -- the left end of an edge is touched; behind it the sides of the lower and of the upper edge tell
-use Rattle.std.proofs.Common.{◌≡◌, ◌∙◌, to_z, of_z, pos, ◌<ℤ◌, arith}
+use Rattle.std.proofs.Common.{◌≡◌, ◌∙◌, to_z, of_z, pos, ◌<ℤ◌, length, arith}
 use Rattle.std.proofs.lemmas.Int.{ints}
 use mir.Syntax.{w128}
 use Rattle.lattice.specs.Plane.{Pair, orient}
 use Rattle.lattice.proofs.Casts.{cast_side}
 use Rattle.hull_geometry.proofs.EdgesAt.{touching_start, seen_by}
 use Rattle.hull_outline.specs.Rounds.{corner}
+use Rattle.hull_outline.proofs.Corners.{corner_back}
 use Rattle.hull_outline.proofs.EdgesAt.{after_start}
 use Rattle.hull_outline.proofs.Tests.{passed, failed}
 use Rattle.hull_outline.proofs.sights.look_between.Goals as goal
 
 pub returns-then-not-before : goal.returns-then-not-before
 returns-then-not-before c = λ S o.
-    touching_start S c.args.q c.lower_edge_at-edge.result (c.lower_edge_at-edge.ensures S o)
+    touching_start S c.args.q c.edge_at-edge.result (c.edge_at-edge.ensures S o)
     (failed c.before-2.result _ c.if-not-before.true c.before-2.ensures)
 
 pub returns-then-lower-lt0 : goal.returns-then-lower-lt0
 returns-then-lower-lt0 c = λ S o.
-    let e : Pair × Pair = c.lower_edge_at-edge.result in
+    let e : Pair × Pair = c.edge_at-edge.result in
     let low : to_z w128 (of_z w128 c.orient-lower.result) ≡ orient e.0 e.1 c.args.q =
     cast_side _ c.orient-lower.ensures.size ∙ c.orient-lower.ensures.value in
     let under : orient e.0 e.1 c.args.q <ℤ pos 0 = omega (arith, ints, low, c.if-lower-lt0.true) in (
       (
         after_start c.args.corners.now c.args.last c.args.q e c.requires.parted c.requires.some
-            c.lower_edge_at-edge.ensures (passed c.before-2.result _ c.if-not-before.false c.before-2.ensures),
+            c.edge_at-edge.ensures (passed c.before-2.result _ c.if-not-before.false c.before-2.ensures),
         c.requires.to,
       ),
-      (e.0, e.1, (c.lower_edge_at-edge.ensures S o).edge, under),
+      (e.0, e.1, (c.edge_at-edge.ensures S o).edge, under),
     )
 
-pub upper_edge_at-upper-requires-clause-to : goal.upper_edge_at-upper-requires-clause-to
-upper_edge_at-upper-requires-clause-to c =
-    after_start c.args.corners.now c.args.last c.args.q c.lower_edge_at-edge.result c.requires.parted c.requires.some
-    c.lower_edge_at-edge.ensures (passed c.before-2.result _ c.if-not-before.false c.before-2.ensures)
+pub edge_at-upper-requires-clause-to : goal.edge_at-upper-requires-clause-to
+edge_at-upper-requires-clause-to c =
+    let V = c.args.corners.now in
+    rw (corner_back V (length V) (omega arith) c.requires.some)
+    (after_start V c.args.last c.args.q c.edge_at-edge.result c.requires.parted c.requires.some c.edge_at-edge.ensures
+    (passed c.before-2.result _ c.if-not-before.false c.before-2.ensures))
 
 pub returns : goal.returns
 returns c = λ S o.
-    let e : Pair × Pair = c.lower_edge_at-edge.result in
-    let f : Pair × Pair = c.upper_edge_at-upper.result in
+    let e : Pair × Pair = c.edge_at-edge.result in
+    let f : Pair × Pair = c.edge_at-upper.result in
     let low : to_z w128 (of_z w128 c.orient-lower.result) ≡ orient e.0 e.1 c.args.q =
     cast_side _ c.orient-lower.ensures.size ∙ c.orient-lower.ensures.value in
     let high : to_z w128 (of_z w128 c.orient.result) ≡ orient f.0 f.1 c.args.q =
     cast_side _ c.orient.ensures.size ∙ c.orient.ensures.value in
     seen_by (corner c.args.corners.now 0) (corner c.args.corners.now c.args.last) S c.args.q e f c.sight_by.result (
       after_start c.args.corners.now c.args.last c.args.q e c.requires.parted c.requires.some
-          c.lower_edge_at-edge.ensures (passed c.before-2.result _ c.if-not-before.false c.before-2.ensures),
+          c.edge_at-edge.ensures (passed c.before-2.result _ c.if-not-before.false c.before-2.ensures),
       c.requires.to,
     )
-    (c.lower_edge_at-edge.ensures S o) (c.upper_edge_at-upper.ensures S o) (rw (low, high) at c.sight_by.ensures)
+    (c.edge_at-edge.ensures S o) (c.edge_at-upper.ensures S o) (rw (low, high) at c.sight_by.ensures)

@@ -3,7 +3,7 @@ use Rattle.std.proofs.Common.{◌≡◌, ◌+◌, ◌-◌, ℕ, ap, subst, ◌�
 use Rattle.std.specs.List.{Contains}
 use Rattle.lattice.specs.Plane.{Pair}
 use Rattle.hull_plain.proofs.Middles.{middle_between}
-use Rattle.hull_plain.proofs.Passes.{set_left, set_right}
+use Rattle.hull_geometry.proofs.PointSets.{set_left, set_right}
 use Rattle.hull_geometry.proofs.PointLists.{drop_rest}
 use Rattle.hull_plain.proofs.mending.between.Goals as goal
 

@@ -5,7 +5,7 @@ use Rattle.std.proofs.lemmas.List.Elements.{All-contains}
 use Rattle.lattice.specs.Plane.{IsBefore}
 use Rattle.hull_plain.specs.Monotone.{EndsWith}
 use Rattle.hull_plain.proofs.Between.{end_in, end_of_first, after_ends}
-use Rattle.hull_plain.proofs.ChainEdges.{all_of}
+use Rattle.hull_geometry.proofs.PointLists.{all_of}
 use Rattle.hull_plain.proofs.mending.passed_by.Goals as goal
 
 pub returns-then-i-eq0-clause-to_come : goal.returns-then-i-eq0-clause-to_come

@@ -9,7 +9,8 @@ use Rattle.hull_plain.specs.Monotone.{IsTurning, IsPassed}
 use Rattle.hull_plain.proofs.Drafts.{started, as_roomy}
 use Rattle.hull_plain.proofs.FringeChains.{take_out_new}
 use Rattle.hull_plain.proofs.Mended.{take_out_same, around_set, around_among, around_few, between_few}
-use Rattle.hull_plain.proofs.Passes.{turning_take, turning_drop, passed_set, passed_through, set_left}
+use Rattle.hull_plain.proofs.Passes.{turning_take, turning_drop, passed_set, passed_through}
+use Rattle.hull_geometry.proofs.PointSets.{set_left}
 use Rattle.hull_geometry.proofs.PointLists.{range_long}
 use Rattle.hull_plain.proofs.mending.take_out.Goals as goal
 

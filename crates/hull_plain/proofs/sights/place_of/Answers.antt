@@ -1,24 +1,17 @@
--- what each chain tells of the point is where it lies
-use Rattle.lattice.specs.declared.side.Side.TheVariants.{Lower, Upper}
-use Rattle.hull_plain.proofs.Looks.{sight_outside, sights_inside}
+-- the sight tells the place; nothing is covered by no chains
+use Rattle.std.proofs.Common.{rules, ap, ◌≡◌, ◌<◌, List, length}
+use Rattle.lattice.specs.Plane.{Pair}
+use Rattle.lattice.specs.declared.side.Side.TheVariants.{Lower}
+use Rattle.hull_geometry.proofs.EdgesAt.{outside_nothing}
+use Rattle.hull_plain.proofs.Looks.{none_of, are_ends}
 use Rattle.hull_plain.proofs.sights.place_of.Goals as goal
 
-pub returns-in-Touching : goal.returns-in-Touching
-returns-in-Touching c = λ S k. c.in-Touching.ensures S k.below
+pub returns-then-is_empty : goal.returns-then-is_empty
+returns-then-is_empty c = λ S k.
+    let none : length c.args.lower.now.items ≡ 0 = search (rules, c.is_empty.ensures, c.if-is_empty.true) in
+    outside_nothing S c.args.q (ap (λ (z : List Pair). length z) (none_of Lower S c.args.lower.now.items k.below none))
 
-pub returns-in-Touching-look : goal.returns-in-Touching-look
-returns-in-Touching-look c = λ S k. c.in-Touching-look.ensures S k.above
-
-pub returns-in-Inwards-look : goal.returns-in-Inwards-look
-returns-in-Inwards-look c = λ S k.
-    sights_inside S c.args.q (c.in-Inwards.ensures S k.below) (c.in-Inwards-look.ensures S k.above)
-
-pub returns-in_default-look : goal.returns-in_default-look
-returns-in_default-look c = λ S k.
-    sight_outside Upper S c.args.q c.look-in-Inwards.result (c.look-in-Inwards.ensures S k.above)
-    c.in_default-look.not-Touching c.in_default-look.not-Inwards
-
-pub returns-in_default : goal.returns-in_default
-returns-in_default c = λ S k.
-    sight_outside Lower S c.args.q c.look.result (c.look.ensures S k.below) c.in_default.not-Touching
-    c.in_default.not-Inwards
+pub returns : goal.returns
+returns c = λ S k.
+    let some : 0 < length c.args.lower.now.items = search (rules, c.is_empty.ensures, c.if-is_empty.false) in
+    c.of_sight.ensures _ _ S c.args.q (are_ends Lower S c.args.lower.now.items k.below some) (c.look.ensures S k)

@@ -1,7 +1,7 @@
 -- a point that stands at the last one lies on the boundary; every other slab tells its sight
-use Rattle.hull_questions.proofs.Sighted.{touching_last}
+use Rattle.hull_questions.proofs.Sighted.{last_touched}
 use Rattle.hull_questions.proofs.sights.look.Goals as goal
 
 pub returns-in-Last : goal.returns-in-Last
 returns-in-Last g c =
-    touching_last (g.H.Half.tree c.args.half) c.args.q (g.met.H.Half.bridged c.args.half) c.in-Last.ensures
+    last_touched (g.H.Half.tree c.args.half) c.args.q (g.met.H.Half.bridged c.args.half) c.in-Last.ensures

@@ -8,7 +8,8 @@ use Rattle.bridge_search.proofs.Signs.{passed, failed}
 use Rattle.hull_tree.specs.Nodes.{tree_of, below_of, left_half, right_half}
 use Rattle.hull_tree.specs.Changes.{points_below}
 use Rattle.hull_tree.specs.declared.node.Halves as halves
-use Rattle.hull_tree.proofs.HalfRows.{IsOver, over_halves, add_left, add_right}
+use Rattle.hull_tree.proofs.HalfRows.{IsOver, over_halves, change_left, change_right}
+use Rattle.hull_tree.proofs.ChangedRows.{added}
 use Rattle.hull_tree.proofs.PartingPoints.{parted_add_left, parted_add_right}
 use Rattle.hull_tree.proofs.Renewed.{cost_through, rolled_below}
 use Rattle.hull_tree.proofs.Standing.{rolled_behind, gained_behind}
@@ -59,7 +60,7 @@ unfolding halves.roll-Halves halves.out-Halves denote.Hole.Carrier.out denote.Ho
 insert_below-returns-then-before-clause-points g t c =
     let b = subst (IsBefore c.args.p) c.requires.parted.starts_right (passed _ _ c.if-before.true c.before-2.ensures) in
     ap (λ z. z ++ points_below (right_half c.args.halves.now)) c.insert.ensures.points
-    ∙ sym (add_left _ _ _ c.requires.parted.row b)
+    ∙ sym (change_left added _ _ _ c.requires.parted.row b)
 
 pub insert_below-returns-then-before-clause-cost : goal.insert_below-returns-then-before-clause-cost
 unfolding halves.roll-Halves halves.out-Halves denote.Hole.Carrier.out denote.Hole.Carrier.roll
@@ -79,7 +80,7 @@ insert_below-returns-else-before-clause-points g t c =
     λ i. failed _ _ c.if-before.false c.before-2.ensures
     (subst (IsBefore c.args.p) (sym c.requires.parted.starts_right) i) in
     ap (λ z. points_below (left_half c.args.halves.now) ++ z) c.insert-else-before.ensures.points
-    ∙ sym (add_right _ _ _ c.requires.parted.row b)
+    ∙ sym (change_right added _ _ _ c.requires.parted.row b)
 
 pub insert_below-returns-else-before-clause-cost : goal.insert_below-returns-else-before-clause-cost
 unfolding halves.roll-Halves halves.out-Halves denote.Hole.Carrier.out denote.Hole.Carrier.roll

@@ -2,7 +2,7 @@
 use Rattle.std.proofs.Common.{◌+◌, ◌∙◌, ap, arith, [], take}
 use Rattle.std.proofs.lemmas.List.{take_all}
 use Rattle.hull_set.specs.Held.{Held}
-use Rattle.hull_tree.specs.Loaded.{times_among}
+use Rattle.hull_set.specs.Held.{times_among}
 use Rattle.hull_tree.specs.Roots.{held_by, times_of_root}
 use Rattle.hull_tree.proofs.AddedSets.{same_as_added, root_held, all_too_many}
 use Rattle.hull_tree.proofs.extend.add_each.Goals as goal

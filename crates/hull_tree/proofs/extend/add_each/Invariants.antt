@@ -1,7 +1,7 @@
 -- the points so far came, as often as they stand among them
 use Rattle.std.proofs.Common.{◌≡◌, ◌+◌, take}
 use Rattle.lattice.specs.Plane.{Pair}
-use Rattle.hull_tree.specs.Loaded.{times_among}
+use Rattle.hull_set.specs.Held.{times_among}
 use Rattle.hull_tree.specs.Roots.{times_of_root}
 use Rattle.hull_tree.specs.Sets.{IsSound}
 use Rattle.hull_tree.proofs.extend.add_each.Given as goal

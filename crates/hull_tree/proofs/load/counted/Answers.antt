@@ -2,8 +2,10 @@
 use Rattle.std.proofs.Common.{◌≡◌, ◌≤◌, ◌<◌, ◌+◌, ◌∙◌, inl, inr, refl, subst, sym, arith, take, get_or, length}
 use Rattle.lattice.specs.Plane.{IsBefore}
 use Rattle.hull_set.specs.declared.TheConstants.{MULTIPLICITY_LIMIT}
-use Rattle.hull_tree.specs.Loaded.{times_listed, times_among}
-use Rattle.hull_tree.proofs.Counting.{counted_more, counted_past, at_place}
+use Rattle.hull_tree.specs.Loaded.{times_listed}
+use Rattle.hull_set.specs.Held.{times_among}
+use Rattle.hull_set.proofs.Times.{among_more}
+use Rattle.hull_tree.proofs.Counting.{counted_past, at_place}
 use Rattle.hull_tree.proofs.load.counted.Goals as goal
 
 pub count_in-requires-clause-last : goal.count_in-requires-clause-last
@@ -31,7 +33,7 @@ loop-i-preserved c =
       entries = c.count_in.ensures.entries;
       times = λ q. c.if-not-count_in.ensures.times refl q
           ∙ (rw (c.loop-i.invariant.times q)
-          (sym (counted_more c.args.points.now c.loop-i.i c.index-points-i.result q c.index-points-i.is l)));
+          (sym (among_more c.args.points.now c.loop-i.i c.index-points-i.result q c.index-points-i.is l)));
       left = λ t m j n k b. elim (c.count_in.ensures.among t m) [
         | inl i ↦ c.loop-i.invariant.left t i j (omega (arith, n)) k b
         | inr e ↦ c.requires.ascending c.loop-i.i j t (omega (arith, n)) k

@@ -2,7 +2,8 @@
 use Rattle.std.proofs.Common.{ℕ, ◌≡◌, ◌≤◌, ◌<◌, length, vec_len, vec_capacity, take, get_or}
 use Rattle.std.specs.List.{Contains}
 use Rattle.lattice.specs.Plane.{Pair, IsBefore}
-use Rattle.hull_tree.specs.Loaded.{AreEntries, points_listed, times_listed, times_among}
+use Rattle.hull_tree.specs.Loaded.{AreEntries, points_listed, times_listed}
+use Rattle.hull_set.specs.Held.{times_among}
 use Rattle.hull_tree.proofs.load.counted.Given as goal
 
 abbrev pub invariant-loop-i : goal.invariant-loop-i

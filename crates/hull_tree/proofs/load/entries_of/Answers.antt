@@ -1,8 +1,9 @@
 -- a sort moves the points only, so each stands among them as often
 use Rattle.std.proofs.Common.{◌≡◌, ◌<◌, ◌∙◌, refl, arith}
 use Rattle.hull_set.specs.declared.TheConstants.{MULTIPLICITY_LIMIT}
-use Rattle.hull_tree.specs.Loaded.{times_among}
-use Rattle.hull_tree.proofs.Counting.{ascending, sorted_times}
+use Rattle.hull_set.specs.Held.{times_among}
+use Rattle.hull_set.proofs.OrderedMaps.{ascending}
+use Rattle.hull_tree.proofs.Counting.{sorted_times}
 use Rattle.hull_tree.proofs.load.entries_of.Goals as goal
 
 pub counted-requires-clause-ascending : goal.counted-requires-clause-ascending

@@ -13,13 +13,13 @@ returns-in_default c = λ S o. inr (c.in_default.ensures _ _ S c.args.q
     (are_ends S c.args.self.now.corners.now c.args.self.now.last o c.args.self.now.parted
     (grind (arith, c.is_empty.ensures, c.if-is_empty.false))) (c.look.ensures S o))
 
-pub left_tangent-requires-clause-seen : goal.left_tangent-requires-clause-seen
-left_tangent-requires-clause-seen c = λ S o. (c.in-Some.ensures _ _ S c.args.q
+pub tangent_on-requires-clause-seen : goal.tangent_on-requires-clause-seen
+tangent_on-requires-clause-seen c = λ S o. (c.in-Some.ensures _ _ S c.args.q
     (are_ends S c.args.self.now.corners.now c.args.self.now.last o c.args.self.now.parted
     (grind (arith, c.is_empty.ensures, c.if-is_empty.false))) (c.look.ensures S o)).1
 
-pub right_tangent-requires-clause-seen : goal.right_tangent-requires-clause-seen
-right_tangent-requires-clause-seen c = λ S o. (c.in-Some.ensures _ _ S c.args.q
+pub tangent_on-requires-2-clause-seen : goal.tangent_on-requires-2-clause-seen
+tangent_on-requires-2-clause-seen c = λ S o. (c.in-Some.ensures _ _ S c.args.q
     (are_ends S c.args.self.now.corners.now c.args.self.now.last o c.args.self.now.parted
     (grind (arith, c.is_empty.ensures, c.if-is_empty.false))) (c.look.ensures S o)).2
 
@@ -28,4 +28,4 @@ returns c = λ S o.
     let touched = c.in-Some.ensures _ _ S c.args.q
     (are_ends S c.args.self.now.corners.now c.args.self.now.last o c.args.self.now.parted
     (grind (arith, c.is_empty.ensures, c.if-is_empty.false))) (c.look.ensures S o) in
-    (touched.0, c.left_tangent.ensures S o, c.right_tangent.ensures S o)
+    (touched.0, c.tangent_on.ensures S o, c.tangent_on-2.ensures S o)

@@ -4,7 +4,8 @@ use Rattle.std.proofs.lemmas.Map.Entries.{length-keys_of}
 use Rattle.lattice.specs.Plane.{Pair}
 use Rattle.hull_set.specs.Held.{Held}
 use Rattle.hull_set.specs.declared.TheConstants.{MULTIPLICITY_LIMIT}
-use Rattle.hull_tree.specs.Loaded.{times_listed, times_among, held_listed}
+use Rattle.hull_tree.specs.Loaded.{times_listed, held_listed}
+use Rattle.hull_set.specs.Held.{times_among}
 use Rattle.hull_tree.specs.Roots.{held_by}
 use Rattle.hull_tree.specs.Sets.{LimitedTree, IsSound}
 use Rattle.hull_tree.proofs.LimitedTrees.{sound}

@@ -1,19 +1,20 @@
 -- How turns to one side compose, on a chain of either side.
 use Rattle.std.proofs.Common.{◌≡◌, ℤ, pos, ◌-ℤ◌, ◌≤ℤ◌, ◌<ℤ◌, neg_ℤ, sym, ap, ◌∙◌, arith}
 use Rattle.std.proofs.lemmas.Int.{ints}
-use Rattle.lattice.specs.Plane.{Pair, orient, IsBefore}
-use Rattle.lattice.specs.Polynomials.{difference-eq, difference_rules}
+use Rattle.lattice.specs.Plane.{Pair, IsBefore}
+use Rattle.lattice.proofs.Numbers.{nn_above, nn_opposite, np_by, below_opposite}
+use Rattle.lattice.proofs.Sides.{side_after, side_to_end, side_more, side_less}
 use Rattle.lattice.proofs.LineCrossings.{orient_start, orient_end}
-use Rattle.lattice.proofs.Vectors.{as_pair, minus, cross, cross_swap, Ahead, turn_trans, turn_trans_strict}
+use Rattle.lattice.proofs.Vectors.{minus, cross, cross_swap, Ahead, turn_trans, turn_trans_strict}
 use Rattle.lattice.proofs.Vectors.{turn_trans_strict_right}
 use Rattle.lattice.specs.Turns.{turn}
 use Rattle.lattice.specs.declared.side.Side.{Side}
 use Rattle.lattice.specs.declared.side.Side.TheVariants.{Lower, Upper}
-use Rattle.hull_geometry.proofs.Orientation.{orient-cross, orient_swap, orient_other, orient-cycle, orient_at_end, ahead_of}
+use Rattle.hull_geometry.proofs.Orientation.{orient-cross, orient_swap, orient_other, orient-cycle, ahead_of}
 use Rattle.hull_geometry.proofs.Orientation.{at_least, above}
 
 -- the cross product of two steps, of which the first comes first on a lower chain and last on an upper one
-abbrev wedge : Side → Pair → Pair → ℤ
+abbrev pub wedge : Side → Pair → Pair → ℤ
 wedge Lower u v = cross u v
 wedge Upper u v = cross v u
 
@@ -41,28 +42,19 @@ wedge_trans_second Lower u v w hu hv hw a b = turn_trans_strict_right u v w hu h
 wedge_trans_second Upper u v w hu hv hw a b = turn_trans_strict w v u hw hv hu b a
 
 -- a turn by the steps from its first point
-turn_start : (side : Side) (a b c : Pair) → turn side a b c ≡ wedge side (minus b a) (minus c a)
+pub turn_start : (side : Side) (a b c : Pair) → turn side a b c ≡ wedge side (minus b a) (minus c a)
 turn_start Lower a b c = orient-cross a b c
 turn_start Upper a b c =
     orient_other a b c ∙ ap neg_ℤ (orient-cross a b c) ∙ sym (cross_swap (minus c a) (minus b a))
 
 -- by the steps to and from its middle
 turn_middle : (side : Side) (a b c : Pair) → turn side a b c ≡ wedge side (minus b a) (minus c b)
-turn_middle Lower a b c = sym (orient_at_end a b c)
+turn_middle Lower a b c = side_after a b c
 turn_middle Upper a b c =
-    orient_other a b c ∙ ap neg_ℤ (sym (orient_at_end a b c)) ∙ sym (cross_swap (minus c b) (minus b a))
-
--- the side of t as seen along the line from a to b, by the steps to b
-side_to_end : (a b t : Pair) → orient a b t ≡ cross (minus b t) (minus b a)
-unfolding orient
-side_to_end a b t = rw (
-  as_pair a,
-  as_pair b,
-  as_pair t,
-) (simp difference_rules (difference-eq _ _ _ _ (omega arith)))
+    orient_other a b c ∙ ap neg_ℤ (side_after a b c) ∙ sym (cross_swap (minus c b) (minus b a))
 
 -- a turn by the steps to its middle point
-turn_back : (side : Side) (a b t : Pair) → turn side a b t ≡ wedge side (minus b t) (minus b a)
+pub turn_back : (side : Side) (a b t : Pair) → turn side a b t ≡ wedge side (minus b t) (minus b a)
 turn_back Lower a b t = side_to_end a b t
 turn_back Upper a b t =
     orient_other a b t ∙ ap neg_ℤ (side_to_end a b t) ∙ sym (cross_swap (minus b a) (minus b t))
@@ -120,17 +112,13 @@ inwards_to side a p c u pc ac uc h k =
     (at_least _ _ (turn_back side a c u) k)
     (above _ _ (turn_cycle side a p c ∙ turn_back side p c a) h))
 
--- the negation of a number at most 0
-not_below : (x y z : ℤ) → x ≡ y → z ≡ neg_ℤ y → x ≤ℤ pos 0 → pos 0 ≤ℤ z
-not_below x y z e f h = omega (arith, ints)
-
 -- from a the line to q is not inwards of the line to c, and t not outwards of that: t is not outwards of the line to q
 pub fans_from : (side : Side) (a c q t : Pair) → IsBefore a c → IsBefore a q → IsBefore a t → turn side a c q ≤ℤ pos 0
     → pos 0 ≤ℤ turn side a c t → pos 0 ≤ℤ turn side a q t
 fans_from side a c q t ac aq at h k =
     at_least _ _ (sym (turn_start side a q t))
     (wedge_trans side (minus q a) (minus c a) (minus t a) (ahead_of a q aq) (ahead_of a c ac) (ahead_of a t at)
-    (not_below _ _ _ (turn_start side a c q) (wedge_swap side (minus q a) (minus c a)) h)
+    (nn_opposite _ _ (wedge_swap side (minus q a) (minus c a)) (np_by _ _ (sym (turn_start side a c q)) h))
     (at_least _ _ (turn_start side a c t) k))
 
 -- to c the line from q is not inwards of the line from p, and t not outwards of that: t is not outwards of the line
@@ -141,27 +129,7 @@ fans_to side p c q t pc qc tc h k =
     at_least _ _ (sym (turn_back side q c t))
     (wedge_trans side (minus c t) (minus c p) (minus c q) (ahead_of t c tc) (ahead_of p c pc) (ahead_of q c qc)
     (at_least _ _ (turn_back side p c t) k)
-    (not_below _ _ _ (turn_back side p c q) (wedge_swap side (minus c p) (minus c q)) h))
-
--- the side of one point less that of another, by the step to the first
-side_more : (c d q t : Pair) → orient c d t -ℤ orient c d q ≡ cross (minus d c) (minus t q)
-unfolding orient
-side_more c d q t = rw (
-  as_pair c,
-  as_pair d,
-  as_pair q,
-  as_pair t,
-) (simp difference_rules (difference-eq _ _ _ _ (omega arith)))
-
--- the same by the step from the first
-side_less : (c d q s : Pair) → orient c d s -ℤ orient c d q ≡ cross (minus q s) (minus d c)
-unfolding orient
-side_less c d q s = rw (
-  as_pair c,
-  as_pair d,
-  as_pair q,
-  as_pair s,
-) (simp difference_rules (difference-eq _ _ _ _ (omega arith)))
+    (nn_opposite _ _ (wedge_swap side (minus c p) (minus c q)) (np_by _ _ (sym (turn_back side p c q)) h)))
 
 -- a difference of negations
 negated : (x y u v z : ℤ) → x ≡ neg_ℤ u → y ≡ neg_ℤ v → u -ℤ v ≡ z → x -ℤ y ≡ neg_ℤ z
@@ -183,16 +151,10 @@ more_after Upper a b q t = negated _ _ _ _ _ (orient_other a b t) (orient_other 
 pub stays_outwards : (side : Side) (a b s q t : Pair) → IsBefore a b → IsBefore s q → IsBefore q t
     → turn side a b q <ℤ pos 0 → pos 0 ≤ℤ turn side a b s → pos 0 ≤ℤ turn side a b t → turn side s t q <ℤ pos 0
 stays_outwards side a b s q t ab sq qt out hs ht =
-    below_negated _ _ (turn_swap side s q t)
+    below_opposite _ _ (turn_swap side s q t)
     (above _ _ (sym (turn_middle side s q t))
     (wedge_trans_first side (minus q s) (minus b a) (minus t q) (ahead_of s q sq) (ahead_of a b ab) (ahead_of q t qt)
-    (gap _ _ _ (more_before side a b q s) hs out) (weak _ (gap _ _ _ (more_after side a b q t) ht out))))
+    (gap _ _ _ (more_before side a b q s) hs out) (nn_above _ (gap _ _ _ (more_after side a b q t) ht out))))
   where
     gap : (x y z : ℤ) → x -ℤ y ≡ z → pos 0 ≤ℤ x → y <ℤ pos 0 → pos 0 <ℤ z
     gap x y z e h k = omega (arith, ints)
-
-    weak : (x : ℤ) → pos 0 <ℤ x → pos 0 ≤ℤ x
-    weak x h = omega (arith, ints)
-
-    below_negated : (x y : ℤ) → y ≡ neg_ℤ x → pos 0 <ℤ x → y <ℤ pos 0
-    below_negated x y e h = omega (arith, ints)

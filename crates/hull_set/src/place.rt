@@ -1,0 +1,21 @@
+//! Where a point lies, by what it sees of the hull.
+ghost use Rattle.hull_set.specs.Places.{TellsPlace};
+
+use super::set::Place;
+use hull_geometry::Sight;
+
+impl Place {
+    /// Where a point lies that looks from there.
+    pub fn of_sight(sight: Sight) -> Self
+        ensures { TellsPlace sight result }
+    {
+        match sight {
+            Sight::Before => Place::Outside,
+            Sight::After => Place::Outside,
+            Sight::Below => Place::Outside,
+            Sight::Above => Place::Outside,
+            Sight::Touching => Place::On,
+            Sight::Within => Place::Inside,
+        }
+    }
+}
