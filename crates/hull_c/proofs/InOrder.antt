@@ -10,10 +10,6 @@ use Rattle.hull_tree.specs.Loaded.{points_listed}
 abbrev pub AreInOrderTo : ℕ → List Pair → Type 0
 AreInOrderTo n S = (i j : ℕ) (d : Pair) → i < j → j < n → IsBefore (get_or S i d) (get_or S j d)
 
--- of one point nothing is asked
-pub in_order_to_one : (S : List Pair) → AreInOrderTo 1 S
-in_order_to_one S i j d l m = absurd (omega (arith, l, m))
-
 -- one point more, which stands behind the last of them
 pub in_order_to_next : (n : ℕ) (S : List Pair) → 1 ≤ n → AreInOrderTo n S
     → ((d : Pair) → IsBefore (get_or S (n - 1) d) (get_or S n d)) → AreInOrderTo (n + 1) S

@@ -52,10 +52,6 @@ take_both (x ∷ xs) ys n =
 fulls_both : (m n k : ℕ) → k ≡ m + n → fulls m ++ fulls n ≡ fulls k
 fulls_both m n k e = replicate-append-replicate m n (Err (record {})) ∙ ap (λ (j : ℕ). fulls j) (sym e)
 
--- the parts of a list, bracketed another way
-four : (a b c d e : List Answer) → (a ++ b ++ c) ++ d ++ e ≡ a ++ b ++ (c ++ d) ++ e
-four a b c d e = ap (λ (xs : List Answer). xs ++ e) (append_assoc (a ++ b) c d)
-
 -- the work of two phases in a row, where the journal was not full before the second
 more_work : (k room : ℕ) (one two : List Call) (before between lines : List Line) (old mid new : List Answer)
     → (h : HasWorked k room (length one) one before between old mid)

@@ -15,7 +15,7 @@ use Rattle.ticket_lock.specs.declared.chronicle.Chronicle as lock
 use Rattle.ticket_lock.specs.World.{Event, hands_on}
 use Rattle.ticket_lock.specs.Forms.{partitioned_form}
 use Rattle.ticket_lock.specs.Linearizable as linear
-use Rattle.ticket_lock.specs.Linearizable.{book_after, journal_after, FoundFull, Linearizable}
+use Rattle.ticket_lock.specs.Linearizable.{book_after, journal_after, Linearizable}
 use Rattle.ticket_lock.specs.Schedule.{SchedulesHold}
 use Rattle.hull_pool.specs.Work.{HasServed}
 use Rattle.hull_book.specs.LongBooks.{says_long_boxed}

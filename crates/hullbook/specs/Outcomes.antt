@@ -1,5 +1,5 @@
 -- What a run of a script comes to, and the text that is written of it.
-use Rattle.std.specs.Prelude.{◌≡◌, ◌<◌, ℕ, Bool, true, cond, List, [], ◌++◌, map, Option, None, Result, Ok, Err}
+use Rattle.std.specs.Prelude.{◌≡◌, ◌<◌, ℕ, Bool, true, cond, List, [], map, Option, None, Result, Ok, Err}
 use Rattle.text_io.specs.Passage.{Passage, HasTaken, HasTakenFront, IsSound}
 use Rattle.hull_book.specs.Books.{BookValue, opened_book}
 use Rattle.hull_set.specs.declared.set.HullSet.{Ghosts}

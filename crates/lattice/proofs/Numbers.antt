@@ -134,17 +134,9 @@ above_not_np x y e h k = omega (arith, ints)
 pub below_not_nn : (x y : ℤ) → x ≡ y → x <ℤ pos 0 → pos 0 ≤ℤ y → ⊥
 below_not_nn x y e h k = omega (arith, ints)
 
--- below 0, and equal to 0
-pub below_not_zero : (x y : ℤ) → x ≡ y → y ≡ pos 0 → x <ℤ pos 0 → ⊥
-below_not_zero x y e f h = omega (arith, ints)
-
 -- the opposite of a number above 0
 pub below_opposite : (x y : ℤ) → x ≡ neg_ℤ y → pos 0 <ℤ y → x <ℤ pos 0
 below_opposite x y e h = omega (arith, ints)
-
--- the same by another number
-pub below_opposite_by : (x y z : ℤ) → x ≡ y → y ≡ neg_ℤ z → pos 0 <ℤ z → x <ℤ pos 0
-below_opposite_by x y z e f h = omega (arith, ints)
 
 -- the opposite of a number below 0
 pub above_opposite : (x y : ℤ) → x ≡ neg_ℤ y → y <ℤ pos 0 → pos 0 <ℤ x

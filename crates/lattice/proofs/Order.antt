@@ -1,8 +1,7 @@
 -- The order "before" of points.
-use Rattle.std.proofs.Common.{◌≡◌, ℤ, ◌≤ℤ◌, ◌<ℤ◌, ◌⊎◌, inl, inr, refl, sym, ap, ◌∙◌, subst, arith, true, false, Bool}
+use Rattle.std.proofs.Common.{◌≡◌, ℤ, ◌≤ℤ◌, ◌<ℤ◌, ◌⊎◌, inl, inr, refl, ap, ◌∙◌, subst, arith, true, false}
 use Rattle.std.proofs.Common.{◌≢◌}
-use Rattle.std.specs.Prelude.{IsTrue, ◌↔◌, int_lt}
-use Rattle.std.proofs.lemmas.Bool.{false≢true}
+use Rattle.std.specs.Prelude.{int_lt}
 use Rattle.std.proofs.lemmas.Int.{ints}
 use Rattle.lattice.specs.Covers.{is_before}
 use Rattle.lattice.specs.Plane.{Pair, IsBefore}
@@ -96,18 +95,3 @@ before_apart u v b e = before_irrefl v (subst (λ (z : Pair). IsBefore z v) e b)
 -- a point after another is another
 pub after_apart : (u v : Pair) → IsBefore v u → u ≢ v
 after_apart u v b e = before_irrefl v (subst (IsBefore v) e b)
-
--- the test holds only where p stands before q
-pub is_before-holds : (p q : Pair) → is_before p q ≡ true → IsBefore p q
-is_before-holds p q t =
-    elim (before_total p q) [
-      | inl h ↦ h
-      | inr (inl e) ↦ absurd
-          (false≢true (sym (is_before-false p q (λ b. before_irrefl q (subst (λ (z : Pair). IsBefore z q) e b))) ∙ t))
-      | inr (inr h) ↦ absurd (false≢true (sym (is_before-false p q (before_not q p h)) ∙ t))
-    ]
-
--- an answer that says whether p stands before q is that of the test
-pub answer_is : (b : Bool) (p q : Pair) → IsTrue b ↔ IsBefore p q → b ≡ is_before p q
-answer_is true p q h = sym (is_before-true p q (h.0 refl))
-answer_is false p q h = sym (is_before-false p q (λ k. false≢true (h.1 k)))

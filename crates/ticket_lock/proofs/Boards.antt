@@ -9,7 +9,7 @@ use lib.ListN.{get_elem?}
 use lib.Seq.{set-get_or}
 use Rattle.atomic_table.specs.Table.{Act, keeps, gives, chain, Valid, carried_after, homes_after, put_back, rest}
 use Rattle.atomic_table.specs.Table as table
-use Rattle.atomic_table.specs.Table.{State, Me, Step, stepped}
+use Rattle.atomic_table.specs.Table.{State, Me, Step}
 use Rattle.atomic_table.proofs.Lists.{at_set, set_else}
 use Rattle.ticket_lock.specs.declared.chronicle.Chronicle.{Ghosts}
 use Rattle.ticket_lock.specs.declared.seat_state.Memo.{Memo}

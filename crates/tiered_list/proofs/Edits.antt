@@ -1,9 +1,9 @@
 -- What taking points out one by one, putting them in and copying them make of a list.
-use Rattle.std.proofs.Common.{◌≡◌, ℕ, ◌+◌, ◌-◌, ◌<◌, ◌≤◌, zero, suc, List, [], ◌∷◌, ◌++◌, length, take, drop, get_or, arith, refl, sym, ap}
-use Rattle.std.proofs.Common.{◌∙◌, append_assoc, length-append, length-drop}
-use Rattle.std.proofs.Math.ListN.{length-take, take-append-drop}
-use Rattle.std.proofs.lemmas.List.Edits.{insert-append_right, remove-append_right}
-use Rattle.std.specs.List.{insert, remove}
+use Rattle.std.proofs.Common.{◌≡◌, ℕ, ◌+◌, ◌-◌, ◌<◌, ◌≤◌, zero, suc, List, [], ◌∷◌, ◌++◌, length, take, drop, arith, refl, ap}
+use Rattle.std.proofs.Common.{◌∙◌}
+use Rattle.std.proofs.Math.ListN.{length-take}
+use Rattle.std.proofs.lemmas.List.Edits.{remove-append_right}
+use Rattle.std.specs.List.{remove}
 use Rattle.lattice.specs.Plane.{Pair}
 
 -- what is behind what is behind
@@ -26,15 +26,3 @@ taken_more f j L M a b e =
     ∙ remove-append_right (take f L) (drop j L) f f (take_length f L (omega (arith, a, b))) (omega arith)
     ∙ ap (λ (k : ℕ). take f L ++ remove (drop j L) k) none
     ∙ ap (λ (z : List Pair). take f L ++ z) (drop_more j L ∙ ap (λ (k : ℕ). drop k L) more)
-
--- nothing behind a list
-append_nothing : (L : List Pair) → L ++ [] ≡ L
-append_nothing [] = refl
-append_nothing (x ∷ xs) = ap (λ (z : List Pair). x ∷ z) (append_nothing xs)
-
--- all of a list is as many of its first points as it has, and nothing is behind
-pub all_of : (n : ℕ) (F : List Pair) → length F ≤ n → take n F ≡ F
-all_of zero [] l = refl
-all_of zero (x ∷ xs) l = absurd (omega (arith, l))
-all_of (suc n) [] l = refl
-all_of (suc n) (x ∷ xs) l = ap (λ (z : List Pair). x ∷ z) (all_of n xs (omega (arith, l)))
