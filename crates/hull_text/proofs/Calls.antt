@@ -55,6 +55,6 @@ call_are_fields v (Place p) fits = (points v).fields p fits
 call_are_fields v (Tangents p) fits = (points v).fields p fits
 call_are_fields v c fits = refl
 
--- The calls of a version.
+-- The calls of a version are a format.
 pub calls : (v : Version) → Format (IsCall v) call_fields (call_at v)
 calls v = record { takes = call_takes v; again = call_again v; fields = call_are_fields v }

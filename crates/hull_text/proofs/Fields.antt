@@ -90,7 +90,7 @@ in_coordinate : (limit : ℕ) (z : ℤ) → IsSized limit z → coordinate_in li
 in_coordinate limit (pos n) fits = rw (le_test n limit fits) refl
 in_coordinate limit (negsuc n) fits = rw (lt_test n limit fits) refl
 
--- The coordinates of a version.
+-- The coordinates of a version are a format.
 pub coordinates : (v : Version)
     → Format (IsSized (coordinate_limit v)) (λ z. signed_decimal z ∷ []) (coordinate_at v)
 unfolding coordinate_at
@@ -106,7 +106,7 @@ coordinates v =
 
 -- ---- points and directions
 
--- Its points.
+-- So are its points.
 pub points : (v : Version) → Format (IsPair v) pair_fields (point_at v)
 unfolding point_at
 points v = both (coordinates v) (coordinates v) (λ x y. record { x = x; y = y }) (λ p. p.x) (λ p. p.y) (λ p. refl)
@@ -123,7 +123,7 @@ both_false true true h = absurd (h refl refl)
 both_false true false h = refl
 both_false false b h = refl
 
--- Its directions.
+-- So are its directions.
 pub directions : (v : Version) → Format (IsSomeDirection v) pair_fields (direction_at v)
 unfolding direction_at
 directions v = record {
@@ -155,7 +155,7 @@ up_to_some limit beyond (Some m) n e =
     let g = guard_ok (nat_le m limit) (Ok m) beyond n e in
     subst (λ (y : ℕ). (Some m ≡ Some y) × (y ≤ limit)) (ok_is m n g.1) (refl, low_le m limit g.0)
 
--- the numbers up to a limit, whatever the fault of one beyond it
+-- the numbers up to a limit are a format, whatever the fault of one beyond it
 limited : (limit : ℕ) (beyond : FaultKind) → limit < 10 ^ 64
     → Format (λ n. n ≤ limit) (λ n. decimal n ∷ []) (field_at (λ f. up_to limit beyond (number_of f)))
 limited limit beyond small =
@@ -165,12 +165,12 @@ limited limit beyond small =
     (number_text f n (omega (arith, s.1)) s.0, s.1))
     (λ n fits. (rw (text_number n (omega arith), le_test n limit fits) refl, decimal_field n (omega arith)))
 
--- The numbers up to a limit.
+-- The numbers up to a limit are a format.
 pub numbers : (limit : ℕ) → limit < 10 ^ 64 → Format (λ n. n ≤ limit) (λ n. decimal n ∷ []) (number_at limit)
 unfolding number_at
 numbers limit small = limited limit Number small
 
--- Workers and seats.
+-- So are workers and seats.
 pub seats : Format (λ n. n ≤ 63) (λ n. decimal n ∷ []) seat_at
 unfolding seat_at
 seats = limited 63 Worker (omega arith)

@@ -9,17 +9,17 @@ use Rattle.hull_text.specs.Words.{word_in}
 use Rattle.hull_text.proofs.Binds.{bind_ok, ok_is, word_takes}
 use Rattle.hull_text.proofs.Joined.{is_field, are_fields, fields_append}
 
--- how fields are read as a value and those behind it
+-- what reads a value from fields, and gives it with the fields behind it
 abbrev Reading : Type 0 → Type 0
 Reading A = List Field → Result (A × List Field) FaultKind
 
--- The values that fit, how each is spelled, and how fields are read.
+-- A format: which values fit, how each is spelled, how fields are read, and that spelling and reading undo one another.
 pub record Format {A : Type 0} (Fits : A → Type 0) (spelled : A → List Field) (read : Reading A) : Type 0 where
   pub takes : (fs : List Field) (x : A × List Field) → read fs ≡ Ok x → (fs ≡ spelled x.0 ++ x.1) × Fits x.0
   pub again : (x : A) (rest : List Field) → Fits x → read (spelled x ++ rest) ≡ Ok (x, rest)
   pub fields : (x : A) → Fits x → are_fields (spelled x) ≡ true
 
--- One field that says a value.
+-- One field that says a value is a format.
 pub one : {A : Type 0} (Fits : A → Type 0) (text : A → Field) (says : Field → Result A FaultKind)
     → ((f : Field) (x : A) → says f ≡ Ok x → (f ≡ text x) × Fits x)
     → ((x : A) → Fits x → (says (text x) ≡ Ok x) × (is_field (text x) ≡ true))
@@ -56,7 +56,7 @@ module _ {A : Type 0} {Fits : A → Type 0} {spelled : A → List Field} {read :
         s.1,
       )
 
-  -- Two formats, one behind the other, as one value with two parts.
+  -- Two formats, one behind the other, are one of values with two parts.
   pub both : {B C : Type 0} {FitsB : B → Type 0} {spelledB : B → List Field} {readB : Reading B}
       → Format FitsB spelledB readB → (make : A → B → C) (left : C → A) (right : C → B)
       → ((c : C) → make (left c) (right c) ≡ c) → ((a : A) (b : B) → (left (make a b) ≡ a) × (right (make a b) ≡ b))

@@ -5,7 +5,7 @@ use Rattle.hull_text.specs.Fault.{IsOutside, IsServed, NoFaultBefore}
 use Rattle.hull_text.specs.Reading.{AnswersAll, Outlook, Reads}
 use Rattle.hull_text.proofs.Binds.{err_is, no_fault, ok_is}
 
--- What is read is the value of a text, and what is no text has the fault that is read.
+-- A grammar: what is read is the value of a text, and what is no text has the fault that is read.
 pub record Grammar {X V : Type 0} (value : X → V) (read : List ℕ → Result X TextFault) (IsText : List ℕ → V → Type 0)
     (IsFault : List ℕ → TextFault → Type 0) : Type 0 where
   pub takes : (bytes : List ℕ) (x : X) → read bytes ≡ Ok x → IsText bytes (value x)

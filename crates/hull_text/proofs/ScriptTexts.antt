@@ -167,7 +167,7 @@ script_fault_again bytes f s =
     items_stop 0 (pieces bytes) s.before s.line s.after s.items f s.whole s.right
     (omega (arith, s.place)) (subst (λ (n : ℕ). HasLineFault n s.line f.number) none s.fault)
 
--- The texts of scripts.
+-- The texts of scripts have a grammar.
 pub scripts : Grammar script_of script_items IsScriptText IsScriptFault
 scripts = record {
   takes = script_taken;

@@ -1,4 +1,5 @@
-ghost use Rattle.std.specs.Prelude.{◌≡◌, ◌≤◌, ◌^◌, ◌∷◌, [], ℕ, List, Option, Some, None, MatchOption, MatchResult, IfErr, IfOk, IsOkAnd, Ok, Err};
+ghost use Rattle.std.specs.Prelude.{◌≡◌, ◌≤◌, ◌^◌, ◌∷◌, [], ℕ, List, Option, Some, None, MatchOption, IfErr, IfOk, Ok};
+ghost use Rattle.std.specs.Prelude.{Err, IsOkAnd, MatchResult};
 ghost use Rattle.lattice.specs.Plane.{IsCoordinate};
 ghost use Rattle.hull_text.specs.Fault.{IsLineFault};
 ghost use Rattle.hull_text.specs.Version.{coordinate_limit};
@@ -41,7 +42,8 @@ pub(crate) fn read_as<A, B, F: FnOnce(A) -> B>(
     make: F,
 ) -> Result<(B, Rest<'_>), FaultKind>
     requires { IfOk read (λ x. F.pre make x.0) }
-    ensures { MatchResult read.entry (λ x. IsOkAnd result (λ y. F.post make x.0 y.0 × (y.1 ≡ x.1))) (λ fault. result ≡ Err fault) }
+    ensures { MatchResult read.entry (λ x. IsOkAnd result (λ y. F.post make x.0 y.0 × (y.1 ≡ x.1)))
+        (λ fault. result ≡ Err fault) }
 {
     match read {
         Ok((value, rest)) => Ok((make(value), rest)),
