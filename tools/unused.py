@@ -3,19 +3,23 @@
 
     tools/unused.py [CRATE..]
 
-A name counts as used where it stands as a word in another place of the repository: in a clause, a definition, a proof, or
-the `using` of a tactic. What it lists is a place to look: the search of the prover uses lemmas of a `ruleset` that no file
-names, and `rt tidy` has the last word on imports.
+A name counts as used where its own file has it outside its own paragraph, or another file names it by its module: in an
+import, or in the `using` of a tactic. What it lists is a place to look: the search of the prover uses lemmas of a `ruleset`
+that no file names, and `rt tidy` has the last word on imports.
 """
 import re
 import sys
-from collections import Counter
+from collections import defaultdict
 from pathlib import Path
 
 TOP = Path(__file__).resolve().parent.parent
 WORD = re.compile(r"[^\s(){}\[\],;.:`\"]+")
 DECLARED = re.compile(r"^( *)(?:abbrev |unfoldable )*(?:pub )?(?:record |data |abbrev )?(?:pub )?([A-Za-z_][\w'-]*) (?:\{.*?\} )?:", re.M)
 IMPORT = re.compile(r"^use ([\w.+-]+)\.\{(.*)\}", re.M)
+# names by their module, as `Module.{one, other}`, `Module.one` or `Module::one`, and a module that is named whole
+LISTED = re.compile(r"([\w+-]+)\.\{([^}]*)\}")
+NAMED = re.compile(r"([\w+]+)(?:::|\.)([\w'-]+)")
+WHOLE = re.compile(r"^(?:pub |ghost )*use [\w.+-]*?([\w+-]+)(?: as \S+)?;?$", re.M)
 
 
 def files():
@@ -24,18 +28,33 @@ def files():
             yield path
 
 
+def named_by_module(texts):
+    """The names that any file takes from a module of each last name, and the modules that are named whole."""
+    names = defaultdict(set)
+    for text in texts:
+        for module, listed in LISTED.findall(text):
+            names[module].update(WORD.findall(listed))
+        for module, name in NAMED.findall(text):
+            names[module].add(name)
+    return names, {module for text in texts for module in WHOLE.findall(text)}
+
+
+def only_in_its_paragraph(name, text):
+    """Whether a text has the name in one paragraph alone, or each time where it is declared."""
+    return sum(name in WORD.findall(it) for it in re.split(r"\n[ \t]*\n", text)) == 1
+
+
 def main(crates):
-    texts = {path: path.read_text() for path in files()}
-    everywhere = Counter(word for text in texts.values() for word in WORD.findall(text))
+    texts = {path: re.sub("--.*", "", path.read_text()) for path in files()}
+    elsewhere, whole = named_by_module(texts.values())
     for path, text in texts.items():
         parts = path.relative_to(TOP).parts
         if crates and parts[1] not in crates or path.suffix != ".antt":
             continue
-        own = Counter(WORD.findall(text))
+        is_answer = path.name in ("Answers.antt", "Invariants.antt", "Proof.antt")
         for indent, name in dict.fromkeys(DECLARED.findall(text)):
-            is_answer = path.name in ("Answers.antt", "Invariants.antt", "Proof.antt")
-            lines = len(re.findall(rf"^{indent}(?:pub |abbrev |unfoldable )*{re.escape(name)}(?= .*(?: = | =$| : ))", text, re.M))
-            if not is_answer and everywhere[name] == own[name] and own[name] <= lines:
+            is_named = is_answer or indent or path.stem in whole or name in elsewhere[path.stem]
+            if not is_named and only_in_its_paragraph(name, text):
                 print(f"{'/'.join(parts)}: nothing names {name}")
         body = IMPORT.sub("", text)
         for _, names in IMPORT.findall(text):

@@ -96,6 +96,13 @@ said 'the labels of 401 points' "$(count "class='t'")" 0
 "$top/bin/hulldraw" "$here/journals/thirty.txt" --size 10000 >"$room/large.svg"
 said 'status of the greatest picture' $? 0
 said 'its width' "$(count "^<svg [^>]*width='10064'")" 1
+"$top/bin/hulldraw" "$here/journals/thirty.txt" --line 4294967295 --bridges >"$room/large.svg"
+said 'status of the last line that there may be' $? 0
+cmp -s "$room/large.svg" "$top/docs/pictures/bridges.svg"
+said 'its picture, the whole' $? 0
+"$top/bin/hulldraw" "$here/journals/thirty.txt" --size 240 >"$room/large.svg"
+said 'status of the smallest picture' $? 0
+said 'its width' "$(count "^<svg [^>]*width='304'")" 1
 "$top/bin/hulldraw" "$here/journals/thirty.txt" --line 0 >"$room/large.svg"
 said 'status of no line' $? 0
 said 'the points after no line' "$(count '>points 0 ')" 1
@@ -137,6 +144,10 @@ refused 'hulldraw: usage' 2
 refused 'hulldraw: usage' 2 --help
 refused 'hulldraw: usage' 2 "$room/large" --size 239
 refused 'hulldraw: usage' 2 "$room/large" --size 10001
+refused 'hulldraw: usage' 2 "$room/large" "$room/large"
+refused 'hulldraw: usage' 2 "$room/large" --line 4294967296
+refused 'hulldraw: usage' 2 "$room/large" --line -1
+refused 'hulldraw: usage' 2 "$room/large" --colour
 refused 'hulldraw: usage' 2 "$room/large" --film --line 2
 refused 'hulldraw: usage' 2 "$room/large" --film --bridges
 refused 'hulldraw: open' 3 "$room/absent"

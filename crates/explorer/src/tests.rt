@@ -157,16 +157,16 @@ fn four_players(rt: &impl Abort, alloc: Global, first: u64) -> Result<Game, Allo
         calls: Vec::from_array(alloc, [zero, one, two, three])?,
         first,
         capacity: 64,
-        misses: 200,
+        misses: 48,
     })
 }
 
-/// 10000 ways in which four players make four calls each with many misses, drawn from the seeds 1967 and 1991.
+/// 8000 ways in which four players make four calls each with as many misses as steps, drawn from the seeds 1967 and 1991.
 #[test]
 fn ways_by_chance(rt: HostRuntime) -> Result<(), Fail> {
     let game = four_players(&rt, rt.alloc(), 0)?;
-    try_by_chance(&rt, rt.alloc(), &game, 4, 1967, 5000);
+    try_by_chance(&rt, rt.alloc(), &game, 4, 1967, 4000);
     let game = four_players(&rt, rt.alloc(), 18446744073709551610)?;
-    try_by_chance(&rt, rt.alloc(), &game, 4, 1991, 5000);
+    try_by_chance(&rt, rt.alloc(), &game, 4, 1991, 4000);
     Ok(())
 }

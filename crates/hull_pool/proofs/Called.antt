@@ -2,6 +2,7 @@
 use Rattle.std.proofs.Common.{◌≡◌, ◌<◌, ◌≤◌, ℕ, List, [], ◌∷◌, ◌++◌, length, refl, sym, ap, subst, ◌∙◌, arith}
 use Rattle.std.proofs.Common.{append_assoc, length-append, Ok, Err, eq-eqb}
 use Rattle.std.specs.Prelude.{◌==◌, ◌↔◌, IfOk, OnErr, IsErr}
+use Rattle.std.proofs.lemmas.List.{append-nil}
 use Rattle.std.proofs.lemmas.List.Elements.{filter-append}
 use Rattle.std.proofs.lemmas.List.Sums.{length-filter}
 use mathlib.Core.List.{IsPrefix}
@@ -49,11 +50,6 @@ lines_of-append_own k lines line e =
     filter-append (λ (l : Line). l.seat == k) lines (line ∷ [])
     ∙ ap (λ (xs : List Line). lines_of k lines ++ xs) (lines_of-own k line e)
 
--- nothing behind lines leaves them
-append_nothing : (xs : List Line) → xs ++ [] ≡ xs
-append_nothing [] = refl
-append_nothing (x ∷ xs) = ap (λ (ys : List Line). x ∷ ys) (append_nothing xs)
-
 -- a beginning of a beginning is one
 pub begins_longer : (xs ys zs : List Line) → IsPrefix xs ys → IsPrefix ys zs → IsPrefix xs zs
 begins_longer xs ys zs p q = (p.0 ++ q.0, sym (append_assoc xs p.0 q.0) ∙ ap (λ (l : List Line). l ++ q.0) p.1 ∙ q.1)
@@ -86,7 +82,7 @@ pub served_begins : (r : Answer) (head : Head) (t k : ℕ) (call : Call) (found 
     → HasServed head t k call found lines r → IsPrefix found lines
 served_begins (Ok reply) head t k call found lines served =
     (record { number = t; seat = k; call = call; reply = reply } ∷ [], sym served.1)
-served_begins (Err full) head t k call found lines served = ([], append_nothing found ∙ sym served.1)
+served_begins (Err full) head t k call found lines served = ([], append-nil found ∙ sym served.1)
 
 -- so it begins with what the seat had seen before
 pub served_longer : (r : Answer) (head : Head) (t k : ℕ) (call : Call) (seen found lines : List Line)
@@ -132,8 +128,4 @@ same_own k n lines others e same = subst (λ (m : ℕ). lines_of m lines ≡ lin
 
 -- lines begin with themselves
 pub begins_same : (xs ys : List Line) → ys ≡ xs → IsPrefix xs ys
-begins_same xs ys e = ([], append_nil xs ∙ sym e)
-  where
-    append_nil : (zs : List Line) → zs ++ [] ≡ zs
-    append_nil [] = refl
-    append_nil (z ∷ zs) = ap (λ (ws : List Line). z ∷ ws) (append_nil zs)
+begins_same xs ys e = ([], append-nil xs ∙ sym e)

@@ -1,3 +1,5 @@
+ghost use Rattle.std.specs.Prelude.{◌≡◌, ◌⊎◌, IfErr};
+
 use super::refusal::Refusal;
 use std::io::{BufWriter, Printer};
 use std::rt::Files;
@@ -11,7 +13,9 @@ const WRITE_BLOCK: usize = 65536;
 /// # Errors
 ///
 /// `Memory` where memory was refused to the system, and else `Open`.
-pub fn open_file<R: Files>(rt: &R, path: &str) -> Result<R::File, Refusal> {
+pub fn open_file<R: Files>(rt: &R, path: &str) -> Result<R::File, Refusal>
+    ensures { IfErr result (λ refusal. (refusal ≡ Refusal.Memory) ⊎ (refusal ≡ Refusal.Open)) }
+{
     fs::open(rt, path).map_err(|error| Refusal::of_system(&error, Refusal::Open))
 }
 
@@ -20,6 +24,8 @@ pub fn open_file<R: Files>(rt: &R, path: &str) -> Result<R::File, Refusal> {
 /// # Errors
 ///
 /// `Memory` where memory for the block was refused.
-pub fn block_writer<R: Print + AllocGlobal>(rt: &R) -> Result<BufWriter<Printer<'_, R>>, Refusal> {
+pub fn block_writer<R: Print + AllocGlobal>(rt: &R) -> Result<BufWriter<Printer<'_, R>>, Refusal>
+    ensures { IfErr result (λ refusal. refusal ≡ Refusal.Memory) }
+{
     BufWriter::with_capacity(rt.alloc(), WRITE_BLOCK, io::writer(rt)).map_err(|_| Refusal::Memory)
 }

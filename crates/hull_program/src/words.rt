@@ -1,5 +1,6 @@
-ghost use Rattle.std.specs.Prelude.{◌≡◌, IfOk, string_bytes};
-ghost use Rattle.hull_program.specs.Words.{IsOneOf, texts_of};
+ghost use Rattle.std.specs.Prelude.{◌≡◌, ◌≢◌, ◌⊎◌, IfErr, IfOk, string_bytes};
+ghost use Rattle.clap.specs.Values.{kind_of};
+ghost use Rattle.hull_program.specs.Words.{IsOneOf, texts_of, words_as_texts};
 
 use super::refusal::Refusal;
 use clap::error::ErrorKind;
@@ -13,7 +14,9 @@ use std::rt::Env;
 /// # Errors
 ///
 /// `Memory` where memory was refused, `Usage` where the system does not tell the words.
-pub fn words_given<R: Env + AllocGlobal>(rt: &R) -> Result<Vec<String>, Refusal> {
+pub fn words_given<R: Env + AllocGlobal>(rt: &R) -> Result<Vec<String>, Refusal>
+    ensures { IfErr result (λ refusal. (refusal ≡ Refusal.Memory) ⊎ (refusal ≡ Refusal.Usage)) }
+{
     let mut words = Vec::new(rt.alloc());
     let args = env::args(rt).map_err(|error| Refusal::of_system(&error, Refusal::Usage))?;
     for word in args.skip(1) {
@@ -27,7 +30,10 @@ pub fn words_given<R: Env + AllocGlobal>(rt: &R) -> Result<Vec<String>, Refusal>
 /// # Errors
 ///
 /// `Memory` where memory was refused.
-pub fn texts_of(alloc: Global, words: &[String]) -> Result<Vec<&str>, Refusal> {
+pub fn texts_of(alloc: Global, words: &[String]) -> Result<Vec<&str>, Refusal>
+    ensures texts { IfOk result (λ texts. texts_of texts.items ≡ words_as_texts words.now) }
+    ensures memory { IfErr result (λ refusal. refusal ≡ Refusal.Memory) }
+{
     let mut texts = Vec::new(alloc);
     for word in words {
         texts.push(word.as_str()).map_err(|_| Refusal::Memory)?;
@@ -35,8 +41,11 @@ pub fn texts_of(alloc: Global, words: &[String]) -> Result<Vec<&str>, Refusal> {
     Ok(texts)
 }
 
-/// Why words that could not be read are refused.
-pub fn refusal_of(error: &Error) -> Refusal {
+/// Why words that could not be read are refused: `Memory` where memory was refused to their reader, and else `Usage`.
+pub fn refusal_of(error: &Error) -> Refusal
+    ensures memory { kind_of error.now ≡ ErrorKind.OutOfMemory → result ≡ Refusal.Memory }
+    ensures usage { kind_of error.now ≢ ErrorKind.OutOfMemory → result ≡ Refusal.Usage }
+{
     if error.kind() == ErrorKind::OutOfMemory {
         Refusal::Memory
     } else {

@@ -6,8 +6,6 @@ ghost use Rattle.hulldraw.specs.Faults.{refusal_of_drawing};
 ghost use Rattle.hulldraw.specs.Tasks.{IsWithinLimits};
 
 mod options;
-#[cfg(test)]
-mod tests;
 
 use hull_draw::{DrawFault, draw, film};
 use hull_program::{Refusal, block_writer, open_file, texts_of, words_given};

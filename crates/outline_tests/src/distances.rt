@@ -1,7 +1,7 @@
 //! How far two hulls are apart, beside the least of the distances of the points of each from the other.
 use super::meetings::{
-    Fraction, assert_of, corners_of, is_less, outline_of, slow_distance, slow_meet, small_sets,
-    to_line, to_point,
+    Fraction, all_corners, assert_of, corners_of, is_less, outline_of, slow_distance, slow_meet,
+    small_sets, to_line, to_point,
 };
 use hull_outline::{Distance, Outline};
 use lattice::Point;
@@ -82,12 +82,12 @@ fn assert_distances(
     ones: &[Vec<Point>],
     others: &[Vec<Point>],
 ) -> Result<(), Fail> {
+    let all_others = all_corners(rt, alloc, others)?;
     for one in ones {
         let one_corners = corners_of(rt, alloc, one)?;
         let outline = outline_of(rt, &one_corners);
-        for other in others {
-            let other_corners = corners_of(rt, alloc, other)?;
-            let against = outline_of(rt, &other_corners);
+        for (other, other_corners) in others.iter().zip(&all_others) {
+            let against = outline_of(rt, other_corners);
             assert_distance(rt, one, other, outline.distance(&against));
             assert_distance(rt, other, one, against.distance(&outline));
         }

@@ -36,6 +36,33 @@ pub(crate) fn corners_of(
     Ok(set.vertices()?)
 }
 
+/// The corners of each of these sets.
+pub(crate) fn all_corners(
+    rt: &impl Abort,
+    alloc: Global,
+    sets: &[Vec<Point>],
+) -> Result<Vec<Vec<Point>>, Fail> {
+    let mut all = Vec::new(alloc);
+    for points in sets {
+        all.push(corners_of(rt, alloc, points)?)?;
+    }
+    Ok(all)
+}
+
+/// The sets of the small grid, a mesh apart, all of whose points are corners: any other set has the corners of one of them,
+/// and corners are all that an outline knows of a set.
+fn outlines_of_grid(rt: &impl Abort, alloc: Global, mesh: i64) -> Result<Vec<Vec<Point>>, Fail> {
+    let mut outlines = Vec::new(alloc);
+    for bits in 0u32..512 {
+        let points = grid_points(alloc, bits, mesh)?;
+        let corners = corners_of(rt, alloc, &points)?;
+        if corners.len() == points.len() {
+            outlines.push(corners)?;
+        }
+    }
+    Ok(outlines)
+}
+
 /// Whether `v` lies between `a` and `b`.
 fn is_between(a: i64, b: i64, v: i64) -> bool {
     a <= v && v <= b || b <= v && v <= a
@@ -150,16 +177,15 @@ fn assert_segment(rt: &impl Abort, points: &[Point], outline: Outline<'_>, a: &S
 fn assert_segments(
     rt: &impl Abort,
     alloc: Global,
-    points: &[Point],
+    corners: &[Point],
     reach: i64,
     mesh: i64,
 ) -> Result<(), Fail> {
-    let corners = corners_of(rt, alloc, points)?;
-    let outline = outline_of(rt, &corners);
-    let seen = seen_grid(alloc, points, reach, mesh)?;
+    let outline = outline_of(rt, corners);
+    let seen = seen_grid(alloc, corners, reach, mesh)?;
     for a in &seen {
         for b in &seen {
-            assert_segment(rt, points, outline, a, b);
+            assert_segment(rt, corners, outline, a, b);
         }
     }
     Ok(())
@@ -167,9 +193,8 @@ fn assert_segments(
 
 #[test]
 fn all_segments_of_a_small_grid(rt: HostRuntime) -> Result<(), Fail> {
-    for bits in 0u32..512 {
-        let points = grid_points(rt.alloc(), bits, 1)?;
-        assert_segments(&rt, rt.alloc(), &points, 2, 1)?;
+    for corners in &outlines_of_grid(&rt, rt.alloc(), 1)? {
+        assert_segments(&rt, rt.alloc(), corners, 2, 1)?;
     }
     Ok(())
 }
@@ -177,9 +202,8 @@ fn all_segments_of_a_small_grid(rt: HostRuntime) -> Result<(), Fail> {
 // The outermost points of the sets and of the segments are at the limit of coordinates.
 #[test]
 fn segments_at_the_limit(rt: HostRuntime) -> Result<(), Fail> {
-    for bits in 0u32..512 {
-        let points = grid_points(rt.alloc(), bits, 1099511627776)?;
-        assert_segments(&rt, rt.alloc(), &points, 1, 1099511627776)?;
+    for corners in &outlines_of_grid(&rt, rt.alloc(), 1099511627776)? {
+        assert_segments(&rt, rt.alloc(), corners, 1, 1099511627776)?;
     }
     Ok(())
 }
@@ -311,19 +335,17 @@ fn assert_least(
 
 #[test]
 fn nearest_and_least_width_of_all_sets_of_a_small_grid(rt: HostRuntime) -> Result<(), Fail> {
-    for bits in 0u32..512 {
-        let points = grid_points(rt.alloc(), bits, 2)?;
-        let corners = corners_of(&rt, rt.alloc(), &points)?;
-        let outline = outline_of(&rt, &corners);
+    for corners in &outlines_of_grid(&rt, rt.alloc(), 2)? {
+        let outline = outline_of(&rt, corners);
         match outline.least_width() {
             Some(strip) => {
-                assert_thinnest(&rt, &points, strip);
-                assert_least(&rt, &points, outline, strip)?;
+                assert_thinnest(&rt, corners, strip);
+                assert_least(&rt, corners, outline, strip)?;
             }
-            None => assert!(rt; points.len() < 2),
+            None => assert!(rt; corners.len() < 2),
         }
-        for seen in &seen_grid(rt.alloc(), &points, 3, 1)? {
-            assert_nearest(&rt, &points, outline, seen);
+        for seen in &seen_grid(rt.alloc(), corners, 3, 1)? {
+            assert_nearest(&rt, corners, outline, seen);
         }
     }
     Ok(())
@@ -428,10 +450,8 @@ fn covered_bits(points: &[Point], grid: &[Point]) -> u32 {
 fn all_sets_of_a_small_grid_within_each_other(rt: HostRuntime) -> Result<(), Fail> {
     let grid = grid_points(rt.alloc(), 511, 1)?;
     let mut all = Vec::new(rt.alloc());
-    for bits in 0u32..512 {
-        let points = grid_points(rt.alloc(), bits, 1)?;
-        let covered = covered_bits(&points, &grid);
-        let corners = corners_of(&rt, rt.alloc(), &points)?;
+    for corners in outlines_of_grid(&rt, rt.alloc(), 1)? {
+        let covered = covered_bits(&corners, &grid);
         all.push(Known { corners, covered })?;
     }
     for one in &all {
@@ -535,13 +555,13 @@ fn assert_meetings(
     ones: &[Vec<Point>],
     others: &[Vec<Point>],
 ) -> Result<(), Fail> {
+    let all_others = all_corners(rt, alloc, others)?;
     for one in ones {
         let one_corners = corners_of(rt, alloc, one)?;
         let outline = outline_of(rt, &one_corners);
-        for other in others {
-            let other_corners = corners_of(rt, alloc, other)?;
-            let against = outline_of(rt, &other_corners);
-            let meet = slow_meet(&one_corners, &other_corners);
+        for (other, other_corners) in others.iter().zip(&all_others) {
+            let against = outline_of(rt, other_corners);
+            let meet = slow_meet(&one_corners, other_corners);
             assert_of(rt, outline.meets(&against) == meet, one);
             assert_of(rt, against.meets(&outline) == meet, one);
             assert_witness(rt, one, other, meet, outline.witness(&against));

@@ -142,18 +142,18 @@ fn change_on_grid(
 }
 
 #[test]
-fn each_of_20000_changes_of_25_points(rt: HostRuntime) -> Result<(), Fail> {
+fn each_of_8000_changes_of_25_points(rt: HostRuntime) -> Result<(), Fail> {
     let grid = Grid { lines: 5, apart: 1 };
-    change_on_grid(&rt, rt.alloc(), grid, 20000, 1)
+    change_on_grid(&rt, rt.alloc(), grid, 8000, 1)
 }
 
 #[test]
-fn alike_over_100000_changes(rt: HostRuntime) -> Result<(), Fail> {
+fn alike_over_30000_changes(rt: HostRuntime) -> Result<(), Fail> {
     let grid = Grid {
         lines: 31,
         apart: 1,
     };
-    change_on_grid(&rt, rt.alloc(), grid, 100000, 50)
+    change_on_grid(&rt, rt.alloc(), grid, 30000, 50)
 }
 
 // Some points are near, and some are not: those of the grid's outermost lines.
@@ -163,7 +163,7 @@ fn alike_across_the_near_limit(rt: HostRuntime) -> Result<(), Fail> {
         lines: 31,
         apart: 80000000,
     };
-    change_on_grid(&rt, rt.alloc(), grid, 20000, 20)
+    change_on_grid(&rt, rt.alloc(), grid, 8000, 20)
 }
 
 /// Whether 64 points of a parabola are added to both trees.
