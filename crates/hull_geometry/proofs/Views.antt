@@ -27,7 +27,7 @@ clear_after side S q h = record {
   outwards = λ s t ms mt sq qt. absurd (before_not t q (h t mt) qt);
 }
 
--- outwards of a line of which no point of S is
+-- outwards of a line that has no point of S outwards
 pub clear_outwards : (side : Side) (S : List Pair) (q a b : Pair) → IsBefore a b
     → ((t : Pair) → Contains S t → pos 0 ≤ℤ turn side a b t) → turn side a b q <ℤ pos 0 → IsClear side S q
 clear_outwards side S q a b ab inner h = record {

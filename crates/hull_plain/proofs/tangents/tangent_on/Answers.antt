@@ -31,13 +31,17 @@ tangent_behind-requires-in-Right-Upper-clause-after c =
     (rw (c.in-Right-Upper.is-0, c.in-Right-Upper.is-1) at c.requires.inwards)
 
 pub returns-in-Left-Lower : goal.returns-in-Left-Lower
-returns-in-Left-Lower c = λ S k clear. rw c.in-Left-Lower.is-0 (c.tangent_behind.ensures S k.below (rw c.in-Left-Lower.is-1 at clear))
+returns-in-Left-Lower c = λ S k clear.
+    rw c.in-Left-Lower.is-0 (c.tangent_behind.ensures S k.below (rw c.in-Left-Lower.is-1 at clear))
 
 pub returns-in-Left-Upper : goal.returns-in-Left-Upper
-returns-in-Left-Upper c = λ S k clear. rw c.in-Left-Upper.is-0 (c.tangent_ahead.ensures S k.above (rw c.in-Left-Upper.is-1 at clear))
+returns-in-Left-Upper c = λ S k clear.
+    rw c.in-Left-Upper.is-0 (c.tangent_ahead.ensures S k.above (rw c.in-Left-Upper.is-1 at clear))
 
 pub returns-in-Right-Lower : goal.returns-in-Right-Lower
-returns-in-Right-Lower c = λ S k clear. rw c.in-Right-Lower.is-0 (c.tangent_ahead-in-Right-Lower.ensures S k.below (rw c.in-Right-Lower.is-1 at clear))
+returns-in-Right-Lower c = λ S k clear.
+    rw c.in-Right-Lower.is-0 (c.tangent_ahead-in-Right-Lower.ensures S k.below (rw c.in-Right-Lower.is-1 at clear))
 
 pub returns-in-Right-Upper : goal.returns-in-Right-Upper
-returns-in-Right-Upper c = λ S k clear. rw c.in-Right-Upper.is-0 (c.tangent_behind-in-Right-Upper.ensures S k.above (rw c.in-Right-Upper.is-1 at clear))
+returns-in-Right-Upper c = λ S k clear.
+    rw c.in-Right-Upper.is-0 (c.tangent_behind-in-Right-Upper.ensures S k.above (rw c.in-Right-Upper.is-1 at clear))
