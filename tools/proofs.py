@@ -1,18 +1,21 @@
 #!/usr/bin/env python3
-"""`rt ci` with its work kept: every crate and its tests proved from nothing, must-fail edits and wrong bodies refused.
+"""`rt ci` with its work kept: every crate proved from nothing, must-fail edits and wrong bodies refused.
 
-    tools/proofs.py [CRATE..]
+    tools/proofs.py [--tests] [CRATE..]
 
 It runs the kit's own `rt ci`, of these crates and those below them where some are named, with all that this refuses. It
-differs in three ways, so that no part of the gate proves anything twice:
+differs in four ways, so that no part of the gate proves anything twice:
 
 - What a crate's proof checks is kept in its folder out/incremental, which is empty when the run begins. The last line of
   such a proof says incremental=trusted: that whoever can write to that folder is trusted, which is this run alone.
-- A crate's tests are proved over a copy of that folder: what they add to the crate is checked, and the crate itself is not
-  checked again. A program is built by both compilers over it.
+- Tests are left to bin/test, which runs them with no proof: what a proof says of a test is that the test itself is safe, and
+  of the product nothing. With --tests they are proved too, over a copy of that folder: what they add to the crate is
+  checked, and the crate itself is not checked again. A program is built by both compilers over it.
 - A crate's edits, of must-fail/ and of wrong-bodies/, are tried over copies of it too, in groups, as tools/wrong_bodies.py
   does. First the crate with a change that means nothing is tried in the same way, and has to pass: so a try that refuses
   everything fails the run.
+- Each check is one process: beside one another they fill the processors, and a check that is parted takes a third more of
+  their time.
 
 As `rt ci` does, it keeps on this machine what passed, by the sums of all that it was made from, and takes it from there where a
 later run comes to the same files over the same libraries; under names of its own, so that neither takes the other's work.
@@ -44,8 +47,10 @@ KNOWN = {
     "ci": "(anew, names=())",
     "crates_of": "(root)",
     "edits_of": "(crate)",
+    "free": "()",
     "in_lanes": "(tasks)",
     "need": "(crate)",
+    "processors": "()",
     "read_edit": "(edit, folder)",
     "Kept": "(crates, anew=False)",
     "Kept.give": "(self, crate, tests, key)",
@@ -58,6 +63,8 @@ KNOWN = {
 # the last line of a proof, which may say that its work, or that of a library below, is kept
 OVER_KEPT = re.compile(LIB.VERDICT.pattern.replace(r"\n", r"( incremental=trusted)?\n"), re.M)
 COUNTS = re.compile(r"(\d+) passed, (\d+) failed")
+# a check from nothing takes up to so many bytes
+MEMORY_OF_A_CHECK = 5 << 30
 # a check over kept work takes so much of the memory that one from nothing does
 SHARE_OF_MEMORY = 0.6
 # what each kind of task took, in seconds that are summed over tasks which run beside one another
@@ -216,11 +223,16 @@ def tell_times():
         print(f"{name:16}{of[0]:8.0f}{of[1]:8.0f}{of[2]:8.0f}")
 
 
+def lanes():
+    """How many checks run beside one another: as many as there are processors and memory."""
+    return max(1, min(RT.processors(), RT.free() // MEMORY_OF_A_CHECK))
+
+
 class Run:
     """A run of the kit's `rt ci`, whose tasks also try the edits, and whose last line is told with theirs."""
 
-    def __init__(self, named):
-        self.named, self.edits, self.left_out, self.counts = named, [], (), (0, 1)
+    def __init__(self, named, tests):
+        self.named, self.tests, self.edits, self.left_out, self.counts = named, tests, [], (), (0, 1)
 
     def crates_of(self, root):
         """The kit's own, and which of them are left out where some are named."""
@@ -232,7 +244,8 @@ class Run:
 
     def in_lanes(self, tasks):
         """Runs the kit's tasks, tests once their crate is proved, and those of the edits. One that is left out counts as well."""
-        left_out = {it: ([], [], []) if it[1] == "edits" else True for it in tasks if it[0] in self.left_out}
+        left_out = {it: ([], [], []) if it[1] == "edits" else True for it in tasks
+                    if it[0] in self.left_out or it[1] == "tests" and not self.tests}
         chosen = {it: task for it, task in tasks.items() if it not in left_out}
         for (name, kind, *_), (waits, *rest) in [*chosen.items()]:
             if kind == "tests":
@@ -251,6 +264,7 @@ class Run:
 
     def run(self):
         """Runs it all. The status of the command."""
+        os.environ.setdefault("RT_JOBS", str(lanes()))
         RT.Crate, RT.Kept = KeepingCrate, Store
         RT.crates_of, RT.in_lanes, RT.print = self.crates_of, self.in_lanes, self.print
         RT.edits_of, LIB.VERDICT = lambda crate: ([], []), OVER_KEPT
@@ -284,13 +298,14 @@ def run_plainly(named):
     return 1 if failed or not passed else 0
 
 
-def main(named):
+def main(words):
     os.chdir(TOP)
+    named = [it for it in words if it != "--tests"]
     strange = [it for it, words in KNOWN.items() if words_of(it) != words]
     if strange:
         print(f"this kit's rt differs from what tools/proofs.py knows ({' '.join(strange)}): rt ci itself is run, and then tools/wrong_bodies.py", flush=True)
         return run_plainly(named)
-    return Run(named).run()
+    return Run(named, "--tests" in words).run()
 
 
 if __name__ == "__main__":

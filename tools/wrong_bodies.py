@@ -34,7 +34,11 @@ TOP = os.path.dirname(os.path.dirname(os.path.abspath(__file__)))
 # a check takes up to so many bytes
 MEMORY_OF_A_CHECK = 4 << 30
 # so many wrong bodies stand in a group at most, so that the groups of a large crate are tried beside one another
-MOST_IN_A_GROUP = 20
+MOST_IN_A_GROUP = 40
+# where a function begins, and where a block of methods does, of a trait or of none
+FUNCTION = re.compile(r"\bfn\s+([A-Za-z_0-9]+)")
+BLOCK = re.compile(r"""^(?:unsafe\ )?impl(?:<[^{}]*?>)?\ (?:(?:\w+::)*(?P<trait>\w+)(?:<(?P<of>\w+)>|<[^{}]*?>)?\ for\ )?
+    (?:\w+::)*(?P<type>\w+)""", re.M | re.X)
 # a line that brings names in
 IMPORTS = re.compile(r"\s*(?:pub |ghost )?use ")
 # what antt says of a proof file that names what a change took away
@@ -63,13 +67,17 @@ RT = load_rt()
 
 @dataclass(frozen=True)
 class Function:
-    """A function as an edit tells of it: its name, and the module of its file, which a type may stand between."""
+    """A function as an edit tells of it: its name, the module of its file, and of a method the block that it stands in, as a
+    check names it, which is at home in the module of its type and so in another file, it may be."""
 
     module: str
     name: str
+    block: str = ""
 
     def is_at(self, path):
         """Whether it can be what a check names by that path."""
+        if self.block:
+            return path.endswith(f"::{self.block}::{self.name}")
         return path.startswith(self.module) and path.endswith(f"::{self.name}")
 
 
@@ -122,9 +130,18 @@ def functions_at(crate, file, old):
         return []
     with open(f"{crate.folder}/{file}", encoding="utf-8") as source:
         text = source.read()
-    opened = re.findall(r"\bfn\s+([A-Za-z_0-9]+)", old)
-    before = re.findall(r"\bfn\s+([A-Za-z_0-9]+)", text[: text.find(old)])
-    return [Function(module_of(crate, file), it) for it in opened or before[-1:]]
+    start = text.find(old)
+    opened = [it for it in FUNCTION.finditer(text, start) if it.start() < start + len(old)]
+    before = [*FUNCTION.finditer(text, 0, start)]
+    return [Function(module_of(crate, file), it[1], block_at(text, it.start())) for it in opened or before[-1:]]
+
+
+def block_at(text, at):
+    """The block of methods which a function at that place of a text stands in, as a check names it: the type and the trait."""
+    if text[text.rfind("\n", 0, at) + 1] != " ":
+        return ""
+    blocks = [*BLOCK.finditer(text, 0, at)]
+    return "".join(blocks[-1][it] or "" for it in ("type", "trait", "of")) if blocks else ""
 
 
 def module_of(crate, file):
