@@ -1,6 +1,6 @@
 #!/usr/bin/env python3
-"""The gate, part by part: files in their layout, crates and their tests proved from nothing, wrong bodies refused, programs
-and libraries tried.
+"""The gate, part by part: files in their layout, the tests, crates proved from nothing, wrong bodies refused, programs and
+libraries tried.
 
     .ci/run [PART..]
 
@@ -24,6 +24,7 @@ PROGRAMS = ("hullbook", "hulldraw", "memory_trials")
 # the parts that run beside one another stand in one row
 ROWS = (
     {"layout": ["tools/layout.py"]},
+    {"tests": ["bin/test", "crates"]},
     {"proofs": ["tools/proofs.py"]},
     {
         "cli": ["tests/cli/run.sh"],

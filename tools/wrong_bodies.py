@@ -160,9 +160,10 @@ def functions_naming(crate, old):
     for at, _, files in os.walk(f"{crate.folder}/src"):
         for file in (f"{at}/{it}" for it in sorted(files) if it.endswith(".rt")):
             with open(file, encoding="utf-8") as source:
-                parts = re.split(r"\bfn\s+([A-Za-z_0-9]+)", source.read())
-            module = module_of(crate, os.path.relpath(file, crate.folder))
-            found += [Function(module, name) for name, body in zip(parts[1::2], parts[2::2]) if named.search(body)]
+                text = source.read()
+            module, starts = module_of(crate, os.path.relpath(file, crate.folder)), [*FUNCTION.finditer(text)]
+            ends = [it.start() for it in starts[1:]] + [len(text)]
+            found += [Function(module, it[1], block_at(text, it.start())) for it, end in zip(starts, ends) if named.search(text, it.end(), end)]
     return [it for it in found if "::laws::" in it.module] or found
 
 
