@@ -277,6 +277,7 @@ static void no_arrays(hull_shared_desk *desk, hull_shared_seat *seat, hull_share
     is("no text", hull_shared_reopen(desk, NULL, 0, 4, 1).code, HULL_NO_JOURNAL);
     is("open", hull_shared_open(desk, 3, 7, 4, 1), HULL_OPEN);
     is("lend", hull_shared_lend(desk, seat, 0), HULL_LENT);
+    is("look into nothing with no number", hull_shared_look_into(seat, NULL, 0).told.code, HULL_NO_NUMBER);
     is("corners of none", hull_shared_vertices(&line, seat, NULL, 0).told.code, HULL_CORNERS);
     is("take", hull_shared_take(seat, HULL_KIND_VERTICES, 0, 0).told.code, HULL_TAKEN);
     is("look into nothing", hull_shared_look_into(seat, NULL, 0).told.code, HULL_CORNERS);

@@ -161,12 +161,12 @@ fn four_players(rt: &impl Abort, alloc: Global, first: u64) -> Result<Game, Allo
     })
 }
 
-/// 8000 ways in which four players make four calls each with as many misses as steps, drawn from the seeds 1967 and 1991.
+/// 4000 ways in which four players make four calls each with as many misses as steps, drawn from the seeds 1967 and 1991.
 #[test]
 fn ways_by_chance(rt: HostRuntime) -> Result<(), Fail> {
     let game = four_players(&rt, rt.alloc(), 0)?;
-    try_by_chance(&rt, rt.alloc(), &game, 4, 1967, 4000);
+    try_by_chance(&rt, rt.alloc(), &game, 4, 1967, 2000);
     let game = four_players(&rt, rt.alloc(), 18446744073709551610)?;
-    try_by_chance(&rt, rt.alloc(), &game, 4, 1991, 4000);
+    try_by_chance(&rt, rt.alloc(), &game, 4, 1991, 2000);
     Ok(())
 }

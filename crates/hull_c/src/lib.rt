@@ -36,8 +36,6 @@ mod load;
 mod outline;
 mod pairs;
 mod requests;
-#[cfg(test)]
-mod tests;
 
 pub use bridges::HullBridge;
 use heap::Heap;

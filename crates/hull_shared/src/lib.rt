@@ -58,8 +58,6 @@ mod reopening;
 mod seat;
 mod serving;
 mod setting_up;
-#[cfg(test)]
-mod tests;
 
 use desk::Desk;
 use hull_reply::{HullPoint, HullReply};

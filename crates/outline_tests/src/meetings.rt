@@ -78,18 +78,27 @@ fn is_in_triangle(a: Point, b: Point, c: Point, q: Point) -> bool {
     orient(a, b, c) > 0 && orient(a, b, q) >= 0 && orient(b, c, q) >= 0 && orient(c, a, q) >= 0
 }
 
-/// Whether the points cover `q`, by the definition.
-fn slow_covers(points: &[Point], q: Point) -> bool {
-    for a in points {
-        for b in points {
-            if is_on_segment(*a, *b, q) {
+/// Whether `q` lies on a segment or in a triangle of these points whose first corner is `a`.
+fn is_covered_from(a: Point, points: &[Point], q: Point) -> bool {
+    for b in points {
+        if is_on_segment(a, *b, q) {
+            return true;
+        }
+        for c in points {
+            if is_in_triangle(a, *b, *c, q) {
                 return true;
             }
-            for c in points {
-                if is_in_triangle(*a, *b, *c, q) {
-                    return true;
-                }
-            }
+        }
+    }
+    false
+}
+
+/// Whether the points cover `q`, by the definition: each segment is looked at from one of its ends, and each triangle from
+/// one of its corners, the earliest.
+fn slow_covers(points: &[Point], q: Point) -> bool {
+    for first in 0..points.len() {
+        if is_covered_from(points[first], &points[first..], q) {
+            return true;
         }
     }
     false
@@ -100,14 +109,16 @@ fn is_crossing(a: Point, b: Point, c: Point, d: Point) -> bool {
     orient(a, b, c) < 0 && orient(a, b, d) > 0 && orient(c, d, a) > 0 && orient(c, d, b) < 0
 }
 
-/// Whether the points and the segment meet, neither end being covered, by the definition.
+/// Whether the points and the segment meet, neither end being covered, by the definition. Each two points are looked at
+/// once, since a segment crosses another whichever of its ends is named first.
 fn slow_crosses(points: &[Point], a: Point, b: Point) -> bool {
-    for s in points {
-        if is_on_segment(a, b, *s) {
+    for first in 0..points.len() {
+        let s = points[first];
+        if is_on_segment(a, b, s) {
             return true;
         }
-        for t in points {
-            if is_crossing(*s, *t, a, b) || is_crossing(*s, *t, b, a) {
+        for t in &points[first..] {
+            if is_crossing(s, *t, a, b) || is_crossing(s, *t, b, a) {
                 return true;
             }
         }
@@ -476,9 +487,9 @@ pub(crate) fn slow_meet(one: &[Point], other: &[Point]) -> bool {
             return true;
         }
     }
-    for a in other {
-        for b in other {
-            if slow_crosses(one, *a, *b) {
+    for first in 0..other.len() {
+        for b in &other[first..] {
+            if slow_crosses(one, other[first], *b) {
                 return true;
             }
         }

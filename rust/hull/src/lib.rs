@@ -118,7 +118,7 @@ pub struct Hull {
     room: NonNull<u8>,
 }
 
-// SAFETY: `SparingTree` is `Send`, which the library's sources show by a bound: plain data, and boxes from `malloc`. It is not
+// SAFETY: `SparingTree` is `Send`, which a test in `set_tests` asks for by a bound: plain data, and boxes from `malloc`. It is not
 // `Sync`, since a question too lends the library the whole hull.
 unsafe impl Send for Hull {}
 

@@ -101,7 +101,7 @@ fn full_book(rt: &impl Abort, alloc: Global) -> Result<(), AllocError> {
     Ok(())
 }
 
-// 64 players that count once each.
+// 64 players that count once each, with as many misses as steps.
 fn sixty_four_players(alloc: Global) -> Result<Game, AllocError> {
     let mut calls = Vec::new(alloc);
     for _ in 0..64u8 {
@@ -111,7 +111,7 @@ fn sixty_four_players(alloc: Global) -> Result<Game, AllocError> {
         calls,
         first: 18446744073709551600,
         capacity: 64,
-        misses: 1000,
+        misses: 192,
     })
 }
 

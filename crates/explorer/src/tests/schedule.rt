@@ -74,6 +74,14 @@ fn next_call(player: &Player, game: &Game) -> Option<Call> {
     own.get(player.answers.len()).copied()
 }
 
+// Whether the player has a call left.
+fn has_call(player: &Player, game: &Game) -> bool {
+    match game.calls.get(usize::from(player.number)) {
+        Some(own) => player.answers.len() < own.len(),
+        None => false,
+    }
+}
+
 // Whether the player can make a step: it holds the book, its number is served, its look may miss, or it has a call
 // left.
 fn can_step(player: &Player, game: &Game, seen: &Seen) -> bool {
@@ -83,32 +91,33 @@ fn can_step(player: &Player, game: &Game, seen: &Seen) -> bool {
     if player.ticket.is_some() {
         return is_served(player, seen) || seen.misses < game.misses;
     }
-    next_call(player, game).is_some()
+    has_call(player, game)
 }
 
-// How many players can make a step.
-fn count_able(players: &[Player], game: &Game, seen: &Seen) -> u8 {
-    let mut able = 0u8;
+// The players that can make a step, each by the bit of its place: a lock has 64 seats at most.
+fn able_players(players: &[Player], game: &Game, seen: &Seen) -> u64 {
+    let mut able = 0u64;
+    let mut bit = 1u64;
     for player in players {
         if can_step(player, game, seen) {
-            able = able.saturating_add(1);
+            able |= bit;
         }
+        bit = bit << 1;
     }
     able
 }
 
-// The place of the player that can make a step and has so many before it that can.
-fn nth_able(players: &[Player], game: &Game, seen: &Seen, before: u8) -> Option<usize> {
-    let mut passed = 0u8;
-    for (place, player) in players.iter().enumerate() {
-        if can_step(player, game, seen) {
-            if passed == before {
-                return Some(place);
-            }
-            passed = passed.saturating_add(1);
-        }
+// The place of the set bit that has so many set bits before it.
+fn nth_bit(bits: u64, before: u8) -> Option<usize> {
+    let mut left = bits;
+    for _ in 0..before {
+        left &= left.wrapping_sub(1);
     }
-    None
+    if left == 0 {
+        None
+    } else {
+        Some(left.trailing_zeros() as usize)
+    }
 }
 
 // Notes a number behind those that were noted.
@@ -175,12 +184,12 @@ fn play<'a, C: Choice>(
     ensures many { vec_len players.new ≡ vec_len players.old }
 {
     for _step in 0..STEPS {
-        let width = count_able(players.as_slice(), game, seen);
-        if width == 0 {
+        let able = able_players(players.as_slice(), game, seen);
+        if able == 0 {
             return;
         }
-        let chosen = choice.next(width);
-        let Some(place) = nth_able(players.as_slice(), game, seen, chosen) else {
+        let chosen = choice.next(able.count_ones() as u8);
+        let Some(place) = nth_bit(able, chosen) else {
             panic!(rt; "the choice is among those that can make a step")
         };
         assert!(rt; place < players.len());

@@ -196,3 +196,16 @@ fn inner_points_take_few_turns(rt: HostRuntime) {
         "{few} and {many}, {fewer} and {more} turns"
     );
 }
+
+/// Asks for a type whose values may go to another thread.
+fn goes_to_any_thread<H: Send>(_set: &H) {}
+
+// The wrappers of the libraries for C send a hull to another thread, which no program in C can ask the compiler about.
+#[test]
+fn a_tree_may_go_to_any_thread(rt: HostRuntime) {
+    let tree = SparingTree::new(rt.alloc(), POINT_LIMIT);
+    goes_to_any_thread(&tree);
+    let count = tree.count();
+    drop(tree);
+    assert_eq!(rt; count, 0);
+}
