@@ -4,13 +4,14 @@
     tools/proofs.py [--tests] [CRATE..]
 
 It runs the kit's own `rt ci`, of these crates and those below them where some are named, with all that this refuses. It
-differs in four ways, so that no part of the gate proves anything twice:
+differs in five ways, so that no part of the gate proves anything twice:
 
 - What a crate's proof checks is kept in its folder out/incremental, which is empty when the run begins. The last line of
   such a proof says incremental=trusted: that whoever can write to that folder is trusted, which is this run alone.
+- A program is built by both compilers over that folder.
 - Tests are left to bin/test, which runs them with no proof: what a proof says of a test is that the test itself is safe, and
   of the product nothing. With --tests they are proved too, over a copy of that folder: what they add to the crate is
-  checked, and the crate itself is not checked again. A program is built by both compilers over it.
+  checked, and the crate itself is not checked again.
 - A crate's edits, of must-fail/ and of wrong-bodies/, are tried over copies of it too, in groups, as tools/wrong_bodies.py
   does. First the crate with a change that means nothing is tried in the same way, and has to pass: so a try that refuses
   everything fails the run.

@@ -67,8 +67,8 @@ RT = load_rt()
 
 @dataclass(frozen=True)
 class Function:
-    """A function as an edit tells of it: its name, the module of its file, and of a method the block that it stands in, as a
-    check names it, which is at home in the module of its type and so in another file, it may be."""
+    """A function as an edit tells of it: its name, the module of its file, and of a method the block that it stands in. A check
+    names a method by the module of its type, which may be that of another file."""
 
     module: str
     name: str
