@@ -8,13 +8,13 @@ differs in five ways, so that no part of the gate proves anything twice:
 
 - What a crate's proof checks is kept in its folder out/incremental, which is empty when the run begins. The last line of
   such a proof says incremental=trusted: that whoever can write to that folder is trusted, which is this run alone.
-- A program is built by both compilers over that folder.
+- A program that has edits is proved by its first build, and its second compiler takes what that kept.
 - Tests are left to bin/test, which runs them with no proof: what a proof says of a test is that the test itself is safe, and
-  of the product nothing. With --tests they are proved too, over a copy of that folder: what they add to the crate is
-  checked, and the crate itself is not checked again.
+  of the product nothing. So are crates that hold nothing else. With --tests they are proved too, over a copy of that folder:
+  what they add to the crate is checked, and the crate itself is not checked again.
 - A crate's edits, of must-fail/ and of wrong-bodies/, are tried over copies of it too, in groups, as tools/wrong_bodies.py
-  does. First the crate with a change that means nothing is tried in the same way, and has to pass: so a try that refuses
-  everything fails the run.
+  does. A check that refuses has to prove some other function too, or else the crate has to pass with a change that means
+  nothing: so a try that refuses everything fails the run.
 - Each check is one process: beside one another they fill the processors, and a check that is parted takes a third more of
   their time.
 
@@ -30,10 +30,8 @@ import hashlib
 import inspect
 import os
 import re
-import shutil
 import subprocess
 import sys
-import tempfile
 import time
 
 sys.path.insert(0, os.path.dirname(os.path.abspath(__file__)))
@@ -82,12 +80,6 @@ def timed(*what):
     TOOK[what] = TOOK.get(what, 0) + time.time() - start
 
 
-def copied(folder, to):
-    """Copies a folder of kept work by links: files are written anew there and never changed, so the first stays as it is."""
-    os.makedirs(folder, exist_ok=True)
-    shutil.copytree(folder, to, copy_function=os.link)
-
-
 class Store(getattr(RT, "Kept", object)):
     """What earlier runs of this file on this machine passed: the kit's own store, under other names."""
 
@@ -126,18 +118,35 @@ class Store(getattr(RT, "Kept", object)):
 class KeepingCrate(RT.Crate):
     """A crate whose proof keeps its work, and whose tests and programs are built over that."""
 
+    keeps = True
+    # the paths of the functions of each crate that this run proved
+    functions = {}
+
     def kept(self):
         """The folder that keeps what the crate's proof checked."""
         return f"{self.folder}/out/incremental"
 
+    def is_of_tests(self):
+        """Whether nothing stands in it but tests."""
+        if self.is_program:
+            return False
+        with open(f"{self.folder}/src/lib.rt", encoding="utf-8") as text:
+            return not re.sub(r"//.*|#!\[.*|#\[cfg\(test\)\]\s+mod \w+;", "", text.read()).strip()
+
     def prove(self, *commands):
         """As the kit's own, keeping its work; that of tests beside, since other tasks read the crate's own meanwhile."""
         of_tests = any("--test" in it for it in commands)
-        with timed(self.name, "tests" if of_tests else "proof"), tempfile.TemporaryDirectory(prefix="rt-tests-") as room:
-            over = f"{room}/kept" if of_tests else self.kept()
-            if of_tests:
-                copied(self.kept(), over)
-            return super().prove(*([*it, "--incremental", over] for it in commands))
+        if not self.keeps:
+            with timed(self.name, "proof"):
+                return super().prove(*commands)
+        with timed(self.name, "tests" if of_tests else "proof"), contextlib.ExitStack() as room:
+            over = room.enter_context(wrong_bodies.copied(self.kept())) if of_tests else self.kept()
+            begun = self.out.tell()
+            status = super().prove(*([*it, "--incremental", over] for it in commands))
+            if not of_tests:
+                self.out.seek(begun)
+                self.functions[self.name] = wrong_bodies.PROVED.findall(self.out.read())
+            return status
 
     def build_rlib(self, flags, anew):
         """As the kit's own, with proofs and not statements alone, which would keep nothing."""
@@ -145,12 +154,14 @@ class KeepingCrate(RT.Crate):
         return super().build_rlib(flags, anew)
 
     def ci(self, flags, tests):
-        """As the kit's own; a program is proved over its kept work, from which each compiler then takes it."""
-        if tests or not self.is_program:
+        """As the kit's own; a program with edits is proved by its first build, over kept work, from which its second takes it. One
+        without needs no kept work: the kit's own proves it once too."""
+        if tests or not self.is_program or not wrong_bodies.files_of(self):
+            self.keeps = tests or not self.is_program
             return super().ci(flags, tests)
-        words = self.words(flags, keeps=False)
-        over, to = [*words, "--toolchain", f"{RT.KIT}/toolchain", "--incremental", self.kept()], f"out/{self.name}"
-        return self.prove(["check", *words]) or self.compile_by("llvm", over, to) or self.compile_by("rattle", over, to)
+        words, to = [*self.words(flags, keeps=False), "--toolchain", f"{RT.KIT}/toolchain"], f"out/{self.name}"
+        status = self.prove(["build", *words, "--backend", "llvm", "-o", f"{to}.o"]) or self.link(f"{to}.o", to)
+        return status or self.compile_by("rattle", [*words, "--incremental", self.kept()], to)
 
 
 class Edits:
@@ -161,15 +172,8 @@ class Edits:
         self.edits, self.bad = wrong_bodies.edits_of(crate)
         self.groups = wrong_bodies.groups_of(crate, self.edits)
 
-    @contextlib.contextmanager
-    def over_kept(self):
-        """A copy of what the crate's proof kept, while it is in use."""
-        with tempfile.TemporaryDirectory(prefix="rt-group-") as room:
-            copied(self.crate.kept(), f"{room}/kept")
-            yield f"{room}/kept"
-
     def ground(self, given, jobs):
-        """The crate's functions, where a change that means nothing passes over its kept work; none where no edit is left to try."""
+        """The paths of the crate's functions; none where no edit is left to try, or where the crate is not proved."""
         if not given[self.crate.name, "proof"]:
             return []
         earlier = {it.path: Store.run.outcome(self.crate, it) for it in self.edits}
@@ -177,21 +181,20 @@ class Edits:
         self.known = len(self.outcomes)
         if self.known == len(self.edits):
             return []
+        if self.crate.name in KeepingCrate.functions:
+            return KeepingCrate.functions[self.crate.name]
+        # (its proof was an earlier run's, which kept no work)
+        os.makedirs(self.crate.kept(), exist_ok=True)
         with timed(self.crate.name, "edits"):
-            if not os.path.isdir(self.crate.kept()):
-                # (its proof was an earlier run's, which kept no work)
-                os.makedirs(self.crate.kept())
-                RT.checked(self.crate, {}, ["--jobs", str(jobs)], self.crate.kept())
-            with self.over_kept() as over:
-                return wrong_bodies.functions_of(self.crate, over)
+            return wrong_bodies.PROVED.findall(RT.checked(self.crate, {}, ["--jobs", str(jobs)], self.crate.kept()).stdout)
 
     def tried(self, given, jobs, group):
-        """Tries what no earlier run tried of a group, over a copy of what the crate's proof kept."""
+        """Tries what no earlier run tried of a group, over what the crate's proof kept."""
         paths, left = given[self.crate.name, "seed"], [it for it in group if it.path not in self.outcomes]
         if not paths or not left:
             return
-        with timed(self.crate.name, "edits"), self.over_kept() as over:
-            for edit, outcome in zip(left, wrong_bodies.tried(self.crate, left, over, paths)):
+        with timed(self.crate.name, "edits"):
+            for edit, outcome in zip(left, wrong_bodies.tried(self.crate, left, self.crate.kept(), paths)):
                 self.outcomes[edit.path] = outcome
                 Store.run.keep_outcome(self.crate, edit, outcome)
 
@@ -238,7 +241,8 @@ class Run:
     def crates_of(self, root):
         """The kit's own, and which of them are left out where some are named."""
         crates = KITS_CRATES(root)
-        chosen = {low.name for it in crates if it.name in self.named or not self.named for low in [it, *it.below()]}
+        asked = [it for it in crates if it.name in self.named or not self.named and (self.tests or not it.is_of_tests())]
+        chosen = {low.name for it in asked for low in [it, *it.below()]}
         self.left_out = {it.name for it in crates} - chosen
         self.edits = [it for it in map(Edits, crates) if it.crate.name in chosen and (it.groups or it.bad)]
         return crates

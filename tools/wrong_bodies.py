@@ -17,6 +17,7 @@ the groups alone. --compile looks only whether they get past the compiler, in so
 names or numbers that edits use, since one that does not compile fails the gate.
 """
 import argparse
+import contextlib
 import importlib.machinery
 import importlib.util
 import os
@@ -34,17 +35,21 @@ TOP = os.path.dirname(os.path.dirname(os.path.abspath(__file__)))
 # a check takes up to so many bytes
 MEMORY_OF_A_CHECK = 4 << 30
 # so many wrong bodies stand in a group at most, so that the groups of a large crate are tried beside one another
-MOST_IN_A_GROUP = 40
+MOST_IN_A_GROUP = 60
 # where a function begins, and where a block of methods does, of a trait or of none
 FUNCTION = re.compile(r"\bfn\s+([A-Za-z_0-9]+)")
 BLOCK = re.compile(r"""^(?:unsafe\ )?impl(?:<[^{}]*?>)?\ (?:(?:\w+::)*(?P<trait>\w+)(?:<(?P<of>\w+)>|<[^{}]*?>)?\ for\ )?
     (?:\w+::)*(?P<type>\w+)""", re.M | re.X)
 # a line that brings names in
 IMPORTS = re.compile(r"\s*(?:pub |ghost )?use ")
+# whether a crate passes as it stands, where a check was made for that
+PASSES = {}
 # what antt says of a proof file that names what a change took away
 NAMES_WHAT_WENT = re.compile(r"has no field|is not in scope|has no `|was not admitted")
 # what rattle says of a goal that nothing proves, above the line of its function
 NOTE_OF_A_GOAL = re.compile(r"note: src/\S+: it is not proved that ")
+# what a check says of a function that it proved, which may wait, or ask something of its callers
+PROVED = re.compile(r"^fn (\S+): proved\b", re.M)
 # how the last line of a check begins that refused a crate, or some of its functions
 NOT_PROVED = ("logic=not-proved", "only=")
 # what antt says of a text that it cannot read, where a text that only states what is false reads well
@@ -105,6 +110,10 @@ class Kind(Enum):
     AT_LIMIT = "refused at a limit of the prover's"
     MISSED = "NOT REFUSED"
     UNSURE = "NOT TRIED"
+
+
+# what comes of a wrong body where the crate is refused anyhow
+REFUSED_ANYHOW = Kind.UNSURE, "the crate itself is refused though nothing was changed"
 
 
 @dataclass(frozen=True)
@@ -202,17 +211,40 @@ def applied(crate, edits):
     return texts
 
 
+def body_of(crate, function, file):
+    """The texts of the functions of that name in a file, each up to where the next begins."""
+    with open(f"{crate.folder}/{file}", encoding="utf-8") as source:
+        text = source.read()
+    starts = [*FUNCTION.finditer(text), None]
+    return "".join(text[at.end() : then.start() if then else len(text)] for at, then in zip(starts, starts[1:]) if at[1] == function.name)
+
+
+def names_in(crate, edit):
+    """The words that the functions which an edit changes call something by."""
+    bodies = [body_of(crate, function, file) for function in edit.functions for file in {it[0] for it in edit.changes}]
+    return {word for body in bodies for word in re.findall(r"\b(\w+)(?:::<[^>]*>)?\(", body)}
+
+
 def grouped(crate, edits):
-    """Groups of wrong bodies that can be tried at once: no two change one function, or get in each other's way."""
-    groups = []
+    """Groups of wrong bodies that can be tried at once: no two change one function, or get in each other's way. What calls a
+    function by the name of a changed one stands in another group where it can, since it is not searched while that is refused."""
+    groups, calls = [], {it: names_in(crate, it) for it in edits}
+
+    def fits(edit, group):
+        others = frozenset().union(*(it.functions for it in group))
+        return len(group) < MOST_IN_A_GROUP and not edit.functions & others and applied(crate, [*group, edit]) is not None
+
+    def is_apart(edit, group):
+        names = {it.name for it in edit.functions}
+        return not any(calls[edit] & {at.name for at in it.functions} or calls[it] & names for it in group)
+
     for edit in edits:
-        for group in groups:
-            others = frozenset().union(*(it.functions for it in group))
-            if len(group) < MOST_IN_A_GROUP and not edit.functions & others and applied(crate, [*group, edit]) is not None:
-                group.append(edit)
-                break
-        else:
+        fitting = [it for it in groups if fits(edit, it)]
+        found = next((it for it in fitting if is_apart(edit, it)), fitting[0] if fitting else None)
+        if found is None:
             groups.append([edit])
+        else:
+            found.append(edit)
     return groups
 
 
@@ -224,7 +256,7 @@ def goals_of(output):
             noted = noted or line
         at = re.match(r"fn (\S+): (?:no proof: .*?did not prove (.*?)(?:; it calls .*)?|not proved(?:;.*)?)$", line)
         if at:
-            told = at[2] or error_at(output, at[1].rpartition("::")[2]) or noted
+            told = at[2] or error_at(output, at[1]) or noted
             if told:
                 found.setdefault(at[1], told)
         if line.startswith("fn "):
@@ -232,10 +264,13 @@ def goals_of(output):
     return found
 
 
-def error_at(output, name):
-    """The first error of a check in the proof of a function of that name, but for one that names what a change took away."""
-    errors = re.findall(rf"^(?:\./)?proofs/(?:\S*/)?\+?{name}/\S+?:\d+:\d+: error: (.*)", output, re.M)
-    return next((it for it in errors if not NAMES_WHAT_WENT.search(it)), None)
+def error_at(output, path):
+    """The first error of a check in the proof of the function of that path, but for one that names what a change took away, which
+    an indented line may say."""
+    *above, name = path.split("::")[1:]
+    folder = re.escape("/".join(["proofs", *above])) + rf"/\+?{re.escape(name)}"
+    errors = re.findall(rf"^(?:\./)?{folder}/\S+?:\d+:\d+: error: (.*(?:\n  .*)*)", output, re.M)
+    return next((re.sub(r"\n +", " ", it) for it in errors if not NAMES_WHAT_WENT.search(it)), None)
 
 
 def is_unread(line, texts):
@@ -258,15 +293,40 @@ def outcome_of(ran, texts):
         return Kind.AT_LIMIT, lines[-1]
     if ran.returncode != 1 or not lines[-1].startswith(NOT_PROVED):
         return Kind.UNSURE, f"BAD EDIT: it did not reach the prover: {' '.join(lines[:6])}"
-    told = [it for it in lines if re.match(r"(note: )?\S+:\d+:\d+:", it) and (": error" in it or it.startswith("note: "))]
+    # (what an error says may go on in lines further in)
+    told = [it for it in re.sub(r"\n  +", " ", ran.stdout).split("\n")
+            if re.match(r"(note: )?\S+:\d+:\d+:", it) and (": error" in it or it.startswith("note: "))]
     by_goal = [it for it in told if not (it.startswith(("proofs/", "./proofs/")) and NAMES_WHAT_WENT.search(it))]
     return (Kind.BY_SHAPE, told[0]) if told and not by_goal else (Kind.BY_GOAL, (by_goal or lines)[0])
 
 
 def only_of(paths, functions):
-    """The flags by which a check is one of these functions alone."""
+    """The flags by which a check is one of these functions, and of a few others that still have to be proved; none where these are
+    not seen."""
     changed = [it for it in paths if any(function.is_at(it) for function in functions)]
-    return [word for it in changed for word in ("--only", it.partition("::")[2])]
+    others = [it for it in paths if it not in changed and re.fullmatch(r"[\w:]+", it)]
+    asked = changed + others[:: max(1, len(others) // 3)][:3] if changed else []
+    return [word for it in asked for word in ("--only", it.partition("::")[2])]
+
+
+@contextlib.contextmanager
+def copied(folder):
+    """A copy of a folder of kept work, by links: files are written anew there and never changed, so the first stays as it is."""
+    with tempfile.TemporaryDirectory(prefix="rt-kept-") as room:
+        shutil.copytree(folder, f"{room}/kept", copy_function=os.link)
+        yield f"{room}/kept"
+
+
+def checked(crate, texts, kept, only):
+    """A check of a copy of the crate with these texts, over a copy of what is kept, and whether what it refuses says something: it
+    proved some function too, or else the crate passes as it stands."""
+    with copied(kept) as over:
+        ran = RT.checked(crate, texts, ["--jobs", "1", *only], over)
+    if PROVED.search(ran.stdout):
+        return ran, True
+    if crate.name not in PASSES:
+        PASSES[crate.name] = bool(functions_of(crate, kept))
+    return ran, PASSES[crate.name]
 
 
 def tried_alone(crate, edit, kept, paths):
@@ -275,11 +335,14 @@ def tried_alone(crate, edit, kept, paths):
     if why:
         return Outcome(edit.name, Kind.UNSURE, f"BAD EDIT: {why}")
     only = only_of(paths, edit.functions or edit.witnesses)
-    if only:
-        kind, told = outcome_of(RT.checked(crate, texts, ["--jobs", "1", *only], kept), texts)
-        if kind is Kind.BY_GOAL:
-            return Outcome(edit.name, kind, told)
-    return Outcome(edit.name, *outcome_of(RT.checked(crate, texts, ["--jobs", "1"], kept), texts))
+    for words in [only, []] if only else [[]]:
+        ran, tells = checked(crate, texts, kept, words)
+        if not tells:
+            return Outcome(edit.name, *REFUSED_ANYHOW)
+        kind, told = outcome_of(ran, texts)
+        if kind in (Kind.BY_GOAL, Kind.BY_SHAPE):
+            break
+    return Outcome(edit.name, kind, told)
 
 
 def functions_of(crate, kept):
@@ -289,7 +352,7 @@ def functions_of(crate, kept):
     with open(f"{crate.folder}/{top}", encoding="utf-8") as text:
         texts = {top: text.read().replace("#![tactic(auto)]", "#![tactic(auto)] // as it stands", 1)}
     ran = RT.checked(crate, texts, ["--jobs", "1"], kept)
-    return re.findall(r"^fn (\S+): ", ran.stdout, re.M) if outcome_of(ran, texts)[0] is Kind.MISSED else []
+    return PROVED.findall(ran.stdout) if outcome_of(ran, texts)[0] is Kind.MISSED else []
 
 
 def tried(crate, group, kept, paths):
@@ -297,7 +360,9 @@ def tried(crate, group, kept, paths):
     if len(group) == 1:
         return [tried_alone(crate, group[0], kept, paths)]
     only = only_of(paths, frozenset().union(*(it.functions for it in group)))
-    ran = RT.checked(crate, applied(crate, group), ["--jobs", "1", *only], kept)
+    ran, tells = checked(crate, applied(crate, group), kept, only)
+    if not tells:
+        return [Outcome(it.name, *REFUSED_ANYHOW) for it in group]
     reached = ran.returncode == 1 and ran.stdout.rstrip("\n").rpartition("\n")[2].startswith(NOT_PROVED)
     if not reached:
         half = len(group) // 2
