@@ -18,6 +18,7 @@ names or numbers that edits use, since one that does not compile fails the gate.
 """
 import argparse
 import contextlib
+import glob
 import importlib.machinery
 import importlib.util
 import os
@@ -40,12 +41,14 @@ MOST_IN_A_GROUP = 60
 FUNCTION = re.compile(r"\bfn\s+([A-Za-z_0-9]+)")
 BLOCK = re.compile(r"""^(?:unsafe\ )?impl(?:<[^{}]*?>)?\ (?:(?:\w+::)*(?P<trait>\w+)(?:<(?P<of>\w+)>|<[^{}]*?>)?\ for\ )?
     (?:\w+::)*(?P<type>\w+)""", re.M | re.X)
+# a call: the type or module of its path, the dot of a method, and the name
+CALL = re.compile(r"(?:\b(\w+)::|(\.))?\b(\w+)(?:::<[^>]*>)?\(")
 # a line that brings names in
 IMPORTS = re.compile(r"\s*(?:pub |ghost )?use ")
 # whether a crate passes as it stands, where a check was made for that
 PASSES = {}
-# what antt says of a proof file that names what a change took away
-NAMES_WHAT_WENT = re.compile(r"has no field|is not in scope|has no `|was not admitted")
+# what antt says of a proof file that names what a change took away; not what it says of how it shows a type
+NAMES_WHAT_WENT = re.compile(r"has no field|is not in scope(?! here, so what is shown)|has no `|was not admitted")
 # what rattle says of a goal that nothing proves, above the line of its function
 NOTE_OF_A_GOAL = re.compile(r"note: src/\S+: it is not proved that ")
 # what a check says of a function that it proved, which may wait, or ask something of its callers
@@ -211,40 +214,73 @@ def applied(crate, edits):
     return texts
 
 
-def body_of(crate, function, file):
-    """The texts of the functions of that name in a file, each up to where the next begins."""
-    with open(f"{crate.folder}/{file}", encoding="utf-8") as source:
-        text = source.read()
-    starts = [*FUNCTION.finditer(text), None]
-    return "".join(text[at.end() : then.start() if then else len(text)] for at, then in zip(starts, starts[1:]) if at[1] == function.name)
+def calls_in(crate):
+    """The crate's functions, each a block of methods or none and a name, with those that it seems to call: by a path those of that
+    type, by a dot any methods of that name, and else what stands in no block."""
+    said = {}
+    for at, _, files in os.walk(f"{crate.folder}/src"):
+        for file in (f"{at}/{it}" for it in files if it.endswith(".rt")):
+            with open(file, encoding="utf-8") as source:
+                text = source.read()
+            starts = [*FUNCTION.finditer(text), None]
+            for begun, then in zip(starts, starts[1:]):
+                body = text[begun.end() : then.start() if then else len(text)]
+                said.setdefault((block_at(text, begun.start()), begun[1]), set()).update(CALL.findall(body))
+
+    def can_be(block, call, at):
+        kind, of_method, name = call
+        if name != at[1]:
+            return False
+        if kind[:1].isupper():
+            return bool(at[0]) and (block if kind == "Self" else at[0]).startswith(at[0] if kind == "Self" else kind)
+        return bool(at[0]) == bool(of_method)
+
+    named = {}
+    for at in said:
+        named.setdefault(at[1], []).append(at)
+    return {it: {at for call in calls for at in named.get(call[2], ()) if can_be(it[0], call, at)} for it, calls in said.items()}
 
 
-def names_in(crate, edit):
-    """The words that the functions which an edit changes call something by."""
-    bodies = [body_of(crate, function, file) for function in edit.functions for file in {it[0] for it in edit.changes}]
-    return {word for body in bodies for word in re.findall(r"\b(\w+)(?:::<[^>]*>)?\(", body)}
+def has_proof_file(crate, block, name):
+    """Whether some function of that name has a file of its own with answers, or a proof."""
+    return bool(glob.glob(f"{crate.folder}/proofs/**/{block and block + '/'}{name}/*.antt", recursive=True))
+
+
+def reached(calls, functions):
+    """What can be called from these functions, at once or through others."""
+    found, todo = set(), [it for function in functions for it in calls.get(function, ())]
+    while todo:
+        function = todo.pop()
+        if function not in found:
+            found.add(function)
+            todo += calls[function]
+    return found
 
 
 def grouped(crate, edits):
-    """Groups of wrong bodies that can be tried at once: no two change one function, or get in each other's way. What calls a
-    function by the name of a changed one stands in another group where it can, since it is not searched while that is refused."""
-    groups, calls = [], {it: names_in(crate, it) for it in edits}
+    """Groups of wrong bodies that can be tried at once: no two change one function, or get in each other's way. A function without
+    a proof file is not searched while one that it calls is refused: so it stands in another group where it can."""
+    groups, calls = [], calls_in(crate)
+    changed = {it: {(function.block, function.name) for function in it.functions} for it in edits}
+    below = {it: reached(calls, {at for at in changed[it] if not has_proof_file(crate, *at)}) for it in edits}
 
     def fits(edit, group):
         others = frozenset().union(*(it.functions for it in group))
         return len(group) < MOST_IN_A_GROUP and not edit.functions & others and applied(crate, [*group, edit]) is not None
 
-    def is_apart(edit, group):
-        names = {it.name for it in edit.functions}
-        return not any(calls[edit] & {at.name for at in it.functions} or calls[it] & names for it in group)
+    def conflicts(edit, group):
+        return sum(bool(below[edit] & changed[it] or below[it] & changed[edit]) for it in group)
 
-    for edit in edits:
+    def of_one_function(edit):
+        return max(sum(function in it.functions for it in edits) for function in edit.functions)
+
+    # those of which the most are of one function first, so that all groups are there for the others
+    for edit in sorted(edits, key=of_one_function, reverse=True):
         fitting = [it for it in groups if fits(edit, it)]
-        found = next((it for it in fitting if is_apart(edit, it)), fitting[0] if fitting else None)
-        if found is None:
-            groups.append([edit])
+        if fitting:
+            min(fitting, key=lambda it: conflicts(edit, it)).append(edit)
         else:
-            found.append(edit)
+            groups.append([edit])
     return groups
 
 
@@ -311,8 +347,9 @@ def only_of(paths, functions):
 
 @contextlib.contextmanager
 def copied(folder):
-    """A copy of a folder of kept work, by links: files are written anew there and never changed, so the first stays as it is."""
-    with tempfile.TemporaryDirectory(prefix="rt-kept-") as room:
+    """A copy of a folder of kept work beside it, by links: files are written anew there and never changed, so the first stays as it
+    is."""
+    with tempfile.TemporaryDirectory(prefix="rt-kept-", dir=os.path.dirname(folder)) as room:
         shutil.copytree(folder, f"{room}/kept", copy_function=os.link)
         yield f"{room}/kept"
 
@@ -325,7 +362,8 @@ def checked(crate, texts, kept, only):
     if PROVED.search(ran.stdout):
         return ran, True
     if crate.name not in PASSES:
-        PASSES[crate.name] = bool(functions_of(crate, kept))
+        with copied(kept) as over:
+            PASSES[crate.name] = bool(functions_of(crate, over))
     return ran, PASSES[crate.name]
 
 
@@ -356,7 +394,7 @@ def functions_of(crate, kept):
 
 
 def tried(crate, group, kept, paths):
-    """The outcomes of a group in one check of its functions alone, those that it does not show each in a whole check of its own."""
+    """The outcomes of a group in one check of its functions alone, those that it does not show each in a check of its own."""
     if len(group) == 1:
         return [tried_alone(crate, group[0], kept, paths)]
     only = only_of(paths, frozenset().union(*(it.functions for it in group)))
