@@ -27,38 +27,31 @@ pub struct Task {
     pub film: bool,
 }
 
-/// The options that take a number.
-fn with_numbers<'a>(alloc: Global, command: Command<'a>) -> Result<Command<'a>, AllocError> {
+fn command<'a>(alloc: Global) -> Result<Command<'a>, AllocError> {
+    let journal = Arg::new(alloc, "journal")
+        .required(true)
+        .action(ArgAction::Set);
     let line = Arg::new(alloc, "line")
         .long("line")
         .action(ArgAction::Set)
         .value_parser(clap::value_parser!(u32));
-    let size = Arg::new(alloc, "size")
-        .long("size")
-        .action(ArgAction::Set)
-        .value_parser(clap::value_parser!(u64).range(240..=10000));
-    command.arg(line)?.arg(size)
-}
-
-/// The options that take none.
-fn with_flags<'a>(alloc: Global, command: Command<'a>) -> Result<Command<'a>, AllocError> {
     let bridges = Arg::new(alloc, "bridges")
         .long("bridges")
         .action(ArgAction::SetTrue);
     let film = Arg::new(alloc, "film")
         .long("film")
         .action(ArgAction::SetTrue);
-    command.arg(bridges)?.arg(film)
-}
-
-fn command<'a>(alloc: Global) -> Result<Command<'a>, AllocError> {
-    let journal = Arg::new(alloc, "journal")
-        .required(true)
-        .action(ArgAction::Set);
-    let command = Command::new(alloc, "hulldraw")
+    let size = Arg::new(alloc, "size")
+        .long("size")
+        .action(ArgAction::Set)
+        .value_parser(clap::value_parser!(u64).range(240..=10000));
+    Command::new(alloc, "hulldraw")
         .no_binary_name(true)
-        .arg(journal)?;
-    with_flags(alloc, with_numbers(alloc, command)?)
+        .arg(journal)?
+        .arg(line)?
+        .arg(bridges)?
+        .arg(film)?
+        .arg(size)
 }
 
 /// The numbers that were given; `None` where one could not be read or lies outside the limits.
