@@ -20,7 +20,7 @@ import tempfile
 import time
 
 TOP = os.path.dirname(os.path.dirname(os.path.abspath(__file__)))
-PROGRAMS = ("hullbook", "hulldraw", "memory_trials")
+PROGRAMS = ("hullbook", "hulldraw")
 # the parts that run beside one another stand in one row
 ROWS = (
     {"layout": ["tools/layout.py"]},
@@ -29,7 +29,7 @@ ROWS = (
     {
         "cli": ["tests/cli/run.sh"],
         "memory": ["tests/memory/run.sh"],
-        "trials": ["tests/memory/trials.sh"],
+        "trials": ["tests/memory/trials.py"],
         "pictures": ["tests/pictures/run.sh"],
     },
     {"long": ["tests/long/run.sh"], "texts": ["tests/texts/run.sh"], "refused": ["tests/refused/run.sh"]},

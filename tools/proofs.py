@@ -10,8 +10,8 @@ differs in five ways, so that no part of the gate proves anything twice:
   such a proof says incremental=trusted: that whoever can write to that folder is trusted, which is this run alone.
 - A program that has edits is proved by its first build, and its second compiler takes what that kept.
 - Tests are left to bin/test, which runs them with no proof: what a proof says of a test is that the test itself is safe, and
-  of the product nothing. So are crates that hold nothing else. With --tests they are proved too, over a copy of that folder:
-  what they add to the crate is checked, and the crate itself is not checked again.
+  of the product nothing. So are crates that hold nothing else, and programs that only try or measure others. With --tests they
+  are proved too, over a copy of that folder: what they add to the crate is checked, and the crate itself is not checked again.
 - A crate's edits, of must-fail/ and of wrong-bodies/, are tried over copies of it too, in groups, as tools/wrong_bodies.py
   does. A check that refuses has to prove some other function too, or else the crate has to pass with a change that means
   nothing: so a try that refuses everything fails the run.
@@ -66,6 +66,8 @@ COUNTS = re.compile(r"(\d+) passed, (\d+) failed")
 MEMORY_OF_A_CHECK = 5 << 30
 # a check over kept work takes so much of the memory that one from nothing does
 SHARE_OF_MEMORY = 0.6
+# the programs that only try others: tests/memory/trials.py runs the one, bin/test the other
+OF_TESTS = ("memory_trials", "turn_counts")
 # what each kind of task took, in seconds that are summed over tasks which run beside one another
 TOOK = {}
 # the kinds of refusals by the words that the kit's store has for what may be kept
@@ -127,9 +129,9 @@ class KeepingCrate(RT.Crate):
         return f"{self.folder}/out/incremental"
 
     def is_of_tests(self):
-        """Whether nothing stands in it but tests."""
+        """Whether nothing stands in it but tests, or what only tries others."""
         if self.is_program:
-            return False
+            return self.name in OF_TESTS
         with open(f"{self.folder}/src/lib.rt", encoding="utf-8") as text:
             return not re.sub(r"//.*|#!\[.*|#\[cfg\(test\)\]\s+mod \w+;", "", text.read()).strip()
 
