@@ -8,8 +8,8 @@ Without words all parts run, in the order of `--list`; those of one row run besi
 own line 'N passed, M failed'. At the end stand the seconds and processor seconds of each part, what failed, and the sum
 in a line of that form; the status is 0 only where nothing failed.
 
-Nothing is proved twice: the part `proofs` keeps what it proves, so that the programs which the other parts run are those
-that it linked, and the libraries for C stand on what it built (tools/proofs.py says how). Where the layout fails, which takes
+Nothing is proved twice: the programs and libraries for C that the other parts try are those which the part `proofs` linked
+(tools/proofs.py says how). Where the layout fails, which takes
 seconds, nothing else is run.
 """
 import os
@@ -20,7 +20,7 @@ import tempfile
 import time
 
 TOP = os.path.dirname(os.path.dirname(os.path.abspath(__file__)))
-PROGRAMS = ("hullbook", "hulldraw")
+LINKED = ("hullbook", "hulldraw", "hull_c", "hull_shared")
 # the parts that run beside one another stand in one row
 ROWS = (
     {"layout": ["tools/layout.py"]},
@@ -76,10 +76,10 @@ class Part:
         return self
 
 
-def keep_programs():
-    """Tells bin/hullbook and the others that the programs which the proofs linked are those of these sources."""
-    for name in PROGRAMS:
-        subprocess.run(["tools/become.sh", "--keep", name], cwd=TOP, check=False)
+def keep_linked():
+    """Tells bin/hullbook and bin/install that the programs and archives which the proofs linked are those of these sources."""
+    for name in LINKED:
+        subprocess.run(["tools/linked.sh", "--keep", name], cwd=TOP, check=False)
 
 
 def run(row, names):
@@ -87,7 +87,7 @@ def run(row, names):
     parts = [Part(name, command, len(row) == 1) for name, command in row.items() if name in names]
     ended = [it.end() for it in parts]
     if any(it.name == "proofs" and not it.failed for it in ended):
-        keep_programs()
+        keep_linked()
     return ended
 
 

@@ -8,7 +8,8 @@ differs in five ways, so that no part of the gate proves anything twice:
 
 - What a crate's proof checks is kept in its folder out/incremental, which is empty when the run begins. The last line of
   such a proof says incremental=trusted: that whoever can write to that folder is trusted, which is this run alone.
-- A program that has edits is proved by its first build, and its second compiler takes what that kept.
+- A program that has edits is proved by its first build, and its second compiler takes what that kept; an archive for C is
+  proved as it is built.
 - Tests are left to bin/test, which runs them with no proof: what a proof says of a test is that the test itself is safe, and
   of the product nothing. So are crates that hold nothing else, and programs that only try or measure others. With --tests they
   are proved too, over a copy of that folder: what they add to the crate is checked, and the crate itself is not checked again.
@@ -156,12 +157,15 @@ class KeepingCrate(RT.Crate):
         return super().build_rlib(flags, anew)
 
     def ci(self, flags, tests):
-        """As the kit's own; a program with edits is proved by its first build, over kept work, from which its second takes it. One
-        without needs no kept work: the kit's own proves it once too."""
-        if tests or not self.is_program or not wrong_bodies.files_of(self):
+        """As the kit's own; a program with edits is proved by its first build, over kept work, from which its second takes it, and an
+        archive for C as it is built. A program without edits needs no kept work: the kit's own proves it once too."""
+        is_linked = self.is_static or self.is_program and wrong_bodies.files_of(self)
+        if tests or not is_linked:
             self.keeps = tests or not self.is_program
             return super().ci(flags, tests)
         words, to = [*self.words(flags, keeps=False), "--toolchain", f"{RT.KIT}/toolchain"], f"out/{self.name}"
+        if self.is_static:
+            return self.prove(["build", *words, "--backend", "llvm", "-o", f"out/lib{self.name}.a"])
         status = self.prove(["build", *words, "--backend", "llvm", "-o", f"{to}.o"]) or self.link(f"{to}.o", to)
         return status or self.compile_by("rattle", [*words, "--incremental", self.kept()], to)
 
