@@ -1,4 +1,6 @@
 -- the ends of an edge are points of its half, so they fit; the case of the table that holds keeps the bridge
+use Rattle.std.proofs.Common.{arith}
+use Rattle.std.proofs.lemmas.Grind.{common_steps}
 use Rattle.bridge_search.proofs.Signs.{not_under, is_under}
 use Rattle.bridge_search.proofs.Turns as turns
 use Rattle.bridge_search.proofs.search.turn_left.Goals as goal
@@ -25,3 +27,10 @@ returns-else-orient-ge0 g c =
     rw c.right.ensures
     (turns.turn_right_left_one _ _ _ _ _ _ c.requires.ready c.requires.edge c.requires.one c.first.ensures
     (is_under _ _ c.orient.ensures.size c.orient.ensures.value c.if-orient-ge0.false))
+
+-- grind closes these at once; what is tried first takes long
+pub left-requires : goal.left-requires
+left-requires c = grind (arith, common_steps)
+
+pub right-requires : goal.right-requires
+right-requires c = grind (arith, common_steps)

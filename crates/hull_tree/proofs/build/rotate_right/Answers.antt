@@ -1,5 +1,6 @@
 -- the halves stand in the same order after a rotation, and each fork that it makes is built with its bridges
 use Rattle.std.proofs.Common.{arith, append_assoc, sym, ◌∙◌}
+use Rattle.std.proofs.lemmas.Grind.{common_steps}
 use Rattle.hull_tree.proofs.Costs.{by_halves, looser, through}
 use Rattle.hull_tree.proofs.HalfRows.{row_with_left, row_with_right, regrouped}
 use Rattle.hull_tree.proofs.build.rotate_right.Goals as goal
@@ -64,3 +65,10 @@ returns-clause-cost_left c =
     (by_halves _ _ _ _ _ c.take_apart-middle_left.ensures.halves
     (through _ _ _ _ _ _ c.join-first.ensures.cost_right c.join-whole-2.ensures.cost_left (omega arith))
     (through _ _ _ _ _ _ c.join-second-2.ensures.cost_left c.join-whole-2.ensures.cost_right (omega arith)))
+
+-- grind closes these at once; what is tried first takes long
+pub returns-then-height_of-clause-points : goal.returns-then-height_of-clause-points
+returns-then-height_of-clause-points c = grind (arith, common_steps)
+
+pub returns-clause-points : goal.returns-clause-points
+returns-clause-points c = grind (arith, common_steps)

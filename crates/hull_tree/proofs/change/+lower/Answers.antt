@@ -1,5 +1,5 @@
 -- the point that parts the halves tells in which half the point can be; the other half stays
-use Rattle.std.proofs.Common.{refl, ◌≡◌, ◌∙◌, sym, Some}
+use Rattle.std.proofs.Common.{refl, ◌≡◌, ◌∙◌, sym, Some, rules}
 use Rattle.bridge_search.proofs.Signs.{passed, failed}
 use Rattle.hull_tree.specs.declared.node.Node as node
 use Rattle.hull_tree.specs.Nodes.{below_of}
@@ -27,3 +27,16 @@ unfolding node.roll-Node node.out-Node denote.Hole.Carrier.out denote.Hole.Carri
 returns-then-times-gt1-clause-lowered t c =
     λ h q. leaf_lowered c.args.node.now c.args.p q c.in-None.is
     (same_point c.args.p (node.out-Node c.args.node.now).upper.0 c.ne.ensures c.if-ne.false) h
+
+-- the rules alone close these at once; what is tried first takes long
+pub returns-then-ne-clause-lowered : goal.returns-then-ne-clause-lowered
+returns-then-ne-clause-lowered c = search rules
+
+pub overflow_sub-node : goal.overflow_sub-node
+overflow_sub-node c = search rules
+
+pub returns-then-times-gt1-clause-few : goal.returns-then-times-gt1-clause-few
+returns-then-times-gt1-clause-few c = search rules
+
+pub returns-else-times-gt1-clause-lowered : goal.returns-else-times-gt1-clause-lowered
+returns-else-times-gt1-clause-lowered c = search rules

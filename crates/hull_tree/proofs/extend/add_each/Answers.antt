@@ -1,5 +1,6 @@
 -- what came goes again, so that each point is held as often as before; and all that came is what adding them leaves
 use Rattle.std.proofs.Common.{◌+◌, ◌∙◌, ap, arith, [], take}
+use Rattle.std.proofs.lemmas.Grind.{common_steps}
 use Rattle.std.proofs.lemmas.List.{take_all}
 use Rattle.hull_set.specs.Held.{Held}
 use Rattle.hull_set.specs.Held.{times_among}
@@ -38,3 +39,7 @@ returns-clause-held g c =
     (λ q. c.loop-i.invariant.times q
     ∙ ap (λ z. times_of_root c.args.tree.now.root q + times_among z q)
     (take_all c.loop-i.i c.args.points.now c.loop-i-test.false))
+
+-- grind closes these at once; what is tried first takes long
+pub loop-i-preserved : goal.loop-i-preserved
+loop-i-preserved c = grind (arith, common_steps)

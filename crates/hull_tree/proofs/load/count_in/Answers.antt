@@ -1,5 +1,6 @@
 -- the last entry comes out, and goes back with a greater number or with the point behind it
 use Rattle.std.proofs.Common.{inl, arith}
+use Rattle.std.proofs.lemmas.Grind.{common_steps}
 use Rattle.hull_tree.specs.Nodes.{IsMultiplicity}
 use Rattle.hull_tree.proofs.Multiplicities.{same_point}
 use Rattle.hull_tree.proofs.Counting.{last_held, last_among, recounted, followed, times_recounted, other_point}
@@ -29,3 +30,16 @@ returns-clause-entries c =
     rw c.push_reserved-2.ensures.items
     (recounted _ _ _ _ h (same_point _ _ c.ne.ensures c.if-ne.false)
     (omega (arith, m.0), omega (arith, c.requires.times.1, c.if-last-entry.false)))
+
+-- grind closes these at once; what is tried first takes long
+pub returns-then-ne-clause-times : goal.returns-then-ne-clause-times
+returns-then-ne-clause-times c = grind (arith, common_steps)
+
+pub returns-then-last-entry-clause-entries : goal.returns-then-last-entry-clause-entries
+returns-then-last-entry-clause-entries c = grind (arith, common_steps)
+
+pub returns-then-ne-clause-among : goal.returns-then-ne-clause-among
+returns-then-ne-clause-among c = grind (arith, common_steps)
+
+pub returns-then-last-entry-clause-too_often : goal.returns-then-last-entry-clause-too_often
+returns-then-last-entry-clause-too_often c = grind (arith, common_steps)

@@ -1,6 +1,7 @@
 -- A block goes on with the reading by its bytes; so a fault's line, like the text itself, is told by the blocks that
 -- were taken.
 use Rattle.std.proofs.Common.{arith, refl, ◌∙◌, take}
+use Rattle.std.proofs.lemmas.Grind.{common_steps}
 use Rattle.std.proofs.lemmas.List.{length-take}
 use Rattle.std.proofs.lemmas.Result.{err_from_is_err_and}
 use Rattle.hull_text.proofs.Known.{known_feed, line_fed, line_here, lines_at_end}
@@ -39,3 +40,16 @@ returns-clause-line g c =
     rw (c.new-2.ensures, c.line-2.ensures.number)
     (line_here (g.L.LineReader.answers c.args.reader) (g.L.LineReader.answers c.loop.reader) _ _ c.loop.kept.items _
     _ c.loop.invariant.known)
+
+-- grind closes these at once; what is tried first takes long
+pub returns-in_default-clause-place : goal.returns-in_default-clause-place
+returns-in_default-clause-place c = grind (arith, common_steps)
+
+pub returns-in_default-clause-line : goal.returns-in_default-clause-line
+returns-in_default-clause-line c = grind (arith, common_steps)
+
+pub returns-in_err-feed-clause-value : goal.returns-in_err-feed-clause-value
+returns-in_err-feed-clause-value c = grind (arith, common_steps)
+
+pub returns-clause-value : goal.returns-clause-value
+returns-clause-value c = grind (arith, common_steps)

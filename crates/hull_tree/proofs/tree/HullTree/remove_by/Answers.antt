@@ -1,5 +1,6 @@
 -- what the way down found and left makes one record, from which each answer follows
 use Rattle.std.proofs.Common.{arith, ◌≡◌, ◌≤◌, ◌-◌, ap, subst, sym, ◌∙◌, Some}
+use Rattle.std.proofs.lemmas.Grind.{common_steps}
 use Rattle.std.specs.Prelude.{length}
 use Rattle.std.specs.List.{Contains}
 use Rattle.hull_set.specs.Replies.{AnswersRemove}
@@ -102,3 +103,7 @@ returns-clause-few g c =
     c.lower-times.ensures.same_tree in
     let h : height_at c.lower-times.new.node ≤ 28 = (sound_after k).low in
     omega (arith, h, c.remove.ensures.few)
+
+-- grind closes these at once; what is tried first takes long
+pub returns-then-is_leaf-clause-effect : goal.returns-then-is_leaf-clause-effect
+returns-then-is_leaf-clause-effect c = grind (arith, common_steps)

@@ -1,5 +1,6 @@
 -- one point more was copied
 use Rattle.std.proofs.Common.{◌∷◌, [], ◌++◌, ◌∙◌, sym, ap, List, arith}
+use Rattle.std.proofs.lemmas.Grind.{common_steps}
 use Rattle.std.proofs.lemmas.List.Edits.{between_more}
 use Rattle.std.specs.List.{between}
 use Rattle.lattice.specs.Plane.{Pair}
@@ -16,3 +17,10 @@ loop-i-preserved c =
           (omega (arith, within, c.len-i-end.ensures)));
       capacity = c.push_reserved.ensures.capacity ∙ c.loop-i.invariant.capacity;
     }
+
+-- grind closes these at once; what is tried first takes long
+pub returns-clause-rest : goal.returns-clause-rest
+returns-clause-rest c = grind (arith, common_steps)
+
+pub push_reserved-requires : goal.push_reserved-requires
+push_reserved-requires c = grind (arith, common_steps)
