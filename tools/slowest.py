@@ -1,25 +1,50 @@
 #!/usr/bin/env python3
-"""Tells which functions of a crate take the longest to prove, in processor seconds: tools/slowest.py CRATE [--test].
+"""Tells which functions of a crate take the longest to prove, and how much of it is search: tools/slowest.py CRATE [--test].
 
-The crate is proved from nothing by one process, over the libraries as they are built; the time between two lines
-`checked ..` is that of the second one. The first functions also pay for what is loaded on the way.
+The crate is proved from nothing by one process, over the libraries as they are built. The prover writes a file for each part of
+a proof as it ends with it, so what a part took is told by its file's time and that of the file before. Of a function `search` is
+what the goals took that have no answer, `answers` those that have one, and `code` all else: what its code and its contract mean.
+Where the search takes long, an answer that names the tactic which closes the goal takes its place: docs/DEVELOPING.md tells how
+to find it.
 """
 import os
 import re
 import subprocess
 import sys
+import tempfile
 
 sys.path.insert(0, os.path.dirname(os.path.abspath(__file__)))
 from wrong_bodies import RT, TOP  # noqa: E402 (the path comes first)
 
-TICKS = os.sysconf("SC_CLK_TCK")
+# what the prover calls the parts of a function's proof, behind its path
+PARTS = "Proof|Answers|AnswersTried|Invariants|Lts|Goals|Given|Tie|Reads|Layout|Code|Statement|Symbol|Kinds|Met|Named|TheLink|Instances"
+COLUMNS = {"Proof": "search", "Answers": "answers", "AnswersTried": "answers"}
 
 
-def processor_seconds(process):
-    """The processor seconds that a running process has used."""
-    with open(f"/proc/{process.pid}/stat", encoding="utf-8") as text:
-        fields = text.read().rpartition(")")[2].split()
-    return (int(fields[11]) + int(fields[12])) / TICKS
+def part_of(file, crate):
+    """The function that a file is of and the column that it counts for; the crate's lemmas and types are of none."""
+    at = re.match(rf"Rattle-{crate}-proofs\.(.+?)\.({PARTS})\b", file)
+    return (at[1].replace("+", "").replace(".", "::"), COLUMNS.get(at[2], "code")) if at else ("(lemmas and types)", "code")
+
+
+def took(folder, crate):
+    """What the parts of each function took, in seconds, by function and column."""
+    files = sorted((it.stat().st_mtime_ns, it.name) for at, _, _ in os.walk(folder) for it in os.scandir(at) if it.is_file())
+    seconds = {}
+    for (before, _), (now, file) in zip(files, files[1:]):
+        function, column = part_of(file, crate)
+        of = seconds.setdefault(function, dict.fromkeys(("search", "answers", "code"), 0.0))
+        of[column] += (now - before) / 1e9
+    return seconds
+
+
+def tell(seconds):
+    """Prints the functions that took the longest, and all together."""
+    print(f"{'seconds':>8}{'search':>8}{'answers':>8}{'code':>8}")
+    longest = sorted(seconds.items(), key=lambda it: -sum(it[1].values()))
+    everything = {column: sum(it[column] for it in seconds.values()) for column in ("search", "answers", "code")}
+    for function, of in [*longest[:25], (f"all {len(seconds)}", everything)]:
+        print(f"{sum(of.values()):8.1f}{of['search']:8.1f}{of['answers']:8.1f}{of['code']:8.1f} {function}")
 
 
 def main(name, tests):
@@ -27,20 +52,13 @@ def main(name, tests):
     RT.rtlib.Crate = RT.Crate
     crate = next(it for it in RT.rtlib.crates_below(TOP) if it.name == name)
     crate.out = sys.stdout
-    words = crate.words(["--jobs", "1", "--progress"], tests=tests, keeps=False)
-    process = subprocess.Popen([RT.rtlib.RATTLE, "check", *words], cwd=crate.folder, text=True,
-                               stdout=subprocess.PIPE, stderr=subprocess.STDOUT)
-    took, last = [], 0.0
-    for line in process.stdout:
-        checked = re.match(r"checked (\S+), \d+ of", line)
-        if checked:
-            used = processor_seconds(process)
-            took.append((used - last, checked[1]))
-            last = used
-    for seconds, function in sorted(took, reverse=True)[:25]:
-        print(f"{seconds:7.1f} {function}")
-    print(f"{sum(it for it, _ in took):7.1f} all {len(took)}")
-    return process.wait()
+    with tempfile.TemporaryDirectory(prefix="rt-kept-") as kept:
+        words = crate.words(["--jobs", "1"], tests=tests, keeps=False)
+        done = subprocess.run([RT.rtlib.RATTLE, "check", *words, "--incremental", kept], cwd=crate.folder, text=True,
+                              stdout=subprocess.PIPE, stderr=subprocess.STDOUT, check=False)
+        tell(took(kept, name))
+    print(done.stdout.rstrip().rpartition("\n")[2])
+    return done.returncode
 
 
 if __name__ == "__main__":
