@@ -1,5 +1,6 @@
 -- what was handed on is the journal that the call left
-use Rattle.std.proofs.Common.{◌≡◌, ◌∙◌, ap, sym, subst, box_value, rules}
+use Rattle.std.proofs.Common.{◌≡◌, ◌∙◌, ap, sym, subst, box_value, rules, arith}
+use Rattle.std.proofs.lemmas.Grind.{common_steps}
 use Rattle.hull_book.specs.Books.{IsLawful}
 use Rattle.hull_book.specs.LongBooks.{LongValue}
 use Rattle.ticket_lock.specs.Tokens.{guard_book, guard_number, seat_seen}
@@ -20,3 +21,7 @@ returns-clause-back g c =
     (ap (λ (b : LongValue _). b.whole.turn) same ∙ c.requires.may.turn)
     c.hand_on-seat.ensures.seen c.drain-drained.ensures.full c.drain-drained.ensures.ok c.drain-drained.ensures.err) in
     search rules
+
+-- grind closes this at once; what is tried first takes long
+pub hand_on-seat-requires-clause-hands : goal.hand_on-seat-requires-clause-hands
+hand_on-seat-requires-clause-hands c = grind (arith, common_steps)

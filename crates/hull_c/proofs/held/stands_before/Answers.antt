@@ -1,0 +1,12 @@
+-- the rules alone close these at once; what is tried first takes long
+use Rattle.std.proofs.Common.{rules}
+use Rattle.hull_c.proofs.held.stands_before.Goals as goal
+
+pub returns-then-first-second : goal.returns-then-first-second
+returns-then-first-second c = search rules
+
+pub returns-then-first-second-2 : goal.returns-then-first-second-2
+returns-then-first-second-2 c = search rules
+
+pub returns-else-first-second-2 : goal.returns-else-first-second-2
+returns-else-first-second-2 c = search rules

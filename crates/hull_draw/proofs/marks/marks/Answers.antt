@@ -1,0 +1,10 @@
+-- grind closes these at once; what is tried first takes long
+use Rattle.std.proofs.Common.{arith}
+use Rattle.std.proofs.lemmas.Grind.{common_steps}
+use Rattle.hull_draw.proofs.marks.marks.Goals as goal
+
+pub loop-point-preserved : goal.loop-point-preserved
+loop-point-preserved c = grind (arith, common_steps)
+
+pub returns : goal.returns
+returns c = grind (arith, common_steps)

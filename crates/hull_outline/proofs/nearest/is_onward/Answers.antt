@@ -1,0 +1,6 @@
+-- the rules alone close this at once; what is tried first takes long
+use Rattle.std.proofs.Common.{rules}
+use Rattle.hull_outline.proofs.nearest.is_onward.Goals as goal
+
+pub returns : goal.returns
+returns c = search rules
