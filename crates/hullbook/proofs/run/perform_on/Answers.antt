@@ -1,0 +1,7 @@
+-- grind closes this at once; what is tried first takes long
+use Rattle.std.proofs.Common.{arith}
+use Rattle.std.proofs.lemmas.Grind.{common_steps}
+use Rattle.hullbook.proofs.run.perform_on.Goals as goal
+
+pub returns-clause-ran : goal.returns-clause-ran
+returns-clause-ran c = grind (arith, common_steps)
