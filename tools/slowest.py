@@ -43,7 +43,7 @@ def tell(seconds):
     print(f"{'seconds':>8}{'search':>8}{'answers':>8}{'code':>8}")
     longest = sorted(seconds.items(), key=lambda it: -sum(it[1].values()))
     everything = {column: sum(it[column] for it in seconds.values()) for column in ("search", "answers", "code")}
-    for function, of in [*longest[:25], (f"all {len(seconds)}", everything)]:
+    for function, of in [*longest[:25], ("all", everything)]:
         print(f"{sum(of.values()):8.1f}{of['search']:8.1f}{of['answers']:8.1f}{of['code']:8.1f} {function}")
 
 
