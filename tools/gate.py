@@ -9,8 +9,7 @@ own line 'N passed, M failed'. At the end stand the seconds and processor second
 in a line of that form; the status is 0 only where nothing failed.
 
 Nothing is proved twice: the programs and libraries for C that the other parts try are those which the part `proofs` linked
-(tools/proofs.py says how). Where the layout fails, which takes
-seconds, nothing else is run.
+(tools/proofs.py says how). Where the layout fails, which takes seconds, nothing else is run.
 """
 import os
 import re
