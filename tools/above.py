@@ -3,8 +3,8 @@
 
     tools/above.py CRATE
 
-A line for each crate that stands on it, nearest first: the wrong bodies that `rt ci` tries one by one and those that
-tools/wrong_bodies.py tries in groups, the tests, and the seconds that tools/prove.py last took for it here, if it did.
+A line for each crate that stands on it, nearest first: the wrong bodies of must-fail/ and of
+wrong-bodies/, the tests, and the seconds that tools/prove.py last took for it here, if it did.
 Then the scripts under tests/ that run a program or a library which stands on it.
 """
 import os

@@ -18,12 +18,15 @@ import sys
 import tempfile
 import time
 
+sys.path.insert(0, os.path.dirname(os.path.abspath(__file__)))
+import kit  # noqa: E402 (the path comes first)
+
 TOP = os.path.dirname(os.path.dirname(os.path.abspath(__file__)))
-LINKED = ("hullbook", "hulldraw", "hull_c", "hull_shared")
 # the parts that run beside one another stand in one row
 ROWS = (
     {"layout": ["tools/layout.py"]},
     {"tests": ["bin/test", "crates"]},
+    {"tools": ["tests/tools/run.py"]},
     {"proofs": ["tools/proofs.py"]},
     {
         "cli": ["tests/cli/run.sh"],
@@ -39,8 +42,6 @@ ROWS = (
 )
 COUNTS = re.compile(r"(\d+) passed, (\d+) failed")
 FAILED = re.compile(r"FAILED|: failed|NOT REFUSED|NOT PROVED|NOT TRIED|BAD EDIT")
-# a refusal that says little of the contract
-BY_SHAPE = re.compile(r"\b(\w+/[\w-]+)\.edit: refused.*only (since|because) a proof")
 
 
 class Part:
@@ -69,25 +70,15 @@ class Part:
         if status and not self.failed:
             self.failed = 1
         self.faults = [it for it in lines if FAILED.search(it)] if self.failed else []
-        self.by_shape = [it[1] for it in map(BY_SHAPE.search, lines) if it]
         if not counts:
             self.faults.append(f"{self.name} told no counts")
         return self
 
 
-def keep_linked():
-    """Tells bin/hullbook and bin/install that the programs and archives which the proofs linked are those of these sources."""
-    for name in LINKED:
-        subprocess.run(["tools/linked.sh", "--keep", name], cwd=TOP, check=False)
-
-
 def run(row, names):
     """Runs the parts of a row that are asked for, beside one another, and returns what came of each."""
     parts = [Part(name, command, len(row) == 1) for name, command in row.items() if name in names]
-    ended = [it.end() for it in parts]
-    if any(it.name == "proofs" and not it.failed for it in ended):
-        keep_linked()
-    return ended
+    return [it.end() for it in parts]
 
 
 def main(words):
@@ -107,10 +98,7 @@ def main(words):
     for it in ended:
         print(f"{it.name:14}{it.passed:8}{it.failed:8}{it.seconds:9.0f}{it.processor:19.0f}")
     minutes = sum(it.processor for it in ended) / 60
-    print(f"{minutes:.0f} processor minutes on {os.cpu_count()} processors")
-    by_shape = [name for it in ended for name in it.by_shape]
-    if by_shape:
-        print(f"refused only since a proof names what went: {' '.join(by_shape)}")
+    print(f"{minutes:.0f} processor minutes on {os.cpu_count()} processors, {kit.version()}")
     for it in ended:
         for line in it.faults[:40]:
             print(f"{it.name}: {line[:300]}")

@@ -1,322 +1,311 @@
 #!/usr/bin/env python3
-"""`rt ci` with its work kept: every crate proved from nothing, must-fail edits and wrong bodies refused.
+"""Proves crates from nothing, has their wrong bodies refused, and runs programs as two compilers build them.
 
-    tools/proofs.py [--tests] [CRATE..]
+    tools/proofs.py [--tests] [--anew] [CRATE..]
 
-It runs the kit's own `rt ci`, of these crates and those below them where some are named, with all that this refuses. It
-differs in five ways, so that no part of the gate proves anything twice:
+All crates, or those named and all below them, by what `rt help` documents and nothing else of the toolchain:
 
-- What a crate's proof checks is kept in its folder out/incremental, which is empty when the run begins. The last line of
-  such a proof says incremental=trusted: that whoever can write to that folder is trusted, which is this run alone.
-- A program that has edits is proved by its first build, and its second compiler takes what that kept; an archive for C is
-  proved as it is built.
-- Tests are left to bin/test, which runs them with no proof: what a proof says of a test is that the test itself is safe, and
-  of the product nothing. So are crates that hold nothing else, and programs that only try or measure others. With --tests they
-  are proved too, over a copy of that folder: what they add to the crate is checked, and the crate itself is not checked again.
-- A crate's edits, of must-fail/ and of wrong-bodies/, are tried over copies of it too, in groups, as tools/wrong_bodies.py
-  does. A check that refuses has to prove some other function too, or else the crate has to pass with a change that means
-  nothing: so a try that refuses everything fails the run.
+- A crate is proved by `rt check --empty-contracts` in a room of its own (tools/kit.py), over nothing; what that kept makes its
+  library, archive or program (`rt lib`, `rt run`). tools/verdict.py says what the check has to tell: as much as `rt ci` wants.
+- A program is run with the words, input and files that stand beside it, as LLVM builds it and as Rattle's own compiler does, and
+  what it writes is compared with its file stdout, and its status with its file status.
+- Its edits, of must-fail/ and of wrong-bodies/, are tried in groups over copies of what the proof kept, as tools/wrong_bodies.py
+  does. A check that refuses has to prove some other function too, or else the crate has to pass with a change that means nothing.
+- Tests are left to bin/test, which runs them with no proof; so are crates that hold nothing else, and programs that only measure
+  others. With --tests they are proved too, by `rt check --test` over what the proof kept.
 - Each check is one process: beside one another they fill the processors, and a check that is parted takes a third more of
   their time.
 
-As `rt ci` does, it keeps on this machine what passed, by the sums of all that it was made from, and takes it from there where a
-later run comes to the same files over the same libraries; under names of its own, so that neither takes the other's work.
-The run tells of each crate what was taken. Where the kit's `rt` has other functions than those that this file takes the
-place of, `rt ci` itself runs, and then tools/wrong_bodies.py: that proves much twice, and refuses the same.
+What passed stays on this machine (in $HULL_BOOK_KEPT, or hull_book in the user's cache), by the sums of the toolchain, of these
+tools and of all files that it was made from; a later run takes it from there and says so, unless it is --anew. Whoever can write to
+that folder is trusted.
 
-The last line is 'N passed, M failed', each crate and each edit counted; before it stands what each crate took.
+The last line is 'N passed, M failed': each crate, each edit and each run of a program counts; before it stands what each crate took.
 """
-import contextlib
 import hashlib
-import inspect
+import json
 import os
 import re
-import subprocess
+import shutil
 import sys
+import threading
 import time
 
 sys.path.insert(0, os.path.dirname(os.path.abspath(__file__)))
-import wrong_bodies  # noqa: E402 (the path comes first)
-from wrong_bodies import RT, TOP  # noqa: E402
+import kit  # noqa: E402 (the path comes first)
+import lanes  # noqa: E402
+import verdict  # noqa: E402
+import wrong_bodies  # noqa: E402
 
-LIB = RT.rtlib
-KITS_LANES, KITS_CRATES = RT.in_lanes, RT.crates_of
-# what this file takes the place of, or calls, has to be what it knows: else another kit would be misread without a word
-KNOWN = {
-    "checked": "(crate, texts, flags, kept)",
-    "ci": "(anew, names=())",
-    "crates_of": "(root)",
-    "edits_of": "(crate)",
-    "free": "()",
-    "in_lanes": "(tasks)",
-    "need": "(crate)",
-    "processors": "()",
-    "read_edit": "(edit, folder)",
-    "Kept": "(crates, anew=False)",
-    "Kept.give": "(self, crate, tests, key)",
-    "Kept.keep_tried": "(self, name, kind, text)",
-    "Kept.key": "(self, crate)",
-    "Kept.of_edit": "(self, edit, sum)",
-    "Kept.tried": "(self, name)",
-}
-
-# the last line of a proof, which may say that its work, or that of a library below, is kept
-OVER_KEPT = re.compile(LIB.VERDICT.pattern.replace(r"\n", r"( incremental=trusted)?\n"), re.M)
-COUNTS = re.compile(r"(\d+) passed, (\d+) failed")
-# a check from nothing takes up to so many bytes
-MEMORY_OF_A_CHECK = 5 << 30
-# a check over kept work takes so much of the memory that one from nothing does
-SHARE_OF_MEMORY = 0.6
 # the programs that only try others: tests/memory/trials.py runs the one, bin/test the other
 OF_TESTS = ("memory_trials", "turn_counts")
-# what each kind of task took, in seconds that are summed over tasks which run beside one another
-TOOK = {}
-# the kinds of refusals by the words that the kit's store has for what may be kept
-KINDS = dict(zip(getattr(RT, "SETTLED", ()), (wrong_bodies.Kind.BY_GOAL, wrong_bodies.Kind.AT_LIMIT, wrong_bodies.Kind.BY_SHAPE)))
+KINDS = ("proof", "build", "tests", "edits")
+# the entries of one crate that stay
+MOST_KEPT = 3
 
 
-@contextlib.contextmanager
-def timed(*what):
-    """Adds what passes to the seconds of a task."""
-    start = time.time()
-    yield
-    TOOK[what] = TOOK.get(what, 0) + time.time() - start
+def sum_of(*parts):
+    """A sum of texts and files."""
+    sums = hashlib.sha256()
+    for it in parts:
+        data = it.encode() if isinstance(it, str) and not os.path.isfile(it) else open(it, "rb").read()
+        sums.update(hashlib.sha256(data).digest())
+    return sums.hexdigest()
 
 
-class Store(getattr(RT, "Kept", object)):
-    """What earlier runs of this file on this machine passed: the kit's own store, under other names."""
-
-    run = None
-
-    def __init__(self, crates, anew=False):
-        super().__init__(crates, anew)
-        Store.run = self
-
-    def key(self, crate):
-        """As the kit's own, but for no other run than one of this file."""
-        return hashlib.sha256(f"over kept work {super().key(crate)}".encode()).hexdigest()
-
-    def give(self, crate, tests, key):
-        """As the kit's own. An archive for C is proved by each run, as the kit keeps none; a library was built with its proofs,
-        so that other commands may use it too."""
-        if crate.is_static and not tests or not super().give(crate, tests, key):
-            return False
-        if not tests and not crate.is_program:
-            with open(f"{crate.folder}/out/rlib/stamp", "w", encoding="utf-8") as text:
-                text.write(crate.stamp())
-        return True
-
-    def outcome(self, crate, edit):
-        """What an earlier run on the same files saw of an edit, if one did."""
-        known = self.tried(self.of_edit(edit.path, self.key(crate)))
-        return known and wrong_bodies.Outcome(edit.name, KINDS[known[0]], known[1])
-
-    def keep_outcome(self, crate, edit, outcome):
-        """Keeps what was seen of an edit, where that is a refusal and no file was changed meanwhile."""
-        kind = next((it for it, of in KINDS.items() if of is outcome.kind), None)
-        if kind and self.is_untouched(crate):
-            self.keep_tried(self.of_edit(edit.path, self.key(crate)), kind, outcome.told)
+def tool(name):
+    """The path of a file of tools/."""
+    return f"{kit.TOP}/tools/{name}.py"
 
 
-class KeepingCrate(RT.Crate):
-    """A crate whose proof keeps its work, and whose tests and programs are built over that."""
+class Store:
+    """What earlier runs on this machine passed."""
 
-    keeps = True
-    # the paths of the functions of each crate that this run proved
-    functions = {}
+    def __init__(self, is_anew):
+        home = os.environ.get("XDG_CACHE_HOME") or os.path.expanduser("~/.cache")
+        self.folder, self.is_anew = os.environ.get("HULL_BOOK_KEPT") or f"{home}/hull_book", is_anew
 
-    def kept(self):
-        """The folder that keeps what the crate's proof checked."""
-        return f"{self.folder}/out/incremental"
+    def entry(self, crate):
+        """The folder of a crate's entry."""
+        return f"{self.folder}/{crate.name}/{sum_of(crate.sum(), tool('kit'), tool('verdict'), tool('proofs'))[:32]}"
 
-    def is_of_tests(self):
-        """Whether nothing stands in it but tests, or what only tries others."""
-        if self.is_program:
-            return self.name in OF_TESTS
-        with open(f"{self.folder}/src/lib.rt", encoding="utf-8") as text:
-            return not re.sub(r"//.*|#!\[.*|#\[cfg\(test\)\]\s+mod \w+;", "", text.read()).strip()
+    def give(self, crate):
+        """Gives a crate's out/ what an earlier run left, and returns what it told; None where there was none."""
+        entry = self.entry(crate)
+        told = kit.text_of(f"{entry}/told.json")
+        if self.is_anew or not told:
+            return None
+        os.makedirs(f"{crate.folder}/out", exist_ok=True)
+        for part in ("incremental", crate.made()):
+            kit.remove(f"{crate.folder}/out/{part}")
+            kit.linked(f"{entry}/{part}", f"{crate.folder}/out/{part}")
+        os.utime(entry)
+        crate.keep_made()
+        return json.loads(told)
 
-    def prove(self, *commands):
-        """As the kit's own, keeping its work; that of tests beside, since other tasks read the crate's own meanwhile."""
-        of_tests = any("--test" in it for it in commands)
-        if not self.keeps:
-            with timed(self.name, "proof"):
-                return super().prove(*commands)
-        with timed(self.name, "tests" if of_tests else "proof"), contextlib.ExitStack() as room:
-            over = room.enter_context(wrong_bodies.copied(self.kept())) if of_tests else self.kept()
-            begun = self.out.tell()
-            status = super().prove(*([*it, "--incremental", over] for it in commands))
-            if not of_tests:
-                self.out.seek(begun)
-                self.functions[self.name] = wrong_bodies.PROVED.findall(self.out.read())
-            return status
+    def keep(self, crate, told):
+        """Keeps what stands in a crate's out/ and what its proof told, and drops old entries."""
+        entry = self.entry(crate)
+        kit.remove(entry)
+        os.makedirs(entry)
+        for part in ("incremental", crate.made()):
+            kit.linked(f"{crate.folder}/out/{part}", f"{entry}/{part}")
+        with open(f"{entry}/told.json", "w", encoding="utf-8") as text:
+            json.dump(told, text)
+        crate.keep_made()
+        above = os.path.dirname(entry)
+        entries = sorted((f"{above}/{it}" for it in os.listdir(above)), key=os.path.getmtime)
+        for it in entries[:-MOST_KEPT]:
+            shutil.rmtree(it, ignore_errors=True)
 
-    def build_rlib(self, flags, anew):
-        """As the kit's own, with proofs and not statements alone, which would keep nothing."""
-        self.cuts_libraries = False
-        return super().build_rlib(flags, anew)
+    def of_edit(self, crate, edit):
+        """The file that says that an edit was refused."""
+        return f"{self.entry(crate)}/{sum_of(edit.path, tool('wrong_bodies'))[:32]}.edit"
 
-    def ci(self, flags, tests):
-        """As the kit's own; a program with edits is proved by its first build, over kept work, from which its second takes it, and an
-        archive for C as it is built. A program without edits needs no kept work: the kit's own proves it once too."""
-        is_linked = self.is_static or self.is_program and wrong_bodies.files_of(self)
-        if tests or not is_linked:
-            self.keeps = tests or not self.is_program
-            return super().ci(flags, tests)
-        words, to = [*self.words(flags, keeps=False), "--toolchain", f"{RT.KIT}/toolchain"], f"out/{self.name}"
-        if self.is_static:
-            return self.prove(["build", *words, "--backend", "llvm", "-o", f"out/lib{self.name}.a"])
-        status = self.prove(["build", *words, "--backend", "llvm", "-o", f"{to}.o"]) or self.link(f"{to}.o", to)
-        return status or self.compile_by("rattle", [*words, "--incremental", self.kept()], to)
+    def refused(self, crate, edit):
+        """What an earlier run saw of an edit that was refused, or ''."""
+        return "" if self.is_anew else kit.text_of(self.of_edit(crate, edit))
+
+    def keep_refused(self, crate, edit, told):
+        """Keeps that an edit was refused."""
+        if os.path.isdir(self.entry(crate)):
+            with open(self.of_edit(crate, edit), "w", encoding="utf-8") as text:
+                text.write(told)
 
 
-class Edits:
-    """The tries of a crate's edits, of must-fail/ and of wrong-bodies/, in groups."""
+def is_of_tests(crate):
+    """Whether nothing stands in a crate but tests, or what only tries others."""
+    if crate.is_program:
+        return crate.name in OF_TESTS
+    text = kit.text_of(f"{crate.folder}/src/lib.rt")
+    return not re.sub(r"//.*|#!\[.*|#\[cfg\(test\)\]\s+mod \w+;", "", text).strip()
+
+
+def run_by(room, backend, jobs):
+    """Builds and runs a program by one of the compilers. What is wrong, or None, and the processor seconds."""
+    crate, told = room.crate, {it: kit.text_of(f"{room.crate.folder}/{it}") for it in ("args", "status")}
+    kit.linked(f"{crate.folder}/data", room.folder)
+    kit.remove(f"{room.folder}/out/{crate.name}")
+    words = [it for it in told["args"].splitlines() if it]
+    ran = room.rt("run", "--jobs", str(jobs), *backend, "--", *words, given=kit.bytes_of(f"{crate.folder}/stdin"))
+    by = "Rattle's own compiler" if backend else "LLVM"
+    if not os.path.exists(f"{room.folder}/out/{crate.name}"):
+        return f"not built by {by}: {ran.raw[-600:]}", ran.processor
+    if ran.status != int(told["status"].strip() or 0):
+        return f"as {by} builds it, it ended with status {ran.status}: {ran.raw[-300:]}", ran.processor
+    if ran.written != kit.bytes_of(f"{crate.folder}/stdout"):
+        return f"as {by} builds it, it does not write what its file stdout has", ran.processor
+    return None, ran.processor
+
+
+class Proof:
+    """The proof of a crate and what is built of it."""
 
     def __init__(self, crate):
-        self.crate, self.outcomes, self.known = crate, {}, 0
-        self.edits, self.bad = wrong_bodies.edits_of(crate)
-        self.groups = wrong_bodies.groups_of(crate, self.edits)
+        self.crate, self.faults, self.runs, self.functions, self.paths, self.is_kept = crate, ["not tried"], [], 0, [], False
 
-    def ground(self, given, jobs):
-        """The paths of the crate's functions; none where no edit is left to try, or where the crate is not proved."""
-        if not given[self.crate.name, "proof"]:
-            return []
-        earlier = {it.path: Store.run.outcome(self.crate, it) for it in self.edits}
-        self.outcomes = {path: it for path, it in earlier.items() if it}
-        self.known = len(self.outcomes)
-        if self.known == len(self.edits):
-            return []
-        if self.crate.name in KeepingCrate.functions:
-            return KeepingCrate.functions[self.crate.name]
-        # (its proof was an earlier run's, which kept no work)
-        os.makedirs(self.crate.kept(), exist_ok=True)
-        with timed(self.crate.name, "edits"):
-            return wrong_bodies.PROVED.findall(RT.checked(self.crate, {}, ["--jobs", str(jobs)], self.crate.kept()).stdout)
+    def told(self):
+        """What the store keeps of it."""
+        return {"functions": self.functions, "paths": self.paths, "runs": len(self.runs)}
 
-    def tried(self, given, jobs, group):
-        """Tries what no earlier run tried of a group, over what the crate's proof kept."""
-        paths, left = given[self.crate.name, "seed"], [it for it in group if it.path not in self.outcomes]
-        if not paths or not left:
-            return
-        with timed(self.crate.name, "edits"):
-            for edit, outcome in zip(left, wrong_bodies.tried(self.crate, left, self.crate.kept(), paths)):
-                self.outcomes[edit.path] = outcome
-                Store.run.keep_outcome(self.crate, edit, outcome)
+    def take(self, told):
+        """Takes what an earlier run told."""
+        self.faults, self.functions, self.paths, self.is_kept = [], told["functions"], told["paths"], True
+        self.runs = [None] * told["runs"]
 
-    def add_tasks(self, tasks):
-        """Adds what tries the edits to the tasks of a run."""
-        needs, lines = SHARE_OF_MEMORY * RT.need(self.crate), self.crate.count(rb"\n")
-        tasks[self.crate.name, "seed"] = [(self.crate.name, "proof")], lines, needs, self.ground
-        for number, group in enumerate(self.groups):
-            call = lambda given, jobs, group=group: self.tried(given, jobs, group)
-            tasks[self.crate.name, "edits", number] = [(self.crate.name, "seed")], lines, needs, call
+    def prove(self, run, jobs):
+        """Proves the crate over nothing and builds what it leaves."""
+        crate = self.crate
+        kit.remove(f"{crate.folder}/out/incremental")
+        with kit.Room(crate) as room:
+            ran = room.rt("check", "--jobs", str(jobs), "--empty-contracts")
+            run.add(crate, "proof", ran.processor)
+            self.faults = verdict.faults_of(crate, ran)
+            self.functions, self.paths = verdict.functions_of(ran), wrong_bodies.PROVED.findall(ran.told)
+            if self.faults:
+                self.faults += ran.raw.splitlines()[-40:]
+                return
+            if crate.is_program:
+                for backend in (["--backend", "rattle"], []):
+                    wrong, processor = run_by(room, backend, jobs)
+                    run.add(crate, "build", processor)
+                    self.runs.append(wrong)
+            else:
+                built = room.rt("lib", "--jobs", str(jobs))
+                run.add(crate, "build", built.processor)
+                self.faults = [f"its library was not built: {built.raw[-600:]}"] if built.status else []
+            if os.path.exists(f"{room.folder}/out/{crate.made()}"):
+                room.give("incremental", crate.made())
+            elif not self.faults:
+                self.faults = [f"out/{crate.made()} was not made"]
 
-    def tell(self):
-        """Prints what each edit came to, and returns how many were refused and how many were not."""
-        lost = wrong_bodies.Kind.UNSURE, "the crate is not proved, or refused though nothing was changed"
-        ended = [self.outcomes.get(it.path) or wrong_bodies.Outcome(it.name, *lost) for it in self.edits] + self.bad
-        lines = [it.line(self.crate) for it in ended]
-        print(*lines, sep="\n" if lines else "", flush=True)
-        if self.known:
-            print(f"{self.crate.name}: {self.known} of its {len(ended)} edits were tried by an earlier run on this machine, on the same files")
-        refused = sum(it.is_refused() for it in ended)
-        return refused, len(ended) - refused
+    def lines(self):
+        """What to say of it."""
+        how = ", by an earlier run on this machine" if self.is_kept else ""
+        if self.faults:
+            return [f"{self.crate.name}: NOT PROVED: {self.faults[0]}", *self.faults[1:]]
+        return [f"{self.crate.name}: proved, {self.functions} functions{how}", *(f"{self.crate.name}: FAILED: {it}" for it in self.runs if it)]
 
-
-def tell_times():
-    """Prints what the crates took, the longest first."""
-    names = sorted({name for name, _ in TOOK}, key=lambda it: -sum(TOOK.get((it, kind), 0) for kind in ("proof", "tests", "edits")))
-    print(f"{'seconds of':16}{'proof':>8}{'tests':>8}{'edits':>8}")
-    for name in [*names, "all"]:
-        of = [sum(seconds for (it, what), seconds in TOOK.items() if what == kind and name in (it, "all")) for kind in ("proof", "tests", "edits")]
-        print(f"{name:16}{of[0]:8.0f}{of[1]:8.0f}{of[2]:8.0f}")
-
-
-def lanes():
-    """How many checks run beside one another: as many as there are processors and memory."""
-    return max(1, min(RT.processors(), RT.free() // MEMORY_OF_A_CHECK))
+    def counts(self):
+        """How many of the proof and the runs passed, and how many failed."""
+        failed = bool(self.faults) + sum(bool(it) for it in self.runs)
+        return 1 + len(self.runs) - failed, failed
 
 
 class Run:
-    """A run of the kit's `rt ci`, whose tasks also try the edits, and whose last line is told with theirs."""
+    """A run over some crates: proofs, tests and edits as tasks beside one another."""
 
-    def __init__(self, named, tests):
-        self.named, self.tests, self.edits, self.left_out, self.counts = named, tests, [], (), (0, 1)
+    def __init__(self, named, tests, is_anew):
+        crates = kit.crates()
+        asked = [crates[it] for it in named] or [it for it in crates.values() if tests or not is_of_tests(it)]
+        wanted = {low.name for it in asked for low in [*it.below(), it]}
+        self.crates, self.tests, self.store = [it for it in crates.values() if it.name in wanted], tests, Store(is_anew)
+        self.proofs = {it.name: Proof(it) for it in self.crates}
+        self.took, self.passed, self.failed, self.lock = {}, 0, 0, threading.Lock()
 
-    def crates_of(self, root):
-        """The kit's own, and which of them are left out where some are named."""
-        crates = KITS_CRATES(root)
-        asked = [it for it in crates if it.name in self.named or not self.named and (self.tests or not it.is_of_tests())]
-        chosen = {low.name for it in asked for low in [it, *it.below()]}
-        self.left_out = {it.name for it in crates} - chosen
-        self.edits = [it for it in map(Edits, crates) if it.crate.name in chosen and (it.groups or it.bad)]
-        return crates
+    def add(self, crate, kind, seconds):
+        """Adds to the processor seconds of a crate."""
+        with self.lock:
+            self.took[crate.name, kind] = self.took.get((crate.name, kind), 0) + seconds
 
-    def in_lanes(self, tasks):
-        """Runs the kit's tasks, tests once their crate is proved, and those of the edits. One that is left out counts as well."""
-        left_out = {it: ([], [], []) if it[1] == "edits" else True for it in tasks
-                    if it[0] in self.left_out or it[1] == "tests" and not self.tests}
-        chosen = {it: task for it, task in tasks.items() if it not in left_out}
-        for (name, kind, *_), (waits, *rest) in [*chosen.items()]:
-            if kind == "tests":
-                chosen[name, kind] = [*waits, (name, "proof")], *rest
-        for it in self.edits:
-            it.add_tasks(chosen)
-        return {**KITS_LANES(chosen), **left_out}
+    def tell(self, lines, passed, failed):
+        """Prints lines, and counts what passed and failed."""
+        with self.lock:
+            print(*lines, sep="\n", flush=True)
+            self.passed, self.failed = self.passed + passed, self.failed + failed
 
-    def print(self, *words, **how):
-        """Prints what the kit prints, but for its last line."""
-        counts = COUNTS.fullmatch(str(words[0])) if len(words) == 1 else None
-        if counts:
-            self.counts = int(counts[1]) - len(self.left_out), int(counts[2])
+    def prove(self, crate, jobs):
+        """Proves a crate, or takes it from an earlier run."""
+        proof, lacking = self.proofs[crate.name], [it.name for it in crate.below() if self.proofs[it.name].faults]
+        told = None if lacking else self.store.give(crate)
+        if lacking:
+            proof.faults = [f"its library {lacking[0]} is not proved"]
+        elif told:
+            proof.take(told)
         else:
-            print(*words, **how)
+            begun = crate.sum()
+            proof.prove(self, jobs)
+            crate.sum.cache_clear()
+            if begun != crate.sum():
+                proof.faults = ["its files were changed meanwhile"]
+            elif not proof.faults and not any(proof.runs):
+                self.store.keep(crate, proof.told())
+        self.tell(proof.lines(), *proof.counts())
+
+    def prove_tests(self, crate, jobs):
+        """Proves the tests of a crate over what its proof kept."""
+        if self.proofs[crate.name].faults:
+            return
+        with kit.Room(crate, kept=f"{crate.folder}/out/incremental") as room:
+            ran = room.rt("check", "--jobs", str(jobs), "--test")
+        self.add(crate, "tests", ran.processor)
+        faults = verdict.faults_of(crate, ran, tests=True)
+        self.tell([f"{crate.name}: its tests NOT PROVED: {it}" for it in faults] or [f"{crate.name}: its tests are proved"], not faults, bool(faults))
+
+    def try_edits(self, crate, group):
+        """Tries what no earlier run refused of a group of a crate's edits."""
+        known = {it.path: self.store.refused(crate, it) for it in group}
+        left, proof = [it for it in group if not known[it.path]], self.proofs[crate.name]
+        outcomes = [wrong_bodies.Outcome(it.name, wrong_bodies.Kind.BY_GOAL, known[it.path]) for it in group if known[it.path]]
+        if left and (proof.faults or not proof.paths):
+            outcomes += [wrong_bodies.Outcome(it.name, wrong_bodies.Kind.UNSURE, "the crate is not proved") for it in left]
+        elif left:
+            before = kit.spent()
+            tried = wrong_bodies.tried(crate, left, f"{crate.folder}/out/incremental", proof.paths)
+            self.add(crate, "edits", kit.spent() - before)
+            for edit, outcome in zip(left, tried):
+                if outcome.is_refused():
+                    self.store.keep_refused(crate, edit, outcome.told)
+            outcomes += tried
+        refused = sum(it.is_refused() for it in outcomes)
+        earlier = [f"{crate.name}: {len(group) - len(left)} of its edits were refused in an earlier run on this machine"] if len(left) < len(group) else []
+        self.tell([*(it.line(crate) for it in outcomes), *earlier], refused, len(outcomes) - refused)
+
+    def tasks(self):
+        """All tasks by name."""
+        tasks = {}
+        for crate in self.crates:
+            seconds = kit.seconds_of(crate)
+            tasks[crate.name] = lanes.Task(lambda jobs, it=crate: self.prove(it, jobs), [it.name for it in crate.below()], seconds)
+            if self.tests and crate.count(r"#\[test\]"):
+                tasks[crate.name, "tests"] = lanes.Task(lambda jobs, it=crate: self.prove_tests(it, jobs), [crate.name], seconds / 2)
+            edits, bad = wrong_bodies.edits_of(crate)
+            if bad:
+                self.tell([it.line(crate) for it in bad], 0, len(bad))
+            for number, group in enumerate(wrong_bodies.groups_of(crate, edits)):
+                tasks[crate.name, number] = lanes.Task(lambda _, it=crate, group=group: self.try_edits(it, group), [crate.name], seconds / 3)
+        return tasks
+
+    def tell_times(self):
+        """Prints the processor seconds of the crates, the longest first."""
+        of = {it.name: [self.took.get((it.name, kind), 0) for kind in KINDS] for it in self.crates}
+        names = sorted(of, key=lambda it: -sum(of[it]))
+        print(f"{'processor seconds':20}", *(f"{kind:>8}" for kind in KINDS))
+        for name in names:
+            print(f"{name:20}", *(f"{it:8.0f}" for it in of[name]))
+        print(f"{'all':20}", *(f"{sum(it[at] for it in of.values()):8.0f}" for at in range(len(KINDS))))
 
     def run(self):
         """Runs it all. The status of the command."""
-        os.environ.setdefault("RT_JOBS", str(lanes()))
-        RT.Crate, RT.Kept = KeepingCrate, Store
-        RT.crates_of, RT.in_lanes, RT.print = self.crates_of, self.in_lanes, self.print
-        RT.edits_of, LIB.VERDICT = lambda crate: ([], []), OVER_KEPT
-        RT.ci(False)
-        of_edits = [it.tell() for it in self.edits]
-        tell_times()
-        passed, failed = (sum(it) for it in zip(self.counts, *of_edits))
-        print(f"{passed} passed, {failed} failed")
-        return 1 if failed or not passed else 0
-
-
-def words_of(name):
-    """The parameters of a function of the kit's `rt`, or of a class's, as text."""
-    found = RT
-    for part in name.split("."):
-        found = getattr(found, part, None)
-    return str(inspect.signature(found)) if found else "none"
-
-
-def run_plainly(named):
-    """Runs `rt ci` itself, and then what tries the wrong bodies. The status of the command."""
-    passed = failed = 0
-    for command in (["rt", "ci", *named], ["tools/wrong_bodies.py", *named]):
-        ran = subprocess.run(command, stdin=subprocess.DEVNULL, stdout=subprocess.PIPE, stderr=subprocess.STDOUT, text=True, check=False)
-        print(ran.stdout, end="", flush=True)
-        told = COUNTS.match(ran.stdout.rstrip().rpartition("\n")[2])
-        well, ill = (int(told[1]), int(told[2])) if told else (0, 1)
-        # (crates with no wrong body have none that is refused)
-        passed, failed = passed + well, failed + (ill or int(ran.returncode != 0 and well > 0))
-    print(f"{passed} passed, {failed} failed")
-    return 1 if failed or not passed else 0
+        kit.clear_rooms()
+        start = time.time()
+        print(f"toolchain: {kit.version()}", flush=True)
+        if verdict.handles() is None:
+            self.tell(["HANDLES: FAILED: it is one line, 'Handles allowed: ..'"], 0, 1)
+        lanes.run(self.tasks(), kit.lanes())
+        self.tell_times()
+        print(f"{time.time() - start:.0f} seconds, {kit.lanes()} checks beside one another")
+        print(f"{self.passed} passed, {self.failed} failed")
+        return 1 if self.failed or not self.passed else 0
 
 
 def main(words):
-    os.chdir(TOP)
-    named = [it for it in words if it != "--tests"]
-    strange = [it for it, words in KNOWN.items() if words_of(it) != words]
-    if strange:
-        print(f"this kit's rt differs from what tools/proofs.py knows ({' '.join(strange)}): rt ci itself is run, and then tools/wrong_bodies.py", flush=True)
-        return run_plainly(named)
-    return Run(named, "--tests" in words).run()
+    os.chdir(kit.TOP)
+    named = [it for it in words if it not in ("--tests", "--anew")]
+    if not kit.version() or any(it not in kit.crates() for it in named):
+        print(f"usage: tools/proofs.py [--tests] [--anew] [CRATE..], where rt is, and a crate is one of {' '.join(kit.crates())}\n0 passed, 1 failed")
+        return 2
+    return Run(named, "--tests" in words, "--anew" in words).run()
 
 
 if __name__ == "__main__":

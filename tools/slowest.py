@@ -11,10 +11,9 @@ import os
 import re
 import subprocess
 import sys
-import tempfile
 
 sys.path.insert(0, os.path.dirname(os.path.abspath(__file__)))
-from wrong_bodies import RT, TOP  # noqa: E402 (the path comes first)
+import kit  # noqa: E402 (the path comes first)
 
 # what the prover calls the parts of a function's proof, behind its path
 PARTS = "Proof|Answers|AnswersTried|Invariants|Lts|Goals|Given|Tie|Reads|Layout|Code|Statement|Symbol|Kinds|Met|Named|TheLink|Instances"
@@ -48,17 +47,14 @@ def tell(seconds):
 
 
 def main(name, tests):
-    os.chdir(TOP)
-    RT.rtlib.Crate = RT.Crate
-    crate = next(it for it in RT.rtlib.crates_below(TOP) if it.name == name)
-    crate.out = sys.stdout
-    with tempfile.TemporaryDirectory(prefix="rt-kept-") as kept:
-        words = crate.words(["--jobs", "1"], tests=tests, keeps=False)
-        done = subprocess.run([RT.rtlib.RATTLE, "check", *words, "--incremental", kept], cwd=crate.folder, text=True,
-                              stdout=subprocess.PIPE, stderr=subprocess.STDOUT, check=False)
-        tell(took(kept, name))
-    print(done.stdout.rstrip().rpartition("\n")[2])
-    return done.returncode
+    crate = kit.crates()[name]
+    if subprocess.run([f"{kit.TOP}/tools/prove.py", *(it.name for it in crate.uses)], check=False).returncode:
+        return 1
+    with kit.Room(crate) as room:
+        ran = room.rt("check", "--jobs", "1", *["--test"] * tests)
+        tell(took(f"{room.folder}/out/incremental", name))
+    print(ran.last())
+    return ran.status
 
 
 if __name__ == "__main__":

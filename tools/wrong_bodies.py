@@ -11,30 +11,26 @@ group that the prover cannot read. The libraries are proved first where that is 
 touched, since each check has a copy of them.
 
 Each line tells a wrong body, and whether a goal refused it (a clause of the contract or what the body owes, such as an
-index within its bounds) or a proof file that names what the change took away, which says little of the contract: those
-are counted before the end. The last line is 'N passed, M failed'; the status is 0 only where M is 0. --list tells
+index within its bounds). A proof file that names what the change took away, or a limit of the prover's, refuses nothing: it says
+little of the contract. The last line is 'N passed, M failed'; the status is 0 only where M is 0. --list tells
 the groups alone. --compile looks only whether they get past the compiler, in some 20 seconds a group: after a change of
 names or numbers that edits use, since one that does not compile fails the gate.
 """
 import argparse
-import contextlib
 import glob
-import importlib.machinery
-import importlib.util
 import os
 import re
-import shutil
 import subprocess
 import sys
-import tempfile
 import time
 from concurrent.futures import ThreadPoolExecutor
 from dataclasses import dataclass
 from enum import Enum
 
-TOP = os.path.dirname(os.path.dirname(os.path.abspath(__file__)))
-# a check takes up to so many bytes
-MEMORY_OF_A_CHECK = 4 << 30
+sys.path.insert(0, os.path.dirname(os.path.abspath(__file__)))
+import kit  # noqa: E402 (the path comes first)
+from kit import TOP  # noqa: E402
+
 # so many wrong bodies stand in a group at most, so that the groups of a large crate are tried beside one another
 MOST_IN_A_GROUP = 60
 # where a function begins, and where a block of methods does, of a trait or of none
@@ -53,24 +49,12 @@ NAMES_WHAT_WENT = re.compile(r"has no field|is not in scope(?! here, so what is 
 NOTE_OF_A_GOAL = re.compile(r"note: src/\S+: it is not proved that ")
 # what a check says of a function that it proved, which may wait, or ask something of its callers
 PROVED = re.compile(r"^fn (\S+): proved\b", re.M)
+# what a check says where what is kept of a library no longer fits
+STALE = re.compile(r"module .Rattle-(\w+)-.*Run the lower steps again")
 # how the last line of a check begins that refused a crate, or some of its functions
 NOT_PROVED = ("logic=not-proved", "only=")
 # what antt says of a text that it cannot read, where a text that only states what is false reads well
 UNREAD = re.compile(r"is not in scope|has no field|is no name|operand is missing|expected the end|cannot continue")
-
-
-def load_rt():
-    """The kit's own `rt`, whose functions read an edit and check a copy of a crate with it."""
-    page = subprocess.run(["rt", "doc"], capture_output=True, text=True, check=True).stdout.strip()
-    path = os.path.join(os.path.dirname(page), "bin", "rt")
-    loader = importlib.machinery.SourceFileLoader("rt_of_the_kit", path)
-    module = importlib.util.module_from_spec(importlib.util.spec_from_loader("rt_of_the_kit", loader))
-    loader.exec_module(module)
-    module.rtlib.guarded()  # its first call sets a signal's handler, which only the main thread may
-    return module
-
-
-RT = load_rt()
 
 
 @dataclass(frozen=True)
@@ -109,8 +93,8 @@ class Kind(Enum):
     """What can come of a wrong body, with the words for it."""
 
     BY_GOAL = "refused"
-    BY_SHAPE = "refused (only since a proof names what went)"
-    AT_LIMIT = "refused at a limit of the prover's"
+    BY_SHAPE = "NOT REFUSED BY A GOAL (a proof names what went)"
+    AT_LIMIT = "NOT REFUSED BY A GOAL (at a limit of the prover's)"
     MISSED = "NOT REFUSED"
     UNSURE = "NOT TRIED"
 
@@ -128,8 +112,8 @@ class Outcome:
     told: str
 
     def is_refused(self):
-        """Whether the prover refused it."""
-        return self.kind in (Kind.BY_GOAL, Kind.BY_SHAPE, Kind.AT_LIMIT)
+        """Whether a goal refused it: what a proof's names or a limit refuse says nothing of the contract."""
+        return self.kind is Kind.BY_GOAL
 
     def line(self, crate):
         """What to say of it."""
@@ -179,25 +163,39 @@ def functions_naming(crate, old):
     return [it for it in found if "::laws::" in it.module] or found
 
 
-def read(crate, path):
-    """The wrong body in that file, or why it cannot be applied."""
-    texts, why = RT.read_edit(path, crate.folder)
-    if why:
-        return None, why
-    changes, file, old = [], "", None
-    for line in open(path, encoding="utf-8"):
-        line = line.rstrip("\n")
+def changes_in(text, folder):
+    """The changes (file, old, new) that the text of an edit names, or why they cannot be applied to the crate in that folder."""
+    changes, file, old, texts = [], "", None, {}
+    for line in text.splitlines():
         if line.startswith("file: "):
             file = line[6:].strip()
+            if os.path.normpath(file) != file or file.partition("/")[0] not in kit.SOURCES:
+                return None, "a 'file:' line names no file below src/, specs/ or proofs/"
+            texts.setdefault(file, kit.text_of(f"{folder}/{file}"))
         elif line.startswith("old: "):
             old = line[5:]
         elif line.startswith("new:"):
-            changes.append((file, old, line[4:].removeprefix(" ")))
+            new = line[4:].removeprefix(" ")
+            if not file or not old:
+                return None, "a 'new:' line stands before any 'file:' or 'old:' line"
+            if texts[file].count(old) != 1:
+                return None, f"an 'old:' text is in {file} {texts[file].count(old)} times, and not once"
+            texts[file] = texts[file].replace(old, new)
+            changes.append((file, old, new))
+            old = None
+    return (tuple(changes), None) if changes else (None, "it has no 'old:' and 'new:' pair")
+
+
+def read(crate, path):
+    """The wrong body in that file, or why it cannot be applied."""
+    changes, why = changes_in(kit.text_of(path), crate.folder)
+    if why:
+        return None, why
     # a line that only brings names in stands in no function, and shows in those that it is for
     found = [functions_at(crate, file, old) for file, old, _ in changes if not IMPORTS.match(old)]
     everywhere = [] if all(found) else [name for _, old, _ in changes for name in functions_naming(crate, old)]
     inside = [name for names in found for name in names] if all(found) else []
-    return Edit(os.path.basename(path), path, tuple(changes), frozenset(inside), frozenset(everywhere)), None
+    return Edit(os.path.basename(path), path, changes, frozenset(inside), frozenset(everywhere)), None
 
 
 def applied(crate, edits):
@@ -319,18 +317,18 @@ def is_unread(line, texts):
 
 def outcome_of(ran, texts):
     """What a check of the crate with these texts came to, as a kind and what to say; as `rt must-fail` judges it."""
-    lines = ran.stdout.rstrip("\n").split("\n")
+    lines = ran.told.rstrip("\n").split("\n")
     unread = next((it for it in lines if is_unread(it, texts)), None)
-    if unread or RT.rtlib.STALE.search(ran.stdout):
+    if unread or STALE.search(ran.told):
         return Kind.UNSURE, f"BAD EDIT: {unread or 'the kept work of a library could not be used'}"
-    if ran.returncode == 0:
+    if ran.status == 0:
         return Kind.MISSED, "the crate is still proved with it"
-    if ran.returncode == 3 and any("could not tell" in it for it in lines):
+    if ran.status == 3 and any("could not tell" in it for it in lines):
         return Kind.AT_LIMIT, lines[-1]
-    if ran.returncode != 1 or not lines[-1].startswith(NOT_PROVED):
+    if ran.status != 1 or not lines[-1].startswith(NOT_PROVED):
         return Kind.UNSURE, f"BAD EDIT: it did not reach the prover: {' '.join(lines[:6])}"
     # (what an error says may go on in lines further in)
-    told = [it for it in re.sub(r"\n  +", " ", ran.stdout).split("\n")
+    told = [it for it in re.sub(r"\n  +", " ", ran.told).split("\n")
             if re.match(r"(note: )?\S+:\d+:\d+:", it) and (": error" in it or it.startswith("note: "))]
     by_goal = [it for it in told if not (it.startswith(("proofs/", "./proofs/")) and NAMES_WHAT_WENT.search(it))]
     return (Kind.BY_SHAPE, told[0]) if told and not by_goal else (Kind.BY_GOAL, (by_goal or lines)[0])
@@ -345,34 +343,26 @@ def only_of(paths, functions):
     return [word for it in asked for word in ("--only", it.partition("::")[2])]
 
 
-@contextlib.contextmanager
-def copied(folder):
-    """A copy of a folder of kept work beside it, by links: files are written anew there and never changed, so the first stays as it
-    is."""
-    with tempfile.TemporaryDirectory(prefix="rt-kept-", dir=os.path.dirname(folder)) as room:
-        shutil.copytree(folder, f"{room}/kept", copy_function=os.link)
-        yield f"{room}/kept"
+def check(crate, texts, kept, only=()):
+    """A check of the crate, or of the functions that the flags name, in a room of its own with these texts, over what is kept."""
+    with kit.Room(crate, texts, kept) as room:
+        return room.rt("check", "--jobs", "1", *only)
 
 
 def checked(crate, texts, kept, only):
-    """A check of a copy of the crate with these texts, over a copy of what is kept, and whether what it refuses says something: it
-    proved some function too, or else the crate passes as it stands."""
-    with copied(kept) as over:
-        ran = RT.checked(crate, texts, ["--jobs", "1", *only], over)
-    if PROVED.search(ran.stdout):
+    """A check of the crate with these texts, and whether what it refuses says something: it proved some function too, or else the
+    crate passes as it stands."""
+    ran = check(crate, texts, kept, only)
+    if PROVED.search(ran.told):
         return ran, True
     if crate.name not in PASSES:
-        with copied(kept) as over:
-            PASSES[crate.name] = bool(functions_of(crate, over))
+        PASSES[crate.name] = bool(functions_of(crate, kept))
     return ran, PASSES[crate.name]
 
 
 def tried_alone(crate, edit, kept, paths):
     """The outcome of one edit in a check of its own: of the functions that should show it, else of the whole crate."""
-    texts, why = RT.read_edit(edit.path, crate.folder)
-    if why:
-        return Outcome(edit.name, Kind.UNSURE, f"BAD EDIT: {why}")
-    only = only_of(paths, edit.functions or edit.witnesses)
+    texts, only = applied(crate, [edit]), only_of(paths, edit.functions or edit.witnesses)
     for words in [only, []] if only else [[]]:
         ran, tells = checked(crate, texts, kept, words)
         if not tells:
@@ -385,12 +375,15 @@ def tried_alone(crate, edit, kept, paths):
 
 def functions_of(crate, kept):
     """The paths of the crate's functions, from a check over what is kept in which a line only gets a comment; none where
-    that refuses the crate, so that no refusal tells anything."""
+    that refuses the crate, so that no refusal tells anything. Where nothing is kept yet its work is."""
     top = "src/main.rt" if crate.is_program else "src/lib.rt"
     with open(f"{crate.folder}/{top}", encoding="utf-8") as text:
         texts = {top: text.read().replace("#![tactic(auto)]", "#![tactic(auto)] // as it stands", 1)}
-    ran = RT.checked(crate, texts, ["--jobs", "1"], kept)
-    return PROVED.findall(ran.stdout) if outcome_of(ran, texts)[0] is Kind.MISSED else []
+    with kit.Room(crate, texts, kept) as room:
+        ran = room.rt("check", "--jobs", "1")
+        if not os.path.isdir(kept):
+            room.give("incremental")
+    return PROVED.findall(ran.told) if outcome_of(ran, texts)[0] is Kind.MISSED else []
 
 
 def tried(crate, group, kept, paths):
@@ -401,11 +394,11 @@ def tried(crate, group, kept, paths):
     ran, tells = checked(crate, applied(crate, group), kept, only)
     if not tells:
         return [Outcome(it.name, *REFUSED_ANYHOW) for it in group]
-    reached = ran.returncode == 1 and ran.stdout.rstrip("\n").rpartition("\n")[2].startswith(NOT_PROVED)
+    reached = ran.status == 1 and ran.last().startswith(NOT_PROVED)
     if not reached:
         half = len(group) // 2
         return tried(crate, group[:half], kept, paths) + tried(crate, group[half:], kept, paths)
-    goals, outcomes = goals_of(ran.stdout), []
+    goals, outcomes = goals_of(ran.told), []
     for edit in group:
         told = next((told for path, told in sorted(goals.items()) if any(it.is_at(path) for it in edit.functions)), None)
         outcomes.append(tried_alone(crate, edit, kept, paths) if told is None else Outcome(edit.name, Kind.BY_GOAL, told))
@@ -413,25 +406,9 @@ def tried(crate, group, kept, paths):
 
 
 def compiler_said(crate, group):
-    """The compiler's errors on a crate with these wrong bodies; the check is ended once it has come to the proofs."""
-    with tempfile.TemporaryDirectory() as room:
-        for part in RT.rtlib.PARTS:
-            if os.path.isdir(f"{crate.folder}/{part}"):
-                shutil.copytree(f"{crate.folder}/{part}", f"{room}/{part}")
-        for file, text in applied(crate, group).items():
-            with open(f"{room}/{file}", "w", encoding="utf-8") as it:
-                it.write(text)
-        words = [RT.rtlib.RATTLE, "check", *crate.words(["--jobs", "1", "--progress"], keeps=False)]
-        with subprocess.Popen(words, cwd=room, stdin=subprocess.DEVNULL, stdout=subprocess.PIPE,
-                              stderr=subprocess.STDOUT, text=True, errors="replace") as ran:
-            errors = []
-            for line in ran.stdout:
-                if re.search(r"\berror\[[\w-]+\]", line):
-                    errors.append(line.strip())
-                if line.startswith("checked "):
-                    ran.kill()
-                    break
-    return errors
+    """The compiler's errors on a crate with these wrong bodies, of which nothing is proved."""
+    told = check(crate, applied(crate, group), None, ["--only", ""]).told
+    return [it.strip() for it in told.split("\n") if re.search(r"\berror\[[\w-]+\]", it)]
 
 
 def not_compiled(crate, group):
@@ -484,7 +461,6 @@ def groups_of(crate, edits):
 def tried_in_groups(crate, kept, names=()):
     """The outcomes of a crate's wrong bodies over what that folder keeps, and in how many groups they were tried."""
     edits, outcomes = edits_of(crate, names)
-    os.makedirs(kept, exist_ok=True)
     groups, paths = groups_of(crate, edits), functions_of(crate, kept)
     if not paths:
         return [Outcome("the crate itself", Kind.UNSURE, "it is refused though nothing was changed")], 0
@@ -511,7 +487,7 @@ def main():
     names = {}  # of each crate that is asked for the names, none where all of its wrong bodies are
     for crate, _, name in (it.partition("/") for it in given.crates):
         names.setdefault(crate, []).extend([name] if name else [])
-    crates = [it for it in RT.rtlib.crates_below(TOP) if not names or it.name in names]
+    crates = [it for it in kit.crates().values() if not names or it.name in names]
     crates = [it for it in crates if files_of(it)]
     if given.list:
         for crate in crates:
@@ -524,12 +500,10 @@ def main():
         return 1
     if given.compile:
         return compile_all(crates, names)
-    memory = os.sysconf("SC_PAGE_SIZE") * os.sysconf("SC_AVPHYS_PAGES")
-    lanes = given.jobs or max(1, min(os.cpu_count() or 1, memory // MEMORY_OF_A_CHECK))
-    passed, failed, by_shape = 0, [], []
+    passed, failed = 0, []
     # the crates with the most wrong bodies first, so that none of them is left alone at the end
     crates.sort(key=lambda it: -len(files_of(it)))
-    with ThreadPoolExecutor(lanes) as pool:
+    with ThreadPoolExecutor(given.jobs or kit.lanes()) as pool:
         chosen = [names.get(it.name, ()) for it in crates]
         for crate, (outcomes, seconds, groups) in zip(crates, pool.map(work, crates, chosen)):
             print(f"== {crate.name}: {len(outcomes)} wrong bodies in {groups} groups, {seconds:.0f} s", flush=True)
@@ -538,9 +512,6 @@ def main():
                 print(it.line(crate), flush=True)
                 passed += it.is_refused()
                 failed += [name] * (not it.is_refused())
-                by_shape += [name] * (it.kind is Kind.BY_SHAPE)
-    print(f"refused by a goal: {passed - len(by_shape)}; only since a proof names what went: {len(by_shape)}"
-          f"{': ' + ' '.join(by_shape) if by_shape else ''}")
     if failed:
         print(f"FAILED: {' '.join(failed)}")
     print(f"{passed} passed, {len(failed)} failed")

@@ -1,6 +1,6 @@
 /* Refuses one request for memory, the one whose number, counted from 1, is in REFUSED_REQUEST, and tells so by a byte to
  * the file descriptor MET, if that is open; the C library serves the others. To be loaded before the C library
- * (LD_PRELOAD), or linked with a program whose own names serve the others (trials.py). */
+ * (LD_PRELOAD). */
 extern void *__libc_malloc(unsigned long);
 extern void *__libc_calloc(unsigned long, unsigned long);
 extern void *__libc_realloc(void *, unsigned long);
@@ -13,11 +13,6 @@ enum { NO_MEMORY = 12, MET = 9 };
 
 /* how many requests came, and the number of the one to refuse, which is -1 where none is */
 static long requests, chosen;
-
-/* Chooses a request by its number behind those that came. */
-void refuse_request(long number) {
-    chosen = requests + number;
-}
 
 static int is_refused(void) {
     if (chosen == 0) {

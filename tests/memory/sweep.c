@@ -1,15 +1,61 @@
 /* Runs the program that it is linked with again and again, before its `main`: each time with the next of its requests for
- * memory refused (refuse.c), in a process of its own, until a run meets no refusal. All that a run writes goes to standard
- * output, and behind it a line: `refused: status N`, or `ample: status N` for the last. Linked by trials.py. */
-extern int pipe(int *), fork(void), dup2(int, int), close(int), waitpid(int, int *, int);
-extern int dprintf(int, const char *, ...);
-extern long read(int, void *, unsigned long);
-extern void _exit(int) __attribute__((noreturn));
+ * memory refused, in a process of its own, until a run meets no refusal. All that a run writes goes to standard output, and
+ * behind it a line: `refused: status N`, or `ample: status N` for the last. Linked by trials.py (x86-64 alone).
+ *
+ * The program asks the kit's `rattle_alloc` and `rattle_realloc` for memory, as the kit's crate `libc` declares them. No code
+ * beside may define those names, so their first bytes are overwritten with a jump to the functions here. */
+#include <stdint.h>
+#include <stdio.h>
+#include <stdlib.h>
+#include <string.h>
+#include <sys/mman.h>
+#include <sys/wait.h>
+#include <unistd.h>
 
-/* of refuse.c */
-extern void refuse_request(long);
+/* what the two answer: whether there is memory, and where; a place that nobody owns where there is none */
+struct tried {
+    _Bool ok;
+    void *p;
+};
 
-enum { OUTPUT = 1, ERROR = 2, MET = 9, MOST = 1000 };
+extern struct tried rattle_alloc(size_t, size_t), rattle_realloc(void *, size_t, size_t, size_t);
+
+enum { OUTPUT = 1, ERROR = 2, MET = 9, MOST = 1000, PAGE = 4096 };
+
+/* how many requests came, and the number of the one to refuse */
+static long requests, chosen;
+
+static struct tried answer(void *block) {
+    static char nothing;
+    return block ? (struct tried){1, block} : (struct tried){0, &nothing};
+}
+
+static int is_refused(void) {
+    if (__atomic_add_fetch(&requests, 1, __ATOMIC_SEQ_CST) != chosen)
+        return 0;
+    (void)!write(MET, "!", 1);
+    return 1;
+}
+
+static struct tried asked(size_t size, size_t alignment) {
+    return answer(is_refused() ? NULL : malloc(size ? size : alignment));
+}
+
+static struct tried asked_again(void *block, size_t kept, size_t size, size_t alignment) {
+    (void)kept;
+    return answer(is_refused() ? NULL : realloc(block, size ? size : alignment));
+}
+
+/* Has a function of the program jump to another: movabs $to, %rax; jmp *%rax. */
+static int redirect(uintptr_t at, uintptr_t to) {
+    unsigned char jump[] = {0x48, 0xb8, 0, 0, 0, 0, 0, 0, 0, 0, 0xff, 0xe0};
+    uintptr_t page = at & ~(uintptr_t)(PAGE - 1);
+    memcpy(jump + 2, &to, sizeof to);
+    if (mprotect((void *)page, 2 * PAGE, PROT_READ | PROT_WRITE | PROT_EXEC))
+        return 0;
+    memcpy((void *)at, jump, sizeof jump);
+    return 1;
+}
 
 /* Waits for a run and writes its line. Whether it met a refusal. */
 static int has_met(int run, int met) {
@@ -31,6 +77,8 @@ static void keep_as(int number, int end, int other) {
 }
 
 __attribute__((constructor)) static void sweep(void) {
+    if (!redirect((uintptr_t)rattle_alloc, (uintptr_t)asked) || !redirect((uintptr_t)rattle_realloc, (uintptr_t)asked_again))
+        _exit(1);
     for (long number = 1; number <= MOST; number++) {
         int met[2];
         int run = pipe(met) ? -1 : fork();
@@ -39,7 +87,7 @@ __attribute__((constructor)) static void sweep(void) {
         if (run == 0) {
             keep_as(MET, met[1], met[0]);
             dup2(OUTPUT, ERROR);
-            refuse_request(number);
+            chosen = requests + number;
             return;
         }
         close(met[1]);

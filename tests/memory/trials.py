@@ -17,7 +17,7 @@ A plain set grows by several points at once: its second add asks for nothing. A 
 its first add asks for nothing. An add of a live point asks for nothing in either.
 
 The program is built once, as `rt try` does: with no proof, and with checks that stop it at the first bad access, also after
-a refusal. What refuses (refuse.c) and what starts the runs (sweep.c) are linked with it. With ample memory it has to write
+a refusal. What refuses and starts the runs (sweep.c) is linked with it. With ample memory it has to write
 what crates/memory_trials/stdout has. The last line counts the refusals that were met and came in their stage; the status is
 not 0 where something else came.
 
@@ -26,14 +26,14 @@ To try another function, give it a trial (crates/memory_trials/src) and a line b
 import collections
 import os
 import re
-import subprocess
+import shutil
 import sys
 import tempfile
 
 HERE = os.path.dirname(os.path.abspath(__file__))
 TOP = os.path.dirname(os.path.dirname(HERE))
 sys.path.insert(0, f"{TOP}/tools")
-from wrong_bodies import RT  # noqa: E402 (the path comes first)
+import kit  # noqa: E402 (the path comes first)
 
 # the trials, each with the stages that have to come beside `words`
 TRIALS = {
@@ -67,43 +67,18 @@ TRIALS = {
     "parts": ["set-up", "refused"],
     "compact": ["set-up", "refused"],
 }
-# the names under which the checks that are compiled in serve what is not refused
-SERVED_BY = [f"-D__libc_{it}=__interceptor_{it}" for it in ("malloc", "calloc", "realloc", "memalign")]
-CLANG = [f"{RT.KIT}/toolchain/bin/clang", "--target=x86_64-unknown-linux-gnu", "-O1", "-fPIC", "-c"]
-
-
-class Swept(RT.Crate):
-    """The program of the trials, linked with what refuses memory."""
-
-    def c_code(self, into=None):
-        os.makedirs(into, exist_ok=True)
-        for name, flags in (("refuse", SERVED_BY), ("sweep", [])):
-            subprocess.run([*CLANG, *flags, "-o", f"{into}/{name}.o", f"{HERE}/{name}.c"], check=True)
-        return [f"{into}/refuse.o", f"{into}/sweep.o"]
-
-    def words(self, flags, *rest, **how):
-        """As the kit's own, but for the check of names that stands beside a try, which a proof of the crate makes too."""
-        return ["--help"] if "no function" in flags else super().words(flags, *rest, **how)
-
-
-def sweep_all(room):
-    """Builds the program and makes its trials, each a case in that folder. The status of the try."""
-    os.chdir(TOP)
-    RT.rtlib.Crate = Swept
-    crate = next(it for it in RT.rtlib.crates_below(TOP) if it.name == "memory_trials")
-    os.chdir(crate.folder)
-    return crate.try_unproved(["--cases", room], [])
 
 
 def told():
-    """What a process of its own writes of all trials: of each the lines of its runs behind `== NAME`."""
-    with tempfile.TemporaryDirectory() as room:
+    """What the program writes of all trials, built once and run for each: of each trial the lines of its runs behind `== NAME`."""
+    os.environ["RT_ALLOW_C"] = "memory_trials"
+    with kit.Room(kit.crates()["memory_trials"]) as room, tempfile.TemporaryDirectory() as cases:
+        os.mkdir(f"{room.folder}/c")
+        shutil.copy(f"{HERE}/sweep.c", f"{room.folder}/c/sweep.c")
         for name in TRIALS:
-            with open(f"{room}/{name}", "w", encoding="utf-8"), open(f"{room}/{name}.args", "w", encoding="utf-8") as words:
+            with open(f"{cases}/{name}", "w", encoding="utf-8"), open(f"{cases}/{name}.args", "w", encoding="utf-8") as words:
                 words.write(f"{name}\n")
-        ran = subprocess.run([sys.executable, __file__, room], stdin=subprocess.DEVNULL, stdout=subprocess.PIPE, stderr=subprocess.STDOUT,
-                             text=True, errors="replace", check=False)
-    return ran.stdout
+        return room.rt("try", "--cases", cases).told
 
 
 def runs_of(said, name):
@@ -149,4 +124,4 @@ def main():
 
 
 if __name__ == "__main__":
-    sys.exit(sweep_all(sys.argv[1]) if sys.argv[1:] else main())
+    sys.exit(main())
