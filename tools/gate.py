@@ -24,7 +24,7 @@ import kit  # noqa: E402 (the path comes first)
 TOP = os.path.dirname(os.path.dirname(os.path.abspath(__file__)))
 # the parts that run beside one another stand in one row
 ROWS = (
-    {"layout": ["tools/layout.py"]},
+    {"layout": ["tools/layout.py"], "version": ["tools/version.py"]},
     {"tests": ["bin/test", "crates"]},
     {"tools": ["tests/tools/run.py"]},
     {"proofs": ["tools/proofs.py"]},
@@ -36,6 +36,8 @@ ROWS = (
     },
     {"long": ["tests/long/run.sh"], "texts": ["tests/texts/run.sh"], "refused": ["tests/refused/run.sh"]},
     {"soak": ["tests/soak/run.sh"]},
+    {"release": ["tools/release.py", "--compare"]},
+    {"dist": ["tests/dist/run.py"]},
     {"embed": ["tests/embed/run.sh"]},
     {"shared": ["tests/shared/run.sh"]},
     {"readme": ["tests/readme/run.sh"]},

@@ -84,25 +84,29 @@ class Crate:
         return {self.is_library: "rlib", self.is_static: f"lib{self.name}.a", self.is_program: self.name}[True]
 
     @functools.lru_cache(maxsize=None)
-    def sum(self):
-        """A sum of the toolchain and of all files that what it leaves is made from, wherever the repository lies."""
-        sums = hashlib.sha256(f"{version()}\n{self.line}\n".encode())
+    def sources(self):
+        """A sum of all files of the repository that what it leaves is made from, wherever the repository lies."""
+        sums = hashlib.sha256(f"{self.line}\n".encode())
         for it in self.uses:
-            sums.update(it.sum().encode())
+            sums.update(it.sources().encode())
         for part in SOURCES:
             for file in files_below(f"{self.folder}/{part}"):
-                with open(f"{self.folder}/{part}/{file}", "rb") as data:
-                    sums.update(f"{part}/{file}\n".encode() + hashlib.sha256(data.read()).digest())
+                sums.update(f"{part}/{file}\n".encode() + hashlib.sha256(bytes_of(f"{self.folder}/{part}/{file}")).digest())
         return sums.hexdigest()
+
+    def sum(self):
+        """A sum of these files and of the toolchain."""
+        return hashlib.sha256(f"{version()}\n{self.sources()}".encode()).hexdigest()
 
     def is_made(self):
         """Whether what it leaves stands in its out/, of these very files."""
         return os.path.exists(f"{self.folder}/out/{self.made()}") and text_of(f"{self.folder}/out/made-of") == self.sum()
 
-    def keep_made(self):
-        """Says that what stands in its out/ is made of these very files."""
-        with open(f"{self.folder}/out/made-of", "w", encoding="utf-8") as text:
-            text.write(self.sum())
+    def keep_made(self, functions):
+        """Says that what stands in its out/ is made of these very files, of which so many functions were proved."""
+        for name, value in (("functions", functions), ("made-of", self.sum())):
+            with open(f"{self.folder}/out/{name}", "w", encoding="utf-8") as text:
+                text.write(f"{value}")
 
     def count(self, pattern):
         """How often a pattern stands in its sources."""
@@ -162,6 +166,11 @@ class Ran:
         self.seconds, self.processor = time.time() - start, used.ru_utime + used.ru_stime
         SPENT.seconds = spent() + self.processor
         self.told = "".join(it for it in self.raw.splitlines(True) if not it.startswith("rt: "))
+
+    def functions(self):
+        """How many functions the prover counted that it proved."""
+        counted = re.search(r"^logic=proved .*?\bfunctions=(\d+)", self.raw, re.M)
+        return int(counted[1]) if counted else 0
 
     def last(self):
         """The last line that the prover told."""
@@ -247,5 +256,5 @@ def remove(path):
 
 def lanes():
     """How many checks run beside one another: as many as there are processors and memory."""
-    memory = os.sysconf("SC_PAGE_SIZE") * os.sysconf("SC_AVPHYS_PAGES")
-    return max(1, min(len(os.sched_getaffinity(0)), memory // MEMORY_OF_A_CHECK))
+    free = re.search(r"^MemAvailable: +(\d+) kB", text_of("/proc/meminfo"), re.M)
+    return max(1, min(len(os.sched_getaffinity(0)), int(free[1]) * 1024 // MEMORY_OF_A_CHECK if free else 1))

@@ -80,7 +80,7 @@ class Store:
             kit.remove(f"{crate.folder}/out/{part}")
             kit.linked(f"{entry}/{part}", f"{crate.folder}/out/{part}")
         os.utime(entry)
-        crate.keep_made()
+        crate.keep_made(json.loads(told)["functions"])
         return json.loads(told)
 
     def keep(self, crate, told):
@@ -92,7 +92,7 @@ class Store:
             kit.linked(f"{crate.folder}/out/{part}", f"{entry}/{part}")
         with open(f"{entry}/told.json", "w", encoding="utf-8") as text:
             json.dump(told, text)
-        crate.keep_made()
+        crate.keep_made(told["functions"])
         above = os.path.dirname(entry)
         entries = sorted((f"{above}/{it}" for it in os.listdir(above)), key=os.path.getmtime)
         for it in entries[:-MOST_KEPT]:
@@ -161,7 +161,7 @@ class Proof:
             ran = room.rt("check", "--jobs", str(jobs), "--empty-contracts")
             run.add(crate, "proof", ran.processor)
             self.faults = verdict.faults_of(crate, ran)
-            self.functions, self.paths = verdict.functions_of(ran), wrong_bodies.PROVED.findall(ran.told)
+            self.functions, self.paths = ran.functions(), wrong_bodies.PROVED.findall(ran.told)
             if self.faults:
                 self.faults += ran.raw.splitlines()[-40:]
                 return
@@ -225,7 +225,7 @@ class Run:
         else:
             begun = crate.sum()
             proof.prove(self, jobs)
-            crate.sum.cache_clear()
+            crate.sources.cache_clear()
             if begun != crate.sum():
                 proof.faults = ["its files were changed meanwhile"]
             elif not proof.faults and not any(proof.runs):

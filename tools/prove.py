@@ -50,7 +50,7 @@ class Proving:
             sys.stderr.write("".join(ran.raw.splitlines(True)[-30:]))
             self.tell(f"{crate.name} could not be proved; see rt check in crates/{crate.name}")
             return
-        crate.keep_made()
+        crate.keep_made(ran.functions())
         kit.note_seconds(crate, ran.seconds)
         self.done += 1
         self.tell(f"{self.done} of {len(self.crates)}, {crate.name}: {ran.seconds:.0f} s, {ran.processor:.0f} s of processors")

@@ -55,8 +55,3 @@ def faults_of(crate, ran, tests=False):
     if not tests and not COUNT.search(ran.raw):
         faults.append("no search for contracts that no call can meet was told")
     return faults
-
-
-def functions_of(ran):
-    """How many functions the last line of a check counts."""
-    return int(words_of(ran.last()).get("functions", "0"))

@@ -1,0 +1,34 @@
+/* What the proved objects of the archives ask for memory, over the C library's malloc, realloc and free: the functions that the
+ * toolchain's crate `libc` declares, for every processor. Weak, so that both archives can be linked into one object.
+ *
+ * `ok` is whether there is memory, and `block` where; where there is none, a byte that nobody owns. */
+typedef __SIZE_TYPE__ size;
+
+extern void *malloc(size), *realloc(void *, size);
+extern void free(void *);
+
+struct tried {
+    _Bool ok;
+    void *block;
+};
+
+static struct tried answer(void *block) {
+    static char nothing;
+    struct tried tried = {block != 0, block ? block : &nothing};
+    return tried;
+}
+
+/* A block of `count` bytes; one of none has as many as its alignment, so that it has a place of its own. */
+__attribute__((weak)) struct tried rattle_alloc(size count, size alignment) {
+    return answer(malloc(count ? count : alignment));
+}
+
+/* The block made one of `count` bytes, the first `kept` as they were; where it is refused, it is as it was. */
+__attribute__((weak)) struct tried rattle_realloc(void *block, size kept, size count, size alignment) {
+    (void)kept;
+    return answer(realloc(block, count ? count : alignment));
+}
+
+__attribute__((weak)) void rattle_dealloc(void *block) {
+    free(block);
+}

@@ -1,0 +1,212 @@
+#!/usr/bin/env python3
+"""Tries what is released as a stranger would, with no toolchain on the machine: tests/dist/run.py
+
+A copy of the repository with no history and nothing built stands in a folder of its own; the toolchain's folder is covered by an
+empty one where the system allows it (unshare), and `rt` is on no path. There the README's first commands run, packages are made,
+installed each in a folder of its own, and used: by a C compiler, CMake, Meson, cargo, pip, dpkg and npm. What is not on the machine is
+skipped by name. Where dist/ is not of these sources, only that is told, and that its bytes are those of its sums.
+
+The last line is 'N passed, M failed'.
+"""
+import os
+import shutil
+import subprocess
+import sys
+import tempfile
+import time
+
+TOP = os.path.dirname(os.path.dirname(os.path.dirname(os.path.abspath(__file__))))
+sys.path.insert(0, f"{TOP}/tools")
+import kit  # noqa: E402 (the path comes first)
+import release  # noqa: E402
+
+FIRST_ANSWER = 1.0  # seconds
+C_PROGRAM = """#include "hull.h"
+#include <stdio.h>
+int main(void) {
+    hull_set *h = hull_new(100);
+    if (h == NULL) return 1;
+    for (int i = 0; i < 4; i++) hull_add(h, 10 * (i & 1), 10 * (i >> 1));
+    printf("%d\\n", hull_place(h, 5, 5).code == HULL_INSIDE);
+    hull_free(h);
+    return 0;
+}
+"""
+BOTH = """#include "hull.h"
+#include "hull_shared.h"
+int main(void) {
+    hull_set *h = hull_new(10);
+    hull_free(h);
+    return hull_shared_line_init(&(hull_shared_line){0}, 1), 0;
+}
+"""
+CMAKE = """cmake_minimum_required(VERSION 3.13)
+project(user C)
+find_package(hull 1.0 REQUIRED)
+add_executable(user user.c)
+target_link_libraries(user hull::hull)
+"""
+MESON = """project('user', 'c')
+executable('user', 'user.c', dependencies: dependency('hull'))
+"""
+RUST = """use hull::{Hull, Point};
+fn main() {
+    let mut hull = Hull::new(100).expect("room");
+    for i in 0..4 {
+        hull.add(Point { x: 10 * (i & 1), y: 10 * (i >> 1) }).expect("added");
+    }
+    println!("{}", hull.area().expect("an area"));
+}
+"""
+PYTHON = "import hull; h = hull.Hull([(0, 0), (10, 0), (10, 10), (0, 10)]); print(h.area(), h.place(5, 5)); s = hull.SharedHull(100, 100, 2); s.close()"
+NODE = "import { load } from 'hullbook'; const { Hull } = await load(); const h = new Hull(100); h.addAll([[0, 0], [10, 0], [10, 10], [0, 10]]); console.log(String(h.area()));"
+
+
+class Tries:
+    """The tries, each counted, in a folder of their own with no toolchain."""
+
+    def __init__(self, room):
+        self.room, self.passed, self.failed = room, 0, 0
+        self.path = ":".join(it for it in os.environ["PATH"].split(":") if not os.path.exists(f"{it}/rt"))
+        folder = os.path.dirname(os.path.dirname(kit.rattle())) if kit.version() else ""
+        cover = ["unshare", "-m", "sh", "-c", f"mount -t tmpfs none {folder} && exec \"$@\"", ""] if folder else []
+        self.covered = cover if folder and subprocess.run([*cover, "true"], capture_output=True, check=False).returncode == 0 else []
+        print(f"the toolchain is {'covered' if self.covered else 'on no path'}" if folder else "there is no toolchain here")
+
+    def run(self, *words, at="", env=None, given=None):
+        """Runs a command in a folder of the room. Its status and what it wrote to both streams."""
+        env = {**os.environ, "PATH": self.path, "HOME": self.room, **(env or {})}
+        ran = subprocess.run([*self.covered, *words], cwd=f"{self.room}/{at}", env=env, stdout=subprocess.PIPE, stderr=subprocess.STDOUT,
+                             text=True, errors="replace", check=False, input=given or "")
+        return ran.returncode, ran.stdout
+
+    def see(self, what, is_so, told=""):
+        """Counts a try."""
+        self.passed, self.failed = self.passed + bool(is_so), self.failed + (not is_so)
+        print(f"{what}: {'ok' if is_so else 'FAILED ' + str(told)[-700:]}", flush=True)
+
+    def has(self, tool, what):
+        """Whether a tool is on the machine; tells where not."""
+        if not shutil.which(tool, path=self.path):
+            print(f"skipped: {what}: there is no {tool}")
+            return False
+        return True
+
+    def lay(self, folder, **files):
+        """Lays files in a folder of the room."""
+        os.makedirs(f"{self.room}/{folder}", exist_ok=True)
+        for name, text in files.items():
+            with open(f"{self.room}/{folder}/{name.replace('__', '.')}", "w", encoding="utf-8") as file:
+                file.write(text)
+
+    def prints(self, what, wanted, *words, **how):
+        """Whether a command ends well and writes that."""
+        status, told = self.run(*words, **how)
+        self.see(what, status == 0 and told.strip().endswith(wanted), f"status {status}: {told}")
+
+
+def try_clone(tries):
+    """The programs of a fresh copy start at once, by a link too, and refuse with a status of their own where the sources are others."""
+    shutil.copytree(TOP, f"{tries.room}/clone", ignore=shutil.ignore_patterns(".git", "out", "target", "__pycache__"))
+    begun = time.time()
+    status, told = tries.run("bin/hullbook", "run", "examples/placement.txt", at="clone")
+    took = time.time() - begun
+    tries.see(f"the first answer of a fresh copy, in {took:.2f} s", status == 0 and told.endswith("sum 8 journal 8 capacity 65536\n") and took < FIRST_ANSWER, told)
+    os.symlink(f"{tries.room}/clone/bin/hullbook", f"{tries.room}/hullbook")
+    tries.prints("the program by a link", "sum 8 journal 8 capacity 65536", f"{tries.room}/hullbook", "run", "examples/placement.txt", at="clone")
+    source = f"{tries.room}/clone/crates/hullbook/src/main.rt"
+    text = kit.text_of(source)
+    with open(source, "a", encoding="utf-8") as file:
+        file.write("// another\n")
+    status, told = tries.run("bin/hullbook", "run", "examples/placement.txt", at="clone")
+    tries.see("other sources with no toolchain are refused with status 69", status == 69 and "Traceback" not in told, f"{status}: {told}")
+    with open(source, "w", encoding="utf-8") as file:
+        file.write(text)
+    with open(f"{tries.room}/clone/dist/x86_64/libhull.a", "r+b") as data:
+        data.seek(4000)
+        byte = data.read(1)
+        data.seek(4000)
+        data.write(bytes([byte[0] ^ 1]))
+        data.flush()
+        status, told = tries.run("tools/release.py", "--sums", at="clone")
+        tries.see("a changed byte of dist/ is seen", status == 1 and "libhull.a: FAILED" in told, told)
+        data.seek(4000)
+        data.write(byte)
+
+
+def try_install(tries):
+    """What bin/install puts in place serves C, CMake, Meson, cargo and Python."""
+    status, told = tries.run("bin/install", f"{tries.room}/prefix", at="clone")
+    tries.see("bin/install", status == 0, told)
+    tries.lay("c", user__c=C_PROGRAM, both__c=BOTH)
+    here = {"PKG_CONFIG_PATH": f"{tries.room}/prefix/lib/pkgconfig"}
+    if tries.has("cc", "C") and tries.has("pkg-config", "C by pkg-config"):
+        tries.prints("C by pkg-config", "1", "sh", "-c", "cc user.c $(pkg-config --cflags --libs hull) -o user && ./user", at="c", env=here)
+        whole = f"-Wl,--whole-archive {tries.room}/prefix/lib/libhull.a {tries.room}/prefix/lib/libhull_shared.a -Wl,--no-whole-archive"
+        tries.prints("both archives in one shared object", "", "sh", "-c", f"cc -shared -o both.so {whole}", at="c")
+    if tries.has("cmake", "CMake"):
+        tries.lay("cmake", user__c=C_PROGRAM, CMakeLists__txt=CMAKE)
+        tries.prints("CMake", "1", "sh", "-c", f"cmake -B out -DCMAKE_PREFIX_PATH={tries.room}/prefix . >log 2>&1 && cmake --build out >>log 2>&1 && out/user || cat log", at="cmake")
+    if tries.has("meson", "Meson") and tries.has("ninja", "Meson"):
+        tries.lay("meson", user__c=C_PROGRAM, meson__build=MESON)
+        tries.prints("Meson", "1", "sh", "-c", "meson setup out >log 2>&1 && ninja -C out >>log 2>&1 && out/user || cat log", at="meson", env=here)
+    tries.prints("Python beside its shared objects", "", "python3", "-c", PYTHON, env={"PYTHONPATH": f"{tries.room}/prefix/lib/hull"})
+    status, told = tries.run("bin/install", "/usr", at="clone", env={"DESTDIR": f"{tries.room}/staged"})
+    tries.see("bin/install below DESTDIR", status == 0 and os.path.exists(f"{tries.room}/staged/usr/lib/libhull.a"), told)
+
+
+def try_packages(tries):
+    """Each package is made, installed in a folder of its own, and used."""
+    status, told = tries.run("bin/package", f"{tries.room}/packages", at="clone")
+    tries.see("bin/package", status == 0, told)
+    print(told, end="")
+    at, version = f"{tries.room}/packages", release.version()
+    if tries.has("cc", "the archive") and tries.has("pkg-config", "the archive"):
+        os.makedirs(f"{tries.room}/unpacked")
+        tries.prints("the archive, from any folder", "1", "sh", "-c", f"tar xJf {at}/hull-{version}-x86_64-linux.tar.xz && cd hull-* && export PKG_CONFIG_PATH=$PWD/lib/pkgconfig"
+                     " && cc ../../c/user.c $(pkg-config --cflags --libs hull) -o user && ./user", at="unpacked")
+    wheel = f"{at}/hullbook-{version}-py3-none-manylinux2014_x86_64.whl"
+    if tries.run("python3", "-m", "venv", "venv")[0] == 0:
+        tries.prints("the wheel, by pip", "", "sh", "-c", f"venv/bin/pip install --no-index -q {wheel} && venv/bin/python -c '{PYTHON}'")
+    if tries.has("objdump", "symbols of the wheel"):
+        script = f"unzip -q -o {wheel} -d wheel && objdump -T wheel/hull/*.so | grep -o 'GLIBC_[0-9.]*' | sort -uV | tail -n 1"
+        newest = tries.run("sh", "-c", script)[1].strip()
+        tries.see(f"symbols of the wheel need no newer C library than manylinux2014 has ({newest or 'none named'})",
+                  not newest or [int(it) for it in newest.removeprefix("GLIBC_").split(".")] <= [2, 17], newest)
+    if tries.has("dpkg-deb", "the package for dpkg"):
+        tries.prints("the package for dpkg", "sum 8 journal 8 capacity 65536", "sh", "-c",
+                     f"dpkg-deb -x {at}/hullbook_{version}_amd64.deb deb && deb/usr/bin/hullbook run clone/examples/placement.txt")
+        if tries.has("lintian", "lintian"):
+            told = tries.run("lintian", "--fail-on", "error", "--allow-root", f"{at}/hullbook_{version}_amd64.deb")
+            tries.see("lintian sees no error", told[0] == 0, told[1])
+    if tries.has("node", "npm") and tries.has("npm", "npm"):
+        tries.lay("npm", package__json='{"type": "module"}\n', user__mjs=NODE)
+        flags = [] if int(tries.run("node", "-p", "parseInt(process.versions.node)")[1]) >= 24 else ["--experimental-wasm-memory64", "--no-warnings"]
+        tries.prints("the package for npm", "200", "sh", "-c", f"npm install --offline --no-audit --no-fund --silent {at}/hullbook-{version}.tgz && node {' '.join(flags)} user.mjs", at="npm")
+    if tries.has("cargo", "the crate for Rust"):
+        os.makedirs(f"{tries.room}/rust/src")
+        tries.lay("rust/src", main__rs=RUST)
+        tries.lay("rust", Cargo__toml=f'[package]\nname = "user"\nversion = "0.1.0"\nedition = "2021"\n[dependencies]\nhull = {{ path = "hull-{version}" }}\n')
+        tries.prints("the crate for Rust", "200", "sh", "-c", f"tar xzf {at}/hull-{version}-rust.tar.gz && cargo run --offline -q", at="rust",
+                     env={"HOME": os.environ.get("HOME", "/root")})
+
+
+def main():
+    faults, passed = release.check_sums()
+    print(*faults, sep="\n", end="\n" if faults else "")
+    stale = [it for it in release.products() if not release.is_released(it)]
+    if stale:
+        print(f"the sources have gone on since the release: {' '.join(stale)}")
+        print(f"{passed} passed, {len(faults)} failed")
+        return 1 if faults else 0
+    with tempfile.TemporaryDirectory() as room:
+        tries = Tries(room)
+        try_clone(tries)
+        try_install(tries)
+        try_packages(tries)
+    print(f"{passed + tries.passed} passed, {len(faults) + tries.failed} failed")
+    return 1 if faults or tries.failed else 0
+
+
+if __name__ == "__main__":
+    sys.exit(main())
