@@ -124,7 +124,7 @@ def products():
             others = others + BESIDE[name] + (HEADERS if BESIDE[name] else [])
             found.append(Product(f"{processor}/{name}.so", crate, others, lambda to, at=(name, processor): make_object(*at, to)))
     web = [f"web/{it}" for it in sorted(os.listdir(f"{kit.TOP}/web")) if os.path.isfile(f"{kit.TOP}/web/{it}")]
-    found.append(Product("web/hull.wasm", "hull_c", ["web/build.py"], lambda to: make_page("hull.wasm", to)))
+    found += [Product(f"web/{it}", "hull_c", ["web/build.py"], lambda to, it=it: make_page(it, to)) for it in ("hull.wasm", "hull32.wasm")]
     found.append(Product("web/index.html", "hull_c", web, lambda to: make_page("index.html", to)))
     return {it.path: it for it in found}
 

@@ -5,7 +5,9 @@ The sources are those of the repository, copied as they stand with no test; one 
 allocator. The kit's own heap calls C's malloc, and for wasm64 a call of C can only be an import of the host. So the `heap`
 of the page names that of a crate `web_heap`: the kit's crate std_heap with its proofs, made here by replacement of names, over
 three imports in the place of libc's three functions and under the same contracts. All is checked again for wasm64, and its
-last line says so. FOLDER (web/out where none is given) keeps what was proved for the next run, and has hull.wasm in the end.
+last line says so. FOLDER (web/out where none is given) keeps what was proved for the next run, and has hull.wasm in the end, and
+where Binaryen's wasm-opt is, hull32.wasm: the same lowered to a 32-bit memory, for engines that have no other. No proof reads
+that step; tests/web tries both modules.
 """
 import os
 import re
@@ -120,6 +122,14 @@ def lay_out(room, kit):
     write(f"{room}/crates.txt", "".join(listed))
 
 
+def lower(module, to):
+    """Lowers the module to a 32-bit memory."""
+    if not shutil.which("wasm-opt"):
+        print("web/build.py: there is no wasm-opt (Binaryen): hull32.wasm is not made", file=sys.stderr)
+        return
+    subprocess.run(["wasm-opt", "--enable-memory64", "--enable-bulk-memory", "--enable-sign-ext", "--memory64-lowering", module, "-o", to], check=True)
+
+
 def main(words):
     room = os.path.abspath(words[0]) if words else f"{TOP}/web/out"
     page = subprocess.run(["rt", "doc"], stdout=subprocess.PIPE, text=True, check=True).stdout.strip()
@@ -127,6 +137,7 @@ def main(words):
     ran = subprocess.run(["rt", "lib"], cwd=f"{room}/crates/{LIBRARY}", env={**os.environ, "RT_ALLOW_C": HOST}, check=False)
     if ran.returncode == 0:
         shutil.copyfile(f"{room}/crates/{LIBRARY}/out/{LIBRARY}.wasm", f"{room}/hull.wasm")
+        lower(f"{room}/hull.wasm", f"{room}/hull32.wasm")
     return ran.returncode
 
 

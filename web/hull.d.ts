@@ -30,7 +30,7 @@ export class Unsupported extends HullError {}
 export type Point = [x: number, y: number];
 /** Many points: pairs, or an array that has the coordinates of each point beside one another. */
 export type Points =
-    | Iterable<readonly [number, number]>
+    | Iterable<readonly number[]>
     | Float64Array | Float32Array | Int32Array | Uint32Array | Int16Array | Uint16Array | Int8Array | Uint8Array
     | BigInt64Array;
 /** Where a point lies. A hull that is a point or a segment has no inside: all of it is "on". */

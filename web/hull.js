@@ -437,14 +437,27 @@ class OutlineOfInstance extends Questions {
     }
 }
 
+/** Whether the engine has 64-bit memories: of a module with nothing else it says so. */
+const HAS_WIDE_MEMORY = globalThis.WebAssembly?.validate(new Uint8Array([0, 97, 115, 109, 1, 0, 0, 0, 5, 3, 1, 4, 1]));
+
+/** Where the module stands beside this file: as it was proved, or for engines with 32-bit memories alone as that was lowered. */
+function moduleBeside() {
+    try {
+        return HAS_WIDE_MEMORY ? new URL("./out/hull.wasm", import.meta.url) : new URL("./out/hull32.wasm", import.meta.url);
+    } catch (error) {
+        throw new Unsupported("nothing says where hull.wasm stands, as in a bundle of CommonJS: pass load its bytes or its URL", { cause: error });
+    }
+}
+
 /** The bytes of what `load` is passed. Node's fetch reads no files. */
 async function bytesOf(source) {
     const given = await source;
     if (given instanceof ArrayBuffer || ArrayBuffer.isView(given)) return given;
     if (typeof Response !== "undefined" && given instanceof Response) return given.arrayBuffer();
-    const url = new URL(given, import.meta.url);
+    const url = given instanceof URL ? given : new URL(given, import.meta.url);
     if (url.protocol === "file:" && globalThis.process?.versions?.node) {
-        return (await import("node:fs/promises")).readFile(url);
+        const files = "node:fs/promises"; // (a name that no bundler looks for)
+        return (await import(files)).readFile(url);
     }
     const response = await fetch(url);
     if (!response.ok) throw new Unsupported(`${url} was not found: ${response.status}`);
@@ -452,16 +465,17 @@ async function bytesOf(source) {
 }
 
 /**
- * Loads the module: from its bytes, a URL, or a Response (or a promise of one), or else from out/hull.wasm beside this file.
- * At most `memory` bytes of its memory are used, where that is given.
+ * Loads the module: from its bytes, a URL, or a Response (or a promise of one), or else from out/ beside this file, hull.wasm or,
+ * where the engine has no 64-bit memories, hull32.wasm. At most `memory` bytes of its memory are used, where that is given.
  */
-export async function load(source = new URL("./out/hull.wasm", import.meta.url), { memory = Infinity } = {}) {
+export async function load(source = moduleBeside(), { memory = Infinity } = {}) {
+    if (!globalThis.WebAssembly) throw new Unsupported("this engine has no WebAssembly");
     const bytes = await bytesOf(source), heap = new Heap(memory);
     let wasm;
     try {
         wasm = (await WebAssembly.instantiate(bytes, { heap: heap.imports() })).instance.exports;
     } catch (error) {
-        throw new Unsupported(`this engine can't load hull.wasm, which has a 64-bit memory: ${error.message}`, { cause: error });
+        throw new Unsupported(`this engine can't load these bytes as the module: ${error.message}`, { cause: error });
     }
     heap.begin(wasm.memory, Number(wasm.__heap_base.value));
     return classesOf(new Instance(wasm, heap));

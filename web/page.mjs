@@ -7,11 +7,12 @@ const file = (name) => new URL(name, import.meta.url);
 const code = ["heap.js", "hull.js", "journal.js", "page.js"]
     .map((name) => readFileSync(file(name), "utf8").replace(/^import .*\n/gm, "").replace(/^export /gm, ""))
     .join("\n");
+// (the module with a 32-bit memory, which every engine runs)
 let wasm;
 try {
-    wasm = readFileSync(file("out/hull.wasm"));
+    wasm = readFileSync(file("out/hull32.wasm"));
 } catch {
-    console.error("web/out/hull.wasm is missing: run web/build.py first");
+    console.error("web/out/hull32.wasm is missing: run web/build.py first, with Binaryen's wasm-opt");
     process.exit(1);
 }
 const page = readFileSync(file("page.html"), "utf8").replace("/*CODE*/", () => code).replace("/*WASM*/", () => wasm.toString("base64"));

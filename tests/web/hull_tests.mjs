@@ -6,8 +6,11 @@ import { TextError, judge, readJournal, serve } from "../../web/journal.js";
 import { Plain, random_of } from "./plain.mjs";
 
 const { load } = faults, FAR = 2 ** 40, MEMORY = 2 ** 24;
-const module = new URL("../../web/out/hull.wasm", import.meta.url), cases = new URL("../cli/cases/", import.meta.url);
-const { Hull, Outline } = await load();
+// an address that no memory reaches: of a 32-bit memory the last, since greater ones wrap
+const STRAY = process.env.MODULE === "hull32.wasm" ? 0xfffffff0n : 1n << 60n;
+// the module that is tried: hull.wasm, or the name in MODULE
+const module = new URL(`../../web/out/${process.env.MODULE ?? "hull.wasm"}`, import.meta.url), cases = new URL("../cli/cases/", import.meta.url);
+const { Hull, Outline } = await load(module);
 let passed = 0, failed = 0;
 async function tried(name, run) {
     try {
@@ -175,7 +178,7 @@ await tried("after a trap nothing is served", async () => {
     WebAssembly.instantiate = async (...words) => {
         const { instance } = await instantiate(...words), { hull_call } = instance.exports;
         // a hull at an address beyond the memory
-        const stray = (reply, at, ...rest) => hull_call(reply, rest[1] === 666n ? 1n << 60n : at, ...rest);
+        const stray = (reply, at, ...rest) => hull_call(reply, rest[1] === 666n ? STRAY : at, ...rest);
         return { instance: { exports: { ...instance.exports, hull_call: stray } } };
     };
     const { Hull: Other } = await load(bytes).finally(() => (WebAssembly.instantiate = instantiate)), hull = new Other();

@@ -57,6 +57,12 @@ fi
 # before Node 24 a module with a 64-bit memory has to be asked for
 [ "$(node -p 'parseInt(process.versions.node)')" -ge 24 ] || set -- --experimental-wasm-memory64
 counted node "$@" "$here/hull_tests.mjs"
+if [ -f "$top/web/out/hull32.wasm" ]; then
+    MODULE=hull32.wasm counted node "$here/hull_tests.mjs"
+else
+    echo 'skipped: web/out/hull32.wasm is not there, which web/build.py makes with wasm-opt'
+    finish
+fi
 if [ -z "$chromium" ]; then
     echo 'skipped: Chromium is not there'
     finish
