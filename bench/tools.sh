@@ -7,9 +7,7 @@ trap 'rm -rf "$room"' EXIT
 for tool in generate measure rival; do
     rustc -O --edition 2021 -o "$room/$tool" "$here/$tool.rs"
 done
-hullbook="$top/bin/hullbook"
-"$hullbook" >/dev/null 2>&1 || true # the first call builds the program
-hullbook="$top/crates/hullbook/out/hullbook"
+hullbook=$("$top/tools/become.sh" --path hullbook)
 ln -s "$hullbook" "$room/hullbook"
 
 # the least wall seconds, and the peak kilobytes, of some rounds of a command

@@ -99,12 +99,12 @@ class Crate:
         return hashlib.sha256(f"{version()}\n{self.sources()}".encode()).hexdigest()
 
     def is_made(self):
-        """Whether what it leaves stands in its out/, of these very files."""
-        return os.path.exists(f"{self.folder}/out/{self.made()}") and text_of(f"{self.folder}/out/made-of") == self.sum()
+        """Whether what it leaves stands in its out/, proved of these very files."""
+        return os.path.exists(f"{self.folder}/out/{self.made()}") and text_of(f"{self.folder}/out/made-of").partition("\n")[0] == self.sources()
 
     def keep_made(self, functions):
         """Says that what stands in its out/ is made of these very files, of which so many functions were proved."""
-        for name, value in (("functions", functions), ("made-of", self.sum())):
+        for name, value in (("functions", functions), ("made-of", f"{self.sources()}\n{version()}\n")):
             with open(f"{self.folder}/out/{name}", "w", encoding="utf-8") as text:
                 text.write(f"{value}")
 

@@ -4,6 +4,7 @@
     tools/release.py                  proves what is not proved, and writes dist/ anew
     tools/release.py --compare        makes its files again and compares them to the byte
     tools/release.py --find FILE      the path of a file of dist/, where the sources are those that it was made from
+    tools/release.py --program NAME   the path of a program of these sources: the released one, or the one that was proved here
     tools/release.py --put FILE TO    that file, or where the sources are others, what is proved and made of them
     tools/release.py --sums           whether what stands in dist/ is what its sums say
 
@@ -12,7 +13,7 @@ them the version, the toolchain and the C compiler. `--find` and `--compare` go 
 a folder with no history. Where the sources have gone on, `--compare` says so and passes; bytes of another toolchain or compiler are
 not compared. The page's module takes a proof of its own (web/build.py), so it is compared only where web/out has it.
 
-The last line of `--compare` and `--sums` is 'N passed, M failed'. `--find` ends with 1 where there is no such file of these sources;
+The last line of `--compare` and `--sums` is 'N passed, M failed'. `--find` and `--program` end with 1 where there is none of these sources;
 `--put` with 69 where it would have to be proved and there is no toolchain, with 70 where it could not be.
 """
 import hashlib
@@ -190,6 +191,18 @@ def find(path):
     return 0
 
 
+def program(name):
+    """Prints where a program of these sources stands. The status of the command."""
+    crate, path = kit.crates()[name], f"{os.uname().machine}/{name}"
+    if path in products() and is_released(path):
+        print(f"{DIST}/{path}")
+    elif crate.is_made():
+        print(f"{crate.folder}/out/{name}")
+    else:
+        return 1
+    return 0
+
+
 def put(path, to):
     """Puts a file of dist/ there, or makes it of the sources as they stand. The status of the command."""
     product = products().get(path)
@@ -258,6 +271,8 @@ def main(words):
         return write()
     if words[0] == "--find" and len(words) == 2:
         return find(words[1])
+    if words[0] == "--program" and len(words) == 2 and words[1] in PROGRAMS:
+        return program(words[1])
     if words[0] == "--put" and len(words) == 3:
         return put(*words[1:])
     if words == ["--compare"]:

@@ -44,7 +44,7 @@ outcome() {
     fi
     : >"$room/told.output"
     # shellcheck disable=SC2086 # the words stand apart by spaces
-    (cd "$room" && "$top/bin/hullbook" $words) >"$told" 2>"$room/told.error"
+    (cd "$room" && "$hullbook" $words) >"$told" 2>"$room/told.error"
     status=$?
     if [ "$status" != "$(head_of "$1" status)" ]; then
         echo "status $status"
@@ -59,13 +59,12 @@ outcome() {
     fi
     case "$(head_of "$1" device) $status $words" in
         ' 0 compact '* | ' 0 run '*--journal*)
-            "$top/bin/hullbook" check "$told" >"$room/told.check" 2>&1 || echo "check: $(head -n 3 "$room/told.check")"
+            "$hullbook" check "$told" >"$room/told.check" 2>&1 || echo "check: $(head -n 3 "$room/told.check")"
             ;;
     esac
 }
 
-# The first call builds the program where it is not built for this commit.
-"$top/bin/hullbook" >/dev/null 2>&1
+hullbook=$("$top/tools/become.sh" --path hullbook) || exit
 
 passed=0
 failed=0

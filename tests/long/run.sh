@@ -21,7 +21,7 @@ here=$(cd "$(dirname "$0")" && pwd)
 top=$(cd "$here/../.." && pwd)
 room=$(mktemp -d)
 trap 'rm -rf "$room"' EXIT
-"$top/bin/hullbook" >/dev/null 2>&1 # builds the program where it is not built for this commit
+hullbook=$("$top/tools/become.sh" --path hullbook) || exit
 
 # Writes the script `grid`, and with answers=1 its report without the ledgers: the calls worker by worker, phase by phase.
 grid() {
@@ -116,18 +116,18 @@ try() {
     "$1" 0 >"$room/script"
     "$1" 1 >"$room/answers"
     calls=$(wc -l <"$room/answers")
-    "$top/bin/hullbook" run "$room/script" --capacity "$2" >"$room/report"
+    "$hullbook" run "$room/script" --capacity "$2" >"$room/report"
     if grep -v '^ledger\|^sum' "$room/report" | cmp -s - "$room/answers"; then
         said "$1, answers" ok
     else
         said "$1, answers" "$(grep -v '^ledger\|^sum' "$room/report" | diff - "$room/answers" | head -n 4)"
     fi
-    "$top/bin/hullbook" run "$room/script" --capacity "$2" --sparing >"$room/sparing"
+    "$hullbook" run "$room/script" --capacity "$2" --sparing >"$room/sparing"
     cmp -s "$room/report" "$room/sparing" && said "$1, by the sparing tree" ok || said "$1, by the sparing tree" 'another report'
     sum=$(tail -n 1 "$room/report")
     [ "$sum" = "sum $calls journal $calls capacity $2" ] && said "$1, sum" ok || said "$1, sum" "$sum"
-    "$top/bin/hullbook" run "$room/script" --capacity "$2" --journal >"$room/journal"
-    verdict=$("$top/bin/hullbook" check "$room/journal" 2>&1)
+    "$hullbook" run "$room/script" --capacity "$2" --journal >"$room/journal"
+    verdict=$("$hullbook" check "$room/journal" 2>&1)
     [ "$verdict" = legal ] && said "$1, journal" ok || said "$1, journal" "$verdict"
 }
 
@@ -138,10 +138,10 @@ list_of() {
 awk -v most=35000 'BEGIN {
     for (k = -most; k <= most; k++) print "0 add " k " " sprintf("%.0f", k * k)
     print "0 vertices" }' >"$room/script"
-"$top/bin/hullbook" run "$room/script" --capacity 131072 --journal >"$room/journal"
+"$hullbook" run "$room/script" --capacity 131072 --journal >"$room/journal"
 corners=$(list_of "$room/journal")
 [ "$corners" = '70001 140002' ] && said 'list, written' ok || said 'list, written' "$corners"
-"$top/bin/hullbook" upgrade "$room/journal" >"$room/again"
+"$hullbook" upgrade "$room/journal" >"$room/again"
 cmp -s "$room/journal" "$room/again" && said 'list, read back' ok || said 'list, read back' "$(list_of "$room/again")"
 
 # Write these scripts. A factor that has no divisor with the number of points goes through all of them.
@@ -202,10 +202,10 @@ chance() {
 # checks the journal of a script NAME within these processor SECONDS, after which it has so many POINTS, where that is known
 hard() {
     "$1" >"$room/script"
-    "$top/bin/hullbook" run "$room/script" --capacity 1000000 --journal >"$room/journal"
+    "$hullbook" run "$room/script" --capacity 1000000 --journal >"$room/journal"
     left=$(awk '/ count = count / { print $NF }' "$room/journal")
     [ "$left" = "${3:-$left}" ] && said "$1, points left" ok || said "$1, points left" "$left"
-    verdict=$(ulimit -t "$2" && "$top/bin/hullbook" check "$room/journal" 2>&1)
+    verdict=$(ulimit -t "$2" && "$hullbook" check "$room/journal" 2>&1)
     [ "$verdict" = legal ] && said "$1, journal within $2 seconds" ok || said "$1, journal within $2 seconds" "$verdict"
 }
 hard squares 15 0

@@ -20,8 +20,7 @@ trap 'rm -rf "$room"' EXIT
 kit=$(dirname "$(rt doc)")
 "$kit/toolchain/bin/clang" --target=x86_64-unknown-linux-gnu -O1 -fPIC -shared -nostdlib -fuse-ld=lld \
     -o "$room/refuse.so" "$here/refuse.c" || exit 1
-"$top/bin/hullbook" >/dev/null 2>&1 # builds the program where it is not built for this commit
-program="$top/crates/hullbook/out/hullbook"
+program=$("$top/tools/become.sh" --path hullbook) || exit
 
 # how many runs in a row have to come out whole: then no request is left
 enough=20

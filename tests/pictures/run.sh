@@ -8,7 +8,7 @@ here=$(cd "$(dirname "$0")" && pwd)
 top=$(cd "$here/../.." && pwd)
 room=$(mktemp -d)
 trap 'rm -rf "$room"' EXIT
-"$top/bin/hulldraw" >/dev/null 2>&1 # builds the program where it is not built for this commit
+hulldraw=$("$top/tools/become.sh" --path hulldraw) || exit
 
 passed=0
 failed=0
@@ -27,10 +27,10 @@ picture() {
     journal="$here/journals/$2.txt"
     shift 2
     if [ "${new:-}" = new ]; then
-        "$top/bin/hulldraw" "$journal" "$@" >"$top/docs/pictures/$name.svg"
+        "$hulldraw" "$journal" "$@" >"$top/docs/pictures/$name.svg"
         return
     fi
-    "$top/bin/hulldraw" "$journal" "$@" >"$room/$name.svg"
+    "$hulldraw" "$journal" "$@" >"$room/$name.svg"
     said "status of $name" $? 0
     cmp -s "$room/$name.svg" "$top/docs/pictures/$name.svg"
     said "picture of $name" $? 0
@@ -66,7 +66,7 @@ awk 'BEGIN {
 count() {
     grep -o "$1" "$room/large.svg" | wc -l
 }
-"$top/bin/hulldraw" "$room/large" --bridges >"$room/large.svg"
+"$hulldraw" "$room/large" --bridges >"$room/large.svg"
 said 'status of the large picture' $? 0
 said 'its corners' "$(grep -c "points='0,2000000 2000000,2000000 2000000,0 0,0 '" "$room/large.svg")" 1
 said 'its dots, one of 26 and the corners' "$(count 'h0')" $((3847 + 4))
@@ -74,7 +74,7 @@ said 'its bridges, of eight levels' "$(count "class='[ul] v[0-7]'")" 510
 said 'its labels' "$(count "class='t'")" 0
 said 'its legend' "$(grep -c '>points 100000 (limit 1048576); one of 26 is drawn<' "$room/large.svg")" 1
 said 'its area' "$(grep -c '>doubled area 8000000000000<' "$room/large.svg")" 1
-"$top/bin/hulldraw" "$room/large" --line 2 >"$room/large.svg"
+"$hulldraw" "$room/large" --line 2 >"$room/large.svg"
 said 'corners after two lines' "$(grep -c "points='0,1000000 2000000,1000000 '" "$room/large.svg")" 1
 
 # N points far apart, two of which are held twice: their labels are written up to 400 points
@@ -87,43 +87,43 @@ points() {
         print "end " n + 2 }' >"$room/points"
 }
 points 400
-"$top/bin/hulldraw" "$room/points" >"$room/large.svg"
+"$hulldraw" "$room/points" >"$room/large.svg"
 said 'the labels of 400 points' "$(count "class='t'")" 2
 points 401
-"$top/bin/hulldraw" "$room/points" >"$room/large.svg"
+"$hulldraw" "$room/points" >"$room/large.svg"
 said 'the labels of 401 points' "$(count "class='t'")" 0
 # the greatest picture, the empty set after no line, and bridges after some
-"$top/bin/hulldraw" "$here/journals/thirty.txt" --size 10000 >"$room/large.svg"
+"$hulldraw" "$here/journals/thirty.txt" --size 10000 >"$room/large.svg"
 said 'status of the greatest picture' $? 0
 said 'its width' "$(count "^<svg [^>]*width='10064'")" 1
-"$top/bin/hulldraw" "$here/journals/thirty.txt" --line 4294967295 --bridges >"$room/large.svg"
+"$hulldraw" "$here/journals/thirty.txt" --line 4294967295 --bridges >"$room/large.svg"
 said 'status of the last line that there may be' $? 0
 cmp -s "$room/large.svg" "$top/docs/pictures/bridges.svg"
 said 'its picture, the whole' $? 0
-"$top/bin/hulldraw" "$here/journals/thirty.txt" --size 240 >"$room/large.svg"
+"$hulldraw" "$here/journals/thirty.txt" --size 240 >"$room/large.svg"
 said 'status of the smallest picture' $? 0
 said 'its width' "$(count "^<svg [^>]*width='304'")" 1
-"$top/bin/hulldraw" "$here/journals/thirty.txt" --line 0 >"$room/large.svg"
+"$hulldraw" "$here/journals/thirty.txt" --line 0 >"$room/large.svg"
 said 'status of no line' $? 0
 said 'the points after no line' "$(count '>points 0 ')" 1
-"$top/bin/hulldraw" "$here/journals/thirty.txt" --line 2 --bridges >"$room/large.svg"
+"$hulldraw" "$here/journals/thirty.txt" --line 2 --bridges >"$room/large.svg"
 said 'status of bridges after two lines' $? 0
 said 'the bridges after two lines' "$(count "class='[ul] v[0-7]'")" 2
 
 # a small film, and one of its first 600 lines
-"$top/bin/hulldraw" "$here/journals/film.txt" --film --size 240 >"$room/large.svg"
+"$hulldraw" "$here/journals/film.txt" --film --size 240 >"$room/large.svg"
 said 'status of a small film' $? 0
 said 'its width' "$(count "^<svg [^>]*width='304'")" 1
-"$top/bin/hulldraw" "$room/large" --film >"$room/large.svg"
+"$hulldraw" "$room/large" --film >"$room/large.svg"
 said 'status of the large film' $? 0
 said 'its frames' "$(grep -c '^<g><set' "$room/large.svg")" 600
 said 'the calls in its captions' "$(count "class='b'> add [-0-9]* [-0-9]*<")" 600
 said 'the replies in its captions' "$(count "class='b'>= added<")" 600
 said 'its title' "$(grep -c '>the first 600 of 100000 calls<' "$room/large.svg")" 1
-"$top/bin/hulldraw" "$here/journals/wrong.txt" --film >"$room/large.svg"
+"$hulldraw" "$here/journals/wrong.txt" --film >"$room/large.svg"
 said 'where a film ends at a wrong line' "$(grep -c 'is wrong' "$room/large.svg")" 1
 # a list that has no room in its line, and a refused point
-"$top/bin/hulldraw" "$here/journals/many.txt" --film >"$room/large.svg"
+"$hulldraw" "$here/journals/many.txt" --film >"$room/large.svg"
 said 'status of a film with a long list' $? 0
 said 'its long list' "$(grep -c '>= list 8 -11000 0 -9999 -9999 0 -11000 &#8230; and 5 more<' "$room/large.svg")" 1
 said 'its refused point' "$(count "<path class='x' d='M11002 10998h0'/>")" 1
@@ -134,7 +134,7 @@ refused() {
     message=$1
     status=$2
     shift 2
-    "$top/bin/hulldraw" "$@" >"$room/output" 2>"$room/error"
+    "$hulldraw" "$@" >"$room/output" 2>"$room/error"
     said "status of $*" $? "$status"
     said "message of $*" "$(cat "$room/error")" "$message"
     said "output of $*" "$(wc -c <"$room/output")" 0
@@ -152,7 +152,7 @@ refused 'hulldraw: usage' 2 "$room/large" --film --line 2
 refused 'hulldraw: usage' 2 "$room/large" --film --bridges
 refused 'hulldraw: open' 3 "$room/absent"
 refused 'hulldraw: line 2: fault 2' 2 "$room/spelling"
-"$top/bin/hulldraw" "$room/large" >/dev/full 2>"$room/error"
+"$hulldraw" "$room/large" >/dev/full 2>"$room/error"
 said 'status on a full device' $? 3
 said 'message on a full device' "$(cat "$room/error")" 'hulldraw: write'
 # each request for memory refused in turn, until twenty runs in a row come out whole: before that nothing is written, with
@@ -160,7 +160,7 @@ said 'message on a full device' "$(cat "$room/error")" 'hulldraw: write'
 kit=$(dirname "$(rt doc)")
 "$kit/toolchain/bin/clang" --target=x86_64-unknown-linux-gnu -O1 -fPIC -shared -nostdlib -fuse-ld=lld \
     -o "$room/refuse.so" "$here/../memory/refuse.c" || exit 1
-program="$top/crates/hulldraw/out/hulldraw"
+program=$hulldraw
 "$program" "$here/journals/thirty.txt" --bridges >"$room/whole"
 number=0
 row=0

@@ -20,12 +20,10 @@ here=$(cd "$(dirname "$0")" && pwd)
 top=$(cd "$here/../.." && pwd)
 rounds=${1:-1}
 seed=${2:-1}
-program=${HULLBOOK:-$top/bin/hullbook}
+program=${HULLBOOK:-$("$top/tools/become.sh" --path hullbook)}
 limit=${LIMIT:-120}
 room=$(mktemp -d)
 trap 'rm -rf "$room"' EXIT
-"$program" >/dev/null 2>&1 # builds the program where it is not built for this commit
-[ -n "${HULLBOOK:-}" ] || program=$top/crates/hullbook/out/hullbook
 kit=$(dirname "$(rt doc)")
 "$kit/toolchain/bin/clang" --target=x86_64-unknown-linux-gnu -O1 -fPIC -shared -nostdlib -fuse-ld=lld \
     -Wno-incompatible-library-redeclaration -o "$room/delay.so" "$here/delay.c" || exit 1

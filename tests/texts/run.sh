@@ -12,8 +12,7 @@ seed=${2:-$(date +%s)}
 room=$(mktemp -d)
 trap 'rm -rf "$room"' EXIT
 kit=$(dirname "$(rt doc)")
-"$top/bin/hullbook" >/dev/null 2>&1 # builds the program where it is not built for this commit
-program="$top/crates/hullbook/out/hullbook"
+program=$("$top/tools/become.sh" --path hullbook) || exit
 
 passed=0
 failed=0
