@@ -19,7 +19,7 @@
  *
  * Each call returns a hull_reply: a code, and what belongs to that code (hull_common.h tells them all); all else is 0. A call
  * that is refused (HULL_OUT_OF_RANGE, HULL_ZERO_DIRECTION, HULL_UNKNOWN_KIND, HULL_TOO_MANY, HULL_NO_MEMORY,
- * HULL_TOO_SMALL) leaves the hull as it was. Changes and most questions take a number of steps that grows with the logarithm
+ * HULL_TOO_SMALL, HULL_OUT_OF_ORDER) leaves the hull as it was. Changes and most questions take a number of steps that grows with the logarithm
  * of the points' number; hull_vertices, hull_area, hull_clear and hull_end take time in proportion to what there is. */
 #ifndef HULL_H
 #define HULL_H
@@ -179,20 +179,29 @@ static inline hull_reply hull_load_or_null(hull_set *h, const hull_point *points
 /* Writes the held points from (x, y) on, in order by x and then y, each with how often it is held, to the front of the array of
  * `room` points, until it is full or there are no more: HULL_NUMBER, how many were written; HULL_OUT_OF_RANGE or HULL_NO_MEMORY.
  * All points are those from (-HULL_COORDINATE_MAX, -HULL_COORDINATE_MAX) on, into a room of hull_count, or a piece at a time, each
- * from hull_held_behind the last point of the one before; the hull may change between two pieces. The array is one as for
- * hull_vertices. */
+ * from hull_held_behind the last point of the one before; the hull may change between two pieces:
+ *
+ *     hull_held piece[1000];
+ *     hull_point at = {-HULL_COORDINATE_MAX, -HULL_COORDINATE_MAX};
+ *     hull_reply r = {.number = 1};
+ *     while (r.number > 0 && at.x <= HULL_COORDINATE_MAX) {
+ *         r = hull_held_from(h, at.x, at.y, piece, 1000);        // HULL_NO_MEMORY ends it: r.code is no HULL_NUMBER then
+ *         for (size_t i = 0; i < r.number; i++) use(piece[i]);
+ *         if (r.number > 0) at = hull_held_behind(piece[r.number - 1]);
+ *     }
+ *
+ * The array is one as for hull_vertices. */
 hull_reply hull_held_from(const hull_set *h, int64_t x, int64_t y, hull_held *out, size_t room);
 static inline hull_reply hull_held_from_or_null(const hull_set *h, int64_t x, int64_t y, hull_held *out, size_t room) {
     return hull_held_from(h, x, y, (hull_held *)hull_array(out, room), room);
 }
 #define hull_held_from hull_held_from_or_null
 
-/* The first place behind a point: where the next piece begins. The last place of all has none behind it, and stays. */
+/* The first place behind a point: where the next piece begins. Behind the last place of all it is one that is out of range,
+ * (HULL_COORDINATE_MAX + 1, -HULL_COORDINATE_MAX), from which there is no piece: HULL_OUT_OF_RANGE. */
 static inline hull_point hull_held_behind(hull_held last) {
-    hull_point next = {last.x, last.y};
-    if (last.y < HULL_COORDINATE_MAX) {
-        next.y++;
-    } else if (last.x < HULL_COORDINATE_MAX) {
+    hull_point next = {last.x, last.y + 1};
+    if (last.y >= HULL_COORDINATE_MAX) {
         next.x++, next.y = -HULL_COORDINATE_MAX;
     }
     return next;
@@ -208,6 +217,13 @@ static inline hull_reply hull_load_held_or_null(hull_set *h, const hull_held *he
 }
 #define hull_load_held hull_load_held_or_null
 
+static inline hull_reply hull_refusal(uint32_t code) {
+    hull_reply r;
+    memset(&r, 0, sizeof r);
+    r.code = code;
+    return r;
+}
+
 /* Holds in `to` just what `from` holds, each point as often, in the place of all that `to` held: HULL_NUMBER, the number of
  * different points; or `to` is as it was: HULL_TOO_MANY (more points than its limit) or HULL_NO_MEMORY. Both are used by one call
  * at a time, as ever. */
@@ -216,9 +232,7 @@ static inline hull_reply hull_copy(hull_set *to, const hull_set *from) {
     size_t count = (size_t)reply.number;
     hull_held *held = (hull_held *)calloc(count + 1, sizeof *held);
     if (held == NULL) {
-        memset(&reply, 0, sizeof reply);
-        reply.code = HULL_NO_MEMORY;
-        return reply;
+        return hull_refusal(HULL_NO_MEMORY);
     }
     reply = hull_held_from(from, -HULL_COORDINATE_MAX, -HULL_COORDINATE_MAX, held, count);
     if (reply.code == HULL_NUMBER) {
@@ -254,11 +268,37 @@ hull_reply hull_clear(hull_set *h);
  * taken of, as that hull was then, in a number of steps that grows with the logarithm of the corners' number (hull_outline_area: in
  * one pass). They write nothing and ask for no memory, so any number of threads may ask one array at once.
  *
- * What the caller must keep, and nothing checks: the array is an outline of at most HULL_LIMIT_MAX corners, one that hull_vertices
- * wrote or hull_is_outline said 1 of, is aligned, and nobody writes it during a call. */
+ * What they are asked, and their answers: of the kinds HULL_KIND_PLACE, _TANGENTS, _EXTREME, _AREA and _VERTICES those of the hull,
+ * and HULL_UNKNOWN_KIND of all others.
+ *
+ * What the caller must keep: the array is an outline of at most HULL_LIMIT_MAX corners, one that hull_vertices
+ * wrote or hull_is_outline said 1 of, is aligned, and nobody writes it during a call. Nothing checks it but a build with HULL_CHECKED
+ * defined (-DHULL_CHECKED): there each of these calls looks at its arrays first, as hull_is_outline does, and answers HULL_NO_OUTLINE
+ * where one is none, or HULL_NO_MEMORY. */
+hull_reply hull_is_outline(const hull_point *points, size_t count);
+
+/* In a checked build why an array can't be asked, else HULL_OK. */
+static inline uint32_t hull_outline_fault(const hull_point *corners, size_t count) {
+#if defined(HULL_CHECKED)
+    hull_reply r = hull_is_outline((const hull_point *)hull_array(corners, count), count);
+    return r.code == HULL_NO_MEMORY ? HULL_NO_MEMORY : r.code == HULL_NUMBER && r.number == 1 ? HULL_OK : HULL_NO_OUTLINE;
+#else
+    (void)corners, (void)count;
+    return HULL_OK;
+#endif
+}
+
+/* The same of two. */
+static inline uint32_t hull_outlines_fault(const hull_point *corners, size_t count, const hull_point *others, size_t other_count) {
+    uint32_t fault = hull_outline_fault(corners, count);
+    return fault != HULL_OK ? fault : hull_outline_fault(others, other_count);
+}
+
 hull_reply hull_outline_call(const hull_point *corners, size_t count, uint32_t kind, int64_t x, int64_t y);
 static inline hull_reply hull_outline_call_or_null(const hull_point *corners, size_t count, uint32_t kind, int64_t x, int64_t y) {
-    return hull_outline_call((const hull_point *)hull_array(corners, count), count, kind, x, y);
+    const uint32_t fault = hull_outline_fault(corners, count);
+    return fault != HULL_OK ? hull_refusal(fault)
+                            : hull_outline_call((const hull_point *)hull_array(corners, count), count, kind, x, y);
 }
 #define hull_outline_call hull_outline_call_or_null
 
@@ -285,6 +325,14 @@ size_t hull_outline_calls(const hull_point *corners, size_t count, const hull_re
                           hull_reply *replies, size_t reply_room);
 static inline size_t hull_outline_calls_or_null(const hull_point *corners, size_t count, const hull_request *requests,
                                                 size_t request_count, hull_reply *replies, size_t reply_room) {
+    const uint32_t fault = hull_outline_fault(corners, count);
+    if (fault != HULL_OK) {
+        size_t made = request_count < reply_room ? request_count : reply_room, i;
+        for (i = 0; i < made; i++) {
+            replies[i] = hull_refusal(fault);
+        }
+        return made;
+    }
     return hull_outline_calls((const hull_point *)hull_array(corners, count), count,
                               (const hull_request *)hull_array(requests, request_count), request_count,
                               (hull_reply *)hull_array(replies, reply_room), reply_room);
@@ -300,7 +348,9 @@ static inline size_t hull_outline_calls_or_null(const hull_point *corners, size_
 hull_reply hull_outline_meets_segment(const hull_point *corners, size_t count, int64_t ax, int64_t ay, int64_t bx, int64_t by);
 static inline hull_reply hull_outline_meets_segment_or_null(const hull_point *corners, size_t count, int64_t ax, int64_t ay,
                                                             int64_t bx, int64_t by) {
-    return hull_outline_meets_segment((const hull_point *)hull_array(corners, count), count, ax, ay, bx, by);
+    const uint32_t fault = hull_outline_fault(corners, count);
+    return fault != HULL_OK ? hull_refusal(fault)
+                            : hull_outline_meets_segment((const hull_point *)hull_array(corners, count), count, ax, ay, bx, by);
 }
 #define hull_outline_meets_segment hull_outline_meets_segment_or_null
 
@@ -310,7 +360,9 @@ static inline hull_reply hull_outline_meets_segment_or_null(const hull_point *co
 hull_reply hull_outline_apart(const hull_point *corners, size_t count, int64_t ax, int64_t ay, int64_t bx, int64_t by);
 static inline hull_reply hull_outline_apart_or_null(const hull_point *corners, size_t count, int64_t ax, int64_t ay, int64_t bx,
                                                     int64_t by) {
-    return hull_outline_apart((const hull_point *)hull_array(corners, count), count, ax, ay, bx, by);
+    const uint32_t fault = hull_outline_fault(corners, count);
+    return fault != HULL_OK ? hull_refusal(fault)
+                            : hull_outline_apart((const hull_point *)hull_array(corners, count), count, ax, ay, bx, by);
 }
 #define hull_outline_apart hull_outline_apart_or_null
 
@@ -319,14 +371,18 @@ static inline hull_reply hull_outline_apart_or_null(const hull_point *corners, s
  * by the squared length of the edge. It takes as many steps as a few questions do. */
 hull_reply hull_outline_nearest(const hull_point *corners, size_t count, int64_t x, int64_t y);
 static inline hull_reply hull_outline_nearest_or_null(const hull_point *corners, size_t count, int64_t x, int64_t y) {
-    return hull_outline_nearest((const hull_point *)hull_array(corners, count), count, x, y);
+    const uint32_t fault = hull_outline_fault(corners, count);
+    return fault != HULL_OK ? hull_refusal(fault)
+                            : hull_outline_nearest((const hull_point *)hull_array(corners, count), count, x, y);
 }
 #define hull_outline_nearest hull_outline_nearest_or_null
 
 /* The smallest box with sides along the axes that holds the outline: HULL_BOX. It takes as many steps as a question does. */
 hull_reply hull_outline_box(const hull_point *corners, size_t count);
 static inline hull_reply hull_outline_box_or_null(const hull_point *corners, size_t count) {
-    return hull_outline_box((const hull_point *)hull_array(corners, count), count);
+    const uint32_t fault = hull_outline_fault(corners, count);
+    return fault != HULL_OK ? hull_refusal(fault)
+                            : hull_outline_box((const hull_point *)hull_array(corners, count), count);
 }
 #define hull_outline_box hull_outline_box_or_null
 
@@ -335,7 +391,9 @@ static inline hull_reply hull_outline_box_or_null(const hull_point *corners, siz
  * is the width along it. HULL_EMPTY, HULL_OUT_OF_RANGE, HULL_ZERO_DIRECTION. It takes as many steps as a question does. */
 hull_reply hull_outline_width(const hull_point *corners, size_t count, int64_t dx, int64_t dy);
 static inline hull_reply hull_outline_width_or_null(const hull_point *corners, size_t count, int64_t dx, int64_t dy) {
-    return hull_outline_width((const hull_point *)hull_array(corners, count), count, dx, dy);
+    const uint32_t fault = hull_outline_fault(corners, count);
+    return fault != HULL_OK ? hull_refusal(fault)
+                            : hull_outline_width((const hull_point *)hull_array(corners, count), count, dx, dy);
 }
 #define hull_outline_width hull_outline_width_or_null
 
@@ -343,7 +401,9 @@ static inline hull_reply hull_outline_width_or_null(const hull_point *corners, s
  * for each corner. */
 hull_reply hull_outline_diameter(const hull_point *corners, size_t count);
 static inline hull_reply hull_outline_diameter_or_null(const hull_point *corners, size_t count) {
-    return hull_outline_diameter((const hull_point *)hull_array(corners, count), count);
+    const uint32_t fault = hull_outline_fault(corners, count);
+    return fault != HULL_OK ? hull_refusal(fault)
+                            : hull_outline_diameter((const hull_point *)hull_array(corners, count), count);
 }
 #define hull_outline_diameter hull_outline_diameter_or_null
 
@@ -361,12 +421,21 @@ typedef struct hull_witness {
     hull_point d;
 } hull_witness;
 
+static inline hull_witness hull_witness_refusal(uint32_t code) {
+    hull_witness w;
+    memset(&w, 0, sizeof w);
+    w.code = code;
+    return w;
+}
+
 /* Where the outline is least wide: HULL_EDGE with an edge from a to b, counterclockwise, and a corner c farthest from it; no direction
  * has a narrower strip. The width squared is the square of (bx - ax) (cy - ay) - (by - ay) (cx - ax), of up to 84 bits, divided by
  * the squared length of the edge. HULL_EMPTY where there are fewer than two corners. A question for each corner. */
 hull_witness hull_outline_least_width(const hull_point *corners, size_t count);
 static inline hull_witness hull_outline_least_width_or_null(const hull_point *corners, size_t count) {
-    return hull_outline_least_width((const hull_point *)hull_array(corners, count), count);
+    const uint32_t fault = hull_outline_fault(corners, count);
+    return fault != HULL_OK ? hull_witness_refusal(fault)
+                            : hull_outline_least_width((const hull_point *)hull_array(corners, count), count);
 }
 #define hull_outline_least_width hull_outline_least_width_or_null
 
@@ -377,7 +446,9 @@ static inline hull_witness hull_outline_least_width_or_null(const hull_point *co
 hull_reply hull_outline_meets(const hull_point *corners, size_t count, const hull_point *others, size_t other_count);
 static inline hull_reply hull_outline_meets_or_null(const hull_point *corners, size_t count, const hull_point *others,
                                                     size_t other_count) {
-    return hull_outline_meets((const hull_point *)hull_array(corners, count), count,
+    const uint32_t fault = hull_outlines_fault(corners, count, others, other_count);
+    return fault != HULL_OK ? hull_refusal(fault)
+                            : hull_outline_meets((const hull_point *)hull_array(corners, count), count,
                               (const hull_point *)hull_array(others, other_count), other_count);
 }
 #define hull_outline_meets hull_outline_meets_or_null
@@ -386,7 +457,9 @@ static inline hull_reply hull_outline_meets_or_null(const hull_point *corners, s
 hull_reply hull_outline_contains(const hull_point *corners, size_t count, const hull_point *others, size_t other_count);
 static inline hull_reply hull_outline_contains_or_null(const hull_point *corners, size_t count, const hull_point *others,
                                                        size_t other_count) {
-    return hull_outline_contains((const hull_point *)hull_array(corners, count), count,
+    const uint32_t fault = hull_outlines_fault(corners, count, others, other_count);
+    return fault != HULL_OK ? hull_refusal(fault)
+                            : hull_outline_contains((const hull_point *)hull_array(corners, count), count,
                                  (const hull_point *)hull_array(others, other_count), other_count);
 }
 #define hull_outline_contains hull_outline_contains_or_null
@@ -395,7 +468,9 @@ static inline hull_reply hull_outline_contains_or_null(const hull_point *corners
 hull_witness hull_outline_witness(const hull_point *corners, size_t count, const hull_point *others, size_t other_count);
 static inline hull_witness hull_outline_witness_or_null(const hull_point *corners, size_t count, const hull_point *others,
                                                         size_t other_count) {
-    return hull_outline_witness((const hull_point *)hull_array(corners, count), count,
+    const uint32_t fault = hull_outlines_fault(corners, count, others, other_count);
+    return fault != HULL_OK ? hull_witness_refusal(fault)
+                            : hull_outline_witness((const hull_point *)hull_array(corners, count), count,
                                 (const hull_point *)hull_array(others, other_count), other_count);
 }
 #define hull_outline_witness hull_outline_witness_or_null
@@ -409,7 +484,9 @@ static inline hull_witness hull_outline_witness_or_null(const hull_point *corner
 hull_witness hull_outline_distance(const hull_point *corners, size_t count, const hull_point *others, size_t other_count);
 static inline hull_witness hull_outline_distance_or_null(const hull_point *corners, size_t count, const hull_point *others,
                                                          size_t other_count) {
-    return hull_outline_distance((const hull_point *)hull_array(corners, count), count,
+    const uint32_t fault = hull_outlines_fault(corners, count, others, other_count);
+    return fault != HULL_OK ? hull_witness_refusal(fault)
+                            : hull_outline_distance((const hull_point *)hull_array(corners, count), count,
                                  (const hull_point *)hull_array(others, other_count), other_count);
 }
 #define hull_outline_distance hull_outline_distance_or_null

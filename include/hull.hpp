@@ -10,30 +10,53 @@
 //     seat.add({3, 4});
 //
 // What a call answers is its value: std::optional where there may be none. What refuses it is an exception, hull::Fault, whose
-// code() tells why; the hull is as it was then. Link with libhull.a, and with libhull_shared.a and the library of threads where
-// SharedHull is used.
+// code() tells why; the hull is as it was then. Without exceptions (-fno-exceptions) a refusal ends the program, and says why. Link
+// with libhull.a, and with libhull_shared.a and the library of threads where SharedHull is used.
 #ifndef HULL_HPP
 #define HULL_HPP
+
+#if defined(_MSVC_LANG) ? _MSVC_LANG < 201703L : __cplusplus < 201703L
+#error "hull.hpp needs C++17 (-std=c++17)"
+#else
 
 #include "hull.h"
 #include "hull_exchange.h"
 #include "hull_shared.h"
 
+#include <algorithm>
+#include <cstdio>
+#include <cstdlib>
+#include <functional>
 #include <memory>
 #include <mutex>
+#include <new>
 #include <optional>
 #include <ostream>
 #include <stdexcept>
 #include <string>
+#include <tuple>
 #include <utility>
 #include <vector>
 
-constexpr bool operator==(const hull_point &a, const hull_point &b) noexcept { return a.x == b.x && a.y == b.y; }
-constexpr bool operator!=(const hull_point &a, const hull_point &b) noexcept { return !(a == b); }
-
 namespace hull {
 
-using Point = hull_point;
+// A point, or a direction, by its coordinates; in order by x and then y.
+struct Point : hull_point {
+    constexpr Point() noexcept : hull_point{0, 0} {}
+    constexpr Point(std::int64_t x, std::int64_t y) noexcept : hull_point{x, y} {}
+    constexpr Point(hull_point p) noexcept : hull_point(p) {}
+};
+static_assert(sizeof(Point) == sizeof(hull_point), "an array of the one is an array of the other");
+
+constexpr bool operator==(const Point &a, const Point &b) noexcept { return a.x == b.x && a.y == b.y; }
+constexpr bool operator!=(const Point &a, const Point &b) noexcept { return !(a == b); }
+constexpr bool operator<(const Point &a, const Point &b) noexcept { return a.x != b.x ? a.x < b.x : a.y < b.y; }
+constexpr bool operator>(const Point &a, const Point &b) noexcept { return b < a; }
+constexpr bool operator<=(const Point &a, const Point &b) noexcept { return !(b < a); }
+constexpr bool operator>=(const Point &a, const Point &b) noexcept { return !(a < b); }
+
+// As (3, -4).
+inline std::ostream &operator<<(std::ostream &out, const Point &p) { return out << '(' << p.x << ", " << p.y << ')'; }
 
 // A point that is held, and how often.
 using Held = hull_held;
@@ -48,12 +71,14 @@ enum class Refusal : std::uint32_t {
     too_many = HULL_TOO_MANY,               // there are as many points as the limit, or the point is held as often as may be
     no_memory = HULL_NO_MEMORY,             // memory was refused
     out_of_order = HULL_OUT_OF_ORDER,       // a held point does not stand behind the one before it, by x and then y
+    no_outline = HULL_NO_OUTLINE,           // the points are not the corners of a hull, in their order
     out_of_limits = HULL_OUT_OF_LIMITS,     // a limit, a capacity or a number of seats is 0 or too great
     no_seat = HULL_NO_SEAT,                 // the seat is out, or there is none of this number
     not_open = HULL_NOT_OPEN,               // the shared hull is closed
     seats_out = HULL_SEATS_OUT,             // a seat of the shared hull is out: it stays open
     full = HULL_FULL,                       // the journal is full: the call was not made
     vacant = HULL_VACANT,                   // the seat was given back, or moved away
+    ended = HULL_ENDED,                     // the hull, shared hull or part was moved away
     no_journal = HULL_NO_JOURNAL,           // the text is none of a journal: number() tells its first line that is wrong, from 1
     old_rules = HULL_OLD_RULES,             // the journal is of version 1 or 2, in which points are not counted
     illegal = HULL_ILLEGAL,                 // the journal is no legal history: number() tells its first line that is wrong, from 1
@@ -62,26 +87,30 @@ enum class Refusal : std::uint32_t {
 
 class Fault : public std::runtime_error {
 public:
-    explicit Fault(Refusal code, std::uint64_t number = 0)
-        : std::runtime_error(words(code) + (number == 0 ? "" : ": " + std::to_string(number))), code_(code), number_(number) {}
+    explicit Fault(Refusal code, std::uint64_t number = 0) : std::runtime_error(""), code_(code), number_(number) {
+        std::snprintf(text_, sizeof text_, number == 0 ? "%s" : "%s: %llu", words(code), static_cast<unsigned long long>(number));
+    }
     Refusal code() const noexcept { return code_; }
     // The line of a text, or how many seats are wanted, where the code says so; else 0.
     std::uint64_t number() const noexcept { return number_; }
+    const char *what() const noexcept override { return text_; }
 
 private:
-    static std::string words(Refusal code) {
+    static const char *words(Refusal code) noexcept {
         switch (code) {
         case Refusal::out_of_range: return "a coordinate is out of range";
         case Refusal::zero_direction: return "a direction is zero";
         case Refusal::too_many: return "there are as many points as the limit, or the point is held as often as may be";
         case Refusal::no_memory: return "memory was refused";
         case Refusal::out_of_order: return "the held points are not in order";
+        case Refusal::no_outline: return "the points are not the corners of a hull, in their order";
         case Refusal::out_of_limits: return "a limit of a hull is out of range";
         case Refusal::no_seat: return "there is no such seat at the hull";
         case Refusal::not_open: return "the hull is closed";
         case Refusal::seats_out: return "a seat of the hull is out";
         case Refusal::full: return "the journal of the hull is full";
         case Refusal::vacant: return "the seat was given back";
+        case Refusal::ended: return "it was moved away";
         case Refusal::no_journal: return "the text is none of a journal, from this line on";
         case Refusal::old_rules: return "points are not counted in journals before version 3";
         case Refusal::illegal: return "the journal is no legal history, from this line of its text on";
@@ -92,6 +121,7 @@ private:
 
     Refusal code_;
     std::uint64_t number_;
+    char text_[128]; // in the exception itself, which so needs no memory
 };
 
 // Where a point lies.
@@ -163,7 +193,51 @@ struct Distance {
 // What a reply tells, as a value; what refuses the call is thrown.
 namespace told {
 
-[[noreturn]] inline void fault(std::uint32_t code) { throw Fault(static_cast<Refusal>(code)); }
+[[noreturn]] inline void fault(std::uint32_t code, std::uint64_t number = 0) {
+    const Fault refused(static_cast<Refusal>(code), number);
+#if defined(__cpp_exceptions)
+    throw refused;
+#else
+    std::fprintf(stderr, "hull: %s\n", refused.what());
+    std::abort();
+#endif
+}
+
+// What `make` makes, which asks for memory: where that is refused, it is told as by the library.
+template <class Make> auto with_memory(Make make) -> decltype(make()) {
+#if defined(__cpp_exceptions)
+    try {
+        return make();
+    } catch (const std::bad_alloc &) {
+        fault(HULL_NO_MEMORY);
+    } catch (const std::length_error &) { // more than there ever is
+        fault(HULL_NO_MEMORY);
+    }
+#else
+    return make();
+#endif
+}
+
+template <class Vector> void resize(Vector &array, std::uint64_t length) {
+    with_memory([&] { array.resize(static_cast<std::size_t>(length)); });
+}
+
+// The text that `write`, a call with an array and its length, writes.
+template <class Write> std::string text(Write write) {
+    std::string out;
+    resize(out, 1);
+    for (;;) {
+        const hull_reply r = write(reinterpret_cast<std::uint8_t *>(&out[0]), out.size());
+        if (r.code == HULL_TEXT) {
+            out.resize(static_cast<std::size_t>(r.number)); // no longer than it was
+            return out;
+        }
+        if (r.code != HULL_TOO_SMALL) {
+            fault(r.code);
+        }
+        resize(out, r.number);
+    }
+}
 
 inline std::uint32_t times_added(const hull_reply &r) {
     switch (r.code) {
@@ -265,15 +339,41 @@ inline std::optional<Distance> distance(const hull_witness &w) {
 
 // The corners that `ask`, a call with an array and its length, writes; asked again with room for all where there are more.
 template <class Ask> std::vector<Point> corners(std::size_t room, Ask ask) {
-    std::vector<Point> out(room > 0 ? room : 1);
+    std::vector<Point> out;
+    resize(out, room > 0 ? room : 1);
     for (;;) {
         const hull_reply r = ask(out.data(), out.size());
         if (r.code != HULL_TOO_SMALL) {
             out.resize(static_cast<std::size_t>(number(r)));
             return out;
         }
-        out.resize(static_cast<std::size_t>(r.number + r.number / 8));
+        resize(out, r.number + r.number / 8);
     }
+}
+
+// One kind of call at each of the points, in their order: `serve` makes some of them, and tells how many it made; `each` takes a reply.
+template <class Serve, class Each>
+void at_each(std::uint32_t kind, const std::vector<Point> &points, Serve serve, Each each) {
+    constexpr std::size_t at_once = 256;
+    hull_request requests[at_once] = {};
+    hull_reply replies[at_once] = {};
+    for (std::size_t first = 0; first < points.size(); first += at_once) {
+        const std::size_t count = std::min(at_once, points.size() - first);
+        for (std::size_t i = 0; i < count; i++) {
+            requests[i] = {kind, points[first + i].x, points[first + i].y};
+        }
+        const std::size_t made = serve(requests, replies, count);
+        std::for_each(replies, replies + made, each);
+    }
+}
+
+// What `tell` makes of each of the replies.
+template <class Answer, class Serve, class Tell>
+std::vector<Answer> all(std::uint32_t kind, const std::vector<Point> &points, Serve serve, Tell tell) {
+    std::vector<Answer> answers;
+    with_memory([&] { answers.reserve(points.size()); });
+    at_each(kind, points, serve, [&](const hull_reply &r) { answers.push_back(tell(r)); });
+    return answers;
 }
 
 } // namespace told
@@ -281,15 +381,21 @@ template <class Ask> std::vector<Point> corners(std::size_t room, Ask ask) {
 // The corners of a hull, as Hull::vertices tells them, to be asked as that hull was when they were taken. Nothing of it is written by
 // a question: any number of threads ask one outline at once.
 class Outline {
+    auto serve() const {
+        return [this](const hull_request *requests, hull_reply *replies, std::size_t count) {
+            return hull_outline_calls(data(), corners_.size(), requests, count, replies, count);
+        };
+    }
+
 public:
     // The outline of no point.
     Outline() = default;
 
     // The outline of these corners: counterclockwise from the first by x and then by y, none inside an edge, at most
-    // HULL_LIMIT_MAX; std::invalid_argument where they are not.
+    // HULL_LIMIT_MAX; Refusal::no_outline where they are not.
     explicit Outline(std::vector<Point> corners) : corners_(std::move(corners)) {
         if (told::number(hull_is_outline(data(), corners_.size())) != 1) {
-            throw std::invalid_argument("the points are not the corners of a hull, in their order");
+            told::fault(HULL_NO_OUTLINE);
         }
     }
 
@@ -313,6 +419,20 @@ public:
 
     // Twice the area, 0 for a point and a line.
     Area doubled_area() const { return told::number(hull_outline_area(data(), corners_.size())); }
+
+    // Each of many points, or directions, in their order.
+    std::vector<Place> place_all(const std::vector<Point> &points) const {
+        return told::all<Place>(HULL_KIND_PLACE, points, serve(), told::place);
+    }
+    std::vector<std::optional<Tangents>> tangents_all(const std::vector<Point> &points) const {
+        return told::all<std::optional<Tangents>>(HULL_KIND_TANGENTS, points, serve(), told::tangents);
+    }
+    std::vector<std::optional<Point>> extreme_all(const std::vector<Point> &directions) const {
+        return told::all<std::optional<Point>>(HULL_KIND_EXTREME, directions, serve(), told::extreme);
+    }
+
+    friend bool operator==(const Outline &a, const Outline &b) noexcept { return a.corners_ == b.corners_; }
+    friend bool operator!=(const Outline &a, const Outline &b) noexcept { return !(a == b); }
 
     // Whether the outline and the segment from `a` to `b`, which may be one point, have a point in common.
     bool meets_segment(Point a, Point b) const {
@@ -371,107 +491,158 @@ public:
     }
 
 private:
-    // an array of no corners has a place in memory, too
-    const Point *data() const noexcept {
-        static constexpr Point none{0, 0};
-        return corners_.empty() ? &none : corners_.data();
-    }
+    const Point *data() const noexcept { return corners_.data(); }
     std::vector<Point> corners_;
 };
 
 // A hull, which holds each of its points at least once; questions are over the points, each taken once. It may go to another
-// thread, and be used by one at a time; that goes for const calls, too. One that was moved from can be assigned to or end.
+// thread, and be used by one at a time; that goes for const calls, too. One that was moved from can be assigned to or end: its calls are
+// refused (Refusal::ended).
 class Hull {
+    auto serve() const {
+        return [h = alive()](const hull_request *requests, hull_reply *replies, std::size_t count) {
+            return hull_calls(h, requests, count, replies, count);
+        };
+    }
+
 public:
     // An empty hull for at most `limit` different points, 1 to HULL_LIMIT_MAX.
     explicit Hull(std::uint32_t limit = HULL_LIMIT_MAX) : at_(hull_new(limit)) {
         if (!at_) {
             const bool is_limit = limit >= 1 && limit <= HULL_LIMIT_MAX;
-            throw Fault(is_limit ? Refusal::no_memory : Refusal::out_of_limits);
+            told::fault(is_limit ? HULL_NO_MEMORY : HULL_OUT_OF_LIMITS);
         }
     }
 
+    // A hull of the points of a range, each as often as it stands there.
+    template <class Iterator>
+    Hull(Iterator first, Iterator last, std::uint32_t limit = HULL_LIMIT_MAX) : Hull(limit) {
+        load(first, last);
+    }
+
     // Holds a point once more; how often it is held now: 1 where it is new.
-    std::uint32_t add(Point p) { return told::times_added(hull_add(get(), p.x, p.y)); }
+    std::uint32_t add(Point p) { return told::times_added(hull_add(alive(), p.x, p.y)); }
 
     // Holds a point once less; how often it is still held, none where it was not there.
-    std::optional<std::uint32_t> remove(Point p) { return told::times_left(hull_remove(get(), p.x, p.y)); }
+    std::optional<std::uint32_t> remove(Point p) { return told::times_left(hull_remove(alive(), p.x, p.y)); }
 
     // Holds just these points, each as often as it stands there, in the place of all that was held, in a small part of the
     // time that adding them takes; how many different points that are.
     std::size_t load(const std::vector<Point> &points) {
-        const Point none{0, 0};
-        const Point *first = points.empty() ? &none : points.data();
-        return static_cast<std::size_t>(told::number(hull_load(get(), first, points.size())));
+        return static_cast<std::size_t>(told::number(hull_load(alive(), points.data(), points.size())));
+    }
+    template <class Iterator> std::size_t load(Iterator first, Iterator last) {
+        return load(told::with_memory([&] { return std::vector<Point>(first, last); }));
     }
 
     // Holds just these points, which stand in order by x and then y, each as often as it says, in the place of all that was held:
     // what `held` told, of this hull or another.
     void load_held(const std::vector<Held> &points) {
-        const Held none{0, 0, 1};
-        told::number(hull_load_held(get(), points.empty() ? &none : points.data(), points.size()));
+        told::number(hull_load_held(alive(), points.data(), points.size()));
     }
 
     // The points that are held, in order by x and then y, each with how often.
     std::vector<Held> held() const {
-        std::vector<Held> all(size() + 1);
+        std::vector<Held> all;
+        told::resize(all, size());
         all.resize(static_cast<std::size_t>(
-            told::number(hull_held_from(get(), -HULL_COORDINATE_MAX, -HULL_COORDINATE_MAX, all.data(), all.size()))));
+            told::number(hull_held_from(alive(), -HULL_COORDINATE_MAX, -HULL_COORDINATE_MAX, all.data(), all.size()))));
         return all;
     }
 
     // Another hull that holds the same, each point as often, with the same limit.
     Hull copy() const {
         Hull other(limit());
-        told::number(hull_copy(other.get(), get()));
+        told::number(hull_copy(other.alive(), alive()));
         return other;
     }
 
     // Lets all points go. The limit stays.
-    void clear() { hull_clear(get()); }
+    void clear() { hull_clear(alive()); }
 
-    Place place(Point p) const { return told::place(hull_place(get(), p.x, p.y)); }
+    // Holds each of the points once more, in their order; for each how often it is held then, 0 where it was refused, since there are
+    // too many or for want of memory: those behind it are added still. Refusal::out_of_range of any of them leaves the hull as it was.
+    std::vector<std::uint32_t> add_all(const std::vector<Point> &points) {
+        check(points);
+        return told::all<std::uint32_t>(HULL_KIND_ADD, points, serve(), [](const hull_reply &r) {
+            return r.code == HULL_TOO_MANY || r.code == HULL_NO_MEMORY ? 0 : told::times_added(r);
+        });
+    }
+
+    // Holds each of the points once less, in their order; how many of them were there. Refusal::out_of_range as for add_all.
+    std::size_t remove_all(const std::vector<Point> &points) {
+        check(points);
+        std::size_t there = 0;
+        told::at_each(HULL_KIND_REMOVE, points, serve(), [&](const hull_reply &r) { there += told::times_left(r).has_value(); });
+        return there;
+    }
+
+    // Each of many points, or directions, in their order.
+    std::vector<Place> place_all(const std::vector<Point> &points) const {
+        return told::all<Place>(HULL_KIND_PLACE, points, serve(), told::place);
+    }
+    std::vector<std::optional<Tangents>> tangents_all(const std::vector<Point> &points) const {
+        return told::all<std::optional<Tangents>>(HULL_KIND_TANGENTS, points, serve(), told::tangents);
+    }
+    std::vector<std::optional<Point>> extreme_all(const std::vector<Point> &directions) const {
+        return told::all<std::optional<Point>>(HULL_KIND_EXTREME, directions, serve(), told::extreme);
+    }
+
+    Place place(Point p) const { return told::place(hull_place(alive(), p.x, p.y)); }
 
     // The tangent points seen from a point, of several on one line the farthest; none where there is no point, or the hull
     // covers the one asked about.
-    std::optional<Tangents> tangents(Point p) const { return told::tangents(hull_tangents(get(), p.x, p.y)); }
+    std::optional<Tangents> tangents(Point p) const { return told::tangents(hull_tangents(alive(), p.x, p.y)); }
 
     // The point that lies farthest in a direction, of several the first by x and then by y; none where there is none.
     std::optional<Point> extreme(Point direction) const {
-        return told::extreme(hull_extreme(get(), direction.x, direction.y));
+        return told::extreme(hull_extreme(alive(), direction.x, direction.y));
     }
 
     // The same in a direction of two doubles, as Outline::extreme_d.
-    std::optional<Point> extreme_d(double dx, double dy) const { return told::extreme(hull_extreme_d(get(), dx, dy)); }
+    std::optional<Point> extreme_d(double dx, double dy) const { return told::extreme(hull_extreme_d(alive(), dx, dy)); }
 
     // How often a point is held: 0 where it is not there.
     std::uint32_t multiplicity(Point p) const {
-        return static_cast<std::uint32_t>(told::number(hull_multiplicity(get(), p.x, p.y)));
+        return static_cast<std::uint32_t>(told::number(hull_multiplicity(alive(), p.x, p.y)));
     }
 
     // The corners, counterclockwise from the first by x and then by y, each once and none inside an edge.
     std::vector<Point> vertices() const {
-        return told::corners(64, [this](Point *out, std::size_t room) { return hull_vertices(get(), out, room); });
+        return told::corners(64, [this](Point *out, std::size_t room) { return hull_vertices(alive(), out, room); });
     }
 
     // The outline that the hull has now.
     Outline outline() const { return Outline(vertices()); }
 
     // Twice the area, 0 for a point and a line.
-    Area doubled_area() const { return told::number(hull_area(get())); }
+    Area doubled_area() const { return told::number(hull_area(alive())); }
 
     // How many different points there are.
-    std::size_t size() const { return static_cast<std::size_t>(hull_count(get()).number); }
+    std::size_t size() const { return static_cast<std::size_t>(hull_count(alive()).number); }
     bool empty() const { return size() == 0; }
 
     // How many different points the hull takes.
-    std::uint32_t limit() const { return static_cast<std::uint32_t>(hull_limit(get()).number); }
+    std::uint32_t limit() const { return static_cast<std::uint32_t>(hull_limit(alive()).number); }
 
-    // The hull of hull.h.
+    // The hull of hull.h; null where it was moved away.
     hull_set *get() noexcept { return at_.get(); }
     const hull_set *get() const noexcept { return at_.get(); }
 
 private:
+    hull_set *alive() const {
+        if (!at_) {
+            told::fault(HULL_ENDED);
+        }
+        return at_.get();
+    }
+    static void check(const std::vector<Point> &points) {
+        for (const Point &p : points) {
+            if (std::max(p.x, p.y) > HULL_COORDINATE_MAX || std::min(p.x, p.y) < -HULL_COORDINATE_MAX) {
+                told::fault(HULL_OUT_OF_RANGE);
+            }
+        }
+    }
     struct End {
         void operator()(hull_set *h) const noexcept { hull_free(h); }
     };
@@ -491,7 +662,7 @@ class Desk {
 public:
     Desk() : at_(hull_shared_desk_new()) {
         if (at_ == nullptr) {
-            throw Fault(Refusal::no_memory);
+            told::fault(HULL_NO_MEMORY);
         }
         hull_shared_line_init(&line_, 1);
     }
@@ -516,21 +687,17 @@ class JournalPart {
 public:
     // The text of the lines, which has the number of the first as its own first number.
     std::string text() const {
-        std::vector<std::uint8_t> text(static_cast<std::size_t>(hull_shared_part_text_size(at_.get()).number));
-        const hull_reply r = hull_shared_part_text(at_.get(), text.data(), text.size());
-        if (r.code != HULL_TEXT) {
-            told::fault(r.code);
-        }
-        return std::string(text.begin(), text.end());
+        return told::text([at = alive()](std::uint8_t *out, std::size_t room) { return hull_shared_part_text(at, out, room); });
     }
 
     // Writes that text to a stream, some thousand bytes at a time: no more than those and the longest line are in memory.
     void write_to(std::ostream &out) const {
-        std::vector<std::uint8_t> piece(1 << 16);
+        std::vector<std::uint8_t> piece;
+        told::resize(piece, 1 << 16);
         for (std::uint64_t line = 0;;) {
-            const hull_reply r = hull_shared_part_text_from(at_.get(), line, piece.data(), piece.size());
+            const hull_reply r = hull_shared_part_text_from(alive(), line, piece.data(), piece.size());
             if (r.code == HULL_TOO_SMALL) {
-                piece.resize(static_cast<std::size_t>(r.number));
+                told::resize(piece, r.number);
                 continue;
             }
             if (r.code != HULL_TEXT) {
@@ -554,8 +721,14 @@ private:
     };
     explicit JournalPart(std::uint32_t lines) : at_(hull_shared_part_new()) {
         if (!at_ || hull_shared_part_reserve(at_.get(), lines) != HULL_RESERVED) {
-            throw Fault(Refusal::no_memory);
+            told::fault(HULL_NO_MEMORY);
         }
+    }
+    hull_shared_part *alive() const {
+        if (!at_) {
+            told::fault(HULL_ENDED);
+        }
+        return at_.get();
     }
     std::unique_ptr<hull_shared_part, End> at_;
 };
@@ -602,7 +775,7 @@ public:
     // the last. The room for them is asked for before: Refusal::no_memory, and then no call is made.
     JournalPart drain() {
         if (!at_) {
-            throw Fault(Refusal::vacant);
+            told::fault(HULL_VACANT);
         }
         JournalPart part(hull_shared_capacity(at_.get()));
         told_of(hull_shared_drain(&desk_->line_, at_.get(), part.at_.get(), HULL_KIND_COUNT, 0, 0));
@@ -628,7 +801,7 @@ private:
     Seat(std::shared_ptr<Desk> desk, std::uint32_t number) : desk_(std::move(desk)), number_(number) {
         std::unique_ptr<hull_shared_seat, Free> at(hull_shared_seat_new());
         if (!at) {
-            throw Fault(Refusal::no_memory);
+            told::fault(HULL_NO_MEMORY);
         }
         const std::lock_guard<std::mutex> lock(desk_->lock_);
         const std::uint32_t code = hull_shared_lend(desk_->at_, at.get(), number);
@@ -640,7 +813,7 @@ private:
 
     hull_reply call(std::uint32_t kind, Point p, Point *out = nullptr, std::size_t room = 0) {
         if (!at_) {
-            throw Fault(Refusal::vacant);
+            told::fault(HULL_VACANT);
         }
         const hull_shared_target to = {out, room, nullptr};
         return told_of(hull_shared_call_into(&desk_->line_, at_.get(), kind, p.x, p.y, to));
@@ -667,54 +840,60 @@ private:
 // The hull may be moved, and used by several threads at once.
 class SharedHull {
 public:
-    explicit SharedHull(Limits limits) : desk_(std::make_shared<Desk>()) {
-        const std::uint32_t code =
-            hull_shared_open(desk_->at_, limits.points, limits.first, limits.capacity, limits.seats);
-        if (code != HULL_OPEN) {
-            told::fault(code);
-        }
+    explicit SharedHull(Limits limits) : SharedHull(new_desk()) {
+        opened(hull_shared_open(desk_->at_, limits.points, limits.first, limits.capacity, limits.seats));
     }
     SharedHull(SharedHull &&) noexcept = default;
     SharedHull &operator=(SharedHull &&) noexcept = default;
 
+    // The same, but the line of each call is let go with its answer: the text of the journal has none. limits.capacity is not read.
+    static SharedHull open_without_journal(Limits limits) {
+        SharedHull hull(new_desk());
+        opened(hull_shared_open_without_journal(hull.desk_->at_, limits.points, limits.first, limits.seats));
+        return hull;
+    }
+
     // A hull that goes on where a journal ends, with the points that it left: `text` is the journal's, whole, whose lines count as
     // taken out. Refusal::no_journal, old_rules, too_few_seats, illegal, and those of opening.
     static SharedHull reopen(const std::string &text, std::uint32_t capacity, std::uint32_t seats) {
-        SharedHull hull(std::make_shared<Desk>());
+        SharedHull hull(new_desk());
         const hull_reply r = hull_shared_reopen(hull.desk_->at_, reinterpret_cast<const std::uint8_t *>(text.data()),
                                                 text.size(), capacity, seats);
-        if (r.code != HULL_OPEN) {
-            throw Fault(static_cast<Refusal>(r.code), r.number);
-        }
+        opened(r.code, r.number);
         return hull;
     }
 
     // Lends the seat of a number, 0 and up.
-    Seat lend(std::uint32_t number) { return Seat(desk_, number); }
+    Seat lend(std::uint32_t number) { return Seat(desk(), number); }
 
     // Closes the hull, unless it is closed; the text of its journal, which the program hullbook judges. Refusal::seats_out
-    // where a seat is out: the hull stays open.
+    // where a seat is out: the hull stays open. Refusal::no_memory where there is none for the text: this may be called again.
     std::string close() {
-        const std::lock_guard<std::mutex> lock(desk_->lock_);
+        const std::lock_guard<std::mutex> lock(desk()->lock_);
         const std::uint32_t code = hull_shared_close(desk_->at_);
         if (code != HULL_CLOSED && code != HULL_NOT_OPEN) {
             told::fault(code);
         }
-        std::vector<std::uint8_t> text(1);
-        for (;;) {
-            const hull_reply r = hull_shared_text(desk_->at_, text.data(), text.size());
-            if (r.code == HULL_TEXT) {
-                return std::string(text.begin(), text.begin() + static_cast<std::ptrdiff_t>(r.number));
-            }
-            if (r.code != HULL_TOO_SMALL) {
-                told::fault(r.code);
-            }
-            text.resize(static_cast<std::size_t>(r.number));
-        }
+        return told::text([this](std::uint8_t *out, std::size_t room) { return hull_shared_text(desk_->at_, out, room); });
     }
 
 private:
     explicit SharedHull(std::shared_ptr<Desk> desk) : desk_(std::move(desk)) {}
+
+    static std::shared_ptr<Desk> new_desk() {
+        return told::with_memory([] { return std::make_shared<Desk>(); });
+    }
+    static void opened(std::uint32_t code, std::uint64_t number = 0) {
+        if (code != HULL_OPEN) {
+            told::fault(code, number);
+        }
+    }
+    const std::shared_ptr<Desk> &desk() const {
+        if (!desk_) {
+            told::fault(HULL_ENDED);
+        }
+        return desk_;
+    }
 
     std::shared_ptr<Desk> desk_;
 };
@@ -729,7 +908,7 @@ struct Lattice {
         Point p{0, 0};
         const hull_rounding at_x = hull_from_double(x, power, &p.x), at_y = hull_from_double(y, power, &p.y);
         if (at_x == HULL_NO_COORDINATE || at_y == HULL_NO_COORDINATE) {
-            throw Fault(Refusal::out_of_range);
+            told::fault(HULL_OUT_OF_RANGE);
         }
         if (rounded != nullptr && (at_x == HULL_ROUNDED || at_y == HULL_ROUNDED)) {
             *rounded = true;
@@ -749,7 +928,7 @@ inline Point direction_of(double dx, double dy, bool *rounded = nullptr) {
     Point d{0, 0};
     const hull_rounding told = hull_direction_from_doubles(dx, dy, &d.x, &d.y);
     if (told == HULL_NO_COORDINATE) {
-        throw Fault(Refusal::out_of_range);
+        told::fault(HULL_OUT_OF_RANGE);
     }
     if (rounded != nullptr && told == HULL_ROUNDED) {
         *rounded = true;
@@ -759,11 +938,22 @@ inline Point direction_of(double dx, double dy, bool *rounded = nullptr) {
 
 // Corners as well-known text, their coordinates divided by 2^power: as hull_wkt tells it.
 inline std::string wkt(const std::vector<Point> &corners, int power = 0) {
-    std::string text(hull_wkt(corners.data(), corners.size(), power, nullptr, 0), ' ');
+    std::string text;
+    told::resize(text, hull_wkt(corners.data(), corners.size(), power, nullptr, 0));
     hull_wkt(corners.data(), corners.size(), power, &text[0], text.size() + 1);
     return text;
 }
 
 } // namespace hull
 
+template <> struct std::hash<hull::Point> {
+    std::size_t operator()(const hull::Point &p) const noexcept {
+        // multiplied by an odd number near the golden ratio of 2^64 (Knuth, The Art of Computer Programming 3, 6.4)
+        const std::uint64_t x = static_cast<std::uint64_t>(p.x) * UINT64_C(0x9E3779B97F4A7C15);
+        const std::uint64_t both = (x ^ x >> 32) + static_cast<std::uint64_t>(p.y);
+        return static_cast<std::size_t>(both * UINT64_C(0x9E3779B97F4A7C15) >> 8);
+    }
+};
+
+#endif
 #endif

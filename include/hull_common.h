@@ -96,7 +96,9 @@ typedef enum hull_code {
                               * 2 a number, 3 a coordinate, 4 a seat, 5 a word, 6 the text ends before its end line, 7 no header */
     HULL_OLD_RULES = 58,     /* the journal is of version 1 or 2, in which points are not counted: it can't be gone on with */
     HULL_ILLEGAL = 59,       /* the journal is no legal history: line `number` of its text, from 1, is the first that is not right */
-    HULL_TOO_FEW_SEATS = 60  /* the journal has lines by `number` seats (0 to `number` - 1), more than were asked for */
+    HULL_TOO_FEW_SEATS = 60, /* the journal has lines by `number` seats (0 to `number` - 1), more than were asked for */
+
+    HULL_NO_OUTLINE = 61     /* the array is no outline; told in a checked build alone (HULL_CHECKED in hull.h) */
 } hull_code;
 
 /* What a call was answered: a code (hull_code), and what belongs to it (told above); all else is 0. */
@@ -187,6 +189,7 @@ static inline const char *hull_code_name(uint32_t code) {
     case HULL_OLD_RULES: return "HULL_OLD_RULES";
     case HULL_ILLEGAL: return "HULL_ILLEGAL";
     case HULL_TOO_FEW_SEATS: return "HULL_TOO_FEW_SEATS";
+    case HULL_NO_OUTLINE: return "HULL_NO_OUTLINE";
     default: return "no code";
     }
 }

@@ -8,9 +8,9 @@
 A hull holds points, each at least once; questions are over the points, each taken once. A coordinate is a whole number
 from -COORDINATE_LIMIT to COORDINATE_LIMIT. Many points at once are a list of pairs, or an array of integers in two
 columns, a point in each row: one of numpy, whose answers are then arrays of numpy too, or any other that shows its
-memory so (the buffer protocol). Arrays of floats and bools, masked ones, and those of two rows and another number of
-columns than two are refused. A call that raises leaves the hull as it was. Calls on one hull from several threads wait
-for each other.
+memory so (the buffer protocol, as arrays of ctypes). Arrays of floats and bools, masked ones, and those of two rows and
+another number of columns than two are refused. A call that raises leaves the hull as it was. Calls on one hull from
+several threads wait for each other; a signal's handler and a `__del__` may make calls on any hull.
 
     from hull import SharedHull
     with SharedHull(capacity=1000, seats=2) as shared:
@@ -20,32 +20,62 @@ for each other.
 
 Coordinates that are floats come to the lattice by a power of two that the caller names:
 
-    from hull import from_floats, to_floats
+    from hull import FloatHull, from_floats, to_floats
     points, rounded = from_floats([(0.5, 1.25), (0.1, 3)], power=20)     # rounded is 1: 0.1 is between two
     to_floats(Hull(points).vertices(), power=20)                         # pairs of floats again
     Hull(points).wkt(power=20)                                           # "LINESTRING (..)", "POLYGON ((..))"
+    FloatHull([(0.5, 1.25), (0.1, 3)], power=20).area()                  # or all in floats
+
+A hull lives as long as something refers to it: it ends behind the last `__del__` of a cycle that it is in, and behind
+all `atexit` handlers. A child of a fork has the hulls of its parent; one in which another thread was just then, and
+each SharedHull, is ended there: calls raise Ended.
 
 The calls go to the shared objects `libhull.so` and `libhull_shared.so` (loaded for the first SharedHull), which
 `bin/install` links from the archives and puts beside this file; the variables HULL_LIBRARY and HULL_SHARED_LIBRARY of
 the environment may name others. It runs under Python 3.8 and later.
 """
+from __future__ import annotations
+
 import ctypes
 import enum
 import functools
+import importlib
 import itertools
 import math
 import operator
 import os
 import sys
-import threading
-import weakref
 from array import array
-from typing import NamedTuple
+from collections.abc import Mapping
+from fractions import Fraction
+from typing import Any, Callable, Dict, Iterable, Iterator, List, NamedTuple, NoReturn, Optional, Protocol, Sequence
+from typing import SupportsIndex, Tuple, Union, overload
 
 if sys.version_info < (3, 8):
     raise ImportError("the module hull needs Python 3.8 or later")
 
 __version__ = "1.0.0"
+__all__ = [
+    "CAPACITY_LIMIT", "COORDINATE_LIMIT", "MULTIPLICITY_LIMIT", "POINT_LIMIT", "SEAT_LIMIT", "Ended", "FloatHull", "Hull",
+    "JournalFault", "JournalFull", "JournalPart", "Lattice", "NoSeat", "OutOfRange", "Outline", "Place", "Seat", "SeatsOut",
+    "SharedHull", "Shows", "TooMany", "Witness", "ZeroDirection", "direction_of", "from_floats", "to_floats", "wkt",
+]
+
+#: A point, and one that is held with how often it is.
+Pair = Tuple[int, int]
+Item = Tuple[Pair, int]
+#: Points that a caller hands over.
+Points = Iterable[Tuple[SupportsIndex, SupportsIndex]]
+#: A point in floats.
+Floats = Tuple[float, float]
+
+
+class _Array(Protocol):
+    """An array that has a shape, as those of numpy and what `memoryview` makes of others."""
+
+    @property
+    def shape(self) -> Any: ...
+
 
 #: The greatest size of a coordinate, of a point and of a direction: 2^40.
 COORDINATE_LIMIT = 1 << 40
@@ -81,6 +111,10 @@ class SeatsOut(RuntimeError):
 
 class JournalFull(RuntimeError):
     """The journal of the shared hull is full: the call was not made."""
+
+
+class Ended(RuntimeError):
+    """This process is the child of a fork, in which the hull can't be used: another thread was in it, or it is a shared one."""
 
 
 class JournalFault(ValueError):
@@ -119,12 +153,15 @@ class _Code(enum.IntEnum):
     EDGE = 27
     BOX = 28
     POINTS = 31
+    OPEN = 32
     OUT_OF_LIMITS = 33
     NO_SEAT = 36
     NOT_OPEN = 38
     VACANT = 40
     FULL = 46
     SEATS_OUT = 47
+    TEXT = 50
+    ENDED = 51
     NO_JOURNAL = 57
     OLD_RULES = 58
     ILLEGAL = 59
@@ -148,22 +185,34 @@ class _Kind(enum.IntEnum):
 class _Reply(ctypes.Structure):
     _fields_ = [("code", ctypes.c_uint32), ("x", ctypes.c_int64), ("y", ctypes.c_int64), ("other_x", ctypes.c_int64),
                 ("other_y", ctypes.c_int64), ("number", ctypes.c_uint64), ("high", ctypes.c_uint64)]
+    code: int
+    x: int
+    y: int
+    other_x: int
+    other_y: int
+    number: int
+    high: int
 
 
 class _Held(ctypes.Structure):
     _fields_ = [("x", ctypes.c_int64), ("y", ctypes.c_int64), ("times", ctypes.c_uint32)]
+    x: int
+    y: int
+    times: int
 
 
 class _Witness(ctypes.Structure):
     _fields_ = [("code", ctypes.c_uint32), ("a", ctypes.c_int64 * 2), ("b", ctypes.c_int64 * 2), ("c", ctypes.c_int64 * 2),
                 ("d", ctypes.c_int64 * 2)]
+    code: int
+
+    def point(self, name: str) -> Pair:
+        """The point of this name."""
+        x, y = getattr(self, name)
+        return x, y
 
 
-class _SeatReply(ctypes.Structure):
-    _fields_ = [("told", _Reply), ("turn", ctypes.c_uint64)]
-
-
-_FAULTS = {
+_FAULTS: Dict[int, Callable[[], Exception]] = {
     _Code.OUT_OF_RANGE: lambda: OutOfRange("a coordinate is out of range"),
     _Code.ZERO_DIRECTION: lambda: ZeroDirection("a direction is zero"),
     _Code.TOO_MANY: lambda: TooMany("there are as many points as the limit, or the point is held as often as may be"),
@@ -175,111 +224,131 @@ _FAULTS = {
     _Code.VACANT: lambda: ValueError("the seat was given back"),
     _Code.SEATS_OUT: lambda: SeatsOut("a seat of the hull is out"),
     _Code.FULL: lambda: JournalFull("the journal of the hull is full"),
+    _Code.ENDED: lambda: Ended("the hull was ended by a fork"),
 }
 
 
-#: What a call of a seat may be answered with no line in the journal.
-_UNSERVED = frozenset((_Code.OUT_OF_RANGE, _Code.ZERO_DIRECTION, _Code.VACANT, _Code.FULL))
+def _out_of_range() -> Exception:
+    """The fault of a coordinate that is."""
+    return _FAULTS[_Code.OUT_OF_RANGE]()
 
 
-def _told(code):
+def _told(code: int) -> None:
     """Raises the fault of a code that is one's."""
     fault = _FAULTS.get(code)
     if fault is not None:
         raise fault()
 
 
-def _load(file, variable, prefix, functions):
+def _refused(code: int) -> NoReturn:
+    """Raises the fault of a code that is none of a call's answers."""
+    _told(code)
+    raise RuntimeError(f"the library answered {code}")
+
+
+def _load(file: str, variable: str, functions: Sequence[Tuple[str, List[Any], Any]]) -> ctypes.CDLL:
     """The shared object, with the types of its functions: NAME, ARGUMENTS and RESULT of each."""
     beside = os.path.join(os.path.dirname(os.path.abspath(__file__)), file)
     library = ctypes.CDLL(os.environ.get(variable, beside))
     for name, arguments, result in functions:
-        function = getattr(library, prefix + name)
+        function = getattr(library, "hull_" + name)
         function.argtypes, function.restype = arguments, result
     return library
 
 
-def _library():
-    at, whole = ctypes.c_void_p, ctypes.c_int64
-    return _load("libhull.so", "HULL_LIBRARY", "hull_", [
-        ("size", [], ctypes.c_size_t), ("alignment", [], ctypes.c_size_t), ("make", [ctypes.c_uint32, at], None),
-        ("end", [at], ctypes.c_uint32), ("call", [at, ctypes.c_uint32, whole, whole], _Reply), ("limit", [at], _Reply),
-        ("clear", [at], _Reply), ("load", [at, at, ctypes.c_size_t], _Reply),
-        ("held_from", [at, whole, whole, at, ctypes.c_size_t], _Reply), ("load_held", [at, at, ctypes.c_size_t], _Reply),
-        ("is_outline", [at, ctypes.c_size_t], _Reply),
-        ("outline_call", [at, ctypes.c_size_t, ctypes.c_uint32, whole, whole], _Reply),
-        ("outline_meets_segment", [at, ctypes.c_size_t, whole, whole, whole, whole], _Reply),
-        ("outline_apart", [at, ctypes.c_size_t, whole, whole, whole, whole], _Reply),
-        ("outline_nearest", [at, ctypes.c_size_t, whole, whole], _Reply), ("outline_box", [at, ctypes.c_size_t], _Reply),
-        ("outline_width", [at, ctypes.c_size_t, whole, whole], _Reply), ("outline_diameter", [at, ctypes.c_size_t], _Reply),
-        ("outline_meets", [at, ctypes.c_size_t, at, ctypes.c_size_t], _Reply),
-        ("outline_contains", [at, ctypes.c_size_t, at, ctypes.c_size_t], _Reply),
-        ("outline_least_width", [at, ctypes.c_size_t], _Witness),
-        ("outline_witness", [at, ctypes.c_size_t, at, ctypes.c_size_t], _Witness),
-        ("outline_distance", [at, ctypes.c_size_t, at, ctypes.c_size_t], _Witness),
-        ("outline_calls", [at, ctypes.c_size_t, at, ctypes.c_size_t, at, ctypes.c_size_t], ctypes.c_size_t),
-        ("vertices", [at, at, ctypes.c_size_t], _Reply),
-        ("calls", [at, at, ctypes.c_size_t, at, ctypes.c_size_t], ctypes.c_size_t),
+def _library() -> ctypes.CDLL:
+    at, whole, size, number = ctypes.c_void_p, ctypes.c_int64, ctypes.c_size_t, ctypes.c_uint32
+    return _load("libhull.so", "HULL_LIBRARY", [
+        ("python_new", [number], at), ("python_free", [at], None), ("python_call", [at, number, whole, whole], _Reply),
+        ("python_calls", [at, at, at, size], size), ("python_vertices", [at, at, size], _Reply),
+        ("python_load", [at, at, size], _Reply), ("python_load_held", [at, at, size], _Reply),
+        ("python_held_from", [at, whole, whole, at, size], _Reply), ("python_copy", [at, at], _Reply),
+        ("python_limit", [at], _Reply), ("python_clear", [at], _Reply),
+        ("is_outline", [at, size], _Reply), ("outline_call", [at, size, number, whole, whole], _Reply),
+        ("outline_meets_segment", [at, size, whole, whole, whole, whole], _Reply),
+        ("outline_apart", [at, size, whole, whole, whole, whole], _Reply),
+        ("outline_nearest", [at, size, whole, whole], _Reply), ("outline_box", [at, size], _Reply),
+        ("outline_width", [at, size, whole, whole], _Reply), ("outline_diameter", [at, size], _Reply),
+        ("outline_meets", [at, size, at, size], _Reply), ("outline_contains", [at, size, at, size], _Reply),
+        ("outline_least_width", [at, size], _Witness), ("outline_witness", [at, size, at, size], _Witness),
+        ("outline_distance", [at, size, at, size], _Witness),
+        ("outline_calls", [at, size, at, size, at, size], size),
     ])
 
 
 @functools.lru_cache(maxsize=None)
-def _shared_library():
-    at, whole, number, size = ctypes.c_void_p, ctypes.c_int64, ctypes.c_uint32, ctypes.c_size_t
-    return _load("libhull_shared.so", "HULL_SHARED_LIBRARY", "hull_shared_", [
-        ("desk_size", [], size), ("desk_alignment", [], size), ("seat_size", [], size), ("seat_alignment", [], size),
-        ("make_desk", [at], None), ("make_seat", [at], None),
-        ("open", [at, number, ctypes.c_uint64, number, number], number), ("lend", [at, at, number], number),
-        ("give_back", [at, at], number), ("close", [at], number), ("text", [at, at, size], _Reply),
-        ("end", [at], number),
-        ("line_size", [], size), ("make_line", [at], None), ("ask", [at, at, number, whole, whole], _SeatReply),
-        ("ask_vertices", [at, at, at, size], _SeatReply),
-        ("ask_and_drain", [at, at, at, number, whole, whole], _SeatReply),
-        ("part_size", [], size), ("part_alignment", [], size), ("make_part", [at], None),
-        ("part_reserve", [at, number], number), ("part_text", [at, at, size], _Reply), ("part_end", [at], number),
-        ("reopen", [at, at, size, number, number], _Reply),
-        ("part_text_from", [at, ctypes.c_uint64, at, size], _Reply),
-        ("capacity", [at], number), ("open_without_journal", [at, number, ctypes.c_uint64, number], number),
+def _shared_library() -> ctypes.CDLL:
+    at, whole, size, number, long = ctypes.c_void_p, ctypes.c_int64, ctypes.c_size_t, ctypes.c_uint32, ctypes.c_uint64
+    return _load("libhull_shared.so", "HULL_SHARED_LIBRARY", [
+        ("python_desk_new", [], at), ("python_desk_free", [at], None),
+        ("python_open", [at, number, long, number, number], number),
+        ("python_open_without_journal", [at, number, long, number], number),
+        ("python_reopen", [at, at, size, number, number], _Reply),
+        ("python_close", [at], number), ("python_text", [at, at, size], _Reply), ("python_out", [at], long),
+        ("python_seat_new", [], at), ("python_seat_free", [at], None), ("python_lend", [at, at, number], number),
+        ("python_give_back", [at], None), ("python_ask", [at, number, whole, whole], _Reply),
+        ("python_ask_vertices", [at, at, size], _Reply), ("python_drain", [at, at], _Reply),
+        ("python_capacity", [at], number), ("python_turn", [at, at], number),
+        ("python_part_new", [number], at), ("python_part_free", [at], None),
+        ("python_part_text", [at, at, size], _Reply), ("python_part_text_from", [at, long, at, size], _Reply),
     ])
 
 
 _LIBRARY = _library()
 
 
-def _room(size, alignment):
-    """Memory of a size at a multiple of an alignment: what keeps it, and where it begins."""
-    room = ctypes.create_string_buffer(size + alignment - 1)
-    return room, -(-ctypes.addressof(room) // alignment) * alignment
+def _kind(free: Any) -> Any:
+    """A class of places, whole numbers, at each of which something lies that a function of the library frees.
+
+    It goes with the last object that refers to the place. The collector of garbage does not know the place (`_at`), so that in
+    a cycle it goes behind every `__del__` of the cycle. No step of Python's lies between the last reference and the function,
+    so that no handler of a signal can raise before it.
+    """
+    bound = ctypes.PYFUNCTYPE(ctypes.py_object, ctypes.py_object)(("PyInstanceMethod_New", ctypes.pythonapi))
+    return type("_At", (int,), {"__slots__": (), "__del__": bound(free)})
 
 
-def _end(room, at):
-    """Ends the hull in a room, which is kept until then."""
-    _LIBRARY.hull_end(at)
-    del room
+_HullAt = _kind(_LIBRARY.hull_python_free)
 
 
-def _index(number):
+@functools.lru_cache(maxsize=None)
+def _shared_kinds() -> Tuple[Any, Any, Any]:
+    """The classes of where a desk, a seat and a part lie."""
+    library = _shared_library()
+    return _kind(library.hull_python_desk_free), _kind(library.hull_python_seat_free), _kind(library.hull_python_part_free)
+
+
+def _at(kind: Any, place: Optional[int]) -> Any:
+    """The place of what was made there, if memory was not refused; it refers to nothing that the collector looks for."""
+    if place is None:
+        _told(_Code.NO_MEMORY)
+    at = kind(place)
+    ctypes.PYFUNCTYPE(None, ctypes.py_object)(("PyObject_GC_UnTrack", ctypes.pythonapi))(at)
+    return at
+
+
+def _index(number: SupportsIndex) -> int:
     """A whole number; True and False are none."""
     if isinstance(number, bool):
         raise TypeError("a coordinate is a whole number, and not a bool")
     return operator.index(number)
 
 
-def _whole(coordinate):
+def _whole(coordinate: SupportsIndex) -> int:
     """A coordinate that is in range: ctypes would cut a larger one off."""
     coordinate = _index(coordinate)
     if not -COORDINATE_LIMIT <= coordinate <= COORDINATE_LIMIT:
-        raise _FAULTS[_Code.OUT_OF_RANGE]()
+        raise _out_of_range()
     return coordinate
 
 
-def _of_numpy(points):
+def _of_numpy(points: object) -> Any:
     """The module numpy where the points are an array of its, else None."""
-    numpy = sys.modules.get("numpy")
+    numpy: Any = sys.modules.get("numpy")
     return numpy if numpy is not None and isinstance(points, numpy.ndarray) else None
 
 
-def _check_shape(shape, kind):
+def _check_shape(shape: Sequence[int], kind: object) -> None:
     """Raises unless an array of this shape has a point in each row; of one with no element any shape will do."""
     if 0 in shape or (len(shape) == 2 and shape[1] == 2):
         return
@@ -288,7 +357,8 @@ def _check_shape(shape, kind):
                      f"and this one of {kind} has {tuple(shape)}{turned}")
 
 
-def _numpy_rows(numpy, points, kinds="iu", wanted="integers", help="; from_floats takes floats"):
+def _numpy_rows(numpy: Any, points: Any, kinds: str = "iu", wanted: str = "integers",
+                help: str = "; from_floats takes floats") -> Any:
     """The array, if it has one point in each row, and its numbers are of these kinds."""
     if isinstance(points, numpy.ma.MaskedArray):
         raise TypeError("an array of points has no mask: fill or compress it first")
@@ -299,29 +369,32 @@ def _numpy_rows(numpy, points, kinds="iu", wanted="integers", help="; from_float
     return points.reshape(-1, 2)
 
 
-def _flat_of_numpy(numpy, points):
+def _flat_of_numpy(numpy: Any, points: Any) -> "array[int]":
     """The coordinates of an array of numpy, as `_flat` tells them, before any is cut off by a cast."""
     rows = _numpy_rows(numpy, points)
     if rows.size and not -COORDINATE_LIMIT <= int(rows.min()) <= int(rows.max()) <= COORDINATE_LIMIT:
-        raise _FAULTS[_Code.OUT_OF_RANGE]()
+        raise _out_of_range()
     return array("q", rows.astype(numpy.int64).tobytes())
 
 
-def _flat_of_memory(view):
+def _flat_of_memory(view: memoryview) -> "Optional[array[int]]":
     """The coordinates of an array that shows its memory, none of them looked at yet; None where it shows no numbers."""
-    if view.format in ("q", "l") and view.itemsize == 8:
-        _check_shape(view.shape, "integers")
-        return array("q", view.tobytes())
-    if view.ndim < 2 and 0 not in view.shape:
+    shape, order, kind = view.shape or (), view.format[:-1], view.format[-1:]
+    if len(shape) < 2 and 0 not in shape:
         return None
-    if view.format not in tuple("bBhHiIlLqQ"):
+    if kind not in tuple("bBhHiIlLqQnN") or order not in ("", *"@=<>!"):
         raise TypeError("an array of points is one of integers, "
-                        f"and this one of shape {view.shape} is of format {view.format!r}")
-    _check_shape(view.shape, "integers")
-    return array("q", itertools.chain.from_iterable(view.tolist()))
+                        f"and this one of shape {shape} is of format {view.format!r}")
+    _check_shape(shape, "integers")
+    # the formats of ctypes name sizes that are not those of `struct`: what counts is how long an item is
+    code = {1: "b", 2: "h", 4: "i", 8: "q"}[view.itemsize]
+    flat = array(code.upper() if kind.isupper() else code, view.tobytes())
+    if order in (">", "!") and sys.byteorder == "little" or order == "<" and sys.byteorder == "big":
+        flat.byteswap()
+    return flat if flat.typecode == "q" else array("q", flat)
 
 
-def _flat(points):
+def _flat(points: Any) -> "array[int]":
     """The coordinates of many points, all in range, those of each point beside one another."""
     numpy = _of_numpy(points)
     if numpy is not None:
@@ -336,19 +409,18 @@ def _flat(points):
             pairs = ((_index(x), _index(y)) for x, y in points)
             flat = array("q", itertools.chain.from_iterable(pairs))
     except OverflowError:
-        raise _FAULTS[_Code.OUT_OF_RANGE]() from None
+        raise _out_of_range() from None
     if flat and not -COORDINATE_LIMIT <= min(flat) <= max(flat) <= COORDINATE_LIMIT:
-        raise _FAULTS[_Code.OUT_OF_RANGE]()
+        raise _out_of_range()
     return flat
 
 
-def _columns(points):
-    """The first and the second coordinates of many points, all in range."""
-    flat = _flat(points)
-    return flat[0::2], flat[1::2]
+def _pairs(flat: "array[int]") -> List[Pair]:
+    """The points of such coordinates."""
+    return list(zip(flat[0::2], flat[1::2]))
 
 
-def _like(points, numbers):
+def _like(points: object, numbers: Any) -> Any:
     """The numbers, as an array of numpy where the points were one."""
     numpy = _of_numpy(points)
     if numpy is not None:
@@ -374,47 +446,74 @@ class Witness(NamedTuple):
     """What `Outline.witness` tells: what is shown, and the points of it, as a tuple of pairs."""
 
     shows: Shows
-    points: tuple
+    points: Tuple[Pair, ...]
 
 
 class Lattice(NamedTuple):
     """What `from_floats` makes: the points, and how many of their coordinates had to be rounded."""
 
-    points: object
+    points: Any
     rounded: int
 
 
-def _from_float(number, power):
-    """The coordinate next to number * 2**power, of two as near the even one; and whether it was rounded."""
+def _from_ratio(number: Any, power: int) -> Tuple[int, bool]:
+    """The coordinate next to number * 2**power, of two as near the even one, and whether it was rounded, with no float between."""
     try:
-        scaled = math.ldexp(number, power)
+        above, below = number.as_integer_ratio() if hasattr(number, "as_integer_ratio") else (operator.index(number), 1)
+    except (OverflowError, ValueError):  # not finite
+        raise _out_of_range() from None
+    bits = abs(above).bit_length() - below.bit_length() + power
+    if above != 0 and bits > 42:
+        raise _out_of_range()
+    if above == 0 or bits < -2:  # smaller than a half
+        return 0, above != 0
+    exact = Fraction(above << max(power, 0), below << max(-power, 0))
+    return _whole(round(exact)), exact.denominator != 1
+
+
+def _from_float(number: Any, power: int) -> Tuple[int, bool]:
+    """The coordinate next to number * 2**power, of two as near the even one; and whether it was rounded."""
+    if not isinstance(number, float):
+        return _from_ratio(number, power)
+    try:
+        scaled = math.ldexp(number, max(-4000, min(power, 4000)))
         near = round(scaled)
     except (OverflowError, ValueError):  # too great, or not finite
-        raise _FAULTS[_Code.OUT_OF_RANGE]() from None
+        raise _out_of_range() from None
     return _whole(near), near != scaled or (near == 0) != (number == 0)
 
 
-def from_floats(points, power):
-    """The points of the lattice next to x * 2**power, y * 2**power, of two as near the even one: a Lattice.
-
-    The points are pairs of numbers, or an array of numpy with a point in each row, and come back as such. All answers
-    are exact for the points after rounding. OutOfRange where a number is not finite, or too great for the lattice.
-    """
-    power = operator.index(power)
-    numpy = _of_numpy(points)
-    if numpy is None:
-        flat = [_from_float(number, power) for x, y in points for number in (x, y)]
-        return Lattice([(x[0], y[0]) for x, y in zip(flat[0::2], flat[1::2])], sum(rounded for _, rounded in flat))
-    rows = _numpy_rows(numpy, points, "fiu", "numbers", "").astype(numpy.float64)
+def _from_numpy(numpy: Any, rows: Any, power: int) -> Lattice:
+    """The same of an array of numpy."""
+    if rows.dtype.itemsize < 8 or rows.dtype.kind == "f" and rows.dtype.itemsize == 8:
+        rows = rows.astype(numpy.float64)
+    elif rows.dtype.kind != "f":  # integers that a float may not have
+        made = from_floats(rows.tolist(), power)
+        return Lattice(numpy.array(made.points, dtype=numpy.int64).reshape(-1, 2), made.rounded)
     with numpy.errstate(over="ignore", under="ignore"):
-        scaled = numpy.ldexp(rows, power)
+        scaled = numpy.ldexp(rows, max(-40000, min(power, 40000)))
     near = numpy.rint(scaled)
     if not (numpy.abs(near) <= COORDINATE_LIMIT).all():  # nor is it where one is no number
-        raise _FAULTS[_Code.OUT_OF_RANGE]()
+        raise _out_of_range()
     return Lattice(near.astype(numpy.int64), int(((near != scaled) | ((near == 0) != (rows == 0))).sum()))
 
 
-def direction_of(dx, dy):
+def from_floats(points: Any, power: SupportsIndex) -> Lattice:
+    """The points of the lattice next to x * 2**power, y * 2**power, of two as near the even one: a Lattice.
+
+    The points are pairs of numbers (floats, integers of any size, fractions, decimals), or an array of numpy with a point in
+    each row, and come back as such. All answers are exact for the points after rounding. OutOfRange where a number is not
+    finite, or too great for the lattice.
+    """
+    power = operator.index(power)
+    numpy = _of_numpy(points)
+    if numpy is not None:
+        return _from_numpy(numpy, _numpy_rows(numpy, points, "fiu", "numbers", ""), power)
+    flat = [_from_float(number, power) for x, y in points for number in (x, y)]
+    return Lattice([(x[0], y[0]) for x, y in zip(flat[0::2], flat[1::2])], sum(rounded for _, rounded in flat))
+
+
+def direction_of(dx: float, dy: float) -> Tuple[Pair, bool]:
     """The direction in whole numbers of one in two floats, and whether it was rounded: ((x, y), rounded).
 
     Both are multiplied by the power of two that takes the one greater in size to at least 2^39 and below 2^40. Where both
@@ -427,23 +526,29 @@ def direction_of(dx, dy):
     return (x, y), at_x or at_y
 
 
-def to_floats(points, power):
+def to_floats(points: Any, power: SupportsIndex) -> Any:
     """The pairs (x / 2**power, y / 2**power), as floats or as an array of them: exact for powers from -960 to 1000."""
     power = operator.index(power)
     numpy = _of_numpy(points)
     if numpy is not None:
         return numpy.ldexp(_numpy_rows(numpy, points).astype(numpy.float64), -power)
-    return [(math.ldexp(_whole(x), -power), math.ldexp(_whole(y), -power)) for x, y in points]
+    return [_floats(point, power) for point in points]
 
 
-def wkt(corners, power=0):
+def _floats(point: Tuple[SupportsIndex, SupportsIndex], power: int) -> Floats:
+    """The floats of a point."""
+    x, y = point
+    return math.ldexp(_whole(x), -power), math.ldexp(_whole(y), -power)
+
+
+def wkt(corners: Points, power: SupportsIndex = 0) -> str:
     """Corners, as `vertices` tells them, as well-known text (OGC 06-103r4), which GEOS, PostGIS and QGIS read.
 
     POLYGON EMPTY, a POINT, a LINESTRING, or a POLYGON whose ring is closed and runs counterclockwise. Coordinates are
     divided by 2**power, and are written with as few digits as tell the float from all others.
     """
-    corners = [(int(x), int(y)) for x, y in corners]
-    pairs = corners if power == 0 else to_floats(corners, power)
+    whole = [(int(x), int(y)) for x, y in corners]
+    pairs = whole if operator.index(power) == 0 else to_floats(whole, power)
     texts = [f"{x!r} {y!r}" for x, y in pairs]
     if not texts:
         return "POLYGON EMPTY"
@@ -452,34 +557,47 @@ def wkt(corners, power=0):
     return f"POLYGON (({', '.join(texts + texts[:1])}))"
 
 
-def _times_added(reply):
+def _times_added(reply: _Reply) -> int:
     """How often a point is held that was added."""
     return 1 if reply.code == _Code.ADDED else reply.number
 
 
-def _times_left(reply):
+def _times_left(reply: _Reply) -> Optional[int]:
     """How often a point is still held that was removed; None where it was not there."""
     return None if reply.code == _Code.ABSENT else reply.number
 
 
-def _tangents(reply):
+def _two_pairs(reply: _Reply) -> Tuple[Pair, Pair]:
+    """The two points of a reply."""
+    return (reply.x, reply.y), (reply.other_x, reply.other_y)
+
+
+def _tangents(reply: _Reply) -> Optional[Tuple[Pair, Pair]]:
     """The left and the right tangent point; None where no such are."""
-    return None if reply.code == _Code.NO_TANGENT else ((reply.x, reply.y), (reply.other_x, reply.other_y))
+    return None if reply.code == _Code.NO_TANGENT else _two_pairs(reply)
 
 
-def _farthest(reply):
+def _farthest(reply: _Reply) -> Optional[Pair]:
     """The farthest point; None where there is none."""
     return None if reply.code == _Code.EMPTY else (reply.x, reply.y)
 
 
-def _area(reply):
+def _area(reply: _Reply) -> int:
     """An area in two words."""
     return reply.high << 64 | reply.number
 
 
-def _two_pairs(reply):
-    """The two points of a reply."""
-    return (reply.x, reply.y), (reply.other_x, reply.other_y)
+def _squared_distance(places: Sequence[Tuple[Pair, ...]]) -> Fraction:
+    """The squared distance of two places, each a point or an edge with the foot of the other on it; 0 where both are none."""
+    if not places[0]:
+        return Fraction(0)
+    (point,), ends = sorted(places, key=len)
+    ax, ay = point
+    if len(ends) == 1:
+        return Fraction((ends[0][0] - ax) ** 2 + (ends[0][1] - ay) ** 2)
+    (bx, by), (cx, cy) = ends
+    side = (cx - bx) * (ay - by) - (cy - by) * (ax - bx)
+    return Fraction(side * side, (cx - bx) ** 2 + (cy - by) ** 2)
 
 
 class _Questions:
@@ -487,19 +605,31 @@ class _Questions:
 
     __slots__ = ()
 
-    def place(self, x, y):
+    def _call(self, kind: int, x: int = 0, y: int = 0) -> _Reply:
+        """The reply of a call, or the fault that it told."""
+        raise NotImplementedError
+
+    def _serve(self, requests: int, replies: int, count: int) -> None:
+        """Makes so many calls, whose requests and replies stand at these places."""
+        raise NotImplementedError
+
+    def _corner_array(self) -> "array[int]":
+        """The coordinates of the corners, those of each beside one another."""
+        raise NotImplementedError
+
+    def place(self, x: SupportsIndex, y: SupportsIndex) -> Place:
         """Where the point lies: one of Place."""
         return Place(self._call(_Kind.PLACE, _whole(x), _whole(y)).code)
 
-    def tangents(self, x, y):
+    def tangents(self, x: SupportsIndex, y: SupportsIndex) -> Optional[Tuple[Pair, Pair]]:
         """The left and the right point that bound the hull as it is seen from (x, y); None where no such are."""
         return _tangents(self._call(_Kind.TANGENTS, _whole(x), _whole(y)))
 
-    def extreme(self, x, y):
+    def extreme(self, x: SupportsIndex, y: SupportsIndex) -> Optional[Pair]:
         """The point farthest in the direction (x, y), of several the first by x and then by y; None where none is."""
         return _farthest(self._call(_Kind.EXTREME, _whole(x), _whole(y)))
 
-    def extreme_d(self, dx, dy):
+    def extreme_d(self, dx: float, dy: float) -> Optional[Pair]:
         """The point farthest in a direction of two floats, by whole numbers as `direction_of` tells them.
 
         In the direction (0, 0) it is the first point by x and then y.
@@ -507,47 +637,60 @@ class _Questions:
         (x, y), _ = direction_of(dx, dy)
         return self.extreme(-1, 0) if x == 0 == y else self.extreme(x, y)
 
-    def doubled_area(self):
+    def doubled_area(self) -> int:
         """Twice the area, 0 for a point and a line."""
         return _area(self._call(_Kind.AREA))
 
-    def vertex_array(self):
+    def vertices(self) -> List[Pair]:
+        """The corners as pairs, counterclockwise from the first by x and then y, each once and none inside an edge."""
+        return _pairs(self._corner_array())
+
+    def vertex_array(self) -> Any:
         """The corners as `vertices` tells them, as an array of numpy of shape (n, 2)."""
-        import numpy  # so that the module needs none
+        numpy: Any = importlib.import_module("numpy")  # so that the module needs none
+        return numpy.array(self._corner_array(), dtype=numpy.int64).reshape(-1, 2)
 
-        return numpy.array(self.vertices(), dtype=numpy.int64).reshape(-1, 2)
-
-    def wkt(self, power=0):
+    def wkt(self, power: SupportsIndex = 0) -> str:
         """The hull as well-known text, its coordinates divided by 2**power: see the function `wkt`."""
         return wkt(self.vertices(), power)
 
-    def _replies(self, kind, first, second):
-        """The replies to one kind of call at each point of two columns, as an array that shows its memory."""
-        count = len(first)
+    def _replies(self, kind: int, flat: "array[int]") -> memoryview:
+        """The replies to one kind of call at each point, as an array that shows its memory."""
+        count = len(flat) // 2
         requests = array("q", (kind, 0, 0)) * max(count, 1)
-        requests[1:3 * count:3], requests[2:3 * count:3] = first, second
+        requests[1:3 * count:3], requests[2:3 * count:3] = flat[0::2], flat[1::2]
         replies = (_Reply * max(count, 1))()
         self._serve(requests.buffer_info()[0], ctypes.addressof(replies), count)
         return memoryview(replies).cast("B")[:ctypes.sizeof(_Reply) * count]
 
-    def _ask_all(self, kind, points):
+    def _ask_all(self, kind: int, points: Any) -> memoryview:
         """The replies to one kind of call at each of the points, as words of 32 bits, 14 a reply."""
-        return self._replies(kind, *_columns(points)).cast("I")
+        return self._replies(kind, _flat(points)).cast("I")
 
-    def place_all(self, points):
+    @overload
+    def place_all(self, points: _Array) -> Any: ...
+    @overload
+    def place_all(self, points: Points) -> bytes: ...
+
+    def place_all(self, points: Any) -> Any:
         """Where each of the points lies, as bytes with the numbers of Place."""
         return _like(points, bytes(self._ask_all(_Kind.PLACE, points)[0::14].tolist()))
 
-    def extreme_all(self, directions):
+    @overload
+    def extreme_all(self, directions: _Array) -> Any: ...
+    @overload
+    def extreme_all(self, directions: Points) -> List[Optional[Pair]]: ...
+
+    def extreme_all(self, directions: Any) -> Any:
         """The point farthest in each of the directions, of several the first by x and then by y.
 
         Pairs in a list, or an array of numpy of shape (n, 2) where the directions were one. Where the hull holds no
         point, None for each, and for an array ValueError.
         """
-        first, second = _columns(directions)
-        if any(x == 0 == y for x, y in zip(first, second)):
-            raise _FAULTS[_Code.ZERO_DIRECTION]()
-        memory = self._replies(_Kind.EXTREME, first, second)
+        flat = _flat(directions)
+        if (0, 0) in zip(flat[0::2], flat[1::2]):
+            _told(_Code.ZERO_DIRECTION)
+        memory = self._replies(_Kind.EXTREME, flat)
         numpy = _of_numpy(directions)
         found = memory.cast("I")[0:1].tolist() != [_Code.EMPTY]
         if numpy is not None:
@@ -555,15 +698,20 @@ class _Questions:
                 raise ValueError("the hull holds no point: none is the farthest")
             return numpy.frombuffer(memory, dtype=numpy.int64).reshape(-1, 7)[:, 1:3].copy()
         words = memory.cast("q")
-        return list(zip(words[1::7].tolist(), words[2::7].tolist())) if found else [None] * len(first)
+        return list(zip(words[1::7].tolist(), words[2::7].tolist())) if found else [None] * (len(flat) // 2)
 
-    def tangents_all(self, points):
+    @overload
+    def tangents_all(self, points: _Array) -> Any: ...
+    @overload
+    def tangents_all(self, points: Points) -> List[Optional[Tuple[Pair, Pair]]]: ...
+
+    def tangents_all(self, points: Any) -> Any:
         """The left and the right tangent point seen from each of the points, None where no such are.
 
         Pairs of points in a list; or where the points were an array of numpy, two arrays: the tangent points, of shape
         (n, 2, 2), and which of them are there, of shape (n,): those that are not are 0.
         """
-        memory = self._replies(_Kind.TANGENTS, *_columns(points))
+        memory = self._replies(_Kind.TANGENTS, _flat(points))
         numpy = _of_numpy(points)
         if numpy is not None:
             seen = numpy.frombuffer(memory, dtype=numpy.uint32)[0::14] != _Code.NO_TANGENT
@@ -574,123 +722,133 @@ class _Questions:
 
 
 class Hull(_Questions):
-    """A hull for at most `limit` different points, 1 to POINT_LIMIT, which holds the points given, as by `load`."""
+    """A hull for at most `limit` different points, 1 to POINT_LIMIT, which holds the points given, as by `load`.
 
-    __slots__ = ("_at", "_lock", "__weakref__")
+    Two are equal where they hold the same points, each as often.
+    """
 
-    def __init__(self, points=(), limit=POINT_LIMIT):
+    __slots__ = ("_at", "__weakref__")
+    __hash__ = None  # type: ignore[assignment] # it changes
+
+    def __init__(self, points: Any = (), limit: SupportsIndex = POINT_LIMIT) -> None:
         if not 1 <= operator.index(limit) <= POINT_LIMIT:
             raise ValueError("the limit of a hull is out of range")
-        room, self._at = _room(_LIBRARY.hull_size(), _LIBRARY.hull_alignment())
-        self._lock = threading.RLock()
-        _LIBRARY.hull_make(operator.index(limit), self._at)
-        weakref.finalize(self, _end, room, self._at)
+        self._at = _at(_HullAt, _LIBRARY.hull_python_new(operator.index(limit)))
         self.load(points)
 
-    def __reduce__(self):
+    def __reduce__(self) -> Any:
         """Copies and pickles hold the same points, each as often, with the same limit."""
         return _hull_of, (list(self.items()), self.limit())
 
-    def copy(self):
-        """Another hull that holds the same points, each as often, with the same limit."""
-        return _hull_of(list(self.items()), self.limit())
+    def __eq__(self, other: object) -> bool:
+        if not isinstance(other, Hull):
+            return NotImplemented
+        return len(self) == len(other) and list(self.items()) == list(other.items())
 
-    def __repr__(self):
+    def copy(self) -> Hull:
+        """Another hull that holds the same points, each as often, with the same limit."""
+        other = Hull(limit=self.limit())
+        self._ask(lambda at: _LIBRARY.hull_python_copy(other._at, at))
+        return other
+
+    __copy__ = copy
+
+    def __repr__(self) -> str:
         return f"<Hull of {len(self)} points, limit {self.limit()}>"
 
-    def _ask(self, function, *words):
+    def _ask(self, function: Callable[..., Any], *words: int) -> _Reply:
         """The reply of a function of the library, or the fault that it told."""
-        with self._lock:
-            reply = function(self._at, *words)
+        reply: _Reply = function(self._at, *words)
         _told(reply.code)
         return reply
 
-    def _call(self, kind, x=0, y=0):
-        """The reply of a call, or the fault that it told."""
-        return self._ask(_LIBRARY.hull_call, kind, x, y)
+    def _call(self, kind: int, x: int = 0, y: int = 0) -> _Reply:
+        return self._ask(_LIBRARY.hull_python_call, kind, x, y)
 
-    def add(self, x, y):
+    def add(self, x: SupportsIndex, y: SupportsIndex) -> int:
         """Holds the point once more, and returns how often it is held now: 1 where it is new."""
         return _times_added(self._call(_Kind.ADD, _whole(x), _whole(y)))
 
-    def remove(self, x, y):
+    def remove(self, x: SupportsIndex, y: SupportsIndex) -> Optional[int]:
         """Holds the point once less, and returns how often it is still held; None where it was not there."""
         return _times_left(self._call(_Kind.REMOVE, _whole(x), _whole(y)))
 
-    def multiplicity(self, x, y):
+    def multiplicity(self, x: SupportsIndex, y: SupportsIndex) -> int:
         """How often the point is held: 0 where it is not there."""
         return self._call(_Kind.MULTIPLICITY, _whole(x), _whole(y)).number
 
-    def limit(self):
+    def limit(self) -> int:
         """How many different points the hull takes."""
-        return self._ask(_LIBRARY.hull_limit).number
+        return self._ask(_LIBRARY.hull_python_limit).number
 
-    def clear(self):
+    def clear(self) -> None:
         """Lets all points go. The limit stays."""
-        self._ask(_LIBRARY.hull_clear)
+        self._ask(_LIBRARY.hull_python_clear)
 
-    def load(self, points):
+    def load(self, points: Any) -> int:
         """Holds just these points, in the place of all that was held; returns how many different points that are.
 
-        Each is held as often as it stands among them: what adding them one by one to an empty hull makes, in a small
-        part of the time. TooMany where there are more than the limit, or one of them stands there too often.
+        Each is held as often as it stands among them, or as a mapping (a Counter) says: what adding them one by one to an
+        empty hull makes, in a small part of the time. TooMany where there are more than the limit, or one of them stands
+        there too often.
         """
+        if isinstance(points, Mapping):
+            return self.load_items(sorted(((_whole(x), _whole(y)), times) for (x, y), times in points.items()))
         flat = _flat(points)
         count = len(flat) // 2
-        flat.extend((0, 0))  # so that no points have a place in memory, too
-        return self._ask(_LIBRARY.hull_load, flat.buffer_info()[0], count).number
+        return self._ask(_LIBRARY.hull_python_load, flat.buffer_info()[0], count).number
 
-    def load_items(self, items):
+    def load_items(self, items: Iterable[Tuple[Tuple[SupportsIndex, SupportsIndex], SupportsIndex]]) -> int:
         """Holds just these points, in the place of all that was held; returns how many they are.
 
         An item is a point and how often it is held, as `items` tells them: ((x, y), times). They stand in order by x and then
         y, each point once, or it is a ValueError.
         """
-        items = [(_whole(x), _whole(y), _index(times)) for (x, y), times in items]
-        if any(not 1 <= times <= MULTIPLICITY_LIMIT for _, _, times in items):
+        held: List[Any] = [(_whole(x), _whole(y), _index(times)) for (x, y), times in items]
+        if any(not 1 <= times <= MULTIPLICITY_LIMIT for _, _, times in held):
             raise ValueError("how often a point is held is out of range")
-        room = (_Held * max(len(items), 1))(*items)
-        return self._ask(_LIBRARY.hull_load_held, ctypes.addressof(room), len(items)).number
+        room = (_Held * len(held))(*held)
+        return self._ask(_LIBRARY.hull_python_load_held, ctypes.addressof(room), len(held)).number
 
-    def items(self):
+    def items(self) -> Iterator[Item]:
         """The points that are held, in order by x and then y, each with how often: ((x, y), times), one after another.
 
         They are taken a piece at a time: where the hull changes meanwhile, what lies behind the piece is as it is then.
         """
         room = (_Held * 1024)()
         x = y = -COORDINATE_LIMIT
-        while True:
-            with self._lock:
-                count = self._ask(_LIBRARY.hull_held_from, x, y, ctypes.addressof(room), len(room)).number
-                piece = [((held.x, held.y), held.times) for held in room[:count]]
+        while x <= COORDINATE_LIMIT:
+            count = self._ask(_LIBRARY.hull_python_held_from, x, y, ctypes.addressof(room), len(room)).number
+            piece = [((held.x, held.y), held.times) for held in room[:count]]
             yield from piece
-            if count < len(room) or piece[-1][0] == (COORDINATE_LIMIT, COORDINATE_LIMIT):
+            if count < len(room):
                 return
-            (x, y), _ = piece[-1]
+            x, y = piece[-1][0]
             x, y = (x, y + 1) if y < COORDINATE_LIMIT else (x + 1, -COORDINATE_LIMIT)
 
-    def __iter__(self):
+    def __iter__(self) -> Iterator[Pair]:
         """The points that are held, in order by x and then y, each once."""
         return (point for point, _ in self.items())
 
-    def outline(self):
+    def outline(self) -> Outline:
         """The outline that the hull has now."""
-        return Outline(self.vertices())
+        flat = self._corner_array()
+        return Outline(memoryview(flat).cast("B").cast("q", (len(flat) // 2, 2)) if flat else ())
 
-    def vertices(self):
-        """The corners as pairs, counterclockwise from the first by x and then y, each once and none inside an edge."""
-        with self._lock:
-            room = array("q", (0, 0))
-            reply = self._ask(_LIBRARY.hull_vertices, room.buffer_info()[0], 0)
-            room = array("q", (0, 0)) * max(reply.number, 1)
-            self._ask(_LIBRARY.hull_vertices, room.buffer_info()[0], reply.number)
-        return list(zip(room[0:2 * reply.number:2], room[1:2 * reply.number:2]))
+    def _corner_array(self) -> "array[int]":
+        count = 64
+        while True:
+            room = array("q", (0, 0)) * count
+            told = self._ask(_LIBRARY.hull_python_vertices, room.buffer_info()[0], count)
+            if told.code != _Code.TOO_SMALL:
+                return room[:2 * told.number]
+            count = told.number + told.number // 8  # it may have more by then
 
-    def __len__(self):
+    def __len__(self) -> int:
         """How many different points there are."""
         return self._call(_Kind.COUNT).number
 
-    def __contains__(self, point):
+    def __contains__(self, point: Tuple[SupportsIndex, SupportsIndex]) -> bool:
         """Whether the hull holds the point, which may well lie inside and be no corner. None out of range is held."""
         x, y = point
         try:
@@ -698,28 +856,32 @@ class Hull(_Questions):
         except OutOfRange:
             return False
 
-    def _serve(self, requests, replies, count):
-        """Makes so many calls, whose requests and replies stand at these places."""
-        with self._lock:
-            _LIBRARY.hull_calls(self._at, requests, count, replies, count)
+    def _serve(self, requests: int, replies: int, count: int) -> None:
+        if _LIBRARY.hull_python_calls(self._at, requests, replies, count) > count:
+            _told(_Code.ENDED)
 
-    def add_all(self, points):
+    @overload
+    def add_all(self, points: _Array) -> Any: ...
+    @overload
+    def add_all(self, points: Points) -> "array[int]": ...
+
+    def add_all(self, points: Any) -> Any:
         """Holds each of the points once more, in their order; returns for each how often it was held then.
 
         That is 0 where it was refused, since there are too many or for want of memory: those behind it are added still.
         """
         words = self._ask_all(_Kind.ADD, points)
-        times = {_Code.ADDED: 1, _Code.TOO_MANY: 0, _Code.NO_MEMORY: 0}
+        times: Dict[int, int] = {_Code.ADDED: 1, _Code.TOO_MANY: 0, _Code.NO_MEMORY: 0}
         held = (times.get(code, number) for code, number in zip(words[0::14].tolist(), words[10::14].tolist()))
         return _like(points, array("I", held))
 
-    def remove_all(self, points):
+    def remove_all(self, points: Any) -> int:
         """Holds each of the points once less, in their order; returns how many of them were there."""
         codes = self._ask_all(_Kind.REMOVE, points)[0::14].tolist()
         return len(codes) - codes.count(_Code.ABSENT)
 
 
-def _hull_of(items, limit):
+def _hull_of(items: Iterable[Item], limit: int) -> Hull:
     """The hull with these items."""
     hull = Hull(limit=limit)
     hull.load_items(items)
@@ -730,152 +892,255 @@ class Outline(_Questions):
     """The corners of a hull, as `vertices` tells them, to be asked as that hull was when they were taken.
 
     Nothing of it is ever written: any number of threads ask one outline at once, with no lock. ValueError where the points
-    are not the corners of a hull: counterclockwise from the first by x and then y, and none inside an edge.
+    are not the corners of a hull: counterclockwise from the first by x and then y, and none inside an edge. Its length, its
+    iteration, `in` and `==` are those of its corners.
     """
 
-    __slots__ = ("_corners", "_count")
+    __slots__ = ("_corners", "_count", "__weakref__")
 
-    def __init__(self, corners):
-        corners = _flat(corners)
-        self._count = len(corners) // 2
-        corners.extend((0, 0))  # so that no corners have a place in memory, too
-        self._corners = corners
-        told = _LIBRARY.hull_is_outline(corners.buffer_info()[0], self._count)
+    def __init__(self, corners: Any) -> None:
+        self._corners = _flat(corners)
+        self._count = len(self._corners) // 2
+        told = _LIBRARY.hull_is_outline(*self._there())
         _told(told.code)
         if told.number != 1:
             raise ValueError("the points are not the corners of a hull, in their order")
 
-    def __repr__(self):
+    def __reduce__(self) -> Any:
+        return Outline, (self.vertices(),)
+
+    def __repr__(self) -> str:
         return f"<Outline of {self._count} corners>"
 
-    def _call(self, kind, x=0, y=0):
+    def __len__(self) -> int:
+        return self._count
+
+    def __iter__(self) -> Iterator[Pair]:
+        return iter(self.vertices())
+
+    def __contains__(self, point: object) -> bool:
+        return point in self.vertices()
+
+    def __eq__(self, other: object) -> bool:
+        if not isinstance(other, Outline):
+            return NotImplemented
+        return bool(self._corners == other._corners)
+
+    def __hash__(self) -> int:
+        return hash(self._corners.tobytes())
+
+    def _there(self) -> Tuple[int, int]:
+        """Where the corners are, and how many; where there are none, some place that has memory."""
+        return self._corners.buffer_info()[0] if self._count else ctypes.addressof(_NO_CORNERS), self._count
+
+    def _corner_array(self) -> "array[int]":
+        return self._corners
+
+    def _found(self, ask: Callable[..., Any], *words: int) -> _Reply:
         """The reply of a call, or the fault that it told."""
-        reply = _LIBRARY.hull_outline_call(self._corners.buffer_info()[0], self._count, kind, x, y)
+        reply: _Reply = ask(*self._there(), *words)
         _told(reply.code)
         return reply
 
-    def _serve(self, requests, replies, count):
-        """Makes so many calls, whose requests and replies stand at these places."""
-        _LIBRARY.hull_outline_calls(self._corners.buffer_info()[0], self._count, requests, count, replies, count)
+    def _call(self, kind: int, x: int = 0, y: int = 0) -> _Reply:
+        return self._found(_LIBRARY.hull_outline_call, kind, x, y)
 
-    def _found(self, ask, *words):
-        """The reply of a call with some whole numbers, or the fault that it told."""
-        reply = ask(self._corners.buffer_info()[0], self._count, *map(_whole, words))
-        _told(reply.code)
-        return reply
+    def _serve(self, requests: int, replies: int, count: int) -> None:
+        _LIBRARY.hull_outline_calls(*self._there(), requests, count, replies, count)
 
-    def meets_segment(self, ax, ay, bx, by):
+    def meets_segment(self, ax: SupportsIndex, ay: SupportsIndex, bx: SupportsIndex, by: SupportsIndex) -> bool:
         """Whether the outline and the segment from (ax, ay) to (bx, by), which may be one point, have a point in common."""
-        return self._found(_LIBRARY.hull_outline_meets_segment, ax, ay, bx, by).number == 1
+        return self._found(_LIBRARY.hull_outline_meets_segment, _whole(ax), _whole(ay), _whole(bx), _whole(by)).number == 1
 
-    def apart_from_segment(self, ax, ay, bx, by):
+    def apart_from_segment(self, ax: SupportsIndex, ay: SupportsIndex, bx: SupportsIndex,
+                           by: SupportsIndex) -> Optional[Tuple[Pair, Pair]]:
         """A corner and a direction that parts the outline from the segment; None where they meet, or there is no corner.
 
         No corner has a greater product with the direction than that one, and both ends of the segment have.
         """
-        reply = self._found(_LIBRARY.hull_outline_apart, ax, ay, bx, by)
+        reply = self._found(_LIBRARY.hull_outline_apart, _whole(ax), _whole(ay), _whole(bx), _whole(by))
         return _two_pairs(reply) if reply.code == _Code.APART else None
 
-    def nearest(self, x, y):
+    def nearest(self, x: SupportsIndex, y: SupportsIndex) -> Optional[Tuple[Pair, ...]]:
         """Where the point is that is nearest to (x, y): None where there is no corner.
 
         Of one pair it is at that corner; of two, at the foot on the edge between them; of none the outline covers (x, y).
         """
-        reply = self._found(_LIBRARY.hull_outline_nearest, x, y)
+        reply = self._found(_LIBRARY.hull_outline_nearest, _whole(x), _whole(y))
         if reply.code == _Code.EMPTY:
             return None
         if reply.code == _Code.EDGE:
             return _two_pairs(reply)
         return ((reply.x, reply.y),) if reply.code == _Code.CORNER else ()
 
-    def bounding_box(self):
+    def squared_distance_to(self, x: SupportsIndex, y: SupportsIndex) -> Optional[Fraction]:
+        """The squared distance to (x, y), 0 where the outline covers it; None where there is no corner."""
+        place = self.nearest(x, y)
+        return None if place is None else _squared_distance((place, ((_whole(x), _whole(y)),) if place else ()))
+
+    def bounding_box(self) -> Optional[Tuple[Pair, Pair]]:
         """The least and the greatest point of the smallest box with sides along the axes; None where there is no corner."""
         reply = self._found(_LIBRARY.hull_outline_box)
         return _two_pairs(reply) if reply.code == _Code.BOX else None
 
-    def width_along(self, dx, dy):
+    def width_along(self, dx: SupportsIndex, dy: SupportsIndex) -> Optional[int]:
         """The greatest product of a corner with the direction (dx, dy) less the least; None where there is no corner.
 
         Divided by the length of the direction it is the width along it.
         """
-        reply = self._found(_LIBRARY.hull_outline_width, dx, dy)
+        reply = self._found(_LIBRARY.hull_outline_width, _whole(dx), _whole(dy))
         return None if reply.code == _Code.EMPTY else _area(reply)
 
-    def diameter(self):
+    def diameter(self) -> Optional[Tuple[Pair, Pair]]:
         """The two corners that are farthest from one another; None where there is no corner."""
         reply = self._found(_LIBRARY.hull_outline_diameter)
         return _two_pairs(reply) if reply.code == _Code.POINTS else None
 
-    def least_width(self):
+    def least_width(self) -> Optional[Tuple[Pair, Pair, Pair]]:
         """Where the outline is least wide: the ends of an edge and a corner farthest from it; None where there is no edge.
 
         No direction has a narrower strip. The width is the side of that corner at the edge by the edge's length.
         """
-        told = self._found(_LIBRARY.hull_outline_least_width)
-        return (tuple(told.a), tuple(told.b), tuple(told.c)) if told.code == _Code.EDGE else None
+        told: _Witness = _LIBRARY.hull_outline_least_width(*self._there())
+        return (told.point("a"), told.point("b"), told.point("c")) if told.code == _Code.EDGE else None
 
-    def _beside(self, ask, other):
+    def _beside(self, ask: Callable[..., Any], other: Outline) -> Any:
         """What a call with another outline tells."""
         if not isinstance(other, Outline):
             raise TypeError(f"the other one is an Outline, and not {type(other).__name__}")
-        return ask(self._corners.buffer_info()[0], self._count, other._corners.buffer_info()[0], other._count)
+        return ask(*self._there(), *other._there())
 
-    def meets(self, other):
+    def meets(self, other: Outline) -> bool:
         """Whether the two outlines have a point in common, boundaries included."""
-        return self._beside(_LIBRARY.hull_outline_meets, other).number == 1
+        reply: _Reply = self._beside(_LIBRARY.hull_outline_meets, other)
+        return reply.number == 1
 
-    def contains(self, other):
+    def contains(self, other: Outline) -> bool:
         """Whether this outline covers whatever the other one covers."""
-        return self._beside(_LIBRARY.hull_outline_contains, other).number == 1
+        reply: _Reply = self._beside(_LIBRARY.hull_outline_contains, other)
+        return reply.number == 1
 
-    def witness(self, other):
+    def witness(self, other: Outline) -> Optional[Witness]:
         """Where the two outlines meet, or what parts them: a `Witness`; None where one of them has no corner."""
-        told = self._beside(_LIBRARY.hull_outline_witness, other)
+        told: _Witness = self._beside(_LIBRARY.hull_outline_witness, other)
         if told.code == _Code.EMPTY:
             return None
-        count = {Shows.APART: 2, Shows.CROSSING: 4}.get(told.code, 1)
-        return Witness(Shows(told.code), tuple(map(tuple, (told.a, told.b, told.c, told.d)))[:count])
+        shows = Shows(told.code)
+        count = {Shows.APART: 2, Shows.CROSSING: 4}.get(shows, 1)
+        return Witness(shows, tuple(map(told.point, "abcd"[:count])))
 
-    def distance(self, other):
+    def distance(self, other: Outline) -> Optional[Tuple[Tuple[Pair, ...], Tuple[Pair, ...]]]:
         """Where the two outlines are nearest to one another: a place on this one and one on the other; None where one has no corner.
 
         Of one pair a place is that corner; of two it is a foot on the edge between them; of none the outlines have a point in
-        common. The squared distance of two corners is that of the two; with an edge it is the square of the corner's side at it,
-        by the squared length of the edge.
+        common. `squared_distance` has the number.
         """
-        told = self._beside(_LIBRARY.hull_outline_distance, other)
+        told: _Witness = self._beside(_LIBRARY.hull_outline_distance, other)
         if told.code == _Code.EMPTY:
             return None
-        ours, theirs = {_Code.POINTS: (1, 1), _Code.CORNER: (1, 2), _Code.EDGE: (2, 1)}.get(told.code, (0, 0))
-        points = tuple(map(tuple, (told.a, told.b, told.c)))
+        ours, theirs = {int(_Code.POINTS): (1, 1), int(_Code.CORNER): (1, 2), int(_Code.EDGE): (2, 1)}.get(told.code, (0, 0))
+        points = tuple(map(told.point, "abc"))
         return points[:ours], points[ours:ours + theirs]
 
-    def vertices(self):
-        """The corners as pairs."""
-        return list(zip(self._corners[0:2 * self._count:2], self._corners[1:2 * self._count:2]))
+    def squared_distance(self, other: Outline) -> Optional[Fraction]:
+        """The squared distance of the two outlines, 0 where they meet; None where one has no corner."""
+        places = self.distance(other)
+        return None if places is None else _squared_distance(places)
 
 
-def _end_desk(room, at):
-    """Ends the desk in a room, which is kept until then; all its seats are back."""
-    _shared_library().hull_shared_close(at)
-    _shared_library().hull_shared_end(at)
-    del room
+_NO_CORNERS = (ctypes.c_int64 * 2)()
 
 
-class _Desk:
-    """A desk, on which there is one call at a time. The hull and each seat that is out keep it."""
+class FloatHull:
+    """A hull of points in floats, which answers in floats: a Hull on the lattice of steps of 2**-power.
 
-    __slots__ = ("at", "line", "lock", "out", "_line_room", "__weakref__")
+    Each number goes to the nearest step (`from_floats`), and answers are exact for the points that are held then: `rounded`
+    counts the coordinates of added points that had to be rounded. `hull` is the hull itself.
+    """
 
-    def __init__(self):
-        library = _shared_library()
-        room, self.at = _room(library.hull_shared_desk_size(), library.hull_shared_desk_alignment())
-        self._line_room, self.line = _room(library.hull_shared_line_size(), 64)
-        self.lock = threading.Lock()
-        self.out = set()  # the numbers of the seats that are out
-        library.hull_shared_make_desk(self.at)
-        library.hull_shared_make_line(self.line)
-        weakref.finalize(self, _end_desk, room, self.at)
+    __slots__ = ("hull", "power", "rounded")
+
+    def __init__(self, points: Any = (), power: SupportsIndex = 20, limit: SupportsIndex = POINT_LIMIT) -> None:
+        self.power = operator.index(power)
+        made = from_floats(points, self.power)
+        self.hull = Hull(made.points, limit)
+        self.rounded = made.rounded
+
+    def __len__(self) -> int:
+        return len(self.hull)
+
+    def __iter__(self) -> Iterator[Floats]:
+        return (_floats(point, self.power) for point in self.hull)
+
+    def __contains__(self, point: Floats) -> bool:
+        """Whether the hull holds the point; one that is not on the lattice it does not."""
+        try:
+            (near,), rounded = from_floats([point], self.power)
+        except OutOfRange:
+            return False
+        return not rounded and near in self.hull
+
+    def __repr__(self) -> str:
+        return f"<FloatHull of {len(self)} points, steps of 2**{-self.power}>"
+
+    def _near(self, x: float, y: float) -> Pair:
+        """The point of the lattice next to two floats."""
+        return _from_float(x, self.power)[0], _from_float(y, self.power)[0]
+
+    def _told(self, points: Optional[Sequence[Pair]]) -> Any:
+        """Points in floats; None of none."""
+        return None if points is None else tuple(_floats(point, self.power) for point in points)
+
+    def add(self, x: float, y: float) -> int:
+        """Holds the point once more, and returns how often it is held now: 1 where it is new."""
+        ((point,), rounded) = from_floats([(x, y)], self.power)
+        times = self.hull.add(*point)
+        self.rounded += rounded
+        return times
+
+    def remove(self, x: float, y: float) -> Optional[int]:
+        """Holds the point once less, and returns how often it is still held; None where it was not there."""
+        return self.hull.remove(*self._near(x, y))
+
+    def place(self, x: float, y: float) -> Place:
+        """Where the point lies: one of Place."""
+        return self.hull.place(*self._near(x, y))
+
+    def tangents(self, x: float, y: float) -> Optional[Tuple[Floats, Floats]]:
+        """The left and the right point that bound the hull as it is seen from (x, y); None where no such are."""
+        told: Optional[Tuple[Floats, Floats]] = self._told(self.hull.tangents(*self._near(x, y)))
+        return told
+
+    def extreme(self, dx: float, dy: float) -> Optional[Floats]:
+        """The point farthest in a direction of two floats, as `Hull.extreme_d`; None where none is."""
+        farthest = self.hull.extreme_d(dx, dy)
+        return None if farthest is None else _floats(farthest, self.power)
+
+    def vertices(self) -> List[Floats]:
+        """The corners, counterclockwise from the first by x and then y, each once and none inside an edge."""
+        return [_floats(corner, self.power) for corner in self.hull.vertices()]
+
+    def area(self) -> float:
+        """The area, 0 for a point and a line."""
+        return math.ldexp(self.hull.doubled_area(), -2 * self.power - 1)
+
+    def distance_to(self, x: float, y: float) -> Optional[float]:
+        """How far (x, y) is from the hull, 0 where it is covered; None where the hull holds no point."""
+        return self._root(self.hull.outline().squared_distance_to(*self._near(x, y)))
+
+    def distance(self, other: FloatHull) -> Optional[float]:
+        """How far another hull with the same steps is, 0 where they meet; None where one holds no point."""
+        if other.power != self.power:
+            raise ValueError(f"the hulls have steps of 2**{-self.power} and of 2**{-other.power}")
+        return self._root(self.hull.outline().squared_distance(other.hull.outline()))
+
+    def _root(self, squared: Optional[Fraction]) -> Optional[float]:
+        """The root of a squared distance in steps."""
+        return None if squared is None else math.ldexp(math.sqrt(squared), -self.power)
+
+    def wkt(self) -> str:
+        """The hull as well-known text."""
+        return self.hull.wkt(self.power)
 
 
 class SharedHull:
@@ -887,22 +1152,26 @@ class SharedHull:
     numbers.
     """
 
-    __slots__ = ("_desk", "_words")
+    __slots__ = ("_desk", "_words", "__weakref__")
 
-    def __init__(self, capacity, seats, limit=POINT_LIMIT, first=0):
-        keeps, capacity = capacity is not None, 1 if capacity is None else capacity
-        words = operator.index(limit), operator.index(first), operator.index(capacity), operator.index(seats)
+    def __init__(self, capacity: Optional[SupportsIndex], seats: SupportsIndex, limit: SupportsIndex = POINT_LIMIT,
+                 first: SupportsIndex = 0) -> None:
+        library = _shared_library()
+        room = 1 if capacity is None else operator.index(capacity)
+        words = operator.index(limit), operator.index(first), room, operator.index(seats)
         if not all(0 <= word < 1 << bits for word, bits in zip(words, (32, 64, 32, 32))):
             _told(_Code.OUT_OF_LIMITS)
-        self._desk = _Desk()
-        self._words = words
-        if keeps:
-            _told(_shared_library().hull_shared_open(self._desk.at, *words))
+        self._desk = _at(_shared_kinds()[0], library.hull_python_desk_new())
+        self._words: Tuple[Any, ...] = words
+        if capacity is None:
+            code = library.hull_python_open_without_journal(self._desk, words[0], words[1], words[3])
         else:
-            _told(_shared_library().hull_shared_open_without_journal(self._desk.at, words[0], words[1], words[3]))
+            code = library.hull_python_open(self._desk, *words)
+        if code != _Code.OPEN:
+            _refused(code)
 
     @classmethod
-    def reopen(cls, text, capacity, seats):
+    def reopen(cls, text: Union[str, bytes], capacity: SupportsIndex, seats: SupportsIndex) -> SharedHull:
         """A hull that goes on where a journal ends, with the points that it left.
 
         `text` is the journal's, whole, as `close` or the program `hullbook` wrote it: a str or bytes. Limit and numbers are the
@@ -914,9 +1183,9 @@ class SharedHull:
         if not (0 <= capacity < 1 << 32 and 0 <= seats < 1 << 32):
             _told(_Code.OUT_OF_LIMITS)
         hull = cls.__new__(cls)
-        hull._desk = _Desk()
+        hull._desk = _at(_shared_kinds()[0], _shared_library().hull_python_desk_new())
         room = ctypes.create_string_buffer(text, max(len(text), 1))
-        told = _shared_library().hull_shared_reopen(hull._desk.at, ctypes.addressof(room), len(text), capacity, seats)
+        told = _shared_library().hull_python_reopen(hull._desk, ctypes.addressof(room), len(text), capacity, seats)
         words = {
             _Code.NO_JOURNAL: f"line {told.number}: fault {told.high}: the text is none of a journal",
             _Code.OLD_RULES: "points are not counted in journals before version 3",
@@ -925,24 +1194,28 @@ class SharedHull:
         }.get(told.code)
         if words is not None:
             raise JournalFault(words)
-        _told(told.code)
+        if told.code != _Code.OPEN:
+            _refused(told.code)
         hull._words = None, None, capacity, seats
         return hull
 
-    def __reduce__(self):
+    def __reduce__(self) -> Any:
         raise TypeError("a hull lies in one place: it can't be copied")
 
-    def __repr__(self):
-        limit, first, capacity, seats = self._words
-        with self._desk.lock:
-            out = len(self._desk.out)
-        where = "behind a journal" if first is None else f"from {first}, limit {limit}"
-        return f"<SharedHull for {capacity} calls {where}, {out} of {seats} seats out>"
+    def _out(self) -> List[int]:
+        """The numbers of the seats that are out."""
+        out = _shared_library().hull_python_out(self._desk)
+        return [number for number in range(SEAT_LIMIT) if out >> number & 1]
 
-    def __enter__(self):
+    def __repr__(self) -> str:
+        limit, first, capacity, seats = self._words
+        where = "behind a journal" if first is None else f"from {first}, limit {limit}"
+        return f"<SharedHull for {capacity} calls {where}, {len(self._out())} of {seats} seats out>"
+
+    def __enter__(self) -> SharedHull:
         return self
 
-    def __exit__(self, fault, *_):
+    def __exit__(self, fault: object, *_: object) -> None:
         """Closes the hull. SeatsOut, which names them, where seats are out, unless another exception is under way."""
         try:
             self._close()
@@ -950,42 +1223,40 @@ class SharedHull:
             if fault is None:
                 raise
 
-    def lend(self, number):
+    def lend(self, number: SupportsIndex) -> Seat:
         """Lends the seat of a number, 0 and up, for one thread; NoSeat where it is out or there is none."""
         number = operator.index(number)
         if not 0 <= number < SEAT_LIMIT:
             _told(_Code.NO_SEAT)
         return Seat(self._desk, number)
 
-    def _close(self):
+    def _close(self) -> None:
         """Closes the hull, unless it is closed."""
-        with self._desk.lock:
-            code = _shared_library().hull_shared_close(self._desk.at)
-            if code == _Code.SEATS_OUT:
-                raise SeatsOut(f"seats of the hull are out: {', '.join(map(str, sorted(self._desk.out)))}")
+        code = _shared_library().hull_python_close(self._desk)
+        if code == _Code.SEATS_OUT:
+            raise SeatsOut(f"seats of the hull are out: {', '.join(map(str, self._out()))}")
         if code != _Code.NOT_OPEN:
             _told(code)
 
-    def close(self):
-        """Closes the hull, unless it is closed, and returns the text of its journal; SeatsOut where a seat is out."""
+    def close(self) -> str:
+        """Closes the hull, unless it is closed, and returns the text of its journal; SeatsOut where a seat is out.
+
+        MemoryError where there is none for the text: the hull is closed, and this may be called again.
+        """
         self._close()
-        with self._desk.lock:
-            return _text(_shared_library().hull_shared_text, self._desk.at)
+        return _text(_shared_library().hull_python_text, self._desk)
 
 
-def _text(write, at):
-    """The text that a function writes of what lies in a room."""
-    none = ctypes.create_string_buffer(1)
-    length = write(at, ctypes.addressof(none), 0).number
-    text = ctypes.create_string_buffer(max(length, 1))
-    _told(write(at, ctypes.addressof(text), length).code)
-    return text.raw[:length].decode("ascii")
-
-
-def _end_part(room, at):
-    """Ends the part in a room, which is kept until then."""
-    _shared_library().hull_shared_part_end(at)
-    del room
+def _text(write: Callable[..., _Reply], at: Any) -> str:
+    """The text that a function writes of what lies at a place."""
+    room = ctypes.create_string_buffer(1)
+    while True:
+        told = write(at, ctypes.addressof(room), len(room))
+        if told.code == _Code.TEXT:
+            return ctypes.string_at(room, told.number).decode("ascii")
+        if told.code != _Code.TOO_SMALL:
+            _refused(told.code)
+        room = ctypes.create_string_buffer(told.number)
 
 
 class JournalPart:
@@ -993,51 +1264,40 @@ class JournalPart:
 
     __slots__ = ("_at", "__weakref__")
 
-    def __init__(self, lines):
-        library = _shared_library()
-        room, self._at = _room(library.hull_shared_part_size(), library.hull_shared_part_alignment())
-        library.hull_shared_make_part(self._at)
-        weakref.finalize(self, _end_part, room, self._at)
-        _told(library.hull_shared_part_reserve(self._at, lines))
+    def __init__(self, lines: int) -> None:
+        self._at = _at(_shared_kinds()[2], _shared_library().hull_python_part_new(lines))
 
-    def __reduce__(self):
+    def __reduce__(self) -> Any:
         raise TypeError("a part lies in one place: it can't be copied")
 
-    def text(self):
+    def text(self) -> str:
         """The text of the lines, which has the number of the first as its own first number.
 
         `hullbook check` judges the texts of all parts in their order.
         """
-        return _text(_shared_library().hull_shared_part_text, self._at)
+        return _text(_shared_library().hull_python_part_text, self._at)
 
-    def pieces(self, size=1 << 16):
+    def pieces(self, size: SupportsIndex = 1 << 16) -> Iterator[str]:
         """That text in pieces of whole lines, each of at most `size` bytes, or one line that is longer.
 
         One piece is in memory at a time: `file.writelines(part.pieces())`.
         """
         line, room = 0, ctypes.create_string_buffer(max(operator.index(size), 1))
         while True:
-            told = _shared_library().hull_shared_part_text_from(self._at, line, ctypes.addressof(room), len(room))
+            told = _shared_library().hull_python_part_text_from(self._at, line, ctypes.addressof(room), len(room))
             if told.code == _Code.TOO_SMALL:
                 room = ctypes.create_string_buffer(told.number)
                 continue
-            _told(told.code)
+            if told.code != _Code.TEXT:
+                _refused(told.code)
             if told.number == 0:
                 return
-            yield room.raw[:told.number].decode("ascii")
+            yield ctypes.string_at(room, told.number).decode("ascii")
             line = told.high
 
-    def __iter__(self):
+    def __iter__(self) -> Iterator[str]:
         for piece in self.pieces():
             yield from piece.splitlines()
-
-
-def _return_seat(desk, room, at, number):
-    """Gives the seat in a room back, which is kept until then."""
-    with desk.lock:
-        _shared_library().hull_shared_give_back(desk.at, at)
-        desk.out.discard(number)
-    del room
 
 
 class Seat:
@@ -1047,93 +1307,94 @@ class Seat:
     no room. A seat goes back to its hull by `give_back`, at the end of a `with`, and when it is let go.
     """
 
-    __slots__ = ("_at", "_corners", "_desk", "_lock", "_number", "_return", "_turn", "__weakref__")
+    __slots__ = ("_at", "_corners", "_is_out", "_number", "_part", "__weakref__")
 
-    def __init__(self, desk, number):
-        library = _shared_library()
-        room, self._at = _room(library.hull_shared_seat_size(), library.hull_shared_seat_alignment())
-        self._lock = threading.Lock()
-        self._desk, self._number, self._turn, self._corners = desk, number, None, 64
-        library.hull_shared_make_seat(self._at)
-        with desk.lock:
-            _told(library.hull_shared_lend(desk.at, self._at, number))
-            desk.out.add(number)
-        self._return = weakref.finalize(self, _return_seat, desk, room, self._at, number)
+    def __init__(self, desk: Any, number: int) -> None:
+        self._number, self._corners, self._is_out = number, 64, False
+        self._part: Optional[JournalPart] = None
+        self._at = _at(_shared_kinds()[1], _shared_library().hull_python_seat_new())
+        _told(_shared_library().hull_python_lend(self._at, desk, number))
+        self._is_out = True
 
-    def __reduce__(self):
+    def __reduce__(self) -> Any:
         raise TypeError("a seat lies in one place: it can't be copied")
 
-    def __enter__(self):
+    def __enter__(self) -> Seat:
         return self
 
-    def __exit__(self, *_):
+    def __exit__(self, *_: object) -> None:
         self.give_back()
 
-    def give_back(self):
+    def give_back(self) -> None:
         """Gives the seat back to its hull. Calls on it raise ValueError from then on."""
-        with self._lock:
-            self._return()
+        self._is_out = False
+        _shared_library().hull_python_give_back(self._at)
 
-    def _served(self, function, *words):
+    def _served(self, function: Callable[..., Any], *words: int) -> _Reply:
         """The reply of a function that waits for the seat's turn, or the fault that it told."""
-        with self._lock:
-            if not self._return.alive:
-                _told(_Code.VACANT)
-            answer = function(self._desk.line, self._at, *words)
-            if answer.told.code not in _UNSERVED:
-                self._turn = answer.turn
-        _told(answer.told.code)
-        return answer.told
+        reply: _Reply = function(self._at, *words)
+        _told(reply.code)
+        return reply
 
-    def _ask(self, kind, x=0, y=0):
+    def _ask(self, kind: int, x: int = 0, y: int = 0) -> _Reply:
         """The reply of a call, or the fault that it told."""
-        return self._served(_shared_library().hull_shared_ask, kind, x, y)
+        return self._served(_shared_library().hull_python_ask, kind, x, y)
 
-    def __repr__(self):
-        return f"<Seat {self._number}, {'out' if self._return.alive else 'given back'}, last turn {self._turn}>"
+    def __repr__(self) -> str:
+        return f"<Seat {self._number}, {'out' if self._is_out else 'given back'}, last turn {self.turn()}>"
 
-    def turn(self):
+    def turn(self) -> Optional[int]:
         """The number of the last call that was served, under which it has its line; None where none was."""
-        return self._turn
+        turn = ctypes.c_uint64()
+        return turn.value if _shared_library().hull_python_turn(self._at, ctypes.addressof(turn)) else None
 
-    def add(self, x, y):
+    def add(self, x: SupportsIndex, y: SupportsIndex) -> int:
         """Holds the point once more, and returns how often it is held now: 1 where it is new."""
         return _times_added(self._ask(_Kind.ADD, _whole(x), _whole(y)))
 
-    def remove(self, x, y):
+    def remove(self, x: SupportsIndex, y: SupportsIndex) -> Optional[int]:
         """Holds the point once less, and returns how often it is still held; None where it was not there."""
         return _times_left(self._ask(_Kind.REMOVE, _whole(x), _whole(y)))
 
-    def place(self, x, y):
+    def place(self, x: SupportsIndex, y: SupportsIndex) -> Place:
         """Where the point lies: one of Place."""
         return Place(self._ask(_Kind.PLACE, _whole(x), _whole(y)).code)
 
-    def tangents(self, x, y):
+    def tangents(self, x: SupportsIndex, y: SupportsIndex) -> Optional[Tuple[Pair, Pair]]:
         """The left and the right point that bound the hull as it is seen from (x, y); None where no such are."""
         return _tangents(self._ask(_Kind.TANGENTS, _whole(x), _whole(y)))
 
-    def extreme(self, x, y):
+    def extreme(self, x: SupportsIndex, y: SupportsIndex) -> Optional[Pair]:
         """The point farthest in the direction (x, y), of several the first by x and then by y; None where none is."""
         return _farthest(self._ask(_Kind.EXTREME, _whole(x), _whole(y)))
 
-    def drain(self):
+    def drain(self) -> JournalPart:
         """Asks how many points there are, and takes all lines that the hull holds then out of its journal, as a JournalPart.
 
         That of this call is the last of them. MemoryError where there is no room for the lines: no call is made then.
         JournalFull where the journal has no room for the call, and nothing is taken out: a hull is to be drained before.
+        Where a signal's handler raises before the part is returned, `last_part` has it.
         """
-        with self._lock:
-            if not self._return.alive:
-                _told(_Code.VACANT)
-            part = JournalPart(_shared_library().hull_shared_capacity(self._at))
-        self._served(_shared_library().hull_shared_ask_and_drain, part._at, _Kind.COUNT, 0, 0)
+        capacity = _shared_library().hull_python_capacity(self._at)
+        if capacity == 0:
+            self._ask(_Kind.COUNT)  # which tells why
+        part = JournalPart(capacity)
+        kept, self._part = self._part, part
+        told = _shared_library().hull_python_drain(self._at, part._at)
+        if told.code in _FAULTS:
+            self._part = kept
+            _told(told.code)
         return part
 
-    def corners(self):
+    def last_part(self) -> Optional[JournalPart]:
+        """What the last drain took out; None where none has."""
+        return self._part
+
+    def corners(self) -> int:
         """How many corners there are."""
         return self._ask(_Kind.VERTICES).number
 
-    def vertices(self):
+    def vertices(self) -> List[Pair]:
         """The corners as pairs, as those of a Hull.
 
         They are asked for with room for as many as there were before, and again where there are more: each asking has
@@ -1141,15 +1402,15 @@ class Seat:
         """
         while True:
             room = array("q", (0, 0)) * self._corners
-            reply = self._served(_shared_library().hull_shared_ask_vertices, room.buffer_info()[0], self._corners)
+            reply = self._served(_shared_library().hull_python_ask_vertices, room.buffer_info()[0], self._corners)
             if reply.code != _Code.TOO_SMALL:
-                return list(zip(room[0:2 * reply.number:2], room[1:2 * reply.number:2]))
+                return _pairs(room[:2 * reply.number])
             self._corners = reply.number + reply.number // 8
 
-    def doubled_area(self):
+    def doubled_area(self) -> int:
         """Twice the area, 0 for a point and a line."""
         return _area(self._ask(_Kind.AREA))
 
-    def count(self):
+    def count(self) -> int:
         """How many different points there are."""
         return self._ask(_Kind.COUNT).number

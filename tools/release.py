@@ -33,8 +33,8 @@ TARGETS = {"x86_64": ("x86_64-unknown-linux-gnu", "gcc"), "aarch64": ("aarch64-u
 LIBRARIES = {"libhull": "hull_c", "libhull_shared": "hull_shared"}
 PROGRAMS = ("hullbook", "hulldraw")
 # what the shared object of a library has beside its archive
-BESIDE = {"libhull": [], "libhull_shared": ["python/hull_shared_call.c"]}
-HEADERS = ["include/hull_common.h", "include/hull_shared.h"]
+BESIDE = {"libhull": "python/hull_calls.c", "libhull_shared": "python/hull_shared_calls.c"}
+HEADERS = ["include/hull.h", "include/hull_common.h", "include/hull_shared.h", "python/hull_owned.h"]
 
 
 class Product:
@@ -92,22 +92,21 @@ def make_archive(name, processor, to):
 
 
 def make_object(name, processor, to):
-    """The shared object of a library: the whole archive, and for Python the calls that wait."""
+    """The shared object of a library: the whole archive, and the calls that Python makes of it."""
     emulation = {"x86_64": "elf_x86_64", "aarch64": "aarch64linux"}[processor]
     with tempfile.TemporaryDirectory() as room:
-        objects = []
-        for it in BESIDE[name]:
-            objects.append(f"{room}/{os.path.basename(it)}.o")
-            call(TARGETS[processor][1], "-O2", "-fPIC", f"-I{kit.TOP}/include", "-c", f"{kit.TOP}/{it}", "-o", objects[-1])
+        call(TARGETS[processor][1], "-O2", "-fPIC", f"-I{kit.TOP}/include", "-c", f"{kit.TOP}/{BESIDE[name]}", "-o", f"{room}/calls.o")
         archive = f"{room}/{name}.a"
         if put(f"{processor}/{name}.a", archive):
             sys.exit(70)
-        call(toolchain("ld.lld"), "-m", emulation, "-shared", "-soname", f"{name}.so", "-o", to, *objects, "--whole-archive", archive, "--no-whole-archive")
+        call(toolchain("ld.lld"), "-m", emulation, "-shared", "-s", "-soname", f"{name}.so", "-o", to, f"{room}/calls.o", "--whole-archive", archive, "--no-whole-archive")
 
 
 def make_program(name, to):
-    """A program, as it was proved and linked."""
+    """A program, as it was proved and linked, without the names that only a debugger reads."""
     shutil.copy(f"{kit.crates()[name].folder}/out/{name}", to)
+    # (the toolchain's one file of LLVM goes by the name that it is called by)
+    subprocess.run(["llvm-strip", "-s", to], executable=toolchain("clang"), check=True)
 
 
 def make_page(name, to):
@@ -122,7 +121,7 @@ def products():
         for name, crate in LIBRARIES.items():
             others = ["archive/allocator.c"]
             found.append(Product(f"{processor}/{name}.a", crate, others, lambda to, at=(name, processor): make_archive(*at, to)))
-            others = others + BESIDE[name] + (HEADERS if BESIDE[name] else [])
+            others = [*others, BESIDE[name], *HEADERS]
             found.append(Product(f"{processor}/{name}.so", crate, others, lambda to, at=(name, processor): make_object(*at, to)))
     web = [f"web/{it}" for it in sorted(os.listdir(f"{kit.TOP}/web")) if os.path.isfile(f"{kit.TOP}/web/{it}")]
     found += [Product(f"web/{it}", "hull_c", ["web/build.py"], lambda to, it=it: make_page(it, to)) for it in ("hull.wasm", "hull32.wasm")]

@@ -3,14 +3,15 @@
 The cells are asked about all at once, in a list and in an array of 64-bit integers in two columns.
 """
 from array import array
+from typing import Dict
 
 from hull import Hull, Place
 
-SIGN = {Place.INSIDE: "#", Place.ON: "+", Place.OUTSIDE: "."}
+SIGN: Dict[int, str] = {Place.INSIDE: "#", Place.ON: "+", Place.OUTSIDE: "."}
 WIDTH, HEIGHT = 24, 9
 
 
-def picture(places):
+def picture(places: bytes) -> str:
     """The cells row by row, the upper ones first."""
     rows = ["".join(SIGN[place] for place in places[at:at + WIDTH]) for at in range(0, WIDTH * HEIGHT, WIDTH)]
     return "\n".join(reversed(rows))

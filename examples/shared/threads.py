@@ -5,20 +5,21 @@ hullbook's `check` judges it.
 """
 import sys
 import threading
+from typing import Callable, List
 
-from hull import Place, SharedHull
+from hull import Place, Seat, SharedHull
 
 ROUNDS = 200
 PLACE = 5, 50
 
 
-def insert(hull, number, height):
+def insert(hull: SharedHull, number: int, height: Callable[[int], int]) -> None:
     with hull.lend(number) as seat:
         for i in range(ROUNDS):
             seat.add(i if i % 2 else -i, height(i))
 
 
-def ask(seat):
+def ask(seat: Seat) -> int:
     """Asks until the place is covered, at most as often as one thread inserts; returns how often that was."""
     for asked in range(1, ROUNDS):
         if seat.place(*PLACE) is Place.INSIDE:
@@ -28,7 +29,7 @@ def ask(seat):
 
 
 hull = SharedHull(limit=1000, capacity=5 * ROUNDS, seats=4)
-heights = [lambda i: i, lambda i: -i, lambda i: 0]
+heights: List[Callable[[int], int]] = [lambda i: i, lambda i: -i, lambda i: 0]
 inserting = [threading.Thread(target=insert, args=(hull, number, height)) for number, height in enumerate(heights, 1)]
 for thread in inserting:
     thread.start()

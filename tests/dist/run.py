@@ -58,7 +58,7 @@ fn main() {
     println!("{}", hull.area().expect("an area"));
 }
 """
-PYTHON = "import hull; h = hull.Hull([(0, 0), (10, 0), (10, 10), (0, 10)]); print(h.area(), h.place(5, 5)); s = hull.SharedHull(100, 100, 2); s.close()"
+PYTHON = "import hull; h = hull.Hull([(0, 0), (10, 0), (10, 10), (0, 10)]); s = hull.SharedHull(100, 100, 2); s.close(); print(h.doubled_area(), h.place(5, 5).name)"
 NODE = "import { load } from 'hullbook'; const { Hull } = await load(); const h = new Hull(100); h.addAll([[0, 0], [10, 0], [10, 10], [0, 10]]); console.log(String(h.area()));"
 
 
@@ -150,7 +150,7 @@ def try_install(tries):
     if tries.has("meson", "Meson") and tries.has("ninja", "Meson"):
         tries.lay("meson", user__c=C_PROGRAM, meson__build=MESON)
         tries.prints("Meson", "1", "sh", "-c", "meson setup out >log 2>&1 && ninja -C out >>log 2>&1 && out/user || cat log", at="meson", env=here)
-    tries.prints("Python beside its shared objects", "", "python3", "-c", PYTHON, env={"PYTHONPATH": f"{tries.room}/prefix/lib/hull"})
+    tries.prints("Python beside its shared objects", "200 INSIDE", "python3", "-c", PYTHON, env={"PYTHONPATH": f"{tries.room}/prefix/lib/hull"})
     status, told = tries.run("bin/install", "/usr", at="clone", env={"DESTDIR": f"{tries.room}/staged"})
     tries.see("bin/install below DESTDIR", status == 0 and os.path.exists(f"{tries.room}/staged/usr/lib/libhull.a"), told)
 
@@ -167,7 +167,7 @@ def try_packages(tries):
                      " && cc ../../c/user.c $(pkg-config --cflags --libs hull) -o user && ./user", at="unpacked")
     wheel = f"{at}/hullbook-{version}-py3-none-manylinux2014_x86_64.whl"
     if tries.run("python3", "-m", "venv", "venv")[0] == 0:
-        tries.prints("the wheel, by pip", "", "sh", "-c", f"venv/bin/pip install --no-index -q {wheel} && venv/bin/python -c '{PYTHON}'")
+        tries.prints("the wheel, by pip", "200 INSIDE", "sh", "-c", f"venv/bin/pip install --no-index -q {wheel} && venv/bin/python -c '{PYTHON}'")
     if tries.has("objdump", "symbols of the wheel"):
         script = f"unzip -q -o {wheel} -d wheel && objdump -T wheel/hull/*.so | grep -o 'GLIBC_[0-9.]*' | sort -uV | tail -n 1"
         newest = tries.run("sh", "-c", script)[1].strip()

@@ -7,12 +7,14 @@
 
 static int passed, failed, refused_from = -1, asked;
 
-/* malloc and realloc, of which those from `refused_from` on are refused (linked in by --wrap) */
+/* malloc, calloc and realloc, of which those from `refused_from` on are refused (linked in by --wrap) */
 void *__real_malloc(size_t n);
 void *__real_realloc(void *p, size_t n);
 static int is_refused(void) { return refused_from >= 0 && asked++ >= refused_from; }
 void *__wrap_malloc(size_t n) { return is_refused() ? NULL : __real_malloc(n); }
 void *__wrap_realloc(void *p, size_t n) { return is_refused() ? NULL : __real_realloc(p, n); }
+void *__real_calloc(size_t count, size_t n);
+void *__wrap_calloc(size_t count, size_t n) { return is_refused() ? NULL : __real_calloc(count, n); }
 
 #define CHECK(truth) check(truth, #truth, __LINE__)
 static void check(int truth, const char *text, int line) {
@@ -278,7 +280,7 @@ static void held_points(void) {
         seen += more;
         from = more > 0 ? hull_held_behind(piece[more - 1]) : from;
     }
-    CHECK(right && seen == count && from.x == far && from.y == far);
+    CHECK(right && seen == count && from.x == far + 1 && from.y == -far);
     CHECK(number(hull_held_from(h, 3, far, piece, 1), HULL_NUMBER, 1) && piece[0].x == 3 && piece[0].y == far);
     from = hull_held_behind(piece[0]);
     CHECK(from.x == 4 && from.y == -far && number(hull_held_from(h, 0, 0, piece, 0), HULL_NUMBER, 0));
@@ -758,6 +760,108 @@ static void refusals(void) {
     ended(h);
 }
 
+/* the loop that the header gives for pieces: it ends, whatever the last piece ends with, and no point comes twice */
+static void pieces(void) {
+    const int64_t far = HULL_COORDINATE_MAX;
+    for (size_t count = 0; count <= 12; count++) {
+        for (int at_end = 0; at_end < 2; at_end++) {
+            hull_set *h = made(12);
+            for (size_t i = 0; i < count; i++) {
+                hull_add(h, at_end ? far : 7, at_end ? far - (int64_t)i : (int64_t)i);
+            }
+            for (size_t room = 1; room <= 5; room++) {
+                hull_held piece[5];
+                hull_point at = {-HULL_COORDINATE_MAX, -HULL_COORDINATE_MAX};
+                hull_reply r = {.number = 1};
+                size_t seen = 0, rounds = 0;
+                while (r.number > 0 && at.x <= HULL_COORDINATE_MAX && rounds++ < 20) {
+                    r = hull_held_from(h, at.x, at.y, piece, room);
+                    seen += (size_t)r.number;
+                    if (r.number > 0) {
+                        at = hull_held_behind(piece[r.number - 1]);
+                    }
+                }
+                CHECK(seen == count && rounds < 20 && r.code == HULL_NUMBER);
+                /* and one that goes on as long as pieces are full, as callers write it */
+                seen = rounds = 0, at.x = at.y = -HULL_COORDINATE_MAX;
+                do {
+                    r = hull_held_from(h, at.x, at.y, piece, room);
+                    seen += (size_t)r.number;
+                    at = r.number > 0 ? hull_held_behind(piece[r.number - 1]) : at;
+                } while (r.number == room && rounds++ < 20);
+                CHECK(seen == count && rounds < 20);
+            }
+            ended(h);
+        }
+    }
+}
+
+/* a copy for which memory is refused says so, and leaves what was there */
+static void refused_copies(void) {
+    hull_set *h = made(9), *other = made(9);
+    for (int64_t i = 0; i < 9; i++) {
+        hull_add(h, i, i * i), hull_add(other, 50, i);
+    }
+    int refusals = 0;
+    for (int request = 0;; request++, refusals++) {
+        refused_from = request, asked = 0;
+        hull_reply r = hull_copy(other, h);
+        refused_from = -1;
+        if (r.code == HULL_NUMBER) {
+            break;
+        }
+        CHECK(bare(r, HULL_NO_MEMORY) && number(hull_multiplicity(other, 50, 8), HULL_NUMBER, 1));
+    }
+    CHECK(refusals > 2 && number(hull_multiplicity(other, 8, 64), HULL_NUMBER, 1));
+    ended(h), ended(other);
+}
+
+/* The table of lattice.txt, which all languages are tried by: doubles and their coordinates, both ways. */
+static void lattice(const char *table) {
+    FILE *file = fopen(table, "r");
+    char row[200], how[20];
+    int cases = 0;
+    CHECK(file != NULL);
+    while (file != NULL && fgets(row, sizeof row, file) != NULL) {
+        unsigned long long bits;
+        long long wanted;
+        int power;
+        if (row[0] == '#' || sscanf(row, "%llx %d %lld %19s", &bits, &power, &wanted, how) != 4) {
+            continue;
+        }
+        const uint64_t word = bits;
+        double v;
+        int64_t got = 77;
+        memcpy(&v, &word, sizeof v);
+        hull_rounding told = hull_from_double(v, power, &got);
+        int right = strcmp(how, "none") == 0 ? told == HULL_NO_COORDINATE && got == 77
+                                             : got == wanted && told == (strcmp(how, "exact") == 0 ? HULL_EXACT : HULL_ROUNDED);
+        check(right, row, __LINE__);
+        check(strcmp(how, "exact") != 0 || abs(power) >= 900 || hull_to_double(wanted, power) == v, row, __LINE__);
+        cases++;
+    }
+    CHECK(cases > 40);
+    CHECK(hull_to_double(3, -5) == 96 && hull_to_double(-3, -1) == -6 && hull_to_double(5, 1) == 2.5 && hull_to_double(5, 0) == 5);
+    if (file != NULL) {
+        fclose(file);
+    }
+}
+
+/* a number as text tells its double from all others */
+static void numbers(void) {
+    static const struct {
+        int64_t coordinate;
+        int power;
+        const char *text;
+    } cases[] = {{INT64_C(394027974810), 20, "375774.35952186584"}, {INT64_C(58621899350), 40, "0.053316306866690866"},
+                 {INT64_C(957418413090), -30, "1.0280201932024421e+21"}, {-3, 2, "-0.75"}, {-3, 0, "-3"}, {1, 40, "9.094947017729282e-13"}};
+    for (size_t i = 0; i < sizeof cases / sizeof *cases; i++) {
+        char text[32];
+        CHECK(hull_number_text(cases[i].coordinate, cases[i].power, text) == strlen(text));
+        CHECK(strcmp(text, cases[i].text) == 0);
+    }
+}
+
 /* a hull of malloc's, and the names of codes */
 static void new_ones(void) {
     CHECK(hull_new(0) == NULL && hull_new(HULL_LIMIT_MAX + 1) == NULL);
@@ -776,9 +880,23 @@ static void new_ones(void) {
         memset(room, 7, 17);
         hull_room_free(room);
     }
-    CHECK(strcmp(hull_code_name(HULL_ABSENT), "HULL_ABSENT") == 0);
-    CHECK(strcmp(hull_code_name(HULL_IN_USE), "HULL_IN_USE") == 0);
-    CHECK(strcmp(hull_code_name(21), "HULL_OUT_OF_ORDER") == 0 && strcmp(hull_code_name(29), "HULL_WITHIN") == 0 && strcmp(hull_code_name(200), "no code") == 0 && strcmp(hull_code_name(UINT32_MAX), "no code") == 0);
+    /* in the order of their numbers, which will not change */
+    static const char *const names[] = {
+        "HULL_OK", "HULL_OUT_OF_RANGE", "HULL_ZERO_DIRECTION", "HULL_ADDED", "HULL_AGAIN", "HULL_TOO_MANY", "HULL_NO_MEMORY",
+        "HULL_REMOVED", "HULL_LEFT", "HULL_ABSENT", "HULL_POINT", "HULL_EMPTY", "HULL_INSIDE", "HULL_ON", "HULL_OUTSIDE",
+        "HULL_TANGENTS", "HULL_NO_TANGENT", "HULL_NUMBER", "HULL_CORNERS", "HULL_TOO_SMALL", "HULL_CLEARED",
+        "HULL_OUT_OF_ORDER", "HULL_UNKNOWN_KIND", "HULL_MEETING", "HULL_APART", "HULL_COVERED", "HULL_CORNER", "HULL_EDGE",
+        "HULL_BOX", "HULL_WITHIN", "HULL_CROSSING", "HULL_POINTS", "HULL_OPEN", "HULL_OUT_OF_LIMITS", "HULL_WAS_OPENED",
+        "HULL_LENT", "HULL_NO_SEAT", "HULL_ROOM_IN_USE", "HULL_NOT_OPEN", "HULL_RETURNED", "HULL_VACANT", "HULL_WAITING",
+        "HULL_PLACE_IN_USE", "HULL_TAKEN", "HULL_NOT_YET", "HULL_NO_NUMBER", "HULL_FULL", "HULL_SEATS_OUT", "HULL_CLOSED",
+        "HULL_NOT_CLOSED", "HULL_TEXT", "HULL_ENDED", "HULL_IN_USE", "HULL_RESERVED", "HULL_PART_IN_USE", "HULL_NO_ROOM",
+        "HULL_NO_LINES", "HULL_NO_JOURNAL", "HULL_OLD_RULES", "HULL_ILLEGAL", "HULL_TOO_FEW_SEATS", "HULL_NO_OUTLINE"};
+    const uint32_t count = sizeof names / sizeof *names;
+    for (uint32_t code = 0; code < count; code++) {
+        check(strcmp(hull_code_name(code), names[code]) == 0, names[code], __LINE__);
+    }
+    CHECK(strcmp(hull_code_name(count), "no code") == 0 && strcmp(hull_code_name(UINT32_MAX), "no code") == 0);
+    CHECK(HULL_ABSENT == 9 && HULL_IN_USE == 52 && HULL_OUT_OF_ORDER == 21 && HULL_TOO_FEW_SEATS == 60 && HULL_NO_OUTLINE == 61);
 }
 
 /* Each call that is passed an array, with none: null and no elements. */
@@ -812,7 +930,8 @@ static void no_arrays(void) {
     ended(h);
 }
 
-int main(void) {
+int main(int words, char **word) {
+    lattice(words > 1 ? word[1] : "lattice.txt");
     CHECK(hull_size() > 0);
     CHECK(hull_alignment() > 0 && (hull_alignment() & (hull_alignment() - 1)) == 0);
     new_ones();
@@ -823,6 +942,9 @@ int main(void) {
     many_corners();
     loads();
     held_points();
+    pieces();
+    refused_copies();
+    numbers();
     bridges();
     outlines();
     encounters();

@@ -1,13 +1,18 @@
 // Each function of include/hull.hpp, each of its answers and each of its faults. Prints what is wrong, and how many checks passed and
-// failed. With a file named, threads make calls at once, and their journal goes there.
+// failed. hull_tests TABLE [JOURNAL]: the table is lattice.txt; with a journal named, threads make calls at once, and theirs goes there.
 #include "hull.hpp"
 
+#include <atomic>
 #include <cmath>
+#include <cstring>
 #include <fstream>
 #include <iostream>
 #include <limits>
+#include <list>
+#include <sstream>
 #include <thread>
 #include <type_traits>
+#include <unordered_set>
 
 using hull::Hull;
 using hull::Place;
@@ -16,7 +21,20 @@ using hull::Refusal;
 using hull::Seat;
 using hull::SharedHull;
 
-static int passed, failed;
+static std::atomic<int> passed, failed;
+static long refused = -1;
+
+// the request that comes behind so many is refused (with no inlining, by which gcc would see a mismatch of new and free)
+#define APART __attribute__((noinline))
+APART void *operator new(std::size_t size) {
+    void *block = refused >= 0 && refused-- == 0 ? nullptr : std::malloc(size > 0 ? size : 1);
+    if (block == nullptr) {
+        throw std::bad_alloc();
+    }
+    return block;
+}
+APART void operator delete(void *block) noexcept { std::free(block); }
+APART void operator delete(void *block, std::size_t) noexcept { std::free(block); }
 
 #define CHECK(...) check((__VA_ARGS__), #__VA_ARGS__, __LINE__)
 static void check(bool truth, const char *text, int line) {
@@ -66,13 +84,8 @@ static void outlines() {
     CHECK(refuses(Refusal::zero_direction, [&] { outline.extreme({0, 0}); }));
     CHECK(refuses(Refusal::out_of_range, [&] { outline.place({far + 1, 0}); }));
     CHECK(refuses(Refusal::out_of_range, [] { hull::Outline({{0, far + 1}}); }));
-    bool refused = false;
-    try {
-        hull::Outline({{1, 0}, {0, 0}});
-    } catch (const std::invalid_argument &) {
-        refused = true;
-    }
-    CHECK(refused && hull::Outline().place({0, 0}) == Place::outside);
+    CHECK(refuses(Refusal::no_outline, [] { hull::Outline({{1, 0}, {0, 0}}); }));
+    CHECK(hull::Outline().place({0, 0}) == Place::outside && hull::Outline() == hull::Outline(std::vector<Point>()) && outline != hull::Outline());
 }
 
 static void encounters() {
@@ -175,8 +188,199 @@ static void one_thread() {
     CHECK(moved.size() == 4);
     moved = std::move(h);
     CHECK(moved.limit() == 6);
+    CHECK(refuses(Refusal::ended, [&] { h.add({1, 1}); }) && refuses(Refusal::ended, [&] { h.vertices(); }));
+    CHECK(refuses(Refusal::ended, [&] { h.place_all({{1, 1}}); }) && refuses(Refusal::ended, [&] { h.copy(); }) && h.get() == nullptr);
     h = Hull(7);
     CHECK(h.limit() == 7);
+}
+
+static void points() {
+    std::ostringstream told;
+    told << Point{3, -4} << Point();
+    CHECK(told.str() == "(3, -4)(0, 0)");
+    CHECK(Point(1, 5) < Point(2, 0) && Point(1, 5) < Point(1, 6) && Point(1, 5) <= Point(1, 5) && Point(2, 0) > Point(1, 9) && !(Point(1, 5) >= Point(1, 6)));
+    std::unordered_set<Point> all;
+    for (std::int64_t i = 0; i < 900; i++) {
+        all.insert({i % 30, i / 30});
+        all.insert({i % 30, i / 30});
+    }
+    CHECK(all.size() == 900 && all.count({29, 29}) == 1 && all.count({30, 0}) == 0);
+    const std::list<Point> listed(square.begin(), square.end());
+    const Hull h(listed.begin(), listed.end(), 4);
+    CHECK(h.size() == 4 && h.limit() == 4 && h.vertices() == square);
+    CHECK(refuses(Refusal::too_many, [&] { Hull few(listed.begin(), listed.end(), 3); }));
+    const hull_point bare = {5, 6};
+    CHECK(Point(bare) == Point(5, 6));
+}
+
+static void many_at_once() {
+    Hull h(1001);
+    std::vector<Point> parabola;
+    for (std::int64_t i = 0; i < 1000; i++) {
+        parabola.push_back({i, i * i});
+    }
+    CHECK(h.add_all(parabola) == std::vector<std::uint32_t>(1000, 1));
+    CHECK(h.add_all({{0, 0}, {-1, 0}, {-2, 0}, {1, 1}}) == (std::vector<std::uint32_t>{2, 1, 0, 2}));
+    const std::vector<Point> asked = {{5, 30}, {0, 0}, {-3, 0}, {-1, -5}};
+    const hull::Outline outline = h.outline();
+    const auto places = h.place_all(asked);
+    const auto seen = h.tangents_all(asked);
+    CHECK(places == (std::vector<Place>{Place::inside, Place::on, Place::outside, Place::outside}) && outline.place_all(asked) == places);
+    CHECK(!seen[0] && seen[3] && seen[3]->left == h.tangents({-1, -5})->left && outline.tangents_all(asked)[3]->right == seen[3]->right);
+    const auto farthest = h.extreme_all({{1, 0}, {-1, 0}});
+    CHECK(farthest[0] == Point(999, 999 * 999) && farthest[1] == Point(-1, 0) && outline.extreme_all({{1, 0}, {-1, 0}}) == farthest);
+    CHECK(outline.place_all(parabola) == std::vector<Place>(1000, Place::on) && h.place_all({}).empty());
+    CHECK(refuses(Refusal::zero_direction, [&] { h.extreme_all({{1, 0}, {0, 0}}); }));
+    for (Point wrong : {Point{0, far + 1}, {-far - 1, 0}}) {
+        const std::size_t size = h.size();
+        CHECK(refuses(Refusal::out_of_range, [&] { h.add_all({{5, 25}, wrong}); }) && h.multiplicity({5, 25}) == 1);
+        CHECK(refuses(Refusal::out_of_range, [&] { h.remove_all({{5, 25}, wrong}); }) && h.size() == size);
+        CHECK(refuses(Refusal::out_of_range, [&] { outline.place_all({{5, 25}, wrong}); }));
+    }
+    CHECK(h.remove_all(parabola) == 1000 && h.remove_all(parabola) == 2 && h.remove_all({}) == 0 && h.size() == 1);
+}
+
+// what is thrown says what it should, word for word
+static void texts() {
+    static const struct {
+        Refusal code;
+        const char *text;
+    } all[] = {{Refusal::out_of_range, "a coordinate is out of range"},
+               {Refusal::zero_direction, "a direction is zero"},
+               {Refusal::too_many, "there are as many points as the limit, or the point is held as often as may be"},
+               {Refusal::no_memory, "memory was refused"},
+               {Refusal::out_of_order, "the held points are not in order"},
+               {Refusal::no_outline, "the points are not the corners of a hull, in their order"},
+               {Refusal::out_of_limits, "a limit of a hull is out of range"},
+               {Refusal::no_seat, "there is no such seat at the hull"},
+               {Refusal::not_open, "the hull is closed"},
+               {Refusal::seats_out, "a seat of the hull is out"},
+               {Refusal::full, "the journal of the hull is full"},
+               {Refusal::vacant, "the seat was given back"},
+               {Refusal::ended, "it was moved away"},
+               {Refusal::no_journal, "the text is none of a journal, from this line on"},
+               {Refusal::old_rules, "points are not counted in journals before version 3"},
+               {Refusal::illegal, "the journal is no legal history, from this line of its text on"},
+               {Refusal::too_few_seats, "the journal has lines by as many seats as this"}};
+    for (const auto &one : all) {
+        CHECK(std::strcmp(hull::Fault(one.code).what(), one.text) == 0 && hull::Fault(one.code).number() == 0);
+        CHECK(hull::Fault(one.code, 7).what() == std::string(one.text) + ": 7" && hull::Fault(one.code, 7).number() == 7);
+    }
+}
+
+// the fault of a call, and its number
+template <class Call> static std::pair<Refusal, std::uint64_t> fault_of(Call call) {
+    try {
+        call();
+    } catch (const hull::Fault &fault) {
+        return {fault.code(), fault.number()};
+    }
+    return {};
+}
+
+static void reopened() {
+    const std::string head = "hullbook journal 3 first 5 limit 3 capacity 9\n", old = head + "5 1 add 0 0 = added\nend 1\n";
+    const auto told = [](const std::string &text, std::uint32_t seats) { return fault_of([&] { SharedHull::reopen(text, 4, seats); }); };
+    CHECK(told("", 2) == std::make_pair(Refusal::no_journal, std::uint64_t(1)));
+    CHECK(told(head + "5 1 add 0 = added\nend 1\n", 2) == std::make_pair(Refusal::no_journal, std::uint64_t(2)));
+    CHECK(told(head + "5 1 add 0 0 = again 2\nend 1\n", 2) == std::make_pair(Refusal::illegal, std::uint64_t(2)));
+    CHECK(told(old, 1) == std::make_pair(Refusal::too_few_seats, std::uint64_t(2)));
+    CHECK(told(old, 0) == std::make_pair(Refusal::out_of_limits, std::uint64_t(0)));
+    SharedHull h = SharedHull::reopen(old, 4, 2);
+    CHECK(h.lend(1).add({0, 0}) == 2);
+    SharedHull bare = SharedHull::open_without_journal({3, 7, 0, 1});
+    for (std::uint32_t i = 1; i <= 1000; i++) {
+        CHECK(bare.lend(0).add({1, 2}) == i);
+    }
+    CHECK(bare.close() == "hullbook journal 3 first 1007 limit 3 capacity 1\nend 0\n");
+    CHECK(fault_of([] { SharedHull::open_without_journal({0, 7, 0, 1}); }).first == Refusal::out_of_limits);
+}
+
+// each request of the header for memory refused in turn: what is thrown is a Fault
+static void refusals() {
+    const std::vector<Point> many(300, Point{1, 2});
+    const std::string old = "hullbook journal 3 first 5 limit 3 capacity 9\n5 1 add 0 0 = added\nend 1\n";
+    const auto all = [&] {
+        Hull h(many.begin(), many.end());
+        for (std::int64_t i = 0; i < 100; i++) {
+            h.add({i, i * i});
+        }
+        const hull::Outline outline = h.outline();
+        Hull twin = h.copy();
+        twin.load_held(h.held());
+        std::size_t seen = twin.place_all(many).size() + twin.add_all(many).size() + outline.extreme_all(many).size();
+        seen += hull::wkt(outline.corners(), 3).size();
+        SharedHull shared({4, 7, 20, 2});
+        Seat seat = shared.lend(1);
+        for (Point p : square) {
+            seat.add(p);
+        }
+        seen += seat.vertices().size();
+        const hull::JournalPart part = seat.drain();
+        seat.give_back();
+        return seen + part.text().size() + shared.close().size() + SharedHull::reopen(old, 4, 2).close().size();
+    };
+    const std::size_t wanted = all();
+    int met = 0;
+    refused = 0;
+    try {
+        ::operator delete(::operator new(1));
+        refused = -1;
+        return; // valgrind has put its own in the place of those above
+    } catch (const std::bad_alloc &) {
+    }
+    for (long request = 0; request < 1000; request++) {
+        refused = request;
+        bool is_right = false;
+        try {
+            is_right = all() == wanted;
+        } catch (const hull::Fault &fault) {
+            is_right = fault.code() == Refusal::no_memory;
+        } catch (const std::bad_alloc &) {
+        }
+        const bool was_met = refused < 0;
+        refused = -1;
+        if (!is_right) {
+            std::cout << "request " << request << ' ';
+        }
+        CHECK(is_right);
+        met += was_met;
+        if (!was_met) {
+            break;
+        }
+    }
+    CHECK(met > 12 && met < 900);
+}
+
+// The table that all languages are tried by.
+static void lattice(const std::string &table) {
+    std::ifstream file(table);
+    int cases = 0;
+    for (std::string line; std::getline(file, line);) {
+        std::istringstream words(line);
+        std::uint64_t bits;
+        int power;
+        std::int64_t wanted;
+        std::string how;
+        if (line[0] == '#' || !(words >> std::hex >> bits >> std::dec >> power >> wanted >> how)) {
+            continue;
+        }
+        double v;
+        std::memcpy(&v, &bits, sizeof v);
+        const hull::Lattice steps{power};
+        if (how == "none") {
+            CHECK(refuses(Refusal::out_of_range, [&] { steps.point(v, 0); }) && refuses(Refusal::out_of_range, [&] { steps.point(0, v); }));
+        } else {
+            bool first = false, second = true;
+            CHECK(steps.point(v, 0, &first) == Point(wanted, 0) && first == (how == "rounded"));
+            CHECK(steps.point(0, v, &second) == Point(0, wanted) && second); // it stays, where nothing is rounded
+            CHECK(how == "rounded" || std::abs(power) >= 900 || steps.doubles({wanted, 0}).first == v);
+        }
+        cases++;
+    }
+    CHECK(cases > 40);
+    bool rounded = true;
+    CHECK(hull::direction_of(1, 0.5, &rounded) == Point(1LL << 39, 1LL << 38) && rounded);
 }
 
 static void exchange() {
@@ -216,10 +420,15 @@ static void shared() {
     CHECK(refuses(Refusal::out_of_range, [&] { seat.add({far + 1, 0}); }) && seat.turn() == 20u);
     CHECK(refuses(Refusal::zero_direction, [&] { seat.extreme({0, 0}); }));
     Seat other = std::move(seat);
+    CHECK(other.turn() == 20u && other.number() == 1);
     CHECK(refuses(Refusal::vacant, [&] { seat.count(); }) && other.count() == 4);
-    seat = h.lend(0);
+    seat = std::move(other);
+    CHECK(seat.turn() == 21u && seat.number() == 1 && refuses(Refusal::vacant, [&] { other.drain(); }));
+    other = h.lend(0);
+    CHECK(other.number() == 0 && !other.turn());
     other = std::move(seat);
-    CHECK(other.number() == 0 && h.lend(1).number() == 1);
+    CHECK(other.number() == 1 && other.turn() == 21u && h.lend(0).number() == 0);
+    other = h.lend(0);
     for (int i = 0; i < 5; i++) {
         other.count();
     }
@@ -230,8 +439,38 @@ static void shared() {
     const std::string journal = moved.close();
     CHECK(journal.size() > 100 && journal.back() == '\n' && moved.close() == journal);
     CHECK(refuses(Refusal::not_open, [&] { moved.lend(0); }));
+    CHECK(refuses(Refusal::ended, [&] { h.lend(0); }) && refuses(Refusal::ended, [&] { h.close(); }));
+    SharedHull drained({4, 7, 20, 1});
+    hull::JournalPart part = drained.lend(0).drain(), taken = std::move(part);
+    CHECK(taken.text() == "hullbook journal 3 first 7 limit 4 capacity 20\n7 0 count = count 0\nend 1\n");
+    CHECK(refuses(Refusal::ended, [&] { part.text(); }) && refuses(Refusal::ended, [&] { part.write_to(std::cout); }));
     Seat late = SharedHull({4, 0, 4, 1}).lend(0);
     CHECK(late.add({1, 1}) == 1); // the desk is there until its last seat is back
+}
+
+// overlaps.c has it, with which this is linked in one of two builds
+extern "C" long hull_overlaps(void) __attribute__((weak));
+
+// seats that come and go in several threads: no two calls on their desk overlap
+static void lendings() {
+    SharedHull h = SharedHull::open_without_journal({4, 0, 0, 8});
+    std::vector<std::thread> all;
+    for (std::uint32_t k = 0; k < 4; k++) {
+        all.emplace_back([k, &h] {
+            for (std::uint32_t i = 0; i < 25; i++) {
+                Seat seat = h.lend(k);
+                seat = h.lend(k + 4);
+                seat.add({1, 2});
+                if (i % 5 == 0) {
+                    CHECK(refuses(Refusal::seats_out, [&] { h.close(); }));
+                }
+            }
+        });
+    }
+    for (std::thread &thread : all) {
+        thread.join();
+    }
+    CHECK(!h.close().empty() && hull_overlaps() == 0);
 }
 
 // threads at once, of which one asks for more corners than it had room for
@@ -257,13 +496,22 @@ static void threads(const char *file) {
 
 int main(int words, char **word) {
     one_thread();
+    points();
+    many_at_once();
+    texts();
+    reopened();
+    refusals();
+    lattice(words > 1 ? word[1] : "lattice.txt");
     outlines();
     encounters();
     two_outlines();
     exchange();
     shared();
-    if (words > 1) {
-        threads(word[1]);
+    if (hull_overlaps != nullptr) {
+        lendings();
+    }
+    if (words > 2) {
+        threads(word[2]);
     }
     std::cout << "hull_tests.cpp: " << passed << " passed, " << failed << " failed\n";
     return failed != 0;

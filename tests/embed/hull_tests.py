@@ -1,13 +1,19 @@
 """Each method of python/hull.py, each of its answers and each of its faults."""
 import ast
 import copy
+import ctypes
 import math
+import os
 import pickle
+import struct
 import sys
 import threading
-import time
+import types
 import unittest
 from array import array
+from collections import Counter
+from decimal import Decimal
+from fractions import Fraction
 
 try:
     import numpy
@@ -19,6 +25,7 @@ from hull import COORDINATE_LIMIT, MULTIPLICITY_LIMIT, POINT_LIMIT, Hull, OutOfR
 from hull import from_floats, to_floats, wkt
 
 SQUARE = [(0, 0), (10, 0), (10, 10), (0, 10), (4, 4)]
+LATTICE = os.path.join(os.path.dirname(os.path.abspath(__file__)), "lattice.txt")
 
 
 def columns(points):
@@ -91,6 +98,10 @@ class Calls(unittest.TestCase):
         self.assertEqual(len(hull), 5)
         wide = Hull([(x, y * far) for x in range(-700, 700) for y in (-1, 1)] + [(far, far)])
         self.assertEqual((len(list(wide)), list(wide)[-1], list(Hull())), (2801, (far, far), []))
+        for points in ([(7, y) for y in range(2000)], [(x, y) for x in range(3) for y in range(700)],
+                       [(x, far) for x in range(far - 1023, far + 1)], [(x, far) for x in range(1024)]):
+            wide = Hull(points)  # pieces that end inside a column, with the last of one, and with the last of all
+            self.assertEqual((list(wide), list(wide.copy())), (points, points))
         self.assertEqual((hull.load_items([((0, 0), 3), ((0, 1), 1)]), hull.multiplicity(0, 0)), (2, 3))
         for wrong in ([((0, 1), 1), ((0, 0), 1)], [((0, 0), 1)] * 2, [((0, 0), 0)], [((0, 0), 65536)], [((far + 1, 0), 1)]):
             self.assertRaises(ValueError, hull.load_items, wrong)
@@ -127,8 +138,16 @@ class Calls(unittest.TestCase):
             numbers = array(code, [number for point in SQUARE for number in point])
             points = memoryview(numbers).cast("B").cast(code, (5, 2))
             self.assertEqual(list(self.hull.place_all(points)), [13] * 4 + [12], code)
-        too_great = memoryview(array("Q", [0, 1 << 63])).cast("B").cast("Q", (1, 2))
-        self.assertRaises(OutOfRange, self.hull.place_all, too_great)
+        for number in (1 << 63, (1 << 64) - 5):
+            too_great = memoryview(array("Q", [0, number])).cast("B").cast("Q", (1, 2))
+            self.assertRaises(OutOfRange, self.hull.place_all, too_great)
+        for kind in "c_int8 c_int16 c_int32 c_int64 c_uint8 c_uint16 c_uint32 c_uint64 c_long c_size_t".split():
+            points = (getattr(ctypes, kind) * 2 * 5)(*SQUARE)
+            self.assertEqual(list(self.hull.place_all(points)), [13] * 4 + [12], kind)
+        turned = (ctypes.c_int32.__ctype_be__ * 2 * 5)(*SQUARE)
+        self.assertEqual(list(self.hull.place_all(turned)), [13] * 4 + [12])
+        self.assertRaises(OutOfRange, self.hull.place_all, (ctypes.c_uint64 * 2 * 1)((0, (1 << 64) - 5)))
+        self.assertRaises(TypeError, self.hull.place_all, (ctypes.c_double * 2 * 1)((0, 1)))
         floats = memoryview(array("d", [0.0, 1.0])).cast("B").cast("d", (1, 2))
         self.assertRaisesRegex(TypeError, r"shape \(1, 2\) is of format 'd'", self.hull.place_all, floats)
         turned = memoryview(array("q", range(6))).cast("B").cast("q", (2, 3))
@@ -144,11 +163,89 @@ class Calls(unittest.TestCase):
         for wrong in (float("nan"), float("inf"), -1e308, 1.0000001):
             self.assertRaises(OutOfRange, from_floats, [(0, wrong)], 40)
         self.assertEqual(to_floats([(1, -3)], 2), [(0.25, -0.75)])
+        # whole numbers and fractions that no float is
+        self.assertEqual(from_floats([(2 ** 59 + 1, 2 ** 59)], -20), ([(1 << 39, 1 << 39)], 1))
+        self.assertEqual(from_floats([(2 ** 2000 + 1, 3 * 2 ** 2000)], -2001), ([(1, 2)], 2))
+        self.assertEqual(from_floats([(-2 ** 61 - 1, 2 ** 61 + 2 ** 20)], -21), ([(-1 << 40, 1 << 40)], 2))
+        self.assertEqual(from_floats([(Fraction(1, 3), Decimal("0.5")), (Decimal("0.50000000000000000000001"), True)], 0),
+                         ([(0, 0), (1, 1)], 3))
+        for wrong in (2 ** 61 + 2 ** 21, 1 << 5000, Decimal("Infinity"), Decimal("NaN"), Fraction(2 ** 90)):
+            self.assertRaises(OutOfRange, from_floats, [(0, wrong)], -21)
+        for wrong in ("1", None, 1j):
+            self.assertRaises(TypeError, from_floats, [(0, wrong)], 0)
+
+    def test_lattice(self):
+        """The table of tests/embed/lattice.txt, which all languages are tried by."""
+        with open(LATTICE, encoding="ascii") as file:
+            cases = [line.split() for line in file if not line.startswith("#")]
+        for bits, power, wanted, how in cases:
+            (number,) = struct.unpack(">d", bytes.fromhex(bits))
+            numbers = [number] if numpy is None else [number, numpy.float64(number)]
+            for given in numbers:
+                if how == "none":
+                    self.assertRaises(OutOfRange, from_floats, [(given, 0)], int(power))
+                else:
+                    self.assertEqual(from_floats([(given, 0)], int(power)), ([(int(wanted), 0)], how == "rounded"), bits)
+            if how == "exact" and abs(int(power)) < 900:
+                self.assertEqual(to_floats([(int(wanted), 0)], int(power)), [(number, 0)])
+        self.assertGreater(len(cases), 40)
+
+    def test_floats_in_and_out(self):
+        hull = hull_module.FloatHull([(0.5, 0), (2.5, 0), (2.5, 1.25), (0.1, 1)], power=8)
+        self.assertEqual((len(hull), hull.rounded, hull.power, hull.add(0.5, 0)), (4, 1, 8, 2))
+        self.assertEqual(hull.vertices()[0], (26 / 256, 1.0))
+        self.assertEqual((hull.place(1, 0.5), hull.place(3, 0.5), hull.extreme(1, 0.1)), (Place.INSIDE, Place.OUTSIDE, (2.5, 1.25)))
+        self.assertEqual((hull.remove(0.1, 1), hull.area(), (0.5, 0) in hull, (0.5, 0.001) in hull), (0, 1.25, True, False))
+        self.assertEqual((hull.distance_to(1, 0.1), hull.distance_to(2.5, 5.25), hull.distance_to(-2.5, -4)), (0, 4.0, 5.0))
+        self.assertEqual(hull.tangents(1.5, -7), ((0.5, 0.0), (2.5, 0.0)))
+        self.assertEqual(hull.distance(hull_module.FloatHull([(2.5, 2.25)], power=8)), 1.0)
+        self.assertEqual(hull.wkt(), "POLYGON ((0.5 0.0, 2.5 0.0, 2.5 1.25, 0.5 0.0))")
+        self.assertEqual((sorted(hull), repr(hull)), ([(0.5, 0.0), (2.5, 0.0), (2.5, 1.25)], "<FloatHull of 3 points, steps of 2**-8>"))
+        none = hull_module.FloatHull()
+        self.assertEqual((none.distance_to(1, 1), none.extreme(1, 0), none.tangents(1, 1), none.area()), (None, None, None, 0))
+        self.assertRaises(ValueError, hull.distance, none)
 
     def test_text(self):
         self.assertEqual((wkt([]), wkt([(1, -2)]), wkt([(0, 0), (3, 4)], 2)),
                          ("POLYGON EMPTY", "POINT (1 -2)", "LINESTRING (0.0 0.0, 0.75 1.0)"))
         self.assertEqual(self.hull.wkt(), "POLYGON ((0 0, 10 0, 10 10, 0 10, 0 0))")
+
+    def test_collections(self):
+        counted = Counter({(3, 4): 2, (0, 9): 1, (-5, 1): 65535})
+        hull = Hull(counted)
+        self.assertEqual((dict(hull.items()), hull == Hull(list(counted)), hull == hull.copy()), (dict(counted), False, True))
+        self.assertEqual((hull.load(Counter()), hull == Hull(), hull != Hull(), hull == 0), (0, True, False, False))
+        self.assertRaises(TypeError, hash, hull)
+        self.assertRaises(ValueError, hull.load, Counter({(0, 0): 0}))
+        outline, twin = self.hull.outline(), Hull(SQUARE).outline()
+        self.assertEqual((len(outline), list(outline)), (4, [(0, 0), (10, 0), (10, 10), (0, 10)]))
+        self.assertTrue((10, 0) in outline and (4, 4) not in outline)
+        self.assertTrue(outline == twin and hash(outline) == hash(twin) and outline != Hull().outline() and outline != 4)
+        for other in (copy.copy(outline), copy.deepcopy(outline), pickle.loads(pickle.dumps(outline))):
+            self.assertEqual(other, outline)
+
+    def test_distances(self):
+        outline = hull_module.Outline([(0, 0), (8, 0), (0, 6)])
+        self.assertEqual([outline.squared_distance_to(x, y) for x, y in [(1, 1), (-3, -4), (8, 6), (4, -5)]],
+                         [0, 25, Fraction(48 * 48, 100), 25])
+        point, none = hull_module.Outline([(8, 6)]), hull_module.Outline([])
+        self.assertEqual((outline.squared_distance(point), point.squared_distance(outline)), (Fraction(48 * 48, 100),) * 2)
+        self.assertEqual((outline.squared_distance(outline), point.squared_distance(hull_module.Outline([(5, 2)]))), (0, 25))
+        self.assertEqual((none.squared_distance(point), none.squared_distance_to(1, 1)), (None, None))
+
+    def test_what_is_public(self):
+        public = {name for name, value in vars(hull_module).items() if not name.startswith("_")
+                  and getattr(value, "__module__", hull_module.__name__) == hull_module.__name__}
+        self.assertEqual({name for name in public if not isinstance(getattr(hull_module, name), types.ModuleType)} - set(hull_module.__all__),
+                         {"Any", "Pair", "Item", "Points", "Floats"} & public)
+        for name in hull_module.__all__:
+            value = getattr(hull_module, name)
+            functions = [value] if isinstance(value, types.FunctionType) else [
+                function for key, function in vars(value).items() if not key.startswith("_")
+                and isinstance(function, types.FunctionType)] if isinstance(value, type) and not issubclass(value, tuple) else []
+            for function in functions:
+                words = set(function.__code__.co_varnames[:function.__code__.co_argcount]) - {"self"}
+                self.assertEqual(words | {"return"}, set(function.__annotations__), function)
 
     def test_outline(self):
         corners = []
@@ -282,33 +379,9 @@ class Calls(unittest.TestCase):
         self.assertEqual((len(hull), hull.multiplicity(7, 49)), (2000, 4))
 
 
-class OneAtATime:
-    """The library, slowed down, which counts the calls on a hull that begin while another is under way."""
-
-    def __init__(self, library):
-        self.library, self.inside, self.overlaps = library, set(), 0
-
-    def __getattr__(self, name):
-        function = getattr(self.library, name)
-
-        def call(at, *words):
-            self.overlaps += at in self.inside
-            self.inside.add(at)
-            time.sleep(0.0002)
-            reply = function(at, *words)
-            self.inside.discard(at)
-            return reply
-
-        return call
-
-
+@unittest.skipUnless(hasattr(hull_module._LIBRARY, "hull_overlaps"), "the library counts no overlaps")
 class Locks(unittest.TestCase):
-    def setUp(self):
-        self.slow = OneAtATime(hull_module._LIBRARY)
-        hull_module._LIBRARY, self.fast = self.slow, hull_module._LIBRARY
-
-    def tearDown(self):
-        hull_module._LIBRARY = self.fast
+    """By a library that is slowed down, and counts the calls on a hull that begin while another is under way (overlaps.c)."""
 
     def race(self, *calls):
         """The calls at once, each in a thread of its own, which no two of may make at one time."""
@@ -326,31 +399,40 @@ class Locks(unittest.TestCase):
             thread.start()
         for thread in threads:
             thread.join()
-        self.assertEqual((failed, self.slow.overlaps), ([], 0))
-
-    def new_hull(self):
-        """A hull, which is made by a library whose first word is no place of a hull."""
-        hull_module._LIBRARY = self.fast
-        hull = Hull()
-        hull_module._LIBRARY = self.slow
-        return hull
+        self.assertEqual((failed, hull_module._LIBRARY.hull_overlaps()), ([], 0))
 
     def test_calls_one_by_one(self):
-        hull = self.new_hull()
-        self.race(lambda n: hull.add(n, n), lambda n: hull.place(n, n))
+        hull = Hull()
+        self.race(lambda n: hull.add(n, n), lambda n: hull.place(n, n), lambda n: hull.limit(), lambda n: hull.clear())
 
     def test_many_calls_at_once(self):
-        hull = self.new_hull()
-        self.race(lambda n: hull.add_all([(n, n)]), lambda n: hull.place_all([(n, n)]))
+        hull = Hull()
+        self.race(lambda n: hull.add_all([(n, n)]), lambda n: hull.place_all([(n, n)]), lambda n: hull.load([(n, n)] * 3))
+
+    def test_items_and_copies(self):
+        hull = Hull([(1, 2)])
+        self.race(lambda n: list(hull.items()), lambda n: hull.copy(), lambda n: hull.load_items([((n, n), 3)]))
 
     def test_corners_of_one_moment(self):
-        hull = self.new_hull()
+        hull = Hull()
 
         def are_those_of_a_parabola(_):
             corners = hull.vertices()
             assert corners == [(n, n * n) for n in range(len(corners))], corners
 
         self.race(lambda n: hull.add(n, n * n), are_those_of_a_parabola)
+
+    def test_refused_memory(self):
+        hull, refused = Hull([(x, x * x) for x in range(9)]), 0
+        for request in range(99):
+            hull_module._LIBRARY.hull_refuse(request)
+            try:
+                twin = hull.copy()
+                self.assertEqual((twin.vertices(), twin.outline().vertices()), (hull.vertices(), hull.vertices()))
+            except MemoryError:
+                refused += 1
+            hull_module._LIBRARY.hull_refuse(-1)
+        self.assertTrue(3 < refused < 90, refused)
 
 
 @unittest.skipIf(numpy is None, "there is no numpy")
@@ -407,6 +489,11 @@ class Arrays(unittest.TestCase):
         self.assertEqual(([tuple(point) for point in points.tolist()], rounded), listed)
         for wrong in (numpy.nan, numpy.inf, -1e308):
             self.assertRaises(OutOfRange, from_floats, numpy.array([[0, wrong]]), 40)
+        for kind in ("int64", "uint64"):
+            points, rounded = from_floats(numpy.array([[(1 << 59) + 1, 1 << 59]], dtype=kind), -20)
+            self.assertEqual((points.tolist(), rounded, points.dtype), ([[1 << 39, 1 << 39]], 1, numpy.int64))
+        points, rounded = from_floats(numpy.array([[3, 4]], dtype=numpy.longdouble) + numpy.longdouble(2) ** -55, 0)
+        self.assertEqual((points.tolist(), rounded), ([[3, 4]], 2 * (numpy.finfo(numpy.longdouble).nmant > 55)))
         self.assertRaises(TypeError, from_floats, numpy.array([[True, False]]), 1)
 
 

@@ -1,6 +1,43 @@
 //! Each function of `rust/hull`, each of its answers and each of its faults.
 use hull::{direction_of, wkt, Distance, Fault, Held, Hull, Lattice, Nearest, Outline, Place, Point, Separation, Strip, Witness};
-use hull::{COORDINATE_LIMIT, MULTIPLICITY_LIMIT, POINT_LIMIT};
+use hull::{Limits, SharedHull, COORDINATE_LIMIT, MULTIPLICITY_LIMIT, POINT_LIMIT};
+use std::alloc::{GlobalAlloc, Layout, System};
+use std::cell::Cell;
+use std::collections::HashSet;
+
+/// The allocator of all, but that a thread may have one request refused.
+struct Refusing;
+
+thread_local! {
+    /// Behind how many requests one is refused; none where it is negative.
+    static LEFT: Cell<i64> = const { Cell::new(-1) };
+}
+
+fn is_refused() -> bool {
+    LEFT.try_with(|left| {
+        let behind = left.get();
+        left.set((behind - 1).max(-1));
+        behind == 0
+    })
+    .unwrap_or(false)
+}
+
+unsafe impl GlobalAlloc for Refusing {
+    unsafe fn alloc(&self, layout: Layout) -> *mut u8 {
+        if is_refused() { std::ptr::null_mut() } else { System.alloc(layout) }
+    }
+
+    unsafe fn dealloc(&self, block: *mut u8, layout: Layout) {
+        System.dealloc(block, layout)
+    }
+
+    unsafe fn realloc(&self, block: *mut u8, layout: Layout, size: usize) -> *mut u8 {
+        if is_refused() { std::ptr::null_mut() } else { System.realloc(block, layout, size) }
+    }
+}
+
+#[global_allocator]
+static ALLOCATOR: Refusing = Refusing;
 
 fn point(x: i64, y: i64) -> Point {
     Point { x, y }
@@ -228,9 +265,20 @@ fn many_at_once() {
     assert_eq!(hull.place_all(&[point(0, 0), point(i64::MAX, 0)]), Err(Fault::OutOfRange));
     assert_eq!(hull.extreme_all(&[point(0, 0)]), Err(Fault::ZeroDirection));
     let before = (hull.len(), hull.multiplicity(point(5, 25)));
-    let far = [point(5, 25), point(0, COORDINATE_LIMIT + 1)];
-    assert_eq!((hull.add_all(&far), hull.remove_all(&far)), (Err(Fault::OutOfRange), Err(Fault::OutOfRange)));
-    assert_eq!((hull.len(), hull.multiplicity(point(5, 25))), before);
+    for wrong in [point(0, COORDINATE_LIMIT + 1), point(0, i64::MIN), point(-COORDINATE_LIMIT - 1, 0), point(i64::MAX, 0)] {
+        let far = [point(5, 25), wrong];
+        assert_eq!(hull.add_all(&far), Err(Fault::OutOfRange));
+        assert_eq!((hull.len(), hull.multiplicity(point(5, 25))), before);
+        assert_eq!(hull.remove_all(&far), Err(Fault::OutOfRange));
+        assert_eq!((hull.len(), hull.multiplicity(point(5, 25))), before);
+    }
+    let outline = hull.outline().unwrap();
+    let asked: Vec<Point> = (0..600).map(|i| point(i - 300, i * 1200 - 500)).collect();
+    assert_eq!(outline.place_all(&asked), hull.place_all(&asked));
+    assert_eq!(outline.tangents_all(&asked), hull.tangents_all(&asked));
+    assert_eq!(outline.extreme_all(&asked), hull.extreme_all(&asked));
+    assert_eq!(outline.place_all(&[point(0, 0), point(0, i64::MIN)]), Err(Fault::OutOfRange));
+    assert_eq!(outline.extreme_all(&[point(0, 0)]), Err(Fault::ZeroDirection));
     assert_eq!((hull.remove_all(&points), hull.remove_all(&points), hull.remove_all(&[])), (Ok(1000), Ok(2), Ok(0)));
     assert_eq!(hull.len(), 1);
 }
@@ -244,6 +292,93 @@ fn extended() {
     let full = std::panic::catch_unwind(std::panic::AssertUnwindSafe(|| hull.extend([point(5, 6)])));
     assert!(full.unwrap_err().downcast_ref::<String>().unwrap().starts_with("(5, 6): there are as many"));
     assert_eq!(hull.len(), 2);
+}
+
+#[test]
+fn collections() {
+    let hull: Hull = [(0, 0), (4, 0), (4, 0), (0, 3)].map(Point::from).into_iter().collect();
+    assert_eq!((hull.len(), hull.limit(), hull.multiplicity(point(4, 0))), (3, POINT_LIMIT, Ok(2)));
+    let mut twin = hull.clone();
+    twin.clear();
+    assert_eq!((twin.len(), twin.limit(), hull.len()), (0, POINT_LIMIT, 3));
+    assert!(Hull::default().is_empty());
+    let outline = hull.outline().unwrap();
+    let many: HashSet<Outline> = [outline.clone(), hull.outline().unwrap(), twin.outline().unwrap()].into_iter().collect();
+    assert_eq!((many.len(), many.contains(&outline)), (2, true));
+    assert_eq!(format!("{outline:?}"), "Outline { corners: [Point { x: 0, y: 0 }, Point { x: 4, y: 0 }, Point { x: 0, y: 3 }] }");
+    assert_eq!((<(i64, i64)>::from(point(3, -4)), point(3, -4).to_string()), ((3, -4), "(3, -4)".to_string()));
+    let twins: Vec<Outline> = (0..9).map(|_| outline.clone()).collect();
+    drop(outline);
+    std::thread::scope(|scope| {
+        for twin in &twins {
+            scope.spawn(move || assert_eq!(twin.clone().doubled_area(), 12));
+        }
+    });
+}
+
+/// Each request for memory of Rust's own refused in turn: all tell it, and none aborts.
+#[test]
+fn refused_memory() {
+    let points: Vec<Point> = (0..300).map(|i| point(i, i * i)).collect();
+    let old = "hullbook journal 3 first 5 limit 3 capacity 9\n5 1 add 0 0 = added\nend 1\n";
+    let all = || -> Result<usize, Fault> {
+        let mut hull = Hull::from_points(1000, &points)?;
+        let outline = hull.outline()?;
+        let same = Outline::new(outline.corners())?;
+        let mut seen = hull.wkt(3)?.len() + hull.held()?.len() + hull.try_clone()?.len() + same.corners().len();
+        seen += hull.place_all(&points)?.len() + hull.add_all(&points)?.len() + same.place_all(&points)?.len();
+        seen += hull.vertices()?.len();
+        let shared = SharedHull::open(Limits { points: 9, first: 0, capacity: 20, seats: 2 })?;
+        let mut seat = shared.lend(1)?;
+        seat.add(point(1, 2))?;
+        seen += seat.vertices()?.len();
+        let part = seat.drain()?;
+        for piece in part.pieces(50) {
+            seen += piece?.len();
+        }
+        seat.give_back();
+        seen += part.text()?.len() + shared.close()?.len();
+        seen += SharedHull::open_without_journal(Limits { points: 9, first: 0, capacity: 1, seats: 1 })?.close()?.len();
+        Ok(seen + SharedHull::reopen(old, 4, 2)?.close()?.len())
+    };
+    let wanted = all().unwrap();
+    let mut refused = 0;
+    for request in 0..1000 {
+        LEFT.set(request);
+        let told = all();
+        let was_met = LEFT.replace(-1) < 0;
+        if !was_met {
+            break;
+        }
+        assert_eq!(told, Err(Fault::NoMemory), "request {request}");
+        refused += 1;
+    }
+    assert!(all() == Ok(wanted) && refused > 15 && refused < 900, "{refused}");
+}
+
+/// The table that all languages are tried by.
+#[test]
+fn lattice() {
+    let table = std::env::var("LATTICE").unwrap_or("lattice.txt".to_string());
+    let text = std::fs::read_to_string(table).unwrap();
+    let mut cases = 0;
+    for line in text.lines().filter(|line| !line.starts_with('#')) {
+        let words: Vec<&str> = line.split(' ').collect();
+        let (v, power) = (f64::from_bits(u64::from_str_radix(words[0], 16).unwrap()), words[1].parse().unwrap());
+        let (wanted, steps) = (words[2].parse().unwrap(), Lattice { power });
+        let told = steps.point(v, 0.0).map(|made| (made.point, made.is_exact));
+        if words[3] == "none" {
+            assert_eq!(told, Err(Fault::OutOfRange), "{line}");
+            assert_eq!(steps.point(0.0, v), Err(Fault::OutOfRange), "{line}");
+        } else {
+            assert_eq!(told, Ok((point(wanted, 0), words[3] == "exact")), "{line}");
+            if words[3] == "exact" && power.abs() < 900 {
+                assert_eq!(steps.floats(point(0, wanted)).1, v, "{line}");
+            }
+        }
+        cases += 1;
+    }
+    assert!(cases > 40);
 }
 
 #[test]

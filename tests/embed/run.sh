@@ -78,8 +78,10 @@ in_c() {
         try "examples/embed/$name.c compiles by what is installed" compile "$name"
         try "examples/embed/$name.c writes examples/embed/$name.txt" writes "$examples/$name.txt" "$room/$name"
     done
-    try "codes.c compiles" compile codes -Wl,--wrap=malloc,--wrap=realloc
-    try "every code of every function" "$room/codes"
+    try "codes.c compiles" compile codes -Wl,--wrap=malloc,--wrap=calloc,--wrap=realloc
+    try "every code of every function" "$room/codes" "$here/lattice.txt"
+    try "checked.c compiles" compile checked -Wl,--wrap=malloc
+    try "a checked build tells of arrays that are no outline" "$room/checked"
     try "full.c compiles" compile full
     try "as many points as there may be" "$room/full"
     try "refusals.c compiles" compile refusals -Wl,--wrap=malloc,--wrap=realloc,--wrap=free
@@ -94,8 +96,7 @@ in_c() {
     fi
     for header in hull hull_shared hull_exchange; do
         for standard in c99 c11; do
-            try "$header.h is $standard" \
-                cc -x c -std=$standard -pedantic -Wall -Wextra -Werror -fsyntax-only "$prefix/include/$header.h"
+            try "$header.h is $standard, checked or not" header_is "$header" "$standard"
         done
     done
     sed -n '/^```c$/,/^```$/{/^```/!p;}' "$top/README.md" >"$room/readme.c"
@@ -107,17 +108,39 @@ in_c() {
     done
 }
 
+# whether a header is C of a standard: HEADER STANDARD
+header_is() {
+    for checked in -UHULL_CHECKED -DHULL_CHECKED; do
+        cc -x c "-std=$2" $checked -pedantic -Wall -Wextra -Werror -fsyntax-only "$prefix/include/$1.h" || return 1
+    done
+}
+
+# a header by a compiler of C++: HEADER FLAGS..
+is_cplusplus() {
+    header=$1
+    shift
+    c++ -x c++ -pedantic -Wall -Wextra -Werror -fsyntax-only "$@" "$prefix/include/$header"
+}
+
+# whether a compiler that takes the header for C++14 says in one error what is wanted
+wants_17() {
+    ! is_cplusplus hull.hpp -std=c++14 2>"$room/said" && [ "$(grep -c 'error' "$room/said")" -le 2 ] && grep -q 'needs C++17' "$room/said"
+}
+
 in_cplusplus() {
     for header in hull.h hull_shared.h hull_exchange.h hull.hpp; do
-        try "$header is C++17" c++ -x c++ -std=c++17 -pedantic -Wall -Wextra -Werror -fsyntax-only "$prefix/include/$header"
+        try "$header is C++17" is_cplusplus $header -std=c++17
+        try "$header is C++20" is_cplusplus $header -std=c++20
+        try "$header is C++17 without exceptions" is_cplusplus $header -std=c++17 -fno-exceptions
     done
+    try "hull.hpp says that it needs C++17" wants_17
     # shellcheck disable=SC2046 # the flags stand apart by spaces
     try "the README's program is C++17" \
         c++ -x c++ -std=c++17 -pedantic -Wall -Wextra -Werror "$room/readme.c" -x none $(flags) -o "$room/readme"
     # shellcheck disable=SC2046
     try "the tests of hull.hpp compile" c++ -std=c++17 -pedantic -Wall -Wextra -Werror -O2 -g "$here/hull_tests.cpp" \
         $(flags) -lhull_shared -lpthread -o "$room/hull_tests_cpp"
-    try "the tests of hull.hpp" "$room/hull_tests_cpp"
+    try "the tests of hull.hpp" "$room/hull_tests_cpp" "$here/lattice.txt"
     # shellcheck disable=SC2046
     try "examples/embed/planner.cpp compiles by what is installed" c++ -std=c++17 -pedantic -Wall -Wextra -Werror -O2 \
         "$examples/planner.cpp" $(flags) -lhull_shared -lpthread -o "$room/planner"
@@ -134,7 +157,7 @@ in_cplusplus() {
     fi
     if is_there valgrind; then
         try "valgrind finds nothing in the tests of hull.hpp" valgrind -q --error-exitcode=9 --leak-check=full \
-            --show-leak-kinds=all --errors-for-leak-kinds=all "$room/hull_tests_cpp" "$room/threads_journal"
+            --show-leak-kinds=all --errors-for-leak-kinds=all "$room/hull_tests_cpp" "$here/lattice.txt" "$room/threads_journal"
     else
         skip "memory by valgrind in C++" valgrind
     fi
@@ -143,7 +166,8 @@ in_cplusplus() {
 by_valgrind() {
     for name in first placement motions codes; do
         try "valgrind finds nothing in $name" \
-            valgrind -q --error-exitcode=9 --leak-check=full --show-leak-kinds=all --errors-for-leak-kinds=all "$room/$name"
+            valgrind -q --error-exitcode=9 --leak-check=full --show-leak-kinds=all --errors-for-leak-kinds=all "$room/$name" \
+            "$here/lattice.txt"
     done
 }
 
@@ -155,10 +179,15 @@ rust() {
 in_rust() {
     try "rust/hull compiles" rust --crate-type rlib --crate-name hull "$top/rust/hull/src/lib.rs"
     try "the tests of rust/hull compile" rust --test --extern hull --crate-name hull_tests "$here/hull_tests.rs"
-    try "the tests of rust/hull" "$room/hull_tests"
+    try "the tests of rust/hull" env LATTICE="$here/lattice.txt" "$room/hull_tests"
+    try "the examples in the documents of rust/hull" rustdoc --test --edition 2021 --crate-name hull -L "native=$prefix/lib" \
+        -L "$room" --extern hull="$room/libhull.rlib" "$top/rust/hull/src/lib.rs"
+    try "the units of rust/hull compile" rust --test --crate-name hull_units "$top/rust/hull/src/lib.rs"
+    try "the units of rust/hull" "$room/hull_units"
     if is_there valgrind; then
-        try "valgrind finds nothing lost by the tests of rust/hull" valgrind -q --error-exitcode=9 --leak-check=full \
-            --show-leak-kinds=definite,indirect --errors-for-leak-kinds=definite,indirect "$room/hull_tests"
+        try "valgrind finds nothing lost by the tests of rust/hull" valgrind -q --trace-children=yes --error-exitcode=9 --leak-check=full \
+            --show-leak-kinds=definite,indirect --errors-for-leak-kinds=definite,indirect \
+            env LATTICE="$here/lattice.txt" "$room/hull_tests"
     else
         skip "memory by valgrind in Rust" valgrind
     fi
@@ -204,35 +233,63 @@ python() {
     PYTHONDONTWRITEBYTECODE=1 PYTHONPATH=$prefix/lib/hull ${interpreter:-python3} "$@"
 }
 
-# an interpreter that has numpy
-with_numpy() {
-    for interpreter in python3 /usr/bin/python3; do
-        ! "$interpreter" -c 'import numpy' 2>/dev/null || return 0
+# the interpreters from 3.8 on that are here: python3, that of the system, and those of pyenv
+pythons() {
+    for interpreter in python3 /usr/bin/python3 "$HOME"/.pyenv/versions/3.*/bin/python3; do
+        ! "$interpreter" -c 'import sys; sys.exit(sys.version_info < (3, 8))' 2>/dev/null || echo "$interpreter"
     done
-    return 1
 }
 
-# an interpreter of the least version
-of_3_8() {
-    for interpreter in python3.8 "$HOME"/.pyenv/versions/3.8.*/bin/python3; do
-        ! "$interpreter" --version >/dev/null 2>&1 || return 0
+# a shared object that is slowed down, counts overlaps and refuses memory: NAME FLAGS..
+slowed() {
+    object=$1
+    shift
+    # shellcheck disable=SC2046 # the flags stand apart by spaces
+    cc -shared -fPIC -O2 -g -Wall -Wextra -Werror "$@" -I"$prefix/include" -I"$top/python" -o "$room/slow_$object.so" \
+        "$top/python/${object}_calls.c" "$here/overlaps.c" \
+        $(sed -n 's/^SLOW([a-z0-9_]*, \([a-z_]*\),.*/-Wl,--wrap=\1/p' "$here/overlaps.c") -Wl,--wrap=malloc,--wrap=calloc,--wrap=realloc \
+        -Wl,--whole-archive "$prefix/lib/lib$object.a" -Wl,--no-whole-archive -lpthread
+}
+
+# python3 with those
+python_slowed() {
+    interpreter=python3
+    HULL_LIBRARY=$room/slow_hull.so HULL_SHARED_LIBRARY=$room/slow_hull_shared.so python "$@"
+}
+
+# an interpreter that has a module: MODULE
+with() {
+    for interpreter in python3 /usr/bin/python3; do
+        ! "$interpreter" -c "import $1" 2>/dev/null || return 0
     done
     return 1
 }
 
 in_python() {
-    try "the tests of python/hull.py" python "$here/hull_tests.py"
+    for interpreter in $(pythons); do
+        numbered=$("$interpreter" -c 'import sys; print("%d.%d" % sys.version_info[:2])')
+        try "the tests of python/hull.py by $interpreter ($numbered)" python "$here/hull_tests.py"
+        try "hulls end behind their last user by $interpreter ($numbered)" python -W ignore "$here/lives_tests.py"
+    done
+    interpreter=python3
+    try "libhull.so slowed down compiles" slowed hull
+    try "libhull_shared.so slowed down compiles" slowed hull_shared -DSHARED
+    try "calls on one hull from several threads wait for each other" python_slowed "$here/hull_tests.py" Locks
+    try "calls on one desk, seat and part do" python_slowed "$here/../shared/shared_tests.py" Locks
+    try "refused memory is told" python_slowed "$here/lives_tests.py" Refusals
     try "examples/embed/places.py writes examples/embed/places.txt" writes "$examples/places.txt" python "$examples/places.py"
-    if with_numpy; then
-        try "the tests of python/hull.py with numpy, by $interpreter" python "$here/hull_tests.py"
+    if with numpy; then
         try "examples/embed/places.py with numpy" writes "$examples/places.txt" python "$examples/places.py"
+        try "the tests of arrays of numpy, by $interpreter" python "$here/hull_tests.py" Arrays
     else
         skip "arrays of numpy" "python3 with numpy"
     fi
-    if of_3_8; then
-        try "the tests of python/hull.py by Python 3.8" python "$here/hull_tests.py"
+    if with mypy; then
+        try "examples in Python by mypy --strict" env MYPYPATH="$prefix/lib/hull" MYPY_CACHE_DIR="$room/mypy" \
+            "$interpreter" -m mypy --strict "$examples/places.py" "$top/examples/shared/threads.py"
+        try "python/hull.py by mypy --strict" env MYPY_CACHE_DIR="$room/mypy" "$interpreter" -m mypy --strict "$top/python/hull.py"
     else
-        skip "Python 3.8 itself (its syntax is tried)" python3.8
+        skip "annotations" mypy
     fi
 }
 

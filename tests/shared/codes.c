@@ -135,6 +135,9 @@ static void codes(hull_shared_desk *desk, hull_shared_seat *one, hull_shared_sea
     is("take twice", hull_shared_take(one, HULL_KIND_COUNT, 0, 0).told.code, HULL_WAITING);
     is("its number", hull_shared_take(one, HULL_KIND_COUNT, 0, 0).turn, first);
     is("return while it waits", hull_shared_give_back(desk, one), HULL_WAITING);
+    is("call while it waits", hull_shared_call(&line, one, HULL_KIND_ADD, 1, 1).told.code, HULL_WAITING);
+    is("its number", hull_shared_call(&line, one, HULL_KIND_ADD, 1, 1).turn, first);
+    is("corners while it waits", hull_shared_vertices(&line, one, NULL, 0).told.code, HULL_WAITING);
     is("take behind it", hull_shared_take(two, HULL_KIND_COUNT, 0, 0).turn, first + 1);
     is("not yet", hull_shared_look(two).told.code, HULL_NOT_YET);
     is("its number", hull_shared_look(two).turn, first + 1);
@@ -162,6 +165,55 @@ static void codes(hull_shared_desk *desk, hull_shared_seat *one, hull_shared_sea
     is("end", hull_shared_end(desk), HULL_ENDED);
 }
 
+/* Nobody is inside or counted as asleep, none is the heir, and no place has a waiter. */
+static void is_empty(void) {
+    is("the door", line.door, 0);
+    is("heirs", line.heirs, 0);
+    for (int i = 0; i < HULL_SHARED_SEATS_MAX; i++) {
+        is("waiters", line.places[i].waiters, 0);
+    }
+}
+
+/* How many come in by a door that `inside` may pass. */
+static uint32_t come_in(hull_shared_line *door, uint32_t inside) {
+    uint32_t count = 0;
+    hull_shared_line_init(door, inside);
+    while (hull_shared_comes_in(door, 0)) {
+        count++;
+    }
+    return count;
+}
+
+/* Each step of the door, by one thread. */
+static void doors(void) {
+    static hull_shared_line door;
+    is("one inside", come_in(&door, 1), 1);
+    is("two inside", come_in(&door, 2), 2);
+    is("all inside", come_in(&door, HULL_SHARED_SEATS_MAX), HULL_SHARED_SEATS_MAX);
+    is("a wrong number inside", come_in(&door, 0) == 1 && come_in(&door, HULL_SHARED_SEATS_MAX + 1) == 1, 1);
+    /* one is inside, and three sleep: who leaves makes one of them the heir, and no other as long as that one is awake */
+    door.door = 1 + 3 * HULL_SHARED_ASLEEP;
+    hull_shared_leave(&door);
+    is("one is woken", door.door, HULL_SHARED_HEIR + 2 * HULL_SHARED_ASLEEP);
+    is("it is told", door.heirs, 1);
+    is("another passes", hull_shared_comes_in(&door, 0), 1);
+    hull_shared_leave(&door);
+    is("none is woken", door.door, HULL_SHARED_HEIR + 2 * HULL_SHARED_ASLEEP);
+    /* behind so many in a row the door is closed to all but the heir */
+    door.in_a_row = HULL_SHARED_IN_A_ROW - 2;
+    is("another passes", hull_shared_comes_in(&door, 0), 1);
+    hull_shared_leave(&door);
+    is("it is open still", door.door, HULL_SHARED_HEIR + 2 * HULL_SHARED_ASLEEP);
+    is("the last of the row passes", hull_shared_comes_in(&door, 0), 1);
+    hull_shared_leave(&door);
+    is("it is closed", door.door, HULL_SHARED_CLOSED + HULL_SHARED_HEIR + 2 * HULL_SHARED_ASLEEP);
+    is("none passes", hull_shared_comes_in(&door, 0), 0);
+    is("who finds it closed lies down", hull_shared_lies_down(&door, 0), 1);
+    is("the heir does not", hull_shared_lies_down(&door, 1), 0);
+    is("the heir comes in", hull_shared_comes_in(&door, 1), 1);
+    is("it is open again", door.door, 1 + 3 * HULL_SHARED_ASLEEP);
+}
+
 static void *count_points(void *seat) {
     is("a call behind a number that is looked for later", call(seat, HULL_KIND_COUNT, 0, 0), HULL_NUMBER);
     return NULL;
@@ -186,6 +238,7 @@ static void own_looks(hull_shared_desk *desk, hull_shared_seat *one, hull_shared
         hull_shared_handed_on(&line, reply.turn + 1);
         pthread_join(thread, NULL);
     }
+    is_empty();
     is("return", hull_shared_give_back(desk, one), HULL_RETURNED);
     is("return", hull_shared_give_back(desk, two), HULL_RETURNED);
     is("close", hull_shared_close(desk), HULL_CLOSED);
@@ -274,14 +327,17 @@ static void parts(hull_shared_desk *desk, hull_shared_seat *seat, hull_shared_pa
 static void no_arrays(hull_shared_desk *desk, hull_shared_seat *seat, hull_shared_part *part) {
     uint8_t *text = malloc(256);
     hull_reply told;
-    is("no text", hull_shared_reopen(desk, NULL, 0, 4, 1).code, HULL_NO_JOURNAL);
-    is("open", hull_shared_open(desk, 3, 7, 4, 1), HULL_OPEN);
+    is("no text", hull_shared_reopen(desk, NULL, 0, 8, 1).code, HULL_NO_JOURNAL);
+    is("open", hull_shared_open(desk, 3, 7, 8, 1), HULL_OPEN);
     is("lend", hull_shared_lend(desk, seat, 0), HULL_LENT);
     is("look into nothing with no number", hull_shared_look_into(seat, NULL, 0).told.code, HULL_NO_NUMBER);
     is("corners of none", hull_shared_vertices(&line, seat, NULL, 0).told.code, HULL_CORNERS);
+    is("a point", call(seat, HULL_KIND_ADD, 1, 2), HULL_ADDED);
+    is("corners without any room", hull_shared_vertices(&line, seat, NULL, 0).told.code, HULL_TOO_SMALL);
+    is("it goes", call(seat, HULL_KIND_REMOVE, 1, 2), HULL_REMOVED);
     is("take", hull_shared_take(seat, HULL_KIND_VERTICES, 0, 0).told.code, HULL_TAKEN);
     is("look into nothing", hull_shared_look_into(seat, NULL, 0).told.code, HULL_CORNERS);
-    is("room", hull_shared_part_reserve(part, 4), HULL_RESERVED);
+    is("room", hull_shared_part_reserve(part, 8), HULL_RESERVED);
     is("drain", hull_shared_drain(&line, seat, part, HULL_KIND_COUNT, 0, 0).told.code, HULL_NUMBER);
     is("part into nothing", hull_shared_part_text(part, NULL, 0).code, HULL_TOO_SMALL);
     is("piece into nothing", hull_shared_part_text_from(part, 0, NULL, 0).number, 46);
@@ -411,6 +467,7 @@ int main(void) {
     }
     is("alignment", (uintptr_t)desk % hull_shared_desk_alignment(), 0);
     is("alignment", (uintptr_t)one % hull_shared_seat_alignment(), 0);
+    doors();
     codes(desk, one, two);
     own_looks(desk, one, two);
     parts(desk, one, part);

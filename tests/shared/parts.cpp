@@ -28,6 +28,25 @@ static bool goes_on(const std::string &first, const std::string &file) {
            refused("hullbook journal 3 first 5 limit 3 capacity 9\n5 9 area = area 0\nend 1\n") == hull::Refusal::too_few_seats;
 }
 
+// A line that is longer than a piece: that of many corners.
+static bool writes_long_lines() {
+    hull::SharedHull shared({HULL_LIMIT_MAX, 0, 10000, 1});
+    hull::Seat seat = shared.lend(0);
+    for (std::int64_t x = 0; x < 6000; x++) {
+        seat.add({x, x * x});
+    }
+    const std::size_t corners = seat.vertices().size();
+    const hull::JournalPart part = seat.drain();
+    std::ostringstream pieces;
+    part.write_to(pieces);
+    std::istringstream lines(pieces.str());
+    std::size_t longest = 0;
+    for (std::string line; std::getline(lines, line);) {
+        longest = line.size() > longest ? line.size() : longest;
+    }
+    return corners == 6000 && longest > 1 << 16 && pieces.str() == part.text();
+}
+
 int main(int, char **words) {
     hull::SharedHull shared({6, 7, 3, 1});
     hull::Seat seat = shared.lend(0);
@@ -51,5 +70,5 @@ int main(int, char **words) {
     seat.give_back();
     good = good && shared.close() == "hullbook journal 3 first 9 limit 6 capacity 3\n9 0 add 0 5 = added\n"
                                      "10 0 add 1 5 = added\n11 0 add 2 5 = added\nend 3\n";
-    return good ? 0 : 1;
+    return good && writes_long_lines() ? 0 : 1;
 }

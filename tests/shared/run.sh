@@ -158,6 +158,16 @@ by_valgrind() {
     done
 }
 
+# what the linker is told of the calls that overlaps.c slows down
+wraps() {
+    sed -n 's/^SLOW([a-z0-9_]*, \(hull_shared_[a-z_]*\),.*/-Wl,--wrap=\1/p' "$here/../embed/overlaps.c"
+    echo -Wl,--wrap=malloc -Wl,--wrap=calloc -Wl,--wrap=realloc
+}
+
+overlaps_object() {
+    cc -O2 -g -Wall -Wextra -Werror -DSHARED -I"$prefix/include" -c "$here/../embed/overlaps.c" -o "$room/overlaps.o"
+}
+
 in_rust() {
     rust --crate-type rlib --crate-name hull "$top/rust/hull/src/lib.rs" &&
         rust --test --extern hull --crate-name shared_tests "$here/shared_tests.rs"
@@ -171,6 +181,13 @@ in_rust() {
     else
         skip "memory by valgrind in Rust" valgrind
     fi
+    wraps=
+    for wrap in $(wraps); do wraps="$wraps -C link-arg=$wrap"; done
+    # shellcheck disable=SC2086 # the flags stand apart by spaces
+    overlaps_object && rust --test --cfg hull_overlaps --extern hull="$room/libhull.rlib" \
+        --crate-name overlap_tests -C link-arg="$room/overlaps.o" $wraps "$here/shared_tests.rs" &&
+        "$room/overlap_tests" lendings >"$room/told" 2>&1
+    count "calls on one desk from several threads of Rust wait for each other" $?
     rust --cfg hull_steps -C extra-filename=_slow --crate-type rlib --crate-name hull "$top/rust/hull/src/lib.rs" &&
         rust --test --extern hull="$room/libhull_slow.rlib" --crate-name slow_tests "$here/shared_tests.rs" &&
         passes "$room/slow_tests"
@@ -199,8 +216,14 @@ in_c
 if is_there valgrind; then by_valgrind; else skip "memory by valgrind" valgrind; fi
 if is_there c++; then
     c++ -std=c++17 -Wall -Wextra -Werror -O2 -I"$prefix/include" "$here/../embed/hull_tests.cpp" -L"$prefix/lib" -lhull \
-        -lhull_shared -lpthread -o "$room/hull_tests" && "$room/hull_tests" "$room/journal" >"$room/told" && legal "$room/journal"
+        -lhull_shared -lpthread -o "$room/hull_tests" && "$room/hull_tests" "$here/../embed/lattice.txt" "$room/journal" >"$room/told" &&
+        legal "$room/journal"
     count "threads in C++ leave a legal journal" $?
+    # shellcheck disable=SC2046 # the flags stand apart by spaces
+    overlaps_object && c++ -std=c++17 -Wall -Wextra -Werror -O2 -I"$prefix/include" "$here/../embed/hull_tests.cpp" "$room/overlaps.o" \
+        $(wraps) -L"$prefix/lib" -lhull -lhull_shared -lpthread -o "$room/overlap_tests_cpp" &&
+        "$room/overlap_tests_cpp" "$here/../embed/lattice.txt" >"$room/told"
+    count "calls on one desk from several threads of C++ wait for each other" $?
     c++ -std=c++17 -Wall -Wextra -Werror -O2 -I"$prefix/include" "$here/parts.cpp" -L"$prefix/lib" -lhull -lhull_shared \
         -lpthread -o "$room/parts_cpp" && "$room/parts_cpp" "$room/taken" &&
         "$top/bin/hullbook" check "$room/taken.1" "$room/taken.2" >"$room/verdict" 2>&1

@@ -6,7 +6,6 @@ import copy
 import os
 import random
 import threading
-import time
 import unittest
 
 import hull as hull_module
@@ -47,6 +46,7 @@ class Calls(unittest.TestCase):
         for x in range(3):
             seat.add(x, 5)
         self.assertRaises(JournalFull, seat.drain)
+        self.assertEqual(list(seat.last_part()), lines)
         seat.give_back()
         self.assertRaises(ValueError, seat.drain)
         self.assertEqual(hull.close().splitlines()[::4],
@@ -149,39 +149,13 @@ class Calls(unittest.TestCase):
         self.assertEqual(repr(seat), "<Seat 1, given back, last turn 7>")
 
 
-class OneAtATime:
-    """The library, slowed down, which counts the calls on a desk or a seat that begin while another is under way."""
-
-    def __init__(self, library):
-        self.library, self.inside, self.overlaps = library, [], 0
-
-    def __getattr__(self, name):
-        function = getattr(self.library, name)
-
-        def call(*words):
-            places = [word for word in words if isinstance(word, int) and word in self.places]
-            self.overlaps += any(place in self.inside for place in places)
-            self.inside.extend(places)
-            time.sleep(0.0002)
-            answer = function(*words)
-            for place in places:
-                self.inside.remove(place)
-            return answer
-
-        return call
-
-
+@unittest.skipUnless(hasattr(hull_module._shared_library(), "hull_overlaps"), "the library counts no overlaps")
 class Locks(unittest.TestCase):
+    """By a library that is slowed down, and counts the calls on a desk, a seat or a part that begin while another is under way."""
+
     def setUp(self):
         self.hull = SharedHull(capacity=1000, seats=2)
         self.seat = self.hull.lend(0)
-        slow = OneAtATime(hull_module._shared_library())
-        slow.places = {self.hull._desk.at, self.seat._at}
-        self.slow, self.load = slow, hull_module._shared_library
-        hull_module._shared_library = lambda: slow
-
-    def tearDown(self):
-        hull_module._shared_library = self.load
 
     def race(self, *calls):
         """The calls at once, each in a thread of its own."""
@@ -199,24 +173,28 @@ class Locks(unittest.TestCase):
             thread.start()
         for thread in threads:
             thread.join()
-        self.assertEqual((failed, self.slow.overlaps), ([], 0))
+        self.assertEqual((failed, hull_module._shared_library().hull_overlaps()), ([], 0))
 
     def close(self):
         self.assertRaises(SeatsOut, self.hull.close)
 
     def test_one_seat(self):
-        self.race(lambda: self.seat.add(1, 2), self.seat.count)
+        self.race(lambda: self.seat.add(1, 2), self.seat.count, self.seat.drain, self.seat.vertices)
 
     def test_one_desk(self):
         self.race(lambda: self.hull.lend(1).give_back(), self.close,
                   lambda: self.assertRaises(SeatsOut, self.hull.__exit__, None, None, None), lambda: repr(self.hull))
 
+    def test_one_text(self):
+        part = self.seat.drain()
+        self.seat.give_back()
+        self.race(self.hull.close, self.hull.close, part.text, lambda: list(part), part.text)
+
     def test_a_seat_given_back_while_it_is_asked(self):
         calls = iter([self.seat.give_back])
-        try:
+        with self.assertRaises(AssertionError):
             self.race(self.seat.count, lambda: next(calls, int)())
-        except AssertionError:
-            self.assertEqual(self.slow.overlaps, 0)
+        self.assertEqual(hull_module._shared_library().hull_overlaps(), 0)
 
 
 class Threads(unittest.TestCase):

@@ -205,3 +205,30 @@ fn eight_threads() {
         std::fs::write(file, text).unwrap();
     }
 }
+
+/// Seats that come and go in several threads: no two calls on their desk overlap. Linked with overlaps.c, which counts them.
+#[cfg(hull_overlaps)]
+#[test]
+fn lendings() {
+    extern "C" {
+        fn hull_overlaps() -> std::ffi::c_long;
+    }
+    let limits = Limits { points: 4, first: 0, capacity: 1, seats: 8 };
+    let hull = SharedHull::open_without_journal(limits).unwrap();
+    thread::scope(|scope| {
+        for number in 0..4 {
+            let hull = &hull;
+            scope.spawn(move || {
+                for _ in 0..25 {
+                    let mut seat = hull.lend(number).unwrap();
+                    hull.lend(number + 4).unwrap().give_back();
+                    seat.add(point(1, 2)).unwrap();
+                    assert_eq!(hull.close().unwrap_err(), Fault::SeatsOut);
+                }
+            });
+        }
+    });
+    assert!(!hull.close().unwrap().is_empty());
+    // SAFETY: it reads a number, which nobody writes any more.
+    assert_eq!(unsafe { hull_overlaps() }, 0);
+}

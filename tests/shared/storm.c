@@ -1,7 +1,7 @@
 /* storm THREADS CALLS INSIDE: so many threads make so many mixed calls each over one hull, of which so many may have numbers at once,
  * and the text of the journal goes to standard output. With SLOW defined, threads are held up between the steps of waiting and of
  * waking (steps.h). The status is 0 only where each call had an answer of its kind, each thread's numbers rose, all numbers together
- * were each served once, and every code at the end was as it should be. */
+ * were each served once, every code at the end was as it should be, and nobody is counted in the line any more. */
 #ifdef SLOW
 #include "steps.h"
 #endif
@@ -156,7 +156,10 @@ int main(int count, char **words) {
     for (unsigned k = 0; k < threads; k++) {
         bad |= pthread_join(ids[k], NULL) != 0 || wrong[k];
     }
-    bad |= !each_once(threads);
+    bad |= !each_once(threads) || line.door != 0 || line.heirs != 0;
+    for (unsigned k = 0; k < HULL_SHARED_SEATS_MAX; k++) {
+        bad |= line.places[k].waiters != 0;
+    }
     bad |= hull_shared_call(&line, rooms[0], HULL_KIND_COUNT, 0, 0).told.code != HULL_FULL;
     for (unsigned k = 0; k < threads; k++) {
         bad |= hull_shared_close(desk) != HULL_SEATS_OUT;

@@ -136,3 +136,68 @@ impl Drop for Inside<'_> {
         self.0.leave();
     }
 }
+
+#[cfg(test)]
+mod tests {
+    use super::*;
+
+    fn door(state: u32, in_a_row: u32) -> Door {
+        Door { state: AtomicU32::new(state), in_a_row: AtomicU32::new(in_a_row), ..Door::new() }
+    }
+
+    fn state(door: &Door) -> u32 {
+        door.state.load(Ordering::SeqCst)
+    }
+
+    #[test]
+    fn who_leaves_makes_one_of_the_sleepers_the_heir() {
+        let shut = door(INSIDE + 3 * ASLEEP, 0);
+        shut.leave();
+        assert_eq!((state(&shut), *shut.lock()), (HEIR + 2 * ASLEEP, true));
+        assert!(shut.comes_in(false));
+        shut.leave();
+        assert_eq!(state(&shut), HEIR + 2 * ASLEEP); // and no other as long as that one is awake
+    }
+
+    #[test]
+    fn behind_so_many_calls_in_a_row_only_the_heir_comes_in() {
+        let busy = door(INSIDE + HEIR + ASLEEP, IN_A_ROW - 2);
+        busy.leave();
+        assert_eq!(state(&busy), HEIR + ASLEEP);
+        assert!(busy.comes_in(false));
+        busy.leave();
+        assert_eq!(state(&busy), HEIR + ASLEEP + CLOSED);
+        assert!(!busy.comes_in(false) && busy.comes_in(true));
+        assert_eq!(state(&busy), INSIDE + ASLEEP);
+    }
+
+    #[test]
+    fn only_who_finds_it_shut_lies_down() {
+        let open = door(HEIR, 0);
+        assert!(!open.lies_down(false) && !open.lies_down(true));
+        let shut = door(INSIDE + HEIR, 0);
+        assert!(shut.lies_down(true));
+        assert_eq!(state(&shut), INSIDE + ASLEEP);
+        assert!(shut.lies_down(false));
+        assert_eq!(state(&shut), INSIDE + 2 * ASLEEP);
+    }
+
+    /// In the end nobody is inside, nobody is counted as asleep, and nobody is the heir.
+    #[test]
+    fn behind_a_storm_all_is_as_before() {
+        let storm = Door::new();
+        std::thread::scope(|scope| {
+            for _ in 0..8 {
+                scope.spawn(|| {
+                    for n in 0..2000 {
+                        let _inside = storm.enter();
+                        if n % 50 == 0 {
+                            std::thread::yield_now();
+                        }
+                    }
+                });
+            }
+        });
+        assert_eq!((state(&storm), *storm.lock()), (0, false));
+    }
+}

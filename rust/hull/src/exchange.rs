@@ -1,6 +1,6 @@
 //! Points from floats and back, and corners as well-known text.
 use crate::{Fault, Point, COORDINATE_LIMIT};
-use std::fmt::Write;
+use std::fmt::{self, Write};
 
 /// The lattice of steps of 2^-`power`: a float `v` becomes the coordinate `v * 2^power`.
 ///
@@ -93,26 +93,47 @@ pub(crate) fn asked_along(dx: f64, dy: f64) -> Result<Point, Fault> {
     Ok(if at == (Point { x: 0, y: 0 }) { Point { x: -1, y: 0 } } else { at })
 }
 
-/// Corners as well-known text (OGC 06-103r4), which GEOS, PostGIS and QGIS read: `POLYGON EMPTY`, a `POINT`, a `LINESTRING`, or a
-/// `POLYGON` whose ring is closed and runs counterclockwise, as the corners do. Coordinates are divided by 2^`power`, and written
-/// with as few digits as tell the float from all others.
-pub fn wkt(corners: &[Point], power: i32) -> String {
+/// A text that grows as memory goes.
+struct Text(String);
+
+impl Write for Text {
+    fn write_str(&mut self, more: &str) -> fmt::Result {
+        self.0.try_reserve(more.len()).map_err(|_| fmt::Error)?;
+        self.0.push_str(more);
+        Ok(())
+    }
+}
+
+fn write_wkt(text: &mut Text, corners: &[Point], power: i32) -> fmt::Result {
     let (begin, end, points) = match corners.len() {
-        0 => return "POLYGON EMPTY".to_owned(),
+        0 => return text.write_str("POLYGON EMPTY"),
         1 => ("POINT (", ")", 1),
         2 => ("LINESTRING (", ")", 2),
         more => ("POLYGON ((", "))", more + 1),
     };
-    let mut text = begin.to_owned();
+    text.write_str(begin)?;
     for (i, &point) in corners.iter().cycle().take(points).enumerate() {
-        text.push_str(if i == 0 { "" } else { ", " });
-        let written = if power == 0 {
-            write!(text, "{} {}", point.x, point.y)
+        text.write_str(if i == 0 { "" } else { ", " })?;
+        if power == 0 {
+            write!(text, "{} {}", point.x, point.y)?;
         } else {
             let (x, y) = Lattice { power }.floats(point);
-            write!(text, "{x} {y}")
-        };
-        written.expect("a String takes all text");
+            write!(text, "{x} {y}")?;
+        }
     }
-    text + end
+    text.write_str(end)
+}
+
+/// [`wkt`], or [`Fault::NoMemory`].
+pub(crate) fn try_wkt(corners: &[Point], power: i32) -> Result<String, Fault> {
+    let mut text = Text(String::new());
+    write_wkt(&mut text, corners, power).map_err(|_| Fault::NoMemory)?;
+    Ok(text.0)
+}
+
+/// Corners as well-known text (OGC 06-103r4), which GEOS, PostGIS and QGIS read: `POLYGON EMPTY`, a `POINT`, a `LINESTRING`, or a
+/// `POLYGON` whose ring is closed and runs counterclockwise, as the corners do. Coordinates are divided by 2^`power`, and written
+/// with as few digits as tell the float from all others. Panics where memory is refused.
+pub fn wkt(corners: &[Point], power: i32) -> String {
+    try_wkt(corners, power).unwrap_or_else(|fault| panic!("{fault}"))
 }

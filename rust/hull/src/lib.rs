@@ -1,6 +1,6 @@
 //! A convex hull of points with whole coordinates, which takes points in and lets them go: safe Rust over `libhull.a`.
 //!
-//! ```no_run
+//! ```
 //! use hull::{Hull, Place, Point};
 //!
 //! let mut hull = Hull::new(100)?;
@@ -15,14 +15,16 @@
 //! A [`Hull`] may go to another thread (`Send`), but be used by one at a time: share it as `Mutex<Hull>`, or open a
 //! [`SharedHull`] (over `libhull_shared.a`), at which each thread has a [`Seat`] and whose calls are kept in a journal.
 mod answer;
+mod counted;
 mod door;
 mod exchange;
+mod many;
 mod outline;
 mod raw;
 mod shared;
 
 use answer::fault_of;
-use raw::{code, kind, Reply, Request};
+use raw::{code, kind, Reply};
 use std::alloc::{alloc, dealloc, Layout};
 use std::fmt;
 use std::ptr::NonNull;
@@ -259,23 +261,18 @@ impl Hull {
         unsafe { raw::hull_limit(self.room.as_ptr()) }.number as u32
     }
 
-    /// Makes one kind of call at each of the points, in their order, and hands each reply on; up to the first point that is refused
-    /// for itself, which says why.
-    fn call_all(&self, kind: u32, points: &[Point], mut each: impl FnMut(Reply) -> Result<(), Fault>) -> Result<(), Fault> {
-        const AT_ONCE: usize = 256;
-        let mut requests = [Request { kind, x: 0, y: 0 }; AT_ONCE];
-        let mut replies = [Reply::NONE; AT_ONCE];
-        for some in points.chunks(AT_ONCE) {
-            for (request, point) in requests.iter_mut().zip(some) {
-                (request.x, request.y) = (point.x, point.y);
-            }
-            // SAFETY: as in `call`; both arrays were written, and are as long as is told.
-            let made = unsafe {
-                raw::hull_calls(self.room.as_ptr(), requests.as_ptr(), some.len(), replies.as_mut_ptr(), some.len())
-            };
-            replies[..made].iter().try_for_each(|&reply| each(reply))?;
+    /// Makes the calls of some requests, and tells how many it made.
+    fn serve(&self, requests: &[raw::Request], replies: &mut [Reply]) -> usize {
+        // SAFETY: as in `call`; both arrays were written, and are as long as is told.
+        unsafe {
+            raw::hull_calls(
+                self.room.as_ptr(),
+                requests.as_ptr(),
+                requests.len(),
+                replies.as_mut_ptr(),
+                replies.len(),
+            )
         }
-        Ok(())
     }
 
     fn ask_all<T>(
@@ -284,10 +281,7 @@ impl Hull {
         points: &[Point],
         told: impl Fn(Reply) -> Result<T, Fault>,
     ) -> Result<Vec<T>, Fault> {
-        let mut answers = Vec::new();
-        answers.try_reserve_exact(points.len()).map_err(|_| Fault::NoMemory)?;
-        self.call_all(kind, points, |reply| told(reply).map(|answer| answers.push(answer)))?;
-        Ok(answers)
+        many::all(kind, points, |requests, replies| self.serve(requests, replies), told)
     }
 
     /// Where each of the points lies.
@@ -321,7 +315,8 @@ impl Hull {
     pub fn remove_all(&mut self, points: &[Point]) -> Result<usize, Fault> {
         check_all(points)?;
         let mut there = 0;
-        self.call_all(kind::REMOVE, points, |reply| {
+        let serve = |requests: &[raw::Request], replies: &mut [Reply]| self.serve(requests, replies);
+        many::at_each(kind::REMOVE, points, serve, |reply| {
             there += usize::from(answer::times_left(reply)?.is_some());
             Ok(())
         })?;
@@ -330,7 +325,7 @@ impl Hull {
 
     /// The hull as well-known text, its coordinates divided by 2^`power`: see [`wkt`].
     pub fn wkt(&self, power: i32) -> Result<String, Fault> {
-        Ok(wkt(self.vertices()?.as_slice(), power))
+        exchange::try_wkt(&self.corners()?, power)
     }
 
     /// Lets all points go. The limit stays.
@@ -341,6 +336,10 @@ impl Hull {
 
     /// The corners, counterclockwise from the first by x and then by y, each once and none inside an edge.
     pub fn vertices(&self) -> Result<Vertices, Fault> {
+        self.corners().map(Vertices::of)
+    }
+
+    fn corners(&self) -> Result<Vec<Point>, Fault> {
         let mut corners = Vec::new();
         loop {
             // SAFETY: as in `call`; the array is the vector's own, and all of it was written.
@@ -349,7 +348,7 @@ impl Hull {
             match reply.code {
                 code::CORNERS => {
                     corners.truncate(number);
-                    return Ok(Vertices::of(corners));
+                    return Ok(corners);
                 }
                 code::TOO_SMALL => {
                     corners.try_reserve_exact(number).map_err(|_| Fault::NoMemory)?;
@@ -362,7 +361,7 @@ impl Hull {
 
     /// The outline that the hull has now, which any number of threads may ask at once.
     pub fn outline(&self) -> Result<Outline, Fault> {
-        Outline::new(&self.vertices()?.collect::<Vec<Point>>())
+        Outline::of(self.corners()?)
     }
 }
 
@@ -381,7 +380,7 @@ impl Extend<Point> for Hull {
     fn extend<I: IntoIterator<Item = Point>>(&mut self, points: I) {
         for point in points {
             if let Err(fault) = self.add(point) {
-                panic!("({}, {}): {fault}", point.x, point.y);
+                panic!("{point}: {fault}");
             }
         }
     }
@@ -390,6 +389,29 @@ impl Extend<Point> for Hull {
 impl<'a> Extend<&'a Point> for Hull {
     fn extend<I: IntoIterator<Item = &'a Point>>(&mut self, points: I) {
         self.extend(points.into_iter().copied());
+    }
+}
+
+/// A hull of some points, each held as often as it comes, for [`POINT_LIMIT`] different ones. Panics where they are refused:
+/// [`Hull::from_points`] tells why as a [`Fault`].
+impl FromIterator<Point> for Hull {
+    fn from_iter<I: IntoIterator<Item = Point>>(points: I) -> Hull {
+        let points: Vec<Point> = points.into_iter().collect();
+        Hull::from_points(POINT_LIMIT, &points).unwrap_or_else(|fault| panic!("{fault}"))
+    }
+}
+
+/// An empty hull for [`POINT_LIMIT`] points. Panics where memory is refused.
+impl Default for Hull {
+    fn default() -> Hull {
+        Hull::new(POINT_LIMIT).unwrap_or_else(|fault| panic!("{fault}"))
+    }
+}
+
+/// Another hull that holds the same, as [`Hull::try_clone`], which does not panic where memory is refused.
+impl Clone for Hull {
+    fn clone(&self) -> Hull {
+        self.try_clone().unwrap_or_else(|fault| panic!("{fault}"))
     }
 }
 

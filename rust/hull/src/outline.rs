@@ -1,15 +1,37 @@
 //! The corners of a hull, which any number of threads ask at once.
-use crate::answer;
+use crate::counted::Counted;
 use crate::exchange::asked_along;
-use crate::raw::{self, kind, Reply};
+use crate::raw::{self, kind, Reply, Request};
+use crate::{answer, many};
 use crate::{Fault, Place, Point, NOWHERE};
-use std::sync::Arc;
+use std::fmt;
+use std::hash::{Hash, Hasher};
 
 /// The corners of a hull, as [`Hull::vertices`](crate::Hull::vertices) tells them, to be asked as that hull was when they were
 /// taken. Nothing of it is ever written, so threads share it with no lock; a clone is the same corners.
-#[derive(Clone, Debug, PartialEq, Eq)]
+#[derive(Clone)]
 pub struct Outline {
-    corners: Arc<[Point]>,
+    corners: Counted<Vec<Point>>,
+}
+
+impl PartialEq for Outline {
+    fn eq(&self, other: &Outline) -> bool {
+        self.corners() == other.corners()
+    }
+}
+
+impl Eq for Outline {}
+
+impl Hash for Outline {
+    fn hash<H: Hasher>(&self, state: &mut H) {
+        self.corners().hash(state);
+    }
+}
+
+impl fmt::Debug for Outline {
+    fn fmt(&self, f: &mut fmt::Formatter<'_>) -> fmt::Result {
+        f.debug_struct("Outline").field("corners", &self.corners()).finish()
+    }
 }
 
 /// A direction that parts an outline from a segment: no corner has a greater product with it than `farthest`, a corner, and both
@@ -76,10 +98,17 @@ impl Outline {
     /// The outline of these corners: counterclockwise from the first by x and then by y, and none inside an edge;
     /// [`Fault::NoOutline`] where they are not.
     pub fn new(corners: &[Point]) -> Result<Outline, Fault> {
-        // SAFETY: the points are a slice's own, and a slice's pointer is not null.
+        let mut own = Vec::new();
+        own.try_reserve_exact(corners.len()).map_err(|_| Fault::NoMemory)?;
+        own.extend_from_slice(corners);
+        Outline::of(own)
+    }
+
+    pub(crate) fn of(corners: Vec<Point>) -> Result<Outline, Fault> {
+        // SAFETY: the points are a vector's own, whose pointer is not null.
         let told = unsafe { raw::hull_is_outline(corners.as_ptr(), corners.len()) };
         match answer::number(told)? {
-            1 => Ok(Outline { corners: corners.into() }),
+            1 => Ok(Outline { corners: Counted::new(corners)? }),
             _ => Err(Fault::NoOutline),
         }
     }
@@ -113,6 +142,44 @@ impl Outline {
     /// (0, 0) the first point by x and then by y.
     pub fn extreme_d(&self, dx: f64, dy: f64) -> Result<Option<Point>, Fault> {
         self.extreme(asked_along(dx, dy)?)
+    }
+
+    fn ask_all<T>(
+        &self,
+        kind: u32,
+        points: &[Point],
+        told: impl Fn(Reply) -> Result<T, Fault>,
+    ) -> Result<Vec<T>, Fault> {
+        let serve = |requests: &[Request], replies: &mut [Reply]| {
+            let corners = &self.corners;
+            // SAFETY: the corners are an outline, as `new` saw; the arrays were written, and are as long as is told.
+            unsafe {
+                raw::hull_outline_calls(
+                    corners.as_ptr(),
+                    corners.len(),
+                    requests.as_ptr(),
+                    requests.len(),
+                    replies.as_mut_ptr(),
+                    replies.len(),
+                )
+            }
+        };
+        many::all(kind, points, serve, told)
+    }
+
+    /// Where each of the points lies.
+    pub fn place_all(&self, points: &[Point]) -> Result<Vec<Place>, Fault> {
+        self.ask_all(kind::PLACE, points, answer::place)
+    }
+
+    /// The tangent points seen from each of the points, as by [`tangents`](Outline::tangents).
+    pub fn tangents_all(&self, points: &[Point]) -> Result<Vec<Option<(Point, Point)>>, Fault> {
+        self.ask_all(kind::TANGENTS, points, answer::tangents)
+    }
+
+    /// The farthest point in each of the directions, as by [`extreme`](Outline::extreme).
+    pub fn extreme_all(&self, directions: &[Point]) -> Result<Vec<Option<Point>>, Fault> {
+        self.ask_all(kind::EXTREME, directions, answer::extreme)
     }
 
     /// Twice the area, 0 for a point and a line.
@@ -149,6 +216,7 @@ impl Outline {
         // SAFETY: the same.
         answer::bounds(unsafe { raw::hull_outline_box(self.corners.as_ptr(), self.corners.len()) })
     }
+
     /// How far the outline reaches in a direction: the greatest product of a corner with it less the least; `None` for an outline of
     /// no corners. Divided by the length of the direction it is the width along it.
     pub fn width_along(&self, direction: Point) -> Result<Option<u128>, Fault> {

@@ -11,6 +11,25 @@ pub struct Point {
     pub y: i64,
 }
 
+impl From<(i64, i64)> for Point {
+    fn from((x, y): (i64, i64)) -> Point {
+        Point { x, y }
+    }
+}
+
+impl From<Point> for (i64, i64) {
+    fn from(point: Point) -> (i64, i64) {
+        (point.x, point.y)
+    }
+}
+
+/// As `(3, -4)`.
+impl std::fmt::Display for Point {
+    fn fmt(&self, f: &mut std::fmt::Formatter<'_>) -> std::fmt::Result {
+        write!(f, "({}, {})", self.x, self.y)
+    }
+}
+
 /// A point that is held, and how often.
 #[repr(C)]
 #[derive(Clone, Copy, Debug, PartialEq, Eq, PartialOrd, Ord, Hash)]
@@ -145,6 +164,14 @@ extern "C" {
     pub(crate) fn hull_clear(hull: *mut u8) -> Reply;
     pub(crate) fn hull_is_outline(points: *const Point, count: usize) -> Reply;
     pub(crate) fn hull_outline_call(corners: *const Point, count: usize, kind: u32, x: i64, y: i64) -> Reply;
+    pub(crate) fn hull_outline_calls(
+        corners: *const Point,
+        count: usize,
+        requests: *const Request,
+        request_count: usize,
+        replies: *mut Reply,
+        reply_room: usize,
+    ) -> usize;
     pub(crate) fn hull_outline_meets_segment(
         corners: *const Point,
         count: usize,

@@ -1,5 +1,6 @@
 //! One hull for many threads, each with a seat of its own: safe Rust over `libhull_shared.a`.
 use crate::answer;
+use crate::counted::Counted;
 use crate::door::Door;
 use crate::raw::{self, code, kind, Reply};
 use crate::{Fault, Place, Point, Vertices, NOWHERE};
@@ -7,7 +8,7 @@ use std::alloc::{alloc, dealloc, Layout};
 use std::fmt;
 use std::hint::spin_loop;
 use std::ptr::NonNull;
-use std::sync::{Arc, Mutex, MutexGuard, PoisonError};
+use std::sync::{Mutex, MutexGuard, PoisonError};
 
 /// The greatest capacity of a shared hull: how many lines of its journal may be held at most.
 pub const CAPACITY_LIMIT: u32 = 1 << 24;
@@ -92,7 +93,7 @@ impl Drop for Desk {
 /// One hull that up to [`SEAT_LIMIT`] threads change and question at once. Each call takes effect at one moment between
 /// its beginning and its end, in the order of the calls' numbers, and has its line in a journal.
 ///
-/// ```no_run
+/// ```
 /// use hull::{Limits, Point, SharedHull};
 ///
 /// let hull = SharedHull::open(Limits { points: 1000, first: 0, capacity: 4096, seats: 2 })?;
@@ -102,13 +103,13 @@ impl Drop for Desk {
 /// # Ok::<(), hull::Fault>(())
 /// ```
 pub struct SharedHull {
-    desk: Arc<Desk>,
+    desk: Counted<Desk>,
 }
 
 impl SharedHull {
     /// Opens an empty hull, whose seats are all to be lent. All memory but that of points is asked for here.
     pub fn open(limits: Limits) -> Result<SharedHull, Fault> {
-        let desk = Arc::new(Desk::new()?);
+        let desk = Counted::new(Desk::new()?)?;
         let Limits { points, first, capacity, seats } = limits;
         // SAFETY: the desk lies in its room, and nobody else has it yet.
         let told = unsafe { raw::hull_shared_open(desk.lock().at(), points, first, capacity, seats) };
@@ -120,7 +121,7 @@ impl SharedHull {
 
     /// The same, but the line of each call is let go with its answer: the text of the journal has none. `capacity` is not read.
     pub fn open_without_journal(limits: Limits) -> Result<SharedHull, Fault> {
-        let desk = Arc::new(Desk::new()?);
+        let desk = Counted::new(Desk::new()?)?;
         // SAFETY: as above.
         let told = unsafe {
             raw::hull_shared_open_without_journal(desk.lock().at(), limits.points, limits.first, limits.seats)
@@ -137,7 +138,7 @@ impl SharedHull {
     ///
     /// [`Fault::NoJournal`], [`Fault::OldRules`], [`Fault::TooFewSeats`] and [`Fault::Illegal`] tell why a text is not gone on with.
     pub fn reopen(text: &str, capacity: u32, seats: u32) -> Result<SharedHull, Fault> {
-        let desk = Arc::new(Desk::new()?);
+        let desk = Counted::new(Desk::new()?)?;
         // SAFETY: the desk lies in its room, and nobody else has it yet; the text is not written meanwhile.
         let told =
             unsafe { raw::hull_shared_reopen(desk.lock().at(), text.as_ptr(), text.len(), capacity, seats) };
@@ -160,7 +161,7 @@ impl SharedHull {
             let room = Room::new(raw::hull_shared_seat_size(), raw::hull_shared_seat_alignment())?;
             raw::hull_shared_make_seat(room.at());
             match raw::hull_shared_lend(self.desk.lock().at(), room.at(), number) {
-                code::LENT => Ok(Seat { room, desk: Arc::clone(&self.desk), number, turn: None, corners: 64 }),
+                code::LENT => Ok(Seat { room, desk: self.desk.clone(), number, turn: None, corners: 64 }),
                 other => Err(answer::fault_of(other)),
             }
         }
@@ -190,6 +191,13 @@ fn text_of(desk: &Room) -> Result<String, Fault> {
 /// The text that a call writes to an array, which may be too short for it.
 fn written(write: impl Fn(&mut [u8]) -> Reply) -> Result<String, Fault> {
     written_into(Vec::new(), write)
+}
+
+fn zeros(bytes: usize) -> Result<Vec<u8>, Fault> {
+    let mut room = Vec::new();
+    room.try_reserve_exact(bytes).map_err(|_| Fault::NoMemory)?;
+    room.resize(bytes, 0);
+    Ok(room)
 }
 
 /// The same, into this array first.
@@ -257,10 +265,12 @@ impl JournalPart {
             let line = next?;
             let mut behind = 0;
             // SAFETY: as in `text`.
-            let piece = written_into(vec![0; bytes], |text| unsafe {
-                let told = raw::hull_shared_part_text_from(self.room.at(), line, text.as_mut_ptr(), text.len());
-                behind = told.high;
-                told
+            let piece = zeros(bytes).and_then(|room| {
+                written_into(room, |text| unsafe {
+                    let told = raw::hull_shared_part_text_from(self.room.at(), line, text.as_mut_ptr(), text.len());
+                    behind = told.high;
+                    told
+                })
             });
             next = Some(behind).filter(|_| matches!(&piece, Ok(text) if !text.is_empty()));
             Some(piece).filter(|piece| !matches!(piece, Ok(text) if text.is_empty()))
@@ -302,7 +312,7 @@ impl fmt::Debug for SharedHull {
 /// [`Fault::Full`] where the journal has no room for the call, which is not made then.
 pub struct Seat {
     room: Room,
-    desk: Arc<Desk>,
+    desk: Counted<Desk>,
     number: u32,
     turn: Option<u64>,
     corners: usize,

@@ -1,0 +1,71 @@
+/* The calls of include/hull.h on one hull as functions of libhull.so for python/hull.py, one at a time on each. ctypes lets go of the
+ * interpreter's lock meanwhile. */
+#include "hull.h"
+#include "hull_owned.h"
+
+typedef struct hull_python {
+    hull_owned owned;
+    hull_set *hull;
+} hull_python;
+
+hull_python *hull_python_new(uint32_t limit) {
+    hull_python *h = (hull_python *)malloc(sizeof *h);
+    hull_set *hull = h == NULL ? NULL : hull_new(limit);
+    if (hull == NULL) {
+        free(h);
+        return NULL;
+    }
+    h->hull = hull;
+    hull_begins(&h->owned, 1);
+    return h;
+}
+
+void hull_python_free(hull_python *h) {
+    if (hull_goes(&h->owned)) {
+        hull_free(h->hull);
+        free(h);
+    }
+}
+
+hull_reply hull_python_call(hull_python *h, uint32_t kind, int64_t x, int64_t y) {
+    HULL_REPLY_OF(h, hull_call(h->hull, kind, x, y));
+}
+
+/* How many replies were written; SIZE_MAX where the hull is ended. */
+size_t hull_python_calls(hull_python *h, const hull_request *requests, hull_reply *replies, size_t count) {
+    size_t made = SIZE_MAX;
+    if (hull_enters(&h->owned)) {
+        made = hull_calls(h->hull, requests, count, replies, count);
+        hull_leaves(&h->owned);
+    }
+    return made;
+}
+
+hull_reply hull_python_vertices(hull_python *h, hull_point *out, size_t room) {
+    HULL_REPLY_OF(h, hull_vertices(h->hull, out, room));
+}
+
+hull_reply hull_python_load(hull_python *h, const hull_point *points, size_t count) {
+    HULL_REPLY_OF(h, hull_load(h->hull, points, count));
+}
+
+hull_reply hull_python_load_held(hull_python *h, const hull_held *held, size_t count) {
+    HULL_REPLY_OF(h, hull_load_held(h->hull, held, count));
+}
+
+hull_reply hull_python_held_from(hull_python *h, int64_t x, int64_t y, hull_held *out, size_t room) {
+    HULL_REPLY_OF(h, hull_held_from(h->hull, x, y, out, room));
+}
+
+/* `to` is new, so that nobody else makes calls on it. */
+hull_reply hull_python_copy(hull_python *to, hull_python *from) {
+    HULL_REPLY_OF(from, hull_copy(to->hull, from->hull));
+}
+
+hull_reply hull_python_limit(hull_python *h) {
+    HULL_REPLY_OF(h, hull_limit(h->hull));
+}
+
+hull_reply hull_python_clear(hull_python *h) {
+    HULL_REPLY_OF(h, hull_clear(h->hull));
+}

@@ -1,0 +1,105 @@
+/* What python/hull_calls.c and python/hull_shared_calls.c have in common: a lock beside each hull, desk, seat and part that Python
+ * owns. It is held while the library is in one, and no longer, so that neither a signal's handler nor a finalizer of the same thread,
+ * which run between two calls, meets a lock that is held.
+ *
+ * A child of a fork has what its parent had, but of its threads only the one that forked. What another thread was in just then is
+ * torn: it is ended in the child, and so is whatever threads share. Its memory stays. */
+#ifndef HULL_OWNED_H
+#define HULL_OWNED_H
+
+#include <pthread.h>
+
+typedef struct hull_owned {
+    pthread_mutex_t lock;
+    int stays;    /* a child of a fork may go on with it */
+    int is_ended; /* it lies in a child of a fork, which may not */
+    struct hull_owned *before;
+    struct hull_owned *next;
+} hull_owned;
+
+static pthread_mutex_t hull_all_lock = PTHREAD_MUTEX_INITIALIZER;
+static hull_owned hull_all = {PTHREAD_MUTEX_INITIALIZER, 0, 0, &hull_all, &hull_all};
+
+static void hull_lock_all(void) {
+    pthread_mutex_lock(&hull_all_lock);
+}
+
+static void hull_unlock_all(void) {
+    pthread_mutex_unlock(&hull_all_lock);
+}
+
+static void hull_forked(void) {
+    hull_owned *one;
+    for (one = hull_all.next; one != &hull_all; one = one->next) {
+        if (one->stays && pthread_mutex_trylock(&one->lock) == 0) {
+            pthread_mutex_unlock(&one->lock);
+        } else {
+            one->is_ended = 1;
+        }
+    }
+    hull_unlock_all();
+}
+
+__attribute__((constructor)) static void hull_watch_forks(void) {
+    pthread_atfork(hull_lock_all, hull_unlock_all, hull_forked);
+}
+
+static void hull_begins(hull_owned *one, int stays) {
+    pthread_mutex_init(&one->lock, NULL);
+    one->stays = stays;
+    one->is_ended = 0;
+    hull_lock_all();
+    one->before = &hull_all;
+    one->next = hull_all.next;
+    one->next->before = one;
+    hull_all.next = one;
+    hull_unlock_all();
+}
+
+/* Whether its memory may go back: nobody has it any more, and it did not end by a fork. */
+static int hull_goes(hull_owned *one) {
+    if (one->is_ended) {
+        return 0;
+    }
+    hull_lock_all();
+    one->before->next = one->next;
+    one->next->before = one->before;
+    hull_unlock_all();
+    pthread_mutex_destroy(&one->lock);
+    return 1;
+}
+
+/* Whether a call may be made on it, until hull_leaves. */
+static int hull_enters(hull_owned *one) {
+    return !one->is_ended && pthread_mutex_lock(&one->lock) == 0;
+}
+
+static void hull_leaves(hull_owned *one) {
+    pthread_mutex_unlock(&one->lock);
+}
+
+/* The reply of a call, or HULL_ENDED. */
+#define HULL_REPLY_OF(one, call)               \
+    do {                                       \
+        hull_reply reply;                      \
+        memset(&reply, 0, sizeof reply);       \
+        reply.code = HULL_ENDED;               \
+        if (hull_enters(&(one)->owned)) {      \
+            reply = (call);                    \
+            hull_leaves(&(one)->owned);        \
+        }                                      \
+        return reply;                          \
+    } while (0)
+
+/* The code of a call, or HULL_ENDED. */
+#define HULL_CODE_OF(one, call)                \
+    do {                                       \
+        uint32_t code = HULL_ENDED;            \
+        if (hull_enters(&(one)->owned)) {      \
+            code = (call);                     \
+            hull_leaves(&(one)->owned);        \
+        }                                      \
+        return code;                           \
+    } while (0)
+
+#endif

@@ -1,0 +1,232 @@
+/* The calls of include/hull_shared.h as functions of libhull_shared.so for python/hull.py: desks, seats and parts that own what they
+ * use, with one call at a time on each. ctypes lets go of the interpreter's lock while one of them waits. */
+#include "hull_shared.h"
+#include "hull_owned.h"
+
+/* A desk with its line; it ends when the hull and all seats that are out let it go. */
+typedef struct hull_python_desk {
+    hull_owned owned;
+    hull_shared_line line;
+    hull_shared_desk *desk;
+    uint64_t out; /* bit k: seat k is out */
+    uint32_t owners;
+} hull_python_desk;
+
+/* A room for a seat. */
+typedef struct hull_python_seat {
+    hull_owned owned;
+    hull_shared_seat *seat;
+    hull_python_desk *desk; /* null where it has none */
+    uint32_t number;
+    uint32_t has_turn;
+    uint64_t turn; /* of the last call that was served */
+} hull_python_seat;
+
+typedef struct hull_python_part {
+    hull_owned owned;
+    hull_shared_part *part;
+} hull_python_part;
+
+hull_python_desk *hull_python_desk_new(void) {
+    hull_python_desk *d = (hull_python_desk *)hull_room_new(sizeof *d, 64);
+    hull_shared_desk *desk = d == NULL ? NULL : hull_shared_desk_new();
+    if (desk == NULL) {
+        hull_room_free(d);
+        return NULL;
+    }
+    d->desk = desk;
+    d->out = 0;
+    d->owners = 1;
+    hull_shared_line_init(&d->line, 1);
+    hull_begins(&d->owned, 0);
+    return d;
+}
+
+void hull_python_desk_free(hull_python_desk *d) {
+    uint32_t owners = 1;
+    if (hull_enters(&d->owned)) {
+        owners = --d->owners;
+        hull_leaves(&d->owned);
+    }
+    if (owners == 0 && hull_goes(&d->owned)) {
+        hull_shared_close(d->desk);
+        hull_shared_end(d->desk);
+        hull_shared_desk_free(d->desk);
+        hull_room_free(d);
+    }
+}
+
+uint32_t hull_python_open(hull_python_desk *d, uint32_t limit, uint64_t first, uint32_t capacity, uint32_t seats) {
+    HULL_CODE_OF(d, hull_shared_open(d->desk, limit, first, capacity, seats));
+}
+
+uint32_t hull_python_open_without_journal(hull_python_desk *d, uint32_t limit, uint64_t first, uint32_t seats) {
+    HULL_CODE_OF(d, hull_shared_open_without_journal(d->desk, limit, first, seats));
+}
+
+hull_reply hull_python_reopen(hull_python_desk *d, const uint8_t *text, size_t length, uint32_t capacity, uint32_t seats) {
+    HULL_REPLY_OF(d, hull_shared_reopen(d->desk, text, length, capacity, seats));
+}
+
+uint32_t hull_python_close(hull_python_desk *d) {
+    HULL_CODE_OF(d, hull_shared_close(d->desk));
+}
+
+hull_reply hull_python_text(hull_python_desk *d, uint8_t *out, size_t length) {
+    HULL_REPLY_OF(d, hull_shared_text(d->desk, out, length));
+}
+
+/* Which seats are out: bit k for seat k. */
+uint64_t hull_python_out(hull_python_desk *d) {
+    uint64_t out = 0;
+    if (hull_enters(&d->owned)) {
+        out = d->out;
+        hull_leaves(&d->owned);
+    }
+    return out;
+}
+
+hull_python_seat *hull_python_seat_new(void) {
+    hull_python_seat *s = (hull_python_seat *)calloc(1, sizeof *s);
+    hull_shared_seat *seat = s == NULL ? NULL : hull_shared_seat_new();
+    if (seat == NULL) {
+        free(s);
+        return NULL;
+    }
+    s->seat = seat;
+    hull_begins(&s->owned, 0);
+    return s;
+}
+
+/* Moves seat `number` into the room, which owns the desk from then on. */
+static uint32_t lend(hull_python_seat *s, hull_python_desk *d, uint32_t number) {
+    uint32_t code = hull_shared_lend(d->desk, s->seat, number);
+    if (code == HULL_LENT) {
+        s->desk = d;
+        s->number = number;
+        d->owners++;
+        d->out |= (uint64_t)1 << number;
+    }
+    return code;
+}
+
+uint32_t hull_python_lend(hull_python_seat *s, hull_python_desk *d, uint32_t number) {
+    HULL_CODE_OF(d, lend(s, d, number));
+}
+
+/* Moves the seat back, and lets its desk go. */
+static void give_back(hull_python_seat *s) {
+    hull_python_desk *d = s->desk;
+    s->desk = NULL;
+    if (d != NULL && hull_enters(&d->owned)) {
+        hull_shared_give_back(d->desk, s->seat);
+        d->out &= ~((uint64_t)1 << s->number);
+        hull_leaves(&d->owned);
+        hull_python_desk_free(d);
+    }
+}
+
+void hull_python_give_back(hull_python_seat *s) {
+    if (hull_enters(&s->owned)) {
+        give_back(s);
+        hull_leaves(&s->owned);
+    }
+}
+
+void hull_python_seat_free(hull_python_seat *s) {
+    if (!s->owned.is_ended) {
+        give_back(s);
+    }
+    if (hull_goes(&s->owned)) {
+        hull_shared_seat_free(s->seat);
+        free(s);
+    }
+}
+
+/* A call that waits for its turn: VACANT where the room has no seat. */
+static hull_reply ask(hull_python_seat *s, uint32_t kind, int64_t x, int64_t y, hull_shared_target to) {
+    hull_shared_reply reply;
+    memset(&reply, 0, sizeof reply);
+    reply.told.code = HULL_VACANT;
+    if (s->desk != NULL) {
+        reply = hull_shared_call_into(&s->desk->line, s->seat, kind, x, y, to);
+    }
+    switch (reply.told.code) {
+    case HULL_VACANT:
+    case HULL_OUT_OF_RANGE:
+    case HULL_ZERO_DIRECTION:
+    case HULL_FULL: break;
+    default: s->has_turn = 1, s->turn = reply.turn;
+    }
+    return reply.told;
+}
+
+hull_reply hull_python_ask(hull_python_seat *s, uint32_t kind, int64_t x, int64_t y) {
+    hull_shared_target nowhere = {NULL, 0, NULL};
+    HULL_REPLY_OF(s, ask(s, kind, x, y, nowhere));
+}
+
+hull_reply hull_python_ask_vertices(hull_python_seat *s, hull_point *out, size_t room) {
+    hull_shared_target to = {out, room, NULL};
+    HULL_REPLY_OF(s, ask(s, HULL_KIND_VERTICES, 0, 0, to));
+}
+
+static hull_reply drain(hull_python_seat *s, hull_python_part *p) {
+    hull_shared_target to = {NULL, 0, p->part};
+    HULL_REPLY_OF(s, ask(s, HULL_KIND_COUNT, 0, 0, to));
+}
+
+/* Asks how many points there are, and drains into the part, which has room for as many lines as the desk holds at most. */
+hull_reply hull_python_drain(hull_python_seat *s, hull_python_part *p) {
+    HULL_REPLY_OF(p, drain(s, p));
+}
+
+uint32_t hull_python_capacity(hull_python_seat *s) {
+    uint32_t lines = 0;
+    if (hull_enters(&s->owned)) {
+        lines = hull_shared_capacity(s->seat);
+        hull_leaves(&s->owned);
+    }
+    return lines;
+}
+
+/* Whether a call of the seat was served, and the number of the last by way of `turn`. */
+uint32_t hull_python_turn(hull_python_seat *s, uint64_t *turn) {
+    uint32_t has = 0;
+    if (hull_enters(&s->owned)) {
+        has = s->has_turn;
+        *turn = s->turn;
+        hull_leaves(&s->owned);
+    }
+    return has;
+}
+
+/* A part with room for so many lines. */
+hull_python_part *hull_python_part_new(uint32_t lines) {
+    hull_python_part *p = (hull_python_part *)malloc(sizeof *p);
+    hull_shared_part *part = p == NULL ? NULL : hull_shared_part_new();
+    if (part == NULL || hull_shared_part_reserve(part, lines) != HULL_RESERVED) {
+        hull_shared_part_free(part);
+        free(p);
+        return NULL;
+    }
+    p->part = part;
+    hull_begins(&p->owned, 1);
+    return p;
+}
+
+void hull_python_part_free(hull_python_part *p) {
+    if (hull_goes(&p->owned)) {
+        hull_shared_part_end(p->part);
+        hull_shared_part_free(p->part);
+        free(p);
+    }
+}
+
+hull_reply hull_python_part_text(hull_python_part *p, uint8_t *out, size_t length) {
+    HULL_REPLY_OF(p, hull_shared_part_text(p->part, out, length));
+}
+
+hull_reply hull_python_part_text_from(hull_python_part *p, uint64_t line, uint8_t *out, size_t length) {
+    HULL_REPLY_OF(p, hull_shared_part_text_from(p->part, line, out, length));
+}

@@ -1,0 +1,54 @@
+/* A checked build: each call on an array of corners tells of one that is no outline, and answers as ever of one that is. */
+#define HULL_CHECKED
+#include "hull.h"
+#include <stdio.h>
+
+static int passed, failed, is_refused;
+
+/* malloc, which may be refused (linked in by --wrap) */
+void *__real_malloc(size_t n);
+void *__wrap_malloc(size_t n) { return is_refused ? NULL : __real_malloc(n); }
+
+#define CHECK(truth) check(truth, #truth, __LINE__)
+static void check(int truth, const char *text, int line) {
+    passed += truth, failed += !truth;
+    if (!truth) {
+        printf("checked.c:%d: %s\n", line, text);
+    }
+}
+
+static int bare(hull_reply r, uint32_t code) {
+    return r.code == code && !r.x && !r.y && !r.other_x && !r.other_y && !r.number && !r.high;
+}
+
+int main(void) {
+    static const hull_point square[] = {{-2, -2}, {2, -2}, {2, 2}, {-2, 2}};
+    static const hull_point lists[][4] = {
+        {{2, -2}, {2, 2}, {-2, 2}, {-2, -2}},   {{-2, -2}, {-2, 2}, {2, 2}, {2, -2}},     {{-2, -2}, {2, 2}, {2, -2}, {-2, 2}},
+        {{-2, -2}, {0, -2}, {2, -2}, {-2, 2}}, {{-2, -2}, {-2, -2}, {2, 2}, {-2, 2}}, {{-2, -2}, {2, -2}, {HULL_COORDINATE_MAX + 1, 2}, {-2, 2}}};
+    for (size_t i = 0; i < sizeof lists / sizeof *lists; i++) {
+        const hull_point *list = lists[i];
+        const hull_request asked_for[] = {{HULL_KIND_PLACE, 0, 0}, {HULL_KIND_AREA, 0, 0}};
+        hull_reply told[2];
+        memset(told, 5, sizeof told);
+        CHECK(bare(hull_outline_place(list, 4, 0, 0), HULL_NO_OUTLINE) && bare(hull_outline_area(list, 4), HULL_NO_OUTLINE));
+        CHECK(hull_outline_calls(list, 4, asked_for, 2, told, 2) == 2 && bare(told[0], HULL_NO_OUTLINE) && bare(told[1], HULL_NO_OUTLINE));
+        CHECK(bare(hull_outline_meets_segment(list, 4, 0, 0, 1, 1), HULL_NO_OUTLINE));
+        CHECK(bare(hull_outline_apart(list, 4, 0, 0, 1, 1), HULL_NO_OUTLINE) && bare(hull_outline_nearest(list, 4, -2, -1), HULL_NO_OUTLINE));
+        CHECK(bare(hull_outline_box(list, 4), HULL_NO_OUTLINE) && bare(hull_outline_width(list, 4, 1, 0), HULL_NO_OUTLINE));
+        CHECK(bare(hull_outline_diameter(list, 4), HULL_NO_OUTLINE) && hull_outline_least_width(list, 4).code == HULL_NO_OUTLINE);
+        CHECK(bare(hull_outline_meets(list, 4, square, 4), HULL_NO_OUTLINE) && bare(hull_outline_meets(square, 4, list, 4), HULL_NO_OUTLINE));
+        CHECK(bare(hull_outline_contains(list, 4, square, 4), HULL_NO_OUTLINE) && bare(hull_outline_contains(square, 4, list, 4), HULL_NO_OUTLINE));
+        CHECK(hull_outline_witness(list, 4, square, 4).code == HULL_NO_OUTLINE && hull_outline_witness(square, 4, list, 4).code == HULL_NO_OUTLINE);
+        CHECK(hull_outline_distance(list, 4, square, 4).code == HULL_NO_OUTLINE && hull_outline_distance(square, 4, list, 4).code == HULL_NO_OUTLINE);
+        CHECK(bare(hull_outline_extreme_d(list, 4, 1, 0), HULL_NO_OUTLINE));
+    }
+    is_refused = 1;
+    CHECK(bare(hull_outline_place(square, 4, 0, 0), HULL_NO_MEMORY));
+    is_refused = 0;
+    const hull_point small[] = {{-1, -1}, {1, -1}, {0, 1}};
+    CHECK(hull_outline_place(square, 4, 0, 0).code == HULL_INSIDE && hull_outline_area(square, 4).number == 32);
+    CHECK(hull_outline_contains(square, 4, small, 3).number == 1 && hull_outline_place(NULL, 0, 1, 1).code == HULL_OUTSIDE);
+    printf("checked: %d passed, %d failed\n", passed, failed);
+    return failed != 0;
+}

@@ -1,0 +1,348 @@
+"""When hulls, seats and parts of python/hull.py end: in garbage, at exit, in signals' handlers, beside threads and in forks.
+
+What has to end its process is run in one of its own; one that hangs is killed, and fails.
+"""
+import gc
+import itertools
+import os
+import signal
+import subprocess
+import sys
+import threading
+import time
+import unittest
+
+import hull as hull_module
+from hull import Ended, Hull, SeatsOut, SharedHull
+
+SQUARE = [(0, 0), (10, 0), (10, 10), (0, 10)]
+HEAD = "from hull import *\nimport atexit, gc, os, signal, sys, threading, time\nsquare = [(0, 0), (10, 0), (10, 10), (0, 10)]\n"
+
+
+def run(text, head=HEAD):
+    """What a program writes, and the status that it ends with."""
+    ran = subprocess.run([sys.executable, "-c", head + text], stdout=subprocess.PIPE, stderr=subprocess.STDOUT, timeout=60)
+    return ran.stdout.decode(), ran.returncode
+
+
+def in_child(work):
+    """What a child of a fork tells: the name of the fault, or "" where there was none; None where it hung."""
+    reading, writing = os.pipe()
+    child = os.fork()
+    if child == 0:
+        try:
+            work()
+            told = ""
+        except BaseException as fault:
+            told = type(fault).__name__
+        os.write(writing, told.encode())
+        os._exit(0)
+    os.close(writing)
+    for _ in range(2000):
+        if os.waitpid(child, os.WNOHANG)[0] != 0:
+            with open(reading, "rb") as file:
+                return file.read().decode()
+        time.sleep(0.005)
+    os.kill(child, signal.SIGKILL)
+    os.waitpid(child, 0)
+    os.close(reading)
+    return None
+
+
+class Timer:
+    """A signal that comes again and again, each time so long behind the one before, with what its handler does."""
+
+    def __init__(self, handler, seconds):
+        self.handler, self.seconds = handler, seconds
+
+    def __enter__(self):
+        signal.signal(signal.SIGALRM, self.handler)
+        signal.setitimer(signal.ITIMER_REAL, self.seconds, self.seconds)
+
+    def __exit__(self, *_):
+        signal.setitimer(signal.ITIMER_REAL, 0)
+        signal.signal(signal.SIGALRM, lambda *_: None)  # one may be on its way
+
+
+class Interrupted(Exception):
+    """What a handler raises."""
+
+
+class Garbage(unittest.TestCase):
+    def test_a_finalizer_asks_what_it_refers_to(self):
+        told = []
+
+        class Map:
+            def __init__(self, zone):
+                self.zone, self.parent = zone or Hull(SQUARE), self
+                self.outline = self.zone.outline()
+
+            def __del__(self):
+                self.zone.add(20, 5)
+                told.append((self.zone.doubled_area(), self.zone.vertices(), len(self.zone), self.outline.doubled_area()))
+
+        for made_before in range(300):  # the collector goes by the order in which objects were made
+            Map(Hull(SQUARE) if made_before % 2 else None)
+        gc.collect()
+        self.assertEqual(told, [(300, [(0, 0), (10, 0), (20, 5), (10, 10), (0, 10)], 5, 200)] * 300)
+
+    def test_a_journal_in_garbage(self):
+        told = []
+
+        class Desk:
+            def __init__(self, hull, seat):
+                self.hull, self.seat, self.parent = hull, seat, self
+                self.seat.add(3, 4)
+
+            def __del__(self):
+                told.append(self.seat.count())
+                self.seat.give_back()
+                told.append(self.hull.close().count("\n"))
+
+        for _ in range(300):
+            hull = SharedHull(capacity=9, seats=2)
+            Desk(hull, hull.lend(1))
+        del hull
+        gc.collect()
+        self.assertEqual(told, [1, 4] * 300)
+
+    def test_the_collector_does_not_know_them(self):
+        shared = SharedHull(capacity=9, seats=1)
+        seat = shared.lend(0)
+        for place in (Hull()._at, shared._desk, seat._at, seat.drain()._at):
+            self.assertFalse(gc.is_tracked(place))
+
+    def test_seats_in_garbage(self):
+        hull = SharedHull(capacity=None, seats=64)
+        before = gc.get_threshold()
+        lent = 0
+        try:
+            for threshold in (1, 2, 3, 7, 50, 700):
+                gc.set_threshold(threshold)
+                for number in itertools.islice(itertools.cycle(range(64)), 1500):
+                    try:
+                        cycle = [hull.lend(number)]
+                    except hull_module.NoSeat:  # it is in garbage still
+                        gc.collect()
+                        cycle = [hull.lend(number)]
+                    cycle.append(cycle)
+                    cycle[0].add(number, lent % 5)
+                    lent += 1
+                    if number % 16 == 0:
+                        self.assertRaises(SeatsOut, hull.close)
+        finally:
+            gc.set_threshold(*before)
+        del cycle
+        gc.collect()
+        self.assertEqual((lent, hull.close().count("\n")), (9000, 2))
+
+    def test_what_is_let_go_ends(self):
+        """A hull, a seat or a part that is let go gives its memory back."""
+
+        def memory():
+            with open("/proc/self/statm", encoding="ascii") as file:
+                return int(file.read().split()[1])
+
+        def work():
+            shared = SharedHull(capacity=50, seats=1)
+            seat = shared.lend(0)
+            seat.add(1, 2)
+            parts = [seat.drain() for _ in range(3)]
+            return Hull((x, x * x) for x in range(300)).copy(), Hull(SQUARE).outline(), parts
+
+        for _ in range(200):
+            work()
+        before = memory()
+        for _ in range(1500):
+            work()
+        self.assertLess(memory() - before, 2000)
+
+
+class Exits(unittest.TestCase):
+    def test_what_asks_last(self):
+        program = """
+class Map:
+    def __init__(self):
+        self.zone, self.parent = Hull(square), self
+    def __del__(self):
+        print("module", self.zone.doubled_area(), flush=True)
+def asked():
+    hull = Hull(square)
+    try:
+        yield hull
+    finally:
+        print("generator", hull.doubled_area(), flush=True)
+kept, running = Map(), asked()
+next(running)
+print("end", flush=True)
+"""
+        older = "import atexit\natexit.register(lambda: print('atexit', kept.zone.doubled_area(), flush=True))\n"
+        for more in ("", "import hull\n", "import hull\nsys.modules['__main__'].module = sys.modules['__main__']\n"):
+            text, status = run(program, older + HEAD + more)
+            told = text.splitlines()
+            self.assertEqual((told[:2], sorted(told[2:]), status), (["end", "atexit 200"], ["generator 200", "module 200"], 0))
+
+    def test_daemon_threads(self):
+        for n in range(12):
+            self.assertEqual(run(f"""
+shared, hull = SharedHull(capacity=None, seats=4), Hull()
+def work(number):
+    seat = shared.lend(number)
+    while True:
+        seat.add(number, 5)
+        hull.add_all([(x, x * x) for x in range(50)])
+        hull.vertices()
+        seat.remove(number, 5)
+for number in range(4):
+    threading.Thread(target=work, args=(number,), daemon=True).start()
+time.sleep(0.0{n + 3:02d})
+"""), ("", 0))
+
+
+class Signals(unittest.TestCase):
+    def test_one_call_one_reply(self):
+        hull, shapes = Hull(SQUARE), [[], SQUARE, [(x, x * x) for x in range(200)], [(x, x * x) for x in range(60)], [(7, 7)]]
+        turns = itertools.count()
+        end, wrong, asked = time.monotonic() + 1.0, [], 0
+        with Timer(lambda *_: hull.load(shapes[next(turns) % 5]), 0.0003):
+            while time.monotonic() < end:
+                found, twin = hull.vertices(), hull.copy()
+                asked += 1
+                if found not in shapes or twin.vertices() not in shapes:
+                    wrong.append(found)
+        self.assertEqual(wrong, [])
+        self.assertTrue(asked > 100 and next(turns) > 300)
+
+    def test_interrupted_seats(self):
+        armed = []
+
+        def interrupt(*_):
+            if armed:
+                armed.clear()
+                raise Interrupted
+
+        shared, interrupts, drained = SharedHull(capacity=None, seats=2), 0, 0
+        end = time.monotonic() + 1.5
+        with Timer(interrupt, 0.0004):
+            while time.monotonic() < end:
+                try:
+                    armed.append(True)
+                    while True:
+                        with shared.lend(1) as seat:
+                            seat.add(1, 2)
+                            seat.drain()
+                            drained += 1
+                except Interrupted:
+                    interrupts += 1
+                seat = None
+                gc.collect()  # a frame of the traceback may have it still
+                shared.lend(1).give_back()
+        self.assertTrue(interrupts > 50 and drained > 50, (interrupts, drained))
+        self.assertEqual(shared.close().count("\n"), 2)
+
+    def test_a_handler_makes_calls(self):
+        shared = SharedHull(capacity=None, seats=1)
+        seat, hull, turns = shared.lend(0), Hull(), itertools.count()
+
+        def handler(*_):
+            seat.add(next(turns), 5)
+            hull.add(1, 2)
+            shared.lend(0) if False else repr(shared)
+
+        end = time.monotonic() + 0.7
+        with Timer(handler, 0.0003):
+            while time.monotonic() < end:
+                seat.add(-1, -1)
+                hull.add_all(SQUARE)
+                hull.clear()
+                self.assertRaises(SeatsOut, shared.close)
+                repr(seat)
+        self.assertEqual(seat.count(), next(turns) + 1)
+
+
+class Forks(unittest.TestCase):
+    def test_a_child_goes_on_with_a_hull(self):
+        hull, outline = Hull(SQUARE), Hull(SQUARE).outline()
+
+        def work():
+            assert (hull.doubled_area(), outline.doubled_area(), hull.add(20, 5)) == (200, 200, 1)
+            assert hull.copy().doubled_area() == 300
+
+        self.assertEqual((in_child(work), hull.doubled_area()), ("", 200))
+
+    def test_a_hull_in_which_a_thread_was(self):
+        hull, stop = Hull(), threading.Event()
+        points = [(x * 7 % 30011, x * x % 30011) for x in range(30000)]
+
+        def load():
+            while not stop.is_set():
+                hull.load(points)
+
+        thread = threading.Thread(target=load)
+        thread.start()
+        told = [in_child(lambda: (hull.doubled_area(), hull.copy())) for _ in range(25)]
+        stop.set()
+        thread.join()
+        self.assertTrue({"Ended"} <= set(told) <= {"", "Ended"}, told)
+        self.assertEqual(len(hull), len(set(points)))
+
+    def test_a_child_has_no_shared_hull(self):
+        shared = SharedHull(capacity=1 << 20, seats=3)
+        asked, stop = shared.lend(0), threading.Event()
+        threads = [threading.Thread(target=self.make_calls, args=(shared, number, stop)) for number in (1, 2)]
+        for thread in threads:
+            thread.start()
+        told = [in_child(call) for _ in range(8) for call in (
+            lambda: asked.add(1, 2), shared.close, lambda: shared.lend(2), asked.drain, lambda: SharedHull(4, 1).lend(0).count())]
+        stop.set()
+        for thread in threads:
+            thread.join()
+        self.assertEqual(told, ["Ended", "Ended", "Ended", "Ended", ""] * 8)
+        part = asked.drain()
+        self.assertEqual(in_child(lambda: asked.give_back() or len(part.text())), "")
+        asked.give_back()
+        self.assertEqual(shared.close().count("\n"), 2)
+
+    def make_calls(self, shared, number, stop):
+        with shared.lend(number) as seat:
+            while not stop.is_set():
+                seat.add(number, 3)
+
+
+@unittest.skipUnless(hasattr(hull_module._shared_library(), "hull_refuse"), "the library refuses no memory")
+class Refusals(unittest.TestCase):
+    def test_texts(self):
+        """Where memory is refused, a text is told to be missing, and comes when it is asked for again."""
+        library, refused = hull_module._shared_library(), 0
+        for request in range(60):
+            shared = SharedHull(capacity=9, seats=1)
+            seat = shared.lend(0)
+            seat.add(1, 2)
+            part = seat.drain()
+            seat.give_back()
+            for ask, lines in ((part.text, 4), (lambda: "".join(part.pieces(30)), 4), (shared.close, 2)):
+                library.hull_refuse(request)
+                try:
+                    self.assertEqual(ask().count("\n"), lines)
+                except MemoryError:
+                    refused += 1
+                library.hull_refuse(-1)
+                self.assertEqual(ask().count("\n"), lines)
+        self.assertTrue(5 < refused < 170, refused)
+
+    def test_opening(self):
+        library, refused = hull_module._shared_library(), 0
+        for request in range(80):
+            library.hull_refuse(request)
+            try:
+                with SharedHull(capacity=9, seats=1) as shared:
+                    with shared.lend(0) as seat:
+                        self.assertEqual((seat.add(1, 2), seat.vertices(), seat.drain().text().count("\n")), (1, [(1, 2)], 5))
+            except MemoryError:
+                refused += 1
+            library.hull_refuse(-1)
+        self.assertTrue(8 < refused < 70, refused)
+
+
+if __name__ == "__main__":
+    unittest.main()
