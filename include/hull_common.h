@@ -7,6 +7,9 @@
 #include <stdlib.h>
 #include <string.h>
 
+/* The version of these headers, and of the archives that are installed with them. */
+#define HULL_VERSION "1.0.0"
+
 /* The greatest size of a coordinate, of a point and of a direction: 2^40. */
 #define HULL_COORDINATE_MAX INT64_C(1099511627776)
 /* The greatest limit of a hull: how many different points one may hold. */
@@ -123,6 +126,11 @@ typedef struct hull_held {
     int64_t y;
     uint32_t times;
 } hull_held;
+
+/* The same, for who loads a library that was built with these headers. */
+static inline const char *hull_version(void) {
+    return HULL_VERSION;
+}
 
 /* The name of a code as it stands above, for messages: hull_code_name(9) is "HULL_ABSENT". "no code" where no code has the
  * number. */

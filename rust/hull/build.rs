@@ -1,5 +1,6 @@
 //! Finds libhull.a and libhull_shared.a: in `lib` below `HULL_PREFIX`, the folder that was given to `bin/install`, or where
-//! that is not set, in the folder into which `bin/install` put this crate.
+//! that is not set, in the crate itself (`archives/PROCESSOR`, as `bin/package` lays it), or in the folder into which `bin/install`
+//! put it.
 use std::path::{Path, PathBuf};
 
 const ARCHIVES: [&str; 2] = ["libhull.a", "libhull_shared.a"];
@@ -13,7 +14,10 @@ fn main() {
     let crate_folder = PathBuf::from(std::env::var_os("CARGO_MANIFEST_DIR").expect("cargo names the crate's folder"));
     let folder = match std::env::var_os("HULL_PREFIX") {
         Some(prefix) => Path::new(&prefix).join("lib"),
-        None => crate_folder.join("../.."), // PREFIX/lib/rust/hull
+        None => {
+            let inside = crate_folder.join("archives").join(std::env::var("CARGO_CFG_TARGET_ARCH").unwrap_or_default());
+            if has_all(&inside) { inside } else { crate_folder.join("../..") } // PREFIX/lib/rust/hull
+        }
     };
     if !has_all(&folder) {
         eprintln!(

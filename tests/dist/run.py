@@ -55,7 +55,7 @@ fn main() {
     for i in 0..4 {
         hull.add(Point { x: 10 * (i & 1), y: 10 * (i >> 1) }).expect("added");
     }
-    println!("{}", hull.area().expect("an area"));
+    println!("{}", hull.doubled_area());
 }
 """
 PYTHON = "import hull; h = hull.Hull([(0, 0), (10, 0), (10, 10), (0, 10)]); s = hull.SharedHull(100, 100, 2); s.close(); print(h.doubled_area(), h.place(5, 5).name)"

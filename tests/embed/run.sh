@@ -294,9 +294,9 @@ in_python() {
 }
 
 what=
-if [ ! -x "$top/crates/hullbook/out/hullbook" ] || [ ! -x "$top/crates/hulldraw/out/hulldraw" ]; then
+if ! { "$top/tools/release.py" --program hullbook && "$top/tools/release.py" --program hulldraw; } >/dev/null 2>&1; then
     what=--library
-    skip "the programs' installation" "crates/hullbook/out/hullbook or crates/hulldraw/out/hulldraw"
+    skip "the programs' installation" "hullbook or hulldraw of these sources"
 fi
 # shellcheck disable=SC2086 # no word where there is no option
 try "bin/install" "$top/bin/install" $what "$prefix"
