@@ -58,8 +58,8 @@ fn main() {
     println!("{}", hull.doubled_area());
 }
 """
-PYTHON = "import hull; h = hull.Hull([(0, 0), (10, 0), (10, 10), (0, 10)]); s = hull.SharedHull(100, 100, 2); s.close(); print(h.doubled_area(), h.place(5, 5).name)"
-NODE = "import { load } from 'hullbook'; const { Hull } = await load(); const h = new Hull(100); h.addAll([[0, 0], [10, 0], [10, 10], [0, 10]]); console.log(String(h.area()));"
+PYTHON = "import hull; h = hull.Hull([(0, 0), (10, 0), (10, 10), (0, 10)]); s = hull.SharedHull(100, 2); s.close(); print(h.doubled_area(), h.place(5, 5).name)"
+NODE = "import { load } from 'hullbook'; const { Hull } = await load(); const h = new Hull(100); h.addAll([[0, 0], [10, 0], [10, 10], [0, 10]]); console.log(String(h.doubledArea()));"
 
 
 class Tries:
