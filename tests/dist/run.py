@@ -62,6 +62,17 @@ PYTHON = "import hull; h = hull.Hull([(0, 0), (10, 0), (10, 10), (0, 10)]); s = 
 NODE = "import { load } from 'hullbook'; const { Hull } = await load(); const h = new Hull(100); h.addAll([[0, 0], [10, 0], [10, 10], [0, 10]]); console.log(String(h.doubledArea()));"
 
 
+TYPED = """import { load, type Point } from 'hullbook';
+const { Hull } = await load();
+const hull = new Hull();
+hull.addAll([[0, 0], [10, 0], [10, 10]]);
+const corners: Point[] = hull.vertices();
+export const area: number | bigint = hull.doubledArea();
+export const place: "inside" | "on" | "outside" = hull.place(5, 5);
+export const first = corners[0];
+"""
+
+
 class Tries:
     """The tries, each counted, in a folder of their own with no toolchain."""
 
@@ -183,6 +194,13 @@ def try_packages(tries):
         tries.lay("npm", package__json='{"type": "module"}\n', user__mjs=NODE)
         flags = [] if int(tries.run("node", "-p", "parseInt(process.versions.node)")[1]) >= 24 else ["--experimental-wasm-memory64", "--no-warnings"]
         tries.prints("the package for npm", "200", "sh", "-c", f"npm install --offline --no-audit --no-fund --silent {at}/hullbook-{version}.tgz && node {' '.join(flags)} user.mjs", at="npm")
+        tries.lay("npm", typed__ts=TYPED)
+        if tries.has("esbuild", "a bundle for browsers"):
+            for platform in ("browser", "node"):
+                tries.prints(f"esbuild for a {platform}", "", "esbuild", "user.mjs", "--bundle", "--format=esm", f"--platform={platform}", f"--outfile={platform}.mjs", at="npm")
+        if tries.has("tsc", "types"):
+            for target in ("ES2020", "ESNext"):
+                tries.prints(f"tsc --strict, {target}", "", "tsc", "--strict", "--noEmit", "--target", target, "--module", target, "--moduleResolution", "node", "typed.ts", at="npm")
     if tries.has("cargo", "the crate for Rust"):
         os.makedirs(f"{tries.room}/rust/src")
         tries.lay("rust/src", main__rs=RUST)
