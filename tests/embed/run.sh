@@ -73,7 +73,20 @@ compile() {
     cc -std=c11 -Wall -Wextra -Werror -O2 -g "$@" "$source" $(flags) -o "$output"
 }
 
+# whether a manual page has each call that a header has, but for those that others are made of: NAME HEADER..
+page_has_calls() {
+    page=$top/man/$1.3
+    shift
+    missing=$(sed -n 's/^[a-z][a-z0-9_ ]*[ *]\(hull_[a-z_]*\)(.*/\1/p' "$@" | sort -u |
+        grep -vE '_or_null$|_faults?$|_refusal$|^hull_(array|room_new|room_free)$' |
+        grep -vE '^hull_shared_(sleep|wake|pause|comes_in|lies_down|become_heir|enter|leave|look_and_wake|sleep_and_look|wait|call_into)$' |
+        while read -r name; do grep -q "$name[^a-z_]\|$name\$" "$page" || echo "$name"; done)
+    [ -z "$missing" ] || { echo "not on $page: $missing"; return 1; }
+}
+
 in_c() {
+    try "hull(3) has every call" page_has_calls hull "$prefix/include/hull.h" "$prefix/include/hull_exchange.h" "$prefix/include/hull_common.h"
+    try "hull_shared(3) has every call" page_has_calls hull_shared "$prefix/include/hull_shared.h"
     for name in first placement motions; do
         try "examples/embed/$name.c compiles by what is installed" compile "$name"
         try "examples/embed/$name.c writes examples/embed/$name.txt" writes "$examples/$name.txt" "$room/$name"

@@ -82,6 +82,9 @@ legal() {
 in_c() {
     build "$here/codes.c" -Wl,--wrap=malloc,--wrap=realloc && "$room/codes"
     count "every code, and each request for memory refused" $?
+    sed -n '/^size_t room = 4096;/,/^```/{/^```/!p;}' "$top/docs/SHARED.md" >"$room/pieces.inc"
+    build "$here/pieces.c" -I"$room" -Wl,--wrap=malloc,--wrap=realloc && "$room/pieces" >"$room/told"
+    count "the loop for pieces of docs/SHARED.md: $(cat "$room/told")" $?
     build "$examples/threads.c" && "$room/threads" >"$room/journal" && legal "$room/journal"
     count "examples/shared/threads.c writes a legal journal" $?
     build "$here/storm.c"

@@ -122,6 +122,11 @@ await tried("too many, and the ends of the range", () => {
     hull.clear();
     assert.deepEqual([hull.count(), hull.extreme(1, 0), hull.remove(1, 2)], [0, null, null]);
 });
+await tried("memory that grows in the middle of a call on many", () => {
+    const hull = new Hull(), points = Array.from({ length: 60000 }, (_, i) => [i, i % 251]);
+    assert.ok(hull.addAll(points).every((times) => times === 1));
+    assert.deepEqual([hull.count(), hull.multiplicity(59999, 59999 % 251), hull.removeAll(points)], [60000, 1, 60000]);
+});
 await tried("a freed hull serves nothing", () => {
     const hull = new Hull(), outline = hull.outline();
     hull.free();

@@ -50,6 +50,9 @@ if ! command -v node >/dev/null; then
     echo 'skipped: Node is not there'
     finish
 fi
+program=$top/crates/hullbook/out/hullbook
+[ -x "$program" ] || program=
+counted node "$here/judge_tests.mjs" "$program"
 if [ ! -f "$top/web/out/hull.wasm" ]; then
     echo 'skipped: web/out/hull.wasm is not there, which web/build.py makes'
     finish
