@@ -28,3 +28,15 @@ pub mod Farthest
 pub mod EdgesAt
 pub mod Views
 pub mod Touching
+pub mod FoundPositions
+pub mod ChainEdges
+pub mod ChainPasses
+pub mod Passes
+pub mod Between
+pub mod Mended
+pub mod FringeChains
+pub mod Middles
+pub mod ChainPlaces
+pub mod TwoChains
+pub mod Fringed
+pub mod Runs

@@ -158,3 +158,29 @@ stays_outwards side a b s q t ab sq qt out hs ht =
   where
     gap : (x y z : ℤ) → x -ℤ y ≡ z → pos 0 ≤ℤ x → y <ℤ pos 0 → pos 0 <ℤ z
     gap x y z e h k = omega (arith, ints)
+
+-- a difference of what is above 0 and what is not is above 0
+rise : (x y z : ℤ) → x -ℤ y ≡ z → pos 0 <ℤ x → y ≤ℤ pos 0 → pos 0 <ℤ z
+rise x y z e h k = omega (arith, ints)
+
+-- of what is not below 0 it is not below 0
+rise_or_none : (x y z : ℤ) → x -ℤ y ≡ z → pos 0 ≤ℤ x → y ≤ℤ pos 0 → pos 0 ≤ℤ z
+rise_or_none x y z e h k = omega (arith, ints)
+
+-- q not inwards of a line, s before it inwards of it and t after it not outwards: q is outwards of their segment
+pub stays_first : (side : Side) (a b s q t : Pair) → IsBefore a b → IsBefore s q → IsBefore q t
+    → turn side a b q ≤ℤ pos 0 → pos 0 <ℤ turn side a b s → pos 0 ≤ℤ turn side a b t → turn side s t q <ℤ pos 0
+stays_first side a b s q t ab sq qt out hs ht =
+    below_opposite _ _ (turn_swap side s q t)
+    (above _ _ (sym (turn_middle side s q t))
+    (wedge_trans_first side (minus q s) (minus b a) (minus t q) (ahead_of s q sq) (ahead_of a b ab) (ahead_of q t qt)
+    (rise _ _ _ (more_before side a b q s) hs out) (rise_or_none _ _ _ (more_after side a b q t) ht out)))
+
+-- s before it not outwards of the line and t after it inwards: the same
+pub stays_second : (side : Side) (a b s q t : Pair) → IsBefore a b → IsBefore s q → IsBefore q t
+    → turn side a b q ≤ℤ pos 0 → pos 0 ≤ℤ turn side a b s → pos 0 <ℤ turn side a b t → turn side s t q <ℤ pos 0
+stays_second side a b s q t ab sq qt out hs ht =
+    below_opposite _ _ (turn_swap side s q t)
+    (above _ _ (sym (turn_middle side s q t))
+    (wedge_trans_second side (minus q s) (minus b a) (minus t q) (ahead_of s q sq) (ahead_of a b ab) (ahead_of q t qt)
+    (rise_or_none _ _ _ (more_before side a b q s) hs out) (rise _ _ _ (more_after side a b q t) ht out)))

@@ -4,3 +4,8 @@ pub mod Edges
 pub mod Positions
 pub mod Laws
 pub mod Sights
+pub mod Monotone
+pub mod ChainEdges
+pub mod Mending
+pub mod Fringes
+pub mod Runs

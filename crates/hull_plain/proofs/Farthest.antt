@@ -5,9 +5,9 @@ use Rattle.lattice.specs.declared.side.Side.{Side}
 use Rattle.hull_geometry.specs.Positions.{point_at}
 use Rattle.hull_geometry.specs.Tangents.{IsFirstFarthest, Faces}
 use Rattle.hull_geometry.proofs.Farthest.{farthest_touched}
-use Rattle.hull_plain.specs.Monotone.{IsChainOf}
-use Rattle.hull_plain.proofs.ChainEdges.{edge_support}
-use Rattle.hull_plain.proofs.Looks.{chain_in, edge_to, edge_from}
+use Rattle.hull_geometry.specs.Monotone.{IsChainOf}
+use Rattle.hull_geometry.proofs.ChainEdges.{edge_support}
+use Rattle.hull_geometry.proofs.ChainPlaces.{chain_in, edge_to, edge_from}
 
 -- it is the point up to which the chain rises
 pub farthest_found : (side : Side) (S chain : List Pair) (at : ℕ) (d p : Pair) → p ≡ point_at chain at → Faces side d

@@ -1,15 +1,7 @@
-pub mod FoundPositions
 pub mod Drafts
-pub mod ChainEdges
-pub mod ChainPasses
-pub mod Passes
-pub mod Between
-pub mod Mended
-pub mod FringeChains
-pub mod Middles
+pub mod KeysBetween
 pub mod Looks
 pub mod Touches
 pub mod Farthest
-pub mod TwoChains
 pub mod Multiplicities
 pub mod PlainSets

@@ -10,12 +10,12 @@ use Rattle.std.proofs.lemmas.Map.Views.{All-values-insert_entry, All-values-set_
 use Rattle.lattice.specs.Covers.{IsPointSet, with_point, without_point}
 use Rattle.lattice.specs.Plane.{Pair}
 use Rattle.lattice.proofs.Order.{before_irrefl, before_total, before_not, is_before-true, is_before-false}
-use Rattle.hull_plain.specs.Monotone.{IsChainOf, IsFringeOf, AreChainsOf, AreFringesOf}
+use Rattle.hull_geometry.specs.Monotone.{IsChainOf, IsFringeOf, AreChainsOf, AreFringesOf}
 use Rattle.hull_plain.specs.Outlines.{HasRoom, FringesHaveRoom, IsOutlineOf, AreAlike, IsPlainSet}
 use Rattle.lattice.specs.declared.side.Side.{Side}
 use Rattle.hull_plain.specs.declared.fringes.Fringes.{Fringes}
 use Rattle.hull_plain.specs.declared.outline.Outline.{Outline}
-use Rattle.hull_plain.proofs.Between.{set_few}
+use Rattle.hull_geometry.proofs.Between.{set_few}
 use Rattle.hull_set.proofs.OrderedMaps.{point_cmp, insert_is, remove_is}
 use Rattle.hull_geometry.proofs.SetLaws.{ordered_with, ordered_without}
 

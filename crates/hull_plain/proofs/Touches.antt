@@ -8,10 +8,10 @@ use Rattle.hull_geometry.specs.Positions.{point_at, first_of, last_of}
 use Rattle.hull_geometry.specs.Sights.{IsClear}
 use Rattle.hull_geometry.specs.Tangents.{IsTangent}
 use Rattle.hull_geometry.proofs.Touching.{behind_touched, ahead_touched}
-use Rattle.hull_plain.specs.ChainEdges.{IsPassedBy, IsToCome}
-use Rattle.hull_plain.specs.Monotone.{IsChainOf}
-use Rattle.hull_plain.proofs.ChainEdges.{edge_support}
-use Rattle.hull_plain.proofs.Looks.{chain_in, edge_to, edge_from}
+use Rattle.hull_geometry.specs.ChainEdges.{IsPassedBy, IsToCome}
+use Rattle.hull_geometry.specs.Monotone.{IsChainOf}
+use Rattle.hull_geometry.proofs.ChainEdges.{edge_support}
+use Rattle.hull_geometry.proofs.ChainPlaces.{chain_in, edge_to, edge_from}
 
 -- behind q it is the point up to which the edges are passed
 pub behind_found : (side : Side) (S chain : List Pair) (at : ℕ) (q p : Pair) → p ≡ point_at chain at

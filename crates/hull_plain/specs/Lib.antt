@@ -1,6 +1,5 @@
 pub mod Sets
 pub mod Outlines
-pub mod Monotone
 pub mod Drafts
-pub mod Mending
-pub mod ChainEdges
+pub mod ChainSights
+pub mod Bounds

@@ -5,7 +5,7 @@ use Rattle.std.specs.Map.{keys_of, values_of}
 use Rattle.lattice.specs.Plane.{Pair}
 use Rattle.lattice.specs.Covers.{IsPointSet, with_point, without_point}
 use Rattle.hull_plain.specs.Drafts.{DraftHasRoom}
-use Rattle.hull_plain.specs.Monotone.{AreChainsOf, AreFringesOf}
+use Rattle.hull_geometry.specs.Monotone.{AreChainsOf, AreFringesOf}
 use Rattle.hull_set.specs.declared.TheConstants.{POINT_LIMIT}
 use Rattle.hull_plain.specs.declared.fringes.Fringes.{Fringes}
 use Rattle.hull_plain.specs.declared.outline.Outline.{Outline}

@@ -4,7 +4,7 @@ ghost use Rattle.lattice.specs.Plane.{Pair, widest_side};
 ghost use Rattle.lattice.specs.Covers.{IsPointSet};
 ghost use Rattle.lattice.specs.Vertices.{IsVertexList, IsDoubledArea};
 ghost use Rattle.lattice.specs.Turns as turns;
-ghost use Rattle.hull_plain.specs.Monotone.{IsSomeChain, AreChainsOf, AreChains, fan_of};
+ghost use Rattle.hull_geometry.specs.Monotone.{IsSomeChain, AreChainsOf, AreChains, fan_of};
 
 use heap::Heap;
 use hull_set::POINT_LIMIT;

@@ -2,7 +2,7 @@
 ghost use Rattle.std.specs.Prelude.{◌↔◌, ◌<◌, List, IsTrue, length, ◌<ℤ◌};
 ghost use Rattle.lattice.specs.Plane as plane;
 ghost use Rattle.lattice.specs.Plane.{Pair};
-ghost use Rattle.hull_plain.specs.Monotone.{IsChainOf};
+ghost use Rattle.hull_geometry.specs.Monotone.{IsChainOf};
 ghost use Rattle.hull_set.specs.Replies.{AnswersExtreme, reply_to_extreme};
 ghost use Rattle.hull_geometry.specs.Tangents.{IsFirstFarthest, Faces};
 

@@ -7,8 +7,8 @@ ghost use Rattle.std.specs.Map.{keys_of};
 ghost use Rattle.lattice.specs.Plane.{Pair};
 ghost use Rattle.lattice.specs.Covers.{IsPointSet, with_point, without_point};
 ghost use Rattle.hull_plain.specs.Drafts.{DraftHasRoom, IsAsRoomy, drafted};
-ghost use Rattle.hull_plain.specs.Monotone.{IsFringeOf};
-ghost use Rattle.hull_plain.specs.Mending.{ThinsBetween};
+ghost use Rattle.hull_geometry.specs.Monotone.{IsFringeOf};
+ghost use Rattle.hull_geometry.specs.Mending.{ThinsBetween};
 
 use super::draft::Draft;
 use super::mending::{ahead, behind, is_inwards};

@@ -5,7 +5,7 @@ ghost use Rattle.std.specs.Map.{keys_of};
 ghost use Rattle.lattice.specs.Plane.{Pair};
 ghost use Rattle.lattice.specs.Covers.{IsPointSet, with_point, without_point};
 ghost use Rattle.hull_plain.specs.Drafts.{DraftHasRoom, IsAsRoomy};
-ghost use Rattle.hull_plain.specs.Monotone.{AreFringesOf};
+ghost use Rattle.hull_geometry.specs.Monotone.{AreFringesOf};
 ghost use Rattle.hull_plain.specs.Outlines.{FringesHaveRoom};
 
 use super::draft::Draft;

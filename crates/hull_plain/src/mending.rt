@@ -4,8 +4,9 @@ ghost use Rattle.std.specs.List.{All, Contains};
 ghost use Rattle.lattice.specs.Plane.{Pair, IsBefore};
 ghost use Rattle.lattice.specs.Covers.{IsPointSet, with_point, without_point};
 ghost use Rattle.hull_plain.specs.Drafts.{DraftHasRoom, IsAsRoomy};
-ghost use Rattle.hull_plain.specs.Monotone.{IsStrict, IsChainOf, IsFringeOf};
-ghost use Rattle.hull_plain.specs.Mending.{IsBehind, IsAhead, IsOverEdge, IsBetween};
+ghost use Rattle.hull_geometry.specs.Monotone.{IsStrict, IsChainOf, IsFringeOf};
+ghost use Rattle.hull_geometry.specs.Mending.{IsOverEdge, IsBetween};
+ghost use Rattle.hull_plain.specs.Bounds.{IsBehind, IsAhead};
 
 use super::draft::Draft;
 use super::monotone::{extend, pass_over, take_up};

@@ -4,7 +4,7 @@ ghost use Rattle.std.specs.Prelude.{None, slice_range, vec_capacity};
 ghost use Rattle.lattice.specs.Covers.{IsPointSet};
 ghost use Rattle.hull_plain.specs.Drafts.{IsAsRoomy, drafted};
 ghost use Rattle.lattice.specs.Turns as turns;
-ghost use Rattle.hull_plain.specs.Monotone.{EndsInwards, IsTurning, IsPassed, IsThinned};
+ghost use Rattle.hull_geometry.specs.Monotone.{EndsInwards, IsTurning, IsPassed, IsThinned};
 
 use super::draft::Draft;
 use lattice::{Point, Side, turn};

@@ -1,8 +1,8 @@
 //! From where a point looks at a hull, by the edges of its chains between whose ends it stands.
 ghost use Rattle.std.specs.Prelude.{◌<◌, List, Err, length};
 ghost use Rattle.lattice.specs.Plane.{Pair};
-ghost use Rattle.hull_plain.specs.ChainEdges.{IsSeen};
-ghost use Rattle.hull_plain.specs.Monotone.{IsStrict, IsChainOf, AreChainsOf, AreChains};
+ghost use Rattle.hull_plain.specs.ChainSights.{IsSeen};
+ghost use Rattle.hull_geometry.specs.Monotone.{IsStrict, IsChainOf, AreChainsOf, AreChains};
 ghost use Rattle.hull_geometry.specs.Positions.{IsPositionOf, first_of, last_of};
 ghost use Rattle.hull_geometry.specs.Sights.{IsSightOf};
 ghost use Rattle.hull_set.specs.Replies.{LiesAt};

@@ -1,8 +1,8 @@
 //! Where the tangents from a point touch, each by a bisection of one chain (Preparata and Shamos, 1985).
 ghost use Rattle.std.specs.Prelude.{◌↔◌, ◌<◌, List, IsTrue, length};
 ghost use Rattle.lattice.specs.Plane.{Pair, IsBefore};
-ghost use Rattle.hull_plain.specs.ChainEdges.{IsPassedBy, IsToCome};
-ghost use Rattle.hull_plain.specs.Monotone.{IsChainOf, AreChainsOf, AreChains};
+ghost use Rattle.hull_geometry.specs.ChainEdges.{IsPassedBy, IsToCome};
+ghost use Rattle.hull_geometry.specs.Monotone.{IsChainOf, AreChainsOf, AreChains};
 ghost use Rattle.hull_geometry.specs.Hands.{hand_behind, other_hand};
 ghost use Rattle.hull_geometry.specs.Positions.{first_of, last_of};
 ghost use Rattle.hull_geometry.specs.Sights.{IsClear, IsInwards};

@@ -1,5 +1,5 @@
 -- the two fans are all triangles between the first point and the edges
-use Rattle.hull_plain.proofs.TwoChains.{fans_area}
+use Rattle.hull_geometry.proofs.TwoChains.{fans_area}
 use Rattle.hull_plain.proofs.corners.doubled_area_of.Goals as goal
 
 pub doubled_fan-requires-clause-chain : goal.doubled_fan-requires-clause-chain

@@ -1,6 +1,6 @@
 -- each edge makes a triangle with the first point that does not turn outwards, so the sum grows by its doubled area
 use Rattle.std.proofs.Common.{arith}
-use Rattle.hull_plain.proofs.TwoChains.{triangle}
+use Rattle.hull_geometry.proofs.TwoChains.{triangle}
 use Rattle.hull_plain.proofs.corners.doubled_fan.Goals as goal
 
 pub doubled_triangle-doubled-requires : goal.doubled_triangle-doubled-requires

@@ -1,7 +1,7 @@
 -- the sum so far and the triangles to come are the whole fan; each triangle is at most the widest
 use Rattle.std.proofs.Common.{◌≡◌, pos, ◌+ℤ◌, ◌≤◌, ◌<◌, ◌-◌, ◌*◌, drop}
 use Rattle.lattice.specs.Plane.{widest_side}
-use Rattle.hull_plain.specs.Monotone.{fan_from, fan_of}
+use Rattle.hull_geometry.specs.Monotone.{fan_from, fan_of}
 use Rattle.hull_geometry.specs.Positions.{point_at}
 use Rattle.hull_plain.proofs.corners.doubled_fan.Given as goal
 

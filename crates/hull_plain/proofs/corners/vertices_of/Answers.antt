@@ -5,7 +5,7 @@ use Rattle.lattice.specs.Plane.{Pair}
 use Rattle.lattice.specs.Vertices.{IsVertexList}
 use Rattle.hull_geometry.specs.Positions.{point_at, origin}
 use Rattle.hull_geometry.proofs.PointLists.{append_none, append_twice, get_or_free}
-use Rattle.hull_plain.proofs.TwoChains.{few_vertices, back_more, back_done}
+use Rattle.hull_geometry.proofs.TwoChains.{few_vertices, back_more, back_done}
 use Rattle.hull_geometry.proofs.VertexLists.{end_push}
 use Rattle.hull_plain.proofs.corners.vertices_of.Goals as goal
 

@@ -2,7 +2,7 @@
 use Rattle.std.proofs.Common.{◌≡◌, ◌<◌, ◌≤◌, ◌-◌, ◌++◌, [], List, length}
 use Rattle.lattice.specs.Plane.{Pair}
 use Rattle.hull_geometry.specs.Edges.{IsUpperEdge, IsChain, end_of}
-use Rattle.hull_plain.specs.Monotone.{IsChainOf}
+use Rattle.hull_geometry.specs.Monotone.{IsChainOf}
 use Rattle.hull_geometry.specs.Positions.{point_at}
 use Rattle.lattice.specs.declared.side.Side.TheVariants.{Upper}
 use Rattle.hull_plain.proofs.corners.vertices_of.Given as goal

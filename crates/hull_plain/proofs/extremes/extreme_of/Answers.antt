@@ -1,6 +1,6 @@
 -- no chain, no points
 use Rattle.std.proofs.Common.{rules, ◌≡◌, length}
-use Rattle.hull_plain.proofs.Looks.{none_of}
+use Rattle.hull_geometry.proofs.ChainPlaces.{none_of}
 use Rattle.hull_plain.proofs.extremes.extreme_of.Goals as goal
 
 pub returns-then-is_empty : goal.returns-then-is_empty

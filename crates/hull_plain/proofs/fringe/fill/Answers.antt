@@ -3,10 +3,11 @@ use Rattle.std.proofs.Common.{◌≡◌, ◌≤◌, ◌+◌, ◌++◌, [], sym, 
 use Rattle.std.specs.Map.{keys_of}
 use Rattle.lattice.specs.Plane.{Pair}
 use Rattle.hull_plain.specs.Drafts.{drafted}
-use Rattle.hull_plain.specs.Monotone.{IsThinned}
-use Rattle.hull_plain.proofs.Between.{runs_forward, keys_between, next_set, next_room, next_seen}
+use Rattle.hull_geometry.specs.Monotone.{IsThinned}
+use Rattle.hull_plain.proofs.KeysBetween.{runs_forward, keys_between}
+use Rattle.hull_geometry.proofs.Between.{next_set, next_room, next_seen}
 use Rattle.hull_plain.proofs.Drafts.{started, as_roomy}
-use Rattle.hull_plain.proofs.Passes.{thinned_itself}
+use Rattle.hull_geometry.proofs.Passes.{thinned_itself}
 use Rattle.hull_geometry.proofs.PointSets.{set_left}
 use Rattle.hull_geometry.proofs.PointLists.{append_none}
 use Rattle.hull_plain.proofs.fringe.fill.Goals as goal

@@ -3,8 +3,8 @@ use Rattle.std.proofs.Common.{◌≡◌, ◌≤◌, ◌++◌, List, take, drop}
 use Rattle.std.specs.Map.{keys_of}
 use Rattle.lattice.specs.Plane.{Pair}
 use Rattle.hull_plain.specs.Drafts.{IsAsRoomy, drafted}
-use Rattle.hull_plain.specs.Mending.{IsBetween}
-use Rattle.hull_plain.specs.Monotone.{IsThinned}
+use Rattle.hull_geometry.specs.Mending.{IsBetween}
+use Rattle.hull_geometry.specs.Monotone.{IsThinned}
 use Rattle.hull_plain.proofs.fringe.fill.Given as goal
 
 abbrev pub invariant-loop-point : goal.invariant-loop-point

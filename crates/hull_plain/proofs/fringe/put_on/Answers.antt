@@ -6,10 +6,10 @@ use Rattle.std.specs.List.{insert}
 use Rattle.lattice.specs.Covers.{with_point}
 use Rattle.lattice.specs.Plane.{Pair}
 use Rattle.hull_plain.specs.Drafts.{drafted}
-use Rattle.hull_plain.specs.Monotone.{IsFringeOf}
+use Rattle.hull_geometry.specs.Monotone.{IsFringeOf}
 use Rattle.hull_plain.specs.declared.draft.Draft.{Draft}
 use Rattle.hull_plain.proofs.Drafts.{started, pushed, as_roomy}
-use Rattle.hull_plain.proofs.Mended.{put_on_same, put_on_all}
+use Rattle.hull_geometry.proofs.Mended.{put_on_same, put_on_all}
 use Rattle.hull_geometry.proofs.PointLists.{append_twice, take_few}
 use Rattle.hull_plain.proofs.fringe.put_on.Goals as goal
 

@@ -5,11 +5,11 @@ use Rattle.std.specs.Map.{keys_of}
 use Rattle.lattice.specs.Covers.{IsPointSet}
 use Rattle.lattice.specs.Plane.{Pair}
 use Rattle.hull_plain.specs.Drafts.{drafted}
-use Rattle.hull_plain.specs.Mending.{ThinsBetween}
-use Rattle.hull_plain.specs.Monotone.{IsFringeOf}
+use Rattle.hull_geometry.specs.Mending.{ThinsBetween}
+use Rattle.hull_geometry.specs.Monotone.{IsFringeOf}
 use Rattle.lattice.specs.declared.side.Side.{Side}
 use Rattle.hull_plain.proofs.Drafts.{as_roomy}
-use Rattle.hull_plain.proofs.FringeChains.{whole_fringe}
+use Rattle.hull_geometry.proofs.FringeChains.{whole_fringe}
 use Rattle.hull_plain.proofs.PlainSets.{fringe_few}
 use Rattle.hull_geometry.proofs.PointLists.{append_none, none_from}
 use Rattle.hull_plain.proofs.fringe.renew.Goals as goal

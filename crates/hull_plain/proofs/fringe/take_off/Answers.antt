@@ -3,11 +3,11 @@ use Rattle.std.proofs.Common.{◌+◌, ◌++◌, sym, subst, List, take, drop, a
 use Rattle.std.specs.Map.{keys_of}
 use Rattle.lattice.specs.Plane.{Pair}
 use Rattle.hull_plain.specs.Drafts.{drafted}
-use Rattle.hull_plain.specs.Monotone.{IsFringeOf}
+use Rattle.hull_geometry.specs.Monotone.{IsFringeOf}
 use Rattle.hull_plain.proofs.Drafts.{as_roomy}
-use Rattle.hull_plain.proofs.Mended.{take_off_same, take_off_new, inner_still, around_set, around_among, around_few}
-use Rattle.hull_plain.proofs.Mended.{between_few}
-use Rattle.hull_plain.proofs.Passes.{thinned_copied}
+use Rattle.hull_geometry.proofs.Mended.{take_off_same, take_off_new, inner_still, around_set, around_among, around_few}
+use Rattle.hull_geometry.proofs.Mended.{between_few}
+use Rattle.hull_geometry.proofs.Passes.{thinned_copied}
 use Rattle.hull_plain.proofs.fringe.take_off.Goals as goal
 
 pub returns-in_default-clause-fringe : goal.returns-in_default-clause-fringe

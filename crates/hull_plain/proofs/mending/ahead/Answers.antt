@@ -1,7 +1,7 @@
 -- the point in the place is the first from there on
 use Rattle.std.proofs.Common.{◌+◌, drop, arith}
 use Rattle.hull_geometry.proofs.PointLists.{none_from}
-use Rattle.hull_plain.proofs.Passes.{rest_at}
+use Rattle.hull_geometry.proofs.Passes.{rest_at}
 use Rattle.hull_plain.proofs.mending.ahead.Goals as goal
 
 pub returns-then-i-len : goal.returns-then-i-len

@@ -1,6 +1,6 @@
 -- the point in the last place is the end
 use Rattle.std.proofs.Common.{ℕ, take, ap, arith}
-use Rattle.hull_plain.proofs.Between.{end_of_first}
+use Rattle.hull_geometry.proofs.Between.{end_of_first}
 use Rattle.hull_plain.proofs.mending.behind.Goals as goal
 
 pub returns-then-i-eq0 : goal.returns-then-i-eq0

@@ -2,7 +2,7 @@
 use Rattle.std.proofs.Common.{◌≡◌, ◌+◌, ◌-◌, ℕ, ap, subst, ◌∙◌, arith, List, take, drop}
 use Rattle.std.specs.List.{Contains}
 use Rattle.lattice.specs.Plane.{Pair}
-use Rattle.hull_plain.proofs.Middles.{middle_between}
+use Rattle.hull_geometry.proofs.Middles.{middle_between}
 use Rattle.hull_geometry.proofs.PointSets.{set_left, set_right}
 use Rattle.hull_geometry.proofs.PointLists.{drop_rest}
 use Rattle.hull_plain.proofs.mending.between.Goals as goal

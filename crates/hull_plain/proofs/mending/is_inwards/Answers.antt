@@ -1,6 +1,6 @@
 -- the turn at the place tells it
 use Rattle.std.proofs.Common.{arith}
-use Rattle.hull_plain.proofs.Mended.{over_edge}
+use Rattle.hull_geometry.proofs.Mended.{over_edge}
 use Rattle.hull_plain.proofs.mending.is_inwards.Goals as goal
 
 pub returns : goal.returns

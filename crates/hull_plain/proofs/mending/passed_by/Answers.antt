@@ -3,8 +3,8 @@ use Rattle.std.proofs.Common.{ℕ, take, sym, subst, arith}
 use Rattle.std.specs.List.{All}
 use Rattle.std.proofs.lemmas.List.Elements.{All-contains}
 use Rattle.lattice.specs.Plane.{IsBefore}
-use Rattle.hull_plain.specs.Monotone.{EndsWith}
-use Rattle.hull_plain.proofs.Between.{end_in, end_of_first, after_ends}
+use Rattle.hull_geometry.specs.Monotone.{EndsWith}
+use Rattle.hull_geometry.proofs.Between.{end_in, end_of_first, after_ends}
 use Rattle.hull_geometry.proofs.PointLists.{all_of}
 use Rattle.hull_plain.proofs.mending.passed_by.Goals as goal
 

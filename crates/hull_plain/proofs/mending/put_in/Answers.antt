@@ -5,10 +5,10 @@ use Rattle.std.proofs.lemmas.Bool.{false≢true}
 use Rattle.lattice.specs.Covers.{IsPointSet}
 use Rattle.lattice.specs.Plane.{Pair}
 use Rattle.hull_plain.specs.Drafts.{drafted}
-use Rattle.hull_plain.specs.Monotone.{IsTurning, IsPassed}
+use Rattle.hull_geometry.specs.Monotone.{IsTurning, IsPassed}
 use Rattle.hull_plain.proofs.Drafts.{started, as_roomy}
-use Rattle.hull_plain.proofs.Mended.{put_in_same, put_in_new, before_and, before_and_after}
-use Rattle.hull_plain.proofs.Passes.{turning_take, turning_drop, passed_set, passed_through}
+use Rattle.hull_geometry.proofs.Mended.{put_in_same, put_in_new, before_and, before_and_after}
+use Rattle.hull_geometry.proofs.Passes.{turning_take, turning_drop, passed_set, passed_through}
 use Rattle.hull_geometry.proofs.PointLists.{take_few}
 use Rattle.hull_plain.proofs.mending.put_in.Goals as goal
 

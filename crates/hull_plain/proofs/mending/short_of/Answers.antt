@@ -3,7 +3,7 @@ use Rattle.std.proofs.Common.{◌≡◌, ◌+◌, ◌<◌, ℕ, [], List, length
 use Rattle.std.specs.List.{All, Contains}
 use Rattle.std.proofs.lemmas.List.Elements.{All-contains}
 use Rattle.lattice.specs.Plane.{Pair, IsBefore}
-use Rattle.hull_plain.proofs.Middles.{before_all}
+use Rattle.hull_geometry.proofs.Middles.{before_all}
 use Rattle.hull_geometry.proofs.PointLists.{in_rest, none_from}
 use Rattle.hull_plain.proofs.mending.short_of.Goals as goal
 

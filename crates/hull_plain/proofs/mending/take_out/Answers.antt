@@ -5,11 +5,11 @@ use Rattle.std.specs.Prelude.{slice_range}
 use Rattle.lattice.specs.Covers.{IsPointSet}
 use Rattle.lattice.specs.Plane.{Pair}
 use Rattle.hull_plain.specs.Drafts.{drafted}
-use Rattle.hull_plain.specs.Monotone.{IsTurning, IsPassed}
+use Rattle.hull_geometry.specs.Monotone.{IsTurning, IsPassed}
 use Rattle.hull_plain.proofs.Drafts.{started, as_roomy}
-use Rattle.hull_plain.proofs.FringeChains.{take_out_new}
-use Rattle.hull_plain.proofs.Mended.{take_out_same, around_set, around_among, around_few, between_few}
-use Rattle.hull_plain.proofs.Passes.{turning_take, turning_drop, passed_set, passed_through}
+use Rattle.hull_geometry.proofs.FringeChains.{take_out_new}
+use Rattle.hull_geometry.proofs.Mended.{take_out_same, around_set, around_among, around_few, between_few}
+use Rattle.hull_geometry.proofs.Passes.{turning_take, turning_drop, passed_set, passed_through}
 use Rattle.hull_geometry.proofs.PointSets.{set_left}
 use Rattle.hull_geometry.proofs.PointLists.{range_long}
 use Rattle.hull_plain.proofs.mending.take_out.Goals as goal

@@ -1,6 +1,6 @@
 -- a last point that lies outwards makes the longer chain turn there
 use Rattle.hull_geometry.proofs.Comparisons.{fits_side, above_zero, below_test}
-use Rattle.hull_plain.proofs.Passes.{turning_push, ends_inwards_of}
+use Rattle.hull_geometry.proofs.Passes.{turning_push, ends_inwards_of}
 use Rattle.hull_plain.proofs.monotone.ends_inwards.Goals as goal
 
 pub returns-in-Some-clause-inwards : goal.returns-in-Some-clause-inwards

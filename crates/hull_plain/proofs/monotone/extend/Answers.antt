@@ -1,6 +1,6 @@
 -- where the chain turns and none of its points has to stay, what is left is what a pass leaves
 use Rattle.std.proofs.Common.{refl}
-use Rattle.hull_plain.proofs.Passes.{passed_of}
+use Rattle.hull_geometry.proofs.Passes.{passed_of}
 use Rattle.hull_plain.proofs.monotone.extend.Goals as goal
 
 pub returns-clause-passed : goal.returns-clause-passed

@@ -5,10 +5,10 @@ use Rattle.std.specs.List.{Contains}
 use Rattle.lattice.specs.Covers.{IsPointSet}
 use Rattle.lattice.specs.Plane.{Pair}
 use Rattle.hull_plain.specs.Drafts.{drafted}
-use Rattle.hull_plain.specs.Monotone.{IsInner, IsTurning, EndsInwards, IsThinned}
-use Rattle.hull_plain.proofs.ChainPasses.{popped_set, popped_inner, popped_among, popped_short, with_end}
+use Rattle.hull_geometry.specs.Monotone.{IsInner, IsTurning, EndsInwards, IsThinned}
+use Rattle.hull_geometry.proofs.ChainPasses.{popped_set, popped_inner, popped_among, popped_short, with_end}
 use Rattle.hull_plain.proofs.Drafts.{fresh_few, pushed, as_roomy}
-use Rattle.hull_plain.proofs.Passes.{turning_take, pushed_ends}
+use Rattle.hull_geometry.proofs.Passes.{turning_take, pushed_ends}
 use Rattle.hull_plain.proofs.monotone.extend_behind.Goals as goal
 use Rattle.hull_plain.proofs.monotone.extend_behind.Goals.{then-loop-draft-test+else-ends_inwards, else-loop-draft-test}
 

@@ -4,7 +4,7 @@ use Rattle.std.specs.List.{Contains}
 use Rattle.lattice.specs.Covers.{IsPointSet}
 use Rattle.lattice.specs.Plane.{Pair}
 use Rattle.hull_plain.specs.Drafts.{IsAsRoomy, drafted}
-use Rattle.hull_plain.specs.Monotone.{IsInner, IsTurning}
+use Rattle.hull_geometry.specs.Monotone.{IsInner, IsTurning}
 use Rattle.hull_plain.proofs.monotone.extend_behind.Given as goal
 
 abbrev pub invariant-loop-draft : goal.invariant-loop-draft

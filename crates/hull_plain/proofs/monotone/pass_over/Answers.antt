@@ -3,9 +3,9 @@ use Rattle.std.proofs.Common.{◌++◌, subst, List, refl, arith, take, length-a
 use Rattle.std.specs.Prelude.{slice_range}
 use Rattle.lattice.specs.Plane.{Pair}
 use Rattle.hull_plain.specs.Drafts.{drafted}
-use Rattle.hull_plain.specs.Monotone.{IsPassed}
+use Rattle.hull_geometry.specs.Monotone.{IsPassed}
 use Rattle.hull_plain.proofs.Drafts.{as_roomy}
-use Rattle.hull_plain.proofs.Passes.{passed_itself, take_up_set, take_up_step}
+use Rattle.hull_geometry.proofs.Passes.{passed_itself, take_up_set, take_up_step}
 use Rattle.hull_geometry.proofs.PointSets.{set_left}
 use Rattle.hull_geometry.proofs.PointLists.{append_none, in_range, range_long, take_few, all_taken}
 use Rattle.hull_plain.proofs.monotone.pass_over.Goals as goal

@@ -2,7 +2,7 @@
 use Rattle.std.proofs.Common.{◌≤◌, ◌++◌, take}
 use Rattle.std.specs.Prelude.{slice_range}
 use Rattle.hull_plain.specs.Drafts.{IsAsRoomy, drafted}
-use Rattle.hull_plain.specs.Monotone.{IsPassed}
+use Rattle.hull_geometry.specs.Monotone.{IsPassed}
 use Rattle.hull_plain.proofs.monotone.pass_over.Given as goal
 
 abbrev pub invariant-loop-i : goal.invariant-loop-i

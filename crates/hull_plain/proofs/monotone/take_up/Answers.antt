@@ -3,9 +3,9 @@ use Rattle.std.proofs.Common.{◌≡◌, ◌+◌, ◌++◌, ◌∙◌, ℕ, sym,
 use Rattle.std.proofs.Common.{length-drop}
 use Rattle.lattice.specs.Plane.{Pair}
 use Rattle.hull_plain.specs.Drafts.{drafted}
-use Rattle.hull_plain.specs.Monotone.{IsPassed}
+use Rattle.hull_geometry.specs.Monotone.{IsPassed}
 use Rattle.hull_plain.proofs.Drafts.{as_roomy}
-use Rattle.hull_plain.proofs.Passes.{passed_itself, take_up_set, take_up_step, take_up_stop}
+use Rattle.hull_geometry.proofs.Passes.{passed_itself, take_up_set, take_up_step, take_up_stop}
 use Rattle.hull_geometry.proofs.PointSets.{set_left}
 use Rattle.hull_geometry.proofs.PointLists.{append_none, in_rest, take_few, all_taken, none_from, drop_rest}
 use Rattle.hull_plain.proofs.monotone.take_up.Goals as goal

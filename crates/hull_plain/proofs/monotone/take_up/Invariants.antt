@@ -1,7 +1,7 @@
 -- the pass has come over the draft at the start and the points so far
 use Rattle.std.proofs.Common.{◌≤◌, ◌++◌, take, drop}
 use Rattle.hull_plain.specs.Drafts.{IsAsRoomy, drafted}
-use Rattle.hull_plain.specs.Monotone.{IsPassed}
+use Rattle.hull_geometry.specs.Monotone.{IsPassed}
 use Rattle.hull_plain.proofs.monotone.take_up.Given as goal
 
 abbrev pub invariant-loop-i : goal.invariant-loop-i

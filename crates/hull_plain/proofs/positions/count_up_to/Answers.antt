@@ -1,6 +1,6 @@
 -- where p is there it is the last of those counted
-use Rattle.hull_plain.proofs.FoundPositions.{found_after}
-use Rattle.hull_plain.proofs.Middles.{up_to_found}
+use Rattle.hull_geometry.proofs.FoundPositions.{found_after}
+use Rattle.hull_geometry.proofs.Middles.{up_to_found}
 use Rattle.hull_plain.proofs.positions.count_up_to.Goals as goal
 
 pub returns-in-Ok-clause-below : goal.returns-in-Ok-clause-below

@@ -3,7 +3,7 @@ use Rattle.std.proofs.Common.{◌≡◌, ◌+◌, ◌-◌, ◌/◌, ◌<◌, ℕ
 use Rattle.std.proofs.lemmas.Bool.{false≢true}
 use Rattle.std.specs.List.{All}
 use Rattle.lattice.specs.Plane.{Pair, IsBefore}
-use Rattle.hull_plain.proofs.FoundPositions.{below_up_to, rest_from, ordered_from}
+use Rattle.hull_geometry.proofs.FoundPositions.{below_up_to, rest_from, ordered_from}
 use Rattle.hull_geometry.proofs.PointLists.{in_rest, none_from}
 use Rattle.hull_plain.proofs.positions.first_not_before.Goals as goal
 

@@ -3,7 +3,7 @@ use Rattle.std.proofs.Common.{◌≡◌, ◌-◌, ℕ, List, take, refl, sym, su
 use Rattle.std.proofs.lemmas.Bool.{false≢true}
 use Rattle.std.specs.List.{All}
 use Rattle.lattice.specs.Plane.{Pair, IsBefore}
-use Rattle.hull_plain.proofs.FoundPositions.{place_before, place_found}
+use Rattle.hull_geometry.proofs.FoundPositions.{place_before, place_found}
 use Rattle.hull_geometry.proofs.PointLists.{none_from}
 use Rattle.hull_plain.proofs.positions.position_of.Goals as goal
 

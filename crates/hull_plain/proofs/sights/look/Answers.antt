@@ -1,6 +1,7 @@
 -- what each chain tells of the point is from where it looks
 use Rattle.lattice.specs.declared.side.Side.TheVariants.{Lower, Upper}
-use Rattle.hull_plain.proofs.Looks.{are_ends, edge_within, outwards_right, sights_inside, sight_touching}
+use Rattle.hull_geometry.proofs.ChainPlaces.{are_ends}
+use Rattle.hull_plain.proofs.Looks.{edge_within, outwards_right, sights_inside, sight_touching}
 use Rattle.hull_plain.proofs.sights.look.Goals as goal
 
 pub returns-in-Before : goal.returns-in-Before

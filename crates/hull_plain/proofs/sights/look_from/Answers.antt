@@ -4,7 +4,8 @@ use Rattle.std.proofs.Common.{◌∙◌, subst, arith, ℕ, Err}
 use Rattle.std.proofs.lemmas.Int.{ints}
 use Rattle.lattice.proofs.Casts.{cast_side}
 use Rattle.hull_geometry.specs.Positions.{IsPositionOf}
-use Rattle.hull_plain.proofs.Looks.{seen_first, seen_last, edge_at, on_edge}
+use Rattle.hull_geometry.proofs.ChainPlaces.{seen_first, seen_last, edge_at}
+use Rattle.hull_plain.proofs.Looks.{on_edge}
 use Rattle.hull_plain.proofs.sights.look_from.Goals as goal
 
 pub returns-then-i-eq0 : goal.returns-then-i-eq0

@@ -3,7 +3,7 @@ use Rattle.std.proofs.Common.{rules, ap, ◌≡◌, ◌<◌, List, length}
 use Rattle.lattice.specs.Plane.{Pair}
 use Rattle.lattice.specs.declared.side.Side.TheVariants.{Lower}
 use Rattle.hull_geometry.proofs.EdgesAt.{outside_nothing}
-use Rattle.hull_plain.proofs.Looks.{none_of, are_ends}
+use Rattle.hull_geometry.proofs.ChainPlaces.{none_of, are_ends}
 use Rattle.hull_plain.proofs.sights.place_of.Goals as goal
 
 pub returns-then-is_empty : goal.returns-then-is_empty

@@ -1,7 +1,7 @@
 -- each tangent touches its chain behind the point or ahead of it
 use Rattle.lattice.specs.declared.side.Side.TheVariants.{Lower, Upper}
 use Rattle.hull_geometry.proofs.EdgesAt.{up_to, on_from}
-use Rattle.hull_plain.proofs.Looks.{are_ends, other_chain}
+use Rattle.hull_geometry.proofs.ChainPlaces.{are_ends, other_chain}
 use Rattle.hull_plain.proofs.tangents.tangent_on.Goals as goal
 
 pub tangent_ahead-requires-clause-some : goal.tangent_ahead-requires-clause-some

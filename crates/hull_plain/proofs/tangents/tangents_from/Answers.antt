@@ -1,7 +1,7 @@
 -- the tangents touch the chains that the sight tells; nothing is covered by no chains
 use Rattle.std.proofs.Common.{inl, inr, rules, ◌≡◌, ◌<◌, length}
 use Rattle.lattice.specs.declared.side.Side.TheVariants.{Lower}
-use Rattle.hull_plain.proofs.Looks.{none_of, are_ends}
+use Rattle.hull_geometry.proofs.ChainPlaces.{none_of, are_ends}
 use Rattle.hull_plain.proofs.tangents.tangents_from.Goals as goal
 
 pub returns-then-is_empty : goal.returns-then-is_empty

@@ -2,7 +2,7 @@
 use Rattle.std.proofs.Common.{◌≤◌, ◌+◌, sym, subst, List, length, arith}
 use Rattle.std.specs.Map.{keys_of}
 use Rattle.lattice.specs.Plane.{Pair}
-use Rattle.hull_plain.specs.Monotone.{AreFringesOf}
+use Rattle.hull_geometry.specs.Monotone.{AreFringesOf}
 use Rattle.lattice.specs.declared.side.Side.TheVariants.{Lower, Upper}
 use Rattle.hull_plain.proofs.PlainSets.{fringe_few, length_with}
 use Rattle.hull_plain.proofs.fringes.Fringes.add.Goals as goal

@@ -1,5 +1,5 @@
 -- the points of the fringes were points of the set, so they are left or are the one that left
-use Rattle.hull_plain.proofs.Mended.{left_or_gone}
+use Rattle.hull_geometry.proofs.Mended.{left_or_gone}
 use Rattle.hull_plain.proofs.fringes.Fringes.remove.Goals as goal
 
 pub take_off-below-requires-clause-among : goal.take_off-below-requires-clause-among

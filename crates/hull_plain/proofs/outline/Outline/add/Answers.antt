@@ -1,7 +1,7 @@
 -- each chain becomes that of the set with the point
 use Rattle.std.proofs.Common.{sym, subst, List, arith}
 use Rattle.lattice.specs.Plane.{Pair}
-use Rattle.hull_plain.specs.Monotone.{AreChainsOf}
+use Rattle.hull_geometry.specs.Monotone.{AreChainsOf}
 use Rattle.lattice.specs.declared.side.Side.TheVariants.{Lower, Upper}
 use Rattle.hull_plain.proofs.PlainSets.{chain_few}
 use Rattle.hull_plain.proofs.outline.Outline.add.Goals as goal

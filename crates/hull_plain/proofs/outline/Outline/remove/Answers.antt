@@ -2,9 +2,9 @@
 use Rattle.std.proofs.Common.{sym, subst, List, arith}
 use Rattle.std.specs.Map.{keys_of}
 use Rattle.lattice.specs.Plane.{Pair}
-use Rattle.hull_plain.specs.Monotone.{IsFringeOf, AreChainsOf}
+use Rattle.hull_geometry.specs.Monotone.{IsFringeOf, AreChainsOf}
 use Rattle.lattice.specs.declared.side.Side.TheVariants.{Lower, Upper}
-use Rattle.hull_plain.proofs.FringeChains.{corners_left}
+use Rattle.hull_geometry.proofs.FringeChains.{corners_left}
 use Rattle.hull_plain.proofs.PlainSets.{fringe_few}
 use Rattle.hull_plain.proofs.outline.Outline.remove.Goals as goal
 

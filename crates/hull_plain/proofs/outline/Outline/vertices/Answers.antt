@@ -1,7 +1,7 @@
 -- memory is refused only where a chain has a point, and so the set
 use Rattle.std.proofs.Common.{◌<◌, ◌+◌, Result, Ok, Err, length}
 use Rattle.std.specs.Prelude.{OnErr}
-use Rattle.hull_plain.proofs.TwoChains.{some_points}
+use Rattle.hull_geometry.proofs.TwoChains.{some_points}
 use Rattle.hull_plain.proofs.outline.Outline.vertices.Goals as goal
 
 -- what an error tells tells what that does

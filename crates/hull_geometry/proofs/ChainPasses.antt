@@ -8,7 +8,7 @@ use Rattle.std.proofs.lemmas.List.Elements.{Contains-append_cases}
 use Rattle.lattice.specs.Covers.{IsPointSet}
 use Rattle.lattice.specs.Plane.{Pair, orient, IsBefore}
 use Rattle.lattice.proofs.Order.{before_trans}
-use Rattle.hull_plain.specs.Monotone.{IsInwards, IsInnerFrom, IsInner, EndsInwards}
+use Rattle.hull_geometry.specs.Monotone.{IsInwards, IsInnerFrom, IsInner, EndsInwards}
 use Rattle.lattice.specs.Turns.{turn}
 use Rattle.lattice.specs.declared.side.Side.{Side}
 use Rattle.lattice.specs.declared.side.Side.TheVariants.{Lower, Upper}

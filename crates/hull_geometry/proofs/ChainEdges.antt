@@ -5,11 +5,11 @@ use Rattle.std.proofs.lemmas.Int.{ints}
 use Rattle.lattice.specs.Covers.{IsPointSet}
 use Rattle.lattice.specs.Plane.{Pair, orient, IsBefore}
 use Rattle.lattice.proofs.Order.{before_trans, before_irrefl, before_not}
-use Rattle.hull_plain.specs.ChainEdges.{IsBeside, IsEdge}
+use Rattle.hull_geometry.specs.ChainEdges.{IsBeside, IsEdge}
 use Rattle.hull_geometry.specs.Edges.{IsLowerEdge, IsUpperEdge, IsChain, end_of, IsFirst, IsLast}
-use Rattle.hull_plain.specs.Monotone.{IsInwards, IsInnerFrom, IsInner, IsTurningFrom}
+use Rattle.hull_geometry.specs.Monotone.{IsInwards, IsInnerFrom, IsInner, IsTurningFrom}
 use Rattle.lattice.specs.Turns.{turn}
-use Rattle.hull_plain.specs.Monotone.{IsChainOf}
+use Rattle.hull_geometry.specs.Monotone.{IsChainOf}
 use Rattle.lattice.specs.declared.side.Side.{Side}
 use Rattle.lattice.specs.declared.side.Side.TheVariants.{Lower, Upper}
 use Rattle.hull_geometry.proofs.PointLists.{AllPairs-head, AllPairs-tail, all_of, later}

@@ -7,16 +7,16 @@ use Rattle.lattice.specs.Covers.{IsPointSet, without_point}
 use Rattle.lattice.specs.Plane.{Pair, IsBefore}
 use Rattle.lattice.specs.Signs.{le_or_lt}
 use Rattle.lattice.proofs.Order.{before_total, before_trans, before_not, equal_by}
-use Rattle.hull_plain.specs.ChainEdges.{IsEdge}
+use Rattle.hull_geometry.specs.ChainEdges.{IsEdge}
 use Rattle.hull_geometry.specs.Edges.{IsChain, end_of}
-use Rattle.hull_plain.specs.Mending.{IsBetween, ThinsBetween}
-use Rattle.hull_plain.specs.Monotone.{IsInwards, IsInnerFrom, IsInner, IsPassed, IsFringeOf, IsChainOf}
+use Rattle.hull_geometry.specs.Mending.{IsBetween, ThinsBetween}
+use Rattle.hull_geometry.specs.Monotone.{IsInwards, IsInnerFrom, IsInner, IsPassed, IsFringeOf, IsChainOf}
 use Rattle.lattice.specs.Turns.{turn}
 use Rattle.hull_geometry.specs.Positions.{IsPositionOf}
 use Rattle.lattice.specs.declared.side.Side.{Side}
-use Rattle.hull_plain.proofs.ChainEdges.{chain_edges, chain_first, chain_last}
-use Rattle.hull_plain.proofs.Mended.{chain_of, left_or_gone, take_off_new, inner_still}
-use Rattle.hull_plain.proofs.Passes.{member_inner, thinned_of}
+use Rattle.hull_geometry.proofs.ChainEdges.{chain_edges, chain_first, chain_last}
+use Rattle.hull_geometry.proofs.Mended.{chain_of, left_or_gone, take_off_new, inner_still}
+use Rattle.hull_geometry.proofs.Passes.{member_inner, thinned_of}
 use Rattle.hull_geometry.proofs.SetLaws.{members_without}
 use Rattle.hull_geometry.proofs.Turns.{turn_cycle, turn_swap, turns_back, stays_outwards}
 

@@ -9,12 +9,12 @@ use Rattle.std.proofs.lemmas.Grind.{common_steps}
 use Rattle.lattice.specs.Covers.{IsPointSet}
 use Rattle.lattice.specs.Plane.{Pair}
 use Rattle.hull_geometry.specs.Edges.{end_of}
-use Rattle.hull_plain.specs.Monotone.{IsInwards, IsInnerFrom, IsInner, IsTurningFrom, IsTurning, IsStrict}
+use Rattle.hull_geometry.specs.Monotone.{IsInwards, IsInnerFrom, IsInner, IsTurningFrom, IsTurning, IsStrict}
 use Rattle.lattice.specs.Turns.{turn}
-use Rattle.hull_plain.specs.Monotone.{EndsInwards, EndsWith, IsPassed, IsThinned}
+use Rattle.hull_geometry.specs.Monotone.{EndsInwards, EndsWith, IsPassed, IsThinned}
 use Rattle.hull_geometry.specs.Positions.{point_at, origin}
 use Rattle.lattice.specs.declared.side.Side.{Side}
-use Rattle.hull_plain.proofs.ChainPasses.{take_next}
+use Rattle.hull_geometry.proofs.ChainPasses.{take_next}
 use Rattle.hull_geometry.proofs.PointSets.{set_left, set_right, set_apart, set_append}
 use Rattle.hull_geometry.proofs.PointLists.{append_none, append_twice, get_or_free, cut, cut_at}
 

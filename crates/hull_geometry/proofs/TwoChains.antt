@@ -10,15 +10,15 @@ use Rattle.lattice.specs.Covers.{IsPointSet}
 use Rattle.lattice.specs.Plane.{Pair, orient, IsBefore}
 use Rattle.lattice.specs.Vertices.{IsVertexList, IsDoubledArea, fan, doubled_area}
 use Rattle.lattice.proofs.Order.{before_irrefl, equal_by}
-use Rattle.hull_plain.specs.ChainEdges.{IsEdge}
+use Rattle.hull_geometry.specs.ChainEdges.{IsEdge}
 use Rattle.hull_geometry.specs.Edges.{IsLowerEdge, IsUpperEdge, IsChain, end_of}
-use Rattle.hull_plain.specs.Monotone.{IsInner, IsChainOf, AreChainsOf, fan_from, fan_of}
+use Rattle.hull_geometry.specs.Monotone.{IsInner, IsChainOf, AreChainsOf, fan_from, fan_of}
 use Rattle.lattice.specs.Turns.{turn}
 use Rattle.hull_geometry.specs.Positions.{point_at, origin}
 use Rattle.lattice.specs.declared.side.Side.{Side}
 use Rattle.lattice.specs.declared.side.Side.TheVariants.{Lower, Upper}
-use Rattle.hull_plain.proofs.ChainEdges.{chain_edges, lower_edge, upper_edge}
-use Rattle.hull_plain.proofs.Looks.{chain_edge, chain_in, first_of, last_of, none_of, some_chain, end_at}
+use Rattle.hull_geometry.proofs.ChainEdges.{chain_edges, lower_edge, upper_edge}
+use Rattle.hull_geometry.proofs.ChainPlaces.{chain_edge, chain_in, first_of, last_of, none_of, some_chain, end_at}
 use Rattle.hull_geometry.proofs.Orientation.{orient-cycle}
 use Rattle.hull_geometry.proofs.PointLists.{AllPairs-head, get_or_free, only_member}
 use Rattle.hull_geometry.proofs.Rounding.{fan-append, fan-back, fan-push, small_list}

@@ -1,26 +1,12 @@
 -- What a chain is made of anew where its set changed.
-use Rattle.std.specs.Prelude.{◌≡◌, ℕ, ◌<◌, ◌-◌, pos, ◌≤ℤ◌, List, [], ◌∷◌, ◌++◌, length}
+use Rattle.std.specs.Prelude.{ℕ, ◌<◌, ◌-◌, pos, ◌≤ℤ◌, List, ◌++◌, length}
 use Rattle.std.specs.List.{All, Contains}
-use Rattle.std.specs.declared.ops.Bound.{Bound}
-use Rattle.std.specs.declared.ops.Bound.TheVariants.{Included, Excluded, Unbounded}
 use Rattle.lattice.specs.Covers.{IsPointSet}
 use Rattle.lattice.specs.Plane.{Pair, IsBefore}
-use Rattle.hull_plain.specs.Monotone.{EndsWith, IsThinned}
+use Rattle.hull_geometry.specs.Monotone.{IsThinned}
 use Rattle.lattice.specs.Turns.{turn}
 use Rattle.hull_geometry.specs.Positions.{point_at}
 use Rattle.lattice.specs.declared.side.Side.{Side}
-
--- what stands after the end of a chain: everything where it has no point
-abbrev pub IsBehind : List Pair → Bound Pair → Type 0
-IsBehind chain (Included a) = ⊥
-IsBehind chain (Excluded a) = EndsWith a chain
-IsBehind chain Unbounded = chain ≡ []
-
--- what stands before the first point of a chain
-abbrev pub IsAhead : List Pair → Bound Pair → Type 0
-IsAhead chain (Included a) = ⊥
-IsAhead chain (Excluded a) = (rest : List Pair) × (chain ≡ a ∷ rest)
-IsAhead chain Unbounded = chain ≡ []
 
 -- p, with the position i in a chain, stands between two of its points, and not outwards of their segment
 abbrev pub IsOverEdge : Side → List Pair → ℕ → Pair → Type 0

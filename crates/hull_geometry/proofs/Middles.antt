@@ -8,9 +8,9 @@ use Rattle.std.proofs.lemmas.List.Elements.{Contains-append_cases}
 use Rattle.lattice.specs.Covers.{IsPointSet}
 use Rattle.lattice.specs.Plane.{Pair, IsBefore}
 use Rattle.lattice.proofs.Order.{before_trans, before_irrefl, before_not}
-use Rattle.hull_plain.specs.Mending.{IsBetween}
+use Rattle.hull_geometry.specs.Mending.{IsBetween}
 use Rattle.hull_geometry.specs.Positions.{IsPositionOf}
-use Rattle.hull_plain.proofs.ChainPasses.{take_next}
+use Rattle.hull_geometry.proofs.ChainPasses.{take_next}
 use Rattle.hull_geometry.proofs.PointSets.{set_append, set_left, set_right, set_apart}
 use Rattle.hull_geometry.proofs.PointLists.{AllPairs-head, all_append_right}
 

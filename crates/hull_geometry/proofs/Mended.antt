@@ -16,21 +16,21 @@ use Rattle.lattice.specs.Covers.{IsPointSet, with_point, without_point}
 use Rattle.lattice.specs.Plane.{Pair, IsBefore, IsWithin, widest_side}
 use Rattle.lattice.specs.Signs.{le_or_lt}
 use Rattle.lattice.proofs.Order.{before_total, before_trans, before_irrefl}
-use Rattle.hull_plain.specs.Mending.{IsOverEdge, IsBetween}
-use Rattle.hull_plain.specs.Monotone.{IsInwards, IsInnerFrom, IsInner, EndsWith, IsPassed, IsThinned}
+use Rattle.hull_geometry.specs.Mending.{IsOverEdge, IsBetween}
+use Rattle.hull_geometry.specs.Monotone.{IsInwards, IsInnerFrom, IsInner, EndsWith, IsPassed, IsThinned}
 use Rattle.lattice.specs.Turns.{turn}
-use Rattle.hull_plain.specs.Monotone.{IsTurning, IsFringeOf, IsChainOf}
+use Rattle.hull_geometry.specs.Monotone.{IsTurning, IsFringeOf, IsChainOf}
 use Rattle.hull_geometry.specs.Positions.{IsPositionOf, point_at, origin}
 use Rattle.lattice.specs.declared.side.Side.{Side}
-use Rattle.hull_plain.proofs.Between.{after_ends, end_in, first_in, set_few}
+use Rattle.hull_geometry.proofs.Between.{after_ends, end_in, first_in, set_few}
 use Rattle.hull_geometry.proofs.PointLists.{all_of}
-use Rattle.hull_plain.proofs.ChainPasses.{set_less, set_longer}
+use Rattle.hull_geometry.proofs.ChainPasses.{set_less, set_longer}
 use Rattle.hull_geometry.proofs.Comparisons.{fits_side, below_test}
 use Rattle.hull_geometry.proofs.ChangedSets.{set-insert, in_without}
-use Rattle.hull_plain.proofs.FoundPositions.{found_after, found_absent, cut_around}
-use Rattle.hull_plain.proofs.Passes.{inner_cut, inner_left, inner_right}
+use Rattle.hull_geometry.proofs.FoundPositions.{found_after, found_absent, cut_around}
+use Rattle.hull_geometry.proofs.Passes.{inner_cut, inner_left, inner_right}
 use Rattle.hull_geometry.proofs.PointSets.{set_left, set_right}
-use Rattle.hull_plain.proofs.Passes.{inner_across, member_inner, ends_take, ends_right, thinned_itself, thinned_of}
+use Rattle.hull_geometry.proofs.Passes.{inner_across, member_inner, ends_take, ends_right, thinned_itself, thinned_of}
 use Rattle.hull_geometry.proofs.PointLists.{AllPairs-head, append_twice, append_none, get_or_free, later, cut}
 use Rattle.hull_geometry.proofs.SetLaws.{members_with, members_without}
 use Rattle.hull_geometry.proofs.Turns.{turn_swap, inwards_from, inwards_to}

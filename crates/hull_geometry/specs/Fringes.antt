@@ -1,0 +1,36 @@
+-- Points that do not matter to a bridge: those that stand inwards of a segment between two others of their set.
+use Rattle.std.specs.List.{Contains}
+use Rattle.std.specs.Prelude.{◌≡◌, ◌⊎◌, ◌↔◌, List}
+use Rattle.lattice.specs.Bridges.{IsAllBefore, IsBridge}
+use Rattle.lattice.specs.Plane.{Pair, IsBefore}
+use Rattle.lattice.specs.Standing.{WithPoint, IsInnerToEdge}
+use Rattle.lattice.specs.declared.side.Side.{Side}
+use Rattle.hull_geometry.specs.Monotone.{IsInwards, IsChainOf}
+
+-- what stands inwards of a segment is inner to each edge to which the segment's two ends are
+abbrev pub UnderAnEdgeIsInner : Side → Type 0
+UnderAnEdgeIsInner side =
+    (u v a b t : Pair) → IsBefore u v → IsInwards side a b t → IsInnerToEdge side u v a → IsInnerToEdge side u v b
+    → IsInnerToEdge side u v t
+
+-- l is a fringe of m: some of its points, and each other one stands inwards of a segment between two of them
+pub record IsFringe (side : Side) (l m : Pair → Type 0) : Type 0 where
+  pub among : (t : Pair) → l t → m t
+  pub under : (t : Pair) → m t → l t ⊎ ((a b : Pair) × l a × l b × IsInwards side a b t)
+
+-- two sets, all of the one before all of the other, have the bridge of their fringes, and only that
+abbrev pub BridgeIsOfFringes : Side → (Pair → Type 0) → (Pair → Type 0) → (Pair → Type 0) → (Pair → Type 0) → Type 0
+BridgeIsOfFringes side l m r s =
+    (u v : Pair) → IsFringe side l m → IsFringe side r s → IsAllBefore m s
+    → (IsBridge side l r u v ↔ IsBridge side m s u v)
+
+-- the chain of a set is a fringe of it
+abbrev pub ChainIsAFringe : Side → Type 0
+ChainIsAFringe side =
+    (S chain : List Pair) → IsChainOf side S chain → IsFringe side (Contains chain) (Contains S)
+
+-- where a point that is not inner to the bridge of two sets comes to one of them, their new bridge ends at that point
+abbrev pub BridgeEndsAtWhatCame : Side → (Pair → Type 0) → (Pair → Type 0) → Type 0
+BridgeEndsAtWhatCame side l r =
+    (u v p a b : Pair) → IsAllBefore l r → IsBridge side l r u v → ¬ IsInnerToEdge side u v p
+    → (IsBridge side (WithPoint p l) r a b → a ≡ p) × (IsBridge side l (WithPoint p r) a b → b ≡ p)
