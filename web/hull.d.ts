@@ -19,11 +19,13 @@ export class TooMany extends HullError {}
 export class NoMemory extends HullError {}
 /** The hull or outline was freed. */
 export class Ended extends HullError {}
-/** The points are not the corners of a hull in their order. */
+/** What stands for points is no iterable of pairs, and no array of numbers. */
+export class NoPoints extends HullError {}
+/** The points are not the corners of a hull in their order, or another outline is none of the same module. */
 export class NoOutline extends HullError {}
 /** The module stopped in the middle of a call: it and all its hulls serve none any more. */
 export class Trapped extends HullError {}
-/** The engine can't load the module: it has no 64-bit memory, or the bytes are not hull.wasm. */
+/** The module can't be loaded: the engine can't run it, the bytes are not it, or they can't be had. */
 export class Unsupported extends HullError {}
 
 /** A point: x and y. */
@@ -60,6 +62,10 @@ export interface Questions {
     placeAll(points: Points): Place[];
     /** Which points bound the hull as it is seen from (x, y), of several on a line the farthest; null where none do. */
     tangents(x: number, y: number): Tangents | null;
+    /** The same of each of the points. */
+    tangentsAll(points: Points): (Tangents | null)[];
+    /** The first of the farthest points in each of the directions; null where there is no point. ZeroDirection. */
+    extremeAll(directions: Points): (Point | null)[];
     /** The point farthest in the direction, of several the first by x and then y; null where none is held. ZeroDirection. */
     extreme(x: number, y: number): Point | null;
     /** The corners, counterclockwise from the first by x and then y, none inside an edge. NoMemory. */
@@ -93,6 +99,10 @@ export interface Hull extends Questions {
     load(points: Points): number;
     /** The points that are held, in order by x and then y, each with how often. NoMemory. */
     held(): Held[];
+    /** Holds just these points, as `held` tells them; returns how many. NoPoints where they are not in their order. */
+    loadHeld(held: Iterable<Held>): number;
+    /** Another hull that holds the same. NoMemory. */
+    copy(): Hull;
     /** The bridges that the forks on a level of the tree store, from left to right; the root is level 0. NoMemory. */
     bridges(level: number): Bridges[];
     /** Lets all points go; the limit stays. */
@@ -105,6 +115,47 @@ export interface Hull extends Questions {
 export interface Outline extends Questions {
     /** How many corners there are. */
     count(): number;
+    /** Whether a segment has a point in common with the hull, boundaries included. */
+    meetsSegment(ax: number, ay: number, bx: number, by: number): boolean;
+    /** A corner and a direction that parts the hull from a segment: no corner has a greater product with it, and both ends have.
+     * Null where they meet, or there is no corner. */
+    apartFromSegment(ax: number, ay: number, bx: number, by: number): { corner: Point; direction: Point } | null;
+    /** Where the nearest point is: of one point at that corner, of two at the foot on the edge between them, of none the hull covers
+     * the one asked about. Null where there is no corner. */
+    nearest(x: number, y: number): Point[] | null;
+    /** The squared distance to a point, 0 where the hull covers it. Null where there is no corner. */
+    squaredDistanceTo(x: number, y: number): Fraction | null;
+    /** The least and the greatest point of the box round the hull. */
+    boundingBox(): [least: Point, greatest: Point] | null;
+    /** The greatest product of a corner with the direction less the least. */
+    widthAlong(dx: number, dy: number): bigint | null;
+    /** The two corners farthest from one another. */
+    diameter(): [Point, Point] | null;
+    /** Where the hull is least wide: the ends of an edge, and a corner farthest from it. */
+    leastWidth(): [Point, Point, Point] | null;
+    /** Whether two hulls have a point in common, boundaries included. */
+    meets(other: Outline): boolean;
+    /** Whether this hull covers whatever the other one covers. */
+    contains(other: Outline): boolean;
+    /** Where two hulls meet, or what parts them. Null where one has no corner. */
+    witness(other: Outline): Witness | null;
+    /** Where two hulls are nearest: a place on this one and one on the other, as `nearest` tells it; two of none where they meet. */
+    distance(other: Outline): [ours: Point[], theirs: Point[]] | null;
+    /** The squared distance of two hulls, 0 where they meet. */
+    squaredDistance(other: Outline): Fraction | null;
+}
+
+/** What shows how two hulls stand: `apart`, a corner of the first and a direction; `covered`, a corner of the second that the first
+ * covers; `within`, a corner of the first that the second covers; `crossing`, two corners of each whose segments cross. */
+export interface Witness {
+    shows: "apart" | "covered" | "within" | "crossing";
+    points: Point[];
+}
+
+/** An exact number. */
+export interface Fraction {
+    numerator: bigint;
+    denominator: bigint;
 }
 
 export interface Library {

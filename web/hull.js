@@ -31,23 +31,27 @@ export class TooMany extends HullError {}
 export class NoMemory extends HullError {}
 /** The hull or outline was freed. */
 export class Ended extends HullError {}
-/** The points are not the corners of a hull in their order. */
+/** What stands for points is no iterable of pairs, and no array of numbers. */
+export class NoPoints extends HullError {}
+/** The points are not the corners of a hull in their order, or another outline is none of the same module. */
 export class NoOutline extends HullError {}
 /** The module stopped in the middle of a call: it and all its hulls serve none any more. */
 export class Trapped extends HullError {}
-/** The engine can't load the module: it has no 64-bit memory, or the bytes are not hull.wasm. */
+/** The module can't be loaded: the engine can't run it, the bytes are not it, or they can't be had. */
 export class Unsupported extends HullError {}
 
 const ADD = 1, REMOVE = 2, PLACE = 3, TANGENTS = 4, EXTREME = 5, AREA = 7, COUNT = 8, MULTIPLICITY = 9;
 const CODE = {
-    outOfRange: 1, zeroDirection: 2, added: 3, tooMany: 5, noMemory: 6, absent: 9, point: 10, inside: 12, on: 13, outside: 14,
-    tangents: 15, tooSmall: 19,
+    outOfRange: 1, zeroDirection: 2, added: 3, tooMany: 5, noMemory: 6, absent: 9, point: 10, empty: 11, inside: 12, on: 13, outside: 14,
+    tangents: 15, tooSmall: 19, outOfOrder: 21, apart: 24, covered: 25, corner: 26, edge: 27, box: 28, within: 29, crossing: 30,
+    points: 31,
 };
 const FAULTS = new Map([
     [CODE.outOfRange, () => new OutOfRange("a coordinate is out of range")],
     [CODE.zeroDirection, () => new ZeroDirection("both components of the direction are 0")],
     [CODE.tooMany, () => new TooMany("the hull takes no more points, or this one no more often")],
     [CODE.noMemory, () => new NoMemory("the heap has no room for it")],
+    [CODE.outOfOrder, () => new NoPoints("the held points are not in their order, each once")],
 ]);
 const PLACES = { [CODE.inside]: "inside", [CODE.on]: "on", [CODE.outside]: "outside" };
 // the structs of hull.h, in bytes
@@ -56,6 +60,13 @@ const REQUEST = { size: 24, x: 8, y: 16 };
 const POINT = { size: 16, y: 8 };
 const HELD = { size: 24, y: 8, times: 16 };
 const BRIDGE = { size: 72, upper: 8, lower: 40 };
+const WITNESS = { size: 72, first: 8 };
+// what a witness shows, with how many of its points belong to it
+const SHOWN = {
+    [CODE.apart]: ["apart", 2], [CODE.covered]: ["covered", 1], [CODE.within]: ["within", 1], [CODE.crossing]: ["crossing", 4],
+};
+// how many points of a distance are the place on this outline, and on the other
+const PLACES_OF = { [CODE.points]: [1, 1], [CODE.corner]: [1, 2], [CODE.edge]: [2, 1] };
 const REQUESTS_AT_ONCE = 1024;
 const HALF = 2 ** 32;
 
@@ -80,8 +91,14 @@ function flat(points) {
     return numbers instanceof Float64Array ? numbers : Float64Array.from(numbers);
 }
 
+/** A whole number of the module's. */
+const whole = (value) => BigInt(checked(value));
+
 /** A copy of what an array tells: nobody writes it during a call. */
 function numbersOf(points) {
+    if (typeof points?.[Symbol.iterator] !== "function" || typeof points === "string") {
+        throw new NoPoints("points are an iterable of pairs, or an array of numbers");
+    }
     if (points instanceof Float64Array) return points.slice();
     if (points instanceof BigInt64Array || points instanceof BigUint64Array) return Float64Array.from(points, Number);
     return ArrayBuffer.isView(points) ? Float64Array.from(points) : Array.from(points, pairOf).flat();
@@ -113,6 +130,7 @@ class Instance {
         this.requests = this.take(REQUESTS_AT_ONCE * REQUEST.size);
         this.replies = this.take(REQUESTS_AT_ONCE * REPLY.size);
         this.replyAddress = BigInt(this.reply);
+        this.witness = this.take(WITNESS.size);
         this.out = { at: this.take(BRIDGE.size), bytes: BRIDGE.size };
     }
 
@@ -174,6 +192,18 @@ class Instance {
         return [readWhole(view, at), readWhole(view, at + POINT.y)];
     }
 
+    /** The two points of the last reply. */
+    pair() {
+        return [this.point(this.reply + REPLY.x), this.point(this.reply + REPLY.otherX)];
+    }
+
+    /** Makes a call that tells a witness, and returns its code and its four points. */
+    witnessed(name, ...words) {
+        this.call(name, BigInt(this.witness), ...words);
+        const at = this.witness + WITNESS.first;
+        return [this.heap.view.getUint32(this.witness, true), [0, 1, 2, 3].map((i) => this.point(at + i * POINT.size))];
+    }
+
     whole(offset) {
         return readWhole(this.heap.view, this.reply + offset);
     }
@@ -232,11 +262,8 @@ class Questions {
 
     tangents(x, y) {
         if (this._ask(TANGENTS, checked(x), checked(y)) !== CODE.tangents) return null;
-        const { reply, heap: { view } } = this.#instance;
-        return {
-            left: [readWhole(view, reply + REPLY.x), readWhole(view, reply + REPLY.y)],
-            right: [readWhole(view, reply + REPLY.otherX), readWhole(view, reply + REPLY.otherY)],
-        };
+        const [left, right] = this.#instance.pair();
+        return { left, right };
     }
 
     extreme(x, y) {
@@ -246,13 +273,28 @@ class Questions {
 
     placeAll(points) {
         const places = [];
-        this._serve(PLACE, points, (_, code) => places.push(PLACES[code]));
+        this._serve(PLACE, flat(points), (_, code) => places.push(PLACES[code]));
         return places;
     }
 
-    /** Makes one kind of call at each of the points, and tells the index, the code and the number of each reply. */
-    _serve(kind, points, tell) {
-        const coordinates = flat(points), count = coordinates.length / 2;
+    tangentsAll(points) {
+        const found = [];
+        this._serve(TANGENTS, flat(points), (_, code, number, [left, right]) => found.push(code === CODE.tangents ? { left, right } : null));
+        return found;
+    }
+
+    extremeAll(directions) {
+        const coordinates = flat(directions), found = [];
+        for (let i = 0; i < coordinates.length; i += 2) {
+            if (coordinates[i] === 0 && coordinates[i + 1] === 0) throw FAULTS.get(CODE.zeroDirection)();
+        }
+        this._serve(EXTREME, coordinates, (_, code, number, [point]) => found.push(code === CODE.point ? point : null));
+        return found;
+    }
+
+    /** Makes one kind of call at each of the points, and tells the index, the code, the number and the points of each reply. */
+    _serve(kind, coordinates, tell) {
+        const count = coordinates.length / 2;
         for (let from = 0; from < count; from += REQUESTS_AT_ONCE) {
             this.#serveSome(kind, coordinates, from, Math.min(REQUESTS_AT_ONCE, count - from), tell);
         }
@@ -271,7 +313,8 @@ class Questions {
         view = instance.heap.view;
         for (let i = 0; i < count; i++) {
             const at = replies + i * REPLY.size;
-            tell(from + i, view.getUint32(at, true), view.getUint32(at + REPLY.number, true));
+            const points = kind === TANGENTS || kind === EXTREME ? [instance.point(at + REPLY.x), instance.point(at + REPLY.otherX)] : [];
+            tell(from + i, view.getUint32(at, true), view.getUint32(at + REPLY.number, true), points);
         }
     }
 
@@ -360,6 +403,26 @@ class HullOfInstance extends Questions {
         return instance.points(instance.out.at, count);
     }
 
+    loadHeld(held) {
+        const rows = Array.from(held ?? [], ({ point, times }) => {
+            if (!Number.isInteger(times) || times < 1 || times > MULTIPLICITY_LIMIT) throw new OutOfRange("a point is held 1 to 65535 times");
+            return [...pairOf(point).map(checked), times];
+        });
+        const instance = this._live(), array = instance.take(Math.max(1, rows.length) * HELD.size), { view } = instance.heap;
+        rows.forEach(([x, y, times], i) => {
+            const at = array + i * HELD.size;
+            writeWhole(view, at, x);
+            writeWhole(view, at + HELD.y, y);
+            view.setUint32(at + HELD.times, times, true);
+        });
+        try {
+            instance.ask("hull_load_held", this.#at, BigInt(array), BigInt(rows.length));
+        } finally {
+            instance.heap.give(array);
+        }
+        return rows.length;
+    }
+
     held() {
         const instance = this._live(), least = BigInt(-COORDINATE_LIMIT), room = this.count();
         const at = instance.outOf(room * HELD.size);
@@ -381,8 +444,8 @@ class HullOfInstance extends Questions {
     }
 
     addAll(points) {
-        const times = new Uint32Array(flat(points).length / 2), refused = [CODE.tooMany, CODE.noMemory];
-        this._serve(ADD, points, (i, code, number) => {
+        const coordinates = flat(points), times = new Uint32Array(coordinates.length / 2), refused = [CODE.tooMany, CODE.noMemory];
+        this._serve(ADD, coordinates, (i, code, number) => {
             times[i] = code === CODE.added ? 1 : refused.includes(code) ? 0 : number;
         });
         return times;
@@ -390,7 +453,7 @@ class HullOfInstance extends Questions {
 
     removeAll(points) {
         let there = 0;
-        this._serve(REMOVE, points, (_, code) => (there += code === CODE.absent ? 0 : 1));
+        this._serve(REMOVE, flat(points), (_, code) => (there += code === CODE.absent ? 0 : 1));
         return there;
     }
 
@@ -435,6 +498,94 @@ class OutlineOfInstance extends Questions {
     vertexArray() {
         return this._live().points(this.#at, this.#count);
     }
+
+    /** Makes a call of this outline's that replies; the code. */
+    #found(name, ...words) {
+        return this._live().ask(name, BigInt(this.#at), BigInt(this.#count), ...words);
+    }
+
+    /** Makes a call of this outline and another one that replies, or that tells a witness. */
+    #beside(call, name, other) {
+        const instance = this._live();
+        if (!(other instanceof OutlineOfInstance) || other._live() !== instance) throw new NoOutline("the other one is no outline of the same module");
+        return instance[call](name, BigInt(this.#at), BigInt(this.#count), BigInt(other.#at), BigInt(other.#count));
+    }
+
+    meetsSegment(ax, ay, bx, by) {
+        this.#found("hull_outline_meets_segment", whole(ax), whole(ay), whole(bx), whole(by));
+        return this._live().number() === 1;
+    }
+
+    apartFromSegment(ax, ay, bx, by) {
+        if (this.#found("hull_outline_apart", whole(ax), whole(ay), whole(bx), whole(by)) !== CODE.apart) return null;
+        const [corner, direction] = this._live().pair();
+        return { corner, direction };
+    }
+
+    nearest(x, y) {
+        const code = this.#found("hull_outline_nearest", whole(x), whole(y)), points = this._live().pair();
+        return { [CODE.covered]: [], [CODE.corner]: points.slice(0, 1), [CODE.edge]: points }[code] ?? null;
+    }
+
+    boundingBox() {
+        return this.#found("hull_outline_box") === CODE.box ? this._live().pair() : null;
+    }
+
+    widthAlong(dx, dy) {
+        return this.#found("hull_outline_width", whole(dx), whole(dy)) === CODE.empty ? null : this._live().wide();
+    }
+
+    diameter() {
+        return this.#found("hull_outline_diameter") === CODE.points ? this._live().pair() : null;
+    }
+
+    leastWidth() {
+        const [code, points] = this._live().witnessed("hull_outline_least_width", BigInt(this.#at), BigInt(this.#count));
+        return code === CODE.edge ? points.slice(0, 3) : null;
+    }
+
+    meets(other) {
+        this.#beside("ask", "hull_outline_meets", other);
+        return this._live().number() === 1;
+    }
+
+    contains(other) {
+        this.#beside("ask", "hull_outline_contains", other);
+        return this._live().number() === 1;
+    }
+
+    witness(other) {
+        const [code, points] = this.#beside("witnessed", "hull_outline_witness", other), shown = SHOWN[code];
+        return shown ? { shows: shown[0], points: points.slice(0, shown[1]) } : null;
+    }
+
+    distance(other) {
+        const [code, points] = this.#beside("witnessed", "hull_outline_distance", other);
+        if (code === CODE.empty) return null;
+        const [ours, theirs] = PLACES_OF[code] ?? [0, 0];
+        return [points.slice(0, ours), points.slice(ours, ours + theirs)];
+    }
+
+    squaredDistance(other) {
+        const places = this.distance(other);
+        return places && squaredDistanceOf(places);
+    }
+
+    squaredDistanceTo(x, y) {
+        const place = this.nearest(x, y);
+        return place && squaredDistanceOf([place, place.length ? [[x, y]] : []]);
+    }
+}
+
+/** The squared distance of two places, each a point or an edge with the foot of the other on it, as a fraction; 0 where both are none. */
+function squaredDistanceOf(places) {
+    if (places[0].length === 0) return { numerator: 0n, denominator: 1n };
+    const [[point], [from, to]] = places.toSorted?.((a, b) => a.length - b.length) ?? [...places].sort((a, b) => a.length - b.length);
+    const less = (a, b) => [BigInt(a[0]) - BigInt(b[0]), BigInt(a[1]) - BigInt(b[1])], square = ([x, y]) => x * x + y * y;
+    const way = less(point, from);
+    if (!to) return { numerator: square(way), denominator: 1n };
+    const edge = less(to, from), side = edge[0] * way[1] - edge[1] * way[0];
+    return { numerator: side * side, denominator: square(edge) };
 }
 
 /** Whether the engine has 64-bit memories: of a module with nothing else it says so. */
@@ -464,19 +615,30 @@ async function bytesOf(source) {
     return response.arrayBuffer();
 }
 
+/** Those bytes, or why they can't be had, as a fault. */
+async function bytesOrFault(source) {
+    try {
+        return await bytesOf(source);
+    } catch (error) {
+        throw error instanceof HullError ? error : new Unsupported(`the module can't be had: ${error.message}`, { cause: error });
+    }
+}
+
 /**
  * Loads the module: from its bytes, a URL, or a Response (or a promise of one), or else from out/ beside this file, hull.wasm or,
  * where the engine has no 64-bit memories, hull32.wasm. At most `memory` bytes of its memory are used, where that is given.
  */
 export async function load(source = moduleBeside(), { memory = Infinity } = {}) {
     if (!globalThis.WebAssembly) throw new Unsupported("this engine has no WebAssembly");
-    const bytes = await bytesOf(source), heap = new Heap(memory);
+    if (typeof memory !== "number" || !(memory > 0)) throw new OutOfRange("memory is a number of bytes above 0");
+    const bytes = await bytesOrFault(source), heap = new Heap(memory);
     let wasm;
     try {
         wasm = (await WebAssembly.instantiate(bytes, { heap: heap.imports() })).instance.exports;
     } catch (error) {
         throw new Unsupported(`this engine can't load these bytes as the module: ${error.message}`, { cause: error });
     }
+    if (!wasm.memory || !wasm.__heap_base || !wasm.hull_call) throw new Unsupported("these bytes are another module");
     heap.begin(wasm.memory, Number(wasm.__heap_base.value));
     return classesOf(new Instance(wasm, heap));
 }
@@ -494,6 +656,17 @@ function classesOf(instance) {
 
         outline() {
             return new Outline(this.vertexArray());
+        }
+
+        copy() {
+            const other = new Hull(this.limit());
+            try {
+                other.loadHeld(this.held());
+            } catch (error) {
+                other.free();
+                throw error;
+            }
+            return other;
         }
     }
     return { Hull, Outline };

@@ -174,8 +174,74 @@ await tried("refused memory leaves the hull as it was", async () => {
     assert.equal(hull.add(7, 7), 1);
     return `${added} points in ${MEMORY} bytes`;
 });
+await tried("what is no points is refused, and what can be passed over once is read once", () => {
+    const hull = new Hull();
+    hull.addAll([[1, 2], [3, 4]]);
+    for (const nonsense of [Promise.resolve([]), {}, 5, null, undefined, "ab", [[1]], [5]]) {
+        for (const call of ["load", "addAll", "removeAll", "placeAll"]) assert.throws(() => hull[call](nonsense), faults.HullError, call);
+    }
+    assert.equal(hull.count(), 2);
+    assert.deepEqual([...hull.addAll([[1, 2], [5, 6]].values())], [2, 1]);
+    assert.equal(hull.removeAll(new Set([[5, 6]])), 1);
+    assert.throws(() => hull.loadHeld([{ point: [3, 3], times: 1 }, { point: [1, 1], times: 1 }]), faults.NoPoints);
+    assert.throws(() => hull.loadHeld([{ point: [3, 3], times: 0 }]), faults.OutOfRange);
+    const copy = hull.copy();
+    assert.deepEqual(copy.held(), hull.held());
+    assert.throws(() => hull.extremeAll([[1, 0], [0, 0]]), faults.ZeroDirection);
+    hull.free();
+    copy.free();
+});
+/** The squared distance of a point and a segment as a fraction, by its definition. */
+function toSegment([x, y], [[ax, ay], [bx, by]]) {
+    const [dx, dy, px, py] = [bx - ax, by - ay, x - ax, y - ay].map(BigInt), along = dx * px + dy * py, length = dx * dx + dy * dy;
+    if (along <= 0n) return [px * px + py * py, 1n];
+    if (along >= length) return [(px - dx) ** 2n + (py - dy) ** 2n, 1n];
+    return [(dx * py - dy * px) ** 2n, length];
+}
+await tried("outlines beside one another", () => {
+    const random = random_of(7), number = () => random(9) - 4;
+    const less = ([a, b], [c, d]) => a * d < c * b;
+    let compared = 0;
+    for (let round = 0; round < 300; round++) {
+        const [one, two] = [0, 1].map((shift) => {
+            const hull = new Hull();
+            hull.addAll(Array.from({ length: 1 + random(6) }, () => [number() + 4 * shift, number()]));
+            return hull;
+        });
+        const [ours, theirs] = [one.outline(), two.outline()], [a, b] = [one.vertices(), two.vertices()];
+        const edges = (corners) => corners.map((it, i) => [it, corners[(i + 1) % corners.length]]);
+        const meets = ours.meets(theirs), { numerator, denominator } = ours.squaredDistance(theirs);
+        assert.equal(numerator === 0n, meets);
+        assert.equal(ours.witness(theirs).shows !== "apart", meets);
+        assert.equal(ours.contains(theirs), b.every(([x, y]) => ours.place(x, y) !== "outside"));
+        const all = [...a.flatMap((it) => edges(b).map((edge) => toSegment(it, edge))), ...b.flatMap((it) => edges(a).map((edge) => toSegment(it, edge)))];
+        const least = all.reduce((p, q) => (less(q, p) ? q : p));
+        if (!meets) assert.equal(numerator * least[1], least[0] * denominator);
+        const [x, y] = [number(), number()], to = ours.squaredDistanceTo(x, y);
+        const nearest = edges(a).map((edge) => toSegment([x, y], edge)).reduce((p, q) => (less(q, p) ? q : p));
+        const wanted = ours.place(x, y) === "outside" ? nearest : [0n, 1n];
+        assert.equal(to.numerator * wanted[1], wanted[0] * to.denominator);
+        assert.equal(ours.meetsSegment(x, y, x, y), ours.place(x, y) !== "outside");
+        assert.equal(ours.apartFromSegment(x, y, number(), y) === null || !ours.meetsSegment(x, y, x, y), true);
+        const xs = a.map((it) => it[0]), ys = a.map((it) => it[1]);
+        assert.deepEqual(ours.boundingBox(), [[Math.min(...xs), Math.min(...ys)], [Math.max(...xs), Math.max(...ys)]]);
+        assert.equal(ours.widthAlong(1, 0), BigInt(Math.max(...xs) - Math.min(...xs)));
+        const far = (p, q) => (p[0] - q[0]) ** 2 + (p[1] - q[1]) ** 2;
+        assert.equal(far(...ours.diameter()), Math.max(...a.flatMap((p) => a.map((q) => far(p, q)))));
+        assert.deepEqual(ours.extremeAll([[1, 0], [0, -1]]), [ours.extreme(1, 0), ours.extreme(0, -1)]);
+        assert.deepEqual(ours.tangentsAll([[9, 9], [0, 0]]), [ours.tangents(9, 9), ours.tangents(0, 0)]);
+        if (a.length === 1) assert.equal(ours.leastWidth(), null);
+        for (const it of [ours, theirs, one, two]) it.free();
+        compared++;
+    }
+    return `${compared} pairs`;
+});
 await tried("bytes that are no module, and texts that are no journal", async () => {
     await assert.rejects(load(new Uint8Array(8)), faults.Unsupported);
+    await assert.rejects(load(new Uint8Array([0, 97, 115, 109, 1, 0, 0, 0])), faults.Unsupported);
+    await assert.rejects(load(new URL("none.wasm", import.meta.url)), faults.Unsupported);
+    await assert.rejects(load(readFileSync(module), { memory: NaN }), faults.OutOfRange);
+    await assert.rejects(load(readFileSync(module), { memory: 1 }), faults.NoMemory);
     for (const text of ["", "end 0\n", "hullbook journal 3 first 0 limit 1 capacity 1\nend 1\n"]) assert.throws(() => readJournal(text), TextError);
 });
 await tried("after a trap nothing is served", async () => {
