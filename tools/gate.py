@@ -37,7 +37,7 @@ ROWS = (
     {"long": ["tests/long/run.sh"], "texts": ["tests/texts/run.sh"], "refused": ["tests/refused/run.sh"]},
     {"soak": ["tests/soak/run.sh"]},
     {"release": ["tools/release.py", "--compare"]},
-    {"dist": ["tests/dist/run.py"]},
+    {"dist": ["tests/dist/run.py"], "web": ["tests/web/run.sh"]},
     {"embed": ["tests/embed/run.sh"]},
     {"shared": ["tests/shared/run.sh"]},
     {"readme": ["tests/readme/run.sh"]},

@@ -6,6 +6,9 @@ const NEAR = 9; // from so many pixels on, a pointer is not at a point
 const LABELS = 400; // up to so many points, multiplicities are written
 const LISTED = 200; // so many lines of the journal stand in the list
 const SCALE = 8; // pixels for each unit of the lattice, to begin with
+const STILL = 4; // so many pixels a pointer may move in a click
+const KEPT = "hullbook.journal"; // the name under which the browser keeps the journal
+const KEPT_BYTES = 4e6; // up to so many
 const STEPS = { ArrowLeft: [-1, 0], ArrowRight: [1, 0], ArrowUp: [0, 1], ArrowDown: [0, -1] };
 
 const element = (id) => document.getElementById(id);
@@ -32,16 +35,28 @@ class View {
 
     /** Shows all of the points with a margin; the first view where there are none. */
     fit(coordinates) {
-        const xs = coordinates.filter((_, i) => i % 2 === 0), ys = coordinates.filter((_, i) => i % 2 === 1);
-        if (xs.length === 0) return Object.assign(this, { scale: SCALE, middle: [0, 0] });
-        const [left, right, low, high] = [Math.min(...xs), Math.max(...xs), Math.min(...ys), Math.max(...ys)];
+        if (coordinates.length === 0) return Object.assign(this, { scale: SCALE, middle: [0, 0] });
+        let [left, right, low, high] = [Infinity, -Infinity, Infinity, -Infinity];
+        for (let i = 0; i < coordinates.length; i += 2) {
+            [left, right] = [Math.min(left, coordinates[i]), Math.max(right, coordinates[i])];
+            [low, high] = [Math.min(low, coordinates[i + 1]), Math.max(high, coordinates[i + 1])];
+        }
         this.middle = [(left + right) / 2, (low + high) / 2];
         const wide = this.size[0] / Math.max(1, right - left), tall = this.size[1] / Math.max(1, high - low);
         this.scale = Math.min(40, 0.8 * Math.min(wide, tall));
     }
 
-    zoom(factor) {
+    /** Zooms, with what is seen at a place of the screen left there. */
+    zoom(factor, [left, top] = this.size.map((it) => it / 2)) {
+        const before = this.scale;
         this.scale = Math.min(80, Math.max(1e-10, this.scale * factor));
+        const moved = 1 / before - 1 / this.scale;
+        this.middle = [this.middle[0] + (left - this.size[0] / 2) * moved, this.middle[1] - (top - this.size[1] / 2) * moved];
+    }
+
+    /** Moves what is seen by so many pixels. */
+    pan(left, top) {
+        this.middle = [this.middle[0] - left / this.scale, this.middle[1] + top / this.scale].map(clamped);
     }
 }
 
@@ -50,23 +65,42 @@ class Picture {
     constructor(canvas, view) {
         this.canvas = canvas;
         this.view = view;
-        this.pen = canvas.getContext("2d");
+        this.front = this.pen = canvas.getContext("2d");
+        this.still = document.createElement("canvas");
+        this.drawn = null; // what the still layer shows
     }
 
     resize() {
         const { width, height } = this.canvas.getBoundingClientRect(), ratio = globalThis.devicePixelRatio || 1;
-        this.canvas.width = Math.round(width * ratio);
-        this.canvas.height = Math.round(height * ratio);
-        this.pen.setTransform(ratio, 0, 0, ratio, 0, 0);
+        for (const layer of [this.canvas, this.still]) {
+            layer.width = Math.round(width * ratio);
+            layer.height = Math.round(height * ratio);
+            layer.getContext("2d").setTransform(ratio, 0, 0, ratio, 0, 0);
+        }
         this.view.size = [width, height];
         this.style = getComputedStyle(document.documentElement);
+        this.drawn = null;
     }
 
     color(name) {
         return this.style.getPropertyValue(`--${name}`);
     }
 
-    draw({ corners, held, cursor, seen, levels }) {
+    /** Draws all, what stands still only where it is another `state` or seen from elsewhere. */
+    draw({ state, scene, cursor, seen }) {
+        const shown = JSON.stringify([state, this.view]);
+        if (shown !== this.drawn) {
+            this.pen = this.still.getContext("2d");
+            this.scene(scene());
+            this.pen = this.front;
+            this.drawn = shown;
+        }
+        this.pen.clearRect(0, 0, ...this.view.size);
+        this.pen.drawImage(this.still, 0, 0, ...this.view.size);
+        if (cursor !== null) this.pointer(cursor, seen);
+    }
+
+    scene({ corners, held, levels }) {
         this.pen.clearRect(0, 0, ...this.view.size);
         this.grid();
         this.polygon(corners);
@@ -74,7 +108,6 @@ class Picture {
         for (const [key, times] of held) this.point(pointOf(key), times, held.size <= LABELS);
         this.pen.fillStyle = this.color("hull");
         for (const corner of corners) this.dot(corner, 4.5);
-        if (cursor !== null) this.pointer(cursor, seen);
     }
 
     grid() {
@@ -156,8 +189,13 @@ class Picture {
 /** The page: a replay of its journal, what is shown of it, and what the user does. */
 export class Page {
     #changes = []; // of each deed the calls that take it back
+    #undone = []; // of each deed that was taken back the calls that do it again
     #drag = null;
+    #fingers = new Map(); // of each pointer that is down its place
     #drawing = false;
+    #state = 0; // counts what changed the hull or the journal
+    #listed = null; // the state that the list shows
+    #keeping = 0;
 
     constructor({ Hull }) {
         this.Hull = Hull;
@@ -165,7 +203,7 @@ export class Page {
         this.picture = new Picture(element("plane"), this.view);
         this.cursor = null;
         this.told = "";
-        this.begin(emptyJournal());
+        this.begin(this.kept() ?? emptyJournal());
         this.listen();
         new ResizeObserver(() => this.resized()).observe(element("plane"));
         matchMedia("(prefers-color-scheme: dark)").addEventListener("change", () => this.resized());
@@ -183,14 +221,59 @@ export class Page {
         this.hull = new this.Hull(journal.limit);
         this.replay = new Replay(this.hull, journal);
         this.#changes = [];
+        this.#undone = [];
         this.replay.go(journal.lines.length);
+        this.changed();
+    }
+
+    /** The hull or the journal are others now: that is drawn, and kept for the next time. */
+    changed() {
+        this.#state += 1;
+        clearTimeout(this.#keeping);
+        this.#keeping = setTimeout(() => this.keep(), 300);
+    }
+
+    /** Has the browser keep the journal, where it can. */
+    keep() {
+        try {
+            const text = this.text();
+            if (text.length <= KEPT_BYTES) localStorage.setItem(KEPT, text);
+            else localStorage.removeItem(KEPT);
+        } catch {
+            // (a browser that keeps nothing: Save does)
+        }
+    }
+
+    /** The journal that the browser kept, or null. */
+    kept() {
+        try {
+            const text = localStorage.getItem(KEPT);
+            return text === null ? null : readJournal(text);
+        } catch {
+            return null;
+        }
     }
 
     /** Makes calls as one deed, which is taken back as one. */
     deed(calls) {
-        const back = this.made(calls).map(inverse).filter((it) => it !== null).reverse();
-        if (back.length) this.#changes.push(back);
+        this.#remember(this.made(calls));
         this.show();
+    }
+
+    /** Takes lines up as one deed. */
+    #remember(lines) {
+        const back = lines.map(inverse).filter((it) => it !== null).reverse();
+        if (back.length === 0) return;
+        this.#changes.push(back);
+        this.#undone = [];
+    }
+
+    /** Whether the journal has room for so many calls; where not, that is told. */
+    hasRoom(calls) {
+        const { at, journal } = this.replay;
+        if (at + calls <= journal.capacity) return true;
+        this.told = "the journal is full: save it, and begin a new one";
+        return false;
     }
 
     made(calls) {
@@ -201,12 +284,25 @@ export class Page {
         } catch (error) {
             this.told = error.message;
         }
+        if (lines.length) this.changed();
         return lines;
     }
 
     undo() {
-        const back = this.#changes.pop();
-        if (back) this.made(back);
+        this.#turn(this.#changes, this.#undone);
+    }
+
+    redo() {
+        this.#turn(this.#undone, this.#changes);
+    }
+
+    /** Makes the calls of the last deed of one list, and takes up in the other what undoes them. */
+    #turn(from, to) {
+        const calls = from.at(-1);
+        if (calls && this.hasRoom(calls.length)) {
+            from.pop();
+            to.push(this.made(calls).map(inverse).filter((it) => it !== null).reverse());
+        }
         this.show();
     }
 
@@ -224,7 +320,9 @@ export class Page {
     /** Goes to a number of calls. What was done before is not taken back any more. */
     go(to) {
         this.#changes = [];
+        this.#undone = [];
         this.replay.go(to);
+        this.changed();
         const { at, journal } = this.replay;
         this.told = at > 0 ? lineText(journal.lines[at - 1]) : "";
         this.show();
@@ -241,17 +339,24 @@ export class Page {
     }
 
     showNow() {
-        const { hull, cursor } = this, corners = hull.vertices();
+        const { hull, cursor } = this;
         const place = cursor === null ? null : hull.place(...cursor);
         const seen = cursor === null ? null : hull.tangents(...cursor);
-        this.picture.draw({ corners, held: this.replay.held, cursor, seen, levels: this.levels() });
-        element("count").textContent = `${hull.count()}, ${corners.length} of them corners`;
-        const doubled = hull.doubledArea();
-        element("area").textContent = `${doubled / 2n}${doubled % 2n ? ".5" : ""}`;
+        const scene = () => this.scene();
+        this.picture.draw({ state: [this.#state, element("levels").value], scene, cursor, seen });
         element("where").textContent = cursor === null ? "" : `(${cursor.join(", ")}) is ${place}`;
         for (const side of ["left", "right"]) element(side).textContent = seen === null ? "" : `${side} (${seen[side].join(", ")})`;
         element("last").textContent = this.told;
-        this.showJournal();
+        if (this.#listed !== this.#state) this.showJournal();
+        this.#listed = this.#state;
+    }
+
+    /** What stands still on the picture; its numbers are told too. */
+    scene() {
+        const { hull } = this, corners = hull.vertices(), doubled = hull.doubledArea();
+        element("count").textContent = `${hull.count()}, ${corners.length} of them corners`;
+        element("area").textContent = `${doubled / 2n}${doubled % 2n ? ".5" : ""}`;
+        return { corners, held: this.replay.held, levels: this.levels() };
     }
 
     /** The stored bridges of as many levels as are asked for and there are. */
@@ -288,7 +393,9 @@ export class Page {
     point(cursor) {
         if (cursor?.join() === this.cursor?.join()) return;
         this.cursor = cursor;
-        if (cursor !== null && element("questions").checked) {
+        // (written behind all calls alone: from an earlier place they would cut the later ones off)
+        const isAtTheEnd = this.replay.at === this.replay.journal.lines.length;
+        if (cursor !== null && element("questions").checked && isAtTheEnd && this.hasRoom(2)) {
             this.made(["place", "tangents"].map((word) => `${word} ${cursor.join(" ")}`));
         }
         this.show();
@@ -299,8 +406,14 @@ export class Page {
         plane.addEventListener("pointerdown", (event) => this.pressed(event));
         plane.addEventListener("pointermove", (event) => this.moved(event));
         plane.addEventListener("pointerup", (event) => this.released(event));
-        plane.addEventListener("pointercancel", () => this.dropped());
-        plane.addEventListener("pointerleave", () => this.#drag ?? this.point(null));
+        plane.addEventListener("pointercancel", (event) => this.left(event));
+        plane.addEventListener("pointerleave", (event) => event.pointerType === "mouse" && (this.#drag ?? this.point(null)));
+        addEventListener("pagehide", () => this.keep());
+        addEventListener("dragover", (event) => event.preventDefault());
+        addEventListener("drop", async (event) => {
+            event.preventDefault();
+            if (event.dataTransfer.files[0]) this.open(await event.dataTransfer.files[0].text());
+        });
         plane.addEventListener("wheel", (event) => this.turned(event), { passive: false });
         plane.addEventListener("keydown", (event) => this.keyed(event));
         element("step").addEventListener("input", (event) => this.go(Number(event.target.value)));
@@ -313,6 +426,7 @@ export class Page {
             back: () => this.go(Math.max(0, this.replay.at - 1)),
             on: () => this.go(this.replay.at + 1),
             undo: () => this.undo(),
+            redo: () => this.redo(),
             some: () => this.deed(this.random(20)),
             circle: () => this.deed(this.circle(48)),
             many: () => this.deed(this.random(1000)),
@@ -329,28 +443,66 @@ export class Page {
     }
 
     pressed(event) {
-        if (this.#drag !== null || event.button !== 0) return;
+        if (event.button !== 0) return;
         const place = this.placeOf(event);
-        this.picture.canvas.setPointerCapture(event.pointerId);
-        this.#drag = { from: place, held: this.near(place), at: this.near(place), isMoved: false, lines: [] };
+        try {
+            this.picture.canvas.setPointerCapture(event.pointerId);
+        } catch {
+            // (a pointer that is gone already)
+        }
+        this.#fingers.set(event.pointerId, place);
+        if (this.#fingers.size > 1) {
+            // a second finger: what the first began ends, and both move the view
+            this.dropped();
+            this.#drag = { isMoved: true, lines: [] };
+        } else {
+            const held = this.near(place);
+            this.#drag = { from: place, last: place, held, at: held, isMoved: false, lines: [] };
+        }
     }
 
     moved(event) {
-        const place = this.placeOf(event), drag = this.#drag, at = this.view.toLattice(place);
-        if (drag?.held && (drag.isMoved || Math.hypot(place[0] - drag.from[0], place[1] - drag.from[1]) > 4)) {
+        const place = this.placeOf(event), drag = this.#drag;
+        if (this.#fingers.size > 1) return this.pinched(event.pointerId, place);
+        if (drag?.from && (drag.isMoved || Math.hypot(place[0] - drag.from[0], place[1] - drag.from[1]) > STILL)) {
             drag.isMoved = true;
-            if (at.join() !== drag.at.join()) {
-                drag.lines.push(...this.made([`remove ${drag.at.join(" ")}`, `add ${at.join(" ")}`]));
-                drag.at = at;
-            }
+            if (drag.held) this.dragged(this.view.toLattice(place));
+            else this.view.pan(place[0] - drag.last[0], place[1] - drag.last[1]);
+            drag.last = place;
         }
-        this.point(at);
+        this.point(this.view.toLattice(place));
         this.show();
+    }
+
+    /** Takes the point that is dragged along, where the journal has room for both calls. */
+    dragged(at) {
+        const drag = this.#drag;
+        if (at.join() === drag.at.join() || !this.hasRoom(2)) return;
+        drag.lines.push(...this.made([`remove ${drag.at.join(" ")}`, `add ${at.join(" ")}`]));
+        drag.at = at;
+    }
+
+    /** Moves and zooms the view as two fingers do. */
+    pinched(finger, place) {
+        const other = [...this.#fingers].find(([it]) => it !== finger)?.[1], before = this.#fingers.get(finger);
+        if (!other || !before) return;
+        const apart = ([x, y]) => Math.max(1, Math.hypot(x - other[0], y - other[1]));
+        this.view.zoom(apart(place) / apart(before), other);
+        this.view.pan((place[0] - before[0]) / 2, (place[1] - before[1]) / 2);
+        this.#fingers.set(finger, place);
+        this.show();
+    }
+
+    /** A pointer is gone. */
+    left(event) {
+        this.#fingers.delete(event.pointerId);
+        if (this.#fingers.size === 0) this.dropped();
     }
 
     released(event) {
         const drag = this.#drag, at = this.view.toLattice(this.placeOf(event));
-        if (drag === null) return;
+        this.#fingers.delete(event.pointerId);
+        if (drag === null || this.#fingers.size > 0) return;
         if (drag.isMoved) this.dropped();
         else if (drag.held && !event.shiftKey) this.deed([`remove ${drag.held.join(" ")}`]);
         else this.deed([`add ${(drag.held ?? at).join(" ")}`]);
@@ -359,14 +511,13 @@ export class Page {
 
     /** Ends a drag: all of it is taken back as one. */
     dropped() {
-        const back = (this.#drag?.lines ?? []).map(inverse).filter((it) => it !== null).reverse();
-        if (back.length) this.#changes.push(back);
+        this.#remember(this.#drag?.lines ?? []);
         this.#drag = null;
     }
 
     turned(event) {
         event.preventDefault();
-        this.view.zoom(event.deltaY < 0 ? 1.2 : 1 / 1.2);
+        this.view.zoom(event.deltaY < 0 ? 1.2 : 1 / 1.2, this.placeOf(event));
         this.show();
     }
 
@@ -380,6 +531,8 @@ export class Page {
             Backspace: () => this.deed([`remove ${x} ${y}`]),
             u: () => this.undo(),
             z: () => this.undo(),
+            r: () => this.redo(),
+            y: () => this.redo(),
         }[event.key];
         if (!run) return;
         event.preventDefault();
@@ -388,10 +541,10 @@ export class Page {
 
     /** Calls that add points at random to what is seen, most of them near its middle. */
     random(number) {
-        const [width, height] = this.view.size, far = 0.42 * Math.min(width, height);
+        const [width, height] = this.view.size;
         return Array.from({ length: number }, () => {
-            const angle = 2 * Math.PI * Math.random(), away = far * Math.sqrt(Math.random());
-            return this.adding([width / 2 + 1.5 * away * Math.cos(angle), height / 2 + away * Math.sin(angle)]);
+            const angle = 2 * Math.PI * Math.random(), away = 0.46 * Math.sqrt(Math.random());
+            return this.adding([width * (0.5 + away * Math.cos(angle)), height * (0.5 + away * Math.sin(angle))]);
         });
     }
 
@@ -408,7 +561,7 @@ export class Page {
     }
 
     fitted() {
-        this.view.fit(Array.from(this.hull.vertexArray()));
+        this.view.fit(this.hull.vertexArray());
         this.show();
     }
 

@@ -133,6 +133,68 @@ await tried("a journal of others is opened, and a wrong line is told", async () 
     await tab.value('page.open("no journal")');
     assert.equal(await text("last"), "line 1: it is no head of a journal");
 });
+await tried("what is taken back is done again, and a new call ends that", async () => {
+    await press("anew");
+    for (const point of [[0, 0], [4, 0]]) await tab.click(at(point));
+    await press("undo");
+    await press("redo");
+    assert.deepEqual(await calls(), ["add 0 0 = added", "add 4 0 = added", "remove 4 0 = removed", "add 4 0 = added"]);
+    await press("undo");
+    await tab.click(at([0, 9]));
+    await press("redo");
+    assert.equal((await calls()).length, 6);
+});
+await tried("questions asked of an earlier place leave the later calls", async () => {
+    await press("questions");
+    await tab.value("page.go(2)");
+    await tab.mouse("mouseMoved", at([-9, -9]));
+    await tab.mouse("mouseMoved", at([-12, -3]));
+    await press("questions");
+    assert.equal((await calls()).length, 6);
+});
+await tried("a drag in a full journal keeps its point", async () => {
+    await tab.value('page.open("hullbook journal 3 first 0 limit 9 capacity 2\\n0 0 add 0 0 = added\\nend 1\\n")');
+    await tab.value("(page.view.fit([]), page.show())");
+    await tab.drag(at([0, 0]), at([6, 6]));
+    assert.deepEqual([await tab.value("page.hull.multiplicity(0, 0)"), (await calls()).length], [1, 1]);
+    assert.match(await text("last"), /full/);
+});
+await tried("two fingers move and zoom, and draw nothing; a drag of the plane moves it", async () => {
+    await press("anew");
+    const touch = (type, ...points) => tab.pipe.ask("Input.dispatchTouchEvent", { type, touchPoints: points.map(([x, y], id) => ({ x, y, id })) }, tab.session);
+    const [one, two] = [at([-10, 0]), at([10, 0])], scale = await tab.value("page.view.scale");
+    await touch("touchStart", one);
+    await touch("touchStart", one, two);
+    await touch("touchMove", [one[0] - 80, one[1]], [two[0] + 80, two[1]]);
+    await touch("touchEnd");
+    await settled();
+    assert.equal((await calls()).length, 0);
+    assert.ok((await tab.value("page.view.scale")) > 1.4 * scale);
+    await tab.value("(page.view.fit([]), page.show())");
+    await tab.drag(at([20, 20]), at([30, 20]));
+    assert.deepEqual([(await calls()).length, await tab.value("page.view.middle.map(Math.round).join()")], [0, "-10,0"]);
+});
+await tried("many points fit the view, and random ones lie in it on a phone", async () => {
+    await tab.value("page.deed(Array.from({ length: 60000 }, (_, i) => `add ${i} ${i % 7}`))");
+    await press("fit");
+    assert.equal(await tab.value("page.hull.count()"), 60000);
+    assert.ok(Math.abs((await tab.value("page.view.middle[0]")) - 30000) < 2);
+    await tab.value("page.view.fit(new Float64Array(400000).map((_, i) => i))");
+    await tab.size([360, 640]);
+    await press("anew");
+    const outside = await tab.value("page.random(2000).map((it) => page.view.toScreen(it.split(' ').slice(1).map(Number))).filter(([x, y]) => x < 0 || y < 0 || x > page.view.size[0] || y > page.view.size[1]).length");
+    assert.equal(outside, 0);
+    await tab.size([1080, 860]);
+});
+await tried("a reload loses nothing", async () => {
+    await press("anew");
+    await tab.click(at([3, 4]));
+    const kept = await calls();
+    await tab.value("page.keep()");
+    await tab.value("location.reload()").catch(() => null);
+    for (let i = 0; i < 100 && !(await tab.value("Boolean(globalThis.page)").catch(() => false)); i++) await new Promise((done) => setTimeout(done, 50));
+    assert.deepEqual(await calls(), kept);
+});
 await tried("pictures, light and dark", async () => {
     await press("anew");
     const points = [[-38, -4], [-22, -20], [6, -23], [30, -14], [36, 6], [20, 21], [-8, 24], [-30, 15], [-12, 4], [8, -6], [3, 11], [-20, -6], [16, 4]];

@@ -53,6 +53,11 @@ fi
 program=$top/crates/hullbook/out/hullbook
 [ -x "$program" ] || program=
 counted node "$here/judge_tests.mjs" "$program"
+# the modules that web/build.py made, or the released ones where the sources are theirs
+mkdir -p "$top/web/out"
+for module in hull.wasm hull32.wasm; do
+    released=$("$top/tools/release.py" --find "web/$module") && cp "$released" "$top/web/out/$module"
+done
 if [ ! -f "$top/web/out/hull.wasm" ]; then
     echo 'skipped: web/out/hull.wasm is not there, which web/build.py makes'
     finish
