@@ -144,7 +144,7 @@ static inline void hull_shared_part_free(hull_shared_part *part) {
 
 /* Opens a desk round an empty hull of up to `limit` points, whose calls are numbered from `first` on, with room for the lines
  * of `capacity` calls, which are held until they are drained, and with seats 0 to `seats` - 1: OPEN; WAS_OPENED, OUT_OF_LIMITS,
- * NO_MEMORY. All memory but that of points is asked for here. */
+ * NO_MEMORY. All memory but that of points, and of the corners that a call lists, is asked for here. */
 uint32_t hull_shared_open(hull_shared_desk *desk, uint32_t limit, uint64_t first, uint32_t capacity, uint32_t seats);
 
 /* The same, but the line of each call is let go with its answer, for who wants no journal: no call is answered FULL before

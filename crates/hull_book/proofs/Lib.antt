@@ -9,4 +9,6 @@ pub mod Idle
 pub mod LineByLine
 pub mod NextPart
 pub mod Parts
+pub mod Marks
+pub mod LongLaws
 pub mod Walks

@@ -2,7 +2,9 @@ pub mod Journals
 pub mod Scripts
 pub mod History
 pub mod Books
+pub mod Marks
 pub mod LongBooks
+pub mod Kinds
 pub mod Ledgers
 pub mod Copies
 pub mod Verdicts

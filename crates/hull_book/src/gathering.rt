@@ -1,6 +1,7 @@
 ghost use Rattle.std.specs.Prelude.{◌≡◌, ◌^◌, ◌<◌, length};
 ghost use Rattle.hull_book.specs.Books.{IsLawful};
 ghost use Rattle.hull_book.specs.Ledgers.{AreAllLedgers, sum_of_counts};
+ghost use Rattle.hull_book.specs.LongBooks.{whole};
 
 use super::book::Book;
 use super::ledger::Ledger;
@@ -35,10 +36,10 @@ pub fn gather<S: HullSet + Drop>(book: &Book<S>, ledgers: Vec<Ledger>) -> u64
 /// The sum of the counts of all ledgers of a book that may be drained, in whatever order they come: the length of its
 /// whole journal, those lines counted that were taken out.
 pub fn gather_long<S: HullSet + Drop>(book: &LongBook<S>, ledgers: Vec<Ledger>) -> u64
-    requires lawful { IsLawful S.HullSet book.now.whole }
-    requires ledgers { AreAllLedgers book.now.whole ledgers.items }
+    requires lawful { IsLawful S.HullSet (whole book.now) }
+    requires ledgers { AreAllLedgers (whole book.now) ledgers.items }
     ensures sum { result ≡ sum_of_counts ledgers.items }
-    ensures length { result ≡ length book.now.whole.lines }
+    ensures length { result ≡ length book.now.lines }
 {
     let _allowed = book.allowed();
     sum_of(ledgers)

@@ -3,17 +3,18 @@ use Rattle.std.proofs.Common.{◌≡◌, ◌+◌, ◌%◌, ◌^◌, ℕ, zero, s
 use Rattle.std.specs.Prelude.{slice_get}
 use Rattle.hull_set.specs.Held.{Held, nothing_held}
 use Rattle.hull_set.specs.Replies.{after}
+use Rattle.hull_book.specs.Kinds.{Kind}
 use Rattle.hull_book.specs.declared.head.Head.{Head}
 use Rattle.hull_book.specs.declared.line.Line.{Line}
 use Rattle.hull_book.specs.History.{AreRight}
 use Rattle.hull_book.specs.Books.{IsLawful}
 use Rattle.hull_book.proofs.Counts.{all_counts}
-use Rattle.hull_tree.specs.Sets.{hull_tree}
+use Rattle.hull_tree.specs.Sets.{LimitedTree, hull_tree}
 use Rattle.ticket_lock.specs.Forms.{partitioned_form}
 use Rattle.ticket_lock.specs.Schedule.{SchedulesHold}
 use Rattle.hull_headline.specs.Headline.{Always, WheneverFree, AtMostOneHolds, StoresBridgesOfLivePoints}
 use Rattle.hull_headline.specs.Headline.{HoldsEachPointAsOften, HasLegalJournal, IsInOrderOfNumbers, LedgersSumToLength}
-use Rattle.hull_headline.specs.Headline.{FirstComeFirstServed, Kind}
+use Rattle.hull_headline.specs.Headline.{FirstComeFirstServed}
 
 -- a right line has its number: of the lines that begin with line k, line i has the first number and k and i
 numbered : (head : Head) (k : ℕ) (S : Held) (lines : List Line) → AreRight head k S lines → (i : ℕ) (line : Line)
@@ -27,7 +28,8 @@ numbered head k S (m ∷ lines) right (suc i) line e =
     subst (λ (n : ℕ). line.number ≡ (head.first + n) % (2 ^ 64)) (omega arith)
     (numbered head (suc k) (after S m.call m.reply) lines right.1 i line e)
 
-module _ {B : Type 0} (kind : Kind B) (tells : (b : B) → kind.says.lawful b → IsLawful hull_tree (kind.whole b)) where
+module _ {B H L : Type 0} (kind : Kind LimitedTree B H L)
+    (tells : (b : B) → kind.says.lawful b → IsLawful hull_tree (kind.whole b)) where
   -- the law of the lock, at such a book over a tree
   abbrev pub Law : Type 0
   Law = SchedulesHold kind.says partitioned_form

@@ -1,19 +1,22 @@
 -- What is promised of a book over a tree that many seats share, sentence by sentence, whatever order their single
 -- steps fall in.
-use Rattle.std.specs.Prelude.{◌≡◌, ◌+◌, ◌%◌, ◌^◌, ℕ, true, List, length, slice_get, Some, Box, box_value}
+use Rattle.std.specs.Prelude.{◌≡◌, ◌+◌, ◌++◌, ◌%◌, ◌^◌, ℕ, true, List, length, slice_get, Some, Box}
 use Rattle.std.specs.Global.{Global}
 use mathlib.Core.Option.{some}
 use lib.ListN.{get_elem?}
 use Rattle.hull_book.specs.declared.head.BookHead.{BookHead}
 use Rattle.hull_book.specs.declared.line.Line.{Line}
-use Rattle.hull_book.specs.Books.{BookValue, says_boxed}
-use Rattle.hull_book.specs.LongBooks.{LongValue, says_long_boxed}
+use Rattle.hull_book.specs.declared.marked_line.MarkedLine.{MarkedLine}
+use Rattle.hull_book.specs.Books.{BookValue}
+use Rattle.hull_book.specs.Kinds.{Kind}
+use Rattle.hull_book.specs.Kinds as kinds
+use Rattle.hull_book.specs.LongBooks.{LongValue}
+use Rattle.hull_book.specs.Marks.{held_of, joined, parts_of}
 use Rattle.hull_book.specs.History.{IsLegal, held_after, live}
 use Rattle.hull_book.specs.Ledgers.{LedgerValue, AreAllLedgers, sum_of_counts}
 use Rattle.hull_tree.specs.Roots.{points_of_root, IsWellBuiltRoot}
 use Rattle.hull_tree.specs.Sets.{LimitedTree, hull_tree}
 use Rattle.ticket_lock.specs.World.{World, Event}
-use Rattle.ticket_lock.specs.declared.chronicle.Chronicle.{Ghosts}
 use Rattle.ticket_lock.specs.GoodWorld.{Holds}
 use Rattle.ticket_lock.specs.Forms.{partitioned_form}
 use Rattle.ticket_lock.specs.Schedule.{Opened, Runs, takers, enterers}
@@ -22,34 +25,25 @@ use Rattle.ticket_lock.specs.Schedule.{Opened, Runs, takers, enterers}
 abbrev pub TreeBook : Type 0
 TreeBook = BookValue LimitedTree
 
--- a lock round a book of whatever kind, at some moment
-abbrev pub Moment : Type 0 → Type 0
-Moment B = World B BookHead Line
-
--- what is said of a kind of books: what the lock knows of one, and the book of all lines that it ever journalled
-pub record Kind (B : Type 0) : Type 1 where
-  pub says : Ghosts B BookHead Line
-  pub whole : B → TreeBook
-
 -- a book on the heap, as the lock that runs keeps it: it holds all its lines
-abbrev pub kept : Kind (Box TreeBook Global)
-kept = record { says = says_boxed hull_tree; whole = λ b. box_value b }
+abbrev pub kept : Kind LimitedTree (Box TreeBook Global) BookHead Line
+kept = kinds.kept hull_tree
 
 -- a book on the heap that may be drained: of it, all that is said is said of the whole
-abbrev pub drained : Kind (Box (LongValue LimitedTree) Global)
-drained = record { says = says_long_boxed hull_tree; whole = λ b. (box_value b).whole }
+abbrev pub drained : Kind LimitedTree (Box (LongValue LimitedTree) Global) BookHead MarkedLine
+drained = kinds.drained hull_tree
 
-module _ {B : Type 0} (kind : Kind B) where
+module _ {B H L : Type 0} (kind : Kind LimitedTree B H L) where
   -- The steps, in this order, lead from the opened lock to this moment: of a lock that was opened for so many seats
   -- round this book
-  abbrev pub Leads : ℕ → B → Moment B → List (Event B) → Moment B → Type 0
+  abbrev pub Leads : ℕ → B → World B H L → List (Event B) → World B H L → Type 0
   Leads seats book opening steps now = Opened kind.says partitioned_form seats book opening
       × Runs kind.says partitioned_form steps opening now
 
   -- It holds at every moment: however many seats a lock was opened for, round whatever lawful book, and whichever steps
   -- of its seats were made since, in whatever order.
-  abbrev pub Always : (Moment B → Type 0) → Type 0
-  Always P = (seats : ℕ) (book : B) (opening now : Moment B) (steps : List (Event B))
+  abbrev pub Always : (World B H L → Type 0) → Type 0
+  Always P = (seats : ℕ) (book : B) (opening now : World B H L) (steps : List (Event B))
       → Leads seats book opening steps now → P now
 
   -- The same whenever the lock is free, of the book that it keeps.
@@ -58,12 +52,12 @@ module _ {B : Type 0} (kind : Kind B) where
 
   -- First come, first served: the k-th entry is by the seat that made the k-th take.
   abbrev pub FirstComeFirstServed : Type 0
-  FirstComeFirstServed = (seats : ℕ) (book : B) (opening now : Moment B) (steps : List (Event B))
+  FirstComeFirstServed = (seats : ℕ) (book : B) (opening now : World B H L) (steps : List (Event B))
       → Leads seats book opening steps now
       → (k seat : ℕ) → get_elem? (enterers steps) k ≡ some seat → get_elem? (takers steps) k ≡ some seat
 
 -- No two seats hold the book.
-abbrev pub AtMostOneHolds : {B : Type 0} → Moment B → Type 0
+abbrev pub AtMostOneHolds : {B H L : Type 0} → World B H L → Type 0
 AtMostOneHolds now = (one other t u : ℕ) → Holds now one t → Holds now other u → one ≡ other
 
 -- Each stored bridge is that of the points below it, and these are the live points: those that the journal's calls
@@ -88,3 +82,10 @@ IsInOrderOfNumbers book = (k : ℕ) (line : Line) → slice_get book.lines k ≡
 abbrev pub LedgersSumToLength : TreeBook → Type 0
 LedgersSumToLength book = (ledgers : List LedgerValue) → AreAllLedgers book ledgers
     → sum_of_counts ledgers ≡ length book.lines
+
+-- The parts that were taken out, in their order, and then the lines that are held are the journal of the book that the
+-- lock keeps whenever it is free: of a kind of books whose lines are marked.
+abbrev pub PartsAndHeldAreTheJournal : {B H : Type 0} → Kind LimitedTree B H MarkedLine → Type 0
+PartsAndHeldAreTheJournal kind = Always kind (λ now. now.home ≡ true
+    → joined (parts_of (kind.says.lines now.current)) ++ held_of (kind.says.lines now.current)
+    ≡ (kind.whole now.current).lines)

@@ -8,14 +8,16 @@
 //! Beside that, whenever the lock is free each point is held as often as the journal's calls left it. It is said of the
 //! lock that runs, `TicketLock<Box<Book<HullTree>>>` (crates `ticket_lock`, `hull_book` and `hull_tree`), and over every
 //! list of single steps of its seats; `specs/Headline.antt` has each of its words. Of a book that may be drained the
-//! same is said once more: its journal is the whole of it, what was taken out, in order, and then what is held.
+//! same is said once more, and that the parts that were taken out, in their order, and then the lines that are held are
+//! its journal.
 #![tactic(auto)]
 
 ghost use Rattle.hull_headline.specs.Headline.{Always, WheneverFree, AtMostOneHolds, StoresBridgesOfLivePoints};
 ghost use Rattle.hull_headline.specs.Headline.{HoldsEachPointAsOften, HasLegalJournal, IsInOrderOfNumbers};
-ghost use Rattle.hull_headline.specs.Headline.{FirstComeFirstServed, LedgersSumToLength, drained, kept};
+ghost use Rattle.hull_headline.specs.Headline.{FirstComeFirstServed, LedgersSumToLength, PartsAndHeldAreTheJournal};
+ghost use Rattle.hull_headline.specs.Headline.{drained, kept};
 
-use hull_book::{Book, LongBook};
+use hull_book::{Book, LongBook, parts_are_the_journal};
 use hull_tree::HullTree;
 use ticket_lock::partitioned_schedules_hold;
 
@@ -32,7 +34,8 @@ pub fn headline_holds()
     partitioned_schedules_hold::<Box<Book<HullTree>>>();
 }
 
-/// The headline of a book that may be drained, however often it was, each of its sentences of the whole journal.
+/// The headline of a book that may be drained, however often it was, each of its sentences of the whole journal: the
+/// parts that were taken out, in their order, and then the lines that are held.
 pub fn headline_holds_of_drained_books()
     ensures first_come { FirstComeFirstServed drained }
     ensures one_holder { Always drained AtMostOneHolds }
@@ -41,6 +44,8 @@ pub fn headline_holds_of_drained_books()
     ensures legal { WheneverFree drained HasLegalJournal }
     ensures in_order { WheneverFree drained IsInOrderOfNumbers }
     ensures ledgers { WheneverFree drained LedgersSumToLength }
+    ensures parts { PartsAndHeldAreTheJournal drained }
 {
     partitioned_schedules_hold::<Box<LongBook<HullTree>>>();
+    parts_are_the_journal();
 }

@@ -51,8 +51,8 @@ lines_of-append_own k lines line e =
     ∙ ap (λ (xs : List Line). lines_of k lines ++ xs) (lines_of-own k line e)
 
 -- a beginning of a beginning is one
-pub begins_longer : (xs ys zs : List Line) → IsPrefix xs ys → IsPrefix ys zs → IsPrefix xs zs
-begins_longer xs ys zs p q = (p.0 ++ q.0, sym (append_assoc xs p.0 q.0) ∙ ap (λ (l : List Line). l ++ q.0) p.1 ∙ q.1)
+pub begins_longer : {A : Type 0} (xs ys zs : List A) → IsPrefix xs ys → IsPrefix ys zs → IsPrefix xs zs
+begins_longer xs ys zs p q = (p.0 ++ q.0, sym (append_assoc xs p.0 q.0) ∙ ap (λ (l : List _). l ++ q.0) p.1 ∙ q.1)
 
 -- below a bound that is not met there is room
 pub below_bound : (n m : ℕ) → n ≤ m → (n ≡ m → ⊥) → n < m
@@ -127,5 +127,5 @@ pub same_own : (k n : ℕ) (lines others : List Line) → n ≡ k → lines_of n
 same_own k n lines others e same = subst (λ (m : ℕ). lines_of m lines ≡ lines_of m others) e same
 
 -- lines begin with themselves
-pub begins_same : (xs ys : List Line) → ys ≡ xs → IsPrefix xs ys
+pub begins_same : {A : Type 0} (xs ys : List A) → ys ≡ xs → IsPrefix xs ys
 begins_same xs ys e = ([], append-nil xs ∙ sym e)

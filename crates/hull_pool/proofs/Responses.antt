@@ -1,6 +1,7 @@
 -- Each call is answered by its line.
 use Rattle.std.proofs.Common.{◌≡◌, ℕ, zero, suc, List, [], ◌∷◌, ◌++◌, Ok, Err, sym, refl, ap, subst, ◌∙◌, arith}
-use Rattle.std.proofs.Common.{length, length-append, box_value}
+use Rattle.std.proofs.Common.{Bool, length, length-append, box_value}
+use Rattle.std.proofs.lemmas.List.{map-append}
 use mathlib.Core.Option.{some, some-injective, some-ne-none}
 use lib.ListN.{get_elem?}
 use Rattle.hull_set.specs.declared.call.Call.{Call}
@@ -18,8 +19,11 @@ use Rattle.ticket_lock.specs.Linearizable as linear
 use Rattle.ticket_lock.specs.Linearizable.{book_after, journal_after, Linearizable}
 use Rattle.ticket_lock.specs.Schedule.{SchedulesHold}
 use Rattle.hull_pool.specs.Work.{HasServed}
-use Rattle.hull_book.specs.LongBooks.{says_long_boxed}
-use Rattle.hull_pool.specs.Long.{long_book_head, whole_of}
+use Rattle.hull_book.specs.Kinds.{Kind}
+use Rattle.hull_book.specs.LongBooks.{whole_head}
+use Rattle.hull_book.specs.Marks.{plain}
+use Rattle.hull_book.specs.declared.marked_line.MarkedLine.{MarkedLine}
+use Rattle.hull_pool.specs.Long.{HasServedLong}
 use Rattle.hull_pool.specs.Responses.{Agree, AnswersAreOfLines, LongAnswersAreOfLines}
 
 -- a list is not the same with one more
@@ -69,19 +73,39 @@ refused head t k call found after (Ok reply) served same =
     absurd (no_longer found (record { number = t; seat = k; call = call; reply = reply }) (sym same ∙ served.1))
 refused head t k call found after (Err f) served same = refl
 
+-- a call that added a marked line was answered with its reply, and one that added none that it was refused
+long_replied : (head : Head) (drains : Bool) (t k : ℕ) (call : Call) (found after : List MarkedLine) (answer : Answer)
+    (l : MarkedLine) → HasServedLong head drains t k call found after answer → after ≡ found ++ l ∷ []
+    → (l.line.seat ≡ k) × (l.line.call ≡ call) × (answer ≡ Ok l.line.reply)
+long_replied head drains t k call found after answer l served adds =
+    replied (whole_head head found) t k call (plain found) (plain after) answer l.line served.served
+    (ap plain adds ∙ map-append (λ (m : MarkedLine). m.line) found (l ∷ []))
+
+long_refused : (head : Head) (drains : Bool) (t k : ℕ) (call : Call) (found after : List MarkedLine) (answer : Answer)
+    → HasServedLong head drains t k call found after answer → after ≡ found → answer ≡ Err (record {})
+long_refused head drains t k call found after answer served same =
+    refused (whole_head head found) t k call (plain found) (plain after) answer served.served (ap plain same)
+
 -- the answers of calls that were served agree with the lines that they added
-agreed : {B : Type 0} (says : lock.Ghosts B BookHead Line) (b : B) (es : List (Event B)) (calls : ℕ → Call)
-    (answers : ℕ → Answer) (lines : List Line) → linear.IsSequentialHistory says b es lines
-    → ((r k : ℕ) (c : B) → get_elem? es r ≡ some (hands_on k c) → (head : Head) × (t : ℕ)
-    × HasServed head t k (calls r) (journal_after says b es r) (says.lines c) (answers r))
-    → Agree says b es calls answers lines
-agreed says b es calls answers lines history served = record {
+agreed : {B H L : Type 0} (says : lock.Ghosts B H L) (line_of : L → Line) (b : B) (es : List (Event B))
+    (calls : ℕ → Call) (answers : ℕ → Answer) (lines : List L)
+    (served : ℕ → ℕ → Call → List L → List L → Answer → Type 0)
+    → ((r k : ℕ) (call : Call) (found after : List L) (answer : Answer) (l : L) → served r k call found after answer
+    → after ≡ found ++ l ∷ []
+    → ((line_of l).seat ≡ k) × ((line_of l).call ≡ call) × (answer ≡ Ok (line_of l).reply))
+    → ((r k : ℕ) (call : Call) (found after : List L) (answer : Answer) → served r k call found after answer
+    → after ≡ found → answer ≡ Err (record {}))
+    → linear.IsSequentialHistory says b es lines
+    → ((r k : ℕ) (c : B) → get_elem? es r ≡ some (hands_on k c)
+    → served r k (calls r) (journal_after says b es r) (says.lines c) (answers r))
+    → Agree says line_of b es calls answers lines
+agreed says line_of b es calls answers lines served replies refuses history are = record {
   sequential = history;
-  replies = λ k i r p line x. let s = served r k x.ends.0 x.ends.1 in
-      replied s.0 s.1 k (calls r) (journal_after says b es r) (says.lines x.ends.0) (answers r) line s.2
+  replies = λ k i r p l x. let s = are r k x.ends.0 x.ends.1 in
+      replies r k (calls r) (journal_after says b es r) (says.lines x.ends.0) (answers r) l s
       (sym (after_hand_on says b es r k x.ends.0 x.ends.1) ∙ x.adds);
-  fulls = λ k i r f. let s = served r k f.full.0 f.full.1 in
-      refused s.0 s.1 k (calls r) (journal_after says b es r) (says.lines f.full.0) (answers r) s.2
+  fulls = λ k i r f. let s = are r k f.full.0 f.full.1 in
+      refuses r k (calls r) (journal_after says b es r) (says.lines f.full.0) (answers r) s
       (sym (after_hand_on says b es r k f.full.0 f.full.1) ∙ f.same);
 }
 
@@ -95,17 +119,27 @@ module _ {S : Type 0} (K : Ghosts S) where
       let tells : linear.HeadTellsCapacity (says_boxed K) = λ x y e. ap (λ (h : BookHead). h.journal.capacity) e in
       record {
         legal = subst (λ (h : BookHead). IsLegal h.journal (box_value u.current).lines) good.head ran.0.legal;
-        agree = agreed (says_boxed K) b es calls answers (box_value u.current).lines ran.1
-            (λ r k c at. let s = served r k c at in ((box_value b).head.journal, s.0, s.1));
+        agree = agreed (says_boxed K) (λ line. line) b es calls answers (box_value u.current).lines
+            (λ r k call found after answer. (t : ℕ)
+            × HasServed (box_value b).head.journal t k call found after answer)
+            (λ r k call found after answer line s e. replied (box_value b).head.journal s.0 k call found after answer line
+            s.1 e)
+            (λ r k call found after answer s e. refused (box_value b).head.journal s.0 k call found after answer s.1 e)
+            ran.1 served;
         fulls_last = λ k i r j a s p line f x. ran.1.full_last tells k i r j a s p line f x;
       }
 
-  -- the law of books that may be drained
-  pub long_answers_are : Linearizable (says_long_boxed K) partitioned_form → LongAnswersAreOfLines K
-  long_answers_are law n b w u es calls answers opened runs served =
-      let ran = law n b w u es opened runs in (
-        ran.0.legal,
-        agreed (says_long_boxed K) b es calls answers (whole_of u.current).lines ran.1
-            (λ r k c at. let s = served r k c at in
-            (record ((long_book_head b).journal) { capacity = s.0 }, s.1, s.2)),
-      )
+-- the law of books of a kind that may be drained, from that of the lock
+pub long_answers_are : {S B H : Type 0} (kind : Kind S B H MarkedLine) (head_of : H → BookHead)
+    → ((b : B) → kind.says.lawful b → IsLegal (kind.whole b).head.journal (kind.whole b).lines)
+    → Linearizable kind.says partitioned_form → LongAnswersAreOfLines kind head_of
+long_answers_are kind head_of tells law n b w u es calls answers opened runs served =
+    let ran = law n b w u es opened runs in let head = (head_of (kind.says.head b)).journal in (
+      tells u.current ran.0,
+      agreed kind.says (λ l. l.line) b es calls answers (kind.says.lines u.current)
+          (λ r k call found after answer. (drains : Bool) × (t : ℕ)
+          × HasServedLong head drains t k call found after answer)
+          (λ r k call found after answer l s e. long_replied head s.0 s.1 k call found after answer l s.2 e)
+          (λ r k call found after answer s e. long_refused head s.0 s.1 k call found after answer s.2 e)
+          ran.1 served,
+    )

@@ -1,9 +1,9 @@
 //! One call of a worker: it enters the lock, has the call served, and hands the book on.
 ghost use Rattle.std.specs.Prelude.{◌≤◌, length, box_value, IsErr};
-ghost use Rattle.ticket_lock.specs.Tokens.{opening_book, seat_seen};
-ghost use Rattle.hull_pool.specs.Crews.{book_head};
+ghost use Rattle.ticket_lock.specs.Tokens.{guard_book, guard_number, opening_book, seat_seen};
+ghost use Rattle.hull_book.specs.Kinds.{kept};
 ghost use Rattle.hull_pool.specs.Handing.{HandedOn, HasCome, HoldsBook, MayCall};
-ghost use Rattle.hull_pool.specs.Work.{HasCalled, WasServed, capacity_of};
+ghost use Rattle.hull_pool.specs.Work.{HasCalled, HasServed, WasServed, capacity_of};
 
 use hull_book::{Answer, Book, Ledger};
 use hull_set::{Call, HullSet};
@@ -32,8 +32,10 @@ pub fn serve_and_hand_on<S: HullSet + Drop>(
     call: Call,
     ledger: &mut Ledger,
 ) -> (BookSeat<S>, Answer)
-    requires { HoldsBook book_head box_value S.HullSet guard number ledger.old }
-    ensures { HandedOn book_head box_value guard.entry number call result.1 result.0 ledger.new }
+    requires { HoldsBook (kept S.HullSet) guard number ledger.old }
+    ensures back { HandedOn (kept S.HullSet) guard.entry number result.0 ledger.new }
+    ensures served { let found = box_value (guard_book guard.entry) in
+        HasServed found.head.journal (guard_number guard.entry) number call found.lines (seat_seen result.0) result.1 }
 {
     let mut guard = guard;
     let book = guard.book();
@@ -56,8 +58,8 @@ pub fn make_call<R: Wait, S: HullSet + Drop>(
     call: Call,
     ledger: &mut Ledger,
 ) -> (BookSeat<S>, Answer)
-    requires { MayCall book_head lock.now number seat ledger.old }
-    ensures back { HasCome book_head lock.now number seat result.0 ledger.new }
+    requires { MayCall (kept S.HullSet) lock.now number seat ledger.old }
+    ensures back { HasCome (kept S.HullSet) lock.now number seat result.0 ledger.new }
     ensures called { HasCalled number (capacity_of (box_value (opening_book lock.now))) call (seat_seen seat)
         (seat_seen result.0) result.1 }
     ensures served { WasServed (box_value (opening_book lock.now)).head.journal number call (seat_seen seat)

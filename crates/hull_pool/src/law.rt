@@ -1,4 +1,5 @@
 //! What the lock's law over every list of steps says of calls and answers.
+ghost use Rattle.hull_book.specs.Kinds.{drained};
 ghost use Rattle.hull_pool.specs.Responses.{AnswersAreOfLines, LongAnswersAreOfLines};
 
 use hull_book::{Book, LongBook};
@@ -21,7 +22,7 @@ pub fn answers_are_of_lines<S: HullSet + Drop>()
 /// serve one: the journal is the whole of it, what was taken out, in order, and then what is held; and a line that comes
 /// after a call that was answered that the journal is full was added to a book with more room.
 pub fn long_answers_are_of_lines<S: HullSet + Drop>()
-    ensures { LongAnswersAreOfLines S.HullSet }
+    ensures { LongAnswersAreOfLines (drained S.HullSet) (λ head. head) }
 {
     partitioned_schedules_are_linearizable::<Box<LongBook<S>>>();
 }

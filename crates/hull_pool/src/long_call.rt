@@ -1,8 +1,9 @@
 //! Calls of a seat on a book that may be drained.
-ghost use Rattle.std.specs.Prelude.{◌≤◌, ℕ, box_value};
-ghost use Rattle.ticket_lock.specs.Tokens.{opening_book, guard_book, seat_seen};
+ghost use Rattle.std.specs.Prelude.{◌≤◌, box_value, false, true};
+ghost use Rattle.ticket_lock.specs.Tokens.{guard_book, guard_number, opening_book, seat_seen};
+ghost use Rattle.hull_book.specs.Kinds.{drained};
 ghost use Rattle.hull_pool.specs.Handing.{HandedOn, HasCome, HoldsBook, MayCall};
-ghost use Rattle.hull_pool.specs.Long.{HandsOut, WasServedLong, answer_of, long_book_head, whole_of};
+ghost use Rattle.hull_pool.specs.Long.{HasDrained, HasServedLong, WasDrained, WasServedLong, lines_at, long_book_head};
 
 use hull_book::{Answer, Journal, Ledger, LongBook, Reply, Room};
 use hull_set::{Call, HullSet};
@@ -31,8 +32,11 @@ pub fn serve_long_and_hand_on<S: HullSet + Drop>(
     call: Call,
     ledger: &mut Ledger,
 ) -> (LongSeat<S>, Answer)
-    requires { HoldsBook long_book_head whole_of S.HullSet guard number ledger.old }
-    ensures { HandedOn long_book_head whole_of guard.entry number call result.1 result.0 ledger.new }
+    requires { HoldsBook (drained S.HullSet) guard number ledger.old }
+    ensures back { HandedOn (drained S.HullSet) guard.entry number result.0 ledger.new }
+    ensures served { let found = guard_book guard.entry in
+        HasServedLong (long_book_head found).journal false (guard_number guard.entry) number call (lines_at found)
+        (seat_seen result.0) result.1 }
 {
     let mut guard = guard;
     let book = guard.book();
@@ -51,11 +55,12 @@ pub fn drain_and_hand_on<S: HullSet + Drop>(
     ledger: &mut Ledger,
     room: Room,
 ) -> (LongSeat<S>, Drained)
-    requires may { HoldsBook long_book_head whole_of S.HullSet guard number ledger.old }
-    requires room { (box_value (guard_book guard)).capacity ≤ room }
-    ensures back { HandedOn long_book_head whole_of guard.entry number call (answer_of result.1) result.0 ledger.new }
-    ensures part { HandsOut (long_book_head (guard_book guard.entry)).journal
-        (box_value (guard_book guard.entry)).drained (seat_seen result.0) room result.1 }
+    requires may { HoldsBook (drained S.HullSet) guard number ledger.old }
+    requires room { (long_book_head (guard_book guard)).journal.capacity ≤ room }
+    ensures back { HandedOn (drained S.HullSet) guard.entry number result.0 ledger.new }
+    ensures drained { let found = guard_book guard.entry in
+        HasDrained (long_book_head found).journal (guard_number guard.entry) number call (lines_at found)
+        (seat_seen result.0) room result.1 }
 {
     let mut guard = guard;
     let book = guard.book();
@@ -72,8 +77,11 @@ pub fn serve_let_go_and_hand_on<S: HullSet + Drop>(
     call: Call,
     ledger: &mut Ledger,
 ) -> (LongSeat<S>, Answer)
-    requires { HoldsBook long_book_head whole_of S.HullSet guard number ledger.old }
-    ensures { HandedOn long_book_head whole_of guard.entry number call result.1 result.0 ledger.new }
+    requires { HoldsBook (drained S.HullSet) guard number ledger.old }
+    ensures back { HandedOn (drained S.HullSet) guard.entry number result.0 ledger.new }
+    ensures served { let found = guard_book guard.entry in
+        HasServedLong (long_book_head found).journal true (guard_number guard.entry) number call (lines_at found)
+        (seat_seen result.0) result.1 }
 {
     let mut guard = guard;
     let book = guard.book();
@@ -96,9 +104,9 @@ pub fn make_long_call<R: Wait, S: HullSet + Drop>(
     call: Call,
     ledger: &mut Ledger,
 ) -> (LongSeat<S>, Answer)
-    requires { MayCall long_book_head lock.now number seat ledger.old }
-    ensures back { HasCome long_book_head lock.now number seat result.0 ledger.new }
-    ensures served { WasServedLong (long_book_head (opening_book lock.now)).journal number call (seat_seen seat)
+    requires { MayCall (drained S.HullSet) lock.now number seat ledger.old }
+    ensures back { HasCome (drained S.HullSet) lock.now number seat result.0 ledger.new }
+    ensures served { WasServedLong (long_book_head (opening_book lock.now)).journal false number call (seat_seen seat)
         (seat_seen result.0) result.1 }
 {
     let guard = lock.enter(rt, seat);
@@ -119,13 +127,11 @@ pub fn make_drain<R: Wait, S: HullSet + Drop>(
     ledger: &mut Ledger,
     room: Room,
 ) -> (LongSeat<S>, Drained)
-    requires may { MayCall long_book_head lock.now number seat ledger.old }
+    requires may { MayCall (drained S.HullSet) lock.now number seat ledger.old }
     requires room { (long_book_head (opening_book lock.now)).journal.capacity ≤ room }
-    ensures back { HasCome long_book_head lock.now number seat result.0 ledger.new }
-    ensures served { WasServedLong (long_book_head (opening_book lock.now)).journal number call (seat_seen seat)
-        (seat_seen result.0) (answer_of result.1) }
-    ensures part { (drained : ℕ)
-        × HandsOut (long_book_head (opening_book lock.now)).journal drained (seat_seen result.0) room result.1 }
+    ensures back { HasCome (drained S.HullSet) lock.now number seat result.0 ledger.new }
+    ensures drained { WasDrained (long_book_head (opening_book lock.now)).journal number call (seat_seen seat)
+        (seat_seen result.0) room result.1 }
 {
     let guard = lock.enter(rt, seat);
     drain_and_hand_on(guard, number, call, ledger, room)
@@ -141,9 +147,9 @@ pub fn make_call_and_let_go<R: Wait, S: HullSet + Drop>(
     call: Call,
     ledger: &mut Ledger,
 ) -> (LongSeat<S>, Answer)
-    requires { MayCall long_book_head lock.now number seat ledger.old }
-    ensures back { HasCome long_book_head lock.now number seat result.0 ledger.new }
-    ensures served { WasServedLong (long_book_head (opening_book lock.now)).journal number call (seat_seen seat)
+    requires { MayCall (drained S.HullSet) lock.now number seat ledger.old }
+    ensures back { HasCome (drained S.HullSet) lock.now number seat result.0 ledger.new }
+    ensures served { WasServedLong (long_book_head (opening_book lock.now)).journal true number call (seat_seen seat)
         (seat_seen result.0) result.1 }
 {
     let guard = lock.enter(rt, seat);

@@ -102,7 +102,8 @@ pub enum Code {
     NoJournal = 57,
     /// The points of the journal are not counted: it is of an older version. Nothing changed.
     OldRules = 58,
-    /// The journal is illegal: its line `number`, counted from 0, is the first that is not right. Nothing changed.
+    /// The journal is illegal: line `number` of its text, whose header is line 1, is the first that is not right. Nothing
+    /// changed.
     Illegal = 59,
     /// The journal has lines by `number` seats, which are more than were asked for. Nothing changed.
     TooFewSeats = 60,

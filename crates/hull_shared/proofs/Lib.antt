@@ -3,6 +3,5 @@ mod Makes
 mod SeatReplies
 pub mod Books
 pub mod Fronts
-pub mod Gathered
 pub mod Homes
 pub mod Lists

@@ -5,8 +5,9 @@ use Rattle.std.specs.List.{All}
 use mathlib.Core.List.{IsPrefix}
 use Rattle.hull_book.specs.Books.{opened_book}
 use Rattle.hull_book.specs.History.{IsLegal}
-use Rattle.hull_book.specs.LongBooks.{undrained}
-use Rattle.hull_book.specs.declared.line.Line.{Line}
+use Rattle.hull_book.specs.LongBooks.{last_part, undrained, whole_head}
+use Rattle.hull_book.specs.Marks.{plain}
+use Rattle.hull_book.specs.declared.marked_line.MarkedLine.{MarkedLine}
 use Rattle.hull_set.specs.Held.{nothing_held}
 use Rattle.hull_reply.specs.Told.{code_number, IsBare, IsNumber}
 use Rattle.hull_reply.specs.declared.code.Code.{Code}
@@ -16,7 +17,7 @@ use Rattle.hull_text.specs.JournalText.{written_text}
 use Rattle.hull_tree.specs.Roots.{held_by}
 use Rattle.hull_tree.specs.Sets.{LimitedTree}
 use Rattle.ticket_lock.specs.Tokens.{seat_seen}
-use Rattle.hull_shared.specs.DeskBooks.{AreGone, DeskValue, head_behind, rest_of}
+use Rattle.hull_shared.specs.DeskBooks.{DeskValue, HoldsNone}
 use Rattle.hull_shared.specs.Limits.{AreLimits}
 use Rattle.hull_shared.specs.Locks.{book_of, head_of, lock_of}
 use Rattle.hull_shared.specs.Places.{HasAt, HasOwnLines}
@@ -44,7 +45,7 @@ pub record IsDeskRound (b : DeskValue) (seats : ℕ) (d : OpenDesk) : Type 0 whe
   pub book : book_of (lock_of d.lock) ≡ b
   pub seats_are : d.seats ≡ seats
   pub all_in : All IsSome d.places.list.items
-  pub all_seen : (j : ℕ) (p : Place) → HasAt d.places.list.items j p → seat_seen p.seat ≡ b.book.whole.lines
+  pub all_seen : (j : ℕ) (p : Place) → HasAt d.places.list.items j p → seat_seen p.seat ≡ b.book.lines
 
 -- all seats are at the desk, round such a book, and have seen no line
 pub record IsNew (l : Limits) (d : OpenDesk) : Type 0 where
@@ -147,17 +148,16 @@ HasReturned old new was room told = (new ≡ old) × (room ≡ was) × (told ≡
 
 -- ---- closing
 
--- The whole journal of the desk has the lines `whole`, of which the first `gone` were taken out: it is legal, with the
--- head at opening, and begins with what each seat has seen, in whose name it has no other lines than those. Its last
--- part, with its own first number, is left.
+-- The whole journal of the desk has the lines `whole`: it is legal, with the head at opening, and begins with what each
+-- seat has seen, in whose name it has no other lines than those. Those that are held are left as its last part, with its
+-- own first number; where lines are not kept there are none.
 pub record IsJournalOf (d : OpenDesk) (c : ClosedDesk) : Type 0 where
-  pub whole : List Line
-  pub gone : ℕ
-  pub are_gone : AreGone (head_of (lock_of d.lock)).keeps gone whole
-  pub legal : IsLegal (head_behind (head_of (lock_of d.lock)) gone) whole
+  pub whole : List MarkedLine
+  pub holds_none : HoldsNone (head_of (lock_of d.lock)).keeps whole
+  pub legal : IsLegal (whole_head (head_of (lock_of d.lock)).book.journal whole) (plain whole)
   pub seen : (j : ℕ) (p : Place) → HasAt d.places.list.items j p → IsPrefix (seat_seen p.seat) whole
   pub own_lines : (j : ℕ) (p : Place) → HasAt d.places.list.items j p → HasOwnLines whole p
-  pub part : c.part ≡ rest_of (head_of (lock_of d.lock)) gone whole
+  pub part : c.part ≡ last_part (head_of (lock_of d.lock)).book.journal whole
 
 -- why an open desk stays open: a seat is out; or none is, and yet the lock has another owner, which no caller who keeps
 -- the header's duties meets

@@ -1,13 +1,17 @@
 -- The lock of a desk: what it was opened round.
-use Rattle.std.specs.Prelude.{ℕ, Box, box_value}
+use Rattle.std.specs.Prelude.{ℕ, Box, List, box_value}
 use Rattle.std.specs.Global.{Global}
 use Rattle.std.specs.Arc.{arc_value}
 use Rattle.std.specs.Mem.{manually_drop_value}
 use Rattle.std.specs.declared.sync.Arc.{Arc}
 use Rattle.std.specs.declared.mem.ManuallyDrop.{ManuallyDrop}
-use Rattle.hull_book.specs.Books.{BookValue}
-use Rattle.hull_book.specs.declared.line.Line.{Line}
-use Rattle.hull_tree.specs.Sets.{LimitedTree}
+use Rattle.hull_book.specs.Books.{BookValue, IsLawful}
+use Rattle.hull_book.specs.Kinds.{Kind}
+use Rattle.hull_book.specs.LongBooks.{whole}
+use Rattle.hull_book.specs.Marks.{plain}
+use Rattle.hull_book.specs.declared.marked_line.MarkedLine.{MarkedLine}
+use Rattle.hull_tree.specs.Sets.{LimitedTree, hull_tree}
+use Rattle.ticket_lock.specs.declared.chronicle.Chronicle as chronicle
 use Rattle.ticket_lock.specs.declared.lock.TicketLock.{TicketLock}
 use Rattle.ticket_lock.specs.Tokens.{opening_book}
 use Rattle.hull_shared.specs.DeskBooks.{DeskValue, desk_head}
@@ -27,11 +31,31 @@ boxed_head b = desk_head (box_value b)
 
 -- the book of all its lines, those counted that were taken out
 abbrev pub whole_of : DeskBoxed → BookValue LimitedTree
-whole_of b = (box_value b).book.whole
+whole_of b = whole (box_value b).book
+
+-- all its lines, with their marks
+abbrev pub lines_at : DeskBoxed → List MarkedLine
+lines_at b = (box_value b).book.lines
+
+-- what the trait `Chronicle` of the lock says of it
+abbrev pub says_desk : chronicle.Ghosts DeskBoxed DeskHead MarkedLine
+says_desk = record {
+  head = boxed_head;
+  lines = lines_at;
+  capacity = λ b. (whole_of b).head.journal.capacity;
+  turn = λ b. (whole_of b).turn;
+  lawful = λ b. IsLawful hull_tree (whole_of b);
+  line_seat = λ l. l.line.seat;
+  line_number = λ l. l.line.number;
+}
+
+-- the kind of such books
+abbrev pub desk : Kind LimitedTree DeskBoxed DeskHead MarkedLine
+desk = record { says = says_desk; whole = whole_of; plain = plain }
 
 -- a lock round such a book
 abbrev pub HullLock : Type 0
-HullLock = TicketLock DeskBoxed DeskHead Line
+HullLock = TicketLock DeskBoxed DeskHead MarkedLine
 
 -- the book as it was when the lock was opened round it
 abbrev pub book_of : HullLock → DeskValue

@@ -3,7 +3,9 @@ use Rattle.std.specs.Prelude.{◌≡◌, ◌≢◌, ◌+◌, ℕ, ℤ, List, Res
 use mathlib.Core.List.{IsPrefix}
 use Rattle.lattice.specs.Plane.{Pair}
 use Rattle.hull_book.specs.Answers.{Answer}
-use Rattle.hull_book.specs.declared.line.Line.{Line}
+use Rattle.hull_book.specs.Marks.{plain}
+use Rattle.hull_book.specs.declared.marked_line.MarkedLine.{MarkedLine}
+use Rattle.hull_pool.specs.Work.{lines_of}
 use Rattle.hull_set.specs.declared.call.Call.{Call}
 use Rattle.hull_set.specs.declared.reply.Reply.TheVariants as reply
 use Rattle.hull_reply.specs.Corners.{TellsCorners}
@@ -61,16 +63,16 @@ WaitsOn w v = (lock_of v.lock ≡ lock_of w.lock) × (v.number ≡ w.number) × 
     × (ticket_looks v.ticket ≡ ticket_looks w.ticket + 1) × (v.ledger ≡ w.ledger)
 
 -- The seat's call was served, with this answer, under the number that it had taken: it found a whole journal that
--- begins with what it had seen, of which the first `gone` lines had been taken out, and handed on the one that it has
--- seen now. It is the same seat of the same lock.
+-- begins with what it had seen and has no other line in its name, and handed on the one that it has seen now. It is the
+-- same seat of the same lock.
 pub record WasServed (w : WaitingSeat) (i : IdleSeat) (answer : Answer) : Type 0 where
   pub same_lock : lock_of i.lock ≡ lock_of w.lock
   pub same_number : i.number ≡ w.number
-  pub found : List Line
+  pub found : List MarkedLine
   pub begins : IsPrefix (ticket_seen w.ticket) found
-  pub gone : ℕ
-  pub served : HasServedAt (head_of (lock_of w.lock)) gone (ticket_number w.ticket) w.number w.call found
-      (seat_seen i.seat) answer
+  pub own_lines : lines_of w.number (plain found) ≡ lines_of w.number (plain (ticket_seen w.ticket))
+  pub served : HasServedAt (head_of (lock_of w.lock)) (ticket_number w.ticket) w.number w.call found (seat_seen i.seat)
+      answer
 
 -- the seat waits on, or its call was served
 abbrev pub HasLooked : WaitingSeat → Looked → Type 0

@@ -1,7 +1,8 @@
 -- The places of a desk.
 use Rattle.std.specs.Prelude.{◌≡◌, ◌+◌, ◌≤◌, ℕ, List, [], Option, Some, slice_get, vec_len, vec_capacity}
 use Rattle.hull_book.specs.Ledgers.{IsLedgerOf}
-use Rattle.hull_book.specs.declared.line.Line.{Line}
+use Rattle.hull_book.specs.Marks.{plain}
+use Rattle.hull_book.specs.declared.marked_line.MarkedLine.{MarkedLine}
 use Rattle.hull_pool.specs.Work.{lines_of}
 use Rattle.ticket_lock.specs.Tokens.{IsSeatOf, seat_count, seat_number, seat_seen}
 use Rattle.hull_shared.specs.Locks.{HullLock, boxed_head, seats_of}
@@ -12,12 +13,13 @@ use Rattle.hull_shared.specs.declared.place.Places.{Places}
 -- place j, behind which there are as many as its number.
 pub record IsAtHome (lock : HullLock) (n j : ℕ) (p : Place) : Type 0 where
   pub own : IsSeatOf boxed_head lock p.seat
-  pub counts : IsLedgerOf (seat_number p.seat) (seat_seen p.seat) p.ledger
+  pub counts : IsLedgerOf (seat_number p.seat) (plain (seat_seen p.seat)) p.ledger
   pub home : seat_number p.seat + j + 1 ≡ n
 
 -- the lines have in the name of the place's seat just those that it has seen in its name
-abbrev pub HasOwnLines : List Line → Place → Type 0
-HasOwnLines lines p = lines_of (seat_number p.seat) lines ≡ lines_of (seat_number p.seat) (seat_seen p.seat)
+abbrev pub HasOwnLines : List MarkedLine → Place → Type 0
+HasOwnLines lines p =
+    lines_of (seat_number p.seat) (plain lines) ≡ lines_of (seat_number p.seat) (plain (seat_seen p.seat))
 
 -- the place j has the seat and the ledger p
 abbrev pub HasAt : List (Option Place) → ℕ → Place → Type 0

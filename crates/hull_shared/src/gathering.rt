@@ -6,6 +6,8 @@ ghost use Rattle.ticket_lock.specs.Tokens.{seat_count, IsSeatOf, AreNumbered, se
 ghost use Rattle.hull_book.specs.Books.{IsLawful};
 ghost use Rattle.hull_book.specs.Ledgers.{IsLedgerOf};
 ghost use Rattle.hull_pool.specs.Work.{lines_of};
+ghost use Rattle.hull_book.specs.LongBooks.{whole};
+ghost use Rattle.hull_book.specs.Marks.{plain};
 ghost use Rattle.hull_tree.specs.Sets.{hull_tree};
 ghost use Rattle.hull_shared.specs.DeskBooks.{desk_head};
 ghost use Rattle.hull_shared.specs.Locks.{boxed_head, head_of, seats_of};
@@ -20,12 +22,12 @@ pub(crate) fn gather_seats(lock: DeskLock, seats: Vec<DeskSeat>, ledgers: Vec<Le
     requires all { (vec_len seats ≡ seat_count lock) × (seat_count lock ≡ seats_of lock) }
     requires own { All (IsSeatOf boxed_head lock) seats.items }
     requires numbered { AreNumbered seats.items }
-    requires ledgers { AllZip (λ s l. IsLedgerOf (seat_number s) (seat_seen s) l) seats.items ledgers.items }
-    ensures lawful { IsLawful hull_tree result.book.whole }
+    requires ledgers { AllZip (λ s l. IsLedgerOf (seat_number s) (plain (seat_seen s)) l) seats.items ledgers.items }
+    ensures lawful { IsLawful hull_tree (whole result.book) }
     ensures head { desk_head result ≡ head_of lock }
-    ensures seen { All (λ s. IsPrefix (seat_seen s) result.book.whole.lines) seats.items }
-    ensures own_lines { All (λ s. lines_of (seat_number s) result.book.whole.lines
-        ≡ lines_of (seat_number s) (seat_seen s)) seats.items }
+    ensures seen { All (λ s. IsPrefix (seat_seen s) result.book.lines) seats.items }
+    ensures own_lines { All (λ s. lines_of (seat_number s) (plain result.book.lines)
+        ≡ lines_of (seat_number s) (plain (seat_seen s))) seats.items }
 {
     let book = Box::into_inner(lock.close(seats));
     let _sum = book.gather(ledgers);

@@ -44,6 +44,7 @@ mod closing;
 mod desk;
 mod draining;
 mod gathering;
+mod law;
 mod lending;
 mod limits;
 mod lock;
@@ -58,9 +59,12 @@ mod reopening;
 mod seat;
 mod serving;
 mod setting_up;
+#[cfg(test)]
+mod tests;
 
 use desk::Desk;
 use hull_reply::{HullPoint, HullReply};
+pub use law::{answers_at_desks_are_of_lines, headline_holds_of_desks};
 pub use looking::SeatReply;
 use part::Part;
 use seat::SharedSeat;

@@ -3,6 +3,7 @@ ghost use Rattle.std.specs.Prelude.{◌≡◌, ◌≤◌, ℕ, [], All, IsSome, 
 ghost use mathlib.Core.List.{IsPrefix};
 ghost use Rattle.hull_book.specs.Books.{IsLawful};
 ghost use Rattle.hull_book.specs.Ledgers.{AreLedgers};
+ghost use Rattle.hull_book.specs.LongBooks.{whole};
 ghost use Rattle.hull_tree.specs.Sets.{hull_tree};
 ghost use Rattle.hull_shared.specs.DeskBooks.{desk_head};
 ghost use Rattle.hull_shared.specs.Locks.{book_of, boxed_head, head_of, seats_of};
@@ -26,14 +27,14 @@ pub(crate) fn lay_out(
     requires all { (vec_len seats ≡ seat_count lock) × (seat_count lock ≡ seats_of lock) }
     requires own { All (IsSeatOf boxed_head lock) seats.items }
     requires numbers { AreNumbered seats.items }
-    requires seen { All (λ s. seat_seen s ≡ (book_of lock).book.whole.lines) seats.items }
-    requires ledgers { AreLedgers (book_of lock).book.whole ledgers.items }
+    requires seen { All (λ s. seat_seen s ≡ (book_of lock).book.lines) seats.items }
+    requires ledgers { AreLedgers (whole (book_of lock).book) ledgers.items }
     requires room { (list.items ≡ []) × (vec_len seats ≤ vec_capacity list) }
     ensures lock { result.0 ≡ lock }
     ensures laid_out { AreLaidOut lock (seat_count lock) result.1 }
     ensures all_in { All IsSome result.1.list.items }
     ensures all_seen { (j : ℕ) (p : PlaceValue) → HasAt result.1.list.items j p
-        → seat_seen p.seat ≡ (book_of lock).book.whole.lines }
+        → seat_seen p.seat ≡ (book_of lock).book.lines }
 {
     while let Some(seat) = seats.pop() {
         let ledger = ledgers.pop().unwrap();
@@ -52,12 +53,12 @@ pub(crate) fn lay_out(
 pub(crate) fn close_lock(lock: DeskLock, places: Places) -> DeskBook
     requires laid_out { AreLaidOut lock (seat_count lock) places }
     requires all_in { All IsSome places.list.items }
-    ensures lawful { IsLawful hull_tree result.book.whole }
+    ensures lawful { IsLawful hull_tree (whole result.book) }
     ensures head { desk_head result ≡ head_of lock }
     ensures seen { (j : ℕ) (p : PlaceValue) → HasAt places.list.items j p → IsPrefix (seat_seen p.seat)
-        result.book.whole.lines }
+        result.book.lines }
     ensures own_lines { (j : ℕ) (p : PlaceValue) → HasAt places.list.items j p → HasOwnLines
-        result.book.whole.lines p }
+        result.book.lines p }
 {
     let Places {
         mut list,

@@ -2,6 +2,7 @@
 ghost use Rattle.std.specs.Prelude.{◌≡◌, ◌<◌};
 ghost use Rattle.ticket_lock.specs.Tokens.{IsSeatOf, IsTicketOf, seat_number, seat_seen, ticket_seat, ticket_seen};
 ghost use Rattle.hull_book.specs.Ledgers.{IsLedgerOf};
+ghost use Rattle.hull_book.specs.Marks.{plain};
 ghost use Rattle.hull_shared.specs.Locks.{boxed_head, capacity_of, lock_of, seats_of};
 
 use crate::lock::{DeskSeat, DeskTicket, SharedLock};
@@ -19,7 +20,7 @@ pub(crate) struct IdleSeat {
     ghost numbered: { seat_number seat ≡ number },
     ghost holds: { capacity ≡ capacity_of (lock_of lock) },
     ghost below: { number < seats_of (lock_of lock) },
-    ghost counts: { IsLedgerOf number (seat_seen seat) ledger },
+    ghost counts: { IsLedgerOf number (plain (seat_seen seat)) ledger },
 }
 
 /// A seat with a number, and the call that it is to make.
@@ -34,7 +35,7 @@ pub(crate) struct WaitingSeat {
     ghost numbered: { ticket_seat ticket ≡ number },
     ghost holds: { capacity ≡ capacity_of (lock_of lock) },
     ghost below: { number < seats_of (lock_of lock) },
-    ghost counts: { IsLedgerOf number (ticket_seen ticket) ledger },
+    ghost counts: { IsLedgerOf number (plain (ticket_seen ticket)) ledger },
 }
 
 /// A room for a seat.

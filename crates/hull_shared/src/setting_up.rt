@@ -2,6 +2,7 @@
 ghost use Rattle.std.specs.Prelude.{◌≡◌, All, IfOk, IsSome, box_value, vec_len};
 ghost use Rattle.hull_book.specs.Books.{IsLawful};
 ghost use Rattle.hull_book.specs.Ledgers.{AreLedgers};
+ghost use Rattle.hull_book.specs.LongBooks.{whole};
 ghost use Rattle.hull_tree.specs.Sets.{hull_tree};
 ghost use Rattle.hull_shared.specs.Desks.{IsDeskRound};
 ghost use Rattle.hull_shared.specs.Locks.{book_of, boxed_head, capacity_of, lock_of};
@@ -33,8 +34,8 @@ fn boxed(
     book: DeskBook,
     ledgers: Vec<Ledger>,
 ) -> Result<(Box<DeskBook>, Vec<Ledger>), NoMemory>
-    requires lawful { IsLawful hull_tree book.book.whole }
-    requires ledgers { AreLedgers book.book.whole ledgers.items }
+    requires lawful { IsLawful hull_tree (whole book.book) }
+    requires ledgers { AreLedgers (whole book.book) ledgers.items }
     ensures { IfOk result (λ r. (box_value r.0 ≡ book) × (r.1 ≡ ledgers)) }
 {
     match Box::new(alloc, book) {
@@ -53,14 +54,14 @@ fn new_lock(
     ledgers: Vec<Ledger>,
     seats: u8,
 ) -> Result<NewLock, NoMemory>
-    requires lawful { IsLawful hull_tree (box_value book).book.whole }
-    requires ledgers { AreLedgers (box_value book).book.whole ledgers.items }
+    requires lawful { IsLawful hull_tree (whole (box_value book).book) }
+    requires ledgers { AreLedgers (whole (box_value book).book) ledgers.items }
     ensures book { IfOk result (λ r. book_of r.lock ≡ box_value book) }
     ensures count { IfOk result (λ r. (vec_len r.seats ≡ seat_count r.lock) × (seat_count r.lock ≡ seats)) }
     ensures own { IfOk result (λ r. All (IsSeatOf boxed_head r.lock) r.seats.items) }
     ensures numbers { IfOk result (λ r. AreNumbered r.seats.items) }
-    ensures seen { IfOk result (λ r. All (λ s. seat_seen s ≡ (book_of r.lock).book.whole.lines) r.seats.items) }
-    ensures ledgers { IfOk result (λ r. AreLedgers (book_of r.lock).book.whole r.ledgers.items) }
+    ensures seen { IfOk result (λ r. All (λ s. seat_seen s ≡ (book_of r.lock).book.lines) r.seats.items) }
+    ensures ledgers { IfOk result (λ r. AreLedgers (whole (book_of r.lock).book) r.ledgers.items) }
 {
     match TicketLock::open(alloc, book, seats) {
         Ok((lock, seats)) => Ok(NewLock {
@@ -113,10 +114,10 @@ pub(crate) fn set_up(
     seats: u8,
     capacity: u32,
 ) -> Result<OpenDesk, NoMemory>
-    requires lawful { IsLawful hull_tree book.book.whole }
-    requires ledgers { AreLedgers book.book.whole ledgers.items }
-    requires seats { seats ≡ book.book.whole.head.workers }
-    requires capacity { capacity ≡ book.book.capacity }
+    requires lawful { IsLawful hull_tree (whole book.book) }
+    requires ledgers { AreLedgers (whole book.book) ledgers.items }
+    requires seats { seats ≡ book.book.head.workers }
+    requires capacity { capacity ≡ book.book.head.journal.capacity }
     ensures { IfOk result (IsDeskRound book seats) }
 {
     let (book, ledgers) = boxed(alloc, book, ledgers)?;

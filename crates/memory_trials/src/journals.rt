@@ -4,6 +4,7 @@ ghost use Rattle.hull_set.specs.Held.{nothing_held};
 ghost use Rattle.hull_book.specs.Books.{IsGoneOnFrom, IsLawful};
 ghost use Rattle.hull_book.specs.declared.limits.TheConstants.{SEAT_LIMIT};
 ghost use Rattle.hull_book.specs.Ledgers.{AreLedgers};
+ghost use Rattle.hull_book.specs.LongBooks.{whole};
 
 use crate::books::{give_up, journal_of};
 use crate::findings::Findings;
@@ -118,13 +119,13 @@ fn serve_long<S: HullSet + Drop>(
     ledgers: &mut Vec<Ledger>,
     call: Call,
 ) -> Answer
-    requires lawful { IsLawful S.HullSet book.old.whole }
-    requires ledgers { AreLedgers book.old.whole ledgers.old.items }
+    requires lawful { IsLawful S.HullSet (whole book.old) }
+    requires ledgers { AreLedgers (whole book.old) ledgers.old.items }
     requires some { 1 ≤ length ledgers.old.items }
-    ensures lawful { IsLawful S.HullSet book.new.whole }
-    ensures ledgers { AreLedgers book.new.whole ledgers.new.items }
+    ensures lawful { IsLawful S.HullSet (whole book.new) }
+    ensures ledgers { AreLedgers (whole book.new) ledgers.new.items }
     ensures number { length ledgers.new.items ≡ length ledgers.old.items }
-    ensures room { book.new.capacity ≡ book.old.capacity }
+    ensures room { book.new.head.journal.capacity ≡ book.old.head.journal.capacity }
 {
     book.serve(0, call, &mut ledgers[0])
 }
@@ -136,12 +137,12 @@ fn drain<S: HullSet + Drop>(
     call: Call,
     room: Room,
 ) -> Option<(Reply, Journal)>
-    requires lawful { IsLawful S.HullSet book.old.whole }
-    requires ledgers { AreLedgers book.old.whole ledgers.old.items }
+    requires lawful { IsLawful S.HullSet (whole book.old) }
+    requires ledgers { AreLedgers (whole book.old) ledgers.old.items }
     requires some { 1 ≤ length ledgers.old.items }
-    requires room { book.old.capacity ≤ room }
-    ensures lawful { IsLawful S.HullSet book.new.whole }
-    ensures ledgers { AreLedgers book.new.whole ledgers.new.items }
+    requires room { book.old.head.journal.capacity ≤ room }
+    ensures lawful { IsLawful S.HullSet (whole book.new) }
+    ensures ledgers { AreLedgers (whole book.new) ledgers.new.items }
 {
     match book.drain(0, call, &mut ledgers[0], room) {
         Ok(drained) => Some(drained),
@@ -174,8 +175,8 @@ fn give_up_long<S: HullSet + Drop>(
     part: Option<Journal>,
     findings: &mut Findings,
 )
-    requires lawful { IsLawful S.HullSet book.whole }
-    requires ledgers { AreLedgers book.whole ledgers.items }
+    requires lawful { IsLawful S.HullSet (whole book) }
+    requires ledgers { AreLedgers (whole book) ledgers.items }
 {
     let seen = (book.drained(), book.turn(), book.lines().len());
     findings.expect(seen == (2, 9, 0), "the book goes on behind the part");

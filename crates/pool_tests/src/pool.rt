@@ -8,6 +8,7 @@ ghost use Rattle.hull_pool.specs.Runs.{MayRunAll};
 mod draining;
 mod gates;
 mod hostile;
+mod letting_go;
 mod refused;
 mod scripts;
 mod sharing;

@@ -23,3 +23,7 @@ returns-clause-in_order c = in_order drained (λ b lawful. lawful) c.partitioned
 
 pub returns-clause-ledgers : goal.returns-clause-ledgers
 returns-clause-ledgers c = ledgers drained (λ b lawful. lawful) c.partitioned_schedules_hold.ensures
+
+-- so it is of the lines of whatever book
+pub returns-clause-parts : goal.returns-clause-parts
+returns-clause-parts c = λ seats book opening now steps led free. c.parts_are_the_journal.ensures.journal _

@@ -4,6 +4,7 @@ ghost use Rattle.std.specs.List.{AllZip};
 ghost use Rattle.ticket_lock.specs.Tokens.{AreNumbered, IsSeatOf, opening_book, seat_count, seat_number, seat_seen};
 ghost use Rattle.hull_book.specs.Books.{IsLawful};
 ghost use Rattle.hull_book.specs.Ledgers.{IsLedgerOf};
+ghost use Rattle.hull_book.specs.Marks.{plain};
 ghost use Rattle.hull_plain.specs.Sets.{plain_set};
 ghost use Rattle.hull_pool.specs.Long.{IsSeatedLong, long_book_head};
 
@@ -209,7 +210,8 @@ fn dismiss(
     ensures members { members.new.items ≡ [] }
     ensures own { All (IsSeatOf long_book_head lock.now) seats.new.items }
     ensures numbered { AreNumbered seats.new.items }
-    ensures ledgers { AllZip (λ s l. IsLedgerOf (seat_number s) (seat_seen s) l) seats.new.items ledgers.new.items }
+    ensures ledgers { AllZip (λ s l. IsLedgerOf (seat_number s) (plain (seat_seen s)) l) seats.new.items
+        ledgers.new.items }
     ensures many { vec_len seats.new ≡ vec_len members.old }
 {
     while let Some(member) = members.pop() {

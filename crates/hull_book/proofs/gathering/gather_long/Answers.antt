@@ -1,6 +1,7 @@
 -- the counts sum to the length of the journal, and the journal has no more lines than its capacity
 use Rattle.std.proofs.Common.{◌∙◌, arith}
 use Rattle.hull_book.proofs.Counts.{all_counts}
+use Rattle.hull_book.proofs.Marks.{plain_length}
 use Rattle.hull_book.proofs.gathering.gather_long.Goals as goal
 
 pub sum_of-requires : goal.sum_of-requires
@@ -13,4 +14,4 @@ sum_of-requires g c =
     )
 
 pub returns-clause-length : goal.returns-clause-length
-returns-clause-length g c = c.sum_of.ensures ∙ all_counts _ _ c.requires.lawful c.requires.ledgers
+returns-clause-length g c = c.sum_of.ensures ∙ all_counts _ _ c.requires.lawful c.requires.ledgers ∙ plain_length _

@@ -5,6 +5,7 @@ use Rattle.std.specs.Mem.{manually_drop_value}
 use Rattle.std.specs.declared.mem.ManuallyDrop.{ManuallyDrop}
 use Rattle.std.proofs.lemmas.Option.{slice_get_read}
 use Rattle.hull_book.specs.Ledgers.{IsLedgerOf}
+use Rattle.hull_book.specs.Marks.{plain}
 use Rattle.ticket_lock.specs.Tokens.{IsSeatOf, seat_number, seat_seen}
 use Rattle.hull_shared.specs.Locks.{HullLock, boxed_head, capacity_of, lock_of, seats_of}
 use Rattle.hull_shared.specs.Places.{HasAt, IsAtHome}
@@ -29,7 +30,7 @@ invariant_of-idle c =
       holds = d.holds ∙ sym (ap (λ (l : HullLock). capacity_of l) same);
       below = subst (λ (l : HullLock). c.args.number < seats_of l) (sym same)
           (omega (arith, d.laid_out.workers, c.in-Some.ensures));
-      counts = subst (λ (k : ℕ). IsLedgerOf k (seat_seen p.seat) p.ledger) number is.counts;
+      counts = subst (λ (k : ℕ). IsLedgerOf k (plain (seat_seen p.seat)) p.ledger) number is.counts;
     }
 
 pub invariant_of-desk : goal.invariant_of-desk

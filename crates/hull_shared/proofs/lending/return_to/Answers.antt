@@ -3,6 +3,7 @@ use Rattle.std.proofs.Common.{◌≡◌, ℕ, Some, slice_get, length, refl, sym
 use Rattle.std.specs.Prelude.{Option, slice_set}
 use Rattle.std.proofs.lemmas.Option.{slice_get_read}
 use Rattle.hull_book.specs.Ledgers.{IsLedgerOf}
+use Rattle.hull_book.specs.Marks.{plain}
 use Rattle.ticket_lock.specs.Tokens.{IsSeatOf, seat_seen}
 use Rattle.hull_shared.specs.Locks.{HullLock, boxed_head, lock_of}
 use Rattle.hull_shared.specs.Places.{IsAtHome}
@@ -15,7 +16,7 @@ invariant_of-desk c =
     let d = c.args.desk in let i = c.args.idle in
     let is : IsAtHome (lock_of d.lock) d.seats c.in-Some.j (record { seat = i.seat; ledger = i.ledger }) = record {
       own = subst (λ (l : HullLock). IsSeatOf boxed_head l i.seat) c.requires i.own;
-      counts = subst (λ (k : ℕ). IsLedgerOf k (seat_seen i.seat) i.ledger) (sym i.numbered) i.counts;
+      counts = subst (λ (k : ℕ). IsLedgerOf k (plain (seat_seen i.seat)) i.ledger) (sym i.numbered) i.counts;
       home = omega (arith, i.numbered, c.from.ensures, c.in-Some.ensures);
     } in
     record {

@@ -9,6 +9,7 @@ use Rattle.hull_pool.proofs.Pushed.{numbered_push, zipped_push}
 use Rattle.ticket_lock.specs.Tokens.{IsSeatOf, seat_count, seat_number, seat_seen}
 use Rattle.ticket_lock.proofs.Gather.{all_push, at_place, front_of}
 use mathlib.Core.List.{IsPrefix}
+use Rattle.hull_book.specs.Marks.{plain}
 use Rattle.hull_shared.specs.Locks.{boxed_head}
 use Rattle.hull_shared.specs.Places.{HasAt, IsAtHome}
 use Rattle.hull_shared.specs.declared.place.Place.{Place}
@@ -48,7 +49,7 @@ loop-place-preserved c =
       numbers = numbered_push (λ s. seat_number s) seats c.push_reserved.new.self.items p.seat more inv.numbers number;
       counts = zipped_push
           (λ s k. IsLedgerOf (seat_number s)
-          (seat_seen s) k) seats c.push_reserved.new.self.items c.loop-place.ledgers.items
+          (plain (seat_seen s)) k) seats c.push_reserved.new.self.items c.loop-place.ledgers.items
           c.push_reserved-in-Some.new.self.items p.seat p.ledger more more2 inv.counts is.counts;
       left = λ j q at lt. get_before list c.in-Some.place j (Some q)
           (subst (λ (z : List (Option Place)). HasAt z j q) e (inv.left j q at (omega (arith, long)))) lt;
@@ -76,7 +77,7 @@ returns-clause-seen c = λ j p at.
     let none : length c.loop-place.list.items ≡ 0 =
     omega (arith, c.in_default.ensures.cases.0, c.loop-place.list.ok.0) in
     let back : (n - 1 - j) + j + 1 ≡ n = omega (arith, each, within, c.args.places.list.ok.0) in
-    at_place (λ s. IsPrefix (seat_seen s) c.gather_seats.result.book.whole.lines) c.loop-place.seats.items
+    at_place (λ s. IsPrefix (seat_seen s) c.gather_seats.result.book.lines) c.loop-place.seats.items
     (n - 1 - j) p.seat c.gather_seats.ensures.seen
     (inv.gathered (n - 1 - j) j p at (omega (arith, none)) back)
 
@@ -88,6 +89,6 @@ returns-clause-own_lines c = λ j p at.
     let none : length c.loop-place.list.items ≡ 0 =
     omega (arith, c.in_default.ensures.cases.0, c.loop-place.list.ok.0) in
     let back : (n - 1 - j) + j + 1 ≡ n = omega (arith, each, within, c.args.places.list.ok.0) in
-    at_place (λ s. lines_of (seat_number s) c.gather_seats.result.book.whole.lines ≡ lines_of (seat_number s) (seat_seen s))
+    at_place (λ s. lines_of (seat_number s) (plain c.gather_seats.result.book.lines) ≡ lines_of (seat_number s) (plain (seat_seen s)))
     c.loop-place.seats.items (n - 1 - j) p.seat c.gather_seats.ensures.own_lines
     (inv.gathered (n - 1 - j) j p at (omega (arith, none)) back)

@@ -2,6 +2,7 @@
 use Rattle.std.proofs.Common.{◌≡◌, ◌≤◌, ◌<◌, ◌+◌, ℕ, All, IsSome, Some, slice_get, length, vec_capacity}
 use Rattle.std.specs.List.{AllZip}
 use Rattle.hull_book.specs.Ledgers.{IsLedgerOf}
+use Rattle.hull_book.specs.Marks.{plain}
 use Rattle.hull_shared.specs.Locks.{boxed_head}
 use Rattle.hull_shared.specs.Places.{AreAtHome, HasAt}
 use Rattle.hull_shared.specs.declared.place.Place.{Place}
@@ -17,7 +18,7 @@ invariant-loop-place l = record {
   room : (seat_count l.lock ≤ vec_capacity l.seats) × (seat_count l.lock ≤ vec_capacity l.ledgers);
   own : All (IsSeatOf boxed_head l.lock) l.seats.items;
   numbers : AreNumbered l.seats.items;
-  counts : AllZip (λ s k. IsLedgerOf (seat_number s) (seat_seen s) k) l.seats.items l.ledgers.items;
+  counts : AllZip (λ s k. IsLedgerOf (seat_number s) (plain (seat_seen s)) k) l.seats.items l.ledgers.items;
   left : (j : ℕ) (p : Place) → HasAt l.fn.places.list.items j p → j < length l.list.items → HasAt l.list.items j p;
   gathered : (i j : ℕ) (p : Place) → HasAt l.fn.places.list.items j p → length l.list.items ≤ j
       → i + j + 1 ≡ seat_count l.lock → slice_get l.seats.items i ≡ Some p.seat;

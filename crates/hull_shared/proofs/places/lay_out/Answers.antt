@@ -3,9 +3,11 @@ use Rattle.std.proofs.Common.{rules, ◌≡◌, ◌+◌, ℕ, List, [], ◌∷�
 use Rattle.std.proofs.Common.{refl, sym, ap, subst, ◌∙◌, arith, length-append, inl, inr}
 use Rattle.std.specs.Prelude.{Option, option_to_list}
 use Rattle.hull_book.specs.Ledgers.{LedgerValue, IsLedger, count_of}
-use Rattle.hull_book.specs.declared.line.Line.{Line}
+use Rattle.hull_book.specs.declared.marked_line.MarkedLine.{MarkedLine}
 use Rattle.ticket_lock.specs.Tokens.{IsSeatOf, seat_count, seat_number, seat_seen}
 use Rattle.ticket_lock.proofs.Gather.{all_push, front_of, last_of}
+use Rattle.hull_book.specs.LongBooks.{whole}
+use Rattle.hull_book.specs.Marks.{plain}
 use Rattle.hull_shared.specs.Locks.{book_of, boxed_head}
 use Rattle.hull_shared.specs.Places.{HasAt, IsAtHome}
 use Rattle.hull_shared.specs.declared.place.Place.{Place}
@@ -32,16 +34,16 @@ loop-seat-preserved c =
     let number : seat_number s ≡ length seats =
     inv.numbers (length seats) s
     (subst (λ (z : List _). slice_get z (length seats) ≡ Some s) (sym e) (get_last seats s)) in
-    let own_ledger : IsLedger (book_of lock).book.whole (length ledgers) l =
+    let own_ledger : IsLedger (whole (book_of lock).book) (length ledgers) l =
     inv.ledgers (length ledgers) l
     (subst (λ (z : List LedgerValue). slice_get z (length ledgers) ≡ Some l) (sym e2) (get_last ledgers l)) in
-    let lines = (book_of lock).book.whole.lines in
+    let lines = (book_of lock).book.lines in
     let seen : seat_seen s ≡ lines = last_of (λ x. seat_seen x ≡ lines) c.loop-seat.seats.items seats s e inv.seen in
     let many : length ledgers ≡ length seats = omega (arith, inv.as_many) in
     let same : length ledgers ≡ seat_number s = many ∙ sym number in
-    let count : l.count ≡ count_of (seat_number s) (seat_seen s) =
-    own_ledger.count_is ∙ ap (λ (k : ℕ). count_of k lines) same
-    ∙ sym (ap (λ (xs : List Line). count_of (seat_number s) xs) seen) in
+    let count : l.count ≡ count_of (seat_number s) (plain (seat_seen s)) =
+    own_ledger.count_is ∙ ap (λ (k : ℕ). count_of k (plain lines)) same
+    ∙ sym (ap (λ (xs : List MarkedLine). count_of (seat_number s) (plain xs)) seen) in
     let home : IsAtHome lock n (length list) (record { seat = s; ledger = l }) = record {
       own = last_of (IsSeatOf boxed_head lock) c.loop-seat.seats.items seats s e inv.own;
       counts = (own_ledger.seat_is ∙ many ∙ sym number, count);

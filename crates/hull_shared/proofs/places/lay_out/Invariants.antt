@@ -1,6 +1,7 @@
 -- what is left of the seats and their ledgers is a front of them, and those behind it are laid out
 use Rattle.std.proofs.Common.{◌≡◌, ◌≤◌, ◌+◌, ℕ, All, IsSome, Some, slice_get, length, vec_len, vec_capacity}
 use Rattle.hull_book.specs.Ledgers.{LedgerValue, IsLedger}
+use Rattle.hull_book.specs.LongBooks.{whole}
 use Rattle.hull_shared.specs.Locks.{book_of, boxed_head}
 use Rattle.hull_shared.specs.Places.{AreAtHome, HasAt}
 use Rattle.hull_shared.specs.declared.place.Place.{Place}
@@ -11,15 +12,15 @@ abbrev pub invariant-loop-seat : goal.invariant-loop-seat
 invariant-loop-seat l = record {
   own : All (IsSeatOf boxed_head l.lock) l.seats.items;
   numbers : AreNumbered l.seats.items;
-  seen : All (λ s. seat_seen s ≡ (book_of l.lock).book.whole.lines) l.seats.items;
+  seen : All (λ s. seat_seen s ≡ (book_of l.lock).book.lines) l.seats.items;
   as_many : length l.ledgers.items ≡ length l.seats.items;
-  ledgers : (k : ℕ) (d : LedgerValue) → slice_get l.ledgers.items k ≡ Some d → IsLedger (book_of l.lock).book.whole k d;
+  ledgers : (k : ℕ) (d : LedgerValue) → slice_get l.ledgers.items k ≡ Some d → IsLedger (whole (book_of l.lock).book) k d;
   all : length l.list.items + length l.seats.items ≡ seat_count l.lock;
   room : (seat_count l.lock ≤ vec_capacity l.list) × (seat_count l.lock ≤ vec_capacity l.seats)
       × (seat_count l.lock ≤ vec_capacity l.ledgers);
   at_home : AreAtHome l.lock (seat_count l.lock) l.list.items;
   all_in : All IsSome l.list.items;
-  all_seen : (j : ℕ) (p : Place) → HasAt l.list.items j p → seat_seen p.seat ≡ (book_of l.lock).book.whole.lines;
+  all_seen : (j : ℕ) (p : Place) → HasAt l.list.items j p → seat_seen p.seat ≡ (book_of l.lock).book.lines;
 }
 
 abbrev pub decreases-loop-seat : goal.decreases-loop-seat

@@ -4,11 +4,12 @@ use Rattle.hull_book.specs.Books.{BookValue}
 use Rattle.hull_book.specs.Ledgers.{AreAllLedgers}
 use Rattle.hull_book.proofs.Counts.{all_in_order}
 use Rattle.hull_tree.specs.Sets.{LimitedTree}
+use Rattle.hull_book.specs.LongBooks.{whole}
 use Rattle.hull_shared.specs.DeskBooks.{DeskValue}
 use Rattle.hull_shared.proofs.setting_up.boxed.Goals as goal
 
 pub gather-none-requires-clause-ledgers : goal.gather-none-requires-clause-ledgers
 gather-none-requires-clause-ledgers c =
     subst (λ (b : BookValue LimitedTree). AreAllLedgers b c.args.ledgers.items)
-    (sym (ap (λ (d : DeskValue). d.book.whole) c.in-Err.ensures.value_returned))
-    (all_in_order c.args.book.book.whole c.args.ledgers.items c.requires.ledgers)
+    (sym (ap (λ (d : DeskValue). whole d.book) c.in-Err.ensures.value_returned))
+    (all_in_order (whole c.args.book.book) c.args.ledgers.items c.requires.ledgers)

@@ -1,0 +1,29 @@
+-- the law of the lock leads to a good world, which says each sentence of the whole journal
+use Rattle.hull_headline.proofs.Good.{first_come, one_holder, bridges, multiplicities, legal, in_order, ledgers}
+use Rattle.hull_shared.specs.Locks.{desk}
+use Rattle.hull_shared.proofs.law.headline_holds_of_desks.Goals as goal
+
+pub returns-clause-first_come : goal.returns-clause-first_come
+returns-clause-first_come c = first_come desk (λ b lawful. lawful) c.partitioned_schedules_hold.ensures
+
+pub returns-clause-one_holder : goal.returns-clause-one_holder
+returns-clause-one_holder c = one_holder desk (λ b lawful. lawful) c.partitioned_schedules_hold.ensures
+
+pub returns-clause-bridges : goal.returns-clause-bridges
+returns-clause-bridges c = bridges desk (λ b lawful. lawful) c.partitioned_schedules_hold.ensures
+
+pub returns-clause-multiplicities : goal.returns-clause-multiplicities
+returns-clause-multiplicities c = multiplicities desk (λ b lawful. lawful) c.partitioned_schedules_hold.ensures
+
+pub returns-clause-legal : goal.returns-clause-legal
+returns-clause-legal c = legal desk (λ b lawful. lawful) c.partitioned_schedules_hold.ensures
+
+pub returns-clause-in_order : goal.returns-clause-in_order
+returns-clause-in_order c = in_order desk (λ b lawful. lawful) c.partitioned_schedules_hold.ensures
+
+pub returns-clause-ledgers : goal.returns-clause-ledgers
+returns-clause-ledgers c = ledgers desk (λ b lawful. lawful) c.partitioned_schedules_hold.ensures
+
+-- so it is of the lines of whatever book
+pub returns-clause-parts : goal.returns-clause-parts
+returns-clause-parts c = λ seats book opening now steps led free. c.parts_are_the_journal.ensures.journal _

@@ -1,0 +1,35 @@
+//! What the laws of the lock say of a desk, over every list of single steps of its seats.
+ghost use Rattle.hull_headline.specs.Headline.{Always, AtMostOneHolds, FirstComeFirstServed, HasLegalJournal};
+ghost use Rattle.hull_headline.specs.Headline.{HoldsEachPointAsOften, IsInOrderOfNumbers, LedgersSumToLength};
+ghost use Rattle.hull_headline.specs.Headline.{PartsAndHeldAreTheJournal, StoresBridgesOfLivePoints, WheneverFree};
+ghost use Rattle.hull_pool.specs.Responses.{LongAnswersAreOfLines};
+ghost use Rattle.hull_shared.specs.Locks.{desk};
+
+use crate::book::DeskBook;
+use hull_book::parts_are_the_journal;
+use ticket_lock::{partitioned_schedules_are_linearizable, partitioned_schedules_hold};
+
+/// The headline (`hull_headline`) of the lock of a desk and its book, a clause for each of its sentences.
+pub fn headline_holds_of_desks()
+    ensures first_come { FirstComeFirstServed desk }
+    ensures one_holder { Always desk AtMostOneHolds }
+    ensures bridges { WheneverFree desk StoresBridgesOfLivePoints }
+    ensures multiplicities { WheneverFree desk HoldsEachPointAsOften }
+    ensures legal { WheneverFree desk HasLegalJournal }
+    ensures in_order { WheneverFree desk IsInOrderOfNumbers }
+    ensures ledgers { WheneverFree desk LedgersSumToLength }
+    ensures parts { PartsAndHeldAreTheJournal desk }
+{
+    partitioned_schedules_hold::<Box<DeskBook>>();
+    parts_are_the_journal();
+}
+
+/// Linearizability (Herlihy and Wing, 1990) of the calls that seats make at a desk: after every list of single steps, in
+/// which each seat that held the book had a call served, the whole journal is a legal history in which each call stands
+/// in its seat's name with the reply that it was answered with, in an order that keeps the order of calls that do not
+/// overlap.
+pub fn answers_at_desks_are_of_lines()
+    ensures { LongAnswersAreOfLines desk (λ head. head.book) }
+{
+    partitioned_schedules_are_linearizable::<Box<DeskBook>>();
+}

@@ -1,0 +1,66 @@
+//! Two seats on a book whose lines are let go: it has room for one line, and is never full.
+use super::{at, opened};
+use hull_book::{Answer, Call, Journal, Ledger, LongBook, Reply};
+use hull_plain::PlainSet;
+use hull_pool::{
+    LongLock, LongSeat, close_long_book, make_call_and_let_go, serve_let_go_and_hand_on,
+};
+use std::alloc::Global;
+use std::process::Abort;
+use std::sync::Wait;
+use std::test::Fail;
+use ticket_lock::{Look, TicketLock};
+
+// Has the call of seat 0 served, which takes a number and looks once.
+fn looks(
+    rt: &impl Abort,
+    lock: &LongLock<PlainSet>,
+    seat: LongSeat<PlainSet>,
+    call: Call,
+    ledger: &mut Ledger,
+) -> (LongSeat<PlainSet>, Answer) {
+    match lock.look(lock.take(seat)) {
+        Look::Entered(guard) => serve_let_go_and_hand_on(guard, 0, call, ledger),
+        Look::NotYet(_ticket) => panic!(rt; "the number is served"),
+    }
+}
+
+// Three calls of two seats: their answers, what is held then as a part, and how many have their line.
+fn all_let_go<R: Wait + Abort>(rt: &R, alloc: Global) -> (Vec<Answer>, Journal, u64) {
+    let (book, mut ledgers) = opened(rt, alloc, 7, 1, 2);
+    let Ok(book) = Box::new(alloc, LongBook::new(book)) else {
+        panic!(rt; "there is memory for the book")
+    };
+    let Ok((lock, mut seats)) = TicketLock::open(alloc, book, 2) else {
+        panic!(rt; "there is memory for the lock")
+    };
+    let one = seats.pop().unwrap();
+    let zero = seats.pop().unwrap();
+    let p = at(rt, 3, 4);
+    let (zero, added) = make_call_and_let_go(rt, &lock, zero, 0, Call::Add(p), &mut ledgers[0]);
+    let (one, counted) = make_call_and_let_go(rt, &lock, one, 1, Call::Count, &mut ledgers[1]);
+    let (zero, removed) = looks(rt, &lock, zero, Call::Remove(p), &mut ledgers[0]);
+    seats.push_reserved(zero);
+    seats.push_reserved(one);
+    let mut answers = Vec::new(alloc);
+    for answer in [added, counted, removed] {
+        assert!(rt; answers.push(answer).is_ok());
+    }
+    let (book, sum) = close_long_book(lock, seats, ledgers);
+    assert_eq!(rt; book.drained(), 3);
+    (answers, book.into_part(), sum)
+}
+
+#[test]
+fn lines_that_are_let_go_make_room(rt: HostRuntime) {
+    let (answers, part, sum) = all_let_go(&rt, rt.alloc());
+    let told = match &*answers {
+        [Ok(Reply::Added), Ok(Reply::PointCount(1)), Ok(Reply::Removed)] => true,
+        _ => false,
+    };
+    let left = (part.first(), part.lines().len());
+    drop(answers);
+    drop(part);
+    assert!(rt; told);
+    assert_eq!(rt; (left, sum), ((10, 0), 3));
+}
