@@ -55,7 +55,11 @@ fn all_let_go<R: Wait + Abort>(rt: &R, alloc: Global) -> (Vec<Answer>, Journal, 
 fn lines_that_are_let_go_make_room(rt: HostRuntime) {
     let (answers, part, sum) = all_let_go(&rt, rt.alloc());
     let told = match &*answers {
-        [Ok(Reply::Added), Ok(Reply::PointCount(1)), Ok(Reply::Removed)] => true,
+        [
+            Ok(Reply::Added),
+            Ok(Reply::PointCount(1)),
+            Ok(Reply::Removed),
+        ] => true,
         _ => false,
     };
     let left = (part.first(), part.lines().len());
