@@ -145,6 +145,19 @@ def try_clone(tries):
         data.write(byte)
 
 
+def try_page(tries):
+    """The released page runs from disk in a browser with no window: a click adds a point."""
+    browser = next((it for it in ("chromium", "chromium-browser") if shutil.which(it, path=tries.path)), None)
+    if not browser:
+        print("skipped: the page: there is no chromium")
+        return
+    flags = ["--headless=new", "--no-sandbox", "--disable-gpu", f"--user-data-dir={tries.room}/profile", "--virtual-time-budget=4000", "--dump-dom"]
+    page = kit.text_of(f"{tries.room}/clone/dist/web/index.html").replace("</html>", "<script type=module>page.deed(['add 0 0', 'add 8 0', 'add 8 6'])</script></html>")
+    tries.lay("page", index__html=page)
+    told = tries.run(browser, *flags, f"file://{tries.room}/page/index.html")[1]
+    tries.see("the page from disk, in Chromium", "3, 3 of them corners" in told and "<dd id=\"area\">24</dd>" in told, told[-400:])
+
+
 def try_install(tries):
     """What bin/install puts in place serves C, CMake, Meson, cargo and Python."""
     status, told = tries.run("bin/install", f"{tries.room}/prefix", at="clone")
@@ -220,6 +233,7 @@ def main():
     with tempfile.TemporaryDirectory() as room:
         tries = Tries(room)
         try_clone(tries)
+        try_page(tries)
         try_install(tries)
         try_packages(tries)
     print(f"{passed + tries.passed} passed, {len(faults) + tries.failed} failed")
