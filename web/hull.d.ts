@@ -76,7 +76,6 @@ export interface Questions {
     doubledArea(): bigint;
     /** Gives all its memory back; no call is served afterwards. What nothing refers to any more is freed sooner or later. */
     free(): void;
-    [Symbol.dispose](): void;
 }
 
 /** A hull of points, each held at least once. All questions are over the points held, each taken once. */

@@ -6,6 +6,7 @@ import { readFileSync, writeFileSync } from "node:fs";
 const file = (name) => new URL(name, import.meta.url);
 const code = ["heap.js", "hull.js", "journal.js", "page.js"]
     .map((name) => readFileSync(file(name), "utf8").replace(/^import .*\n/gm, "").replace(/^export /gm, ""))
+    .map((text) => text.replace(/^ *\/\*\*[^]*?\*\/\n/gm, "").replace(/^ *\/\/.*\n/gm, "")) // (comments stand in the files)
     .join("\n");
 // (the module with a 32-bit memory, which every engine runs)
 let wasm;

@@ -63,13 +63,14 @@ NODE = "import { load } from 'hullbook'; const { Hull } = await load(); const h 
 
 
 TYPED = """import { load, type Point } from 'hullbook';
-const { Hull } = await load();
-const hull = new Hull();
-hull.addAll([[0, 0], [10, 0], [10, 10]]);
-const corners: Point[] = hull.vertices();
-export const area: number | bigint = hull.doubledArea();
-export const place: "inside" | "on" | "outside" = hull.place(5, 5);
-export const first = corners[0];
+export async function first(): Promise<Point> {
+    const { Hull } = await load();
+    const hull = new Hull();
+    hull.addAll([[0, 0], [10, 0], [10, 10]]);
+    const corners: Point[] = hull.vertices(), area: bigint = hull.doubledArea();
+    const place: "inside" | "on" | "outside" = hull.place(5, 5);
+    return area > 0n && place === "on" ? corners[0] : [0, 0];
+}
 """
 
 
@@ -152,7 +153,7 @@ def try_page(tries):
         print("skipped: the page: there is no chromium")
         return
     flags = ["--headless=new", "--no-sandbox", "--disable-gpu", f"--user-data-dir={tries.room}/profile", "--virtual-time-budget=4000", "--dump-dom"]
-    page = kit.text_of(f"{tries.room}/clone/dist/web/index.html").replace("</html>", "<script type=module>page.deed(['add 0 0', 'add 8 0', 'add 8 6'])</script></html>")
+    page = kit.text_of(f"{tries.room}/clone/dist/web/index.html").replace("</html>", "<script>const wait = setInterval(() => globalThis.page && (clearInterval(wait), page.deed(['add 0 0', 'add 8 0', 'add 8 6'])), 50)</script></html>")
     tries.lay("page", index__html=page)
     told = tries.run(browser, *flags, f"file://{tries.room}/page/index.html")[1]
     tries.see("the page from disk, in Chromium", "3, 3 of them corners" in told and "<dd id=\"area\">24</dd>" in told, told[-400:])
