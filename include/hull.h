@@ -515,6 +515,18 @@ static inline hull_reply hull_is_outline_or_null(const hull_point *points, size_
 }
 #define hull_is_outline hull_is_outline_or_null
 
+/* Writes the corners of any points to the front of the array of `room` points, as an outline: those that hull_vertices writes of a hull
+ * which holds just these points. HULL_CORNERS; HULL_TOO_SMALL, where the caller may ask again with `number` points of room; or the array
+ * is as it was: HULL_OUT_OF_RANGE (of any of them), else HULL_TOO_MANY (more different points than HULL_LIMIT_MAX, or one of them more often
+ * than HULL_MULTIPLICITY_MAX) or HULL_NO_MEMORY. A room of `count` always suffices. Where the points are the corners of a convex polygon in
+ * their order, from whatever corner on and in either sense, it takes a few passes over them; else they are sorted. The arrays are
+ * those of hull_vertices and do not overlap. */
+hull_reply hull_outline_of(const hull_point *points, size_t count, hull_point *out, size_t room);
+static inline hull_reply hull_outline_of_or_null(const hull_point *points, size_t count, hull_point *out, size_t room) {
+    return hull_outline_of((const hull_point *)hull_array(points, count), count, (hull_point *)hull_array(out, room), room);
+}
+#define hull_outline_of hull_outline_of_or_null
+
 #ifdef __cplusplus
 }
 #endif

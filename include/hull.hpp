@@ -399,6 +399,15 @@ public:
         }
     }
 
+    // The outline of any points; Refusal::out_of_range, and too_many (as Hull::load refuses them).
+    static Outline of(const std::vector<Point> &points) {
+        Outline made;
+        made.corners_ = told::corners(64, [&](Point *out, std::size_t room) {
+            return hull_outline_of(points.data(), points.size(), out, room);
+        });
+        return made;
+    }
+
     const std::vector<Point> &corners() const noexcept { return corners_; }
 
     Place place(Point p) const { return told::place(hull_outline_place(data(), corners_.size(), p.x, p.y)); }

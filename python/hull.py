@@ -264,7 +264,8 @@ def _library() -> ctypes.CDLL:
         ("python_load", [at, at, size], _Reply), ("python_load_held", [at, at, size], _Reply),
         ("python_held_from", [at, whole, whole, at, size], _Reply), ("python_copy", [at, at], _Reply),
         ("python_limit", [at], _Reply), ("python_clear", [at], _Reply),
-        ("is_outline", [at, size], _Reply), ("outline_call", [at, size, number, whole, whole], _Reply),
+        ("is_outline", [at, size], _Reply), ("outline_of", [at, size, at, size], _Reply),
+        ("outline_call", [at, size, number, whole, whole], _Reply),
         ("outline_meets_segment", [at, size, whole, whole, whole, whole], _Reply),
         ("outline_apart", [at, size, whole, whole, whole, whole], _Reply),
         ("outline_nearest", [at, size, whole, whole], _Reply), ("outline_box", [at, size], _Reply),
@@ -836,13 +837,7 @@ class Hull(_Questions):
         return Outline(memoryview(flat).cast("B").cast("q", (len(flat) // 2, 2)) if flat else ())
 
     def _corner_array(self) -> "array[int]":
-        count = 64
-        while True:
-            room = array("q", (0, 0)) * count
-            told = self._ask(_LIBRARY.hull_python_vertices, room.buffer_info()[0], count)
-            if told.code != _Code.TOO_SMALL:
-                return room[:2 * told.number]
-            count = told.number + told.number // 8  # it may have more by then
+        return _written_corners(lambda out, room: self._ask(_LIBRARY.hull_python_vertices, out, room))
 
     def __len__(self) -> int:
         """How many different points there are."""
@@ -881,6 +876,18 @@ class Hull(_Questions):
         return len(codes) - codes.count(_Code.ABSENT)
 
 
+def _written_corners(write: Callable[[int, int], _Reply]) -> "array[int]":
+    """The coordinates of the corners that a call writes to an array, which may be too short for them."""
+    count = 64
+    while True:
+        room = array("q", (0, 0)) * count
+        told = write(room.buffer_info()[0], count)
+        _told(told.code)
+        if told.code != _Code.TOO_SMALL:
+            return room[:2 * told.number]
+        count = told.number + told.number // 8  # there may be more by then
+
+
 def _hull_of(items: Iterable[Item], limit: int) -> Hull:
     """The hull with these items."""
     hull = Hull(limit=limit)
@@ -905,6 +912,22 @@ class Outline(_Questions):
         _told(told.code)
         if told.number != 1:
             raise ValueError("the points are not the corners of a hull, in their order")
+
+    @classmethod
+    def of(cls, points: Any) -> Outline:
+        """The outline of any points, in whatever order; TooMany as `Hull.load` tells it.
+
+        Where they are the corners of a convex polygon in their order, from whatever corner on and in either sense, that takes
+        a few passes over them; else they are sorted.
+        """
+        flat = _flat(points)
+        count = len(flat) // 2
+        flat.extend((0, 0))  # so that no points have a place in memory, too
+        made = cls(())
+        write: Any = _LIBRARY.hull_outline_of
+        made._corners = _written_corners(functools.partial(write, flat.buffer_info()[0], count))
+        made._count = len(made._corners) // 2
+        return made
 
     def __reduce__(self) -> Any:
         return Outline, (self.vertices(),)

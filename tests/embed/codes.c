@@ -862,6 +862,79 @@ static void numbers(void) {
     }
 }
 
+/* whether hull_outline_of writes what a hull of these points has */
+static int is_outline_of(const hull_point *points, size_t count) {
+    enum { ROOM = 64 };
+    hull_point wanted[ROOM], got[ROOM];
+    hull_set *h = hull_new(ROOM);
+    memset(got, 5, sizeof got);
+    memset(wanted, 5, sizeof wanted);
+    hull_load(h, points, count);
+    hull_reply r = hull_vertices(h, wanted, ROOM), told = hull_outline_of(points, count, got, ROOM);
+    int same = number(told, HULL_CORNERS, r.number) && memcmp(wanted, got, sizeof got) == 0;
+    same &= r.number == 0 || number(hull_outline_of(points, count, got, (size_t)r.number - 1), HULL_TOO_SMALL, r.number);
+    hull_free(h);
+    return same && memcmp(wanted, got, sizeof got) == 0;
+}
+
+/* outlines of any points: rings from each corner on and in either sense, and points in any order */
+static void outlines_of_points(void) {
+    static const hull_point ring[] = {{-7, 2}, {-5, -6}, {1, -9}, {8, -3}, {9, 4}, {3, 10}, {-4, 9}};
+    const int64_t far = HULL_COORDINATE_MAX;
+    for (size_t count = 0; count <= 7; count++) {
+        for (size_t first = 0; first < count + (count == 0); first++) {
+            hull_point there[7], back[7];
+            for (size_t i = 0; i < count; i++) {
+                there[i] = ring[(first + i) % count], back[i] = ring[(first + count - i) % count];
+            }
+            CHECK(is_outline_of(there, count) && is_outline_of(back, count));
+        }
+    }
+    uint64_t seed = 88172645463325252u;
+    int same = 1;
+    for (int round = 0; round < 4000; round++) {
+        hull_point points[40];
+        seed ^= seed << 13, seed ^= seed >> 7, seed ^= seed << 17;
+        size_t count = seed % 41;
+        int64_t wide = 2 + (int64_t)(seed >> 20) % (round % 2 ? 5 : 40);
+        for (size_t i = 0; i < count; i++) {
+            seed ^= seed << 13, seed ^= seed >> 7, seed ^= seed << 17;
+            points[i].x = (int64_t)(seed % (uint64_t)wide), points[i].y = (int64_t)(seed / 1000 % (uint64_t)wide);
+        }
+        same &= is_outline_of(points, count);
+    }
+    CHECK(same);
+    /* a kind that no outline can be asked is told, whatever the numbers are */
+    for (uint32_t kind = 0; kind < 12; kind++) {
+        if (kind < HULL_KIND_PLACE || kind > HULL_KIND_AREA) {
+            CHECK(bare(hull_outline_call(ring, 7, kind, far + 1, 0), HULL_UNKNOWN_KIND));
+            CHECK(bare(hull_outline_call(ring, 7, kind, 0, 0), HULL_UNKNOWN_KIND));
+        }
+    }
+    hull_point out[4] = {{5, 5}}, widest[] = {{far, far}, {-far, far}, {-far, -far}, {far, -far}};
+    CHECK(is_outline_of(widest, 4));
+    widest[2].x = -far - 1;
+    CHECK(bare(hull_outline_of(widest, 4, out, 4), HULL_OUT_OF_RANGE) && out[0].x == 5);
+    CHECK(number(hull_outline_of(NULL, 0, NULL, 0), HULL_CORNERS, 0));
+    hull_point *often = calloc(HULL_MULTIPLICITY_MAX + 1, sizeof *often);
+    CHECK(number(hull_outline_of(often, HULL_MULTIPLICITY_MAX, out, 4), HULL_CORNERS, 1) && out[0].x == 0);
+    out[0].x = 5;
+    CHECK(bare(hull_outline_of(often, HULL_MULTIPLICITY_MAX + 1, out, 4), HULL_TOO_MANY) && out[0].x == 5);
+    free(often);
+    int refusals = 0;
+    for (int request = 0;; request++, refusals++) {
+        refused_from = request, asked = 0;
+        const hull_point inner[] = {{0, 0}, {4, 0}, {1, 1}, {0, 4}};
+        hull_reply r = hull_outline_of(inner, 4, out, 4);
+        refused_from = -1;
+        if (r.code == HULL_CORNERS) {
+            break;
+        }
+        CHECK(bare(r, HULL_NO_MEMORY) && out[0].x == 5);
+    }
+    CHECK(refusals > 3 && out[1].x == 4);
+}
+
 /* a hull of malloc's, and the names of codes */
 static void new_ones(void) {
     CHECK(hull_new(0) == NULL && hull_new(HULL_LIMIT_MAX + 1) == NULL);
@@ -947,6 +1020,7 @@ int main(int words, char **word) {
     numbers();
     bridges();
     outlines();
+    outlines_of_points();
     encounters();
     two_outlines();
     extents();

@@ -85,6 +85,10 @@ static void outlines() {
     CHECK(refuses(Refusal::out_of_range, [&] { outline.place({far + 1, 0}); }));
     CHECK(refuses(Refusal::out_of_range, [] { hull::Outline({{0, far + 1}}); }));
     CHECK(refuses(Refusal::no_outline, [] { hull::Outline({{1, 0}, {0, 0}}); }));
+    std::vector<Point> backward(square.rbegin(), square.rend());
+    CHECK(hull::Outline::of(backward).corners() == square && hull::Outline::of({}) == hull::Outline());
+    backward.push_back({5, 5});
+    CHECK(hull::Outline::of(backward).corners() == square && refuses(Refusal::out_of_range, [] { hull::Outline::of({{0, far + 1}}); }));
     CHECK(hull::Outline().place({0, 0}) == Place::outside && hull::Outline() == hull::Outline(std::vector<Point>()) && outline != hull::Outline());
 }
 

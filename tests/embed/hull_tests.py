@@ -268,6 +268,17 @@ class Calls(unittest.TestCase):
         self.assertRaises(ZeroDirection, outline.extreme, 0, 0)
         self.assertRaises(OutOfRange, outline.place, COORDINATE_LIMIT + 1, 0)
 
+    def test_outlines_of_points(self):
+        of, ring = hull_module.Outline.of, [(0, 0), (10, 0), (10, 10), (0, 10)]
+        for first in range(4):
+            turned = ring[first:] + ring[:first]
+            for points in (turned, turned[::-1], turned + [(5, 5)], turned * 2, columns(turned)):
+                self.assertEqual(list(of(points)), ring)
+        parabola = [(x * 7 % 500, (x * 7 % 500) ** 2) for x in range(500)]
+        self.assertEqual((list(of(parabola)), list(of([])), of([(1, 2)] * 65535)), (sorted(parabola), [], hull_module.Outline([(1, 2)])))
+        self.assertRaises(OutOfRange, of, [(0, COORDINATE_LIMIT + 1)])
+        self.assertRaises(TooMany, of, [(1, 2)] * 65536)
+
     def test_encounters(self):
         outline = hull_module.Outline([(0, 0), (10, 0), (10, 10), (0, 10)])
         self.assertTrue(outline.meets_segment(-5, 5, 5, 15))

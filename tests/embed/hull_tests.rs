@@ -169,6 +169,25 @@ fn two_outlines() {
 }
 
 #[test]
+fn outlines_of_points() {
+    let ring: Vec<Point> = square().vertices().unwrap().collect();
+    for first in 0..4 {
+        let mut turned = ring.clone();
+        turned.rotate_left(first);
+        assert_eq!(Outline::of_points(&turned).unwrap().corners(), ring);
+        turned.reverse();
+        assert_eq!(Outline::of_points(&turned).unwrap().corners(), ring);
+        turned.push(point(5, 5));
+        assert_eq!(Outline::of_points(&turned).unwrap().corners(), ring);
+    }
+    let parabola: Vec<Point> = (0..500).map(|i| point(i * 7 % 500, (i * 7 % 500) * (i * 7 % 500))).collect();
+    assert_eq!(Outline::of_points(&parabola).unwrap().corners().len(), 500);
+    assert_eq!(Outline::of_points(&[]).unwrap().corners(), []);
+    assert_eq!(Outline::of_points(&[point(0, COORDINATE_LIMIT + 1)]), Err(Fault::OutOfRange));
+    assert_eq!(Outline::of_points(&[point(1, 1); 65536]), Err(Fault::TooMany));
+}
+
+#[test]
 fn directions_of_floats() {
     let top = 1 << 39;
     let made = |dx, dy| direction_of(dx, dy).map(|made| (made.point, made.is_exact));

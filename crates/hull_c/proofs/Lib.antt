@@ -1,2 +1,3 @@
 pub mod Served
 pub mod InOrder
+pub mod CornersOf

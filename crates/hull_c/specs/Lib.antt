@@ -7,3 +7,4 @@ pub mod Loads
 pub mod Outlines
 pub mod Findings
 pub mod Pairs
+pub mod CornersOf

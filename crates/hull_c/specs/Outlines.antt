@@ -1,5 +1,5 @@
 -- What asking an outline comes to, in numbers.
-use Rattle.std.specs.Prelude.{◌≡◌, ◌≢◌, ◌⊎◌, ◌<◌, ℕ, ℤ, List, [], length, drop, min, slice_index_or, Result, Ok, Err}
+use Rattle.std.specs.Prelude.{◌≡◌, ◌≢◌, ◌⊎◌, ◌<◌, ◌≤◌, ℕ, ℤ, List, [], length, drop, min, slice_index_or, Result, Ok, Err}
 use Rattle.std.specs.List.{All}
 use Rattle.lattice.specs.Plane.{Pair}
 use Rattle.hull_set.specs.Held.{Held}
@@ -9,10 +9,11 @@ use Rattle.hull_set.specs.declared.call.Call.TheVariants.{Place, Tangents, Extre
 use Rattle.hull_set.specs.declared.reply.Reply.{Reply}
 use Rattle.hull_set.specs.declared.rules.Rules.TheVariants.{Counted}
 use Rattle.hull_outline.specs.Outlines.{IsOutlineOf, IsShortOutline}
-use Rattle.hull_reply.specs.Requests.{IsRequestOf}
+use Rattle.hull_reply.specs.Requests.{IsRequestOf, kind_number}
 use Rattle.hull_reply.specs.Told.{IsBare, IsNumber, Tells}
 use Rattle.hull_reply.specs.declared.code.Code.{Code}
 use Rattle.hull_reply.specs.declared.code.Code.TheVariants as code
+use Rattle.hull_reply.specs.declared.kind.Kind.TheVariants as kinds
 use Rattle.hull_reply.specs.declared.reply.HullReply.{HullReply}
 use Rattle.hull_reply.specs.declared.request.Request.{Request}
 use Rattle.hull_reply.specs.declared.request.Request.TheVariants as request
@@ -36,10 +37,17 @@ IsAskedOf corners (Ok (request.Call Vertices)) told = IsNumber code.Corners (len
 IsAskedOf corners (Ok _) told = IsBare code.UnknownKind told
 IsAskedOf corners (Err fault) told = IsBare fault told
 
--- what the kind of this number and two numbers ask for was asked of the corners
+-- the number of a kind that corners can be asked: from that of a place to that of the area
+abbrev pub IsOutlineKind : ℕ → Type 0
+IsOutlineKind kind = (kind_number kinds.Place ≤ kind) × (kind ≤ kind_number kinds.Area)
+
+-- what the kind of this number and two numbers ask for was asked of the corners; of another kind it is told that it is none,
+-- whatever the two numbers are
 abbrev pub IsOutlineAnswer : List Pair → ℕ → ℤ → ℤ → HullReply → Type 0
 IsOutlineAnswer corners kind x y told =
-    (asked : Result Request Code) × IsRequestOf kind x y asked × IsAskedOf corners asked told
+    (¬ IsOutlineKind kind × IsBare code.UnknownKind told)
+    ⊎ (IsOutlineKind kind
+    × ((asked : Result Request Code) × IsRequestOf kind x y asked × IsAskedOf corners asked told))
 
 -- what the request at i asks for was asked of the corners
 abbrev pub AnswersAt : List Pair → List HullRequest → ℕ → HullReply → Type 0

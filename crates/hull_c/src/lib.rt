@@ -16,6 +16,7 @@ ghost use Rattle.hull_reply.specs.Left.{leaves};
 ghost use Rattle.hull_reply.specs.Rooms.{room_alignment, room_size};
 ghost use Rattle.hull_reply.specs.Served.{IsAnswered};
 ghost use Rattle.hull_c.specs.Bridges.{AreBridges};
+ghost use Rattle.hull_c.specs.CornersOf.{TellsCornersOf};
 ghost use Rattle.hull_c.specs.Findings.{IsToldAlong, IsToldOf, TellsBox, TellsDiameter, TellsNearest, TellsParting};
 ghost use Rattle.hull_c.specs.Findings.{TellsWhether, TellsWidth};
 ghost use Rattle.hull_c.specs.Pairs.{TellsContains, TellsDistance, TellsLeastWidth, TellsMeets, TellsWitness};
@@ -30,6 +31,7 @@ ghost use Rattle.hull_c.specs.Calls.{AreCorners, IsCleared, IsFresh, IsLimitOf};
 mod bridges;
 mod calls;
 mod corners;
+mod corners_of;
 mod findings;
 mod held;
 mod load;
@@ -342,6 +344,18 @@ pub extern "C" fn hull_is_outline(alloc: Heap, points: &[HullPoint]) -> HullRepl
     ensures { TellsOutline points.now result }
 {
     outline::judge(alloc, points)
+}
+
+/// Writes the corners of any points to the front of the array, as [`hull_vertices`] those of a hull of them.
+#[unsafe(no_mangle)]
+pub extern "C" fn hull_outline_of(
+    alloc: Heap,
+    points: &[HullPoint],
+    out: &mut [HullPoint],
+) -> HullReply
+    ensures { TellsCornersOf points.now out.old out.new result }
+{
+    corners_of::corners_of(alloc, points, out)
 }
 
 /// How many bytes the room of a hull has.

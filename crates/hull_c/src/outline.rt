@@ -1,8 +1,8 @@
 //! Questions about an array of corners.
-ghost use Rattle.std.specs.Prelude.{◌≡◌, ◌<◌, length, Ok};
+ghost use Rattle.std.specs.Prelude.{◌≡◌, ◌↔◌, ◌<◌, IsTrue, length, Ok};
 ghost use Rattle.hull_outline.specs.Outlines.{IsShortOutline};
 ghost use Rattle.hull_outline.specs.Lent.{corners_of};
-ghost use Rattle.hull_c.specs.Outlines.{AnswersAt, AreOutlineAnswers, IsAllowedFor, IsAskedOf, IsOutlineAnswer, TellsOutline};
+ghost use Rattle.hull_c.specs.Outlines.{AnswersAt, AreOutlineAnswers, IsAllowedFor, IsAskedOf, IsOutlineAnswer, IsOutlineKind, TellsOutline};
 ghost use Rattle.hull_reply.specs.declared.request.Request.TheVariants as request;
 
 use super::load::points_of;
@@ -10,7 +10,7 @@ use super::requests::HullRequest;
 use heap::Heap;
 use hull_outline::Outline;
 use hull_reply::{
-    Code, HullPoint, HullReply, Request, extreme_reply, request_of, tangents_reply, told,
+    Code, HullPoint, HullReply, Kind, Request, extreme_reply, request_of, tangents_reply, told,
 };
 use hull_set::{Call, Reply};
 use lattice::{Direction, Point};
@@ -57,10 +57,20 @@ fn answer(outline: &Outline, call: Call) -> HullReply
     }
 }
 
+/// Whether corners can be asked for what a kind asks for.
+fn is_outline_kind(kind: u32) -> bool
+    ensures { IsTrue result ↔ IsOutlineKind kind }
+{
+    (Kind::Place as u32..=Kind::Area as u32).contains(&kind)
+}
+
 /// Asks an outline what a kind and two numbers ask for.
 fn answer_to(outline: &Outline, asked: HullRequest) -> HullReply
     ensures { IsOutlineAnswer (corners_of outline.now) asked.kind asked.x asked.y result }
 {
+    if !is_outline_kind(asked.kind) {
+        return HullReply::bare(Code::UnknownKind);
+    }
     match request_of(asked.kind, asked.x, asked.y) {
         Ok(Request::Call(call)) => answer(outline, call),
         Ok(Request::Multiplicity(_)) => HullReply::bare(Code::UnknownKind),

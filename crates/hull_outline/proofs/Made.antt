@@ -2,17 +2,18 @@
 use Rattle.std.proofs.Common.{◌≡◌, ℕ, suc, ◌+◌, ◌-◌, ◌<◌, List, [], ◌∷◌, length}
 use Rattle.std.proofs.Common.{get_or, inl, inr, refl, sym, ap, ◌∙◌, subst, arith}
 use Rattle.std.proofs.lemmas.Bool.{cases_lt}
-use Rattle.lattice.specs.Covers.{IsExtreme}
+use Rattle.lattice.specs.Covers.{IsExtreme, IsPointSet}
 use Rattle.lattice.specs.Plane.{Pair, IsBefore, turned_point}
-use Rattle.lattice.specs.Vertices.{IsLeftOf, GoesRound, IsInOrder}
+use Rattle.lattice.specs.Vertices.{IsLeftOf, GoesRound, IsInOrder, IsVertexList}
 use Rattle.lattice.proofs.Order.{before_irrefl, before_not, before_apart}
 use Rattle.lattice.proofs.TurnedBridges.{turned_twice}
 use Rattle.hull_geometry.specs.Edges.{IsUpperEdge, IsFirst}
 use Rattle.hull_geometry.proofs.Chains.{first_extreme, last_extreme, edge_corner, no_common_corner}
 use Rattle.lattice.specs.declared.side.Side.TheVariants.{Lower, Upper}
 use Rattle.hull_geometry.proofs.PointLists.{get_or_free}
+use Rattle.hull_geometry.proofs.PointSets.{same_set}
 use Rattle.hull_geometry.proofs.Rounding.{small_list}
-use Rattle.hull_outline.specs.Outlines.{IsOutline}
+use Rattle.hull_outline.specs.Outlines.{IsOutline, IsOwnOutline}
 use Rattle.hull_outline.specs.Rounds.{corner, IsRound, IsParted}
 use Rattle.hull_outline.proofs.Convex.{later_after}
 use Rattle.hull_outline.proofs.Corners.{corner_there, corner_of}
@@ -113,29 +114,41 @@ made_order V (v ∷ rest) top q r =
           (after_first (v ∷ rest) top (suc k) along (omega arith) (omega (arith, l))),
     )
 
+-- a round of corners is the vertex list of its set
+made_list : (V : List Pair) (top : ℕ) → IsRound V top → IsVertexList (set_of V) V
+made_list V top r = record {
+  distinct = λ i j d h n e. made_apart V top i j r h n
+      (get_or_free V i _ d (omega (arith, h, n)) ∙ e ∙ get_or_free V j d _ n);
+  members = λ p. (
+    λ m. let c = corner_of V p m in subst (IsExtreme (set_of V)) (sym c.2) (made_extreme V top c.0 r c.1),
+    λ x. set_among V p x.0,
+  );
+  order = made_order V V top refl r;
+}
+
 -- a round of corners is an outline
 pub round_is_outline : (V : List Pair) (top : ℕ) → IsRound V top → IsOutline V
-round_is_outline V top r = (
-  set_of V,
-  (
-    set_ordered V,
-    record {
-      distinct = λ i j d h n e. made_apart V top i j r h n
-          (get_or_free V i _ d (omega (arith, h, n)) ∙ e ∙ get_or_free V j d _ n);
-      members = λ p. (
-        λ m. let c = corner_of V p m in subst (IsExtreme (set_of V)) (sym c.2) (made_extreme V top c.0 r c.1),
-        λ x. set_among V p x.0,
-      );
-      order = made_order V V top refl r;
-    },
-  ),
-)
+round_is_outline V top r = (set_of V, (set_ordered V, made_list V top r))
+
+-- a list of fewer than two points is a set
+small_set : (V : List Pair) → length V < 2 → IsPointSet V
+small_set V l = λ i j d h n. absurd (omega (arith, h, n, l))
 
 -- a list of fewer than two points is its own vertex list
 pub small_outline : (V : List Pair) → length V < 2 → IsOutline V
-small_outline V l = (V, (λ i j d h n. absurd (omega (arith, h, n, l)), small_list V l))
+small_outline V l = (V, (small_set V l, small_list V l))
 
 -- a list that is parted is an outline
 pub parted_is_outline : (V : List Pair) (last : ℕ) → IsParted V last → IsOutline V
 parted_is_outline V last p = elim (cases_lt (length V) 2)
     [ inl l ↦ small_outline V l | inr l ↦ round_is_outline V last (p.1 (omega (arith, l))) ]
+
+-- a list that is parted is the outline of the set that has just its points
+pub own_outline : (V : List Pair) (last : ℕ) → IsParted V last → IsOwnOutline V
+own_outline V last p S s m = elim (cases_lt (length V) 2) [
+  | inl l ↦ subst (λ (z : List Pair). IsVertexList z V)
+      (same_set V S (small_set V l) s (λ t k. (m t).1 k) (λ t k. (m t).0 k)) (small_list V l)
+  | inr l ↦ subst (λ (z : List Pair). IsVertexList z V)
+      (same_set (set_of V) S (set_ordered V) s (λ t k. (m t).1 (set_among V t k)) (λ t k. set_all V t ((m t).0 k)))
+      (made_list V last (p.1 (omega (arith, l))))
+]

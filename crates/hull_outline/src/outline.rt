@@ -22,15 +22,16 @@ pub struct Outline<'a> {
 }
 
 impl<'a> Outline<'a> {
-    ghost use Rattle.std.specs.Prelude.{◌≡◌, MatchOption};
-    ghost use Rattle.hull_outline.specs.Outlines.{IsShortOutline};
+    ghost use Rattle.std.specs.Prelude.{◌≡◌, IfSome, MatchOption};
+    ghost use Rattle.hull_outline.specs.Outlines.{IsOwnOutline, IsShortOutline};
     ghost use Rattle.hull_outline.specs.Lent.{corners_of};
 
     /// The outline of these corners, or nothing where they are not the corners of a set, or more than
     /// [`POINT_LIMIT`]. One pass, as [`is_outline`](crate::is_outline).
     pub fn new(corners: &'a [Point]) -> Option<Outline<'a>>
-        ensures { MatchOption result (¬ IsShortOutline corners.now)
+        ensures outline { MatchOption result (¬ IsShortOutline corners.now)
             (λ outline. (corners_of outline ≡ corners.now) × IsShortOutline corners.now) }
+        ensures own { IfSome result (λ _. IsOwnOutline corners.now) }
     {
         if corners.len() > POINT_LIMIT as usize {
             return None;

@@ -23,8 +23,7 @@ mod outline;
 mod raw;
 mod shared;
 
-use answer::fault_of;
-use raw::{code, kind, Reply};
+use raw::{kind, Reply};
 use std::alloc::{alloc, dealloc, Layout};
 use std::fmt;
 use std::ptr::NonNull;
@@ -340,23 +339,8 @@ impl Hull {
     }
 
     fn corners(&self) -> Result<Vec<Point>, Fault> {
-        let mut corners = Vec::new();
-        loop {
-            // SAFETY: as in `call`; the array is the vector's own, and all of it was written.
-            let reply = unsafe { raw::hull_vertices(self.room.as_ptr(), corners.as_mut_ptr(), corners.len()) };
-            let number = reply.number as usize;
-            match reply.code {
-                code::CORNERS => {
-                    corners.truncate(number);
-                    return Ok(corners);
-                }
-                code::TOO_SMALL => {
-                    corners.try_reserve_exact(number).map_err(|_| Fault::NoMemory)?;
-                    corners.resize(number, Point { x: 0, y: 0 });
-                }
-                other => return Err(fault_of(other)),
-            }
-        }
+        // SAFETY: as in `call`; the array is a slice's own, and all of it was written.
+        outline::written_corners(|out| unsafe { raw::hull_vertices(self.room.as_ptr(), out.as_mut_ptr(), out.len()) })
     }
 
     /// The outline that the hull has now, which any number of threads may ask at once.

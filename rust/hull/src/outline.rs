@@ -1,7 +1,7 @@
 //! The corners of a hull, which any number of threads ask at once.
 use crate::counted::Counted;
 use crate::exchange::asked_along;
-use crate::raw::{self, kind, Reply, Request};
+use crate::raw::{self, code, kind, Reply, Request};
 use crate::{answer, many};
 use crate::{Fault, Place, Point, NOWHERE};
 use std::fmt;
@@ -94,6 +94,26 @@ pub enum Distance {
     EdgeAndCorner([Point; 2], Point),
 }
 
+/// The corners that a call writes to an array, which may be too short for them.
+pub(crate) fn written_corners(write: impl Fn(&mut [Point]) -> Reply) -> Result<Vec<Point>, Fault> {
+    let mut corners = Vec::new();
+    loop {
+        let reply = write(&mut corners);
+        let number = reply.number as usize;
+        match reply.code {
+            code::CORNERS => {
+                corners.truncate(number);
+                return Ok(corners);
+            }
+            code::TOO_SMALL => {
+                corners.try_reserve_exact(number - corners.len()).map_err(|_| Fault::NoMemory)?;
+                corners.resize(number, NOWHERE);
+            }
+            other => return Err(answer::fault_of(other)),
+        }
+    }
+}
+
 impl Outline {
     /// The outline of these corners: counterclockwise from the first by x and then by y, and none inside an edge;
     /// [`Fault::NoOutline`] where they are not.
@@ -102,6 +122,17 @@ impl Outline {
         own.try_reserve_exact(corners.len()).map_err(|_| Fault::NoMemory)?;
         own.extend_from_slice(corners);
         Outline::of(own)
+    }
+
+    /// The outline of any points. [`Fault::OutOfRange`], and [`Fault::TooMany`] as [`Hull::load`](crate::Hull::load) tells it. Where
+    /// they are the corners of a convex polygon in their order, from whatever corner on and in either sense, it takes a few passes
+    /// over them; else they are sorted.
+    pub fn of_points(points: &[Point]) -> Result<Outline, Fault> {
+        let corners = written_corners(|out| {
+            // SAFETY: both arrays are slices' own and were written.
+            unsafe { raw::hull_outline_of(points.as_ptr(), points.len(), out.as_mut_ptr(), out.len()) }
+        })?;
+        Ok(Outline { corners: Counted::new(corners)? })
     }
 
     pub(crate) fn of(corners: Vec<Point>) -> Result<Outline, Fault> {

@@ -163,6 +163,7 @@ extern "C" {
     pub(crate) fn hull_limit(hull: *mut u8) -> Reply;
     pub(crate) fn hull_clear(hull: *mut u8) -> Reply;
     pub(crate) fn hull_is_outline(points: *const Point, count: usize) -> Reply;
+    pub(crate) fn hull_outline_of(points: *const Point, count: usize, out: *mut Point, room: usize) -> Reply;
     pub(crate) fn hull_outline_call(corners: *const Point, count: usize, kind: u32, x: i64, y: i64) -> Reply;
     pub(crate) fn hull_outline_calls(
         corners: *const Point,

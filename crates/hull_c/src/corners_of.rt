@@ -1,0 +1,105 @@
+//! The corners of any points, in an array of the caller's.
+ghost use Rattle.std.specs.Prelude.{◌≡◌, ◌<◌, ◌⊎◌, MatchOption, length, true};
+ghost use Rattle.hull_outline.specs.Outlines.{IsOwnOutline};
+ghost use Rattle.hull_c.specs.CornersOf.{AreCornersOf, AreTooManyOrRefused, HaveSamePoints};
+ghost use Rattle.hull_c.specs.CornersOf.{TellsCornersOf, WritesCornersOf};
+
+use super::load::points_of;
+use heap::Heap;
+use hull_outline::Outline;
+use hull_reply::{Code, HullPoint, HullReply, put_corners};
+use hull_set::{HullSet, POINT_LIMIT};
+use hull_tree::{LoadFault, SparingTree};
+use lattice::{Point, before};
+
+/// The place of a point before which no other stands, by x and then y.
+fn first_place(points: &[Point]) -> usize
+    requires { 0 < length points.now }
+    ensures { result < length points.now }
+{
+    let mut first = 0;
+    for i in 1..points.len() {
+        if before(points[i], points[first]) {
+            first = i;
+        }
+    }
+    first
+}
+
+/// Whether the points are an outline.
+fn are_outline(points: &[Point]) -> bool
+    ensures { result ≡ true → IsOwnOutline points.now }
+{
+    if let Some(_outline) = Outline::new(points) {
+        true
+    } else {
+        false
+    }
+}
+
+/// Turns a ring of points so that it begins with its first one, and goes round counterclockwise where it is convex; and
+/// tells whether it is an outline then.
+fn turn_to_outline(points: &mut Vec<Point, Heap>) -> bool
+    requires { 0 < length points.old.items }
+    ensures same { HaveSamePoints points.new.items points.old.items }
+    ensures corners { result ≡ true → AreCornersOf points.old.items points.new.items }
+{
+    let first = first_place(points);
+    points.rotate_left(first);
+    if are_outline(points) {
+        return true;
+    }
+    points.rotate_left(1);
+    points.reverse();
+    are_outline(points)
+}
+
+/// The corners of points that make a hull, by that hull.
+fn by_a_hull(alloc: Heap, points: &[Point], out: &mut [HullPoint]) -> HullReply
+    requires { 0 < length points.now }
+    ensures { WritesCornersOf points.now out.old out.new result
+        ⊎ AreTooManyOrRefused points.now out.old out.new result }
+{
+    let hull = match SparingTree::from_points(alloc, POINT_LIMIT, points) {
+        Ok(hull) => hull,
+        Err(LoadFault::TooMany) => return HullReply::bare(Code::TooMany),
+        Err(LoadFault::NoMemory) => return HullReply::bare(Code::NoMemory),
+    };
+    let Ok(corners) = hull.vertices() else {
+        return HullReply::bare(Code::NoMemory);
+    };
+    put_corners(&corners, out)
+}
+
+/// Writes the corners where the points are a ring of an outline; else tells nothing.
+fn by_their_ring(ring: &mut Vec<Point, Heap>, out: &mut [HullPoint]) -> Option<HullReply>
+    requires { 0 < length ring.old.items }
+    ensures { MatchOption result (out.new ≡ out.old) (λ told. WritesCornersOf ring.old.items out.old out.new told) }
+{
+    if turn_to_outline(ring) {
+        Some(put_corners(ring, out))
+    } else {
+        None
+    }
+}
+
+/// Writes the corners of the points to the front of the array, if it has room for all of them. Where the points are a ring
+/// of an outline, from whatever corner on and in either sense, that takes a few passes, and else a hull of them is built.
+pub(crate) fn corners_of(alloc: Heap, array: &[HullPoint], out: &mut [HullPoint]) -> HullReply
+    ensures { TellsCornersOf array.now out.old out.new result }
+{
+    if array.is_empty() {
+        return put_corners(&[], out);
+    }
+    let mut points = match points_of(alloc, array) {
+        Ok(points) => points,
+        Err(fault) => return HullReply::bare(fault),
+    };
+    if let Some(told) = by_their_ring(&mut points, out) {
+        return told;
+    }
+    match points_of(alloc, array) {
+        Ok(points) => by_a_hull(alloc, &points, out),
+        Err(fault) => HullReply::bare(fault),
+    }
+}
