@@ -165,6 +165,8 @@ export interface Library {
     Outline: {
         /** The outline of corners as `vertices` tells them. NoOutline, OutOfRange, NoMemory. */
         new (corners: Points): Outline;
+        /** The outline of any points, in any order. TooMany, OutOfRange, NoMemory. */
+        of(points: Points): Outline;
     };
 }
 

@@ -648,6 +648,16 @@ function classesOf(instance) {
         constructor(corners) {
             super(instance, corners);
         }
+
+        static of(points) {
+            const coordinates = flat(points), array = instance.placed(coordinates);
+            try {
+                const count = instance.filled(POINT.size, "hull_outline_of", BigInt(array), BigInt(coordinates.length / 2));
+                return new Outline(instance.points(instance.out.at, count));
+            } finally {
+                instance.heap.give(array);
+            }
+        }
     }
     class Hull extends HullOfInstance {
         constructor(limit = POINT_LIMIT) {

@@ -231,6 +231,9 @@ await tried("outlines beside one another", () => {
         assert.deepEqual(ours.extremeAll([[1, 0], [0, -1]]), [ours.extreme(1, 0), ours.extreme(0, -1)]);
         assert.deepEqual(ours.tangentsAll([[9, 9], [0, 0]]), [ours.tangents(9, 9), ours.tangents(0, 0)]);
         if (a.length === 1) assert.equal(ours.leastWidth(), null);
+        const any = Outline.of([...one.held().map((it) => it.point)].reverse());
+        assert.deepEqual(any.vertices(), a);
+        any.free();
         for (const it of [ours, theirs, one, two]) it.free();
         compared++;
     }
