@@ -12,7 +12,7 @@ returns-clause-served g c =
     let same : c.deref_mut.result.now ≡ box_value (guard_book c.args.guard) = cc in
     subst (λ (b : LongValue _). HasServedLong b.head.journal false (guard_number c.args.guard) c.args.number c.args.call
     b.lines (seat_seen c.hand_on-seat.result) c.serve-answer.result) same
-    (call_served g.S.HullSet false c.serve-answer.result c.deref_mut.result.now c.serve-answer.new.self c.args.number
+    (call_served g.S.HullSet false c.serve-answer.result c.deref_mut.result.now _ c.args.number
     (guard_number c.args.guard) c.args.call _ (seat_seen c.hand_on-seat.result)
     (subst (λ (b : LongValue _). IsLawful g.S.HullSet (whole b)) (sym same) c.requires.lawful)
     c.serve-answer.ensures.lawful (ap (λ (b : LongValue _). b.turn) same ∙ c.requires.turn)
