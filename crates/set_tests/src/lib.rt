@@ -1,8 +1,12 @@
-//! Tests of the plane, of both sets and of the questions, over what these crates show everybody.
+//! Tests of the plane, of both sets, of buckets and of the questions, over what these crates show everybody.
 //!
 //! They stand in a crate of their own, so that the crates that they try are proved once.
 #![tactic(auto)]
 
+#[cfg(test)]
+mod buckets;
+#[cfg(test)]
+mod numbers;
 #[cfg(test)]
 mod plain;
 #[cfg(test)]

@@ -1,5 +1,6 @@
 //! The tree and the plain set under the same changes and questions.
 use super::at;
+use crate::numbers::{Numbers, centred};
 use hull_plain::PlainSet;
 use hull_set::{HullSet, POINT_LIMIT};
 use hull_tree::{HullTree, Node};
@@ -7,29 +8,6 @@ use lattice::{Direction, Point, before};
 use std::alloc::{AllocError, Global};
 use std::process::Abort;
 use std::test::Fail;
-
-/// Pseudo-random numbers: r becomes 1103515245 r + 12345 modulo 2^31, and gives its bits but for the last 16.
-#[derive(Drop)]
-pub(super) struct Numbers {
-    r: u32,
-}
-
-impl Numbers {
-    /// From the seed 1.
-    pub(super) fn new() -> Numbers {
-        Numbers { r: 1 }
-    }
-
-    pub(super) fn next(&mut self) -> u32 {
-        self.r = ((1103515245 * self.r as u64 + 12345) % 2147483648) as u32;
-        self.r / 65536
-    }
-}
-
-/// The coordinate of a number below `2 * half + 1`, as far from 0 as `half` at most.
-pub(super) fn centred(number: u32, half: u32) -> i64 {
-    number as i64 - half as i64
-}
 
 /// Puts the points below a node, each with how often it is held, behind others, from left to right.
 fn push_points(points: &mut Vec<(Point, u32)>, node: &Node) -> Result<(), AllocError> {

@@ -1,7 +1,7 @@
 //! Points that are added many at a time, beside a plain set to which they are added one by one.
-use super::beside_plain::{Numbers, centred};
 use super::sparing::Sets;
 use super::{add_again, at};
+use crate::numbers::{Numbers, centred};
 use hull_plain::PlainSet;
 use hull_set::{AddReply, HullSet, MULTIPLICITY_LIMIT, NoMemory, POINT_LIMIT};
 use hull_tree::{HullTree, LoadFault, SparingTree};

@@ -1,7 +1,7 @@
 //! Both trees and the plain set under the same changes, among them many points in line and many that are held twice.
 use super::at;
-use super::beside_plain::{Numbers, centred};
 use super::extends::are_entries;
+use crate::numbers::{Numbers, centred};
 use hull_plain::PlainSet;
 use hull_set::{AddReply, HullSet, NoMemory, POINT_LIMIT, RemoveReply};
 use hull_tree::{HullTree, LoadFault, SparingTree};

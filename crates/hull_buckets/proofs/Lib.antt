@@ -1,0 +1,12 @@
+pub mod Words
+pub mod Halvings
+pub mod RunTrees
+pub mod RunBridges
+pub mod Places
+pub mod Ends
+pub mod Steps
+pub mod Around
+pub mod Inserted
+pub mod Removed
+pub mod Rows
+pub mod Changed

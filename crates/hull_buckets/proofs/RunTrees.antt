@@ -1,0 +1,240 @@
+-- The tree of a run of corners: a point, or a fork over the trees of its halves.
+use Rattle.std.proofs.Common.{◌≡◌, ℕ, zero, suc, ◌+◌, ◌-◌, ◌^◌, ◌<◌, ◌≤◌, ◌⊎◌, inl, inr, sym, ap, ◌∙◌, subst, arith}
+use Rattle.std.proofs.Common.{refl}
+use Rattle.std.proofs.lemmas.Bool.{cases_lt}
+use Rattle.std.proofs.lemmas.Nat.Bits.{bit_at_above}
+use Rattle.std.specs.Int.{bit_at}
+use Rattle.std.specs.Prelude.{max}
+use Rattle.lattice.specs.Plane.{Pair}
+use Rattle.lattice.specs.declared.side.Side.TheVariants.{Lower, Upper}
+use Rattle.bridge_search.specs.Trees.{Tree, Leaf, Fork, On, IsFork, first_of, last_of, height_of}
+use Rattle.hull_geometry.specs.Positions.{point_at}
+use Rattle.hull_buckets.specs.Buckets.{BucketValue}
+use Rattle.hull_buckets.specs.Masks.{lowest_of, highest_of}
+use Rattle.hull_buckets.specs.Runs.{width_of, parting_of, left_run, right_run, edge_of_run, tree_by, tree_to}
+use Rattle.hull_buckets.specs.Runs.{tree_of_run}
+use Rattle.hull_buckets.proofs.Words.{power_le}
+use Rattle.hull_buckets.proofs.Halvings.{lowest_to_highest, lowest_set, bit_from, bit_to}
+use Rattle.hull_buckets.proofs.Halvings.{left_some, left_fits, left_lowest, left_narrow, left_bit, left_bit_of}
+use Rattle.hull_buckets.proofs.Halvings.{right_some, right_fits, right_highest, right_narrow, right_bit, right_bit_of}
+
+-- ---- depths that are enough
+
+-- a run has one place or several
+pub one_or_several : (run : ℕ) → 0 < run → run < 2 ^ 64 → (lowest_of run ≡ highest_of run) ⊎ (lowest_of run <
+    highest_of run)
+one_or_several run s f = elim (cases_lt (lowest_of run) (highest_of run)) [
+  | inl l ↦ inr l
+  | inr l ↦ inl (let h = lowest_to_highest run s f in omega (arith, l, h))
+]
+
+-- a tree to one depth is the tree to another, where both are enough
+pub enough : (n m : ℕ) (b : BucketValue) (run : ℕ) → 0 < run → run < 2 ^ 64 → width_of run ≤ n → width_of run ≤ m
+    → tree_to n b run ≡ tree_to m b run
+enough zero zero b run s f k l = refl
+enough zero (suc m) b run s f k l =
+    let e : width_of run ≡ 0 = omega (arith, k) in
+    sym (ap (λ (w : ℕ). tree_by w (Leaf (point_at b.points (lowest_of run)))
+    (Fork (edge_of_run Upper b run) (edge_of_run Lower b run) (tree_to m b (left_run run)) (tree_to m b (right_run
+    run)))) e)
+enough (suc n) zero b run s f k l =
+    let e : width_of run ≡ 0 = omega (arith, l) in
+    ap (λ (w : ℕ). tree_by w (Leaf (point_at b.points (lowest_of run)))
+    (Fork (edge_of_run Upper b run) (edge_of_run Lower b run) (tree_to n b (left_run run)) (tree_to n b (right_run
+    run)))) e
+enough (suc n) (suc m) b run s f k l = elim (one_or_several run s f) [
+  | inl e ↦
+      let z : width_of run ≡ 0 = omega (arith, e) in
+      ap (λ (w : ℕ). tree_by w (Leaf (point_at b.points (lowest_of run)))
+      (Fork (edge_of_run Upper b run) (edge_of_run Lower b run) (tree_to n b (left_run run)) (tree_to n b (right_run
+      run)))) z
+      ∙ sym (ap (λ (w : ℕ). tree_by w (Leaf (point_at b.points (lowest_of run)))
+      (Fork (edge_of_run Upper b run) (edge_of_run Lower b run) (tree_to m b (left_run run)) (tree_to m b (right_run
+      run)))) z)
+  | inr w ↦
+      let a = left_narrow run s f w in
+      let c = right_narrow run s f w in
+      ap (λ (u : Tree). tree_by (width_of run) (Leaf (point_at b.points (lowest_of run)))
+      (Fork (edge_of_run Upper b run) (edge_of_run Lower b run) u (tree_to n b (right_run run))))
+      (enough n m b (left_run run) (left_some run s f w) (left_fits run s f w) (omega (arith, a, k)) (omega (
+        arith,
+        a,
+        l,
+      )))
+      ∙ ap (λ (u : Tree). tree_by (width_of run) (Leaf (point_at b.points (lowest_of run)))
+      (Fork (edge_of_run Upper b run) (edge_of_run Lower b run) (tree_to m b (left_run run)) u))
+      (enough n m b (right_run run) (right_some run s f w) (right_fits run s f w) (omega (arith, c, k)) (omega (
+        arith,
+        c,
+        l,
+      )))
+]
+
+-- one place is a point
+pub leaf_is : (b : BucketValue) (run : ℕ) → lowest_of run ≡ highest_of run
+    → tree_of_run b run ≡ Leaf (point_at b.points (lowest_of run))
+leaf_is b run e = let z : width_of run ≡ 0 = omega (arith, e) in ap (λ (n : ℕ). tree_to n b run) z
+
+-- several are a fork over the trees of the two halves
+pub fork_is : (b : BucketValue) (run : ℕ) → 0 < run → run < 2 ^ 64 → lowest_of run < highest_of run
+    → tree_of_run b run ≡ Fork (edge_of_run Upper b run) (edge_of_run Lower b run) (tree_of_run b (left_run run))
+    (tree_of_run b (right_run run))
+fork_is b run s f w =
+    let n : ℕ = width_of run in
+    let a = left_narrow run s f w in
+    let c = right_narrow run s f w in
+    let e : width_of run ≡ suc (width_of run - 1) = omega (arith, w) in
+    enough n (suc n) b run s f (omega arith) (omega arith)
+    ∙ ap (λ (w : ℕ). tree_by w (Leaf (point_at b.points (lowest_of run)))
+    (Fork (edge_of_run Upper b run) (edge_of_run Lower b run) (tree_to n b (left_run run)) (tree_to n b (right_run
+    run)))) e
+    ∙ ap (λ (u : Tree). Fork (edge_of_run Upper b run) (edge_of_run Lower b run) u (tree_to n b (right_run run)))
+    (enough n (width_of (left_run run)) b (left_run run) (left_some run s f w) (left_fits run s f w) (omega (arith, a))
+    (omega arith))
+    ∙ ap (λ (u : Tree). Fork (edge_of_run Upper b run) (edge_of_run Lower b run) (tree_of_run b (left_run run)) u)
+    (enough n (width_of (right_run run)) b (right_run run) (right_some run s f w) (right_fits run s f w) (omega (
+      arith,
+      c,
+    ))
+    (omega arith))
+
+-- ---- points
+
+-- a place of a run, and its point
+abbrev pub PlaceIn : BucketValue → ℕ → Pair → Type 0
+PlaceIn b run t = (i : ℕ) × (bit_at run i ≡ 1) × (t ≡ point_at b.points i)
+
+-- one width is no less than several places
+pub too_wide : (run : ℕ) → lowest_of run < highest_of run → width_of run ≤ 0 → ⊥
+too_wide run w k = omega (arith, w, k)
+
+-- each point of the tree stands at a place of the run
+pub on_place : (n : ℕ) (b : BucketValue) (run : ℕ) → 0 < run → run < 2 ^ 64 → width_of run ≤ n → (t : Pair)
+    → On (tree_of_run b run) t → PlaceIn b run t
+on_place zero b run s f k t i = elim (one_or_several run s f) [
+  | inl e ↦ (lowest_of run, lowest_set run s f, subst (λ (u : Tree). On u t) (leaf_is b run e) i)
+  | inr w ↦ absurd (too_wide run w k)
+]
+on_place (suc n) b run s f k t i = elim (one_or_several run s f) [
+  | inl e ↦ (lowest_of run, lowest_set run s f, subst (λ (u : Tree). On u t) (leaf_is b run e) i)
+  | inr w ↦ parts w
+      (λ h. on_place n b (left_run run) (left_some run s f w) (left_fits run s f w)
+      (let a = left_narrow run s f w in omega (arith, a, k)) t h)
+      (λ h. on_place n b (right_run run) (right_some run s f w) (right_fits run s f w)
+      (let a = right_narrow run s f w in omega (arith, a, k)) t h)
+      (subst (λ (u : Tree). On u t) (fork_is b run s f w) i)
+]
+  where
+    parts : lowest_of run < highest_of run → (On (tree_of_run b (left_run run)) t → PlaceIn b (left_run run) t)
+        → (On (tree_of_run b (right_run run)) t → PlaceIn b (right_run run) t)
+        → On (tree_of_run b (left_run run)) t ⊎ On (tree_of_run b (right_run run)) t → PlaceIn b run t
+    parts w g h (inl j) = let p = g j in (p.0, (left_bit run s f w p.0 p.1).1, p.2)
+    parts w g h (inr j) = let p = h j in (p.0, (right_bit run s f w p.0 p.1).1, p.2)
+
+-- a run of one place has no other
+only_place : (run i : ℕ) → 0 < run → run < 2 ^ 64 → bit_at run i ≡ 1 → lowest_of run ≡ highest_of run
+    → i ≡ lowest_of run
+only_place run i s f e q = let a = bit_from run i s f e in let c = bit_to run i s f e in omega (arith, a, c, q)
+
+-- the point at each place of the run is one of the tree
+pub on_tree : (n : ℕ) (b : BucketValue) (run : ℕ) → 0 < run → run < 2 ^ 64 → width_of run ≤ n → (i : ℕ)
+    → bit_at run i ≡ 1 → On (tree_of_run b run) (point_at b.points i)
+on_tree zero b run s f k i e = elim (one_or_several run s f) [
+  | inl q ↦ subst (λ (u : Tree). On u (point_at b.points i)) (sym (leaf_is b run q))
+      (ap (point_at b.points) (only_place run i s f e q))
+  | inr w ↦ absurd (too_wide run w k)
+]
+on_tree (suc n) b run s f k i e = elim (one_or_several run s f) [
+  | inl q ↦ subst (λ (u : Tree). On u (point_at b.points i)) (sym (leaf_is b run q))
+      (ap (point_at b.points) (only_place run i s f e q))
+  | inr w ↦ subst (λ (u : Tree). On u (point_at b.points i)) (sym (fork_is b run s f w))
+      (elim (cases_lt i (parting_of run)) [
+        | inl l ↦ inl (on_tree n b (left_run run) (left_some run s f w) (left_fits run s f w)
+            (let a = left_narrow run s f w in omega (arith, a, k)) i (left_bit_of run s f w i l e))
+        | inr l ↦ inr (on_tree n b (right_run run) (right_some run s f w) (right_fits run s f w)
+            (let a = right_narrow run s f w in omega (arith, a, k)) i (right_bit_of run s f w i l e))
+      ])
+]
+
+-- its first point stands at the lowest place
+pub first_is : (n : ℕ) (b : BucketValue) (run : ℕ) → 0 < run → run < 2 ^ 64 → width_of run ≤ n
+    → first_of (tree_of_run b run) ≡ point_at b.points (lowest_of run)
+first_is zero b run s f k = elim (one_or_several run s f) [
+  | inl q ↦ ap first_of (leaf_is b run q)
+  | inr w ↦ absurd (too_wide run w k)
+]
+first_is (suc n) b run s f k = elim (one_or_several run s f) [
+  | inl q ↦ ap first_of (leaf_is b run q)
+  | inr w ↦ ap first_of (fork_is b run s f w)
+      ∙ first_is n b (left_run run) (left_some run s f w) (left_fits run s f w)
+      (let a = left_narrow run s f w in omega (arith, a, k))
+      ∙ ap (point_at b.points) (left_lowest run s f w)
+]
+
+-- and its last at the highest
+pub last_is : (n : ℕ) (b : BucketValue) (run : ℕ) → 0 < run → run < 2 ^ 64 → width_of run ≤ n
+    → last_of (tree_of_run b run) ≡ point_at b.points (highest_of run)
+last_is zero b run s f k = elim (one_or_several run s f) [
+  | inl q ↦ ap last_of (leaf_is b run q) ∙ ap (point_at b.points) q
+  | inr w ↦ absurd (too_wide run w k)
+]
+last_is (suc n) b run s f k = elim (one_or_several run s f) [
+  | inl q ↦ ap last_of (leaf_is b run q) ∙ ap (point_at b.points) q
+  | inr w ↦ ap last_of (fork_is b run s f w)
+      ∙ last_is n b (right_run run) (right_some run s f w) (right_fits run s f w)
+      (let a = right_narrow run s f w in omega (arith, a, k))
+      ∙ ap (point_at b.points) (right_highest run s f w)
+]
+
+-- it is no higher than the run is wide
+pub height_to : (n : ℕ) (b : BucketValue) (run : ℕ) → 0 < run → run < 2 ^ 64 → width_of run ≤ n
+    → height_of (tree_of_run b run) ≤ n
+height_to zero b run s f k = elim (one_or_several run s f) [
+  | inl q ↦ let e = ap height_of (leaf_is b run q) in omega (arith, e)
+  | inr w ↦ absurd (too_wide run w k)
+]
+height_to (suc n) b run s f k = elim (one_or_several run s f) [
+  | inl q ↦ let e : height_of (tree_of_run b run) ≡ 0 = ap height_of (leaf_is b run q) in omega (arith, e)
+  | inr w ↦
+      let e : height_of (tree_of_run b run)
+      ≡ max (height_of (tree_of_run b (left_run run))) (height_of (tree_of_run b (right_run run))) + 1 =
+      ap height_of (fork_is b run s f w) in
+      let l = height_to n b (left_run run) (left_some run s f w) (left_fits run s f w)
+      (let a = left_narrow run s f w in omega (arith, a, k)) in
+      let r = height_to n b (right_run run) (right_some run s f w) (right_fits run s f w)
+      (let a = right_narrow run s f w in omega (arith, a, k)) in
+      omega (arith, e, l, r)
+]
+
+-- ---- by the words of a half
+
+-- a mask of the places of a list fits
+pub mask_fits : (mask n : ℕ) → mask < 2 ^ n → n ≤ 64 → mask < 2 ^ 64
+mask_fits mask n l k = let p = power_le n 64 k in omega (arith, l, p)
+
+-- a place of it is one of the list
+pub place_within : (mask n i : ℕ) → mask < 2 ^ n → bit_at mask i ≡ 1 → i < n
+place_within mask n i l e = elim (cases_lt i n) [
+  | inl k ↦ k
+  | inr k ↦ absurd (let z = bit_at_above mask n i l k in omega (arith, e, z))
+]
+
+-- two places that differ are several
+pub several_of : (mask low high : ℕ) → 0 < mask → mask < 2 ^ 64 → low ≡ lowest_of mask → high ≡ highest_of mask
+    → ¬ (low ≡ high) → lowest_of mask < highest_of mask
+several_of mask low high s f e g n = elim (one_or_several mask s f) [
+  | inl q ↦ absurd (n (e ∙ q ∙ sym g))
+  | inr w ↦ w
+]
+
+-- a fork is over several places
+pub several_of_fork : (b : BucketValue) (run : ℕ) → 0 < run → run < 2 ^ 64 → IsFork (tree_of_run b run)
+    → lowest_of run < highest_of run
+several_of_fork b run s f h = elim (one_or_several run s f) [
+  | inl e ↦ absurd (subst IsFork (leaf_is b run e) h)
+  | inr w ↦ w
+]
+
+-- no run is higher than a half may be
+pub low_enough : (b : BucketValue) (run : ℕ) → 0 < run → run < 2 ^ 64 → height_of (tree_of_run b run) ≤ 63
+low_enough b run s f = height_to 63 b run s f (omega arith)

@@ -1,0 +1,103 @@
+-- One step of a pass over the places of a mask: the lowest of them goes to the chain.
+use Rattle.std.proofs.Common.{◌≡◌, ℕ, suc, refl, ◌+◌, ◌-◌, ◌*◌, ◌%◌, ◌^◌, ◌<◌, ◌≤◌, sym, ap, ◌∙◌, subst, arith, List}
+use Rattle.std.proofs.Common.{[], ◌∷◌, ◌++◌, length}
+use Rattle.std.proofs.lemmas.Nat.{mod_low, pow_pos}
+use Rattle.lattice.specs.Plane.{Pair}
+use Rattle.lattice.specs.declared.side.Side.{Side}
+use Rattle.lattice.specs.Covers.{IsPointSet}
+use Rattle.hull_geometry.specs.Monotone.{IsPassed, IsTurning}
+use Rattle.hull_geometry.specs.Positions.{point_at}
+use Rattle.hull_geometry.proofs.Passes.{passed_through, passed_itself, turning_join, ends_right, ends_cut}
+use Rattle.hull_geometry.proofs.PointLists.{append_twice}
+use Rattle.hull_buckets.specs.Masks.{at_places, AreApart}
+use Rattle.hull_buckets.proofs.Places.{first_at, pushed, set_at, together}
+use Rattle.hull_buckets.proofs.Words.{top_before, lowest_from, power_le, without_lowest, twice}
+
+module _ (S : List Pair) (kept left place : ℕ) (apart : AreApart kept left) (least : 2 ^ place ≤ left)
+    (there : left % 2 ^ (place + 1) ≡ 2 ^ place) (within : left < 2 ^ length S) where
+  -- the lowest place is one of the list
+  pub place_within : place < length S
+  place_within = top_before left place (length S) least within
+
+  -- all of the chain stand before it
+  pub kept_before : kept < 2 ^ place
+  kept_before = let l = lowest_from left apart.0 place apart.2 there in
+      let p = power_le apart.0 place l in
+      let k = apart.1 in
+      omega (arith, p, k)
+
+  -- the points at the places that were left
+  pub first_left : at_places left S ≡ point_at S place ∷ at_places (left - 2 ^ place) S
+  first_left = first_at S left place there place_within
+
+  -- what is left stands behind the new chain
+  pub still_apart : (next : ℕ) → next < 2 ^ (place + 1) → AreApart next (left - 2 ^ place)
+  still_apart next l =
+      let w = without_lowest left place there in
+      let z : w.0 * 2 ^ (place + 1) ≡ w.0 * 2 ^ (place + 1) + 0 = omega arith in
+      (place + 1, l, ap (λ (n : ℕ). n % 2 ^ (place + 1)) (w.1 ∙ z) ∙ mod_low w.0 (place + 1) 0 (pow_pos (place + 1)))
+
+  -- the places stay within a bound
+  pub next_within : (next k : ℕ) → next < 2 ^ (place + 1) → kept < 2 ^ k → left < 2 ^ k → next < 2 ^ k
+  next_within next k l m n =
+      let t = top_before left place k least n in
+      let p = power_le (place + 1) k (omega (arith, t)) in
+      omega (arith, l, p)
+
+  -- what a pass leaves of the new chain and the rest, it leaves of the chain and what was left
+  pub passed_on : (side : Side) (next : ℕ) (new : List Pair)
+      → IsPassed side (at_places kept S ++ point_at S place ∷ []) (at_places next S)
+      → IsPassed side (at_places next S ++ at_places (left - 2 ^ place) S) new
+      → IsPassed side (at_places kept S ++ at_places left S) new
+  passed_on side next new h q =
+      subst (λ (z : List Pair). IsPassed side z new)
+      (append_twice (at_places kept S) (point_at S place ∷ []) (at_places (left - 2 ^ place) S)
+      ∙ ap (λ (z : List Pair). at_places kept S ++ z) (sym first_left))
+      (passed_through side (at_places kept S ++ point_at S place ∷ []) (at_places next S)
+      (at_places (left - 2 ^ place) S) new h q)
+
+  -- the chain ends with the new point
+  pub ends_there : (side : Side) (next : ℕ)
+      → IsPassed side (at_places kept S ++ point_at S place ∷ []) (at_places next S)
+      → (front : List Pair) × (at_places next S ≡ front ++ point_at S place ∷ [])
+  ends_there side next h =
+      ends_cut (point_at S place) (at_places next S)
+      (h.ends (point_at S place) (ends_right (point_at S place) (at_places kept S) (point_at S place ∷ []) refl))
+
+  -- where the new point stays behind the last of the chain, at which those that are left turn on, all stay
+  pub stopped : (side : Side) (next : ℕ) (front : List Pair) (q : Pair) → IsPointSet S → next < 2 ^ length S
+      → next ≡ kept + 2 ^ place → at_places kept S ≡ front ++ q ∷ [] → IsTurning side (q ∷ at_places left S)
+      → IsTurning side (at_places next S)
+      → IsPassed side (at_places kept S ++ at_places left S) (at_places (next + (left - 2 ^ place)) S)
+  stopped side next front q s l e f t h =
+      subst (λ (z : List Pair). IsPassed side z (at_places (next + (left - 2 ^ place)) S)) (sym same)
+      (passed_itself side (at_places (next + (left - 2 ^ place)) S) (record {
+        ordered = set_at (next + (left - 2 ^ place)) S s;
+        turning = subst (IsTurning side) (sym in_parts)
+            (turning_join side front q (point_at S place) (at_places (left - 2 ^ place) S)
+            (subst (IsTurning side) (stays ∙ ap (λ (z : List Pair). z ++ point_at S place ∷ []) f
+            ∙ append_twice front (q ∷ []) (point_at S place ∷ [])) h)
+            (subst (λ (z : List Pair). IsTurning side (q ∷ z)) first_left t));
+      }))
+    where
+      low : next < 2 ^ (place + 1)
+      low = let k = kept_before in let p = twice place in
+          let a : 2 ^ (place + 1) ≡ 2 ^ suc place = ap (λ (n : ℕ). 2 ^ n) (omega arith) in
+          omega (arith, e, k, p, a)
+
+      stays : at_places next S ≡ at_places kept S ++ point_at S place ∷ []
+      stays = ap (λ (m : ℕ). at_places m S) e ∙ pushed S kept place kept_before place_within
+
+      whole : at_places (next + (left - 2 ^ place)) S ≡ at_places next S ++ at_places (left - 2 ^ place) S
+      whole = together S next (left - 2 ^ place) (still_apart next low) (omega (arith, within)) l
+
+      same : at_places kept S ++ at_places left S ≡ at_places (next + (left - 2 ^ place)) S
+      same = ap (λ (z : List Pair). at_places kept S ++ z) first_left
+          ∙ sym (append_twice (at_places kept S) (point_at S place ∷ []) (at_places (left - 2 ^ place) S))
+          ∙ ap (λ (z : List Pair). z ++ at_places (left - 2 ^ place) S) (sym stays) ∙ sym whole
+
+      in_parts : at_places (next + (left - 2 ^ place)) S
+          ≡ front ++ q ∷ point_at S place ∷ at_places (left - 2 ^ place) S
+      in_parts = sym same ∙ ap (λ (z : List Pair). z ++ at_places left S) f
+          ∙ ap (λ (z : List Pair). (front ++ q ∷ []) ++ z) first_left
+          ∙ append_twice front (q ∷ []) (point_at S place ∷ at_places (left - 2 ^ place) S)

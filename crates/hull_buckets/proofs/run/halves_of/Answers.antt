@@ -1,0 +1,1 @@
+-- the parting stands behind the lowest place and not behind the highest

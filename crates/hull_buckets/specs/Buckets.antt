@@ -1,0 +1,57 @@
+-- What a bucket is: points in order, how often each is held, and which of them are corners of the two chains of all of
+-- them.
+use Rattle.std.specs.Prelude.{◌≡◌, ℕ, ◌<◌, ◌≤◌, ◌^◌, List, length, take}
+use Rattle.std.specs.List.{All}
+use Rattle.lattice.specs.Covers.{IsPointSet}
+use Rattle.lattice.specs.Plane.{Pair}
+use Rattle.lattice.specs.declared.side.Side.{Side}
+use Rattle.lattice.specs.declared.side.Side.TheVariants.{Lower, Upper}
+use Rattle.hull_geometry.specs.Monotone.{IsChainOf}
+use Rattle.hull_set.specs.declared.TheConstants.{MULTIPLICITY_LIMIT}
+use Rattle.hull_buckets.specs.Masks.{at_places, without_place}
+use Rattle.hull_buckets.specs.declared.TheConstants.{ROOM}
+
+-- what contracts see of a bucket: its points, how often each is held, and the places of the corners of its two chains
+pub record BucketValue : Type 0 where
+  pub points : List Pair
+  pub times : List ℕ
+  pub lower : ℕ
+  pub upper : ℕ
+
+-- the first so many of two arrays, and two masks
+abbrev pub seen : ℕ → List Pair → List ℕ → ℕ → ℕ → BucketValue
+seen len points times lower upper =
+    record { points = take len points; times = take len times; lower = lower; upper = upper }
+
+-- the places of the corners of the chain on a side
+abbrev pub mask_on : Side → BucketValue → ℕ
+mask_on Lower b = b.lower
+mask_on Upper b = b.upper
+
+-- how often a point of a bucket is held
+abbrev pub IsMultiplicity : ℕ → Type 0
+IsMultiplicity times = (1 ≤ times) × (times ≤ MULTIPLICITY_LIMIT)
+
+-- a mask has the places of the corners of the chain of these points on a side, and no other
+pub record IsMaskOf (side : Side) (points : List Pair) (mask : ℕ) : Type 0 where
+  pub within : mask < 2 ^ length points
+  pub chain : IsChainOf side points (at_places mask points)
+
+-- at least one point and no more than there is room for, in order, each held as often as a point may be; the masks are
+-- those of the two chains of all of them
+pub record IsBucket (b : BucketValue) : Type 0 where
+  pub some : 0 < length b.points
+  pub few : length b.points ≤ ROOM
+  pub ordered : IsPointSet b.points
+  pub counted : length b.times ≡ length b.points
+  pub held : All IsMultiplicity b.times
+  pub corners : (side : Side) → IsMaskOf side b.points (mask_on side b)
+
+-- a mask had the corners of the chain of these points and of one more, which stood at a place
+pub record WasMaskOf (side : Side) (points : List Pair) (place mask : ℕ) : Type 0 where
+  pub old : List Pair
+  pub few : length old ≤ ROOM
+  pub ordered : IsPointSet old
+  pub within : place < length old
+  pub left : points ≡ without_place place old
+  pub corners : IsMaskOf side old mask

@@ -1,0 +1,215 @@
+//! The bucket.
+ghost use Rattle.std.specs.Prelude.{◌≡◌, ◌<◌, ◌≤◌, ◌+◌, ◌/◌, ◌++◌, ◌∷◌, [], ◌↔◌, IsTrue, Err, length, slice_set, take};
+ghost use Rattle.std.specs.List.{All, Contains, insert, remove};
+ghost use Rattle.lattice.specs.Bridges.{IsAllBefore};
+ghost use Rattle.lattice.specs.Covers.{IsPointSet, with_point, without_point};
+ghost use Rattle.hull_geometry.specs.Positions.{IsPositionOf, point_at};
+ghost use Rattle.hull_buckets.specs.Buckets.{IsBucket};
+ghost use Rattle.hull_buckets.specs.declared.TheConstants.{ROOM};
+
+use super::ROOM;
+use super::mending::{all_corners, with_corner, without_corner};
+use super::positions::position_of;
+use super::row::{put_behind, put_in, put_over, take_out};
+use lattice::{Point, Side};
+use std::marker::Model;
+
+/// One to 64 points in order, each with how often it is held, and the places of the corners of their lower and of their
+/// upper chain.
+#[derive(Drop)]
+pub struct Bucket {
+    points: [Point; ROOM],
+    times: [u16; ROOM],
+    len: usize,
+    lower: u64,
+    upper: u64,
+}
+
+impl Model for Bucket {
+    ghost use Rattle.std.specs.Prelude.{◌≤◌, take};
+    ghost use Rattle.hull_buckets.specs.Buckets.{BucketValue, IsBucket, seen};
+    ghost use Rattle.hull_buckets.specs.declared.TheConstants.{ROOM};
+
+    ghost Value = { BucketValue };
+
+    ghost view = { λ b. seen b.len b.points b.times b.lower b.upper };
+
+    ghost invariant = { λ b. (b.len ≤ ROOM) × IsBucket (seen b.len b.points b.times b.lower b.upper) };
+}
+
+impl Bucket {
+    ghost use Rattle.hull_buckets.specs.Buckets.{IsMultiplicity, IsMaskOf, mask_on};
+
+    /// A bucket of one point.
+    pub fn new(point: Point, times: u16) -> Bucket
+        requires { IsMultiplicity times }
+        ensures points { result.points ≡ point ∷ [] }
+        ensures times { result.times ≡ times ∷ [] }
+    {
+        Bucket {
+            points: [point; ROOM],
+            times: [times; ROOM],
+            len: 1,
+            lower: 1,
+            upper: 1,
+        }
+    }
+
+    /// Its points, in order.
+    pub fn points(&self) -> &[Point]
+        ensures points { result.now ≡ self.now.points }
+        ensures some { 0 < length result.now }
+        ensures few { length result.now ≤ ROOM }
+        ensures ordered { IsPointSet result.now }
+    {
+        &self.points[..self.len]
+    }
+
+    /// How often each is held, in the order of the points.
+    pub fn times(&self) -> &[u16]
+        ensures times { result.now ≡ self.now.times }
+        ensures counted { length result.now ≡ length self.now.points }
+        ensures held { All IsMultiplicity result.now }
+    {
+        &self.times[..self.len]
+    }
+
+    /// Whether there is room for no more.
+    pub fn is_full(&self) -> bool
+        ensures { IsTrue result ↔ (length self.now.points ≡ ROOM) }
+    {
+        self.points().len() == ROOM
+    }
+
+    /// Where a point stands in it, or else where it would stand.
+    pub fn place_of(&self, p: Point) -> Result<usize, usize>
+        ensures { IsPositionOf self.now.points p result }
+    {
+        position_of(&self.points[..self.len], p)
+    }
+
+    /// The places of the corners of the chain on a side, as the bits of a word.
+    pub fn corners(&self, side: Side) -> u64
+        ensures mask { result ≡ mask_on side self.now }
+        ensures corners { IsMaskOf side self.now.points result }
+    {
+        match side {
+            Side::Lower => self.lower,
+            Side::Upper => self.upper,
+        }
+    }
+
+    /// Makes the point at a place one that is held so often.
+    pub fn set_times(&mut self, place: usize, times: u16)
+        requires within { place < length self.old.points }
+        requires held { IsMultiplicity times }
+        ensures times { self.new.times ≡ slice_set self.old.times place times }
+        ensures points { self.new.points ≡ self.old.points }
+    {
+        put_over(&mut self.times, self.len, place, times);
+    }
+
+    /// Puts a point in, at its place.
+    pub fn insert(&mut self, place: usize, point: Point, times: u16)
+        requires position { IsPositionOf self.old.points point (Err place) }
+        requires room { length self.old.points < ROOM }
+        requires held { IsMultiplicity times }
+        ensures points { self.new.points ≡ with_point point self.old.points }
+        ensures times { self.new.times ≡ insert self.old.times place times }
+    {
+        put_in(&mut self.points, self.len, place, point);
+        put_in(&mut self.times, self.len, place, times);
+        self.len += 1;
+        let points = &self.points[..self.len];
+        self.lower = with_corner(Side::Lower, points, self.lower, place);
+        self.upper = with_corner(Side::Upper, points, self.upper, place);
+    }
+
+    /// Takes the point at a place out; it is not the only one.
+    pub fn remove(&mut self, place: usize)
+        requires within { place < length self.old.points }
+        requires others { 1 < length self.old.points }
+        ensures points { self.new.points ≡ without_point (point_at self.old.points place) self.old.points }
+        ensures times { self.new.times ≡ remove self.old.times place }
+    {
+        take_out(&mut self.points, self.len, place);
+        take_out(&mut self.times, self.len, place);
+        self.len -= 1;
+        let points = &self.points[..self.len];
+        self.lower = without_corner(Side::Lower, points, self.lower, place);
+        self.upper = without_corner(Side::Upper, points, self.upper, place);
+    }
+
+    /// A bucket of points in order, each held so often.
+    pub fn from_parts(points: &[Point], times: &[u16]) -> Bucket
+        requires some { 0 < length points.now }
+        requires few { length points.now ≤ ROOM }
+        requires ordered { IsPointSet points.now }
+        requires counted { length times.now ≡ length points.now }
+        requires held { All IsMultiplicity times.now }
+        ensures points { result.points ≡ points.now }
+        ensures times { result.times ≡ times.now }
+    {
+        let mut own_points = [points[0]; ROOM];
+        let mut own_times = [times[0]; ROOM];
+        put_behind(&mut own_points, 0, points);
+        put_behind(&mut own_times, 0, times);
+        Bucket {
+            points: own_points,
+            times: own_times,
+            len: points.len(),
+            lower: all_corners(Side::Lower, points),
+            upper: all_corners(Side::Upper, points),
+        }
+    }
+
+    /// Keeps the first so many points, and no others.
+    fn truncate(&mut self, len: usize)
+        requires some { 0 < len }
+        requires within { len ≤ length self.old.points }
+        ensures points { self.new.points ≡ take len self.old.points }
+        ensures times { self.new.times ≡ take len self.old.times }
+    {
+        let points = &self.points[..len];
+        self.lower = all_corners(Side::Lower, points);
+        self.upper = all_corners(Side::Upper, points);
+        self.len = len;
+    }
+
+    /// Parts it in the middle: the points of its second half go to the bucket that is returned.
+    pub fn split(&mut self) -> Bucket
+        requires { 1 < length self.old.points }
+        ensures points { self.old.points ≡ self.new.points ++ result.points }
+        ensures times { self.old.times ≡ self.new.times ++ result.times }
+        ensures middle { length self.new.points ≡ length self.old.points / 2 }
+    {
+        let (points, times) = (self.points(), self.times());
+        let middle = points.len() / 2;
+        let second = Bucket::from_parts(&points[middle..], &times[middle..]);
+        self.truncate(middle);
+        second
+    }
+
+    /// Takes in the points of a bucket that stands behind it.
+    pub fn merge(&mut self, other: &Bucket)
+        requires order { IsAllBefore (Contains self.old.points) (Contains other.now.points) }
+        requires room { length self.old.points + length other.now.points ≤ ROOM }
+        ensures points { self.new.points ≡ self.old.points ++ other.now.points }
+        ensures times { self.new.times ≡ self.old.times ++ other.now.times }
+    {
+        let (more, more_times) = (other.points(), other.times());
+        put_behind(&mut self.points, self.len, more);
+        put_behind(&mut self.times, self.len, more_times);
+        self.len += more.len();
+        let points = &self.points[..self.len];
+        self.lower = all_corners(Side::Lower, points);
+        self.upper = all_corners(Side::Upper, points);
+    }
+}
+
+/// What each bucket is.
+pub fn buckets_are_sound(bucket: &Bucket)
+    ensures { IsBucket bucket.now }
+{
+    let _ = &bucket.points;
+}

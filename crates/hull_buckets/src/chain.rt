@@ -1,0 +1,118 @@
+//! The chain of a hull on one side, as the places of its corners, by a pass over points in order (the monotone chain:
+//! Andrew, 1979).
+ghost use Rattle.std.specs.Prelude.{◌≡◌, ℕ, ◌↔◌, ◌<◌, ◌≤◌, ◌+◌, ◌-◌, ◌^◌, ◌++◌, ◌∷◌, [], IfSome, IsTrue, None};
+ghost use Rattle.std.specs.Prelude.{pos, ◌<ℤ◌, length, take};
+ghost use Rattle.lattice.specs.Covers.{IsPointSet};
+ghost use Rattle.lattice.specs.Turns as turns;
+ghost use Rattle.hull_geometry.specs.Monotone.{EndsInwards, IsTurning, IsPassed};
+ghost use Rattle.hull_geometry.specs.Positions.{point_at};
+ghost use Rattle.hull_buckets.specs.Masks.{at_places, AreApart};
+ghost use Rattle.hull_buckets.specs.declared.TheConstants.{ROOM};
+
+use super::mask::{bit, highest, lowest};
+use lattice::{Point, Side, turn};
+
+/// Whether a chain turns at `b` on the way from `a` to `c`: whether `b` lies outwards of the segment between them.
+pub(crate) fn turns_at(side: Side, a: Point, b: Point, c: Point) -> bool
+    ensures { IsTrue result ↔ (pos 0 <ℤ turns.turn side a b c) }
+{
+    turn(side, a, b, c) > 0
+}
+
+/// A chain without its last corner, where that one does not lie outwards of the segment from the one before it to the
+/// point at a place.
+fn without_last(side: Side, points: &[Point], chain: u64, place: usize) -> Option<u64>
+    requires few { length points.now ≤ ROOM }
+    requires within { place < length points.now }
+    requires before { chain < 2 ^ place }
+    ensures fewer { IfSome result (λ front. front < chain) }
+    ensures inwards { IfSome result (λ _. EndsInwards side (at_places chain points.now) (point_at points.now place)) }
+    ensures front { IfSome result (λ front. at_places front points.now
+        ≡ take (length (at_places chain points.now) - 1) (at_places chain points.now)) }
+    ensures turning { result ≡ None → IsTurning side (at_places chain points.now)
+        → IsTurning side (at_places chain points.now ++ point_at points.now place ∷ []) }
+{
+    if chain == 0 {
+        return None;
+    }
+    let last = highest(chain);
+    let front = chain - bit(last);
+    if front == 0 {
+        return None;
+    }
+    let ahead = highest(front);
+    if turns_at(side, points[ahead], points[last], points[place]) {
+        return None;
+    }
+    Some(front)
+}
+
+/// The chain with the point at a place behind it: those of its last corners go at which it does not turn then.
+pub(crate) fn pushed(side: Side, points: &[Point], chain: u64, place: usize) -> u64
+    requires few { length points.now ≤ ROOM }
+    requires within { place < length points.now }
+    requires ordered { IsPointSet points.now }
+    requires before { chain < 2 ^ place }
+    requires turning { IsTurning side (at_places chain points.now) }
+    ensures within { result < 2 ^ (place + 1) }
+    ensures passed { IsPassed side (at_places chain points.now ++ point_at points.now place ∷ [])
+        (at_places result points.now) }
+{
+    let mut kept = chain;
+    while let Some(front) = without_last(side, points, kept, place) {
+        kept = front;
+    }
+    kept + bit(place)
+}
+
+/// A chain taken on over the points at the places of `rest`, all behind its own: one pass in order.
+pub(crate) fn passed_over(side: Side, points: &[Point], chain: u64, rest: u64) -> u64
+    requires few { length points.now ≤ ROOM }
+    requires ordered { IsPointSet points.now }
+    requires apart { AreApart chain rest }
+    requires chain_within { chain < 2 ^ length points.now }
+    requires rest_within { rest < 2 ^ length points.now }
+    requires turning { IsTurning side (at_places chain points.now) }
+    ensures within { (k : ℕ) → chain < 2 ^ k → rest < 2 ^ k → result < 2 ^ k }
+    ensures passed { IsPassed side (at_places chain points.now ++ at_places rest points.now)
+        (at_places result points.now) }
+{
+    let mut kept = chain;
+    let mut left = rest;
+    while left != 0 {
+        let place = lowest(left);
+        kept = pushed(side, points, kept, place);
+        left -= bit(place);
+    }
+    kept
+}
+
+/// A chain taken on over corners that turn, all behind its own, at the places of `rest`. It ends as soon as two of them
+/// stand on it in a row: from there on all turns are as they were.
+pub(crate) fn taken_up(side: Side, points: &[Point], chain: u64, rest: u64) -> u64
+    requires few { length points.now ≤ ROOM }
+    requires ordered { IsPointSet points.now }
+    requires apart { AreApart chain rest }
+    requires chain_within { chain < 2 ^ length points.now }
+    requires rest_within { rest < 2 ^ length points.now }
+    requires turning { IsTurning side (at_places chain points.now) }
+    requires rest_turning { IsTurning side (at_places rest points.now) }
+    ensures within { (k : ℕ) → chain < 2 ^ k → rest < 2 ^ k → result < 2 ^ k }
+    ensures passed { IsPassed side (at_places chain points.now ++ at_places rest points.now)
+        (at_places result points.now) }
+{
+    let mut kept = chain;
+    let mut left = rest;
+    let mut is_first = true;
+    while left != 0 {
+        let place = lowest(left);
+        let next = pushed(side, points, kept, place);
+        left -= bit(place);
+        if !is_first && next == kept + bit(place) {
+            return next + left;
+        }
+        kept = next;
+        is_first = false;
+    }
+    kept
+}

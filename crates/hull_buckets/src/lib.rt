@@ -1,0 +1,39 @@
+//! Buckets of lattice points: up to 64 of them in order in one array, with the corners of both chains of their hull as
+//! the bits of two words.
+//!
+//! A [`Bucket`] takes points in and out, is parted in the middle, and takes in a bucket behind it; each change mends
+//! the two words, by passes over the places that it can touch. To a search of bridges and to questions it is a half of
+//! a hull, a [`Run`] of its corners. A leaf tree over buckets would have a thirtieth of the forks that one over points
+//! has; no set stands on them yet.
+//!
+//! # A worked example
+//!
+//! ```
+//! let mut bucket = Bucket::new(Point::new(0, 0)?, 1);
+//! for (x, y) in [(4, 0), (2, 3), (2, 1)] {
+//!     let p = Point::new(x, y)?;
+//!     if let Err(place) = bucket.place_of(p) {
+//!         bucket.insert(place, p, 1); // (0, 0), (2, 1), (2, 3), (4, 0)
+//!     }
+//! }
+//! assert!(bucket.corners(Side::Lower) == 0b1001 && bucket.corners(Side::Upper) == 0b1101);
+//! assert!(extreme(Run::new(&bucket), Direction::new(0, 1)?) == Point::new(2, 3)?);
+//! let second = bucket.split();
+//! assert!(bucket.points().len() == 2 && second.corners(Side::Upper) == 0b11);
+//! assert!(both_bridges(Run::new(&bucket), Run::new(&second)).0.0 == (Point::new(0, 0)?, Point::new(2, 3)?));
+//! ```
+#![tactic(auto)]
+
+mod bucket;
+mod chain;
+mod mask;
+mod mending;
+mod positions;
+mod row;
+mod run;
+
+pub use bucket::{Bucket, buckets_are_sound};
+pub use run::Run;
+
+/// How many points a bucket has room for: a bit of a word each.
+pub const ROOM: usize = 64;

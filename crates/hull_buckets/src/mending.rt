@@ -1,0 +1,78 @@
+//! The chain of a bucket's points after one came or went, or after all did.
+ghost use Rattle.std.specs.Prelude.{◌≡◌, ◌↔◌, ◌<◌, ◌≤◌, ◌+◌, ◌%◌, ◌^◌, ◌++◌, IsTrue, length};
+ghost use Rattle.lattice.specs.Covers.{IsPointSet};
+ghost use Rattle.hull_geometry.specs.Mending.{IsOverEdge};
+ghost use Rattle.hull_geometry.specs.Positions.{point_at};
+ghost use Rattle.hull_buckets.specs.Buckets.{IsMaskOf, WasMaskOf};
+ghost use Rattle.hull_buckets.specs.Masks.{at_places, without_place};
+ghost use Rattle.hull_buckets.specs.declared.TheConstants.{ROOM};
+
+use super::chain::{passed_over, pushed, taken_up, turns_at};
+use super::mask::{below, between, first, has, highest, lowest, moved_down, moved_up};
+use lattice::{Point, Side};
+
+/// Whether the point at a place lies between the last corner before it and the first one behind it, and not outwards of
+/// their segment.
+fn is_covered(side: Side, points: &[Point], low: u64, high: u64, place: usize) -> bool
+    requires few { length points.now ≤ ROOM }
+    requires within { place < length points.now }
+    requires low_before { low < 2 ^ place }
+    requires high_behind { high % 2 ^ (place + 1) ≡ 0 }
+    requires high_within { high < 2 ^ length points.now }
+    ensures { IsTrue result ↔ IsOverEdge side (at_places low points.now ++ at_places high points.now)
+        (length (at_places low points.now)) (point_at points.now place) }
+{
+    if low == 0 || high == 0 {
+        return false;
+    }
+    let ahead = points[highest(low)];
+    let behind = points[lowest(high)];
+    !turns_at(side, ahead, points[place], behind)
+}
+
+/// The mask of the chain of points of which the one at `place` came new; `old` was that of the others.
+///
+/// Where the point lies between two corners of the old chain and not outwards of their segment, nothing changes. Else
+/// those corners go at which the chain to it does not turn, on either side.
+pub(crate) fn with_corner(side: Side, points: &[Point], old: u64, place: usize) -> u64
+    requires few { length points.now ≤ ROOM }
+    requires ordered { IsPointSet points.now }
+    requires within { place < length points.now }
+    requires mask { IsMaskOf side (without_place place points.now) old }
+    ensures { IsMaskOf side points.now result }
+{
+    let low = below(old, place);
+    let high = moved_up(old, place);
+    if is_covered(side, points, low, high, place) {
+        return low + high;
+    }
+    let front = pushed(side, points, low, place);
+    taken_up(side, points, front, high)
+}
+
+/// The mask of the chain of points of which one has gone that stood at `place`; `old` was that of all of them.
+///
+/// Where the point was no corner, nothing changes. Else its neighbours stay, and one pass goes over the points between
+/// them.
+pub(crate) fn without_corner(side: Side, points: &[Point], old: u64, place: usize) -> u64
+    requires { WasMaskOf side points.now place old }
+    ensures { IsMaskOf side points.now result }
+{
+    let low = below(old, place);
+    let high = moved_down(old, place);
+    if !has(old, place) {
+        return low + high;
+    }
+    let middle = between(low, high, points.len());
+    let front = passed_over(side, points, low, middle);
+    taken_up(side, points, front, high)
+}
+
+/// The mask of the chain of these points, in one pass.
+pub(crate) fn all_corners(side: Side, points: &[Point]) -> u64
+    requires few { length points.now ≤ ROOM }
+    requires ordered { IsPointSet points.now }
+    ensures { IsMaskOf side points.now result }
+{
+    passed_over(side, points, 0, first(points.len()))
+}

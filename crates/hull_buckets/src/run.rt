@@ -1,0 +1,156 @@
+//! Runs of a bucket's corners, as halves of a hull.
+ghost use Rattle.std.specs.Prelude.{◌≡◌, ◌<◌, ◌≤◌, ◌^◌, length};
+ghost use Rattle.lattice.specs.Plane as plane;
+ghost use Rattle.lattice.specs.Plane.{IsWithin, widest_side};
+ghost use Rattle.bridge_search.specs.OneWay.{IsBridged-prop};
+ghost use Rattle.bridge_search.specs.Trees.{IsBridged, height_of, highest as most_forks};
+ghost use Rattle.hull_buckets.specs.Buckets.{BucketValue};
+ghost use Rattle.hull_buckets.specs.Masks.{lowest_of, highest_of};
+ghost use Rattle.hull_buckets.specs.declared.TheConstants.{ROOM};
+ghost use Rattle.hull_buckets.specs.Runs.{left_run, right_run, end_of_run, start_of_run, tree_of_run, all_of, edge_at};
+
+use super::bucket::{Bucket, buckets_are_sound};
+use super::mask::{below, highest, lowest};
+use bridge_search::Half;
+use lattice::{Point, Side, orient};
+
+/// Neighbouring corners of a bucket, of both its chains together, at the places of a mask: a half of a hull, which
+/// searches and questions go down.
+///
+/// Its halves are the corners up to the middle of its places and those behind it, so each step halves its width. The
+/// edge between them is read off the masks: it goes from where the chain leaves the first half to where it enters the
+/// second.
+#[derive(Clone, Copy)]
+pub struct Run<'a> {
+    bucket: &'a Bucket,
+    mask: u64,
+    ghost some: { 0 < mask },
+    ghost within: { mask < 2 ^ length bucket.now.points },
+    ghost few: { length bucket.now.points ≤ ROOM },
+    ghost low: { height_of (tree_of_run bucket.now mask) ≤ most_forks },
+    ghost bridged: { IsBridged (tree_of_run bucket.now mask) } by { IsBridged-prop (tree_of_run bucket.now mask) },
+}
+
+/// The places of a mask up to the middle between its lowest and its highest, and those behind it.
+fn halves_of(mask: u64) -> (u64, u64)
+    requires some { 0 < mask }
+    requires several { lowest_of mask < highest_of mask }
+    ensures left { result.0 ≡ left_run mask }
+    ensures right { result.1 ≡ right_run mask }
+{
+    let left = below(mask, (lowest(mask) + highest(mask)) / 2 + 1);
+    (left, mask - left)
+}
+
+/// The last place of a chain in a run, or the run's first where the chain has none there.
+fn end_of(run: u64, chain: u64) -> usize
+    requires { 0 < run }
+    ensures { result ≡ end_of_run chain run }
+{
+    let own = run & chain;
+    if own == 0 { lowest(run) } else { highest(own) }
+}
+
+/// The first place of a chain in a run, or the run's last where the chain has none there.
+fn start_of(run: u64, chain: u64) -> usize
+    requires { 0 < run }
+    ensures { result ≡ start_of_run chain run }
+{
+    let own = run & chain;
+    if own == 0 { highest(run) } else { lowest(own) }
+}
+
+/// How many forks stand above the deepest place of a run.
+fn height_below(mask: u64) -> u32
+    requires { 0 < mask }
+    ensures { (b : BucketValue) → result ≡ height_of (tree_of_run b mask) }
+{
+    if lowest(mask) == highest(mask) {
+        return 0;
+    }
+    let (left, right) = halves_of(mask);
+    height_below(left).max(height_below(right)) + 1
+}
+
+impl<'a> Run<'a> {
+    /// All corners of a bucket: its half of a hull.
+    pub fn new(bucket: &'a Bucket) -> Run<'a>
+        ensures { ⟦<Run<'a> as Half>⟧.tree result ≡ tree_of_run bucket.now (all_of bucket.now) }
+    {
+        buckets_are_sound(bucket);
+        Run {
+            bucket,
+            mask: bucket.corners(Side::Lower) | bucket.corners(Side::Upper),
+        }
+    }
+
+    /// The edge on a side, or nothing where the run is one point.
+    fn edge_on(self, side: Side) -> Option<(Point, Point)>
+        ensures { result ≡ edge_at side (tree_of_run self.entry.bucket.now self.entry.mask) }
+    {
+        if lowest(self.mask) == highest(self.mask) {
+            return None;
+        }
+        let (left, right) = halves_of(self.mask);
+        let chain = self.bucket.corners(side);
+        let points = self.bucket.points();
+        Some((points[end_of(left, chain)], points[start_of(right, chain)]))
+    }
+}
+
+impl<'a> Half for Run<'a> {
+    ghost tree = { λ s. tree_of_run s.bucket.now s.mask };
+
+    ghost Fits = { λ p. Unit {0} };
+
+    fn orient(a: Point, b: Point, c: Point) -> i128
+        ensures value { result ≡ plane.orient a b c }
+        ensures size { IsWithin widest_side result }
+    {
+        orient(a, b, c)
+    }
+
+    fn edge(self) -> Option<(Point, Point)> {
+        self.edge_on(Side::Upper)
+    }
+
+    fn lower(self) -> Option<(Point, Point)> {
+        self.edge_on(Side::Lower)
+    }
+
+    fn left(self) -> Self {
+        let (mask, _) = halves_of(self.mask);
+        Run {
+            bucket: self.bucket,
+            mask,
+        }
+    }
+
+    fn right(self) -> Self {
+        let (_, mask) = halves_of(self.mask);
+        Run {
+            bucket: self.bucket,
+            mask,
+        }
+    }
+
+    fn first(self) -> Point {
+        self.bucket.points()[lowest(self.mask)]
+    }
+
+    fn last(self) -> Point {
+        self.bucket.points()[highest(self.mask)]
+    }
+
+    fn height(self) -> u32 {
+        height_below(self.mask)
+    }
+
+    ghost bridged = { λ s. s.bridged };
+
+    ghost low = { λ s. s.low };
+
+    ghost fits = { λ s p i. tt };
+
+    ghost turned_fits = { λ p i. tt };
+}
