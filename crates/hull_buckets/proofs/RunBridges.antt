@@ -17,6 +17,9 @@ use Rattle.bridge_search.specs.Trees.{Tree, On, IsBridged}
 use Rattle.hull_geometry.specs.Monotone.{IsChainOf}
 use Rattle.hull_geometry.specs.Positions.{point_at, origin}
 use Rattle.hull_geometry.specs.Runs.{ArePartedAt, opposite}
+use Rattle.hull_geometry.specs.Fringes.{IsFringe}
+use Rattle.hull_geometry.proofs.Fringed.{chain_fringe, wider_fringe}
+use Rattle.hull_geometry.proofs.PointLists.{get_or_free}
 use Rattle.hull_geometry.proofs.Runs.{runs_bridge}
 use Rattle.hull_buckets.specs.Buckets.{BucketValue, IsBucket, mask_on}
 use Rattle.hull_buckets.specs.Masks.{at_places, lowest_of, highest_of}
@@ -28,7 +31,7 @@ use Rattle.hull_buckets.proofs.Halvings.{left_some, left_fits, left_narrow, left
 use Rattle.hull_buckets.proofs.Halvings.{right_narrow, right_bit}
 use Rattle.hull_buckets.proofs.Places.{there_at, place_of, none_at}
 use Rattle.hull_buckets.proofs.RunTrees.{one_or_several, leaf_is, fork_is, on_place, on_tree, PlaceIn, too_wide}
-use Rattle.hull_buckets.proofs.RunTrees.{place_within}
+use Rattle.hull_buckets.proofs.RunTrees.{place_within, mask_fits}
 use Rattle.hull_buckets.proofs.Words.{top_before}
 
 -- ---- bits of two masks
@@ -365,3 +368,37 @@ start_within chain run n s f w l =
     place_within run n (start_of_run chain (right_run run)) l
     (right_bit run s f w (start_of_run chain (right_run run))
     (enters chain (right_run run) (right_some run s f w) (right_fits run s f w)).set).1
+
+-- ---- the corners and all points
+
+-- the points of the tree of all corners are points of the bucket
+pub corners_among : (b : BucketValue) → IsBucket b → (t : Pair) → On (tree_of_run b (all_of b)) t → Contains b.points t
+corners_among b k t i =
+    let f = mask_fits (all_of b) (length b.points) (all_within b k) k.few in
+    let p = on_place (width_of (all_of b)) b (all_of b) (some_corner b k) f (omega arith) t i in (
+      p.0,
+      place_within (all_of b) (length b.points) p.0 (all_within b k) p.1,
+      get_or_free b.points p.0 _ _ (place_within (all_of b) (length b.points) p.0 (all_within b k) p.1) ∙ sym p.2,
+    )
+
+-- each corner of a chain is one of them
+chain_on_tree : (side : Side) (b : BucketValue) → IsBucket b → (t : Pair)
+    → Contains (at_places (mask_on side b) b.points) t → On (tree_of_run b (all_of b)) t
+chain_on_tree side b k t m =
+    let f = mask_fits (all_of b) (length b.points) (all_within b k) k.few in
+    let p = place_of (mask_on side b) b.points t m in
+    subst (On (tree_of_run b (all_of b))) (sym p.3)
+    (on_tree (width_of (all_of b)) b (all_of b) (some_corner b k) f (omega arith) p.0 (in_all side p.0 p.2))
+  where
+    in_all : (side : Side) (i : ℕ) → bit_at (mask_on side b) i ≡ 1 → bit_at (all_of b) i ≡ 1
+    in_all Lower i e = let m = bit_at_or b.lower b.upper i in let l = bit_at-lt b.upper i in omega (arith, m, e, l)
+    in_all Upper i e = let m = bit_at_or b.lower b.upper i in let l = bit_at-lt b.lower i in omega (arith, m, e, l)
+
+-- they are a fringe of all points of the bucket
+pub corners_fringe : (side : Side) (b : BucketValue) → IsBucket b
+    → IsFringe side (On (tree_of_run b (all_of b))) (Contains b.points)
+corners_fringe side b k =
+    wider_fringe side (Contains (at_places (mask_on side b) b.points)) (On (tree_of_run b (all_of b))) (Contains
+    b.points)
+    (chain_fringe side b.points (at_places (mask_on side b) b.points) (k.corners side).chain)
+    (chain_on_tree side b k) (corners_among b k)

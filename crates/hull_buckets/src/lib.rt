@@ -24,6 +24,7 @@
 //! ```
 #![tactic(auto)]
 
+mod bridges;
 mod bucket;
 mod chain;
 mod mask;
@@ -32,6 +33,7 @@ mod positions;
 mod row;
 mod run;
 
+pub use bridges::{bridges_of, corners_are_a_fringe};
 pub use bucket::{Bucket, buckets_are_sound};
 pub use run::Run;
 

@@ -1,7 +1,7 @@
 //! A bucket under random changes: its masks beside what a corner is by its definition, its runs beside a plain set.
 use crate::numbers::{Numbers, centred};
 use bridge_search::both_bridges;
-use hull_buckets::{Bucket, ROOM, Run};
+use hull_buckets::{Bucket, ROOM, Run, bridges_of};
 use hull_plain::PlainSet;
 use hull_questions::{area2, extreme, place, tangents, vertices};
 use hull_set::{HullSet, POINT_LIMIT};
@@ -165,7 +165,7 @@ fn bridges_are_right(first: &Bucket, second: &Bucket) -> bool {
         right = is_edge_of(Side::Upper, points, upper.0) && right;
         right = is_edge_of(Side::Lower, points, lower.0) && right;
     }
-    right && upper.1 <= 12 && lower.1 <= 12
+    right && upper.1 <= 12 && lower.1 <= 12 && bridges_of(first, second) == (upper.0, lower.0)
 }
 
 /// A plain set of the points of a bucket.
