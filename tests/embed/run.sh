@@ -84,6 +84,17 @@ page_has_calls() {
     [ -z "$missing" ] || { echo "not on $page: $missing"; return 1; }
 }
 
+# makes random calls with a program of a language: LANGUAGE COMMAND..
+replays() {
+    language=$1
+    shift
+    if [ -s "$room/calls" ]; then
+        try "60000 random calls in $language are answered as all points answer them" "$@" "$room/calls"
+    else
+        skip "random calls in $language" python3
+    fi
+}
+
 in_c() {
     try "hull(3) has every call" page_has_calls hull "$prefix/include/hull.h" "$prefix/include/hull_exchange.h" "$prefix/include/hull_common.h"
     try "hull_shared(3) has every call" page_has_calls hull_shared "$prefix/include/hull_shared.h"
@@ -95,6 +106,8 @@ in_c() {
     try "every code of every function" "$room/codes" "$here/lattice.txt"
     try "checked.c compiles" compile checked -Wl,--wrap=malloc
     try "a checked build tells of arrays that are no outline" "$room/checked"
+    try "replay.c compiles" compile replay
+    replays C "$room/replay"
     try "full.c compiles" compile full
     try "as many points as there may be" "$room/full"
     try "refusals.c compiles" compile refusals -Wl,--wrap=malloc,--wrap=realloc,--wrap=free
@@ -155,6 +168,10 @@ in_cplusplus() {
         $(flags) -lhull_shared -lpthread -o "$room/hull_tests_cpp"
     try "the tests of hull.hpp" "$room/hull_tests_cpp" "$here/lattice.txt"
     # shellcheck disable=SC2046
+    try "replay.cpp compiles" c++ -std=c++17 -pedantic -Wall -Wextra -Werror -O2 "$here/replay.cpp" $(flags) -lhull_shared -lpthread \
+        -o "$room/replay_cpp"
+    replays C++ "$room/replay_cpp"
+    # shellcheck disable=SC2046
     try "examples/embed/planner.cpp compiles by what is installed" c++ -std=c++17 -pedantic -Wall -Wextra -Werror -O2 \
         "$examples/planner.cpp" $(flags) -lhull_shared -lpthread -o "$room/planner"
     try "examples/embed/planner.cpp writes examples/embed/planner.txt" writes "$examples/planner.txt" "$room/planner"
@@ -193,6 +210,8 @@ in_rust() {
     try "rust/hull compiles" rust --crate-type rlib --crate-name hull "$top/rust/hull/src/lib.rs"
     try "the tests of rust/hull compile" rust --test --extern hull --crate-name hull_tests "$here/hull_tests.rs"
     try "the tests of rust/hull" env LATTICE="$here/lattice.txt" "$room/hull_tests"
+    try "replay.rs compiles" rust --crate-name replay_rust --extern hull "$here/replay.rs"
+    replays Rust "$room/replay_rust"
     try "the examples in the documents of rust/hull" rustdoc --test --edition 2021 --crate-name hull -L "native=$prefix/lib" \
         -L "$room" --extern hull="$room/libhull.rlib" "$top/rust/hull/src/lib.rs"
     try "the units of rust/hull compile" rust --test --crate-name hull_units "$top/rust/hull/src/lib.rs"
@@ -285,6 +304,7 @@ in_python() {
         try "hulls end behind their last user by $interpreter ($numbered)" python -W ignore "$here/lives_tests.py"
     done
     interpreter=python3
+    replays Python python "$here/replay.py"
     try "libhull.so slowed down compiles" slowed hull
     try "libhull_shared.so slowed down compiles" slowed hull_shared -DSHARED
     try "calls on one hull from several threads wait for each other" python_slowed "$here/hull_tests.py" Locks
@@ -315,6 +335,9 @@ fi
 try "bin/install" "$top/bin/install" $what "$prefix"
 [ "$failed" -eq 0 ] || end
 
+if is_there python3; then
+    for seed in 1 2 3; do python3 "$here/random_calls.py" 20000 $seed; done >"$room/calls"
+fi
 if is_there cc; then in_c; else skip "C" cc; fi
 if is_there cc && is_there valgrind; then by_valgrind; else skip "memory by valgrind" "cc or no valgrind"; fi
 if is_there cc && is_there c++; then in_cplusplus; else skip "C++" c++; fi

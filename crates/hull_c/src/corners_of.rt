@@ -1,5 +1,7 @@
 //! The corners of any points, in an array of the caller's.
-ghost use Rattle.std.specs.Prelude.{◌≡◌, ◌<◌, ◌⊎◌, MatchOption, length, true};
+ghost use Rattle.std.specs.Prelude.{ℕ, ◌≡◌, ◌<◌, ◌⊎◌, MatchOption, length, true};
+ghost use Rattle.lattice.specs.Plane.{IsBefore};
+ghost use Rattle.hull_geometry.specs.Positions.{point_at};
 ghost use Rattle.hull_outline.specs.Outlines.{IsOwnOutline};
 ghost use Rattle.hull_c.specs.CornersOf.{AreCornersOf, AreTooManyOrRefused, HaveSamePoints};
 ghost use Rattle.hull_c.specs.CornersOf.{TellsCornersOf, WritesCornersOf};
@@ -15,7 +17,8 @@ use lattice::{Point, before};
 /// The place of a point before which no other stands, by x and then y.
 fn first_place(points: &[Point]) -> usize
     requires { 0 < length points.now }
-    ensures { result < length points.now }
+    ensures within { result < length points.now }
+    ensures first { (i : ℕ) → i < length points.now → ¬ IsBefore (point_at points.now i) (point_at points.now result) }
 {
     let mut first = 0;
     for i in 1..points.len() {
