@@ -9,7 +9,7 @@ import re
 import kit
 
 # what the last line may have, each with a value
-MAY_STAND = {"tests", "functions", "axioms", "target", "threads", "main", "may-wait", "sum", "native", "logic-built", "libraries-built",
+MAY_STAND = {"tests", "functions", "axioms", "target", "cpu", "threads", "main", "may-wait", "sum", "native", "logic-built", "libraries-built",
              "statements", "incremental"}
 # what a line says that a verdict may not rest on, with what is wrong
 REFUSED = {
