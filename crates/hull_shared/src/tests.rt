@@ -18,10 +18,10 @@ fn a_seat_goes_out_and_its_desk_closes_once_it_is_back(rt: HostRuntime) {
     let returned = give_back(&mut desk, &mut room);
     let closed = close(&mut desk);
     let ended = end(&mut desk);
+    let Desk::Fresh = desk else { unreachable!() };
     let SharedSeat::Vacant = room else {
         unreachable!()
     };
-    let Desk::Fresh = desk else { unreachable!() };
     assert_eq!(rt;
         [opened, lent, kept, returned, closed, ended],
         [
