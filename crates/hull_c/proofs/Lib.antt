@@ -1,3 +1,4 @@
 pub mod Served
 pub mod InOrder
 pub mod CornersOf
+pub mod Rings

@@ -1,9 +1,9 @@
 //! The corners of any points, in an array of the caller's.
-ghost use Rattle.std.specs.Prelude.{ℕ, ◌≡◌, ◌<◌, ◌⊎◌, MatchOption, length, true};
+ghost use Rattle.std.specs.Prelude.{ℕ, ◌≡◌, ◌<◌, ◌⊎◌, IfNone, MatchOption, length, true};
 ghost use Rattle.lattice.specs.Plane.{IsBefore};
 ghost use Rattle.hull_geometry.specs.Positions.{point_at};
-ghost use Rattle.hull_outline.specs.Outlines.{IsOwnOutline};
-ghost use Rattle.hull_c.specs.CornersOf.{AreCornersOf, AreTooManyOrRefused, HaveSamePoints};
+ghost use Rattle.hull_outline.specs.Outlines.{IsOwnOutline, IsShortOutline};
+ghost use Rattle.hull_c.specs.CornersOf.{AreCornersOf, AreTooManyOrRefused, HaveSamePoints, IsOutlineRing};
 ghost use Rattle.hull_c.specs.CornersOf.{TellsCornersOf, WritesCornersOf};
 
 use super::load::points_of;
@@ -31,7 +31,8 @@ fn first_place(points: &[Point]) -> usize
 
 /// Whether the points are an outline.
 fn are_outline(points: &[Point]) -> bool
-    ensures { result ≡ true → IsOwnOutline points.now }
+    ensures own { result ≡ true → IsOwnOutline points.now }
+    ensures each { IsShortOutline points.now → result ≡ true }
 {
     if let Some(_outline) = Outline::new(points) {
         true
@@ -46,6 +47,7 @@ fn turn_to_outline(points: &mut Vec<Point, Heap>) -> bool
     requires { 0 < length points.old.items }
     ensures same { HaveSamePoints points.new.items points.old.items }
     ensures corners { result ≡ true → AreCornersOf points.old.items points.new.items }
+    ensures rings { IsOutlineRing points.old.items → result ≡ true }
 {
     let first = first_place(points);
     points.rotate_left(first);
@@ -77,7 +79,8 @@ fn by_a_hull(alloc: Heap, points: &[Point], out: &mut [HullPoint]) -> HullReply
 /// Writes the corners where the points are a ring of an outline; else tells nothing.
 fn by_their_ring(ring: &mut Vec<Point, Heap>, out: &mut [HullPoint]) -> Option<HullReply>
     requires { 0 < length ring.old.items }
-    ensures { MatchOption result (out.new ≡ out.old) (λ told. WritesCornersOf ring.old.items out.old out.new told) }
+    ensures told { MatchOption result (out.new ≡ out.old) (λ told. WritesCornersOf ring.old.items out.old out.new told) }
+    ensures rings { IfNone result (¬ IsOutlineRing ring.old.items) }
 {
     if turn_to_outline(ring) {
         Some(put_corners(ring, out))

@@ -1,9 +1,11 @@
 -- the points only change their places, and an outline is that of its own points
-use Rattle.std.proofs.Common.{List, subst}
+use Rattle.std.proofs.Common.{◌≡◌, ◌∙◌, ◌<◌, ℕ, false, true, inl, inr, List, length, Vec, vec_len, arith, refl, subst, sym}
+use Rattle.std.specs.List.{ReversedBelow, RotatedLeft}
 use Rattle.lattice.specs.Plane.{Pair}
-use Rattle.hull_outline.specs.Outlines.{IsOwnOutline}
+use Rattle.hull_outline.specs.Outlines.{IsOwnOutline, IsShortOutline}
 use Rattle.hull_c.specs.CornersOf.{HaveSamePoints}
 use Rattle.hull_c.proofs.CornersOf.{own_corners, permuted_same, same_after, turned_same}
+use Rattle.hull_c.proofs.Rings.{IsLeastAt, turned_back, turned_round}
 use Rattle.hull_c.proofs.corners_of.turn_to_outline.Goals as goal
 
 pub returns-then-are_outline-clause-same : goal.returns-then-are_outline-clause-same
@@ -13,7 +15,7 @@ returns-then-are_outline-clause-same c =
 pub returns-then-are_outline-clause-corners : goal.returns-then-are_outline-clause-corners
 returns-then-are_outline-clause-corners c = λ _.
     own_corners c.args.points.now.items c.rotate_left.new.self.items
-    (subst (λ (z : List Pair). IsOwnOutline z) c.deref-2.ensures.value (c.are_outline.ensures c.if-are_outline.true))
+    (subst (λ (z : List Pair). IsOwnOutline z) c.deref-2.ensures.value (c.are_outline.ensures.own c.if-are_outline.true))
     (turned_same c.first_place-first.result c.args.points.now.items c.rotate_left.new.self.items c.rotate_left.ensures.items)
 
 -- behind the second turn and the reversal, too
@@ -31,4 +33,46 @@ returns-clause-same c = both c
 pub returns-clause-corners : goal.returns-clause-corners
 returns-clause-corners c = λ e.
     own_corners c.args.points.now.items c.reverse.new.self.items
-    (subst (λ (z : List Pair). IsOwnOutline z) c.deref-3.ensures.value (c.are_outline-2.ensures e)) (both c)
+    (subst (λ (z : List Pair). IsOwnOutline z) c.deref-3.ensures.value (c.are_outline-2.ensures.own e)) (both c)
+
+pub returns-then-are_outline-clause-rings : goal.returns-then-are_outline-clause-rings
+returns-then-are_outline-clause-rings c = λ _. refl
+
+-- a vector has as many items as it says
+long : {Z : Type 0} (v : Vec Pair Z) → vec_len v ≡ length v.items
+long v = omega (arith, v.ok.0)
+
+-- a turned vector, by its items
+turned_items : {Z : Type 0} (v w : Vec Pair Z) (f : ℕ) → RotatedLeft v.items w.items (vec_len v) f
+    → RotatedLeft v.items w.items (length v.items) f
+turned_items v w f r = subst (λ (n : ℕ). RotatedLeft v.items w.items n f) (long v) r
+
+-- where the ring begins
+begins : (c : goal.After-are_outline-2) → IsLeastAt c.args.points.now.items c.first_place-first.result
+begins c = subst (λ (z : List Pair). IsLeastAt z c.first_place-first.result) c.deref.ensures.value c.first_place-first.ensures.first
+
+within : (c : goal.After-are_outline-2) → c.first_place-first.result < length c.args.points.now.items
+within c = subst (λ (z : List Pair). c.first_place-first.result < length z) c.deref.ensures.value c.first_place-first.ensures.within
+
+pub returns-clause-rings : goal.returns-clause-rings
+returns-clause-rings c h =
+    let P = c.args.points.now in
+    let R = c.rotate_left.new.self in
+    let Q = c.rotate_left-2.new.self in
+    let W = c.reverse.new.self in
+    let f = c.first_place-first.result in
+    let m : length R.items ≡ length P.items = omega (arith, c.rotate_left.ensures.len, P.ok.0, R.ok.0) in
+    let t = turned_items P R f c.rotate_left.ensures.by_index in
+    elim h.2.1.2 [
+      | inl round ↦
+          let same = turned_round h.0 P.items R.items h.2.1.0 f h.1 h.2.0 h.2.1.1 (within c) round (begins c) m t in
+          let e : false ≡ true = c.if-are_outline.ensures.each
+          (subst (λ (z : List Pair). IsShortOutline z) (sym (c.deref-2.ensures.value ∙ same)) h.1) in cc
+      | inr back ↦
+          let same = turned_back h.0 P.items R.items Q.items W.items h.2.1.0 f h.1 h.2.0 h.2.1.1 (within c) back (begins c) m t
+          (omega (arith, c.rotate_left-2.ensures.len, R.ok.0, Q.ok.0)) (turned_items R Q 1 c.rotate_left-2.ensures.by_index)
+          (omega (arith, c.reverse.ensures.len, Q.ok.0, W.ok.0))
+          (subst (λ (n : ℕ). ReversedBelow Q.items W.items n) (long Q) c.reverse.ensures.by_index) in
+          c.are_outline-2.ensures.each
+          (subst (λ (z : List Pair). IsShortOutline z) (sym (c.deref-3.ensures.value ∙ same)) h.1)
+    ]
