@@ -110,7 +110,9 @@ def make_program(name, to):
 
 
 def make_page(name, to):
-    """What web/build.py and web/page.mjs left."""
+    """What web/build.py and web/page.mjs left, of these sources."""
+    if kit.text_of(f"{kit.TOP}/web/out/made-of").strip() != kit.crates()["hull_c"].sources():
+        sys.exit("tools/release.py: web/out is of other sources: run web/build.py and node web/page.mjs")
     shutil.copy(f"{kit.TOP}/web/out/{name}", to)
 
 
@@ -237,7 +239,7 @@ def reason_not_to(path, product, head, row):
         return f"it was released with {head['toolchain']}"
     if path.endswith(".so") and head[f"compiler-{processor}"] != compiler(processor):
         return "another C compiler"
-    if processor == "web" and not os.path.exists(f"{kit.TOP}/web/out/{os.path.basename(path)}"):
+    if processor == "web" and kit.text_of(f"{kit.TOP}/web/out/made-of").strip() != product.crate.sources():
         return "web/build.py has not made it here"
     return None if processor == "web" or product.crate.is_made() else "its crate is not proved here"
 

@@ -16,6 +16,9 @@ import subprocess
 import sys
 
 TOP = os.path.dirname(os.path.dirname(os.path.abspath(__file__)))
+sys.path.insert(0, f"{TOP}/tools")
+import kit  # noqa: E402 (the path comes first)
+
 LIBRARY, HEAP, HOST = "hull_c", "heap", "web_heap"
 TESTS = re.compile(r"(?m)^#\[cfg\(test\)\]\nmod (\w+);\n")
 
@@ -64,16 +67,9 @@ def sources_of(crate):
 
 
 def crates_below(name):
-    """A crate of the repository and all on which it stands, as crates.txt has them."""
-    below = {}
-    for line in read(f"{TOP}/crates.txt").splitlines():
-        head, _, rest = line.partition("#")[0].partition(":")
-        if head.strip():
-            below[head.split()[0]] = rest.split()
-    found = [name]
-    for it in found:
-        found += [low for low in below[it] if low in below and low not in found]
-    return {it: below[it] for it in found}
+    """A crate of the repository and all on which it stands, each with what its line in crates.txt names."""
+    crate = kit.crates()[name]
+    return {it.name: it.line.partition(":")[2].split() for it in [crate, *reversed(crate.below())]}
 
 
 def texts_of(crate):
@@ -88,29 +84,29 @@ def imports_of(libc):
     return IMPORTS + re.sub(r"(?m)^ *//.*\n", "", block)
 
 
-def heap_of_the_host(kit):
+def heap_of_the_host(rattle):
     """The kit's std_heap by other names, over imports of the host."""
     texts = {}
-    for name in sources_of(f"{kit}/std_heap"):
+    for name in sources_of(f"{rattle}/std_heap"):
         if name == "src/impls.rt":
             continue
-        text = re.sub(r"\bGlobal|(?<=\.)Global|Global(?=[A-Z])", "Heap", read(f"{kit}/std_heap/{name}"))
+        text = re.sub(r"\bGlobal|(?<=\.)Global|Global(?=[A-Z])", "Heap", read(f"{rattle}/std_heap/{name}"))
         text = text.replace("pub mod impls;", "pub mod host;").replace("libc::heap::rattle_", "crate::host::web_")
         if name.endswith(".antt"):
             text = re.sub(r"Rattle\.libc\.(proofs|specs\.contracts)\.heap\.rattle_", rf"Rattle.{HOST}.\1.host.web_", text)
             text = text.replace("calls-crate::host::", f"calls-{HOST}::host::").replace("rattle_", "web_")
             text = text.replace("Rattle.std_heap", f"Rattle.{HOST}")
         texts[name.replace("Global", "Heap")] = text
-    texts["src/host.rt"] = imports_of(read(f"{kit}/libc/src/heap.rt"))
+    texts["src/host.rt"] = imports_of(read(f"{rattle}/libc/src/heap.rt"))
     return texts
 
 
-def lay_out(room, kit):
+def lay_out(room, rattle):
     """Writes the crates for wasm64 to a folder, and takes away what they no longer have."""
     below = crates_below(LIBRARY)
     lines = {HOST: "core libc", HEAP: HOST} | {it: " ".join(low) for it, low in below.items() if it != HEAP}
     for name in lines:
-        texts = heap_of_the_host(kit) if name == HOST else NAMED if name == HEAP else texts_of(f"{TOP}/crates/{name}")
+        texts = heap_of_the_host(rattle) if name == HOST else NAMED if name == HEAP else texts_of(f"{TOP}/crates/{name}")
         crate = f"{room}/crates/{name}"
         for gone in set(sources_of(crate)) - set(texts):
             os.remove(f"{crate}/{gone}")
@@ -131,13 +127,14 @@ def lower(module, to):
 
 
 def main(words):
-    room = os.path.abspath(words[0]) if words else f"{TOP}/web/out"
+    room, begun = os.path.abspath(words[0]) if words else f"{TOP}/web/out", kit.crates()[LIBRARY].sources()
     page = subprocess.run(["rt", "doc"], stdout=subprocess.PIPE, text=True, check=True).stdout.strip()
     lay_out(room, os.path.join(os.path.dirname(page), "rattle"))
     ran = subprocess.run(["rt", "lib"], cwd=f"{room}/crates/{LIBRARY}", env={**os.environ, "RT_ALLOW_C": HOST}, check=False)
     if ran.returncode == 0:
         shutil.copyfile(f"{room}/crates/{LIBRARY}/out/{LIBRARY}.wasm", f"{room}/hull.wasm")
         lower(f"{room}/hull.wasm", f"{room}/hull32.wasm")
+        write(f"{room}/made-of", f"{begun}\n")
     return ran.returncode
 
 
