@@ -39,4 +39,5 @@ pub mod Middles
 pub mod ChainPlaces
 pub mod TwoChains
 pub mod Fringed
+pub mod FringeHulls
 pub mod Runs

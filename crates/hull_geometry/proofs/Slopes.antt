@@ -1,14 +1,15 @@
 -- How far a point lies in a direction, beside a line that rises or falls in it.
-use Rattle.std.proofs.Common.{◌≡◌, ℤ, pos, ◌+ℤ◌, ◌-ℤ◌, ◌*ℤ◌, ◌≤ℤ◌, ◌<ℤ◌, inl, inr, ap, ◌∙◌, arith}
+use Rattle.std.proofs.Common.{◌≡◌, ℤ, pos, ◌+ℤ◌, ◌-ℤ◌, ◌*ℤ◌, ◌≤ℤ◌, ◌<ℤ◌, neg_ℤ, inl, inr, refl, sym, ap, ◌∙◌, arith}
 use Rattle.std.proofs.lemmas.Int.{ints}
 use Rattle.lattice.specs.Plane.{Pair, product, IsBefore}
 use Rattle.lattice.specs.Polynomials.{difference-eq, difference_rules}
 use Rattle.lattice.specs.Signs.{le_or_lt, product_nn, product_pp, product_np}
-use Rattle.lattice.proofs.Vectors.{as_pair, minus, cross, Ahead, ahead_nn}
+use Rattle.lattice.proofs.Vectors.{as_pair, minus, opp, cross, Ahead, ahead_nn}
 use Rattle.lattice.proofs.Numbers.{less_not_le}
 use Rattle.lattice.specs.Turns.{turn}
 use Rattle.lattice.specs.declared.side.Side.{Side}
 use Rattle.lattice.specs.declared.side.Side.TheVariants.{Lower, Upper}
+use Rattle.hull_geometry.specs.Runs.{opposite}
 use Rattle.hull_geometry.specs.Tangents.{Faces}
 use Rattle.hull_geometry.proofs.Orientation.{ahead_of, at_least}
 use Rattle.hull_geometry.proofs.Turns.{wedge, turn_start, turn_back}
@@ -69,7 +70,7 @@ falls d w t down (inr h) (inr k) side far =
     omega (arith, ints)
 
 -- how much farther t lies than p
-product-step : (d p t : Pair) → product d (minus t p) ≡ product d t -ℤ product d p
+pub product-step : (d p t : Pair) → product d (minus t p) ≡ product d t -ℤ product d p
 unfolding product
 product-step d p t =
     rw (as_pair d, as_pair p, as_pair t) (simp difference_rules (difference-eq _ _ _ _ (omega arith)))
@@ -105,3 +106,32 @@ goes side d p q t faces pq tq o f =
           (no_farther d p q (no_gain side d (minus q t) (minus q p) faces (ahead_of t q tq) (ahead_of p q pq)
           (at_least _ _ (turn_back side p q t) o) (step_back d t q k))))
     ]
+
+-- how far a vector goes the other way
+product-opp : (d w : Pair) → product (opp d) w ≡ neg_ℤ (product d w)
+unfolding product
+product-opp d w = rw (as_pair d, as_pair w) (simp difference_rules (difference-eq _ _ _ _ (omega arith)))
+
+-- the steps of a turn exchanged, as the other side sees them
+other_wedge : (side : Side) (u v : Pair) → wedge (opposite side) u v ≡ wedge side v u
+other_wedge Lower u v = refl
+other_wedge Upper u v = refl
+
+-- inwards of the line pq and after p, where q is less far than p, and d faces the other side as one looks back: less
+-- far than p
+pub drops : (side : Side) (d p q t : Pair) → Faces (opposite side) (opp d) → IsBefore p q → IsBefore p t
+    → pos 0 ≤ℤ turn side p q t → product d q <ℤ product d p → product d t <ℤ product d p
+drops side d p q t faces pq pt o f =
+    elim (le_or_lt (product d p) (product d t)) [
+      | inr k ↦ k
+      | inl k ↦ absurd (back _ _ (product-opp d (minus q p)) (product-step d p q) f
+          (no_gain (opposite side) (opp d) (minus t p) (minus q p) faces (ahead_of p t pt) (ahead_of p q pq)
+          (at_least _ _ (turn_start side p q t ∙ sym (other_wedge side (minus t p) (minus q p))) o)
+          (forth _ _ (product-opp d (minus t p)) (product-step d p t) k)))
+    ]
+  where
+    forth : (x y : ℤ) {a b : ℤ} → x ≡ neg_ℤ y → y ≡ a -ℤ b → b ≤ℤ a → x ≤ℤ pos 0
+    forth x y e f h = omega (arith, ints)
+
+    back : (x y : ℤ) {a b : ℤ} → x ≡ neg_ℤ y → y ≡ a -ℤ b → a <ℤ b → x ≤ℤ pos 0 → ⊥
+    back x y e f h k = omega (arith, ints)

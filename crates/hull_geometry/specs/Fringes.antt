@@ -1,11 +1,17 @@
--- Points that do not matter to a bridge: those that stand inwards of a segment between two others of their set.
+-- Points that do not matter to a bridge, nor to a hull: those that stand inwards of a segment between two others of
+-- their set.
 use Rattle.std.specs.List.{Contains}
-use Rattle.std.specs.Prelude.{◌≡◌, ◌⊎◌, ◌↔◌, List}
+use Rattle.std.specs.Prelude.{◌≡◌, ◌⊎◌, ◌↔◌, ℤ, List}
 use Rattle.lattice.specs.Bridges.{IsAllBefore, IsBridge}
+use Rattle.lattice.specs.Covers.{IsPointSet, Covers}
+use Rattle.lattice.specs.Places.{IsOuter}
 use Rattle.lattice.specs.Plane.{Pair, IsBefore}
 use Rattle.lattice.specs.Standing.{WithPoint, IsInnerToEdge}
+use Rattle.lattice.specs.Vertices.{IsVertexList, IsDoubledArea}
 use Rattle.lattice.specs.declared.side.Side.{Side}
 use Rattle.hull_geometry.specs.Monotone.{IsInwards, IsChainOf}
+use Rattle.hull_geometry.specs.Tangents.{IsFirstFarthest, IsTangent}
+use Rattle.hull_geometry.specs.declared.hand.Hand.{Hand}
 
 -- what stands inwards of a segment is inner to each edge to which the segment's two ends are
 abbrev pub UnderAnEdgeIsInner : Side → Type 0
@@ -34,3 +40,18 @@ abbrev pub BridgeEndsAtWhatCame : Side → (Pair → Type 0) → (Pair → Type 
 BridgeEndsAtWhatCame side l r =
     (u v p a b : Pair) → IsAllBefore l r → IsBridge side l r u v → ¬ IsInnerToEdge side u v p
     → (IsBridge side (WithPoint p l) r a b → a ≡ p) × (IsBridge side l (WithPoint p r) a b → b ≡ p)
+
+-- what answers a question about the hull of the points F answers it about the hull of the points S
+pub record AnswersFor (F S : List Pair) : Type 0 where
+  pub covers : (q : Pair) → Covers F q ↔ Covers S q
+  pub outer : (q : Pair) → IsOuter F q ↔ IsOuter S q
+  pub farthest : (d t : Pair) → IsFirstFarthest F d t → IsFirstFarthest S d t
+  pub vertices : (list : List Pair) → IsVertexList F list → IsVertexList S list
+  pub area : (n : ℤ) → IsDoubledArea F n → IsDoubledArea S n
+  pub tangents : (hand : Hand) (q p : Pair) → ¬ Covers F q → IsTangent hand F q p → IsTangent hand S q p
+
+-- what is a fringe of a set on both sides answers for it
+abbrev pub FringesAnswer : Type 0
+FringesAnswer =
+    (F S : List Pair) → IsPointSet F → IsPointSet S → ((side : Side) → IsFringe side (Contains F) (Contains S))
+    → AnswersFor F S

@@ -2,7 +2,7 @@
 ghost use Rattle.hull_geometry.specs.Laws.{VertexListIsUnique, DoubledAreaIsUnique, WithPointAddsThePoint};
 ghost use Rattle.hull_geometry.specs.Laws.{WithoutPointTakesThePoint};
 ghost use Rattle.hull_geometry.specs.Fringes.{UnderAnEdgeIsInner, BridgeIsOfFringes, ChainIsAFringe};
-ghost use Rattle.hull_geometry.specs.Fringes.{BridgeEndsAtWhatCame};
+ghost use Rattle.hull_geometry.specs.Fringes.{BridgeEndsAtWhatCame, FringesAnswer};
 ghost use Rattle.hull_geometry.specs.Runs.{RunsHaveTheirBridge};
 
 use lattice::{PointSet, Side};
@@ -44,6 +44,12 @@ pub fn bridge_is_of_fringes<L: PointSet, M: PointSet, R: PointSet, S: PointSet>(
 /// The chain of a set is a fringe of it.
 pub fn chain_is_a_fringe(side: Side)
     ensures { ChainIsAFringe side }
+{}
+
+/// Points that are a fringe of a set on both sides have its hull: what answers a question about theirs answers it about the
+/// hull of the set.
+pub fn fringes_answer()
+    ensures { FringesAnswer }
 {}
 
 /// Where a point that lies beyond the bridge of two sets comes to one of them, their new bridge ends at that point: half a

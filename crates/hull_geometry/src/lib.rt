@@ -12,7 +12,7 @@ mod sight;
 pub use hand::Hand;
 pub use laws::{
     bridge_ends_at_what_came, bridge_is_of_fringes, chain_is_a_fringe, doubled_area_is_unique,
-    runs_have_their_bridge, under_an_edge_is_inner, vertex_list_is_unique,
+    fringes_answer, runs_have_their_bridge, under_an_edge_is_inner, vertex_list_is_unique,
     with_point_adds_the_point, without_point_takes_the_point,
 };
 pub use sight::{Sight, sight_by};

@@ -1,0 +1,6 @@
+-- what lies farthest in a fringe lies farthest in its set
+use Rattle.hull_geometry.proofs.FringeHulls.{fringes_answer}
+use Rattle.hull_geometry.proofs.laws.fringes_answer.Goals as goal
+
+pub returns : goal.returns
+returns c = fringes_answer
