@@ -130,6 +130,8 @@ def linked(source, target):
     def link(one, other):
         try:
             os.link(one, other)
+        except FileExistsError:
+            pass
         except OSError:
             shutil.copy2(one, other)
 
