@@ -23,7 +23,8 @@
 //!
 //! A `LongBook` of `hull_book` is shared in the same way, by [`make_long_call`] and [`close_long_book`]. One of its
 //! seats takes the lines out before they are too many, by [`make_drain`]: under the lock only the lists change hands.
-//! Where nobody wants a journal, all seats make their calls by [`make_call_and_let_go`].
+//! Where nobody wants a journal, all seats make their calls by [`make_call_and_let_go`]. [`two_seats_share`] is the whole
+//! flow for two seats, to copy.
 //!
 //! # A whole script
 //!
@@ -41,6 +42,7 @@ mod law;
 mod long_call;
 mod long_close;
 mod phase;
+mod two_seats;
 mod worker;
 mod workers;
 
@@ -54,4 +56,5 @@ pub use long_call::{
 };
 pub use long_close::close_long_book;
 pub use phase::{PhaseEnd, PoolFault, run_phase, run_phases};
+pub use two_seats::{Member, two_seats_share};
 pub use workers::Workers;

@@ -61,6 +61,7 @@ mod serving;
 mod setting_up;
 #[cfg(test)]
 mod tests;
+mod threads;
 
 use desk::Desk;
 use hull_reply::{HullPoint, HullReply};
@@ -69,6 +70,7 @@ pub use looking::SeatReply;
 use part::Part;
 use seat::SharedSeat;
 use std::alloc::Global;
+pub use threads::rooms_go_to_any_thread;
 
 /// How many bytes the room of a desk has.
 #[unsafe(no_mangle)]

@@ -1,7 +1,6 @@
-ghost use Rattle.std.specs.Prelude.{◌≤◌, ◌↔◌, IfOk, IfSome, IsTrue, string_bytes};
-ghost use Rattle.std.specs.List.{All};
-ghost use Rattle.hull_program.specs.Words.{IsOneOf, texts_of};
-ghost use Rattle.hullbook.specs.Tasks.{AreStatedWithinLimits, AreWithinLimits, IsWithinLimits, NamesWords};
+ghost use Rattle.std.specs.Prelude.{◌≡◌, ◌≤◌, ◌↔◌, ◌∷◌, IfOk, IfSome, IsTrue};
+ghost use Rattle.hull_program.specs.Words.{texts_of, words_as_texts};
+ghost use Rattle.hullbook.specs.Tasks.{AreBehindCheck, AreStatedWithinLimits, AreWithinLimits, IsWithinLimits, NamesWords};
 
 use super::{Options, Stated, Task};
 use clap::{Arg, ArgAction, ArgMatches, Command};
@@ -146,18 +145,63 @@ fn run_task(alloc: Global, given: &ArgMatches<'_>, words: &[&str]) -> Result<Tas
     Ok(Task::RunAfter(script, journal, stated))
 }
 
-/// The paths in their order, as they were written.
-fn words_of(alloc: Global, paths: &[&str], words: &[&str]) -> Result<Vec<String>, Refusal>
-    ensures { IfOk result (λ found. All (λ word. IsOneOf (texts_of words.now) (string_bytes word)) found.items) }
+/// The words as strings, in their order.
+fn strings_of(alloc: Global, words: &[&str]) -> Result<Vec<String>, Refusal>
+    ensures { IfOk result (λ found. words_as_texts found.items ≡ texts_of words.now) }
 {
-    let mut found = Vec::new(alloc);
-    for path in paths {
-        let word = word_of(alloc, path, words)?;
-        if found.push(word).is_err() {
+    let Ok(mut found) = Vec::with_capacity(alloc, words.len()) else {
+        return Err(Refusal::Memory);
+    };
+    for word in words {
+        let Ok(text) = String::from_str(alloc, word) else {
             return Err(Refusal::Memory);
-        }
+        };
+        found.push_reserved(text);
     }
     Ok(found)
+}
+
+/// Whether a word is this text.
+fn is_word(word: &str, text: &str) -> bool
+    ensures { IsTrue result ↔ (word.now ≡ text.now) }
+{
+    word == text
+}
+
+/// The words behind this one, if it is the first.
+fn words_behind<'a>(text: &str, words: &'a [&'a str]) -> Option<&'a [&'a str]>
+    ensures { IfSome result (λ rest. texts_of words.now ≡ text.now ∷ texts_of rest.now) }
+{
+    let (first, rest) = words.split_first()?;
+    if !is_word(first, text) {
+        return None;
+    }
+    Some(rest)
+}
+
+/// The words behind `check`, and behind a mark that ends the options.
+fn parts_behind<'a>(words: &'a [&'a str]) -> Option<&'a [&'a str]>
+    ensures { IfSome result (λ parts. AreBehindCheck (texts_of words.now) (texts_of parts.now)) }
+{
+    let behind = words_behind("check", words)?;
+    match words_behind("--", behind) {
+        Some(parts) => Some(parts),
+        None => Some(behind),
+    }
+}
+
+/// The parts behind `check`, of which there have to be so many, two or more: all words there, in their order.
+fn parts_task(alloc: Global, number: usize, words: &[&str]) -> Result<Task, Refusal>
+    ensures limits { IfOk result IsWithinLimits }
+    ensures paths { IfOk result (NamesWords (texts_of words.now)) }
+{
+    let Some(parts) = parts_behind(words) else {
+        return Err(Refusal::Usage);
+    };
+    if parts.len() < 2 || parts.len() != number {
+        return Err(Refusal::Usage);
+    }
+    Ok(Task::CheckParts(strings_of(alloc, parts)?))
 }
 
 /// What the words behind `check` ask for. Of one path a wrong line can be explained.
@@ -175,7 +219,7 @@ fn check_task(alloc: Global, given: &ArgMatches<'_>, words: &[&str]) -> Result<T
     if explains {
         return Err(Refusal::Usage);
     }
-    Ok(Task::CheckParts(words_of(alloc, paths, words)?))
+    parts_task(alloc, paths.len(), words)
 }
 
 /// What the words after the program's name ask for: `run SCRIPT` with its options, `check JOURNAL` with `--explain` or

@@ -1,9 +1,10 @@
-//! Two seats on a book whose lines are let go: it has room for one line, and is never full.
+//! Two seats on a book whose lines are let go, which has room for one and is never full; and the whole flow of two seats.
 use super::{at, opened};
-use hull_book::{Answer, Call, Journal, Ledger, LongBook, Reply};
+use hull_book::{Answer, Call, Journal, Ledger, LongBook, Reply, Room};
 use hull_plain::PlainSet;
 use hull_pool::{
-    LongLock, LongSeat, close_long_book, make_call_and_let_go, serve_let_go_and_hand_on,
+    LongLock, LongSeat, Member, close_long_book, make_call_and_let_go, serve_let_go_and_hand_on,
+    two_seats_share,
 };
 use std::alloc::Global;
 use std::process::Abort;
@@ -67,4 +68,42 @@ fn lines_that_are_let_go_make_room(rt: HostRuntime) {
     drop(part);
     assert!(rt; told);
     assert_eq!(rt; (left, sum), ((10, 0), 3));
+}
+
+// What two seats took out of a book, how many lines its journal has, and how many it holds at the end.
+fn both_share<R: Wait + Abort>(rt: &R, alloc: Global) -> (Option<Journal>, u64, usize) {
+    let (book, mut ledgers) = opened(rt, alloc, 7, 4, 2);
+    let Ok(book) = Box::new(alloc, LongBook::new(book)) else {
+        panic!(rt; "there is memory for the book")
+    };
+    let Ok((lock, mut seats)) = TicketLock::open(alloc, book, 2) else {
+        panic!(rt; "there is memory for the lock")
+    };
+    let Ok(room) = Room::reserve(alloc, 4) else {
+        panic!(rt; "there is memory for the lines")
+    };
+    let one = Member {
+        seat: seats.pop().unwrap(),
+        ledger: ledgers.pop().unwrap(),
+    };
+    let zero = Member {
+        seat: seats.pop().unwrap(),
+        ledger: ledgers.pop().unwrap(),
+    };
+    let added = Call::Add(at(rt, 3, 4));
+    let (book, drained, sum) = two_seats_share(rt, lock, zero, one, room, seats, ledgers, added);
+    let held = book.lines().len();
+    drop(book);
+    match drained {
+        Ok((_reply, part)) => (Some(part), sum, held),
+        Err(_room) => (None, sum, held),
+    }
+}
+
+#[test]
+fn two_seats_share_a_book_that_one_of_them_drains(rt: HostRuntime) {
+    let (part, sum, held) = both_share(&rt, rt.alloc());
+    let part = part.map(|part| (part.first(), part.lines().len()));
+    assert!(rt; part == Some((7, 2)));
+    assert_eq!(rt; (sum, held), (3, 0));
 }
