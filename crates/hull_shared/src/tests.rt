@@ -8,8 +8,8 @@ use crate::seat::SharedSeat;
 use hull_reply::Code;
 use std::test::Fail;
 
-#[test]
-fn a_seat_goes_out_and_its_desk_closes_once_it_is_back(rt: HostRuntime) {
+/// What a desk for two seats tells: its opening, a seat that is lent, a close meanwhile, the seat given back, the close, the end.
+fn told_by_a_desk(rt: HostRuntime) -> [u32; 6] {
     let mut desk = Desk::Fresh;
     let mut room = SharedSeat::Vacant;
     let opened = open(&mut desk, rt.alloc(), 4, 0, 4, 2);
@@ -22,13 +22,29 @@ fn a_seat_goes_out_and_its_desk_closes_once_it_is_back(rt: HostRuntime) {
     let SharedSeat::Vacant = room else {
         unreachable!()
     };
+    [opened, lent, kept, returned, closed, ended]
+}
+
+#[test]
+fn lend_always_refuses(rt: HostRuntime) {
+    let [opened, lent, _, returned, _, _] = told_by_a_desk(rt);
     assert_eq!(rt;
-        [opened, lent, kept, returned, closed, ended],
+        [opened, lent, returned],
         [
             Code::Open.number(),
             Code::Lent.number(),
+            Code::Returned.number()
+        ]
+    );
+}
+
+#[test]
+fn close_always_in_use(rt: HostRuntime) {
+    let [_, _, kept, _, closed, ended] = told_by_a_desk(rt);
+    assert_eq!(rt;
+        [kept, closed, ended],
+        [
             Code::SeatsOut.number(),
-            Code::Returned.number(),
             Code::Closed.number(),
             Code::Ended.number()
         ]
