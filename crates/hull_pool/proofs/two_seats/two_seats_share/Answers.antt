@@ -2,7 +2,7 @@
 use Rattle.std.proofs.Common.{◌≡◌, ◌∙◌, ℕ, List, [], ◌∷◌, ◌++◌, ap, subst, sym}
 use Rattle.hull_book.specs.Ledgers.{IsLedgerOf, LedgerValue}
 use Rattle.hull_book.specs.Marks.{plain}
-use Rattle.ticket_lock.specs.Tokens.{seat_number, seat_seen}
+use Rattle.ticket_lock.specs.Tokens.{seat_seen}
 use Rattle.hull_pool.proofs.two_seats.two_seats_share.Goals as goal
 
 pub close_long_book-book-requires-clause-ledgers : goal.close_long_book-book-requires-clause-ledgers
