@@ -280,7 +280,7 @@ impl JournalPart {
     /// Writes that text to a writer, some thousand bytes at a time.
     pub fn write_to(&self, out: &mut impl std::io::Write) -> std::io::Result<()> {
         for piece in self.pieces(1 << 16) {
-            out.write_all(piece.map_err(std::io::Error::other)?.as_bytes())?;
+            out.write_all(piece.map_err(|fault| std::io::Error::new(std::io::ErrorKind::Other, fault))?.as_bytes())?;
         }
         Ok(())
     }
