@@ -62,6 +62,16 @@ PYTHON = "import hull; h = hull.Hull([(0, 0), (10, 0), (10, 10), (0, 10)]); s = 
 NODE = "import { load } from 'hullbook'; const { Hull } = await load(); const h = new Hull(100); h.addAll([[0, 0], [10, 0], [10, 10], [0, 10]]); console.log(String(h.doubledArea()));"
 
 
+PAGE = """import { Tab } from "CLONE/tests/web/browser.mjs";
+const tab = await Tab.open("file://CLONE/dist/web/index.html", [800, 600]);
+for (let i = 0; i < 400 && !(await tab.value("Boolean(globalThis.page)").catch(() => false)); i++) await new Promise((done) => setTimeout(done, 50));
+await tab.value("page.deed(['add 0 0', 'add 8 0', 'add 8 6'])");
+await tab.value("new Promise((done) => requestAnimationFrame(() => requestAnimationFrame(done)))");
+const told = await tab.value("['count', 'area'].map((id) => document.getElementById(id).textContent).join(', ')");
+await tab.close();
+console.log(told);
+process.exit(0);
+"""
 TYPED = """import { load, type Point } from 'hullbook';
 export async function first(): Promise<Point> {
     const { Hull } = await load();
@@ -147,16 +157,13 @@ def try_clone(tries):
 
 
 def try_page(tries):
-    """The released page runs from disk in a browser with no window: a click adds a point."""
+    """The released page runs from disk in a browser with no window: calls are made, and their answers shown."""
     browser = next((it for it in ("chromium", "chromium-browser") if shutil.which(it, path=tries.path)), None)
-    if not browser:
-        print("skipped: the page: there is no chromium")
+    if not browser or not tries.has("node", "the page"):
+        print("skipped: the page: there is no chromium or no node")
         return
-    flags = ["--headless=new", "--no-sandbox", "--disable-gpu", f"--user-data-dir={tries.room}/profile", "--virtual-time-budget=4000", "--dump-dom"]
-    page = kit.text_of(f"{tries.room}/clone/dist/web/index.html").replace("</html>", "<script>const wait = setInterval(() => globalThis.page && (clearInterval(wait), page.deed(['add 0 0', 'add 8 0', 'add 8 6'])), 50)</script></html>")
-    tries.lay("page", index__html=page)
-    told = tries.run(browser, *flags, f"file://{tries.room}/page/index.html")[1]
-    tries.see("the page from disk, in Chromium", "3, 3 of them corners" in told and "<dd id=\"area\">24</dd>" in told, told[-400:])
+    tries.lay("page", page__mjs=PAGE.replace("CLONE", f"{tries.room}/clone"))
+    tries.prints("the page from disk, in Chromium", "3, 3 of them corners, 24", "node", "page.mjs", at="page", env={"CHROMIUM": browser})
 
 
 def try_install(tries):

@@ -50,7 +50,7 @@ if ! command -v node >/dev/null; then
     echo 'skipped: Node is not there'
     finish
 fi
-program=$top/crates/hullbook/out/hullbook
+program=$("$top/tools/release.py" --program hullbook) || program=
 [ -x "$program" ] || program=
 counted node "$here/judge_tests.mjs" "$program"
 # the modules that web/build.py made, or the released ones where the sources are theirs
