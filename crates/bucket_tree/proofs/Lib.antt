@@ -1,0 +1,4 @@
+pub mod NodePoints
+pub mod NodeFringes
+pub mod NodeSizes
+pub mod NodeAnswers

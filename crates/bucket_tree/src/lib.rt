@@ -1,0 +1,12 @@
+//! A tree of forks over buckets of lattice points.
+#![tactic(auto)]
+
+mod fork_ref;
+mod node;
+mod part;
+mod questions;
+
+pub use fork_ref::ForkRef;
+pub use node::{Fork, Node};
+pub use part::Part;
+pub use questions::{area2, corners_answer, corners_are_few, extreme, place, tangents, vertices};
