@@ -2,3 +2,4 @@ pub mod NodePoints
 pub mod NodeFringes
 pub mod NodeSizes
 pub mod NodeAnswers
+pub mod NodeRows

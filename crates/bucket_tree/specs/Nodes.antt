@@ -86,3 +86,9 @@ pub record IsWellBuilt (n : Node) : Type 0 where
   pub balanced : IsBalanced n
   pub labelled : IsLabelled n
   pub buckets : HasBuckets n
+
+-- two well-built nodes, all points of the one before all points of the other
+pub record AreInRow (l r : Node) : Type 0 where
+  pub left_built : IsWellBuilt l
+  pub right_built : IsWellBuilt r
+  pub in_order : IsPointSet (points_below l ++ points_below r)

@@ -2,6 +2,7 @@
 #![tactic(auto)]
 
 mod fork_ref;
+mod join;
 mod node;
 mod part;
 mod questions;

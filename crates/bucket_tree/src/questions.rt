@@ -1,7 +1,7 @@
 //! Questions about the hull of all points below a node, which go down its corners alone.
-ghost use Rattle.std.specs.Prelude.{◌≤◌, length, vec_len, IfOk, pos};
+ghost use Rattle.std.specs.Prelude.{◌<◌, ◌≤◌, length, vec_len, IfOk, pos};
 ghost use Rattle.bridge_search.specs.Leaves.{points_of};
-ghost use Rattle.bridge_search.specs.Trees.{height_of, size_of, highest};
+ghost use Rattle.bridge_search.specs.Trees.{height_of, size_of};
 ghost use Rattle.lattice.specs.Vertices.{IsVertexList, IsDoubledArea};
 ghost use Rattle.hull_geometry.specs.Fringes.{AnswersFor};
 ghost use Rattle.hull_geometry.specs.Tangents.{IsFirstFarthest};
@@ -27,7 +27,7 @@ pub fn corners_are_few(node: &Node)
     requires { IsWellBuilt node.now }
     ensures whole { IsWhole node.now }
     ensures few { size_of (tree_of node.now) ≤ length (points_below node.now) }
-    ensures low { length (points_below node.now) ≤ POINT_LIMIT → height_of (tree_of node.now) ≤ highest }
+    ensures low { height_of (tree_of node.now) < length (points_below node.now) }
 {}
 
 /// The first, by x and then y, of the points below a node that lie farthest in the direction `d`.

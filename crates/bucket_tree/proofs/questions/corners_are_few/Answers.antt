@@ -9,7 +9,7 @@ pub returns-clause-few : goal.returns-clause-few
 returns-clause-few c = few_corners c.args.node.now c.requires
 
 pub returns-clause-low : goal.returns-clause-low
-returns-clause-low c l = omega (arith, few_corners c.args.node.now c.requires, height_size (tree_of c.args.node.now), l)
+returns-clause-low c = omega (arith, few_corners c.args.node.now c.requires, height_size (tree_of c.args.node.now))
 
 pub returns-clause-whole : goal.returns-clause-whole
 returns-clause-whole c = whole c.args.node.now c.requires.buckets
