@@ -92,3 +92,8 @@ pub record AreInRow (l r : Node) : Type 0 where
   pub left_built : IsWellBuilt l
   pub right_built : IsWellBuilt r
   pub in_order : IsPointSet (points_below l ++ points_below r)
+
+-- the height h of a node that is made of two of heights l and r: that of the fork over them, or one less where they
+-- differ by two
+abbrev pub IsHeightOver : ℕ → ℕ → ℕ → Type 0
+IsHeightOver l r h = (max l r ≤ h) × (h ≤ max l r + 1) × (AreNear l r → h ≡ max l r + 1)

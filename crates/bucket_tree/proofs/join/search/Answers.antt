@@ -1,10 +1,10 @@
 -- the corners of the one stand before those of the other
-use Rattle.std.proofs.Common.{◌≡◌, ◌+◌, ◌≤◌, ap, arith, subst, sym}
+use Rattle.std.proofs.Common.{◌≡◌, ◌+◌, ◌≤◌, ap, arith, length-append, subst, sym}
 use Rattle.lattice.specs.Bridges.{IsAllBefore}
 use Rattle.bridge_search.specs.Trees.{On, height_of}
-use Rattle.bucket_tree.specs.Nodes.{tree_of}
+use Rattle.bucket_tree.specs.Nodes.{tree_of, points_below}
 use Rattle.bucket_tree.specs.Parts.{part_tree}
-use Rattle.bucket_tree.proofs.NodeRows.{corners_in_row}
+use Rattle.bucket_tree.proofs.NodeRows.{corners_in_row, corners_low}
 use Rattle.bucket_tree.proofs.join.search.Goals as goal
 
 pub both_bridges-upper-requires : goal.both_bridges-upper-requires
@@ -22,8 +22,19 @@ overflow_add-result c = omega (
   ap height_of c.new-2.ensures,
   c.corners_are_few.ensures.low,
   c.corners_are_few-2.ensures.low,
-  c.requires.left_few,
-  c.requires.right_few,
+  c.requires.few,
+  length-append (points_below c.args.left.now) (points_below c.args.right.now),
+)
+
+pub returns-clause-turns : goal.returns-clause-turns
+returns-clause-turns c = omega (
+  arith,
+  c.both_bridges-upper.ensures.upper_few,
+  c.both_bridges-upper.ensures.lower_few,
+  ap height_of c.new.ensures,
+  ap height_of c.new-2.ensures,
+  corners_low c.args.left.now c.requires.row.left_built.buckets,
+  corners_low c.args.right.now c.requires.row.right_built.buckets,
 )
 
 pub returns-clause-before : goal.returns-clause-before
