@@ -3,3 +3,5 @@ pub mod NodeFringes
 pub mod NodeSizes
 pub mod NodeAnswers
 pub mod NodeRows
+pub mod BuiltLeaves
+pub mod Halves

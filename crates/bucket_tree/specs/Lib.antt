@@ -1,3 +1,4 @@
 pub mod Nodes
 pub mod OneWay
 pub mod Parts
+pub mod Loads

@@ -3,11 +3,13 @@
 
 mod fork_ref;
 mod join;
+mod load;
 mod node;
 mod part;
 mod questions;
 
 pub use fork_ref::ForkRef;
+pub use load::from_parts;
 pub use node::{Fork, Node};
 pub use part::Part;
 pub use questions::{area2, corners_answer, corners_are_few, extreme, place, tangents, vertices};
