@@ -5,3 +5,5 @@ pub mod NodeAnswers
 pub mod NodeRows
 pub mod BuiltLeaves
 pub mod Halves
+pub mod Rows
+pub mod Gained

@@ -2,3 +2,4 @@ pub mod Nodes
 pub mod OneWay
 pub mod Parts
 pub mod Loads
+pub mod Counts

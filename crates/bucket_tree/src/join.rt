@@ -2,6 +2,7 @@
 ghost use Rattle.std.specs.Prelude.{◌≡◌, ◌<◌, ◌≤◌, ◌+◌, ◌*◌, ◌++◌, max, length};
 ghost use Rattle.lattice.specs.Bridges.{IsAllBefore, IsUpperBridge, IsLowerBridge};
 ghost use Rattle.bridge_search.specs.Trees.{On};
+ghost use Rattle.hull_geometry.specs.Positions.{first_of as first_in};
 ghost use Rattle.hull_set.specs.declared.TheConstants.{POINT_LIMIT};
 ghost use Rattle.bucket_tree.specs.Nodes.{tree_of, points_below, times_below, forks_above, AreNear, AreInRow};
 ghost use Rattle.bucket_tree.specs.Nodes.{IsWellBuilt, IsHeightOver};
@@ -64,6 +65,7 @@ pub(crate) fn take_apart(node: Node) -> (Node, Node, Box<Fork, Heap>)
     ensures points { points_below node ≡ points_below result.0 ++ points_below result.1 }
     ensures times { times_below node ≡ times_below result.0 ++ times_below result.1 }
     ensures height { forks_above node ≡ max (forks_above result.0) (forks_above result.1) + 1 }
+    ensures parting { result.2.value.first_right ≡ first_in (points_below result.1) }
 {
     let Node::Fork(_, mut fork) = node else {
         unreachable!()

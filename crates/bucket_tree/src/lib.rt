@@ -2,6 +2,7 @@
 #![tactic(auto)]
 
 mod fork_ref;
+mod insert;
 mod join;
 mod load;
 mod node;

@@ -11,7 +11,7 @@ use lattice::Point;
 use std::alloc::AllocError;
 
 /// The box of a fork that is not made yet.
-fn blank(alloc: Heap, point: Point) -> Result<Box<Fork, Heap>, AllocError> {
+pub(crate) fn blank(alloc: Heap, point: Point) -> Result<Box<Fork, Heap>, AllocError> {
     let fork = Fork {
         first_right: point,
         left: Node::Gap,
