@@ -96,7 +96,7 @@ grew_right false p xs ys zs s l b e =
 grew_right true p xs ys zs s l b e = ap (λ z. xs ++ z) e
 
 -- what a node holds, by two in whose row its points are
-held_row : (n l r : Node) (q : Pair) → HasBuckets l → points_below n ≡ points_below l ++ points_below r
+pub held_row : (n l r : Node) (q : Pair) → HasBuckets l → points_below n ≡ points_below l ++ points_below r
     → times_below n ≡ times_below l ++ times_below r → times_at n q ≡ times_at l q + times_at r q
 held_row n l r q h e f =
     ap (λ z. counted z (times_below n) q) e ∙ ap (λ z. counted (points_below l ++ points_below r) z q) f

@@ -7,3 +7,4 @@ pub mod BuiltLeaves
 pub mod Halves
 pub mod Rows
 pub mod Gained
+pub mod Lost

@@ -1,11 +1,11 @@
 -- How often points are held, and what a point that comes makes of it.
-use Rattle.std.specs.Prelude.{◌≡◌, ℕ, ◌+◌, ◌≤◌, Bool, true, false, if◌then◌else◌, List, [], ◌∷◌}
-use Rattle.lattice.specs.Covers.{with_point}
+use Rattle.std.specs.Prelude.{◌≡◌, ℕ, ◌+◌, ◌≤◌, Bool, true, false, if◌then◌else◌, List, [], ◌∷◌, Option, None, Some}
+use Rattle.lattice.specs.Covers.{with_point, without_point}
 use Rattle.lattice.specs.Plane.{Pair}
 use Rattle.hull_set.specs.Held.{once}
 use Rattle.hull_set.specs.PointLists.{is_same_pair}
 use Rattle.bucket_tree.specs.declared.node.Node.{Node}
-use Rattle.bucket_tree.specs.Nodes.{points_below, times_below, forks_above}
+use Rattle.bucket_tree.specs.Nodes.{points_below, times_below, forks_above, IsWellBuilt}
 
 -- p held so many times, and no other point
 abbrev pub several : ℕ → Pair → Pair → ℕ
@@ -30,3 +30,10 @@ HasGained true p n m = (points_below m ≡ points_below n) × ((q : Pair) → ti
 -- the node is as high as the other, or one higher
 abbrev pub IsNoMuchHigher : Node → Node → Type 0
 IsNoMuchHigher n m = (forks_above n ≤ forks_above m) × (forks_above m ≤ forks_above n + 1)
+
+-- p, held once, went from the points; where it was the only one, nothing is left of a bucket
+abbrev pub HasLost : Pair → Node → Option Node → Type 0
+HasLost p n None = (points_below n ≡ p ∷ []) × ((q : Pair) → times_at n q ≡ once p q) × (forks_above n ≡ 0)
+HasLost p n (Some m) =
+    IsWellBuilt m × (points_below m ≡ without_point p (points_below n))
+    × ((q : Pair) → times_at n q ≡ times_at m q + once p q) × IsNoMuchHigher m n

@@ -118,7 +118,7 @@ fn insert_leaf(alloc: Heap, mut bucket: Box<Bucket, Heap>, p: Point) -> Inserted
 }
 
 /// The bucket that a node is.
-fn bucket_of(node: Node) -> Box<Bucket, Heap>
+pub(crate) fn bucket_of(node: Node) -> Box<Bucket, Heap>
     requires built { IsWellBuilt node }
     requires leaf { forks_above node ≡ 0 }
     ensures { node ≡ Leaf result }

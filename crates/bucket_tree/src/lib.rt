@@ -8,6 +8,7 @@ mod load;
 mod node;
 mod part;
 mod questions;
+mod remove;
 
 pub use fork_ref::ForkRef;
 pub use load::from_parts;
