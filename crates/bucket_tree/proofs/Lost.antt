@@ -1,6 +1,6 @@
 -- A point that goes from one of two nodes in a row.
 use Rattle.std.proofs.Common.{◌≡◌, ℕ, zero, suc, ◌+◌, ◌-◌, ◌≤◌, ◌<◌, true, false, refl, sym, ap, ◌∙◌, subst, List, [], ◌∷◌, ◌++◌}
-use Rattle.std.proofs.Common.{length, arith, inl, inr, Ok, Err, get_or, max}
+use Rattle.std.proofs.Common.{length, arith, inl, inr, Ok, Err, get_or, max, Box, Global}
 use Rattle.std.specs.Prelude.{Bool, None, Some, if◌then◌else◌, take, drop}
 use Rattle.std.proofs.lemmas.Bool.{cases_lt}
 use Rattle.hull_buckets.proofs.Around.{taken_away}
@@ -19,12 +19,13 @@ use Rattle.hull_set.specs.Held.{once}
 use Rattle.hull_set.specs.PointLists.{is_same_pair}
 use Rattle.hull_set.proofs.Times.{same_false, same_true}
 use Rattle.bucket_tree.specs.Counts.{several, counted, times_at, HasLost, IsNoMuchHigher}
-use Rattle.bucket_tree.specs.declared.node.Node.{Node}
+use Rattle.bucket_tree.specs.declared.node.Fork.{Fork as Below}
+use Rattle.bucket_tree.specs.declared.node.Node.{Node, Fork}
 use Rattle.bucket_tree.specs.Nodes.{points_below, times_below, forks_above, AreNear, IsHeightOver}
 use Rattle.bucket_tree.specs.Nodes.{IsWellBuilt, AreInRow}
 use Rattle.bucket_tree.proofs.Gained.{all_after, all_before, held_row}
 use Rattle.bucket_tree.proofs.NodePoints.{some_below}
-use Rattle.bucket_tree.proofs.NodeRows.{in_row}
+use Rattle.bucket_tree.proofs.NodeRows.{in_row, halves_row}
 
 -- p before all of the right list: it is taken from the left one
 pub without_left : (p : Pair) (xs ys : List Pair) → All (IsBefore p) ys
@@ -272,3 +273,47 @@ lower_right a l r h n u v w e k = elim (cases_lt l r) [
       (omega (arith, u, v, w, e, f), omega (arith, u, v, w, e, f, d))
   | inr d ↦ (omega (arith, u, v, w, e, k), omega (arith, u, v, w, e, k, d))
 ]
+
+-- ---- finding
+
+-- a point at a place is held as often as the count there says
+pub count_at : (S : List Pair) (T : List ℕ) (i : ℕ) (p : Pair) → IsPointSet S → length T ≡ length S
+    → IsPositionOf S p (Ok i) → counted S T p ≡ get_or T i 0
+count_at S T i p s e at =
+    let z : counted (remove S i) (remove T i) p ≡ 0 =
+    ap (λ y. counted y (remove T i) p) (removed S i ∙ taken_away S i s at.0 ∙ ap (λ z. without_point z S) (at.1 origin))
+    ∙ counted_none (without_point p S) (remove T i) p
+    (all_of (λ t. ¬ (t ≡ p)) (without_point p S) (λ t m. ((members_without p t S s).0 m).1)) in
+    let v : several (get_or T i 0) (point_at S i) p ≡ get_or T i 0 =
+    ap (λ y. several (get_or T i 0) y p) (at.1 origin) ∙ several_same (get_or T i 0) p in
+    omega (arith, counted_remove S T i p e at.0, z, v)
+
+-- one that has no place is not held
+pub count_none : (S : List Pair) (T : List ℕ) (i : ℕ) (p : Pair) → IsPositionOf S p (Err i) → counted S T p ≡ 0
+count_none S T i p at = counted_none S T p (all_of (λ t. ¬ (t ≡ p)) S (λ t m e. absent (subst (Contains S) e m)))
+  where
+    absent : ¬ Contains S p
+    absent m = absent_between p (take i S) (drop i S) at.1 at.2 (subst (λ z. Contains z p) (cut S i at.0) m)
+
+-- a fork holds a point in the half where it stands
+pub count_left : (n : Node) (h : ℕ) (f : Box Below Global) (p : Pair) → n ≡ Fork h f → IsWellBuilt n
+    → IsBefore p f.value.first_right → times_at n p ≡ times_at f.value.left p
+count_left n h f p e w b =
+    let row = halves_row n h f e w in
+    let c = subst (IsBefore p) (subst IsWellBuilt e w).labelled.1 b in
+    let z = counted_none (points_below f.value.right) (times_below f.value.right) p
+    (All-weaker (IsBefore p) (λ t. ¬ (t ≡ p)) (λ t k. after_apart t p k) (points_below f.value.right)
+    (all_after p (points_below f.value.left) (points_below f.value.right) row.in_order c)) in
+    omega (arith, held_row n f.value.left f.value.right p row.left_built.buckets (ap points_below e) (ap times_below e), z)
+
+pub count_right : (n : Node) (h : ℕ) (f : Box Below Global) (p : Pair) → n ≡ Fork h f → IsWellBuilt n
+    → ¬ IsBefore p f.value.first_right → times_at n p ≡ times_at f.value.right p
+count_right n h f p e w b =
+    let row = halves_row n h f e w in
+    let c : ¬ IsBefore p (first_of (points_below f.value.right)) =
+    subst (λ z. ¬ IsBefore p z) (subst IsWellBuilt e w).labelled.1 b in
+    let z = counted_none (points_below f.value.left) (times_below f.value.left) p
+    (All-weaker (λ t. IsBefore t p) (λ t. ¬ (t ≡ p)) (λ t k. before_apart t p k) (points_below f.value.left)
+    (all_before p (points_below f.value.left) (points_below f.value.right) row.in_order
+    (some_below f.value.right row.right_built.buckets) c)) in
+    omega (arith, held_row n f.value.left f.value.right p row.left_built.buckets (ap points_below e) (ap times_below e), z)

@@ -1,6 +1,7 @@
 //! A tree of forks over buckets of lattice points.
 #![tactic(auto)]
 
+mod find;
 mod fork_ref;
 mod insert;
 mod join;
@@ -10,6 +11,7 @@ mod part;
 mod questions;
 mod remove;
 
+pub use find::times_of;
 pub use fork_ref::ForkRef;
 pub use load::from_parts;
 pub use node::{Fork, Node};
