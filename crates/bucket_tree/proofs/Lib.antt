@@ -8,3 +8,4 @@ pub mod Halves
 pub mod Rows
 pub mod Gained
 pub mod Lost
+pub mod Recounted

@@ -9,6 +9,7 @@ mod load;
 mod node;
 mod part;
 mod questions;
+mod recount;
 mod remove;
 
 pub use find::times_of;
