@@ -5,7 +5,7 @@ use Rattle.hull_buckets.specs.Buckets.{BucketValue, IsBucket}
 use Rattle.hull_buckets.specs.Runs.{width_of, all_of}
 use Rattle.hull_buckets.proofs.RunTrees.{mask_fits}
 use Rattle.hull_buckets.proofs.RunBridges.{run_bridged, some_corner, all_within, all_corners}
-use Rattle.bucket_tree.specs.declared.node.Node.{Node, Leaf}
+use Rattle.bucket_tree.specs.declared.node.Node.{Leaf}
 use Rattle.bucket_tree.specs.Nodes.{tree_of_bucket, IsWellBuilt}
 
 -- the corners of a bucket are a half that keeps its law

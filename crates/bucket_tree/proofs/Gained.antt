@@ -1,6 +1,7 @@
 -- A point that comes to one of two nodes in a row.
-use Rattle.std.proofs.Common.{◌≡◌, ℕ, ◌+◌, ◌≤◌, ◌<◌, true, false, Bool, refl, sym, ap, ◌∙◌, subst, List, [], ◌∷◌, ◌++◌, length, arith}
-use Rattle.std.proofs.Common.{inl, inr, ◌⊎◌, length-append}
+use Rattle.std.proofs.Common.{◌≡◌, ℕ, ◌+◌, ◌≤◌, ◌<◌, true, false, Bool, refl, sym, ap, ◌∙◌, subst, List, [], ◌∷◌, ◌++◌}
+use Rattle.std.proofs.Common.{length, arith}
+use Rattle.std.proofs.Common.{inl, inr, length-append}
 use Rattle.std.specs.List.{All, Contains}
 use Rattle.std.proofs.lemmas.List.Elements.{All-cons}
 use Rattle.lattice.specs.Covers.{IsPointSet, with_point}
@@ -155,7 +156,8 @@ pub left_row : (refused : Bool) (p : Pair) (l r k : Node) → AreInRow l r → I
     → IsWellBuilt k → HasGained refused p l k → AreInRow k r
 left_row refused p l r k w b built g = in_row k r built w.right_built
     (grew_set refused p (points_below l ++ points_below r) (points_below k ++ points_below r)
-    (grew_left refused p (points_below l) (points_below k) (points_below r) w.in_order b (grew refused p l k g)) w.in_order)
+    (grew_left refused p (points_below l) (points_below k) (points_below r) w.in_order b (grew refused p l k g))
+    w.in_order)
 
 -- and no more than a set may have
 pub left_few : (refused : Bool) (p : Pair) (n l r k : Node) → AreInRow l r → IsBefore p (first_of (points_below r))

@@ -1,5 +1,6 @@
 -- The halves of what a tree is built of.
-use Rattle.std.proofs.Common.{◌≡◌, ℕ, ◌<◌, ◌≤◌, ◌+◌, ◌-◌, ◌*◌, ◌/◌, ◌^◌, List, length, take, drop, ◌++◌, sym, ap, subst, arith}
+use Rattle.std.proofs.Common.{◌≡◌, ℕ, ◌<◌, ◌+◌, ◌-◌, ◌*◌, ◌/◌, ◌^◌, List, length, take, drop, ◌++◌, sym, ap, subst}
+use Rattle.std.proofs.Common.{arith}
 use Rattle.std.proofs.lemmas.List.{length-drop, length-take-le, take-append-drop}
 use Rattle.std.proofs.lemmas.Nat.{pow_pos}
 use Rattle.std.proofs.lemmas.List.Elements.{All-take, All-drop}
@@ -8,7 +9,7 @@ use Rattle.lattice.specs.Plane.{Pair}
 use Rattle.hull_buckets.specs.Buckets.{IsMultiplicity}
 use Rattle.hull_buckets.proofs.Words.{next_power}
 use Rattle.hull_geometry.proofs.PointSets.{set_left, set_right}
-use Rattle.bucket_tree.specs.Loads.{AreParts, IsLoad}
+use Rattle.bucket_tree.specs.Loads.{IsLoad}
 
 module _ (points : List Pair) (times : List ℕ) (forks middle : ℕ) (load : IsLoad points times forks) (some : 0 < forks)
     (is : middle ≡ length points / 2) where

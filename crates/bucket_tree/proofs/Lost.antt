@@ -1,12 +1,13 @@
 -- A point that goes from one of two nodes in a row.
-use Rattle.std.proofs.Common.{◌≡◌, ℕ, zero, suc, ◌+◌, ◌-◌, ◌≤◌, ◌<◌, true, false, refl, sym, ap, ◌∙◌, subst, List, [], ◌∷◌, ◌++◌}
+use Rattle.std.proofs.Common.{◌≡◌, ℕ, zero, suc, ◌+◌, ◌≤◌, ◌<◌, refl, sym, ap, ◌∙◌, subst, List, []}
+use Rattle.std.proofs.Common.{◌∷◌, ◌++◌}
 use Rattle.std.proofs.Common.{length, arith, inl, inr, Ok, Err, get_or, max, Box, Global}
-use Rattle.std.specs.Prelude.{Bool, None, Some, if◌then◌else◌, take, drop}
+use Rattle.std.specs.Prelude.{None, Some, take, drop}
 use Rattle.std.proofs.lemmas.Bool.{cases_lt}
 use Rattle.hull_buckets.proofs.Around.{taken_away}
 use Rattle.hull_buckets.proofs.Changed.{removed}
 use Rattle.std.specs.List.{All, Contains, remove}
-use Rattle.std.proofs.lemmas.List.Elements.{All-contains, All-head, All-tail, All-weaker}
+use Rattle.std.proofs.lemmas.List.Elements.{All-head, All-tail, All-weaker}
 use Rattle.lattice.specs.Covers.{IsPointSet, without_point}
 use Rattle.lattice.specs.Plane.{Pair, IsBefore}
 use Rattle.lattice.proofs.Order.{before_irrefl, before_total, before_not, before_apart, after_apart}
@@ -16,7 +17,6 @@ use Rattle.hull_geometry.proofs.PointLists.{append_none, all_of, cut, only_membe
 use Rattle.hull_geometry.proofs.ChangedSets.{absent_between}
 use Rattle.hull_geometry.proofs.SetLaws.{ordered_without, members_without}
 use Rattle.hull_set.specs.Held.{once}
-use Rattle.hull_set.specs.PointLists.{is_same_pair}
 use Rattle.hull_set.proofs.Times.{same_false, same_true}
 use Rattle.bucket_tree.specs.Counts.{several, counted, times_at, HasLost, IsNoMuchHigher}
 use Rattle.bucket_tree.specs.declared.node.Fork.{Fork as Below}
@@ -304,7 +304,12 @@ count_left n h f p e w b =
     let z = counted_none (points_below f.value.right) (times_below f.value.right) p
     (All-weaker (IsBefore p) (λ t. ¬ (t ≡ p)) (λ t k. after_apart t p k) (points_below f.value.right)
     (all_after p (points_below f.value.left) (points_below f.value.right) row.in_order c)) in
-    omega (arith, held_row n f.value.left f.value.right p row.left_built.buckets (ap points_below e) (ap times_below e), z)
+    omega (
+      arith,
+      held_row n f.value.left f.value.right p row.left_built.buckets (ap points_below e) (ap times_below
+          e),
+      z,
+    )
 
 pub count_right : (n : Node) (h : ℕ) (f : Box Below Global) (p : Pair) → n ≡ Fork h f → IsWellBuilt n
     → ¬ IsBefore p f.value.first_right → times_at n p ≡ times_at f.value.right p
@@ -316,4 +321,9 @@ count_right n h f p e w b =
     (All-weaker (λ t. IsBefore t p) (λ t. ¬ (t ≡ p)) (λ t k. before_apart t p k) (points_below f.value.left)
     (all_before p (points_below f.value.left) (points_below f.value.right) row.in_order
     (some_below f.value.right row.right_built.buckets) c)) in
-    omega (arith, held_row n f.value.left f.value.right p row.left_built.buckets (ap points_below e) (ap times_below e), z)
+    omega (
+      arith,
+      held_row n f.value.left f.value.right p row.left_built.buckets (ap points_below e) (ap times_below
+          e),
+      z,
+    )

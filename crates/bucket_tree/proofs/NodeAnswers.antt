@@ -1,5 +1,5 @@
 -- What the corners below a node are answered, its points are answered.
-use Rattle.std.proofs.Common.{◌≡◌, inl, inr, List, []}
+use Rattle.std.proofs.Common.{inl, inr, List}
 use Rattle.std.specs.Prelude.{Option, Some, None}
 use Rattle.lattice.specs.Plane.{Pair}
 use Rattle.bridge_search.specs.Leaves.{points_of}

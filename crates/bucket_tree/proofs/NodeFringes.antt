@@ -1,5 +1,5 @@
 -- The corners below a node are a fringe of its points on both sides: what they answer, all points answer.
-use Rattle.std.proofs.Common.{◌≡◌, ℕ, ◌⊎◌, inl, inr, List, ◌++◌}
+use Rattle.std.proofs.Common.{◌⊎◌, inl, inr, ◌++◌}
 use Rattle.std.specs.List.{Contains}
 use Rattle.std.proofs.lemmas.List.Elements.{Contains-append_left, Contains-append_right, Contains-append_cases}
 use Rattle.lattice.specs.Plane.{Pair}
@@ -42,7 +42,8 @@ node_fringe side Gap h = absurd h
 
 -- so they answer for them
 pub node_answers : (n : Node) → IsWellBuilt n → AnswersFor (points_of (tree_of n)) (points_below n)
-node_answers n w = fringes_answer (points_of (tree_of n)) (points_below n) (points_in_order (tree_of n) w.bridged) w.ordered
+node_answers n w = fringes_answer (points_of (tree_of n)) (points_below n) (points_in_order (tree_of n) w.bridged)
+    w.ordered
     (λ side. same_fringe side (On (tree_of n)) (Contains (points_of (tree_of n))) (Contains (points_below n))
     (Contains (points_below n)) (node_fringe side n w.buckets) (contains_of_on (tree_of n)) (on_of_contains (tree_of n))
     (λ t i. i) (λ t i. i))

@@ -1,5 +1,5 @@
 -- Two nodes in a row, by their corners.
-use Rattle.std.proofs.Common.{◌≡◌, ℕ, ◌≤◌, ◌+◌, max, List, ◌++◌, sym, ap, ◌∙◌, subst, arith, Box, Global}
+use Rattle.std.proofs.Common.{◌≡◌, ℕ, ◌≤◌, ◌+◌, List, ◌++◌, sym, ap, ◌∙◌, subst, arith, Box, Global}
 use Rattle.lattice.specs.Bridges.{IsAllBefore}
 use Rattle.lattice.specs.declared.side.Side.TheVariants.{Lower}
 use Rattle.bridge_search.specs.Trees.{On, height_of}
@@ -38,7 +38,8 @@ back xs ys us vs h e = set_right us (vs ++ ys)
     (subst IsPointSet (append_twice us vs ys) (subst (λ z. IsPointSet (z ++ ys)) e h))
 
 -- the second of two with what stands behind them
-pub with_back : (xs ys us vs s : List Pair) → IsPointSet (xs ++ ys) → xs ≡ us ++ vs → s ≡ vs ++ ys → IsPointSet (us ++ s)
+pub with_back : (xs ys us vs s : List Pair) → IsPointSet (xs ++ ys) → xs ≡ us ++ vs → s ≡ vs ++ ys
+    → IsPointSet (us ++ s)
 with_back xs ys us vs s h e f = subst (λ z. IsPointSet (us ++ z)) (sym f)
     (subst IsPointSet (append_twice us vs ys) (subst (λ z. IsPointSet (z ++ ys)) e h))
 

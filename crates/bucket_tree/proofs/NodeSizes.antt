@@ -1,5 +1,5 @@
 -- The corners below a node are no more than its points.
-use Rattle.std.proofs.Common.{ℕ, ◌<◌, ◌≤◌, length, arith}
+use Rattle.std.proofs.Common.{◌<◌, ◌≤◌, length, arith}
 use Rattle.std.specs.List.{Contains}
 use Rattle.lattice.specs.declared.side.Side.TheVariants.{Lower}
 use Rattle.lattice.proofs.Order.{before_apart}

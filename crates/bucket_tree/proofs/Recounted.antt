@@ -1,5 +1,6 @@
 -- A point that is held more or less often.
-use Rattle.std.proofs.Common.{◌≡◌, ℕ, zero, suc, ◌+◌, ◌≤◌, ◌<◌, max, refl, sym, ap, ◌∙◌, subst, List, [], ◌∷◌, ◌++◌, length, arith}
+use Rattle.std.proofs.Common.{◌≡◌, ℕ, zero, suc, ◌+◌, ◌<◌, max, refl, sym, ap, ◌∙◌, subst, List, [], ◌∷◌, ◌++◌}
+use Rattle.std.proofs.Common.{length, arith}
 use Rattle.std.proofs.Common.{Ok, get_or, Box, Global}
 use Rattle.std.specs.List.{remove}
 use Rattle.std.specs.Prelude.{slice_set}
@@ -13,10 +14,11 @@ use Rattle.hull_buckets.specs.Buckets.{BucketValue, mask_on}
 use Rattle.hull_buckets.specs.Runs.{width_of, left_run, right_run, end_of_run, start_of_run}
 use Rattle.hull_buckets.specs.Runs.{tree_by, tree_to, tree_of_run, all_of}
 use Rattle.hull_buckets.specs.Masks.{lowest_of}
-use Rattle.bucket_tree.specs.Counts.{several, counted, times_at, IsSameButTimes, IsRecounted}
+use Rattle.bucket_tree.specs.Counts.{several, counted, IsSameButTimes, IsRecounted}
 use Rattle.bucket_tree.specs.declared.node.Fork.{Fork as Below}
 use Rattle.bucket_tree.specs.declared.node.Node.{Node, Leaf, Fork}
-use Rattle.bucket_tree.specs.Nodes.{tree_of, tree_of_bucket, points_below, times_below, forks_above, AreNear, IsWellBuilt}
+use Rattle.bucket_tree.specs.Nodes.{tree_of, tree_of_bucket, points_below, times_below, forks_above, AreNear}
+use Rattle.bucket_tree.specs.Nodes.{IsWellBuilt}
 use Rattle.bucket_tree.proofs.BuiltLeaves.{leaf_built}
 use Rattle.bucket_tree.proofs.Gained.{held_row}
 use Rattle.bucket_tree.proofs.Lost.{counted_remove, count_at, count_left, count_right}
@@ -53,10 +55,16 @@ same_to a b p m (suc n) run =
     let l = same_to a b p m n (left_run run) in
     let r = same_to a b p m n (right_run run) in
     λ i. tree_by (width_of run) (LeafTree (point_at (p i) (lowest_of run)))
-        (ForkTree
-        (point_at (p i) (end_of_run (m Upper i) (left_run run)), point_at (p i) (start_of_run (m Upper i) (right_run run)))
-        (point_at (p i) (end_of_run (m Lower i) (left_run run)), point_at (p i) (start_of_run (m Lower i) (right_run run)))
-        (l i) (r i))
+    (ForkTree (
+      point_at (p i) (end_of_run (m Upper i) (left_run run)),
+      point_at (p i) (start_of_run (m Upper i) (right_run
+          run)),
+    ) (
+      point_at (p i) (end_of_run (m Lower i) (left_run run)),
+      point_at (p i) (start_of_run (m Lower i) (right_run
+          run)),
+    )
+    (l i) (r i))
 
 same_half : (a b : BucketValue) → a.points ≡ b.points → ((side : Side) → mask_on side a ≡ mask_on side b)
     → tree_of_bucket a ≡ tree_of_bucket b
@@ -127,7 +135,8 @@ recounted_left times p n h f k e w b r =
       same_height = ap (λ z. max z (forks_above f.value.right) + 1) r.same_height ∙ sym (ap forks_above e);
       held = λ q.
           let a = held_row (Fork h (with_left_half f f.value k)) k f.value.right q r.built.buckets refl refl in
-          let c = held_row n f.value.left f.value.right q row.left_built.buckets (ap points_below e) (ap times_below e) in
+          let c = held_row n f.value.left f.value.right q row.left_built.buckets (ap points_below e) (ap times_below e)
+          in
           let d = ap (λ z. several z p q) (count_left n h f p e w b) in
           omega (arith, a, c, d, r.held q);
     }
@@ -179,7 +188,8 @@ recounted_right times p n h f k e w b r =
       same_height = ap (λ z. max (forks_above f.value.left) z + 1) r.same_height ∙ sym (ap forks_above e);
       held = λ q.
           let a = held_row (Fork h (with_right_half f f.value k)) f.value.left k q row.left_built.buckets refl refl in
-          let c = held_row n f.value.left f.value.right q row.left_built.buckets (ap points_below e) (ap times_below e) in
+          let c = held_row n f.value.left f.value.right q row.left_built.buckets (ap points_below e) (ap times_below e)
+          in
           let d = ap (λ z. several z p q) (count_right n h f p e w b) in
           omega (arith, a, c, d, r.held q);
     }

@@ -1,11 +1,12 @@
 -- A point that comes to one of two lists in a row.
-use Rattle.std.proofs.Common.{◌≡◌, ℕ, zero, suc, ◌+◌, ◌≤◌, ◌<◌, refl, sym, ap, ◌∙◌, subst, List, [], ◌∷◌, ◌++◌, length, arith, inl}
+use Rattle.std.proofs.Common.{◌≡◌, ℕ, zero, suc, ◌+◌, ◌≤◌, refl, sym, ap, ◌∙◌, List, [], ◌∷◌, ◌++◌, length}
+use Rattle.std.proofs.Common.{arith, inl}
 use Rattle.std.proofs.Common.{inr}
 use Rattle.std.specs.List.{All, Contains, insert}
-use Rattle.std.proofs.lemmas.List.Elements.{All-contains, All-head, All-tail, Contains-append_right}
+use Rattle.std.proofs.lemmas.List.Elements.{All-head, All-tail, Contains-append_right}
 use Rattle.lattice.specs.Covers.{IsPointSet, with_point}
 use Rattle.lattice.specs.Plane.{Pair, IsBefore}
-use Rattle.lattice.proofs.Order.{before_trans, before_irrefl, before_total, before_not, before_apart, after_apart}
+use Rattle.lattice.proofs.Order.{before_total, before_not, before_apart, after_apart}
 use Rattle.lattice.proofs.Order.{is_before-true, is_before-false}
 use Rattle.std.specs.Prelude.{Err}
 use Rattle.hull_set.specs.Held.{once}

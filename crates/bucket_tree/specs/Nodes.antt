@@ -1,5 +1,5 @@
--- The finite tree that a node is, over the corners of its buckets, and what makes it well built (Overmars and van Leeuwen,
--- 1981; Adelson-Velsky and Landis, 1962).
+-- The finite tree that a node is, over the corners of its buckets, and what makes it well built (Overmars and van
+-- Leeuwen, 1981; Adelson-Velsky and Landis, 1962).
 use Rattle.std.specs.Prelude.{◌≡◌, ℕ, ◌+◌, ◌≤◌, max, List, [], ◌++◌}
 use Rattle.lattice.specs.Covers.{IsPointSet}
 use Rattle.lattice.specs.Plane.{Pair}
@@ -40,7 +40,8 @@ times_below Gap = []
 -- how many forks stand above the deepest bucket below a node
 abbrev pub forks_above : Node → ℕ
 forks_above (Leaf b) = 0
-forks_above (Fork' height i first_right left right last_left upper lower) = max (forks_above left) (forks_above right) + 1
+forks_above (Fork' height i first_right left right last_left upper lower) = max (forks_above left) (forks_above right)
+    + 1
 forks_above Gap = 0
 
 -- neither number is more than one above the other
@@ -78,8 +79,8 @@ IsWhole Gap = ⊥
 abbrev pub AreWhole : Fork → Type 0
 AreWhole f = IsWhole f.left × IsWhole f.right
 
--- all is as it should be: the points stand in order, the edges that each fork stores are the bridges of its halves, it is
--- balanced, and it keeps its height and the points at its parting
+-- all is as it should be: the points stand in order, the edges that each fork stores are the bridges of its halves, it
+-- is balanced, and it keeps its height and the points at its parting
 pub record IsWellBuilt (n : Node) : Type 0 where
   pub ordered : IsPointSet (points_below n)
   pub bridged : IsBridged (tree_of n)

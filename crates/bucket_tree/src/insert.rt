@@ -130,7 +130,7 @@ pub(crate) fn bucket_of(node: Node) -> Box<Bucket, Heap>
 }
 
 /// Puts a new point below a node.
-pub(crate) fn insert(alloc: Heap, node: Node, p: Point) -> Inserted
+pub fn insert(alloc: Heap, node: Node, p: Point) -> Inserted
     requires built { IsWellBuilt node }
     requires absent { ¬ Contains (points_below node) p }
     requires few { length (points_below node) < POINT_LIMIT }

@@ -26,7 +26,10 @@ fn search(left: &Node, right: &Node) -> ((Point, Point), (Point, Point), u32)
 {
     corners_are_few(left);
     corners_are_few(right);
-    let ((upper, upper_turns), (lower, lower_turns)) = both_bridges(Part::new(left), Part::new(right));
+    let ((upper, upper_turns), (lower, lower_turns)) = both_bridges(
+        Part::new(left),
+        Part::new(right),
+    );
     (upper, lower, upper_turns + lower_turns)
 }
 

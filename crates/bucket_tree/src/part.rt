@@ -132,7 +132,8 @@ impl<'a> Half for Part<'a> {
 
     fn height(self) -> u32 {
         match self {
-            Part::Fork(part) => corner_height(&part.fork.left).max(corner_height(&part.fork.right)) + 1,
+            Part::Fork(part) => corner_height(&part.fork.left).max(corner_height(&part.fork.right))
+                + 1,
             Part::Run(run) => run.height(),
         }
     }

@@ -26,7 +26,7 @@ fn recount_leaf(bucket: &mut Bucket, p: Point, times: u16)
 }
 
 /// Makes a point below a node one that is held so often. No bridge is another for that.
-pub(crate) fn recount(node: &mut Node, p: Point, times: u16)
+pub fn recount(node: &mut Node, p: Point, times: u16)
     requires built { IsWellBuilt node.old }
     requires live { 1 ≤ times_at node.old p }
     requires held { IsMultiplicity times }

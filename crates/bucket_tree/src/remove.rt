@@ -31,7 +31,7 @@ fn remove_leaf(mut bucket: Box<Bucket, Heap>, p: Point) -> Option<Node>
 
 /// Takes a point that is held once out of what is below a node, and tells how many turns the searches took. Asks for no
 /// memory.
-pub(crate) fn remove(node: Node, p: Point) -> (Option<Node>, u32)
+pub fn remove(node: Node, p: Point) -> (Option<Node>, u32)
     requires built { IsWellBuilt node }
     requires held { times_at node p ≡ 1 }
     requires few { length (points_below node) ≤ POINT_LIMIT }

@@ -3,9 +3,8 @@ use Rattle.std.proofs.Common.{◌≡◌, ◌+◌, max, ◌∙◌, ap, subst, sym
 use Rattle.lattice.specs.Plane.{IsBefore}
 use Rattle.hull_buckets.specs.Buckets.{BucketValue, IsBucket}
 use Rattle.hull_geometry.specs.Positions.{IsPositionOf}
-use Rattle.bucket_tree.specs.Counts.{counted, times_at}
+use Rattle.bucket_tree.specs.Counts.{times_at}
 use Rattle.bucket_tree.specs.Nodes.{forks_above, IsWellBuilt}
-use Rattle.bucket_tree.specs.declared.node.Node.{Leaf}
 use Rattle.bucket_tree.proofs.Gained.{passed, failed}
 use Rattle.bucket_tree.proofs.Lost.{count_at, count_none, count_left, count_right}
 use Rattle.bucket_tree.proofs.NodeRows.{halves_row}
@@ -39,7 +38,8 @@ returns-in-Ok t c =
     let at = subst (λ (z : BucketValue). IsPositionOf z.points c.args.p (Ok c.in-Ok.place)) c.deref.ensures
     (subst (IsPositionOf c.deref.result.now.points c.args.p) c.in-Ok.is c.place_of.ensures) in
     ap (λ z. get_or z c.in-Ok.place 0) (c.times.ensures.times ∙ ap (λ (z : BucketValue). z.times) c.deref-in-Ok.ensures)
-    ∙ sym (count_at c.in-Leaf.bucket.value.points c.in-Leaf.bucket.value.times c.in-Ok.place c.args.p k.ordered k.counted
+    ∙ sym (count_at c.in-Leaf.bucket.value.points c.in-Leaf.bucket.value.times c.in-Ok.place c.args.p k.ordered
+    k.counted
     at)
     ∙ sym (ap (λ z. times_at z c.args.p) c.in-Leaf.is)
 

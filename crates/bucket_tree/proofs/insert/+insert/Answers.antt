@@ -1,12 +1,12 @@
 -- the point comes to one of two parts in a row
-use Rattle.std.proofs.Common.{◌≡◌, ◌++◌, ◌∙◌, ap, subst, sym, arith, List, length, length-append}
+use Rattle.std.proofs.Common.{◌∙◌, ap, subst, sym, arith, List, length, length-append}
 use Rattle.std.specs.List.{Contains}
 use Rattle.std.proofs.lemmas.List.Elements.{Contains-append_right}
 use Rattle.lattice.specs.Plane.{Pair, IsBefore}
-use Rattle.hull_geometry.specs.Positions.{first_of}
 use Rattle.bucket_tree.specs.Nodes.{points_below}
 use Rattle.bucket_tree.proofs.NodePoints.{some_below}
-use Rattle.bucket_tree.proofs.Gained.{passed, failed, left_row, left_few, right_row, right_few, gained_left, gained_right}
+use Rattle.bucket_tree.proofs.Gained.{passed, failed, left_row, left_few, right_row, right_few, gained_left}
+use Rattle.bucket_tree.proofs.Gained.{gained_right}
 use Rattle.bucket_tree.proofs.insert.+insert.Goals as goal
 
 pub balance-node-requires-clause-row : goal.balance-node-requires-clause-row
@@ -58,7 +58,8 @@ balance-node-requires-else-before-clause-row t c =
 pub balance-node-requires-else-before-clause-few : goal.balance-node-requires-else-before-clause-few
 balance-node-requires-else-before-clause-few t c =
     right_few c.insert-change-else-before.result.refused c.args.p c.args.node c.take_apart-left.result.0
-    c.take_apart-left.result.1 c.insert-change-else-before.result.node c.take_apart-left.ensures.row (subst (λ z. ¬ IsBefore c.args.p z)
+    c.take_apart-left.result.1 c.insert-change-else-before.result.node c.take_apart-left.ensures.row (subst (λ z. ¬
+    IsBefore c.args.p z)
     (ap (λ z. z.first_right) c.deref.ensures ∙ c.take_apart-left.ensures.parting)
     (failed c.before-2.result c.before-2.ensures.1 c.if-before.false))
     c.insert-change-else-before.ensures.gained c.take_apart-left.ensures.points c.requires.absent c.requires.few
@@ -78,7 +79,8 @@ returns-else-before-clause-gained t c =
     gained_right c.insert-change-else-before.result.refused c.args.p c.args.node c.balance-node-else-before.result.0
     c.take_apart-left.result.0 c.take_apart-left.result.1 c.insert-change-else-before.result.node
     c.take_apart-left.ensures.row.in_order
-    (some_below c.take_apart-left.result.1 c.take_apart-left.ensures.row.right_built.buckets) (subst (λ z. ¬ IsBefore c.args.p z)
+    (some_below c.take_apart-left.result.1 c.take_apart-left.ensures.row.right_built.buckets) (subst (λ z. ¬ IsBefore
+    c.args.p z)
     (ap (λ z. z.first_right) c.deref.ensures ∙ c.take_apart-left.ensures.parting)
     (failed c.before-2.result c.before-2.ensures.1 c.if-before.false))
     c.take_apart-left.ensures.row.left_built.buckets c.take_apart-left.ensures.points c.take_apart-left.ensures.times

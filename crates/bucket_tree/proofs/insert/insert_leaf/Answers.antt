@@ -1,5 +1,5 @@
 -- the parts of a bucket, of which one took the point in, stand in a row
-use Rattle.std.proofs.Common.{◌≡◌, ◌++◌, ◌∙◌, ap, refl, subst, sym}
+use Rattle.std.proofs.Common.{◌++◌, ◌∙◌, ap, refl, subst, sym}
 use Rattle.lattice.specs.Covers.{IsPointSet}
 use Rattle.hull_geometry.proofs.SetLaws.{ordered_with}
 use Rattle.hull_buckets.specs.Buckets.{IsBucket}
@@ -12,7 +12,8 @@ use Rattle.bucket_tree.proofs.insert.insert_leaf.Goals as goal
 
 pub join-node-requires-clause-row : goal.join-node-requires-clause-row
 join-node-requires-clause-row c =
-    in_row _ _ (leaf_built _ c.put_in_either.new.first refl (subst IsBucket c.deref-2.ensures c.buckets_are_sound.ensures))
+    in_row _ _ (leaf_built _ c.put_in_either.new.first refl (subst IsBucket c.deref-2.ensures
+    c.buckets_are_sound.ensures))
     (leaf_built _ c.put_in_either.new.second refl (subst IsBucket c.deref-3.ensures c.buckets_are_sound-2.ensures))
     (subst IsPointSet
     (sym (parts_gain c.args.bucket.value c.deref_mut.result.now c.split.new.self c.split.result c.deref_mut-3.result.now

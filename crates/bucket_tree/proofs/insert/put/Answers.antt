@@ -1,5 +1,5 @@
 -- a new point counts once
-use Rattle.std.proofs.Common.{Err, subst}
+use Rattle.std.proofs.Common.{subst}
 use Rattle.hull_geometry.specs.Positions.{IsPositionOf}
 use Rattle.bucket_tree.proofs.Rows.{counted_put}
 use Rattle.bucket_tree.proofs.insert.put.Goals as goal

@@ -1,5 +1,5 @@
 -- the point comes to one of two buckets in a row
-use Rattle.std.proofs.Common.{◌≡◌, ◌++◌, ◌∙◌, ap, subst, sym, arith, false}
+use Rattle.std.proofs.Common.{subst, sym, arith, false}
 use Rattle.std.proofs.lemmas.List.Elements.{Contains-append_right}
 use Rattle.lattice.specs.Plane.{IsBefore}
 use Rattle.bucket_tree.proofs.Gained.{passed, failed, read_first, grew_left, grew_right}

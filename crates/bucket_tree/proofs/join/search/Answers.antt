@@ -1,5 +1,5 @@
 -- the corners of the one stand before those of the other
-use Rattle.std.proofs.Common.{◌≡◌, ◌+◌, ◌≤◌, ap, arith, length-append, subst, sym}
+use Rattle.std.proofs.Common.{ap, arith, length-append, subst, sym}
 use Rattle.lattice.specs.Bridges.{IsAllBefore}
 use Rattle.bridge_search.specs.Trees.{On, height_of}
 use Rattle.bucket_tree.specs.Nodes.{tree_of, points_below}

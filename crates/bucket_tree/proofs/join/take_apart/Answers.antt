@@ -1,5 +1,5 @@
 -- the halves of a fork stand in a row
-use Rattle.std.proofs.Common.{◌≡◌, ◌∙◌, ap, sym, subst}
+use Rattle.std.proofs.Common.{◌∙◌, ap, sym, subst}
 use Rattle.bucket_tree.specs.Nodes.{AreInRow}
 use Rattle.bucket_tree.proofs.NodeRows.{halves_row}
 use Rattle.bucket_tree.proofs.join.take_apart.Goals as goal

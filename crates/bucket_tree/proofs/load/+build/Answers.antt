@@ -1,5 +1,5 @@
 -- the halves fill a tree that is one fork lower
-use Rattle.std.proofs.Common.{◌≡◌, ◌-◌, ◌/◌, length, refl, sym, subst, arith, take, drop}
+use Rattle.std.proofs.Common.{◌-◌, ◌/◌, length, refl, sym, subst, arith, take, drop}
 use Rattle.bucket_tree.specs.Loads.{IsLoad}
 use Rattle.bucket_tree.proofs.Halves.{first_load, second_load}
 use Rattle.bucket_tree.proofs.load.+build.Goals as goal

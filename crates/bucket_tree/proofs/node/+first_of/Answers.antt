@@ -1,5 +1,5 @@
 -- the first point below a fork is that of its left half
-use Rattle.std.proofs.Common.{◌≡◌, ◌∙◌, ap}
+use Rattle.std.proofs.Common.{◌∙◌, ap}
 use Rattle.hull_geometry.specs.Positions.{first_of}
 use Rattle.bucket_tree.specs.Nodes.{points_below}
 use Rattle.bucket_tree.proofs.NodePoints.{first_of_fork}

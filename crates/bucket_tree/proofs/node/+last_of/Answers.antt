@@ -1,5 +1,5 @@
 -- the last point below a fork is that of its right half
-use Rattle.std.proofs.Common.{◌≡◌, ◌∙◌, ap}
+use Rattle.std.proofs.Common.{◌∙◌, ap}
 use Rattle.hull_geometry.specs.Positions.{last_of}
 use Rattle.bucket_tree.specs.Nodes.{points_below}
 use Rattle.bucket_tree.proofs.NodePoints.{last_of_fork}

@@ -1,8 +1,8 @@
 -- a point is looked for where it stands
-use Rattle.std.proofs.Common.{◌≡◌, ◌+◌, ◌≤◌, max, ap, subst, sym, arith, refl}
+use Rattle.std.proofs.Common.{◌≡◌, ◌+◌, max, ap, subst, sym, arith, refl}
 use Rattle.lattice.specs.Plane.{IsBefore}
 use Rattle.hull_buckets.specs.Buckets.{BucketValue}
-use Rattle.bucket_tree.specs.Counts.{several, counted, times_at, IsSameButTimes, IsRecounted}
+use Rattle.bucket_tree.specs.Counts.{several, counted, times_at, IsSameButTimes}
 use Rattle.bucket_tree.specs.Nodes.{forks_above, IsWellBuilt}
 use Rattle.bucket_tree.proofs.Gained.{passed, failed}
 use Rattle.bucket_tree.proofs.Lost.{count_left, count_right}
@@ -53,7 +53,8 @@ returns-in-Leaf t c =
     c.recount_leaf.ensures.same)
     (λ q. subst (λ (z : BucketValue). counted c.recount_leaf.new.bucket.points c.recount_leaf.new.bucket.times q
     + several (counted z.points z.times c.args.p) c.args.p q
-    ≡ counted z.points z.times q + several c.args.times c.args.p q) c.deref_mut.ensures.value (c.recount_leaf.ensures.held q))
+    ≡ counted z.points z.times q + several c.args.times c.args.p q) c.deref_mut.ensures.value
+    (c.recount_leaf.ensures.held q))
 
 pub returns-then-before : goal.returns-then-before
 returns-then-before t c =

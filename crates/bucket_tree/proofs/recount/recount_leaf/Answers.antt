@@ -1,12 +1,13 @@
 -- the count at the place of the point is another
-use Rattle.std.proofs.Common.{◌≡◌, subst, arith, Ok, Err}
+use Rattle.std.proofs.Common.{subst, arith}
 use Rattle.hull_geometry.specs.Positions.{IsPositionOf}
 use Rattle.bucket_tree.proofs.Lost.{count_none}
 use Rattle.bucket_tree.proofs.Recounted.{counted_over}
 use Rattle.bucket_tree.proofs.recount.recount_leaf.Goals as goal
 
 pub unreachable-requires : goal.unreachable-requires
-unreachable-requires c = let z = count_none c.args.bucket.now.points c.args.bucket.now.times c.in_default.field-0 c.args.p
+unreachable-requires c = let z = count_none c.args.bucket.now.points c.args.bucket.now.times c.in_default.field-0
+    c.args.p
     (subst (IsPositionOf c.args.bucket.now.points c.args.p) c.in_default.is c.place_of.ensures) in
     omega (arith, z, c.requires.live)
 

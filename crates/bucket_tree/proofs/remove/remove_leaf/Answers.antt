@@ -1,5 +1,5 @@
 -- a point held once counts once
-use Rattle.std.proofs.Common.{◌≡◌, ◌+◌, ◌≤◌, ◌∙◌, length, ap, refl, subst, sym, arith, Ok, Err}
+use Rattle.std.proofs.Common.{◌+◌, ◌∙◌, length, ap, refl, subst, sym, arith, Ok, Err}
 use Rattle.lattice.specs.Covers.{without_point}
 use Rattle.hull_geometry.specs.Positions.{IsPositionOf, origin, point_at}
 use Rattle.hull_buckets.specs.Buckets.{BucketValue, IsBucket}
