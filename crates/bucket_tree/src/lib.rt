@@ -8,21 +8,21 @@
 
 mod find;
 mod fork_ref;
-mod insert;
+mod insertion;
 mod join;
 mod load;
 mod node;
 mod part;
 mod questions;
-mod recount;
-mod remove;
+mod recounting;
+mod removal;
 
 pub use find::times_of;
 pub use fork_ref::ForkRef;
-pub use insert::{Inserted, insert};
+pub use insertion::{Inserted, insert};
 pub use load::from_parts;
 pub use node::{Fork, Node};
 pub use part::Part;
 pub use questions::{area2, corners_answer, corners_are_few, extreme, place, tangents, vertices};
-pub use recount::recount;
-pub use remove::remove;
+pub use recounting::recount;
+pub use removal::remove;

@@ -3,7 +3,7 @@ use Rattle.std.proofs.Common.{subst, arith}
 use Rattle.hull_geometry.specs.Positions.{IsPositionOf}
 use Rattle.bucket_tree.proofs.Lost.{count_none}
 use Rattle.bucket_tree.proofs.Recounted.{counted_over}
-use Rattle.bucket_tree.proofs.recount.recount_leaf.Goals as goal
+use Rattle.bucket_tree.proofs.recounting.recount_leaf.Goals as goal
 
 pub unreachable-requires : goal.unreachable-requires
 unreachable-requires c = let z = count_none c.args.bucket.now.points c.args.bucket.now.times c.in_default.field-0

@@ -8,7 +8,7 @@ use Rattle.bucket_tree.specs.Nodes.{times_below}
 use Rattle.bucket_tree.proofs.BuiltLeaves.{leaf_built}
 use Rattle.bucket_tree.proofs.Gained.{parts_gain, parts_held}
 use Rattle.bucket_tree.proofs.NodeRows.{in_row}
-use Rattle.bucket_tree.proofs.insert.insert_leaf.Goals as goal
+use Rattle.bucket_tree.proofs.insertion.insert_leaf.Goals as goal
 
 pub join-node-requires-clause-row : goal.join-node-requires-clause-row
 join-node-requires-clause-row c =

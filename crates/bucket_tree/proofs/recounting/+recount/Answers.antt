@@ -8,7 +8,7 @@ use Rattle.bucket_tree.proofs.Gained.{passed, failed}
 use Rattle.bucket_tree.proofs.Lost.{count_left, count_right}
 use Rattle.bucket_tree.proofs.NodeRows.{halves_row}
 use Rattle.bucket_tree.proofs.Recounted.{recounted_leaf, recounted_left_of, recounted_right_of}
-use Rattle.bucket_tree.proofs.recount.+recount.Goals as goal
+use Rattle.bucket_tree.proofs.recounting.+recount.Goals as goal
 
 pub recount-requires : goal.recount-requires
 recount-requires t c =

@@ -2,7 +2,7 @@
 use Rattle.std.proofs.Common.{subst}
 use Rattle.hull_geometry.specs.Positions.{IsPositionOf}
 use Rattle.bucket_tree.proofs.Rows.{counted_put}
-use Rattle.bucket_tree.proofs.insert.put.Goals as goal
+use Rattle.bucket_tree.proofs.insertion.put.Goals as goal
 
 pub returns-clause-times : goal.returns-clause-times
 returns-clause-times c q =

@@ -7,7 +7,7 @@ use Rattle.bucket_tree.specs.Nodes.{points_below}
 use Rattle.bucket_tree.proofs.NodePoints.{some_below}
 use Rattle.bucket_tree.proofs.Gained.{passed, failed, left_row, left_few, right_row, right_few, gained_left}
 use Rattle.bucket_tree.proofs.Gained.{gained_right}
-use Rattle.bucket_tree.proofs.insert.+insert.Goals as goal
+use Rattle.bucket_tree.proofs.insertion.+insert.Goals as goal
 
 pub balance-node-requires-clause-row : goal.balance-node-requires-clause-row
 balance-node-requires-clause-row t c =

@@ -7,7 +7,7 @@ use Rattle.bucket_tree.proofs.Gained.{passed, failed}
 use Rattle.bucket_tree.proofs.Lost.{held_left, lost_left_none, lost_left_row, lost_left_few, lost_left}
 use Rattle.bucket_tree.proofs.Lost.{held_right, lost_right_none, lost_right_row, lost_right_few, lost_right}
 use Rattle.bucket_tree.proofs.Lost.{lower_left, lower_right}
-use Rattle.bucket_tree.proofs.remove.+remove.Goals as goal
+use Rattle.bucket_tree.proofs.removal.+remove.Goals as goal
 
 pub remove-rest-requires : goal.remove-rest-requires
 remove-rest-requires t c = (

@@ -5,7 +5,7 @@ ghost use Rattle.bucket_tree.specs.Counts.{times_at, HasLost};
 ghost use Rattle.bucket_tree.specs.Nodes.{points_below, forks_above, IsWellBuilt};
 ghost use Rattle.bucket_tree.specs.declared.node.Node.{Leaf};
 
-use crate::insert::bucket_of;
+use crate::insertion::bucket_of;
 use crate::join::{balance, take_apart};
 use crate::node::{Node, height_of};
 use heap::Heap;

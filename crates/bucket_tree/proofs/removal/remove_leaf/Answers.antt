@@ -8,7 +8,7 @@ use Rattle.std.specs.List.{remove}
 use Rattle.bucket_tree.specs.Counts.{counted}
 use Rattle.bucket_tree.proofs.BuiltLeaves.{leaf_built}
 use Rattle.bucket_tree.proofs.Lost.{not_held, held_without, only_point, held_alone}
-use Rattle.bucket_tree.proofs.remove.remove_leaf.Goals as goal
+use Rattle.bucket_tree.proofs.removal.remove_leaf.Goals as goal
 
 pub unreachable-requires : goal.unreachable-requires
 unreachable-requires c =

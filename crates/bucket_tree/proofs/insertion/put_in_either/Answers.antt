@@ -4,7 +4,7 @@ use Rattle.std.proofs.lemmas.List.Elements.{Contains-append_right}
 use Rattle.lattice.specs.Plane.{IsBefore}
 use Rattle.bucket_tree.proofs.Gained.{passed, failed, read_first, grew_left, grew_right}
 use Rattle.bucket_tree.proofs.Rows.{counted_row}
-use Rattle.bucket_tree.proofs.insert.put_in_either.Goals as goal
+use Rattle.bucket_tree.proofs.insertion.put_in_either.Goals as goal
 
 pub put-requires-2-clause-absent : goal.put-requires-2-clause-absent
 put-requires-2-clause-absent c i =
