@@ -3,7 +3,7 @@
 //!
 //! A bridge of two halves is that of their corners, so a [`Part`] of the tree, which searches and questions go down, has the
 //! corners of its buckets alone; what these answer about a hull, all points below a [`Node`] answer. A point that comes or
-//! goes mends one bucket and searches the bridges of the forks above it. Begun: no set of points stands on it yet.
+//! goes mends one bucket and searches the bridges of the forks above it. No set of points stands on it yet.
 #![tactic(auto)]
 
 mod find;
