@@ -13,7 +13,7 @@ use Rattle.lattice.specs.Plane.{Pair, IsBefore}
 use Rattle.lattice.specs.declared.side.Side.{Side}
 use Rattle.lattice.specs.declared.side.Side.TheVariants.{Lower, Upper}
 use Rattle.lattice.proofs.Order.{before_irrefl, before_trans}
-use Rattle.bridge_search.specs.Trees.{Tree, On, IsBridged}
+use Rattle.bridge_search.specs.Trees.{Tree, On, IsBridged, height_of}
 use Rattle.hull_geometry.specs.Monotone.{IsChainOf}
 use Rattle.hull_geometry.specs.Positions.{point_at, origin}
 use Rattle.hull_geometry.specs.Runs.{ArePartedAt, opposite}
@@ -31,7 +31,7 @@ use Rattle.hull_buckets.proofs.Halvings.{left_some, left_fits, left_narrow, left
 use Rattle.hull_buckets.proofs.Halvings.{right_narrow, right_bit}
 use Rattle.hull_buckets.proofs.Places.{there_at, place_of, none_at}
 use Rattle.hull_buckets.proofs.RunTrees.{one_or_several, leaf_is, fork_is, on_place, on_tree, PlaceIn, too_wide}
-use Rattle.hull_buckets.proofs.RunTrees.{place_within, mask_fits}
+use Rattle.hull_buckets.proofs.RunTrees.{place_within, mask_fits, six_high}
 use Rattle.hull_buckets.proofs.Words.{top_before}
 
 -- ---- bits of two masks
@@ -339,6 +339,11 @@ some_corner b k = let l = le_or_l b.lower b.upper in omega (arith, l, below)
 -- they are places of its points
 pub all_within : (b : BucketValue) → IsBucket b → all_of b < 2 ^ length b.points
 all_within b k = or_lt (length b.points) b.lower b.upper (k.corners Lower).within (k.corners Upper).within
+
+-- so a bucket is at most 6 high
+pub bucket_low : (b : BucketValue) → IsBucket b → height_of (tree_of_run b (all_of b)) ≤ 6
+bucket_low b k = six_high b (all_of b) (some_corner b k)
+    (mask_fits (all_of b) (length b.points) (all_within b k) k.few)
 
 -- ---- the edges by the words of a half
 

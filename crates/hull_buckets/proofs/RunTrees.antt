@@ -15,7 +15,8 @@ use Rattle.hull_buckets.specs.Runs.{width_of, parting_of, left_run, right_run, e
 use Rattle.hull_buckets.specs.Runs.{tree_of_run}
 use Rattle.hull_buckets.proofs.Words.{power_le}
 use Rattle.hull_buckets.proofs.Halvings.{lowest_to_highest, lowest_set, bit_from, bit_to}
-use Rattle.hull_buckets.proofs.Halvings.{left_some, left_fits, left_lowest, left_narrow, left_bit, left_bit_of}
+use Rattle.hull_buckets.proofs.Halvings.{left_some, left_fits, left_lowest, left_highest, left_narrow, left_bit}
+use Rattle.hull_buckets.proofs.Halvings.{left_bit_of, right_lowest}
 use Rattle.hull_buckets.proofs.Halvings.{right_some, right_fits, right_highest, right_narrow, right_bit, right_bit_of}
 
 -- ---- depths that are enough
@@ -205,6 +206,32 @@ height_to (suc n) b run s f k = elim (one_or_several run s f) [
       (let a = right_narrow run s f w in omega (arith, a, k)) in
       omega (arith, e, l, r)
 ]
+
+-- how wide a run may be that is halved so often, if it is less
+abbrev reach : ℕ → ℕ
+reach zero = 1
+reach (suc n) = reach n + reach n
+
+-- since each half is half as wide, so many forks are enough
+height_halved : (n : ℕ) (b : BucketValue) (run : ℕ) → 0 < run → run < 2 ^ 64 → width_of run < reach n
+    → height_of (tree_of_run b run) ≤ n
+height_halved zero b run s f k = height_to 0 b run s f (omega (arith, k))
+height_halved (suc n) b run s f k = elim (one_or_several run s f) [
+  | inl q ↦ let e : height_of (tree_of_run b run) ≡ 0 = ap height_of (leaf_is b run q) in omega (arith, e)
+  | inr w ↦
+      let e : height_of (tree_of_run b run)
+      ≡ max (height_of (tree_of_run b (left_run run))) (height_of (tree_of_run b (right_run run))) + 1 =
+      ap height_of (fork_is b run s f w) in
+      let l = height_halved n b (left_run run) (left_some run s f w) (left_fits run s f w)
+      (omega (arith, left_lowest run s f w, left_highest run s f w, k, w)) in
+      let r = height_halved n b (right_run run) (right_some run s f w) (right_fits run s f w)
+      (omega (arith, right_highest run s f w, right_lowest run s f w, k, w)) in
+      omega (arith, e, l, r)
+]
+
+-- no run of 64 places is higher than 6
+pub six_high : (b : BucketValue) (run : ℕ) → 0 < run → run < 2 ^ 64 → height_of (tree_of_run b run) ≤ 6
+six_high b run s f = height_halved 6 b run s f (omega arith)
 
 -- ---- by the words of a half
 

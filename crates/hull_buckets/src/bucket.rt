@@ -3,6 +3,7 @@ ghost use Rattle.std.specs.Prelude.{◌≡◌, ◌<◌, ◌≤◌, ◌+◌, ◌/
 ghost use Rattle.std.specs.List.{All, Contains, insert, remove};
 ghost use Rattle.lattice.specs.Bridges.{IsAllBefore};
 ghost use Rattle.lattice.specs.Covers.{IsPointSet, with_point, without_point};
+ghost use Rattle.lattice.specs.declared.side.Side.{Side};
 ghost use Rattle.hull_geometry.specs.Positions.{IsPositionOf, point_at};
 ghost use Rattle.hull_buckets.specs.Buckets.{IsBucket};
 ghost use Rattle.hull_buckets.specs.declared.TheConstants.{ROOM};
@@ -105,6 +106,7 @@ impl Bucket {
         requires held { IsMultiplicity times }
         ensures times { self.new.times ≡ slice_set self.old.times place times }
         ensures points { self.new.points ≡ self.old.points }
+        ensures corners { (side : Side) → mask_on side self.new ≡ mask_on side self.old }
     {
         put_over(&mut self.times, self.len, place, times);
     }

@@ -4,6 +4,8 @@
 #![tactic(auto)]
 
 #[cfg(test)]
+mod bucket_nodes;
+#[cfg(test)]
 mod buckets;
 #[cfg(test)]
 mod numbers;

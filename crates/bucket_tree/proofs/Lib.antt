@@ -1,0 +1,11 @@
+pub mod NodePoints
+pub mod NodeFringes
+pub mod NodeSizes
+pub mod NodeAnswers
+pub mod NodeRows
+pub mod BuiltLeaves
+pub mod Halves
+pub mod Rows
+pub mod Gained
+pub mod Lost
+pub mod Recounted

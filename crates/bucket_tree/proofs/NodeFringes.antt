@@ -1,0 +1,49 @@
+-- The corners below a node are a fringe of its points on both sides: what they answer, all points answer.
+use Rattle.std.proofs.Common.{◌⊎◌, inl, inr, ◌++◌}
+use Rattle.std.specs.List.{Contains}
+use Rattle.std.proofs.lemmas.List.Elements.{Contains-append_left, Contains-append_right, Contains-append_cases}
+use Rattle.lattice.specs.Plane.{Pair}
+use Rattle.lattice.specs.declared.side.Side.{Side}
+use Rattle.bridge_search.specs.Trees.{On}
+use Rattle.bridge_search.specs.Leaves.{points_of}
+use Rattle.bridge_search.proofs.Leaves.{on_of_contains, contains_of_on, points_in_order}
+use Rattle.hull_geometry.specs.Fringes.{IsFringe, AnswersFor}
+use Rattle.hull_geometry.proofs.Fringed.{both_fringes}
+use Rattle.hull_geometry.proofs.FringeHulls.{fringes_answer}
+use Rattle.hull_buckets.proofs.RunBridges.{corners_fringe}
+use Rattle.bucket_tree.specs.declared.node.Node.{Node, Leaf, Fork', Gap}
+use Rattle.bucket_tree.specs.Nodes.{tree_of, points_below, HasBuckets, IsWellBuilt}
+
+-- a fringe of what is meant by the same sets
+same_fringe : (side : Side) (l k m n : Pair → Type 0) → IsFringe side l m → ((t : Pair) → l t → k t)
+    → ((t : Pair) → k t → l t) → ((t : Pair) → m t → n t) → ((t : Pair) → n t → m t) → IsFringe side k n
+same_fringe side l k m n f lk kl mn nm = record {
+  among = λ t i. mn t (f.among t (kl t i));
+  under = λ t i. elim (f.under t (nm t i))
+      [ inl h ↦ inl (lk t h) | inr h ↦ inr (h.0, h.1, lk h.0 h.2, lk h.1 h.3, h.4) ];
+}
+
+-- the corners below a node are a fringe of its points
+pub node_fringe : (side : Side) (n : Node) → HasBuckets n → IsFringe side (On (tree_of n)) (Contains (points_below n))
+node_fringe side (Leaf b) h = corners_fringe side b.value h
+node_fringe side (Fork' height i first_right left right last_left upper lower) h =
+    same_fringe side (λ t. On (tree_of left) t ⊎ On (tree_of right) t) (λ t. On (tree_of left) t ⊎ On (tree_of right) t)
+    (λ t. Contains (points_below left) t ⊎ Contains (points_below right) t)
+    (Contains (points_below left ++ points_below right))
+    (both_fringes side (On (tree_of left)) (Contains (points_below left)) (On (tree_of right))
+    (Contains (points_below right)) (node_fringe side left h.0) (node_fringe side right h.1))
+    (λ t i. i) (λ t i. i)
+    (λ t i. elim i [
+      | inl k ↦ Contains-append_left (points_below left) (points_below right) t k
+      | inr k ↦ Contains-append_right (points_below left) (points_below right) t k
+    ])
+    (λ t i. Contains-append_cases (points_below left) (points_below right) t i)
+node_fringe side Gap h = absurd h
+
+-- so they answer for them
+pub node_answers : (n : Node) → IsWellBuilt n → AnswersFor (points_of (tree_of n)) (points_below n)
+node_answers n w = fringes_answer (points_of (tree_of n)) (points_below n) (points_in_order (tree_of n) w.bridged)
+    w.ordered
+    (λ side. same_fringe side (On (tree_of n)) (Contains (points_of (tree_of n))) (Contains (points_below n))
+    (Contains (points_below n)) (node_fringe side n w.buckets) (contains_of_on (tree_of n)) (on_of_contains (tree_of n))
+    (λ t i. i) (λ t i. i))

@@ -1,0 +1,65 @@
+-- a point is looked for where it would stand
+use Rattle.std.proofs.Common.{◌≡◌, ◌+◌, max, ◌∙◌, ap, subst, sym, arith, get_or, Ok, Err}
+use Rattle.lattice.specs.Plane.{IsBefore}
+use Rattle.hull_buckets.specs.Buckets.{BucketValue, IsBucket}
+use Rattle.hull_geometry.specs.Positions.{IsPositionOf}
+use Rattle.bucket_tree.specs.Counts.{times_at}
+use Rattle.bucket_tree.specs.Nodes.{forks_above, IsWellBuilt}
+use Rattle.bucket_tree.proofs.Gained.{passed, failed}
+use Rattle.bucket_tree.proofs.Lost.{count_at, count_none, count_left, count_right}
+use Rattle.bucket_tree.proofs.NodeRows.{halves_row}
+use Rattle.bucket_tree.proofs.find.+times_of.Goals as goal
+
+pub times_of-requires : goal.times_of-requires
+times_of-requires t c =
+    let e : forks_above c.args.node.now
+    ≡ max (forks_above c.in-Fork.fork.value.left) (forks_above c.in-Fork.fork.value.right) + 1 =
+    ap forks_above c.in-Fork.is in
+    let k = ap (λ z. forks_above z.left) c.deref-then-before.ensures in (
+      omega (arith, c.decreases, e, k),
+      subst (λ z. IsWellBuilt z.left) (sym c.deref-then-before.ensures)
+          (halves_row c.args.node.now c.in-Fork.field-0 c.in-Fork.fork c.in-Fork.is c.requires).left_built,
+    )
+
+pub times_of-requires-else-before : goal.times_of-requires-else-before
+times_of-requires-else-before t c =
+    let e : forks_above c.args.node.now
+    ≡ max (forks_above c.in-Fork.fork.value.left) (forks_above c.in-Fork.fork.value.right) + 1 =
+    ap forks_above c.in-Fork.is in
+    let k = ap (λ z. forks_above z.right) c.deref-else-before.ensures in (
+      omega (arith, c.decreases, e, k),
+      subst (λ z. IsWellBuilt z.right) (sym c.deref-else-before.ensures)
+          (halves_row c.args.node.now c.in-Fork.field-0 c.in-Fork.fork c.in-Fork.is c.requires).right_built,
+    )
+
+pub returns-in-Ok : goal.returns-in-Ok
+returns-in-Ok t c =
+    let k : IsBucket c.in-Leaf.bucket.value = (subst IsWellBuilt c.in-Leaf.is c.requires).buckets in
+    let at = subst (λ (z : BucketValue). IsPositionOf z.points c.args.p (Ok c.in-Ok.place)) c.deref.ensures
+    (subst (IsPositionOf c.deref.result.now.points c.args.p) c.in-Ok.is c.place_of.ensures) in
+    ap (λ z. get_or z c.in-Ok.place 0) (c.times.ensures.times ∙ ap (λ (z : BucketValue). z.times) c.deref-in-Ok.ensures)
+    ∙ sym (count_at c.in-Leaf.bucket.value.points c.in-Leaf.bucket.value.times c.in-Ok.place c.args.p k.ordered
+    k.counted
+    at)
+    ∙ sym (ap (λ z. times_at z c.args.p) c.in-Leaf.is)
+
+pub returns-in-Err : goal.returns-in-Err
+returns-in-Err t c =
+    let at = subst (λ (z : BucketValue). IsPositionOf z.points c.args.p (Err c.in-Err.field-0)) c.deref.ensures
+    (subst (IsPositionOf c.deref.result.now.points c.args.p) c.in-Err.is c.place_of.ensures) in
+    sym (count_none c.in-Leaf.bucket.value.points c.in-Leaf.bucket.value.times c.in-Err.field-0 c.args.p at)
+    ∙ sym (ap (λ z. times_at z c.args.p) c.in-Leaf.is)
+
+pub returns-then-before : goal.returns-then-before
+returns-then-before t c =
+    c.times_of.ensures ∙ ap (λ z. times_at z.left c.args.p) c.deref-then-before.ensures
+    ∙ sym (count_left c.args.node.now c.in-Fork.field-0 c.in-Fork.fork c.args.p c.in-Fork.is c.requires
+    (subst (IsBefore c.args.p) (ap (λ z. z.first_right) c.deref-in-Fork.ensures)
+    (passed c.before-in-Fork.result c.before-in-Fork.ensures.0 c.if-before.true)))
+
+pub returns-else-before : goal.returns-else-before
+returns-else-before t c =
+    c.times_of-else-before.ensures ∙ ap (λ z. times_at z.right c.args.p) c.deref-else-before.ensures
+    ∙ sym (count_right c.args.node.now c.in-Fork.field-0 c.in-Fork.fork c.args.p c.in-Fork.is c.requires
+    (subst (λ z. ¬ IsBefore c.args.p z) (ap (λ z. z.first_right) c.deref-in-Fork.ensures)
+    (failed c.before-in-Fork.result c.before-in-Fork.ensures.1 c.if-before.false)))

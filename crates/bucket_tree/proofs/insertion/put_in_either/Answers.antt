@@ -1,0 +1,48 @@
+-- the point comes to one of two buckets in a row
+use Rattle.std.proofs.Common.{subst, sym, arith, false}
+use Rattle.std.proofs.lemmas.List.Elements.{Contains-append_right}
+use Rattle.lattice.specs.Plane.{IsBefore}
+use Rattle.bucket_tree.proofs.Gained.{passed, failed, read_first, grew_left, grew_right}
+use Rattle.bucket_tree.proofs.Rows.{counted_row}
+use Rattle.bucket_tree.proofs.insertion.put_in_either.Goals as goal
+
+pub put-requires-2-clause-absent : goal.put-requires-2-clause-absent
+put-requires-2-clause-absent c i =
+    c.requires.absent (Contains-append_right c.args.first.now.points c.args.second.now.points c.args.p i)
+
+pub returns-then-before-clause-points : goal.returns-then-before-clause-points
+returns-then-before-clause-points c =
+    grew_left false c.args.p c.args.first.now.points c.put.new.bucket.points c.args.second.now.points c.requires.ordered
+    (subst (IsBefore c.args.p)
+    (sym (read_first c.points.result.now c.args.second.now.points c.index-points-0.result c.points.ensures.points
+    c.buckets_are_sound-2.ensures.some c.index-points-0.is))
+    (passed c.before-2.result c.before-2.ensures.0 c.if-before.true)) c.put.ensures.points
+
+pub returns-then-before-clause-times : goal.returns-then-before-clause-times
+returns-then-before-clause-times c q = omega (
+  arith,
+  counted_row c.put.new.bucket.points c.args.second.now.points c.put.new.bucket.times c.args.second.now.times q
+      c.buckets_are_sound-then-before.ensures.counted,
+  counted_row c.args.first.now.points c.args.second.now.points c.args.first.now.times c.args.second.now.times q
+      c.buckets_are_sound.ensures.counted,
+  c.put.ensures.times q,
+)
+
+pub returns-clause-points : goal.returns-clause-points
+returns-clause-points c =
+    grew_right false c.args.p c.args.first.now.points c.args.second.now.points c.put-2.new.bucket.points
+    c.requires.ordered c.buckets_are_sound-2.ensures.some
+    (subst (λ z. ¬ IsBefore c.args.p z)
+    (sym (read_first c.points.result.now c.args.second.now.points c.index-points-0.result c.points.ensures.points
+    c.buckets_are_sound-2.ensures.some c.index-points-0.is))
+    (failed c.before-2.result c.before-2.ensures.1 c.if-before.false)) c.put-2.ensures.points
+
+pub returns-clause-times : goal.returns-clause-times
+returns-clause-times c q = omega (
+  arith,
+  counted_row c.args.first.now.points c.put-2.new.bucket.points c.args.first.now.times c.put-2.new.bucket.times q
+      c.buckets_are_sound.ensures.counted,
+  counted_row c.args.first.now.points c.args.second.now.points c.args.first.now.times c.args.second.now.times q
+      c.buckets_are_sound.ensures.counted,
+  c.put-2.ensures.times q,
+)

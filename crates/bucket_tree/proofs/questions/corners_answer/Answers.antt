@@ -1,0 +1,6 @@
+-- the corners are a fringe on both sides
+use Rattle.bucket_tree.proofs.NodeFringes.{node_answers}
+use Rattle.bucket_tree.proofs.questions.corners_answer.Goals as goal
+
+pub returns : goal.returns
+returns c = node_answers c.args.node.now c.requires

@@ -1,0 +1,73 @@
+-- a point is looked for where it stands
+use Rattle.std.proofs.Common.{◌≡◌, ◌+◌, max, ap, subst, sym, arith, refl}
+use Rattle.lattice.specs.Plane.{IsBefore}
+use Rattle.hull_buckets.specs.Buckets.{BucketValue}
+use Rattle.bucket_tree.specs.Counts.{several, counted, times_at, IsSameButTimes}
+use Rattle.bucket_tree.specs.Nodes.{forks_above, IsWellBuilt}
+use Rattle.bucket_tree.proofs.Gained.{passed, failed}
+use Rattle.bucket_tree.proofs.Lost.{count_left, count_right}
+use Rattle.bucket_tree.proofs.NodeRows.{halves_row}
+use Rattle.bucket_tree.proofs.Recounted.{recounted_leaf, recounted_left_of, recounted_right_of}
+use Rattle.bucket_tree.proofs.recounting.+recount.Goals as goal
+
+pub recount-requires : goal.recount-requires
+recount-requires t c =
+    let e : forks_above c.args.node.now
+    ≡ max (forks_above c.in-Fork.fork.value.left) (forks_above c.in-Fork.fork.value.right) + 1 =
+    ap forks_above c.in-Fork.is in
+    let k = ap (λ z. forks_above z.left) c.deref_mut-then-before.ensures.value in
+    let m = count_left c.args.node.now c.in-Fork.field-0 c.in-Fork.fork c.args.p c.in-Fork.is c.requires.built
+    (subst (IsBefore c.args.p) (ap (λ z. z.first_right) c.deref.ensures)
+    (passed c.before-in-Fork.result c.before-in-Fork.ensures.0 c.if-before.true)) in
+    let v = ap (λ z. times_at z.left c.args.p) c.deref_mut-then-before.ensures.value in (
+      omega (arith, c.decreases, e, k),
+      (
+        subst (λ z. IsWellBuilt z.left) (sym c.deref_mut-then-before.ensures.value)
+            (halves_row c.args.node.now c.in-Fork.field-0 c.in-Fork.fork c.in-Fork.is c.requires.built).left_built,
+        (omega (arith, m, v, c.requires.live), c.requires.held),
+      ),
+    )
+
+pub recount-requires-else-before : goal.recount-requires-else-before
+recount-requires-else-before t c =
+    let e : forks_above c.args.node.now
+    ≡ max (forks_above c.in-Fork.fork.value.left) (forks_above c.in-Fork.fork.value.right) + 1 =
+    ap forks_above c.in-Fork.is in
+    let k = ap (λ z. forks_above z.right) c.deref_mut-else-before.ensures.value in
+    let m = count_right c.args.node.now c.in-Fork.field-0 c.in-Fork.fork c.args.p c.in-Fork.is c.requires.built
+    (subst (λ z. ¬ IsBefore c.args.p z) (ap (λ z. z.first_right) c.deref.ensures)
+    (failed c.before-in-Fork.result c.before-in-Fork.ensures.1 c.if-before.false)) in
+    let v = ap (λ z. times_at z.right c.args.p) c.deref_mut-else-before.ensures.value in (
+      omega (arith, c.decreases, e, k),
+      (
+        subst (λ z. IsWellBuilt z.right) (sym c.deref_mut-else-before.ensures.value)
+            (halves_row c.args.node.now c.in-Fork.field-0 c.in-Fork.fork c.in-Fork.is c.requires.built).right_built,
+        (omega (arith, m, v, c.requires.live), c.requires.held),
+      ),
+    )
+
+pub returns-in-Leaf : goal.returns-in-Leaf
+returns-in-Leaf t c =
+    recounted_leaf c.args.times c.args.p c.args.node.now c.in-Leaf.bucket _ c.recount_leaf.new.bucket c.in-Leaf.is refl
+    (subst (λ (z : BucketValue). IsSameButTimes z c.recount_leaf.new.bucket) c.deref_mut.ensures.value
+    c.recount_leaf.ensures.same)
+    (λ q. subst (λ (z : BucketValue). counted c.recount_leaf.new.bucket.points c.recount_leaf.new.bucket.times q
+    + several (counted z.points z.times c.args.p) c.args.p q
+    ≡ counted z.points z.times q + several c.args.times c.args.p q) c.deref_mut.ensures.value
+    (c.recount_leaf.ensures.held q))
+
+pub returns-then-before : goal.returns-then-before
+returns-then-before t c =
+    recounted_left_of c.args.times c.args.p c.args.node.now c.in-Fork.field-0 c.in-Fork.fork
+    c.deref_mut-then-before.result.now c.recount.new.node c.deref_mut-then-before.ensures.value c.in-Fork.is
+    c.requires.built (subst (IsBefore c.args.p) (ap (λ z. z.first_right) c.deref.ensures)
+    (passed c.before-in-Fork.result c.before-in-Fork.ensures.0 c.if-before.true))
+    c.recount.ensures
+
+pub returns-else-before : goal.returns-else-before
+returns-else-before t c =
+    recounted_right_of c.args.times c.args.p c.args.node.now c.in-Fork.field-0 c.in-Fork.fork
+    c.deref_mut-else-before.result.now c.recount-else-before.new.node c.deref_mut-else-before.ensures.value c.in-Fork.is
+    c.requires.built (subst (λ z. ¬ IsBefore c.args.p z) (ap (λ z. z.first_right) c.deref.ensures)
+    (failed c.before-in-Fork.result c.before-in-Fork.ensures.1 c.if-before.false))
+    c.recount-else-before.ensures

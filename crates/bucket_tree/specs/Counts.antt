@@ -1,0 +1,55 @@
+-- How often points are held, and what a point that comes makes of it.
+use Rattle.std.specs.Prelude.{◌≡◌, ℕ, ◌+◌, ◌≤◌, Bool, true, false, if◌then◌else◌, List, [], ◌∷◌, Option, None, Some}
+use Rattle.lattice.specs.Covers.{with_point, without_point}
+use Rattle.lattice.specs.Plane.{Pair}
+use Rattle.lattice.specs.declared.side.Side.{Side}
+use Rattle.hull_buckets.specs.Buckets.{BucketValue, IsBucket, mask_on}
+use Rattle.hull_set.specs.Held.{once}
+use Rattle.hull_set.specs.PointLists.{is_same_pair}
+use Rattle.bucket_tree.specs.declared.node.Node.{Node}
+use Rattle.bucket_tree.specs.Nodes.{tree_of, points_below, times_below, forks_above, IsWellBuilt}
+
+-- p held so many times, and no other point
+abbrev pub several : ℕ → Pair → Pair → ℕ
+several times p q = if is_same_pair p q then times else 0
+
+-- how often a point is held, by points and how often each of them is
+abbrev pub counted : List Pair → List ℕ → Pair → ℕ
+counted [] times q = 0
+counted (p ∷ ps) [] q = 0
+counted (p ∷ ps) (t ∷ ts) q = several t p q + counted ps ts q
+
+-- how often a point is held below a node
+abbrev pub times_at : Node → Pair → ℕ
+times_at n q = counted (points_below n) (times_below n) q
+
+-- p came to the points, or none did where it was refused
+abbrev pub HasGained : Bool → Pair → Node → Node → Type 0
+HasGained false p n m =
+    (points_below m ≡ with_point p (points_below n)) × ((q : Pair) → times_at m q ≡ times_at n q + once p q)
+HasGained true p n m = (points_below m ≡ points_below n) × ((q : Pair) → times_at m q ≡ times_at n q)
+
+-- the node is as high as the other, or one higher
+abbrev pub IsNoMuchHigher : Node → Node → Type 0
+IsNoMuchHigher n m = (forks_above n ≤ forks_above m) × (forks_above m ≤ forks_above n + 1)
+
+-- p, held once, went from the points; where it was the only one, nothing is left of a bucket
+abbrev pub HasLost : Pair → Node → Option Node → Type 0
+HasLost p n None = (points_below n ≡ p ∷ []) × ((q : Pair) → times_at n q ≡ once p q) × (forks_above n ≡ 0)
+HasLost p n (Some m) =
+    IsWellBuilt m × (points_below m ≡ without_point p (points_below n))
+    × ((q : Pair) → times_at n q ≡ times_at m q + once p q) × IsNoMuchHigher m n
+
+-- two buckets with the same points and corners
+pub record IsSameButTimes (old new : BucketValue) : Type 0 where
+  pub bucket : IsBucket new
+  pub points : new.points ≡ old.points
+  pub corners : (side : Side) → mask_on side new ≡ mask_on side old
+
+-- p, which is there, is held so many times, and nothing else is another
+pub record IsRecounted (times : ℕ) (p : Pair) (n m : Node) : Type 0 where
+  pub built : IsWellBuilt m
+  pub same_tree : tree_of m ≡ tree_of n
+  pub same_points : points_below m ≡ points_below n
+  pub same_height : forks_above m ≡ forks_above n
+  pub held : (q : Pair) → times_at m q + several (times_at n p) p q ≡ times_at n q + several times p q

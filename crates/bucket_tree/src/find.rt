@@ -1,0 +1,28 @@
+//! Finding points.
+ghost use Rattle.std.specs.Prelude.{◌≡◌};
+ghost use Rattle.bucket_tree.specs.Counts.{times_at};
+ghost use Rattle.bucket_tree.specs.Nodes.{IsWellBuilt};
+
+use crate::node::Node;
+use lattice::{Point, before};
+
+/// How often a point is held below a node: 0 where it is not there. One comparison at each fork.
+pub fn times_of(node: &Node, p: Point) -> u16
+    requires { IsWellBuilt node.now }
+    ensures { result ≡ times_at node.now p }
+{
+    match node {
+        Node::Leaf(bucket) => match bucket.place_of(p) {
+            Ok(place) => bucket.times()[place],
+            Err(_) => 0,
+        },
+        Node::Fork(_, fork) => {
+            if before(p, fork.first_right) {
+                times_of(&fork.left, p)
+            } else {
+                times_of(&fork.right, p)
+            }
+        }
+        Node::Gap => unreachable!(),
+    }
+}

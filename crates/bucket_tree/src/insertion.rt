@@ -1,0 +1,164 @@
+//! Putting points in.
+ghost use Rattle.std.specs.Prelude.{◌≡◌, ◌<◌, ◌≤◌, ◌+◌, ◌*◌, ◌++◌, false, length};
+ghost use Rattle.std.specs.List.{Contains};
+ghost use Rattle.lattice.specs.Covers.{IsPointSet, with_point};
+ghost use Rattle.hull_buckets.specs.declared.TheConstants.{ROOM};
+ghost use Rattle.hull_set.specs.Held.{once};
+ghost use Rattle.hull_set.specs.declared.TheConstants.{POINT_LIMIT};
+ghost use Rattle.bucket_tree.specs.Counts.{counted, HasGained, IsNoMuchHigher};
+ghost use Rattle.bucket_tree.specs.Nodes.{points_below, forks_above, IsWellBuilt};
+ghost use Rattle.bucket_tree.specs.declared.node.Node.{Leaf};
+
+use crate::join::{balance, join, take_apart};
+use crate::load::blank;
+use crate::node::{Node, height_of};
+use heap::Heap;
+use hull_buckets::{Bucket, buckets_are_sound};
+use lattice::{Point, before};
+
+/// What putting a point in made: the node, whether memory was refused for it, and how many turns the searches took.
+#[derive(Drop)]
+pub struct Inserted {
+    /// The node, with the point; where memory was refused, with the points that it had.
+    pub node: Node,
+    /// Whether memory was refused.
+    pub refused: bool,
+    /// The turns of the searches for bridges.
+    pub turns: u32,
+}
+
+/// Puts a new point into a bucket with room, held once.
+fn put(bucket: &mut Bucket, p: Point)
+    requires absent { ¬ Contains bucket.old.points p }
+    requires room { length bucket.old.points < ROOM }
+    ensures points { bucket.new.points ≡ with_point p bucket.old.points }
+    ensures times { (q : _) → counted bucket.new.points bucket.new.times q
+        ≡ counted bucket.old.points bucket.old.times q + once p q }
+{
+    buckets_are_sound(bucket);
+    let Err(place) = bucket.place_of(p) else {
+        unreachable!()
+    };
+    bucket.insert(place, p, 1);
+}
+
+/// Puts a new point into one of two leaves in a row, which both have room.
+fn put_in_either(first: &mut Bucket, second: &mut Bucket, p: Point)
+    requires ordered { IsPointSet (first.old.points ++ second.old.points) }
+    requires absent { ¬ Contains (first.old.points ++ second.old.points) p }
+    requires first_room { length first.old.points < ROOM }
+    requires second_room { length second.old.points < ROOM }
+    ensures points { first.new.points ++ second.new.points ≡ with_point p (first.old.points ++ second.old.points) }
+    ensures times { (q : _) → counted (first.new.points ++ second.new.points) (first.new.times ++ second.new.times) q
+        ≡ counted (first.old.points ++ second.old.points) (first.old.times ++ second.old.times) q + once p q }
+{
+    buckets_are_sound(first);
+    buckets_are_sound(second);
+    if before(p, second.points()[0]) {
+        put(first, p);
+        buckets_are_sound(first);
+        return;
+    }
+    put(second, p);
+}
+
+/// A bucket with room and a new point.
+fn grown(mut bucket: Box<Bucket, Heap>, p: Point) -> Node
+    requires absent { ¬ Contains bucket.value.points p }
+    requires room { length bucket.value.points < ROOM }
+    ensures built { IsWellBuilt result }
+    ensures gained { HasGained false p (Leaf bucket) result }
+    ensures height { forks_above result ≡ 0 }
+{
+    put(&mut bucket, p);
+    buckets_are_sound(&bucket);
+    Node::Leaf(bucket)
+}
+
+/// Puts a new point into a bucket below a fork that is to be made of it where it is full.
+fn insert_leaf(alloc: Heap, mut bucket: Box<Bucket, Heap>, p: Point) -> Inserted
+    requires built { IsWellBuilt (Leaf bucket) }
+    requires absent { ¬ Contains bucket.value.points p }
+    ensures built { IsWellBuilt result.node }
+    ensures gained { HasGained result.refused p (Leaf bucket) result.node }
+    ensures height { IsNoMuchHigher (Leaf bucket) result.node }
+    ensures turns { result.turns ≤ 136 }
+{
+    if !bucket.is_full() {
+        return Inserted {
+            node: grown(bucket, p),
+            refused: false,
+            turns: 0,
+        };
+    }
+    let Ok(place) = blank(alloc, p) else {
+        return Inserted {
+            node: Node::Leaf(bucket),
+            refused: true,
+            turns: 0,
+        };
+    };
+    let Ok(mut second) = Box::new(alloc, Bucket::new(p, 1)) else {
+        return Inserted {
+            node: Node::Leaf(bucket),
+            refused: true,
+            turns: 0,
+        };
+    };
+    *second = bucket.split();
+    put_in_either(&mut bucket, &mut second, p);
+    buckets_are_sound(&bucket);
+    buckets_are_sound(&second);
+    let (node, turns) = join(Node::Leaf(bucket), Node::Leaf(second), place);
+    Inserted {
+        node,
+        refused: false,
+        turns,
+    }
+}
+
+/// The bucket that a node is.
+pub(crate) fn bucket_of(node: Node) -> Box<Bucket, Heap>
+    requires built { IsWellBuilt node }
+    requires leaf { forks_above node ≡ 0 }
+    ensures { node ≡ Leaf result }
+{
+    let Node::Leaf(bucket) = node else {
+        unreachable!()
+    };
+    bucket
+}
+
+/// Puts a new point below a node.
+pub fn insert(alloc: Heap, node: Node, p: Point) -> Inserted
+    requires built { IsWellBuilt node }
+    requires absent { ¬ Contains (points_below node) p }
+    requires few { length (points_below node) < POINT_LIMIT }
+    requires low { forks_above node ≤ 28 }
+    ensures built { IsWellBuilt result.node }
+    ensures gained { HasGained result.refused p node result.node }
+    ensures height { IsNoMuchHigher node result.node }
+    ensures turns { result.turns ≤ 408 * forks_above node + 136 }
+{
+    if height_of(&node) == 0 {
+        return insert_leaf(alloc, bucket_of(node), p);
+    }
+    let (left, right, place) = take_apart(node);
+    if before(p, place.first_right) {
+        let change = insert(alloc, left, p);
+        let (node, turns) = balance(change.node, right, place);
+        Inserted {
+            node,
+            refused: change.refused,
+            turns: turns + change.turns,
+        }
+    } else {
+        let change = insert(alloc, right, p);
+        let (node, turns) = balance(left, change.node, place);
+        Inserted {
+            node,
+            refused: change.refused,
+            turns: turns + change.turns,
+        }
+    }
+}

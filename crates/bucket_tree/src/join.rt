@@ -1,0 +1,154 @@
+//! Forks over two parts, and what keeps the tree balanced.
+ghost use Rattle.std.specs.Prelude.{◌≡◌, ◌<◌, ◌≤◌, ◌+◌, ◌*◌, ◌++◌, max, length};
+ghost use Rattle.lattice.specs.Bridges.{IsAllBefore, IsUpperBridge, IsLowerBridge};
+ghost use Rattle.bridge_search.specs.Trees.{On};
+ghost use Rattle.hull_geometry.specs.Positions.{first_of as first_in};
+ghost use Rattle.hull_set.specs.declared.TheConstants.{POINT_LIMIT};
+ghost use Rattle.bucket_tree.specs.Nodes.{tree_of, points_below, times_below, forks_above, AreNear, AreInRow};
+ghost use Rattle.bucket_tree.specs.Nodes.{IsWellBuilt, IsHeightOver};
+
+use crate::node::{Fork, Node, first_of, height_of, last_of};
+use crate::part::Part;
+use crate::questions::corners_are_few;
+use bridge_search::both_bridges;
+use heap::Heap;
+use lattice::Point;
+use std::mem;
+
+/// The upper and the lower bridge between two parts, and the turns of the searches for them.
+fn search(left: &Node, right: &Node) -> ((Point, Point), (Point, Point), u32)
+    requires row { AreInRow left.now right.now }
+    requires few { length (points_below left.now ++ points_below right.now) ≤ POINT_LIMIT }
+    ensures before { IsAllBefore (On (tree_of left.now)) (On (tree_of right.now)) }
+    ensures upper { IsUpperBridge (On (tree_of left.now)) (On (tree_of right.now)) result.0.0 result.0.1 }
+    ensures lower { IsLowerBridge (On (tree_of left.now)) (On (tree_of right.now)) result.1.0 result.1.1 }
+    ensures turns { result.2 ≤ 4 * max (forks_above left.now) (forks_above right.now) + 24 }
+{
+    corners_are_few(left);
+    corners_are_few(right);
+    let ((upper, upper_turns), (lower, lower_turns)) = both_bridges(
+        Part::new(left),
+        Part::new(right),
+    );
+    (upper, lower, upper_turns + lower_turns)
+}
+
+/// A fork over two parts, in a box that is there, and how many turns the searches for its bridges took.
+pub(crate) fn join(left: Node, right: Node, mut place: Box<Fork, Heap>) -> (Node, u32)
+    requires row { AreInRow left right }
+    requires few { length (points_below left ++ points_below right) ≤ POINT_LIMIT }
+    requires near { AreNear (forks_above left) (forks_above right) }
+    requires low { max (forks_above left) (forks_above right) ≤ 28 }
+    ensures built { IsWellBuilt result.0 }
+    ensures points { points_below result.0 ≡ points_below left ++ points_below right }
+    ensures times { times_below result.0 ≡ times_below left ++ times_below right }
+    ensures height { forks_above result.0 ≡ max (forks_above left) (forks_above right) + 1 }
+    ensures turns { result.1 ≤ 136 }
+{
+    let (upper, lower, turns) = search(&left, &right);
+    let height = height_of(&left).max(height_of(&right)) + 1;
+    let (last_left, first_right) = (last_of(&left), first_of(&right));
+    *place = Fork {
+        first_right,
+        left,
+        right,
+        last_left,
+        upper,
+        lower,
+    };
+    (Node::Fork(height, place), turns)
+}
+
+/// A fork taken apart: its halves, and its box.
+pub(crate) fn take_apart(node: Node) -> (Node, Node, Box<Fork, Heap>)
+    requires built { IsWellBuilt node }
+    requires fork { 0 < forks_above node }
+    ensures row { AreInRow result.0 result.1 }
+    ensures near { AreNear (forks_above result.0) (forks_above result.1) }
+    ensures points { points_below node ≡ points_below result.0 ++ points_below result.1 }
+    ensures times { times_below node ≡ times_below result.0 ++ times_below result.1 }
+    ensures height { forks_above node ≡ max (forks_above result.0) (forks_above result.1) + 1 }
+    ensures parting { result.2.value.first_right ≡ first_in (points_below result.1) }
+{
+    let Node::Fork(_, mut fork) = node else {
+        unreachable!()
+    };
+    let left = mem::replace(&mut fork.left, Node::Gap);
+    let right = mem::replace(&mut fork.right, Node::Gap);
+    (left, right, fork)
+}
+
+/// The fork over two parts of which the left one is two higher, after a rotation to the right, double where that leans to
+/// the right.
+fn rotate_right(left: Node, right: Node, place: Box<Fork, Heap>) -> (Node, u32)
+    requires row { AreInRow left right }
+    requires few { length (points_below left ++ points_below right) ≤ POINT_LIMIT }
+    requires two_higher { forks_above left ≡ forks_above right + 2 }
+    requires low { forks_above left ≤ 28 }
+    ensures built { IsWellBuilt result.0 }
+    ensures points { points_below result.0 ≡ points_below left ++ points_below right }
+    ensures times { times_below result.0 ≡ times_below left ++ times_below right }
+    ensures height { IsHeightOver (forks_above left) (forks_above right) (forks_above result.0) }
+    ensures turns { result.1 ≤ 408 }
+{
+    let (outer, inner, below) = take_apart(left);
+    if height_of(&outer) >= height_of(&inner) {
+        let (second, second_turns) = join(inner, right, place);
+        let (whole, turns) = join(outer, second, below);
+        return (whole, turns + second_turns);
+    }
+    let (middle_left, middle_right, middle) = take_apart(inner);
+    let (first, first_turns) = join(outer, middle_left, below);
+    let (second, second_turns) = join(middle_right, right, place);
+    let (whole, turns) = join(first, second, middle);
+    (whole, turns + first_turns + second_turns)
+}
+
+/// The fork over two parts of which the right one is two higher, after a rotation to the left, double where that leans to
+/// the left.
+fn rotate_left(left: Node, right: Node, place: Box<Fork, Heap>) -> (Node, u32)
+    requires row { AreInRow left right }
+    requires few { length (points_below left ++ points_below right) ≤ POINT_LIMIT }
+    requires two_higher { forks_above right ≡ forks_above left + 2 }
+    requires low { forks_above right ≤ 28 }
+    ensures built { IsWellBuilt result.0 }
+    ensures points { points_below result.0 ≡ points_below left ++ points_below right }
+    ensures times { times_below result.0 ≡ times_below left ++ times_below right }
+    ensures height { IsHeightOver (forks_above left) (forks_above right) (forks_above result.0) }
+    ensures turns { result.1 ≤ 408 }
+{
+    let (inner, outer, below) = take_apart(right);
+    if height_of(&outer) >= height_of(&inner) {
+        let (first, first_turns) = join(left, inner, place);
+        let (whole, turns) = join(first, outer, below);
+        return (whole, turns + first_turns);
+    }
+    let (middle_left, middle_right, middle) = take_apart(inner);
+    let (first, first_turns) = join(left, middle_left, place);
+    let (second, second_turns) = join(middle_right, outer, below);
+    let (whole, turns) = join(first, second, middle);
+    (whole, turns + first_turns + second_turns)
+}
+
+/// A balanced tree over two parts whose heights differ by two at most, and how many turns its searches took.
+pub(crate) fn balance(left: Node, right: Node, place: Box<Fork, Heap>) -> (Node, u32)
+    requires row { AreInRow left right }
+    requires few { length (points_below left ++ points_below right) ≤ POINT_LIMIT }
+    requires near_left { forks_above left ≤ forks_above right + 2 }
+    requires near_right { forks_above right ≤ forks_above left + 2 }
+    requires low { max (forks_above left) (forks_above right) ≤ 28 }
+    ensures built { IsWellBuilt result.0 }
+    ensures points { points_below result.0 ≡ points_below left ++ points_below right }
+    ensures times { times_below result.0 ≡ times_below left ++ times_below right }
+    ensures height { IsHeightOver (forks_above left) (forks_above right) (forks_above result.0) }
+    ensures turns { result.1 ≤ 408 }
+{
+    let (on_left, on_right) = (height_of(&left), height_of(&right));
+    if on_left > on_right + 1 {
+        rotate_right(left, right, place)
+    } else if on_right > on_left + 1 {
+        rotate_left(left, right, place)
+    } else {
+        join(left, right, place)
+    }
+}

@@ -1,0 +1,28 @@
+//! A tree of forks over buckets of lattice points: a leaf tree whose leaves are [`Bucket`](hull_buckets::Bucket)s of up to 64
+//! points, and whose forks keep the bridges of their two halves (Overmars and van Leeuwen, 1981).
+//!
+//! A bridge of two halves is that of their corners, so a [`Part`] of the tree, which searches and questions go down, has the
+//! corners of its buckets alone; what these answer about a hull, all points below a [`Node`] answer. A point that comes or
+//! goes mends one bucket and searches the bridges of the forks above it. No set of points stands on it yet.
+#![tactic(auto)]
+
+mod find;
+mod fork_ref;
+mod insertion;
+mod join;
+mod load;
+mod node;
+mod part;
+mod questions;
+mod recounting;
+mod removal;
+
+pub use find::times_of;
+pub use fork_ref::ForkRef;
+pub use insertion::{Inserted, insert};
+pub use load::from_parts;
+pub use node::{Fork, Node};
+pub use part::Part;
+pub use questions::{area2, corners_answer, corners_are_few, extreme, place, tangents, vertices};
+pub use recounting::recount;
+pub use removal::remove;

@@ -1,0 +1,74 @@
+//! Trees that are built at once.
+ghost use Rattle.std.specs.Prelude.{◌≡◌, IfOk};
+ghost use Rattle.bucket_tree.specs.Loads.{AreParts, IsLoad};
+ghost use Rattle.bucket_tree.specs.Nodes.{IsWellBuilt, points_below, times_below, forks_above};
+
+use crate::join::join;
+use crate::node::{Fork, Node};
+use heap::Heap;
+use hull_buckets::{Bucket, ROOM, buckets_are_sound};
+use lattice::Point;
+use std::alloc::AllocError;
+
+/// The box of a fork that is not made yet.
+pub(crate) fn blank(alloc: Heap, point: Point) -> Result<Box<Fork, Heap>, AllocError> {
+    let fork = Fork {
+        first_right: point,
+        left: Node::Gap,
+        right: Node::Gap,
+        last_left: point,
+        upper: (point, point),
+        lower: (point, point),
+    };
+    Ok(Box::new(alloc, fork)?)
+}
+
+/// One bucket of points in order, each held so often.
+fn leaf(alloc: Heap, points: &[Point], times: &[u16]) -> Result<Node, AllocError>
+    requires { IsLoad points.now times.now 0 }
+    ensures built { IfOk result IsWellBuilt }
+    ensures points { IfOk result (λ n. points_below n ≡ points.now) }
+    ensures times { IfOk result (λ n. times_below n ≡ times.now) }
+    ensures height { IfOk result (λ n. forks_above n ≡ 0) }
+{
+    let bucket = Bucket::from_parts(points, times);
+    buckets_are_sound(&bucket);
+    Ok(Node::Leaf(Box::new(alloc, bucket)?))
+}
+
+/// The tree of points in order, each held so often, with this many forks above each bucket. An `Err` comes only where
+/// `alloc` refuses memory.
+fn build(alloc: Heap, points: &[Point], times: &[u16], forks: u16) -> Result<Node, AllocError>
+    requires { IsLoad points.now times.now forks }
+    ensures built { IfOk result IsWellBuilt }
+    ensures points { IfOk result (λ n. points_below n ≡ points.now) }
+    ensures times { IfOk result (λ n. times_below n ≡ times.now) }
+    ensures height { IfOk result (λ n. forks_above n ≡ forks) }
+{
+    if forks == 0 {
+        return leaf(alloc, points, times);
+    }
+    let middle = points.len() / 2;
+    let (first, second) = points.split_at(middle);
+    let (first_times, second_times) = times.split_at(middle);
+    let left = build(alloc, first, first_times, forks - 1)?;
+    let right = build(alloc, second, second_times, forks - 1)?;
+    let place = blank(alloc, points[0])?;
+    Ok(join(left, right, place).0)
+}
+
+/// The tree of points in order, each held so often: as low as can be. An `Err` comes only where `alloc` refuses memory.
+pub fn from_parts(alloc: Heap, points: &[Point], times: &[u16]) -> Result<Node, AllocError>
+    requires { AreParts points.now times.now }
+    ensures built { IfOk result IsWellBuilt }
+    ensures points { IfOk result (λ n. points_below n ≡ points.now) }
+    ensures times { IfOk result (λ n. times_below n ≡ times.now) }
+{
+    let mut forks = 0;
+    let mut room = ROOM;
+    while room < points.len() {
+        forks += 1;
+        room *= 2;
+    }
+    build(alloc, points, times, forks)
+}

@@ -1,0 +1,74 @@
+//! The nodes of the tree.
+ghost use Rattle.std.specs.Prelude.{◌≡◌};
+ghost use Rattle.hull_geometry.specs.Positions.{first_of as first_in, last_of as last_in};
+ghost use Rattle.bucket_tree.specs.Nodes.{points_below, forks_above, HasBuckets, IsLabelled};
+
+use heap::Heap;
+use hull_buckets::Bucket;
+use lattice::Point;
+
+/// A part of the tree: a bucket, or a fork over two parts with its height.
+///
+/// The height stands beside the pointer, so that a fork is balanced without a look at what is below its halves.
+#[cycle(node)]
+#[derive(Drop)]
+pub enum Node {
+    /// A bucket.
+    Leaf(Box<Bucket, Heap>),
+    /// A fork, and how many forks stand above the deepest bucket below it, itself counted.
+    Fork(u16, Box<Fork, Heap>),
+    /// Nothing: it stands where a node was taken out, while the fork there is made anew.
+    Gap,
+}
+
+/// The two halves of a fork, all of the left one before all of the right one, the two points at their parting, and their
+/// bridges.
+#[cycle(node)]
+#[derive(Drop)]
+pub struct Fork {
+    pub(crate) first_right: Point,
+    pub(crate) left: Node,
+    pub(crate) right: Node,
+    pub(crate) last_left: Point,
+    pub(crate) upper: (Point, Point),
+    pub(crate) lower: (Point, Point),
+}
+
+/// The first point below a node: one step a level.
+pub(crate) fn first_of(node: &Node) -> Point
+    requires { HasBuckets node.now }
+    ensures { result ≡ first_in (points_below node.now) }
+{
+    match node {
+        Node::Leaf(bucket) => bucket.points()[0],
+        Node::Fork(_, fork) => first_of(&fork.left),
+        Node::Gap => unreachable!(),
+    }
+}
+
+/// The last point below a node: one step a level.
+pub(crate) fn last_of(node: &Node) -> Point
+    requires { HasBuckets node.now }
+    ensures { result ≡ last_in (points_below node.now) }
+{
+    match node {
+        Node::Leaf(bucket) => {
+            let points = bucket.points();
+            points[points.len() - 1]
+        }
+        Node::Fork(_, fork) => last_of(&fork.right),
+        Node::Gap => unreachable!(),
+    }
+}
+
+/// How many forks stand above the deepest bucket below a node.
+pub(crate) fn height_of(node: &Node) -> u16
+    requires { IsLabelled node.now }
+    ensures { result ≡ forks_above node.now }
+{
+    match node {
+        Node::Leaf(_) => 0,
+        Node::Fork(height, _) => *height,
+        Node::Gap => 0,
+    }
+}

@@ -1,0 +1,148 @@
+//! Lent parts of the tree, as halves of a hull.
+ghost use Rattle.std.specs.Prelude.{◌≡◌, ◌≤◌};
+ghost use Rattle.lattice.specs.Plane as plane;
+ghost use Rattle.lattice.specs.Plane.{IsWithin, widest_side};
+ghost use Rattle.bridge_search.specs.Trees.{IsBridged, height_of as height_in, highest, first_of as first_in};
+ghost use Rattle.bridge_search.specs.Trees.{last_of as last_in};
+ghost use Rattle.bucket_tree.specs.Nodes.{tree_of, IsWhole};
+ghost use Rattle.bucket_tree.specs.Parts.{part_tree, part_bridged, part_low};
+
+use crate::fork_ref::ForkRef;
+use crate::node::Node;
+use bridge_search::Half;
+use hull_buckets::Run;
+use lattice::{Point, orient};
+
+/// A lent part of the tree: a fork, or neighbouring corners of a bucket. It is the half of a hull that searches and
+/// questions go down, over corners alone.
+#[derive(Clone, Copy)]
+pub enum Part<'a> {
+    /// A fork.
+    Fork(ForkRef<'a>),
+    /// Neighbouring corners of a bucket.
+    Run(Run<'a>),
+}
+
+impl<'a> Part<'a> {
+    /// The half that a node is.
+    pub fn new(node: &'a Node) -> Part<'a>
+        requires whole { IsWhole node.now }
+        requires bridged { IsBridged (tree_of node.now) }
+        requires low { height_in (tree_of node.now) ≤ highest }
+        ensures { ⟦<Part<'a> as Half>⟧.tree result ≡ tree_of node.now }
+    {
+        match node {
+            Node::Leaf(bucket) => Part::Run(Run::new(bucket)),
+            Node::Fork(_, fork) => Part::Fork(ForkRef { fork }),
+            Node::Gap => unreachable!(),
+        }
+    }
+}
+
+/// The first corner below a node: one step a level.
+fn first_corner(node: &Node) -> Point
+    requires { IsWhole node.now }
+    ensures { result ≡ first_in (tree_of node.now) }
+{
+    match node {
+        Node::Leaf(bucket) => Run::new(bucket).first(),
+        Node::Fork(_, fork) => first_corner(&fork.left),
+        Node::Gap => unreachable!(),
+    }
+}
+
+/// The last corner below a node: one step a level.
+fn last_corner(node: &Node) -> Point
+    requires { IsWhole node.now }
+    ensures { result ≡ last_in (tree_of node.now) }
+{
+    match node {
+        Node::Leaf(bucket) => Run::new(bucket).last(),
+        Node::Fork(_, fork) => last_corner(&fork.right),
+        Node::Gap => unreachable!(),
+    }
+}
+
+/// How many forks stand above the deepest corner below a node, those of its buckets' runs among them.
+fn corner_height(node: &Node) -> u32
+    requires whole { IsWhole node.now }
+    requires low { height_in (tree_of node.now) ≤ highest }
+    ensures { result ≡ height_in (tree_of node.now) }
+{
+    match node {
+        Node::Leaf(bucket) => Run::new(bucket).height(),
+        Node::Fork(_, fork) => corner_height(&fork.left).max(corner_height(&fork.right)) + 1,
+        Node::Gap => unreachable!(),
+    }
+}
+
+impl<'a> Half for Part<'a> {
+    ghost tree = { part_tree };
+
+    ghost Fits = { λ p. Unit {0} };
+
+    fn orient(a: Point, b: Point, c: Point) -> i128
+        ensures value { result ≡ plane.orient a b c }
+        ensures size { IsWithin widest_side result }
+    {
+        orient(a, b, c)
+    }
+
+    fn edge(self) -> Option<(Point, Point)> {
+        match self {
+            Part::Fork(part) => Some(part.fork.upper),
+            Part::Run(run) => run.edge(),
+        }
+    }
+
+    fn lower(self) -> Option<(Point, Point)> {
+        match self {
+            Part::Fork(part) => Some(part.fork.lower),
+            Part::Run(run) => run.lower(),
+        }
+    }
+
+    fn left(self) -> Self {
+        match self {
+            Part::Fork(part) => Part::new(&part.fork.left),
+            Part::Run(run) => Part::Run(run.left()),
+        }
+    }
+
+    fn right(self) -> Self {
+        match self {
+            Part::Fork(part) => Part::new(&part.fork.right),
+            Part::Run(run) => Part::Run(run.right()),
+        }
+    }
+
+    fn first(self) -> Point {
+        match self {
+            Part::Fork(part) => first_corner(&part.fork.left),
+            Part::Run(run) => run.first(),
+        }
+    }
+
+    fn last(self) -> Point {
+        match self {
+            Part::Fork(part) => last_corner(&part.fork.right),
+            Part::Run(run) => run.last(),
+        }
+    }
+
+    fn height(self) -> u32 {
+        match self {
+            Part::Fork(part) => corner_height(&part.fork.left).max(corner_height(&part.fork.right))
+                + 1,
+            Part::Run(run) => run.height(),
+        }
+    }
+
+    ghost bridged = { part_bridged };
+
+    ghost low = { part_low };
+
+    ghost fits = { λ s p i. tt };
+
+    ghost turned_fits = { λ p i. tt };
+}

@@ -1,0 +1,88 @@
+//! Questions about the hull of all points below a node, which go down its corners alone.
+ghost use Rattle.std.specs.Prelude.{◌<◌, ◌≤◌, length, vec_len, IfOk, pos};
+ghost use Rattle.bridge_search.specs.Leaves.{points_of};
+ghost use Rattle.bridge_search.specs.Trees.{height_of, size_of};
+ghost use Rattle.lattice.specs.Vertices.{IsVertexList, IsDoubledArea};
+ghost use Rattle.hull_geometry.specs.Fringes.{AnswersFor};
+ghost use Rattle.hull_geometry.specs.Tangents.{IsFirstFarthest};
+ghost use Rattle.hull_set.specs.Replies.{LiesAt, AnswersTangents, reply_to_tangents};
+ghost use Rattle.hull_set.specs.declared.TheConstants.{POINT_LIMIT};
+ghost use Rattle.bucket_tree.specs.Nodes.{tree_of, points_below, IsWhole, IsWellBuilt};
+
+use crate::node::Node;
+use crate::part::Part;
+use heap::Heap;
+use hull_set::Place;
+use lattice::{Direction, Point};
+use std::alloc::AllocError;
+
+/// The corners below a node answer each question about the hull of all points below it.
+pub fn corners_answer(node: &Node)
+    requires { IsWellBuilt node.now }
+    ensures { AnswersFor (points_of (tree_of node.now)) (points_below node.now) }
+{}
+
+/// The corners below a node are no more than its points, and a half that is not too high.
+pub fn corners_are_few(node: &Node)
+    requires { IsWellBuilt node.now }
+    ensures whole { IsWhole node.now }
+    ensures few { size_of (tree_of node.now) ≤ length (points_below node.now) }
+    ensures low { height_of (tree_of node.now) < length (points_below node.now) }
+{}
+
+/// The first, by x and then y, of the points below a node that lie farthest in the direction `d`.
+pub fn extreme(node: &Node, d: Direction) -> Point
+    requires built { IsWellBuilt node.now }
+    requires few { length (points_below node.now) ≤ POINT_LIMIT }
+    ensures { IsFirstFarthest (points_below node.now) d result }
+{
+    corners_answer(node);
+    corners_are_few(node);
+    hull_questions::extreme(Part::new(node), d)
+}
+
+/// Where `q` lies, seen from the points below a node.
+pub fn place(node: &Node, q: Point) -> Place
+    requires built { IsWellBuilt node.now }
+    requires few { length (points_below node.now) ≤ POINT_LIMIT }
+    ensures { LiesAt (points_below node.now) q result }
+{
+    corners_answer(node);
+    corners_are_few(node);
+    hull_questions::place(Part::new(node), q)
+}
+
+/// The left and the right tangent point seen from `q`, or nothing where the points below a node cover it.
+pub fn tangents(node: &Node, q: Point) -> Option<(Point, Point)>
+    requires built { IsWellBuilt node.now }
+    requires few { length (points_below node.now) ≤ POINT_LIMIT }
+    ensures { AnswersTangents (points_below node.now) q (reply_to_tangents result) }
+{
+    corners_answer(node);
+    corners_are_few(node);
+    hull_questions::tangents(Part::new(node), q)
+}
+
+/// The vertices of the hull of the points below a node, counterclockwise from the first; no more than there are points. An
+/// `Err` comes only where `alloc` refuses memory.
+pub fn vertices(alloc: Heap, node: &Node) -> Result<Vec<Point, Heap>, AllocError>
+    requires built { IsWellBuilt node.now }
+    requires few { length (points_below node.now) ≤ POINT_LIMIT }
+    ensures vertices { IfOk result (λ v. IsVertexList (points_below node.now) v.items) }
+    ensures few { IfOk result (λ v. vec_len v ≤ length (points_below node.now)) }
+{
+    corners_answer(node);
+    corners_are_few(node);
+    hull_questions::vertices(alloc, Part::new(node))
+}
+
+/// The doubled area of the hull of the points below a node.
+pub fn area2(node: &Node) -> u128
+    requires built { IsWellBuilt node.now }
+    requires few { length (points_below node.now) ≤ POINT_LIMIT }
+    ensures { IsDoubledArea (points_below node.now) (pos result) }
+{
+    corners_answer(node);
+    corners_are_few(node);
+    hull_questions::area2(Part::new(node))
+}
