@@ -35,13 +35,19 @@ try() {
     cc -std=gnu11 -O2 -DSLOW ${4:-} -I"$room" "$here/storm.c" -L"$prefix/lib" -lhull_shared -lpthread \
         -o "$room/storm" || exit 1
     # shellcheck disable=SC2016 # the words are the inner shell's
-    timeout -k 1 "$(within "$2")" sh -c 'for _ in $(seq 60); do "$0" 8 20 "$1" || exit 1; done' "$room/storm" "$3" >/dev/null 2>&1
+    sh -c 'for _ in $(seq "$2"); do timeout -k 1 "$3" "$0" 8 20 "$1" || exit; done' \
+        "$room/storm" "$3" "$(storms "$2")" "$(within "$2")" >/dev/null 2>&1
     came $? "$1" "$2"
 }
 
-# how long a run may take: what has to end has longer, on a busy machine
+# how long each storm may take: what has to end has longer, on a busy machine
 within() {
     if [ "$1" = end ]; then echo $((12 * limit)); else echo "$limit"; fi
+}
+
+# how many storms there are: what has to hang goes on until one of them does, up to so many, since a lost wake-up shows by chance
+storms() {
+    if [ "$1" = end ]; then echo 60; else echo 300; fi
 }
 
 # counts a run: its status, its NAME, and whether it had to end or to hang
@@ -122,8 +128,8 @@ try_in_rust() {
     rust --crate-type rlib --crate-name hull "$room/src/lib.rs" &&
         rust --test --extern hull="$room/libhull.rlib" --crate-name storm_rust "$here/shared_tests.rs" || exit 1
     # shellcheck disable=SC2016 # the words are the inner shell's
-    timeout -k 1 "$(within "$2")" sh -c 'for _ in $(seq 60); do CALLS=60 "$0" -q --exact eight_threads || exit 1; done' \
-        "$room/storm_rust" >/dev/null 2>&1
+    sh -c 'for _ in $(seq "$1"); do CALLS=60 timeout -k 1 "$2" "$0" -q --exact eight_threads || exit; done' \
+        "$room/storm_rust" "$(storms "$2")" "$(within "$2")" >/dev/null 2>&1
     came $? "$1" "$2"
 }
 
