@@ -5,9 +5,9 @@ The sources are those of the repository, copied as they stand with no test; one 
 allocator. The kit's own heap calls C's malloc, and for wasm64 a call of C can only be an import of the host. So the `heap`
 of the page names that of a crate `web_heap`: the kit's crate std_heap with its proofs, made here by replacement of names, over
 three imports in the place of libc's three functions and under the same contracts. All is checked again for wasm64, and its
-last line says so. FOLDER (web/out where none is given) keeps what was proved for the next run, and has hull.wasm in the end, and
-where Binaryen's wasm-opt is, hull32.wasm: the same lowered to a 32-bit memory, for engines that have no other. No proof reads
-that step; tests/web tries both modules.
+last line says so. FOLDER (web/out where none is given) keeps what was proved for the next run, and has hull.wasm in the end,
+without the sections that only name things, and where Binaryen's wasm-opt is, hull32.wasm: the same lowered to a 32-bit memory,
+for engines that have no other. No proof reads that step; tests/web tries both modules.
 """
 import os
 import re
@@ -118,12 +118,36 @@ def lay_out(room, rattle):
     write(f"{room}/crates.txt", "".join(listed))
 
 
+def number_at(data, at):
+    """The number in LEB128 at an index, and the index behind it."""
+    number = shift = 0
+    while True:
+        number |= (data[at] & 127) << shift
+        shift, at = shift + 7, at + 1
+        if data[at - 1] < 128:
+            return number, at
+
+
+def strip(module, to):
+    """Copies a module without its custom sections, which no engine needs: names, producers and features. All others stay as they are."""
+    with open(module, "rb") as file:
+        data = file.read()
+    kept, at = data[:8], 8
+    while at < len(data):
+        size, begin = number_at(data, at + 1)
+        kept += b"" if data[at] == 0 else data[at : begin + size]
+        at = begin + size
+    with open(to, "wb") as out:
+        out.write(kept)
+
+
 def lower(module, to):
     """Lowers the module to a 32-bit memory."""
     if not shutil.which("wasm-opt"):
         print("web/build.py: there is no wasm-opt (Binaryen): hull32.wasm is not made", file=sys.stderr)
         return
     subprocess.run(["wasm-opt", "--enable-memory64", "--enable-bulk-memory", "--enable-sign-ext", "--memory64-lowering", module, "-o", to], check=True)
+    strip(to, to)
 
 
 def main(words):
@@ -132,7 +156,7 @@ def main(words):
     lay_out(room, os.path.join(os.path.dirname(page), "rattle"))
     ran = subprocess.run(["rt", "lib"], cwd=f"{room}/crates/{LIBRARY}", env={**os.environ, "RT_ALLOW_C": HOST}, check=False)
     if ran.returncode == 0:
-        shutil.copyfile(f"{room}/crates/{LIBRARY}/out/{LIBRARY}.wasm", f"{room}/hull.wasm")
+        strip(f"{room}/crates/{LIBRARY}/out/{LIBRARY}.wasm", f"{room}/hull.wasm")
         lower(f"{room}/hull.wasm", f"{room}/hull32.wasm")
         write(f"{room}/made-of", f"{begun}\n")
     return ran.returncode

@@ -5,6 +5,7 @@
 
 const HEAD = 16;
 const SMALL = 512;
+const HALF = 2 ** 32;
 const PAGE = 65536;
 const PAGES_AT_ONCE = 64;
 // no block is greater: sizes above are not told apart from faults
@@ -26,6 +27,7 @@ export class Heap {
     #limit;
     #given_back = new Float64Array(64);
     #view;
+    #bytes;
 
     constructor(limit = Infinity) {
         this.#limit = limit;
@@ -35,13 +37,18 @@ export class Heap {
     begin(memory, base) {
         this.#memory = memory;
         this.#top = Math.ceil(base / 16) * 16;
-        this.#view = new DataView(memory.buffer);
+        this.#look();
     }
 
-    /** The memory as it is now: its buffer is another one once it has grown. */
+    /** The memory as it is now: its buffer is another one once it has grown, and the old one has no bytes. */
     get view() {
-        if (this.#view.buffer !== this.#memory.buffer) this.#view = new DataView(this.#memory.buffer);
+        if (this.#bytes.length === 0) this.#look();
         return this.#view;
+    }
+
+    #look() {
+        this.#view = new DataView(this.#memory.buffer);
+        this.#bytes = new Uint8Array(this.#memory.buffer);
     }
 
     /** A block of so many bytes at a multiple of 16, or 0. */
@@ -90,9 +97,10 @@ export class Heap {
 
     /** Writes whether there is a block, and its address: one that is not null where there is none. */
     #tell(answer, at) {
-        const to = Number(answer);
-        this.view.setUint32(to, at ? 1 : 0, true);
-        this.view.setBigUint64(to + 8, BigInt(at || 16), true);
+        const to = Number(answer), { view } = this;
+        view.setUint32(to, at ? 1 : 0, true);
+        view.setUint32(to + 8, at || 16, true);
+        view.setUint32(to + 12, at / HALF, true);
     }
 
     #reaches(end) {

@@ -1,43 +1,23 @@
-// The hull for pages and Node: hull.wasm, whose calls are proved, with numbers in and values out.
-//
-//     const { Hull } = await load();
-//     const hull = new Hull();
-//     hull.addAll([[0, 0], [10, 0], [10, 10]]);
-//     hull.place(5, 5); // "on"
-//
-// A coordinate is a whole Number from -2^40 to 2^40, so that each is exact; an area is a BigInt, since it may pass 2^53.
+// The hull for pages and Node: hull.wasm, whose calls are proved, with numbers in and values out. Its types are in hull.d.ts.
 import { Heap } from "./heap.js";
 
-/** The greatest size of a coordinate, of a point and of a direction. */
 export const COORDINATE_LIMIT = 2 ** 40;
-/** How many different points a hull takes at most. */
 export const POINT_LIMIT = 2 ** 20;
-/** How often a point may be held. */
 export const MULTIPLICITY_LIMIT = 65535;
 
-/** What a call may be refused with. The hull is as it was. */
 export class HullError extends Error {
     get name() {
         return this.constructor.name;
     }
 }
-/** A coordinate is no whole Number from -2^40 to 2^40, or a limit none from 1 to 2^20. */
 export class OutOfRange extends HullError {}
-/** Both components of a direction are 0. */
 export class ZeroDirection extends HullError {}
-/** The point is new and there are as many as the limit, or it is held as often as may be. */
 export class TooMany extends HullError {}
-/** The heap has no block of the size that is needed; the call may be made again. */
 export class NoMemory extends HullError {}
-/** The hull or outline was freed. */
 export class Ended extends HullError {}
-/** What stands for points is no iterable of pairs, and no array of numbers. */
 export class NoPoints extends HullError {}
-/** The points are not the corners of a hull in their order, or another outline is none of the same module. */
 export class NoOutline extends HullError {}
-/** The module stopped in the middle of a call: it and all its hulls serve none any more. */
 export class Trapped extends HullError {}
-/** The module can't be loaded: the engine can't run it, the bytes are not it, or they can't be had. */
 export class Unsupported extends HullError {}
 
 const ADD = 1, REMOVE = 2, PLACE = 3, TANGENTS = 4, EXTREME = 5, AREA = 7, COUNT = 8, MULTIPLICITY = 9;
@@ -46,13 +26,13 @@ const CODE = {
     tangents: 15, tooSmall: 19, outOfOrder: 21, apart: 24, covered: 25, corner: 26, edge: 27, box: 28, within: 29, crossing: 30,
     points: 31,
 };
-const FAULTS = new Map([
-    [CODE.outOfRange, () => new OutOfRange("a coordinate is out of range")],
-    [CODE.zeroDirection, () => new ZeroDirection("both components of the direction are 0")],
-    [CODE.tooMany, () => new TooMany("the hull takes no more points, or this one no more often")],
-    [CODE.noMemory, () => new NoMemory("the heap has no room for it")],
-    [CODE.outOfOrder, () => new NoPoints("the held points are not in their order, each once")],
-]);
+const FAULTS = {
+    [CODE.outOfRange]: () => new OutOfRange("a coordinate is out of range"),
+    [CODE.zeroDirection]: () => new ZeroDirection("both components of the direction are 0"),
+    [CODE.tooMany]: () => new TooMany("the hull takes no more points, or this one no more often"),
+    [CODE.noMemory]: () => new NoMemory("the heap has no room for it"),
+    [CODE.outOfOrder]: () => new NoPoints("the held points are not in their order, each once"),
+};
 const PLACES = { [CODE.inside]: "inside", [CODE.on]: "on", [CODE.outside]: "outside" };
 // the structs of hull.h, in bytes
 const REPLY = { size: 56, x: 8, y: 16, otherX: 24, otherY: 32, number: 40, high: 48 };
@@ -88,7 +68,7 @@ function flat(points) {
     const numbers = numbersOf(points);
     if (numbers.length % 2 !== 0) throw new OutOfRange("a point has two coordinates, and the array an odd number of them");
     for (const value of numbers) checked(value);
-    return numbers instanceof Float64Array ? numbers : Float64Array.from(numbers);
+    return numbers instanceof Float64Array ? numbers : new Float64Array(numbers);
 }
 
 /** A whole number of the module's. */
@@ -101,7 +81,10 @@ function numbersOf(points) {
     }
     if (points instanceof Float64Array) return points.slice();
     if (points instanceof BigInt64Array || points instanceof BigUint64Array) return Float64Array.from(points, Number);
-    return ArrayBuffer.isView(points) ? Float64Array.from(points) : Array.from(points, pairOf).flat();
+    if (ArrayBuffer.isView(points)) return Float64Array.from(points);
+    const numbers = [];
+    for (const point of points) numbers.push(...pairOf(point));
+    return numbers;
 }
 
 function pairOf(point) {
@@ -126,25 +109,67 @@ class Instance {
     constructor(exports, heap) {
         this.wasm = exports;
         this.heap = heap;
-        this.reply = this.take(REPLY.size);
         this.requests = this.take(REQUESTS_AT_ONCE * REQUEST.size);
-        this.replies = this.take(REQUESTS_AT_ONCE * REPLY.size);
-        this.replyAddress = BigInt(this.reply);
+        // (the first reply is that of a call of its own, too)
+        this.reply = this.take(REQUESTS_AT_ONCE * REPLY.size);
+        this.requestsAt = BigInt(this.requests);
+        this.replyAt = BigInt(this.reply);
         this.witness = this.take(WITNESS.size);
         this.out = { at: this.take(BRIDGE.size), bytes: BRIDGE.size };
     }
 
     /** Calls an export. A trap ends the instance: what lies in its memory is not to be used again. */
     call(name, ...words) {
-        if (this.#cause !== null) {
-            throw new Trapped("the module stopped in a call before, and serves none any more: load it anew", { cause: this.#cause });
-        }
+        if (this.#cause !== null) this.#stopped(name);
         try {
             return this.wasm[name](...words);
         } catch (error) {
-            this.#cause = error;
-            throw new Trapped(`the module stopped in ${name}, and serves no call any more: load it anew`, { cause: error });
+            this.#stopped(name, error);
         }
+    }
+
+    #stopped(name, cause = this.#cause) {
+        this.#cause = cause;
+        throw new Trapped(`the module stopped in ${name}, or before, and serves no call any more: load it anew`, { cause });
+    }
+
+    /** Writes a request to the room of requests. */
+    request(at, kind, x, y) {
+        const { view } = this.heap;
+        view.setInt32(at, kind, true);
+        writeWhole(view, at + REQUEST.x, x);
+        writeWhole(view, at + REQUEST.y, y);
+    }
+
+    /** Makes one call of a hull by that for many: no number of it crosses as a BigInt, which takes longer than a question. */
+    askHull(hull, kind, x, y) {
+        if (this.#cause !== null) this.#stopped("hull_calls");
+        this.request(this.requests, kind, x, y);
+        try {
+            this.wasm.hull_calls(hull, this.requestsAt, 1n, this.replyAt, 1n);
+        } catch (error) {
+            this.#stopped("hull_calls", error);
+        }
+        return this.#code();
+    }
+
+    /** The same of an outline. */
+    askOutline(corners, count, kind, x, y) {
+        if (this.#cause !== null) this.#stopped("hull_outline_calls");
+        this.request(this.requests, kind, x, y);
+        try {
+            this.wasm.hull_outline_calls(corners, count, this.requestsAt, 1n, this.replyAt, 1n);
+        } catch (error) {
+            this.#stopped("hull_outline_calls", error);
+        }
+        return this.#code();
+    }
+
+    /** The code of the last reply; a fault is thrown. */
+    #code() {
+        const code = this.heap.view.getInt32(this.reply, true), fault = FAULTS[code];
+        if (fault !== undefined) throw fault();
+        return code;
     }
 
     /** Makes a call that gives memory back, for which there is no need after a trap. */
@@ -154,15 +179,13 @@ class Instance {
 
     /** Makes a call that replies, and returns its code; a fault is thrown. */
     ask(name, ...words) {
-        this.call(name, this.replyAddress, ...words);
-        const code = this.heap.view.getUint32(this.reply, true);
-        if (FAULTS.has(code)) throw FAULTS.get(code)();
-        return code;
+        this.call(name, this.replyAt, ...words);
+        return this.#code();
     }
 
     take(bytes) {
         const at = this.heap.take(bytes);
-        if (at === 0) throw FAULTS.get(CODE.noMemory)();
+        if (at === 0) throw FAULTS[CODE.noMemory]();
         return at;
     }
 
@@ -235,7 +258,7 @@ class Instance {
     }
 }
 
-/** Ends what nothing refers to any more and was not freed: the engine calls it at a time of its own. */
+/** Ends what nothing refers to any more and was not freed. */
 const forgotten = new FinalizationRegistry((end) => end());
 
 /** What a hull and an outline have in common: the questions, and the end. */
@@ -286,7 +309,7 @@ class Questions {
     extremeAll(directions) {
         const coordinates = flat(directions), found = [];
         for (let i = 0; i < coordinates.length; i += 2) {
-            if (coordinates[i] === 0 && coordinates[i + 1] === 0) throw FAULTS.get(CODE.zeroDirection)();
+            if (coordinates[i] === 0 && coordinates[i + 1] === 0) throw FAULTS[CODE.zeroDirection]();
         }
         this._serve(EXTREME, coordinates, (_, code, number, [point]) => found.push(code === CODE.point ? point : null));
         return found;
@@ -301,18 +324,15 @@ class Questions {
     }
 
     #serveSome(kind, coordinates, from, count, tell) {
-        const instance = this._live(), { requests, replies } = instance;
-        let { view } = instance.heap;
+        const instance = this._live(), { requests, requestsAt, reply, replyAt } = instance;
         for (let i = 0; i < count; i++) {
-            const at = requests + i * REQUEST.size;
-            view.setUint32(at, kind, true);
-            writeWhole(view, at + REQUEST.x, coordinates[2 * (from + i)]);
-            writeWhole(view, at + REQUEST.y, coordinates[2 * (from + i) + 1]);
+            const at = 2 * (from + i);
+            instance.request(requests + i * REQUEST.size, kind, coordinates[at], coordinates[at + 1]);
         }
-        this._callAll(BigInt(requests), BigInt(count), BigInt(replies), BigInt(count));
-        view = instance.heap.view;
+        this._callAll(requestsAt, BigInt(count), replyAt, BigInt(count));
+        const { view } = instance.heap;
         for (let i = 0; i < count; i++) {
-            const at = replies + i * REPLY.size;
+            const at = reply + i * REPLY.size;
             const points = kind === TANGENTS || kind === EXTREME ? [instance.point(at + REPLY.x), instance.point(at + REPLY.otherX)] : [];
             tell(from + i, view.getUint32(at, true), view.getUint32(at + REPLY.number, true), points);
         }
@@ -357,7 +377,7 @@ class HullOfInstance extends Questions {
     }
 
     _ask(kind, x, y) {
-        return this._live().ask("hull_call", this.#at, kind, BigInt(x), BigInt(y));
+        return this._live().askHull(this.#at, kind, x, y);
     }
 
     add(x, y) {
@@ -465,16 +485,18 @@ class HullOfInstance extends Questions {
 class OutlineOfInstance extends Questions {
     #at;
     #count;
+    // the same for the module
+    #address;
+    #corners;
 
     constructor(instance, corners) {
         const coordinates = flat(corners), count = coordinates.length / 2;
         if (count > POINT_LIMIT) throw new TooMany("an outline has more corners than a hull may have");
         const room = instance.placed(coordinates);
         super(instance, () => instance.heap.give(room));
-        this.#at = room;
-        this.#count = count;
+        [this.#at, this.#count, this.#address, this.#corners] = [room, count, BigInt(room), BigInt(count)];
         try {
-            instance.ask("hull_is_outline", BigInt(room), BigInt(count));
+            instance.ask("hull_is_outline", this.#address, this.#corners);
             if (instance.number() !== 1) throw new NoOutline("the points are not the corners of a hull in their order");
         } catch (error) {
             this.free();
@@ -483,11 +505,11 @@ class OutlineOfInstance extends Questions {
     }
 
     _ask(kind, x, y) {
-        return this._live().ask("hull_outline_call", BigInt(this.#at), BigInt(this.#count), kind, BigInt(x), BigInt(y));
+        return this._live().askOutline(this.#address, this.#corners, kind, x, y);
     }
 
     _callAll(...words) {
-        this._live().call("hull_outline_calls", BigInt(this.#at), BigInt(this.#count), ...words);
+        this._live().call("hull_outline_calls", this.#address, this.#corners, ...words);
     }
 
     count() {
@@ -501,14 +523,14 @@ class OutlineOfInstance extends Questions {
 
     /** Makes a call of this outline's that replies; the code. */
     #found(name, ...words) {
-        return this._live().ask(name, BigInt(this.#at), BigInt(this.#count), ...words);
+        return this._live().ask(name, this.#address, this.#corners, ...words);
     }
 
     /** Makes a call of this outline and another one that replies, or that tells a witness. */
     #beside(call, name, other) {
         const instance = this._live();
         if (!(other instanceof OutlineOfInstance) || other._live() !== instance) throw new NoOutline("the other one is no outline of the same module");
-        return instance[call](name, BigInt(this.#at), BigInt(this.#count), BigInt(other.#at), BigInt(other.#count));
+        return instance[call](name, this.#address, this.#corners, other.#address, other.#corners);
     }
 
     meetsSegment(ax, ay, bx, by) {
@@ -540,7 +562,7 @@ class OutlineOfInstance extends Questions {
     }
 
     leastWidth() {
-        const [code, points] = this._live().witnessed("hull_outline_least_width", BigInt(this.#at), BigInt(this.#count));
+        const [code, points] = this._live().witnessed("hull_outline_least_width", this.#address, this.#corners);
         return code === CODE.edge ? points.slice(0, 3) : null;
     }
 
@@ -638,7 +660,7 @@ export async function load(source = moduleBeside(), { memory = Infinity } = {}) 
     } catch (error) {
         throw new Unsupported(`this engine can't load these bytes as the module: ${error.message}`, { cause: error });
     }
-    if (!wasm.memory || !wasm.__heap_base || !wasm.hull_call) throw new Unsupported("these bytes are another module");
+    if (!wasm.memory || !wasm.__heap_base || !wasm.hull_calls) throw new Unsupported("these bytes are another module");
     heap.begin(wasm.memory, Number(wasm.__heap_base.value));
     return classesOf(new Instance(wasm, heap));
 }

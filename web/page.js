@@ -1,362 +1,231 @@
-// The page round the hull: what is drawn, what follows the pointer, and the journal with its slider.
-import { COORDINATE_LIMIT } from "./hull.js";
-import { Replay, emptyJournal, inverse, journalText, lineText, readJournal } from "./journal.js";
+// The page round the hull: what is drawn, what follows the pointer, and what is opened, saved and kept.
+import { emptyJournal, joinJournals, journalText, lineText, readJournal } from "./journal.js";
+import { toFloat } from "./exchange.js";
+import { addressOf, callsOf, kindOf, readAddress, readRows, writeRows } from "./texts.js";
+import { Example } from "./example.js";
+import { Keeper } from "./keep.js";
+import { List } from "./list.js";
+import { Picture } from "./picture.js";
+import { View, clamped } from "./view.js";
+import { Work } from "./work.js";
 
-const NEAR = 9; // from so many pixels on, a pointer is not at a point
-const LABELS = 400; // up to so many points, multiplicities are written
-const LISTED = 200; // so many lines of the journal stand in the list
-const SCALE = 8; // pixels for each unit of the lattice, to begin with
+const NEAR = { mouse: 9, touch: 18, pen: 12 }; // from so many pixels on, a pointer is not at a point
 const STILL = 4; // so many pixels a pointer may move in a click
-const KEPT = "hullbook.journal"; // the name under which the browser keeps the journal
-const KEPT_BYTES = 4e6; // up to so many
+const HOLD = 400; // milliseconds after which a finger that stays asks and does not draw
+const REST = 300; // milliseconds without a change until the journal is kept
 const STEPS = { ArrowLeft: [-1, 0], ArrowRight: [1, 0], ArrowUp: [0, 1], ArrowDown: [0, -1] };
+const NOTHING = { move() {}, end() {} }; // a drag of nothing
 
 const element = (id) => document.getElementById(id);
-const clamped = (value) => Math.max(-COORDINATE_LIMIT, Math.min(COORDINATE_LIMIT, value));
-const pointOf = (key) => key.split(" ").map(Number);
+const tell = (id, text) => {
+    if (element(id).textContent !== text) element(id).textContent = text;
+};
 
-/** Where the lattice lies on the canvas: y goes up. */
-class View {
-    constructor() {
-        this.scale = SCALE;
-        this.middle = [0, 0];
-        this.size = [1, 1];
-    }
-
-    toScreen([x, y]) {
-        return [this.size[0] / 2 + (x - this.middle[0]) * this.scale, this.size[1] / 2 - (y - this.middle[1]) * this.scale];
-    }
-
-    toLattice([left, top]) {
-        const x = this.middle[0] + (left - this.size[0] / 2) / this.scale;
-        const y = this.middle[1] - (top - this.size[1] / 2) / this.scale;
-        return [clamped(Math.round(x)) + 0, clamped(Math.round(y)) + 0];
-    }
-
-    /** Shows all of the points with a margin; the first view where there are none. */
-    fit(coordinates) {
-        if (coordinates.length === 0) return Object.assign(this, { scale: SCALE, middle: [0, 0] });
-        let [left, right, low, high] = [Infinity, -Infinity, Infinity, -Infinity];
-        for (let i = 0; i < coordinates.length; i += 2) {
-            [left, right] = [Math.min(left, coordinates[i]), Math.max(right, coordinates[i])];
-            [low, high] = [Math.min(low, coordinates[i + 1]), Math.max(high, coordinates[i + 1])];
-        }
-        this.middle = [(left + right) / 2, (low + high) / 2];
-        const wide = this.size[0] / Math.max(1, right - left), tall = this.size[1] / Math.max(1, high - low);
-        this.scale = Math.min(40, 0.8 * Math.min(wide, tall));
-    }
-
-    /** Zooms, with what is seen at a place of the screen left there. */
-    zoom(factor, [left, top] = this.size.map((it) => it / 2)) {
-        const before = this.scale;
-        this.scale = Math.min(80, Math.max(1e-10, this.scale * factor));
-        const moved = 1 / before - 1 / this.scale;
-        this.middle = [this.middle[0] + (left - this.size[0] / 2) * moved, this.middle[1] - (top - this.size[1] / 2) * moved];
-    }
-
-    /** Moves what is seen by so many pixels. */
-    pan(left, top) {
-        this.middle = [this.middle[0] - left / this.scale, this.middle[1] + top / this.scale].map(clamped);
-    }
-}
-
-/** What is drawn: the hull, the points, and the lines to the tangent points. */
-class Picture {
-    constructor(canvas, view) {
-        this.canvas = canvas;
-        this.view = view;
-        this.front = this.pen = canvas.getContext("2d");
-        this.still = document.createElement("canvas");
-        this.drawn = null; // what the still layer shows
-    }
-
-    resize() {
-        const { width, height } = this.canvas.getBoundingClientRect(), ratio = globalThis.devicePixelRatio || 1;
-        for (const layer of [this.canvas, this.still]) {
-            layer.width = Math.round(width * ratio);
-            layer.height = Math.round(height * ratio);
-            layer.getContext("2d").setTransform(ratio, 0, 0, ratio, 0, 0);
-        }
-        this.view.size = [width, height];
-        this.style = getComputedStyle(document.documentElement);
-        this.drawn = null;
-    }
-
-    color(name) {
-        return this.style.getPropertyValue(`--${name}`);
-    }
-
-    /** Draws all, what stands still only where it is another `state` or seen from elsewhere. */
-    draw({ state, scene, cursor, seen }) {
-        const shown = JSON.stringify([state, this.view]);
-        if (shown !== this.drawn) {
-            this.pen = this.still.getContext("2d");
-            this.scene(scene());
-            this.pen = this.front;
-            this.drawn = shown;
-        }
-        this.pen.clearRect(0, 0, ...this.view.size);
-        this.pen.drawImage(this.still, 0, 0, ...this.view.size);
-        if (cursor !== null) this.pointer(cursor, seen);
-    }
-
-    scene({ corners, held, levels }) {
-        this.pen.clearRect(0, 0, ...this.view.size);
-        this.grid();
-        this.polygon(corners);
-        levels.forEach((bridges, level) => this.bridges(bridges, level));
-        for (const [key, times] of held) this.point(pointOf(key), times, held.size <= LABELS);
-        this.pen.fillStyle = this.color("hull");
-        for (const corner of corners) this.dot(corner, 4.5);
-    }
-
-    grid() {
-        const { view, pen } = this;
-        if (view.scale < 6) return;
-        const [left, top] = view.toLattice([0, 0]), [right, low] = view.toLattice(view.size);
-        pen.beginPath();
-        for (let x = left; x <= right; x++) this.across([x, top + 1], [x, low - 1]);
-        for (let y = low; y <= top; y++) this.across([left - 1, y], [right + 1, y]);
-        pen.strokeStyle = this.color("grid");
-        pen.lineWidth = 1;
-        pen.stroke();
-    }
-
-    across(from, to) {
-        this.pen.moveTo(...this.view.toScreen(from));
-        this.pen.lineTo(...this.view.toScreen(to));
-    }
-
-    polygon(corners) {
-        const { pen } = this;
-        pen.beginPath();
-        for (const corner of corners) pen.lineTo(...this.view.toScreen(corner));
-        pen.closePath();
-        pen.fillStyle = this.color("inside");
-        pen.fill();
-        pen.strokeStyle = this.color("hull");
-        pen.lineWidth = 2;
-        pen.stroke();
-    }
-
-    /** The stored bridges of a level: the deeper, the thinner. */
-    bridges(bridges, level) {
-        for (const side of ["upper", "lower"]) {
-            this.pen.beginPath();
-            for (const bridge of bridges) this.across(...bridge[side]);
-            this.pen.strokeStyle = this.color(side);
-            this.pen.lineWidth = Math.max(0.5, 3 - level / 3);
-            this.pen.stroke();
-        }
-    }
-
-    point(at, times, labelled) {
-        this.pen.fillStyle = this.color("point");
-        this.dot(at, 2.5);
-        if (times < 2 || !labelled) return;
-        const [left, top] = this.view.toScreen(at);
-        this.pen.fillStyle = this.color("text");
-        this.pen.font = "12px system-ui, sans-serif";
-        this.pen.fillText(String(times), left + 7, top - 7);
-    }
-
-    dot(at, radius) {
-        const [left, top] = this.view.toScreen(at);
-        this.pen.beginPath();
-        this.pen.arc(left, top, radius, 0, 2 * Math.PI);
-        this.pen.fill();
-    }
-
-    pointer(cursor, seen) {
-        this.pen.lineWidth = 1.5;
-        for (const side of seen === null ? [] : ["left", "right"]) {
-            this.pen.beginPath();
-            this.across(cursor, seen[side]);
-            this.pen.strokeStyle = this.color(side);
-            this.pen.stroke();
-        }
-        const [left, top] = this.view.toScreen(cursor);
-        this.pen.beginPath();
-        for (const [x, y] of [[6, 0], [0, 6]]) {
-            this.pen.moveTo(left - x, top - y);
-            this.pen.lineTo(left + x, top + y);
-        }
-        this.pen.strokeStyle = this.color("text");
-        this.pen.stroke();
-    }
-}
-
-/** The page: a replay of its journal, what is shown of it, and what the user does. */
 export class Page {
-    #changes = []; // of each deed the calls that take it back
-    #undone = []; // of each deed that was taken back the calls that do it again
     #drag = null;
     #fingers = new Map(); // of each pointer that is down its place
+    #holding = 0;
     #drawing = false;
-    #state = 0; // counts what changed the hull or the journal
     #listed = null; // the state that the list shows
     #keeping = 0;
+    #before = null; // the time of the last frame of the example
 
-    constructor({ Hull }) {
-        this.Hull = Hull;
+    /** Goes on with what the browser kept, or with the points of the address, or opens on the example. */
+    static async start(library) {
+        const keeper = new Keeper();
+        return new Page(library, keeper, await keeper.read());
+    }
+
+    constructor(library, keeper, kept) {
+        Object.assign(this, { library, keeper, cursor: null, fault: null, isPaused: matchMedia("(prefers-reduced-motion: reduce)").matches });
         this.view = new View();
         this.picture = new Picture(element("plane"), this.view);
-        this.cursor = null;
-        this.told = "";
-        this.begin(this.kept() ?? emptyJournal());
+        this.work = new Work(library.Hull, kept?.was);
+        this.list = new List(element("lines"), (to) => this.go(to));
+        this.example = null;
+        this.picture.resize();
+        if (kept) this.work.takeUp(kept.deeds);
+        this.#enter(kept && kept.mode === "draw" ? "draw" : "example");
+        if (kept?.view && this.mode === "draw") Object.assign(this.view, kept.view);
+        // (an address that the page wrote itself may be older than what is kept)
+        if (location.hash !== kept?.address) this.linked();
         this.listen();
         new ResizeObserver(() => this.resized()).observe(element("plane"));
         matchMedia("(prefers-color-scheme: dark)").addEventListener("change", () => this.resized());
-        this.resized();
+        this.show();
+    }
+
+    get hull() {
+        return this.work.hull;
+    }
+
+    get replay() {
+        return this.work.replay;
     }
 
     resized() {
         this.picture.resize();
+        if (this.mode === "example") this.view.fit(this.example.room, 1);
         this.show();
     }
 
-    /** Takes a journal in the place of the one there was, and goes to its end. */
-    begin(journal) {
-        this.hull?.free();
-        this.hull = new this.Hull(journal.limit);
-        this.replay = new Replay(this.hull, journal);
-        this.#changes = [];
-        this.#undone = [];
-        this.replay.go(journal.lines.length);
-        this.changed();
+    /** Shows the example, or the plane that is drawn on. */
+    #enter(mode) {
+        this.mode = document.body.dataset.mode = mode;
+        if (mode === "example") {
+            this.example = new Example(this.library);
+            this.#before = null;
+        } else {
+            this.example?.free();
+            this.example = null;
+        }
+        tell("own", mode === "example" ? "Draw your own" : "Show the example");
+        this.picture.resize();
+        this.view.fit(mode === "example" ? this.example.room : this.hull.vertexArray(), mode === "example" ? 1 : 0.8);
     }
 
-    /** The hull or the journal are others now: that is drawn, and kept for the next time. */
-    changed() {
-        this.#state += 1;
+    /** From the example to a plane to draw on, and back. */
+    turn() {
+        this.#enter(this.mode === "example" ? "draw" : "example");
+        this.point(null);
+        this.#rested();
+        this.show();
+    }
+
+    pause() {
+        this.isPaused = !this.isPaused;
+        tell("pause", this.isPaused ? "Go on" : "Pause");
+        this.show();
+    }
+
+    /** Has what is there kept when it has rested for a while. */
+    #rested() {
         clearTimeout(this.#keeping);
-        this.#keeping = setTimeout(() => this.keep(), 300);
+        this.#keeping = setTimeout(() => this.keep(), REST);
     }
 
-    /** Has the browser keep the journal, where it can. */
-    keep() {
+    /** Keeps all for the next time. */
+    keep(isEnding = false) {
+        const { mode, view: { scale, middle } } = this;
+        if (mode === "draw" && !isEnding) this.#address();
+        return this.keeper.keep(this.work, { mode, view: { scale, middle }, address: location.hash }, isEnding);
+    }
+
+    /** Has the address hold the points, where they are few. */
+    #address() {
+        const address = addressOf(this.replay.held, this.work.power);
         try {
-            const text = this.text();
-            if (text.length <= KEPT_BYTES) localStorage.setItem(KEPT, text);
-            else localStorage.removeItem(KEPT);
+            if (location.hash !== address) history.replaceState(null, "", address || location.href.replace(/#.*/, ""));
         } catch {
-            // (a browser that keeps nothing: Save does)
+            // (a browser that leaves the addresses of files alone)
         }
     }
 
-    /** The journal that the browser kept, or null. */
-    kept() {
-        try {
-            const text = localStorage.getItem(KEPT);
-            return text === null ? null : readJournal(text);
-        } catch {
-            return null;
-        }
+    /** Takes up the points that the address holds, where they are others than those that are there. */
+    linked() {
+        this.#tried("the address", () => {
+            const found = readAddress(location.hash);
+            if (found === null || location.hash === addressOf(this.replay.held, this.work.power)) return;
+            this.work.openCalls(found.calls, found.power);
+            this.#shown();
+        });
     }
 
-    /** Makes calls as one deed, which is taken back as one. */
-    deed(calls) {
-        this.#remember(this.made(calls));
+    /** Shows what was opened, all of it. */
+    #shown() {
+        if (this.mode === "example") this.#enter("draw");
+        this.view.fit(this.hull.vertexArray());
+        this.#rested();
         this.show();
     }
 
-    /** Takes lines up as one deed. */
-    #remember(lines) {
-        const back = lines.map(inverse).filter((it) => it !== null).reverse();
-        if (back.length === 0) return;
-        this.#changes.push(back);
-        this.#undone = [];
-    }
-
-    /** Whether the journal has room for so many calls; where not, that is told. */
-    hasRoom(calls) {
-        const { at, journal } = this.replay;
-        if (at + calls <= journal.capacity) return true;
-        this.told = "the journal is full: save it, and begin a new one";
-        return false;
-    }
-
-    made(calls) {
-        const lines = [];
+    /** Does what may be refused: why it was is told, with the line of a text that is wrong. */
+    #tried(name, run) {
+        this.fault = null;
         try {
-            for (const call of calls) lines.push(this.replay.call(call));
-            this.told = lines.length ? lineText(lines.at(-1)) : "";
+            run();
         } catch (error) {
-            this.told = error.message;
-        }
-        if (lines.length) this.changed();
-        return lines;
-    }
-
-    undo() {
-        this.#turn(this.#changes, this.#undone);
-    }
-
-    redo() {
-        this.#turn(this.#undone, this.#changes);
-    }
-
-    /** Makes the calls of the last deed of one list, and takes up in the other what undoes them. */
-    #turn(from, to) {
-        const calls = from.at(-1);
-        if (calls && this.hasRoom(calls.length)) {
-            from.pop();
-            to.push(this.made(calls).map(inverse).filter((it) => it !== null).reverse());
+            this.work.told = `${name}: ${error.message}`;
+            this.fault = error.line ? { where: `line ${error.line} of ${error.file ?? name}`, stands: error.stands, should: error.should } : null;
         }
         this.show();
+    }
+
+    /** Runs a deed of the user's, and shows what came of it. */
+    deed(run) {
+        this.fault = null;
+        run(this.work);
+        this.#rested();
+        this.show();
+    }
+
+    do(calls) {
+        this.deed((work) => work.do(calls));
+    }
+
+    go(to) {
+        this.deed((work) => work.go(to));
     }
 
     /** The point that is held next to a place on the screen, or null. */
-    near(place) {
-        let least = NEAR ** 2, found = null;
-        for (const key of this.replay.held.keys()) {
-            const at = pointOf(key), [left, top] = this.view.toScreen(at);
-            const apart = (left - place[0]) ** 2 + (top - place[1]) ** 2;
-            if (apart <= least) [least, found] = [apart, at];
+    near(place, reach) {
+        const { coordinates, size } = this.replay.held, [x, y] = this.view.exact(place);
+        let least = (reach / this.view.scale) ** 2, found = null;
+        for (let i = 0; i < 2 * size; i += 2) {
+            const apart = (coordinates[i] - x) ** 2 + (coordinates[i + 1] - y) ** 2;
+            if (apart <= least) [least, found] = [apart, [coordinates[i], coordinates[i + 1]]];
         }
         return found;
-    }
-
-    /** Goes to a number of calls. What was done before is not taken back any more. */
-    go(to) {
-        this.#changes = [];
-        this.#undone = [];
-        this.replay.go(to);
-        this.changed();
-        const { at, journal } = this.replay;
-        this.told = at > 0 ? lineText(journal.lines[at - 1]) : "";
-        this.show();
     }
 
     /** Draws and tells in the next frame. */
     show() {
         if (this.#drawing) return;
         this.#drawing = true;
-        requestAnimationFrame(() => {
+        requestAnimationFrame((now) => {
             this.#drawing = false;
-            this.showNow();
+            this.showNow(now);
         });
     }
 
-    showNow() {
-        const { hull, cursor } = this;
-        const place = cursor === null ? null : hull.place(...cursor);
-        const seen = cursor === null ? null : hull.tangents(...cursor);
-        const scene = () => this.scene();
-        this.picture.draw({ state: [this.#state, element("levels").value], scene, cursor, seen });
-        element("where").textContent = cursor === null ? "" : `(${cursor.join(", ")}) is ${place}`;
-        for (const side of ["left", "right"]) element(side).textContent = seen === null ? "" : `${side} (${seen[side].join(", ")})`;
-        element("last").textContent = this.told;
-        if (this.#listed !== this.#state) this.showJournal();
-        this.#listed = this.#state;
+    showNow(now = performance.now()) {
+        if (this.mode === "example") return this.#showExample(now);
+        const { cursor, hull } = this, seen = cursor === null ? null : hull.tangents(...cursor);
+        this.picture.draw({
+            state: ["draw", this.work.state, element("levels").value],
+            scene: (picture) => this.#drawScene(picture),
+            over: (picture) => cursor !== null && picture.pointer(cursor, seen),
+        });
+        tell("where", cursor === null ? "" : `${this.#text(cursor)} is ${hull.place(...cursor)}`);
+        for (const side of ["left", "right"]) tell(side, seen === null ? "" : `${side} ${this.#text(seen[side])}`);
+        tell("last", this.work.told);
+        this.#showFault();
+        if (this.#listed !== this.work.state) this.#showJournal();
+    }
+
+    #showExample(now) {
+        if (!this.isPaused) this.example.move(this.#before === null ? 0 : now - this.#before);
+        this.#before = this.isPaused ? null : now;
+        this.picture.draw({ state: ["example", now], scene: () => {}, over: (picture) => this.example.draw(picture) });
+        for (const [name, text] of Object.entries(this.example.readings())) tell(`shown-${name}`, text);
+        if (!this.isPaused) this.show();
+    }
+
+    /** A point as it was opened: its coordinates divided by the power of two that they were multiplied by. */
+    #text(point) {
+        return `(${point.map((it) => toFloat(it, this.work.power)).join(", ")})`;
     }
 
     /** What stands still on the picture; its numbers are told too. */
-    scene() {
-        const { hull } = this, corners = hull.vertices(), doubled = hull.doubledArea();
-        element("count").textContent = `${hull.count()}, ${corners.length} of them corners`;
-        element("area").textContent = `${doubled / 2n}${doubled % 2n ? ".5" : ""}`;
-        return { corners, held: this.replay.held, levels: this.levels() };
+    #drawScene(picture) {
+        const { hull, replay, work: { power } } = this, corners = hull.vertexArray(), doubled = hull.doubledArea();
+        tell("count", `${hull.count()}, ${corners.length / 2} of them corners`);
+        tell("area", power === 0 ? `${doubled / 2n}${doubled % 2n ? ".5" : ""}` : `${toFloat(Number(doubled), 2 * power + 1)}`);
+        picture.grid();
+        picture.polygon(corners);
+        this.levels().forEach((bridges, level) => picture.bridges(bridges, level));
+        picture.points(replay.held);
+        picture.corners(corners);
     }
 
     /** The stored bridges of as many levels as are asked for and there are. */
@@ -367,74 +236,96 @@ export class Page {
             if (bridges.length === 0) break;
             levels.push(bridges);
         }
-        element("leveled").textContent = `${levels.length} level${levels.length === 1 ? "" : "s"}`;
+        tell("leveled", `${levels.length} level${levels.length === 1 ? "" : "s"}`);
         return levels;
     }
 
-    showJournal() {
-        const { at, journal, wrong } = this.replay, { lines } = journal;
-        const most = wrong === null ? lines.length : wrong.index, from = Math.max(0, Math.min(at - LISTED / 2, lines.length - LISTED));
-        Object.assign(element("step"), { max: most, value: at });
-        element("place").textContent = `${at} of ${lines.length} calls`;
-        const items = lines.slice(from, from + LISTED).map((line, i) => this.item(line, from + i, at, wrong));
-        element("lines").replaceChildren(...items);
-        const last = element("lines").querySelector(".last");
-        if (last) element("lines").scrollTop = last.offsetTop - element("lines").offsetTop - element("lines").clientHeight / 2;
+    #showJournal() {
+        const { at, journal, wrong } = this.replay, { length } = journal.lines;
+        Object.assign(element("step"), { max: wrong === null ? length : wrong.index, value: at });
+        tell("place", `${at} of ${length} calls`);
+        this.list.show(this.replay);
+        this.#listed = this.work.state;
     }
 
-    item(line, index, at, wrong) {
-        const item = document.createElement("li"), isWrong = wrong?.index === index;
-        item.className = isWrong ? "wrong" : index === at - 1 ? "last" : index >= at ? "later" : "";
-        item.textContent = item.title = isWrong ? `${lineText(line)} (wrong: ${wrong.should})` : lineText(line);
-        return item;
+    /** A fault of the text that was to be opened, or of the journal that is: the line, what stands there, and what should. */
+    #showFault() {
+        const { wrong, journal } = this.replay;
+        let { fault } = this;
+        if (!fault && wrong !== null) {
+            const part = journal.parts?.findLast((it) => it.from <= wrong.index) ?? { name: "the journal", from: 0 };
+            fault = { where: `line ${wrong.index - part.from + 2} of ${part.name}`, stands: lineText(wrong.line), should: wrong.should };
+        }
+        element("wrong").hidden = !fault;
+        for (const name of fault ? ["where", "stands", "should"] : []) tell(`wrong-${name}`, fault[name]);
+    }
+
+    /** Speaks what is told now: only when asked. */
+    speak() {
+        const rows = [...document.querySelectorAll(this.mode === "example" ? "#shown > *" : "#told > *")];
+        const text = rows.map((it) => it.textContent.trim()).filter(Boolean).join(", ");
+        tell("spoken", "");
+        requestAnimationFrame(() => tell("spoken", text));
     }
 
     /** Moves the cross, and writes its questions where that is wanted. */
     point(cursor) {
         if (cursor?.join() === this.cursor?.join()) return;
         this.cursor = cursor;
-        // (written behind all calls alone: from an earlier place they would cut the later ones off)
-        const isAtTheEnd = this.replay.at === this.replay.journal.lines.length;
-        if (cursor !== null && element("questions").checked && isAtTheEnd && this.hasRoom(2)) {
-            this.made(["place", "tangents"].map((word) => `${word} ${cursor.join(" ")}`));
+        if (cursor !== null && element("questions").checked) {
+            this.work.ask(["place", "tangents"].map((word) => `${word} ${cursor.join(" ")}`));
+            this.#rested();
         }
         this.show();
     }
 
     listen() {
-        const plane = element("plane");
-        plane.addEventListener("pointerdown", (event) => this.pressed(event));
-        plane.addEventListener("pointermove", (event) => this.moved(event));
-        plane.addEventListener("pointerup", (event) => this.released(event));
-        plane.addEventListener("pointercancel", (event) => this.left(event));
-        plane.addEventListener("pointerleave", (event) => event.pointerType === "mouse" && (this.#drag ?? this.point(null)));
-        addEventListener("pagehide", () => this.keep());
-        addEventListener("dragover", (event) => event.preventDefault());
-        addEventListener("drop", async (event) => {
-            event.preventDefault();
-            if (event.dataTransfer.files[0]) this.open(await event.dataTransfer.files[0].text());
+        const plane = element("plane"), on = (target, names) => Object.entries(names).forEach(([name, run]) => target.addEventListener(name, run, { passive: false }));
+        on(plane, {
+            pointerdown: (event) => this.pressed(event),
+            pointermove: (event) => this.moved(event),
+            pointerup: (event) => this.released(event),
+            pointercancel: (event) => this.left(event),
+            pointerleave: (event) => event.pointerType === "mouse" && this.#drag === null && this.point(null),
+            contextmenu: (event) => this.#fingers.size > 0 && event.preventDefault(),
+            wheel: (event) => this.turned(event),
+            keydown: (event) => this.keyed(event),
         });
-        plane.addEventListener("wheel", (event) => this.turned(event), { passive: false });
-        plane.addEventListener("keydown", (event) => this.keyed(event));
-        element("step").addEventListener("input", (event) => this.go(Number(event.target.value)));
+        on(window, {
+            pagehide: () => this.keep(true),
+            hashchange: () => this.linked(),
+            keydown: (event) => this.commanded(event),
+            dragover: (event) => event.preventDefault(),
+            drop: (event) => {
+                event.preventDefault();
+                this.opened(event.dataTransfer.files);
+            },
+        });
+        element("step").addEventListener("input", ({ target }) => this.go(Number(target.value)));
         element("levels").addEventListener("input", () => this.show());
         element("open").addEventListener("change", async ({ target }) => {
-            if (target.files[0]) this.open(await target.files[0].text());
+            await this.opened(target.files);
             target.value = "";
         });
-        const buttons = {
+        for (const [id, run] of Object.entries(this.#buttons())) element(id).addEventListener("click", run);
+    }
+
+    #buttons() {
+        return {
+            own: () => this.turn(),
+            pause: () => this.pause(),
             back: () => this.go(Math.max(0, this.replay.at - 1)),
             on: () => this.go(this.replay.at + 1),
-            undo: () => this.undo(),
-            redo: () => this.redo(),
-            some: () => this.deed(this.random(20)),
-            circle: () => this.deed(this.circle(48)),
-            many: () => this.deed(this.random(1000)),
+            undo: () => this.deed((work) => work.undo()),
+            redo: () => this.deed((work) => work.redo()),
+            some: () => this.do(this.random(20)),
+            circle: () => this.do(this.circle(48)),
+            many: () => this.do(this.random(1000)),
             fit: () => this.fitted(),
             anew: () => this.anew(),
-            save: () => this.save(),
+            save: () => this.save(element("kind").value),
+            speak: () => this.speak(),
         };
-        for (const [id, run] of Object.entries(buttons)) element(id).addEventListener("click", run);
     }
 
     placeOf(event) {
@@ -453,33 +344,56 @@ export class Page {
         this.#fingers.set(event.pointerId, place);
         if (this.#fingers.size > 1) {
             // a second finger: what the first began ends, and both move the view
-            this.dropped();
-            this.#drag = { isMoved: true, lines: [] };
+            this.#dropped();
+            this.#drag = { ...NOTHING, from: place, isMoved: true };
         } else {
-            const held = this.near(place);
-            this.#drag = { from: place, last: place, held, at: held, isMoved: false, lines: [] };
+            const drag = this.mode === "example" ? this.#dragExample(place) : this.#dragPlane(place, event);
+            this.#drag = { ...drag, from: place, last: place, isMoved: false };
         }
+        if (this.mode === "draw") this.point(this.view.toLattice(place));
+    }
+
+    #pan() {
+        return { move: (place, last) => this.view.pan(place[0] - last[0], place[1] - last[1]), end() {} };
+    }
+
+    #dragExample(place) {
+        const move = this.example.taken(place, this.view);
+        return move ? { move, end() {} } : this.#pan();
+    }
+
+    /** A press on a point takes it along, or away where it does not move; elsewhere it moves the view, or adds a point. */
+    #dragPlane(place, { pointerType }) {
+        const held = this.near(place, NEAR[pointerType] ?? NEAR.mouse), deed = this.work.begin();
+        let at = held;
+        if (pointerType !== "mouse") this.#holding = setTimeout(() => this.#drag && Object.assign(this.#drag, NOTHING, { isMoved: true }), HOLD);
+        return {
+            move: (to, last) => {
+                if (!held) return this.#pan().move(to, last);
+                const next = this.view.toLattice(to);
+                // (both calls or none: a full journal keeps the point)
+                if (next.join() === at.join() || !this.work.hasRoom(2)) return;
+                this.work.make(deed, [`remove ${at.join(" ")}`, `add ${next.join(" ")}`]);
+                at = next;
+            },
+            end: (event, isMoved) => {
+                if (isMoved) this.deed((work) => work.end(deed));
+                else if (event) this.do([held && !event.shiftKey ? `remove ${held.join(" ")}` : `add ${(held ?? this.view.toLattice(place)).join(" ")}`]);
+            },
+        };
     }
 
     moved(event) {
         const place = this.placeOf(event), drag = this.#drag;
         if (this.#fingers.size > 1) return this.pinched(event.pointerId, place);
-        if (drag?.from && (drag.isMoved || Math.hypot(place[0] - drag.from[0], place[1] - drag.from[1]) > STILL)) {
+        if (drag && (drag.isMoved || Math.hypot(place[0] - drag.from[0], place[1] - drag.from[1]) > STILL)) {
+            clearTimeout(this.#holding);
             drag.isMoved = true;
-            if (drag.held) this.dragged(this.view.toLattice(place));
-            else this.view.pan(place[0] - drag.last[0], place[1] - drag.last[1]);
+            drag.move(place, drag.last);
             drag.last = place;
         }
-        this.point(this.view.toLattice(place));
+        if (this.mode === "draw") this.point(this.view.toLattice(place));
         this.show();
-    }
-
-    /** Takes the point that is dragged along, where the journal has room for both calls. */
-    dragged(at) {
-        const drag = this.#drag;
-        if (at.join() === drag.at.join() || !this.hasRoom(2)) return;
-        drag.lines.push(...this.made([`remove ${drag.at.join(" ")}`, `add ${at.join(" ")}`]));
-        drag.at = at;
     }
 
     /** Moves and zooms the view as two fingers do. */
@@ -496,23 +410,24 @@ export class Page {
     /** A pointer is gone. */
     left(event) {
         this.#fingers.delete(event.pointerId);
-        if (this.#fingers.size === 0) this.dropped();
+        if (this.#fingers.size === 0) this.#dropped();
     }
 
     released(event) {
-        const drag = this.#drag, at = this.view.toLattice(this.placeOf(event));
+        const drag = this.#drag;
         this.#fingers.delete(event.pointerId);
         if (drag === null || this.#fingers.size > 0) return;
-        if (drag.isMoved) this.dropped();
-        else if (drag.held && !event.shiftKey) this.deed([`remove ${drag.held.join(" ")}`]);
-        else this.deed([`add ${(drag.held ?? at).join(" ")}`]);
+        clearTimeout(this.#holding);
         this.#drag = null;
+        drag.end(event, drag.isMoved);
     }
 
-    /** Ends a drag: all of it is taken back as one. */
-    dropped() {
-        this.#remember(this.#drag?.lines ?? []);
+    /** Ends a drag where it is: all of it is taken back as one. */
+    #dropped() {
+        clearTimeout(this.#holding);
+        const drag = this.#drag;
         this.#drag = null;
+        drag?.end(null, drag.isMoved);
     }
 
     turned(event) {
@@ -521,19 +436,23 @@ export class Page {
         this.show();
     }
 
+    /** Undo and redo by the keys that all programs have for them. */
+    commanded(event) {
+        const key = event.key.toLowerCase();
+        if (!(event.ctrlKey || event.metaKey) || !["z", "y"].includes(key) || this.mode !== "draw") return;
+        event.preventDefault();
+        element(key === "y" || event.shiftKey ? "redo" : "undo").click();
+    }
+
     keyed(event) {
+        if (event.ctrlKey || event.metaKey) return;
+        if (event.key === "s") return this.speak();
+        if (this.mode === "example") return;
         const step = STEPS[event.key], [x, y] = this.cursor ?? this.view.middle.map(Math.round);
-        const far = event.shiftKey ? 10 : 1;
-        const run = step ? () => this.point([clamped(x + far * step[0]), clamped(y + far * step[1])]) : {
-            Enter: () => this.deed([`add ${x} ${y}`]),
-            " ": () => this.deed([`add ${x} ${y}`]),
-            Delete: () => this.deed([`remove ${x} ${y}`]),
-            Backspace: () => this.deed([`remove ${x} ${y}`]),
-            u: () => this.undo(),
-            z: () => this.undo(),
-            r: () => this.redo(),
-            y: () => this.redo(),
-        }[event.key];
+        const far = event.shiftKey ? 10 : 1, add = () => this.do([`add ${x} ${y}`]), remove = () => this.do([`remove ${x} ${y}`]);
+        const undo = () => element("undo").click(), redo = () => element("redo").click();
+        const run = step ? () => this.point([clamped(x + far * step[0]), clamped(y + far * step[1])])
+            : { Enter: add, " ": add, Delete: remove, Backspace: remove, u: undo, z: undo, r: redo, y: redo }[event.key];
         if (!run) return;
         event.preventDefault();
         run();
@@ -566,32 +485,62 @@ export class Page {
     }
 
     anew() {
-        this.begin(emptyJournal());
-        this.told = "";
+        this.deed((work) => work.open(emptyJournal()));
         this.fitted();
     }
 
-    /** Opens a journal's text; where it is none, that is told and nothing changes. */
-    open(text) {
-        try {
-            this.begin(readJournal(text));
-            this.told = this.replay.wrong === null ? "the journal is legal" : `the journal is wrong: ${this.replay.wrong.should} is right`;
-        } catch (error) {
-            this.told = error.message;
-        }
-        this.fitted();
+    /** Opens files: one, or the parts of a journal, or several of points. */
+    async opened(files) {
+        this.open(await Promise.all(Array.from(files, async (file) => ({ name: file.name, text: await file.text() }))));
+    }
+
+    /** Opens texts with their names, in the place of all that there is; where one is wrong, that is told and nothing changes. */
+    open(texts) {
+        if (texts.length === 0) return;
+        this.#tried(texts.map((it) => it.name).join(", "), () => {
+            const kinds = new Set(texts.map(({ text }) => kindOf(text) === "journal"));
+            if (kinds.size > 1) throw new RangeError("journals and points are not opened together");
+            if (kinds.has(true)) this.#openJournals(texts);
+            else this.#openPoints(texts);
+            this.#shown();
+        });
+    }
+
+    #openJournals(texts) {
+        const parts = texts.map(({ name, text }) => ({ name, journal: readBy(readJournal, name, text) }));
+        this.work.open(parts.length > 1 ? joinJournals(parts) : { ...parts[0].journal, parts: [{ name: parts[0].name, from: 0 }] });
+        if (this.replay.wrong === null) this.work.told = parts.length > 1 ? `the ${parts.length} parts are a legal journal` : "the journal is legal";
+        else this.work.told = `the journal is wrong: ${this.replay.wrong.should} is right`;
+    }
+
+    #openPoints(texts) {
+        const rows = [];
+        for (const { name, text } of texts) for (const row of readBy(readRows, name, text)) rows.push(row);
+        const { calls, power, rounded } = callsOf(rows);
+        this.work.openCalls(calls, power);
+        const lattice = power === 0 ? "" : `, times 2^${power}${rounded ? `, ${rounded} of their numbers rounded` : ""}`;
+        this.work.told = `${rows.length} points opened${lattice}`;
     }
 
     text() {
         return journalText(this.replay.journal);
     }
 
-    save() {
+    save(kind) {
+        const text = kind === "journal" ? this.text() : writeRows(kind, this.replay.held, this.hull.vertices(), this.work.power);
         const link = document.createElement("a");
-        link.href = URL.createObjectURL(new Blob([this.text()], { type: "text/plain" }));
-        link.download = "hullbook.journal";
+        link.href = URL.createObjectURL(new Blob([text], { type: kind === "svg" ? "image/svg+xml" : "text/plain" }));
+        link.download = `hullbook.${kind}`;
         link.click();
         setTimeout(() => URL.revokeObjectURL(link.href), 1000);
     }
 }
 
+/** Reads a text; a fault of it has its name. */
+function readBy(read, name, text) {
+    try {
+        return read(text);
+    } catch (error) {
+        throw Object.assign(error, { file: name });
+    }
+}

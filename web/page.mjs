@@ -3,11 +3,20 @@
 //     node web/page.mjs
 import { readFileSync, writeFileSync } from "node:fs";
 
+// each stands behind those that it imports
+const MODULES = ["heap", "hull", "exchange", "journal", "texts", "view", "picture", "list", "keep", "work", "example", "page"];
 const file = (name) => new URL(name, import.meta.url);
-const code = ["heap.js", "hull.js", "journal.js", "page.js"]
-    .map((name) => readFileSync(file(name), "utf8").replace(/^import .*\n/gm, "").replace(/^export /gm, ""))
-    .map((text) => text.replace(/^ *\/\*\*[^]*?\*\/\n/gm, "").replace(/^ *\/\/.*\n/gm, "")) // (comments stand in the files)
-    .join("\n");
+
+/** A module as a function, without its comments: what it imports comes from those before it, and what it exports is given back. */
+function wrapped(name) {
+    const text = readFileSync(file(`${name}.js`), "utf8");
+    const exported = [...text.matchAll(/^export (?:async )?(?:class|const|function) (\w+)/gm)].map((it) => it[1]);
+    const body = text.replace(/^import (\{.*\}) from "\.\/(\w+)\.js";\n/gm, "const $1 = $2_js;\n").replace(/^export /gm, "")
+        .replace(/^ *\/\*\*[^]*?\*\/\n/gm, "").replace(/^ *\/\/.*\n/gm, "").replace(/^ +/gm, "").replace(/\n\n+/g, "\n");
+    return `const ${name}_js = (() => {\n${body}return { ${exported.join(", ")} };\n})();\n`;
+}
+
+const code = `${MODULES.map(wrapped).join("")}const { load } = hull_js, { Page } = page_js;`;
 // (the module with a 32-bit memory, which every engine runs)
 let wasm;
 try {

@@ -1,131 +1,152 @@
-// A Chromium with no window, asked through its pipe: it opens a page of a file, and clicks, types and reads there.
+// A browser with no window in which a page is opened, pressed, dragged, typed into and read: Chromium by its pipe, Firefox by Marionette,
+// the protocol below WebDriver. Every press is an event of the browser's own, as of a mouse, a finger or a key.
 import { spawn } from "node:child_process";
 import { mkdtempSync, rmSync } from "node:fs";
 import { tmpdir } from "node:os";
+import { ChromiumLink } from "./chromium.mjs";
+import { FirefoxLink } from "./firefox.mjs";
 
-const WORDS = ["--headless=new", "--no-sandbox", "--disable-gpu", "--no-first-run", "--remote-debugging-pipe"];
-const BUTTONS = { mouseMoved: 0, mousePressed: 1, mouseReleased: 0 };
+const LINKS = { chromium: ChromiumLink, firefox: FirefoxLink };
+const PATIENCE = 20000; // milliseconds
 
-/** The program's requests and answers: texts of JSON, each ended by a byte of 0. */
-class Pipe {
-    #waiting = new Map();
-    #sent = 0;
-    #kept = Buffer.alloc(0);
-    faults = [];
+export const wait = (milliseconds) => new Promise((done) => setTimeout(done, milliseconds));
 
-    constructor(out, back) {
-        this.out = out;
-        back.on("data", (chunk) => this.#take(chunk));
-    }
-
-    #take(chunk) {
-        this.#kept = Buffer.concat([this.#kept, chunk]);
-        for (let end; (end = this.#kept.indexOf(0)) >= 0; this.#kept = this.#kept.subarray(end + 1)) {
-            this.#told(JSON.parse(this.#kept.subarray(0, end)));
-        }
-    }
-
-    #told(said) {
-        if (said.method === "Runtime.exceptionThrown") this.faults.push(said.params.exceptionDetails.exception?.description);
-        this.#waiting.get(said.id)?.(said);
-        this.#waiting.delete(said.id);
-    }
-
-    ask(method, params = {}, sessionId = undefined) {
-        const id = ++this.#sent;
-        return new Promise((done, failed) => {
-            this.#waiting.set(id, (said) => (said.error ? failed(new Error(`${method}: ${said.error.message}`)) : done(said.result)));
-            this.out.write(`${JSON.stringify({ id, method, params, sessionId })}\0`);
-        });
-    }
-}
-
-/** A tab with a page of a file in it. */
+/** A tab with a page in it. */
 export class Tab {
-    static async open(url, [width, height], program = process.env.CHROMIUM || "chromium") {
-        const room = mkdtempSync(`${tmpdir()}/page-`);
-        const words = [...WORDS, `--user-data-dir=${room}`, `--window-size=${width},${height}`];
-        const browser = spawn(program, words, { stdio: ["ignore", "ignore", "ignore", "pipe", "pipe"] });
-        const tab = new Tab();
-        Object.assign(tab, { room, browser, pipe: new Pipe(browser.stdio[3], browser.stdio[4]) });
-        const { targetId } = await tab.pipe.ask("Target.createTarget", { url: "about:blank" });
-        tab.session = (await tab.pipe.ask("Target.attachToTarget", { targetId, flatten: true })).sessionId;
-        await tab.ask("Runtime.enable");
-        await tab.ask("Page.enable");
-        await tab.size([width, height]);
-        await tab.ask("Page.navigate", { url });
-        await tab.until("Boolean(globalThis.page)");
+    /** Opens a page. `how` has the browser ("chromium"), its program, whether it is a phone, and words and prefs for it. */
+    static async open(url, size, { browser = "chromium", program = process.env[browser.toUpperCase()] || browser, ...how } = {}) {
+        const tab = new Tab(), Link = LINKS[browser], room = mkdtempSync(`${tmpdir()}/page-`);
+        Object.assign(tab, { browser, room, isPhone: how.isPhone ?? false });
+        const { words, stdio } = Link.command(room, size, how);
+        tab.process = spawn(program, words, { stdio, env: { ...process.env, HOME: room, MOZ_HEADLESS: "1" } });
+        tab.link = await Link.to(tab.process, room);
+        await tab.size(size);
+        await tab.link.navigate(url);
+        if (!how.isDead) await tab.until("Boolean(globalThis.page)");
         return tab;
     }
 
-    /** What escaped the page's code so far. */
-    get faults() {
-        return this.pipe.faults;
-    }
-
-    ask(method, params) {
-        return this.pipe.ask(method, params, this.session);
-    }
-
-    async size([width, height], ratio = 1) {
-        await this.ask("Emulation.setDeviceMetricsOverride", { width, height, deviceScaleFactor: ratio, mobile: false });
-    }
-
-    async value(expression) {
-        const words = { expression, awaitPromise: true, returnByValue: true };
-        const { result, exceptionDetails } = await this.ask("Runtime.evaluate", words);
-        if (exceptionDetails) throw new Error(exceptionDetails.exception?.description || exceptionDetails.text);
-        return result.value;
+    /** The value of an expression in the page, where it is a promise what that comes to. */
+    value(expression) {
+        return this.link.value(expression);
     }
 
     async until(expression) {
-        for (let i = 0; i < 200; i++) {
-            if (await this.value(expression)) return;
-            await new Promise((done) => setTimeout(done, 50));
+        for (const end = Date.now() + PATIENCE; Date.now() < end; await wait(30)) {
+            if (await this.value(expression).catch(() => false)) return;
         }
         throw new Error(`it never came that ${expression}`);
     }
 
-    mouse(type, [x, y], modifiers = 0) {
-        const held = BUTTONS[type] || (type === "mouseReleased" ? 1 : 0);
-        const words = { type, x, y, modifiers, button: held ? "left" : "none", clickCount: held ? 1 : 0 };
-        return this.ask("Input.dispatchMouseEvent", words);
+    /** Two frames of the page, if that draws at all. */
+    settled() {
+        return this.value("new Promise((done) => requestAnimationFrame(() => requestAnimationFrame(() => done(true))))");
     }
 
-    async click(at, modifiers = 0) {
-        for (const type of ["mouseMoved", "mousePressed", "mouseReleased"]) await this.mouse(type, at, modifiers);
+    async size(size) {
+        this.shown = size;
+        await this.link.size(size, this.isPhone);
+    }
+
+    /** The place of an element's middle, once it is scrolled into sight. */
+    async middle(id) {
+        return this.value(`(() => {
+            const it = document.getElementById(${JSON.stringify(id)});
+            it.scrollIntoView({ block: "nearest" });
+            const { left, top, width, height } = it.getBoundingClientRect();
+            return [left + width / 2, top + height / 2];
+        })()`);
+    }
+
+    async move(at) {
+        await this.link.mouse([["move", at]]);
+    }
+
+    async click(at, { shift = false } = {}) {
+        await this.link.mouse([["move", at], ["down"], ["up"]], shift);
     }
 
     async drag(from, to) {
-        await this.mouse("mouseMoved", from);
-        await this.mouse("mousePressed", from);
-        for (let i = 1; i <= 5; i++) {
-            const at = from.map((it, axis) => it + ((to[axis] - it) * i) / 5);
-            await this.ask("Input.dispatchMouseEvent", { type: "mouseMoved", x: at[0], y: at[1], button: "left", buttons: 1 });
-        }
-        await this.mouse("mouseReleased", to);
+        const steps = [1, 2, 3, 4, 5].map((i) => ["move", from.map((it, axis) => it + ((to[axis] - it) * i) / 5)]);
+        await this.link.mouse([["move", from], ["down"], ...steps, ["up"]]);
     }
 
-    async key(key, modifiers = 0) {
-        for (const type of ["keyDown", "keyUp"]) await this.ask("Input.dispatchKeyEvent", { type, key, code: key, modifiers });
+    /** Fingers, each by the places where it is step by step; a null lifts it, or is before it comes, and a number is a rest in milliseconds. */
+    async touch(...fingers) {
+        await this.link.touch(fingers);
     }
 
-    async tap([x, y]) {
-        await this.ask("Input.dispatchTouchEvent", { type: "touchStart", touchPoints: [{ x, y }] });
-        await this.ask("Input.dispatchTouchEvent", { type: "touchEnd", touchPoints: [] });
+    async tap(at) {
+        await this.touch([at, null]);
+    }
+
+    /** A finger that stays a while, and then goes elsewhere. */
+    async hold(from, to, milliseconds) {
+        await this.touch([from, milliseconds, to, null]);
+        await this.settled();
+    }
+
+    /** A press by what the device has: a finger on a phone, else the mouse. */
+    async press(id) {
+        const at = await this.middle(id);
+        await this.value(`(globalThis.isPressed = false, document.getElementById(${JSON.stringify(id)}).addEventListener("click", () => (globalThis.isPressed = true), { once: true }), true)`);
+        await (this.isPhone ? this.tap(at) : this.click(at));
+        await this.until("globalThis.isPressed");
+        await this.settled();
+    }
+
+    async wheel(at, down) {
+        await this.link.wheel(at, down);
+    }
+
+    async key(key, ...held) {
+        await this.link.key(key, held);
+    }
+
+    /** Chooses files in an input, as its dialog does. */
+    async choose(id, files) {
+        await this.link.choose(id, files);
+    }
+
+    /** Lets files fall on the page, by their names and texts. */
+    async drop(files) {
+        await this.value(`(() => {
+            const transfer = new DataTransfer();
+            for (const [name, text] of ${JSON.stringify(Object.entries(files))}) transfer.items.add(new File([text], name));
+            const event = new DragEvent("drop", { dataTransfer: transfer, bubbles: true, cancelable: true });
+            document.getElementById("plane").dispatchEvent(event);
+            return event.defaultPrevented;
+        })()`);
+    }
+
+    async reload() {
+        await this.link.reload();
+        await this.until("Boolean(globalThis.page)");
+    }
+
+    async go(url) {
+        await this.link.navigate(url);
     }
 
     /** The page as a picture, with light or dark colors. */
     async picture(scheme) {
-        await this.ask("Emulation.setEmulatedMedia", { features: [{ name: "prefers-color-scheme", value: scheme }] });
-        await this.value("new Promise((done) => requestAnimationFrame(() => requestAnimationFrame(() => requestAnimationFrame(done))))");
-        return Buffer.from((await this.ask("Page.captureScreenshot", { format: "png" })).data, "base64");
+        await this.link.scheme(scheme);
+        await this.settled();
+        await wait(100);
+        return Buffer.from(await this.link.picture(), "base64");
+    }
+
+    async text(id) {
+        await this.settled();
+        return this.value(`document.getElementById(${JSON.stringify(id)}).textContent`);
     }
 
     async close() {
-        await this.pipe.ask("Browser.close").catch(() => {});
-        this.browser.kill();
-        await new Promise((done) => setTimeout(done, 300));
-        rmSync(this.room, { recursive: true, force: true, maxRetries: 5 });
+        await this.link.close();
+        const ended = this.process.exitCode !== null || new Promise((done) => this.process.once("exit", done));
+        await Promise.race([ended, wait(3000)]);
+        this.process.kill("SIGKILL");
+        await wait(200);
+        rmSync(this.room, { recursive: true, force: true, maxRetries: 10, retryDelay: 100 });
     }
 }

@@ -250,10 +250,11 @@ await tried("bytes that are no module, and texts that are no journal", async () 
 await tried("after a trap nothing is served", async () => {
     const bytes = readFileSync(module), instantiate = WebAssembly.instantiate;
     WebAssembly.instantiate = async (...words) => {
-        const { instance } = await instantiate(...words), { hull_call } = instance.exports;
-        // a hull at an address beyond the memory
-        const stray = (reply, at, ...rest) => hull_call(reply, rest[1] === 666n ? STRAY : at, ...rest);
-        return { instance: { exports: { ...instance.exports, hull_call: stray } } };
+        const { instance } = await instantiate(...words), { hull_calls, memory } = instance.exports;
+        // a hull at an address beyond the memory, for requests of x 666
+        const isStray = (requests) => new DataView(memory.buffer).getBigInt64(Number(requests) + 8, true) === 666n;
+        const stray = (at, requests, ...rest) => hull_calls(isStray(requests) ? STRAY : at, requests, ...rest);
+        return { instance: { exports: { ...instance.exports, hull_calls: stray } } };
     };
     const { Hull: Other } = await load(bytes).finally(() => (WebAssembly.instantiate = instantiate)), hull = new Other();
     assert.equal(hull.add(1, 1), 1);

@@ -1,212 +1,558 @@
-// The page in a Chromium with no window: page_tests.mjs PAGE FOLDER. Its journals and pictures are written to the folder.
+// The page in a browser with no window: page_tests.mjs PAGE FOLDER BROWSER. On a desktop's size by a mouse and keys, on a phone's by
+// fingers: all presses are events of the browser's own. Its journals and pictures are written to the folder.
 import { strict as assert } from "node:assert";
-import { readFileSync, writeFileSync } from "node:fs";
+import { existsSync, readFileSync, writeFileSync } from "node:fs";
 import { pathToFileURL } from "node:url";
-import { Tab } from "./browser.mjs";
+import { Tab, wait } from "./browser.mjs";
 import { random_of } from "./plain.mjs";
 
-const [page, folder] = process.argv.slice(2), CLICKS = 300, SHIFT = 8;
-const tab = await Tab.open(pathToFileURL(page), [1080, 860]);
-const settled = () => tab.value("new Promise((done) => requestAnimationFrame(() => requestAnimationFrame(done)))");
-const text = async (id) => {
-    await settled();
-    return tab.value(`document.getElementById("${id}").textContent`);
-};
-const press = (id) => tab.value(`document.getElementById("${id}").click()`);
-const box = await tab.value("(({left, top, width, height}) => ({left, top, width, height}))(document.getElementById('plane').getBoundingClientRect())");
-// a point of the lattice on the screen, at the scale that the page begins with
-const at = ([x, y]) => [box.left + box.width / 2 + 8 * x, box.top + box.height / 2 - 8 * y];
-const journal = () => tab.value("page.text()");
-const calls = async () => (await journal()).split("\n").slice(1, -2).map((it) => it.replace(/^\d+ 0 /, ""));
+const [page, folder, browser] = process.argv.slice(2), CLICKS = 300;
+const DESKTOP = [1280, 640], PHONE = [390, 664]; // what a laptop and a phone leave of their screens
+const PATIENCE = 60000; // milliseconds for a try
+const LIMITS = { 1000: 4, 100000: 16 }; // of so many points, milliseconds from a move of the pointer to its picture
+const TRAP = '<script>globalThis.escaped = []; addEventListener("error", (it) => escaped.push(it.message)); addEventListener("unhandledrejection", (it) => escaped.push(String(it.reason)));</script>';
 
-let passed = 0, failed = 0;
+// the page, with a word of each fault that escapes its code
+const shown = `${folder}/page.html`, url = pathToFileURL(shown).href;
+writeFileSync(shown, readFileSync(page, "utf8").replace("<title>", `${TRAP}<title>`));
+
+let tab = null, passed = 0, failed = 0;
 async function tried(name, run) {
+    const begun = Date.now();
     try {
-        await run();
+        const late = new Promise((_, failed) => setTimeout(() => failed(new Error(`it took longer than ${PATIENCE} ms`)), PATIENCE).unref());
+        const said = await Promise.race([run(), late]);
         passed++;
-        console.log(`${name}: ok`);
+        console.log(`${browser}: ${name}: ok${said ? `, ${said}` : ""} ${process.env.TIMES ? Date.now() - begun : ""}`);
     } catch (error) {
         failed++;
-        console.log(`${name}: FAILED, ${error.message.split("\n").slice(0, 12).join(" ")}`);
+        console.log(`${browser}: ${name}: FAILED, ${String(error.stack).split("\n").slice(0, 12).join(" ")}`);
     }
 }
 
-await tried("clicks add, and one on a point removes", async () => {
-    for (const point of [[-20, -10], [20, -10], [20, 10], [-20, 10], [20, 10]]) await tab.click(at(point));
-    assert.deepEqual(await calls(), ["add -20 -10 = added", "add 20 -10 = added", "add 20 10 = added", "add -20 10 = added", "remove 20 10 = removed"]);
-    await tab.click(at([20, -10]), SHIFT);
-    assert.equal((await calls()).at(-1), "add 20 -10 = again 2");
-    assert.equal(await text("count"), "3, 3 of them corners");
-    assert.equal(await text("area"), "400");
-});
-await tried("answers follow the pointer", async () => {
-    await tab.mouse("mouseMoved", at([0, -10]));
-    assert.equal(await text("where"), "(0, -10) is on");
-    await tab.mouse("mouseMoved", at([-5, -5]));
-    assert.equal(await text("where"), "(-5, -5) is inside");
-    await tab.mouse("mouseMoved", at([0, -20]));
-    assert.equal(await text("where"), "(0, -20) is outside");
-    assert.deepEqual([await text("left"), await text("right")], ["left (-20, -10)", "right (20, -10)"]);
-});
-await tried("a drag moves a point, and undo takes it back", async () => {
-    await tab.drag(at([-20, 10]), at([10, 20]));
-    assert.equal((await calls()).at(-1), "add 10 20 = added");
-    assert.equal(await tab.value("page.hull.multiplicity(-20, 10)"), 0);
-    await press("undo");
-    assert.deepEqual([await tab.value("page.hull.multiplicity(-20, 10)"), await tab.value("page.hull.count()")], [1, 3]);
-});
-await tried("stored bridges are drawn level by level", async () => {
-    const levels = (value) => tab.value(`(document.getElementById("levels").value = ${value}, document.getElementById("levels").dispatchEvent(new Event("input")))`);
-    const drawn = async () => (await settled(), tab.value('document.getElementById("plane").toDataURL()'));
-    const without = await drawn();
-    await levels(1);
-    assert.equal(await text("leveled"), "1 level");
-    assert.notEqual(await drawn(), without);
-    await levels(20); // there are as many levels as three points need
-    assert.equal(await text("leveled"), "2 levels");
-    await levels(0);
-    assert.equal(await drawn(), without);
-});
-await tried("keys move the cross, add, remove and take back", async () => {
-    await tab.value("(page.cursor = null, document.getElementById('plane').focus())");
-    await tab.key("ArrowRight");
-    await tab.key("ArrowUp", SHIFT);
-    await tab.key("Enter");
-    assert.equal((await calls()).at(-1), "add 1 10 = added");
-    await tab.key("Delete");
-    assert.equal((await calls()).at(-1), "remove 1 10 = removed");
-    await tab.key("u");
-    assert.equal((await calls()).at(-1), "add 1 10 = added");
-});
-await tried("a tap adds", async () => {
-    const before = (await calls()).length;
-    await tab.tap(at([5, 5]));
-    await settled();
-    assert.deepEqual((await calls()).slice(before), ["add 5 5 = added"]);
-});
-await tried(`${CLICKS} clicks at random, with questions`, async () => {
-    await press("questions");
-    const random = random_of(5), before = (await calls()).length;
-    for (let i = 0; i < CLICKS; i++) await tab.click(at([random(60) - 30, random(40) - 20]), random(4) ? 0 : SHIFT);
-    await settled();
-    await press("questions");
-    assert.ok((await calls()).length >= before + 2 * CLICKS);
-    writeFileSync(`${folder}/clicks.journal`, await journal());
-});
-await tried("the slider goes back and forth", async () => {
-    const before = await tab.value("page.hull.vertices().join()"), length = (await calls()).length;
-    const states = [];
-    for (const to of [0, 5, length - 3, 2, 5, length]) {
-        await tab.value(`(document.getElementById("step").value = ${to}, document.getElementById("step").dispatchEvent(new Event("input")))`);
-        await settled();
-        states.push(await tab.value("page.hull.vertices().join()"));
-        assert.equal(await text("place"), `${to} of ${length} calls`);
-    }
-    assert.deepEqual([states[0], states[1], states[5]], ["", states[4], before]);
-});
-await tried("a call from an earlier place cuts the rest off", async () => {
-    await tab.value("page.go(4)");
-    await tab.click(at([30, 0]));
-    assert.deepEqual((await calls()).slice(4), ["add 30 0 = added"]);
-});
-await tried("the saved file is the journal", async () => {
-    await tab.pipe.ask("Browser.setDownloadBehavior", { behavior: "allow", downloadPath: folder });
-    await press("some");
-    await press("many");
+const value = (expression) => tab.value(expression), text = (id) => tab.text(id), press = (id) => tab.press(id);
+/** The place of a point of the lattice on the screen. */
+const at = (point) => value(`(() => {
+    const plane = document.getElementById("plane");
+    plane.scrollIntoView({ block: "nearest" });
+    const { left, top } = plane.getBoundingClientRect(), [x, y] = page.view.toScreen(${JSON.stringify(point)});
+    return [left + x, top + y];
+})()`);
+const journal = () => value("page.text()");
+const calls = async () => (await journal()).split("\n").slice(1, -2).map((it) => it.replace(/^\d+ 0 /, ""));
+const held = async () => JSON.parse(await value("JSON.stringify([...page.replay.held].sort())"));
+const corners = () => value("page.hull.vertices().join(' ')");
+const click = async (point, how) => tab.click(await at(point), how);
+/** Presses "New" where the plane is drawn on, with what it shows as it was at first. */
+async function anew() {
+    if ((await value("page.mode")) === "example") await press("own");
+    await press("anew");
+    assert.deepEqual([await calls(), await value("page.view.scale")], [[], 8]);
+}
+const file = (name, said) => {
+    writeFileSync(`${folder}/${name}`, said);
+    return `${folder}/${name}`;
+};
+const choose = async (...files) => {
+    const before = await value("page.work.state + page.work.told");
+    await tab.choose("open", files);
+    await tab.until(`page.work.state + page.work.told !== ${JSON.stringify(before)}`);
+    await tab.settled();
+};
+/** The text of the file that "Save" writes. */
+async function saved(kind) {
+    const name = `${folder}/hullbook.${kind}`;
+    await value(`document.getElementById("kind").value = "${kind}"`);
     await press("save");
-    let saved = null;
-    for (let i = 0; saved === null && i < 100; i++) {
-        await new Promise((done) => setTimeout(done, 50));
-        try {
-            saved = readFileSync(`${folder}/hullbook.journal`, "utf8");
-        } catch {
-            saved = null;
+    for (let i = 0; !existsSync(name) && i < 200; i++) await wait(50);
+    await wait(200);
+    return readFileSync(name, "utf8");
+}
+const isInSight = (...ids) => value(`(scrollTo(0, 0), ${JSON.stringify(ids)}.every((id) => {
+    const { top, bottom, height } = document.getElementById(id).getBoundingClientRect();
+    return height > 0 && top >= 0 && bottom <= innerHeight;
+}))`);
+const escaped = () => value("escaped.join()");
+
+async function tryExample() {
+    await tried("it opens on an example that moves, with three sentences and a link", async () => {
+        assert.equal(await value("page.mode"), "example");
+        const before = [await text("shown-points"), await text("shown-distance"), await text("shown-segment")];
+        assert.match(before[0], /^\d+, \d+ of them corners$/);
+        assert.match(before[1], /^(√\(\d+(\/\d+)?\) ≈ [\d.]+|0: the hulls meet)$/);
+        assert.match(before[2], /^(is free|hits )/);
+        const points = await value("page.example.points.join(' ')");
+        await tab.until(`page.example.points.join(" ") !== ${JSON.stringify(points)}`);
+        await tab.until(`document.getElementById("shown-distance").textContent !== ${JSON.stringify(before[1])}`);
+        const said = await value('document.querySelector("header p").textContent');
+        assert.equal(said.match(/[.](?=\s|$)/g).length, 3);
+        assert.equal(await value('document.querySelector(document.querySelector("header a").getAttribute("href")).querySelector("h2").textContent'), "What is proved");
+        assert.equal(await text("own"), "Draw your own");
+    });
+    await tried("the readings are of the points that are shown", async () => {
+        await press("pause");
+        const [count, square, meets] = await value(`(() => {
+            const { points, outline, beside, square } = page.example;
+            return [new Set(points.map(String)).size, String(square.numerator), outline.meets(beside)];
+        })()`);
+        assert.equal((await text("shown-points")).split(",")[0], String(count));
+        assert.equal(square === "0", meets);
+        assert.equal((await text("shown-distance")).includes(square === "0" ? "meet" : square), true);
+    });
+    await tried("the segment is asked of the module as it is dragged", async () => {
+        const place = (of) => value(`(() => { const { left, top } = document.getElementById("plane").getBoundingClientRect(), [x, y] = page.view.toScreen(${of}); return [left + x, top + y]; })()`);
+        const drag = async (from, to) => (tab.isPhone ? tab.touch([from, from.map((it, i) => (it + to[i]) / 2), to, null]) : tab.drag(from, to));
+        await drag(await place("page.example.segment[1]"), await place("[0, 560]"));
+        await drag(await place("page.example.segment[0]"), await place("[-900, 560]"));
+        assert.equal(await text("shown-segment"), "is free");
+        await drag(await place("page.example.segment[0]"), await place("page.example.points.reduce(([x, y], it) => [x + it[0] / page.example.points.length, y + it[1] / page.example.points.length], [0, 0])"));
+        assert.match(await text("shown-segment"), /^hits the first hull/);
+    });
+    await tried("the example's answers are in sight without scrolling", async () => assert.ok(await isInSight("plane", "shown", "own")));
+    await tried("pictures of the example, light and dark", async () => {
+        await press("pause");
+        for (const scheme of ["dark", "light"]) writeFileSync(`${folder}/${browser}-example-${tab.shown[0]}-${scheme}.png`, await tab.picture(scheme));
+    });
+}
+
+async function tryMouse() {
+    await tried("clicks add, and one on a point removes", async () => {
+        await anew();
+        for (const point of [[-20, -10], [20, -10], [20, 10], [-20, 10], [20, 10]]) await click(point);
+        assert.deepEqual(await calls(), ["add -20 -10 = added", "add 20 -10 = added", "add 20 10 = added", "add -20 10 = added", "remove 20 10 = removed"]);
+        await click([20, -10], { shift: true });
+        assert.equal((await calls()).at(-1), "add 20 -10 = again 2");
+        assert.equal(await text("count"), "3, 3 of them corners");
+        assert.equal(await text("area"), "400");
+    });
+    await tried("answers follow the pointer", async () => {
+        for (const [point, place] of [[[0, -10], "on"], [[-5, -5], "inside"], [[0, -20], "outside"]]) {
+            await tab.move(await at(point));
+            assert.equal(await text("where"), `(${point.join(", ")}) is ${place}`);
         }
+        assert.deepEqual([await text("left"), await text("right")], ["left (-20, -10)", "right (20, -10)"]);
+    });
+    await tried("a drag moves a point; undo takes it back as one, and redo does it again", async () => {
+        const before = await held();
+        await tab.drag(await at([-20, 10]), await at([10, 20]));
+        const after = await held();
+        assert.equal((await calls()).at(-1), "add 10 20 = added");
+        await press("undo");
+        assert.deepEqual(await held(), before);
+        await press("redo");
+        assert.deepEqual(await held(), after);
+        await press("undo");
+    });
+    await tried("a drag of the plane moves it, and the wheel zooms where the pointer is", async () => {
+        const number = (await calls()).length;
+        await tab.drag(await at([30, 20]), await at([40, 20]));
+        assert.deepEqual([(await calls()).length, await value("page.view.middle.map(Math.round).join()")], [number, "-10,0"]);
+        const place = await at([7, 7]), before = await value("page.view.scale");
+        await tab.wheel(place, -120);
+        await tab.until(`page.view.scale > ${before}`);
+        assert.ok((await at([7, 7])).every((it, i) => Math.abs(it - place[i]) < 1));
+        await tab.wheel(place, 120);
+        await tab.until(`page.view.scale < ${before} * 1.01`);
+    });
+    await tried("stored bridges are drawn level by level", async () => {
+        await anew();
+        for (const point of [[-20, -10], [20, -10], [20, 10]]) await click(point);
+        await tab.move([5, 5]);
+        const levels = async (key) => (await value('document.getElementById("levels").focus()'), await tab.key(key), await text("leveled"));
+        const drawn = () => value('document.getElementById("plane").toDataURL()'), without = await drawn();
+        assert.equal(await levels("ArrowRight"), "1 level");
+        assert.notEqual(await drawn(), without);
+        assert.equal(await levels("End"), "2 levels");
+        assert.equal(await levels("Home"), "0 levels");
+        assert.equal(await drawn(), without);
+    });
+    await tried("keys move the cross, add, remove, take back and speak", async () => {
+        await anew();
+        await value("(page.cursor = null, document.getElementById('plane').focus())");
+        await tab.key("ArrowRight");
+        await tab.key("ArrowUp", "Shift");
+        for (const [key, last] of [["Enter", "add 1 10 = added"], ["Delete", "remove 1 10 = removed"], ["u", "add 1 10 = added"], ["r", "remove 1 10 = removed"]]) {
+            await tab.key(key);
+            assert.equal((await calls()).at(-1), last);
+        }
+        await tab.key("z", "Control");
+        assert.equal((await calls()).at(-1), "add 1 10 = added");
+        assert.equal(await text("spoken"), "");
+        await tab.key("s");
+        await tab.settled();
+        assert.match(await text("spoken"), /1, 1 of them corners.*\(1, 10\) is on/);
+        assert.deepEqual(await value('["role", "aria-live"].map((it) => document.getElementById("spoken").getAttribute(it))'), ["status", "polite"]);
+        assert.equal(await value('document.querySelectorAll("#told [aria-live], #told[aria-live], #told[role]").length'), 0);
+    });
+    await tried("the list has only what is seen, and a line that is pressed is gone to", async () => {
+        await anew();
+        await press("many");
+        const rows = () => value('document.querySelectorAll("#lines li").length');
+        assert.equal((await calls()).length, 1000);
+        assert.ok((await rows()) < 60, `${await rows()} rows`);
+        await value('document.getElementById("lines").scrollTop = 20 * 500');
+        await tab.settled();
+        const [index, place] = await value(`(() => {
+            document.getElementById("lines").scrollIntoView({ block: "nearest" });
+            const row = document.querySelectorAll("#lines li")[3], { left, top } = row.getBoundingClientRect();
+            return [Number(row.dataset.index), [left + 40, top + 10]];
+        })()`);
+        assert.ok(Math.abs(index - 503) < 3);
+        await tab.click(place);
+        assert.equal(await text("place"), `${index + 1} of 1000 calls`);
+        assert.equal(await value("page.hull.count() === page.replay.held.size && page.replay.at"), index + 1);
+        assert.equal(await value('document.querySelector("#lines .last").dataset.index'), String(index));
+        await value('document.getElementById("lines").focus()');
+        await tab.key("Home");
+        assert.equal(await text("place"), "0 of 1000 calls");
+        await tab.key("ArrowDown");
+        assert.equal(await text("place"), "1 of 1000 calls");
+    });
+}
+
+async function tryDeeds() {
+    await tried("the slider goes back and forth, and undo goes back to where it was", async () => {
+        await anew();
+        for (const point of [[0, 0], [9, 0], [9, 9], [0, 9]]) await click(point);
+        const before = await corners();
+        await value('document.getElementById("step").focus()');
+        const states = [];
+        for (const key of ["Home", "ArrowRight", "ArrowRight", "End", "ArrowLeft"]) {
+            await tab.key(key);
+            await tab.settled();
+            states.push(await corners());
+        }
+        assert.deepEqual(states, ["", "0,0", "0,0 9,0", before, "0,0 9,0 9,9"]);
+        await press("undo");
+        assert.deepEqual([await corners(), await text("place")], [before, "4 of 4 calls"]);
+    });
+    await tried("a call from an earlier place cuts the rest off, and undo brings it back", async () => {
+        await press("back");
+        await press("back");
+        await click([-9, -9]);
+        assert.deepEqual((await calls()).slice(2), ["add -9 -9 = added"]);
+        await press("undo");
+        assert.equal((await calls()).length, 4);
+        await press("redo");
+        assert.deepEqual((await calls()).slice(2), ["add -9 -9 = added"]);
+        await press("undo");
+        await press("undo");
+        assert.deepEqual([(await calls()).length, await text("place")], [4, "4 of 4 calls"]);
+    });
+    await tried("undo of a new plane and of an opened file, and redo of both", async () => {
+        const before = await journal();
+        await press("anew");
+        await choose(file("three.csv", "1,1\n2,2\n3,1\n"));
+        assert.equal((await calls()).length, 3);
+        const opened = await journal();
+        await press("undo");
+        assert.deepEqual(await calls(), []);
+        await press("undo");
+        assert.equal(await journal(), before);
+        await press("redo");
+        await press("redo");
+        assert.equal(await journal(), opened);
+    });
+    await tried("a new call ends what could be done again", async () => {
+        await anew();
+        for (const point of [[0, 0], [4, 0]]) await click(point);
+        await press("undo");
+        await click([0, 9]);
+        await press("redo");
+        assert.deepEqual(await calls(), ["add 0 0 = added", "add 4 0 = added", "remove 4 0 = removed", "add 0 9 = added"]);
+    });
+    await tried("questions asked of an earlier place leave the later calls", async () => {
+        await press("questions");
+        await press("back");
+        await tab.move(await at([-9, -9]));
+        await tab.move(await at([-12, -3]));
+        assert.equal((await calls()).length, 4);
+        await press("on");
+        await tab.move(await at([-11, -3]));
+        await press("questions");
+        const asked = (await calls()).slice(4);
+        assert.ok(asked.length >= 2 && asked.every((it) => /^(place|tangents) /.test(it)), asked.join());
+    });
+    await tried("a drag in a full journal keeps its point", async () => {
+        await choose(file("full.journal", "hullbook journal 3 first 0 limit 9 capacity 2\n0 0 add 0 0 = added\nend 1\n"));
+        await value("(page.view.fit([]), page.show())");
+        await tab.drag(await at([0, 0]), await at([6, 6]));
+        assert.deepEqual([await held(), (await calls()).length], [[["0 0", 1]], 1]);
+        assert.match(await text("last"), /full/);
+    });
+    await tried(`${CLICKS} clicks at random, with questions`, async () => {
+        await anew();
+        await press("questions");
+        const random = random_of(5);
+        for (let i = 0; i < CLICKS; i++) await click([random(60) - 30, random(40) - 20], { shift: !random(4) });
+        await press("questions");
+        assert.ok((await calls()).length >= 2 * CLICKS);
+        writeFileSync(`${folder}/${browser}-clicks.journal`, await journal());
+    });
+}
+
+async function tryFiles() {
+    await tried("the saved file is the journal", async () => {
+        await press("circle");
+        await press("some");
+        const told = await saved("journal");
+        assert.equal(told, await journal());
+        writeFileSync(`${folder}/${browser}-saved.journal`, told);
+    });
+    await tried("a wrong line is told: which, what stands there and what should", async () => {
+        const wrong = "hullbook journal 3 first 7 limit 2 capacity 9\n7 1 add 1 1 = added\n8 2 place 1 1 = inside\nend 2\n";
+        await choose(file("wrong.journal", wrong));
+        assert.deepEqual([await text("wrong-where"), await text("wrong-stands"), await text("wrong-should")],
+            ["line 3 of wrong.journal", "8 2 place 1 1 = inside", "8 2 place 1 1 = on"]);
+        assert.equal(await text("place"), "1 of 2 calls");
+        assert.match(await value('document.querySelector("#lines .wrong").textContent'), /^✗ 8 2 place 1 1 = inside \(should be: 8 2 place 1 1 = on\)$/);
+    });
+    await tried("a text that is no journal is told by its line, and nothing changes", async () => {
+        const before = await journal();
+        await choose(file("text.journal", "hullbook journal 3 first 0 limit 2 capacity 9\n0 0 push 1 1 = added\nend 1\n"));
+        assert.deepEqual([await text("wrong-where"), await text("wrong-stands")], ["line 2 of text.journal", "0 0 push 1 1 = added"]);
+        assert.match(await text("wrong-should"), /add, remove, place/);
+        await choose(file("points.csv", "1,2\n3,x\n"));
+        assert.deepEqual([await text("wrong-where"), await text("wrong-stands")], ["line 2 of points.csv", "3,x"]);
+        assert.equal(await journal(), before);
+    });
+    await tried("the parts of a journal are opened together, in whatever order, and one that is missing is told", async () => {
+        const part = (first, ...lines) => `hullbook journal 3 first ${first} limit 9 capacity 4\n${lines.map((it, i) => `${first + i} 0 ${it}\n`).join("")}end ${lines.length}\n`;
+        const parts = [part(0, "add 0 0 = added", "add 9 0 = added"), part(2, "add 0 9 = added"), part(3, "place 1 1 = inside", "count = count 4")];
+        const files = parts.map((it, i) => file(`part${i}.journal`, it));
+        await choose(files[1], files[0]);
+        assert.match(await text("last"), /2 parts are a legal journal/);
+        assert.deepEqual([await text("place"), await corners()], ["3 of 3 calls", "0,0 9,0 0,9"]);
+        await choose(files[2], files[0], files[1]);
+        assert.deepEqual([await text("wrong-where"), await text("wrong-should")], ["line 3 of part2.journal", "4 0 count = count 3"]);
+        await choose(files[2], files[0]);
+        assert.match(await text("last"), /a part is missing: those before end at 2, and part2.journal begins at 3/);
+    });
+    await tried("points come from CSV, GeoJSON and SVG, and go out so that they come back the same", async () => {
+        await choose(file("in.csv", "x;y;times\n0;0;2\n0.5;8\n8;0.25\n8;8\n"));
+        const wanted = [["0 0", 2], ["2 32", 1], ["32 1", 1], ["32 32", 1]];
+        assert.deepEqual([await held(), await value("page.work.power"), await text("area")], [wanted, 2, "61"]);
+        for (const kind of ["csv", "geojson", "svg"]) {
+            const out = await saved(kind);
+            await press("anew");
+            await choose(file(`again.${kind}`, out));
+            assert.deepEqual([await held(), await value("page.work.power")], [wanted, 2], kind);
+        }
+        const polygon = JSON.parse(readFileSync(`${folder}/again.geojson`, "utf8")).features[1].geometry;
+        assert.deepEqual(polygon, { type: "Polygon", coordinates: [[[0, 0], [8, 0.25], [8, 8], [0.5, 8], [0, 0]]] });
+        await choose(file("shapes.svg", '<svg xmlns="http://www.w3.org/2000/svg"><g transform="translate(10 0) scale(2)"><circle cx="1" cy="2"/><path d="M0 0h3v1l1 1z"/></g><polyline points="1,1 2,2"/></svg>'));
+        assert.deepEqual((await held()).map(([key]) => key), ["1 -1", "10 0", "12 -4", "16 -2", "16 0", "18 -4", "2 -2"]);
+        await choose(file("degrees.geojson", '{"type":"FeatureCollection","features":[{"type":"Feature","geometry":{"type":"Point","coordinates":[8.5417,47.3769]}},{"type":"Feature","geometry":{"type":"LineString","coordinates":[[7.4474,46.948],[6.1432,46.2044]]}}]}'));
+        assert.equal(await value("page.hull.count()"), 3);
+        assert.match(await text("last"), /3 points opened, times 2\^34, \d of their numbers rounded/);
+    });
+    await tried("files are dropped, several at once", async () => {
+        await press("anew");
+        await tab.drop({ "one.csv": "1,1\n", "two.csv": "5,5\n9,1\n" });
+        await tab.until("page.hull.count() === 3");
+        assert.equal(await corners(), "1,1 9,1 5,5");
+    });
+    await tried("the address holds the points, and opens them", async () => {
+        await tab.until(`location.hash === "#points=1,1;5,5;9,1"`);
+        await tab.go(`${url}#points=0,0;7,0*2;0,7`);
+        await tab.until("page.hull.count() === 3 && page.hull.multiplicity(7, 0) === 2");
+        await press("undo");
+        assert.equal(await corners(), "1,1 9,1 5,5");
+        await tab.go(`${url}#points=0,0;7`);
+        await tab.until('document.getElementById("wrong-stands").textContent === "7"');
+    });
+}
+
+async function tryKeeping() {
+    await tried("a reload loses nothing: the journal, the place in it, the view and what takes deeds back", async () => {
+        await anew();
+        for (const point of [[3, 4], [5, -6], [9, 9]]) await click(point);
+        await press("anew");
+        for (const point of [[1, 1], [2, 5], [-4, 4]]) await click(point);
+        await press("back");
+        const before = [await journal(), await text("place"), await value("page.view.scale + page.view.middle.join()")];
+        await tab.reload();
+        assert.deepEqual([await journal(), await text("place"), await value("page.view.scale + page.view.middle.join()")], before);
+        for (let i = 0; i < 5; i++) await press("undo");
+        assert.deepEqual((await calls()).slice(0, 3), ["add 3 4 = added", "add 5 -6 = added", "add 9 9 = added"]);
+    });
+    await tried("a reload loses nothing of a long journal, at once after its last call", async () => {
+        await anew();
+        await value("page.do(Array.from({ length: 150000 }, (_, i) => `add ${i % 3000} ${(i * 7919) % 5003}`))");
+        await value("page.keep()"); // (what the page does once it rests)
+        await click([2, 3]);
+        const before = await value("[page.replay.journal.lines.length, page.replay.held.size, page.text().length].join()");
+        await tab.reload();
+        assert.equal(await value("[page.replay.journal.lines.length, page.replay.held.size, page.text().length].join()"), before);
+    });
+    await tried("a page that was opened by an address keeps its points, not what is in the address", async () => {
+        await anew();
+        await click([1, 2]);
+        await tab.until('location.hash === "#points=1,2"');
+        await click([3, 3]);
+        await tab.reload();
+        assert.deepEqual((await held()).map(([key]) => key), ["1 2", "3 3"]);
+    });
+}
+
+async function tryMany() {
+    for (const [number, limit] of Object.entries(LIMITS)) {
+        await tried(`${number} points: a move of the pointer is drawn in ${limit} ms`, async () => {
+            await anew();
+            const run = () => value(`(async () => {
+                page.work.openCalls(Array.from({ length: ${number} }, (_, i) => {
+                    const angle = i * 2.399963, far = 1000 * Math.sqrt(i);
+                    return "add " + Math.round(far * Math.cos(angle)) + " " + Math.round(far * Math.sin(angle));
+                }), 0);
+                page.fitted();
+                const plane = document.getElementById("plane"), { left, top, width, height } = plane.getBoundingClientRect(), pen = plane.getContext("2d");
+                const send = (type, x, y) => plane.dispatchEvent(new PointerEvent(type, { pointerType: "mouse", pointerId: 1, button: type === "pointermove" ? -1 : 0, clientX: left + x, clientY: top + y, bubbles: true }));
+                /** The middle one of the times that moves take, drawn and read back. */
+                const timed = (place) => {
+                    const times = Array.from({ length: 41 }, (_, i) => {
+                        const began = performance.now();
+                        send("pointermove", ...place(i));
+                        page.showNow();
+                        pen.getImageData(0, 0, 1, 1);
+                        return performance.now() - began;
+                    });
+                    return times.slice(1).sort((a, b) => a - b)[20];
+                };
+                page.showNow();
+                const moves = timed((i) => [width / 2 + 3 * i, height * (i % 2 ? 0.02 : 0.3)]);
+                send("pointerdown", 5, 5);
+                const pans = timed((i) => [20 + 2 * i, 20 + i]);
+                send("pointerup", 30, 30);
+                const [x, y] = page.view.toScreen(page.hull.extreme(1, 0));
+                send("pointerdown", x, y);
+                const drags = timed((i) => [x - 30 - i, y + i]);
+                send("pointerup", x - 60, y + 60);
+                return [moves, pans, drags, page.replay.journal.lines.length];
+            })()`);
+            // (the best of three, since others may want the processors too)
+            const runs = [await run(), await run(), await run()].sort((a, b) => a[0] - b[0]), [moves, pans, drags, lines] = runs[0];
+            assert.ok(lines > Number(number) + 40, "the drag made no calls");
+            assert.ok(moves <= limit, `${moves} ms`);
+            return `${moves.toFixed(2)} ms, of the plane ${pans.toFixed(2)}, of a point ${drags.toFixed(2)}`;
+        });
     }
-    assert.equal(saved, await journal());
-    assert.equal((await calls()).length, 5 + 20 + 1000);
-});
-await tried("a journal of others is opened, and a wrong line is told", async () => {
-    await tab.value('page.open("hullbook journal 3 first 7 limit 2 capacity 9\\n7 1 add 1 1 = added\\n8 2 place 1 1 = inside\\nend 2\\n")');
-    assert.match(await text("last"), /8 2 place 1 1 = on is right/);
-    assert.equal(await text("place"), "1 of 2 calls");
-    await tab.value('page.open("no journal")');
-    assert.equal(await text("last"), "line 1: it is no head of a journal");
-});
-await tried("what is taken back is done again, and a new call ends that", async () => {
-    await press("anew");
-    for (const point of [[0, 0], [4, 0]]) await tab.click(at(point));
-    await press("undo");
-    await press("redo");
-    assert.deepEqual(await calls(), ["add 0 0 = added", "add 4 0 = added", "remove 4 0 = removed", "add 4 0 = added"]);
-    await press("undo");
-    await tab.click(at([0, 9]));
-    await press("redo");
-    assert.equal((await calls()).length, 6);
-});
-await tried("questions asked of an earlier place leave the later calls", async () => {
-    await press("questions");
-    await tab.value("page.go(2)");
-    await tab.mouse("mouseMoved", at([-9, -9]));
-    await tab.mouse("mouseMoved", at([-12, -3]));
-    await press("questions");
-    assert.equal((await calls()).length, 6);
-});
-await tried("a drag in a full journal keeps its point", async () => {
-    await tab.value('page.open("hullbook journal 3 first 0 limit 9 capacity 2\\n0 0 add 0 0 = added\\nend 1\\n")');
-    await tab.value("(page.view.fit([]), page.show())");
-    await tab.drag(at([0, 0]), at([6, 6]));
-    assert.deepEqual([await tab.value("page.hull.multiplicity(0, 0)"), (await calls()).length], [1, 1]);
-    assert.match(await text("last"), /full/);
-});
-await tried("two fingers move and zoom, and draw nothing; a drag of the plane moves it", async () => {
-    await press("anew");
-    const touch = (type, ...points) => tab.pipe.ask("Input.dispatchTouchEvent", { type, touchPoints: points.map(([x, y], id) => ({ x, y, id })) }, tab.session);
-    const [one, two] = [at([-10, 0]), at([10, 0])], scale = await tab.value("page.view.scale");
-    await touch("touchStart", one);
-    await touch("touchStart", one, two);
-    await touch("touchMove", [one[0] - 80, one[1]], [two[0] + 80, two[1]]);
-    await touch("touchEnd");
-    await settled();
-    assert.equal((await calls()).length, 0);
-    assert.ok((await tab.value("page.view.scale")) > 1.4 * scale);
-    await tab.value("(page.view.fit([]), page.show())");
-    await tab.drag(at([20, 20]), at([30, 20]));
-    assert.deepEqual([(await calls()).length, await tab.value("page.view.middle.map(Math.round).join()")], [0, "-10,0"]);
-});
-await tried("many points fit the view, and random ones lie in it on a phone", async () => {
-    await tab.value("page.deed(Array.from({ length: 60000 }, (_, i) => `add ${i} ${i % 7}`))");
-    await press("fit");
-    assert.equal(await tab.value("page.hull.count()"), 60000);
-    assert.ok(Math.abs((await tab.value("page.view.middle[0]")) - 30000) < 2);
-    await tab.value("page.view.fit(new Float64Array(400000).map((_, i) => i))");
-    await tab.size([360, 640]);
-    await press("anew");
-    const outside = await tab.value("page.random(2000).map((it) => page.view.toScreen(it.split(' ').slice(1).map(Number))).filter(([x, y]) => x < 0 || y < 0 || x > page.view.size[0] || y > page.view.size[1]).length");
-    assert.equal(outside, 0);
-    await tab.size([1080, 860]);
-});
-await tried("a reload loses nothing", async () => {
-    await press("anew");
-    await tab.click(at([3, 4]));
-    const kept = await calls();
-    await tab.value("page.keep()");
-    await tab.value("location.reload()").catch(() => null);
-    for (let i = 0; i < 100 && !(await tab.value("Boolean(globalThis.page)").catch(() => false)); i++) await new Promise((done) => setTimeout(done, 50));
-    assert.deepEqual(await calls(), kept);
-});
-await tried("pictures, light and dark", async () => {
-    await press("anew");
-    const points = [[-38, -4], [-22, -20], [6, -23], [30, -14], [36, 6], [20, 21], [-8, 24], [-30, 15], [-12, 4], [8, -6], [3, 11], [-20, -6], [16, 4]];
-    for (const point of points) await tab.click(at(point));
-    for (const point of [points[3], points[8], points[8], points[10]]) await tab.click(at(point), SHIFT);
-    await tab.mouse("mouseMoved", at([43, -23]));
-    for (const scheme of ["light", "dark"]) writeFileSync(`${folder}/${scheme}.png`, await tab.picture(scheme));
-    await tab.size([420, 900]);
-    await settled();
-    writeFileSync(`${folder}/narrow.png`, await tab.picture("light"));
-});
-await tried("nothing escaped the page's code", async () => assert.deepEqual(tab.faults, []));
-await tab.close();
+    await tried("a list of 150,000 lines is gone through to its end, and all points fit the view", async () => {
+        await anew();
+        await value("page.do(Array.from({ length: 150000 }, (_, i) => `add ${i % 50000} ${i % 7}`))");
+        await press("fit");
+        assert.ok(Math.abs((await value("page.view.middle[0]")) - 25000) < 2);
+        const last = () => value('document.querySelector("#lines li:last-child").dataset.index');
+        await value('document.getElementById("lines").scrollTop = 1e9');
+        await tab.settled();
+        assert.equal(await last(), "149999");
+        await value('document.getElementById("lines").focus()');
+        await tab.key("Home");
+        await tab.settled();
+        assert.equal(await value('document.getElementById("lines").scrollTop'), 0);
+        await press("fit");
+    });
+    await tried("150,000 corners fit the view", async () => {
+        await value("(page.work.openCalls(Array.from({ length: 150000 }, (_, i) => `add ${i - 75000} ${(i - 75000) ** 2}`), 0), page.show())");
+        await press("fit");
+        assert.deepEqual(await value("[page.hull.vertices().length, Math.round(page.view.middle[0])]"), [150000, 0]);
+        await press("anew");
+    });
+}
+
+async function tryFingers() {
+    await tried("a tap adds, and the readings stay where the finger lifted", async () => {
+        await anew();
+        for (const point of [[-10, -8], [10, -8], [0, 9]]) await tab.tap(await at(point));
+        await tab.settled();
+        assert.deepEqual(await calls(), ["add -10 -8 = added", "add 10 -8 = added", "add 0 9 = added"]);
+        assert.equal(await text("where"), "(0, 9) is on");
+        await tab.touch([await at([3, 3]), await at([5, 5]), await at([8, 8]), null]);
+        await wait(200);
+        assert.match(await text("where"), /^\(3, 3\) is inside$/);
+        assert.equal((await calls()).length, 3);
+    });
+    await tried("a finger that stays asks, and draws nothing", async () => {
+        const middle = await value("page.view.middle.join()"), place = await at([-4, -4]), to = await at([-6, 12]);
+        await tab.hold(place, to, 700);
+        assert.deepEqual([(await calls()).length, await value("page.view.middle.join()")], [3, middle]);
+        assert.match(await text("where"), /^\(-6, 12\) is outside$/);
+        assert.match(await text("left"), /^left \(/);
+    });
+    await tried("a finger takes a point along", async () => {
+        const from = await at([0, 9]), to = await at([4, 15]);
+        await tab.touch([from, from.map((it, i) => (it + to[i]) / 2), to, null]);
+        await tab.settled();
+        assert.deepEqual((await held()).map(([key]) => key), ["-10 -8", "10 -8", "4 15"]);
+        await press("undo");
+        assert.deepEqual((await held()).map(([key]) => key), ["-10 -8", "0 9", "10 -8"]);
+    });
+    await tried("two fingers zoom and move, and draw nothing", async () => {
+        await anew();
+        const [one, two] = [await at([-5, 0]), await at([5, 0])], scale = await value("page.view.scale"), far = ([x, y], by) => [x + by, y];
+        await tab.touch([one, one, far(one, -30), far(one, -60), null], [null, two, far(two, 30), far(two, 60), null]);
+        await tab.settled();
+        assert.deepEqual(await calls(), []);
+        assert.ok((await value("page.view.scale")) > 1.4 * scale);
+    });
+    await tried("random points lie in what is seen", async () => {
+        await anew();
+        await press("many");
+        const outside = await value("[...page.replay.held.keys()].map((it) => page.view.toScreen(it.split(' ').map(Number))).filter(([x, y]) => x < 0 || y < 0 || x > page.view.size[0] || y > page.view.size[1]).length");
+        assert.deepEqual([outside, (await calls()).length], [0, 1000]);
+    });
+    await tried("the answers are in sight without scrolling", async () => assert.ok(await isInSight("plane", "told")));
+}
+
+async function drawn() {
+    await anew();
+    const points = [[-17, -4], [-12, -16], [6, -18], [15, -11], [18, 6], [10, 15], [-8, 16], [-15, 11], [-6, 4], [8, -6], [3, 8], [-10, -6], [9, 4]];
+    await value(`page.do(${JSON.stringify([...points, points[3], points[8], points[8], points[10]].map((it) => `add ${it.join(" ")}`))})`);
+    if (tab.isPhone) await tab.hold(await at([-2, 2]), await at([17, -17]), 700);
+    else await tab.move(await at([24, -16]));
+    await tab.settled();
+    for (const scheme of ["dark", "light"]) writeFileSync(`${folder}/${browser}-drawn-${tab.shown[0]}-${scheme}.png`, await tab.picture(scheme));
+}
+
+async function tryDesktop() {
+    tab = await Tab.open(url, DESKTOP, { browser });
+    await tab.link.downloadsTo(folder);
+    await tryExample();
+    await tryMouse();
+    await tried("the answers are in sight without scrolling", async () => assert.ok(await isInSight("plane", "told", "lines")));
+    await tryDeeds();
+    await tryFiles();
+    await tryKeeping();
+    await tryMany();
+    await tried("pictures of a drawing, light and dark", drawn);
+    await tried("nothing escaped the page's code", async () => assert.equal(await escaped(), ""));
+    await tab.close();
+}
+
+async function tryPhone() {
+    tab = await Tab.open(url, PHONE, { browser, isPhone: true });
+    await tryExample();
+    await tryFingers();
+    await tried("pictures of a drawing on a phone", drawn);
+    await tried("nothing escaped the page's code on a phone", async () => assert.equal(await escaped(), ""));
+    await tab.close();
+}
+
+async function tryDead() {
+    await tried("without WebAssembly there is a word in place of the page", async () => {
+        tab = await Tab.open(url, DESKTOP, { browser, isDead: true, words: browser === "chromium" ? ["--js-flags=--noexpose-wasm"] : [], prefs: { "javascript.options.wasm": false } });
+        await tab.until('!document.getElementById("fault").hidden');
+        assert.match(await value('document.getElementById("fault").textContent'), /^The page can't start: this browser has no WebAssembly/);
+        assert.deepEqual(await value('["plane", "own", "undo"].map((id) => document.getElementById(id).getClientRects().length)'), [0, 0, 0]);
+    });
+    await tab.close();
+}
+
+for (const run of [tryDesktop, tryPhone, tryDead].filter((it) => !process.env.ONLY || it.name.includes(process.env.ONLY))) {
+    await run().catch(async (error) => {
+        failed++;
+        console.log(`${browser}: ${run.name}: FAILED, ${error.stack}`);
+        await tab?.close();
+    });
+}
 console.log(`${passed} passed, ${failed} failed`);
 process.exit(failed ? 1 : 0);

@@ -1,0 +1,204 @@
+// What stands below the page, in Node: texts of points, doubles, deeds and what takes them back, parts of journals, colors and sizes.
+import { strict as assert } from "node:assert";
+import { existsSync, readFileSync } from "node:fs";
+import { gzipSync } from "node:zlib";
+import { OutOfRange, load } from "../../web/hull.js";
+import { directionOf, fromFloat, fromFloats, toFloat, wkt } from "../../web/exchange.js";
+import { Replay, TextError, emptyJournal, joinJournals, journalText, readJournal } from "../../web/journal.js";
+import { addressOf, callsOf, kindOf, powerFor, readAddress, readRows, writeRows } from "../../web/texts.js";
+import { Work } from "../../web/work.js";
+import { random_of } from "./plain.mjs";
+
+const MOST = 35000; // bytes of the module and the script, each as gzip makes it
+const web = (name) => new URL(`../../web/${name}`, import.meta.url);
+const { Hull } = await load(web(`out/${process.env.MODULE ?? "hull.wasm"}`));
+
+let passed = 0, failed = 0;
+async function tried(name, run) {
+    try {
+        const said = await run();
+        passed++;
+        console.log(`${name}: ok${said ? `, ${said}` : ""}`);
+    } catch (error) {
+        failed++;
+        console.log(`${name}: FAILED, ${String(error.stack).split("\n").slice(0, 10).join(" ")}`);
+    }
+}
+
+await tried(`the module and the script, hull.js with its heap.js, take at most ${MOST} bytes as gzip makes them`, () => {
+    const size = (name) => gzipSync(readFileSync(web(name)), { level: 9 }).length, script = size("hull.js") + size("heap.js");
+    const told = ["hull.wasm", "hull32.wasm"].filter((it) => existsSync(web(`out/${it}`))).map((it) => {
+        assert.ok(size(`out/${it}`) + script <= MOST, `${it} ${size(`out/${it}`)}, script ${script}`);
+        return `${it} ${size(`out/${it}`)}`;
+    });
+    return `${told.join(", ")}, script ${script}`;
+});
+await tried("doubles to the lattice, as the table of all languages has them", () => {
+    let rows = 0;
+    for (const line of readFileSync(new URL("../embed/lattice.txt", import.meta.url), "utf8").split("\n")) {
+        if (line === "" || line.startsWith("#")) continue;
+        const [bits, power, coordinate, how] = line.split(" "), view = new DataView(new ArrayBuffer(8));
+        view.setBigUint64(0, BigInt(`0x${bits}`));
+        const value = view.getFloat64(0);
+        rows++;
+        if (how === "none") assert.throws(() => fromFloat(value, Number(power)), OutOfRange, line);
+        else assert.deepEqual(fromFloat(value, Number(power)), { coordinate: Number(coordinate), isRounded: how === "rounded" }, line);
+    }
+    assert.ok(rows > 50);
+    assert.deepEqual(fromFloats([[0.5, 0.3], [1, -0.25]], 1), { coordinates: Float64Array.of(1, 1, 2, 0), rounded: 2 });
+    assert.equal(toFloat(3, 2), 0.75);
+    return `${rows} rows`;
+});
+await tried("directions in doubles and well-known text", () => {
+    assert.deepEqual(directionOf(3, -4), [3 * 2 ** 37, -(2 ** 39)]);
+    assert.deepEqual([directionOf(0, 0), directionOf(5e-324, 0), directionOf(-1e308, 1e-308)], [[0, 0], [2 ** 39, 0], [-(2 ** 39) * (1e308 / 2 ** 1023), 0].map(Math.round)]);
+    for (const bad of [NaN, Infinity]) assert.throws(() => directionOf(bad, 1), OutOfRange);
+    const hull = new Hull();
+    hull.addAll([[0, 0], [80, 0], [100, 30], [0, 60]]);
+    assert.deepEqual([hull.extreme(...directionOf(0.1, 0.2)), hull.extreme(...directionOf(-0.1, 0.2))], [[100, 30], [0, 60]]);
+    assert.equal(wkt(hull.vertices()), "POLYGON ((0 0, 80 0, 100 30, 0 60, 0 0))");
+    assert.deepEqual([wkt([]), wkt([[1, 2]], 1), wkt([[1, 2], [3, 4]])], ["POLYGON EMPTY", "POINT (0.5 1)", "LINESTRING (1 2, 3 4)"]);
+    hull.free();
+});
+await tried("points as texts", () => {
+    assert.deepEqual(["hullbook journal 3", " {}", "[]", "<svg>", "1,2"].map(kindOf), ["journal", "geojson", "geojson", "svg", "csv"]);
+    assert.deepEqual(readRows("\ufeffx,y\r\n1,2\r\n# a word\n3 4 5\n-6;7e1\n\n"), [[1, 2, 1], [3, 4, 5], [-6, 70, 1]]);
+    for (const [text, line] of [["", 1], ["x,y\n", 1], ["1,2\n3\n", 2], ["1,2\n3,4,0\n", 2], ["1,2\n3,4,1.5", 2], ["x\ny\n", 2], ["{", 1], ['{"type":"Point"}', 1], ['{"coordinates":["a",1]}', 1]]) {
+        assert.throws(() => readRows(text), (error) => error instanceof TextError && error.line === line, text);
+    }
+    const geometry = { type: "GeometryCollection", geometries: [{ type: "Point", coordinates: [1, 2, 9] }, { type: "MultiPolygon", coordinates: [[[[0, 0], [5, 0], [0, 5], [0, 0]]]] }] };
+    assert.deepEqual(readRows(JSON.stringify(geometry)), [[1, 2, 1], [0, 0, 1], [5, 0, 1], [0, 5, 1]]);
+    const held = new Map([["4 6", 1], ["0 0", 3], ["8 0", 1]]);
+    assert.equal(writeRows("csv", held, [], 1), "x,y,times\n0,0,3\n2,3,1\n4,0,1\n");
+    assert.deepEqual(readRows(writeRows("geojson", held, [[0, 0], [8, 0], [4, 6]], 0)), [[0, 0, 3], [4, 6, 1], [8, 0, 1]]);
+});
+await tried("the power by which numbers are whole", () => {
+    assert.deepEqual([[], [1, 2 ** 40], [0.5, 3], [0.1, 100], [2 ** 40 + 1], [5e-324], [-(2 ** 50)], [0.75, -(2 ** -5)]].map(powerFor), [0, 0, 1, 33, -1, 1000, -10, 5]);
+    const { calls, power, rounded } = callsOf([[0.5, 1, 2], [0, -0.25, 1]]);
+    assert.deepEqual([calls, power, rounded], [["add 2 4", "add 2 4", "add 0 -1"], 2, 0]);
+});
+await tried("an address holds the points, and a wrong or a long one none", () => {
+    const held = new Map([["0 0", 1], ["-7 8", 12]]), address = addressOf(held, 3);
+    assert.equal(address, "#points=-7,8*12;0,0&power=3");
+    assert.deepEqual(readAddress(address), { calls: [...Array(12).fill("add -7 8"), "add 0 0"], power: 3 });
+    assert.deepEqual([addressOf(new Map(), 0), addressOf(new Map(Array.from({ length: 9000 }, (_, i) => [`${i} 0`, 1])), 0), readAddress("#proved"), readAddress("")], ["", "", null, null]);
+    for (const bad of ["#points=1", "#points=1,2*0", "#points=1,1099511627777", "#points=1,2;;3,4", "#points=1,2*70000"]) assert.throws(() => readAddress(bad), TextError, bad);
+});
+await tried("deeds at random, all taken back and all done again", () => {
+    const random = random_of(11);
+    let deeds = 0;
+    for (let round = 0; round < 60; round++) {
+        const work = new Work(Hull), states = [], state = () => [[...work.replay.held].sort(), work.replay.wrong];
+        const any = () => `${random(9)} ${random(9)}`;
+        for (let i = 0; i < 30; i++) {
+            const before = JSON.stringify(state());
+            const run = [
+                () => work.do(Array.from({ length: 1 + random(4) }, () => `${random(3) ? "add" : "remove"} ${any()}`)),
+                () => work.go(random(work.replay.journal.lines.length + 1)),
+                () => work.open(emptyJournal(5)),
+                () => work.openCalls([`add ${any()}`, `add ${any()}`], random(3)),
+            ][[0, 0, 0, 0, 1, 1, 2, 3][random(8)]];
+            run();
+            if (JSON.stringify(state()) !== before) states.push(JSON.stringify(state()));
+        }
+        // (steps in a row are one deed, so that not each state is met again)
+        const end = JSON.stringify(state()), met = [];
+        const all = (turn) => {
+            for (let before = null; work.deeds[turn === "undo" ? "done" : "undone"].length && before !== work.deeds[turn === "undo" ? "done" : "undone"].length; deeds++) {
+                before = work.deeds[turn === "undo" ? "done" : "undone"].length;
+                work[turn]();
+                met.push(JSON.stringify(state()));
+            }
+        };
+        all("undo");
+        assert.equal(JSON.stringify(state()), JSON.stringify([[], null]), `round ${round}`);
+        assert.ok(met.every((it) => it === JSON.stringify([[], null]) || states.includes(it)));
+        all("redo");
+        assert.equal(JSON.stringify(state()), end, `round ${round}`);
+        const replay = new Replay(new Hull(work.replay.journal.limit), work.replay.journal);
+        replay.go(work.replay.journal.lines.length);
+        assert.equal(replay.wrong, null);
+    }
+    return `${deeds} turns`;
+});
+await tried("a call that a journal takes none of leaves its later lines", () => {
+    const journal = readJournal("hullbook journal 2 first 0 limit 9 capacity 9\n0 0 add 0 0 = added\n1 0 add 1 1 = added\nend 2\n");
+    const work = new Work(Hull, { journal, power: 0 });
+    work.go(1);
+    work.do(["add 5 5"]);
+    assert.match(work.told, /takes no more lines/);
+    assert.equal(work.replay.journal.lines.length, 2);
+    work.undo();
+    assert.equal(work.replay.at, 2);
+});
+await tried("the coordinates of what is held, beside a map", () => {
+    const work = new Work(Hull), random = random_of(3);
+    for (let i = 0; i < 3000; i++) work.do([`${random(5) > 1 ? "add" : "remove"} ${random(12)} ${random(12)}`]);
+    const { coordinates, size } = work.replay.held, keys = Array.from({ length: size }, (_, i) => `${coordinates[2 * i]} ${coordinates[2 * i + 1]}`);
+    assert.deepEqual(keys.sort(), [...work.replay.held.keys()].sort());
+    assert.deepEqual(keys, work.hull.held().map((it) => it.point.join(" ")).sort());
+});
+await tried("parts of a journal, in any order and round the last number", () => {
+    const first = 2n ** 64n - 2n, lines = ["add 0 0 = added", "add 9 0 = added", "add 0 9 = added", "count = count 3"];
+    const part = (from, to) => readJournal(`hullbook journal 3 first ${(first + BigInt(from)) % 2n ** 64n} limit 9 capacity 9\n${lines.slice(from, to).map((it, i) => `${(first + BigInt(from + i)) % 2n ** 64n} 0 ${it}\n`).join("")}end ${to - from}\n`);
+    const parts = [part(3, 4), part(0, 1), part(1, 3)].map((journal, i) => ({ name: `part ${i}`, journal }));
+    for (const order of [[0, 1, 2], [2, 0, 1], [1, 2, 0]]) {
+        const joined = joinJournals(order.map((it) => parts[it]));
+        assert.deepEqual(joined.lines.map((it) => `${it.call} = ${it.reply}`), lines);
+        assert.deepEqual(joined.parts, [{ name: "part 1", from: 0 }, { name: "part 2", from: 1 }, { name: "part 0", from: 3 }]);
+        assert.equal(readJournal(journalText(joined)).lines.length, 4);
+    }
+    assert.throws(() => joinJournals([parts[0], parts[1]]), RangeError);
+    assert.throws(() => joinJournals([parts[1], { ...parts[2], journal: { ...parts[2].journal, limit: 8 } }]), /another version or limit/);
+    assert.throws(() => joinJournals([parts[1], { ...parts[2], journal: { ...parts[2].journal, capacity: 1 } }]), /more lines than its capacity/);
+});
+
+/** The colors of the page by their names, light and dark. */
+function colorsOf(html) {
+    return [...html.matchAll(/:root \{([^}]*)\}/g)].map(([, text]) => {
+        const pairs = [...text.matchAll(/--(\w+): #([0-9a-f]+);/g)];
+        return Object.fromEntries(pairs.map(([, name, hex]) => [name, (hex.length === 3 ? [...hex].map((it) => it + it) : hex.match(/../g)).map((it) => parseInt(it, 16) / 255)]));
+    });
+}
+const linear = (color) => color.map((it) => (it <= 0.04045 ? it / 12.92 : ((it + 0.055) / 1.055) ** 2.4));
+const times = (rows, vector) => rows.map((row) => row.reduce((sum, it, i) => sum + it * vector[i], 0));
+const luminance = (color) => times([[0.2126, 0.7152, 0.0722]], linear(color))[0];
+function contrast(one, other) {
+    const [low, high] = [luminance(one), luminance(other)].sort((a, b) => a - b);
+    return (high + 0.05) / (low + 0.05);
+}
+// how eyes that lack one of the three receptors see (Machado, Oliveira and Fernandes, 2009), on linear light
+const EYES = {
+    all: [[1, 0, 0], [0, 1, 0], [0, 0, 1]],
+    protan: [[0.152286, 1.052583, -0.204868], [0.114503, 0.786281, 0.099216], [-0.003882, -0.048116, 1.051998]],
+    deutan: [[0.367322, 0.860646, -0.227968], [0.280085, 0.672501, 0.047413], [-0.01182, 0.04294, 0.968881]],
+};
+/** CIE L*a*b* of a color as such eyes see it. */
+function labOf(color, eyes) {
+    const seen = times(EYES[eyes], linear(color)).map((it) => Math.min(1, Math.max(0, it)));
+    const [x, y, z] = times([[0.4124, 0.3576, 0.1805], [0.2126, 0.7152, 0.0722], [0.0193, 0.1192, 0.9505]], seen).map((it, i) => it / [0.9505, 1, 1.089][i]);
+    const root = (it) => (it > 216 / 24389 ? Math.cbrt(it) : (24389 / 27 * it + 16) / 116);
+    return [116 * root(y) - 16, 500 * (root(x) - root(y)), 200 * (root(y) - root(z))];
+}
+await tried("colors that red-green blind people tell apart, and contrast of borders, lines and words", () => {
+    const schemes = colorsOf(readFileSync(web("page.html"), "utf8")), told = [];
+    assert.equal(schemes.length, 2);
+    for (const colors of schemes) {
+        for (const [one, other] of [["left", "right"], ["left", "hull"], ["right", "hull"], ["hull", "other"], ["upper", "lower"], ["point", "hull"], ["inside", "within"]]) {
+            for (const eyes of Object.keys(EYES)) {
+                const apart = Math.hypot(...labOf(colors[one], eyes).map((it, i) => it - labOf(colors[other], eyes)[i]));
+                assert.ok(apart >= (one === "inside" ? 10 : 20), `${one} and ${other} for ${eyes}: ${apart.toFixed(1)}`);
+                told.push(apart);
+            }
+        }
+        for (const name of ["line", "hull", "left", "right", "upper", "lower", "other", "point"]) {
+            for (const ground of name === "line" ? ["plane", "ground"] : ["plane", "inside"]) assert.ok(contrast(colors[name], colors[ground]) >= 3, `${name} on ${ground}: ${contrast(colors[name], colors[ground]).toFixed(2)}`);
+        }
+        for (const name of ["text", "soft", "wrong", "left", "right", "hull"]) {
+            for (const ground of ["plane", "ground"]) assert.ok(contrast(colors[name], colors[ground]) >= 4.5, `${name} on ${ground}: ${contrast(colors[name], colors[ground]).toFixed(2)}`);
+        }
+    }
+    return `${told.length} pairs`;
+});
+console.log(`${passed} passed, ${failed} failed`);
+process.exit(failed ? 1 : 0);

@@ -1,0 +1,140 @@
+// What the page opens on: points that come and go, a second hull beside them with how far it is and what parts the two, and a
+// planner's segment that can be dragged. All that it tells is asked of the module, in each frame.
+const ROOM = [-1000, -620, 1000, 620]; // what is seen, two corners
+const POINTS = 34;
+const EACH = 300; // milliseconds until a point comes or goes
+const GRIP = 24; // pixels round an end of the segment
+const OTHER = [[0, 150], [-120, 90], [-150, -40], [-60, -140], [80, -130], [150, -20], [110, 100]];
+const LONG = 4000; // how far the parting line goes
+
+const apartFrom = ([ax, ay], [bx, by]) => Math.hypot(ax - bx, ay - by);
+
+/** The points of two places that are nearest to one another: a place of two points is the foot on their edge. */
+function nearestOf(places) {
+    const foot = ([from, to], [x, y]) => {
+        const [dx, dy] = [to[0] - from[0], to[1] - from[1]], along = ((x - from[0]) * dx + (y - from[1]) * dy) / (dx * dx + dy * dy);
+        return [from[0] + along * dx, from[1] + along * dy];
+    };
+    return places.map((place, i) => (place.length === 2 ? foot(place, places[1 - i][0]) : place[0]));
+}
+
+export class Example {
+    constructor({ Hull }, random = Math.random) {
+        this.random = random;
+        this.hull = new Hull();
+        this.other = new Hull();
+        this.points = []; // in the order in which they came
+        this.segment = [[-880, 440], [520, -430]];
+        this.isTaken = false; // the segment sways until somebody takes it
+        this.time = this.ticks = 0;
+        for (let i = 0; i < POINTS; i++) this.#comes();
+        this.move(0);
+    }
+
+    free() {
+        for (const it of [this.outline, this.beside, this.hull, this.other]) it.free();
+    }
+
+    get room() {
+        return ROOM;
+    }
+
+    #comes() {
+        const angle = 2 * Math.PI * this.random(), far = (330 + 120 * Math.sin(this.ticks / 9)) * Math.sqrt(this.random());
+        const point = [Math.round(far * 1.2 * Math.cos(angle)) - 330, Math.round(far * Math.sin(angle))];
+        this.points.push(point);
+        this.hull.add(...point);
+    }
+
+    #goes() {
+        this.hull.remove(...this.points.shift());
+    }
+
+    /** Lets so many milliseconds pass. */
+    move(passed) {
+        this.time += Math.min(passed, 4 * EACH);
+        for (; (this.ticks + 1) * EACH <= this.time; this.ticks++) {
+            if (this.ticks % 2 && this.points.length > POINTS / 2) this.#goes();
+            else this.#comes();
+        }
+        const t = this.time / 1000, [x, y] = [420 + 330 * Math.cos(t / 3), 320 * Math.sin(t / 2.1)], turn = t / 4;
+        const [cos, sin] = [Math.cos(turn), Math.sin(turn)];
+        this.other.load(OTHER.map(([px, py]) => [Math.round(x + px * cos - py * sin), Math.round(y + px * sin + py * cos)]));
+        if (!this.isTaken) this.segment[1] = [520, Math.round(-430 + 420 * Math.sin(t / 1.7))];
+        this.ask();
+    }
+
+    /** Asks the module all that is shown. */
+    ask() {
+        this.outline?.free();
+        this.beside?.free();
+        [this.outline, this.beside] = [this.hull.outline(), this.other.outline()];
+        const ends = this.segment.flat();
+        Object.assign(this, {
+            witness: this.outline.witness(this.beside),
+            places: this.outline.distance(this.beside),
+            square: this.outline.squaredDistance(this.beside),
+            hits: [this.outline, this.beside].map((it) => it.meetsSegment(...ends)),
+        });
+    }
+
+    /** What is told, by the names of the rows. */
+    readings() {
+        const { numerator, denominator } = this.square, meets = numerator === 0n, [where] = this.witness.points;
+        const square = denominator === 1n ? `${numerator}` : `${numerator}/${denominator}`;
+        const shows = { apart: `no corner goes beyond (${where.join(", ")}) along (${this.witness.points[1]?.join(", ")})`, covered: `the first covers (${where.join(", ")})`,
+            within: `the second covers (${where.join(", ")})`, crossing: "two segments cross" }[this.witness.shows];
+        const struck = this.hits.map((it, i) => it && ["the first hull", "the second hull"][i]).filter(Boolean);
+        return {
+            points: `${this.hull.count()}, ${this.outline.count()} of them corners`,
+            distance: meets ? "0: the hulls meet" : `√(${square}) ≈ ${Math.sqrt(Number(numerator) / Number(denominator)).toFixed(1)}`,
+            witness: shows,
+            segment: struck.length ? `hits ${struck.join(" and ")}` : "is free",
+        };
+    }
+
+    draw(picture) {
+        const { outline, beside } = this, corners = [outline.vertexArray(), beside.vertexArray()];
+        picture.polygon(corners[0]);
+        picture.discs(this.points.map((it) => picture.view.toScreen(it)), 3, "point");
+        picture.corners(corners[0]);
+        picture.polygon(corners[1], "other", "within");
+        picture.corners(corners[1], "other");
+        this.#drawWitness(picture);
+        const isFree = !this.hits.includes(true), color = isFree ? "right" : "left", [from, to] = this.segment;
+        picture.lines([[from, to]], color, 4, isFree ? [] : [9, 6]);
+        picture.discs(this.segment.map((it) => picture.view.toScreen(it)), 9, color);
+        picture.pen.font = "600 14px system-ui, sans-serif";
+        picture.word(isFree ? "free" : "hits", picture.view.toScreen(to), color);
+    }
+
+    /** The distance as a line, and what shows that they are apart or meet. */
+    #drawWitness(picture) {
+        const { shows, points } = this.witness;
+        if (shows === "apart") {
+            const [corner, [dx, dy]] = points, far = LONG / Math.hypot(dx, dy);
+            picture.lines([[[corner[0] - dy * far, corner[1] + dx * far], [corner[0] + dy * far, corner[1] - dx * far]]], "soft", 1, [3, 5]);
+            const ends = nearestOf(this.places);
+            picture.lines([ends], "text", 2);
+            picture.discs(ends.map((it) => picture.view.toScreen(it)), 4, "text");
+        } else {
+            if (shows === "crossing") picture.lines([points.slice(0, 2), points.slice(2)], "text", 3);
+            picture.discs(points.map((it) => picture.view.toScreen(it)), 7, "text");
+        }
+    }
+
+    /** Takes the segment by an end or between them: what moves it to where the pointer is, or null. */
+    taken(place, view) {
+        const ends = this.segment.map((it) => view.toScreen(it)), middle = [0, 1].map((i) => (ends[0][i] + ends[1][i]) / 2);
+        const end = ends.findIndex((it) => apartFrom(it, place) <= GRIP);
+        if (end < 0 && apartFrom(middle, place) > GRIP) return null;
+        this.isTaken = true;
+        let at = view.toLattice(place);
+        return (to) => {
+            const next = view.toLattice(to), by = next.map((it, i) => it - at[i]);
+            for (const i of end < 0 ? [0, 1] : [end]) this.segment[i] = this.segment[i].map((it, axis) => it + by[axis]);
+            at = next;
+            this.ask();
+        };
+    }
+}

@@ -1,0 +1,234 @@
+// Points as texts of others: CSV, GeoJSON, SVG and the page's address. A document is needed for SVG alone.
+import { COORDINATE_LIMIT, MULTIPLICITY_LIMIT } from "./hull.js";
+import { exponentOf, fromFloat, scaled, toFloat } from "./exchange.js";
+import { TextError } from "./journal.js";
+
+const ADDRESS_LIMIT = 16000; // an address is no longer, so that it can be sent
+
+/** The point of a key "x y". */
+export const pointOf = (key) => key.split(" ").map(Number);
+
+/** What stands in a text: "journal", "geojson", "svg" or "csv". */
+export function kindOf(text) {
+    const begin = text.trimStart();
+    return text.startsWith("hullbook journal") ? "journal" : /^[{[]/.test(begin) ? "geojson" : begin.startsWith("<") ? "svg" : "csv";
+}
+
+/** The rows [x, y, times] of a text of points, in doubles. */
+export function readRows(text) {
+    return { csv: rowsOfTable, geojson: rowsOfGeometry, svg: rowsOfDrawing }[kindOf(text)](text);
+}
+
+/** Rows of a table: x, y and how often, parted by a comma, semicolon, tab or space; the first may be names. */
+function rowsOfTable(text) {
+    const rows = [];
+    text.replace(/^\ufeff/, "").split(/\r?\n/).forEach((line, i) => {
+        const fields = line.trim().split(/[,;\t ]+/).filter(Boolean), numbers = fields.map(Number);
+        if (fields.length === 0 || line.startsWith("#")) return;
+        const [x, y, times = 1] = numbers, isRow = numbers.every(Number.isFinite) && fields.length >= 2;
+        if (isRow && isTimes(times)) rows.push([x, y, times]);
+        else if (rows.length > 0 || i > 0) throw new TextError(i + 1, "it is no point", line, `X,Y or X,Y,TIMES, with 1 to ${MULTIPLICITY_LIMIT} times`);
+    });
+    if (rows.length === 0) throw new TextError(1, "there are no points", text.split("\n")[0], "X,Y");
+    return rows;
+}
+
+const isTimes = (times) => Number.isInteger(times) && times >= 1 && times <= MULTIPLICITY_LIMIT;
+
+/** Each place once, with how often it is held where that is told. */
+function once(rows) {
+    const found = new Map();
+    for (const [x, y, times] of rows) found.set(`${x} ${y}`, [x, y, Math.max(times, found.get(`${x} ${y}`)?.[2] ?? 1)]);
+    return [...found.values()];
+}
+
+/** Positions of GeoJSON (RFC 7946), of whatever geometry. */
+function rowsOfGeometry(text) {
+    let read;
+    try {
+        read = JSON.parse(text);
+    } catch (error) {
+        throw new TextError(1, `it is no JSON: ${error.message}`, text.slice(0, 60), "a GeoJSON object");
+    }
+    const rows = [];
+    const positions = (it, times) => {
+        if (typeof it?.[0] === "number") rows.push([it[0], it[1], times[rows.length - times.from] ?? 1]);
+        else if (Array.isArray(it)) for (const part of it) positions(part, times);
+    };
+    const walk = (it, told = []) => {
+        const times = Object.assign([...(it?.properties?.times ?? told)], { from: rows.length });
+        positions(it?.coordinates, times);
+        for (const part of [it?.geometry, ...(it?.geometries ?? []), ...(it?.features ?? [])]) if (part) walk(part, times);
+    };
+    walk(Array.isArray(read) ? { coordinates: read } : read);
+    if (rows.length === 0 || !rows.every((row) => row.every(Number.isFinite))) throw new TextError(1, "it has no positions", text.slice(0, 60), "a GeoJSON object with coordinates");
+    return once(rows.map(([x, y, often]) => [x, y, isTimes(often) ? often : 1]));
+}
+
+const numbersIn = (text) => (text?.match(/[-+]?(\d+\.?\d*|\.\d+)(e[-+]?\d+)?/gi) ?? []).map(Number);
+const pairsIn = (numbers) => Array.from({ length: numbers.length >> 1 }, (_, i) => [numbers[2 * i], numbers[2 * i + 1]]);
+// how many numbers stand behind a letter of a path; the last two are where it leads
+const OF_PATH = { m: 2, l: 2, t: 2, h: 1, v: 1, c: 6, s: 4, q: 4, a: 7 };
+
+/** Where the steps of a path lead. */
+function placesOfPath(text) {
+    const places = [];
+    let at = [0, 0], begun = [0, 0];
+    for (const [, letter, words] of text.matchAll(/([a-z])([^a-df-z]*)/gi)) {
+        const low = letter.toLowerCase(), number = OF_PATH[low], numbers = numbersIn(words), from = letter === low ? 1 : 0;
+        if (low === "z") at = begun;
+        for (let i = 0; number && i + number <= numbers.length; i += number) {
+            const [x, y] = numbers.slice(i, i + number).slice(-2), [left, top] = at.map((it) => it * from);
+            at = low === "h" ? [left + x, at[1]] : low === "v" ? [at[0], top + x] : [left + x, top + y];
+            if (low === "m" && i === 0) begun = at;
+            places.push(at);
+        }
+    }
+    return places;
+}
+
+/** The places of one shape, before its transforms. */
+function placesOf(shape) {
+    const number = (name) => numbersIn(shape.getAttribute(name))[0] ?? 0;
+    switch (shape.localName) {
+        case "circle":
+        case "ellipse":
+            return [[number("cx"), number("cy")]];
+        case "line":
+            return [[number("x1"), number("y1")], [number("x2"), number("y2")]];
+        case "rect": {
+            const [x, y, width, height] = ["x", "y", "width", "height"].map(number);
+            return /%/.test(shape.getAttribute("width")) ? [] : [[x, y], [x + width, y], [x + width, y + height], [x, y + height]];
+        }
+        case "path":
+            return placesOfPath(shape.getAttribute("d") ?? "");
+        default:
+            return pairsIn(numbersIn(shape.getAttribute("points")));
+    }
+}
+
+/** Middles of circles, corners of polygons, ends of lines and of the steps of paths, each once; y goes down there. */
+function rowsOfDrawing(text) {
+    const drawing = new DOMParser().parseFromString(text, "image/svg+xml"), fault = drawing.querySelector("parsererror");
+    if (fault) throw new TextError(1, "it is no SVG", fault.textContent.slice(0, 100), "an SVG document");
+    const rows = [...drawing.querySelectorAll("circle, ellipse, line, rect, path, polygon, polyline")].flatMap((shape) => {
+        let matrix = new DOMMatrix();
+        for (let it = shape; it instanceof Element; it = it.parentNode) {
+            const turned = it.getAttribute("transform");
+            if (turned) matrix = matrixOf(turned).multiply(matrix);
+        }
+        const times = Number(shape.getAttribute("data-times") ?? 1);
+        return placesOf(shape).map(([x, y]) => {
+            const at = matrix.transformPoint({ x, y });
+            return [at.x, -at.y + 0, isTimes(times) ? times : 1];
+        });
+    });
+    if (rows.length === 0) throw new TextError(1, "no shape has a place", text.slice(0, 60), "circles, polygons, lines or paths");
+    return once(rows);
+}
+
+/** The matrix of a `transform`, whose lengths have no units and whose angles are degrees. */
+function matrixOf(text) {
+    let matrix = new DOMMatrix();
+    for (const [, word, words] of text.matchAll(/(\w+)\s*\(([^)]*)\)/g)) {
+        const [a, b, c, ...rest] = numbersIn(words);
+        const step = {
+            matrix: () => new DOMMatrix([a, b, c, ...rest]),
+            translate: () => new DOMMatrix().translate(a, b ?? 0),
+            scale: () => new DOMMatrix().scale(a, b ?? a),
+            rotate: () => new DOMMatrix().translate(b ?? 0, c ?? 0).rotate(a).translate(-(b ?? 0), -(c ?? 0)),
+            skewX: () => new DOMMatrix().skewX(a),
+            skewY: () => new DOMMatrix().skewY(a),
+        }[word];
+        if (step) matrix = matrix.multiply(step());
+    }
+    return matrix;
+}
+
+/** The power of two by which all numbers are whole, or the greatest by which all are coordinates. */
+export function powerFor(numbers) {
+    let most = 1000, wanted = 0;
+    for (const value of numbers) {
+        if (value === 0) continue;
+        const exponent = exponentOf(value), isPower = Math.abs(value) === scaled(1, exponent);
+        most = Math.min(most, isPower ? 40 - exponent : 39 - exponent);
+        while (wanted < most && !Number.isInteger(scaled(value, wanted))) wanted++;
+    }
+    return Math.min(wanted, most);
+}
+
+/** Rows in doubles as calls that add them, with the power of two that took them to the lattice, and how many numbers were rounded. */
+export function callsOf(rows) {
+    const power = powerFor((function* () {
+        for (const [x, y] of rows) yield* [x, y];
+    })()), calls = [];
+    let rounded = 0;
+    for (const [x, y, times] of rows) {
+        const point = [x, y].map((it) => {
+            const { coordinate, isRounded } = fromFloat(it, power);
+            rounded += isRounded;
+            return coordinate;
+        });
+        for (let i = 0; i < times; i++) calls.push(`add ${point.join(" ")}`);
+    }
+    return { calls, power, rounded };
+}
+
+/** The points that a replay holds, in order, with how often: [x, y, times], divided by 2^power. */
+function rowsHeld(held, power) {
+    const rows = Array.from(held, ([key, times]) => [...pointOf(key), times]).sort((a, b) => a[0] - b[0] || a[1] - b[1]);
+    return rows.map(([x, y, times]) => [toFloat(x, power), toFloat(y, power), times]);
+}
+
+const geometryOf = (corners) => (corners.length === 0 ? { type: "GeometryCollection", geometries: [] }
+    : corners.length === 1 ? { type: "Point", coordinates: corners[0] }
+    : corners.length === 2 ? { type: "LineString", coordinates: corners } : { type: "Polygon", coordinates: [[...corners, corners[0]]] });
+
+/** Texts of the points and their corners, by the names of their kinds. */
+export const WRITTEN = {
+    csv: (rows) => `x,y,times\n${rows.map((row) => `${row.join(",")}\n`).join("")}`,
+    geojson: (rows, corners) => {
+        const feature = (properties, geometry) => ({ type: "Feature", properties, geometry });
+        const points = { type: "MultiPoint", coordinates: rows.map(([x, y]) => [x, y]) };
+        return `${JSON.stringify({ type: "FeatureCollection", features: [feature({ times: rows.map((row) => row[2]) }, points), feature({ is: "hull" }, geometryOf(corners))] })}\n`;
+    },
+    svg: (rows, corners) => {
+        const xs = rows.map((row) => row[0]), ys = rows.map((row) => -row[1]), least = (them) => them.reduce((a, b) => Math.min(a, b), Infinity);
+        const [left, top] = [least(xs), least(ys)].map((it) => (it === Infinity ? 0 : it));
+        const size = Math.max(-least(xs.map((it) => -it)) - left, -least(ys.map((it) => -it)) - top, 1e-300), dot = size / 150;
+        const box = rows.length ? [left - size / 20, top - size / 20, 1.1 * size, 1.1 * size] : [0, 0, 1, 1];
+        const points = rows.map(([x, y, times]) => `<circle cx="${x}" cy="${-y + 0}" r="${dot}"${times > 1 ? ` data-times="${times}"` : ""}/>\n`).join("");
+        return `<svg xmlns="http://www.w3.org/2000/svg" viewBox="${box.join(" ")}">\n<polygon points="${corners.map(([x, y]) => `${x},${-y + 0}`).join(" ")}" ` +
+            `fill="#dce9f8" stroke="#2160a8" stroke-width="${dot / 2}"/>\n${points}</svg>\n`;
+    },
+};
+
+/** What is held, as a text of a kind. */
+export function writeRows(kind, held, corners, power) {
+    return WRITTEN[kind](rowsHeld(held, power), corners.map((corner) => corner.map((it) => toFloat(it, power))));
+}
+
+/** The fragment of an address that holds the points: "points=0,0;8,0*2" and the power where it is not 0; "" where it would be too long. */
+export function addressOf(held, power) {
+    const points = [];
+    let length = 0;
+    for (const [key, times] of held) {
+        const text = `${key.replace(" ", ",")}${times > 1 ? `*${times}` : ""}`;
+        if ((length += text.length + 1) > ADDRESS_LIMIT) return "";
+        points.push(text);
+    }
+    return points.length === 0 ? "" : `#points=${points.sort().join(";")}${power ? `&power=${power}` : ""}`;
+}
+
+/** The calls of such a fragment and its power, or null where it holds no points; a TextError where one is wrong. */
+export function readAddress(fragment) {
+    const found = /^#points=([^&]*)(?:&power=(-?\d{1,4}))?$/.exec(decodeURIComponent(fragment));
+    if (!found) return null;
+    const calls = found[1].split(";").flatMap((text) => {
+        const [, x, y, times = "1"] = /^(-?\d{1,13}),(-?\d{1,13})(?:\*(\d{1,5}))?$/.exec(text) ?? [];
+        const isPoint = x !== undefined && [x, y].every((it) => Math.abs(Number(it)) <= COORDINATE_LIMIT) && isTimes(Number(times));
+        if (!isPoint) throw new TextError(1, "the address has a wrong point", text, "X,Y or X,Y*TIMES");
+        return Array(Number(times)).fill(`add ${Number(x) + 0} ${Number(y) + 0}`);
+    });
+    return { calls, power: Number(found[2] ?? 0) };
+}
