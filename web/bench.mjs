@@ -1,46 +1,10 @@
 // What calls cost beside plain JavaScript: points kept in order, whose corners a chain makes anew at each change of all points (so
 // that is what each row of changes is beside), and places by bisection over the corners: node web/bench.mjs [POINTS]. Calls a second.
+import { chainOf, order, placeIn, pointsOf, rate, turn } from "./chain.mjs";
 import { load } from "./hull.js";
 
-const number = Number(process.argv[2] ?? 10000), ROUNDS = 5;
+const number = Number(process.argv[2] ?? 10000);
 const { Hull } = await load();
-
-/** Points in a disc or on a circle, in order neither by x nor by y. */
-function pointsOf(shape) {
-    return Array.from({ length: number }, () => {
-        const angle = 2 * Math.PI * Math.random(), far = 1e6 * (shape === "circle" ? 1 : Math.sqrt(Math.random()));
-        return [Math.round(far * Math.cos(angle)), Math.round(far * Math.sin(angle))];
-    });
-}
-
-const turn = (a, b, c) => (b[0] - a[0]) * (c[1] - a[1]) - (b[1] - a[1]) * (c[0] - a[0]);
-
-function half(points) {
-    const chain = [];
-    for (const point of points) {
-        while (chain.length > 1 && turn(chain.at(-2), chain.at(-1), point) <= 0) chain.pop();
-        chain.push(point);
-    }
-    return chain.slice(0, -1);
-}
-
-const order = (a, b) => a[0] - b[0] || a[1] - b[1];
-
-/** The corners of points in order, by the chain of Andrew (1979). Numbers are exact for points of this size. */
-function chainOf(sorted) {
-    return [...half(sorted), ...half(sorted.toReversed())];
-}
-
-/** Where a point stands among points in order, or would stand. */
-function placeIn(sorted, point) {
-    let low = 0, high = sorted.length;
-    while (low < high) {
-        const middle = (low + high) >> 1;
-        if (order(sorted[middle], point) < 0) low = middle + 1;
-        else high = middle;
-    }
-    return low;
-}
 
 /** Whether a point is left of the diagonals from the first corner, and then of one edge. */
 function plainPlace(corners, point) {
@@ -54,22 +18,12 @@ function plainPlace(corners, point) {
     return turn(corners[low], corners[high], point) >= 0;
 }
 
-/** Calls a second, of the quickest of some rounds. */
-function rate(calls, run) {
-    const seconds = Array.from({ length: ROUNDS }, () => {
-        const began = performance.now();
-        run(calls);
-        return (performance.now() - began) / 1000;
-    });
-    return calls / Math.min(...seconds);
-}
-
 function row(name, ours, plain) {
     console.log(`${name.padEnd(34)} ${Math.round(ours).toString().padStart(10)} ${Math.round(plain).toString().padStart(10)} ${(ours / plain).toFixed(2).padStart(9)}`);
 }
 
 for (const shape of ["disc", "circle"]) {
-    const points = pointsOf(shape), others = pointsOf(shape), hull = new Hull(), list = points.toSorted(order), kept = chainOf(list);
+    const points = pointsOf(shape, number), others = pointsOf(shape, number), hull = new Hull(), list = points.toSorted(order), kept = chainOf(list);
     const flat = Float64Array.from(others.flat());
     let sum = 0;
     const change = (n, after) => {

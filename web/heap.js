@@ -1,7 +1,7 @@
-// The heap that the module of hull.wasm takes its memory from: it stands where malloc, realloc and free stand for programs in C.
+// The heap of hull.wasm, in the place of malloc, realloc and free. No proof reads it.
 //
-// No proof reads it. A block has a whole number of sixteens of bytes up to 512, or else a power of two of them; which of these
-// stands in the 16 bytes before it. A block that was given back is the first of the list of its size, and the next taken.
+// A block has a whole number of sixteens of bytes up to 512, or else a power of two of them; which of these stands in the 16 bytes
+// before it. A block that was given back is the first of the list of its size, and the next taken.
 
 const HEAD = 16;
 const SMALL = 512;
@@ -74,7 +74,7 @@ export class Heap {
         this.#given_back[its] = at;
     }
 
-    /** A block of another size that begins with the first `kept` bytes of the one given, which is gone; or 0, and it is as it was. */
+    /** A block of another size with the first `kept` bytes of the one given, which is gone; or 0, and it is as it was. */
     resize(at, kept, bytes) {
         if (class_of(bytes) === this.view.getUint32(at - HEAD, true)) return at;
         const to = this.take(bytes);

@@ -141,32 +141,8 @@ class Instance {
         writeWhole(view, at + REQUEST.y, y);
     }
 
-    /** Makes one call of a hull by that for many: no number of it crosses as a BigInt, which takes longer than a question. */
-    askHull(hull, kind, x, y) {
-        if (this.#cause !== null) this.#stopped("hull_calls");
-        this.request(this.requests, kind, x, y);
-        try {
-            this.wasm.hull_calls(hull, this.requestsAt, 1n, this.replyAt, 1n);
-        } catch (error) {
-            this.#stopped("hull_calls", error);
-        }
-        return this.#code();
-    }
-
-    /** The same of an outline. */
-    askOutline(corners, count, kind, x, y) {
-        if (this.#cause !== null) this.#stopped("hull_outline_calls");
-        this.request(this.requests, kind, x, y);
-        try {
-            this.wasm.hull_outline_calls(corners, count, this.requestsAt, 1n, this.replyAt, 1n);
-        } catch (error) {
-            this.#stopped("hull_outline_calls", error);
-        }
-        return this.#code();
-    }
-
     /** The code of the last reply; a fault is thrown. */
-    #code() {
+    code() {
         const code = this.heap.view.getInt32(this.reply, true), fault = FAULTS[code];
         if (fault !== undefined) throw fault();
         return code;
@@ -180,7 +156,7 @@ class Instance {
     /** Makes a call that replies, and returns its code; a fault is thrown. */
     ask(name, ...words) {
         this.call(name, this.replyAt, ...words);
-        return this.#code();
+        return this.code();
     }
 
     take(bytes) {
@@ -279,6 +255,14 @@ class Questions {
         return this.#instance;
     }
 
+    /** Makes one call by that for many: no number of it crosses as a BigInt, which takes longer than a question. */
+    _ask(kind, x, y) {
+        const instance = this._live();
+        instance.request(instance.requests, kind, x, y);
+        this._callAll(instance.requestsAt, 1n, instance.replyAt, 1n);
+        return instance.code();
+    }
+
     place(x, y) {
         return PLACES[this._ask(PLACE, checked(x), checked(y))];
     }
@@ -315,7 +299,7 @@ class Questions {
         return found;
     }
 
-    /** Makes one kind of call at each of the points, and tells the index, the code, the number and the points of each reply. */
+    /** Makes one kind of call at each of the points; tells index, code, number and points of each reply. */
     _serve(kind, coordinates, tell) {
         const count = coordinates.length / 2;
         for (let from = 0; from < count; from += REQUESTS_AT_ONCE) {
@@ -374,10 +358,6 @@ class HullOfInstance extends Questions {
         });
         this.#at = at;
         instance.call("hull_make", limit, at);
-    }
-
-    _ask(kind, x, y) {
-        return this._live().askHull(this.#at, kind, x, y);
     }
 
     add(x, y) {
@@ -477,8 +457,8 @@ class HullOfInstance extends Questions {
         return there;
     }
 
-    _callAll(...words) {
-        this._live().call("hull_calls", this.#at, ...words);
+    _callAll(requests, count, replies, room) {
+        this._live().call("hull_calls", this.#at, requests, count, replies, room);
     }
 }
 
@@ -504,12 +484,8 @@ class OutlineOfInstance extends Questions {
         }
     }
 
-    _ask(kind, x, y) {
-        return this._live().askOutline(this.#address, this.#corners, kind, x, y);
-    }
-
-    _callAll(...words) {
-        this._live().call("hull_outline_calls", this.#address, this.#corners, ...words);
+    _callAll(requests, count, replies, room) {
+        this._live().call("hull_outline_calls", this.#address, this.#corners, requests, count, replies, room);
     }
 
     count() {
@@ -599,7 +575,7 @@ class OutlineOfInstance extends Questions {
     }
 }
 
-/** The squared distance of two places, each a point or an edge with the foot of the other on it, as a fraction; 0 where both are none. */
+/** The squared distance of two places, each a point or an edge; 0 where both are none. */
 function squaredDistanceOf(places) {
     if (places[0].length === 0) return { numerator: 0n, denominator: 1n };
     const [[point], [from, to]] = places.toSorted?.((a, b) => a.length - b.length) ?? [...places].sort((a, b) => a.length - b.length);
@@ -613,7 +589,7 @@ function squaredDistanceOf(places) {
 /** Whether the engine has 64-bit memories: of a module with nothing else it says so. */
 const HAS_WIDE_MEMORY = globalThis.WebAssembly?.validate(new Uint8Array([0, 97, 115, 109, 1, 0, 0, 0, 5, 3, 1, 4, 1]));
 
-/** Where the module stands beside this file: as it was proved, or for engines with 32-bit memories alone as that was lowered. */
+/** Where the module stands: as it was proved, or for engines with 32-bit memories alone as that was lowered. */
 function moduleBeside() {
     try {
         return HAS_WIDE_MEMORY ? new URL("./out/hull.wasm", import.meta.url) : new URL("./out/hull32.wasm", import.meta.url);

@@ -243,6 +243,9 @@ await tried("bytes that are no module, and texts that are no journal", async () 
     await assert.rejects(load(new Uint8Array(8)), faults.Unsupported);
     await assert.rejects(load(new Uint8Array([0, 97, 115, 109, 1, 0, 0, 0])), faults.Unsupported);
     await assert.rejects(load(new URL("none.wasm", import.meta.url)), faults.Unsupported);
+    await assert.rejects(load(new Response("<h1>not found</h1>", { status: 404 })), faults.Unsupported);
+    await assert.rejects(load(Promise.reject(new TypeError("fetch failed"))), faults.Unsupported);
+    await assert.rejects(load("http://[wrong"), faults.Unsupported);
     await assert.rejects(load(readFileSync(module), { memory: NaN }), faults.OutOfRange);
     await assert.rejects(load(readFileSync(module), { memory: 1 }), faults.NoMemory);
     for (const text of ["", "end 0\n", "hullbook journal 3 first 0 limit 1 capacity 1\nend 1\n"]) assert.throws(() => readJournal(text), TextError);

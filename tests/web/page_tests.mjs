@@ -159,7 +159,7 @@ async function tryMouse() {
         for (const point of [[-20, -10], [20, -10], [20, 10]]) await click(point);
         await tab.move([5, 5]);
         const levels = async (key) => (await value('document.getElementById("levels").focus()'), await tab.key(key), await text("leveled"));
-        const drawn = () => value('document.getElementById("plane").toDataURL()'), without = await drawn();
+        const drawn = async () => (await tab.settled(), value('document.getElementById("plane").toDataURL()')), without = await drawn();
         assert.equal(await levels("ArrowRight"), "1 level");
         assert.notEqual(await drawn(), without);
         assert.equal(await levels("End"), "2 levels");
@@ -539,7 +539,7 @@ async function tryPhone() {
 
 async function tryDead() {
     await tried("without WebAssembly there is a word in place of the page", async () => {
-        tab = await Tab.open(url, DESKTOP, { browser, isDead: true, words: browser === "chromium" ? ["--js-flags=--noexpose-wasm"] : [], prefs: { "javascript.options.wasm": false } });
+        tab = await Tab.open(url, DESKTOP, { browser, isDead: true, words: browser === "chromium" ? ["--js-flags=--jitless"] : [], prefs: { "javascript.options.wasm": false } });
         await tab.until('!document.getElementById("fault").hidden');
         assert.match(await value('document.getElementById("fault").textContent'), /^The page can't start: this browser has no WebAssembly/);
         assert.deepEqual(await value('["plane", "own", "undo"].map((id) => document.getElementById(id).getClientRects().length)'), [0, 0, 0]);

@@ -1,13 +1,18 @@
 #!/bin/sh
-# Tries hull.js in Node and the page in a Chromium with no window, and has the page's journals checked by the program, built
-# unproved of the same sources. What is not there is skipped by name: Node, the module (web/build.py makes it), Chromium.
-# The last line counts, and the status is not 0 where something else came.
+# Tries hull.js and what stands below the page in Node, on both modules, the types, and the page in Chromium and in Firefox with no window,
+# and has the page's journals checked by the program. What is not there is skipped by name: Node, the modules (web/build.py makes them),
+# tsc, Chromium, Firefox, the program. The last line counts, and the status is not 0 where something else came.
+#
+#     tests/web/run.sh [FOLDER]    where pictures of the page stay, to be looked at
 set -u
 here=$(cd "$(dirname "$0")" && pwd)
 top=$(cd "$here/../.." && pwd)
 room=$(mktemp -d)
 trap 'rm -rf "$room"' EXIT
-chromium=${CHROMIUM:-$(command -v chromium || command -v chromium-browser || true)}
+pictures=${1:-}
+CHROMIUM=${CHROMIUM:-$(command -v chromium || command -v chromium-browser || true)}
+FIREFOX=${FIREFOX:-$(command -v firefox-esr || command -v firefox || true)}
+export CHROMIUM FIREFOX
 passed=0
 failed=0
 
@@ -63,23 +68,38 @@ if [ ! -f "$top/web/out/hull.wasm" ]; then
     finish
 fi
 # before Node 24 a module with a 64-bit memory has to be asked for
+set --
 [ "$(node -p 'parseInt(process.versions.node)')" -ge 24 ] || set -- --experimental-wasm-memory64
-counted node "$@" "$here/hull_tests.mjs"
-if [ -f "$top/web/out/hull32.wasm" ]; then
-    MODULE=hull32.wasm counted node "$here/hull_tests.mjs"
+for tests in hull work; do
+    MODULE=hull.wasm counted node "$@" "$here/${tests}_tests.mjs"
+    [ -f "$top/web/out/hull32.wasm" ] && MODULE=hull32.wasm counted node "$here/${tests}_tests.mjs"
+done
+if command -v tsc >/dev/null; then
+    counted sh "$here/types.sh"
 else
-    echo 'skipped: web/out/hull32.wasm is not there, which web/build.py makes with wasm-opt'
-    finish
+    echo 'skipped: the types: tsc is not there'
 fi
-if [ -z "$chromium" ]; then
-    echo 'skipped: Chromium is not there'
+if [ ! -f "$top/web/out/hull32.wasm" ]; then
+    echo 'skipped: web/out/hull32.wasm is not there, which web/build.py makes with wasm-opt'
     finish
 fi
 node "$top/web/page.mjs"
 said 'the page is written' $? 0
-export CHROMIUM="$chromium"
-counted node "$here/page_tests.mjs" "$top/web/out/index.html" "$room"
-for journal in clicks hullbook; do
-    said "the program's verdict on $journal" "$("$top/bin/try" check "$room/$journal.journal" 2>&1)" legal
+for browser in chromium firefox; do
+    [ "$browser" = chromium ] && there=$CHROMIUM || there=$FIREFOX
+    if [ -z "$there" ]; then
+        echo "skipped: the page in $browser, which is not there"
+        continue
+    fi
+    mkdir -p "$room/$browser"
+    counted node "$here/page_tests.mjs" "$top/web/out/index.html" "$room/$browser" "$browser"
+    for journal in clicks saved; do
+        if [ -x "$program" ]; then
+            said "the program's verdict on $browser's $journal" "$("$program" check "$room/$browser/$browser-$journal.journal" 2>&1)" legal
+        else
+            echo "skipped: the program's verdict on $browser's $journal: the program is not there"
+        fi
+    done
+    [ -n "$pictures" ] && mkdir -p "$pictures" && cp "$room/$browser"/*.png "$pictures"
 done
 finish

@@ -1,0 +1,39 @@
+// What the types let through: the README's first example and one call of each kind.
+import { HullError, load, type Fraction, type Held, type Hull, type Outline, type Place, type Point, type Tangents } from "hullbook";
+import { directionOf, fromFloats, wkt } from "hullbook/exchange.js";
+import { Replay, joinJournals, journalText, judge, readJournal } from "hullbook/journal.js";
+
+export async function first(): Promise<Point[]> {
+    const { Hull } = await load();
+    const hull = new Hull();
+    hull.addAll([[0, 0], [80, 0], [80, 60], [0, 60]]);
+    hull.add(100, 30);
+    const place: Place = hull.place(90, 30);
+    const doubled: bigint = hull.doubledArea();
+    hull.remove(100, 30);
+    return doubled > 0n && place === "inside" ? hull.vertices() : [];
+}
+
+export function asked(hull: Hull, outline: Outline): (Fraction | Held | Tangents | Point | null | undefined)[] {
+    const corners: readonly (readonly [number, number])[] = hull.vertices(), points = new Set(corners);
+    hull.load(points);
+    hull.load(Float64Array.of(1, 2));
+    hull.load(BigInt64Array.of(1n, 2n));
+    const seen = hull.tangents(5, 5);
+    const [ours] = outline.distance(outline) ?? [];
+    const times: Uint32Array = hull.addAll([[1, 2]]), left: number | null = hull.remove(1, 2);
+    return [outline.squaredDistance(outline), hull.held()[times[0]], seen, seen?.left, ours?.[left ?? 0], hull.extreme(...directionOf(0.1, 0.2)), outline.witness(outline)?.points[0]];
+}
+
+export async function journals(texts: { name: string; text: string }[]): Promise<string> {
+    try {
+        const { Hull, Outline } = await load(new Uint8Array(8), { memory: 1e6 });
+        const journal = joinJournals(texts.map(({ name, text }) => ({ name, journal: readJournal(text) })));
+        const replay = new Replay(new Hull(journal.limit), journal), verdict = judge(new Hull(), journal);
+        replay.go(1);
+        const { coordinates, rounded } = fromFloats([[0.5, 1]], 1);
+        return `${verdict.word === "illegal" ? verdict.index : rounded}${journalText(journal)}${wkt(Outline.of(coordinates).vertices())}`;
+    } catch (error) {
+        return error instanceof HullError ? error.message : "";
+    }
+}
