@@ -53,6 +53,11 @@ for (const shape of ["disc", "circle"]) {
     row("place", rate(number, () => {
         for (const [x, y] of others) sum += hull.place(x, y).length;
     }), plainPlaces);
+    const outline = hull.outline();
+    row("place of its outline", rate(number, () => {
+        for (const [x, y] of others) sum += outline.place(x, y).length;
+    }), plainPlaces);
+    outline.free();
     row("placeAll", rate(number, () => (sum += hull.placeAll(flat).length)), plainPlaces);
     if (!Number.isFinite(sum)) throw new Error("a point was not there");
     hull.free();

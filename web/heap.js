@@ -79,7 +79,7 @@ export class Heap {
         if (class_of(bytes) === this.view.getUint32(at - HEAD, true)) return at;
         const to = this.take(bytes);
         if (to) {
-            new Uint8Array(this.#memory.buffer).copyWithin(to, at, at + Math.min(kept, bytes));
+            this.#bytes.copyWithin(to, at, at + Math.min(kept, bytes));
             this.give(at);
         }
         return to;

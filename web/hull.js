@@ -52,12 +52,8 @@ const HALF = 2 ** 32;
 
 const disposal = Symbol.dispose ?? Symbol.for("Symbol.dispose");
 
-function isWhole(value) {
-    return Number.isInteger(value) && Math.abs(value) <= COORDINATE_LIMIT;
-}
-
 function checked(value) {
-    if (!isWhole(value)) {
+    if (!(Number.isInteger(value) && Math.abs(value) <= COORDINATE_LIMIT)) {
         throw new OutOfRange(`a coordinate is a whole Number from -2^40 to 2^40, and not ${typeof value} ${String(value)}`);
     }
     return value;
@@ -148,7 +144,7 @@ class Instance {
         return code;
     }
 
-    /** Makes a call that gives memory back, for which there is no need after a trap. */
+    /** Gives memory back, for which there is no need after a trap. */
     end(name, ...words) {
         if (this.#cause === null) this.call(name, ...words);
     }
@@ -175,7 +171,7 @@ class Instance {
         return this.out.at;
     }
 
-    /** Makes a call that writes to an array, with room for all that it has to tell; returns how many elements those are. */
+    /** Makes a call that writes to an array with room for all that it has to tell; returns how many elements. */
     filled(size, name, ...words) {
         for (;;) {
             const { at, bytes } = this.out;
@@ -502,7 +498,7 @@ class OutlineOfInstance extends Questions {
         return this._live().ask(name, this.#address, this.#corners, ...words);
     }
 
-    /** Makes a call of this outline and another one that replies, or that tells a witness. */
+    /** The same of this outline and another one, or that tells a witness. */
     #beside(call, name, other) {
         const instance = this._live();
         if (!(other instanceof OutlineOfInstance) || other._live() !== instance) throw new NoOutline("the other one is no outline of the same module");

@@ -4,7 +4,7 @@ import { createRequire } from "node:module";
 import { chainOf, order, placeIn, pointsOf, rate } from "./chain.mjs";
 import { load } from "./hull.js";
 
-const SETS = 500, CHANGES = 60, ROUNDS = 15;
+const SETS = 500, CHANGES = 60, ROUNDS = 30;
 const { Hull, Outline } = await load();
 let polygonHull = null;
 try {

@@ -63,11 +63,16 @@ NODE = "import { load } from 'hullbook'; const { Hull } = await load(); const h 
 
 
 PAGE = """import { Tab } from "CLONE/tests/web/browser.mjs";
-const tab = await Tab.open("file://CLONE/dist/web/index.html", [800, 600]);
-for (let i = 0; i < 400 && !(await tab.value("Boolean(globalThis.page)").catch(() => false)); i++) await new Promise((done) => setTimeout(done, 50));
-await tab.value("page.deed(['add 0 0', 'add 8 0', 'add 8 6'])");
-await tab.value("new Promise((done) => requestAnimationFrame(() => requestAnimationFrame(done)))");
-const told = await tab.value("['count', 'area'].map((id) => document.getElementById(id).textContent).join(', ')");
+const tab = await Tab.open("file://CLONE/dist/web/index.html", [1280, 640]);
+await tab.press("own");
+for (const point of ["0, 0", "8, 0", "8, 6"]) {
+    const at = await tab.value(`(() => {
+        const { left, top } = document.getElementById("plane").getBoundingClientRect(), [x, y] = page.view.toScreen([${point}]);
+        return [left + x, top + y];
+    })()`);
+    await tab.click(at);
+}
+const told = [await tab.text("count"), await tab.text("area")].join(", ");
 await tab.close();
 console.log(told);
 process.exit(0);
@@ -213,12 +218,12 @@ def try_packages(tries):
             tries.see("lintian sees no error", told[0] == 0, told[1])
     if tries.has("node", "npm") and tries.has("npm", "npm"):
         tries.lay("npm", package__json='{"type": "module"}\n', user__mjs=NODE)
-        flags = [] if int(tries.run("node", "-p", "parseInt(process.versions.node)")[1]) >= 24 else ["--experimental-wasm-memory64", "--no-warnings"]
-        tries.prints("the package for npm", "200", "sh", "-c", f"npm install --offline --no-audit --no-fund --silent {at}/hullbook-{version}.tgz && node {' '.join(flags)} user.mjs", at="npm")
+        tries.prints("the package for npm", "200", "sh", "-c", f"npm install --offline --no-audit --no-fund --silent {at}/hullbook-{version}.tgz && node user.mjs", at="npm")
         tries.lay("npm", typed__ts=TYPED)
         if tries.has("esbuild", "a bundle for browsers"):
             for platform in ("browser", "node"):
                 tries.prints(f"esbuild for a {platform}", "", "esbuild", "user.mjs", "--bundle", "--format=esm", f"--platform={platform}", f"--outfile={platform}.mjs", at="npm")
+            tries.prints("the bundle, in Node", "200", "sh", "-c", "cp -r node_modules/hullbook/out . && node node.mjs", at="npm")
         if tries.has("tsc", "types"):
             for target in ("ES2020", "ESNext"):
                 tries.prints(f"tsc --strict, {target}", "", "tsc", "--strict", "--noEmit", "--target", target, "--module", target, "--moduleResolution", "node", "typed.ts", at="npm")

@@ -50,10 +50,15 @@ export class Tab {
 
     /** The place of an element's middle, once it is scrolled into sight. */
     async middle(id) {
+        const isMoved = await this.value(`(() => {
+            const before = scrollY;
+            document.getElementById(${JSON.stringify(id)}).scrollIntoView({ block: "nearest" });
+            return scrollY !== before;
+        })()`);
+        // (until what the browser itself has of it has moved, too)
+        await this.settled().then(() => wait(isMoved ? 100 : 0));
         return this.value(`(() => {
-            const it = document.getElementById(${JSON.stringify(id)});
-            it.scrollIntoView({ block: "nearest" });
-            const { left, top, width, height } = it.getBoundingClientRect();
+            const { left, top, width, height } = document.getElementById(${JSON.stringify(id)}).getBoundingClientRect();
             return [left + width / 2, top + height / 2];
         })()`);
     }

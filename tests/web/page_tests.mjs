@@ -72,6 +72,8 @@ const isInSight = (...ids) => value(`(scrollTo(0, 0), ${JSON.stringify(ids)}.eve
     const { top, bottom, height } = document.getElementById(id).getBoundingClientRect();
     return height > 0 && top >= 0 && bottom <= innerHeight;
 }))`);
+/** How many of the points that are held lie outside of what is seen. */
+const outside = () => value("[...page.replay.held.keys()].map((it) => page.view.toScreen(it.split(' ').map(Number))).filter(([x, y]) => x < 0 || y < 0 || x > page.view.size[0] || y > page.view.size[1]).length");
 const escaped = () => value("escaped.join()");
 
 async function tryExample() {
@@ -110,7 +112,7 @@ async function tryExample() {
     });
     await tried("the example's answers are in sight without scrolling", async () => assert.ok(await isInSight("plane", "shown", "own")));
     await tried("pictures of the example, light and dark", async () => {
-        await press("pause");
+        await value("scrollTo(0, 0)");
         for (const scheme of ["dark", "light"]) writeFileSync(`${folder}/${browser}-example-${tab.shown[0]}-${scheme}.png`, await tab.picture(scheme));
     });
 }
@@ -188,7 +190,7 @@ async function tryMouse() {
         await anew();
         await press("many");
         const rows = () => value('document.querySelectorAll("#lines li").length');
-        assert.equal((await calls()).length, 1000);
+        assert.deepEqual([await outside(), (await calls()).length], [0, 1000]);
         assert.ok((await rows()) < 60, `${await rows()} rows`);
         await value('document.getElementById("lines").scrollTop = 20 * 500');
         await tab.settled();
@@ -452,9 +454,9 @@ async function tryMany() {
         await press("fit");
     });
     await tried("150,000 corners fit the view", async () => {
-        await value("(page.work.openCalls(Array.from({ length: 150000 }, (_, i) => `add ${i - 75000} ${(i - 75000) ** 2}`), 0), page.show())");
+        await value("(page.work.openCalls(Array.from({ length: 150000 }, (_, i) => `add ${i - 50000} ${(i - 50000) ** 2}`), 0), page.show())");
         await press("fit");
-        assert.deepEqual(await value("[page.hull.vertices().length, Math.round(page.view.middle[0])]"), [150000, 0]);
+        assert.deepEqual(await value("[page.hull.vertices().length, Math.round(page.view.middle[0])]"), [150000, 25000]);
         await press("anew");
     });
 }
@@ -497,8 +499,7 @@ async function tryFingers() {
     await tried("random points lie in what is seen", async () => {
         await anew();
         await press("many");
-        const outside = await value("[...page.replay.held.keys()].map((it) => page.view.toScreen(it.split(' ').map(Number))).filter(([x, y]) => x < 0 || y < 0 || x > page.view.size[0] || y > page.view.size[1]).length");
-        assert.deepEqual([outside, (await calls()).length], [0, 1000]);
+        assert.deepEqual([await outside(), (await calls()).length], [0, 1000]);
     });
     await tried("the answers are in sight without scrolling", async () => assert.ok(await isInSight("plane", "told")));
 }
@@ -509,7 +510,7 @@ async function drawn() {
     await value(`page.do(${JSON.stringify([...points, points[3], points[8], points[8], points[10]].map((it) => `add ${it.join(" ")}`))})`);
     if (tab.isPhone) await tab.hold(await at([-2, 2]), await at([17, -17]), 700);
     else await tab.move(await at([24, -16]));
-    await tab.settled();
+    await value("scrollTo(0, 0)");
     for (const scheme of ["dark", "light"]) writeFileSync(`${folder}/${browser}-drawn-${tab.shown[0]}-${scheme}.png`, await tab.picture(scheme));
 }
 
