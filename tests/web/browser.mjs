@@ -85,6 +85,12 @@ export class Tab {
         await this.touch([at, null]);
     }
 
+    /** A finger that goes elsewhere and rests there, so that nothing flies on. */
+    async slide(from, to) {
+        await this.touch([from, from.map((it, i) => (it + to[i]) / 2), to, 150, to, null]);
+        await this.settled();
+    }
+
     /** A finger that stays a while, and then goes elsewhere. */
     async hold(from, to, milliseconds) {
         await this.touch([from, milliseconds, to, null]);

@@ -80,6 +80,8 @@ export class ChromiumLink {
     }
 
     async touch(fingers) {
+        // (a finger hits what the last picture has: one is made of the page as it is)
+        await this.ask("Page.captureScreenshot", { format: "png", clip: { x: 0, y: 0, width: 1, height: 1, scale: 1 } });
         let before = [];
         for (let i = 0; i < Math.max(...fingers.map((it) => it.length)); i++) {
             if (typeof fingers[0][i] === "number") {

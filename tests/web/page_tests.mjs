@@ -103,7 +103,7 @@ async function tryExample() {
     });
     await tried("the segment is asked of the module as it is dragged", async () => {
         const place = (of) => value(`(() => { const { left, top } = document.getElementById("plane").getBoundingClientRect(), [x, y] = page.view.toScreen(${of}); return [left + x, top + y]; })()`);
-        const drag = async (from, to) => (tab.isPhone ? tab.touch([from, from.map((it, i) => (it + to[i]) / 2), to, null]) : tab.drag(from, to));
+        const drag = async (from, to) => (tab.isPhone ? tab.slide(from, to) : tab.drag(from, to));
         await drag(await place("page.example.segment[1]"), await place("[0, 560]"));
         await drag(await place("page.example.segment[0]"), await place("[-900, 560]"));
         assert.equal(await text("shown-segment"), "is free");
@@ -468,7 +468,7 @@ async function tryFingers() {
         await tab.settled();
         assert.deepEqual(await calls(), ["add -10 -8 = added", "add 10 -8 = added", "add 0 9 = added"]);
         assert.equal(await text("where"), "(0, 9) is on");
-        await tab.touch([await at([3, 3]), await at([5, 5]), await at([8, 8]), null]);
+        await tab.slide(await at([3, 3]), await at([8, 8]));
         await wait(200);
         assert.match(await text("where"), /^\(3, 3\) is inside$/);
         assert.equal((await calls()).length, 3);
@@ -482,7 +482,7 @@ async function tryFingers() {
     });
     await tried("a finger takes a point along", async () => {
         const from = await at([0, 9]), to = await at([4, 15]);
-        await tab.touch([from, from.map((it, i) => (it + to[i]) / 2), to, null]);
+        await tab.slide(from, to);
         await tab.settled();
         assert.deepEqual((await held()).map(([key]) => key), ["-10 -8", "10 -8", "4 15"]);
         await press("undo");
