@@ -80,10 +80,13 @@ export class Example {
 
     /** What is told, by the names of the rows. */
     readings() {
-        const { numerator, denominator } = this.square, meets = numerator === 0n, [where] = this.witness.points;
+        const { numerator, denominator } = this.square, meets = numerator === 0n;
         const square = denominator === 1n ? `${numerator}` : `${numerator}/${denominator}`;
-        const shows = { apart: `no corner goes beyond (${where.join(", ")}) along (${this.witness.points[1]?.join(", ")})`, covered: `the first covers (${where.join(", ")})`,
-            within: `the second covers (${where.join(", ")})`, crossing: "two segments cross" }[this.witness.shows];
+        const [point, direction] = this.witness.points.map((it) => `(${it.join(", ")})`);
+        const shows = {
+            apart: `no corner goes beyond ${point} along ${direction}`, covered: `the first covers ${point}`,
+            within: `the second covers ${point}`, crossing: "two segments cross",
+        }[this.witness.shows];
         const struck = this.hits.map((it, i) => it && ["the first hull", "the second hull"][i]).filter(Boolean);
         return {
             points: `${this.hull.count()}, ${this.outline.count()} of them corners`,

@@ -19,7 +19,9 @@ async function table(mode) {
     return (await done(opening)).transaction(TABLE, mode).objectStore(TABLE);
 }
 
-const packed = ({ journal, at, power }, from = 0) => ({ text: journalText({ ...journal, lines: journal.lines.slice(from) }), parts: journal.parts, at, power });
+function packed({ journal, at, power }, from = 0) {
+    return { text: journalText({ ...journal, lines: journal.lines.slice(from) }), parts: journal.parts, at, power };
+}
 
 function unpacked({ text, parts, at, power }, base = null) {
     const journal = readJournal(base ?? text);
@@ -38,7 +40,10 @@ export class Keeper {
     /** Keeps what a work is at, with what else `more` has; a long journal's first lines when there is time for it. */
     keep(work, more, isEnding = false) {
         const { here } = work, { length } = here.journal.lines, before = this.#base?.journal === here.journal ? this.#base.lines : 0;
-        if (length - before > LONG && !isEnding) return this.#lay(here.journal).then(() => this.keep(work, more, true), () => this.keep(work, more, true));
+        if (length - before > LONG && !isEnding) {
+            const laid = () => this.keep(work, more, true);
+            return this.#lay(here.journal).then(laid, laid);
+        }
         const kept = { ...more, ...packed(here, before), base: before > 0 ? this.#base.id : null };
         try {
             this.#write({ ...kept, deeds: deedsBy(packed, work.deeds) });

@@ -80,6 +80,7 @@ export class Page {
             this.example = null;
         }
         tell("own", mode === "example" ? "Draw your own" : "Show the example");
+        tell("pause", this.isPaused ? "Go on" : "Pause");
         this.picture.resize();
         this.view.fit(mode === "example" ? this.example.room : this.hull.vertexArray(), mode === "example" ? 1 : 0.8);
     }
@@ -280,8 +281,10 @@ export class Page {
     }
 
     listen() {
-        const plane = element("plane"), on = (target, names) => Object.entries(names).forEach(([name, run]) => target.addEventListener(name, run, { passive: false }));
-        on(plane, {
+        const on = (target, names) => {
+            for (const [name, run] of Object.entries(names)) target.addEventListener(name, run, { passive: false });
+        };
+        on(element("plane"), {
             pointerdown: (event) => this.pressed(event),
             pointermove: (event) => this.moved(event),
             pointerup: (event) => this.released(event),
@@ -377,8 +380,9 @@ export class Page {
                 at = next;
             },
             end: (event, isMoved) => {
+                const point = (held ?? this.view.toLattice(place)).join(" ");
                 if (isMoved) this.deed((work) => work.end(deed));
-                else if (event) this.do([held && !event.shiftKey ? `remove ${held.join(" ")}` : `add ${(held ?? this.view.toLattice(place)).join(" ")}`]);
+                else if (event) this.do([`${held && !event.shiftKey ? "remove" : "add"} ${point}`]);
             },
         };
     }
@@ -519,7 +523,8 @@ export class Page {
         const { calls, power, rounded } = callsOf(rows);
         this.work.openCalls(calls, power);
         const lattice = power === 0 ? "" : `, times 2^${power}${rounded ? `, ${rounded} of their numbers rounded` : ""}`;
-        this.work.told = `${rows.length} points opened${lattice}`;
+        const refused = this.replay.journal.lines.filter((it) => it.reply === "toomany").length;
+        this.work.told = `${rows.length} points opened${lattice}${refused ? `, ${refused} refused: a hull takes no more` : ""}`;
     }
 
     text() {

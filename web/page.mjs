@@ -1,6 +1,6 @@
 // Writes web/out/index.html: page.html with the code and the module inside, so that it opens from disk and fetches nothing.
 //
-//     node web/page.mjs
+//     node web/page.mjs [MODULE PAGE]    or with that module of web/out (hull32.wasm), to that file
 import { readFileSync, writeFileSync } from "node:fs";
 
 // each stands behind those that it imports
@@ -18,12 +18,13 @@ function wrapped(name) {
 
 const code = `${MODULES.map(wrapped).join("")}const { load } = hull_js, { Page } = page_js;`;
 // (the module with a 32-bit memory, which every engine runs)
+const [module = "hull32.wasm", to = file("out/index.html")] = process.argv.slice(2);
 let wasm;
 try {
-    wasm = readFileSync(file("out/hull32.wasm"));
+    wasm = readFileSync(file(`out/${module}`));
 } catch {
-    console.error("web/out/hull32.wasm is missing: run web/build.py first, with Binaryen's wasm-opt");
+    console.error(`web/out/${module} is missing: run web/build.py first, with Binaryen's wasm-opt`);
     process.exit(1);
 }
 const page = readFileSync(file("page.html"), "utf8").replace("/*CODE*/", () => code).replace("/*WASM*/", () => wasm.toString("base64"));
-writeFileSync(file("out/index.html"), page);
+writeFileSync(to, page);

@@ -3,6 +3,7 @@ import { COORDINATE_LIMIT, MULTIPLICITY_LIMIT } from "./hull.js";
 import { exponentOf, fromFloat, scaled, toFloat } from "./exchange.js";
 import { TextError } from "./journal.js";
 
+const CALLS_LIMIT = 2 ** 22; // so many calls are made of a text at most
 const ADDRESS_LIMIT = 16000; // an address is no longer, so that it can be sent
 
 /** The point of a key "x y". */
@@ -26,8 +27,9 @@ function rowsOfTable(text) {
         const fields = line.trim().split(/[,;\t ]+/).filter(Boolean), numbers = fields.map(Number);
         if (fields.length === 0 || line.startsWith("#")) return;
         const [x, y, times = 1] = numbers, isRow = numbers.every(Number.isFinite) && fields.length >= 2;
+        const should = `X,Y or X,Y,TIMES, with 1 to ${MULTIPLICITY_LIMIT} times`;
         if (isRow && isTimes(times)) rows.push([x, y, times]);
-        else if (rows.length > 0 || i > 0) throw new TextError(i + 1, "it is no point", line, `X,Y or X,Y,TIMES, with 1 to ${MULTIPLICITY_LIMIT} times`);
+        else if (rows.length > 0 || i > 0) throw new TextError(i + 1, "it is no point", line, should);
     });
     if (rows.length === 0) throw new TextError(1, "there are no points", text.split("\n")[0], "X,Y");
     return rows;
@@ -61,7 +63,8 @@ function rowsOfGeometry(text) {
         for (const part of [it?.geometry, ...(it?.geometries ?? []), ...(it?.features ?? [])]) if (part) walk(part, times);
     };
     walk(Array.isArray(read) ? { coordinates: read } : read);
-    if (rows.length === 0 || !rows.every((row) => row.every(Number.isFinite))) throw new TextError(1, "it has no positions", text.slice(0, 60), "a GeoJSON object with coordinates");
+    const isRows = rows.length > 0 && rows.every((row) => row.every(Number.isFinite));
+    if (!isRows) throw new TextError(1, "it has no positions", text.slice(0, 60), "a GeoJSON object with coordinates");
     return once(rows.map(([x, y, often]) => [x, y, isTimes(often) ? often : 1]));
 }
 
@@ -163,6 +166,7 @@ export function callsOf(rows) {
         for (const [x, y] of rows) yield* [x, y];
     })()), calls = [];
     let rounded = 0;
+    if (rows.reduce((sum, row) => sum + row[2], 0) > CALLS_LIMIT) throw new RangeError(`these are more than ${CALLS_LIMIT} points`);
     for (const [x, y, times] of rows) {
         const point = [x, y].map((it) => {
             const { coordinate, isRounded } = fromFloat(it, power);
@@ -189,17 +193,18 @@ export const WRITTEN = {
     csv: (rows) => `x,y,times\n${rows.map((row) => `${row.join(",")}\n`).join("")}`,
     geojson: (rows, corners) => {
         const feature = (properties, geometry) => ({ type: "Feature", properties, geometry });
-        const points = { type: "MultiPoint", coordinates: rows.map(([x, y]) => [x, y]) };
-        return `${JSON.stringify({ type: "FeatureCollection", features: [feature({ times: rows.map((row) => row[2]) }, points), feature({ is: "hull" }, geometryOf(corners))] })}\n`;
+        const points = feature({ times: rows.map((row) => row[2]) }, { type: "MultiPoint", coordinates: rows.map(([x, y]) => [x, y]) });
+        return `${JSON.stringify({ type: "FeatureCollection", features: [points, feature({ is: "hull" }, geometryOf(corners))] })}\n`;
     },
     svg: (rows, corners) => {
         const xs = rows.map((row) => row[0]), ys = rows.map((row) => -row[1]), least = (them) => them.reduce((a, b) => Math.min(a, b), Infinity);
         const [left, top] = [least(xs), least(ys)].map((it) => (it === Infinity ? 0 : it));
         const size = Math.max(-least(xs.map((it) => -it)) - left, -least(ys.map((it) => -it)) - top, 1e-300), dot = size / 150;
         const box = rows.length ? [left - size / 20, top - size / 20, 1.1 * size, 1.1 * size] : [0, 0, 1, 1];
-        const points = rows.map(([x, y, times]) => `<circle cx="${x}" cy="${-y + 0}" r="${dot}"${times > 1 ? ` data-times="${times}"` : ""}/>\n`).join("");
-        return `<svg xmlns="http://www.w3.org/2000/svg" viewBox="${box.join(" ")}">\n<polygon points="${corners.map(([x, y]) => `${x},${-y + 0}`).join(" ")}" ` +
-            `fill="#dce9f8" stroke="#2160a8" stroke-width="${dot / 2}"/>\n${points}</svg>\n`;
+        const often = (times) => (times > 1 ? ` data-times="${times}"` : "");
+        const points = rows.map(([x, y, times]) => `<circle cx="${x}" cy="${-y + 0}" r="${dot}"${often(times)}/>\n`).join("");
+        const polygon = `points="${corners.map(([x, y]) => `${x},${-y + 0}`).join(" ")}" fill="#dce9f8" stroke="#2160a8" stroke-width="${dot / 2}"`;
+        return `<svg xmlns="http://www.w3.org/2000/svg" viewBox="${box.join(" ")}">\n<polygon ${polygon}/>\n${points}</svg>\n`;
     },
 };
 

@@ -538,6 +538,20 @@ async function tryPhone() {
     await tab.close();
 }
 
+async function tryStill() {
+    const words = browser === "chromium" ? ["--force-prefers-reduced-motion"] : [], prefs = { "ui.prefersReducedMotion": 1 };
+    tab = await Tab.open(url, DESKTOP, { browser, words, prefs });
+    await tried("where motion is not wanted the example stands still until it is asked to go on", async () => {
+        const points = async () => (await text("shown-points"), value("page.example.ticks"));
+        const before = await points();
+        await wait(900);
+        assert.deepEqual([await points(), await text("pause")], [before, "Go on"]);
+        await press("pause");
+        await tab.until(`page.example.ticks > ${before}`);
+    });
+    await tab.close();
+}
+
 async function tryDead() {
     await tried("without WebAssembly there is a word in place of the page", async () => {
         tab = await Tab.open(url, DESKTOP, { browser, isDead: true, words: browser === "chromium" ? ["--js-flags=--jitless"] : [], prefs: { "javascript.options.wasm": false } });
@@ -548,7 +562,7 @@ async function tryDead() {
     await tab.close();
 }
 
-for (const run of [tryDesktop, tryPhone, tryDead].filter((it) => !process.env.ONLY || it.name.includes(process.env.ONLY))) {
+for (const run of [tryDesktop, tryPhone, tryStill, tryDead].filter((it) => !process.env.ONLY || it.name.includes(process.env.ONLY))) {
     await run().catch(async (error) => {
         failed++;
         console.log(`${browser}: ${run.name}: FAILED, ${error.stack}`);

@@ -71,8 +71,11 @@ fi
 set --
 [ "$(node -p 'parseInt(process.versions.node)')" -ge 24 ] || set -- --experimental-wasm-memory64
 for tests in hull work; do
+    echo "${tests}_tests.mjs on hull.wasm"
     MODULE=hull.wasm counted node "$@" "$here/${tests}_tests.mjs"
-    [ -f "$top/web/out/hull32.wasm" ] && MODULE=hull32.wasm counted node "$here/${tests}_tests.mjs"
+    [ -f "$top/web/out/hull32.wasm" ] || continue
+    echo "${tests}_tests.mjs on hull32.wasm"
+    MODULE=hull32.wasm counted node "$here/${tests}_tests.mjs"
 done
 if command -v tsc >/dev/null; then
     counted sh "$here/types.sh"
@@ -83,8 +86,8 @@ if [ ! -f "$top/web/out/hull32.wasm" ]; then
     echo 'skipped: web/out/hull32.wasm is not there, which web/build.py makes with wasm-opt'
     finish
 fi
-node "$top/web/page.mjs"
-said 'the page is written' $? 0
+node "$top/web/page.mjs" && node "$top/web/page.mjs" hull.wasm "$room/wide.html"
+said 'the page is written, with either module' $? 0
 for browser in chromium firefox; do
     [ "$browser" = chromium ] && there=$CHROMIUM || there=$FIREFOX
     if [ -z "$there" ]; then
@@ -100,6 +103,10 @@ for browser in chromium firefox; do
             echo "skipped: the program's verdict on $browser's $journal: the program is not there"
         fi
     done
+    # with the module as it was proved, where the browser has 64-bit memories
+    mkdir -p "$room/wide"
+    echo "the page with hull.wasm, on a phone's size"
+    ONLY=Phone counted node "$here/page_tests.mjs" "$room/wide.html" "$room/wide" "$browser"
     [ -n "$pictures" ] && mkdir -p "$pictures" && cp "$room/$browser"/*.png "$pictures"
 done
 finish

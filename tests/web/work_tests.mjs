@@ -76,6 +76,7 @@ await tried("the power by which numbers are whole", () => {
     assert.deepEqual([[], [1, 2 ** 40], [0.5, 3], [0.1, 100], [2 ** 40 + 1], [5e-324], [-(2 ** 50)], [0.75, -(2 ** -5)]].map(powerFor), [0, 0, 1, 33, -1, 1000, -10, 5]);
     const { calls, power, rounded } = callsOf([[0.5, 1, 2], [0, -0.25, 1]]);
     assert.deepEqual([calls, power, rounded], [["add 2 4", "add 2 4", "add 0 -1"], 2, 0]);
+    assert.throws(() => callsOf(Array(100).fill([1, 1, 65535])), RangeError);
 });
 await tried("an address holds the points, and a wrong or a long one none", () => {
     const held = new Map([["0 0", 1], ["-7 8", 12]]), address = addressOf(held, 3);
