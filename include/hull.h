@@ -464,6 +464,52 @@ static inline hull_reply hull_outline_contains_or_null(const hull_point *corners
 }
 #define hull_outline_contains hull_outline_contains_or_null
 
+/* How the hull of the first stands to that of the second. */
+typedef enum hull_relation {
+    HULL_RELATION_APART = 0,       /* they have no point in common */
+    HULL_RELATION_TOUCHING = 1,    /* they have, and a line has them on its two sides: nothing inside the one is covered by the other */
+    HULL_RELATION_OVERLAPPING = 2, /* they have, and no line has them on its two sides */
+    HULL_RELATION_WITHIN = 3,      /* the second covers whatever the first covers, and not the other way */
+    HULL_RELATION_COVERS = 4,      /* the first covers whatever the second covers, and not the other way */
+    HULL_RELATION_EQUAL = 5        /* each covers the other */
+} hull_relation;
+
+/* Which of these is so: HULL_NUMBER with it. Of no corners an outline is within each other one. Where they meet it takes a question
+ * for each corner of both. */
+hull_reply hull_outline_relation(const hull_point *corners, size_t count, const hull_point *others, size_t other_count);
+static inline hull_reply hull_outline_relation_or_null(const hull_point *corners, size_t count, const hull_point *others,
+                                                       size_t other_count) {
+    const uint32_t fault = hull_outlines_fault(corners, count, others, other_count);
+    return fault != HULL_OK ? hull_refusal(fault)
+                            : hull_outline_relation((const hull_point *)hull_array(corners, count), count,
+                                 (const hull_point *)hull_array(others, other_count), other_count);
+}
+#define hull_outline_relation hull_outline_relation_or_null
+
+/* Whether all of the second lies inside the first, with no point of it on the boundary: HULL_NUMBER with 1 or 0. */
+hull_reply hull_outline_contains_inside(const hull_point *corners, size_t count, const hull_point *others, size_t other_count);
+static inline hull_reply hull_outline_contains_inside_or_null(const hull_point *corners, size_t count, const hull_point *others,
+                                                              size_t other_count) {
+    const uint32_t fault = hull_outlines_fault(corners, count, others, other_count);
+    return fault != HULL_OK ? hull_refusal(fault)
+                            : hull_outline_contains_inside((const hull_point *)hull_array(corners, count), count,
+                                        (const hull_point *)hull_array(others, other_count), other_count);
+}
+#define hull_outline_contains_inside hull_outline_contains_inside_or_null
+
+/* Whether they are no farther apart than numerator / denominator, exactly: HULL_NUMBER with 1 or 0; 0 where one has no corners. A
+ * length with the denominator 0 is longer than any distance. It takes as long as hull_outline_distance. */
+hull_reply hull_outline_within(const hull_point *corners, size_t count, const hull_point *others, size_t other_count,
+                               uint64_t numerator, uint32_t denominator);
+static inline hull_reply hull_outline_within_or_null(const hull_point *corners, size_t count, const hull_point *others,
+                                                     size_t other_count, uint64_t numerator, uint32_t denominator) {
+    const uint32_t fault = hull_outlines_fault(corners, count, others, other_count);
+    return fault != HULL_OK ? hull_refusal(fault)
+                            : hull_outline_within((const hull_point *)hull_array(corners, count), count,
+                               (const hull_point *)hull_array(others, other_count), other_count, numerator, denominator);
+}
+#define hull_outline_within hull_outline_within_or_null
+
 /* Where they meet, or what parts them: HULL_COVERED, HULL_WITHIN, HULL_CROSSING, HULL_APART; or HULL_EMPTY where one has no corners. */
 hull_witness hull_outline_witness(const hull_point *corners, size_t count, const hull_point *others, size_t other_count);
 static inline hull_witness hull_outline_witness_or_null(const hull_point *corners, size_t count, const hull_point *others,

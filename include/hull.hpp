@@ -177,6 +177,17 @@ struct Strip {
     Point from, to, farthest;
 };
 
+// How one outline stands to another: apart; touching, with a point in common and a line that has them on its two sides; overlapping;
+// within the other; covering it; or equal to it.
+enum class Relation : std::uint32_t {
+    apart = HULL_RELATION_APART,
+    touching = HULL_RELATION_TOUCHING,
+    overlapping = HULL_RELATION_OVERLAPPING,
+    within = HULL_RELATION_WITHIN,
+    covers = HULL_RELATION_COVERS,
+    equal = HULL_RELATION_EQUAL
+};
+
 // Where two outlines are nearest to one another. Of two corners the squared distance is that of the two; of a corner and an edge it is
 // the square of the side of the corner at the edge, up to 84 bits, divided by the squared length of the edge.
 struct Distance {
@@ -487,6 +498,21 @@ public:
     // Whether this outline covers whatever the other one covers.
     bool contains(const Outline &other) const {
         return told::number(hull_outline_contains(data(), corners_.size(), other.data(), other.corners_.size())) == 1;
+    }
+
+    // How this outline stands to the other one.
+    Relation relation(const Outline &other) const {
+        return static_cast<Relation>(told::number(hull_outline_relation(data(), corners_.size(), other.data(), other.corners_.size())));
+    }
+
+    // Whether all of the other outline lies inside this one, with no point of it on the boundary.
+    bool contains_inside(const Outline &other) const {
+        return told::number(hull_outline_contains_inside(data(), corners_.size(), other.data(), other.corners_.size())) == 1;
+    }
+
+    // Whether the two are no farther apart than numerator / denominator, exactly; false where one of them has no corners.
+    bool within(const Outline &other, std::uint64_t numerator, std::uint32_t denominator = 1) const {
+        return told::number(hull_outline_within(data(), corners_.size(), other.data(), other.corners_.size(), numerator, denominator)) == 1;
     }
 
     // Where the two meet, or what parts them; none where one of them has no corners.

@@ -57,7 +57,7 @@ if sys.version_info < (3, 8):
 __version__ = "1.0.0"
 __all__ = [
     "CAPACITY_LIMIT", "COORDINATE_LIMIT", "MULTIPLICITY_LIMIT", "POINT_LIMIT", "SEAT_LIMIT", "Ended", "FloatHull", "Hull",
-    "JournalFault", "JournalFull", "JournalPart", "Lattice", "NoSeat", "OutOfRange", "Outline", "Place", "Seat", "SeatsOut",
+    "JournalFault", "JournalFull", "JournalPart", "Lattice", "NoSeat", "OutOfRange", "Outline", "Place", "Relation", "Seat", "SeatsOut",
     "SharedHull", "Shows", "TooMany", "Witness", "ZeroDirection", "direction_of", "from_floats", "to_floats", "wkt",
 ]
 
@@ -257,7 +257,7 @@ def _load(file: str, variable: str, functions: Sequence[Tuple[str, List[Any], An
 
 
 def _library() -> ctypes.CDLL:
-    at, whole, size, number = ctypes.c_void_p, ctypes.c_int64, ctypes.c_size_t, ctypes.c_uint32
+    at, whole, size, number, long = ctypes.c_void_p, ctypes.c_int64, ctypes.c_size_t, ctypes.c_uint32, ctypes.c_uint64
     return _load("libhull.so", "HULL_LIBRARY", [
         ("python_new", [number], at), ("python_free", [at], None), ("python_call", [at, number, whole, whole], _Reply),
         ("python_calls", [at, at, at, size], size), ("python_vertices", [at, at, size], _Reply),
@@ -271,6 +271,8 @@ def _library() -> ctypes.CDLL:
         ("outline_nearest", [at, size, whole, whole], _Reply), ("outline_box", [at, size], _Reply),
         ("outline_width", [at, size, whole, whole], _Reply), ("outline_diameter", [at, size], _Reply),
         ("outline_meets", [at, size, at, size], _Reply), ("outline_contains", [at, size, at, size], _Reply),
+        ("outline_relation", [at, size, at, size], _Reply), ("outline_contains_inside", [at, size, at, size], _Reply),
+        ("outline_within", [at, size, at, size, long, number], _Reply),
         ("outline_least_width", [at, size], _Witness), ("outline_witness", [at, size, at, size], _Witness),
         ("outline_distance", [at, size, at, size], _Witness),
         ("outline_calls", [at, size, at, size, at, size], size),
@@ -427,6 +429,23 @@ def _like(points: object, numbers: Any) -> Any:
     if numpy is not None:
         return numpy.frombuffer(numbers, dtype=numpy.uint8 if isinstance(numbers, bytes) else numpy.uint32)
     return numbers
+
+
+class Relation(enum.IntEnum):
+    """How one outline stands to another."""
+
+    #: They have no point in common.
+    APART = 0
+    #: They have, and a line has them on its two sides: nothing inside the one is covered by the other.
+    TOUCHING = 1
+    #: They have, and no line has them on its two sides.
+    OVERLAPPING = 2
+    #: The other one covers whatever this one covers, and not the other way.
+    WITHIN = 3
+    #: This one covers whatever the other one covers, and not the other way.
+    COVERS = 4
+    #: Each covers the other.
+    EQUAL = 5
 
 
 class Shows(enum.IntEnum):
@@ -1041,6 +1060,30 @@ class Outline(_Questions):
     def contains(self, other: Outline) -> bool:
         """Whether this outline covers whatever the other one covers."""
         reply: _Reply = self._beside(_LIBRARY.hull_outline_contains, other)
+        return reply.number == 1
+
+    def relation(self, other: Outline) -> Relation:
+        """How this outline stands to the other one."""
+        reply: _Reply = self._beside(_LIBRARY.hull_outline_relation, other)
+        return Relation(reply.number)
+
+    def contains_inside(self, other: Outline) -> bool:
+        """Whether all of the other outline lies inside this one, with no point of it on the boundary."""
+        reply: _Reply = self._beside(_LIBRARY.hull_outline_contains_inside, other)
+        return reply.number == 1
+
+    def within(self, other: Outline, distance: Union[int, float, Fraction]) -> bool:
+        """Whether the two outlines are no farther apart than that, exactly; False where one of them has no corner.
+
+        A float is taken for the fraction that it is. OutOfRange where the distance is below 0, or is not finite.
+        """
+        length = Fraction(distance) if math.isfinite(distance) else Fraction(-1)
+        if length < 0:
+            raise OutOfRange(f"a distance is 0 or more, and not {distance}")
+        if length.numerator >= 2 ** 64 or length.denominator >= 2 ** 32:
+            squared = self.squared_distance(other)
+            return squared is not None and squared <= length * length
+        reply: _Reply = self._beside(lambda *there: _LIBRARY.hull_outline_within(*there, length.numerator, length.denominator), other)
         return reply.number == 1
 
     def witness(self, other: Outline) -> Optional[Witness]:

@@ -437,6 +437,70 @@ static int covers(const hull_point *corners, size_t count, hull_point p) {
     return hull_outline_place(corners, count, p.x, p.y).code != HULL_OUTSIDE;
 }
 
+/* whether the line through two points of the first has the two on its two sides: by all pairs of points */
+static int divides(const hull_point *a, size_t n, const hull_point *b, size_t m) {
+    for (size_t i = 0; i < n * n; i++) {
+        const hull_point p = a[i / n], q = a[i % n];
+        int parts = p.x != q.x || p.y != q.y;
+        for (size_t k = 0; k < n; k++) {
+            parts &= side(p, q, a[k]) >= 0;
+        }
+        for (size_t k = 0; k < m; k++) {
+            parts &= side(p, q, b[k]) <= 0;
+        }
+        if (parts) {
+            return 1;
+        }
+    }
+    return 0;
+}
+
+/* how often each corner of the first lies so, seen from the second */
+static size_t lie_so(const hull_point *a, size_t n, const hull_point *b, size_t m, uint32_t code) {
+    size_t found = 0;
+    for (size_t i = 0; i < n; i++) {
+        found += hull_outline_place(b, m, a[i].x, a[i].y).code == code;
+    }
+    return found;
+}
+
+/* how the first stands to the second, by the places of all corners and by all lines through two of them */
+static hull_relation slow_relation(const hull_point *a, size_t n, const hull_point *b, size_t m) {
+    const int covers = lie_so(b, m, a, n, HULL_OUTSIDE) == 0, within = lie_so(a, n, b, m, HULL_OUTSIDE) == 0;
+    if (covers || within) {
+        return covers && within ? HULL_RELATION_EQUAL : covers ? HULL_RELATION_COVERS : HULL_RELATION_WITHIN;
+    }
+    if (hull_outline_meets(a, n, b, m).number == 0) {
+        return HULL_RELATION_APART;
+    }
+    return divides(a, n, b, m) || divides(b, m, a, n) ? HULL_RELATION_TOUCHING : HULL_RELATION_OVERLAPPING;
+}
+
+/* whether they are so far apart at most, by the squared distance as a fraction of small numbers */
+static int slow_within(const hull_point *a, size_t n, const hull_point *b, size_t m, int64_t up, int64_t down) {
+    const hull_witness w = hull_outline_distance(a, n, b, m);
+    const hull_point from = w.code == HULL_EDGE ? w.a : w.b, to = w.code == HULL_EDGE ? w.b : w.c;
+    const hull_point corner = w.code == HULL_EDGE ? w.c : w.a;
+    const int64_t over = side(from, to, corner);
+    const int64_t edge = (to.x - from.x) * (to.x - from.x) + (to.y - from.y) * (to.y - from.y);
+    const int64_t apart = (w.b.x - w.a.x) * (w.b.x - w.a.x) + (w.b.y - w.a.y) * (w.b.y - w.a.y);
+    return w.code == HULL_MEETING || (w.code == HULL_POINTS ? apart * down * down <= up * up : over * over * down * down <= up * up * edge);
+}
+
+/* what is told of how two outlines stand to one another is what the slow ones tell; counts the relations */
+static int stands(const hull_point *a, size_t n, const hull_point *b, size_t m, int counts[6]) {
+    const hull_relation relation = slow_relation(a, n, b, m);
+    int same = number(hull_outline_relation(a, n, b, m), HULL_NUMBER, relation);
+    same &= number(hull_outline_contains_inside(a, n, b, m), HULL_NUMBER, lie_so(b, m, a, n, HULL_INSIDE) == m);
+    for (int64_t up = 0; up < 24; up += 5) {
+        for (int64_t down = 1; down < 4; down++) {
+            same &= number(hull_outline_within(a, n, b, m, (uint64_t)up, (uint32_t)down), HULL_NUMBER, slow_within(a, n, b, m, up, down));
+        }
+    }
+    counts[relation]++;
+    return same;
+}
+
 /* what is told of two outlines is so, as a caller can see by itself, and nothing stands beside it */
 static int shown(const hull_point *out, size_t count, const hull_point *others, size_t other_count, int *met) {
     const hull_witness w = hull_outline_witness(out, count, others, other_count), none = {w.code, w.a, w.b, {0, 0}, {0, 0}};
@@ -538,7 +602,7 @@ static void two_outlines(void) {
     static const hull_point shapes[][4] = {
         {{0, 0}, {3, -1}, {5, 2}, {1, 3}}, {{0, 0}, {8, 0}, {0, 6}}, {{0, 0}, {2, 1}}, {{0, 0}, {0, 4}}, {{0, 0}}};
     static const size_t counts[] = {4, 3, 2, 2, 1};
-    int same = 1, met = 0, tries = 0, near = 1, edges = 0;
+    int same = 1, met = 0, tries = 0, near = 1, edges = 0, stand = 1, relations[6] = {0};
     for (int i = 0; i < 5 * 5 * 23 * 23; i++, tries++) {
         const hull_point *out = shapes[i % 5];
         hull_point others[4];
@@ -548,13 +612,23 @@ static void two_outlines(void) {
         }
         same &= shown(out, counts[i % 5], others, counts[i / 5 % 5], &met);
         near &= nearest_told(out, counts[i % 5], others, counts[i / 5 % 5], &edges);
+        stand &= stands(out, counts[i % 5], others, counts[i / 5 % 5], relations);
     }
+    for (int i = 0; i < 6; i++) {
+        stand &= relations[i] > 0;
+    }
+    CHECK(stand);
     CHECK(same && met > 900 && met < tries - 900);
     CHECK(near && edges > 900 && edges < tries - met - 900);
     CHECK(number(hull_outline_meets(shapes[0], 0, shapes[1], 3), HULL_NUMBER, 0));
     CHECK(number(hull_outline_meets(shapes[0], 4, shapes[1], 0), HULL_NUMBER, 0));
     CHECK(number(hull_outline_contains(shapes[0], 0, shapes[1], 0), HULL_NUMBER, 1));
     CHECK(number(hull_outline_contains(shapes[0], 0, shapes[1], 1), HULL_NUMBER, 0));
+    CHECK(number(hull_outline_relation(shapes[0], 0, shapes[1], 0), HULL_NUMBER, HULL_RELATION_EQUAL));
+    CHECK(number(hull_outline_relation(shapes[0], 0, shapes[1], 3), HULL_NUMBER, HULL_RELATION_WITHIN));
+    CHECK(number(hull_outline_contains_inside(shapes[0], 0, shapes[1], 0), HULL_NUMBER, 1));
+    CHECK(number(hull_outline_within(shapes[0], 0, shapes[1], 3, 1u << 20, 1), HULL_NUMBER, 0));
+    CHECK(number(hull_outline_within(shapes[0], 4, shapes[1], 3, 1, 0), HULL_NUMBER, 1));
     CHECK(hull_outline_witness(shapes[0], 0, shapes[1], 3).code == HULL_EMPTY);
     CHECK(hull_outline_witness(shapes[0], 4, shapes[1], 0).code == HULL_EMPTY);
     CHECK(hull_outline_distance(shapes[0], 0, shapes[1], 3).code == HULL_EMPTY);

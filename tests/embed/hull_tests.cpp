@@ -119,6 +119,12 @@ static void two_outlines() {
     CHECK(within && within->shows == Shows::within && outline.contains(hull::Outline({within->a})));
     CHECK(apart && apart->shows == Shows::apart && apart->a == (Point{10, 10}) && apart->b == (Point{10, 0}));
     CHECK(crossing && crossing->shows == Shows::crossing && crossing->c == (Point{-5, 5}) && crossing->d == (Point{15, 6}));
+    const hull::Outline flush({{10, 3}, {14, 3}, {14, 5}});
+    using hull::Relation;
+    CHECK(outline.relation(small) == Relation::covers && small.relation(outline) == Relation::within && outline.relation(outline) == Relation::equal);
+    CHECK(outline.relation(beside) == Relation::apart && outline.relation(flush) == Relation::touching && outline.relation(across) == Relation::overlapping);
+    CHECK(outline.contains_inside(small) && !outline.contains_inside(outline) && !outline.contains_inside(flush));
+    CHECK(outline.within(beside, 2) && !outline.within(beside, 1999, 1000) && !outline.within(none, 1, 0));
     CHECK(!none.witness(outline) && !outline.witness(none) && !none.meets(outline) && outline.contains(none));
     using Where = hull::Distance::Where;
     const hull::Outline aside({{13, 5}});

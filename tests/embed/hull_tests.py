@@ -304,6 +304,18 @@ class Calls(unittest.TestCase):
         self.assertTrue(outline.meets(small) and outline.contains(small))
         self.assertFalse(small.contains(outline) or outline.meets(beside) or none.meets(outline) or none.contains(outline))
         self.assertTrue(outline.contains(none))
+        Relation, flush = hull_module.Relation, Outline([(10, 3), (14, 3), (14, 5)])
+        told = [outline.relation(other) for other in (small, beside, flush, across, outline)]
+        self.assertEqual(told, [Relation.COVERS, Relation.APART, Relation.TOUCHING, Relation.OVERLAPPING, Relation.EQUAL])
+        self.assertIs(small.relation(outline), Relation.WITHIN)
+        self.assertTrue(outline.contains_inside(small))
+        self.assertFalse(outline.contains_inside(outline) or outline.contains_inside(flush))
+        self.assertTrue(outline.within(beside, 2) and outline.within(beside, 2.0) and outline.within(beside, Fraction(2001, 1000)))
+        self.assertFalse(outline.within(beside, 1.999999) or outline.within(beside, Fraction(1999, 1000)) or outline.within(none, 5))
+        self.assertTrue(outline.within(beside, 2 ** 64) and not outline.within(none, 2 ** 64))
+        self.assertTrue(outline.within(beside, Fraction(2 ** 40 + 1, 2 ** 39)) and not outline.within(beside, Fraction(2 ** 40 - 1, 2 ** 39)))
+        for distance in (-1, float("nan"), float("inf")):
+            self.assertRaises(OutOfRange, outline.within, beside, distance)
         covered, within, crossing = outline.witness(small), small.witness(outline), outline.witness(across)
         self.assertTrue(covered.shows is Shows.COVERED and len(covered.points) == 1 and covered.points[0] in small.vertices())
         self.assertTrue(within.shows is Shows.WITHIN and within.points[0] in small.vertices())

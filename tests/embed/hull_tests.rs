@@ -1,5 +1,5 @@
 //! Each function of `rust/hull`, each of its answers and each of its faults.
-use hull::{direction_of, wkt, Distance, Fault, Held, Hull, Lattice, Nearest, Outline, Place, Point, Separation, Strip, Witness};
+use hull::{direction_of, wkt, Distance, Fault, Held, Hull, Lattice, Nearest, Outline, Place, Point, Relation, Separation, Strip, Witness};
 use hull::{Limits, SharedHull, COORDINATE_LIMIT, MULTIPLICITY_LIMIT, POINT_LIMIT};
 use std::alloc::{GlobalAlloc, Layout, System};
 use std::cell::Cell;
@@ -153,6 +153,13 @@ fn two_outlines() {
     assert!(matches!(outline.witness(&across), Some(Witness::Crossing(_, [p, q])) if across.corners() == [p, q]));
     assert_eq!((outline.witness(&none), none.witness(&outline), none.diameter()), (None, None, None));
     assert!(!none.meets(&outline) && outline.contains(&none) && !none.contains(&outline));
+    let flush = Outline::new(&[point(10, 3), point(14, 3), point(14, 5)]).unwrap();
+    let stand = |other: &Outline| (outline.relation(other), other.relation(&outline));
+    assert_eq!(stand(&small), (Relation::Covers, Relation::Within));
+    assert_eq!((stand(&beside), stand(&flush)), ((Relation::Apart, Relation::Apart), (Relation::Touching, Relation::Touching)));
+    assert_eq!((stand(&across), outline.relation(&outline)), ((Relation::Overlapping, Relation::Overlapping), Relation::Equal));
+    assert!(outline.contains_inside(&small) && !outline.contains_inside(&outline) && !outline.contains_inside(&flush));
+    assert!(outline.within(&beside, 2, 1) && !outline.within(&beside, 1999, 1000) && !outline.within(&none, 1, 0));
     let far = Outline::new(&[point(13, 5)]).unwrap();
     let edge = [point(10, 0), point(10, 10)];
     assert_eq!((outline.distance(&small), outline.distance(&none)), (Some(Distance::Zero), None));

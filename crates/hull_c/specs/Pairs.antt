@@ -7,7 +7,12 @@ use Rattle.hull_outline.specs.Closest.{IsDistance}
 use Rattle.hull_outline.specs.Extents.{IsLeastWidth, IsOnePoint}
 use Rattle.hull_outline.specs.Meetings.{TellsMeeting}
 use Rattle.hull_outline.specs.Outlines.{HoldsOfBoth, HoldsOfSetsOf}
+use Rattle.hull_outline.specs.Ranges.{TellsWithin}
+use Rattle.hull_outline.specs.Relations.{HoldsInside, IsRelation}
 use Rattle.hull_outline.specs.Witnesses.{IsWitness}
+use Rattle.hull_outline.specs.declared.ranges.Length.{Length}
+use Rattle.hull_outline.specs.declared.relations.Relation.{Relation}
+use Rattle.hull_outline.specs.declared.relations.Relation.TheVariants as relation
 use Rattle.hull_outline.specs.declared.distance.Distance.{Distance}
 use Rattle.hull_outline.specs.declared.distance.Distance.TheVariants as distance
 use Rattle.hull_outline.specs.declared.meetings.Meeting.TheVariants as meeting
@@ -32,6 +37,33 @@ abbrev pub TellsContains : List Pair → List Pair → HullReply → Type 0
 TellsContains corners others told =
     (holds : Bool) × IsNumber code.Number (cond holds 1 0) told
     × HoldsOfBoth corners others (λ S T. IsTrue holds ↔ Holds S T)
+
+-- the number of a relation
+abbrev pub relation_number : Relation → ℕ
+relation_number relation.Apart = 0
+relation_number relation.Touching = 1
+relation_number relation.Overlapping = 2
+relation_number relation.Within = 3
+relation_number relation.Covers = 4
+relation_number relation.Equal = 5
+
+-- how the first stands to the second, by its number
+abbrev pub TellsRelation : List Pair → List Pair → HullReply → Type 0
+TellsRelation corners others told =
+    (found : Relation) × IsNumber code.Number (relation_number found) told
+    × HoldsOfBoth corners others (λ S T. IsRelation S T found)
+
+-- whether whatever the second covers lies inside the first: 1 or 0
+abbrev pub TellsContainsInside : List Pair → List Pair → HullReply → Type 0
+TellsContainsInside corners others told =
+    (holds : Bool) × IsNumber code.Number (cond holds 1 0) told
+    × HoldsOfBoth corners others (λ S T. IsTrue holds ↔ HoldsInside S T)
+
+-- whether they are within a length of one another: 1 or 0
+abbrev pub TellsWhetherWithin : List Pair → List Pair → Length → HullReply → Type 0
+TellsWhetherWithin corners others length told =
+    (is_within : Bool) × IsNumber code.Number (cond is_within 1 0) told
+    × HoldsOfBoth corners others (λ S T. TellsWithin is_within length S T)
 
 -- a number of a code or a finding, with four points
 abbrev pub IsShown : ℕ → Pair → Pair → Pair → Pair → HullWitness → Type 0

@@ -19,7 +19,8 @@ ghost use Rattle.hull_c.specs.Bridges.{AreBridges};
 ghost use Rattle.hull_c.specs.CornersOf.{TellsCornersOf};
 ghost use Rattle.hull_c.specs.Findings.{IsToldAlong, IsToldOf, TellsBox, TellsDiameter, TellsNearest, TellsParting};
 ghost use Rattle.hull_c.specs.Findings.{TellsWhether, TellsWidth};
-ghost use Rattle.hull_c.specs.Pairs.{TellsContains, TellsDistance, TellsLeastWidth, TellsMeets, TellsWitness};
+ghost use Rattle.hull_c.specs.Pairs.{TellsContains, TellsContainsInside, TellsDistance, TellsLeastWidth, TellsMeets};
+ghost use Rattle.hull_c.specs.Pairs.{TellsRelation, TellsWhetherWithin, TellsWitness};
 ghost use Rattle.hull_c.specs.Held.{AreLoaded, IsListed};
 ghost use Rattle.hull_c.specs.Left.{leaves_room};
 ghost use Rattle.hull_c.specs.Loads.{IsLoaded};
@@ -38,16 +39,19 @@ mod load;
 mod outline;
 mod pairs;
 mod requests;
+mod threads;
 
 pub use bridges::HullBridge;
 use heap::Heap;
 pub use held::HullHeld;
+use hull_outline::Length;
 pub use hull_reply::HullPoint;
 use hull_reply::HullReply;
 use hull_tree::SparingTree;
 use lattice::Point;
 pub use pairs::HullWitness;
 pub use requests::HullRequest;
+pub use threads::hulls_go_to_any_thread;
 
 /// Makes the call that a kind and two numbers ask for: a point or a direction, or nothing of them.
 ///
@@ -326,6 +330,48 @@ pub extern "C" fn hull_outline_witness(corners: &[Point], others: &[Point]) -> H
     ensures { TellsWitness corners.now others.now result }
 {
     pairs::witness(corners, others)
+}
+
+/// How the hull of an array of corners stands to that of another one: 0 where they are apart, 1 where they touch, 2 where they
+/// overlap, 3 where the first is within the second, 4 where it covers that, 5 where they are equal.
+#[unsafe(no_mangle)]
+pub extern "C" fn hull_outline_relation(corners: &[Point], others: &[Point]) -> HullReply
+    requires this { IsShortOutline corners.now }
+    requires that { IsShortOutline others.now }
+    ensures { TellsRelation corners.now others.now result }
+{
+    pairs::relation(corners, others)
+}
+
+/// Tells whether all of the hull of the second array of corners lies inside that of the first, with no point of it on the
+/// boundary: 1, or 0.
+#[unsafe(no_mangle)]
+pub extern "C" fn hull_outline_contains_inside(corners: &[Point], others: &[Point]) -> HullReply
+    requires this { IsShortOutline corners.now }
+    requires that { IsShortOutline others.now }
+    ensures { TellsContainsInside corners.now others.now result }
+{
+    pairs::contains_inside(corners, others)
+}
+
+/// Tells whether the hulls of two arrays of corners are no farther apart than `numerator / denominator`: 1, or 0, also where
+/// one is empty. With the denominator 0 the length is longer than any distance.
+#[unsafe(no_mangle)]
+pub extern "C" fn hull_outline_within(
+    corners: &[Point],
+    others: &[Point],
+    numerator: u64,
+    denominator: u32,
+) -> HullReply
+    requires this { IsShortOutline corners.now }
+    requires that { IsShortOutline others.now }
+    ensures { TellsWhetherWithin corners.now others.now (record { numerator = numerator; denominator = denominator }) result }
+{
+    let length = Length {
+        numerator,
+        denominator,
+    };
+    pairs::is_within(corners, others, length)
 }
 
 /// How far the hulls of two arrays of corners are apart: where they are nearest to one another.

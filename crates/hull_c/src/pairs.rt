@@ -5,10 +5,11 @@ ghost use Rattle.hull_outline.specs.Outlines.{IsShortOutline};
 ghost use Rattle.hull_outline.specs.declared.witnesses.Witness.TheVariants as witness;
 ghost use Rattle.hull_c.specs.Findings.{finding_number};
 ghost use Rattle.hull_c.specs.Pairs.{IsDistanceTold, IsShown, IsStripTold, IsWitnessTold};
-ghost use Rattle.hull_c.specs.Pairs.{TellsContains, TellsDistance, TellsLeastWidth, TellsMeets, TellsWitness};
+ghost use Rattle.hull_c.specs.Pairs.{TellsContains, TellsContainsInside, TellsDistance, TellsLeastWidth, TellsMeets};
+ghost use Rattle.hull_c.specs.Pairs.{TellsRelation, TellsWhetherWithin, TellsWitness, relation_number};
 
 use super::findings::Finding;
-use hull_outline::{Distance, Meeting, Outline, Separation, Strip, Witness};
+use hull_outline::{Distance, Length, Meeting, Outline, Relation, Separation, Strip, Witness};
 use hull_reply::{Code, HullReply};
 use lattice::Point;
 
@@ -146,6 +147,50 @@ pub(crate) fn contains(corners: &[Point], others: &[Point]) -> HullReply
 {
     let holds = Outline::of_vertices(corners).contains(&Outline::of_vertices(others));
     HullReply::numbered(Code::Number, u64::from(holds))
+}
+
+/// The number of the header for how one outline stands to another.
+fn number_of(relation: Relation) -> u64
+    ensures { result ≡ relation_number relation }
+{
+    match relation {
+        Relation::Apart => 0,
+        Relation::Touching => 1,
+        Relation::Overlapping => 2,
+        Relation::Within => 3,
+        Relation::Covers => 4,
+        Relation::Equal => 5,
+    }
+}
+
+/// How the first outline stands to the second.
+pub(crate) fn relation(corners: &[Point], others: &[Point]) -> HullReply
+    requires this { IsShortOutline corners.now }
+    requires that { IsShortOutline others.now }
+    ensures { TellsRelation corners.now others.now result }
+{
+    let found = Outline::of_vertices(corners).relation(&Outline::of_vertices(others));
+    HullReply::numbered(Code::Number, number_of(found))
+}
+
+/// Whether all of the second outline lies inside the first.
+pub(crate) fn contains_inside(corners: &[Point], others: &[Point]) -> HullReply
+    requires this { IsShortOutline corners.now }
+    requires that { IsShortOutline others.now }
+    ensures { TellsContainsInside corners.now others.now result }
+{
+    let holds = Outline::of_vertices(corners).contains_inside(&Outline::of_vertices(others));
+    HullReply::numbered(Code::Number, u64::from(holds))
+}
+
+/// Whether two outlines are within a length of one another.
+pub(crate) fn is_within(corners: &[Point], others: &[Point], length: Length) -> HullReply
+    requires this { IsShortOutline corners.now }
+    requires that { IsShortOutline others.now }
+    ensures { TellsWhetherWithin corners.now others.now length result }
+{
+    let is_within = Outline::of_vertices(corners).is_within(&Outline::of_vertices(others), length);
+    HullReply::numbered(Code::Number, u64::from(is_within))
 }
 
 /// A finding with two points.

@@ -22,7 +22,7 @@ pub third_of_three : (x y z : ℤ) → x +ℤ (y +ℤ z) ≡ pos 0 → pos 0 ≤
 third_of_three x y z e hx hy hz = omega (arith, ints)
 
 -- a product with nothing
-nothing_times : (k z : ℤ) → k ≡ pos 0 → k *ℤ z ≡ pos 0
+pub nothing_times : (k z : ℤ) → k ≡ pos 0 → k *ℤ z ≡ pos 0
 nothing_times k z e = ap (λ (x : ℤ). x *ℤ z) e ∙ omega (arith, ints)
 
 -- three sums of products that are nothing, where only x can be below 0 or above it: it is not above

@@ -27,7 +27,7 @@ use Rattle.hull_outline.proofs.Diameters.{distance_turned}
 -- ---- a set that is magnified
 
 -- how far a point lies that is k times as far out
-times_along : (k : ℤ) (d p : Pair)
+pub times_along : (k : ℤ) (d p : Pair)
     → product d record { x = k *ℤ p.x; y = k *ℤ p.y } ≡ k *ℤ product d p
 unfolding product
 times_along k d p =
@@ -43,7 +43,7 @@ times_le k x y h l = omega (arith, ints, apart k x y, product_nn k (y -ℤ x) h 
         (simp difference_rules (difference-eq _ _ _ _ (omega arith)))
 
 -- what the magnified set covers lies no farther than so many times the farthest
-magnified_near : (S : List Pair) (d s p : Pair) (k : ℕ) → IsFarthest S d s → Covers (magnified k S) p
+pub magnified_near : (S : List Pair) (d s p : Pair) (k : ℕ) → IsFarthest S d s → Covers (magnified k S) p
     → product d p ≤ℤ (pos k *ℤ product d s)
 magnified_near S d s p k f c = covered_near (magnified k S) d p (pos k *ℤ product d s) near c
   where

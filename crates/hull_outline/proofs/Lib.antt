@@ -34,3 +34,6 @@ pub mod Gaps
 pub mod Rivals
 pub mod Closest
 pub mod FarApart
+pub mod DividingAxes
+pub mod Dividing
+pub mod Insides

@@ -99,7 +99,7 @@ turn_at S V j h l many =
     (corners_apart S V j a.0 h l a.1 (omega (arith, a.2, many)))))
 
 -- of two corners, or of one, the one before is the one behind
-same_beside : (V : List Pair) (j : ℕ) → j < length V → length V ≤ 2 → previous V j ≡ corner V (j + 1)
+pub same_beside : (V : List Pair) (j : ℕ) → j < length V → length V ≤ 2 → previous V j ≡ corner V (j + 1)
 same_beside V j l few =
     let b = previous_at V j l in
     let a = next_at V j l in

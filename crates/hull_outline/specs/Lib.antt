@@ -14,3 +14,5 @@ pub mod Witnesses
 pub mod Extents
 pub mod Wide
 pub mod Closest
+pub mod Relations
+pub mod Ranges

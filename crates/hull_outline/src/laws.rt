@@ -2,6 +2,7 @@
 ghost use Rattle.hull_outline.specs.Closest.{NoneCloser};
 ghost use Rattle.hull_outline.specs.Meetings.{NeverBoth};
 ghost use Rattle.hull_outline.specs.Nearest.{NoneNearerThanCorner, NoneNearerThanEdge};
+ghost use Rattle.hull_outline.specs.Relations.{NoneInsideDivided};
 
 /// No two sets of points both meet and are apart.
 pub fn never_both()
@@ -23,4 +24,10 @@ pub fn none_nearer_than_edge()
 /// quotient that [`Outline::distance`](crate::Outline::distance) names is at most their squared distance.
 pub fn none_closer()
     ensures { NoneCloser }
+{}
+
+/// Where a line divides two hulls, nothing that lies inside the one is covered by the other, also nothing between whole
+/// numbers: hulls that touch have their boundaries in common at most.
+pub fn none_inside_divided()
+    ensures { NoneInsideDivided }
 {}

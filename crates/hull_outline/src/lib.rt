@@ -6,8 +6,8 @@
 //! [`Outline::place`], [`Outline::extreme`], [`Outline::tangents`], [`Outline::nearest`], [`Outline::meets_segment`],
 //! [`Outline::apart_from_segment`], [`Outline::bounding_box`] and [`Outline::width_along`] take a number of steps that
 //! grows with the logarithm of the corners' number, [`Outline::contains`], [`Outline::meets`], [`Outline::witness`],
-//! [`Outline::distance`], [`Outline::diameter`] and [`Outline::least_width`] as many for each corner at most, and
-//! [`Outline::area2`] and [`is_outline`] one pass. No memory is asked for.
+//! [`Outline::relation`], [`Outline::distance`], [`Outline::diameter`] and [`Outline::least_width`] as many for each corner at
+//! most, and [`Outline::area2`] and [`is_outline`] one pass. No memory is asked for.
 //!
 //! # A worked example
 //!
@@ -34,7 +34,9 @@ mod meetings;
 mod nearest;
 mod outline;
 mod place;
+mod ranges;
 mod ratios;
+mod relations;
 mod rounds;
 mod separations;
 mod sights;
@@ -45,10 +47,14 @@ mod widths;
 mod witnesses;
 
 pub use distance::Distance;
-pub use laws::{never_both, none_closer, none_nearer_than_corner, none_nearer_than_edge};
+pub use laws::{
+    never_both, none_closer, none_inside_divided, none_nearer_than_corner, none_nearer_than_edge,
+};
 pub use meetings::Meeting;
 pub use nearest::Nearest;
 pub use outline::Outline;
+pub use ranges::Length;
+pub use relations::Relation;
 pub use rounds::is_outline;
 pub use separations::Separation;
 pub use strips::Strip;

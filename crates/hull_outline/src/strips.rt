@@ -28,7 +28,7 @@ pub struct Strip {
 }
 
 /// A number that is not below 0.
-fn natural(number: i128) -> u128
+pub(crate) fn natural(number: i128) -> u128
     requires above { pos 0 ≤ℤ number }
     requires within { IsWithin widest_side number }
     ensures value { pos result ≡ number }
@@ -38,7 +38,7 @@ fn natural(number: i128) -> u128
 }
 
 /// The square of the distance of two points.
-fn length_of(a: Point, b: Point) -> u128
+pub(crate) fn length_of(a: Point, b: Point) -> u128
     ensures value { pos result ≡ plane.distance_squared a b }
     ensures size { result ≤ widest_side }
 {

@@ -55,6 +55,23 @@ pub enum Nearest {
     Edge(Point, Point),
 }
 
+/// How one outline stands to another.
+#[derive(Clone, Copy, Debug, PartialEq, Eq)]
+pub enum Relation {
+    /// They have no point in common.
+    Apart,
+    /// They have, and a line has them on its two sides: nothing inside the one is covered by the other.
+    Touching,
+    /// They have, and no line has them on its two sides.
+    Overlapping,
+    /// The other one covers whatever this one covers, and not the other way.
+    Within,
+    /// This one covers whatever the other one covers, and not the other way.
+    Covers,
+    /// Each covers the other.
+    Equal,
+}
+
 /// A strip that holds an outline, between the line of an edge and its parallel through a corner farthest from it. Its width is the
 /// side of that corner, up to 84 bits, divided by the length of the edge.
 #[derive(Clone, Copy, Debug, PartialEq, Eq)]
@@ -280,6 +297,35 @@ impl Outline {
         let (these, those) = (&self.corners, &other.corners);
         // SAFETY: the same.
         unsafe { raw::hull_outline_contains(these.as_ptr(), these.len(), those.as_ptr(), those.len()) }.number == 1
+    }
+
+    /// How this outline stands to the other one.
+    pub fn relation(&self, other: &Outline) -> Relation {
+        let (these, those) = (&self.corners, &other.corners);
+        // SAFETY: the same.
+        match unsafe { raw::hull_outline_relation(these.as_ptr(), these.len(), those.as_ptr(), those.len()) }.number {
+            0 => Relation::Apart,
+            1 => Relation::Touching,
+            2 => Relation::Overlapping,
+            3 => Relation::Within,
+            4 => Relation::Covers,
+            _ => Relation::Equal,
+        }
+    }
+
+    /// Whether all of the other outline lies inside this one, with no point of it on the boundary.
+    pub fn contains_inside(&self, other: &Outline) -> bool {
+        let (these, those) = (&self.corners, &other.corners);
+        // SAFETY: the same.
+        unsafe { raw::hull_outline_contains_inside(these.as_ptr(), these.len(), those.as_ptr(), those.len()) }.number == 1
+    }
+
+    /// Whether the two outlines are no farther apart than `numerator / denominator`, exactly; false where one of them has no corners.
+    /// A length with the denominator 0 is longer than any distance.
+    pub fn within(&self, other: &Outline, numerator: u64, denominator: u32) -> bool {
+        let (these, those) = (&self.corners, &other.corners);
+        // SAFETY: the same.
+        unsafe { raw::hull_outline_within(these.as_ptr(), these.len(), those.as_ptr(), those.len(), numerator, denominator) }.number == 1
     }
 
     /// Where the two outlines meet, or what parts them; `None` where one of them has no corners.

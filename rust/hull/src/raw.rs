@@ -196,6 +196,16 @@ extern "C" {
     pub(crate) fn hull_outline_least_width(corners: *const Point, count: usize) -> WitnessTold;
     pub(crate) fn hull_outline_meets(corners: *const Point, count: usize, others: *const Point, other_count: usize) -> Reply;
     pub(crate) fn hull_outline_contains(corners: *const Point, count: usize, others: *const Point, other_count: usize) -> Reply;
+    pub(crate) fn hull_outline_relation(corners: *const Point, count: usize, others: *const Point, other_count: usize) -> Reply;
+    pub(crate) fn hull_outline_contains_inside(corners: *const Point, count: usize, others: *const Point, other_count: usize) -> Reply;
+    pub(crate) fn hull_outline_within(
+        corners: *const Point,
+        count: usize,
+        others: *const Point,
+        other_count: usize,
+        numerator: u64,
+        denominator: u32,
+    ) -> Reply;
     pub(crate) fn hull_outline_witness(
         corners: *const Point,
         count: usize,

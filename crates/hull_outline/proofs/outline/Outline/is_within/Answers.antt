@@ -1,0 +1,28 @@
+-- a distance that is told is within the length or not; where none is told one of the two is empty
+use Rattle.std.proofs.Common.{◌≡◌, Bool, true, false, List, [], inl, inr, refl}
+use Rattle.std.specs.Prelude.{IsTrue, ◌↔◌, ◌⊎◌}
+use Rattle.lattice.specs.Plane.{Pair}
+use Rattle.hull_outline.specs.Closest.{IsDistance}
+use Rattle.hull_outline.specs.Ranges.{IsNoFarther, TellsWithin}
+use Rattle.hull_outline.specs.declared.distance.Distance.{Distance}
+use Rattle.hull_outline.specs.declared.ranges.Length.{Length}
+use Rattle.hull_outline.proofs.Tests.{passed, failed}
+use Rattle.hull_outline.proofs.outline.Outline.is_within.Goals as goal
+
+-- what a test of a distance tells of the two sets
+told : (r : Bool) (length : Length) (S T : List Pair) (found : Distance) → IsDistance S T found
+    → (IsTrue r ↔ IsNoFarther found length) → TellsWithin r length S T
+told true length S T found d h = (found, d, passed true _ refl h)
+told false length S T found d h = inr (inr (found, d, failed false _ refl h))
+
+-- of two sets one is empty
+empty : (S T : List Pair) → (S ≡ []) ⊎ (T ≡ []) → (length : Length) → TellsWithin false length S T
+empty S T (inl e) length = inl e
+empty S T (inr e) length = inr (inl e)
+
+pub returns-in-Some : goal.returns-in-Some
+returns-in-Some c = λ S o T t.
+    told c.is_within.result c.args.length S T c.in-Some.distance (c.in-Some.ensures S o T t) c.is_within.ensures
+
+pub returns-in-None : goal.returns-in-None
+returns-in-None c = λ S o T t. empty S T (c.in-None.ensures S o T t) c.args.length

@@ -1,0 +1,9 @@
+-- on the boundary and outside are the two ways of not lying inside
+use Rattle.std.proofs.Common.{arith}
+use Rattle.hull_outline.proofs.outline.Outline.lies_inside.Goals as goal
+
+pub returns-in-On : goal.returns-in-On
+returns-in-On c = λ S o. (λ t. absurd (grind (arith, t)), λ k. absurd (k.1 (c.in-On.ensures S o).1))
+
+pub returns-in-Outside : goal.returns-in-Outside
+returns-in-Outside c = λ S o. (λ t. absurd (grind (arith, t)), λ k. absurd (c.in-Outside.ensures S o k.0))

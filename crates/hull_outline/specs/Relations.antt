@@ -1,0 +1,55 @@
+-- How the hulls of two finite sets of points stand to one another. A line divides them where each lies on a side of its own;
+-- both may touch it.
+use Rattle.std.specs.Prelude.{ℕ, ◌+◌, ◌<◌, pos, ◌<ℤ◌, ◌≤ℤ◌, List, length, Bool, true, false}
+use Rattle.std.specs.List.{Contains}
+use Rattle.lattice.specs.Plane.{Pair, orient, product, IsZero}
+use Rattle.lattice.specs.Covers.{Covers}
+use Rattle.lattice.specs.Places.{IsInside}
+use Rattle.hull_outline.specs.Boxes.{Holds}
+use Rattle.hull_outline.specs.Closest.{magnified}
+use Rattle.hull_outline.specs.Meetings.{IsApart, Meets}
+use Rattle.hull_outline.specs.Rounds.{corner}
+use Rattle.hull_outline.specs.declared.relations.Relation.{Relation}
+use Rattle.hull_outline.specs.declared.relations.Relation.TheVariants as relation
+
+-- in the direction d no point of S lies farther than one of T
+abbrev pub Divides : Pair → List Pair → List Pair → Type 0
+Divides d S T = (s t : Pair) → Contains S s → Contains T t → product d s ≤ℤ product d t
+
+-- in some direction, of whole numbers of any size: a line across it divides S from T
+abbrev pub AreDivided : List Pair → List Pair → Type 0
+AreDivided S T = (d : Pair) × ¬ IsZero d × Divides d S T
+
+-- neither holds the other
+abbrev pub HoldsNeither : List Pair → List Pair → Type 0
+HoldsNeither S T = ¬ Holds S T × ¬ Holds T S
+
+-- how S stands to T
+abbrev pub IsRelation : List Pair → List Pair → Relation → Type 0
+IsRelation S T relation.Equal = Holds S T × Holds T S
+IsRelation S T relation.Covers = Holds S T × ¬ Holds T S
+IsRelation S T relation.Within = ¬ Holds S T × Holds T S
+IsRelation S T relation.Apart = HoldsNeither S T × IsApart S T
+IsRelation S T relation.Touching = HoldsNeither S T × Meets S T × AreDivided S T
+IsRelation S T relation.Overlapping = HoldsNeither S T × Meets S T × ¬ AreDivided S T
+
+-- whatever T covers lies inside S, and none of it on the boundary
+abbrev pub HoldsInside : List Pair → List Pair → Type 0
+HoldsInside S T = (q : Pair) → Covers T q → IsInside S q
+
+-- where a line divides two sets, nothing that lies inside the one is covered by the other: also nothing of fractions, which
+-- are whole numbers in sets k times as large
+abbrev pub NoneInsideDivided : Type 0
+NoneInsideDivided =
+    (S T : List Pair) (k : ℕ) (q : Pair) → AreDivided S T → IsInside (magnified k S) q → ¬ Covers (magnified k T) q
+
+-- ---- along the edges
+
+-- of each edge of the corners V, some point of T lies on the left
+abbrev pub IsLeftOfEach : List Pair → List Pair → Type 0
+IsLeftOfEach V T = (i : ℕ) → i < length V → (t : Pair) × Contains T t × (pos 0 <ℤ orient (corner V i) (corner V (i + 1)) t)
+
+-- an edge has T on its right, or on its line, and so divides T from S; or each has a point of T on its left
+abbrev pub TellsEdge : Bool → List Pair → List Pair → List Pair → Type 0
+TellsEdge true S V T = AreDivided T S
+TellsEdge false S V T = IsLeftOfEach V T

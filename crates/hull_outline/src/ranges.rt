@@ -1,0 +1,92 @@
+//! Whether two hulls are within a length of one another: with no division and no root, so exactly.
+ghost use Rattle.std.specs.Prelude.{◌≡◌, ◌↔◌, IsTrue, ◌<◌, ◌≤◌, ◌*◌, pos, ◌*ℤ◌};
+ghost use Rattle.lattice.specs.Plane as plane;
+ghost use Rattle.lattice.specs.Plane.{widest_side};
+ghost use Rattle.hull_outline.specs.Outlines.{HoldsOfBoth};
+ghost use Rattle.hull_outline.specs.Ranges.{IsNoFarther, TellsWithin};
+ghost use Rattle.hull_outline.specs.Lent.{corners_of};
+
+use super::distance::Distance;
+use super::outline::Outline;
+use super::ratios::is_less_ratio;
+use super::strips::{length_of, natural};
+use lattice::{Point, orient};
+
+/// A length: the quotient of two numbers. With the denominator 0 it is longer than any distance.
+#[derive(Clone, Copy, PartialEq, Eq, Debug)]
+pub struct Length {
+    /// So many units,
+    pub numerator: u64,
+    /// divided by this.
+    pub denominator: u32,
+}
+
+/// How far `t` lies beside the line from `a` to `b`, by the distance of the two.
+fn distance_beside(a: Point, b: Point, t: Point) -> u128
+    ensures value { pos result *ℤ pos result ≡ plane.orient a b t *ℤ plane.orient a b t }
+    ensures size { result ≤ widest_side }
+{
+    let side = orient(a, b, t);
+    if side < 0 {
+        natural(-side)
+    } else {
+        natural(side)
+    }
+}
+
+impl Length {
+    /// Whether the square of a distance is more than that of the length.
+    fn is_passed_by_square(self, square: u128) -> bool
+        requires { square ≤ widest_side }
+        ensures { IsTrue result ↔ (self.numerator * self.numerator < self.denominator * self.denominator * square) }
+    {
+        is_less_ratio(
+            u128::from(self.numerator),
+            square,
+            u128::from(self.denominator),
+            1,
+        )
+    }
+
+    /// Whether the square of `side`, divided by `edge`, is more than that of the length.
+    fn is_passed_by_quotient(self, side: u128, edge: u128) -> bool
+        requires side { side ≤ widest_side }
+        requires edge { edge ≤ widest_side }
+        ensures { IsTrue result
+            ↔ (self.numerator * self.numerator * edge < side * side * (self.denominator * self.denominator)) }
+    {
+        let squared = u128::from(self.denominator) * u128::from(self.denominator);
+        is_less_ratio(u128::from(self.numerator), squared, side, edge)
+    }
+}
+
+impl Distance {
+    /// Whether this distance is at most that length. Squares are compared, by products of 252 bits.
+    pub fn is_within(&self, length: Length) -> bool
+        ensures { IsTrue result ↔ IsNoFarther self.now length }
+    {
+        match *self {
+            Distance::Zero => true,
+            Distance::Corners(c, d) => !length.is_passed_by_square(length_of(c, d)),
+            Distance::CornerAndEdge(c, a, b) => {
+                !length.is_passed_by_quotient(distance_beside(a, b, c), length_of(a, b))
+            }
+            Distance::EdgeAndCorner(a, b, d) => {
+                !length.is_passed_by_quotient(distance_beside(a, b, d), length_of(a, b))
+            }
+        }
+    }
+}
+
+impl<'a> Outline<'a> {
+    /// Whether this hull and `other` are no farther apart than that length; false where either is empty. As
+    /// [`Outline::distance`].
+    pub fn is_within(&self, other: &Outline, length: Length) -> bool
+        ensures { HoldsOfBoth (corners_of self.now) (corners_of other.now) (λ S T. TellsWithin result length S T) }
+    {
+        match self.distance(other) {
+            Some(distance) => distance.is_within(length),
+            None => false,
+        }
+    }
+}

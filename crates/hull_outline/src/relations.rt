@@ -1,0 +1,121 @@
+//! How two hulls stand to one another: apart, touching, overlapping, one within the other, or equal.
+ghost use Rattle.std.specs.Prelude.{◌↔◌, IsTrue, ◌<◌, length, pos, ◌<ℤ◌};
+ghost use Rattle.lattice.specs.Plane as plane;
+ghost use Rattle.hull_outline.specs.Outlines.{HoldsOfBoth, HoldsOfSetsOf};
+ghost use Rattle.lattice.specs.Places.{IsInside};
+ghost use Rattle.hull_outline.specs.Relations.{AreDivided, HoldsInside, HoldsNeither, IsRelation, TellsEdge};
+ghost use Rattle.hull_outline.specs.Lent.{corners_of};
+
+use super::extreme::farthest;
+use super::outline::Outline;
+use super::rounds::corner_at;
+use super::vector::Vector;
+use hull_set::Place;
+use lattice::{Point, orient};
+
+/// How one hull stands to another: the first of these that is so, from the last to the first.
+#[derive(Clone, Copy, PartialEq, Eq, Debug)]
+pub enum Relation {
+    /// They have no point in common.
+    Apart,
+    /// They have a point in common, and a line divides them: nothing that lies inside the one is covered by the other.
+    Touching,
+    /// They have a point in common, and no line divides them.
+    Overlapping,
+    /// The other hull holds this one, which does not hold the other.
+    Within,
+    /// This hull holds the other one, which does not hold this.
+    Covers,
+    /// Each holds the other.
+    Equal,
+}
+
+/// Whether `t` lies left of the line from `a` to `b`.
+fn is_left(a: Point, b: Point, t: Point) -> bool
+    ensures { IsTrue result ↔ (pos 0 <ℤ plane.orient a b t) }
+{
+    orient(a, b, t) > 0
+}
+
+impl<'a> Outline<'a> {
+    /// Whether an edge of this hull, of two corners at least, has all of `other` on its right or on its line. A bisection for
+    /// each edge.
+    fn has_dividing_edge(&self, other: &Outline) -> bool
+        requires this { 1 < length (corners_of self.now) }
+        requires that { 0 < length (corners_of other.now) }
+        ensures { HoldsOfBoth (corners_of self.now) (corners_of other.now)
+            (λ S T. TellsEdge result S (corners_of self.now) T) }
+    {
+        for i in 0..self.corners.len() {
+            let (a, b) = (corner_at(self.corners, i), corner_at(self.corners, i + 1));
+            let nearest = farthest(other.corners, other.last, Vector::left_of(a, b));
+            if !is_left(a, b, nearest) {
+                return true;
+            }
+        }
+        false
+    }
+
+    /// Whether a line divides this hull from `other`; both have two corners at least.
+    ///
+    /// Where one does, an edge of one of them does: a line turned round the point where they touch comes to an edge first.
+    fn is_divided(&self, other: &Outline) -> bool
+        requires this { 1 < length (corners_of self.now) }
+        requires that { 1 < length (corners_of other.now) }
+        ensures { HoldsOfBoth (corners_of self.now) (corners_of other.now) (λ S T. IsTrue result ↔ AreDivided S T) }
+    {
+        self.has_dividing_edge(other) || other.has_dividing_edge(self)
+    }
+
+    /// How this hull stands to `other`, neither of which holds the other.
+    fn relation_of_neither(&self, other: &Outline) -> Relation
+        requires neither { HoldsOfBoth (corners_of self.now) (corners_of other.now) (λ S T. HoldsNeither S T) }
+        ensures { HoldsOfBoth (corners_of self.now) (corners_of other.now) (λ S T. IsRelation S T result) }
+    {
+        if !self.meets(other) {
+            Relation::Apart
+        } else if self.is_divided(other) {
+            Relation::Touching
+        } else {
+            Relation::Overlapping
+        }
+    }
+
+    /// How this hull stands to `other`. A bisection for each corner of both, a question of a segment for each edge of
+    /// `other`, and where they meet a bisection for each edge of both. The empty hull is within every other one.
+    pub fn relation(&self, other: &Outline) -> Relation
+        ensures { HoldsOfBoth (corners_of self.now) (corners_of other.now) (λ S T. IsRelation S T result) }
+    {
+        match (self.contains(other), other.contains(self)) {
+            (true, true) => Relation::Equal,
+            (true, false) => Relation::Covers,
+            (false, true) => Relation::Within,
+            (false, false) => self.relation_of_neither(other),
+        }
+    }
+
+    /// Whether `q` lies inside.
+    fn lies_inside(&self, q: Point) -> bool
+        ensures { HoldsOfSetsOf (corners_of self.now) (λ S. IsTrue result ↔ IsInside S q) }
+    {
+        match self.place(q) {
+            Place::Inside => true,
+            Place::On => false,
+            Place::Outside => false,
+        }
+    }
+
+    /// Whether all of `other` lies inside this hull, with no point of it on the boundary. A bisection for each corner of
+    /// `other`.
+    pub fn contains_inside(&self, other: &Outline) -> bool
+        ensures { HoldsOfBoth (corners_of self.now) (corners_of other.now) (λ S T. IsTrue result ↔ HoldsInside S T) }
+    {
+        for i in 0..other.corners.len() {
+            let corner = other.corners[i];
+            if !self.lies_inside(corner) {
+                return false;
+            }
+        }
+        true
+    }
+}

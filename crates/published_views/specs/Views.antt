@@ -1,0 +1,54 @@
+-- Halls, boards that are published in one, and who was told of it.
+use Rattle.std.specs.Prelude.{◌≡◌, ℕ, ◌/◌, List, length}
+use Rattle.std.specs.Arc.{arc_value}
+use Rattle.published_views.specs.Numbers.{told_word}
+use Rattle.published_views.specs.declared.TheConstants.{SLOT_LIMIT}
+use Rattle.published_views.specs.declared.board.Board.{Board}
+use Rattle.published_views.specs.declared.board.Truth.{Ghosts}
+use Rattle.published_views.specs.declared.hall.Hall.{Hall}
+use Rattle.published_views.specs.declared.history.Front.{Front}
+use Rattle.published_views.specs.declared.history.History.{History}
+use Rattle.published_views.specs.declared.newest.Newest.{Newest}
+use Rattle.published_views.specs.declared.newest.Told.{Told}
+use Rattle.published_views.specs.declared.publisher.Publisher.{Publisher}
+
+-- the lines that were seen
+abbrev pub seen_lines : {L : Type 0} → Front L → List L
+seen_lines front = front.seen.log
+
+-- they are of this history
+abbrev pub IsFrontOf : {L : Type 0} → History L → Front L → Type 0
+IsFrontOf history front = front.seen.book ≡ history.length.book
+
+-- two beginnings of one history
+abbrev pub AreOfOneHistory : {L : Type 0} → Front L → Front L → Type 0
+AreOfOneHistory front other = front.seen.book ≡ other.seen.book
+
+-- who was told of this word
+abbrev pub IsToldOfWord : Newest → Told → Type 0
+IsToldOfWord newest told = told.seen.book ≡ newest.word.book
+
+module _ {T L V : Type 0} {K : Ghosts T L V} where
+  -- the lines behind which the value of a board is true
+  abbrev pub lines_of : Board T L V K → List L
+  lines_of board = seen_lines board.front
+
+  -- how many they are: the number of the board
+  abbrev pub number_of : Board T L V K → ℕ
+  number_of board = length (lines_of board)
+
+  -- they are of the hall's history
+  abbrev pub IsOfHall : Hall T L V K → Board T L V K → Type 0
+  IsOfHall hall board = board.front.seen.book ≡ hall.history.book
+
+  -- who was told of the hall's word
+  abbrev pub IsToldOf : Hall T L V K → Told → Type 0
+  IsToldOf hall told = IsToldOfWord hall.newest told
+
+  -- the hall in which is published
+  abbrev pub hall_of : Publisher T L V K → Hall T L V K
+  hall_of publisher = arc_value publisher.hall
+
+  -- the number of what was published last
+  abbrev pub published : Publisher T L V K → ℕ
+  published publisher = publisher.raised / SLOT_LIMIT

@@ -1,0 +1,143 @@
+//! A word that only rises: the number of the newest value that was published, and its slot.
+ghost use Rattle.std.specs.Prelude.{◌≡◌, ◌≤◌, true, IsTrue};
+
+use super::history::Nothing;
+use logbook::{Gain, Offer, Plain, Play, Rule, Seen, Start, Word};
+
+/// By how much the word rose.
+#[derive(Clone, Copy)]
+pub struct Rise {
+    pub(crate) by: u64,
+}
+
+/// The rule of the word: it is the sum of its rises.
+pub struct Rises;
+
+impl Rule<Rise, u64> for Rises {
+    ghost use Rattle.std.specs.Prelude.{[]};
+    ghost use base.Fml.{ftrue};
+    ghost use Rattle.published_views.specs.Numbers.{IsRaised};
+
+    ghost holds = { λ cells log. IsRaised cells log };
+
+    ghost first = { [] };
+
+    ghost hinted = { λ n log. Unit {0} };
+
+    ghost shows = { λ log. [] };
+
+    ghost keeps = { λ names log. ftrue };
+
+    ghost moves = { λ ask before after answer. Unit {0} };
+}
+
+/// A step that hears the word.
+struct Hear;
+
+impl Play<Rise, u64> for Hear {
+    ghost use Rattle.published_views.specs.Numbers.{Hears};
+
+    ghost then = { Hears };
+}
+
+/// A step that raises it.
+struct Raise;
+
+impl Play<Rise, u64> for Raise {
+    ghost use Rattle.published_views.specs.Numbers.{RaisesOrHears};
+
+    ghost then = { RaisesOrHears };
+}
+
+impl Plain<Rise, Rise, u64> for Raise {
+    ghost use Rattle.std.specs.Prelude.{None};
+
+    ghost ask = { λ rise. rise };
+
+    ghost state = { λ rise. None };
+}
+
+/// The number of the newest value and its slot, in one word. Were they two, a reader could hear the number of one value and
+/// the slot of a newer one that is still being written, and its next view could have a smaller number.
+#[derive(Drop)]
+pub struct Newest {
+    pub(crate) word: Word<Rise, u64, Rises>,
+    ghost of_word: { (word.tracked ≡ true) × (word.key ≡ 0) },
+}
+
+/// What a thread was told: that a value with some number was published. It has no bytes, can be copied, and goes to any
+/// thread.
+#[derive(Drop)]
+pub struct Told {
+    pub(crate) seen: Seen<Rise, u64, Rises>,
+}
+
+impl Told {
+    ghost use Rattle.published_views.specs.Numbers.{AreToldOfOneWord, IsToldMore, told_word};
+
+    /// A copy.
+    pub fn again(&self) -> Told
+        ensures { result ≡ self.now }
+    {
+        Told {
+            seen: self.seen.again(),
+        }
+    }
+
+    /// Learns what another thread was told.
+    pub fn learn(&mut self, other: &Told)
+        requires { AreToldOfOneWord self.old other.now }
+        ensures more { IsToldMore self.old self.new }
+        ensures theirs { told_word other.now ≤ told_word self.new }
+    {
+        self.seen.learn(&other.seen);
+    }
+}
+
+impl Newest {
+    ghost use Rattle.published_views.specs.Numbers.{IsToldMore, told_word};
+    ghost use Rattle.published_views.specs.Views.{IsToldOfWord};
+
+    /// A word that was never raised, and who was told nothing of it.
+    pub fn open() -> (Newest, Told)
+        ensures word { IsToldOfWord result.0 result.1 }
+        ensures nothing { told_word result.1 ≡ 0 }
+    {
+        let (seen, mut first, _second) = Seen::open(Start::alone(), 0, 0);
+        (
+            Newest {
+                word: Word::tracked(0, &mut first),
+            },
+            Told { seen },
+        )
+    }
+
+    /// The word.
+    pub(crate) fn hear(&self, told: &mut Told) -> u64
+        requires { IsToldOfWord self.now told.old }
+        ensures more { IsToldMore told.old told.new }
+        ensures word { result ≡ told_word told.new }
+    {
+        let mut offer: Offer<Rise, u64, Rises, Nothing> = told
+            .seen
+            .plain::<Nothing, Rise, Raise>(&Rise { by: 0 });
+        self.word.load::<Hear, Nothing>(&mut told.seen, &mut offer)
+    }
+
+    /// Raises the word from one number to another, where it is the one, and says whether it was.
+    pub(crate) fn raise(&self, told: &mut Told, from: u64, to: u64) -> bool
+        requires rising { from ≤ to }
+        requires word { IsToldOfWord self.now told.old }
+        ensures more { IsToldMore told.old told.new }
+        ensures word { IsTrue result → told_word told.new ≡ to }
+    {
+        let mut offer: Offer<Rise, u64, Rises, Nothing> = told
+            .seen
+            .plain::<Nothing, Rise, Raise>(&Rise { by: to - from });
+        let mut pen = told.seen.no_pen();
+        let found = self
+            .word
+            .compare_exchange::<Raise, Nothing>(from, to, &mut told.seen, &mut offer, &mut pen);
+        found == from
+    }
+}
