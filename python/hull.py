@@ -84,7 +84,7 @@ POINT_LIMIT = 1 << 20
 #: How often a point may be held.
 MULTIPLICITY_LIMIT = 65535
 #: The greatest capacity of a shared hull: how many calls its journal may have room for.
-CAPACITY_LIMIT = 1 << 24
+CAPACITY_LIMIT = (1 << 24) - 1
 #: The greatest number of seats of a shared hull.
 SEAT_LIMIT = 64
 
