@@ -156,7 +156,10 @@ static hull_reply ask(hull_python_seat *s, uint32_t kind, int64_t x, int64_t y, 
     case HULL_OUT_OF_RANGE:
     case HULL_ZERO_DIRECTION:
     case HULL_FULL: break;
-    default: s->has_turn = 1, s->turn = reply.line;
+    default:
+        if (reply.has_line) {
+            s->has_turn = 1, s->turn = reply.line;
+        }
     }
     return reply.told;
 }
