@@ -76,7 +76,7 @@ enum class Refusal : std::uint32_t {
     no_seat = HULL_NO_SEAT,                 // the seat is out, or there is none of this number
     not_open = HULL_NOT_OPEN,               // the shared hull is closed
     seats_out = HULL_SEATS_OUT,             // a seat of the shared hull is out: it stays open
-    full = HULL_FULL,                       // the journal is full: the call was not made
+    full = HULL_FULL,                       // as many lines are held as may be: the call was not made
     vacant = HULL_VACANT,                   // the seat was given back, or moved away
     ended = HULL_ENDED,                     // the hull, shared hull or part was moved away
     no_journal = HULL_NO_JOURNAL,           // the text is none of a journal: number() tells its first line that is wrong, from 1
@@ -859,7 +859,11 @@ private:
         case HULL_FULL:
         case HULL_OUT_OF_RANGE:
         case HULL_ZERO_DIRECTION: told::fault(r.told.code);
-        default: turn_ = r.turn; return r.told;
+        default:
+            if (r.has_line != 0) {
+                turn_ = r.line;
+            }
+            return r.told;
         }
     }
 

@@ -83,7 +83,7 @@ typedef enum hull_code {
     HULL_TAKEN = 43,         /* the seat has a number now */
     HULL_NOT_YET = 44,       /* another number is served: look again */
     HULL_NO_NUMBER = 45,     /* the seat has no number to look for */
-    HULL_FULL = 46,          /* the journal is full (as many lines are held as may be): the call was not made, and the seat has no
+    HULL_FULL = 46,          /* as many lines are held as may be, until they are drained: the call was not made, and the seat has no
                               * number any more */
     HULL_SEATS_OUT = 47,     /* a seat is out: the desk stays open */
     HULL_CLOSED = 48,        /* the desk is closed, and has its journal */

@@ -16,11 +16,12 @@
  *     hull_shared_lend(desk, seat, 0);
  *     hull_shared_call(&line, seat, HULL_KIND_ADD, 3, 4);       // in the thread of that seat
  *
- * A desk holds at most as many lines of its journal as it was opened for. A hull that lives for long is drained before: a
- * call of one of its seats (hull_shared_drain) takes all lines that are held out into a part, whose text is written to a file
- * (hull_shared_part_text). The parts in their order, and last the text of the closed desk, are the whole journal. What was not
- * drained is lost where the program crashes; what was drained is whole lines. Or the desk keeps no lines
- * (hull_shared_open_without_journal).
+ * A desk holds at most as many lines of its journal as it was opened for. Where it holds as many, a call is answered FULL, and
+ * leaves everything as it was, until a call of one of its seats (hull_shared_drain), for which a line is spare, has taken all
+ * lines that are held out into a part, whose text is written to a file (hull_shared_part_text). The parts in their order, and
+ * last the text of the closed desk, are the whole journal; its numbers have no gaps. A line can wait for room
+ * (hull_shared_line_wait_for_room), and drain by itself (hull_shared_line_on_half_full). What was not drained is lost where the
+ * program crashes, and what was drained and not yet written. Or the desk keeps no lines (hull_shared_open_without_journal).
  *
  * hull_shared_desk_new, hull_shared_seat_new and hull_shared_part_new make desks, seats and parts in memory from malloc. Or
  * they lie in rooms that the caller gives: of hull_shared_desk_size() bytes at a multiple of hull_shared_desk_alignment(), and
@@ -68,17 +69,21 @@ long syscall(long number, ...); /* which unistd.h leaves out under -std=c99 */
 #endif
 
 /* How many calls and how many seats a desk may be opened with. */
-#define HULL_SHARED_CAPACITY_MAX 16777216
+#define HULL_SHARED_CAPACITY_MAX 16777215
 #define HULL_SHARED_SEATS_MAX 64
 
-/* What a take or a look came to: an answer, and the number that the seat took: that of its line, or where the journal was
- * full (HULL_FULL) the one that is passed over. It is told with each answer, with HULL_FULL, HULL_TAKEN, HULL_WAITING and
- * HULL_NOT_YET, and is 0 where the seat has none. Behind an answer or HULL_FULL the number turn + 1 is served. Behind an
- * answer the journal has turn + 1 - first lines, those counted that were taken out; as many are held as since the last drain,
- * which holds none behind it. */
+/* What a take or a look came to: an answer, and the number that the seat took, its turn. It is told with each answer, with
+ * HULL_FULL, HULL_TAKEN, HULL_WAITING and HULL_NOT_YET, and is 0 where the seat has none. Behind an answer or HULL_FULL the turn
+ * after it is served. A line of the journal has a number of its own, the one after that of the line before it: it is told in
+ * `line`, where `has_line` is 1; behind HULL_FULL, and behind a question that was answered with no line
+ * (hull_shared_open_answering), both are 0. `held` tells how many lines are held behind the call: none behind a drain, and
+ * behind HULL_FULL as many as may be. */
 typedef struct hull_shared_reply {
     hull_reply told;
     uint64_t turn;
+    uint64_t line;
+    uint32_t held;
+    uint32_t has_line;
 } hull_shared_reply;
 
 /* A desk, a room for a seat, and a part of a journal, by where they lie. */
@@ -147,6 +152,10 @@ static inline void hull_shared_part_free(hull_shared_part *part) {
  * NO_MEMORY. All memory but that of points, and of the corners that a call lists, is asked for here. */
 uint32_t hull_shared_open(hull_shared_desk *desk, uint32_t limit, uint64_t first, uint32_t capacity, uint32_t seats);
 
+/* The same, but the desk answers questions also where as many lines are held as may be: such a question has no line, and is
+ * answered by what is held. Only calls that add or remove points are answered FULL then. */
+uint32_t hull_shared_open_answering(hull_shared_desk *desk, uint32_t limit, uint64_t first, uint32_t capacity, uint32_t seats);
+
 /* The same, but the line of each call is let go with its answer, for who wants no journal: no call is answered FULL before
  * 2^64 - 1 calls. What is proved of the journal holds of the lines that were let go all the same; the text of the closed desk has
  * none. */
@@ -164,6 +173,15 @@ static inline hull_reply hull_shared_reopen_or_null(hull_shared_desk *desk, cons
     return hull_shared_reopen(desk, (const uint8_t *)hull_array(text, length), length, capacity, seats);
 }
 #define hull_shared_reopen hull_shared_reopen_or_null
+
+/* The same, and the desk answers questions as one of hull_shared_open_answering does. */
+hull_reply hull_shared_reopen_answering(hull_shared_desk *desk, const uint8_t *text, size_t length, uint32_t capacity,
+                                        uint32_t seats);
+static inline hull_reply hull_shared_reopen_answering_or_null(hull_shared_desk *desk, const uint8_t *text, size_t length,
+                                                              uint32_t capacity, uint32_t seats) {
+    return hull_shared_reopen_answering(desk, (const uint8_t *)hull_array(text, length), length, capacity, seats);
+}
+#define hull_shared_reopen_answering hull_shared_reopen_answering_or_null
 
 /* Moves seat `number` into the room: LENT; NOT_OPEN, ROOM_IN_USE, NO_SEAT, NO_MEMORY. */
 uint32_t hull_shared_lend(hull_shared_desk *desk, hull_shared_seat *room, uint32_t number);
@@ -201,8 +219,8 @@ uint32_t hull_shared_part_room(const hull_shared_part *part);
 /* Looks as hull_shared_look does. Where the call is made, all lines that are held then go into the part, which had room for
  * them, the call's own the last of them; the desk has the room. Nothing is copied, and no memory asked for but what the call
  * asks for. VACANT, NO_NUMBER; NO_ROOM where the part has room for fewer lines than hull_shared_capacity: no look was made, and
- * the seat waits on; NOT_YET; FULL, where nothing is taken out and the part's room stays. Behind FULL, which leaves a gap in the
- * numbers, no later drain takes anything out: so a desk is drained before it is full. */
+ * the seat waits on; NOT_YET. It has a line spare, so that it is FULL only where the whole journal has 2^64 - 1 lines, and then
+ * nothing is taken out and the part's room stays. The part may have a line more than hull_shared_capacity. */
 hull_shared_reply hull_shared_look_and_drain(hull_shared_seat *seat, hull_shared_part *part);
 
 /* Writes the text of the part's lines, which has the number of the first of them as its own first number, to the front of the
@@ -296,6 +314,7 @@ typedef struct hull_shared_place {
 
 /* Where the calls of one desk wait. All zero, it is ready, as of `static hull_shared_line line;` (where there is no futex by
  * hull_shared_line_init alone); it needs no end. It may be made anew only when no call waits in it. */
+typedef void hull_shared_hook(void *context, const hull_shared_part *part);
 typedef struct hull_shared_line {
     uint32_t beside;     /* how many calls may be inside at once, less one */
     uint32_t served;     /* the number served of late, in its lower bits; it only tells who is near its turn */
@@ -305,6 +324,12 @@ typedef struct hull_shared_line {
     uint32_t heirs;      /* who was made heir and is still to learn it: 0 or 1 */
     unsigned char outside[56];
     hull_shared_place places[HULL_SHARED_SEATS_MAX];
+    uint32_t waits;      /* whether a call that found no room waits for some */
+    uint32_t drains;     /* changed when there may be room again; who waits for room sleeps by it */
+    uint32_t draining;   /* whether a thread drains for the hook */
+    hull_shared_hook *hook;
+    void *context;
+    hull_shared_part *part;
 #if defined(HULL_SHARED_BY_PTHREADS)
     pthread_mutex_t lock;
     pthread_cond_t changed;
@@ -338,6 +363,37 @@ static inline void hull_shared_line_init(hull_shared_line *line, uint32_t inside
 #endif
 }
 
+/* Whether a call that finds no room waits until a drain has made some, and is made then, in place of being answered FULL. It has
+ * no number meanwhile, and stands outside the door. Some thread has to drain, or the line has a hook. */
+static inline void hull_shared_line_wait_for_room(hull_shared_line *line, int waits) {
+    line->waits = waits != 0;
+}
+
+/* Has the desk drained by itself: the thread whose call finds half of the lines held, or no room, takes them out by its seat,
+ * asking how many points there are, and then calls `hook` with `context` and the part, beside the calls of others. One thread
+ * does so at a time, so that the parts come in their order; the part has its room again behind that. The hook may read the part
+ * (hull_shared_part_text, hull_shared_part_text_from) and no more, and makes no call by the seat of its thread. Where calls
+ * outrun it, they are answered FULL, or wait (hull_shared_line_wait_for_room). 1, or 0 where memory is refused to the part; a
+ * line that has a hook is given up by hull_shared_line_end. */
+static inline int hull_shared_line_on_half_full(hull_shared_line *line, hull_shared_hook *hook, void *context) {
+    if (line->part == NULL) {
+        line->part = hull_shared_part_new();
+    }
+    line->context = context;
+    line->hook = line->part == NULL ? NULL : hook;
+    return line->part != NULL;
+}
+
+/* Gives the memory of a line back that has a hook, once no call waits in it. */
+static inline void hull_shared_line_end(hull_shared_line *line) {
+    if (line->part != NULL) {
+        hull_shared_part_end(line->part);
+        hull_shared_part_free(line->part);
+    }
+    line->part = NULL;
+    line->hook = NULL;
+}
+
 /* Sleeps until someone wakes who sleeps by this word, unless the word is no longer `seen`; it may return before. */
 static inline void hull_shared_sleep(hull_shared_line *line, uint32_t *word, uint32_t seen) {
 #if defined(HULL_SHARED_BY_PTHREADS)
@@ -352,17 +408,28 @@ static inline void hull_shared_sleep(hull_shared_line *line, uint32_t *word, uin
 #endif
 }
 
-/* Wakes one who sleeps by this word, which was changed before. */
-static inline void hull_shared_wake(hull_shared_line *line, uint32_t *word) {
+/* Wakes so many who sleep by this word, which was changed before. */
+static inline void hull_shared_wake_some(hull_shared_line *line, uint32_t *word, int many) {
 #if defined(HULL_SHARED_BY_PTHREADS)
     (void)word;
+    (void)many;
     pthread_mutex_lock(&line->lock);
     pthread_cond_broadcast(&line->changed);
     pthread_mutex_unlock(&line->lock);
 #else
     (void)line;
-    syscall(SYS_futex, word, FUTEX_WAKE_PRIVATE, 1, NULL, NULL, 0);
+    syscall(SYS_futex, word, FUTEX_WAKE_PRIVATE, many, NULL, NULL, 0);
 #endif
+}
+
+static inline void hull_shared_wake(hull_shared_line *line, uint32_t *word) {
+    hull_shared_wake_some(line, word, 1);
+}
+
+/* Wakes all who wait for room. */
+static inline void hull_shared_room_again(hull_shared_line *line) {
+    __atomic_fetch_add(&line->drains, 1, __ATOMIC_SEQ_CST);
+    hull_shared_wake_some(line, &line->drains, 0x7fffffff);
 }
 
 /* Waits a little between two looks: a pause, longer each time up to 64. */
@@ -487,6 +554,9 @@ static inline hull_shared_reply hull_shared_look_and_wake(hull_shared_line *line
         reply.told.code != HULL_NO_ROOM) {
         HULL_SHARED_STEP("served");
         hull_shared_handed_on(line, reply.turn + 1);
+        if (to.part != NULL && reply.told.code != HULL_FULL) {
+            hull_shared_room_again(line);
+        }
     }
     return reply;
 }
@@ -525,8 +595,8 @@ static inline hull_shared_reply hull_shared_wait(hull_shared_line *line, hull_sh
     return reply;
 }
 
-/* Makes a call and waits for its answer. */
-static inline hull_shared_reply hull_shared_call_into(hull_shared_line *line, hull_shared_seat *seat, uint32_t kind, int64_t x,
+/* Makes a call once and waits for its answer. */
+static inline hull_shared_reply hull_shared_call_once(hull_shared_line *line, hull_shared_seat *seat, uint32_t kind, int64_t x,
                                                       int64_t y, hull_shared_target to) {
     hull_shared_reply reply;
     hull_shared_enter(line);
@@ -538,7 +608,62 @@ static inline hull_shared_reply hull_shared_call_into(hull_shared_line *line, hu
     return reply;
 }
 
-/* Makes a call of a kind (hull_kind) and waits for its answer, which is the kind's, or FULL. Where no number was taken, the
+/* Drains for the hook, unless there is none or another thread does: whether there is room again. Behind the hook those are woken
+ * who wait for room, since another of them may have to drain. */
+static inline int hull_shared_drain_for_hook(hull_shared_line *line, hull_shared_seat *seat) {
+    hull_shared_target to = {NULL, 0, NULL};
+    uint32_t capacity = hull_shared_capacity(seat);
+    hull_shared_reply reply;
+    int has_room = 0;
+    if (line->hook == NULL || __atomic_exchange_n(&line->draining, 1, __ATOMIC_SEQ_CST) != 0) {
+        return 0;
+    }
+    if (hull_shared_part_room(line->part) < capacity) {
+        hull_shared_part_end(line->part);
+        hull_shared_part_reserve(line->part, capacity);
+    }
+    if (hull_shared_part_room(line->part) >= capacity) {
+        to.part = line->part;
+        reply = hull_shared_call_once(line, seat, HULL_KIND_COUNT, 0, 0, to);
+        if (reply.has_line) {
+            has_room = 1;
+            line->hook(line->context, line->part);
+            hull_shared_part_end(line->part);
+            hull_shared_part_reserve(line->part, capacity);
+        }
+    }
+    __atomic_store_n(&line->draining, 0, __ATOMIC_SEQ_CST);
+    hull_shared_room_again(line);
+    return has_room;
+}
+
+/* Makes a call and waits for its answer; where it found no room, it is made again once there is some, if the line waits or
+ * drains by itself. The word that tells of room is read before a number is taken: a drain behind the call changes it. */
+static inline hull_shared_reply hull_shared_call_into(hull_shared_line *line, hull_shared_seat *seat, uint32_t kind, int64_t x,
+                                                      int64_t y, hull_shared_target to) {
+    for (;;) {
+        uint32_t drains = __atomic_load_n(&line->drains, __ATOMIC_SEQ_CST);
+        hull_shared_reply reply = hull_shared_call_once(line, seat, kind, x, y, to);
+        if (to.part != NULL) {
+            return reply;
+        }
+        if (reply.told.code != HULL_FULL) {
+            if (line->hook != NULL && reply.held > 0 && reply.held >= hull_shared_capacity(seat) / 2) {
+                hull_shared_drain_for_hook(line, seat);
+            }
+            return reply;
+        }
+        if (!hull_shared_drain_for_hook(line, seat)) {
+            if (!line->waits) {
+                return reply;
+            }
+            HULL_SHARED_STEP("no room");
+            hull_shared_sleep(line, &line->drains, drains);
+        }
+    }
+}
+
+/* Makes a call of a kind (hull_kind) and waits for its answer, which is the kind's, or FULL, unless the line waits for room. Where no number was taken, the
  * code is that of hull_shared_take: VACANT, WAITING, UNKNOWN_KIND, OUT_OF_RANGE, ZERO_DIRECTION. Of a list of corners it
  * tells how many they are. */
 static inline hull_shared_reply hull_shared_call(hull_shared_line *line, hull_shared_seat *seat, uint32_t kind, int64_t x,
@@ -549,7 +674,7 @@ static inline hull_shared_reply hull_shared_call(hull_shared_line *line, hull_sh
 
 /* Makes a call, as hull_shared_call does, and takes all lines that are held then out into the part: the call's own is the last
  * of them. NO_ROOM where the part has room for fewer lines than the desk of the seat holds at most: no number was taken, and no
- * call made. FULL: nothing was taken out. */
+ * call made. */
 static inline hull_shared_reply hull_shared_drain(hull_shared_line *line, hull_shared_seat *seat, hull_shared_part *part,
                                                   uint32_t kind, int64_t x, int64_t y) {
     hull_shared_target to = {NULL, 0, part};

@@ -84,7 +84,7 @@ POINT_LIMIT = 1 << 20
 #: How often a point may be held.
 MULTIPLICITY_LIMIT = 65535
 #: The greatest capacity of a shared hull: how many calls its journal may have room for.
-CAPACITY_LIMIT = 1 << 24
+CAPACITY_LIMIT = (1 << 24) - 1
 #: The greatest number of seats of a shared hull.
 SEAT_LIMIT = 64
 
@@ -110,7 +110,7 @@ class SeatsOut(RuntimeError):
 
 
 class JournalFull(RuntimeError):
-    """The journal of the shared hull is full: the call was not made."""
+    """The shared hull holds as many lines as it may, until it is drained: the call was not made."""
 
 
 class Ended(RuntimeError):
@@ -1438,7 +1438,7 @@ class Seat:
         """Asks how many points there are, and takes all lines that the hull holds then out of its journal, as a JournalPart.
 
         That of this call is the last of them. MemoryError where there is no room for the lines: no call is made then.
-        JournalFull where the journal has no room for the call, and nothing is taken out: a hull is to be drained before.
+        A hull that holds as many lines as it may has a line spare for this call, and room again behind it.
         Where a signal's handler raises before the part is returned, `last_part` has it.
         """
         capacity = _shared_library().hull_python_capacity(self._at)

@@ -19,7 +19,7 @@ typedef struct hull_python_seat {
     hull_python_desk *desk; /* null where it has none */
     uint32_t number;
     uint32_t has_turn;
-    uint64_t turn; /* of the last call that was served */
+    uint64_t turn; /* the number of the line of the last call that was served */
 } hull_python_seat;
 
 typedef struct hull_python_part {
@@ -156,7 +156,10 @@ static hull_reply ask(hull_python_seat *s, uint32_t kind, int64_t x, int64_t y, 
     case HULL_OUT_OF_RANGE:
     case HULL_ZERO_DIRECTION:
     case HULL_FULL: break;
-    default: s->has_turn = 1, s->turn = reply.turn;
+    default:
+        if (reply.has_line) {
+            s->has_turn = 1, s->turn = reply.line;
+        }
     }
     return reply.told;
 }

@@ -452,7 +452,7 @@ static void shared() {
     CHECK(refuses(Refusal::ended, [&] { h.lend(0); }) && refuses(Refusal::ended, [&] { h.close(); }));
     SharedHull drained({4, 7, 20, 1});
     hull::JournalPart part = drained.lend(0).drain(), taken = std::move(part);
-    CHECK(taken.text() == "hullbook journal 3 first 7 limit 4 capacity 20\n7 0 count = count 0\nend 1\n");
+    CHECK(taken.text() == "hullbook journal 3 first 7 limit 4 capacity 21\n7 0 count = count 0\nend 1\n");
     CHECK(refuses(Refusal::ended, [&] { part.text(); }) && refuses(Refusal::ended, [&] { part.write_to(std::cout); }));
     Seat late = SharedHull({4, 0, 4, 1}).lend(0);
     CHECK(late.add({1, 1}) == 1); // the desk is there until its last seat is back

@@ -146,7 +146,9 @@ static void codes(hull_shared_desk *desk, hull_shared_seat *one, hull_shared_sea
     calls(one);
     hull_shared_reply full = hull_shared_call(&line, two, HULL_KIND_COUNT, 0, 0);
     is("full", full.told.code, HULL_FULL);
-    is("the number that is passed over", full.turn, first + 22);
+    is("the turn that is passed over", full.turn, first + 22);
+    is("no line", full.has_line, 0);
+    is("as many lines as may be", full.held, 22);
     is("close with seats out", hull_shared_close(desk), HULL_SEATS_OUT);
     is("end while open", hull_shared_end(desk), HULL_NOT_CLOSED);
     is("return", hull_shared_give_back(desk, two), HULL_RETURNED);
@@ -311,14 +313,36 @@ static void parts(hull_shared_desk *desk, hull_shared_seat *seat, hull_shared_pa
     for (int i = 0; i < 4; i++) {
         is("served", call(seat, HULL_KIND_COUNT, 0, 0), HULL_NUMBER);
     }
+    is("full", call(seat, HULL_KIND_COUNT, 0, 0), HULL_FULL);
+    is("full again", call(seat, HULL_KIND_ADD, 1, 2), HULL_FULL);
     is("room for four", hull_shared_part_reserve(part, 4), HULL_RESERVED);
-    is("full", hull_shared_drain(&line, seat, part, HULL_KIND_COUNT, 0, 0).told.code, HULL_FULL);
-    is("the room stays", hull_shared_part_room(part), 4);
+    reply = hull_shared_drain(&line, seat, part, HULL_KIND_COUNT, 0, 0);
+    is("a drain of a full desk", reply.told.code, HULL_NUMBER);
+    is("its turn", reply.turn, 14);
+    is("the number of its line", reply.line, 12);
+    is("it has one", reply.has_line, 1);
+    is("none is held", reply.held, 0);
+    is("its text", hull_shared_part_text(part, text, sizeof text).code, HULL_TEXT);
     is("its end", hull_shared_part_end(part), HULL_ENDED);
+    reply = hull_shared_call(&line, seat, HULL_KIND_COUNT, 0, 0);
+    is("served again", reply.told.code, HULL_NUMBER);
+    is("the number behind the drain", reply.line, 13);
+    is("one is held", reply.held, 1);
     is("return", hull_shared_give_back(desk, seat), HULL_RETURNED);
     is("close", hull_shared_close(desk), HULL_CLOSED);
     is("text", hull_shared_text(desk, text, sizeof text).code, HULL_TEXT);
-    is("the first number of the last part", text[25], '8');
+    is("the first number of the last part", text[25] == '1' && text[26] == '3', 1);
+    is("end", hull_shared_end(desk), HULL_ENDED);
+    is("open, answering", hull_shared_open_answering(desk, 3, 7, 1, 1), HULL_OPEN);
+    is("lend", hull_shared_lend(desk, seat, 0), HULL_LENT);
+    is("served", call(seat, HULL_KIND_ADD, 1, 2), HULL_ADDED);
+    is("a change of a full desk", call(seat, HULL_KIND_REMOVE, 1, 2), HULL_FULL);
+    reply = hull_shared_call(&line, seat, HULL_KIND_PLACE, 1, 2);
+    is("a question of a full desk", reply.told.code, HULL_ON);
+    is("it has no line", reply.has_line, 0);
+    is("one is held", reply.held, 1);
+    is("return", hull_shared_give_back(desk, seat), HULL_RETURNED);
+    is("close", hull_shared_close(desk), HULL_CLOSED);
     is("end", hull_shared_end(desk), HULL_ENDED);
     is("open without a journal", hull_shared_open_without_journal(desk, 0, 7, 1), HULL_OUT_OF_LIMITS);
 }

@@ -53,7 +53,7 @@ int main(int, char **words) {
     seat.add({1, 2});
     const hull::JournalPart part = seat.drain();
     bool good = part.text() ==
-                "hullbook journal 3 first 7 limit 6 capacity 3\n7 0 add 1 2 = added\n8 0 count = count 1\nend 2\n";
+                "hullbook journal 3 first 7 limit 6 capacity 4\n7 0 add 1 2 = added\n8 0 count = count 1\nend 2\n";
     std::ostringstream pieces;
     part.write_to(pieces);
     good = good && pieces.str() == part.text();
@@ -63,12 +63,14 @@ int main(int, char **words) {
         seat.add({x, 5});
     }
     try {
-        seat.drain();
+        seat.add({4, 5});
         good = false;
     } catch (const hull::Fault &) {
     }
+    good = good && seat.drain().text() == "hullbook journal 3 first 9 limit 6 capacity 4\n9 0 add 0 5 = added\n"
+                                          "10 0 add 1 5 = added\n11 0 add 2 5 = added\n12 0 count = count 4\nend 4\n";
+    good = good && seat.add({4, 5}) == 1 && seat.turn() == 13;
     seat.give_back();
-    good = good && shared.close() == "hullbook journal 3 first 9 limit 6 capacity 3\n9 0 add 0 5 = added\n"
-                                     "10 0 add 1 5 = added\n11 0 add 2 5 = added\nend 3\n";
+    good = good && shared.close() == "hullbook journal 3 first 13 limit 6 capacity 3\n13 0 add 4 5 = added\nend 1\n";
     return good && writes_long_lines() ? 0 : 1;
 }

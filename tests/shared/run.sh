@@ -3,7 +3,8 @@
 # temporary folder, compiles the programs of this folder and of examples/shared against what is there, and runs them:
 # threads that make 100000 mixed calls each (64 of them a tenth, and eight in Rust and in Python a tenth), with one, two or
 # all of them inside the door, also with threads held up between the steps of waiting, whose journal `bin/hullbook check`
-# judges, eight of which one takes the lines out, and eight that keep none, every code, each request for memory refused in
+# judges, eight of which one takes the lines out, and eight that keep none, up to 64 at desks of few lines that drain by
+# themselves, every code, each request for memory refused in
 # turn, and wake-ups out of order (wakeups.sh). The gate runs it. What is missing here (a compiler, python3, valgrind) is
 # told and skipped, and counts nothing. The last line counts, and the status is not 0 where something failed. With a
 # number, that many calls a thread.
@@ -110,6 +111,7 @@ in_c() {
     build "$here/drains.c"
     count "drains.c compiles" $?
     drains
+    storms_of_full_desks
     "$here/wakeups.sh" "$prefix" >"$room/told" 2>&1
     count "no wake-up is lost, and a line that loses one is found: $(tail -n 1 "$room/told")" $?
 }
@@ -151,6 +153,26 @@ drains() {
     count "a part that is missing, doubled or exchanged is illegal at its first line" $?
     "$room/drains" 8 "$calls" 1 - >"$room/said"
     count "8 threads of $calls calls without a journal" $?
+}
+
+# threads with no thought of draining at a desk of few lines, whose line drains by itself: THREADS CALLS CAPACITY
+full() {
+    rm -rf "$room/parts" && mkdir "$room/parts"
+    "$room/full" "$1" "$2" "$3" "$room/parts" >"$room/said" && judged $(seq "$(cat "$room/said")")
+    count "$1 threads of $2 calls at $3 lines, which drain by themselves: all served, $(cat "$room/said") parts, one legal journal" $?
+}
+
+storms_of_full_desks() {
+    build "$here/full.c"
+    count "full.c compiles" $?
+    full 4 "$calls" 20000
+    full 64 $((calls / 10)) 2000
+    full 8 $((calls / 10)) 200
+    full 2 $((calls / 100)) 1
+    build "$here/full.c" -DSLOW
+    full 8 $((calls / 100)) 200
+    build "$here/full.c" -DHULL_SHARED_BY_PTHREADS
+    full 8 $((calls / 100)) 200
 }
 
 by_valgrind() {

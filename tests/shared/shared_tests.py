@@ -36,7 +36,7 @@ class Calls(unittest.TestCase):
         seat = hull.lend(0)
         seat.add(1, 2)
         part = seat.drain()
-        lines = ["hullbook journal 3 first 7 limit 6 capacity 3", "7 0 add 1 2 = added", "8 0 count = count 1", "end 2"]
+        lines = ["hullbook journal 3 first 7 limit 6 capacity 4", "7 0 add 1 2 = added", "8 0 count = count 1", "end 2"]
         self.assertEqual((list(part), part.text().splitlines()), (lines, lines))
         for size in (1, 20, 46, 66, 67, 1000):
             pieces = list(part.pieces(size))
@@ -45,12 +45,14 @@ class Calls(unittest.TestCase):
         self.assertRaises(TypeError, copy.copy, part)
         for x in range(3):
             seat.add(x, 5)
-        self.assertRaises(JournalFull, seat.drain)
-        self.assertEqual(list(seat.last_part()), lines)
+        self.assertRaises(JournalFull, seat.add, 4, 5)
+        self.assertRaises(JournalFull, seat.count)
+        self.assertEqual(list(seat.drain())[::4], ["hullbook journal 3 first 9 limit 6 capacity 4", "12 0 count = count 4"])
+        self.assertEqual((seat.add(4, 5), seat.turn()), (1, 13))
         seat.give_back()
         self.assertRaises(ValueError, seat.drain)
-        self.assertEqual(hull.close().splitlines()[::4],
-                         ["hullbook journal 3 first 9 limit 6 capacity 3", "end 3"])
+        self.assertEqual(hull.close().splitlines(),
+                         ["hullbook journal 3 first 13 limit 6 capacity 3", "13 0 add 4 5 = added", "end 1"])
 
     def test_reopened(self):
         head = "hullbook journal 3 first 5 limit 3 capacity 9\n"

@@ -51,7 +51,7 @@ fn parts() {
     let mut seat = hull.lend(0).unwrap();
     seat.add(point(1, 2)).unwrap();
     let part = seat.drain().unwrap();
-    let head = "hullbook journal 3 first 7 limit 6 capacity 3\n";
+    let head = "hullbook journal 3 first 7 limit 6 capacity 4\n";
     assert_eq!(part.text().unwrap(), format!("{head}7 0 add 1 2 = added\n8 0 count = count 1\nend 2\n"));
     assert_eq!(part.lines().unwrap().last().unwrap(), "end 2");
     for bytes in [0, 1, 20, 46, 47, 66, 67, 1000] {
@@ -67,11 +67,14 @@ fn parts() {
     for x in 0..3 {
         seat.add(point(x, 5)).unwrap();
     }
-    assert_eq!((seat.drain().unwrap_err(), seat.add(point(0, 0))), (Fault::Full, Err(Fault::Full)));
+    assert_eq!((seat.add(point(0, 0)), seat.count()), (Err(Fault::Full), Err(Fault::Full)));
+    let head = "hullbook journal 3 first 11 limit 6 capacity 4\n";
+    let lines = "11 0 add 0 5 = added\n12 0 add 1 5 = added\n13 0 add 2 5 = added\n14 0 count = count 4\nend 4\n";
+    assert_eq!(seat.drain().unwrap().text().unwrap(), format!("{head}{lines}"));
+    assert_eq!((seat.add(point(0, 0)), seat.turn()), (Ok(1), Some(15)));
     seat.give_back();
-    let head = "hullbook journal 3 first 11 limit 6 capacity 3\n";
-    let lines = "11 0 add 0 5 = added\n12 0 add 1 5 = added\n13 0 add 2 5 = added\nend 3\n";
-    assert_eq!(hull.close().unwrap(), format!("{head}{lines}"));
+    let head = "hullbook journal 3 first 15 limit 6 capacity 3\n";
+    assert_eq!(hull.close().unwrap(), format!("{head}15 0 add 0 0 = added\nend 1\n"));
 }
 
 /// Each reason why a text is not gone on with, and one that is.

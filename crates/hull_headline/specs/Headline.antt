@@ -1,6 +1,6 @@
 -- What is promised of a book over a tree that many seats share, sentence by sentence, whatever order their single
 -- steps fall in.
-use Rattle.std.specs.Prelude.{◌≡◌, ◌+◌, ◌++◌, ◌%◌, ◌^◌, ℕ, true, List, length, slice_get, Some, Box}
+use Rattle.std.specs.Prelude.{◌≡◌, ◌+◌, ◌++◌, ◌%◌, ◌^◌, ℕ, zero, suc, true, List, [], ◌∷◌, length, slice_get, Some, Box}
 use Rattle.std.specs.Global.{Global}
 use mathlib.Core.Option.{some}
 use lib.ListN.{get_elem?}
@@ -16,9 +16,10 @@ use Rattle.hull_book.specs.History.{IsLegal, held_after, live}
 use Rattle.hull_book.specs.Ledgers.{LedgerValue, AreAllLedgers, sum_of_counts}
 use Rattle.hull_tree.specs.Roots.{points_of_root, IsWellBuiltRoot}
 use Rattle.hull_tree.specs.Sets.{LimitedTree, hull_tree}
-use Rattle.ticket_lock.specs.World.{World, Event}
+use Rattle.ticket_lock.specs.World.{World, Event, hands_on}
 use Rattle.ticket_lock.specs.GoodWorld.{Holds}
 use Rattle.ticket_lock.specs.Forms.{partitioned_form}
+use Rattle.ticket_lock.specs.Linearizable.{Call}
 use Rattle.ticket_lock.specs.Schedule.{Opened, Runs, takers, enterers}
 
 -- a book over a tree
@@ -55,6 +56,27 @@ module _ {B H L : Type 0} (kind : Kind LimitedTree B H L) where
   FirstComeFirstServed = (seats : ℕ) (book : B) (opening now : World B H L) (steps : List (Event B))
       → Leads seats book opening steps now
       → (k seat : ℕ) → get_elem? (enterers steps) k ≡ some seat → get_elem? (takers steps) k ≡ some seat
+
+-- how many calls ended with this step: one with a hand on, and none with another
+abbrev pub ends : {B : Type 0} → Event B → ℕ
+ends (hands_on j c) = 1
+ends _ = 0
+
+-- how many calls ended with the first r steps
+abbrev pub ended_in : {B : Type 0} → ℕ → List (Event B) → ℕ
+ended_in zero steps = 0
+ended_in (suc r) [] = 0
+ended_in (suc r) (step ∷ steps) = ends step + ended_in r steps
+
+module _ {B H L : Type 0} (kind : Kind LimitedTree B H L) where
+  -- Tickets go up in the order of the calls: the line of the call that ended with step r has the ticket that was served
+  -- first and as many more as calls had ended before, whether they had found room or not, modulo 2 ^ 64. (The number that
+  -- the lock asks a line for is its ticket.)
+  abbrev pub TicketsCountTheCalls : Type 0
+  TicketsCountTheCalls = (seats : ℕ) (book : B) (opening now : World B H L) (steps : List (Event B))
+      → Leads kind seats book opening steps now
+      → (seat began r place : ℕ) (line : L) → Call kind.says book steps seat began r place line
+      → kind.says.line_number line ≡ (kind.says.turn book + ended_in r steps) % (2 ^ 64)
 
 -- No two seats hold the book.
 abbrev pub AtMostOneHolds : {B H L : Type 0} → World B H L → Type 0

@@ -9,13 +9,14 @@
 //! lock that runs, `TicketLock<Box<Book<HullTree>>>` (crates `ticket_lock`, `hull_book` and `hull_tree`), and over every
 //! list of single steps of its seats; `specs/Headline.antt` has each of its words. Of a book that may be drained the
 //! same is said once more, and that the parts that were taken out, in their order, and then the lines that are held are
-//! its journal.
+//! its journal; and that its lines' own numbers go up one by one, whichever calls found no room, and their tickets in
+//! the order of the calls.
 #![tactic(auto)]
 
 ghost use Rattle.hull_headline.specs.Headline.{Always, WheneverFree, AtMostOneHolds, StoresBridgesOfLivePoints};
 ghost use Rattle.hull_headline.specs.Headline.{HoldsEachPointAsOften, HasLegalJournal, IsInOrderOfNumbers};
 ghost use Rattle.hull_headline.specs.Headline.{FirstComeFirstServed, LedgersSumToLength, PartsAndHeldAreTheJournal};
-ghost use Rattle.hull_headline.specs.Headline.{drained, kept};
+ghost use Rattle.hull_headline.specs.Headline.{TicketsCountTheCalls, drained, kept};
 
 use hull_book::{Book, LongBook, parts_are_the_journal};
 use hull_tree::HullTree;
@@ -35,7 +36,8 @@ pub fn headline_holds()
 }
 
 /// The headline of a book that may be drained, however often it was, each of its sentences of the whole journal: the
-/// parts that were taken out, in their order, and then the lines that are held.
+/// parts that were taken out, in their order, and then the lines that are held. Numbers are the lines' own, so that they
+/// have no gap; the tickets of the lines count all calls, those too that found no room.
 pub fn headline_holds_of_drained_books()
     ensures first_come { FirstComeFirstServed drained }
     ensures one_holder { Always drained AtMostOneHolds }
@@ -43,6 +45,7 @@ pub fn headline_holds_of_drained_books()
     ensures multiplicities { WheneverFree drained HoldsEachPointAsOften }
     ensures legal { WheneverFree drained HasLegalJournal }
     ensures in_order { WheneverFree drained IsInOrderOfNumbers }
+    ensures tickets { TicketsCountTheCalls drained }
     ensures ledgers { WheneverFree drained LedgersSumToLength }
     ensures parts { PartsAndHeldAreTheJournal drained }
 {

@@ -20,14 +20,14 @@ use Rattle.ticket_lock.specs.Linearizable.{book_after, journal_after, Linearizab
 use Rattle.ticket_lock.specs.Schedule.{SchedulesHold}
 use Rattle.hull_pool.specs.Work.{HasServed}
 use Rattle.hull_book.specs.Kinds.{Kind}
-use Rattle.hull_book.specs.LongBooks.{whole_head}
+use Rattle.hull_book.specs.LongBooks.{head_for}
 use Rattle.hull_book.specs.Marks.{plain}
 use Rattle.hull_book.specs.declared.marked_line.MarkedLine.{MarkedLine}
-use Rattle.hull_pool.specs.Long.{HasServedLong}
+use Rattle.hull_pool.specs.Long.{HasServedLong, number_behind}
 use Rattle.hull_pool.specs.Responses.{Agree, AnswersAreOfLines, LongAnswersAreOfLines}
 
 -- a list is not the same with one more
-no_longer : {A : Type 0} (xs : List A) (x : A) → xs ≡ xs ++ x ∷ [] → ⊥
+pub no_longer : {A : Type 0} (xs : List A) (x : A) → xs ≡ xs ++ x ∷ [] → ⊥
 no_longer xs x e = let long = ap length e in let one = length-append xs (x ∷ []) in omega arith
 
 -- the first of a list, or d
@@ -46,7 +46,7 @@ same_last [] x y e = ap (first_or x) e
 same_last (z ∷ xs) x y e = same_last xs x y (ap others e)
 
 -- the journal after a hand on is that of the book handed on
-after_hand_on : {B H L : Type 0} (K : lock.Ghosts B H L) (b : B) (es : List (Event B)) (r k : ℕ) (c : B)
+pub after_hand_on : {B H L : Type 0} (K : lock.Ghosts B H L) (b : B) (es : List (Event B)) (r k : ℕ) (c : B)
     → get_elem? es r ≡ some (hands_on k c) → journal_after K b es (suc r) ≡ K.lines c
 after_hand_on K b [] r k c at = absurd (some-ne-none (hands_on k c) (sym at))
 after_hand_on K b (e ∷ es) zero k c at =
@@ -74,17 +74,18 @@ refused head t k call found after (Ok reply) served same =
 refused head t k call found after (Err f) served same = refl
 
 -- a call that added a marked line was answered with its reply, and one that added none that it was refused
-long_replied : (head : Head) (drains : Bool) (t k : ℕ) (call : Call) (found after : List MarkedLine) (answer : Answer)
+pub long_replied : (head : Head) (drains : Bool) (t k : ℕ) (call : Call) (found after : List MarkedLine) (answer : Answer)
     (l : MarkedLine) → HasServedLong head drains t k call found after answer → after ≡ found ++ l ∷ []
     → (l.line.seat ≡ k) × (l.line.call ≡ call) × (answer ≡ Ok l.line.reply)
 long_replied head drains t k call found after answer l served adds =
-    replied (whole_head head found) t k call (plain found) (plain after) answer l.line served.served
+    replied (head_for drains head found) (number_behind head found) k call (plain found) (plain after) answer l.line served.served
     (ap plain adds ∙ map-append (λ (m : MarkedLine). m.line) found (l ∷ []))
 
 long_refused : (head : Head) (drains : Bool) (t k : ℕ) (call : Call) (found after : List MarkedLine) (answer : Answer)
     → HasServedLong head drains t k call found after answer → after ≡ found → answer ≡ Err (record {})
 long_refused head drains t k call found after answer served same =
-    refused (whole_head head found) t k call (plain found) (plain after) answer served.served (ap plain same)
+    refused (head_for drains head found) (number_behind head found) k call (plain found) (plain after) answer served.served
+    (ap plain same)
 
 -- the answers of calls that were served agree with the lines that they added
 agreed : {B H L : Type 0} (says : lock.Ghosts B H L) (line_of : L → Line) (b : B) (es : List (Event B))

@@ -22,7 +22,8 @@
 //! # A book that lives for long
 //!
 //! A `LongBook` of `hull_book` is shared in the same way, by [`make_long_call`] and [`close_long_book`]. One of its
-//! seats takes the lines out before they are too many, by [`make_drain`]: under the lock only the lists change hands.
+//! seats takes the lines out, by [`make_drain`]: under the lock only the lists change hands. Where as many are held as may be,
+//! other calls are refused until then.
 //! Where nobody wants a journal, all seats make their calls by [`make_call_and_let_go`]. [`two_seats_share`] is the whole
 //! flow for two seats, to copy.
 //!

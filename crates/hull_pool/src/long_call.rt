@@ -19,8 +19,8 @@ pub type LongSeat<S> = Seat<Box<LongBook<S>>>;
 /// A seat that holds the book of that lock.
 pub type LongGuard<'a, S> = Guard<'a, Box<LongBook<S>>>;
 
-/// What a drain was answered: the reply to its call and the part that was taken out; or the room back, where as many
-/// lines are held as may be.
+/// What a drain was answered: the reply to its call and the part that was taken out; or the room back, where the whole
+/// journal has as many lines as it ever may have.
 pub type Drained = Result<(Reply, Journal), Room>;
 
 /// Has one call of the seat that holds the book served, and hands the book on, as
@@ -46,6 +46,7 @@ pub fn serve_long_and_hand_on<S: HullSet + Drop>(
 }
 
 /// Has one call of the seat that holds the book served, takes out all lines that are held then, and hands the book on.
+/// For its own line one is spare, however many are held.
 ///
 /// The part has the lines of the journal that were not taken out before, the call's own as the last of them.
 pub fn drain_and_hand_on<S: HullSet + Drop>(
@@ -94,7 +95,8 @@ pub fn serve_let_go_and_hand_on<S: HullSet + Drop>(
 /// the book on. `number` is the seat's number, and `ledger` the ledger of that seat.
 ///
 /// The answer is the reply, which is allowed at what the seat found and has its line in the journal, in this seat's
-/// name; or that as many lines were held as may be. The seat that comes back has seen the whole journal as it handed it
+/// name and with the number behind the lines found; or that as many lines were held as may be, which leaves the journal as
+/// it was, so that there is room again behind the next drain. The seat that comes back has seen the whole journal as it handed it
 /// on, which is a legal history and begins with what it had seen before.
 pub fn make_long_call<R: Wait, S: HullSet + Drop>(
     rt: &R,

@@ -5,3 +5,4 @@ pub mod Books
 pub mod Fronts
 pub mod Homes
 pub mod Lists
+pub mod Served

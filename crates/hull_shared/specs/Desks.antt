@@ -38,7 +38,11 @@ pub record IsNewBook (l : Limits) (b : DeskValue) : Type 0 where
   pub set : LimitedTree
   pub nothing : held_by set.root ≡ nothing_held
   pub book : b
-      ≡ record { book = undrained (opened_book set l.first l.limit l.capacity l.seats); keeps = l.keeps }
+      ≡ record {
+        book = undrained (opened_book set l.first l.limit l.capacity l.seats);
+        keeps = l.keeps;
+        answers = l.answers;
+      }
 
 -- all seats are at the desk, round this book, and have seen its lines
 pub record IsDeskRound (b : DeskValue) (seats : ℕ) (d : OpenDesk) : Type 0 where

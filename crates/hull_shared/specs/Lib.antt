@@ -1,4 +1,6 @@
+pub mod Lines
 pub mod DeskBooks
+pub mod ServedBooks
 pub mod Locks
 pub mod Places
 pub mod Limits
@@ -10,3 +12,4 @@ pub mod Parts
 pub mod Pieces
 pub mod Drains
 pub mod Left
+pub mod Responses

@@ -43,10 +43,10 @@ says_desk = record {
   head = boxed_head;
   lines = lines_at;
   capacity = λ b. (whole_of b).head.journal.capacity;
-  turn = λ b. (whole_of b).turn;
+  turn = λ b. (box_value b).book.turn;
   lawful = λ b. IsLawful hull_tree (whole_of b);
   line_seat = λ l. l.line.seat;
-  line_number = λ l. l.line.number;
+  line_number = λ l. l.ticket;
 }
 
 -- the kind of such books

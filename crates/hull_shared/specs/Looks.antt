@@ -1,8 +1,7 @@
 -- What taking a number, and looking whether it is served, come to.
-use Rattle.std.specs.Prelude.{◌≡◌, ◌≢◌, ◌+◌, ℕ, ℤ, List, Result, Ok, Err, IfOk}
+use Rattle.std.specs.Prelude.{◌≡◌, ◌≢◌, ◌+◌, ℕ, ℤ, List, Option, Some, None, Result, Ok, Err}
 use mathlib.Core.List.{IsPrefix}
 use Rattle.lattice.specs.Plane.{Pair}
-use Rattle.hull_book.specs.Answers.{Answer}
 use Rattle.hull_book.specs.Marks.{plain}
 use Rattle.hull_book.specs.declared.marked_line.MarkedLine.{MarkedLine}
 use Rattle.hull_pool.specs.Work.{lines_of}
@@ -16,6 +15,9 @@ use Rattle.hull_reply.specs.declared.reply.HullReply.{HullReply}
 use Rattle.ticket_lock.specs.Tokens.{seat_seen, ticket_looks, ticket_number, ticket_seen}
 use Rattle.hull_shared.specs.Asked.{IsAsked}
 use Rattle.hull_shared.specs.DeskBooks.{HasServedAt}
+use Rattle.hull_shared.specs.declared.answer.Behind.{Behind}
+use Rattle.hull_shared.specs.declared.answer.DeskAnswer.{DeskAnswer}
+use Rattle.hull_shared.specs.declared.answer.DeskAnswer.TheVariants.{Written, Unwritten, Full}
 use Rattle.hull_shared.specs.Locks.{head_of, lock_of}
 use Rattle.hull_shared.specs.declared.looking.Looked.{Looked}
 use Rattle.hull_shared.specs.declared.looking.Looked.TheVariants as looked
@@ -32,13 +34,22 @@ abbrev pub WaitsFor : IdleSeat → WaitingSeat → Call → Type 0
 WaitsFor i w call = (lock_of w.lock ≡ lock_of i.lock) × (w.number ≡ i.number) × (w.call ≡ call)
     × (ticket_seen w.ticket ≡ seat_seen i.seat) × (w.ledger ≡ i.ledger)
 
+-- the reply tells the number of a line, or that there is none
+abbrev pub TellsLine : Option ℕ → SeatReply → Type 0
+TellsLine (Some n) r = (r.line ≡ n) × (r.has_line ≡ 1)
+TellsLine None r = (r.line ≡ 0) × (r.has_line ≡ 0)
+
+-- the reply tells no line, and of none how many are held
+abbrev pub TellsNothing : SeatReply → Type 0
+TellsNothing r = TellsLine None r × (r.held ≡ 0)
+
 -- the reply of a seat with no number: this code and nothing else
 abbrev pub IsBareReply : Code → SeatReply → Type 0
-IsBareReply c r = IsBare c r.told × (r.turn ≡ 0)
+IsBareReply c r = IsBare c r.told × (r.turn ≡ 0) × TellsNothing r
 
 -- the reply of a seat that waits: this code, and the number that it has
 abbrev pub IsReplyOf : Code → WaitingSeat → SeatReply → Type 0
-IsReplyOf c w r = IsBare c r.told × (r.turn ≡ ticket_number w.ticket)
+IsReplyOf c w r = IsBare c r.told × (r.turn ≡ ticket_number w.ticket) × TellsNothing r
 
 -- what a seat with no number comes to that is asked for a call, or for none
 abbrev pub TakesFor : IdleSeat → SharedSeat → SeatReply → Result Call Code → Type 0
@@ -62,55 +73,64 @@ WaitsOn w v = (lock_of v.lock ≡ lock_of w.lock) × (v.number ≡ w.number) × 
     × (ticket_number v.ticket ≡ ticket_number w.ticket) × (ticket_seen v.ticket ≡ ticket_seen w.ticket)
     × (ticket_looks v.ticket ≡ ticket_looks w.ticket + 1) × (v.ledger ≡ w.ledger)
 
--- The seat's call was served, with this answer, under the number that it had taken: it found a whole journal that
--- begins with what it had seen and has no other line in its name, and handed on the one that it has seen now. It is the
--- same seat of the same lock.
-pub record WasServed (w : WaitingSeat) (i : IdleSeat) (answer : Answer) : Type 0 where
+-- The seat's call was served, with this answer and this behind it, by the number that it had taken: it found a whole
+-- journal that begins with what it had seen and has no other line in its name, and handed on the one that it has seen
+-- now. It is the same seat of the same lock.
+pub record WasServed (w : WaitingSeat) (i : IdleSeat) (answer : DeskAnswer) (behind : Behind) : Type 0 where
   pub same_lock : lock_of i.lock ≡ lock_of w.lock
   pub same_number : i.number ≡ w.number
   pub found : List MarkedLine
   pub begins : IsPrefix (ticket_seen w.ticket) found
   pub own_lines : lines_of w.number (plain found) ≡ lines_of w.number (plain (ticket_seen w.ticket))
   pub served : HasServedAt (head_of (lock_of w.lock)) (ticket_number w.ticket) w.number w.call found (seat_seen i.seat)
-      answer
+      answer behind
 
 -- the seat waits on, or its call was served
 abbrev pub HasLooked : WaitingSeat → Looked → Type 0
 HasLooked w (looked.NotYet v) = WaitsOn w v
-HasLooked w (looked.Served i answer) = WasServed w i answer
+HasLooked w (looked.Served i answer behind) = WasServed w i answer behind
 
--- the reply tells an answer: the numbers of the set's reply, or that the journal is full
-abbrev pub TellsAnswer : HullReply → Answer → Type 0
-TellsAnswer told (Ok reply) = Tells told reply
-TellsAnswer told (Err full) = IsBare code.Full told
+-- the reply tells an answer: the numbers of the set's reply, or that as many lines are held as may be
+abbrev pub TellsAnswer : HullReply → DeskAnswer → Type 0
+TellsAnswer told (Written reply) = Tells told reply
+TellsAnswer told (Unwritten reply) = Tells told reply
+TellsAnswer told Full = IsBare code.Full told
 
 -- the reply tells an answer: as `TellsAnswer`, but for a list of corners, which was written to the array
-abbrev pub PutsAnswer : List Pair → List Pair → HullReply → Answer → Type 0
-PutsAnswer before after told (Ok (reply.VertexList corners)) = TellsCorners corners before after told
+abbrev pub PutsAnswer : List Pair → List Pair → HullReply → DeskAnswer → Type 0
+PutsAnswer before after told (Written (reply.VertexList corners)) = TellsCorners corners before after told
+PutsAnswer before after told (Unwritten (reply.VertexList corners)) = TellsCorners corners before after told
 PutsAnswer before after told answer = (after ≡ before) × TellsAnswer told answer
 
 -- no answer of a set that counts its points is `already`
-abbrev pub IsCounted : Answer → Type 0
-IsCounted answer = IfOk answer (λ r. r ≢ reply.Already)
+abbrev pub IsCounted : DeskAnswer → Type 0
+IsCounted (Written r) = r ≢ reply.Already
+IsCounted (Unwritten r) = r ≢ reply.Already
+IsCounted Full = Unit {0}
 
 -- a look: a seat with no number is as it was; one with a number waits on, or its call was served, under its number
 abbrev pub HasSeen : SharedSeat → SharedSeat → Seen → Type 0
 HasSeen Vacant new s = (new ≡ Vacant) × ((r : SeatReply) × (s ≡ Unserved r) × IsBareReply code.Vacant r)
 HasSeen (Idle i) new s = (new ≡ Idle i) × ((r : SeatReply) × (s ≡ Unserved r) × IsBareReply code.NoNumber r)
 HasSeen (Waiting w) (Waiting v) s = WaitsOn w v × ((r : SeatReply) × (s ≡ Unserved r) × IsReplyOf code.NotYet w r)
-HasSeen (Waiting w) (Idle i) s =
-    (answer : Answer) × WasServed w i answer × (s ≡ Served answer (ticket_number w.ticket))
+HasSeen (Waiting w) (Idle i) s = (answer : DeskAnswer) × (behind : Behind) × WasServed w i answer behind
+    × (s ≡ Served answer (ticket_number w.ticket) behind)
 HasSeen (Waiting w) Vacant s = ⊥
+
+-- the reply tells what stands behind a call
+abbrev pub TellsBehind : Behind → SeatReply → Type 0
+TellsBehind behind r = TellsLine behind.line r × (r.held ≡ behind.held)
 
 -- what was seen is told
 abbrev pub TellsSeen : Seen → SeatReply → Type 0
 TellsSeen (Unserved reply) r = r ≡ reply
-TellsSeen (Served answer turn) r = TellsAnswer r.told answer × (r.turn ≡ turn)
+TellsSeen (Served answer turn behind) r = TellsAnswer r.told answer × (r.turn ≡ turn) × TellsBehind behind r
 
 -- what was seen is told, and corners are written to the array, which else is as it was
 abbrev pub PutsSeen : List Pair → List Pair → Seen → SeatReply → Type 0
 PutsSeen before after (Unserved reply) r = (after ≡ before) × (r ≡ reply)
-PutsSeen before after (Served answer turn) r = PutsAnswer before after r.told answer × (r.turn ≡ turn)
+PutsSeen before after (Served answer turn behind) r =
+    PutsAnswer before after r.told answer × (r.turn ≡ turn) × TellsBehind behind r
 
 -- a look, whose answer is told
 abbrev pub HasReplied : SharedSeat → SharedSeat → SeatReply → Type 0

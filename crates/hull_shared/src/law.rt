@@ -1,9 +1,10 @@
 //! What the laws of the lock say of a desk, over every list of single steps of its seats.
 ghost use Rattle.hull_headline.specs.Headline.{Always, AtMostOneHolds, FirstComeFirstServed, HasLegalJournal};
 ghost use Rattle.hull_headline.specs.Headline.{HoldsEachPointAsOften, IsInOrderOfNumbers, LedgersSumToLength};
-ghost use Rattle.hull_headline.specs.Headline.{PartsAndHeldAreTheJournal, StoresBridgesOfLivePoints, WheneverFree};
-ghost use Rattle.hull_pool.specs.Responses.{LongAnswersAreOfLines};
+ghost use Rattle.hull_headline.specs.Headline.{PartsAndHeldAreTheJournal, StoresBridgesOfLivePoints};
+ghost use Rattle.hull_headline.specs.Headline.{TicketsCountTheCalls, WheneverFree};
 ghost use Rattle.hull_shared.specs.Locks.{desk};
+ghost use Rattle.hull_shared.specs.Responses.{AnswersAtDesksAreOfLines};
 
 use crate::book::DeskBook;
 use hull_book::parts_are_the_journal;
@@ -17,6 +18,7 @@ pub fn headline_holds_of_desks()
     ensures multiplicities { WheneverFree desk HoldsEachPointAsOften }
     ensures legal { WheneverFree desk HasLegalJournal }
     ensures in_order { WheneverFree desk IsInOrderOfNumbers }
+    ensures tickets { TicketsCountTheCalls desk }
     ensures ledgers { WheneverFree desk LedgersSumToLength }
     ensures parts { PartsAndHeldAreTheJournal desk }
 {
@@ -27,9 +29,10 @@ pub fn headline_holds_of_desks()
 /// Linearizability (Herlihy and Wing, 1990) of the calls that seats make at a desk: after every list of single steps, in
 /// which each seat that held the book had a call served, the whole journal is a legal history in which each call stands
 /// in its seat's name with the reply that it was answered with, in an order that keeps the order of calls that do not
-/// overlap.
+/// overlap. A call with no line found as many lines held as may be, and was answered so; or it was a question, and its
+/// answer is allowed at what the lines before it had left.
 pub fn answers_at_desks_are_of_lines()
-    ensures { LongAnswersAreOfLines desk (λ head. head.book) }
+    ensures { AnswersAtDesksAreOfLines }
 {
     partitioned_schedules_are_linearizable::<Box<DeskBook>>();
 }

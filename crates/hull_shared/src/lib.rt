@@ -30,6 +30,7 @@ ghost use Rattle.hull_shared.specs.Desks.{IsSeatOfDesk};
 ghost use Rattle.hull_reply.specs.Left.{leaves};
 ghost use Rattle.hull_reply.specs.Rooms.{room_alignment, room_size};
 ghost use Rattle.hull_shared.specs.Left.{leaves_both};
+ghost use Rattle.hull_shared.specs.Limits.{kept_with, unkept_with};
 ghost use Rattle.hull_shared.specs.Drains.{HasRepliedWith};
 ghost use Rattle.hull_shared.specs.Looks.{HasReplied, HasRepliedInto, HasTaken, HasToldCapacity};
 ghost use Rattle.hull_shared.specs.Pieces.{HasWrittenPiece};
@@ -39,6 +40,7 @@ ghost use Rattle.hull_shared.specs.declared.desk.Desk.TheVariants.{Fresh};
 ghost use Rattle.hull_shared.specs.declared.part.Part.TheVariants.{Bare};
 ghost use Rattle.hull_shared.specs.declared.seat.SharedSeat.TheVariants.{Vacant};
 
+mod answer;
 mod book;
 mod closing;
 mod desk;
@@ -204,11 +206,34 @@ pub unsafe extern "C" fn hull_shared_open(
     ghost t: { desk_row.Denot }
     requires* { sem 𝓛 (lies_at desk_row full_share at t) }
     ensures* { sem 𝓛 (leaves desk_row at
-        (λ new. HasOpened
-        (record { limit = limit; first = first; capacity = capacity; seats = seats; keeps = true }) t new result)) }
+        (λ new. HasOpened (kept_with limit first capacity seats false) t new result)) }
 {
     let desk = at as *mut Desk;
     opening::open(unsafe { &mut *desk }, alloc, limit, first, capacity, seats)
+}
+
+/// Opens a desk as [`hull_shared_open`] does, but one that answers questions also where as many lines are held as may be:
+/// such a question has no line.
+///
+/// # Safety
+///
+/// A desk lies at `at`, and no other call on it is under way.
+#[unsafe(no_mangle)]
+pub unsafe extern "C" fn hull_shared_open_answering(
+    at: *mut u8,
+    alloc: Global,
+    limit: u32,
+    first: u64,
+    capacity: u32,
+    seats: u32,
+) -> u32
+    ghost t: { desk_row.Denot }
+    requires* { sem 𝓛 (lies_at desk_row full_share at t) }
+    ensures* { sem 𝓛 (leaves desk_row at
+        (λ new. HasOpened (kept_with limit first capacity seats true) t new result)) }
+{
+    let desk = at as *mut Desk;
+    opening::open_answering(unsafe { &mut *desk }, alloc, limit, first, capacity, seats)
 }
 
 /// Opens a desk as [`hull_shared_open`] does, but one that lets the line of each call go.
@@ -227,8 +252,7 @@ pub unsafe extern "C" fn hull_shared_open_without_journal(
     ghost t: { desk_row.Denot }
     requires* { sem 𝓛 (lies_at desk_row full_share at t) }
     ensures* { sem 𝓛 (leaves desk_row at
-        (λ new. HasOpened (record { limit = limit; first = first; capacity = 1; seats = seats; keeps = false }) t new
-        result)) }
+        (λ new. HasOpened (unkept_with limit first seats) t new result)) }
 {
     let desk = at as *mut Desk;
     opening::open_without_journal(unsafe { &mut *desk }, alloc, limit, first, seats)
@@ -250,10 +274,31 @@ pub unsafe extern "C" fn hull_shared_reopen(
 ) -> HullReply
     ghost t: { desk_row.Denot }
     requires* { sem 𝓛 (lies_at desk_row full_share at t) }
-    ensures* { sem 𝓛 (leaves desk_row at (λ new. HasReopened text.now capacity seats t new result)) }
+    ensures* { sem 𝓛 (leaves desk_row at (λ new. HasReopened text.now capacity seats false t new result)) }
 {
     let desk = at as *mut Desk;
     reopening::reopen(unsafe { &mut *desk }, alloc, text, capacity, seats)
+}
+
+/// Opens a desk as [`hull_shared_reopen`] does, but one that answers questions also where as many lines are held as may be.
+///
+/// # Safety
+///
+/// A desk lies at `at`, and no other call on it is under way.
+#[unsafe(no_mangle)]
+pub unsafe extern "C" fn hull_shared_reopen_answering(
+    at: *mut u8,
+    alloc: Global,
+    text: &[u8],
+    capacity: u32,
+    seats: u32,
+) -> HullReply
+    ghost t: { desk_row.Denot }
+    requires* { sem 𝓛 (lies_at desk_row full_share at t) }
+    ensures* { sem 𝓛 (leaves desk_row at (λ new. HasReopened text.now capacity seats true t new result)) }
+{
+    let desk = at as *mut Desk;
+    reopening::reopen_answering(unsafe { &mut *desk }, alloc, text, capacity, seats)
 }
 
 /// Moves the seat of a number out of its desk, into a room.

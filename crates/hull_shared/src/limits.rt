@@ -18,6 +18,8 @@ pub(crate) struct Limits {
     pub(crate) seats: u32,
     /// Whether the lines of calls are kept until they are taken out.
     pub(crate) keeps: bool,
+    /// Whether questions are answered, with no line, where as many lines are held as may be.
+    pub(crate) answers: bool,
 }
 
 impl Limits {
@@ -26,7 +28,7 @@ impl Limits {
         ensures { IsTrue result ↔ AreLimits self }
     {
         (1..=POINT_LIMIT).contains(&self.limit)
-            && (1..=CAPACITY_LIMIT).contains(&self.capacity)
+            && (1..CAPACITY_LIMIT).contains(&self.capacity)
             && (1..=u32::from(SEAT_LIMIT)).contains(&self.seats)
     }
 }

@@ -12,7 +12,7 @@ use crate::stage::Stage;
 use crate::texts::is_memory;
 use hull_book::{
     Answer, Book, BookFault, CompactRefusal, Journal, Ledger, LongBook, PartsChecker, ReplayFault,
-    Room, gather_long, replay,
+    Room, gather, gather_long, replay,
 };
 use hull_set::{Call, HullSet, Reply, Rules};
 use hull_text::{CompactFault, compact, read_journal};
@@ -196,7 +196,13 @@ pub fn try_drain<S: HullSet + Drop>(alloc: Global, set: S, p: Point) -> Result<S
     let Ok((book, mut ledgers)) = Book::open(alloc, set, 7, 4, 1) else {
         return Ok(Stage::SetUp);
     };
-    let mut book = LongBook::new(book);
+    let mut book = match LongBook::new(book) {
+        Ok(book) => book,
+        Err((_, book)) => {
+            gather(&book, ledgers);
+            return Ok(Stage::SetUp);
+        }
+    };
     let added = serve_long(&mut book, &mut ledgers, Call::Add(p));
     let (stage, room) = reserve(alloc, &book, &mut findings);
     let drained = match room {

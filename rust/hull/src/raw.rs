@@ -78,6 +78,9 @@ pub(crate) struct Request {
 pub(crate) struct SeatReply {
     pub told: Reply,
     pub turn: u64,
+    pub line: u64,
+    pub held: u32,
+    pub has_line: u32,
 }
 
 /// What shows how outlines stand.

@@ -11,7 +11,7 @@ use std::ptr::NonNull;
 use std::sync::{Mutex, MutexGuard, PoisonError};
 
 /// The greatest capacity of a shared hull: how many lines of its journal may be held at most.
-pub const CAPACITY_LIMIT: u32 = 1 << 24;
+pub const CAPACITY_LIMIT: u32 = (1 << 24) - 1;
 /// The greatest number of seats of a shared hull.
 pub const SEAT_LIMIT: u32 = 64;
 
@@ -309,7 +309,8 @@ impl fmt::Debug for SharedHull {
 /// back to its hull when it is dropped.
 ///
 /// Each call waits for its turn: one that others pass comes in after at most some hundred of theirs for each that waits.
-/// [`Fault::Full`] where the journal has no room for the call, which is not made then.
+/// [`Fault::Full`] where as many lines are held as may be: the call is not made, and there is room again behind a
+/// [`drain`](Seat::drain), which is never refused so.
 pub struct Seat {
     room: Room,
     desk: Counted<Desk>,
@@ -437,7 +438,7 @@ impl Seat {
                 code::NOT_YET => spin_loop(), // by no call: who is inside is alone
                 code::FULL => return Err(Fault::Full),
                 _ => {
-                    self.turn = Some(reply.turn);
+                    self.turn = Some(reply.line);
                     return Ok(reply.told);
                 }
             }

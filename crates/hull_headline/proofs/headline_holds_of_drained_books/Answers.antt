@@ -1,5 +1,6 @@
 -- the law of the lock leads to a good world, which says each sentence of the whole
 use Rattle.hull_headline.proofs.Good.{first_come, one_holder, bridges, multiplicities, legal, in_order, ledgers}
+use Rattle.hull_headline.proofs.Tickets.{tickets}
 use Rattle.hull_headline.specs.Headline.{drained}
 use Rattle.hull_headline.proofs.headline_holds_of_drained_books.Goals as goal
 
@@ -20,6 +21,9 @@ returns-clause-legal c = legal drained (λ b lawful. lawful) c.partitioned_sched
 
 pub returns-clause-in_order : goal.returns-clause-in_order
 returns-clause-in_order c = in_order drained (λ b lawful. lawful) c.partitioned_schedules_hold.ensures
+
+pub returns-clause-tickets : goal.returns-clause-tickets
+returns-clause-tickets c = tickets drained
 
 pub returns-clause-ledgers : goal.returns-clause-ledgers
 returns-clause-ledgers c = ledgers drained (λ b lawful. lawful) c.partitioned_schedules_hold.ensures

@@ -233,7 +233,10 @@ fn dismiss(
 // All members make their calls on one book: the parts of its journal in their order, and how many calls have a line.
 fn all_share<R: Threads + Wait + Abort + Sync>(rt: &R, alloc: Global) -> (Vec<Journal>, u64) {
     let (book, mut ledgers) = opened(rt, alloc, 18446744073709551600, CAPACITY, MEMBERS);
-    let Ok(book) = Box::new(alloc, LongBook::new(book)) else {
+    let Ok(book) = LongBook::new(book) else {
+        panic!(rt; "there is memory for the spare line")
+    };
+    let Ok(book) = Box::new(alloc, book) else {
         panic!(rt; "there is memory for the book")
     };
     let Ok((lock, mut seats)) = TicketLock::open(alloc, book, MEMBERS) else {

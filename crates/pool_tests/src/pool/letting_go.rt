@@ -29,7 +29,10 @@ fn looks(
 // Three calls of two seats: their answers, what is held then as a part, and how many have their line.
 fn all_let_go<R: Wait + Abort>(rt: &R, alloc: Global) -> (Vec<Answer>, Journal, u64) {
     let (book, mut ledgers) = opened(rt, alloc, 7, 1, 2);
-    let Ok(book) = Box::new(alloc, LongBook::new(book)) else {
+    let Ok(book) = LongBook::new(book) else {
+        panic!(rt; "there is memory for the spare line")
+    };
+    let Ok(book) = Box::new(alloc, book) else {
         panic!(rt; "there is memory for the book")
     };
     let Ok((lock, mut seats)) = TicketLock::open(alloc, book, 2) else {
@@ -73,7 +76,10 @@ fn lines_that_are_let_go_make_room(rt: HostRuntime) {
 // What two seats took out of a book, how many lines its journal has, and how many it holds at the end.
 fn both_share<R: Wait + Abort>(rt: &R, alloc: Global) -> (Option<Journal>, u64, usize) {
     let (book, mut ledgers) = opened(rt, alloc, 7, 4, 2);
-    let Ok(book) = Box::new(alloc, LongBook::new(book)) else {
+    let Ok(book) = LongBook::new(book) else {
+        panic!(rt; "there is memory for the spare line")
+    };
+    let Ok(book) = Box::new(alloc, book) else {
         panic!(rt; "there is memory for the book")
     };
     let Ok((lock, mut seats)) = TicketLock::open(alloc, book, 2) else {

@@ -17,7 +17,7 @@ drain_and_hand_on-requires-clause-may g c =
 
 pub returns-clause-back : goal.returns-clause-back
 returns-clause-back g c =
-    let begins = adds_longer _ (answer_of c.drain_and_hand_on.result.1) _ _ _ c.enter-guard.ensures.finds.begins c.drain_and_hand_on.ensures.drained.served.adds in
+    let begins = adds_longer _ _ (answer_of c.drain_and_hand_on.result.1) _ _ _ c.enter-guard.ensures.finds.begins c.drain_and_hand_on.ensures.drained.served.adds in
     search rules
 
 pub returns-clause-drained : goal.returns-clause-drained

@@ -17,7 +17,7 @@ serve_long_and_hand_on-requires g c =
 
 pub returns-clause-back : goal.returns-clause-back
 returns-clause-back g c =
-    let begins = adds_longer _ c.serve_long_and_hand_on.result.1 _ _ _ c.enter-guard.ensures.finds.begins c.serve_long_and_hand_on.ensures.served.adds in
+    let begins = adds_longer _ _ c.serve_long_and_hand_on.result.1 _ _ _ c.enter-guard.ensures.finds.begins c.serve_long_and_hand_on.ensures.served.adds in
     search rules
 
 pub returns-clause-served : goal.returns-clause-served

@@ -1,5 +1,6 @@
 -- the law of the lock leads to a good world, which says each sentence of the whole journal
 use Rattle.hull_headline.proofs.Good.{first_come, one_holder, bridges, multiplicities, legal, in_order, ledgers}
+use Rattle.hull_headline.proofs.Tickets.{tickets}
 use Rattle.hull_shared.specs.Locks.{desk}
 use Rattle.hull_shared.proofs.law.headline_holds_of_desks.Goals as goal
 
@@ -20,6 +21,9 @@ returns-clause-legal c = legal desk (λ b lawful. lawful) c.partitioned_schedule
 
 pub returns-clause-in_order : goal.returns-clause-in_order
 returns-clause-in_order c = in_order desk (λ b lawful. lawful) c.partitioned_schedules_hold.ensures
+
+pub returns-clause-tickets : goal.returns-clause-tickets
+returns-clause-tickets c = tickets desk
 
 pub returns-clause-ledgers : goal.returns-clause-ledgers
 returns-clause-ledgers c = ledgers desk (λ b lawful. lawful) c.partitioned_schedules_hold.ensures

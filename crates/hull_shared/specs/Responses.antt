@@ -1,0 +1,55 @@
+-- Linearizability (Herlihy and Wing, 1990) of the calls at a desk, also of questions that are answered with no line.
+use Rattle.std.specs.Prelude.{◌≡◌, ℕ, Bool, true, List}
+use mathlib.Core.Option.{some}
+use lib.ListN.{get_elem?}
+use Rattle.hull_book.specs.History.{IsLegal, held_after}
+use Rattle.hull_book.specs.LongBooks.{IsQuestion}
+use Rattle.hull_book.specs.Marks.{plain}
+use Rattle.hull_book.specs.declared.marked_line.MarkedLine.{MarkedLine}
+use Rattle.hull_set.specs.Replies.{Answers}
+use Rattle.hull_set.specs.declared.call.Call.{Call}
+use Rattle.hull_set.specs.declared.rules.Rules.TheVariants.{Counted}
+use Rattle.ticket_lock.specs.Forms.{partitioned_form}
+use Rattle.ticket_lock.specs.Linearizable as lock
+use Rattle.ticket_lock.specs.Linearizable.{FoundFull, IsSequentialHistory, journal_after}
+use Rattle.ticket_lock.specs.Schedule.{Opened, Runs}
+use Rattle.ticket_lock.specs.World.{Event, World, hands_on}
+use Rattle.hull_shared.specs.DeskBooks.{IsServed}
+use Rattle.hull_shared.specs.Locks.{DeskBoxed, boxed_head, lines_at, says_desk, whole_of}
+use Rattle.hull_shared.specs.declared.answer.DeskAnswer.{DeskAnswer}
+use Rattle.hull_shared.specs.declared.answer.DeskAnswer.TheVariants.{Written, Unwritten, Full}
+use Rattle.hull_shared.specs.declared.book.DeskHead.{DeskHead}
+
+-- each hand on, the event at r, ended a call that was served (`IsServed`): the call `calls r`, with the answer `answers r`,
+-- at the journal that the events before it had left
+abbrev pub AreServed : DeskBoxed → List (Event DeskBoxed) → (ℕ → Call) → (ℕ → DeskAnswer) → Type 0
+AreServed b es calls answers = (r k : ℕ) (c : DeskBoxed) → get_elem? es r ≡ some (hands_on k c)
+    → (drains : Bool) × (t : ℕ) × IsServed (boxed_head b) drains t k (calls r) (journal_after says_desk b es r) (lines_at c)
+    (answers r)
+
+-- what a call was answered that found as many lines held as may be: that there was no room, or it was a question, and the
+-- desk answers then: by a reply that is allowed at what the lines found had left
+abbrev pub IsAnsweredWhenFull : DeskHead → Call → List MarkedLine → DeskAnswer → Type 0
+IsAnsweredWhenFull head call found (Written reply) = ⊥
+IsAnsweredWhenFull head call found Full = Unit {0}
+IsAnsweredWhenFull head call found (Unwritten reply) = (head.answers ≡ true) × IsQuestion call
+    × Answers Counted (held_after (plain found)) head.book.journal.limit call reply
+
+-- The lines are a sequential history of the calls that the events made: each call that has a line was answered with the
+-- reply of that line, which is in its seat's name and has that call; of each other call `IsAnsweredWhenFull` says what it
+-- was answered.
+pub record Agree (b : DeskBoxed) (es : List (Event DeskBoxed)) (calls : ℕ → Call) (answers : ℕ → DeskAnswer)
+    (lines : List MarkedLine) : Type 0 where
+  pub sequential : IsSequentialHistory says_desk b es lines
+  pub replies : (k i r p : ℕ) (l : MarkedLine) → lock.Call says_desk b es k i r p l
+      → (l.line.seat ≡ k) × (l.line.call ≡ calls r) × (answers r ≡ Written l.line.reply)
+  pub fulls : (k i r : ℕ) → FoundFull says_desk b es k i r
+      → IsAnsweredWhenFull (boxed_head b) (calls r) (journal_after says_desk b es r) (answers r)
+
+-- Every list of such steps leaves a whole journal that is a legal history, with which the answers agree.
+abbrev pub AnswersAtDesksAreOfLines : Type 0
+AnswersAtDesksAreOfLines = (n : ℕ) (b : DeskBoxed) (w u : World DeskBoxed DeskHead MarkedLine)
+    (es : List (Event DeskBoxed)) (calls : ℕ → Call) (answers : ℕ → DeskAnswer)
+    → Opened says_desk partitioned_form n b w → Runs says_desk partitioned_form es w u → AreServed b es calls answers
+    → IsLegal (whole_of u.current).head.journal (whole_of u.current).lines
+    × Agree b es calls answers (lines_at u.current)
