@@ -3,7 +3,8 @@
 //
 //     changes SHAPE POINTS ROUNDS
 //
-// SHAPE is `square` (random points of a square) or `parabola` (every point a corner). Each round inserts the points in a random
+// SHAPE is `square` (random points of a square), `circle` or `parabola` (every point a corner), `spike` (a parabola, over which one
+// point comes and goes) or `outermost` (a parabola whose points go from its ends inward). Each round inserts the points in a random
 // order, and then makes steps of churn: one point goes, one place is asked, the point comes again. Each line tells nanoseconds a
 // change, the least of the rounds, the peers in turns with the library, in processor time of the thread; a ratio above 1 says
 // that the library is the faster one.
@@ -11,6 +12,7 @@
 #include <CGAL/Exact_predicates_inexact_constructions_kernel.h>
 #include <CGAL/Triangulation_hierarchy_2.h>
 #include <algorithm>
+#include <cmath>
 #include <cstdio>
 #include <cstdlib>
 #include <ctime>
@@ -138,7 +140,10 @@ std::vector<Point> points_of(const std::string &shape, size_t count, std::mt1993
     std::uniform_int_distribution<int64_t> any(-1'000'000'000, 1'000'000'000);
     for (size_t i = 0; i < count; i++) {
         const auto x = static_cast<int64_t>(i) - static_cast<int64_t>(count / 2);
-        points.push_back(shape == "square" ? Point{any(random), any(random)} : Point{x, x * x});
+        const double angle = 2 * 3.14159265358979323846 * static_cast<double>(i) / static_cast<double>(count);
+        points.push_back(shape == "square"   ? Point{any(random), any(random)}
+                         : shape == "circle" ? Point{std::llround(1e9 * std::cos(angle)), std::llround(1e9 * std::sin(angle))}
+                                             : Point{x, x * x});
     }
     std::shuffle(points.begin(), points.end(), random);
     return points;
@@ -148,8 +153,26 @@ struct Times {
     double insert = 1e300, churn = 1e300;
 };
 
+// What goes, one after the other, and whether it comes again.
+struct Churn {
+    std::vector<Point> points;
+    bool comes_again;
+};
+
+Churn churn_of(const std::string &shape, std::vector<Point> points, size_t steps) {
+    if (shape == "outermost") {
+        std::sort(points.begin(), points.end(), [](const Point &a, const Point &b) { return std::llabs(a.x) > std::llabs(b.x); });
+        return {points, false};
+    }
+    Churn churn{{}, true};
+    for (size_t i = 0; i < steps; i++) {
+        churn.points.push_back(shape == "spike" ? Point{0, int64_t{1} << 40} : points[i * 7919 % points.size()]);
+    }
+    return churn;
+}
+
 // Inserts the points and churns them; returns how often the place was covered, which all have to agree on.
-template <class Set> size_t round_of(const std::vector<Point> &points, size_t steps, bool inserts, Times &least) {
+template <class Set> size_t round_of(const std::vector<Point> &points, const Churn &churn, size_t steps, bool inserts, Times &least) {
     Set set;
     const double start = now();
     for (const Point &p : points) {
@@ -158,16 +181,18 @@ template <class Set> size_t round_of(const std::vector<Point> &points, size_t st
     const double built = now();
     size_t covered = 0;
     for (size_t i = 0; i < steps; i++) {
-        const Point p = points[i * 7919 % points.size()];
+        const Point p = churn.points[i];
         set.remove(p);
         covered += set.covers(p);
-        set.add(p);
+        if (churn.comes_again) {
+            set.add(p);
+        }
     }
     const double end = now();
     if (inserts) {
         least.insert = std::min(least.insert, (built - start) / static_cast<double>(points.size()));
     }
-    least.churn = std::min(least.churn, (end - built) / (2.0 * static_cast<double>(steps)));
+    least.churn = std::min(least.churn, (end - built) / ((churn.comes_again ? 2.0 : 1.0) * static_cast<double>(steps)));
     return covered;
 }
 
@@ -180,27 +205,28 @@ void tell(const char *name, const Times &ours, const Times &peer) {
 
 int main(int argc, char **argv) {
     if (argc != 4) {
-        std::fprintf(stderr, "usage: changes square|parabola POINTS ROUNDS\n");
+        std::fprintf(stderr, "usage: changes square|circle|parabola|spike|outermost POINTS ROUNDS\n");
         return 2;
     }
     const std::string shape = argv[1];
     const size_t count = std::strtoull(argv[2], nullptr, 10);
     const int rounds = std::atoi(argv[3]);
-    const size_t steps = std::min<size_t>(20000, count);
+    const size_t steps = shape == "outermost" ? count - 8 : std::min<size_t>(20000, count);
     // corners that are all made anew at each change are tried on fewer steps
     const size_t few = shape == "square" ? steps : std::min<size_t>(steps, 200);
-    const bool tries_corners = shape == "square" || count <= 10000;
+    const bool tries_corners = shape == "square" || (count <= 10000 && shape != "spike" && shape != "outermost");
     std::mt19937_64 random(12345);
     const std::vector<Point> points = points_of(shape, count, random);
+    const Churn churn = churn_of(shape, points, steps);
     Times ours, cgal, corners;
     for (int round = 0; round < rounds; round++) {
-        const size_t covered = round_of<Ours>(points, steps, true, ours);
-        if (round_of<Cgal>(points, steps, true, cgal) != covered) {
+        const size_t covered = round_of<Ours>(points, churn, steps, true, ours);
+        if (round_of<Cgal>(points, churn, steps, true, cgal) != covered) {
             std::printf("the peers do not agree\n");
             return 1;
         }
         if (tries_corners) {
-            round_of<Corners>(points, few, true, corners);
+            round_of<Corners>(points, churn, few, true, corners);
         }
     }
     std::printf("%s, %zu points: insert %.0f ns, churn %.0f ns a change\n", shape.c_str(), count, ours.insert, ours.churn);

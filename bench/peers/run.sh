@@ -19,8 +19,12 @@ for points in 1000 100000 1000000; do
     "$room/changes" square "$points" "${1:-3}"
 done
 for points in 1000 10000; do
-    "$room/changes" parabola "$points" "${1:-3}"
+    for shape in parabola circle spike outermost; do
+        "$room/changes" "$shape" "$points" "${1:-3}"
+    done
 done
+c++ -std=c++17 -O2 -I"$room/include" "$here/memory.cpp" -L"$room/lib" -lhull -o "$room/memory"
+"$room/memory" 1000000
 if ! printf '%s\n' '#include <boost/geometry.hpp>' '#include <geos_c.h>' | c++ -fsyntax-only -x c++ - 2>/dev/null; then
     echo 'skipped: a set that stands, since there are no headers of GEOS and Boost'
     exit 0
