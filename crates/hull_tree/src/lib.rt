@@ -21,7 +21,7 @@
 //! assert!(tree.multiplicity(Point::new(2, 3)?) == 1 && tree.count() == 4); // the number of points, not of adds
 //! ```
 //!
-//! The questions are those of the trait `HullSet` (crate `hull_plain`), each O(log n) but for `vertices` and `area2`.
+//! The questions are those of the trait `HullSet` (crate `hull_set`), each O(log n) but for `vertices` and `area2`.
 //! Many threads share a tree by the crate `hull_pool`.
 #![tactic(auto)]
 

@@ -7,8 +7,8 @@
 //! # A worked example
 //!
 //! ```
-//! let (a, b, c) = (Point::new(0, 0)?, Point::new(4, 0)?, Point::new(2, 3)?); // an error where a coordinate is too
-//! large assert!(before(a, c) && before(c, b)); // by x, and then by y
+//! let (a, b, c) = (Point::new(0, 0)?, Point::new(4, 0)?, Point::new(2, 3)?); // an error out of range
+//! assert!(before(a, c) && before(c, b)); // by x, and then by y
 //! assert!(orient(a, b, c) == 12); // c lies left of the line from a to b; twice the area of the triangle
 //! assert!(product(Direction::new(0, 1)?, c) == 3); // how far c lies up
 //! ```
