@@ -41,6 +41,10 @@ module _ {T L V : Type 0} {K : Ghosts T L V} where
   abbrev pub IsOfHall : Hall T L V K → Board T L V K → Type 0
   IsOfHall hall board = board.front.seen.book ≡ hall.history.book
 
+  -- how many slots it has
+  abbrev pub slots_of : Hall T L V K → ℕ
+  slots_of hall = length hall.slots.items
+
   -- who was told of the hall's word
   abbrev pub IsToldOf : Hall T L V K → Told → Type 0
   IsToldOf hall told = IsToldOfWord hall.newest told

@@ -43,7 +43,7 @@ pub(crate) fn reader_count(word: u64) -> u64
 
 impl<T: Truth> Hall<T> {
     ghost use Rattle.published_views.specs.Numbers.{IsToldMore, told_number};
-    ghost use Rattle.published_views.specs.Views.{IsOfHall, IsToldOf, number_of};
+    ghost use Rattle.published_views.specs.Views.{IsOfHall, IsToldOf, number_of, slots_of};
 
     /// A hall with so many empty slots, for values of this history.
     pub fn new(
@@ -54,6 +54,7 @@ impl<T: Truth> Hall<T> {
     ) -> Result<Hall<T>, AllocError>
         ensures history { IfOk result (λ hall. hall.history.book ≡ front.now.seen.book) }
         ensures newest { IfOk result (λ hall. hall.newest ≡ newest) }
+        ensures slots { IfOk result (λ hall. slots_of hall ≡ count) }
     {
         let history = front.seen.again();
         let mut slots = Vec::with_capacity(alloc, count)?;

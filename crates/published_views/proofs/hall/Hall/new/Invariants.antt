@@ -1,6 +1,6 @@
--- the slots so far are of the history
-use Rattle.std.proofs.Common.{◌≡◌, All}
+-- the slots so far are of the history, one a turn
+use Rattle.std.proofs.Common.{◌≡◌, All, length}
 use Rattle.published_views.proofs.hall.Hall.new.Given as goal
 
 abbrev pub invariant-loop : goal.invariant-loop
-invariant-loop g l = All (λ slot. slot ≡ l.history) l.slots.items
+invariant-loop g l = All (λ slot. slot ≡ l.history) l.slots.items × (length l.slots.items ≡ l.counter)
