@@ -705,6 +705,7 @@ public:
         hull_shared_close(at_);
         hull_shared_end(at_);
         hull_shared_desk_free(at_);
+        hull_shared_line_end(&line_);
     }
     Desk(const Desk &) = delete;
     Desk &operator=(const Desk &) = delete;
@@ -890,6 +891,23 @@ public:
         SharedHull hull(new_desk());
         opened(hull_shared_open_without_journal(hull.desk_->at_, limits.points, limits.first, limits.seats));
         return hull;
+    }
+
+    // The same, but questions are answered also where as many lines are held as may be: by what is held, with no line.
+    static SharedHull open_answering(Limits limits) {
+        SharedHull hull(new_desk());
+        opened(hull_shared_open_answering(hull.desk_->at_, limits.points, limits.first, limits.capacity, limits.seats));
+        return hull;
+    }
+
+    // Whether a call that finds no room waits until a drain has made some. Before a seat is lent.
+    void wait_for_room(bool waits) { hull_shared_line_wait_for_room(&desk()->line_, waits ? 1 : 0); }
+
+    // Has the hull drained by itself, as hull_shared_line_on_half_full says; the hook throws nothing. Before a seat is lent.
+    void on_half_full(hull_shared_hook *hook, void *context) {
+        if (hull_shared_line_on_half_full(&desk()->line_, hook, context) == 0) {
+            told::fault(HULL_NO_MEMORY);
+        }
     }
 
     // A hull that goes on where a journal ends, with the points that it left: `text` is the journal's, whole, whose lines count as

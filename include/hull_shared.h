@@ -268,6 +268,17 @@ static inline hull_reply hull_shared_text_or_null(const hull_shared_desk *desk, 
 }
 #define hull_shared_text hull_shared_text_or_null
 
+/* Writes that text in pieces, as hull_shared_part_text_from does: TEXT; NOT_CLOSED, NO_MEMORY, TOO_SMALL with the `number` of
+ * bytes of one line. The file is whole only where the last piece told TEXT with `number` 0. */
+hull_reply hull_shared_text_from(const hull_shared_desk *desk, uint64_t line, uint8_t *out, size_t length);
+static inline hull_reply hull_shared_text_from_or_null(const hull_shared_desk *desk, uint64_t line, uint8_t *out, size_t length) {
+    if (length != 0) {
+        memset(out, 0, length);
+    }
+    return hull_shared_text_from(desk, line, (uint8_t *)hull_array(out, length), length);
+}
+#define hull_shared_text_from hull_shared_text_from_or_null
+
 /* Ends a desk that is not open, so that it holds nothing: ENDED; NOT_CLOSED, where it is open. It may be opened again. */
 uint32_t hull_shared_end(hull_shared_desk *desk);
 

@@ -286,6 +286,8 @@ def _shared_library() -> ctypes.CDLL:
         ("python_desk_new", [], at), ("python_desk_free", [at], None),
         ("python_open", [at, number, long, number, number], number),
         ("python_open_without_journal", [at, number, long, number], number),
+        ("python_open_answering", [at, number, long, number, number], number),
+        ("python_wait_for_room", [at, number], number),
         ("python_reopen", [at, at, size, number, number], _Reply),
         ("python_close", [at], number), ("python_text", [at, at, size], _Reply), ("python_out", [at], long),
         ("python_seat_new", [], at), ("python_seat_free", [at], None), ("python_lend", [at, at, number], number),
@@ -1214,14 +1216,15 @@ class SharedHull:
 
     It takes at most `limit` different points, and has a journal whose lines are numbered from `first` on: at most
     `capacity` of them are held, until a seat takes them out (`Seat.drain`). With `capacity` None the line of each call is
-    let go with its answer. Each call takes effect at one moment between its beginning and its end, in the order of the calls'
+    let go with its answer. Where as many are held, calls raise JournalFull: with `answers` only changes do, and questions are
+    answered with no line; with `waits` a call waits until another thread has drained. Each call takes effect at one moment between its beginning and its end, in the order of the calls'
     numbers.
     """
 
     __slots__ = ("_desk", "_words", "__weakref__")
 
     def __init__(self, capacity: Optional[SupportsIndex], seats: SupportsIndex, limit: SupportsIndex = POINT_LIMIT,
-                 first: SupportsIndex = 0) -> None:
+                 first: SupportsIndex = 0, *, answers: bool = False, waits: bool = False) -> None:
         library = _shared_library()
         room = 1 if capacity is None else operator.index(capacity)
         words = operator.index(limit), operator.index(first), room, operator.index(seats)
@@ -1231,10 +1234,13 @@ class SharedHull:
         self._words: Tuple[Any, ...] = words
         if capacity is None:
             code = library.hull_python_open_without_journal(self._desk, words[0], words[1], words[3])
+        elif answers:
+            code = library.hull_python_open_answering(self._desk, *words)
         else:
             code = library.hull_python_open(self._desk, *words)
         if code != _Code.OPEN:
             _refused(code)
+        library.hull_python_wait_for_room(self._desk, 1 if waits else 0)
 
     @classmethod
     def reopen(cls, text: Union[str, bytes], capacity: SupportsIndex, seats: SupportsIndex) -> SharedHull:

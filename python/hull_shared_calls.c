@@ -60,6 +60,16 @@ uint32_t hull_python_open(hull_python_desk *d, uint32_t limit, uint64_t first, u
     HULL_CODE_OF(d, hull_shared_open(d->desk, limit, first, capacity, seats));
 }
 
+uint32_t hull_python_open_answering(hull_python_desk *d, uint32_t limit, uint64_t first, uint32_t capacity, uint32_t seats) {
+    HULL_CODE_OF(d, hull_shared_open_answering(d->desk, limit, first, capacity, seats));
+}
+
+/* Whether calls wait for room; before any seat is lent. */
+uint32_t hull_python_wait_for_room(hull_python_desk *d, uint32_t waits) {
+    hull_shared_line_wait_for_room(&d->line, waits != 0);
+    return 0;
+}
+
 uint32_t hull_python_open_without_journal(hull_python_desk *d, uint32_t limit, uint64_t first, uint32_t seats) {
     HULL_CODE_OF(d, hull_shared_open_without_journal(d->desk, limit, first, seats));
 }

@@ -107,12 +107,30 @@ static void calls(hull_shared_seat *seat) {
     is("kind 10", call(seat, 10, 0, 0), HULL_UNKNOWN_KIND);
 }
 
+/* The text of a closed desk in pieces: in a row they are the text. */
+static void desk_in_pieces(hull_shared_desk *desk, const uint8_t *text, size_t length) {
+    static uint8_t all[4096], piece[256];
+    size_t so_far = 0;
+    uint64_t next = 0;
+    hull_reply told;
+    is("no room for the header", hull_shared_text_from(desk, 0, piece, 10).code, HULL_TOO_SMALL);
+    do {
+        told = hull_shared_text_from(desk, next, piece, sizeof piece);
+        is("a piece of a desk", told.code, HULL_TEXT);
+        memcpy(all + so_far, piece, told.number);
+        so_far += told.number;
+        next = told.high;
+    } while (told.code == HULL_TEXT && told.number > 0 && so_far + sizeof piece <= sizeof all);
+    is("all pieces of a desk", so_far == length && memcmp(all, text, length) == 0, 1);
+}
+
 static void codes(hull_shared_desk *desk, hull_shared_seat *one, hull_shared_seat *two) {
     static uint8_t text[4096];
     uint64_t first = UINT64_C(18446744073709551613);
     is("close of a fresh desk", hull_shared_close(desk), HULL_NOT_OPEN);
     is("end of a fresh desk", hull_shared_end(desk), HULL_ENDED);
     is("text of a fresh desk", hull_shared_text(desk, text, 1).code, HULL_NOT_CLOSED);
+    is("piece of a fresh desk", hull_shared_text_from(desk, 0, text, 100).code, HULL_NOT_CLOSED);
     is("lend of a fresh desk", hull_shared_lend(desk, one, 0), HULL_NOT_OPEN);
     is("limit 0", hull_shared_open(desk, 0, first, 20, 2), HULL_OUT_OF_LIMITS);
     is("limit", hull_shared_open(desk, HULL_LIMIT_MAX + 1, first, 20, 2), HULL_OUT_OF_LIMITS);
@@ -163,6 +181,7 @@ static void codes(hull_shared_desk *desk, hull_shared_seat *one, hull_shared_sea
     is("too small", told.code, HULL_TOO_SMALL);
     is("text", hull_shared_text(desk, text, sizeof text).code, HULL_TEXT);
     is("its end", text[told.number - 1], '\n');
+    desk_in_pieces(desk, text, told.number);
     is("behind it", text[told.number], 0);
     is("end", hull_shared_end(desk), HULL_ENDED);
 }

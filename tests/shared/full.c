@@ -1,7 +1,8 @@
 /* full THREADS CALLS CAPACITY FOLDER: so many threads make so many mixed calls each over one hull, with no thought of draining, at a
  * desk that holds so few lines; the line drains by itself, and waits for room. The parts go to the files part.1, part.2 and so on of
  * the folder, in their order, and the text of the closed desk is the last; how many they are goes to standard output. The status is 0
- * only where each call was served, each has its line, and every code at the end was as it should be. */
+ * only where each call was served, each has its line, and every code at the end was as it should be. With SLOW defined, threads are
+ * held up between the steps of waiting and of waking (steps.h), and each part takes long to write. */
 #ifdef SLOW
 #include "steps.h"
 #endif
@@ -57,6 +58,9 @@ static void keep(void *context, const hull_shared_part *part) {
     } while (!bad && r.number > 0);
     lines -= 2;
     bad |= file == NULL || fclose(file) != 0;
+#ifdef SLOW
+    nanosleep(&(struct timespec){0, 500000}, NULL); /* others find no room meanwhile */
+#endif
 }
 
 /* The calls of one thread. */

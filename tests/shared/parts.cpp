@@ -47,6 +47,26 @@ static bool writes_long_lines() {
     return corners == 6000 && longest > 1 << 16 && pieces.str() == part.text();
 }
 
+// A hull that drains by itself and waits, and one that answers questions when it is full.
+static bool drains_by_itself() {
+    std::size_t parts = 0;
+    bool good = false;
+    {
+        hull::SharedHull shared({1000, 0, 4, 1});
+        shared.wait_for_room(true);
+        shared.on_half_full([](void *context, const hull_shared_part *) { ++*static_cast<std::size_t *>(context); }, &parts);
+        hull::Seat seat = shared.lend(0);
+        for (std::int64_t x = 0; x < 100; x++) {
+            seat.add({x, x});
+        }
+        good = seat.count() == 100 && parts >= 25;
+    }
+    hull::SharedHull shared = hull::SharedHull::open_answering({1000, 0, 1, 1});
+    hull::Seat seat = shared.lend(0);
+    seat.add({1, 2});
+    return good && seat.count() == 1 && seat.turn() == 0u;
+}
+
 int main(int, char **words) {
     hull::SharedHull shared({6, 7, 3, 1});
     hull::Seat seat = shared.lend(0);
@@ -72,5 +92,5 @@ int main(int, char **words) {
     good = good && seat.add({4, 5}) == 1 && seat.turn() == 13;
     seat.give_back();
     good = good && shared.close() == "hullbook journal 3 first 13 limit 6 capacity 3\n13 0 add 4 5 = added\nend 1\n";
-    return good && writes_long_lines() ? 0 : 1;
+    return good && drains_by_itself() && writes_long_lines() ? 0 : 1;
 }

@@ -90,6 +90,21 @@ class Calls(unittest.TestCase):
         self.assertRaises(JournalFull, seat.count)
         self.assertEqual(seat.turn(), 2)
 
+    def test_a_full_hull(self):
+        hull = SharedHull(capacity=1, seats=1, limit=6, answers=True)
+        seat = hull.lend(0)
+        self.assertEqual((seat.add(1, 1), seat.count(), seat.turn()), (1, 1, 0))
+        self.assertRaises(JournalFull, seat.remove, 1, 1)
+        hull = SharedHull(capacity=2, seats=2, limit=100, waits=True)
+        one, two = hull.lend(0), hull.lend(1)
+        thread = threading.Thread(target=lambda: [one.add(x, x) for x in range(10)])
+        thread.start()
+        while thread.is_alive():
+            two.drain()
+        thread.join()
+        two.drain()
+        self.assertEqual(two.count(), 10)
+
     def test_seats_and_the_journal(self):
         hull = SharedHull(capacity=10, seats=2)
         with hull.lend(0) as seat:

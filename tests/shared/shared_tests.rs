@@ -135,6 +135,10 @@ fn faults_of_calls() {
     assert_eq!((seat.add(point(2, 2)), seat.count()), (Err(Fault::TooMany), Ok(1)));
     assert_eq!((seat.turn(), seat.count(), seat.turn()), (Some(9), Err(Fault::Full), Some(9)));
     assert_eq!(format!("{seat:?} at {hull:?}"), "Seat { number: 0, turn: Some(9), .. } at SharedHull { .. }");
+    let hull = SharedHull::open_answering(Limits { points: 1, capacity: 1, ..SMALL }).unwrap();
+    let mut seat = hull.lend(0).unwrap();
+    assert_eq!((seat.add(point(1, 1)), seat.count(), seat.turn()), (Ok(1), Ok(1), Some(7)));
+    assert_eq!(seat.remove(point(1, 1)), Err(Fault::Full));
 }
 
 #[test]

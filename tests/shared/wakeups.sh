@@ -107,6 +107,29 @@ copy
 change '/^ +next &= ~\(uint32_t\)HULL_SHARED_HEIR;/d'
 try 'an heir that lies down is one still' hang 1
 
+# at a desk that is full: storms of full.c
+try_full() {
+    mkdir -p "$room/parts"
+    cc -std=gnu11 -O2 -DSLOW ${3:-} -I"$here" -I"$room" "$here/full.c" -L"$prefix/lib" -lhull_shared -lpthread \
+        -o "$room/full" || exit 1
+    # shellcheck disable=SC2016 # the words are the inner shell's
+    sh -c 'for _ in $(seq "$1"); do rm -f "$3"/*; timeout -k 1 "$2" "$0" 8 20 2 "$3" || exit; done' \
+        "$room/full" "$(storms "$2")" "$(within "$2")" "$room/parts" >/dev/null 2>&1
+    came $? "$1" "$2"
+}
+
+copy
+try_full 'a full desk, as the header stands' end
+try_full 'the same by pthreads' end -DHULL_SHARED_BY_PTHREADS
+
+copy
+change '/__atomic_store_n\(&line->draining, 0, __ATOMIC_SEQ_CST\);/{N;s/\n.*$//}'
+try_full 'who drained for the hook wakes nobody behind it' hang
+
+copy
+change 's/^( +)hull_shared_wake_some\(line, &line->drains, 0x7fffffff\);/\1;/'
+try_full 'who makes room wakes nobody' hang
+
 # the door in Rust
 copy_crate() {
     rm -rf "$room/src"

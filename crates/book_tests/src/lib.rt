@@ -9,6 +9,8 @@ mod book;
 #[cfg(test)]
 mod devices;
 #[cfg(test)]
+mod long;
+#[cfg(test)]
 mod pictures;
 #[cfg(test)]
 mod reopened;

@@ -33,7 +33,7 @@ ghost use Rattle.hull_shared.specs.Left.{leaves_both};
 ghost use Rattle.hull_shared.specs.Limits.{kept_with, unkept_with};
 ghost use Rattle.hull_shared.specs.Drains.{HasRepliedWith};
 ghost use Rattle.hull_shared.specs.Looks.{HasReplied, HasRepliedInto, HasTaken, HasToldCapacity};
-ghost use Rattle.hull_shared.specs.Pieces.{HasWrittenPiece};
+ghost use Rattle.hull_shared.specs.Pieces.{HasWrittenPiece, HasWrittenPieceOfDesk};
 ghost use Rattle.hull_shared.specs.Reopenings.{HasReopened};
 ghost use Rattle.hull_shared.specs.Parts.{HasEndedPart, HasReserved, HasToldRoom, HasWrittenPart};
 ghost use Rattle.hull_shared.specs.declared.desk.Desk.TheVariants.{Fresh};
@@ -524,6 +524,22 @@ pub unsafe extern "C" fn hull_shared_text(at: *mut u8, out: &mut [u8]) -> HullRe
 {
     let desk = at as *mut Desk;
     closing::text(unsafe { &mut *desk }, out)
+}
+
+/// Writes whole lines of that text to the front of an array, from line `from` of it on, counted from 0: as many as it has
+/// room for. The number of the line behind them is told with that of the bytes.
+///
+/// # Safety
+///
+/// A desk lies at `at`, and no other call on it is under way.
+#[unsafe(no_mangle)]
+pub unsafe extern "C" fn hull_shared_text_from(at: *mut u8, from: u64, out: &mut [u8]) -> HullReply
+    ghost t: { desk_row.Denot }
+    requires* { sem 𝓛 (lies_at desk_row full_share at t) }
+    ensures* { sem 𝓛 (leaves desk_row at (λ new. HasWrittenPieceOfDesk from t new out.old out.new result)) }
+{
+    let desk = at as *mut Desk;
+    pieces::desk_text_from(unsafe { &mut *desk }, from, out)
 }
 
 /// Ends a desk that is not open: it holds nothing then, and its room may be used for anything.

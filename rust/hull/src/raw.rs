@@ -258,6 +258,7 @@ extern "C" {
     pub(crate) fn hull_shared_part_text_from(part: *mut u8, line: u64, out: *mut u8, length: usize) -> Reply;
     pub(crate) fn hull_shared_part_end(part: *mut u8) -> u32;
     pub(crate) fn hull_shared_open_without_journal(desk: *mut u8, limit: u32, first: u64, seats: u32) -> u32;
+    pub(crate) fn hull_shared_open_answering(desk: *mut u8, limit: u32, first: u64, capacity: u32, seats: u32) -> u32;
     pub(crate) fn hull_shared_close(desk: *mut u8) -> u32;
     pub(crate) fn hull_shared_text(desk: *mut u8, out: *mut u8, length: usize) -> Reply;
     pub(crate) fn hull_shared_end(desk: *mut u8) -> u32;

@@ -119,6 +119,18 @@ impl SharedHull {
         }
     }
 
+    /// The same, but questions are answered also where as many lines are held as may be: by what is held, with no line.
+    pub fn open_answering(limits: Limits) -> Result<SharedHull, Fault> {
+        let desk = Counted::new(Desk::new()?)?;
+        let Limits { points, first, capacity, seats } = limits;
+        // SAFETY: as above.
+        let told = unsafe { raw::hull_shared_open_answering(desk.lock().at(), points, first, capacity, seats) };
+        match told {
+            code::OPEN => Ok(SharedHull { desk }),
+            other => Err(answer::fault_of(other)),
+        }
+    }
+
     /// The same, but the line of each call is let go with its answer: the text of the journal has none. `capacity` is not read.
     pub fn open_without_journal(limits: Limits) -> Result<SharedHull, Fault> {
         let desk = Counted::new(Desk::new()?)?;
@@ -438,7 +450,7 @@ impl Seat {
                 code::NOT_YET => spin_loop(), // by no call: who is inside is alone
                 code::FULL => return Err(Fault::Full),
                 _ => {
-                    self.turn = Some(reply.line);
+                    self.turn = if reply.has_line == 1 { Some(reply.line) } else { self.turn };
                     return Ok(reply.told);
                 }
             }
