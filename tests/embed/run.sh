@@ -364,6 +364,33 @@ in_many_processes() {
     fi
 }
 
+# the listings of docs/PLANNERS.md in a language, each between two lines: FENCE BEFORE BEHIND
+listings() {
+    awk -v fence="\`\`\`$1" -v before="$2" -v behind="$3" '
+        $0 == fence { inside = 1; print before; next }
+        /^```$/ && inside { inside = 0; print behind; next }
+        inside' "$top/docs/PLANNERS.md"
+}
+
+# writes a program with the lines of docs/PLANNERS.md: a planner's, a packer's, a collision check's
+planners() {
+    { printf '#include <assert.h>\n#include "hull.h"\nint main(void) {\n'; listings c '{' '}'; printf 'return 0;\n}\n'; } >"$room/planners.c"
+    { echo 'import hull'; listings python 'listed = True' ''; } >"$room/planners.py"
+    [ "$(grep -cx '{' "$room/planners.c")" -eq 3 ] && [ "$(grep -cx 'listed = True' "$room/planners.py")" -eq 3 ]
+}
+
+in_planners() {
+    try "docs/PLANNERS.md has three listings in C and in Python" planners
+    if is_there cc; then
+        # shellcheck disable=SC2046 # the flags stand apart by spaces
+        try "those in C compile" cc -std=c11 -Wall -Wextra -Werror -O2 -UNDEBUG "$room/planners.c" $(flags) -o "$room/planners"
+        try "those in C are true" "$room/planners"
+    else
+        skip "listings in C" cc
+    fi
+    if is_there python3; then try "those in Python are true" python "$room/planners.py"; else skip "listings in Python" python3; fi
+}
+
 what=
 if ! { "$top/tools/release.py" --program hullbook && "$top/tools/release.py" --program hulldraw; } >/dev/null 2>&1; then
     what=--library
@@ -381,5 +408,6 @@ if is_there cc && is_there valgrind; then by_valgrind; else skip "memory by valg
 if is_there cc && is_there c++; then in_cplusplus; else skip "C++" c++; fi
 if is_there cc && is_there rustc; then in_rust; else skip "Rust" "cc or no rustc"; fi
 if is_there cc && is_there python3; then in_python; else skip "Python" "cc or no python3"; fi
+in_planners
 in_many_processes
 end
