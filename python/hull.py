@@ -58,7 +58,7 @@ __version__ = "1.0.0"
 __all__ = [
     "CAPACITY_LIMIT", "COORDINATE_LIMIT", "MULTIPLICITY_LIMIT", "POINT_LIMIT", "SEAT_LIMIT", "Ended", "FloatHull", "Hull",
     "JournalFault", "JournalFull", "JournalPart", "Lattice", "NoSeat", "OutOfRange", "Outline", "Place", "Relation", "Seat", "SeatsOut",
-    "SharedHull", "Shows", "TooMany", "Witness", "ZeroDirection", "direction_of", "from_floats", "to_floats", "wkt",
+    "SharedHull", "Shows", "TooMany", "Witness", "ZeroDirection", "direction_of", "from_floats", "merge", "to_floats", "wkt",
 ]
 
 #: A point, and one that is held with how often it is.
@@ -909,6 +909,14 @@ def _written_corners(write: Callable[[int, int], _Reply]) -> "array[int]":
         count = told.number + told.number // 8  # there may be more by then
 
 
+def _corners_of(flat: "array[int]") -> "array[int]":
+    """The coordinates of the corners of any points."""
+    count = len(flat) // 2
+    flat.extend((0, 0))  # so that no points have a place in memory, too
+    write: Any = _LIBRARY.hull_outline_of
+    return _written_corners(functools.partial(write, flat.buffer_info()[0], count))
+
+
 def _hull_of(items: Iterable[Item], limit: int) -> Hull:
     """The hull with these items."""
     hull = Hull(limit=limit)
@@ -927,8 +935,7 @@ class Outline(_Questions):
     __slots__ = ("_corners", "_count", "__weakref__")
 
     def __init__(self, corners: Any) -> None:
-        self._corners = _flat(corners)
-        self._count = len(self._corners) // 2
+        self._hold(_flat(corners))
         told = _LIBRARY.hull_is_outline(*self._there())
         _told(told.code)
         if told.number != 1:
@@ -941,17 +948,16 @@ class Outline(_Questions):
         Where they are the corners of a convex polygon in their order, from whatever corner on and in either sense, that takes
         a few passes over them; else they are sorted.
         """
-        flat = _flat(points)
-        count = len(flat) // 2
-        flat.extend((0, 0))  # so that no points have a place in memory, too
         made = cls(())
-        write: Any = _LIBRARY.hull_outline_of
-        made._corners = _written_corners(functools.partial(write, flat.buffer_info()[0], count))
-        made._count = len(made._corners) // 2
+        made._hold(_corners_of(_flat(points)))
         return made
 
+    def _hold(self, corners: "array[int]") -> None:
+        """Keeps the coordinates of corners."""
+        self._corners, self._count = corners, len(corners) // 2
+
     def __reduce__(self) -> Any:
-        return Outline, (self.vertices(),)
+        return _outline_again, (self._corners,)
 
     def __repr__(self) -> str:
         return f"<Outline of {self._count} corners>"
@@ -1117,6 +1123,31 @@ class Outline(_Questions):
 
 
 _NO_CORNERS = (ctypes.c_int64 * 2)()
+
+
+def _outline_again(corners: "array[int]") -> Outline:
+    """The outline of a pickle, which is judged as any other."""
+    return Outline(memoryview(corners).cast("B").cast("q", (len(corners) // 2, 2)) if corners else ())
+
+
+def merge(outlines: Iterable[Outline]) -> Outline:
+    """The outline of all that outlines were taken of: the corners of a union are those of the corners.
+
+    So points that lie in many blocks, files or machines are never brought together: of each block an outline is made and passed on
+    (it is pickled as its corners, 16 bytes each), and outlines are merged in any order. TooMany where more corners than POINT_LIMIT
+    meet: those of one outline and those of all before it.
+    """
+    flat, gathered = array("q"), 0
+    for outline in outlines:
+        if not isinstance(outline, Outline):
+            raise TypeError(f"what is merged is an Outline, and not {type(outline).__name__}")
+        if gathered == MULTIPLICITY_LIMIT or len(flat) // 2 + len(outline) > POINT_LIMIT:
+            flat, gathered = _corners_of(flat), 1
+        flat.extend(outline._corners)
+        gathered += 1
+    made = Outline(())
+    made._hold(_corners_of(flat))
+    return made
 
 
 class FloatHull:

@@ -136,6 +136,13 @@ export interface Outline extends Questions {
     meets(other: Outline): boolean;
     /** Whether this hull covers whatever the other one covers. */
     contains(other: Outline): boolean;
+    /** How this hull stands to the other one. */
+    relation(other: Outline): Relation;
+    /** Whether all of the other hull lies inside this one, with no point of it on the boundary. */
+    containsInside(other: Outline): boolean;
+    /** Whether two hulls are no farther apart than numerator / denominator (1 where none is given), exactly; false where one has no
+     * corner. OutOfRange where the numerator is no whole Number from 0 to 2^53 - 1, or the denominator none from 1 to 2^32 - 1. */
+    within(other: Outline, numerator: number, denominator?: number): boolean;
     /** Where two hulls meet, or what parts them. Null where one has no corner. */
     witness(other: Outline): Witness | null;
     /** Where two hulls are nearest: a place on this one and one on the other, as `nearest` tells it; two of none where they meet. */
@@ -143,6 +150,10 @@ export interface Outline extends Questions {
     /** The squared distance of two hulls, 0 where they meet. */
     squaredDistance(other: Outline): Fraction | null;
 }
+
+/** How one hull stands to another: `within` where the other one covers all of it and more, `covers` the other way, `equal` where each
+ * covers the other; else `touching` where they meet and a line has them on its two sides, `overlapping` where they meet and none has. */
+export type Relation = "apart" | "touching" | "overlapping" | "within" | "covers" | "equal";
 
 /** What shows how two hulls stand: `apart`, a corner of the first and a direction; `covered`, a corner of the second that the first
  * covers; `within`, a corner of the first that the second covers; `crossing`, two corners of each whose segments cross. */

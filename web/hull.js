@@ -45,6 +45,8 @@ const WITNESS = { size: 72, first: 8 };
 const SHOWN = {
     [CODE.apart]: ["apart", 2], [CODE.covered]: ["covered", 1], [CODE.within]: ["within", 1], [CODE.crossing]: ["crossing", 4],
 };
+// how one outline stands to another, by its number
+const RELATIONS = ["apart", "touching", "overlapping", "within", "covers", "equal"];
 // how many points of a distance are the place on this outline, and on the other
 const PLACES_OF = { [CODE.points]: [1, 1], [CODE.corner]: [1, 2], [CODE.edge]: [2, 1] };
 const REQUESTS_AT_ONCE = 1024;
@@ -499,10 +501,16 @@ class OutlineOfInstance extends Questions {
     }
 
     /** The same of this outline and another one, or that tells a witness. */
-    #beside(call, name, other) {
+    #beside(call, name, other, ...words) {
         const instance = this._live();
         if (!(other instanceof OutlineOfInstance) || other._live() !== instance) throw new NoOutline("the other one is no outline of the same module");
-        return instance[call](name, this.#address, this.#corners, other.#address, other.#corners);
+        return instance[call](name, this.#address, this.#corners, other.#address, other.#corners, ...words);
+    }
+
+    /** The number that a call with another outline tells. */
+    #numberBeside(name, other, ...words) {
+        this.#beside("ask", name, other, ...words);
+        return this._live().number();
     }
 
     meetsSegment(ax, ay, bx, by) {
@@ -539,13 +547,27 @@ class OutlineOfInstance extends Questions {
     }
 
     meets(other) {
-        this.#beside("ask", "hull_outline_meets", other);
-        return this._live().number() === 1;
+        return this.#numberBeside("hull_outline_meets", other) === 1;
     }
 
     contains(other) {
-        this.#beside("ask", "hull_outline_contains", other);
-        return this._live().number() === 1;
+        return this.#numberBeside("hull_outline_contains", other) === 1;
+    }
+
+    relation(other) {
+        return RELATIONS[this.#numberBeside("hull_outline_relation", other)];
+    }
+
+    containsInside(other) {
+        return this.#numberBeside("hull_outline_contains_inside", other) === 1;
+    }
+
+    within(other, numerator, denominator = 1) {
+        const isWhole = (value) => Number.isSafeInteger(value) && value >= 0;
+        if (!isWhole(numerator) || !isWhole(denominator) || denominator < 1 || denominator >= HALF) {
+            throw new OutOfRange("a length is a whole Number from 0 on by one from 1 to 2^32 - 1");
+        }
+        return this.#numberBeside("hull_outline_within", other, BigInt(numerator), denominator) === 1;
     }
 
     witness(other) {

@@ -297,6 +297,28 @@ class Calls(unittest.TestCase):
         self.assertRaises(OutOfRange, outline.apart_from_segment, far, 0, 0, 0)
         self.assertRaises(OutOfRange, outline.nearest, 0, 1 << 70)
 
+    def test_outlines_are_merged(self):
+        Outline, merge = hull_module.Outline, hull_module.merge
+        parts = [[(x * y % 23, x + y) for x in range(part, part + 9)] for part in range(12) for y in (1, 7)]
+        whole = Outline.of([point for part in parts for point in part])
+        self.assertEqual(merge(map(Outline.of, parts)), whole)
+        halves = merge(map(Outline.of, parts[:5])), merge(map(Outline.of, parts[5:]))
+        self.assertEqual((merge(halves), merge([whole]), merge([whole] * 3)), (whole,) * 3)
+        none, point = Outline([]), Outline([(3, 4)])
+        self.assertEqual((merge([]), merge([none, none]), merge([none, point])), (none, none, point))
+        self.assertEqual(merge([point] * (2 * MULTIPLICITY_LIMIT + 1)), point)
+        self.assertRaises(TypeError, merge, [point, [(0, 0)]])
+        self.assertEqual(whole, merge([whole]))
+
+    def test_more_corners_are_merged_than_an_outline_has(self):
+        half = POINT_LIMIT // 2
+        low, high = (hull_module.Outline([(x, x * x) for x in range(first, first + half)]) for first in (0, half))
+        both = hull_module.merge([low, high, low, high])
+        self.assertEqual((len(both), both.place(half, half * half)), (POINT_LIMIT, Place.ON))
+        again = pickle.loads(pickle.dumps(both))
+        self.assertTrue(again == both and len(pickle.dumps(both)) < 16 * POINT_LIMIT + 1000)
+        self.assertRaises(TooMany, hull_module.merge, [both, hull_module.Outline([(-1, 1)])])
+
     def test_two_outlines(self):
         Outline, Shows = hull_module.Outline, hull_module.Shows
         outline, none = Outline([(0, 0), (10, 0), (10, 10), (0, 10)]), Outline([])

@@ -326,6 +326,71 @@ in_python() {
     fi
 }
 
+# the same answer by Dask's scheduler, also where a worker is killed that holds outlines: NAME ARGUMENTS..
+by_dask() {
+    wanted=$top/examples/large/$1.txt
+    shift
+    writes "$wanted" python "$top/examples/large/blocks.py" "$@" 2>"$room/told_of_workers" || { cat "$room/told_of_workers"; return 1; }
+    case " $* " in *' --kill '*) grep -q 'is killed that holds [1-9]' "$room/told_of_workers" ;; esac
+}
+
+by_mpi() {
+    processes=$1
+    wanted=$top/examples/large/$2.txt
+    shift 2
+    OMPI_ALLOW_RUN_AS_ROOT=1 OMPI_ALLOW_RUN_AS_ROOT_CONFIRM=1 OMPI_MCA_rmaps_base_oversubscribe=1 \
+        writes "$wanted" mpirun -n "$processes" "$room/reduce" "$@"
+}
+
+# more points than one machine holds, on a small scale: by one process, by Dask's workers, by MPI
+in_many_processes() {
+    if with "numpy, distributed"; then
+        try "examples/large/blocks.py by one process" by_dask square 2000000 --block 65536 --workers 0
+        try "examples/large/blocks.py by three workers" by_dask square 2000000 --block 65536 --workers 3
+        try "examples/large/blocks.py where a worker is killed in the middle" by_dask square 2000000 --block 65536 --workers 3 --kill
+        try "examples/large/blocks.py where all are corners" by_dask parabola 262144 --shape parabola --block 16384 --workers 3 --kill
+    else
+        skip "outlines by Dask's workers" "python3 with numpy and distributed (python3-distributed)"
+    fi
+    if is_there mpicc && is_there mpirun; then
+        # shellcheck disable=SC2046 # the flags stand apart by spaces
+        try "examples/large/reduce.c compiles" mpicc -std=c11 -Wall -Wextra -Werror -O2 "$top/examples/large/reduce.c" $(flags) -o "$room/reduce"
+        for processes in 1 3 4; do
+            try "examples/large/reduce.c by $processes processes" by_mpi "$processes" square 2000000 square 1 65536
+            try "examples/large/reduce.c by $processes, where all are corners" by_mpi "$processes" parabola 262144 parabola 1 16384
+        done
+    else
+        skip "outlines reduced by MPI" "mpicc (libopenmpi-dev, openmpi-bin)"
+    fi
+}
+
+# the listings of docs/PLANNERS.md in a language, each between two lines: FENCE BEFORE BEHIND
+listings() {
+    awk -v fence="\`\`\`$1" -v before="$2" -v behind="$3" '
+        $0 == fence { inside = 1; print before; next }
+        /^```$/ && inside { inside = 0; print behind; next }
+        inside' "$top/docs/PLANNERS.md"
+}
+
+# writes a program with the lines of docs/PLANNERS.md: a planner's, a packer's, a collision check's
+planners() {
+    { printf '#include <assert.h>\n#include "hull.h"\nint main(void) {\n'; listings c '{' '}'; printf 'return 0;\n}\n'; } >"$room/planners.c"
+    { echo 'import hull'; listings python 'listed = True' ''; } >"$room/planners.py"
+    [ "$(grep -cx '{' "$room/planners.c")" -eq 3 ] && [ "$(grep -cx 'listed = True' "$room/planners.py")" -eq 3 ]
+}
+
+in_planners() {
+    try "docs/PLANNERS.md has three listings in C and in Python" planners
+    if is_there cc; then
+        # shellcheck disable=SC2046 # the flags stand apart by spaces
+        try "those in C compile" cc -std=c11 -Wall -Wextra -Werror -O2 -UNDEBUG "$room/planners.c" $(flags) -o "$room/planners"
+        try "those in C are true" "$room/planners"
+    else
+        skip "listings in C" cc
+    fi
+    if is_there python3; then try "those in Python are true" python "$room/planners.py"; else skip "listings in Python" python3; fi
+}
+
 what=
 if ! { "$top/tools/release.py" --program hullbook && "$top/tools/release.py" --program hulldraw; } >/dev/null 2>&1; then
     what=--library
@@ -343,4 +408,6 @@ if is_there cc && is_there valgrind; then by_valgrind; else skip "memory by valg
 if is_there cc && is_there c++; then in_cplusplus; else skip "C++" c++; fi
 if is_there cc && is_there rustc; then in_rust; else skip "Rust" "cc or no rustc"; fi
 if is_there cc && is_there python3; then in_python; else skip "Python" "cc or no python3"; fi
+in_planners
+in_many_processes
 end

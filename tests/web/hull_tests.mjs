@@ -239,6 +239,41 @@ await tried("outlines beside one another", () => {
     }
     return `${compared} pairs`;
 });
+/** How two hulls stand to one another, by their corners: a line that divides them can be turned until it runs along two corners' way. */
+function standing(ours, theirs, a, b) {
+    const [holds, held] = [b.every((it) => ours.place(...it) !== "outside"), a.every((it) => theirs.place(...it) !== "outside")];
+    if (holds || held) return holds && held ? "equal" : holds ? "covers" : "within";
+    if (ours.squaredDistance(theirs).numerator > 0n) return "apart";
+    const ways = a.flatMap(([x, y]) => b.flatMap(([p, q]) => [[q - y, x - p], [y - q, p - x]])).filter(([x, y]) => x !== 0 || y !== 0);
+    const along = ([x, y]) => ([p, q]) => x * p + y * q;
+    const divides = (way) => Math.max(...a.map(along(way))) <= Math.min(...b.map(along(way)));
+    return ways.some(divides) ? "touching" : "overlapping";
+}
+await tried("relations of outlines, and lengths", () => {
+    const random = random_of(11), number = () => random(7) - 3, seen = {};
+    for (let round = 0; round < 600; round++) {
+        const [ours, theirs] = [0, 1].map((shift) => Outline.of(Array.from({ length: 1 + random(4) }, () => [number() + 2 * shift, number()])));
+        const [a, b] = [ours.vertices(), theirs.vertices()], relation = standing(ours, theirs, a, b);
+        assert.equal(ours.relation(theirs), relation);
+        seen[relation] = (seen[relation] ?? 0) + 1;
+        assert.equal(ours.containsInside(theirs), b.every((it) => ours.place(...it) === "inside"));
+        const { numerator, denominator } = ours.squaredDistance(theirs);
+        for (const [n, d] of [[0, 1], [random(9), 1], [random(30), 1 + random(9)], [2 ** 53 - 1, 1], [1, 2 ** 32 - 1]]) {
+            assert.equal(ours.within(theirs, n, d), numerator * BigInt(d) ** 2n <= BigInt(n) ** 2n * denominator);
+        }
+        for (const it of [ours, theirs]) it.free();
+    }
+    assert.equal(Object.keys(seen).length, 6);
+    const [square, flush] = [new Outline([[0, 0], [4, 0], [4, 4], [0, 4]]), new Outline([[4, 1], [9, 1], [9, 3]])], none = new Outline([]);
+    assert.deepEqual([square.relation(flush), square.relation(none), none.relation(square)], ["touching", "covers", "within"]);
+    assert.deepEqual([square.within(none, 9), square.within(new Outline([[7, 8]]), 5), square.within(new Outline([[7, 8]]), 499, 100)], [false, true, false]);
+    const lengths = [[-1], [0.5], [NaN], [2 ** 53], ["1"], [1n], [1, 0], [1, 2 ** 32], [1, 0.5]];
+    for (const length of lengths) assert.throws(() => square.within(flush, ...length), faults.OutOfRange);
+    assert.throws(() => square.relation([[0, 0]]), faults.NoOutline);
+    flush.free();
+    assert.throws(() => square.containsInside(flush), faults.Ended);
+    return Object.entries(seen).map(([word, times]) => `${times} ${word}`).join(", ");
+});
 await tried("bytes that are no module, and texts that are no journal", async () => {
     await assert.rejects(load(new Uint8Array(8)), faults.Unsupported);
     await assert.rejects(load(new Uint8Array([0, 97, 115, 109, 1, 0, 0, 0])), faults.Unsupported);

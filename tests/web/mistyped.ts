@@ -10,5 +10,7 @@ const area: number = hull.doubledArea(); // wrong
 hull.place(1, 2) === "within"; // wrong
 hull.tangents(1, 2).left; // wrong
 new Outline([[0, 0]]).add(1, 2); // wrong
+new Outline([]).relation(new Outline([])) === "inside"; // wrong
+new Outline([]).within(new Outline([]), "1"); // wrong
 readJournal(5); // wrong
 export { area };

@@ -1,5 +1,5 @@
 // What the types let through: the README's first example and one call of each kind.
-import { HullError, load, type Fraction, type Held, type Hull, type Outline, type Place, type Point, type Tangents } from "hullbook";
+import { HullError, load, type Fraction, type Held, type Hull, type Outline, type Place, type Point, type Relation, type Tangents } from "hullbook";
 import { directionOf, fromFloats, wkt } from "hullbook/exchange.js";
 import { Replay, joinJournals, journalText, judge, readJournal } from "hullbook/journal.js";
 
@@ -23,6 +23,11 @@ export function asked(hull: Hull, outline: Outline): (Fraction | Held | Tangents
     const [ours] = outline.distance(outline) ?? [];
     const times: Uint32Array = hull.addAll([[1, 2]]), left: number | null = hull.remove(1, 2);
     return [outline.squaredDistance(outline), hull.held()[times[0]], seen, seen?.left, ours?.[left ?? 0], hull.extreme(...directionOf(0.1, 0.2)), outline.witness(outline)?.points[0]];
+}
+
+export function stands(ours: Outline, theirs: Outline): Relation | null {
+    const relation: Relation = ours.relation(theirs);
+    return relation === "touching" || ours.containsInside(theirs) || ours.within(theirs, 3) || ours.within(theirs, 1, 2) ? relation : null;
 }
 
 export async function journals(texts: { name: string; text: string }[]): Promise<string> {
