@@ -1,5 +1,5 @@
 -- Two sets that a line divides: an edge of one of them has the other on its right, or on its line.
-use Rattle.std.proofs.Common.{◌≡◌, ℕ, ◌+◌, ◌≤◌, ◌<◌, ℤ, pos, ◌-ℤ◌, ◌*ℤ◌, ◌≤ℤ◌, ◌<ℤ◌, neg_ℤ, ◌⊎◌, inl, inr, sym, subst, List}
+use Rattle.std.proofs.Common.{◌≡◌, ℕ, ◌+◌, ◌≤◌, ◌<◌, ℤ, pos, ◌-ℤ◌, ◌≤ℤ◌, ◌<ℤ◌, neg_ℤ, ◌⊎◌, inl, inr, sym, subst, List}
 use Rattle.std.proofs.Common.{length, refl, ap, ap₂, ◌∙◌, arith}
 use Rattle.std.specs.Bool.{IsTrue}
 use Rattle.std.specs.List.{Contains}
@@ -21,7 +21,7 @@ use Rattle.hull_outline.specs.Nearest.{previous}
 use Rattle.hull_outline.specs.Outlines.{IsOutlineOf}
 use Rattle.hull_outline.specs.Boxes.{Holds}
 use Rattle.hull_outline.specs.Meetings.{IsApart, Meets, Reaches, IsReached, Crosses, TellsMeeting}
-use Rattle.hull_outline.specs.Relations.{AreDivided, Divides, IsLeftOfEach, TellsEdge}
+use Rattle.hull_outline.specs.Relations.{AreDivided, IsLeftOfEach, TellsEdge}
 use Rattle.hull_outline.specs.Rounds.{corner, IsParted}
 use Rattle.hull_outline.specs.Steps.{left_of}
 use Rattle.hull_outline.proofs.Axes.{IsWedge}

@@ -1,7 +1,6 @@
 -- Halls, boards that are published in one, and who was told of it.
 use Rattle.std.specs.Prelude.{◌≡◌, ℕ, ◌/◌, List, length}
 use Rattle.std.specs.Arc.{arc_value}
-use Rattle.published_views.specs.Numbers.{told_word}
 use Rattle.published_views.specs.declared.TheConstants.{SLOT_LIMIT}
 use Rattle.published_views.specs.declared.board.Board.{Board}
 use Rattle.published_views.specs.declared.board.Truth.{Ghosts}

@@ -1,5 +1,5 @@
 -- the shorter of two beginnings of what both have seen begins the other
-use Rattle.std.proofs.Common.{ap, refl, subst, List}
+use Rattle.std.proofs.Common.{ap, refl, subst}
 use mathlib.Core.List.{IsPrefix}
 use Rattle.published_views.proofs.Beginnings.{begins_by_count}
 use Rattle.published_views.proofs.history.Front.begins.Goals as goal

@@ -1,5 +1,5 @@
 -- the exchange keeps the rule
-use Rattle.std.proofs.Common.{sym, ◌∙◌, ap}
+use Rattle.std.proofs.Common.{◌∙◌, ap}
 use Rattle.published_views.specs.declared.newest.Rise.{Rise}
 use Rattle.published_views.proofs.RaisedWords.{raises_moves}
 use Rattle.published_views.proofs.newest.Newest.raise.Goals as goal
