@@ -3,3 +3,8 @@ pub mod OneWay
 pub mod Parts
 pub mod Loads
 pub mod Counts
+pub mod Turns
+pub mod Lists
+pub mod Roots
+pub mod Levels
+pub mod Sets

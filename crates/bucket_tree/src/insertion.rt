@@ -1,5 +1,5 @@
 //! Putting points in.
-ghost use Rattle.std.specs.Prelude.{◌≡◌, ◌<◌, ◌≤◌, ◌+◌, ◌*◌, ◌++◌, false, length};
+ghost use Rattle.std.specs.Prelude.{◌≡◌, ◌<◌, ◌≤◌, ◌+◌, ◌++◌, false, length};
 ghost use Rattle.std.specs.List.{Contains};
 ghost use Rattle.lattice.specs.Covers.{IsPointSet, with_point};
 ghost use Rattle.hull_buckets.specs.declared.TheConstants.{ROOM};
@@ -7,6 +7,7 @@ ghost use Rattle.hull_set.specs.Held.{once};
 ghost use Rattle.hull_set.specs.declared.TheConstants.{POINT_LIMIT};
 ghost use Rattle.bucket_tree.specs.Counts.{counted, HasGained, IsNoMuchHigher};
 ghost use Rattle.bucket_tree.specs.Nodes.{points_below, forks_above, IsWellBuilt};
+ghost use Rattle.bucket_tree.specs.Turns.{most_turns};
 ghost use Rattle.bucket_tree.specs.declared.node.Node.{Leaf};
 
 use crate::join::{balance, join, take_apart};
@@ -82,7 +83,7 @@ fn insert_leaf(alloc: Heap, mut bucket: Box<Bucket, Heap>, p: Point) -> Inserted
     ensures built { IsWellBuilt result.node }
     ensures gained { HasGained result.refused p (Leaf bucket) result.node }
     ensures height { IsNoMuchHigher (Leaf bucket) result.node }
-    ensures turns { result.turns ≤ 136 }
+    ensures turns { result.turns ≤ 24 }
 {
     if !bucket.is_full() {
         return Inserted {
@@ -138,7 +139,7 @@ pub fn insert(alloc: Heap, node: Node, p: Point) -> Inserted
     ensures built { IsWellBuilt result.node }
     ensures gained { HasGained result.refused p node result.node }
     ensures height { IsNoMuchHigher node result.node }
-    ensures turns { result.turns ≤ 408 * forks_above node + 136 }
+    ensures turns { result.turns ≤ most_turns (forks_above node) }
 {
     if height_of(&node) == 0 {
         return insert_leaf(alloc, bucket_of(node), p);

@@ -43,7 +43,7 @@ pub(crate) fn join(left: Node, right: Node, mut place: Box<Fork, Heap>) -> (Node
     ensures points { points_below result.0 ≡ points_below left ++ points_below right }
     ensures times { times_below result.0 ≡ times_below left ++ times_below right }
     ensures height { forks_above result.0 ≡ max (forks_above left) (forks_above right) + 1 }
-    ensures turns { result.1 ≤ 136 }
+    ensures turns { result.1 ≤ 4 * max (forks_above left) (forks_above right) + 24 }
 {
     let (upper, lower, turns) = search(&left, &right);
     let height = height_of(&left).max(height_of(&right)) + 1;
@@ -89,7 +89,7 @@ fn rotate_right(left: Node, right: Node, place: Box<Fork, Heap>) -> (Node, u32)
     ensures points { points_below result.0 ≡ points_below left ++ points_below right }
     ensures times { times_below result.0 ≡ times_below left ++ times_below right }
     ensures height { IsHeightOver (forks_above left) (forks_above right) (forks_above result.0) }
-    ensures turns { result.1 ≤ 408 }
+    ensures turns { result.1 ≤ 12 * forks_above left + 72 }
 {
     let (outer, inner, below) = take_apart(left);
     if height_of(&outer) >= height_of(&inner) {
@@ -115,7 +115,7 @@ fn rotate_left(left: Node, right: Node, place: Box<Fork, Heap>) -> (Node, u32)
     ensures points { points_below result.0 ≡ points_below left ++ points_below right }
     ensures times { times_below result.0 ≡ times_below left ++ times_below right }
     ensures height { IsHeightOver (forks_above left) (forks_above right) (forks_above result.0) }
-    ensures turns { result.1 ≤ 408 }
+    ensures turns { result.1 ≤ 12 * forks_above right + 72 }
 {
     let (inner, outer, below) = take_apart(right);
     if height_of(&outer) >= height_of(&inner) {
@@ -141,7 +141,7 @@ pub(crate) fn balance(left: Node, right: Node, place: Box<Fork, Heap>) -> (Node,
     ensures points { points_below result.0 ≡ points_below left ++ points_below right }
     ensures times { times_below result.0 ≡ times_below left ++ times_below right }
     ensures height { IsHeightOver (forks_above left) (forks_above right) (forks_above result.0) }
-    ensures turns { result.1 ≤ 408 }
+    ensures turns { result.1 ≤ 12 * max (forks_above left) (forks_above right) + 72 }
 {
     let (on_left, on_right) = (height_of(&left), height_of(&right));
     if on_left > on_right + 1 {

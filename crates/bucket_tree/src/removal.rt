@@ -1,8 +1,9 @@
 //! Taking points out.
-ghost use Rattle.std.specs.Prelude.{◌≡◌, ◌≤◌, ◌+◌, ◌*◌, length};
+ghost use Rattle.std.specs.Prelude.{◌≡◌, ◌≤◌, length};
 ghost use Rattle.hull_set.specs.declared.TheConstants.{POINT_LIMIT};
 ghost use Rattle.bucket_tree.specs.Counts.{times_at, HasLost};
 ghost use Rattle.bucket_tree.specs.Nodes.{points_below, forks_above, IsWellBuilt};
+ghost use Rattle.bucket_tree.specs.Turns.{most_turns};
 ghost use Rattle.bucket_tree.specs.declared.node.Node.{Leaf};
 
 use crate::insertion::bucket_of;
@@ -37,7 +38,7 @@ pub fn remove(node: Node, p: Point) -> (Option<Node>, u32)
     requires few { length (points_below node) ≤ POINT_LIMIT }
     requires low { forks_above node ≤ 28 }
     ensures lost { HasLost p node result.0 }
-    ensures turns { result.1 ≤ 408 * forks_above node }
+    ensures turns { result.1 ≤ most_turns (forks_above node) }
 {
     if height_of(&node) == 0 {
         return (remove_leaf(bucket_of(node), p), 0);

@@ -3,7 +3,8 @@ use Rattle.std.proofs.Common.{◌∙◌, ap, subst, sym, arith, List, length, le
 use Rattle.std.specs.List.{Contains}
 use Rattle.std.proofs.lemmas.List.Elements.{Contains-append_right}
 use Rattle.lattice.specs.Plane.{Pair, IsBefore}
-use Rattle.bucket_tree.specs.Nodes.{points_below}
+use Rattle.bucket_tree.specs.Nodes.{points_below, forks_above}
+use Rattle.bucket_tree.proofs.MostTurns.{one_fork, few_sum}
 use Rattle.bucket_tree.proofs.NodePoints.{some_below}
 use Rattle.bucket_tree.proofs.Gained.{passed, failed, left_row, left_few, right_row, right_few, gained_left}
 use Rattle.bucket_tree.proofs.Gained.{gained_right}
@@ -86,3 +87,54 @@ returns-else-before-clause-gained t c =
     c.take_apart-left.ensures.row.left_built.buckets c.take_apart-left.ensures.points c.take_apart-left.ensures.times
     c.balance-node-else-before.ensures.points c.balance-node-else-before.ensures.times
     c.insert-change-else-before.ensures.gained
+
+-- the change below and the fork above it take so many turns together
+pub overflow_add-result : goal.overflow_add-result
+overflow_add-result t c =
+    omega (
+      arith,
+      few_sum (forks_above c.args.node) (forks_above c.take_apart-left.result.0) c.insert-change.result.turns
+          c.balance-node.result.1 (omega (arith, c.take_apart-left.ensures.height)) c.requires.low
+          c.insert-change.ensures.turns
+          (omega (arith, c.balance-node.ensures.turns, c.insert-change.ensures.height.1, c.take_apart-left.ensures.height)),
+    )
+
+pub overflow_add-result-else-before : goal.overflow_add-result-else-before
+overflow_add-result-else-before t c =
+    omega (
+      arith,
+      few_sum (forks_above c.args.node) (forks_above c.take_apart-left.result.1)
+          c.insert-change-else-before.result.turns c.balance-node-else-before.result.1
+          (omega (arith, c.take_apart-left.ensures.height)) c.requires.low
+          c.insert-change-else-before.ensures.turns
+          (omega (
+            arith,
+            c.balance-node-else-before.ensures.turns,
+            c.insert-change-else-before.ensures.height.1,
+            c.take_apart-left.ensures.height,
+          )),
+    )
+
+pub returns-then-before-clause-turns : goal.returns-then-before-clause-turns
+returns-then-before-clause-turns t c =
+    omega (
+      arith,
+      one_fork (forks_above c.args.node) (forks_above c.take_apart-left.result.0) c.insert-change.result.turns
+          c.balance-node.result.1 (omega (arith, c.take_apart-left.ensures.height)) c.insert-change.ensures.turns
+          (omega (arith, c.balance-node.ensures.turns, c.insert-change.ensures.height.1, c.take_apart-left.ensures.height)),
+    )
+
+pub returns-else-before-clause-turns : goal.returns-else-before-clause-turns
+returns-else-before-clause-turns t c =
+    omega (
+      arith,
+      one_fork (forks_above c.args.node) (forks_above c.take_apart-left.result.1)
+          c.insert-change-else-before.result.turns c.balance-node-else-before.result.1
+          (omega (arith, c.take_apart-left.ensures.height)) c.insert-change-else-before.ensures.turns
+          (omega (
+            arith,
+            c.balance-node-else-before.ensures.turns,
+            c.insert-change-else-before.ensures.height.1,
+            c.take_apart-left.ensures.height,
+          )),
+    )

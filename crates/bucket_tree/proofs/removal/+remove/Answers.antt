@@ -2,7 +2,8 @@
 use Rattle.std.proofs.Common.{◌∙◌, ap, subst, arith, List, length, length-append}
 use Rattle.lattice.specs.Plane.{Pair, IsBefore}
 use Rattle.bucket_tree.specs.Counts.{HasLost}
-use Rattle.bucket_tree.specs.Nodes.{points_below}
+use Rattle.bucket_tree.specs.Nodes.{points_below, forks_above}
+use Rattle.bucket_tree.proofs.MostTurns.{one_fork, few_sum, below_fork}
 use Rattle.bucket_tree.proofs.Gained.{passed, failed}
 use Rattle.bucket_tree.proofs.Lost.{held_left, lost_left_none, lost_left_row, lost_left_few, lost_left}
 use Rattle.bucket_tree.proofs.Lost.{held_right, lost_right_none, lost_right_row, lost_right_few, lost_right}
@@ -151,3 +152,43 @@ returns-in-Some-rest-clause-lost t c =
     c.remove-rest-else-before.ensures.lost).3.0
     (subst (HasLost c.args.p c.take_apart-left.result.1) c.in-Some-rest.is c.remove-rest-else-before.ensures.lost).3.1
     c.take_apart-left.ensures.near c.take_apart-left.ensures.height c.balance-node-else-before.ensures.height)
+
+-- the change below and the fork above it take so many turns together
+pub returns-in_default-clause-turns : goal.returns-in_default-clause-turns
+returns-in_default-clause-turns t c =
+    below_fork (forks_above c.args.node) (forks_above c.take_apart-left.result.0) c.remove-rest.result.1
+    (omega (arith, c.take_apart-left.ensures.height)) c.remove-rest.ensures.turns
+
+pub overflow_add-result : goal.overflow_add-result
+overflow_add-result t c =
+    let h = (subst (HasLost c.args.p c.take_apart-left.result.0) c.in-Some.is c.remove-rest.ensures.lost).3.0 in
+    let s = few_sum (forks_above c.args.node) (forks_above c.take_apart-left.result.0) c.remove-rest.result.1
+    c.balance-node.result.1 (omega (arith, c.take_apart-left.ensures.height)) c.requires.low
+    c.remove-rest.ensures.turns (omega (arith, c.balance-node.ensures.turns, h, c.take_apart-left.ensures.height)) in
+    omega (arith, s)
+
+pub overflow_add-result-else-before : goal.overflow_add-result-else-before
+overflow_add-result-else-before t c =
+    let h = (subst (HasLost c.args.p c.take_apart-left.result.1) c.in-Some-rest.is
+    c.remove-rest-else-before.ensures.lost).3.0 in
+    let s = few_sum (forks_above c.args.node) (forks_above c.take_apart-left.result.1)
+    c.remove-rest-else-before.result.1 c.balance-node-else-before.result.1
+    (omega (arith, c.take_apart-left.ensures.height)) c.requires.low c.remove-rest-else-before.ensures.turns
+    (omega (arith, c.balance-node-else-before.ensures.turns, h, c.take_apart-left.ensures.height)) in
+    omega (arith, s)
+
+pub returns-in-Some-clause-turns : goal.returns-in-Some-clause-turns
+returns-in-Some-clause-turns t c =
+    let h = (subst (HasLost c.args.p c.take_apart-left.result.0) c.in-Some.is c.remove-rest.ensures.lost).3.0 in
+    one_fork (forks_above c.args.node) (forks_above c.take_apart-left.result.0) c.remove-rest.result.1
+    c.balance-node.result.1 (omega (arith, c.take_apart-left.ensures.height)) c.remove-rest.ensures.turns
+    (omega (arith, c.balance-node.ensures.turns, h, c.take_apart-left.ensures.height))
+
+pub returns-in-Some-rest-clause-turns : goal.returns-in-Some-rest-clause-turns
+returns-in-Some-rest-clause-turns t c =
+    let h = (subst (HasLost c.args.p c.take_apart-left.result.1) c.in-Some-rest.is
+    c.remove-rest-else-before.ensures.lost).3.0 in
+    one_fork (forks_above c.args.node) (forks_above c.take_apart-left.result.1) c.remove-rest-else-before.result.1
+    c.balance-node-else-before.result.1 (omega (arith, c.take_apart-left.ensures.height))
+    c.remove-rest-else-before.ensures.turns
+    (omega (arith, c.balance-node-else-before.ensures.turns, h, c.take_apart-left.ensures.height))
