@@ -15,3 +15,4 @@ pub mod Listed
 pub mod Rooted
 pub mod SetEnds
 pub mod ListedParts
+pub mod Kept

@@ -1,5 +1,5 @@
 -- A point that goes from one of two nodes in a row.
-use Rattle.std.proofs.Common.{◌≡◌, ℕ, zero, suc, ◌+◌, ◌≤◌, ◌<◌, refl, sym, ap, ◌∙◌, subst, List, []}
+use Rattle.std.proofs.Common.{◌≡◌, ◌⊎◌, ℕ, zero, suc, ◌+◌, ◌≤◌, ◌<◌, refl, sym, ap, ◌∙◌, subst, List, []}
 use Rattle.std.proofs.Common.{◌∷◌, ◌++◌}
 use Rattle.std.proofs.Common.{length, arith, inl, inr, Ok, Err, get_or, max, Box, Global}
 use Rattle.std.specs.Prelude.{None, Some, take, drop}
@@ -237,6 +237,17 @@ lower_right a l r h n u v w e k = elim (cases_lt l r) [
       (omega (arith, u, v, w, e, f), omega (arith, u, v, w, e, f, d))
   | inr d ↦ (omega (arith, u, v, w, e, k), omega (arith, u, v, w, e, k, d))
 ]
+
+-- or that are one bucket, where the fork over both was the only one
+pub settled_left : (a l r h n m : ℕ) → a ≤ l → l ≤ a + 1 → AreNear l r → n ≡ max l r + 1 → m ≡ n
+    → IsHeightOver a r h ⊎ ((m ≡ 1) × (h ≡ 0)) → (h ≤ n) × (n ≤ h + 1)
+settled_left a l r h n m u v w e f (inl k) = lower_left a l r h n u v w e k
+settled_left a l r h n m u v w e f (inr k) = (omega (arith, k.0, k.1, f), omega (arith, k.0, k.1, f))
+
+pub settled_right : (a l r h n m : ℕ) → a ≤ r → r ≤ a + 1 → AreNear l r → n ≡ max l r + 1 → m ≡ n
+    → IsHeightOver l a h ⊎ ((m ≡ 1) × (h ≡ 0)) → (h ≤ n) × (n ≤ h + 1)
+settled_right a l r h n m u v w e f (inl k) = lower_right a l r h n u v w e k
+settled_right a l r h n m u v w e f (inr k) = (omega (arith, k.0, k.1, f), omega (arith, k.0, k.1, f))
 
 -- ---- finding
 

@@ -1,6 +1,6 @@
 -- What a tree with a limit keeps, and that a change keeps it.
 use Rattle.std.proofs.Common.{◌≡◌, ℕ, ◌+◌, ◌-◌, ◌<◌, ◌≤◌, ap, refl, sym, ◌∙◌, List, [], ◌∷◌, length, arith, Some, None, subst}
-use Rattle.std.specs.Prelude.{Option}
+use Rattle.std.specs.Prelude.{Option, ◌≢◌}
 use Rattle.std.specs.List.{All, Contains}
 use Rattle.std.proofs.lemmas.List.Elements.{All-append}
 use Rattle.lattice.specs.Plane.{Pair}
@@ -24,6 +24,7 @@ use Rattle.bucket_tree.proofs.Listed.{paired_entries, paired_hold, lists_held, p
 use Rattle.bucket_tree.proofs.Listed.{numbers_held, numbers_length}
 use Rattle.bucket_tree.specs.Loads.{AreParts}
 use Rattle.std.proofs.lemmas.Map.Entries.{length-keys_of}
+use Rattle.bucket_tree.proofs.NodePoints.{some_below}
 use Rattle.bucket_tree.proofs.NodeHeights.{no_higher}
 
 -- each point below a node is held as often as a point may be
@@ -169,3 +170,8 @@ parts_of es h s f = record {
   counted = omega (arith, length-keys_of es, numbers_length es);
   held = numbers_held es h.held;
 }
+
+-- what is not nothing has a point
+pub some_held : (root : Option Node) → IsWellBuiltRoot root → root ≢ None → ¬ (points_of_root root ≡ [])
+some_held None w h e = h refl
+some_held (Some n) w h e = omega (arith, some_below n w.buckets, ap (λ (z : List Pair). length z) e)

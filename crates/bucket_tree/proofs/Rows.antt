@@ -1,12 +1,12 @@
 -- A point that comes to one of two lists in a row.
-use Rattle.std.proofs.Common.{◌≡◌, ℕ, zero, suc, ◌+◌, ◌≤◌, sym, ap, ◌∙◌, List, [], ◌∷◌, ◌++◌, length}
+use Rattle.std.proofs.Common.{refl, ◌≡◌, ℕ, zero, suc, ◌+◌, ◌≤◌, sym, ap, ◌∙◌, List, [], ◌∷◌, ◌++◌, length}
 use Rattle.std.proofs.Common.{arith}
 use Rattle.std.specs.List.{insert}
 use Rattle.lattice.specs.Covers.{IsPointSet, with_point}
 use Rattle.lattice.specs.Plane.{Pair}
 use Rattle.std.specs.Prelude.{Err}
 use Rattle.hull_set.specs.Held.{once}
-use Rattle.hull_geometry.specs.Positions.{IsPositionOf}
+use Rattle.hull_geometry.specs.Positions.{IsPositionOf, point_at}
 use Rattle.hull_buckets.proofs.Changed.{insert_is}
 use Rattle.bucket_tree.specs.Counts.{counted}
 use Rattle.leaf_trees.specs.Entries.{several}
@@ -35,3 +35,9 @@ pub counted_put : (S P : List Pair) (T U : List ℕ) (i : ℕ) (p q : Pair) → 
 counted_put S P T U i p q s e at f g =
     ap (λ z. counted z U q) (f ∙ sym (insert_is S p i s at)) ∙ ap (λ z. counted (insert S i p) z q) g
     ∙ counted_insert S T i 1 p q e at.0
+
+-- a point that is put in at a place stands there
+pub inserted_there : (S : List Pair) (p : Pair) (i : ℕ) → i ≤ length S → point_at (insert S i p) i ≡ p
+inserted_there S p zero l = refl
+inserted_there [] p (suc i) l = absurd (omega (arith, l))
+inserted_there (x ∷ xs) p (suc i) l = inserted_there xs p i (omega (arith, l))

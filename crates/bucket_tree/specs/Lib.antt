@@ -8,3 +8,4 @@ pub mod Lists
 pub mod Roots
 pub mod Levels
 pub mod Sets
+pub mod Changes

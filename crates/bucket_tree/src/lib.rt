@@ -17,6 +17,7 @@ mod part;
 mod questions;
 mod recounting;
 mod removal;
+mod renewal;
 mod tree;
 
 pub use find::times_of;
@@ -27,5 +28,6 @@ pub use node::{Fork, Node};
 pub use part::Part;
 pub use questions::{area2, corners_answer, corners_are_few, extreme, place, tangents, vertices};
 pub use recounting::recount;
-pub use removal::remove;
+pub use removal::{Removed, remove};
+pub use renewal::Open;
 pub use tree::{BucketTree, bucket_trees_are_sound};

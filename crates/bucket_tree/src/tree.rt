@@ -270,10 +270,10 @@ impl BucketTree {
         let Some(root) = self.root.take() else {
             unreachable!()
         };
-        let (rest, turns) = remove(root, p);
-        self.root = rest;
+        let removed = remove(root, p);
+        self.root = removed.rest;
         self.count -= 1;
-        turns
+        removed.turns
     }
 
     /// Holds `p` once more; [`add_counted`](BucketTree::add_counted) tells more.

@@ -10,8 +10,8 @@ use Rattle.bucket_tree.proofs.MostTurns.{few_turns}
 use Rattle.bucket_tree.proofs.Rooted.{lost_limited, sound}
 use Rattle.bucket_tree.proofs.tree.BucketTree.take_out.Goals as goal
 
-pub remove-rest-requires-clause-low : goal.remove-rest-requires-clause-low
-remove-rest-requires-clause-low c =
+pub remove-removed-requires-clause-low : goal.remove-removed-requires-clause-low
+remove-removed-requires-clause-low c =
     let r : c.self.inside.root ≡ Some c.in-Some.root = cc in
     (sound _ _ _ (subst (λ (z : Option Node). IsLimited z c.self.inside.count c.self.inside.limit) r
     c.self.invariant)).low
@@ -21,9 +21,9 @@ invariant_of-self c =
     let r : c.self.inside.root ≡ Some c.in-Some.root = cc in
     let v : c.args.self.now.root ≡ Some c.in-Some.root = sym (ap (λ (z : LimitedTree). z.root) c.self.view_is) ∙ r in
     let t : times_at c.in-Some.root c.args.p ≡ 1 = ap (λ z. times_of_root z c.args.p) (sym v) ∙ c.requires in
-    lost_limited c.in-Some.root c.remove-rest.result.0 c.args.p c.self.inside.count c.self.inside.limit
+    lost_limited c.in-Some.root c.remove-removed.result.rest c.args.p c.self.inside.count c.self.inside.limit
     (subst (λ (z : Option Node). IsLimited z c.self.inside.count c.self.inside.limit) r c.self.invariant) t
-    c.remove-rest.ensures.lost
+    c.remove-removed.ensures.lost
 
 pub returns-clause-few : goal.returns-clause-few
 returns-clause-few c =
@@ -31,4 +31,4 @@ returns-clause-few c =
     let h : forks_above c.in-Some.root ≤ 28 =
     (sound _ _ _ (subst (λ (z : Option Node). IsLimited z c.self.inside.count c.self.inside.limit) r
     c.self.invariant)).low in
-    omega (arith, few_turns (forks_above c.in-Some.root) h, c.remove-rest.ensures.turns)
+    omega (arith, few_turns (forks_above c.in-Some.root) h, c.remove-removed.ensures.turns)
