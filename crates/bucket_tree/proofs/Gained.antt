@@ -22,7 +22,8 @@ use Rattle.std.specs.Prelude.{IsTrue, get_or}
 use Rattle.hull_geometry.proofs.PointLists.{get_or_free}
 use Rattle.bucket_tree.proofs.NodePoints.{some_below}
 use Rattle.bucket_tree.proofs.NodeRows.{in_row}
-use Rattle.bucket_tree.proofs.Rows.{with_left, with_right, with_length, counted_row}
+use Rattle.bucket_tree.proofs.Rows.{counted_row}
+use Rattle.leaf_trees.proofs.Rows.{with_left, with_right, with_length}
 
 -- ---- lists
 

@@ -9,3 +9,10 @@ pub mod Rows
 pub mod Gained
 pub mod Lost
 pub mod Recounted
+pub mod MostTurns
+pub mod NodeHeights
+pub mod Listed
+pub mod Rooted
+pub mod SetEnds
+pub mod ListedParts
+pub mod Kept

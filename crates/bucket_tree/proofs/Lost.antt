@@ -1,5 +1,5 @@
 -- A point that goes from one of two nodes in a row.
-use Rattle.std.proofs.Common.{◌≡◌, ℕ, zero, suc, ◌+◌, ◌≤◌, ◌<◌, refl, sym, ap, ◌∙◌, subst, List, []}
+use Rattle.std.proofs.Common.{◌≡◌, ◌⊎◌, ℕ, zero, suc, ◌+◌, ◌≤◌, ◌<◌, refl, sym, ap, ◌∙◌, subst, List, []}
 use Rattle.std.proofs.Common.{◌∷◌, ◌++◌}
 use Rattle.std.proofs.Common.{length, arith, inl, inr, Ok, Err, get_or, max, Box, Global}
 use Rattle.std.specs.Prelude.{None, Some, take, drop}
@@ -10,47 +10,24 @@ use Rattle.std.specs.List.{All, Contains, remove}
 use Rattle.std.proofs.lemmas.List.Elements.{All-head, All-tail, All-weaker}
 use Rattle.lattice.specs.Covers.{IsPointSet, without_point}
 use Rattle.lattice.specs.Plane.{Pair, IsBefore}
-use Rattle.lattice.proofs.Order.{before_irrefl, before_total, before_not, before_apart, after_apart}
-use Rattle.lattice.proofs.Order.{is_before-true, is_before-false}
+use Rattle.lattice.proofs.Order.{before_irrefl, before_apart, after_apart}
+use Rattle.lattice.proofs.Order.{is_before-false}
 use Rattle.hull_geometry.specs.Positions.{IsPositionOf, origin, point_at, first_of}
 use Rattle.hull_geometry.proofs.PointLists.{append_none, all_of, cut, only_member}
 use Rattle.hull_geometry.proofs.ChangedSets.{absent_between}
 use Rattle.hull_geometry.proofs.SetLaws.{ordered_without, members_without}
 use Rattle.hull_set.specs.Held.{once}
 use Rattle.hull_set.proofs.Times.{same_false, same_true}
-use Rattle.bucket_tree.specs.Counts.{several, counted, times_at, HasLost, IsNoMuchHigher}
+use Rattle.bucket_tree.specs.Counts.{counted, times_at, HasLost, IsNoMuchHigher}
+use Rattle.leaf_trees.specs.Entries.{several}
 use Rattle.bucket_tree.specs.declared.node.Fork.{Fork as Below}
 use Rattle.bucket_tree.specs.declared.node.Node.{Node, Fork}
 use Rattle.bucket_tree.specs.Nodes.{points_below, times_below, forks_above, AreNear, IsHeightOver}
 use Rattle.bucket_tree.specs.Nodes.{IsWellBuilt, AreInRow}
 use Rattle.bucket_tree.proofs.Gained.{all_after, all_before, held_row}
 use Rattle.bucket_tree.proofs.NodePoints.{some_below}
+use Rattle.leaf_trees.proofs.Rows.{without_left, without_right, without_short}
 use Rattle.bucket_tree.proofs.NodeRows.{in_row, halves_row}
-
--- p before all of the right list: it is taken from the left one
-pub without_left : (p : Pair) (xs ys : List Pair) → All (IsBefore p) ys
-    → without_point p (xs ++ ys) ≡ without_point p xs ++ ys
-without_left p [] [] a = refl
-without_left p [] (y ∷ ys) a =
-    let h : IsBefore p y = All-head (IsBefore p) y ys a in
-    rw (is_before-false y p (before_not p y h), is_before-true p y h) refl
-without_left p (x ∷ xs) ys a =
-    elim (before_total x p) [
-      | inl h ↦ rw (is_before-true x p h) (ap (λ (z : List Pair). x ∷ z) (without_left p xs ys a))
-      | inr (inl e) ↦ rw (
-        is_before-false x p (λ k. before_apart x p k e),
-        is_before-false p x (λ k. after_apart x p k e),
-      ) refl
-      | inr (inr h) ↦ rw (is_before-false x p (before_not p x h), is_before-true p x h) refl
-    ]
-
--- p after all of the left list: it is taken from the right one
-pub without_right : (p : Pair) (xs ys : List Pair) → All (λ t. IsBefore t p) xs
-    → without_point p (xs ++ ys) ≡ xs ++ without_point p ys
-without_right p [] ys a = refl
-without_right p (x ∷ xs) ys a =
-    rw (is_before-true x p (All-head (λ t. IsBefore t p) x xs a))
-    (ap (λ (z : List Pair). x ∷ z) (without_right p xs ys (All-tail (λ t. IsBefore t p) x xs a)))
 
 -- a list of one point without it
 pub without_only : (p : Pair) → without_point p (p ∷ []) ≡ []
@@ -73,19 +50,6 @@ counted_remove (x ∷ xs) [] i q e l = absurd (omega (arith, e))
 counted_remove (x ∷ xs) (t ∷ ts) zero q e l = omega arith
 counted_remove (x ∷ xs) (t ∷ ts) (suc i) q e l =
     let r = counted_remove xs ts i q (omega (arith, e)) (omega (arith, l)) in omega (arith, r)
-
--- fewer points are no more
-pub without_short : (p : Pair) (xs : List Pair) → length (without_point p xs) ≤ length xs
-without_short p [] = omega arith
-without_short p (x ∷ xs) =
-    elim (before_total x p) [
-      | inl h ↦ rw (is_before-true x p h) (omega (arith, without_short p xs))
-      | inr (inl e) ↦ rw (
-        is_before-false x p (λ k. before_apart x p k e),
-        is_before-false p x (λ k. after_apart x p k e),
-      ) (omega arith)
-      | inr (inr h) ↦ rw (is_before-false x p (before_not p x h), is_before-true p x h) (omega arith)
-    ]
 
 -- ---- nodes
 
@@ -273,6 +237,17 @@ lower_right a l r h n u v w e k = elim (cases_lt l r) [
       (omega (arith, u, v, w, e, f), omega (arith, u, v, w, e, f, d))
   | inr d ↦ (omega (arith, u, v, w, e, k), omega (arith, u, v, w, e, k, d))
 ]
+
+-- or that are one bucket, where the fork over both was the only one
+pub settled_left : (a l r h n m : ℕ) → a ≤ l → l ≤ a + 1 → AreNear l r → n ≡ max l r + 1 → m ≡ n
+    → IsHeightOver a r h ⊎ ((m ≡ 1) × (h ≡ 0)) → (h ≤ n) × (n ≤ h + 1)
+settled_left a l r h n m u v w e f (inl k) = lower_left a l r h n u v w e k
+settled_left a l r h n m u v w e f (inr k) = (omega (arith, k.0, k.1, f), omega (arith, k.0, k.1, f))
+
+pub settled_right : (a l r h n m : ℕ) → a ≤ r → r ≤ a + 1 → AreNear l r → n ≡ max l r + 1 → m ≡ n
+    → IsHeightOver l a h ⊎ ((m ≡ 1) × (h ≡ 0)) → (h ≤ n) × (n ≤ h + 1)
+settled_right a l r h n m u v w e f (inl k) = lower_right a l r h n u v w e k
+settled_right a l r h n m u v w e f (inr k) = (omega (arith, k.0, k.1, f), omega (arith, k.0, k.1, f))
 
 -- ---- finding
 

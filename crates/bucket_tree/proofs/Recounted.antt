@@ -14,7 +14,8 @@ use Rattle.hull_buckets.specs.Buckets.{BucketValue, mask_on}
 use Rattle.hull_buckets.specs.Runs.{width_of, left_run, right_run, end_of_run, start_of_run}
 use Rattle.hull_buckets.specs.Runs.{tree_by, tree_to, tree_of_run, all_of}
 use Rattle.hull_buckets.specs.Masks.{lowest_of}
-use Rattle.bucket_tree.specs.Counts.{several, counted, IsSameButTimes, IsRecounted}
+use Rattle.bucket_tree.specs.Counts.{counted, IsSameButTimes, IsRecounted}
+use Rattle.leaf_trees.specs.Entries.{several}
 use Rattle.bucket_tree.specs.declared.node.Fork.{Fork as Below}
 use Rattle.bucket_tree.specs.declared.node.Node.{Node, Leaf, Fork}
 use Rattle.bucket_tree.specs.Nodes.{tree_of, tree_of_bucket, points_below, times_below, forks_above, AreNear}

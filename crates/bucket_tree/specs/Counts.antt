@@ -1,17 +1,13 @@
 -- How often points are held, and what a point that comes makes of it.
-use Rattle.std.specs.Prelude.{◌≡◌, ℕ, ◌+◌, ◌≤◌, Bool, true, false, if◌then◌else◌, List, [], ◌∷◌, Option, None, Some}
+use Rattle.std.specs.Prelude.{◌≡◌, ℕ, ◌+◌, ◌≤◌, Bool, true, false, List, [], ◌∷◌, Option, None, Some}
 use Rattle.lattice.specs.Covers.{with_point, without_point}
 use Rattle.lattice.specs.Plane.{Pair}
 use Rattle.lattice.specs.declared.side.Side.{Side}
 use Rattle.hull_buckets.specs.Buckets.{BucketValue, IsBucket, mask_on}
 use Rattle.hull_set.specs.Held.{once}
-use Rattle.hull_set.specs.PointLists.{is_same_pair}
+use Rattle.leaf_trees.specs.Entries.{several}
 use Rattle.bucket_tree.specs.declared.node.Node.{Node}
 use Rattle.bucket_tree.specs.Nodes.{tree_of, points_below, times_below, forks_above, IsWellBuilt}
-
--- p held so many times, and no other point
-abbrev pub several : ℕ → Pair → Pair → ℕ
-several times p q = if is_same_pair p q then times else 0
 
 -- how often a point is held, by points and how often each of them is
 abbrev pub counted : List Pair → List ℕ → Pair → ℕ

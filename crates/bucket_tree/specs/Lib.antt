@@ -3,3 +3,9 @@ pub mod OneWay
 pub mod Parts
 pub mod Loads
 pub mod Counts
+pub mod Turns
+pub mod Lists
+pub mod Roots
+pub mod Levels
+pub mod Sets
+pub mod Changes

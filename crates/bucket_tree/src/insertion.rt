@@ -1,20 +1,24 @@
 //! Putting points in.
-ghost use Rattle.std.specs.Prelude.{◌≡◌, ◌<◌, ◌≤◌, ◌+◌, ◌*◌, ◌++◌, false, length};
+ghost use Rattle.std.specs.Prelude.{◌≡◌, ◌<◌, ◌≤◌, ◌+◌, ◌++◌, true, false, length};
 ghost use Rattle.std.specs.List.{Contains};
 ghost use Rattle.lattice.specs.Covers.{IsPointSet, with_point};
 ghost use Rattle.hull_buckets.specs.declared.TheConstants.{ROOM};
 ghost use Rattle.hull_set.specs.Held.{once};
 ghost use Rattle.hull_set.specs.declared.TheConstants.{POINT_LIMIT};
+ghost use Rattle.hull_geometry.specs.Positions.{point_at};
+ghost use Rattle.bucket_tree.specs.Changes.{IsClosedOver};
 ghost use Rattle.bucket_tree.specs.Counts.{counted, HasGained, IsNoMuchHigher};
 ghost use Rattle.bucket_tree.specs.Nodes.{points_below, forks_above, IsWellBuilt};
+ghost use Rattle.bucket_tree.specs.Turns.{most_turns};
 ghost use Rattle.bucket_tree.specs.declared.node.Node.{Leaf};
 
-use crate::join::{balance, join, take_apart};
+use crate::join::{join, take_apart};
 use crate::load::blank;
 use crate::node::{Node, height_of};
+use crate::renewal::{Open, balance, first_after, last_after};
 use heap::Heap;
 use hull_buckets::{Bucket, buckets_are_sound};
-use lattice::{Point, before};
+use lattice::{Point, Side, before};
 
 /// What putting a point in made: the node, whether memory was refused for it, and how many turns the searches took.
 #[derive(Drop)]
@@ -25,21 +29,37 @@ pub struct Inserted {
     pub refused: bool,
     /// The turns of the searches for bridges.
     pub turns: u32,
+    /// The sides on which the point may be a corner of the hull of all that are below the node.
+    pub sides: Open,
 }
 
-/// Puts a new point into a bucket with room, held once.
-fn put(bucket: &mut Bucket, p: Point)
+/// The sides on which the point at a place of a bucket is a corner.
+pub(crate) fn open_at(bucket: &Bucket, place: usize, p: Point) -> Open
+    requires within { place < length bucket.now.points }
+    requires there { point_at bucket.now.points place ≡ p }
+    ensures { IsClosedOver p result bucket.now.points }
+{
+    Open {
+        lower: bucket.is_corner(Side::Lower, place),
+        upper: bucket.is_corner(Side::Upper, place),
+    }
+}
+
+/// Puts a new point into a bucket with room, held once, and tells the sides on which it is a corner there.
+fn put(bucket: &mut Bucket, p: Point) -> Open
     requires absent { ¬ Contains bucket.old.points p }
     requires room { length bucket.old.points < ROOM }
     ensures points { bucket.new.points ≡ with_point p bucket.old.points }
     ensures times { (q : _) → counted bucket.new.points bucket.new.times q
         ≡ counted bucket.old.points bucket.old.times q + once p q }
+    ensures closed { IsClosedOver p result bucket.new.points }
 {
     buckets_are_sound(bucket);
     let Err(place) = bucket.place_of(p) else {
         unreachable!()
     };
     bucket.insert(place, p, 1);
+    open_at(bucket, place, p)
 }
 
 /// Puts a new point into one of two leaves in a row, which both have room.
@@ -55,24 +75,42 @@ fn put_in_either(first: &mut Bucket, second: &mut Bucket, p: Point)
     buckets_are_sound(first);
     buckets_are_sound(second);
     if before(p, second.points()[0]) {
-        put(first, p);
+        let _ = put(first, p);
         buckets_are_sound(first);
         return;
     }
-    put(second, p);
+    let _ = put(second, p);
 }
 
-/// A bucket with room and a new point.
-fn grown(mut bucket: Box<Bucket, Heap>, p: Point) -> Node
+/// A bucket with room and a new point, and the sides on which that is a corner.
+fn grown(mut bucket: Box<Bucket, Heap>, p: Point) -> (Node, Open)
     requires absent { ¬ Contains bucket.value.points p }
     requires room { length bucket.value.points < ROOM }
-    ensures built { IsWellBuilt result }
-    ensures gained { HasGained false p (Leaf bucket) result }
-    ensures height { forks_above result ≡ 0 }
+    ensures built { IsWellBuilt result.0 }
+    ensures gained { HasGained false p (Leaf bucket) result.0 }
+    ensures height { forks_above result.0 ≡ 0 }
+    ensures closed { IsClosedOver p result.1 (points_below result.0) }
 {
-    put(&mut bucket, p);
+    let sides = put(&mut bucket, p);
     buckets_are_sound(&bucket);
-    Node::Leaf(bucket)
+    (Node::Leaf(bucket), sides)
+}
+
+/// A bucket as it was, since memory was refused.
+fn unchanged(bucket: Box<Bucket, Heap>) -> Inserted
+    ensures node { result.node ≡ Leaf bucket }
+    ensures refused { result.refused ≡ true }
+    ensures turns { result.turns ≡ 0 }
+{
+    Inserted {
+        node: Node::Leaf(bucket),
+        refused: true,
+        turns: 0,
+        sides: Open {
+            lower: false,
+            upper: false,
+        },
+    }
 }
 
 /// Puts a new point into a bucket below a fork that is to be made of it where it is full.
@@ -82,28 +120,23 @@ fn insert_leaf(alloc: Heap, mut bucket: Box<Bucket, Heap>, p: Point) -> Inserted
     ensures built { IsWellBuilt result.node }
     ensures gained { HasGained result.refused p (Leaf bucket) result.node }
     ensures height { IsNoMuchHigher (Leaf bucket) result.node }
-    ensures turns { result.turns ≤ 136 }
+    ensures turns { result.turns ≤ 24 }
+    ensures closed { result.refused ≡ false → IsClosedOver p result.sides (points_below result.node) }
 {
     if !bucket.is_full() {
+        let (node, sides) = grown(bucket, p);
         return Inserted {
-            node: grown(bucket, p),
+            node,
             refused: false,
             turns: 0,
+            sides,
         };
     }
     let Ok(place) = blank(alloc, p) else {
-        return Inserted {
-            node: Node::Leaf(bucket),
-            refused: true,
-            turns: 0,
-        };
+        return unchanged(bucket);
     };
     let Ok(mut second) = Box::new(alloc, Bucket::new(p, 1)) else {
-        return Inserted {
-            node: Node::Leaf(bucket),
-            refused: true,
-            turns: 0,
-        };
+        return unchanged(bucket);
     };
     *second = bucket.split();
     put_in_either(&mut bucket, &mut second, p);
@@ -114,6 +147,10 @@ fn insert_leaf(alloc: Heap, mut bucket: Box<Bucket, Heap>, p: Point) -> Inserted
         node,
         refused: false,
         turns,
+        sides: Open {
+            lower: true,
+            upper: true,
+        },
     }
 }
 
@@ -138,27 +175,32 @@ pub fn insert(alloc: Heap, node: Node, p: Point) -> Inserted
     ensures built { IsWellBuilt result.node }
     ensures gained { HasGained result.refused p node result.node }
     ensures height { IsNoMuchHigher node result.node }
-    ensures turns { result.turns ≤ 408 * forks_above node + 136 }
+    ensures turns { result.turns ≤ most_turns (forks_above node) }
+    ensures closed { result.refused ≡ false → IsClosedOver p result.sides (points_below result.node) }
 {
     if height_of(&node) == 0 {
         return insert_leaf(alloc, bucket_of(node), p);
     }
-    let (left, right, place) = take_apart(node);
+    let (left, right, mut place) = take_apart(node);
     if before(p, place.first_right) {
         let change = insert(alloc, left, p);
-        let (node, turns) = balance(change.node, right, place);
+        place.last_left = last_after(&change.node, place.last_left, p);
+        let above = balance(change.node, right, place, p, change.sides);
         Inserted {
-            node,
+            node: above.node,
             refused: change.refused,
-            turns: turns + change.turns,
+            turns: above.turns + change.turns,
+            sides: above.sides,
         }
     } else {
         let change = insert(alloc, right, p);
-        let (node, turns) = balance(left, change.node, place);
+        place.first_right = first_after(&change.node, place.first_right, p);
+        let above = balance(left, change.node, place, p, change.sides);
         Inserted {
-            node,
+            node: above.node,
             refused: change.refused,
-            turns: turns + change.turns,
+            turns: above.turns + change.turns,
+            sides: above.sides,
         }
     }
 }

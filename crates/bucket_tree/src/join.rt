@@ -1,8 +1,10 @@
 //! Forks over two parts, and what keeps the tree balanced.
 ghost use Rattle.std.specs.Prelude.{◌≡◌, ◌<◌, ◌≤◌, ◌+◌, ◌*◌, ◌++◌, max, length};
-ghost use Rattle.lattice.specs.Bridges.{IsAllBefore, IsUpperBridge, IsLowerBridge};
+ghost use Rattle.lattice.specs.Bridges.{IsAllBefore, IsBridge, IsUpperBridge, IsLowerBridge};
 ghost use Rattle.bridge_search.specs.Trees.{On};
-ghost use Rattle.hull_geometry.specs.Positions.{first_of as first_in};
+ghost use Rattle.hull_geometry.specs.Positions.{first_of as first_in, last_of as last_in};
+ghost use Rattle.lattice.specs.declared.side.Side.{Side};
+ghost use Rattle.bucket_tree.specs.Changes.{IsBridgeBetween, edge_on};
 ghost use Rattle.hull_set.specs.declared.TheConstants.{POINT_LIMIT};
 ghost use Rattle.bucket_tree.specs.Nodes.{tree_of, points_below, times_below, forks_above, AreNear, AreInRow};
 ghost use Rattle.bucket_tree.specs.Nodes.{IsWellBuilt, IsHeightOver};
@@ -10,9 +12,9 @@ ghost use Rattle.bucket_tree.specs.Nodes.{IsWellBuilt, IsHeightOver};
 use crate::node::{Fork, Node, first_of, height_of, last_of};
 use crate::part::Part;
 use crate::questions::corners_are_few;
-use bridge_search::both_bridges;
+use bridge_search::{both_bridges, lower_bridge_counted, upper_bridge_counted};
 use heap::Heap;
-use lattice::Point;
+use lattice::{Point, Side};
 use std::mem;
 
 /// The upper and the lower bridge between two parts, and the turns of the searches for them.
@@ -33,6 +35,22 @@ fn search(left: &Node, right: &Node) -> ((Point, Point), (Point, Point), u32)
     (upper, lower, upper_turns + lower_turns)
 }
 
+/// The bridge on a side between two parts, and the turns of the search for it.
+pub(crate) fn search_one(side: Side, left: &Node, right: &Node) -> ((Point, Point), u32)
+    requires row { AreInRow left.now right.now }
+    requires few { length (points_below left.now ++ points_below right.now) ≤ POINT_LIMIT }
+    ensures bridge { IsBridge side (On (tree_of left.now)) (On (tree_of right.now)) result.0.0 result.0.1 }
+    ensures turns { result.1 ≤ 2 * max (forks_above left.now) (forks_above right.now) + 12 }
+{
+    corners_are_few(left);
+    corners_are_few(right);
+    let (u, w) = (Part::new(left), Part::new(right));
+    match side {
+        Side::Upper => upper_bridge_counted(u, w),
+        Side::Lower => lower_bridge_counted(u, w),
+    }
+}
+
 /// A fork over two parts, in a box that is there, and how many turns the searches for its bridges took.
 pub(crate) fn join(left: Node, right: Node, mut place: Box<Fork, Heap>) -> (Node, u32)
     requires row { AreInRow left right }
@@ -43,7 +61,7 @@ pub(crate) fn join(left: Node, right: Node, mut place: Box<Fork, Heap>) -> (Node
     ensures points { points_below result.0 ≡ points_below left ++ points_below right }
     ensures times { times_below result.0 ≡ times_below left ++ times_below right }
     ensures height { forks_above result.0 ≡ max (forks_above left) (forks_above right) + 1 }
-    ensures turns { result.1 ≤ 136 }
+    ensures turns { result.1 ≤ 4 * max (forks_above left) (forks_above right) + 24 }
 {
     let (upper, lower, turns) = search(&left, &right);
     let height = height_of(&left).max(height_of(&right)) + 1;
@@ -69,6 +87,8 @@ pub(crate) fn take_apart(node: Node) -> (Node, Node, Box<Fork, Heap>)
     ensures times { times_below node ≡ times_below result.0 ++ times_below result.1 }
     ensures height { forks_above node ≡ max (forks_above result.0) (forks_above result.1) + 1 }
     ensures parting { result.2.value.first_right ≡ first_in (points_below result.1) }
+    ensures last { result.2.value.last_left ≡ last_in (points_below result.0) }
+    ensures stored { (side : Side) → IsBridgeBetween side result.0 result.1 (edge_on side result.2.value) }
 {
     let Node::Fork(_, mut fork) = node else {
         unreachable!()
@@ -80,7 +100,7 @@ pub(crate) fn take_apart(node: Node) -> (Node, Node, Box<Fork, Heap>)
 
 /// The fork over two parts of which the left one is two higher, after a rotation to the right, double where that leans to
 /// the right.
-fn rotate_right(left: Node, right: Node, place: Box<Fork, Heap>) -> (Node, u32)
+pub(crate) fn rotate_right(left: Node, right: Node, place: Box<Fork, Heap>) -> (Node, u32)
     requires row { AreInRow left right }
     requires few { length (points_below left ++ points_below right) ≤ POINT_LIMIT }
     requires two_higher { forks_above left ≡ forks_above right + 2 }
@@ -89,7 +109,7 @@ fn rotate_right(left: Node, right: Node, place: Box<Fork, Heap>) -> (Node, u32)
     ensures points { points_below result.0 ≡ points_below left ++ points_below right }
     ensures times { times_below result.0 ≡ times_below left ++ times_below right }
     ensures height { IsHeightOver (forks_above left) (forks_above right) (forks_above result.0) }
-    ensures turns { result.1 ≤ 408 }
+    ensures turns { result.1 ≤ 12 * forks_above left + 72 }
 {
     let (outer, inner, below) = take_apart(left);
     if height_of(&outer) >= height_of(&inner) {
@@ -106,7 +126,7 @@ fn rotate_right(left: Node, right: Node, place: Box<Fork, Heap>) -> (Node, u32)
 
 /// The fork over two parts of which the right one is two higher, after a rotation to the left, double where that leans to
 /// the left.
-fn rotate_left(left: Node, right: Node, place: Box<Fork, Heap>) -> (Node, u32)
+pub(crate) fn rotate_left(left: Node, right: Node, place: Box<Fork, Heap>) -> (Node, u32)
     requires row { AreInRow left right }
     requires few { length (points_below left ++ points_below right) ≤ POINT_LIMIT }
     requires two_higher { forks_above right ≡ forks_above left + 2 }
@@ -115,7 +135,7 @@ fn rotate_left(left: Node, right: Node, place: Box<Fork, Heap>) -> (Node, u32)
     ensures points { points_below result.0 ≡ points_below left ++ points_below right }
     ensures times { times_below result.0 ≡ times_below left ++ times_below right }
     ensures height { IsHeightOver (forks_above left) (forks_above right) (forks_above result.0) }
-    ensures turns { result.1 ≤ 408 }
+    ensures turns { result.1 ≤ 12 * forks_above right + 72 }
 {
     let (inner, outer, below) = take_apart(right);
     if height_of(&outer) >= height_of(&inner) {
@@ -128,27 +148,4 @@ fn rotate_left(left: Node, right: Node, place: Box<Fork, Heap>) -> (Node, u32)
     let (second, second_turns) = join(middle_right, outer, below);
     let (whole, turns) = join(first, second, middle);
     (whole, turns + first_turns + second_turns)
-}
-
-/// A balanced tree over two parts whose heights differ by two at most, and how many turns its searches took.
-pub(crate) fn balance(left: Node, right: Node, place: Box<Fork, Heap>) -> (Node, u32)
-    requires row { AreInRow left right }
-    requires few { length (points_below left ++ points_below right) ≤ POINT_LIMIT }
-    requires near_left { forks_above left ≤ forks_above right + 2 }
-    requires near_right { forks_above right ≤ forks_above left + 2 }
-    requires low { max (forks_above left) (forks_above right) ≤ 28 }
-    ensures built { IsWellBuilt result.0 }
-    ensures points { points_below result.0 ≡ points_below left ++ points_below right }
-    ensures times { times_below result.0 ≡ times_below left ++ times_below right }
-    ensures height { IsHeightOver (forks_above left) (forks_above right) (forks_above result.0) }
-    ensures turns { result.1 ≤ 408 }
-{
-    let (on_left, on_right) = (height_of(&left), height_of(&right));
-    if on_left > on_right + 1 {
-        rotate_right(left, right, place)
-    } else if on_right > on_left + 1 {
-        rotate_left(left, right, place)
-    } else {
-        join(left, right, place)
-    }
 }

@@ -3,19 +3,22 @@
 //!
 //! A bridge of two halves is that of their corners, so a [`Part`] of the tree, which searches and questions go down, has the
 //! corners of its buckets alone; what these answer about a hull, all points below a [`Node`] answer. A point that comes or
-//! goes mends one bucket and searches the bridges of the forks above it. No set of points stands on it yet.
+//! goes mends one bucket and searches the bridges of the forks above it. [`BucketTree`] is the set of points that stands on it.
 #![tactic(auto)]
 
 mod find;
 mod fork_ref;
 mod insertion;
 mod join;
+mod listing;
 mod load;
 mod node;
 mod part;
 mod questions;
 mod recounting;
 mod removal;
+mod renewal;
+mod tree;
 
 pub use find::times_of;
 pub use fork_ref::ForkRef;
@@ -25,4 +28,6 @@ pub use node::{Fork, Node};
 pub use part::Part;
 pub use questions::{area2, corners_answer, corners_are_few, extreme, place, tangents, vertices};
 pub use recounting::recount;
-pub use removal::remove;
+pub use removal::{Removed, remove};
+pub use renewal::Open;
+pub use tree::{BucketTree, bucket_trees_are_sound};

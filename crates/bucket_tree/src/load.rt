@@ -1,6 +1,9 @@
 //! Trees that are built at once.
-ghost use Rattle.std.specs.Prelude.{◌≡◌, IfOk};
+ghost use Rattle.std.specs.Prelude.{◌≡◌, ◌≤◌, ◌∷◌, [], IfOk, length};
+ghost use Rattle.hull_set.specs.declared.TheConstants.{POINT_LIMIT};
+ghost use Rattle.leaf_trees.specs.Entries.{AreEntries, points_listed};
 ghost use Rattle.bucket_tree.specs.Loads.{AreParts, IsLoad};
+ghost use Rattle.bucket_tree.specs.Lists.{numbers_listed};
 ghost use Rattle.bucket_tree.specs.Nodes.{IsWellBuilt, points_below, times_below, forks_above};
 
 use crate::join::join;
@@ -71,4 +74,46 @@ pub fn from_parts(alloc: Heap, points: &[Point], times: &[u16]) -> Result<Node, 
         room *= 2;
     }
     build(alloc, points, times, forks)
+}
+
+/// The points of entries, and the numbers beside them.
+fn parted(
+    alloc: Heap,
+    entries: &[(Point, u32)],
+) -> Result<(Vec<Point, Heap>, Vec<u16, Heap>), AllocError>
+    requires { AreEntries entries.now }
+    ensures points { IfOk result (λ lists. lists.0.items ≡ points_listed entries.now) }
+    ensures times { IfOk result (λ lists. lists.1.items ≡ numbers_listed entries.now) }
+{
+    let mut points = Vec::with_capacity(alloc, entries.len())?;
+    let mut times = Vec::with_capacity(alloc, entries.len())?;
+    for i in 0..entries.len() {
+        points.push_reserved(entries[i].0);
+        times.push_reserved(entries[i].1 as u16);
+    }
+    Ok((points, times))
+}
+
+/// The tree of points in order, each with how often it is held. An `Err` comes only where `alloc` refuses memory.
+pub(crate) fn from_entries(alloc: Heap, entries: &[(Point, u32)]) -> Result<Node, AllocError>
+    requires entries { AreEntries entries.now }
+    requires some { 1 ≤ length entries.now }
+    requires few { length entries.now ≤ POINT_LIMIT }
+    ensures built { IfOk result IsWellBuilt }
+    ensures points { IfOk result (λ n. points_below n ≡ points_listed entries.now) }
+    ensures times { IfOk result (λ n. times_below n ≡ numbers_listed entries.now) }
+{
+    let (points, times) = parted(alloc, entries)?;
+    from_parts(alloc, &points, &times)
+}
+
+/// The tree of one point, held once.
+pub(crate) fn first_leaf(alloc: Heap, p: Point) -> Result<Node, AllocError>
+    ensures built { IfOk result IsWellBuilt }
+    ensures points { IfOk result (λ n. points_below n ≡ p ∷ []) }
+    ensures times { IfOk result (λ n. times_below n ≡ 1 ∷ []) }
+{
+    let bucket = Bucket::new(p, 1);
+    buckets_are_sound(&bucket);
+    Ok(Node::Leaf(Box::new(alloc, bucket)?))
 }

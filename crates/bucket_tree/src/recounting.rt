@@ -1,7 +1,8 @@
 //! Holding points more or less often.
 ghost use Rattle.std.specs.Prelude.{◌≡◌, ◌≤◌, ◌+◌};
 ghost use Rattle.hull_buckets.specs.Buckets.{IsMultiplicity};
-ghost use Rattle.bucket_tree.specs.Counts.{several, counted, times_at, IsSameButTimes, IsRecounted};
+ghost use Rattle.bucket_tree.specs.Counts.{counted, times_at, IsSameButTimes, IsRecounted};
+ghost use Rattle.leaf_trees.specs.Entries.{several};
 ghost use Rattle.bucket_tree.specs.Nodes.{IsWellBuilt};
 
 use crate::node::Node;

@@ -1,61 +1,204 @@
 //! Taking points out.
-ghost use Rattle.std.specs.Prelude.{◌≡◌, ◌≤◌, ◌+◌, ◌*◌, length};
+ghost use Rattle.std.specs.Prelude.{◌≡◌, ◌≤◌, ◌+◌, ◌*◌, ◌++◌, ◌⊎◌, true, false, Some, IfSome, max, length};
+ghost use Rattle.hull_geometry.specs.Monotone.{IsInwards};
 ghost use Rattle.hull_set.specs.declared.TheConstants.{POINT_LIMIT};
+ghost use Rattle.lattice.specs.declared.side.Side.{Side};
+ghost use Rattle.bucket_tree.specs.Changes.{IsBehind, IsClosedOver, ClosesBy, is_open};
 ghost use Rattle.bucket_tree.specs.Counts.{times_at, HasLost};
-ghost use Rattle.bucket_tree.specs.Nodes.{points_below, forks_above, IsWellBuilt};
+ghost use Rattle.bucket_tree.specs.Nodes.{points_below, times_below, forks_above, AreInRow, IsHeightOver, IsWellBuilt};
+ghost use Rattle.bucket_tree.specs.Turns.{most_turns};
 ghost use Rattle.bucket_tree.specs.declared.node.Node.{Leaf};
 
-use crate::insertion::bucket_of;
-use crate::join::{balance, take_apart};
-use crate::node::{Node, height_of};
+use crate::insertion::{bucket_of, open_at};
+use crate::join::take_apart;
+use crate::node::{Fork, Node, height_of};
+use crate::renewal::{Open, Renewed, Standing, balance, first_after, how_stands, last_after};
 use heap::Heap;
 use hull_buckets::{Bucket, buckets_are_sound};
-use lattice::{Point, before};
+use lattice::{Point, Side, before};
+
+/// Two buckets with no more points than this become one when one of them loses a point.
+const MERGED: usize = 48;
+
+/// What taking a point out left: the node, or nothing where the point was the only one; how many turns the searches took; and
+/// the sides on which the point may have been a corner of the hull of all that were below the node.
+#[derive(Drop)]
+pub struct Removed {
+    /// What is left.
+    pub rest: Option<Node>,
+    /// The turns of the searches for bridges.
+    pub turns: u32,
+    /// The sides on which the point may have been a corner.
+    pub sides: Open,
+}
 
 /// Takes a point that is held once out of a bucket: nothing is left where it was the only one.
-fn remove_leaf(mut bucket: Box<Bucket, Heap>, p: Point) -> Option<Node>
+fn remove_leaf(mut bucket: Box<Bucket, Heap>, p: Point) -> Removed
     requires built { IsWellBuilt (Leaf bucket) }
     requires held { times_at (Leaf bucket) p ≡ 1 }
-    ensures { HasLost p (Leaf bucket) result }
+    ensures lost { HasLost p (Leaf bucket) result.rest }
+    ensures closed { IfSome result.rest (λ n. IsClosedOver p result.sides (points_below n)) }
+    ensures turns { result.turns ≡ 0 }
 {
     let Ok(place) = bucket.place_of(p) else {
         unreachable!()
     };
+    let sides = open_at(&bucket, place, p);
     if bucket.points().len() == 1 {
-        return None;
+        return Removed {
+            rest: None,
+            turns: 0,
+            sides,
+        };
     }
     bucket.remove(place);
     buckets_are_sound(&bucket);
-    Some(Node::Leaf(bucket))
+    Removed {
+        rest: Some(Node::Leaf(bucket)),
+        turns: 0,
+        sides,
+    }
 }
 
-/// Takes a point that is held once out of what is below a node, and tells how many turns the searches took. Asks for no
-/// memory.
-pub fn remove(node: Node, p: Point) -> (Option<Node>, u32)
+/// Whether two parts are buckets with few points together.
+fn are_few(left: &Node, right: &Node) -> bool
+    ensures { result ≡ true → (forks_above left.now ≡ 0) × (forks_above right.now ≡ 0)
+        × (length (points_below left.now) + length (points_below right.now) ≤ 48) }
+{
+    match (left, right) {
+        (Node::Leaf(first), Node::Leaf(second)) => {
+            first.points().len() + second.points().len() <= MERGED
+        }
+        _ => false,
+    }
+}
+
+/// Whether a side is open above a fork of which a point went, by the edge that is stored there.
+fn stays_open(side: Side, edge: &(Point, Point), p: Point, at_issue: bool) -> bool
+    ensures { result ≡ false → (at_issue ≡ false) ⊎ IsInwards side edge.now.0 edge.now.1 p }
+{
+    if !at_issue {
+        return false;
+    }
+    match how_stands(side, edge, p) {
+        Standing::Covered => false,
+        Standing::Clear => true,
+        Standing::Touching => true,
+    }
+}
+
+/// One bucket of the points of two, from one of which a point went. What the edges of the fork over them tell is asked first.
+fn merge(left: Node, right: Node, place: Box<Fork, Heap>, p: Point, sides: Open) -> Renewed
+    requires row { AreInRow left right }
+    requires left { forks_above left ≡ 0 }
+    requires right { forks_above right ≡ 0 }
+    requires few { length (points_below left) + length (points_below right) ≤ 48 }
+    requires behind { IsBehind p sides left right place.value }
+    ensures built { IsWellBuilt result.node }
+    ensures points { points_below result.node ≡ points_below left ++ points_below right }
+    ensures times { times_below result.node ≡ times_below left ++ times_below right }
+    ensures height { forks_above result.node ≡ 0 }
+    ensures turns { result.turns ≡ 0 }
+    ensures closes { ClosesBy p sides result.sides (points_below left ++ points_below right) }
+{
+    let sides = Open {
+        lower: stays_open(Side::Lower, &place.lower, p, sides.lower),
+        upper: stays_open(Side::Upper, &place.upper, p, sides.upper),
+    };
+    let (mut first, second) = (bucket_of(left), bucket_of(right));
+    first.merge(&second);
+    buckets_are_sound(&first);
+    Renewed {
+        node: Node::Leaf(first),
+        turns: 0,
+        sides,
+    }
+}
+
+/// What a fork of a height becomes whose one part lost a point: two buckets with few points are merged where it was the only
+/// fork above them, and else the tree over both parts is balanced.
+fn settle(
+    left: Node,
+    right: Node,
+    place: Box<Fork, Heap>,
+    p: Point,
+    sides: Open,
+    height: u16,
+) -> Renewed
+    requires row { AreInRow left right }
+    requires few { length (points_below left ++ points_below right) ≤ POINT_LIMIT }
+    requires behind { IsBehind p sides left right place.value }
+    requires near_left { forks_above left ≤ forks_above right + 2 }
+    requires near_right { forks_above right ≤ forks_above left + 2 }
+    requires low { max (forks_above left) (forks_above right) ≤ 28 }
+    ensures built { IsWellBuilt result.node }
+    ensures points { points_below result.node ≡ points_below left ++ points_below right }
+    ensures times { times_below result.node ≡ times_below left ++ times_below right }
+    ensures height { IsHeightOver (forks_above left) (forks_above right) (forks_above result.node)
+        ⊎ ((height ≡ 1) × (forks_above result.node ≡ 0)) }
+    ensures turns { result.turns ≤ 12 * max (forks_above left) (forks_above right) + 72 }
+    ensures closes { ClosesBy p sides result.sides (points_below left ++ points_below right) }
+{
+    if height == 1 && are_few(&left, &right) {
+        return merge(left, right, place, p, sides);
+    }
+    balance(left, right, place, p, sides)
+}
+
+/// What is left where one part of a fork lost its only point: the other part.
+fn other_part(part: Node, turns: u32) -> Removed
+    ensures rest { result.rest ≡ Some part }
+    ensures turns { result.turns ≡ turns }
+    ensures sides { (side : Side) → is_open side result.sides ≡ true }
+{
+    Removed {
+        rest: Some(part),
+        turns,
+        sides: Open {
+            lower: true,
+            upper: true,
+        },
+    }
+}
+
+/// Takes a point that is held once out of what is below a node. Asks for no memory.
+pub fn remove(node: Node, p: Point) -> Removed
     requires built { IsWellBuilt node }
     requires held { times_at node p ≡ 1 }
     requires few { length (points_below node) ≤ POINT_LIMIT }
     requires low { forks_above node ≤ 28 }
-    ensures lost { HasLost p node result.0 }
-    ensures turns { result.1 ≤ 408 * forks_above node }
+    ensures lost { HasLost p node result.rest }
+    ensures closed { IfSome result.rest (λ n. IsClosedOver p result.sides (points_below n)) }
+    ensures turns { result.turns ≤ most_turns (forks_above node) }
 {
-    if height_of(&node) == 0 {
-        return (remove_leaf(bucket_of(node), p), 0);
+    let height = height_of(&node);
+    if height == 0 {
+        return remove_leaf(bucket_of(node), p);
     }
-    let (left, right, place) = take_apart(node);
+    let (left, right, mut place) = take_apart(node);
     if before(p, place.first_right) {
-        let (rest, turns) = remove(left, p);
+        let Removed { rest, turns, sides } = remove(left, p);
         let Some(rest) = rest else {
-            return (Some(right), turns);
+            return other_part(right, turns);
         };
-        let (node, more) = balance(rest, right, place);
-        (Some(node), turns + more)
+        place.last_left = last_after(&rest, place.last_left, p);
+        let above = settle(rest, right, place, p, sides, height);
+        Removed {
+            rest: Some(above.node),
+            turns: above.turns + turns,
+            sides: above.sides,
+        }
     } else {
-        let (rest, turns) = remove(right, p);
+        let Removed { rest, turns, sides } = remove(right, p);
         let Some(rest) = rest else {
-            return (Some(left), turns);
+            return other_part(left, turns);
         };
-        let (node, more) = balance(left, rest, place);
-        (Some(node), turns + more)
+        place.first_right = first_after(&rest, place.first_right, p);
+        let above = settle(left, rest, place, p, sides, height);
+        Removed {
+            rest: Some(above.node),
+            turns: above.turns + turns,
+            sides: above.sides,
+        }
     }
 }

@@ -10,3 +10,4 @@ pub mod Inserted
 pub mod Removed
 pub mod Rows
 pub mod Changed
+pub mod Covered

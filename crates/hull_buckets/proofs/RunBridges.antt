@@ -133,7 +133,7 @@ module _ (S : List Pair) (s : IsPointSet S) where
   ]
 
   -- a point of a chain stands at a place of its mask
-  on_chain : (chain i : ℕ) → i < length S → Contains (at_places chain S) (point_at S i) → bit_at chain i ≡ 1
+  pub on_chain : (chain i : ℕ) → i < length S → Contains (at_places chain S) (point_at S i) → bit_at chain i ≡ 1
   on_chain chain i l m =
       let p = place_of chain S (point_at S i) m in
       subst (λ (k : ℕ). bit_at chain k ≡ 1) (sym (one_place i p.0 l p.1 p.3)) p.2

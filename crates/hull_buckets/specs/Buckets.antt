@@ -1,12 +1,12 @@
 -- What a bucket is: points in order, how often each is held, and which of them are corners of the two chains of all of
 -- them.
 use Rattle.std.specs.Prelude.{◌≡◌, ℕ, ◌<◌, ◌≤◌, ◌^◌, List, length, take}
-use Rattle.std.specs.List.{All}
+use Rattle.std.specs.List.{All, Contains}
 use Rattle.lattice.specs.Covers.{IsPointSet}
 use Rattle.lattice.specs.Plane.{Pair}
 use Rattle.lattice.specs.declared.side.Side.{Side}
 use Rattle.lattice.specs.declared.side.Side.TheVariants.{Lower, Upper}
-use Rattle.hull_geometry.specs.Monotone.{IsChainOf}
+use Rattle.hull_geometry.specs.Monotone.{IsChainOf, IsInwards}
 use Rattle.hull_set.specs.declared.TheConstants.{MULTIPLICITY_LIMIT}
 use Rattle.hull_buckets.specs.Masks.{at_places, without_place}
 use Rattle.hull_buckets.specs.declared.TheConstants.{ROOM}
@@ -55,3 +55,7 @@ pub record WasMaskOf (side : Side) (points : List Pair) (place mask : ℕ) : Typ
   pub within : place < length old
   pub left : points ≡ without_place place old
   pub corners : IsMaskOf side old mask
+
+-- p stands inwards of a segment between two of the points: it is no corner on this side
+abbrev pub IsCovered : Side → Pair → List Pair → Type 0
+IsCovered side p S = (a : Pair) × (b : Pair) × Contains S a × Contains S b × IsInwards side a b p

@@ -1,5 +1,5 @@
 //! The bucket.
-ghost use Rattle.std.specs.Prelude.{◌≡◌, ◌<◌, ◌≤◌, ◌+◌, ◌/◌, ◌++◌, ◌∷◌, [], ◌↔◌, IsTrue, Err, length, slice_set, take};
+ghost use Rattle.std.specs.Prelude.{◌≡◌, false, ◌<◌, ◌≤◌, ◌+◌, ◌/◌, ◌++◌, ◌∷◌, [], ◌↔◌, IsTrue, Err, length, slice_set, take};
 ghost use Rattle.std.specs.List.{All, Contains, insert, remove};
 ghost use Rattle.lattice.specs.Bridges.{IsAllBefore};
 ghost use Rattle.lattice.specs.Covers.{IsPointSet, with_point, without_point};
@@ -9,6 +9,7 @@ ghost use Rattle.hull_buckets.specs.Buckets.{IsBucket};
 ghost use Rattle.hull_buckets.specs.declared.TheConstants.{ROOM};
 
 use super::ROOM;
+use super::mask::has;
 use super::mending::{all_corners, with_corner, without_corner};
 use super::positions::position_of;
 use super::row::{put_behind, put_in, put_over, take_out};
@@ -39,7 +40,7 @@ impl Model for Bucket {
 }
 
 impl Bucket {
-    ghost use Rattle.hull_buckets.specs.Buckets.{IsMultiplicity, IsMaskOf, mask_on};
+    ghost use Rattle.hull_buckets.specs.Buckets.{IsMultiplicity, IsMaskOf, IsCovered, mask_on};
 
     /// A bucket of one point.
     pub fn new(point: Point, times: u16) -> Bucket
@@ -98,6 +99,15 @@ impl Bucket {
             Side::Lower => self.lower,
             Side::Upper => self.upper,
         }
+    }
+
+    /// Whether the point at a place is a corner on a side: else it stands inwards of a segment between two others.
+    pub fn is_corner(&self, side: Side, place: usize) -> bool
+        requires { place < length self.now.points }
+        ensures { result ≡ false → IsCovered side (point_at self.now.points place) self.now.points }
+    {
+        buckets_are_sound(self);
+        has(self.corners(side), place)
     }
 
     /// Makes the point at a place one that is held so often.

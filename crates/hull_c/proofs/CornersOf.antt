@@ -12,7 +12,7 @@ use Rattle.hull_geometry.proofs.PointLists.{AllPairs-none}
 use Rattle.hull_geometry.proofs.SetLaws.{with_point_law}
 use Rattle.hull_outline.specs.Outlines.{IsOwnOutline}
 use Rattle.hull_set.specs.Held.{Held, nothing_held, with_new}
-use Rattle.hull_tree.specs.Loaded.{held_after_adds}
+use Rattle.leaf_trees.specs.Entries.{held_after_adds}
 use Rattle.hull_c.specs.CornersOf.{AreCornersOf, HaveSamePoints}
 
 -- points that are added leave a set

@@ -4,7 +4,7 @@ use Rattle.std.proofs.Common.{length, get_or, inl, inr}
 use Rattle.std.proofs.lemmas.Bool.{cases_lt}
 use Rattle.lattice.specs.Plane.{Pair, IsBefore}
 use Rattle.lattice.proofs.Order.{before_trans}
-use Rattle.hull_tree.specs.Loaded.{points_listed}
+use Rattle.leaf_trees.specs.Entries.{points_listed}
 
 -- each of the first n points stands before all later ones of them
 abbrev pub AreInOrderTo : ℕ → List Pair → Type 0

@@ -1,7 +1,7 @@
 -- Requests that are served one after the other.
 use Rattle.std.proofs.Common.{rules, ◌≡◌, ◌⊎◌, inl, inr, ℕ, ◌+◌, ◌≤◌, ◌<◌, ◌++◌, List, [], ◌∷◌, length, take, drop, set}
 use Rattle.std.proofs.Common.{get_or, refl, sym, ap, subst, ◌∙◌}
-use Rattle.hull_tree.specs.Sets.{LimitedTree}
+use Rattle.bucket_tree.specs.Sets.{LimitedTree}
 use Rattle.hull_reply.specs.declared.reply.HullReply.{HullReply}
 use Rattle.hull_c.specs.declared.requests.HullRequest.{HullRequest}
 use Rattle.hull_c.specs.Requests.{AnswersRequest, AreServed, IsBad}

@@ -1,9 +1,9 @@
 -- What writing the stored bridges of a level to an array comes to.
 use Rattle.std.specs.Prelude.{◌≡◌, ◌⊎◌, ◌≢◌, ◌≤◌, ◌<◌, ℕ, List, [], ◌++◌, drop, length}
-use Rattle.hull_tree.specs.Levels.{bridges_at}
-use Rattle.hull_tree.specs.Roots.{held_by}
-use Rattle.hull_tree.specs.Sets.{LimitedTree}
-use Rattle.hull_tree.specs.declared.levels.Bridge.{Bridge}
+use Rattle.bucket_tree.specs.Levels.{bridges_at}
+use Rattle.bucket_tree.specs.Roots.{held_by}
+use Rattle.bucket_tree.specs.Sets.{LimitedTree}
+use Rattle.leaf_trees.specs.declared.bridge.Bridge.{Bridge}
 use Rattle.hull_reply.specs.Told.{IsBare, IsNumber}
 use Rattle.hull_reply.specs.declared.code.Code.TheVariants as code
 use Rattle.hull_reply.specs.declared.reply.HullReply.{HullReply}

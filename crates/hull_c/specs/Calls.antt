@@ -4,8 +4,8 @@ use Rattle.lattice.specs.Plane.{Pair}
 use Rattle.lattice.specs.Vertices.{IsVertexList}
 use Rattle.hull_set.specs.Held.{nothing_held}
 use Rattle.hull_set.specs.declared.TheConstants.{POINT_LIMIT}
-use Rattle.hull_tree.specs.Roots.{held_by}
-use Rattle.hull_tree.specs.Sets.{LimitedTree}
+use Rattle.bucket_tree.specs.Roots.{held_by}
+use Rattle.bucket_tree.specs.Sets.{LimitedTree}
 use Rattle.hull_reply.specs.Corners.{TellsCorners}
 use Rattle.hull_reply.specs.Told.{IsBare, IsNumber}
 use Rattle.hull_reply.specs.declared.code.Code.TheVariants as code

@@ -6,7 +6,7 @@ use Rattle.lattice.specs.Vertices.{IsVertexList}
 use Rattle.hull_set.specs.Held.{nothing_held}
 use Rattle.hull_set.specs.declared.TheConstants.{POINT_LIMIT}
 use Rattle.hull_outline.specs.Outlines.{IsShortOutline}
-use Rattle.hull_tree.specs.Loaded.{AreTooMany, held_after_adds}
+use Rattle.leaf_trees.specs.Entries.{AreTooMany, held_after_adds}
 use Rattle.hull_reply.specs.Corners.{TellsCorners}
 use Rattle.hull_reply.specs.Told.{IsBare}
 use Rattle.hull_reply.specs.declared.code.Code.TheVariants as code

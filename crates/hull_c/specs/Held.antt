@@ -4,11 +4,11 @@ use Rattle.std.specs.List.{All}
 use Rattle.lattice.specs.Covers.{IsPointSet}
 use Rattle.lattice.specs.Plane.{Pair}
 use Rattle.hull_set.specs.Held.{Held}
-use Rattle.hull_tree.specs.Roots.{held_by}
-use Rattle.hull_tree.specs.Nodes.{IsMultiplicity}
-use Rattle.hull_tree.specs.Loaded.{AreEntries, held_listed, points_listed}
-use Rattle.hull_tree.specs.Sets.{LimitedTree, IsSound}
-use Rattle.hull_tree.specs.Stretches.{IsStretch}
+use Rattle.bucket_tree.specs.Roots.{held_by}
+use Rattle.leaf_trees.specs.Entries.{IsMultiplicity}
+use Rattle.leaf_trees.specs.Entries.{AreEntries, held_listed, points_listed}
+use Rattle.bucket_tree.specs.Sets.{LimitedTree, IsSound}
+use Rattle.leaf_trees.specs.Stretches.{IsStretch}
 use Rattle.hull_reply.specs.Coordinates.{AreCoordinates}
 use Rattle.hull_reply.specs.Told.{IsBare, IsNumber}
 use Rattle.hull_reply.specs.declared.code.Code.TheVariants as code

@@ -3,9 +3,9 @@ use Rattle.std.specs.Prelude.{◌≡◌, ◌⊎◌, ◌≢◌, List, [], length}
 use Rattle.std.specs.List.{All}
 use Rattle.lattice.specs.Plane.{Pair}
 use Rattle.hull_set.specs.Held.{nothing_held}
-use Rattle.hull_tree.specs.Roots.{held_by}
-use Rattle.hull_tree.specs.Sets.{LimitedTree, IsSound}
-use Rattle.hull_tree.specs.Loaded.{AreTooMany, held_after_adds}
+use Rattle.bucket_tree.specs.Roots.{held_by}
+use Rattle.bucket_tree.specs.Sets.{LimitedTree, IsSound}
+use Rattle.leaf_trees.specs.Entries.{AreTooMany, held_after_adds}
 use Rattle.hull_reply.specs.Coordinates.{AreCoordinates}
 use Rattle.hull_reply.specs.Told.{IsBare, IsNumber}
 use Rattle.hull_reply.specs.declared.code.Code.{Code}

@@ -1,6 +1,6 @@
 -- What many requests in an array are answered.
 use Rattle.std.specs.Prelude.{◌≡◌, ◌⊎◌, ℕ, ◌+◌, List, ◌∷◌}
-use Rattle.hull_tree.specs.Sets.{LimitedTree, hull_tree}
+use Rattle.bucket_tree.specs.Sets.{LimitedTree, bucket_set}
 use Rattle.hull_reply.specs.Served.{IsAnswered}
 use Rattle.hull_reply.specs.Told.{code_number}
 use Rattle.hull_reply.specs.declared.code.Code.TheVariants as code
@@ -9,7 +9,7 @@ use Rattle.hull_c.specs.declared.requests.HullRequest.{HullRequest}
 
 -- what the request asks for was served
 abbrev pub AnswersRequest : HullRequest → LimitedTree → LimitedTree → HullReply → Type 0
-AnswersRequest q old new told = IsAnswered hull_tree q.kind q.x q.y old new told
+AnswersRequest q old new told = IsAnswered bucket_set q.kind q.x q.y old new told
 
 -- the code is that of a request that can't be served
 abbrev pub IsBad : ℕ → Type 0

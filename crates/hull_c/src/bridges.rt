@@ -2,8 +2,9 @@
 ghost use Rattle.std.specs.Prelude.{◌≡◌, ◌≤◌, ◌++◌, length, drop};
 ghost use Rattle.hull_c.specs.Bridges.{AreBridges, TellsBridges};
 
+use bucket_tree::{BucketTree, bucket_trees_are_sound};
 use hull_reply::{Code, HullPoint, HullReply};
-use hull_tree::{Bridge, SparingTree};
+use leaf_trees::Bridge;
 use std::marker::Model;
 
 /// What a fork of the tree stores: its two bridges, each by its ends in the left and in the right half.
@@ -23,7 +24,7 @@ pub struct HullBridge {
 }
 
 impl Model for HullBridge {
-    ghost use Rattle.hull_tree.specs.declared.levels.Bridge.{Bridge};
+    ghost use Rattle.leaf_trees.specs.declared.bridge.Bridge.{Bridge};
 
     ghost Value = { Bridge };
 
@@ -80,9 +81,10 @@ fn put_bridges(bridges: &[Bridge], out: &mut [HullBridge]) -> HullReply
 }
 
 /// Writes the bridges that the forks of a level store.
-pub(crate) fn bridges(hull: &mut SparingTree, level: u32, out: &mut [HullBridge]) -> HullReply
+pub(crate) fn bridges(hull: &mut BucketTree, level: u32, out: &mut [HullBridge]) -> HullReply
     ensures { AreBridges hull.old hull.new level out.old out.new result }
 {
+    bucket_trees_are_sound(hull);
     let Ok(bridges) = hull.bridges_at(level) else {
         return HullReply::bare(Code::NoMemory);
     };

@@ -7,12 +7,13 @@ ghost use Rattle.hull_c.specs.CornersOf.{AreCornersOf, AreTooManyOrRefused, Have
 ghost use Rattle.hull_c.specs.CornersOf.{TellsCornersOf, WritesCornersOf};
 
 use super::load::points_of;
+use bucket_tree::BucketTree;
 use heap::Heap;
 use hull_outline::Outline;
 use hull_reply::{Code, HullPoint, HullReply, put_corners};
 use hull_set::{HullSet, POINT_LIMIT};
-use hull_tree::{LoadFault, SparingTree};
 use lattice::{Point, before};
+use leaf_trees::LoadFault;
 
 /// The place of a point before which no other stands, by x and then y.
 fn first_place(points: &[Point]) -> usize
@@ -65,7 +66,7 @@ fn by_a_hull(alloc: Heap, points: &[Point], out: &mut [HullPoint]) -> HullReply
     ensures { WritesCornersOf points.now out.old out.new result
         ⊎ AreTooManyOrRefused points.now out.old out.new result }
 {
-    let hull = match SparingTree::from_points(alloc, POINT_LIMIT, points) {
+    let hull = match BucketTree::from_points(alloc, POINT_LIMIT, points) {
         Ok(hull) => hull,
         Err(LoadFault::TooMany) => return HullReply::bare(Code::TooMany),
         Err(LoadFault::NoMemory) => return HullReply::bare(Code::NoMemory),

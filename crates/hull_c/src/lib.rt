@@ -1,4 +1,4 @@
-//! A convex hull for C: a static library over [`SparingTree`](hull_tree::SparingTree), whose header is
+//! A convex hull for C: a static library over [`BucketTree`](bucket_tree::BucketTree), whose header is
 //! `include/hull.h`.
 //!
 //! A hull lies in room that the caller gives. Changes and questions are one export, [`hull_call`], by their kind; the
@@ -10,8 +10,8 @@
 ghost use Rattle.std.specs.Prelude.{◌≡◌};
 ghost use Rattle.std.specs.Borrow.{full_share, sem};
 ghost use Rattle.std.specs.Ptr.{lies_at, room_at};
-ghost use Rattle.hull_tree.specs.contracts.sparing_tree.SparingTree.{the_row};
-ghost use Rattle.hull_tree.specs.Sets.{hull_tree};
+ghost use Rattle.bucket_tree.specs.contracts.tree.BucketTree.{the_row};
+ghost use Rattle.bucket_tree.specs.Sets.{bucket_set};
 ghost use Rattle.hull_reply.specs.Left.{leaves};
 ghost use Rattle.hull_reply.specs.Rooms.{room_alignment, room_size};
 ghost use Rattle.hull_reply.specs.Served.{IsAnswered};
@@ -42,12 +42,12 @@ mod requests;
 mod threads;
 
 pub use bridges::HullBridge;
+use bucket_tree::BucketTree;
 use heap::Heap;
 pub use held::HullHeld;
 use hull_outline::Length;
 pub use hull_reply::HullPoint;
 use hull_reply::HullReply;
-use hull_tree::SparingTree;
 use lattice::Point;
 pub use pairs::HullWitness;
 pub use requests::HullRequest;
@@ -62,9 +62,9 @@ pub use threads::hulls_go_to_any_thread;
 pub unsafe extern "C" fn hull_call(at: *mut u8, kind: u32, x: i64, y: i64) -> HullReply
     ghost t: { the_row.Denot }
     requires* { sem 𝓛 (lies_at the_row full_share at t) }
-    ensures* { sem 𝓛 (leaves the_row at (λ new. IsAnswered hull_tree kind x y t new result)) }
+    ensures* { sem 𝓛 (leaves the_row at (λ new. IsAnswered bucket_set kind x y t new result)) }
 {
-    let hull = at as *mut SparingTree;
+    let hull = at as *mut BucketTree;
     calls::call(unsafe { &mut *hull }, kind, x, y)
 }
 
@@ -79,7 +79,7 @@ pub unsafe extern "C" fn hull_vertices(at: *mut u8, out: &mut [HullPoint]) -> Hu
     requires* { sem 𝓛 (lies_at the_row full_share at t) }
     ensures* { sem 𝓛 (leaves the_row at (λ new. AreCorners t new out.old out.new result)) }
 {
-    let hull = at as *mut SparingTree;
+    let hull = at as *mut BucketTree;
     corners::vertices(unsafe { &mut *hull }, out)
 }
 
@@ -99,7 +99,7 @@ pub unsafe extern "C" fn hull_calls(
     requires* { sem 𝓛 (lies_at the_row full_share at t) }
     ensures* { sem 𝓛 (leaves the_row at (λ new. AreServed requests.now replies.old t new replies.new result)) }
 {
-    let hull = at as *mut SparingTree;
+    let hull = at as *mut BucketTree;
     requests::calls_of(unsafe { &mut *hull }, requests, replies)
 }
 
@@ -115,7 +115,7 @@ pub unsafe extern "C" fn hull_load(at: *mut u8, alloc: Heap, points: &[HullPoint
     requires* { sem 𝓛 (lies_at the_row full_share at t) }
     ensures* { sem 𝓛 (leaves the_row at (λ new. IsLoaded points.now t new result)) }
 {
-    let hull = at as *mut SparingTree;
+    let hull = at as *mut BucketTree;
     load::load(unsafe { &mut *hull }, alloc, points)
 }
 
@@ -131,7 +131,7 @@ pub unsafe extern "C" fn hull_load_held(at: *mut u8, alloc: Heap, held: &[HullHe
     requires* { sem 𝓛 (lies_at the_row full_share at t) }
     ensures* { sem 𝓛 (leaves the_row at (λ new. AreLoaded held.now t new result)) }
 {
-    let hull = at as *mut SparingTree;
+    let hull = at as *mut BucketTree;
     held::load(unsafe { &mut *hull }, alloc, held)
 }
 
@@ -152,7 +152,7 @@ pub unsafe extern "C" fn hull_held_from(
     requires* { sem 𝓛 (lies_at the_row full_share at t) }
     ensures* { sem 𝓛 (leaves the_row at (λ new. IsListed t new x y out.old out.new result)) }
 {
-    let hull = at as *mut SparingTree;
+    let hull = at as *mut BucketTree;
     held::list(unsafe { &mut *hull }, x, y, out)
 }
 
@@ -168,7 +168,7 @@ pub unsafe extern "C" fn hull_bridges(at: *mut u8, level: u32, out: &mut [HullBr
     requires* { sem 𝓛 (lies_at the_row full_share at t) }
     ensures* { sem 𝓛 (leaves the_row at (λ new. AreBridges t new level out.old out.new result)) }
 {
-    let hull = at as *mut SparingTree;
+    let hull = at as *mut BucketTree;
     bridges::bridges(unsafe { &mut *hull }, level, out)
 }
 
@@ -183,7 +183,7 @@ pub unsafe extern "C" fn hull_clear(at: *mut u8, alloc: Heap) -> HullReply
     requires* { sem 𝓛 (lies_at the_row full_share at t) }
     ensures* { sem 𝓛 (leaves the_row at (λ new. IsCleared t new result)) }
 {
-    let hull = at as *mut SparingTree;
+    let hull = at as *mut BucketTree;
     calls::clear(unsafe { &mut *hull }, alloc)
 }
 
@@ -198,7 +198,7 @@ pub unsafe extern "C" fn hull_limit(at: *mut u8) -> HullReply
     requires* { sem 𝓛 (lies_at the_row full_share at t) }
     ensures* { sem 𝓛 (leaves the_row at (λ new. IsLimitOf t new result)) }
 {
-    let hull = at as *mut SparingTree;
+    let hull = at as *mut BucketTree;
     calls::limit(unsafe { &mut *hull })
 }
 
@@ -409,7 +409,7 @@ pub extern "C" fn hull_outline_of(
 pub extern "C" fn hull_size() -> usize
     ensures { result ≡ room_size the_row }
 {
-    size_of::<SparingTree>()
+    size_of::<BucketTree>()
 }
 
 /// At which multiples of bytes the room of a hull begins.
@@ -417,7 +417,7 @@ pub extern "C" fn hull_size() -> usize
 pub extern "C" fn hull_alignment() -> usize
     ensures { result ≡ room_alignment the_row }
 {
-    align_of::<SparingTree>()
+    align_of::<BucketTree>()
 }
 
 /// Makes an empty hull in a room: one that takes `limit` points, or the greatest number of points where `limit` is 0 or
@@ -431,7 +431,7 @@ pub unsafe extern "C" fn hull_make(alloc: Heap, limit: u32, room: *mut u8)
     requires* { sem 𝓛 (room_at the_row room) }
     ensures* { sem 𝓛 (leaves the_row room (IsFresh limit)) }
 {
-    let at = room as *mut SparingTree;
+    let at = room as *mut BucketTree;
     let hull = calls::fresh(alloc, limit);
     unsafe { at.write(hull) };
 }
@@ -447,6 +447,6 @@ pub unsafe extern "C" fn hull_end(at: *mut u8) -> u32
     requires* { sem 𝓛 (lies_at the_row full_share at t) }
     ensures* { sem 𝓛 (leaves_room the_row at (result ≡ 0)) }
 {
-    let hull = at as *mut SparingTree;
+    let hull = at as *mut BucketTree;
     calls::finish(unsafe { hull.read() })
 }

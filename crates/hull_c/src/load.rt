@@ -4,11 +4,12 @@ ghost use Rattle.std.specs.List.{All};
 ghost use Rattle.hull_reply.specs.Coordinates.{IsPointOf};
 ghost use Rattle.hull_c.specs.Loads.{IsLoaded, IsUnread, HasCoordinates};
 
+use bucket_tree::BucketTree;
 use heap::Heap;
 use hull_reply::{Code, HullPoint, HullReply, point_of};
 use hull_set::HullSet;
-use hull_tree::{LoadFault, SparingTree};
 use lattice::Point;
+use leaf_trees::LoadFault;
 
 /// The point of these coordinates; [`Code::OutOfRange`] where one of them is none.
 fn read(asked: HullPoint) -> Result<Point, Code>
@@ -44,18 +45,18 @@ pub(crate) fn points_of(alloc: Heap, array: &[HullPoint]) -> Result<Vec<Point, H
 }
 
 /// Holds the points of an array, each as often as it stands there, in the place of all that was held.
-pub(crate) fn load(hull: &mut SparingTree, alloc: Heap, array: &[HullPoint]) -> HullReply
+pub(crate) fn load(hull: &mut BucketTree, alloc: Heap, array: &[HullPoint]) -> HullReply
     ensures { IsLoaded array.now hull.old hull.new result }
 {
     if array.is_empty() {
-        *hull = SparingTree::new(alloc, hull.limit());
+        *hull = BucketTree::new(alloc, hull.limit());
         return HullReply::numbered(Code::Number, 0);
     }
     let points = match points_of(alloc, array) {
         Ok(points) => points,
         Err(fault) => return HullReply::bare(fault),
     };
-    match SparingTree::from_points(alloc, hull.limit(), &points) {
+    match BucketTree::from_points(alloc, hull.limit(), &points) {
         Ok(loaded) => {
             *hull = loaded;
             HullReply::numbered(Code::Number, u64::from(hull.count()))

@@ -3,8 +3,8 @@ ghost use Rattle.std.specs.Prelude.{◌↔◌, IsTrue};
 ghost use Rattle.hull_c.specs.Requests.{AnswersRequest, AreServed, IsBad};
 
 use super::calls;
+use bucket_tree::BucketTree;
 use hull_reply::{Code, HullReply};
-use hull_tree::SparingTree;
 
 /// A call: the number of its kind, and a point or a direction.
 #[repr(C)]
@@ -19,7 +19,7 @@ pub struct HullRequest {
 }
 
 /// Serves what a request asks for.
-fn answer(hull: &mut SparingTree, request: HullRequest) -> HullReply
+fn answer(hull: &mut BucketTree, request: HullRequest) -> HullReply
     ensures { AnswersRequest request hull.old hull.new result }
 {
     calls::call(hull, request.kind, request.x, request.y)
@@ -37,7 +37,7 @@ fn is_bad(code: u32) -> bool
 /// Makes the calls in their order, up to the end of the shorter array or the first request that can't be served, and
 /// tells how many replies were written.
 pub(crate) fn calls_of(
-    hull: &mut SparingTree,
+    hull: &mut BucketTree,
     requests: &[HullRequest],
     replies: &mut [HullReply],
 ) -> usize

@@ -1,8 +1,8 @@
 //! A tree over buckets under random changes, beside a plain set.
 use crate::numbers::{Numbers, centred};
 use bucket_tree::{
-    Inserted, Node, area2, extreme, from_parts, insert, place, recount, remove, tangents, times_of,
-    vertices,
+    Inserted, Node, Removed, area2, extreme, from_parts, insert, place, recount, remove, tangents,
+    times_of, vertices,
 };
 use hull_plain::PlainSet;
 use hull_set::{HullSet, POINT_LIMIT};
@@ -51,7 +51,11 @@ fn lower(node: Node, p: Point, turns: &mut u32) -> Option<Node> {
         recount(&mut node, p, times - 1);
         return Some(node);
     }
-    let (rest, more) = remove(node, p);
+    let Removed {
+        rest,
+        turns: more,
+        ..
+    } = remove(node, p);
     *turns = more;
     rest
 }

@@ -5,6 +5,7 @@
 
 #[cfg(test)]
 mod bucket_nodes;
+mod bucket_trees;
 #[cfg(test)]
 mod buckets;
 #[cfg(test)]

@@ -2,7 +2,8 @@
 use Rattle.std.proofs.Common.{◌≡◌, ◌+◌, max, ap, subst, sym, arith, refl}
 use Rattle.lattice.specs.Plane.{IsBefore}
 use Rattle.hull_buckets.specs.Buckets.{BucketValue}
-use Rattle.bucket_tree.specs.Counts.{several, counted, times_at, IsSameButTimes}
+use Rattle.bucket_tree.specs.Counts.{counted, times_at, IsSameButTimes}
+use Rattle.leaf_trees.specs.Entries.{several}
 use Rattle.bucket_tree.specs.Nodes.{forks_above, IsWellBuilt}
 use Rattle.bucket_tree.proofs.Gained.{passed, failed}
 use Rattle.bucket_tree.proofs.Lost.{count_left, count_right}

@@ -8,6 +8,8 @@ use Rattle.std.specs.List.{remove}
 use Rattle.bucket_tree.specs.Counts.{counted}
 use Rattle.bucket_tree.proofs.BuiltLeaves.{leaf_built}
 use Rattle.bucket_tree.proofs.Lost.{not_held, held_without, only_point, held_alone}
+use Rattle.bucket_tree.specs.Changes.{IsClosedOver}
+use Rattle.bucket_tree.proofs.Kept.{closed_without}
 use Rattle.bucket_tree.proofs.removal.remove_leaf.Goals as goal
 
 pub unreachable-requires : goal.unreachable-requires
@@ -16,11 +18,11 @@ unreachable-requires c =
     (subst (λ (z : BucketValue). IsPositionOf z.points c.args.p (Err c.in_default.field-0)) c.deref.ensures
     (subst (IsPositionOf c.deref.result.now.points c.args.p) c.in_default.is c.place_of.ensures)) c.requires.held
 
-pub returns-then-points-eq1 : goal.returns-then-points-eq1
-returns-then-points-eq1 c =
+pub returns-then-points-eq1-clause-lost : goal.returns-then-points-eq1-clause-lost
+returns-then-points-eq1-clause-lost c =
     let at = subst (λ (z : BucketValue). IsPositionOf z.points c.args.p (Ok c.in-Ok.place)) c.deref.ensures
     (subst (IsPositionOf c.deref.result.now.points c.args.p) c.in-Ok.is c.place_of.ensures) in
-    let l = ap (λ z. length z) (sym (c.points.ensures.points ∙ ap (λ (z : BucketValue). z.points) c.deref-2.ensures))
+    let l = ap (λ z. length z) (sym (c.points.ensures.points ∙ ap (λ (z : BucketValue). z.points) c.deref-3.ensures))
     ∙ c.if-points-eq1.true in (
       only_point c.args.bucket.value.points c.args.bucket.value.times c.in-Ok.place c.args.p
           c.requires.built.buckets.ordered c.requires.built.buckets.counted at c.requires.held l,
@@ -29,8 +31,8 @@ returns-then-points-eq1 c =
       refl,
     )
 
-pub returns : goal.returns
-returns c =
+pub returns-clause-lost : goal.returns-clause-lost
+returns-clause-lost c =
     let at = subst (λ (z : BucketValue). IsPositionOf z.points c.args.p (Ok c.in-Ok.place)) c.deref.ensures
     (subst (IsPositionOf c.deref.result.now.points c.args.p) c.in-Ok.is c.place_of.ensures) in
     let points = c.remove.ensures.points
@@ -38,7 +40,7 @@ returns c =
     ∙ ap (λ z. without_point z c.args.bucket.value.points) (at.1 origin) in
     let times = c.remove.ensures.times
     ∙ ap (λ (z : BucketValue). remove z.times c.in-Ok.place) c.deref_mut.ensures.value in (
-      leaf_built _ c.remove.new.self refl (subst IsBucket c.deref-3.ensures c.buckets_are_sound.ensures),
+      leaf_built _ c.remove.new.self refl (subst IsBucket c.deref-4.ensures c.buckets_are_sound.ensures),
       points,
       λ q. held_without c.args.bucket.value.points c.args.bucket.value.times c.in-Ok.place c.args.p
           c.requires.built.buckets.ordered c.requires.built.buckets.counted at c.requires.held q
@@ -46,3 +48,15 @@ returns c =
           ∙ ap (λ z. counted c.remove.new.self.points z q + once c.args.p q) (sym times),
       (omega arith, omega arith),
     )
+
+pub returns-clause-closed : goal.returns-clause-closed
+returns-clause-closed c =
+    let at = subst (λ (z : BucketValue). IsPositionOf z.points c.args.p (Ok c.in-Ok.place)) c.deref.ensures
+    (subst (IsPositionOf c.deref.result.now.points c.args.p) c.in-Ok.is c.place_of.ensures) in
+    let points = c.remove.ensures.points
+    ∙ ap (λ (z : BucketValue). without_point (point_at z.points c.in-Ok.place) z.points) c.deref_mut.ensures.value
+    ∙ ap (λ z. without_point z c.args.bucket.value.points) (at.1 origin) in
+    subst (IsClosedOver c.args.p c.open_at-sides.result) (sym points)
+    (closed_without c.args.p c.args.bucket.value.points c.open_at-sides.result c.requires.built.buckets.ordered
+    (subst (λ (z : BucketValue). IsClosedOver c.args.p c.open_at-sides.result z.points) c.deref-2.ensures
+    c.open_at-sides.ensures))

@@ -1,6 +1,6 @@
 -- the points so far are in order
 use Rattle.std.proofs.Common.{◌≤◌}
-use Rattle.hull_tree.specs.Loaded.{points_listed}
+use Rattle.leaf_trees.specs.Entries.{points_listed}
 use Rattle.hull_c.proofs.InOrder.{AreInOrderTo}
 use Rattle.hull_c.proofs.held.are_in_order.Given as goal
 

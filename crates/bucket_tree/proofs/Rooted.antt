@@ -1,0 +1,177 @@
+-- What a tree with a limit keeps, and that a change keeps it.
+use Rattle.std.proofs.Common.{◌≡◌, ℕ, ◌+◌, ◌-◌, ◌<◌, ◌≤◌, ap, refl, sym, ◌∙◌, List, [], ◌∷◌, length, arith, Some, None, subst}
+use Rattle.std.specs.Prelude.{Option, ◌≢◌}
+use Rattle.std.specs.List.{All, Contains}
+use Rattle.std.proofs.lemmas.List.Elements.{All-append}
+use Rattle.lattice.specs.Plane.{Pair}
+use Rattle.lattice.specs.Covers.{with_point, without_point}
+use Rattle.hull_geometry.proofs.PointLists.{AllPairs-none}
+use Rattle.hull_set.specs.Held.{once, with_new, with_none}
+use Rattle.hull_set.proofs.Times.{same_held}
+use Rattle.leaf_trees.specs.Entries.{IsMultiplicity, IsTrueHeld, AreEntries, held_listed, points_listed, times_listed}
+use Rattle.leaf_trees.proofs.AddedSets.{nothing_is_held}
+use Rattle.leaf_trees.proofs.Told.{live, dead}
+use Rattle.bucket_tree.proofs.Lost.{without_only}
+use Rattle.leaf_trees.proofs.Rows.{with_length, without_length}
+use Rattle.bucket_tree.specs.Counts.{times_at, counted, HasLost}
+use Rattle.bucket_tree.specs.Lists.{entries_below, numbers_listed}
+use Rattle.bucket_tree.specs.Nodes.{points_below, times_below, HasBuckets, IsWellBuilt}
+use Rattle.bucket_tree.specs.Roots.{held_by, points_of_root, times_of_root, IsWellBuiltRoot}
+use Rattle.bucket_tree.specs.Sets.{IsLimited, IsSound}
+use Rattle.bucket_tree.specs.declared.node.Node.{Node, Leaf, Fork', Gap}
+use Rattle.bucket_tree.proofs.Gained.{counts_below}
+use Rattle.bucket_tree.proofs.Listed.{paired_entries, paired_hold, lists_held, paired_length, paired_times, paired_again}
+use Rattle.bucket_tree.proofs.Listed.{numbers_held, numbers_length}
+use Rattle.bucket_tree.specs.Loads.{AreParts}
+use Rattle.std.proofs.lemmas.Map.Entries.{length-keys_of}
+use Rattle.bucket_tree.proofs.NodePoints.{some_below}
+use Rattle.bucket_tree.proofs.NodeHeights.{no_higher}
+
+-- each point below a node is held as often as a point may be
+pub multiplicities : (n : Node) → HasBuckets n → All IsMultiplicity (times_below n)
+multiplicities (Leaf b) h = h.held
+multiplicities (Fork' height i first_right left right last_left upper lower) h =
+    All-append IsMultiplicity (times_below left) (times_below right) (multiplicities left h.0) (multiplicities right h.1)
+multiplicities Gap h = absurd h
+
+-- what is below a node is listed by entries
+pub entries_are : (n : Node) → IsWellBuilt n → AreEntries (entries_below n)
+entries_are n w = paired_entries (points_below n) (times_below n) w.ordered (counts_below n w.buckets)
+    (multiplicities n w.buckets)
+
+-- which hold what it holds
+pub entries_hold : (n : Node) → IsWellBuilt n → held_listed (entries_below n) ≡ held_by (Some n)
+entries_hold n w = paired_hold (points_below n) (times_below n) w.ordered (counts_below n w.buckets)
+    (multiplicities n w.buckets) (times_at n) (λ q. refl)
+
+-- and are as many as its points
+pub entries_length : (n : Node) → IsWellBuilt n → length (entries_below n) ≡ length (points_below n)
+entries_length n w = paired_length (points_below n) (times_below n) (counts_below n w.buckets)
+
+-- what a well-built root holds is its points
+pub root_held : (root : Option Node) → IsWellBuiltRoot root → IsTrueHeld (held_by root)
+root_held None w = nothing_is_held
+root_held (Some n) w = lists_held (points_below n) (times_below n) w.ordered (counts_below n w.buckets)
+    (multiplicities n w.buckets) (times_at n) (λ q. refl)
+
+-- a tree with a limit is sound
+pub sound : (root : Option Node) (count limit : ℕ) → IsLimited root count limit → IsSound root
+sound None count limit h = record { built = tt; in_order = AllPairs-none; low = omega arith }
+sound (Some n) count limit h = record {
+  built = h.built;
+  in_order = h.built.ordered;
+  low = no_higher n h.built.balanced h.built.buckets (omega (arith, h.counted, h.room, h.high));
+}
+
+-- one point more, below the limit
+pub limited_with : (n m : Node) (p : Pair) (count limit : ℕ) → IsLimited (Some n) count limit → IsWellBuilt m
+    → points_below m ≡ with_point p (points_below n) → ¬ (Contains (points_below n) p) → count < limit
+    → IsLimited (Some m) (count + 1) limit
+limited_with n m p count limit h b e a l =
+    let k : length (points_below m) ≡ length (points_below n) + 1 =
+    ap (λ (z : List Pair). length z) e ∙ with_length p (points_below n) a in
+    record { built = b; counted = omega (arith, h.counted, k); room = omega (arith, l); low = h.low; high = h.high }
+
+-- the same points
+pub limited_same : (root top : Option Node) (count limit : ℕ) → IsLimited root count limit → IsWellBuiltRoot top
+    → points_of_root top ≡ points_of_root root → IsLimited top count limit
+limited_same root top count limit h b e = record {
+  built = b;
+  counted = omega (arith, h.counted, ap (λ (z : List Pair). length z) e);
+  room = h.room;
+  low = h.low;
+  high = h.high;
+}
+
+-- one point less
+pub limited_without : (n : Node) (root : Option Node) (p : Pair) (count limit : ℕ) → IsLimited (Some n) count limit
+    → IsWellBuiltRoot root → points_of_root root ≡ without_point p (points_below n) → Contains (points_below n) p
+    → IsLimited root (count - 1) limit
+limited_without n root p count limit h b e m =
+    let k : length (points_of_root root) + 1 ≡ length (points_below n) =
+    ap (λ (z : List Pair). length z + 1) e ∙ without_length p (points_below n) h.built.ordered m in
+    record {
+      built = b;
+      counted = omega (arith, h.counted, k);
+      room = omega (arith, h.room);
+      low = h.low;
+      high = h.high;
+    }
+
+-- a set of one point
+pub limited_one : (n : Node) (p : Pair) (limit : ℕ) → IsWellBuilt n → points_below n ≡ p ∷ [] → 1 ≤ limit
+    → limit ≤ 1048576 → IsLimited (Some n) 1 limit
+limited_one n p limit w e l g = record {
+  built = w;
+  counted = omega (arith, ap (λ (z : List Pair). length z) e);
+  room = l;
+  low = l;
+  high = g;
+}
+
+-- what is held with a new point
+pub held_new : (n m : Node) (p : Pair) → points_below m ≡ with_point p (points_below n)
+    → ((q : Pair) → times_at m q ≡ times_at n q + once p q) → held_by (Some m) ≡ with_new p (held_by (Some n))
+held_new n m p e h =
+    same_held (points_below m) (with_point p (points_below n)) (times_at m) (λ q. times_at n q + once p q) e h
+
+-- what is held where nothing came
+pub held_same : (n m : Node) → points_below m ≡ points_below n → ((q : Pair) → times_at m q ≡ times_at n q)
+    → held_by (Some m) ≡ held_by (Some n)
+held_same n m e h = same_held (points_below m) (points_below n) (times_at m) (times_at n) e h
+
+-- what is held without a point that was held once
+pub held_none : (root : Option Node) (n : Node) (p : Pair) → points_of_root root ≡ without_point p (points_below n)
+    → ((q : Pair) → times_at n q ≡ times_of_root root q + once p q)
+    → held_by root ≡ with_none p (held_by (Some n))
+held_none root n p e h =
+    same_held (points_of_root root) (without_point p (points_below n)) (times_of_root root)
+    (λ q. times_at n q - once p q) e (λ q. omega (arith, h q))
+
+-- what a node holds that was built of entries
+pub held_entries : (n : Node) (es : List (Pair × ℕ)) → points_below n ≡ points_listed es
+    → times_below n ≡ numbers_listed es → held_by (Some n) ≡ held_listed es
+held_entries n es e f = same_held (points_below n) (points_listed es) (times_at n) (λ q. times_listed es q) e
+    (λ q. ap (λ z. counted z (times_below n) q) e ∙ ap (λ z. counted (points_listed es) z q) f
+    ∙ sym (paired_times (points_listed es) (numbers_listed es) q) ∙ ap (λ z. times_listed z q) (paired_again es))
+
+-- the root of a tree with a limit is well built
+pub built_root : (root : Option Node) (n : Node) (count limit : ℕ) → IsLimited root count limit → root ≡ Some n
+    → IsWellBuilt n
+built_root root n count limit h e = subst IsWellBuiltRoot e h.built
+
+-- a point that is held once goes
+pub lost_limited : (n : Node) (rest : Option Node) (p : Pair) (count limit : ℕ) → IsLimited (Some n) count limit
+    → times_at n p ≡ 1 → HasLost p n rest → IsLimited rest (count - 1) limit
+lost_limited n None p count limit h t l =
+    limited_without n None p count limit h tt (sym (ap (without_point p) l.0 ∙ without_only p))
+    (live (held_by (Some n)) 0 p 1 (root_held (Some n) h.built) (sym t) (omega arith))
+lost_limited n (Some m) p count limit h t l =
+    limited_without n (Some m) p count limit h l.0 l.1
+    (live (held_by (Some n)) 0 p 1 (root_held (Some n) h.built) (sym t) (omega arith))
+
+-- a point that is held never is none of those below the root
+pub absent_below : (root : Option Node) (n : Node) (p : Pair) → root ≡ Some n → IsWellBuilt n → times_of_root root p ≡ 0
+    → ¬ Contains (points_below n) p
+absent_below root n p e w z =
+    dead (held_by (Some n)) 0 p 0 (root_held (Some n) w) (sym (ap (λ r. times_of_root r p) (sym e) ∙ z)) refl
+
+-- a node of few points is sound
+pub sound_node : (n : Node) → IsWellBuilt n → length (points_below n) ≤ 1048576 → IsSound (Some n)
+sound_node n w l = record { built = w; in_order = w.ordered; low = no_higher n w.balanced w.buckets l }
+
+-- entries are what a tree may be built of
+pub parts_of : (es : List (Pair × ℕ)) → AreEntries es → 1 ≤ length es → length es ≤ 1048576
+    → AreParts (points_listed es) (numbers_listed es)
+parts_of es h s f = record {
+  some = omega (arith, s, length-keys_of es);
+  few = omega (arith, f, length-keys_of es);
+  ordered = h.in_order;
+  counted = omega (arith, length-keys_of es, numbers_length es);
+  held = numbers_held es h.held;
+}
+
+-- what is not nothing has a point
+pub some_held : (root : Option Node) → IsWellBuiltRoot root → root ≢ None → ¬ (points_of_root root ≡ [])
+some_held None w h e = h refl
+some_held (Some n) w h e = omega (arith, some_below n w.buckets, ap (λ (z : List Pair). length z) e)

@@ -1,0 +1,12 @@
+-- on each side the bucket tells
+use Rattle.std.proofs.Common.{subst}
+use Rattle.lattice.specs.declared.side.Side.TheVariants.{Lower, Upper}
+use Rattle.hull_buckets.specs.Buckets.{IsCovered}
+use Rattle.bucket_tree.proofs.Kept.{closing}
+use Rattle.bucket_tree.proofs.insertion.open_at.Goals as goal
+
+pub returns : goal.returns
+returns c =
+    closing c.args.p c.args.bucket.now.points record { lower = c.is_corner.result; upper = c.is_corner-2.result }
+    (λ e. subst (λ z. IsCovered Lower z c.args.bucket.now.points) c.requires.there (c.is_corner.ensures e))
+    (λ e. subst (λ z. IsCovered Upper z c.args.bucket.now.points) c.requires.there (c.is_corner-2.ensures e))

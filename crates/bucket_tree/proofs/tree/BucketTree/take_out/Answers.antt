@@ -1,0 +1,34 @@
+-- the root is well built and low, and what is left is a tree of one point less
+use Rattle.std.proofs.Common.{◌≡◌, ◌≤◌, ◌∙◌, ap, arith, subst, sym, Some}
+use Rattle.std.specs.Prelude.{Option}
+use Rattle.bucket_tree.specs.Counts.{times_at}
+use Rattle.bucket_tree.specs.Nodes.{forks_above}
+use Rattle.bucket_tree.specs.Roots.{times_of_root}
+use Rattle.bucket_tree.specs.Sets.{LimitedTree, IsLimited}
+use Rattle.bucket_tree.specs.declared.node.Node.{Node}
+use Rattle.bucket_tree.proofs.MostTurns.{few_turns}
+use Rattle.bucket_tree.proofs.Rooted.{lost_limited, sound}
+use Rattle.bucket_tree.proofs.tree.BucketTree.take_out.Goals as goal
+
+pub remove-removed-requires-clause-low : goal.remove-removed-requires-clause-low
+remove-removed-requires-clause-low c =
+    let r : c.self.inside.root ≡ Some c.in-Some.root = cc in
+    (sound _ _ _ (subst (λ (z : Option Node). IsLimited z c.self.inside.count c.self.inside.limit) r
+    c.self.invariant)).low
+
+pub invariant_of-self : goal.invariant_of-self
+invariant_of-self c =
+    let r : c.self.inside.root ≡ Some c.in-Some.root = cc in
+    let v : c.args.self.now.root ≡ Some c.in-Some.root = sym (ap (λ (z : LimitedTree). z.root) c.self.view_is) ∙ r in
+    let t : times_at c.in-Some.root c.args.p ≡ 1 = ap (λ z. times_of_root z c.args.p) (sym v) ∙ c.requires in
+    lost_limited c.in-Some.root c.remove-removed.result.rest c.args.p c.self.inside.count c.self.inside.limit
+    (subst (λ (z : Option Node). IsLimited z c.self.inside.count c.self.inside.limit) r c.self.invariant) t
+    c.remove-removed.ensures.lost
+
+pub returns-clause-few : goal.returns-clause-few
+returns-clause-few c =
+    let r : c.self.inside.root ≡ Some c.in-Some.root = cc in
+    let h : forks_above c.in-Some.root ≤ 28 =
+    (sound _ _ _ (subst (λ (z : Option Node). IsLimited z c.self.inside.count c.self.inside.limit) r
+    c.self.invariant)).low in
+    omega (arith, few_turns (forks_above c.in-Some.root) h, c.remove-removed.ensures.turns)

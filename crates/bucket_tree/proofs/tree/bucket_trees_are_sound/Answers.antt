@@ -1,0 +1,8 @@
+-- a tree's own invariant says that it is sound
+use Rattle.std.proofs.Common.{ap, subst}
+use Rattle.bucket_tree.specs.Sets.{LimitedTree, IsSound}
+use Rattle.bucket_tree.proofs.Rooted.{sound}
+use Rattle.bucket_tree.proofs.tree.bucket_trees_are_sound.Goals as goal
+
+pub returns : goal.returns
+returns c = subst IsSound (ap (λ (z : LimitedTree). z.root) c.tree.view_is) (sound _ _ _ c.tree.invariant)

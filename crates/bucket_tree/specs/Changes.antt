@@ -1,0 +1,58 @@
+-- What a change at one point leaves of the bridges above it.
+use Rattle.std.specs.Prelude.{◌≡◌, ◌⊎◌, Bool, false, List}
+use Rattle.std.specs.List.{Contains}
+use Rattle.lattice.specs.Bridges.{IsBridge}
+use Rattle.lattice.specs.Plane.{Pair}
+use Rattle.lattice.specs.Standing.{IsInnerToEdge}
+use Rattle.lattice.specs.declared.side.Side.{Side}
+use Rattle.lattice.specs.declared.side.Side.TheVariants.{Lower, Upper}
+use Rattle.hull_buckets.specs.Buckets.{IsCovered}
+use Rattle.hull_geometry.specs.Monotone.{IsInwards}
+use Rattle.hull_geometry.specs.Positions.{first_of, last_of}
+use Rattle.bucket_tree.specs.declared.node.Fork.{Fork}
+use Rattle.bucket_tree.specs.declared.node.Node.{Node}
+use Rattle.bucket_tree.specs.declared.renewal.Open.{Open}
+use Rattle.bucket_tree.specs.declared.renewal.Standing.{Standing}
+use Rattle.bucket_tree.specs.declared.renewal.Standing.TheVariants.{Covered, Clear, Touching}
+use Rattle.bucket_tree.specs.Nodes.{points_below}
+
+-- whether a side is open: whether the change may matter there to what is above
+abbrev pub is_open : Side → Open → Bool
+is_open Lower sides = sides.lower
+is_open Upper sides = sides.upper
+
+-- where a side is closed, the point stands under an edge of the others
+abbrev pub IsClosedOver : Pair → Open → List Pair → Type 0
+IsClosedOver p sides S = (side : Side) → is_open side sides ≡ false → IsCovered side p S
+
+-- the edge that a fork stores on a side
+abbrev pub edge_on : Side → Fork → Pair × Pair
+edge_on Lower f = f.lower
+edge_on Upper f = f.upper
+
+-- an edge is the bridge, on a side, of all points below two nodes
+abbrev pub IsBridgeBetween : Side → Node → Node → Pair × Pair → Type 0
+IsBridgeBetween side l r e = IsBridge side (Contains (points_below l)) (Contains (points_below r)) e.0 e.1
+
+-- a point is no end of an edge, and inner to it
+abbrev pub IsClearOf : Side → Pair × Pair → Pair → Type 0
+IsClearOf side e p = ¬ (e.0 ≡ p) × ¬ (e.1 ≡ p) × IsInnerToEdge side e.0 e.1 p
+
+-- what was told of a point and an edge
+abbrev pub TellsOf : Side → Pair × Pair → Pair → Standing → Type 0
+TellsOf side e p Covered = IsInwards side e.0 e.1 p
+TellsOf side e p Clear = IsClearOf side e p
+TellsOf side e p Touching = Unit {0}
+
+-- a fork over two parts, of which one changed at p since its edges were stored: it keeps the points at the parting; an edge is
+-- the bridge still where its side is closed, and where p is clear of it
+pub record IsBehind (p : Pair) (sides : Open) (l r : Node) (f : Fork) : Type 0 where
+  pub last : f.last_left ≡ last_of (points_below l)
+  pub first : f.first_right ≡ first_of (points_below r)
+  pub closed : (side : Side) → is_open side sides ≡ false → IsBridgeBetween side l r (edge_on side f)
+  pub clear : (side : Side) → IsClearOf side (edge_on side f) p → IsBridgeBetween side l r (edge_on side f)
+
+-- the sides that are closed after a look at a fork are those that were, or those on which its points cover p
+abbrev pub ClosesBy : Pair → Open → Open → List Pair → Type 0
+ClosesBy p before after S =
+    (side : Side) → is_open side after ≡ false → (is_open side before ≡ false) ⊎ IsCovered side p S

@@ -1,0 +1,17 @@
+-- The bridges that a tree stores, level by level (Overmars and van Leeuwen, 1981).
+use Rattle.std.specs.Prelude.{◌==◌, ◌+◌, ℕ, List, [], ◌∷◌, ◌++◌, Option, Some, None, if◌then◌else◌}
+use Rattle.leaf_trees.specs.declared.bridge.Bridge.{Bridge}
+use Rattle.bucket_tree.specs.declared.node.Node.{Node, Leaf, Fork', Gap}
+
+-- what the forks of a level store, from left to right, where the node itself stands on level `here`; a bucket has none
+unfoldable pub level_of : ℕ → ℕ → Node → List Bridge
+level_of wanted here (Leaf b) = []
+level_of wanted here (Fork' height i first_right left right last_left upper lower) = if here == wanted
+    then record { level = wanted; upper = upper; lower = lower } ∷ []
+    else level_of wanted (here + 1) left ++ level_of wanted (here + 1) right
+level_of wanted here Gap = []
+
+-- what the forks of a level of a whole tree store
+abbrev pub bridges_at : ℕ → Option Node → List Bridge
+bridges_at level None = []
+bridges_at level (Some n) = level_of level 0 n

@@ -1,0 +1,31 @@
+-- A whole tree: a node, or nothing.
+use Rattle.std.specs.Prelude.{ℕ, List, [], Option, Some, None}
+use Rattle.lattice.specs.Plane.{Pair}
+use Rattle.hull_set.specs.Held.{Held}
+use Rattle.bucket_tree.specs.declared.node.Node.{Node}
+use Rattle.bucket_tree.specs.Counts.{times_at}
+use Rattle.bucket_tree.specs.Nodes.{IsWellBuilt, points_below, forks_above}
+
+-- its points, in order
+abbrev pub points_of_root : Option Node → List Pair
+points_of_root None = []
+points_of_root (Some n) = points_below n
+
+-- how often each point is held
+abbrev pub times_of_root : Option Node → Pair → ℕ
+times_of_root None = λ q. 0
+times_of_root (Some n) = times_at n
+
+-- what it holds
+abbrev pub held_by : Option Node → Held
+held_by root = record { points = points_of_root root; times = times_of_root root }
+
+-- it is nothing, or a well-built node
+abbrev pub IsWellBuiltRoot : Option Node → Type 0
+IsWellBuiltRoot None = Unit {0}
+IsWellBuiltRoot (Some n) = IsWellBuilt n
+
+-- how many forks stand above its deepest bucket; of nothing 0
+abbrev pub forks_of_root : Option Node → ℕ
+forks_of_root None = 0
+forks_of_root (Some n) = forks_above n

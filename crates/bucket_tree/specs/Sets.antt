@@ -1,0 +1,31 @@
+-- What a tree with a limit on the number of its points is seen as, and what it keeps.
+use Rattle.std.specs.Prelude.{◌≡◌, ℕ, ◌≤◌, Option, length}
+use Rattle.lattice.specs.Covers.{IsPointSet}
+use Rattle.hull_set.specs.declared.TheConstants.{POINT_LIMIT}
+use Rattle.hull_set.specs.declared.set.HullSet.{Ghosts}
+use Rattle.bucket_tree.specs.declared.node.Node.{Node}
+use Rattle.bucket_tree.specs.Roots.{points_of_root, held_by, IsWellBuiltRoot, forks_of_root}
+
+-- the greatest number of points, and the tree
+pub record LimitedTree : Type 0 where
+  pub limit : ℕ
+  pub root : Option Node
+
+-- a well-built tree with its number of points and its limit
+pub record IsLimited (root : Option Node) (count limit : ℕ) : Type 0 where
+  pub built : IsWellBuiltRoot root
+  pub counted : count ≡ length (points_of_root root)
+  pub room : count ≤ limit
+  pub low : 1 ≤ limit
+  pub high : limit ≤ POINT_LIMIT
+
+-- the tree is well built, its points stand in order, and at most 28 forks stand above each bucket
+pub record IsSound (root : Option Node) : Type 0 where
+  pub built : IsWellBuiltRoot root
+  pub in_order : IsPointSet (points_of_root root)
+  pub low : forks_of_root root ≤ 28
+
+-- what the trait `HullSet` says of a tree: what it holds, its bound, and that it is well built, which says that each
+-- stored bridge is that of the points below it, and that each bucket's masks are its chains
+abbrev pub bucket_set : Ghosts LimitedTree
+bucket_set = record { held = λ t. held_by t.root; bound = λ t. t.limit; sound = λ t. IsSound t.root }

@@ -1,0 +1,135 @@
+//! What is below a node, listed.
+ghost use Rattle.std.specs.Prelude.{◌≡◌, ◌≤◌, ◌+◌, ◌++◌, length, take, drop, vec_len, vec_capacity, OnOk};
+ghost use Rattle.leaf_trees.specs.Stretches.{entries_from};
+ghost use Rattle.bucket_tree.specs.Nodes.{points_below, HasBuckets, IsWellBuilt};
+ghost use Rattle.bucket_tree.specs.Levels.{level_of};
+ghost use Rattle.bucket_tree.specs.Lists.{paired, entries_below};
+
+use crate::node::Node;
+use heap::Heap;
+use hull_buckets::{Bucket, buckets_are_sound};
+use lattice::{Point, before};
+use leaf_trees::Bridge;
+use std::alloc::AllocError;
+
+/// Appends points, each with the number beside it, to entries with room for them.
+fn push_all(points: &[Point], times: &[u16], entries: &mut Vec<(Point, u32), Heap>)
+    requires counted { length times.now ≡ length points.now }
+    requires room { vec_len entries.old + length points.now ≤ vec_capacity entries.old }
+    ensures entries { entries.new.items ≡ entries.old.items ++ paired points.now times.now }
+    ensures capacity { vec_capacity entries.new ≡ vec_capacity entries.old }
+{
+    for i in 0..points.len() {
+        entries.push_reserved((points[i], u32::from(times[i])));
+    }
+}
+
+/// Appends the points below a node in order, each with how often it is held, to entries with room for them.
+pub(crate) fn push_entries(node: &Node, entries: &mut Vec<(Point, u32), Heap>)
+    requires buckets { HasBuckets node.now }
+    requires room { vec_len entries.old + length (points_below node.now) ≤ vec_capacity entries.old }
+    ensures entries { entries.new.items ≡ entries.old.items ++ entries_below node.now }
+    ensures capacity { vec_capacity entries.new ≡ vec_capacity entries.old }
+{
+    match node {
+        Node::Leaf(bucket) => push_all(bucket.points(), bucket.times(), entries),
+        Node::Fork(_, fork) => {
+            push_entries(&fork.left, entries);
+            push_entries(&fork.right, entries);
+        }
+        Node::Gap => unreachable!(),
+    }
+}
+
+/// The place of the first point of a bucket that does not stand before `start`, or their number.
+fn first_from(bucket: &Bucket, start: Point) -> usize
+    ensures within { result ≤ length bucket.now.points }
+    ensures from { entries_from start (paired bucket.now.points bucket.now.times)
+        ≡ drop result (paired bucket.now.points bucket.now.times) }
+{
+    buckets_are_sound(bucket);
+    match bucket.place_of(start) {
+        Ok(place) => place,
+        Err(place) => place,
+    }
+}
+
+/// Appends the points of a bucket that do not stand before `start`, in order, each with how often it is held, until there
+/// are `most` entries.
+fn push_bucket_from(
+    bucket: &Bucket,
+    start: Point,
+    most: usize,
+    entries: &mut Vec<(Point, u32), Heap>,
+)
+    requires few { vec_len entries.old ≤ most }
+    requires room { most ≤ vec_capacity entries.old }
+    ensures entries { entries.new.items
+        ≡ take most (entries.old.items ++ entries_from start (paired bucket.now.points bucket.now.times)) }
+    ensures capacity { vec_capacity entries.new ≡ vec_capacity entries.old }
+{
+    buckets_are_sound(bucket);
+    let (points, times) = (bucket.points(), bucket.times());
+    let first = first_from(bucket, start);
+    let count = (points.len() - first).min(most - entries.len());
+    push_all(
+        &points[first..first + count],
+        &times[first..first + count],
+        entries,
+    );
+}
+
+/// Appends the points below a node that do not stand before `start`, in order, each with how often it is held, until
+/// there are `most` entries. Halves that end before `start` are passed by.
+pub(crate) fn push_from(
+    node: &Node,
+    start: Point,
+    most: usize,
+    entries: &mut Vec<(Point, u32), Heap>,
+)
+    requires built { IsWellBuilt node.now }
+    requires few { vec_len entries.old ≤ most }
+    requires room { most ≤ vec_capacity entries.old }
+    ensures entries { entries.new.items ≡ take most (entries.old.items ++ entries_from start (entries_below node.now)) }
+    ensures capacity { vec_capacity entries.new ≡ vec_capacity entries.old }
+{
+    if entries.len() == most {
+        return;
+    }
+    match node {
+        Node::Leaf(bucket) => push_bucket_from(bucket, start, most, entries),
+        Node::Fork(_, fork) => {
+            if !before(fork.last_left, start) {
+                push_from(&fork.left, start, most, entries);
+            }
+            push_from(&fork.right, start, most, entries);
+        }
+        Node::Gap => unreachable!(),
+    }
+}
+
+/// Puts what the forks of a level store behind what is there, from left to right; the node stands on level `here`.
+#[tactic(auto, unfolding(crate::specs::Levels::level_of))]
+pub(crate) fn push_level(
+    node: &Node,
+    wanted: u32,
+    here: u32,
+    bridges: &mut Vec<Bridge, Heap>,
+) -> Result<(), AllocError>
+    requires { here ≤ wanted }
+    ensures { OnOk result (bridges.new.items ≡ bridges.old.items ++ level_of wanted here node.now) }
+{
+    let Node::Fork(_, fork) = node else {
+        return Ok(());
+    };
+    if here < wanted {
+        push_level(&fork.left, wanted, here + 1, bridges)?;
+        return push_level(&fork.right, wanted, here + 1, bridges);
+    }
+    bridges.push(Bridge {
+        level: wanted,
+        upper: fork.upper,
+        lower: fork.lower,
+    })?;
+    Ok(())
+}

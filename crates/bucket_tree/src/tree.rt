@@ -1,0 +1,434 @@
+//! The set.
+ghost use Rattle.std.specs.Prelude.{◌≡◌, ◌≢◌, ◌≤◌, ◌<◌, ◌+◌, ◌↔◌, None, IsTrue, true, false, length, IfOk, IfErr, Err};
+ghost use Rattle.lattice.specs.Plane.{Pair};
+ghost use Rattle.hull_set.specs.Held.{times_among, nothing_held, with_new, with_none};
+ghost use Rattle.hull_set.specs.Replies.{Answers, after, reply_to_add, reply_to_remove};
+ghost use Rattle.leaf_trees.specs.Entries.{several, IsMultiplicity, AreEntries, held_listed, held_after_adds, AreTooMany};
+ghost use Rattle.leaf_trees.specs.Stretches.{IsStretch};
+ghost use Rattle.bucket_tree.specs.Levels.{bridges_at};
+ghost use Rattle.bucket_tree.specs.Roots.{held_by, points_of_root, times_of_root};
+ghost use Rattle.bucket_tree.specs.Sets.{LimitedTree, IsSound};
+
+use crate::find::times_of;
+use crate::insertion::insert;
+use crate::listing::{push_entries, push_from, push_level};
+use crate::load::{first_leaf, from_entries};
+use crate::node::Node;
+use crate::questions::{area2, extreme, place, tangents, vertices};
+use crate::recounting::recount;
+use crate::removal::remove;
+use heap::Heap;
+use hull_set::{
+    AddReply, Call, HullSet, MULTIPLICITY_LIMIT, NoMemory, POINT_LIMIT, Place, RemoveReply, Rules,
+};
+use lattice::{Direction, Point};
+use leaf_trees::{Bridge, LoadFault, add_each, entries_of, merged_entries};
+use std::marker::Model;
+
+/// A set of points as a balanced tree of forks over buckets of up to 64 points: a point takes 32 to 48 bytes, and most changes
+/// search no bridge.
+///
+/// A point that comes or goes mends its bucket, and the bridges of those forks above it which it is not covered below. A
+/// point that is held more than once and comes or goes changes one number. Each question goes down the stored bridges.
+/// `add`, `vertices`, the entries and `extend` ask for memory: `add` for the first point and where a bucket is full.
+#[derive(Drop)]
+pub struct BucketTree {
+    root: Option<Node>,
+    count: u32,
+    limit: u32,
+    alloc: Heap,
+}
+
+impl Model for BucketTree {
+    ghost use Rattle.std.specs.Coded.{codes};
+    ghost use Rattle.bucket_tree.specs.contracts.node.Node as node;
+    ghost use Rattle.bucket_tree.specs.Sets.{LimitedTree, IsLimited};
+
+    ghost Value = { LimitedTree };
+
+    ghost coded = { Prim.hlevel (codes, node.the_row.coded) };
+
+    ghost view = { λ t. record { limit = t.limit; root = t.root } };
+
+    ghost invariant = { λ t. IsLimited t.root t.count t.limit };
+}
+
+impl BucketTree {
+    /// The empty set, which takes `limit` points at most. Asks for no memory; what asks for some later asks `alloc`.
+    pub fn new(alloc: Heap, limit: u32) -> BucketTree
+        requires low { 1 ≤ limit }
+        requires high { limit ≤ POINT_LIMIT }
+        ensures { result ≡ record { limit = limit; root = None } }
+    {
+        BucketTree {
+            root: None,
+            count: 0,
+            limit,
+            alloc,
+        }
+    }
+
+    /// The set of some points in order, each with how often it is held, with room for `limit` points. Each bucket and each
+    /// fork is made once. `NoMemory` comes only for some points, and leaves nothing behind.
+    pub fn from_entries(
+        alloc: Heap,
+        limit: u32,
+        entries: &[(Point, u32)],
+    ) -> Result<BucketTree, NoMemory>
+        requires high { limit ≤ POINT_LIMIT }
+        requires low { 1 ≤ limit }
+        requires room { length entries.now ≤ limit }
+        requires entries { AreEntries entries.now }
+        ensures held { IfOk result (λ tree. held_by tree.root ≡ held_listed entries.now) }
+        ensures limit { IfOk result (λ tree. tree.limit ≡ limit) }
+        ensures sound { IfOk result (λ tree. IsSound tree.root) }
+        ensures refused { IfErr result (λ _. 1 ≤ length entries.now) }
+    {
+        let mut tree = BucketTree::new(alloc, limit);
+        if entries.is_empty() {
+            return Ok(tree);
+        }
+        let root = from_entries(alloc, entries)?;
+        tree.root = Some(root);
+        tree.count = entries.len() as u32;
+        Ok(tree)
+    }
+
+    /// The set of some points in any order, each held as often as it stands among them, with room for `limit` points:
+    /// what adding them one by one makes, in a small part of the time. `TooMany` comes where adding them would answer
+    /// it; a fault leaves nothing behind.
+    pub fn from_points(alloc: Heap, limit: u32, points: &[Point]) -> Result<BucketTree, LoadFault>
+        requires high { limit ≤ POINT_LIMIT }
+        requires low { 1 ≤ limit }
+        ensures held { IfOk result (λ tree. held_by tree.root ≡ held_after_adds nothing_held points.now) }
+        ensures times { IfOk result (λ tree. (q : Pair) → times_of_root tree.root q ≡ times_among points.now q) }
+        ensures limit { IfOk result (λ tree. tree.limit ≡ limit) }
+        ensures sound { IfOk result (λ tree. IsSound tree.root) }
+        ensures too_many { result ≡ Err LoadFault.TooMany → AreTooMany nothing_held points.now limit }
+    {
+        let entries = entries_of(alloc, points)?;
+        if entries.len() > limit as usize {
+            return Err(LoadFault::TooMany);
+        }
+        Ok(BucketTree::from_entries(alloc, limit, &entries)?)
+    }
+
+    /// The points in order, each with how often it is held. `NoMemory` comes only for some points.
+    pub fn entries(&self) -> Result<Vec<(Point, u32), Heap>, NoMemory>
+        ensures entries { IfOk result (λ entries. AreEntries entries.items) }
+        ensures held { IfOk result (λ entries. held_listed entries.items ≡ held_by self.now.root) }
+        ensures refused { IfErr result (λ _. self.now.root ≢ None) }
+    {
+        let Some(root) = &self.root else {
+            return Ok(Vec::new(self.alloc));
+        };
+        let mut entries = Vec::with_capacity(self.alloc, self.count as usize)?;
+        push_entries(root, &mut entries);
+        Ok(entries)
+    }
+
+    /// The first `most` points that do not stand before `start`, in order, each with how often it is held: all points a
+    /// piece at a time, where each piece starts behind the last point of the one before. `NoMemory` comes only for some
+    /// points.
+    pub fn entries_from(
+        &self,
+        start: Point,
+        most: usize,
+    ) -> Result<Vec<(Point, u32), Heap>, NoMemory>
+        ensures stretch { IfOk result (λ entries. IsStretch (held_by self.now.root) start most entries.items) }
+        ensures refused { IfErr result (λ _. self.now.root ≢ None) }
+    {
+        let Some(root) = &self.root else {
+            return Ok(Vec::new(self.alloc));
+        };
+        let room = most.min(self.count as usize);
+        let mut entries = Vec::with_capacity(self.alloc, room)?;
+        push_from(root, start, room, &mut entries);
+        Ok(entries)
+    }
+
+    /// The bridges that the forks of a level store, from left to right; the root stands on level 0, and the corners of a
+    /// bucket are none. `NoMemory` comes only for some points.
+    pub fn bridges_at(&self, level: u32) -> Result<Vec<Bridge, Heap>, NoMemory>
+        ensures bridges { IfOk result (λ bridges. bridges.items ≡ bridges_at level self.now.root) }
+        ensures refused { IfErr result (λ _. self.now.root ≢ None) }
+    {
+        let mut bridges = Vec::new(self.alloc);
+        if let Some(root) = &self.root {
+            push_level(root, level, 0, &mut bridges)?;
+        }
+        Ok(bridges)
+    }
+
+    /// Adds points in any order, all or none of them: what adding them one by one makes. Where they are a quarter of the
+    /// points at least, the tree is built anew beside the old one, and else they are added one by one. `TooMany` comes where
+    /// adding them would answer it; after a fault the set holds what it held.
+    pub fn extend(&mut self, points: &[Point]) -> Result<(), LoadFault>
+        ensures held { IfOk result (λ _. held_by self.new.root ≡ held_after_adds (held_by self.old.root) points.now) }
+        ensures fault { IfErr result (λ _. held_by self.new.root ≡ held_by self.old.root) }
+        ensures too_many { result ≡ Err LoadFault.TooMany
+            → AreTooMany (held_by self.old.root) points.now self.old.limit }
+        ensures limit { self.new.limit ≡ self.old.limit }
+        ensures sound { IsSound self.new.root }
+    {
+        if points.len() < self.count as usize / 4 {
+            bucket_trees_are_sound(self);
+            add_each(self, points)
+        } else {
+            self.extend_anew(points)
+        }
+    }
+
+    /// Adds points, all or none of them: builds the tree anew beside the old one, from the points of both.
+    fn extend_anew(&mut self, points: &[Point]) -> Result<(), LoadFault>
+        ensures held { IfOk result (λ _. held_by self.new.root ≡ held_after_adds (held_by self.old.root) points.now) }
+        ensures fault { IfErr result (λ _. self.new ≡ self.old) }
+        ensures too_many { result ≡ Err LoadFault.TooMany
+            → AreTooMany (held_by self.old.root) points.now self.old.limit }
+        ensures limit { self.new.limit ≡ self.old.limit }
+        ensures sound { IsSound self.new.root }
+    {
+        bucket_trees_are_sound(self);
+        let added = entries_of(self.alloc, points)?;
+        let held = self.entries()?;
+        let entries = merged_entries(self.alloc, &held, &added)?;
+        if entries.len() > self.limit as usize {
+            return Err(LoadFault::TooMany);
+        }
+        *self = BucketTree::from_entries(self.alloc, self.limit, &entries)?;
+        Ok(())
+    }
+
+    /// How often a point is held.
+    fn times(&self, p: Point) -> u32
+        ensures times { result ≡ times_of_root self.now.root p }
+        ensures few { result ≤ MULTIPLICITY_LIMIT }
+    {
+        match &self.root {
+            None => 0,
+            Some(root) => u32::from(times_of(root, p)),
+        }
+    }
+
+    /// Whether there are as many points as the limit.
+    fn is_full(&self) -> bool
+        ensures full { IsTrue result ↔ (self.now.limit ≤ length (points_of_root self.now.root)) }
+        ensures room { length (points_of_root self.now.root) ≤ self.now.limit }
+    {
+        self.count >= self.limit
+    }
+
+    /// Makes a point that is held one that is held so often.
+    fn set_times(&mut self, p: Point, times: u32)
+        requires live { 1 ≤ times_of_root self.old.root p }
+        requires held { IsMultiplicity times }
+        ensures points { points_of_root self.new.root ≡ points_of_root self.old.root }
+        ensures times { (q : Pair) → times_of_root self.new.root q + several (times_of_root self.old.root p) p q
+            ≡ times_of_root self.old.root q + several times p q }
+        ensures same_limit { self.new.limit ≡ self.old.limit }
+    {
+        let Some(root) = &mut self.root else {
+            unreachable!()
+        };
+        recount(root, p, times as u16);
+    }
+
+    /// Puts a point in that is not there, where there is room for it. Tells whether memory was refused, which leaves all
+    /// as it was, and how many turns the searches took.
+    fn put_in(&mut self, p: Point) -> (bool, u32)
+        requires absent { times_of_root self.old.root p ≡ 0 }
+        requires room { length (points_of_root self.old.root) < self.old.limit }
+        ensures new { result.0 ≡ false → held_by self.new.root ≡ with_new p (held_by self.old.root) }
+        ensures refused { result.0 ≡ true → held_by self.new.root ≡ held_by self.old.root }
+        ensures same_limit { self.new.limit ≡ self.old.limit }
+        ensures few { result.1 ≤ 10000 }
+    {
+        let Some(root) = self.root.take() else {
+            let Ok(leaf) = first_leaf(self.alloc, p) else {
+                return (true, 0);
+            };
+            self.root = Some(leaf);
+            self.count = 1;
+            return (false, 0);
+        };
+        let change = insert(self.alloc, root, p);
+        self.root = Some(change.node);
+        if change.refused {
+            return (true, change.turns);
+        }
+        self.count += 1;
+        (false, change.turns)
+    }
+
+    /// Takes a point out that is held once, and tells how many turns the searches took.
+    fn take_out(&mut self, p: Point) -> u32
+        requires { times_of_root self.old.root p ≡ 1 }
+        ensures without { held_by self.new.root ≡ with_none p (held_by self.old.root) }
+        ensures same_limit { self.new.limit ≡ self.old.limit }
+        ensures few { result ≤ 10000 }
+    {
+        let Some(root) = self.root.take() else {
+            unreachable!()
+        };
+        let removed = remove(root, p);
+        self.root = removed.rest;
+        self.count -= 1;
+        removed.turns
+    }
+
+    /// Holds `p` once more; [`add_counted`](BucketTree::add_counted) tells more.
+    fn hold_more(&mut self, p: Point) -> (AddReply, u32)
+        ensures reply { Answers Rules.Counted (held_by self.old.root) self.old.limit (Call.Add p)
+            (reply_to_add result.0) }
+        ensures effect { held_by self.new.root ≡ after (held_by self.old.root) (Call.Add p) (reply_to_add result.0) }
+        ensures same_limit { self.new.limit ≡ self.old.limit }
+        ensures few { result.1 ≤ 10000 }
+    {
+        bucket_trees_are_sound(self);
+        let times = self.times(p);
+        if times == MULTIPLICITY_LIMIT {
+            return (AddReply::TooMany, 0);
+        }
+        if times > 0 {
+            self.set_times(p, times + 1);
+            return (AddReply::Again(times + 1), 0);
+        }
+        if self.is_full() {
+            return (AddReply::TooMany, 0);
+        }
+        let (refused, turns) = self.put_in(p);
+        if refused {
+            (AddReply::NoMemory, turns)
+        } else {
+            (AddReply::Added, turns)
+        }
+    }
+
+    /// Holds `p` once less; [`remove_counted`](BucketTree::remove_counted) tells more.
+    fn hold_less(&mut self, p: Point) -> (RemoveReply, u32)
+        ensures reply { Answers Rules.Counted (held_by self.old.root) self.old.limit (Call.Remove p)
+            (reply_to_remove result.0) }
+        ensures effect { held_by self.new.root
+            ≡ after (held_by self.old.root) (Call.Remove p) (reply_to_remove result.0) }
+        ensures same_limit { self.new.limit ≡ self.old.limit }
+        ensures few { result.1 ≤ 10000 }
+    {
+        bucket_trees_are_sound(self);
+        let times = self.times(p);
+        if times == 0 {
+            return (RemoveReply::Absent, 0);
+        }
+        if times > 1 {
+            self.set_times(p, times - 1);
+            return (RemoveReply::Left(times - 1), 0);
+        }
+        (RemoveReply::Removed, self.take_out(p))
+    }
+
+    /// Holds `p` once more, as [`add`](HullSet::add), and tells how many turns the searches of bridges took: at most
+    /// 10,000, since no tree is higher than 28 forks, a change searches six bridges a level at most, and a search takes as
+    /// many turns as both halves are high; mostly none.
+    pub fn add_counted(&mut self, p: Point) -> (AddReply, u32)
+        ensures reply { Answers Rules.Counted (held_by self.old.root) self.old.limit (Call.Add p)
+            (reply_to_add result.0) }
+        ensures effect { held_by self.new.root ≡ after (held_by self.old.root) (Call.Add p) (reply_to_add result.0) }
+        ensures same_limit { self.new.limit ≡ self.old.limit }
+        ensures sound { IsSound self.new.root }
+        ensures few { result.1 ≤ 10000 }
+    {
+        let answer = self.hold_more(p);
+        bucket_trees_are_sound(self);
+        answer
+    }
+
+    /// Holds `p` once less, as [`remove`](HullSet::remove), and tells how many turns the searches of bridges took: at
+    /// most 10,000, for the reason told at [`add_counted`](BucketTree::add_counted), and mostly none.
+    pub fn remove_counted(&mut self, p: Point) -> (RemoveReply, u32)
+        ensures reply { Answers Rules.Counted (held_by self.old.root) self.old.limit (Call.Remove p)
+            (reply_to_remove result.0) }
+        ensures effect { held_by self.new.root
+            ≡ after (held_by self.old.root) (Call.Remove p) (reply_to_remove result.0) }
+        ensures same_limit { self.new.limit ≡ self.old.limit }
+        ensures sound { IsSound self.new.root }
+        ensures few { result.1 ≤ 10000 }
+    {
+        let answer = self.hold_less(p);
+        bucket_trees_are_sound(self);
+        answer
+    }
+}
+
+impl HullSet for BucketTree {
+    ghost held = { λ t. held_by t.root };
+
+    ghost bound = { λ t. t.limit };
+
+    // well built: each stored bridge is that of all points below it, each bucket's masks tell its two chains; the points in
+    // order; at most 28 forks high
+    ghost sound = { λ t. IsSound t.root };
+
+    fn limit(&self) -> u32 {
+        self.limit
+    }
+
+    fn count(&self) -> u32 {
+        self.count
+    }
+
+    fn multiplicity(&self, p: Point) -> u32 {
+        bucket_trees_are_sound(self);
+        self.times(p)
+    }
+
+    fn add(&mut self, p: Point) -> AddReply {
+        self.add_counted(p).0
+    }
+
+    fn remove(&mut self, p: Point) -> RemoveReply {
+        self.remove_counted(p).0
+    }
+
+    fn extreme(&self, d: Direction) -> Option<Point> {
+        match &self.root {
+            None => None,
+            Some(root) => Some(extreme(root, d)),
+        }
+    }
+
+    fn place(&self, q: Point) -> Place {
+        match &self.root {
+            None => Place::Outside,
+            Some(root) => place(root, q),
+        }
+    }
+
+    fn tangents(&self, q: Point) -> Option<(Point, Point)> {
+        match &self.root {
+            None => None,
+            Some(root) => tangents(root, q),
+        }
+    }
+
+    fn vertices(&self) -> Result<Vec<Point, Heap>, NoMemory> {
+        match &self.root {
+            None => Ok(Vec::new(self.alloc)),
+            Some(root) => Ok(vertices(self.alloc, root)?),
+        }
+    }
+
+    fn area2(&self) -> u128 {
+        match &self.root {
+            None => 0,
+            Some(root) => area2(root),
+        }
+    }
+}
+
+/// The law of a tree: whatever calls came before, each stored bridge is that of all points below it, each bucket's masks
+/// tell its two chains, the points stand in order, and the tree is at most 28 forks high. (A tree of height h has at least
+/// as many buckets as the Fibonacci number F(h + 2), and F(31) is above the greatest limit.)
+pub fn bucket_trees_are_sound(tree: &BucketTree)
+    ensures { IsSound tree.now.root }
+{
+    let _ = &tree.root;
+}

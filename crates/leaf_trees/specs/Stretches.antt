@@ -1,0 +1,18 @@
+-- A stretch of what a set holds, in order.
+use Rattle.std.specs.Prelude.{◌≡◌, ℕ, List, [], ◌∷◌, take, cond}
+use Rattle.lattice.specs.Plane.{Pair}
+use Rattle.lattice.specs.Covers.{is_before}
+use Rattle.hull_set.specs.Held.{Held}
+use Rattle.leaf_trees.specs.Entries.{AreEntries, held_listed}
+
+-- those of the entries whose points do not stand before the start
+abbrev pub entries_from : Pair → List (Pair × ℕ) → List (Pair × ℕ)
+entries_from start [] = []
+entries_from start (e ∷ es) = cond (is_before e.0 start) (entries_from start es) (e ∷ entries_from start es)
+
+-- of all entries of what is held, the first so many that do not stand before the start
+pub record IsStretch (held : Held) (start : Pair) (most : ℕ) (listed : List (Pair × ℕ)) : Type 0 where
+  pub all : List (Pair × ℕ)
+  pub entries : AreEntries all
+  pub of_held : held_listed all ≡ held
+  pub stretch : listed ≡ take most (entries_from start all)

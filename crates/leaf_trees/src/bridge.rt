@@ -1,0 +1,13 @@
+//! What a fork shows.
+use lattice::Point;
+
+/// What a fork of the tree stores: its bridges, each from its end in the left half to its end in the right one.
+#[derive(Clone, Copy, PartialEq, Eq, Debug)]
+pub struct Bridge {
+    /// How many forks stand above this one.
+    pub level: u32,
+    /// The upper bridge.
+    pub upper: (Point, Point),
+    /// The lower bridge.
+    pub lower: (Point, Point),
+}
