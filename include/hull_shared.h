@@ -313,7 +313,12 @@ static inline hull_reply hull_shared_part_text_size(const hull_shared_part *part
  *    that its changes have one order. As long as fewer are inside than may be, and some are asleep outside or the door is
  *    closed, an heir is awake, who will look: who lies down finds the door full, or closed, where an heir is awake already;
  *    an heir lies down only where it is full; and who leaves makes an heir where some are asleep and there is none. (Dice and
- *    Kogan, 2019, restrict in this way how many threads contend for a lock.) */
+ *    Kogan, 2019, restrict in this way how many threads contend for a lock.)
+ *
+ * 3. A call that found no room, where the line waits for some, sleeps outside the door and with no number, by a word that each
+ *    drain changes behind its look. It read that word before it took its number: a drain that came behind its call changes the
+ *    word behind that reading, so that it does not fall asleep, or is woken, as all are who sleep so. Who drained for the hook
+ *    changes the word once more when the hook has ended, since another may have to drain then. */
 #define HULL_SHARED_IN_A_ROW 256
 
 /* A place to sleep; apart from the next one by a line of the cache. */
