@@ -1,8 +1,8 @@
 #!/usr/bin/env python3
 """Proves hull_c for WebAssembly and links hull.wasm: web/build.py [FOLDER], with the kit's rt on the path.
 
-The sources are those of the repository, copied as they stand with no test; one crate is another: `heap`, which names the
-allocator. The kit's own heap calls C's malloc, and for wasm64 a call of C can only be an import of the host. So the `heap`
+The sources are those of the repository, copied as they stand with no test, and without the module `threads` of hull_c, since a page
+has one thread; one crate is another: `heap`, which names the allocator. The kit's own heap calls C's malloc, and for wasm64 a call of C can only be an import of the host. So the `heap`
 of the page names that of a crate `web_heap`: the kit's crate std_heap with its proofs, made here by replacement of names, over
 three imports in the place of libc's three functions and under the same contracts. All is checked again for wasm64, and its
 last line says so. FOLDER (web/out where none is given) keeps what was proved for the next run, and has hull.wasm in the end,
@@ -20,7 +20,8 @@ sys.path.insert(0, f"{TOP}/tools")
 import kit  # noqa: E402 (the path comes first)
 
 LIBRARY, HEAP, HOST = "hull_c", "heap", "web_heap"
-TESTS = re.compile(r"(?m)^#\[cfg\(test\)\]\nmod (\w+);\n")
+# what a page has no use for: tests, and that a hull may go to another thread, which is not proved of the host's heap
+LEFT_OUT = re.compile(r"(?m)^(?:#\[cfg\(test\)\]\nmod (\w+)|mod (threads)|pub use (threads)::\w+);\n")
 
 IMPORTS = '''// What the module's host gives in the place of C's heap: the contracts of libc's three functions.
 ghost use Rattle.core.specs.Prelude.{◌≡◌, ℕ, ◌^◌, ◌<◌};
@@ -73,9 +74,9 @@ def crates_below(name):
 
 
 def texts_of(crate):
-    """The sources of a crate of the repository without its tests."""
-    tests = TESTS.findall(read(f"{crate}/src/lib.rt"))
-    return {it: TESTS.sub("", read(f"{crate}/{it}")) for it in sources_of(crate) if re.split(r"[/.]", it)[1] not in tests}
+    """The sources of a crate of the repository without what is left out."""
+    gone = {"".join(names) for names in LEFT_OUT.findall(read(f"{crate}/src/lib.rt"))}
+    return {it: LEFT_OUT.sub("", read(f"{crate}/{it}")) for it in sources_of(crate) if re.split(r"[/.]", it)[1] not in gone}
 
 
 def imports_of(libc):

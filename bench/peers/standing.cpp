@@ -176,6 +176,21 @@ class Geos {
         GEOSPreparedDistance_r(context, prepared, shapes[i], &apart);
         return apart;
     }
+    bool within(size_t i, double far) const { return GEOSPreparedDistanceWithin_r(context, prepared, shapes[i], far) == 1; }
+    bool touches(size_t i) const { return GEOSPreparedTouches_r(context, prepared, shapes[i]) == 1; }
+    // the relation, of the nine intersections of inside, boundary and outside
+    hull_relation relation(size_t i) const {
+        char *nine = GEOSRelate_r(context, polygon, shapes[i]);
+        const auto none = [&](int a, int b) { return nine[a] == 'F' && nine[b] == 'F'; };
+        const bool within = none(2, 5), covers = none(6, 7), apart = none(0, 1) && none(3, 4), flat = nine[0] == 'F';
+        GEOSFree_r(context, nine);
+        return within && covers ? HULL_RELATION_EQUAL
+               : within         ? HULL_RELATION_WITHIN
+               : covers         ? HULL_RELATION_COVERS
+               : apart          ? HULL_RELATION_APART
+               : flat           ? HULL_RELATION_TOUCHING
+                                : HULL_RELATION_OVERLAPPING;
+    }
 };
 
 // each of the points by itself
@@ -350,17 +365,27 @@ bool cut_by_half_planes(const Points &corners, Point a, Point b) {
     return true;
 }
 
+// The square of a way to the left, cut in half, on the way from each of the points an eighth to the next, moved to the right.
+std::vector<Points> triangles_of(const Points &asked, int64_t right) {
+    std::vector<Points> triangles;
+    for (size_t i = 0; i < asked.size(); i++) {
+        const Point p{asked[i].x + right, asked[i].y}, &next = asked[(i + 1) % asked.size()];
+        const Point q{p.x + (next.x - asked[i].x) / 8, p.y + (next.y - p.y) / 8};
+        triangles.push_back(Chain::of({p, q, {p.x - (q.y - p.y), p.y + (q.x - p.x)}}).corners);
+    }
+    return triangles;
+}
+
 // Motions from each of the points an eighth of the way to the next, and triangles there, that may meet the outline. GEOS multiplies
 // doubles, so how often it differs is told.
 void time_meetings(Table &table, const Chain &chain, const Points &asked) {
     const size_t n = asked.size(), h = chain.corners.size();
     const Point *corners = chain.corners.data();
-    std::vector<Points> motions, triangles;
+    const std::vector<Points> triangles = triangles_of(asked, 0);
+    std::vector<Points> motions;
     for (size_t i = 0; i < n; i++) {
         const Point &p = asked[i], &next = asked[(i + 1) % n];
-        const Point q{p.x + (next.x - p.x) / 8, p.y + (next.y - p.y) / 8};
-        motions.push_back({p, q});
-        triangles.push_back(Chain::of({p, q, {p.x - (q.y - p.y), p.y + (q.x - p.x)}}).corners);
+        motions.push_back({p, {p.x + (next.x - p.x) / 8, p.y + (next.y - p.y) / 8}});
     }
     size_t ours = 0, theirs = 0;
     {
@@ -410,12 +435,7 @@ void time_distances(Table &table, const Chain &chain, const Points &asked) {
     const auto [least, greatest] = std::minmax_element(corners, corners + h, [](Point p, Point q) { return p.x < q.x; });
     for (const int64_t right : {int64_t{0}, 2 * (greatest->x - least->x)}) {
         const std::string name = right == 0 ? "triangle" : "beside";
-        std::vector<Points> triangles;
-        for (size_t i = 0; i < n; i++) {
-            const Point p{asked[i].x + right, asked[i].y}, &next = asked[(i + 1) % n];
-            const Point q{p.x + (next.x - asked[i].x) / 8, p.y + (next.y - p.y) / 8};
-            triangles.push_back(Chain::of({p, q, {p.x - (q.y - p.y), p.y + (q.x - p.x)}}).corners);
-        }
+        const std::vector<Points> triangles = triangles_of(asked, right);
         const Geos geos(chain.corners, triangles);
         table.time(name, "hull_outline_distance", n, [&] {
             return count_of(asked, [&](size_t i) {
@@ -432,6 +452,49 @@ void time_distances(Table &table, const Chain &chain, const Points &asked) {
         if (differ > 0) {
             std::printf("of %zu distances %zu are not those of GEOS\n", n, differ);
         }
+    }
+}
+
+// How the triangles stand to the outline: touching, overlapping, one within the other. GEOS tells it by all of the outline's edges, so
+// fewer are asked.
+void time_relations(Table &table, const Chain &chain, const Points &asked) {
+    const size_t h = chain.corners.size(), n = asked.size() / (h < 10000 ? 10 : 1000);
+    const Points some(asked.begin(), asked.begin() + static_cast<std::ptrdiff_t>(n));
+    const std::vector<Points> triangles = triangles_of(some, 0);
+    const Geos geos(chain.corners, triangles);
+    std::vector<hull_relation> ours(n), theirs(n);
+    const auto relation = [&](size_t i) {
+        return static_cast<hull_relation>(hull_outline_relation(chain.corners.data(), h, triangles[i].data(), triangles[i].size()).number);
+    };
+    table.time("relation", "hull_outline_relation", n, [&] { return count_of(some, [&](size_t i) { return ours[i] = relation(i); }); });
+    table.time("relation", "GEOS, the nine intersections", n, [&] { return count_of(some, [&](size_t i) { return theirs[i] = geos.relation(i); }); });
+    table.time("relation", "GEOS prepared, whether they touch", n, [&] { return count_of(some, [&](size_t i) { return geos.touches(i); }); });
+    size_t differ = 0;
+    for (size_t i = 0; i < n; i++) {
+        differ += ours[i] != theirs[i];
+    }
+    if (differ > 0) {
+        std::printf("of %zu relations %zu are not those of GEOS\n", n, differ);
+    }
+}
+
+// Whether triangles to the right of the outline by its width are within three halves of it, which about half of them are.
+void time_lengths(Table &table, const Chain &chain, const Points &asked) {
+    const size_t n = asked.size(), h = chain.corners.size();
+    const Point *corners = chain.corners.data();
+    const auto [least, greatest] = std::minmax_element(corners, corners + h, [](Point p, Point q) { return p.x < q.x; });
+    const int64_t width = greatest->x - least->x;
+    const std::vector<Points> triangles = triangles_of(asked, 2 * width);
+    const Geos geos(chain.corners, triangles);
+    const size_t ours = table.time("length", "hull_outline_within", n, [&] {
+        return count_of(asked, [&](size_t i) {
+            return hull_outline_within(corners, h, triangles[i].data(), triangles[i].size(), static_cast<uint64_t>(3 * width), 2).number;
+        });
+    });
+    const double far = 1.5 * static_cast<double>(width);
+    const size_t theirs = table.time("length", "GEOS prepared", n, [&] { return count_of(asked, [&](size_t i) { return geos.within(i, far); }); });
+    if (ours != theirs) {
+        std::printf("of %zu triangles %zu are within three halves of the width, and by GEOS %zu\n", n, ours, theirs);
     }
 }
 
@@ -516,6 +579,8 @@ int main(int argc, char **argv) {
         time_extremes(table, ours, chain, directions);
         time_meetings(table, chain, asked);
         time_distances(table, chain, asked);
+        time_relations(table, chain, asked);
+        time_lengths(table, chain, asked);
     }
     std::printf("%s, %zu points, %zu corners\n", shape.c_str(), count, chain.corners.size());
     table.print();

@@ -51,10 +51,10 @@ def by_one_process(asked, blocks):
 
 
 def kill_one(client):
-    """Kills a worker, with the outlines that it holds."""
-    address, process = min(client.run(os.getpid).items())
-    print("a worker is killed that holds", len(client.has_what()[address]), "outlines", file=sys.stderr)
-    os.kill(process, signal.SIGKILL)
+    """Kills the worker that holds most outlines, with them."""
+    address, held = max(client.has_what().items(), key=lambda it: len(it[1]))
+    print("a worker is killed that holds", len(held), "outlines", file=sys.stderr)
+    os.kill(client.run(os.getpid, workers=[address])[address], signal.SIGKILL)
 
 
 def by_workers(asked, blocks, client):
