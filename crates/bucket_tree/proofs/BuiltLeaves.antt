@@ -1,5 +1,5 @@
 -- A bucket is well built.
-use Rattle.std.proofs.Common.{◌≡◌, Box, Global, subst, sym, arith}
+use Rattle.std.proofs.Common.{◌≡◌, Box, subst, sym, arith}
 use Rattle.bridge_search.specs.Trees.{IsBridged}
 use Rattle.hull_buckets.specs.Buckets.{BucketValue, IsBucket}
 use Rattle.hull_buckets.specs.Runs.{width_of, all_of}
@@ -14,7 +14,7 @@ bucket_bridged b k = run_bridged (width_of (all_of b)) b (all_of b) k (some_corn
     (mask_fits (all_of b) _ (all_within b k) k.few) (all_within b k) (all_corners b) (omega arith)
 
 -- so a bucket is well built
-pub leaf_built : (b : Box BucketValue Global) (v : BucketValue) → b.value ≡ v → IsBucket v → IsWellBuilt (Leaf b)
+pub leaf_built : (b : Box BucketValue _) (v : BucketValue) → b.value ≡ v → IsBucket v → IsWellBuilt (Leaf b)
 leaf_built b v e h =
     let k : IsBucket b.value = subst IsBucket (sym e) h in
     record { ordered = k.ordered; bridged = bucket_bridged b.value k; balanced = tt; labelled = tt; buckets = k }

@@ -1,6 +1,6 @@
 -- Bridges that stand as their sets change at one point.
 use Rattle.std.proofs.Common.{◌≡◌, ◌⊎◌, ℕ, ◌<◌, true, false, Bool, refl, sym, subst, inl, inr, List, ◌++◌, length}
-use Rattle.std.proofs.Common.{Some, Box, Global}
+use Rattle.std.proofs.Common.{Some, Box}
 use Rattle.std.specs.List.{Contains}
 use Rattle.std.proofs.lemmas.List.Elements.{Contains-append_left, Contains-append_right}
 use Rattle.lattice.specs.Bridges.{IsBridge}
@@ -297,7 +297,7 @@ closed_within_right p before after l k c h side e = elim (h side e) [
 -- ---- stored edges
 
 -- the edges that a fork stores are the bridges of all points below its halves
-stored : (n : Node) (h : ℕ) (f : Box Fork Global) → n ≡ node.Fork h f → IsWellBuilt n → (side : Side)
+stored : (n : Node) (h : ℕ) (f : Box Fork _) → n ≡ node.Fork h f → IsWellBuilt n → (side : Side)
     → IsBridgeBetween side f.value.left f.value.right (edge_on side f.value)
 stored n h f e w side = go side
   where
@@ -316,7 +316,7 @@ stored n h f e w side = go side
     go Upper = of_points Upper f.value.upper.0 f.value.upper.1 b.bridged.1
 
 -- so they are those of the halves that are taken from it
-pub stored_apart : (n : Node) (h : ℕ) (f : Box Fork Global) (l r : Node) (g : Fork) → n ≡ node.Fork h f → IsWellBuilt n
+pub stored_apart : (n : Node) (h : ℕ) (f : Box Fork _) (l r : Node) (g : Fork) → n ≡ node.Fork h f → IsWellBuilt n
     → l ≡ f.value.left → r ≡ f.value.right → g.lower ≡ f.value.lower → g.upper ≡ f.value.upper → (side : Side)
     → IsBridgeBetween side l r (edge_on side g)
 stored_apart n h f l r g e w a b c d side =

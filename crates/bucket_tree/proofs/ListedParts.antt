@@ -1,6 +1,6 @@
 -- What the parts of a node list.
 use Rattle.std.proofs.Common.{◌≡◌, ℕ, zero, suc, ◌+◌, ◌-◌, ◌<◌, ◌≤◌, max, min, refl, sym, ap, ◌∙◌, subst, List, [], ◌∷◌}
-use Rattle.std.proofs.Common.{◌++◌, length, take, drop, arith, inl, inr, Ok, Err, Some, Box, Global, append_assoc}
+use Rattle.std.proofs.Common.{◌++◌, length, take, drop, arith, inl, inr, Ok, Err, Some, Box, append_assoc}
 use Rattle.std.proofs.lemmas.List.{length-append, length-drop}
 use Rattle.std.specs.List.{All}
 use Rattle.std.proofs.lemmas.List.Elements.{All-cons, All-head, All-tail, All-weaker}
@@ -31,7 +31,7 @@ pub record HasParts (n l r : Node) : Type 0 where
   pub right_buckets : HasBuckets r
 
 -- a fork is one
-pub fork_parts : (n : Node) (h : ℕ) (f : Box Below Global) → n ≡ Fork h f → HasBuckets n
+pub fork_parts : (n : Node) (h : ℕ) (f : Box Below _) → n ≡ Fork h f → HasBuckets n
     → HasParts n f.value.left f.value.right
 fork_parts n h f e b =
     let k = subst HasBuckets e b in

@@ -1,7 +1,7 @@
 -- A point that goes from one of two nodes in a row.
 use Rattle.std.proofs.Common.{◌≡◌, ◌⊎◌, ℕ, zero, suc, ◌+◌, ◌≤◌, ◌<◌, refl, sym, ap, ◌∙◌, subst, List, []}
 use Rattle.std.proofs.Common.{◌∷◌, ◌++◌}
-use Rattle.std.proofs.Common.{length, arith, inl, inr, Ok, Err, get_or, max, Box, Global}
+use Rattle.std.proofs.Common.{length, arith, inl, inr, Ok, Err, get_or, max, Box}
 use Rattle.std.specs.Prelude.{None, Some, take, drop}
 use Rattle.std.proofs.lemmas.Bool.{cases_lt}
 use Rattle.hull_buckets.proofs.Around.{taken_away}
@@ -271,7 +271,7 @@ count_none S T i p at = counted_none S T p (all_of (λ t. ¬ (t ≡ p)) S (λ t 
     absent m = absent_between p (take i S) (drop i S) at.1 at.2 (subst (λ z. Contains z p) (cut S i at.0) m)
 
 -- a fork holds a point in the half where it stands
-pub count_left : (n : Node) (h : ℕ) (f : Box Below Global) (p : Pair) → n ≡ Fork h f → IsWellBuilt n
+pub count_left : (n : Node) (h : ℕ) (f : Box Below _) (p : Pair) → n ≡ Fork h f → IsWellBuilt n
     → IsBefore p f.value.first_right → times_at n p ≡ times_at f.value.left p
 count_left n h f p e w b =
     let row = halves_row n h f e w in
@@ -286,7 +286,7 @@ count_left n h f p e w b =
       z,
     )
 
-pub count_right : (n : Node) (h : ℕ) (f : Box Below Global) (p : Pair) → n ≡ Fork h f → IsWellBuilt n
+pub count_right : (n : Node) (h : ℕ) (f : Box Below _) (p : Pair) → n ≡ Fork h f → IsWellBuilt n
     → ¬ IsBefore p f.value.first_right → times_at n p ≡ times_at f.value.right p
 count_right n h f p e w b =
     let row = halves_row n h f e w in

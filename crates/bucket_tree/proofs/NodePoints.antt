@@ -1,6 +1,6 @@
 -- The points below a node, by those of its halves.
 use Rattle.std.proofs.Common.{◌≡◌, ℕ, ◌<◌, ◌-◌, List, ◌++◌, length, ap, ◌∙◌, subst, sym, arith}
-use Rattle.std.proofs.Common.{Box, Global}
+use Rattle.std.proofs.Common.{Box}
 use Rattle.std.proofs.Math.ListN.{get_or-append}
 use Rattle.std.proofs.Math.Seq.{get_or-append_right}
 use Rattle.std.proofs.lemmas.List.{length-append}
@@ -34,13 +34,13 @@ whole (Fork' height i first_right left right last_left upper lower) h = (whole l
 whole Gap h = absurd h
 
 -- the first point below a fork is that below its left half
-pub first_of_fork : (n : Node) (h : ℕ) (f : Box Below Global) → n ≡ Fork h f → HasBuckets n
+pub first_of_fork : (n : Node) (h : ℕ) (f : Box Below _) → n ≡ Fork h f → HasBuckets n
     → first_of (points_below f.value.left) ≡ first_of (points_below n)
 first_of_fork n h f e b = rw e (sym (first_join (points_below f.value.left) (points_below f.value.right)
     (some_below f.value.left (subst HasBuckets e b).0)))
 
 -- and the last point that below its right half
-pub last_of_fork : (n : Node) (h : ℕ) (f : Box Below Global) → n ≡ Fork h f → HasBuckets n
+pub last_of_fork : (n : Node) (h : ℕ) (f : Box Below _) → n ≡ Fork h f → HasBuckets n
     → last_of (points_below f.value.right) ≡ last_of (points_below n)
 last_of_fork n h f e b = rw e (sym (last_join (points_below f.value.left) (points_below f.value.right)
     (some_below f.value.right (subst HasBuckets e b).1)))

@@ -1,5 +1,5 @@
 -- Two nodes in a row, by their corners.
-use Rattle.std.proofs.Common.{◌≡◌, ℕ, ◌≤◌, ◌+◌, List, ◌++◌, sym, ap, ◌∙◌, subst, arith, Box, Global}
+use Rattle.std.proofs.Common.{◌≡◌, ℕ, ◌≤◌, ◌+◌, List, ◌++◌, sym, ap, ◌∙◌, subst, arith, Box}
 use Rattle.lattice.specs.Bridges.{IsAllBefore}
 use Rattle.lattice.specs.declared.side.Side.TheVariants.{Lower}
 use Rattle.bridge_search.specs.Trees.{On, height_of}
@@ -56,7 +56,7 @@ regrouped xs ys us vs s e f = ap (λ z. us ++ z) f ∙ sym (append_twice us vs y
 -- ---- halves
 
 -- the halves of a fork stand in a row
-pub halves_row : (n : Node) (h : ℕ) (f : Box Below Global) → n ≡ Fork h f → IsWellBuilt n
+pub halves_row : (n : Node) (h : ℕ) (f : Box Below _) → n ≡ Fork h f → IsWellBuilt n
     → AreInRow f.value.left f.value.right
 halves_row n h f e w =
     let b = subst IsWellBuilt e w in

@@ -1,7 +1,7 @@
 -- A point that is held more or less often.
 use Rattle.std.proofs.Common.{◌≡◌, ℕ, zero, suc, ◌+◌, ◌<◌, max, refl, sym, ap, ◌∙◌, subst, List, [], ◌∷◌, ◌++◌}
 use Rattle.std.proofs.Common.{length, arith}
-use Rattle.std.proofs.Common.{Ok, get_or, Box, Global}
+use Rattle.std.proofs.Common.{Ok, get_or, Box}
 use Rattle.std.specs.List.{remove}
 use Rattle.std.specs.Prelude.{slice_set}
 use Rattle.lattice.specs.Covers.{IsPointSet}
@@ -73,7 +73,7 @@ same_half a b p m =
     same_to a b p m (width_of (all_of a)) (all_of a) ∙ ap (tree_of_run b) (rw (m Upper, m Lower) refl)
 
 -- so for a leaf
-pub recounted_leaf : (times : ℕ) (p : Pair) (n : Node) (b c : Box BucketValue Global) (v : BucketValue) → n ≡ Leaf b
+pub recounted_leaf : (times : ℕ) (p : Pair) (n : Node) (b c : Box BucketValue _) (v : BucketValue) → n ≡ Leaf b
     → c.value ≡ v → IsSameButTimes b.value v
     → ((q : Pair) → counted v.points v.times q + several (counted b.value.points b.value.times p) p q
     ≡ counted b.value.points b.value.times q + several times p q) → IsRecounted times p n (Leaf c)
@@ -89,7 +89,7 @@ recounted_leaf times p n b c v e f h k = rw e (record {
 -- ---- a fork
 
 -- with another left half
-abbrev pub with_left_half : Box Below Global → Below → Node → Box Below Global
+abbrev pub with_left_half : {A : Type 0} (f : Box Below A) → Below → Node → Box Below A
 with_left_half f v k = record {
   ptr = f.ptr;
   alloc = f.alloc;
@@ -104,7 +104,7 @@ with_left_half f v k = record {
 }
 
 -- a point of the left half
-pub recounted_left : (times : ℕ) (p : Pair) (n : Node) (h : ℕ) (f : Box Below Global) (k : Node) → n ≡ Fork h f
+pub recounted_left : (times : ℕ) (p : Pair) (n : Node) (h : ℕ) (f : Box Below _) (k : Node) → n ≡ Fork h f
     → IsWellBuilt n → IsBefore p f.value.first_right → IsRecounted times p f.value.left k
     → IsRecounted times p n (Fork h (with_left_half f f.value k))
 recounted_left times p n h f k e w b r =
@@ -143,7 +143,7 @@ recounted_left times p n h f k e w b r =
     }
 
 -- with another right half
-abbrev pub with_right_half : Box Below Global → Below → Node → Box Below Global
+abbrev pub with_right_half : {A : Type 0} (f : Box Below A) → Below → Node → Box Below A
 with_right_half f v k = record {
   ptr = f.ptr;
   alloc = f.alloc;
@@ -158,7 +158,7 @@ with_right_half f v k = record {
 }
 
 -- a point of the right half
-pub recounted_right : (times : ℕ) (p : Pair) (n : Node) (h : ℕ) (f : Box Below Global) (k : Node) → n ≡ Fork h f
+pub recounted_right : (times : ℕ) (p : Pair) (n : Node) (h : ℕ) (f : Box Below _) (k : Node) → n ≡ Fork h f
     → IsWellBuilt n → ¬ IsBefore p f.value.first_right → IsRecounted times p f.value.right k
     → IsRecounted times p n (Fork h (with_right_half f f.value k))
 recounted_right times p n h f k e w b r =
@@ -196,14 +196,14 @@ recounted_right times p n h f k e w b r =
     }
 
 -- the same where the fork is read through a reference
-pub recounted_left_of : (times : ℕ) (p : Pair) (n : Node) (h : ℕ) (f : Box Below Global) (v : Below) (k : Node)
+pub recounted_left_of : (times : ℕ) (p : Pair) (n : Node) (h : ℕ) (f : Box Below _) (v : Below) (k : Node)
     → v ≡ f.value → n ≡ Fork h f → IsWellBuilt n → IsBefore p f.value.first_right → IsRecounted times p v.left k
     → IsRecounted times p n (Fork h (with_left_half f v k))
 recounted_left_of times p n h f v k u e w b r =
     subst (λ z. IsRecounted times p n (Fork h (with_left_half f z k))) (sym u)
     (recounted_left times p n h f k e w b (subst (λ z. IsRecounted times p z.left k) u r))
 
-pub recounted_right_of : (times : ℕ) (p : Pair) (n : Node) (h : ℕ) (f : Box Below Global) (v : Below) (k : Node)
+pub recounted_right_of : (times : ℕ) (p : Pair) (n : Node) (h : ℕ) (f : Box Below _) (v : Below) (k : Node)
     → v ≡ f.value → n ≡ Fork h f → IsWellBuilt n → ¬ IsBefore p f.value.first_right → IsRecounted times p v.right k
     → IsRecounted times p n (Fork h (with_right_half f v k))
 recounted_right_of times p n h f v k u e w b r =
