@@ -2,6 +2,7 @@
 //
 //     node web/page.mjs [MODULE PAGE]    or with that module of web/out (hull32.wasm), to that file
 import { readFileSync, writeFileSync } from "node:fs";
+import { bare } from "./bare.mjs";
 
 // each stands behind those that it imports
 const MODULES = ["heap", "hull", "exchange", "journal", "texts", "view", "picture", "list", "keep", "work", "example", "page"];
@@ -11,8 +12,7 @@ const file = (name) => new URL(name, import.meta.url);
 function wrapped(name) {
     const text = readFileSync(file(`${name}.js`), "utf8");
     const exported = [...text.matchAll(/^export (?:async )?(?:class|const|function) (\w+)/gm)].map((it) => it[1]);
-    const body = text.replace(/^import (\{.*\}) from "\.\/(\w+)\.js";\n/gm, "const $1 = $2_js;\n").replace(/^export /gm, "")
-        .replace(/^ *\/\*\*[^]*?\*\/\n/gm, "").replace(/^ *\/\/.*\n/gm, "").replace(/^ +/gm, "").replace(/\n\n+/g, "\n");
+    const body = bare(text.replace(/^import (\{.*\}) from "\.\/(\w+)\.js";\n/gm, "const $1 = $2_js;\n").replace(/^export /gm, ""));
     return `const ${name}_js = (() => {\n${body}return { ${exported.join(", ")} };\n})();\n`;
 }
 
