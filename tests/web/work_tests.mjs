@@ -2,6 +2,7 @@
 import { strict as assert } from "node:assert";
 import { existsSync, readFileSync } from "node:fs";
 import { gzipSync } from "node:zlib";
+import { bare } from "../../web/bare.mjs";
 import { OutOfRange, load } from "../../web/hull.js";
 import { directionOf, fromFloat, fromFloats, toFloat, wkt } from "../../web/exchange.js";
 import { Replay, TextError, emptyJournal, joinJournals, journalText, readJournal } from "../../web/journal.js";
@@ -9,7 +10,7 @@ import { addressOf, callsOf, kindOf, powerFor, readAddress, readRows, writeRows 
 import { Work } from "../../web/work.js";
 import { random_of } from "./plain.mjs";
 
-const MOST = 35000; // bytes of the module and the script, each as gzip makes it
+const MOST = 35000; // bytes of the module and of the script as the page carries it, each as gzip makes it
 const web = (name) => new URL(`../../web/${name}`, import.meta.url);
 const { Hull } = await load(web(`out/${process.env.MODULE ?? "hull.wasm"}`));
 
