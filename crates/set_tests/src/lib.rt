@@ -5,6 +5,7 @@
 
 #[cfg(test)]
 mod bucket_nodes;
+#[cfg(test)]
 mod bucket_trees;
 #[cfg(test)]
 mod buckets;
