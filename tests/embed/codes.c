@@ -81,16 +81,19 @@ static void limits(void) {
 
 static void changes(void) {
     hull_set *h = made(2);
+    refused_from = 0, asked = 0;
+    CHECK(bare(hull_add(h, 3, 4), HULL_NO_MEMORY));
+    refused_from = -1;
+    CHECK(number(hull_count(h), HULL_NUMBER, 0));
     CHECK(bare(hull_add(h, 1, 2), HULL_ADDED));
     CHECK(number(hull_add(h, 1, 2), HULL_AGAIN, 2));
     CHECK(bare(hull_add(h, HULL_COORDINATE_MAX + 1, 0), HULL_OUT_OF_RANGE));
     CHECK(bare(hull_add(h, 0, INT64_MIN), HULL_OUT_OF_RANGE));
+    /* a point that is there asks for no memory, and one more beside few does not either */
     refused_from = 0, asked = 0;
-    CHECK(bare(hull_add(h, 3, 4), HULL_NO_MEMORY));
     CHECK(number(hull_add(h, 1, 2), HULL_AGAIN, 3));
-    refused_from = -1;
-    CHECK(number(hull_count(h), HULL_NUMBER, 1));
     CHECK(bare(hull_add(h, -HULL_COORDINATE_MAX, HULL_COORDINATE_MAX), HULL_ADDED));
+    refused_from = -1;
     CHECK(bare(hull_add(h, 5, 6), HULL_TOO_MANY));
     CHECK(number(hull_multiplicity(h, 1, 2), HULL_NUMBER, 3));
     CHECK(number(hull_multiplicity(h, 5, 6), HULL_NUMBER, 0));
@@ -324,32 +327,35 @@ static void held_points(void) {
     ended(h);
 }
 
-/* the stored bridges of a level, of which the root's are edges of the hull */
+/* the stored bridges of a level, of which the root's are edges of the hull; few points have none */
 static void bridges(void) {
-    hull_set *h = made(10);
-    hull_bridge out[4];
+    hull_set *h = made(1000);
+    hull_bridge out[64];
     memset(out, 0, sizeof out);
-    CHECK(number(hull_bridges(h, 0, out, 4), HULL_NUMBER, 0));
-    for (int64_t x = 0; x < 4; x++) {
+    CHECK(number(hull_bridges(h, 0, out, 64), HULL_NUMBER, 0));
+    for (int64_t x = 0; x < 256; x++) {
         hull_add(h, x, x % 2);
+        CHECK(x > 20 || number(hull_bridges(h, 0, out, 64), HULL_NUMBER, 0));
         hull_add(h, x, -3);
     }
-    CHECK(number(hull_bridges(h, 0, out, 4), HULL_NUMBER, 1) && out[0].level == 0 && out[1].lower_right.y == 0);
-    CHECK(out[0].upper_left.x == 1 && out[0].upper_left.y == 1 && out[0].upper_right.x == 3 && out[0].upper_right.y == 1);
-    CHECK(out[0].lower_left.x == 0 && out[0].lower_left.y == -3 && out[0].lower_right.x == 3 && out[0].lower_right.y == -3);
-    uint64_t forks = 0;
+    CHECK(number(hull_bridges(h, 0, out, 64), HULL_NUMBER, 1) && out[0].level == 0 && out[1].lower_right.y == 0);
+    CHECK(out[0].upper_left.x == 1 && out[0].upper_left.y == 1 && out[0].upper_right.x == 255 && out[0].upper_right.y == 1);
+    CHECK(out[0].lower_left.x == 0 && out[0].lower_left.y == -3 && out[0].lower_right.x == 255 && out[0].lower_right.y == -3);
+    uint64_t forks = 0, third = 0;
     for (uint32_t level = 0; level < 8; level++) {
-        hull_reply reply = hull_bridges(h, level, out, 4);
+        hull_reply reply = hull_bridges(h, level, out, 64);
         forks += reply.number;
-        CHECK(reply.code == HULL_NUMBER && reply.number <= 4 && (reply.number == 0 || out[0].level == level));
+        third = level == 2 ? reply.number : third;
+        CHECK(reply.code == HULL_NUMBER && reply.number <= 64 && (reply.number == 0 || out[0].level == level));
     }
-    CHECK(forks == 7);
+    /* 512 points lie in 8 buckets at least, and none of these is empty */
+    CHECK(forks >= 7 && forks < 512 && third > 1);
     memset(out, 0, sizeof out);
-    CHECK(number(hull_bridges(h, 2, out, 1), HULL_TOO_SMALL, 4) && out[0].upper_right.x == 0);
+    CHECK(number(hull_bridges(h, 2, out, 1), HULL_TOO_SMALL, third) && out[0].upper_right.x == 0);
     refused_from = 0, asked = 0;
-    CHECK(bare(hull_bridges(h, 1, out, 4), HULL_NO_MEMORY));
+    CHECK(bare(hull_bridges(h, 1, out, 64), HULL_NO_MEMORY));
     refused_from = -1;
-    CHECK(number(hull_bridges(h, UINT32_MAX, out, 4), HULL_NUMBER, 0));
+    CHECK(number(hull_bridges(h, UINT32_MAX, out, 64), HULL_NUMBER, 0));
     ended(h);
 }
 
@@ -797,10 +803,10 @@ static void calls(void) {
     bad[1].kind = HULL_KIND_PLACE, bad[1].y = INT64_MIN;
     CHECK(hull_calls(h, bad, 3, told, 16) == 2 && bare(told[1], HULL_OUT_OF_RANGE));
     CHECK(number(hull_count(h), HULL_NUMBER, 2));
-    hull_remove(h, 4, 0);
-    hull_request refused[] = {{HULL_KIND_ADD, 7, 7}, {HULL_KIND_ADD, 0, 0}};
+    hull_clear(h);
+    hull_request refused[] = {{HULL_KIND_ADD, 7, 7}, {HULL_KIND_COUNT, 0, 0}};
     refused_from = 0, asked = 0;
-    CHECK(hull_calls(h, refused, 2, told, 2) == 2 && bare(told[0], HULL_NO_MEMORY) && number(told[1], HULL_AGAIN, 2));
+    CHECK(hull_calls(h, refused, 2, told, 2) == 2 && bare(told[0], HULL_NO_MEMORY) && number(told[1], HULL_NUMBER, 0));
     refused_from = -1;
     ended(h);
 }
