@@ -158,13 +158,14 @@ async function tryMouse() {
     });
     await tried("stored bridges are drawn level by level", async () => {
         await anew();
-        for (const point of [[-20, -10], [20, -10], [20, 10]]) await click(point);
+        // (up to 64 points have no bridge stored)
+        await press("many");
         await tab.move([5, 5]);
         const levels = async (key) => (await value('document.getElementById("levels").focus()'), await tab.key(key), await text("leveled"));
         const drawn = async () => (await tab.settled(), value('document.getElementById("plane").toDataURL()')), without = await drawn();
         assert.equal(await levels("ArrowRight"), "1 level");
         assert.notEqual(await drawn(), without);
-        assert.equal(await levels("End"), "2 levels");
+        assert.match(await levels("End"), /^([4-9]|1[0-9]) levels$/);
         assert.equal(await levels("Home"), "0 levels");
         assert.equal(await drawn(), without);
     });
