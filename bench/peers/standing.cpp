@@ -560,6 +560,8 @@ int main(int argc, char **argv) {
     for (int i = 0; i < 100000; i++) {
         asked.push_back({x(random), y(random)});
     }
+    // of an outline of many corners fewer, since what looks at all of its edges takes a millisecond a question there
+    const Points some(asked.begin(), chain.corners.size() < 10000 ? asked.end() : asked.begin() + 1000);
     // as many directions to each side of the set
     Points directions;
     std::uniform_int_distribution<int64_t> any(-1000, 1000), slope(-2 * wide, 2 * wide);
@@ -577,10 +579,10 @@ int main(int argc, char **argv) {
         time_corners(table, ours, chain);
         time_places(table, ours, chain, asked, chain.corners.size() < 1000);
         time_extremes(table, ours, chain, directions);
-        time_meetings(table, chain, asked);
-        time_distances(table, chain, asked);
+        time_meetings(table, chain, some);
+        time_distances(table, chain, some);
         time_relations(table, chain, asked);
-        time_lengths(table, chain, asked);
+        time_lengths(table, chain, some);
     }
     std::printf("%s, %zu points, %zu corners\n", shape.c_str(), count, chain.corners.size());
     table.print();
