@@ -297,7 +297,7 @@ closed_within_right p before after l k c h side e = elim (h side e) [
 -- ---- stored edges
 
 -- the edges that a fork stores are the bridges of all points below its halves
-stored : (n : Node) (h : ℕ) (f : Box Fork _) → n ≡ node.Fork h f → IsWellBuilt n → (side : Side)
+pub stored : (n : Node) (h : ℕ) (f : Box Fork _) → n ≡ node.Fork h f → IsWellBuilt n → (side : Side)
     → IsBridgeBetween side f.value.left f.value.right (edge_on side f.value)
 stored n h f e w side = go side
   where

@@ -16,3 +16,4 @@ pub mod Rooted
 pub mod SetEnds
 pub mod ListedParts
 pub mod Kept
+pub mod InPlace

@@ -2,10 +2,11 @@
 use Rattle.std.specs.Prelude.{◌≡◌, ◌⊎◌, Bool, false, List}
 use Rattle.std.specs.List.{Contains}
 use Rattle.lattice.specs.Bridges.{IsBridge}
-use Rattle.lattice.specs.Plane.{Pair}
+use Rattle.lattice.specs.Plane.{Pair, IsBefore}
 use Rattle.lattice.specs.Standing.{IsInnerToEdge}
 use Rattle.lattice.specs.declared.side.Side.{Side}
 use Rattle.lattice.specs.declared.side.Side.TheVariants.{Lower, Upper}
+use Rattle.bridge_search.specs.Trees.{On}
 use Rattle.hull_buckets.specs.Buckets.{IsCovered}
 use Rattle.hull_geometry.specs.Monotone.{IsInwards}
 use Rattle.hull_geometry.specs.Positions.{first_of, last_of}
@@ -14,7 +15,7 @@ use Rattle.bucket_tree.specs.declared.node.Node.{Node}
 use Rattle.bucket_tree.specs.declared.renewal.Open.{Open}
 use Rattle.bucket_tree.specs.declared.renewal.Standing.{Standing}
 use Rattle.bucket_tree.specs.declared.renewal.Standing.TheVariants.{Covered, Clear, Touching}
-use Rattle.bucket_tree.specs.Nodes.{points_below}
+use Rattle.bucket_tree.specs.Nodes.{tree_of, points_below, AreInRow}
 
 -- whether a side is open: whether the change may matter there to what is above
 abbrev pub is_open : Side → Open → Bool
@@ -56,3 +57,43 @@ pub record IsBehind (p : Pair) (sides : Open) (l r : Node) (f : Fork) : Type 0 w
 abbrev pub ClosesBy : Pair → Open → Open → List Pair → Type 0
 ClosesBy p before after S =
     (side : Side) → is_open side after ≡ false → (is_open side before ≡ false) ⊎ IsCovered side p S
+
+-- the edges that a fork stores are bridges but where a change at p may have altered them (as `IsBehind` says)
+pub record HasEdgesBehind (p : Pair) (sides : Open) (f : Fork) : Type 0 where
+  pub closed : (side : Side) → is_open side sides ≡ false → IsBridgeBetween side f.left f.right (edge_on side f)
+  pub clear : (side : Side) → IsClearOf side (edge_on side f) p → IsBridgeBetween side f.left f.right (edge_on side f)
+
+-- a fork whose left part changed at p since its edges and the last point there were stored
+pub record IsBehindLeft (p : Pair) (sides : Open) (f : Fork) : Type 0 where
+  pub row : AreInRow f.left f.right
+  pub edges : HasEdgesBehind p sides f
+  pub first : f.first_right ≡ first_of (points_below f.right)
+  pub kept : IsBefore p f.last_left → f.last_left ≡ last_of (points_below f.left)
+
+-- a fork whose right part did
+pub record IsBehindRight (p : Pair) (sides : Open) (f : Fork) : Type 0 where
+  pub row : AreInRow f.left f.right
+  pub edges : HasEdgesBehind p sides f
+  pub last : f.last_left ≡ last_of (points_below f.left)
+  pub kept : IsBefore f.first_right p → f.first_right ≡ first_of (points_below f.right)
+
+-- a fork whose edges are the bridges of its two parts' corners, and which keeps the points at the parting
+pub record IsRenewed (f : Fork) : Type 0 where
+  pub row : AreInRow f.left f.right
+  pub upper : IsBridge Upper (On (tree_of f.left)) (On (tree_of f.right)) f.upper.0 f.upper.1
+  pub lower : IsBridge Lower (On (tree_of f.left)) (On (tree_of f.right)) f.lower.0 f.lower.1
+  pub last : f.last_left ≡ last_of (points_below f.left)
+  pub first : f.first_right ≡ first_of (points_below f.right)
+
+-- the other side
+abbrev pub opposite : Side → Side
+opposite Lower = Upper
+opposite Upper = Lower
+
+-- two forks that are the same but for their edges on a side
+pub record IsSameBut (side : Side) (f g : Fork) : Type 0 where
+  pub left : g.left ≡ f.left
+  pub right : g.right ≡ f.right
+  pub last : g.last_left ≡ f.last_left
+  pub first : g.first_right ≡ f.first_right
+  pub other : edge_on (opposite side) g ≡ edge_on (opposite side) f

@@ -9,3 +9,4 @@ pub mod Roots
 pub mod Levels
 pub mod Sets
 pub mod Changes
+pub mod InPlace

@@ -46,7 +46,7 @@ pub(crate) fn open_at(bucket: &Bucket, place: usize, p: Point) -> Open
 }
 
 /// Puts a new point into a bucket with room, held once, and tells the sides on which it is a corner there.
-fn put(bucket: &mut Bucket, p: Point) -> Open
+pub(crate) fn put(bucket: &mut Bucket, p: Point) -> Open
     requires absent { ¬ Contains bucket.old.points p }
     requires room { length bucket.old.points < ROOM }
     ensures points { bucket.new.points ≡ with_point p bucket.old.points }

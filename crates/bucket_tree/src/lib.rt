@@ -8,6 +8,7 @@
 
 mod find;
 mod fork_ref;
+mod in_place;
 mod insertion;
 mod join;
 mod listing;
@@ -22,6 +23,7 @@ mod tree;
 
 pub use find::times_of;
 pub use fork_ref::ForkRef;
+pub use in_place::{Changed, put_in_place, take_in_place};
 pub use insertion::{Inserted, insert};
 pub use load::from_parts;
 pub use node::{Fork, Node};

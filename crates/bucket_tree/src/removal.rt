@@ -61,7 +61,7 @@ fn remove_leaf(mut bucket: Box<Bucket, Heap>, p: Point) -> Removed
 }
 
 /// Whether two parts are buckets with few points together.
-fn are_few(left: &Node, right: &Node) -> bool
+pub(crate) fn are_few(left: &Node, right: &Node) -> bool
     ensures { result ≡ true → (forks_above left.now ≡ 0) × (forks_above right.now ≡ 0)
         × (length (points_below left.now) + length (points_below right.now) ≤ 48) }
 {

@@ -79,14 +79,14 @@ pub(crate) fn how_stands(side: Side, edge: &(Point, Point), p: Point) -> Standin
 
 /// A bridge after a change, the turns of a search for it, and whether its side is still open.
 #[derive(Clone, Copy)]
-struct Kept {
-    edge: (Point, Point),
-    turns: u32,
-    at_issue: bool,
+pub(crate) struct Kept {
+    pub(crate) edge: (Point, Point),
+    pub(crate) turns: u32,
+    pub(crate) at_issue: bool,
 }
 
 /// The bridge on a side of two parts, of which one changed at a point: the stored edge where it stands, else it is searched.
-fn bridge_after(
+pub(crate) fn bridge_after(
     side: Side,
     left: &Node,
     right: &Node,

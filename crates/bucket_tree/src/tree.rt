@@ -10,6 +10,7 @@ ghost use Rattle.bucket_tree.specs.Roots.{held_by, points_of_root, times_of_root
 ghost use Rattle.bucket_tree.specs.Sets.{LimitedTree, IsSound};
 
 use crate::find::times_of;
+use crate::in_place::{put_in_place, take_in_place};
 use crate::insertion::insert;
 use crate::listing::{push_entries, push_from, push_level};
 use crate::load::{first_leaf, from_entries};
@@ -243,13 +244,20 @@ impl BucketTree {
         ensures same_limit { self.new.limit ≡ self.old.limit }
         ensures few { result.1 ≤ 10000 }
     {
-        let Some(root) = self.root.take() else {
+        let Some(root) = &mut self.root else {
             let Ok(leaf) = first_leaf(self.alloc, p) else {
                 return (true, 0);
             };
             self.root = Some(leaf);
             self.count = 1;
             return (false, 0);
+        };
+        if let Some(change) = put_in_place(root, p) {
+            self.count += 1;
+            return (false, change.turns);
+        }
+        let Some(root) = self.root.take() else {
+            unreachable!()
         };
         let change = insert(self.alloc, root, p);
         self.root = Some(change.node);
@@ -267,6 +275,13 @@ impl BucketTree {
         ensures same_limit { self.new.limit ≡ self.old.limit }
         ensures few { result ≤ 10000 }
     {
+        let Some(root) = &mut self.root else {
+            unreachable!()
+        };
+        if let Some(change) = take_in_place(root, p) {
+            self.count -= 1;
+            return change.turns;
+        }
         let Some(root) = self.root.take() else {
             unreachable!()
         };

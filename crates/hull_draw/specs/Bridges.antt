@@ -4,7 +4,7 @@ use Rattle.bridge_search.specs.Trees.{Tree}
 use Rattle.hull_tree.specs.declared.node.Node.{Node}
 use Rattle.hull_tree.specs.Levels.{level_of}
 use Rattle.hull_tree.specs.Nodes.{tree_of}
-use Rattle.hull_tree.specs.declared.levels.Bridge.{Bridge}
+use Rattle.leaf_trees.specs.declared.bridge.Bridge.{Bridge}
 use Rattle.hull_draw.specs.declared.bridges.TheConstants.{LEVEL_LIMIT}
 
 -- what the forks of the first n levels store, the root's first

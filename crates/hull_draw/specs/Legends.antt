@@ -2,7 +2,7 @@
 use Rattle.std.specs.Prelude.{◌==◌, ◌+◌, ℕ, ℤ, List, [], ◌∷◌, ◌++◌, length, Option, Some, None, codes}
 use Rattle.std.specs.Prelude.{if◌then◌else◌}
 use Rattle.std.specs.Fmt.{signed_decimal}
-use Rattle.hull_tree.specs.declared.levels.Bridge.{Bridge}
+use Rattle.leaf_trees.specs.declared.bridge.Bridge.{Bridge}
 use Rattle.hull_draw.specs.declared.frame.Frame.{Frame}
 use Rattle.hull_draw.specs.declared.legend.TheConstants.{BRIDGES_TOLD}
 use Rattle.hull_draw.specs.Scenes.{SceneValue}

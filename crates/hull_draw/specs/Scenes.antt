@@ -8,7 +8,7 @@ use Rattle.hull_tree.specs.declared.node.Node.{Node}
 use Rattle.hull_tree.specs.Roots.{held_by}
 use Rattle.hull_tree.specs.Sets.{IsSound}
 use Rattle.hull_book.specs.Journals.{JournalValue}
-use Rattle.hull_tree.specs.declared.levels.Bridge.{Bridge}
+use Rattle.leaf_trees.specs.declared.bridge.Bridge.{Bridge}
 use Rattle.hull_draw.specs.declared.drawing.DrawOptions.{DrawOptions}
 use Rattle.hull_draw.specs.declared.marks.Mark.{Mark}
 use Rattle.hull_draw.specs.Bridges.{bridges_of}

@@ -2,7 +2,7 @@
 -- them each: all numbers are whole.
 use Rattle.std.specs.Prelude.{◌-◌, ◌/◌, ◌+◌, ℕ, zero, suc, List, [], ◌∷◌, ◌++◌, length, codes, decimal}
 use Rattle.lattice.specs.Plane.{Pair}
-use Rattle.hull_tree.specs.declared.levels.Bridge.{Bridge}
+use Rattle.leaf_trees.specs.declared.bridge.Bridge.{Bridge}
 use Rattle.hull_draw.specs.declared.marks.Mark.{Mark}
 use Rattle.hull_draw.specs.declared.marks.TheConstants.{DRAWN_LIMIT}
 use Rattle.hull_draw.specs.declared.frame.Frame.{Frame}

@@ -9,8 +9,8 @@ use super::frame::Frame;
 use super::marks::DRAWN_LIMIT;
 use super::scene::Scene;
 use super::shapes::told_after;
-use hull_tree::Bridge;
 use lattice::Point;
+use leaf_trees::Bridge;
 use text_io::{Done, Sink, number_after, put_after};
 
 /// The words of the legend's line on bridges, in their colours, behind the place where it stands.

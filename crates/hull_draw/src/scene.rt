@@ -8,7 +8,7 @@ use super::marks::{Mark, marks};
 use super::replaying::replay_right_lines;
 use hull_book::{Journal, Line};
 use hull_set::{HullSet, NoMemory};
-use hull_tree::{Bridge, trees_are_sound};
+use hull_tree::trees_are_sound;
 use lattice::Point;
 use std::alloc::Global;
 use std::marker::Model;

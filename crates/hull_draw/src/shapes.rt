@@ -7,9 +7,9 @@ ghost use Rattle.hull_draw.specs.Shapes.{all_dots_text, bridge_line_text, bridge
 use super::frame::Frame;
 use super::marks::{DRAWN_LIMIT, Mark};
 use super::scene::Scene;
-use hull_tree::Bridge;
 use itoa::Integer;
 use lattice::Point;
+use leaf_trees::Bridge;
 use text_io::{Done, Sink, number_after, put_after};
 
 /// Writes words, and a number behind them.

@@ -2,6 +2,7 @@
 use Rattle.std.proofs.Common.{◌≡◌, ◌+◌, ◌%◌, ◌^◌, ℕ, zero, suc, List, [], ◌∷◌, Some, ap, subst, arith}
 use Rattle.std.specs.Prelude.{slice_get}
 use Rattle.hull_set.specs.Held.{Held, nothing_held}
+use Rattle.hull_set.specs.declared.set.HullSet.{Ghosts}
 use Rattle.hull_set.specs.Replies.{after}
 use Rattle.hull_book.specs.Kinds.{Kind}
 use Rattle.hull_book.specs.declared.head.Head.{Head}
@@ -9,10 +10,10 @@ use Rattle.hull_book.specs.declared.line.Line.{Line}
 use Rattle.hull_book.specs.History.{AreRight}
 use Rattle.hull_book.specs.Books.{IsLawful}
 use Rattle.hull_book.proofs.Counts.{all_counts}
-use Rattle.hull_tree.specs.Sets.{LimitedTree, hull_tree}
+use Rattle.lattice.specs.Plane.{Pair}
 use Rattle.ticket_lock.specs.Forms.{partitioned_form}
 use Rattle.ticket_lock.specs.Schedule.{SchedulesHold}
-use Rattle.hull_headline.specs.Headline.{Always, WheneverFree, AtMostOneHolds, StoresBridgesOfLivePoints}
+use Rattle.hull_headline.specs.Headline.{Always, WheneverFree, AtMostOneHolds, StoresThatOfLivePoints}
 use Rattle.hull_headline.specs.Headline.{HoldsEachPointAsOften, HasLegalJournal, IsInOrderOfNumbers, LedgersSumToLength}
 use Rattle.hull_headline.specs.Headline.{FirstComeFirstServed}
 
@@ -28,9 +29,9 @@ numbered head k S (m ∷ lines) right (suc i) line e =
     subst (λ (n : ℕ). line.number ≡ (head.first + n) % (2 ^ 64)) (omega arith)
     (numbered head (suc k) (after S m.call m.reply) lines right.1 i line e)
 
-module _ {B H L : Type 0} (kind : Kind LimitedTree B H L)
-    (tells : (b : B) → kind.says.lawful b → IsLawful hull_tree (kind.whole b)) where
-  -- the law of the lock, at such a book over a tree
+module _ {S B H L : Type 0} (set : Ghosts S) (kind : Kind S B H L)
+    (tells : (b : B) → kind.says.lawful b → IsLawful set (kind.whole b)) where
+  -- the law of the lock, at such a book over a set
   abbrev pub Law : Type 0
   Law = SchedulesHold kind.says partitioned_form
 
@@ -38,14 +39,16 @@ module _ {B H L : Type 0} (kind : Kind LimitedTree B H L)
   pub one_holder : Law → Always kind AtMostOneHolds
   one_holder law seats book opening now steps led = (law seats book opening now steps led.0 led.1).0.one_holder
 
-  -- the stored bridges are those of the live points
-  pub bridges : Law → WheneverFree kind StoresBridgesOfLivePoints
-  bridges law seats book opening now steps led free = let lawful =
+  -- what the set stores is that of the live points, where a sound set stores that of the points that it holds
+  pub bridges : (stores : S → List Pair → Type 0) → ((t : S) → set.sound t → stores t (set.held t).points) → Law
+      → WheneverFree kind (StoresThatOfLivePoints stores)
+  bridges stores sound law seats book opening now steps led free = let lawful =
       tells now.current (law seats book opening now steps led.0 led.1).0.lawful in
-      (lawful.sound.built, ap (λ (h : Held). h.points) lawful.set)
+      subst (λ (points : List Pair). stores (kind.whole now.current).set points)
+      (ap (λ (h : Held). h.points) lawful.set) (sound (kind.whole now.current).set lawful.sound)
 
   -- each point is held as often as the journal's calls left it
-  pub multiplicities : Law → WheneverFree kind HoldsEachPointAsOften
+  pub multiplicities : Law → WheneverFree kind (HoldsEachPointAsOften set)
   multiplicities law seats book opening now steps led free =
       (tells now.current (law seats book opening now steps led.0 led.1).0.lawful).set
 

@@ -4,7 +4,6 @@ use Rattle.std.proofs.Common.{length-append, refl, subst, sym}
 use mathlib.Core.Option.{some, some-injective, some-ne-none}
 use lib.ListN.{get_elem?}
 use Rattle.hull_book.specs.Kinds.{Kind}
-use Rattle.hull_tree.specs.Sets.{LimitedTree}
 use Rattle.ticket_lock.specs.declared.chronicle.Chronicle.{Ghosts}
 use Rattle.ticket_lock.specs.declared.seat_state.Memo.{Memo}
 use Rattle.ticket_lock.specs.declared.seat_state.SeatState.TheVariants.{Holding}
@@ -97,7 +96,7 @@ module _ {B H L : Type 0} (K : Ghosts B H L) (F : Form) (laws : FormLaws F) (n :
       ∙ ap (λ (s : ℕ). wrap (wrap (s + 1) + ended_in r es)) knows.2 ∙ one_more w.serving (ended_in r es)
 
 -- so it is from the opened world on
-pub tickets : {B H L : Type 0} (kind : Kind LimitedTree B H L) → TicketsCountTheCalls kind
+pub tickets : {S B H L : Type 0} (kind : Kind S B H L) → TicketsCountTheCalls kind
 tickets kind seats book opening now steps led seat began r place line call =
     let o = led.0 in let good = good_opened kind.says partitioned_form partitioned_laws seats book opening o in
     ticket_from kind.says partitioned_form partitioned_laws seats book steps opening now [] book r seat call.ends.0 line good

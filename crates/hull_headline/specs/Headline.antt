@@ -1,4 +1,4 @@
--- What is promised of a book over a tree that many seats share, sentence by sentence, whatever order their single
+-- What is promised of a book over a set that many seats share, sentence by sentence, whatever order their single
 -- steps fall in.
 use Rattle.std.specs.Prelude.{◌≡◌, ◌+◌, ◌++◌, ◌%◌, ◌^◌, ℕ, zero, suc, true, List, [], ◌∷◌, length, slice_get, Some, Box}
 use Rattle.std.specs.Global.{Global}
@@ -14,27 +14,25 @@ use Rattle.hull_book.specs.LongBooks.{LongValue}
 use Rattle.hull_book.specs.Marks.{held_of, joined, parts_of}
 use Rattle.hull_book.specs.History.{IsLegal, held_after, live}
 use Rattle.hull_book.specs.Ledgers.{LedgerValue, AreAllLedgers, sum_of_counts}
+use Rattle.hull_set.specs.declared.set.HullSet as hull_set
 use Rattle.hull_tree.specs.Roots.{points_of_root, IsWellBuiltRoot}
 use Rattle.hull_tree.specs.Sets.{LimitedTree, hull_tree}
+use Rattle.lattice.specs.Plane.{Pair}
 use Rattle.ticket_lock.specs.World.{World, Event, hands_on}
 use Rattle.ticket_lock.specs.GoodWorld.{Holds}
 use Rattle.ticket_lock.specs.Forms.{partitioned_form}
 use Rattle.ticket_lock.specs.Linearizable.{Call}
 use Rattle.ticket_lock.specs.Schedule.{Opened, Runs, takers, enterers}
 
--- a book over a tree
-abbrev pub TreeBook : Type 0
-TreeBook = BookValue LimitedTree
-
--- a book on the heap, as the lock that runs keeps it: it holds all its lines
-abbrev pub kept : Kind LimitedTree (Box TreeBook Global) BookHead Line
+-- a book over a tree on the heap, as the lock that runs keeps it: it holds all its lines
+abbrev pub kept : Kind LimitedTree (Box (BookValue LimitedTree) Global) BookHead Line
 kept = kinds.kept hull_tree
 
--- a book on the heap that may be drained: of it, all that is said is said of the whole
+-- one that may be drained: of it, all that is said is said of the whole
 abbrev pub drained : Kind LimitedTree (Box (LongValue LimitedTree) Global) BookHead MarkedLine
 drained = kinds.drained hull_tree
 
-module _ {B H L : Type 0} (kind : Kind LimitedTree B H L) where
+module _ {S B H L : Type 0} (kind : Kind S B H L) where
   -- The steps, in this order, lead from the opened lock to this moment: of a lock that was opened for so many seats
   -- round this book
   abbrev pub Leads : ℕ → B → World B H L → List (Event B) → World B H L → Type 0
@@ -48,7 +46,7 @@ module _ {B H L : Type 0} (kind : Kind LimitedTree B H L) where
       → Leads seats book opening steps now → P now
 
   -- The same whenever the lock is free, of the book that it keeps.
-  abbrev pub WheneverFree : (TreeBook → Type 0) → Type 0
+  abbrev pub WheneverFree : (BookValue S → Type 0) → Type 0
   WheneverFree P = Always (λ now. now.home ≡ true → P (kind.whole now.current))
 
   -- First come, first served: the k-th entry is by the seat that made the k-th take.
@@ -68,7 +66,7 @@ ended_in zero steps = 0
 ended_in (suc r) [] = 0
 ended_in (suc r) (step ∷ steps) = ends step + ended_in r steps
 
-module _ {B H L : Type 0} (kind : Kind LimitedTree B H L) where
+module _ {S B H L : Type 0} (kind : Kind S B H L) where
   -- Tickets go up in the order of the calls: the line of the call that ended with step r has the ticket that was served
   -- first and as many more as calls had ended before, whether they had found room or not, modulo 2 ^ 64. (The number that
   -- the lock asks a line for is its ticket.)
@@ -82,32 +80,41 @@ module _ {B H L : Type 0} (kind : Kind LimitedTree B H L) where
 abbrev pub AtMostOneHolds : {B H L : Type 0} → World B H L → Type 0
 AtMostOneHolds now = (one other t u : ℕ) → Holds now one t → Holds now other u → one ≡ other
 
+-- Each bridge that a tree stores is that of the points below it, and all these are the points.
+abbrev pub StoresBridgesOf : LimitedTree → List Pair → Type 0
+StoresBridgesOf tree points = IsWellBuiltRoot tree.root × (points_of_root tree.root ≡ points)
+
+module _ {S : Type 0} (stores : S → List Pair → Type 0) where
+  -- What a set stores is that of the live points: of those that the journal's calls left.
+  abbrev pub StoresThatOfLivePoints : BookValue S → Type 0
+  StoresThatOfLivePoints book = stores book.set (live book.lines)
+
 -- Each stored bridge is that of the points below it, and these are the live points: those that the journal's calls
 -- left.
-abbrev pub StoresBridgesOfLivePoints : TreeBook → Type 0
-StoresBridgesOfLivePoints book = IsWellBuiltRoot book.set.root × (points_of_root book.set.root ≡ live book.lines)
+abbrev pub StoresBridgesOfLivePoints : BookValue LimitedTree → Type 0
+StoresBridgesOfLivePoints = StoresThatOfLivePoints StoresBridgesOf
 
 -- Each point is held as often as the journal's calls left it.
-abbrev pub HoldsEachPointAsOften : TreeBook → Type 0
-HoldsEachPointAsOften book = hull_tree.held book.set ≡ held_after book.lines
+abbrev pub HoldsEachPointAsOften : {S : Type 0} → hull_set.Ghosts S → BookValue S → Type 0
+HoldsEachPointAsOften set book = set.held book.set ≡ held_after book.lines
 
 -- The journal is a legal history from the empty set.
-abbrev pub HasLegalJournal : TreeBook → Type 0
+abbrev pub HasLegalJournal : {S : Type 0} → BookValue S → Type 0
 HasLegalJournal book = IsLegal book.head.journal book.lines
 
 -- The calls stand in the order of their numbers: line k has the first number and k, modulo 2 ^ 64.
-abbrev pub IsInOrderOfNumbers : TreeBook → Type 0
+abbrev pub IsInOrderOfNumbers : {S : Type 0} → BookValue S → Type 0
 IsInOrderOfNumbers book = (k : ℕ) (line : Line) → slice_get book.lines k ≡ Some line
     → line.number ≡ (book.head.journal.first + k) % (2 ^ 64)
 
 -- All its ledgers, once they are gathered, sum to the length of the journal.
-abbrev pub LedgersSumToLength : TreeBook → Type 0
+abbrev pub LedgersSumToLength : {S : Type 0} → BookValue S → Type 0
 LedgersSumToLength book = (ledgers : List LedgerValue) → AreAllLedgers book ledgers
     → sum_of_counts ledgers ≡ length book.lines
 
 -- The parts that were taken out, in their order, and then the lines that are held are the journal of the book that the
 -- lock keeps whenever it is free: of a kind of books whose lines are marked.
-abbrev pub PartsAndHeldAreTheJournal : {B H : Type 0} → Kind LimitedTree B H MarkedLine → Type 0
+abbrev pub PartsAndHeldAreTheJournal : {S B H : Type 0} → Kind S B H MarkedLine → Type 0
 PartsAndHeldAreTheJournal kind = Always kind (λ now. now.home ≡ true
     → joined (parts_of (kind.says.lines now.current)) ++ held_of (kind.says.lines now.current)
     ≡ (kind.whole now.current).lines)

@@ -7,7 +7,7 @@
 //!
 //! Beside that, whenever the lock is free each point is held as often as the journal's calls left it. It is said of the
 //! lock that runs, `TicketLock<Box<Book<HullTree>>>` (crates `ticket_lock`, `hull_book` and `hull_tree`), and over every
-//! list of single steps of its seats; `specs/Headline.antt` has each of its words. Of a book that may be drained the
+//! list of single steps of its seats; `specs/Headline.antt` has each of its words, of books over whatever set. Of a book that may be drained the
 //! same is said once more, and that the parts that were taken out, in their order, and then the lines that are held are
 //! its journal; and that its lines' own numbers go up one by one, whichever calls found no room, and their tickets in
 //! the order of the calls.
@@ -17,6 +17,7 @@ ghost use Rattle.hull_headline.specs.Headline.{Always, WheneverFree, AtMostOneHo
 ghost use Rattle.hull_headline.specs.Headline.{HoldsEachPointAsOften, HasLegalJournal, IsInOrderOfNumbers};
 ghost use Rattle.hull_headline.specs.Headline.{FirstComeFirstServed, LedgersSumToLength, PartsAndHeldAreTheJournal};
 ghost use Rattle.hull_headline.specs.Headline.{TicketsCountTheCalls, drained, kept};
+ghost use Rattle.hull_tree.specs.Sets.{hull_tree};
 
 use hull_book::{Book, LongBook, parts_are_the_journal};
 use hull_tree::HullTree;
@@ -27,7 +28,7 @@ pub fn headline_holds()
     ensures first_come { FirstComeFirstServed kept }
     ensures one_holder { Always kept AtMostOneHolds }
     ensures bridges { WheneverFree kept StoresBridgesOfLivePoints }
-    ensures multiplicities { WheneverFree kept HoldsEachPointAsOften }
+    ensures multiplicities { WheneverFree kept (HoldsEachPointAsOften hull_tree) }
     ensures legal { WheneverFree kept HasLegalJournal }
     ensures in_order { WheneverFree kept IsInOrderOfNumbers }
     ensures ledgers { WheneverFree kept LedgersSumToLength }
@@ -42,7 +43,7 @@ pub fn headline_holds_of_drained_books()
     ensures first_come { FirstComeFirstServed drained }
     ensures one_holder { Always drained AtMostOneHolds }
     ensures bridges { WheneverFree drained StoresBridgesOfLivePoints }
-    ensures multiplicities { WheneverFree drained HoldsEachPointAsOften }
+    ensures multiplicities { WheneverFree drained (HoldsEachPointAsOften hull_tree) }
     ensures legal { WheneverFree drained HasLegalJournal }
     ensures in_order { WheneverFree drained IsInOrderOfNumbers }
     ensures tickets { TicketsCountTheCalls drained }

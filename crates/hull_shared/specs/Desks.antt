@@ -14,8 +14,8 @@ use Rattle.hull_reply.specs.declared.code.Code.{Code}
 use Rattle.hull_reply.specs.declared.code.Code.TheVariants as code
 use Rattle.hull_reply.specs.declared.reply.HullReply.{HullReply}
 use Rattle.hull_text.specs.JournalText.{written_text}
-use Rattle.hull_tree.specs.Roots.{held_by}
-use Rattle.hull_tree.specs.Sets.{LimitedTree}
+use Rattle.bucket_tree.specs.Roots.{held_by}
+use Rattle.bucket_tree.specs.Sets.{LimitedTree}
 use Rattle.ticket_lock.specs.Tokens.{seat_seen}
 use Rattle.hull_shared.specs.DeskBooks.{DeskValue, HoldsNone}
 use Rattle.hull_shared.specs.Limits.{AreLimits}

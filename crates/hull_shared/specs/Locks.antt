@@ -1,5 +1,5 @@
 -- The lock of a desk: what it was opened round.
-use Rattle.std.specs.Prelude.{ℕ, Box, List, box_value}
+use Rattle.std.specs.Prelude.{◌≡◌, ℕ, Box, List, box_value}
 use Rattle.std.specs.Global.{Global}
 use Rattle.std.specs.Arc.{arc_value}
 use Rattle.std.specs.Mem.{manually_drop_value}
@@ -10,7 +10,9 @@ use Rattle.hull_book.specs.Kinds.{Kind}
 use Rattle.hull_book.specs.LongBooks.{whole}
 use Rattle.hull_book.specs.Marks.{plain}
 use Rattle.hull_book.specs.declared.marked_line.MarkedLine.{MarkedLine}
-use Rattle.hull_tree.specs.Sets.{LimitedTree, hull_tree}
+use Rattle.bucket_tree.specs.Roots.{IsWellBuiltRoot, points_of_root}
+use Rattle.bucket_tree.specs.Sets.{LimitedTree, bucket_set}
+use Rattle.lattice.specs.Plane.{Pair}
 use Rattle.ticket_lock.specs.declared.chronicle.Chronicle as chronicle
 use Rattle.ticket_lock.specs.declared.lock.TicketLock.{TicketLock}
 use Rattle.ticket_lock.specs.Tokens.{opening_book}
@@ -44,7 +46,7 @@ says_desk = record {
   lines = lines_at;
   capacity = λ b. (whole_of b).head.journal.capacity;
   turn = λ b. (box_value b).book.turn;
-  lawful = λ b. IsLawful hull_tree (whole_of b);
+  lawful = λ b. IsLawful bucket_set (whole_of b);
   line_seat = λ l. l.line.seat;
   line_number = λ l. l.ticket;
 }
@@ -52,6 +54,11 @@ says_desk = record {
 -- the kind of such books
 abbrev pub desk : Kind LimitedTree DeskBoxed DeskHead MarkedLine
 desk = record { says = says_desk; whole = whole_of; plain = plain }
+
+-- Each bridge that a tree over buckets stores is that of the points below it, each bucket tells the corners of its own points,
+-- and all these are the points.
+abbrev pub StoresBridgesOf : LimitedTree → List Pair → Type 0
+StoresBridgesOf tree points = IsWellBuiltRoot tree.root × (points_of_root tree.root ≡ points)
 
 -- a lock round such a book
 abbrev pub HullLock : Type 0

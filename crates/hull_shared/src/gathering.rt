@@ -8,7 +8,7 @@ ghost use Rattle.hull_book.specs.Ledgers.{IsLedgerOf};
 ghost use Rattle.hull_pool.specs.Work.{lines_of};
 ghost use Rattle.hull_book.specs.LongBooks.{whole};
 ghost use Rattle.hull_book.specs.Marks.{plain};
-ghost use Rattle.hull_tree.specs.Sets.{hull_tree};
+ghost use Rattle.bucket_tree.specs.Sets.{bucket_set};
 ghost use Rattle.hull_shared.specs.DeskBooks.{desk_head};
 ghost use Rattle.hull_shared.specs.Locks.{boxed_head, head_of, seats_of};
 
@@ -23,7 +23,7 @@ pub(crate) fn gather_seats(lock: DeskLock, seats: Vec<DeskSeat>, ledgers: Vec<Le
     requires own { All (IsSeatOf boxed_head lock) seats.items }
     requires numbered { AreNumbered seats.items }
     requires ledgers { AllZip (λ s l. IsLedgerOf (seat_number s) (plain (seat_seen s)) l) seats.items ledgers.items }
-    ensures lawful { IsLawful hull_tree (whole result.book) }
+    ensures lawful { IsLawful bucket_set (whole result.book) }
     ensures head { desk_head result ≡ head_of lock }
     ensures seen { All (λ s. IsPrefix (seat_seen s) result.book.lines) seats.items }
     ensures own_lines { All (λ s. lines_of (seat_number s) (plain result.book.lines)

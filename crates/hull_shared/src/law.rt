@@ -1,9 +1,10 @@
 //! What the laws of the lock say of a desk, over every list of single steps of its seats.
 ghost use Rattle.hull_headline.specs.Headline.{Always, AtMostOneHolds, FirstComeFirstServed, HasLegalJournal};
 ghost use Rattle.hull_headline.specs.Headline.{HoldsEachPointAsOften, IsInOrderOfNumbers, LedgersSumToLength};
-ghost use Rattle.hull_headline.specs.Headline.{PartsAndHeldAreTheJournal, StoresBridgesOfLivePoints};
+ghost use Rattle.hull_headline.specs.Headline.{PartsAndHeldAreTheJournal, StoresThatOfLivePoints};
 ghost use Rattle.hull_headline.specs.Headline.{TicketsCountTheCalls, WheneverFree};
-ghost use Rattle.hull_shared.specs.Locks.{desk};
+ghost use Rattle.bucket_tree.specs.Sets.{bucket_set};
+ghost use Rattle.hull_shared.specs.Locks.{StoresBridgesOf, desk};
 ghost use Rattle.hull_shared.specs.Responses.{AnswersAtDesksAreOfLines};
 
 use crate::book::DeskBook;
@@ -14,8 +15,8 @@ use ticket_lock::{partitioned_schedules_are_linearizable, partitioned_schedules_
 pub fn headline_holds_of_desks()
     ensures first_come { FirstComeFirstServed desk }
     ensures one_holder { Always desk AtMostOneHolds }
-    ensures bridges { WheneverFree desk StoresBridgesOfLivePoints }
-    ensures multiplicities { WheneverFree desk HoldsEachPointAsOften }
+    ensures bridges { WheneverFree desk (StoresThatOfLivePoints StoresBridgesOf) }
+    ensures multiplicities { WheneverFree desk (HoldsEachPointAsOften bucket_set) }
     ensures legal { WheneverFree desk HasLegalJournal }
     ensures in_order { WheneverFree desk IsInOrderOfNumbers }
     ensures tickets { TicketsCountTheCalls desk }

@@ -4,7 +4,7 @@ ghost use mathlib.Core.List.{IsPrefix};
 ghost use Rattle.hull_book.specs.Books.{IsLawful};
 ghost use Rattle.hull_book.specs.Ledgers.{AreLedgers};
 ghost use Rattle.hull_book.specs.LongBooks.{whole};
-ghost use Rattle.hull_tree.specs.Sets.{hull_tree};
+ghost use Rattle.bucket_tree.specs.Sets.{bucket_set};
 ghost use Rattle.hull_shared.specs.DeskBooks.{desk_head};
 ghost use Rattle.hull_shared.specs.Locks.{book_of, boxed_head, head_of, seats_of};
 ghost use Rattle.hull_shared.specs.Places.{AreLaidOut, HasAt, HasOwnLines};
@@ -53,7 +53,7 @@ pub(crate) fn lay_out(
 pub(crate) fn close_lock(lock: DeskLock, places: Places) -> DeskBook
     requires laid_out { AreLaidOut lock (seat_count lock) places }
     requires all_in { All IsSome places.list.items }
-    ensures lawful { IsLawful hull_tree (whole result.book) }
+    ensures lawful { IsLawful bucket_set (whole result.book) }
     ensures head { desk_head result ≡ head_of lock }
     ensures seen { (j : ℕ) (p : PlaceValue) → HasAt places.list.items j p → IsPrefix (seat_seen p.seat)
         result.book.lines }

@@ -3,7 +3,7 @@ ghost use Rattle.std.specs.Prelude.{◌≡◌, All, IfOk, IsSome, box_value, vec
 ghost use Rattle.hull_book.specs.Books.{IsLawful};
 ghost use Rattle.hull_book.specs.Ledgers.{AreLedgers};
 ghost use Rattle.hull_book.specs.LongBooks.{whole};
-ghost use Rattle.hull_tree.specs.Sets.{hull_tree};
+ghost use Rattle.bucket_tree.specs.Sets.{bucket_set};
 ghost use Rattle.hull_shared.specs.Desks.{IsDeskRound};
 ghost use Rattle.hull_shared.specs.Locks.{book_of, boxed_head, capacity_of, lock_of};
 ghost use Rattle.hull_shared.specs.Places.{AreLaidOut};
@@ -34,7 +34,7 @@ fn boxed(
     book: DeskBook,
     ledgers: Vec<Ledger>,
 ) -> Result<(Box<DeskBook>, Vec<Ledger>), NoMemory>
-    requires lawful { IsLawful hull_tree (whole book.book) }
+    requires lawful { IsLawful bucket_set (whole book.book) }
     requires ledgers { AreLedgers (whole book.book) ledgers.items }
     ensures { IfOk result (λ r. (box_value r.0 ≡ book) × (r.1 ≡ ledgers)) }
 {
@@ -54,7 +54,7 @@ fn new_lock(
     ledgers: Vec<Ledger>,
     seats: u8,
 ) -> Result<NewLock, NoMemory>
-    requires lawful { IsLawful hull_tree (whole (box_value book).book) }
+    requires lawful { IsLawful bucket_set (whole (box_value book).book) }
     requires ledgers { AreLedgers (whole (box_value book).book) ledgers.items }
     ensures book { IfOk result (λ r. book_of r.lock ≡ box_value book) }
     ensures count { IfOk result (λ r. (vec_len r.seats ≡ seat_count r.lock) × (seat_count r.lock ≡ seats)) }
@@ -114,7 +114,7 @@ pub(crate) fn set_up(
     seats: u8,
     capacity: u32,
 ) -> Result<OpenDesk, NoMemory>
-    requires lawful { IsLawful hull_tree (whole book.book) }
+    requires lawful { IsLawful bucket_set (whole book.book) }
     requires ledgers { AreLedgers (whole book.book) ledgers.items }
     requires seats { seats ≡ book.book.head.workers }
     requires capacity { capacity ≡ book.book.head.journal.capacity }

@@ -1,63 +1,12 @@
 -- What a change makes of a set, and of two lists in a row.
-use Rattle.std.proofs.Common.{◌≡◌, ◌+◌, refl, sym, ap, subst, List, [], ◌∷◌, ◌++◌, length, arith, inl, inr}
+use Rattle.std.proofs.Common.{◌≡◌, refl, List, [], ◌∷◌, ◌++◌}
 use Rattle.std.specs.List.{All, Contains}
-use Rattle.std.proofs.lemmas.List.Elements.{All-contains, All-head, All-tail}
-use Rattle.std.proofs.lemmas.List.Elements.{Contains-append_right, Contains-append_cases}
 use Rattle.lattice.specs.Covers.{IsPointSet, with_point, without_point}
 use Rattle.lattice.specs.Plane.{Pair, IsBefore}
-use Rattle.lattice.proofs.Order.{before_trans, before_irrefl, before_total, before_not, before_apart, after_apart}
-use Rattle.lattice.proofs.Order.{is_before-true, is_before-false}
+use Rattle.lattice.proofs.Order.{before_irrefl, is_before-false}
 use Rattle.hull_geometry.proofs.SetLaws.{ordered_with, ordered_without}
-use Rattle.hull_geometry.proofs.PointLists.{AllPairs-head, AllPairs-tail, only_member}
-
--- p before all of the right list: it is added to the left one
-with_left : (p : Pair) (xs ys : List Pair) → All (IsBefore p) ys → with_point p (xs ++ ys) ≡ with_point p xs ++ ys
-with_left p [] [] a = refl
-with_left p [] (y ∷ ys) a =
-    let h : IsBefore p y = All-head (IsBefore p) y ys a in
-    rw (is_before-false y p (before_not p y h), is_before-true p y h) refl
-with_left p (x ∷ xs) ys a =
-    elim (before_total x p) [
-      | inl h ↦ rw (is_before-true x p h) (ap (λ (z : List Pair). x ∷ z) (with_left p xs ys a))
-      | inr (inl e) ↦ rw (
-        is_before-false x p (λ k. before_apart x p k e),
-        is_before-false p x (λ k. after_apart x p k e),
-      ) refl
-      | inr (inr h) ↦ rw (is_before-false x p (before_not p x h), is_before-true p x h) refl
-    ]
-
--- p after all of the left list: it is added to the right one
-with_right : (p : Pair) (xs ys : List Pair) → All (λ t. IsBefore t p) xs
-    → with_point p (xs ++ ys) ≡ xs ++ with_point p ys
-with_right p [] ys a = refl
-with_right p (x ∷ xs) ys a =
-    rw (is_before-true x p (All-head (λ t. IsBefore t p) x xs a))
-    (ap (λ (z : List Pair). x ∷ z) (with_right p xs ys (All-tail (λ t. IsBefore t p) x xs a)))
-
--- p before all of the right list: it is taken from the left one
-without_left : (p : Pair) (xs ys : List Pair) → All (IsBefore p) ys
-    → without_point p (xs ++ ys) ≡ without_point p xs ++ ys
-without_left p [] [] a = refl
-without_left p [] (y ∷ ys) a =
-    let h : IsBefore p y = All-head (IsBefore p) y ys a in
-    rw (is_before-false y p (before_not p y h), is_before-true p y h) refl
-without_left p (x ∷ xs) ys a =
-    elim (before_total x p) [
-      | inl h ↦ rw (is_before-true x p h) (ap (λ (z : List Pair). x ∷ z) (without_left p xs ys a))
-      | inr (inl e) ↦ rw (
-        is_before-false x p (λ k. before_apart x p k e),
-        is_before-false p x (λ k. after_apart x p k e),
-      ) refl
-      | inr (inr h) ↦ rw (is_before-false x p (before_not p x h), is_before-true p x h) refl
-    ]
-
--- p after all of the left list: it is taken from the right one
-without_right : (p : Pair) (xs ys : List Pair) → All (λ t. IsBefore t p) xs
-    → without_point p (xs ++ ys) ≡ xs ++ without_point p ys
-without_right p [] ys a = refl
-without_right p (x ∷ xs) ys a =
-    rw (is_before-true x p (All-head (λ t. IsBefore t p) x xs a))
-    (ap (λ (z : List Pair). x ∷ z) (without_right p xs ys (All-tail (λ t. IsBefore t p) x xs a)))
+use Rattle.hull_geometry.proofs.PointLists.{only_member}
+use Rattle.leaf_trees.proofs.Rows.{with_left, with_right, without_left, without_right}
 
 -- what a change at a point makes of a set: of two lists in a row the one that the point stands in changes
 pub record IsChange (f : Pair → List Pair → List Pair) : Type 0 where
@@ -76,45 +25,3 @@ taken = record { left = without_left; right = without_right; ordered = ordered_w
 -- a list of one without its point
 pub without_only : (p q : Pair) → Contains (q ∷ []) p → without_point p (q ∷ []) ≡ []
 without_only p q h = let e : p ≡ q = only_member q p h in rw (e, is_before-false q q (before_irrefl q)) refl
-
--- a new point is one more
-pub with_length : (p : Pair) (xs : List Pair) → ¬ (Contains xs p) → length (with_point p xs) ≡ length xs + 1
-with_length p [] n = refl
-with_length p (x ∷ xs) n =
-    elim (before_total x p) [
-      | inl k ↦ rw (is_before-true x p k)
-          (let e : length (with_point p xs) ≡ length xs + 1 =
-          with_length p xs (λ h. n (Contains-append_right (x ∷ []) xs p h)) in omega (arith, e))
-      | inr (inl e) ↦ absurd (n (0, omega arith, e))
-      | inr (inr k) ↦ rw (is_before-false x p (before_not p x k), is_before-true p x k) (omega arith)
-    ]
-
--- a member that is taken is one less
-pub without_length : (p : Pair) (xs : List Pair) → IsPointSet xs → Contains xs p
-    → length (without_point p xs) + 1 ≡ length xs
-without_length p [] s (i, l, e) = absurd (omega arith)
-without_length p (x ∷ xs) s h =
-    elim (before_total x p) [
-      | inl k ↦ rw (is_before-true x p k)
-          (let e : length (without_point p xs) + 1 ≡ length xs =
-          without_length p xs (AllPairs-tail x xs s) (in_rest k) in omega (arith, e))
-      | inr (inl e) ↦ rw (
-        is_before-false x p (λ k. before_apart x p k e),
-        is_before-false p x (λ k. after_apart x p k e),
-      ) (omega arith)
-      | inr (inr k) ↦ absurd (nowhere k)
-    ]
-  where
-    in_rest : IsBefore x p → Contains xs p
-    in_rest k =
-        elim (Contains-append_cases (x ∷ []) xs p h) [
-          | inl i ↦ absurd (before_irrefl p (subst (λ (z : Pair). IsBefore z p) (sym (only_member x p i)) k))
-          | inr i ↦ i
-        ]
-
-    nowhere : IsBefore p x → ⊥
-    nowhere k =
-        elim (Contains-append_cases (x ∷ []) xs p h) [
-          | inl i ↦ before_irrefl p (subst (IsBefore p) (sym (only_member x p i)) k)
-          | inr i ↦ before_irrefl p (before_trans p x p k (All-contains (IsBefore x) xs p (AllPairs-head x xs s) i))
-        ]

@@ -8,7 +8,7 @@ use Rattle.bridge_search.proofs.Depths.{one_depth}
 use Rattle.hull_tree.specs.declared.node.Node as node
 use Rattle.hull_tree.specs.declared.node.Halves as halves
 use Rattle.hull_tree.specs.Nodes.{tree_of, halves_of}
-use Rattle.hull_tree.specs.Turns.{IsForkCost, IsPathCost, IsDearerByAtMost}
+use Rattle.hull_tree.specs.Turns.{IsCostAtMost, IsForkCost, IsPathCost, IsDearerByAtMost}
 
 -- two sums of the depths of the same ends are the same
 one_sum : (u w : Tree) (p q : Pair) (m n : ℕ) → IsBridged u → IsBridged w → IsDepthSum u w p q m
@@ -45,6 +45,13 @@ pub by_fork : (e f : Pair × Pair) (u w : Tree) (n : ℕ) → IsForkCost e f u w
     → IsDearerByAtMost u (Fork e f u w) n × IsDearerByAtMost w (Fork e f u w) n
 by_fork e f u w n c =
     (λ p k h. (n + k, (n, k, c, refl, inl h), omega arith), λ p k h. (n + k, (n, k, c, refl, inr h), omega arith))
+
+-- a point whose forks cost at most m in t costs at most n more in a tree that is dearer by n
+pub costs_more : (t v : Tree) (p : Pair) (m n k : ℕ) → IsCostAtMost t p m → IsDearerByAtMost t v n → m + n ≤ k
+    → IsCostAtMost v p k
+costs_more t v p m n k c h l =
+    let one = h p c.0 c.1 in
+    (one.0, one.1, omega (arith, l, c.2, one.2))
 
 -- from one tree into a second and on into a third
 pub through : (t v z : Tree) (a b n : ℕ) → IsDearerByAtMost t v a → IsDearerByAtMost v z b → a + b ≤ n

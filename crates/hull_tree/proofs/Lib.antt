@@ -11,6 +11,4 @@ pub mod CountedTrees
 pub mod Halvings
 pub mod LoadedRows
 pub mod Stretches
-pub mod Counting
-pub mod AddedSets
-pub mod Standing
+pub mod NodeEntries

@@ -9,10 +9,11 @@ use Rattle.lattice.specs.Plane.{Pair}
 use Rattle.lattice.specs.Covers.{IsPointSet}
 use Rattle.hull_set.specs.declared.TheConstants.{POINT_LIMIT}
 use Rattle.hull_tree.specs.declared.node.Node.{Node}
-use Rattle.hull_tree.specs.Nodes.{tree_of, several, times_below, IsMultiplicity, IsWellBuilt}
+use Rattle.leaf_trees.specs.Entries.{several, IsMultiplicity, points_listed, AreEntries}
+use Rattle.hull_tree.specs.Nodes.{tree_of, times_below, IsWellBuilt}
 use Rattle.hull_tree.specs.Changes.{points_below, height_at, AreInRow}
 use Rattle.hull_tree.specs.Sets.{IsLimited}
-use Rattle.hull_tree.specs.Loaded.{points_listed, AreEntries, IsOver, IsHalvings}
+use Rattle.hull_tree.specs.Loaded.{IsOver, IsHalvings}
 use Rattle.hull_geometry.proofs.PointSets.{set_left, set_right}
 use Rattle.hull_tree.proofs.Heights.{at_most_28}
 

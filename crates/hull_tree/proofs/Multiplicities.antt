@@ -1,7 +1,7 @@
 -- How often points are held below a node, and below which of its halves.
 use Rattle.std.proofs.Common.{◌≡◌, None, ℕ, zero, suc, ◌+◌, ◌-◌, ◌<◌, ◌≤◌, refl, sym, ◌∙◌, subst, arith, ◌⊎◌, inl, inr}
 use Rattle.std.proofs.Common.{true, false, Bool, if◌then◌else◌}
-use Rattle.std.specs.Prelude.{◌↔◌, not}
+use Rattle.std.specs.Prelude.{◌↔◌}
 use Rattle.std.specs.List.{Contains}
 use Rattle.std.proofs.lemmas.List.Elements.{All-contains}
 use Rattle.lattice.specs.Plane.{Pair, IsBefore}
@@ -11,20 +11,14 @@ use Rattle.bridge_search.proofs.Leaves.{on_of_contains, contains_of_on}
 use Rattle.hull_set.specs.Held.{once}
 use Rattle.hull_set.specs.PointLists.{is_same_pair}
 use Rattle.hull_set.specs.declared.TheConstants.{MULTIPLICITY_LIMIT}
-use Rattle.hull_set.proofs.Times.{same_true, same_false, same_or_other, told_same}
+use Rattle.hull_set.proofs.Times.{same_or_other}
+use Rattle.leaf_trees.specs.Entries.{several}
+use Rattle.leaf_trees.proofs.Multiplicities.{several_there, several_elsewhere}
 use Rattle.hull_tree.specs.declared.node.Node as node
 use Rattle.hull_tree.specs.declared.node.Halves as halves
-use Rattle.hull_tree.specs.Nodes.{tree_of, several, times_below, IsLabelled, IsWellBuilt}
+use Rattle.hull_tree.specs.Nodes.{tree_of, times_below, IsLabelled, IsWellBuilt}
 use Rattle.hull_tree.specs.Changes.{points_below, AreInRow, IsPartedAt}
 use Rattle.hull_tree.proofs.HalfRows.{before_first, after_first}
-
--- of a point held n times alone, that point n times
-pub several_there : (n : ℕ) (p : Pair) → several n p p ≡ n
-several_there n p = rw (same_true p) refl
-
--- and no other
-pub several_elsewhere : (n : ℕ) (p q : Pair) → ¬ (p ≡ q) → several n p q ≡ 0
-several_elsewhere n p q d = rw (same_false p q d) refl
 
 -- a point that is not below a node is held 0 times there
 pub times_absent : (n : node.Node) (p : Pair) → ¬ (On (tree_of n) p) → times_below n p ≡ 0
@@ -196,11 +190,3 @@ leaf_lowered (node.Node' upper lower height near times node.None') p q e s h =
     rw s (several_less (is_same_pair upper.0 q) times h)
 leaf_lowered (node.Node' upper lower height near times
     (node.Some' i (halves.Halves' left right last_left first_right))) p q e s h = absurd (cc)
-
--- two points of which a test did not tell that they differ are the same
-pub same_point : {r : Bool} (p q : Pair) → r ≡ not (is_same_pair p q) → r ≡ false → p ≡ q
-same_point p q e f = told_same p q (not_false _ (sym e ∙ f))
-  where
-    not_false : (b : Bool) → not b ≡ false → b ≡ true
-    not_false true h = refl
-    not_false false h = sym h

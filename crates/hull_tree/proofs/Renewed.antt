@@ -8,8 +8,8 @@ use Rattle.hull_tree.specs.declared.node.Node as node
 use Rattle.hull_tree.specs.declared.node.Halves as halves
 use Rattle.hull_tree.specs.Nodes.{tree_of, keeping, below_of, left_half, right_half, IsWellBuilt, DifferByAtMost}
 use Rattle.hull_tree.specs.Changes.{height_at, left_height, right_height, IsParted, AreParted}
-use Rattle.hull_tree.specs.Turns.{IsForkCost, IsDearerByAtMost}
-use Rattle.hull_tree.proofs.Costs.{by_fork}
+use Rattle.hull_tree.specs.Turns.{IsCostAtMost, IsForkCost, IsDearerByAtMost}
+use Rattle.hull_tree.proofs.Costs.{by_fork, costs_more}
 use Rattle.bridge_search.specs.Near.{are_near}
 use Rattle.hull_tree.proofs.HalfRows.{same_below}
 use Rattle.hull_tree.proofs.PointRows.{all_before_of_set}
@@ -94,17 +94,15 @@ dearer_on_both (node.Node' upper lower height near times
     by_fork e f (tree_of left) (tree_of right) a
     (subst (λ (z : halves.Halves). IsForkCost e f (tree_of (left_half z)) (tree_of (right_half z)) a) (sym b) c)
 
--- where p is below one of the halves, and the fork over them was renewed, what is known of the turns below is known of
--- those of both
-pub cost_through : (Cost : Tree → Pair → ℕ → Type 0) (Dearer : Tree → Tree → ℕ → Type 0)
-    → ((t v : Tree) (p : Pair) (m n k : ℕ) → Cost t p m → Dearer t v n → m + n ≤ k → Cost v p k)
-    → (n : node.Node) (h : halves.Halves) (v : Tree) (p : Pair) (m a k : ℕ) → below_of n ≡ Some h
-    → AreParted h → Cost (tree_of (left_half h)) p m ⊎ Cost (tree_of (right_half h)) p m
-    → Dearer (left_of (tree_of n)) v a → Dearer (right_of (tree_of n)) v a → m + a ≤ k
-    → Cost v p k
-cost_through Cost Dearer adds n h v p m a k e d c x y l =
+-- where p is below one of the halves, and the fork over them was renewed, the turns below and those of the renewal are at
+-- least the cost of the forks above p
+pub cost_through : (n : node.Node) (h : halves.Halves) (v : Tree) (p : Pair) (m a k : ℕ) → below_of n ≡ Some h
+    → AreParted h → IsCostAtMost (tree_of (left_half h)) p m ⊎ IsCostAtMost (tree_of (right_half h)) p m
+    → IsDearerByAtMost (left_of (tree_of n)) v a → IsDearerByAtMost (right_of (tree_of n)) v a → m + a ≤ k
+    → IsCostAtMost v p k
+cost_through n h v p m a k e d c x y l =
     let u : IsUnder n h = under_fork n h (parted_fork n h e d) e in
     elim c [
-      | inl i ↦ adds (tree_of (left_half h)) v p m a k i (subst (λ z. Dearer z v a) u.left x) l
-      | inr i ↦ adds (tree_of (right_half h)) v p m a k i (subst (λ z. Dearer z v a) u.right y) l
+      | inl i ↦ costs_more (tree_of (left_half h)) v p m a k i (subst (λ z. IsDearerByAtMost z v a) u.left x) l
+      | inr i ↦ costs_more (tree_of (right_half h)) v p m a k i (subst (λ z. IsDearerByAtMost z v a) u.right y) l
     ]

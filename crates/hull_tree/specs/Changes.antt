@@ -1,8 +1,10 @@
 -- What a change below a node asks for and keeps.
 use Rattle.std.specs.Prelude.{◌≡◌, ℕ, ◌+◌, ◌≤◌, max, List, ◌++◌}
+use Rattle.lattice.specs.Bridges.{IsBridge}
 use Rattle.lattice.specs.Covers.{IsPointSet}
 use Rattle.lattice.specs.Plane.{Pair}
-use Rattle.bridge_search.specs.Trees.{left_of, right_of, first_of, last_of, height_of}
+use Rattle.lattice.specs.declared.side.Side.{Side}
+use Rattle.bridge_search.specs.Trees.{On, left_of, right_of, first_of, last_of, height_of}
 use Rattle.bridge_search.specs.Leaves.{points_of}
 use Rattle.hull_tree.specs.declared.node.Node.{Node}
 use Rattle.hull_tree.specs.declared.node.Node as node
@@ -69,3 +71,7 @@ right_height n = height_of (right_of (tree_of n))
 -- differ by two
 abbrev pub IsHeightOver : ℕ → ℕ → ℕ → Type 0
 IsHeightOver l r h = IsAtMostOneMore (max l r) h × (DifferByAtMost 1 l r → h ≡ max l r + 1)
+
+-- e is the bridge of two halves on this side
+abbrev pub IsBridgeOf : Side → Halves → Pair × Pair → Type 0
+IsBridgeOf side h e = IsBridge side (On (tree_of (left_half h))) (On (tree_of (right_half h))) e.0 e.1

@@ -2,7 +2,7 @@
 use Rattle.std.specs.Prelude.{◌==◌, ◌+◌, ℕ, List, [], ◌∷◌, ◌++◌, Option, Some, None, if◌then◌else◌}
 use Rattle.bridge_search.specs.Trees.{Tree, Leaf, Fork}
 use Rattle.hull_tree.specs.declared.node.Node.{Node}
-use Rattle.hull_tree.specs.declared.levels.Bridge.{Bridge}
+use Rattle.leaf_trees.specs.declared.bridge.Bridge.{Bridge}
 use Rattle.hull_tree.specs.Nodes.{tree_of}
 
 -- what the forks of a level store, from left to right, where the tree itself stands on level `here`

@@ -6,6 +6,4 @@ pub mod Sets
 pub mod Turns
 pub mod Laws
 pub mod Loaded
-pub mod Stretches
 pub mod Levels
-pub mod Behind

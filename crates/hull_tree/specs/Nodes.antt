@@ -1,11 +1,10 @@
 -- The finite tree that a node is, and what makes it well built (Overmars and van Leeuwen, 1981; Adelson-Velsky and
 -- Landis, 1962).
-use Rattle.std.specs.Prelude.{◌≡◌, ℕ, Bool, ◌+◌, ◌≤◌, Option, Some, None, option_map, if◌then◌else◌}
+use Rattle.std.specs.Prelude.{◌≡◌, ℕ, Bool, ◌+◌, ◌≤◌, Option, Some, None, option_map}
 use Rattle.lattice.specs.Plane.{Pair}
 use Rattle.bridge_search.specs.Trees.{Tree, Leaf, Fork, IsBridged, first_of, last_of, height_of}
 use Rattle.bridge_search.specs.Near.{is_near, are_near}
-use Rattle.hull_set.specs.PointLists.{is_same_pair}
-use Rattle.hull_set.specs.declared.TheConstants.{MULTIPLICITY_LIMIT}
+use Rattle.leaf_trees.specs.Entries.{several, IsMultiplicity}
 use Rattle.hull_tree.specs.declared.node.Node.{Node, out-Node}
 use Rattle.hull_tree.specs.declared.node.Node as node
 use Rattle.hull_tree.specs.declared.node.Halves.{Halves, out-Halves}
@@ -59,19 +58,11 @@ multiplicity_of (node.Node' upper lower height near times node.None') = Some tim
 multiplicity_of (node.Node' upper lower height near times
     (node.Some' i (halves.Halves' left right last_left first_right))) = None
 
--- p held so many times, and no other point
-abbrev pub several : ℕ → Pair → Pair → ℕ
-several times p q = if is_same_pair p q then times else 0
-
 -- how often each point is held below a node
 abbrev pub times_below : Node → Pair → ℕ
 times_below (node.Node' upper lower height near times node.None') q = several times upper.0 q
 times_below (node.Node' upper lower height near times
     (node.Some' i (halves.Halves' left right last_left first_right))) q = times_below left q + times_below right q
-
--- how often a live point may be held
-abbrev pub IsMultiplicity : ℕ → Type 0
-IsMultiplicity times = (1 ≤ times) × (times ≤ MULTIPLICITY_LIMIT)
 
 -- neither number is more than this above the other
 abbrev pub DifferByAtMost : ℕ → ℕ → ℕ → Type 0

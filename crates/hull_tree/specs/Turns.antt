@@ -1,6 +1,5 @@
 -- How many turns the searches of a fork's bridges take, and those of all forks above a point.
 use Rattle.std.specs.Prelude.{◌≡◌, ◌⊎◌, ℕ, ◌+◌, ◌≤◌, Option, Some, None}
-use Rattle.std.proofs.Common.{arith}
 use Rattle.lattice.specs.Plane.{Pair}
 use Rattle.bridge_search.specs.Trees.{Tree, Leaf, Fork, IsAtDepth}
 use Rattle.bridge_search.specs.Search.{IsDepthSum}
@@ -27,37 +26,18 @@ IsCostAtMost t p n = (k : ℕ) × IsPathCost t p k × (k ≤ n)
 abbrev pub IsDearerByAtMost : Tree → Tree → ℕ → Type 0
 IsDearerByAtMost t v n = (p : Pair) (k : ℕ) → IsPathCost t p k → (m : ℕ) × IsPathCost v p m × (m ≤ k + n)
 
--- a point whose forks cost at most m in t costs at most n more in a tree that is dearer by n
-pub costs_more : (t v : Tree) (p : Pair) (m n k : ℕ) → IsCostAtMost t p m → IsDearerByAtMost t v n → m + n ≤ k
-    → IsCostAtMost v p k
-costs_more t v p m n k c h l =
-    let one = h p c.0 c.1 in
-    (one.0, one.1, omega (arith, l, c.2, one.2))
-
--- nothing is said of the turns
-abbrev pub AnyCost : Tree → Pair → ℕ → Type 0
-AnyCost t p n = Unit {0}
-
--- nor of those that made a tree of another
-abbrev pub AnyDearer : Tree → Tree → ℕ → Type 0
-AnyDearer t v n = Unit {0}
-
--- what `Cost` says of a tree said of a whole one; nothing has no points
-abbrev pub IsRootCost : (Tree → Pair → ℕ → Type 0) → Option Node → Pair → ℕ → Type 0
-IsRootCost Cost None p n = ⊥
-IsRootCost Cost (Some root) p n = Cost (tree_of root) p n
-
--- p was added to the tree that is now `root`, and `Cost` holds of the turns; any other answer took none
-abbrev pub IsCountBy : (Tree → Pair → ℕ → Type 0) → AddReply → Option Node → Pair → ℕ → Type 0
-IsCountBy Cost Added root p n = IsRootCost Cost root p n
-IsCountBy Cost (Again times) root p n = n ≡ 0
-IsCountBy Cost TooMany root p n = n ≡ 0
-IsCountBy Cost NoMemory root p n = n ≡ 0
+-- p is a point of a whole tree, and n turns are at least the cost of the forks above it; nothing has no points
+abbrev pub IsRootCostAtMost : Option Node → Pair → ℕ → Type 0
+IsRootCostAtMost None p n = ⊥
+IsRootCostAtMost (Some root) p n = IsCostAtMost (tree_of root) p n
 
 -- p was added to the tree that is now `root`: the turns are at least the cost of the forks above p; any other answer
 -- took none
 abbrev pub IsLeastCount : AddReply → Option Node → Pair → ℕ → Type 0
-IsLeastCount reply root p n = IsCountBy IsCostAtMost reply root p n
+IsLeastCount Added root p n = IsRootCostAtMost root p n
+IsLeastCount (Again times) root p n = n ≡ 0
+IsLeastCount TooMany root p n = n ≡ 0
+IsLeastCount NoMemory root p n = n ≡ 0
 
 -- the answer is a point of the tree, n forks down; nothing is found in no tree, and lies no fork down
 abbrev pub IsLeafDepth : Option Node → Option Pair → ℕ → Type 0

@@ -1,26 +1,21 @@
-ghost use Rattle.std.specs.Prelude.{◌≡◌, ◌&&◌, ◌↔◌, IsTrue, Some, ◌≤◌, ◌+◌, ◌*◌, ◌++◌, max};
+ghost use Rattle.std.specs.Prelude.{◌≡◌, ◌&&◌, Some, ◌≤◌, ◌+◌, ◌*◌, ◌++◌, max};
 ghost use Rattle.lattice.specs.Plane.{Pair};
-ghost use Rattle.lattice.specs.Bridges.{IsAllBefore, IsBridge, IsNotBeyond};
 ghost use Rattle.lattice.specs.declared.side.Side.TheVariants.{Lower, Upper};
 ghost use Rattle.bridge_search.specs.Near.{are_near};
 ghost use Rattle.bridge_search.specs.Search.{IsDepthSum};
-ghost use Rattle.bridge_search.specs.Trees.{On, IsFork, left_of, right_of, height_of, first_of as first_in};
+ghost use Rattle.bridge_search.specs.Trees.{IsFork, left_of, right_of, height_of, first_of as first_in};
 ghost use Rattle.bridge_search.specs.Trees.{last_of as last_in};
 ghost use Rattle.hull_tree.specs.Nodes.{tree_of, keeping, halves_of, left_half, right_half, before_parting};
 ghost use Rattle.hull_tree.specs.Nodes.{after_parting, times_below, IsWellBuilt, DifferByAtMost};
 ghost use Rattle.hull_tree.specs.Changes.{points_below, height_at, height_within, left_height, right_height, IsParted};
-ghost use Rattle.hull_tree.specs.Changes.{IsPartedAt, AreParted, IsAtMostOneMore, IsHeightOver};
+ghost use Rattle.hull_tree.specs.Changes.{IsBridgeOf, IsPartedAt, AreParted, IsAtMostOneMore, IsHeightOver};
 ghost use Rattle.hull_tree.specs.Turns.{IsForkCost, IsDearerByAtMost};
-ghost use Rattle.hull_tree.specs.Behind.{IsBridgeOf, WereBridges, IsBehind, Stands};
-ghost use Rattle.lattice.specs.Standing.{IsInnerToEdge};
 
 use super::node::{Halves, Node, height_of, near_of};
 use super::node_ref::NodeRef;
-use bridge_search::{
-    Counted, Half, Near, both_bridges_between, lower_bridge_counted, upper_bridge_counted,
-};
+use bridge_search::{Counted, Near, both_bridges_between};
 use heap::Heap;
-use lattice::{Point, Side, before, orient};
+use lattice::Point;
 use std::mem;
 
 /// Two halves that stand for nothing yet.
@@ -199,143 +194,6 @@ pub(crate) fn renew(node: &mut Node) -> u32
     turns
 }
 
-/// What happened to the points below a fork since its bridges were stored.
-#[derive(Clone, Copy)]
-pub(crate) enum Change {
-    /// The point came to one of the halves.
-    Came(Point),
-    /// The point went from one of them.
-    Went(Point),
-}
-
-/// Whether a point does not stand outside an edge.
-fn is_not_beyond(edge: &(Point, Point), p: Point) -> bool
-    ensures { IsTrue result ↔ IsNotBeyond edge.now.0 edge.now.1 p }
-{
-    !before(p, edge.0) && !before(edge.1, p)
-}
-
-/// Whether a point lies right of the line of an edge, or on that line and not outside the edge.
-fn is_under(edge: &(Point, Point), p: Point) -> bool
-    ensures { IsTrue result ↔ IsInnerToEdge Upper edge.now.0 edge.now.1 p }
-{
-    let side = orient(edge.0, edge.1, p);
-    side < 0 || side == 0 && is_not_beyond(edge, p)
-}
-
-/// Whether a point lies left of the line of an edge, or on that line and not outside the edge.
-fn is_over(edge: &(Point, Point), p: Point) -> bool
-    ensures { IsTrue result ↔ IsInnerToEdge Lower edge.now.0 edge.now.1 p }
-{
-    let side = orient(edge.0, edge.1, p);
-    side > 0 || side == 0 && is_not_beyond(edge, p)
-}
-
-/// Whether an edge ends at other points on both sides.
-fn ends_elsewhere(edge: &(Point, Point), p: Point) -> bool
-    ensures { IsTrue result ↔ ¬ (edge.now.0 ≡ p) × ¬ (edge.now.1 ≡ p) }
-{
-    edge.0 != p && edge.1 != p
-}
-
-/// Whether the bridge on this side is the one that it was before the change.
-fn stands(side: Side, edge: &(Point, Point), change: &Change) -> bool
-    ensures { IsTrue result ↔ Stands side change.now edge.now }
-{
-    match *change {
-        Change::Came(p) => match side {
-            Side::Upper => is_under(edge, p),
-            Side::Lower => is_over(edge, p),
-        },
-        Change::Went(p) => ends_elsewhere(edge, p),
-    }
-}
-
-/// Searches the bridge between two halves on this side.
-fn search_bridge<H: Half>(side: Side, u: H, w: H) -> Counted
-    requires { IsAllBefore (On (H.tree u)) (On (H.tree w)) }
-    ensures bridge { IsBridge side (On (H.tree u)) (On (H.tree w)) result.0.0 result.0.1 }
-    ensures few { result.1 ≤ height_of (H.tree u) + height_of (H.tree w) }
-{
-    match side {
-        Side::Upper => upper_bridge_counted(u, w),
-        Side::Lower => lower_bridge_counted(u, w),
-    }
-}
-
-/// The bridge of two halves on this side after a change: the edge that was stored where it stands, else it is searched,
-/// in 64 bits where all points are near.
-fn bridge_after(side: Side, halves: &Halves, edge: (Point, Point), change: &Change) -> Counted
-    requires parted { AreParted halves.now }
-    requires low { height_within halves.now ≤ 28 }
-    requires stands { Stands side change.now edge → IsBridgeOf side halves.now edge }
-    ensures bridge { IsBridgeOf side halves.now result.0 }
-    ensures few { result.1 ≤ height_at (left_half halves.now) + height_at (right_half halves.now) }
-{
-    if stands(side, &edge, change) {
-        return (edge, 0);
-    }
-    let (u, w) = (NodeRef::new(&halves.left), NodeRef::new(&halves.right));
-    if both_near(halves) {
-        search_bridge(side, Near::new(u), Near::new(w))
-    } else {
-        search_bridge(side, u, w)
-    }
-}
-
-/// The bridges of two halves after a change: each that stands is kept, and each other is searched.
-fn found_after(
-    halves: &Halves,
-    above: (Point, Point),
-    under: (Point, Point),
-    change: Change,
-) -> Found
-    requires parted { AreParted halves.now }
-    requires low { height_within halves.now ≤ 28 }
-    requires were { WereBridges change (tree_of (left_half halves.now)) (tree_of (right_half halves.now)) above under }
-    ensures upper { IsBridgeOf Upper halves.now result.upper }
-    ensures lower { IsBridgeOf Lower halves.now result.lower }
-    ensures height { result.height ≡ height_within halves.now + 1 }
-    ensures near { result.near
-        ≡ (are_near (tree_of (left_half halves.now)) && are_near (tree_of (right_half halves.now))) }
-    ensures within { result.turns ≤ 2 * (height_at (left_half halves.now) + height_at (right_half halves.now)) }
-{
-    let (above, turns_above) = bridge_after(Side::Upper, halves, above, &change);
-    let (under, turns_under) = bridge_after(Side::Lower, halves, under, &change);
-    Found {
-        upper: above,
-        lower: under,
-        height: height_of(&halves.left).max(height_of(&halves.right)) + 1,
-        near: both_near(halves),
-        turns: turns_above + turns_under,
-    }
-}
-
-/// Renews a fork to one of whose halves a point came, or from one of whose halves a point went, since its bridges were
-/// stored: keeps each that stands, and searches each other. Tells how many turns the searches took.
-pub(crate) fn renew_after(node: &mut Node, change: Change) -> u32
-    requires parted { IsParted node.old }
-    requires behind { IsBehind change node.old }
-    requires balanced { DifferByAtMost 1 (left_height node.old) (right_height node.old) }
-    requires low { max (left_height node.old) (right_height node.old) ≤ 28 }
-    ensures built { IsWellBuilt node.new }
-    ensures points { points_below node.new ≡ points_below node.old }
-    ensures times { (q : Pair) → times_below node.new q ≡ times_below node.old q }
-    ensures first { first_in (tree_of node.new) ≡ first_in (left_of (tree_of node.old)) }
-    ensures last { last_in (tree_of node.new) ≡ last_in (right_of (tree_of node.old)) }
-    ensures height { height_at node.new ≡ height_at node.old }
-    ensures within { result ≤ 2 * (left_height node.old + right_height node.old) }
-    ensures few { result ≤ 112 }
-{
-    let Some(halves) = &node.below else {
-        unreachable!()
-    };
-    let found = found_after(halves, node.upper, node.lower, change);
-    let turns = found.turns;
-    keep(node, found);
-    turns
-}
-
 /// The fork over two halves, in a box that keeps the points at their parting, and how many turns the searches for its
 /// bridges took.
 pub(crate) fn join(mut spare: Box<Halves, Heap>, left: Node, right: Node) -> (Node, u32)
@@ -455,27 +313,4 @@ pub(crate) fn rebalance(node: &mut Node) -> u32
     };
     *node = whole;
     turns
-}
-
-/// Renews a fork as [`rebalance`] does, to one of whose halves a point came, or from one of whose halves a point went,
-/// since its bridges were stored: keeps them where they stand. The forks that a rotation makes are searched.
-pub(crate) fn rebalance_after(node: &mut Node, change: Change) -> u32
-    requires parted { IsParted node.old }
-    requires behind { IsBehind change node.old }
-    requires near { DifferByAtMost 2 (left_height node.old) (right_height node.old) }
-    requires low { max (left_height node.old) (right_height node.old) ≤ 28 }
-    ensures built { IsWellBuilt node.new }
-    ensures points { points_below node.new ≡ points_below node.old }
-    ensures times { (q : Pair) → times_below node.new q ≡ times_below node.old q }
-    ensures height { IsHeightOver (left_height node.old) (right_height node.old) (height_at node.new) }
-    ensures few { result ≤ 336 }
-{
-    let Some(halves) = &node.below else {
-        unreachable!()
-    };
-    let (on_left, on_right) = (height_of(&halves.left), height_of(&halves.right));
-    if on_left <= on_right + 1 && on_right <= on_left + 1 {
-        return renew_after(node, change);
-    }
-    rebalance(node)
 }

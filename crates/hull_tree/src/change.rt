@@ -4,16 +4,15 @@ ghost use Rattle.lattice.specs.Plane.{Pair, IsBefore};
 ghost use Rattle.lattice.specs.Covers.{with_point, without_point};
 ghost use Rattle.hull_set.specs.Held.{once};
 ghost use Rattle.bridge_search.specs.Trees.{Leaf, IsFork, first_of as first_in, last_of as last_in};
-ghost use Rattle.hull_tree.specs.Nodes.{tree_of, left_half, right_half, before_parting, after_parting, several};
-ghost use Rattle.hull_tree.specs.Nodes.{times_below, IsMultiplicity, IsWellBuilt};
+ghost use Rattle.hull_tree.specs.Nodes.{tree_of, left_half, right_half, before_parting, after_parting};
+ghost use Rattle.hull_tree.specs.Nodes.{times_below, IsWellBuilt};
+ghost use Rattle.leaf_trees.specs.Entries.{several, IsMultiplicity};
 ghost use Rattle.hull_tree.specs.Changes.{points_below, height_at, points_within, times_within, height_within};
 ghost use Rattle.hull_tree.specs.Changes.{AreParted, IsAtMostOneMore};
-ghost use Rattle.hull_tree.specs.Behind.{HasGained, HasLost};
 ghost use Rattle.hull_tree.specs.Turns.{IsCostAtMost};
 
-use super::build::{Change, join, take_halves};
+use super::build::{join, rebalance, take_halves};
 use super::node::{Halves, Node, first_of, last_of};
-use super::renewal::Renewal;
 use heap::Heap;
 use hull_set::MULTIPLICITY_LIMIT;
 use lattice::{Point, before};
@@ -148,10 +147,10 @@ fn reach(last: &mut Point, p: Point)
     }
 }
 
-/// Adds a point below a node; its halves lie in a box that is there. Each fork on the way to the point is renewed in
-/// the way `R`. Tells how many turns the searches took: at most 336 a level, and what is known of that way.
+/// Adds a point below a node; its halves lie in a box that is there. Each fork on the way to the point is renewed. Tells
+/// how many turns the searches took: at most 336 a level, and at least the cost of the forks above the point.
 #[cycle(insert)]
-pub(crate) fn insert<R: Renewal>(node: &mut Node, p: Point, spare: Box<Halves, Heap>) -> u32
+pub(crate) fn insert(node: &mut Node, p: Point, spare: Box<Halves, Heap>) -> u32
     requires built { IsWellBuilt node.old }
     requires absent { ¬ Contains (points_below node.old) p }
     requires low { height_at node.old ≤ 28 }
@@ -160,7 +159,7 @@ pub(crate) fn insert<R: Renewal>(node: &mut Node, p: Point, spare: Box<Halves, H
     ensures times { (q : Pair) → times_below node.new q ≡ times_below node.old q + once p q }
     ensures height { IsAtMostOneMore (height_at node.old) (height_at node.new) }
     ensures few { result ≤ 336 * height_at node.old }
-    ensures cost { R.Cost (tree_of node.new) p result }
+    ensures cost { IsCostAtMost (tree_of node.new) p result }
 {
     match &mut node.below {
         None => {
@@ -168,33 +167,32 @@ pub(crate) fn insert<R: Renewal>(node: &mut Node, p: Point, spare: Box<Halves, H
             0
         }
         Some(halves) => {
-            let below = insert_below::<R>(halves, p, spare);
-            below + R::rebalance(node, Change::Came(p))
+            let below = insert_below(halves, p, spare);
+            below + rebalance(node)
         }
     }
 }
 
 /// Adds a point to the half that it belongs to, and keeps the points at the parting.
 #[cycle(insert)]
-fn insert_below<R: Renewal>(halves: &mut Halves, p: Point, spare: Box<Halves, Heap>) -> u32
+fn insert_below(halves: &mut Halves, p: Point, spare: Box<Halves, Heap>) -> u32
     requires parted { AreParted halves.old }
     requires absent { ¬ Contains (points_within halves.old) p }
     requires low { height_within halves.old ≤ 28 }
     ensures parted { AreParted halves.new }
-    ensures gained { HasGained p halves.old halves.new }
     ensures points { points_within halves.new ≡ with_point p (points_within halves.old) }
     ensures times { (q : Pair) → times_within halves.new q ≡ times_within halves.old q + once p q }
     ensures left { IsAtMostOneMore (height_at (left_half halves.old)) (height_at (left_half halves.new)) }
     ensures right { IsAtMostOneMore (height_at (right_half halves.old)) (height_at (right_half halves.new)) }
     ensures few { result ≤ 336 * height_within halves.old }
-    ensures cost { R.Cost (tree_of (left_half halves.new)) p result
-        ⊎ R.Cost (tree_of (right_half halves.new)) p result }
+    ensures cost { IsCostAtMost (tree_of (left_half halves.new)) p result
+        ⊎ IsCostAtMost (tree_of (right_half halves.new)) p result }
 {
     if before(p, halves.first_right) {
         reach(&mut halves.last_left, p);
-        insert::<R>(&mut halves.left, p, spare)
+        insert(&mut halves.left, p, spare)
     } else {
-        insert::<R>(&mut halves.right, p, spare)
+        insert(&mut halves.right, p, spare)
     }
 }
 
@@ -224,10 +222,10 @@ fn other_half(halves: &mut Halves, p: Point) -> Node
     if is_leaf(&left, p) { right } else { left }
 }
 
-/// Takes a point that is held once from below a fork. Each fork on the way to the point is renewed in the way `R`, but
-/// for the last one: its other half takes its place. Tells how many turns the searches took: at most 336 a level.
+/// Takes a point that is held once from below a fork. Each fork on the way to the point is renewed, but for the last one:
+/// its other half takes its place. Tells how many turns the searches took: at most 336 a level.
 #[cycle(remove)]
-pub(crate) fn remove<R: Renewal>(node: &mut Node, p: Point) -> u32
+pub(crate) fn remove(node: &mut Node, p: Point) -> u32
     requires built { IsWellBuilt node.old }
     requires fork { IsFork (tree_of node.old) }
     requires once { times_below node.old p ≡ 1 }
@@ -245,20 +243,19 @@ pub(crate) fn remove<R: Renewal>(node: &mut Node, p: Point) -> u32
         *node = other_half(halves, p);
         return 0;
     }
-    let below = remove_below::<R>(halves, p);
-    below + R::rebalance(node, Change::Went(p))
+    let below = remove_below(halves, p);
+    below + rebalance(node)
 }
 
 /// Takes a point from the half that it belongs to, which has other points too, and keeps the points at the parting.
 #[cycle(remove)]
-fn remove_below<R: Renewal>(halves: &mut Halves, p: Point) -> u32
+fn remove_below(halves: &mut Halves, p: Point) -> u32
     requires parted { AreParted halves.old }
     requires once { times_within halves.old p ≡ 1 }
     requires more_left { ¬ (tree_of (left_half halves.old) ≡ Leaf p) }
     requires more_right { ¬ (tree_of (right_half halves.old) ≡ Leaf p) }
     requires low { height_within halves.old ≤ 28 }
     ensures parted { AreParted halves.new }
-    ensures lost { HasLost p halves.old halves.new }
     ensures points { points_within halves.new ≡ without_point p (points_within halves.old) }
     ensures times { (q : Pair) → times_within halves.new q + once p q ≡ times_within halves.old q }
     ensures left { IsAtMostOneMore (height_at (left_half halves.new)) (height_at (left_half halves.old)) }
@@ -266,11 +263,11 @@ fn remove_below<R: Renewal>(halves: &mut Halves, p: Point) -> u32
     ensures few { result ≤ 336 * height_within halves.old }
 {
     if before(p, halves.first_right) {
-        let turns = remove::<R>(&mut halves.left, p);
+        let turns = remove(&mut halves.left, p);
         draw_back_last(halves, p);
         turns
     } else {
-        let turns = remove::<R>(&mut halves.right, p);
+        let turns = remove(&mut halves.right, p);
         draw_back_first(halves, p);
         turns
     }

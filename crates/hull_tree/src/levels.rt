@@ -5,19 +5,8 @@ ghost use Rattle.hull_tree.specs.Levels.{level_of};
 
 use super::node::Node;
 use heap::Heap;
-use lattice::Point;
+use leaf_trees::Bridge;
 use std::alloc::AllocError;
-
-/// What a fork of the tree stores: its bridges, each from its end in the left half to its end in the right one.
-#[derive(Clone, Copy, PartialEq, Eq, Debug)]
-pub struct Bridge {
-    /// How many forks stand above this one.
-    pub level: u32,
-    /// The upper bridge.
-    pub upper: (Point, Point),
-    /// The lower bridge.
-    pub lower: (Point, Point),
-}
 
 /// Puts what the forks of a level store behind what is there, from left to right; the node stands on level `here`.
 #[tactic(auto, unfolding(crate::specs::Levels::level_of))]

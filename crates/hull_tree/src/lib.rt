@@ -27,21 +27,16 @@
 
 mod build;
 mod change;
-mod extend;
 mod laws;
 mod levels;
 mod load;
 mod node;
 mod node_ref;
-mod renewal;
-mod sparing_tree;
 mod stretch;
 mod tree;
 
 pub use laws::path_cost_is_unique;
-pub use levels::{Bridge, push_level};
-pub use load::{LoadFault, entries_of};
+pub use levels::push_level;
 pub use node::Node;
 pub use node_ref::NodeRef;
-pub use sparing_tree::SparingTree;
 pub use tree::{HullTree, trees_are_sound};

@@ -5,8 +5,9 @@ ghost use Rattle.bridge_search.specs.Trees.{Leaf, edge_of, lower_of, first_of as
 ghost use Rattle.bridge_search.specs.Trees.{height_of as height_in};
 ghost use Rattle.bridge_search.specs.Near.{are_near};
 ghost use Rattle.hull_tree.specs.declared.node.Node.{Node};
-ghost use Rattle.hull_tree.specs.Nodes.{tree_of, halves_of, point_of, multiplicity_of, several, times_below};
-ghost use Rattle.hull_tree.specs.Nodes.{IsMultiplicity, IsLabelled};
+ghost use Rattle.hull_tree.specs.Nodes.{tree_of, halves_of, point_of, multiplicity_of, times_below};
+ghost use Rattle.hull_tree.specs.Nodes.{IsLabelled};
+ghost use Rattle.leaf_trees.specs.Entries.{several, IsMultiplicity};
 
 use heap::Heap;
 use lattice::{Point, is_near};

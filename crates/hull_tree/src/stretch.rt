@@ -2,7 +2,7 @@
 ghost use Rattle.std.specs.Prelude.{◌≡◌, ◌≤◌, ◌++◌, take, vec_len, vec_capacity};
 ghost use Rattle.hull_tree.specs.Nodes.{IsWellBuilt};
 ghost use Rattle.hull_tree.specs.Loaded.{entries_below};
-ghost use Rattle.hull_tree.specs.Stretches.{entries_from};
+ghost use Rattle.leaf_trees.specs.Stretches.{entries_from};
 
 use super::node::Node;
 use heap::Heap;

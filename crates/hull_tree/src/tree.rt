@@ -5,21 +5,19 @@ ghost use Rattle.hull_tree.specs.declared.node.Node.{Node};
 ghost use Rattle.hull_tree.specs.Roots.{held_by, times_of_root, IsWellBuiltRoot};
 ghost use Rattle.hull_tree.specs.Sets.{LimitedTree, IsSound, IsWhole};
 ghost use Rattle.lattice.specs.Plane.{Pair};
-ghost use Rattle.hull_tree.specs.Loaded.{AreEntries, held_listed, held_after_adds, AreTooMany};
+ghost use Rattle.leaf_trees.specs.Entries.{AreEntries, held_listed, held_after_adds, AreTooMany};
 ghost use Rattle.hull_set.specs.Held.{times_among};
 ghost use Rattle.hull_set.specs.Held.{nothing_held};
 ghost use Rattle.hull_tree.specs.Levels.{bridges_at};
-ghost use Rattle.hull_tree.specs.Stretches.{IsStretch};
-ghost use Rattle.hull_tree.specs.Turns.{IsCountBy, IsLeastCount, IsLeafDepth};
+ghost use Rattle.leaf_trees.specs.Stretches.{IsStretch};
+ghost use Rattle.hull_tree.specs.Turns.{IsLeastCount, IsLeafDepth};
 
 use super::build::blank;
 use super::change::{insert, is_leaf, lower, raise, remove, times_of};
-use super::extend::add_each;
-use super::levels::{Bridge, push_level};
-use super::load::{LoadFault, entries_of, merged_entries, node_over, push_entries};
+use super::levels::push_level;
+use super::load::{node_over, push_entries};
 use super::node::Node;
 use super::node_ref::NodeRef;
-use super::renewal::{Renewal, SearchesAll};
 use super::stretch::push_from;
 use bridge_search::Half;
 use heap::Heap;
@@ -28,6 +26,7 @@ use hull_set::{
     AddReply, Call, HullSet, MULTIPLICITY_LIMIT, NoMemory, POINT_LIMIT, Place, RemoveReply, Rules,
 };
 use lattice::{Direction, Point};
+use leaf_trees::{Bridge, LoadFault, add_each, entries_of, merged_entries};
 use std::marker::Model;
 
 /// A set of points as a balanced leaf tree, whose forks keep the bridges of their two halves, and whose leaves keep how
@@ -178,26 +177,9 @@ impl HullTree {
         ensures limit { self.new.limit ≡ self.old.limit }
         ensures sound { IsSound self.new.root }
     {
-        self.extend_by::<SearchesAll>(points, 16)
-    }
-
-    /// Adds points, all or none of them: by building the tree anew where so many times their number is no less than that of
-    /// its points, and else one by one in the way `R`.
-    pub(crate) fn extend_by<R: Renewal>(
-        &mut self,
-        points: &[Point],
-        share: usize,
-    ) -> Result<(), LoadFault>
-        requires { 1 ≤ share }
-        ensures held { IfOk result (λ _. held_by self.new.root ≡ held_after_adds (held_by self.old.root) points.now) }
-        ensures fault { IfErr result (λ _. held_by self.new.root ≡ held_by self.old.root) }
-        ensures too_many { result ≡ Err LoadFault.TooMany
-            → AreTooMany (held_by self.old.root) points.now self.old.limit }
-        ensures limit { self.new.limit ≡ self.old.limit }
-        ensures sound { IsSound self.new.root }
-    {
-        if points.len() < self.count as usize / share {
-            add_each::<R>(self, points)
+        if points.len() < self.count as usize / 16 {
+            trees_are_sound(self);
+            add_each(self, points)
         } else {
             self.extend_anew(points)
         }
@@ -259,34 +241,6 @@ impl HullTree {
         ensures few { result.1 ≤ 10000 }
         ensures least { IsLeastCount result.0 self.new.root p result.1 }
     {
-        self.add_by::<SearchesAll>(p)
-    }
-
-    /// Holds `p` once less, as [`remove`](HullSet::remove), and tells how many turns the searches of bridges took: at
-    /// most 10,000, for the reason told at [`add_counted`](HullTree::add_counted), and none unless `p` left the set.
-    pub fn remove_counted(&mut self, p: Point) -> (RemoveReply, u32)
-        ensures reply { Answers Rules.Counted (held_by self.old.root) self.old.limit (Call.Remove p)
-            (reply_to_remove result.0) }
-        ensures effect { held_by self.new.root
-            ≡ after (held_by self.old.root) (Call.Remove p) (reply_to_remove result.0) }
-        ensures same_limit { self.new.limit ≡ self.old.limit }
-        ensures sound { IsSound self.new.root }
-        ensures few { result.1 ≤ 10000 }
-        ensures none { result.0 ≢ RemoveReply.Removed → result.1 ≡ 0 }
-    {
-        self.remove_by::<SearchesAll>(p)
-    }
-
-    /// Holds `p` once more, and renews the forks above a new point in the way `R`.
-    pub(crate) fn add_by<R: Renewal>(&mut self, p: Point) -> (AddReply, u32)
-        ensures reply { Answers Rules.Counted (held_by self.old.root) self.old.limit (Call.Add p)
-            (reply_to_add result.0) }
-        ensures effect { held_by self.new.root ≡ after (held_by self.old.root) (Call.Add p) (reply_to_add result.0) }
-        ensures same_limit { self.new.limit ≡ self.old.limit }
-        ensures sound { IsSound self.new.root }
-        ensures few { result.1 ≤ 10000 }
-        ensures turns { IsCountBy R.Cost result.0 self.new.root p result.1 }
-    {
         let Some(root) = &mut self.root else {
             self.root = Some(Node::leaf(p, 1));
             self.count = 1;
@@ -305,13 +259,14 @@ impl HullTree {
         let Ok(spare) = Box::new(self.alloc, blank(p)) else {
             return (AddReply::NoMemory, 0);
         };
-        let turns = insert::<R>(root, p, spare);
+        let turns = insert(root, p, spare);
         self.count += 1;
         (AddReply::Added, turns)
     }
 
-    /// Holds `p` once less, and renews the forks above a point that leaves the set in the way `R`.
-    pub(crate) fn remove_by<R: Renewal>(&mut self, p: Point) -> (RemoveReply, u32)
+    /// Holds `p` once less, as [`remove`](HullSet::remove), and tells how many turns the searches of bridges took: at
+    /// most 10,000, for the reason told at [`add_counted`](HullTree::add_counted), and none unless `p` left the set.
+    pub fn remove_counted(&mut self, p: Point) -> (RemoveReply, u32)
         ensures reply { Answers Rules.Counted (held_by self.old.root) self.old.limit (Call.Remove p)
             (reply_to_remove result.0) }
         ensures effect { held_by self.new.root
@@ -336,7 +291,7 @@ impl HullTree {
             self.root = None;
             return (RemoveReply::Removed, 0);
         }
-        (RemoveReply::Removed, remove::<R>(root, p))
+        (RemoveReply::Removed, remove(root, p))
     }
 
     /// The first of the farthest points in the direction `d`, as [`extreme`](HullSet::extreme), and how many forks lie

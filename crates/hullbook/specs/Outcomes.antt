@@ -1,9 +1,12 @@
 -- What a run of a script comes to, and the text that is written of it.
-use Rattle.std.specs.Prelude.{◌≡◌, ◌<◌, ℕ, Bool, true, cond, List, [], map, Option, None, Result, Ok, Err}
+use Rattle.std.specs.Prelude.{◌≡◌, ◌<◌, ℕ, Bool, false, true, cond, List, [], map, Option, None, Result, Ok, Err}
 use Rattle.text_io.specs.Passage.{Passage, HasTaken, HasTakenFront, IsSound}
 use Rattle.hull_book.specs.Books.{BookValue, opened_book}
 use Rattle.hull_set.specs.declared.set.HullSet.{Ghosts}
-use Rattle.hull_tree.specs.Sets.{LimitedTree, hull_tree}
+use Rattle.bucket_tree.specs.Sets.{bucket_set}
+use Rattle.bucket_tree.specs.Sets as buckets
+use Rattle.hull_tree.specs.Sets.{hull_tree}
+use Rattle.hull_tree.specs.Sets as trees
 use Rattle.hull_book.specs.Journals.{JournalValue}
 use Rattle.hull_book.specs.Scripts.{ScriptValue}
 use Rattle.hull_book.specs.Answers.{Answer}
@@ -20,9 +23,16 @@ use Rattle.hullbook.specs.declared.options.Options.{Options}
 use Rattle.hullbook.specs.declared.run.RunFault.{RunFault}
 use Rattle.hullbook.specs.declared.run.RunFault.TheVariants.{Text, Memory, Write}
 
--- the book over an empty tree that a run begins with
-abbrev pub opening : Options → ℕ → BookValue LimitedTree
-opening o workers = opened_book (record { limit = o.limit; root = None }) o.first o.limit o.capacity workers
+-- an empty tree that searches each bridge, and an empty tree over buckets
+abbrev pub empty_tree : ℕ → trees.LimitedTree
+empty_tree limit = record { limit = limit; root = None }
+
+abbrev pub empty_buckets : ℕ → buckets.LimitedTree
+empty_buckets limit = record { limit = limit; root = None }
+
+-- the book over a set that a run begins with
+abbrev pub opening : {S : Type 0} → S → Options → ℕ → BookValue S
+opening set o workers = opened_book set o.first o.limit o.capacity workers
 
 -- the journal of a book
 abbrev pub journal_of : {S : Type 0} → BookValue S → JournalValue
@@ -41,9 +51,14 @@ pub record IsRunOn {S : Type 0} (K : Ghosts S) (opened : BookValue S) (script : 
   pub counts_are : counts ≡ map (λ l. l.count) after.ledgers
   pub journal_is : journal ≡ journal_of closed
 
--- the run of a script on a book that was opened as the options say
+-- the run of a script on a book that was opened as the options say: over the tree that searches each bridge, or over
+-- buckets where the options ask for them
 abbrev pub IsRun : ScriptValue → Options → List (List Answer) → List ℕ → JournalValue → Type 0
-IsRun script o answers counts journal = IsRunOn hull_tree (opening o script.workers) script answers counts journal
+IsRun script o answers counts journal =
+    (o.sparing ≡ false
+    → IsRunOn hull_tree (opening (empty_tree o.limit) o script.workers) script answers counts journal)
+    × (o.sparing ≡ true
+    → IsRunOn bucket_set (opening (empty_buckets o.limit) o script.workers) script answers counts journal)
 
 -- the journal where it is asked for, and else the report
 abbrev pub output_text : Bool → ScriptValue → List (List Answer) → List ℕ → JournalValue → List ℕ

@@ -15,7 +15,7 @@ pub struct Options {
     pub first: u64,
     /// Whether the journal is written in place of the report.
     pub journal: bool,
-    /// Whether the set is a tree that keeps the bridges which a change cannot alter: the same replies, sooner.
+    /// Whether the set is a tree over buckets, which keeps the bridges that a change cannot alter: the same replies, sooner.
     pub sparing: bool,
 }
 
@@ -30,7 +30,7 @@ pub struct Stated {
     pub first: Option<u64>,
     /// Whether the journal is written in place of the report.
     pub journal: bool,
-    /// Whether the set is a tree that keeps the bridges which a change cannot alter.
+    /// Whether the set is a tree over buckets, which keeps the bridges that a change cannot alter.
     pub sparing: bool,
 }
 

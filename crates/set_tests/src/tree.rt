@@ -1,9 +1,9 @@
 //! What a tree lends, its limits by their numbers, and memory that is refused. The tree beside the plain set is in
 //! `tree/beside_plain.rt`; the worked examples are cases of tests/cli, which both trees run.
 mod beside_plain;
+mod both;
 mod extends;
 mod loads;
-mod sparing;
 mod turns;
 
 use hull_set::{AddReply, HullSet, MULTIPLICITY_LIMIT, NoMemory, POINT_LIMIT, RemoveReply};

@@ -1,5 +1,6 @@
+use bucket_tree::BucketTree;
 use hull_set::{AddReply, HullSet};
-use hull_tree::{HullTree, SparingTree};
+use hull_tree::HullTree;
 use lattice::Point;
 
 /// A set that tells the turns of its changes.
@@ -22,13 +23,13 @@ impl CountedSet for HullTree {
     }
 }
 
-impl CountedSet for SparingTree {
+impl CountedSet for BucketTree {
     fn add_counted(&mut self, p: Point) -> (bool, u32) {
-        let (reply, turns) = SparingTree::add_counted(self, p);
+        let (reply, turns) = BucketTree::add_counted(self, p);
         (reply == AddReply::Added, turns)
     }
 
     fn remove_counted(&mut self, p: Point) -> u32 {
-        SparingTree::remove_counted(self, p).1
+        BucketTree::remove_counted(self, p).1
     }
 }

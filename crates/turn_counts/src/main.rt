@@ -9,9 +9,10 @@ mod counted;
 mod random;
 mod tally;
 
+use bucket_tree::BucketTree;
 use counted::CountedSet;
 use hull_set::POINT_LIMIT;
-use hull_tree::{HullTree, SparingTree};
+use hull_tree::HullTree;
 use lattice::Point;
 use random::Random;
 use std::alloc::{AllocError, Global};
@@ -80,8 +81,8 @@ fn measure<R: Print, S: CountedSet>(
 fn measure_both<R: Print>(rt: &R, alloc: Global, count: u32) -> Result<(), AllocError> {
     let _ = println!(rt; "each bridge searched");
     measure(rt, alloc, HullTree::new(alloc, POINT_LIMIT), count)?;
-    let _ = println!(rt; "bridges kept that stand");
-    measure(rt, alloc, SparingTree::new(alloc, POINT_LIMIT), count)
+    let _ = println!(rt; "buckets, with bridges kept that stand");
+    measure(rt, alloc, BucketTree::new(alloc, POINT_LIMIT), count)
 }
 
 fn main(rt: HostRuntime) -> ExitCode {

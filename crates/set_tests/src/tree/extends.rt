@@ -1,11 +1,13 @@
 //! Points that are added many at a time, beside a plain set to which they are added one by one.
-use super::sparing::Sets;
+use super::both::Sets;
 use super::{add_again, at};
 use crate::numbers::{Numbers, centred};
+use bucket_tree::BucketTree;
 use hull_plain::PlainSet;
 use hull_set::{AddReply, HullSet, MULTIPLICITY_LIMIT, NoMemory, POINT_LIMIT};
-use hull_tree::{HullTree, LoadFault, SparingTree};
+use hull_tree::HullTree;
 use lattice::{Direction, Point, before};
+use leaf_trees::LoadFault;
 use std::alloc::{AllocError, Global};
 use std::process::Abort;
 use std::test::Fail;
@@ -84,7 +86,7 @@ fn extended_on_a_grid(rt: HostRuntime) -> Result<(), Fail> {
 }
 
 /// A tree of the points (0, 0), (1, 1), (2, 4) and so on, with room for no other.
-fn full_tree(rt: &impl Abort, alloc: Global, count: u32) -> Result<SparingTree, LoadFault> {
+fn full_tree(rt: &impl Abort, alloc: Global, count: u32) -> Result<BucketTree, LoadFault> {
     let mut points = Vec::new(alloc);
     for k in 0..count {
         let x = i64::from(k);
@@ -92,11 +94,11 @@ fn full_tree(rt: &impl Abort, alloc: Global, count: u32) -> Result<SparingTree, 
             return Err(LoadFault::NoMemory);
         };
     }
-    SparingTree::from_points(alloc, count.clamp(1, POINT_LIMIT), &points)
+    BucketTree::from_points(alloc, count.clamp(1, POINT_LIMIT), &points)
 }
 
 /// Whether an extension by these points is refused, and leaves what the tree holds.
-fn is_refused(tree: &mut SparingTree, points: &[Point]) -> Result<bool, NoMemory> {
+fn is_refused(tree: &mut BucketTree, points: &[Point]) -> Result<bool, NoMemory> {
     let before = tree.entries()?;
     let fault = tree.extend(points).err();
     let after = tree.entries()?;
@@ -104,7 +106,7 @@ fn is_refused(tree: &mut SparingTree, points: &[Point]) -> Result<bool, NoMemory
 }
 
 /// Whether a full tree refuses a new point, and takes two that it holds.
-fn takes_held_points(rt: &impl Abort, tree: &mut SparingTree) -> Result<bool, Fail> {
+fn takes_held_points(rt: &impl Abort, tree: &mut BucketTree) -> Result<bool, Fail> {
     let (origin, held, new) = (at(rt, 0, 0), at(rt, 1, 1), at(rt, -1, 7));
     let refused = is_refused(tree, &[held, new])?;
     tree.extend(&[held, origin])?;
@@ -133,7 +135,7 @@ fn repeated(alloc: Global, point: Point, times: u32) -> Result<Vec<Point>, Alloc
 }
 
 /// Whether a tree takes a point that it holds as often as may be, and not once more after another point.
-fn takes_the_most(rt: &impl Abort, alloc: Global, tree: &mut SparingTree) -> Result<bool, Fail> {
+fn takes_the_most(rt: &impl Abort, alloc: Global, tree: &mut BucketTree) -> Result<bool, Fail> {
     let (origin, other) = (at(rt, 0, 0), at(rt, 1, 1));
     tree.extend(&repeated(alloc, origin, MULTIPLICITY_LIMIT - 1)?)?;
     let most = tree.multiplicity(origin) == MULTIPLICITY_LIMIT;

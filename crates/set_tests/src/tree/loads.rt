@@ -1,14 +1,16 @@
 //! Trees that are loaded at once.
 use super::at;
+use bucket_tree::BucketTree;
 use hull_set::{AddReply, HullSet, MULTIPLICITY_LIMIT, POINT_LIMIT, Place};
-use hull_tree::{HullTree, LoadFault, SparingTree, entries_of};
+use hull_tree::HullTree;
 use lattice::{Direction, Point};
+use leaf_trees::{LoadFault, entries_of};
 use std::alloc::{AllocError, Global};
 use std::process::Abort;
 use std::test::Fail;
 
 /// Whether these are the vertices of a tree, where there is memory for them.
-fn has_vertices(tree: &SparingTree, corners: &[Point]) -> bool {
+fn has_vertices(tree: &BucketTree, corners: &[Point]) -> bool {
     match tree.vertices() {
         Ok(vertices) => vertices.as_slice() == corners,
         Err(_) => false,
@@ -21,7 +23,7 @@ fn loaded_as_added(rt: HostRuntime) -> Result<(), Fail> {
     let (apex, inner) = (at(&rt, 2, 3), at(&rt, 2, 1));
     let beyond = at(&rt, 9, 9);
     let points = [apex, left, right, apex, inner];
-    let mut loaded = SparingTree::from_points(rt.alloc(), 4, &points)?;
+    let mut loaded = BucketTree::from_points(rt.alloc(), 4, &points)?;
     let told = (loaded.count(), loaded.multiplicity(apex), loaded.area2());
     let is_triangle = has_vertices(&loaded, &[left, right, apex]);
     let replies = (loaded.add(beyond), loaded.add(inner));
@@ -103,7 +105,7 @@ fn whole_grid(rt: &impl Abort, alloc: Global) -> Result<Vec<Point>, AllocError> 
 /// Where a full set has one point inside, and another on its boundary, and which it has farthest to the right and up.
 fn seen_of(
     rt: &impl Abort,
-    tree: &SparingTree,
+    tree: &BucketTree,
     outwards: Direction,
 ) -> (Place, Place, Option<Point>) {
     let (inner, below) = (at(rt, 32, 32), at(rt, 32, 0));
@@ -118,7 +120,7 @@ fn as_many_points_as_there_may_be(rt: HostRuntime) -> Result<(), Fail> {
     let corners = [first, at(&rt, 63, 0), last, at(&rt, 0, 63)];
     let (new, outwards) = (at(&rt, 99, 99), Direction::new(1, 1)?);
     let points = whole_grid(&rt, rt.alloc())?;
-    let mut tree = SparingTree::from_points(rt.alloc(), 4096, &points)?;
+    let mut tree = BucketTree::from_points(rt.alloc(), 4096, &points)?;
     let (count, area) = (tree.count(), tree.area2());
     let is_square = has_vertices(&tree, &corners);
     let seen = seen_of(&rt, &tree, outwards);

@@ -1,7 +1,7 @@
 -- At first there are none, and each level comes behind those before it.
 use Rattle.std.proofs.Common.{◌∙◌, sym, ap, ◌++◌, List}
 use Rattle.hull_tree.specs.Nodes.{tree_of}
-use Rattle.hull_tree.specs.declared.levels.Bridge.{Bridge}
+use Rattle.leaf_trees.specs.declared.bridge.Bridge.{Bridge}
 use Rattle.hull_tree.specs.Levels.{level_of}
 use Rattle.hull_draw.proofs.Levels.{levels_none, levels_more}
 use Rattle.hull_draw.proofs.bridges.bridges.Goals as goal

@@ -3,7 +3,7 @@ use Rattle.std.proofs.Common.{subst, sym}
 use Rattle.hull_book.specs.Books.{BookValue}
 use Rattle.hull_book.specs.Ledgers.{AreAllLedgers}
 use Rattle.hull_book.proofs.Counts.{all_in_order}
-use Rattle.hull_tree.specs.Sets.{LimitedTree}
+use Rattle.bucket_tree.specs.Sets.{LimitedTree}
 use Rattle.hull_shared.proofs.opening.new_book.Goals as goal
 
 pub gather-none-requires-clause-ledgers : goal.gather-none-requires-clause-ledgers

@@ -3,7 +3,7 @@ use Rattle.std.proofs.Common.{◌∙◌, ap, sym, subst, box_value}
 use Rattle.hull_book.specs.Books.{BookValue}
 use Rattle.hull_book.specs.Ledgers.{AreAllLedgers}
 use Rattle.hull_book.proofs.Counts.{all_in_order}
-use Rattle.hull_tree.specs.Sets.{LimitedTree}
+use Rattle.bucket_tree.specs.Sets.{LimitedTree}
 use Rattle.hull_book.specs.LongBooks.{whole}
 use Rattle.hull_shared.specs.DeskBooks.{DeskValue}
 use Rattle.hull_shared.specs.Locks.{DeskBoxed, whole_of}

@@ -12,70 +12,63 @@ use Rattle.hull_tree.proofs.HalfRows.{IsOver, over_halves, change_left, change_r
 use Rattle.hull_tree.proofs.ChangedRows.{added}
 use Rattle.hull_tree.proofs.PartingPoints.{parted_add_left, parted_add_right}
 use Rattle.hull_tree.proofs.Renewed.{cost_through, rolled_below}
-use Rattle.hull_tree.proofs.Standing.{rolled_behind, gained_behind}
 use Rattle.hull_tree.proofs.change.+insert.Goals as goal
 
 pub insert-insert_below-below-requires : goal.insert-insert_below-below-requires
-insert-insert_below-below-requires g t c κs within =
+insert-insert_below-below-requires t c =
     let i : below_of c.args.node.now ≡ Some c.deref_mut.result.now =
     rw (c.in-Some.is, c.deref_mut.ensures.value) refl in
     let o : IsOver c.args.node.now c.deref_mut.result.now = over_halves _ _ c.requires.built i in (
       omega (arith, c.decreases, o.height),
       (
-        within,
-        (
-          o.parted,
-          (subst (λ z. ¬ (Contains z c.args.p)) o.points c.requires.absent, omega (arith, o.height, c.requires.low)),
-        ),
+        o.parted,
+        (subst (λ z. ¬ (Contains z c.args.p)) o.points c.requires.absent, omega (arith, o.height, c.requires.low)),
       ),
     )
 
 pub insert-returns-in-Some-clause-cost : goal.insert-returns-in-Some-clause-cost
-insert-returns-in-Some-clause-cost g t c =
-    cost_through g.R.Renewal.Cost g.R.Renewal.Dearer g.met.R.Renewal.adds _ c.insert_below-below.new.halves _ _ _ _ _
+insert-returns-in-Some-clause-cost t c =
+    cost_through _ c.insert_below-below.new.halves _ _ _ _ _
     (rolled_below _ _ _ _ _ _) c.insert_below-below.ensures.parted c.insert_below-below.ensures.cost
     c.rebalance.ensures.cost_left c.rebalance.ensures.cost_right (omega arith)
 
 pub insert_below-insert-requires-else-before : goal.insert_below-insert-requires-else-before
-insert_below-insert-requires-else-before g t c κs within = (
+insert_below-insert-requires-else-before t c = (
   omega (arith, c.decreases),
   (
-    within,
-    (
-      c.requires.parted.row.right_built,
-      (λ h. c.requires.absent (Contains-append_right _ _ _ h), omega (arith, c.requires.low)),
-    ),
+    c.requires.parted.row.right_built,
+    (λ h. c.requires.absent (Contains-append_right _ _ _ h), omega (arith, c.requires.low)),
   ),
 )
 
 pub insert_below-returns-then-before-clause-parted : goal.insert_below-returns-then-before-clause-parted
 unfolding halves.roll-Halves halves.out-Halves denote.Hole.Carrier.out denote.Hole.Carrier.roll
-insert_below-returns-then-before-clause-parted g t c =
+insert_below-returns-then-before-clause-parted t c =
     parted_add_left _ _ _ _ _ _ _ c.requires.parted
     (passed _ _ c.if-before.true c.before-2.ensures) c.insert.ensures.built c.insert.ensures.points
     c.reach.ensures.moved c.reach.ensures.kept
 
 pub insert_below-returns-then-before-clause-points : goal.insert_below-returns-then-before-clause-points
 unfolding halves.roll-Halves halves.out-Halves denote.Hole.Carrier.out denote.Hole.Carrier.roll
-insert_below-returns-then-before-clause-points g t c =
+insert_below-returns-then-before-clause-points t c =
     let b = subst (IsBefore c.args.p) c.requires.parted.starts_right (passed _ _ c.if-before.true c.before-2.ensures) in
     ap (λ z. z ++ points_below (right_half c.args.halves.now)) c.insert.ensures.points
     ∙ sym (change_left added _ _ _ c.requires.parted.row b)
 
 pub insert_below-returns-then-before-clause-cost : goal.insert_below-returns-then-before-clause-cost
 unfolding halves.roll-Halves halves.out-Halves denote.Hole.Carrier.out denote.Hole.Carrier.roll
-insert_below-returns-then-before-clause-cost g t c = inl c.insert.ensures.cost
+insert_below-returns-then-before-clause-cost t c = inl c.insert.ensures.cost
 
 pub insert_below-returns-else-before-clause-parted : goal.insert_below-returns-else-before-clause-parted
 unfolding halves.roll-Halves halves.out-Halves denote.Hole.Carrier.out denote.Hole.Carrier.roll
-insert_below-returns-else-before-clause-parted g t c =
+insert_below-returns-else-before-clause-parted t c =
     parted_add_right _ _ _ _ _ _ c.requires.parted
     (failed _ _ c.if-before.false c.before-2.ensures) c.insert-else-before.ensures.built
     c.insert-else-before.ensures.points
 
 pub insert_below-returns-else-before-clause-points : goal.insert_below-returns-else-before-clause-points
 unfolding halves.roll-Halves halves.out-Halves denote.Hole.Carrier.out denote.Hole.Carrier.roll
-insert_below-returns-else-before-clause-points g t c =
+insert_below-returns-else-before-clause-points t c =
     let b : ¬ IsBefore c.args.p (first_of (tree_of (right_half c.args.halves.now))) =
     λ i. failed _ _ c.if-before.false c.before-2.ensures
     (subst (IsBefore c.args.p) (sym c.requires.parted.starts_right) i) in
@@ -84,20 +77,4 @@ insert_below-returns-else-before-clause-points g t c =
 
 pub insert_below-returns-else-before-clause-cost : goal.insert_below-returns-else-before-clause-cost
 unfolding halves.roll-Halves halves.out-Halves denote.Hole.Carrier.out denote.Hole.Carrier.roll
-insert_below-returns-else-before-clause-cost g t c = inr c.insert-else-before.ensures.cost
-
-pub insert-rebalance-requires-clause-behind : goal.insert-rebalance-requires-clause-behind
-insert-rebalance-requires-clause-behind g t c =
-    let i : below_of c.args.node.now ≡ Some c.deref_mut.result.now =
-    rw (c.in-Some.is, c.deref_mut.ensures.value) refl in
-    rolled_behind _ _ _ _ _ _ _
-    (gained_behind c.args.p c.args.node.now c.deref_mut.result.now c.insert_below-below.new.halves
-    c.requires.built i c.requires.absent c.insert_below-below.ensures.gained)
-
-pub insert_below-returns-then-before-clause-gained : goal.insert_below-returns-then-before-clause-gained
-unfolding halves.roll-Halves halves.out-Halves denote.Hole.Carrier.out denote.Hole.Carrier.roll
-insert_below-returns-then-before-clause-gained g t c = inl (c.insert.ensures.points, refl)
-
-pub insert_below-returns-else-before-clause-gained : goal.insert_below-returns-else-before-clause-gained
-unfolding halves.roll-Halves halves.out-Halves denote.Hole.Carrier.out denote.Hole.Carrier.roll
-insert_below-returns-else-before-clause-gained g t c = inr (refl, c.insert-else-before.ensures.points)
+insert_below-returns-else-before-clause-cost t c = inr c.insert-else-before.ensures.cost

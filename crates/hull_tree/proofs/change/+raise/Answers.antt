@@ -4,7 +4,8 @@ use Rattle.bridge_search.proofs.Signs.{passed, failed}
 use Rattle.hull_tree.specs.declared.node.Node as node
 use Rattle.hull_tree.specs.Nodes.{below_of}
 use Rattle.hull_tree.proofs.HalfRows.{IsOver, over_halves}
-use Rattle.hull_tree.proofs.Multiplicities.{all_left, all_right, leaf_raised, same_point}
+use Rattle.hull_tree.proofs.Multiplicities.{all_left, all_right, leaf_raised}
+use Rattle.leaf_trees.proofs.Multiplicities.{same_point}
 use Rattle.hull_tree.proofs.change.+raise.Goals as goal
 
 pub returns-then-before-clause-was : goal.returns-then-before-clause-was

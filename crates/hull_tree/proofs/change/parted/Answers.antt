@@ -2,7 +2,7 @@
 use Rattle.std.proofs.Common.{refl, arith, ◌≡◌}
 use Rattle.bridge_search.specs.Trees.{Leaf}
 use Rattle.hull_tree.specs.Changes.{height_at}
-use Rattle.hull_tree.specs.Turns.{costs_more}
+use Rattle.hull_tree.proofs.Costs.{costs_more}
 use Rattle.hull_tree.proofs.change.parted.Goals as goal
 
 pub returns-clause-cost_first : goal.returns-clause-cost_first

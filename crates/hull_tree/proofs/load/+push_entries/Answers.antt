@@ -5,7 +5,7 @@ use Rattle.hull_tree.specs.declared.node.Halves as halves
 use Rattle.hull_tree.specs.Nodes.{below_of, left_half, right_half}
 use Rattle.hull_tree.specs.Loaded.{entries_below}
 use Rattle.hull_tree.specs.Changes.{points_below}
-use Rattle.hull_tree.proofs.Counting.{IsListedOver, listed_halves, length_of_entries}
+use Rattle.hull_tree.proofs.NodeEntries.{IsListedOver, listed_halves, length_of_entries}
 use Rattle.hull_tree.proofs.load.+push_entries.Goals as goal
 
 pub push_entries-requires : goal.push_entries-requires

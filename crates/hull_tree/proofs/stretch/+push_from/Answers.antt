@@ -4,7 +4,7 @@ use Rattle.lattice.specs.Plane.{Pair}
 use Rattle.hull_tree.specs.declared.node.Halves as halves
 use Rattle.hull_tree.specs.Nodes.{below_of, left_half, right_half}
 use Rattle.hull_tree.specs.Loaded.{entries_below}
-use Rattle.hull_tree.specs.Stretches.{entries_from}
+use Rattle.leaf_trees.specs.Stretches.{entries_from}
 use Rattle.hull_tree.proofs.Stretches.{both_halves, right_alone}
 use Rattle.hull_tree.proofs.stretch.+push_from.Goals.{then-not-before-2, else-not-before-2}
 use Rattle.hull_tree.proofs.stretch.+push_from.Goals as goal

@@ -2,7 +2,7 @@
 use Rattle.std.proofs.Common.{◌≡◌, ap, sym, ◌∙◌, Some}
 use Rattle.hull_tree.specs.Sets.{LimitedTree}
 use Rattle.hull_tree.proofs.LimitedTrees.{built_root}
-use Rattle.hull_tree.proofs.Counting.{entries_are, entries_hold}
+use Rattle.hull_tree.proofs.NodeEntries.{entries_are, entries_hold}
 use Rattle.hull_tree.proofs.tree.HullTree.entries.Goals as goal
 
 pub returns-clause-entries : goal.returns-clause-entries

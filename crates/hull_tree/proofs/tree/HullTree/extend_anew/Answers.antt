@@ -4,12 +4,13 @@ use Rattle.std.proofs.lemmas.Map.Entries.{length-keys_of}
 use Rattle.lattice.specs.Plane.{Pair}
 use Rattle.hull_set.specs.Held.{Held}
 use Rattle.hull_set.specs.declared.TheConstants.{MULTIPLICITY_LIMIT}
-use Rattle.hull_tree.specs.Loaded.{times_listed, held_listed}
+use Rattle.leaf_trees.specs.Entries.{times_listed, held_listed}
 use Rattle.hull_set.specs.Held.{times_among}
 use Rattle.hull_tree.specs.Roots.{held_by}
 use Rattle.hull_tree.specs.Sets.{LimitedTree, IsSound}
 use Rattle.hull_tree.proofs.LimitedTrees.{sound}
-use Rattle.hull_tree.proofs.AddedSets.{merged_is_added, root_held, after_times}
+use Rattle.leaf_trees.proofs.AddedSets.{merged_is_added, after_times}
+use Rattle.hull_tree.proofs.LimitedTrees.{root_held}
 use Rattle.hull_tree.proofs.tree.HullTree.extend_anew.Goals as goal
 
 pub returns-in_err-added-clause-sound : goal.returns-in_err-added-clause-sound

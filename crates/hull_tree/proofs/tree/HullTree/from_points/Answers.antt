@@ -5,10 +5,11 @@ use Rattle.lattice.specs.Plane.{Pair}
 use Rattle.hull_set.specs.declared.TheConstants.{MULTIPLICITY_LIMIT}
 use Rattle.std.proofs.lemmas.Map.Entries.{length-keys_of}
 use Rattle.hull_set.specs.Held.{Held, nothing_held}
-use Rattle.hull_tree.specs.Loaded.{times_listed, held_listed}
+use Rattle.leaf_trees.specs.Entries.{times_listed, held_listed}
 use Rattle.hull_set.specs.Held.{times_among}
 use Rattle.hull_tree.specs.Roots.{held_by}
-use Rattle.hull_tree.proofs.AddedSets.{same_as_added, nothing_is_held, entries_held, root_held, after_times}
+use Rattle.leaf_trees.proofs.AddedSets.{same_as_added, nothing_is_held, entries_held, after_times}
+use Rattle.hull_tree.proofs.LimitedTrees.{root_held}
 use Rattle.hull_tree.proofs.tree.HullTree.from_points.Goals as goal
 
 pub returns-then-len-limit-clause-too_many : goal.returns-then-len-limit-clause-too_many

@@ -1,0 +1,38 @@
+-- a point held once counts once
+use Rattle.std.proofs.Common.{◌+◌, ◌∙◌, ap, subst, sym}
+use Rattle.lattice.specs.Covers.{without_point}
+use Rattle.hull_geometry.specs.Positions.{IsPositionOf, origin}
+use Rattle.hull_set.specs.Held.{once}
+use Rattle.std.specs.List.{remove}
+use Rattle.bucket_tree.specs.Counts.{counted}
+use Rattle.bucket_tree.specs.Changes.{IsClosedOver}
+use Rattle.bucket_tree.proofs.Lost.{not_held, held_without}
+use Rattle.bucket_tree.proofs.Kept.{closed_without}
+use Rattle.bucket_tree.proofs.in_place.take_if_others.Goals as goal
+
+pub unreachable-requires : goal.unreachable-requires
+unreachable-requires c =
+    not_held c.args.bucket.now.points c.args.bucket.now.times c.in_default.field-0 c.args.p
+    (subst (IsPositionOf c.args.bucket.now.points c.args.p) c.in_default.is c.place_of.ensures) c.requires.held
+
+pub returns-clause-points : goal.returns-clause-points
+returns-clause-points c =
+    let at = subst (IsPositionOf c.args.bucket.now.points c.args.p) c.in-Ok.is c.place_of.ensures in
+    c.remove.ensures.points ∙ ap (λ z. without_point z c.args.bucket.now.points) (at.1 origin)
+
+pub returns-clause-times : goal.returns-clause-times
+returns-clause-times c = λ q.
+    let at = subst (IsPositionOf c.args.bucket.now.points c.args.p) c.in-Ok.is c.place_of.ensures in
+    let points = c.remove.ensures.points ∙ ap (λ z. without_point z c.args.bucket.now.points) (at.1 origin) in
+    held_without c.args.bucket.now.points c.args.bucket.now.times c.in-Ok.place c.args.p
+    c.buckets_are_sound.ensures.ordered c.buckets_are_sound.ensures.counted at c.requires.held q
+    ∙ ap (λ z. counted z (remove c.args.bucket.now.times c.in-Ok.place) q + once c.args.p q) (sym points)
+    ∙ ap (λ z. counted c.remove.new.self.points z q + once c.args.p q) (sym c.remove.ensures.times)
+
+pub returns-clause-closed : goal.returns-clause-closed
+returns-clause-closed c =
+    let at = subst (IsPositionOf c.args.bucket.now.points c.args.p) c.in-Ok.is c.place_of.ensures in
+    let points = c.remove.ensures.points ∙ ap (λ z. without_point z c.args.bucket.now.points) (at.1 origin) in
+    subst (IsClosedOver c.args.p c.open_at-sides.result) (sym points)
+    (closed_without c.args.p c.args.bucket.now.points c.open_at-sides.result c.buckets_are_sound.ensures.ordered
+    c.open_at-sides.ensures)

@@ -1,0 +1,82 @@
+-- The points below a node, each with how often it is held, as entries.
+use Rattle.std.proofs.Common.{◌≡◌, ℕ, ◌+◌, refl, sym, ◌∙◌, ap, subst, List, [], ◌++◌, length, arith, Some}
+use Rattle.std.specs.List.{All}
+use Rattle.std.proofs.lemmas.List.{map-append}
+use Rattle.std.proofs.lemmas.List.Elements.{All-append, All-cons}
+use Rattle.std.proofs.lemmas.List.Sums.{sum_by-append}
+use Rattle.std.proofs.lemmas.Map.Entries.{length-keys_of}
+use Rattle.lattice.specs.Plane.{Pair}
+use Rattle.lattice.specs.Covers.{IsPointSet}
+use Rattle.bridge_search.proofs.Leaves.{points_in_order}
+use Rattle.hull_set.proofs.Times.{same_held}
+use Rattle.leaf_trees.specs.Entries.{several, IsMultiplicity, points_listed, times_listed, held_listed, AreEntries}
+use Rattle.hull_tree.specs.declared.node.Node as node
+use Rattle.hull_tree.specs.declared.node.Halves as halves
+use Rattle.hull_tree.specs.Nodes.{tree_of, below_of, left_half, right_half, times_below, IsLabelled, IsWellBuilt}
+use Rattle.hull_tree.specs.Changes.{points_below, height_at, height_within}
+use Rattle.hull_tree.specs.Roots.{held_by}
+use Rattle.hull_tree.specs.Loaded.{entries_below}
+use Rattle.hull_tree.proofs.HalfRows.{same_below}
+
+-- the points of the entries are those of the tree
+pub points_of_entries : (n : node.Node) → points_listed (entries_below n) ≡ points_below n
+points_of_entries (node.Node' upper lower height near times node.None') = refl
+points_of_entries (node.Node' upper lower height near times
+    (node.Some' i (halves.Halves' left right last_left first_right))) =
+    map-append (λ (e : Pair × ℕ). e.0) (entries_below left) (entries_below right)
+    ∙ ap (λ (z : List Pair). z ++ points_listed (entries_below right)) (points_of_entries left)
+    ∙ ap (λ (z : List Pair). points_below left ++ z) (points_of_entries right)
+
+-- and as many
+pub length_of_entries : (n : node.Node) → length (entries_below n) ≡ length (points_below n)
+length_of_entries n = sym (length-keys_of (entries_below n)) ∙ ap (λ (z : List Pair). length z) (points_of_entries n)
+
+-- each held as often
+pub times_of_entries : (n : node.Node) (q : Pair) → times_listed (entries_below n) q ≡ times_below n q
+times_of_entries (node.Node' upper lower height near times node.None') q = omega arith
+times_of_entries (node.Node' upper lower height near times
+    (node.Some' i (halves.Halves' left right last_left first_right))) q =
+    omega (
+      arith,
+      sum_by-append (λ (e : Pair × ℕ). several e.1 e.0 q) (entries_below left) (entries_below right),
+      times_of_entries left q,
+      times_of_entries right q,
+    )
+
+-- as often as a point may be
+held_of_entries : (n : node.Node) → IsLabelled n → All (λ (e : Pair × ℕ). IsMultiplicity e.1) (entries_below n)
+held_of_entries (node.Node' upper lower height near times node.None') l =
+    All-cons (λ (e : Pair × ℕ). IsMultiplicity e.1) (upper.0, times) [] l.1 (λ k d l. absurd (omega arith))
+held_of_entries (node.Node' upper lower height near times
+    (node.Some' i (halves.Halves' left right last_left first_right))) l =
+    All-append (λ (e : Pair × ℕ). IsMultiplicity e.1) (entries_below left) (entries_below right)
+    (held_of_entries left l.3) (held_of_entries right l.4)
+
+-- what a node has by its two halves
+pub record IsListedOver (n : node.Node) (h : halves.Halves) : Type 0 where
+  pub entries : entries_below n ≡ entries_below (left_half h) ++ entries_below (right_half h)
+  pub points : points_below n ≡ points_below (left_half h) ++ points_below (right_half h)
+  pub height : height_at n ≡ height_within h + 1
+
+-- the entries of a fork are those of its halves in a row
+pub listed_halves : (n : node.Node) (h : halves.Halves) → below_of n ≡ Some h → IsListedOver n h
+unfolding node.out-Node halves.out-Halves denote.Hole.Carrier.out
+listed_halves (node.Node' upper lower height near times node.None') h e = absurd (cc)
+listed_halves (node.Node' upper lower height near times
+    (node.Some' i (halves.Halves' left right last_left first_right))) h e =
+    subst (λ (z : halves.Halves). IsListedOver
+    (node.Node' upper lower height near times (node.Some' i (halves.Halves' left right last_left first_right))) z)
+    (same_below e) record { entries = refl; points = refl; height = refl }
+
+-- so they are entries
+pub entries_are : (n : node.Node) → IsWellBuilt n → AreEntries (entries_below n)
+entries_are n h = record {
+  in_order = subst IsPointSet (sym (points_of_entries n)) (points_in_order (tree_of n) h.bridged);
+  held = held_of_entries n h.labelled;
+}
+
+-- which hold what the tree holds
+pub entries_hold : (n : node.Node) → held_listed (entries_below n) ≡ held_by (Some n)
+entries_hold n =
+    same_held (points_listed (entries_below n)) (points_below n) (λ q. times_listed (entries_below n) q) (times_below n)
+    (points_of_entries n) (λ q. times_of_entries n q)
