@@ -20,7 +20,8 @@ function needing(what, step) {
     }
 }
 
-const whole = needing("the module is missing in web/out: run web/build.py first, with Binaryen's wasm-opt", () => readFileSync(file(`out/${name ?? "hull32.wasm"}`)));
+const made = file(`out/${name ?? "hull32.wasm"}`);
+const whole = needing("the module is missing in web/out: run web/build.py first, with Binaryen's wasm-opt", () => readFileSync(made));
 const code = needing("there is no esbuild", () => minified(shaken(bundled(readFileSync(file("start.js"), "utf8")))));
 const module = name ? whole : needing("there is no wasm-metadce of Binaryen", () => cut(whole, code));
 const carried = code.replace('"WASM"', () => `"${gzipSync(module, { level: 9 }).toString("base64")}"`);

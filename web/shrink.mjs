@@ -26,14 +26,16 @@ function methodsOf(lines) {
     lines.forEach((line, i) => {
         while (classes.length && line.startsWith(`${classes.at(-1)}}`)) classes.pop();
         const [, indent, get, name] = METHOD.exec(line) ?? [];
-        if (name && classes.length && indent === `${classes.at(-1)}  `) found.push({ name, isRead: !!get, from: i, to: lines.indexOf(`${indent}}`, i) + 1 });
+        if (name && classes.length && indent === `${classes.at(-1)}  `) {
+            found.push({ name, isRead: get !== undefined, from: i, to: lines.indexOf(`${indent}}`, i) + 1 });
+        }
         const begun = CLASS.exec(line);
         if (begun) classes.push(begun[1]);
     });
     return found;
 }
 
-/** What a script calls of an object: behind a point, or by its name as the first word of a call that passes it on; of a getter, where it names it. */
+/** What a script calls of an object: behind a point, or by its name as the first word of a call that passes it on; what it reads of one. */
 function calledIn(text) {
     const found = [...text.matchAll(/\.(#?\w+)(?=\()|\("(\w+)",/g)].map((it) => it[1] ?? it[2]);
     const read = [...text.matchAll(/\.(#?\w+)|[{,] (\w+)(?=,| \})/g)].map((it) => it[1] ?? it[2]);
