@@ -1,5 +1,6 @@
 #!/usr/bin/env python3
-"""Writes docs/DEFINITIONS.md, and in docs/PROOFS.md the list of files, from the comments above definitions and at the head of files.
+"""Writes docs/DEFINITIONS.md, and in docs/PROOFS.md the list of files, from the comments above definitions and at the head of files; and
+beside each library that has a caller in `callers` the page CALLING.md, which shows that caller, what it asks and ensures, and all names.
 
     tools/reference.py [--write]
 
@@ -9,6 +10,7 @@ at the head of a line of specs/, with the comment above it. What a comment says 
 import os
 import re
 import sys
+import textwrap
 
 sys.path.insert(0, os.path.dirname(os.path.abspath(__file__)))
 import kit  # noqa: E402 (the path comes first)
@@ -20,6 +22,24 @@ HEAD = """# Definitions
 What each definition means that a public contract can name, crate by crate, as the comment above it says; the definitions stand in
 `crates/NAME/specs/MODULE.antt`, and count. A whole number is of any size, and a list of points stands for a set.
 `tools/reference.py --write` writes this file from the comments.
+"""
+WIDTH = 140
+CALLING = """# Calling `{name}`
+
+{about}
+
+## A caller
+
+As it stands in `{path}`, and proved. What each function asks and ensures stands above its body in `src/`.
+
+```rust
+{code}```
+
+## What callers can name
+
+{names}
+
+`tools/reference.py --write` writes this page.
 """
 FILES = """## Each file of lemmas
 
@@ -102,20 +122,52 @@ def proofs():
     return "".join(text)
 
 
+def callers():
+    """The files that are examples for callers of a crate, by that crate's name: the first line of a file says so."""
+    found = {}
+    for crate in kit.crates().values():
+        for it in kit.files_below(f"{crate.folder}/src"):
+            said = re.match(r"//! A caller of `(\w+)`|//! .*: an example to copy\.", kit.text_of(f"{crate.folder}/src/{it}"))
+            if said:
+                found[said[1] or crate.name] = f"crates/{crate.name}/src/{it}"
+    return found
+
+
+def names_of(crate):
+    """What a crate's root shows of its own to others, in the order of their names."""
+    shown = re.findall(r"(?m)^pub use [\w:]*?(?:(\w+)|\{([^}]*)\});", kit.text_of(f"{crate.folder}/src/lib.rt"))
+    return sorted({it.strip() for one, many in shown for it in [one, *many.split(",")] if it.strip()})
+
+
+def calling(name, path):
+    """The text of a crate's CALLING.md."""
+    crate, code = kit.crates()[name], kit.text_of(f"{kit.TOP}/{path}").partition("\n")[2]
+    names = ", ".join(f"`{it}`" for it in names_of(crate))
+    return CALLING.format(name=name, about=textwrap.fill(about(crate), WIDTH), path=path, code=code, names=textwrap.fill(f"{names}.", WIDTH))
+
+
+def pages():
+    """What this writes: each page's path, with its text."""
+    yield "docs/DEFINITIONS.md", definitions()
+    yield "docs/PROOFS.md", proofs()
+    for name, path in callers().items():
+        yield f"crates/{name}/CALLING.md", calling(name, path)
+
+
 def main(words):
     if words not in ([], ["--write"]):
         print(__doc__, file=sys.stderr)
         return 2
-    failed = 0
-    for name, text in (("DEFINITIONS", definitions()), ("PROOFS", proofs())):
-        path = f"{kit.TOP}/docs/{name}.md"
+    passed = failed = 0
+    for page, text in pages():
         if words:
-            with open(path, "w", encoding="utf-8") as file:
+            with open(f"{kit.TOP}/{page}", "w", encoding="utf-8") as file:
                 file.write(text)
-        elif kit.text_of(path) != text:
-            failed += 1
-            print(f"docs/{name}.md: FAILED, it is not what the comments say: tools/reference.py --write")
-    print(f"{2 - failed} passed, {failed} failed")
+        same = kit.text_of(f"{kit.TOP}/{page}") == text
+        passed, failed = passed + same, failed + (not same)
+        if not same:
+            print(f"{page}: FAILED, it is not what the comments and callers say: tools/reference.py --write")
+    print(f"{passed} passed, {failed} failed")
     return 1 if failed else 0
 
 

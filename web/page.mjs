@@ -1,30 +1,28 @@
-// Writes web/out/index.html: page.html with the code and the module inside, so that it opens from disk and fetches nothing.
+// Writes web/out/index.html: page.html with the code and the module inside, so that it opens from disk and fetches nothing. The module is
+// the one with a 32-bit memory, which every engine runs, cut to what the page calls.
 //
-//     node web/page.mjs [MODULE PAGE]    or with that module of web/out (hull32.wasm), to that file
+//     node web/page.mjs [MODULE PAGE]    or with that module of web/out, whole, to that file
 import { readFileSync, writeFileSync } from "node:fs";
-import { bare } from "./bare.mjs";
+import { gzipSync } from "node:zlib";
+import { bundled, cut, minified, shaken } from "./shrink.mjs";
 
-// each stands behind those that it imports
-const MODULES = ["heap", "hull", "exchange", "journal", "texts", "view", "picture", "list", "keep", "work", "example", "page"];
 const file = (name) => new URL(name, import.meta.url);
+const [name, to = file("out/index.html")] = process.argv.slice(2);
 
-/** A module as a function, without its comments: what it imports comes from those before it, and what it exports is given back. */
-function wrapped(name) {
-    const text = readFileSync(file(`${name}.js`), "utf8");
-    const exported = [...text.matchAll(/^export (?:async )?(?:class|const|function) (\w+)/gm)].map((it) => it[1]);
-    const body = bare(text.replace(/^import (\{.*\}) from "\.\/(\w+)\.js";\n/gm, "const $1 = $2_js;\n").replace(/^export /gm, ""));
-    return `const ${name}_js = (() => {\n${body}return { ${exported.join(", ")} };\n})();\n`;
+/** What a step gives, or the end of the command with what it needs. */
+function needing(what, step) {
+    try {
+        return step();
+    } catch (error) {
+        if (error.code !== "ENOENT") throw error;
+        console.error(`web/page.mjs: ${what}`);
+        process.exit(1);
+    }
 }
 
-const code = `${MODULES.map(wrapped).join("")}const { load } = hull_js, { Page } = page_js;`;
-// (the module with a 32-bit memory, which every engine runs)
-const [module = "hull32.wasm", to = file("out/index.html")] = process.argv.slice(2);
-let wasm;
-try {
-    wasm = readFileSync(file(`out/${module}`));
-} catch {
-    console.error(`web/out/${module} is missing: run web/build.py first, with Binaryen's wasm-opt`);
-    process.exit(1);
-}
-const page = readFileSync(file("page.html"), "utf8").replace("/*CODE*/", () => code).replace("/*WASM*/", () => wasm.toString("base64"));
-writeFileSync(to, page);
+const made = file(`out/${name ?? "hull32.wasm"}`);
+const whole = needing("the module is missing in web/out: run web/build.py first, with Binaryen's wasm-opt", () => readFileSync(made));
+const code = needing("there is no esbuild", () => minified(shaken(bundled(readFileSync(file("start.js"), "utf8")))));
+const module = name ? whole : needing("there is no wasm-metadce of Binaryen", () => cut(whole, code));
+const carried = code.replace('"WASM"', () => `"${gzipSync(module, { level: 9 }).toString("base64")}"`);
+writeFileSync(to, readFileSync(file("page.html"), "utf8").replace("CODE", () => carried));

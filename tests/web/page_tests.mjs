@@ -94,8 +94,8 @@ async function tryExample() {
     await tried("the readings are of the points that are shown", async () => {
         await press("pause");
         const [count, square, meets] = await value(`(() => {
-            const { points, outline, beside, square } = page.example;
-            return [new Set(points.map(String)).size, String(square.numerator), outline.meets(beside)];
+            const { points, square, witness } = page.example;
+            return [new Set(points.map(String)).size, String(square.numerator), witness.shows !== "apart"];
         })()`);
         assert.equal((await text("shown-points")).split(",")[0], String(count));
         assert.equal(square === "0", meets);

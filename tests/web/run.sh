@@ -1,7 +1,7 @@
 #!/bin/sh
 # Tries hull.js and what stands below the page in Node, on both modules, the types, and the page in Chromium and in Firefox with no window,
 # and has the page's journals checked by the program. What is not there is skipped by name: Node, the modules (web/build.py makes them),
-# tsc, Chromium, Firefox, the program. The last line counts, and the status is not 0 where something else came.
+# tsc, esbuild, wasm-metadce, Chromium, Firefox, the program. The last line counts, and the status is not 0 where something else came.
 #
 #     tests/web/run.sh [FOLDER]    where pictures of the page stay, to be looked at
 set -u
@@ -86,8 +86,14 @@ if [ ! -f "$top/web/out/hull32.wasm" ]; then
     echo 'skipped: web/out/hull32.wasm is not there, which web/build.py makes with wasm-opt'
     finish
 fi
+for tool in esbuild wasm-metadce; do
+    command -v $tool >/dev/null && continue
+    echo "skipped: the page: $tool is not there, which web/page.mjs makes it with"
+    finish
+done
 node "$top/web/page.mjs" && node "$top/web/page.mjs" hull.wasm "$room/wide.html"
 said 'the page is written, with either module' $? 0
+counted node "$here/size_tests.mjs" "$top/web/out/index.html"
 for browser in chromium firefox; do
     [ "$browser" = chromium ] && there=$CHROMIUM || there=$FIREFOX
     if [ -z "$there" ]; then
@@ -103,7 +109,7 @@ for browser in chromium firefox; do
             echo "skipped: the program's verdict on $browser's $journal: the program is not there"
         fi
     done
-    # with the module as it was proved, where the browser has 64-bit memories
+    # with the module as it was proved, whole, where the browser has 64-bit memories
     mkdir -p "$room/wide"
     echo "the page with hull.wasm, on a phone's size"
     ONLY=Phone counted node "$here/page_tests.mjs" "$room/wide.html" "$room/wide" "$browser"

@@ -1,8 +1,6 @@
-// What stands below the page, in Node: texts of points, doubles, deeds and what takes them back, parts of journals, colors and sizes.
+// What stands below the page, in Node: texts of points, doubles, deeds and what takes them back, parts of journals, and colors.
 import { strict as assert } from "node:assert";
-import { existsSync, readFileSync } from "node:fs";
-import { gzipSync } from "node:zlib";
-import { bare } from "../../web/bare.mjs";
+import { readFileSync } from "node:fs";
 import { OutOfRange, load } from "../../web/hull.js";
 import { directionOf, fromFloat, fromFloats, toFloat, wkt } from "../../web/exchange.js";
 import { Replay, TextError, emptyJournal, joinJournals, journalText, readJournal } from "../../web/journal.js";
@@ -10,7 +8,6 @@ import { addressOf, callsOf, kindOf, powerFor, readAddress, readRows, writeRows 
 import { Work } from "../../web/work.js";
 import { random_of } from "./plain.mjs";
 
-const MOST = 42000; // bytes of the module and of the script as the page carries it, each as gzip makes it
 const web = (name) => new URL(`../../web/${name}`, import.meta.url);
 const { Hull } = await load(web(`out/${process.env.MODULE ?? "hull.wasm"}`));
 
@@ -26,15 +23,6 @@ async function tried(name, run) {
     }
 }
 
-await tried(`the module and the script, hull.js with its heap.js, take at most ${MOST} bytes as gzip makes them`, () => {
-    const packed = (data) => gzipSync(data, { level: 9 }).length, size = (name) => packed(readFileSync(web(name)));
-    const script = packed(["heap.js", "hull.js"].map((it) => bare(readFileSync(web(it), "utf8"))).join(""));
-    const told = ["hull.wasm", "hull32.wasm"].filter((it) => existsSync(web(`out/${it}`))).map((it) => {
-        assert.ok(size(`out/${it}`) + script <= MOST, `${it} ${size(`out/${it}`)}, script ${script}`);
-        return `${it} ${size(`out/${it}`)}`;
-    });
-    return `${told.join(", ")}, script ${script}`;
-});
 await tried("doubles to the lattice, as the table of all languages has them", () => {
     let rows = 0;
     for (const line of readFileSync(new URL("../embed/lattice.txt", import.meta.url), "utf8").split("\n")) {

@@ -1,0 +1,75 @@
+// What makes the page small: of the library only the methods that the page names, of the script only what is called, with short names,
+// and of the module only the exports that the script names. No proof reads these steps: esbuild and Binaryen's wasm-metadce are trusted,
+// and tests/web runs the page that comes of them.
+import { execFileSync } from "node:child_process";
+import { mkdtempSync, readFileSync, rmSync, writeFileSync } from "node:fs";
+import { tmpdir } from "node:os";
+import { fileURLToPath } from "node:url";
+
+const HERE = fileURLToPath(new URL(".", import.meta.url));
+const COMMON = ["--bundle", "--format=esm", "--target=es2022", "--charset=utf8", "--log-level=warning"];
+// a line that begins a class, and one that begins a method, in the layout that esbuild writes
+const CLASS = /^( *)(?:var \w+ = )?class\b.*\{$/;
+const METHOD = /^( *)(?:static )?(?:async )?(get )?(#?\w+)\(.*\) \{$/;
+
+const esbuild = (text, ...words) => execFileSync("esbuild", [...COMMON, ...words], { input: text, cwd: HERE, encoding: "utf8" });
+
+/** A script with all that it imports from this folder, in one. */
+export const bundled = (text) => esbuild(text);
+
+/** The same script, as short as esbuild makes it. */
+export const minified = (text) => esbuild(text, "--minify").trim();
+
+/** The methods of all classes: their names, and the lines from the first to the one behind the last. */
+function methodsOf(lines) {
+    const found = [], classes = [];
+    lines.forEach((line, i) => {
+        while (classes.length && line.startsWith(`${classes.at(-1)}}`)) classes.pop();
+        const [, indent, get, name] = METHOD.exec(line) ?? [];
+        if (name && classes.length && indent === `${classes.at(-1)}  `) {
+            found.push({ name, isRead: get !== undefined, from: i, to: lines.indexOf(`${indent}}`, i) + 1 });
+        }
+        const begun = CLASS.exec(line);
+        if (begun) classes.push(begun[1]);
+    });
+    return found;
+}
+
+/** What a script calls of an object: behind a point, or by its name as the first word of a call that passes it on; what it reads of one. */
+function calledIn(text) {
+    const found = [...text.matchAll(/\.(#?\w+)(?=\()|\("(\w+)",/g)].map((it) => it[1] ?? it[2]);
+    const read = [...text.matchAll(/\.(#?\w+)|[{,] (\w+)(?=,| \})/g)].map((it) => it[1] ?? it[2]);
+    return { called: new Set(found), read: new Set(read) };
+}
+
+/** A bundle without the methods that nothing left in it names. */
+export function shaken(text) {
+    for (let lines = text.split("\n"); ; ) {
+        const { called, read } = calledIn(lines.join("\n"));
+        const gone = methodsOf(lines).filter(({ name, isRead }) => name !== "constructor" && !(isRead ? read : called).has(name));
+        if (gone.length === 0) return lines.join("\n");
+        lines = lines.filter((_, i) => !gone.some(({ from, to }) => from <= i && i < to));
+    }
+}
+
+/** Of a bundle what comes of some files. */
+export function part(text, files) {
+    const [, ...parts] = text.split(/^\/\/ (\S+\.js)\n/m);
+    return parts.filter((_, i) => i % 2 && files.includes(parts[i - 1])).join("");
+}
+
+/** A module without the exports that a script does not name, and what they alone need. */
+export function cut(module, script) {
+    const words = new Set(script.match(/\w+/g)), room = mkdtempSync(`${tmpdir()}/shrink-`);
+    const named = WebAssembly.Module.exports(new WebAssembly.Module(module)).map((it) => it.name).filter((it) => words.has(it));
+    const graph = [{ name: "page", root: true, reaches: named }, ...named.map((name) => ({ name, export: name }))];
+    const [from, to, reached] = ["whole.wasm", "cut.wasm", "graph.json"].map((it) => `${room}/${it}`);
+    try {
+        writeFileSync(from, module);
+        writeFileSync(reached, JSON.stringify(graph));
+        execFileSync("wasm-metadce", ["--enable-bulk-memory", "--enable-sign-ext", "--graph-file", reached, from, "-o", to]);
+        return readFileSync(to);
+    } finally {
+        rmSync(room, { recursive: true });
+    }
+}
