@@ -444,9 +444,13 @@ static void leaves(struct line *line) {
 
 /* ---- numbers */
 
-/* Keeps the number that is served: of two threads that tell theirs the later one. */
+/* Keeps the number that is served: of two threads that tell theirs, where two may be inside, the later one. */
 static void is_served(struct line *line, uint64_t number) {
     uint64_t seen = __atomic_load_n(&line->turn, __ATOMIC_RELAXED);
+    if (line->beside == 0) {
+        __atomic_store_n(&line->turn, number, __ATOMIC_RELAXED);
+        return;
+    }
     while ((seen == 0 || (int64_t)(number - seen) > 0) &&
            !__atomic_compare_exchange_n(&line->turn, &seen, number, 0, __ATOMIC_RELAXED, __ATOMIC_RELAXED)) {
     }
