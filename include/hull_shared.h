@@ -24,7 +24,8 @@
  * lines that are held out into a part, whose text is written to a file (hull_shared_part_text). The parts in their order, and
  * last the text of the closed desk, are the whole journal; its numbers have no gaps. A line can wait for room
  * (hull_shared_line_wait_for_room), and drain by itself (hull_shared_line_on_half_full). What was not drained is lost where the
- * program crashes, and what was drained and not yet written. Or the desk keeps no lines (hull_shared_open_without_journal).
+ * program crashes, and what was drained and not yet written; hull_shared_journal_start keeps it in a file. Or the desk keeps no lines
+ * (hull_shared_open_without_journal).
  *
  * hull_shared_desk_new, hull_shared_seat_new and hull_shared_part_new make desks, seats and parts in memory from malloc. Or
  * they lie in rooms that the caller gives: of hull_shared_desk_size() bytes at a multiple of hull_shared_desk_alignment(), and

@@ -274,8 +274,9 @@ static void errnos(void) {
 
 static void *dies_inside(void *seat) {
     dies = 1;
-    for (int k = 0; k < 50; k++) {
+    for (int k = 0; k < 40; k++) { /* a list of corners asks for memory, and so do points */
         hull_shared_call(&line, seat, HULL_KIND_ADD, k, k * k);
+        hull_shared_call(&line, seat, HULL_KIND_VERTICES, 0, 0);
     }
     is("a thread that died", 0, 1);
     return NULL;
