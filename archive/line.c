@@ -93,7 +93,8 @@ struct line {
     uint32_t first;
     uint32_t last;
     uint64_t turn_ends; /* when the door is closed for the one that is named */
-    unsigned char apart_3[40];
+    uint32_t named;     /* who was named last */
+    unsigned char apart_3[36];
     /* room */
     uint32_t drains;   /* changed when there may be room again; who waits for room sleeps by it */
     uint32_t for_room; /* how many do */
@@ -283,6 +284,7 @@ static void names_next(struct line *line, int leaving) {
     } while (next != door && !changes(line, door, next));
     if (seat != 0) {
         leaves_queue(line, seat);
+        __atomic_store_n(&line->named, seat, __ATOMIC_RELAXED);
     }
     hull_unlock(&line->lock);
     if (seat != 0) {
@@ -766,6 +768,7 @@ hull_shared_state hull_shared_stats(const hull_shared_line *waiting) {
     state.held = __atomic_load_n(&line->held, __ATOMIC_RELAXED);
     state.turn = __atomic_load_n(&line->turn, __ATOMIC_RELAXED);
     state.seat = HULL_SHARED_SEATS_MAX;
+    state.named = (door & NAMED) == 0 ? HULL_SHARED_SEATS_MAX : __atomic_load_n(&line->named, __ATOMIC_RELAXED) - 1;
     state.drainer = draining == 0 ? HULL_SHARED_SEATS_MAX : draining - 1;
     state.drains_for = draining == 0 ? 0 : ago(now, __atomic_load_n(&line->draining_since, __ATOMIC_RELAXED));
     since = holder_since(line, state.turn, &state.seat);

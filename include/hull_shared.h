@@ -403,6 +403,7 @@ typedef struct hull_shared_state {
     uint32_t held;      /* how many lines are held behind the call of this line that was served last */
     uint64_t turn;      /* the number that is served now, the one behind that call's; 0 before the first, and where no seat is out */
     uint32_t seat;      /* the seat whose call is inside and has that number, or is to take it; HULL_SHARED_SEATS_MAX where none is */
+    uint32_t named;     /* the seat that slept outside and is to come in next; HULL_SHARED_SEATS_MAX where none is */
     uint32_t drainer;   /* the seat that drains for the hook; HULL_SHARED_SEATS_MAX where none does */
     uint64_t seat_for;  /* for how many nanoseconds that seat's call has been inside, to some milliseconds */
     uint64_t drains_for; /* for how many nanoseconds that one has drained, to some milliseconds */

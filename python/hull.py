@@ -1258,9 +1258,8 @@ class _State(ctypes.Structure):
 
     _fields_ = [
         ("out", ctypes.c_uint32), ("inside", ctypes.c_uint32), ("sleepers", ctypes.c_uint32), ("for_room", ctypes.c_uint32),
-        ("held", ctypes.c_uint32),
-        ("turn", ctypes.c_uint64), ("seat", ctypes.c_uint32), ("drainer", ctypes.c_uint32), ("seat_for", ctypes.c_uint64),
-        ("drains_for", ctypes.c_uint64),
+        ("held", ctypes.c_uint32), ("turn", ctypes.c_uint64), ("seat", ctypes.c_uint32), ("named", ctypes.c_uint32),
+        ("drainer", ctypes.c_uint32), ("seat_for", ctypes.c_uint64), ("drains_for", ctypes.c_uint64),
     ]
 
 
@@ -1280,6 +1279,8 @@ class Stats(NamedTuple):
     #: The seat whose call has that number, if one is inside, and for how many seconds, to some milliseconds.
     seat: Optional[int]
     seat_for: float
+    #: The seat that slept and is to come in next, if one is.
+    named: Optional[int]
     #: The seat that takes lines out for the hull's file, if one does, and for how many seconds.
     drainer: Optional[int]
     drains_for: float
@@ -1417,9 +1418,9 @@ class SharedHull:
         """How the calls of the hull's seats stand at one moment; while calls go on, its numbers may be of moments apart."""
         state = _State()
         _shared_library().hull_python_stats(self._desk, ctypes.addressof(state))
-        seat, drainer = (number if number < SEAT_LIMIT else None for number in (state.seat, state.drainer))
+        seat, named, drainer = (number if number < SEAT_LIMIT else None for number in (state.seat, state.named, state.drainer))
         return Stats(state.out, state.inside, state.sleepers, state.for_room, state.held, state.turn, seat, state.seat_for / 1e9,
-                     drainer, state.drains_for / 1e9)
+                     named, drainer, state.drains_for / 1e9)
 
     def lend(self, number: SupportsIndex) -> Seat:
         """Lends the seat of a number, 0 and up, for one thread; NoSeat where it is out or there is none."""

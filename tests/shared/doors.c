@@ -59,6 +59,8 @@ static void names_by_name(void) {
     leaves(line);
     is("one is named", line->door, NAMED + 2 * ASLEEP);
     is("the first", line->beds[3].is_named, 1);
+    is("which is told", hull_shared_stats(&room).named, 3);
+    is("and how many sleep", hull_shared_stats(&room).sleepers, 2);
     is("not the second", line->beds[4].is_named, 0);
     is("another passes", (uint64_t)comes_in(line, 0), 1);
     leaves(line);
@@ -74,6 +76,7 @@ static void names_by_name(void) {
     is("the named one does not", (uint64_t)lies_down(line, 4, 1), 0);
     is("the named one comes in", (uint64_t)comes_in(line, 1), 1);
     is("it is open again", line->door, 1 + 3 * ASLEEP);
+    is("none is named", hull_shared_stats(&room).named, HULL_SHARED_SEATS_MAX);
     is("a turn has begun", line->turn_ends > hull_now() && line->turn_ends <= hull_now() + HULL_SHARED_TURN, 1);
     turn_is_over(1);
     leaves(line);

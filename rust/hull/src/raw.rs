@@ -125,6 +125,7 @@ pub(crate) struct State {
     pub held: u32,
     pub turn: u64,
     pub seat: u32,
+    pub named: u32,
     pub drainer: u32,
     pub seat_for: u64,
     pub drains_for: u64,

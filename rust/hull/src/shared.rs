@@ -186,6 +186,8 @@ pub struct Stats {
     pub turn: u64,
     /// The seat whose call has that number, and for how long it has been inside, to some milliseconds.
     pub seat: Option<(u32, Duration)>,
+    /// The seat that slept and is to come in next.
+    pub named: Option<u32>,
     /// The seat that takes lines out for [`SharedHull::on_half_full`], and for how long it has.
     pub drainer: Option<(u32, Duration)>,
 }
@@ -351,6 +353,7 @@ impl SharedHull {
             held: told.held,
             turn: told.turn,
             seat: seat(told.seat, told.seat_for),
+            named: Some(told.named).filter(|named| *named < SEAT_LIMIT),
             drainer: seat(told.drainer, told.drains_for),
         }
     }
