@@ -11,6 +11,9 @@ foreach(_hull_name IN ITEMS hull shared)
         set_target_properties(hull::${_hull_name} PROPERTIES
             IMPORTED_LOCATION "${_hull_prefix}/lib/${_hull_archive}"
             INTERFACE_INCLUDE_DIRECTORIES "${_hull_prefix}/include")
+        if(_hull_name STREQUAL "shared")
+            set_target_properties(hull::shared PROPERTIES INTERFACE_LINK_LIBRARIES pthread)
+        endif()
     endif()
 endforeach()
 unset(_hull_prefix)

@@ -24,6 +24,7 @@
 #include "hull_shared.h"
 
 #include <algorithm>
+#include <chrono>
 #include <cstdio>
 #include <cstdlib>
 #include <functional>
@@ -32,6 +33,7 @@
 #include <new>
 #include <optional>
 #include <ostream>
+#include <shared_mutex>
 #include <stdexcept>
 #include <string>
 #include <tuple>
@@ -79,10 +81,13 @@ enum class Refusal : std::uint32_t {
     full = HULL_FULL,                       // as many lines are held as may be: the call was not made
     vacant = HULL_VACANT,                   // the seat was given back, or moved away
     ended = HULL_ENDED,                     // the hull, shared hull or part was moved away
+    busy = HULL_BUSY,                       // the shared hull was in use by others for as long as the seat waits
     no_journal = HULL_NO_JOURNAL,           // the text is none of a journal: number() tells its first line that is wrong, from 1
     old_rules = HULL_OLD_RULES,             // the journal is of version 1 or 2, in which points are not counted
     illegal = HULL_ILLEGAL,                 // the journal is no legal history: number() tells its first line that is wrong, from 1
-    too_few_seats = HULL_TOO_FEW_SEATS      // the journal has lines by number() seats, more than were asked for
+    too_few_seats = HULL_TOO_FEW_SEATS,     // the journal has lines by number() seats, more than were asked for
+    no_file = HULL_NO_FILE,                 // the system refused a call on the file of the journal: number() is errno
+    damaged = HULL_DAMAGED                  // the file is none of a journal, or more of it is wrong than its end, from line number() on
 };
 
 class Fault : public std::runtime_error {
@@ -109,12 +114,15 @@ private:
         case Refusal::not_open: return "the hull is closed";
         case Refusal::seats_out: return "a seat of the hull is out";
         case Refusal::full: return "the journal of the hull is full";
+        case Refusal::busy: return "the hull is in use by others";
         case Refusal::vacant: return "the seat was given back";
         case Refusal::ended: return "it was moved away";
         case Refusal::no_journal: return "the text is none of a journal, from this line on";
         case Refusal::old_rules: return "points are not counted in journals before version 3";
         case Refusal::illegal: return "the journal is no legal history, from this line of its text on";
         case Refusal::too_few_seats: return "the journal has lines by as many seats as this";
+        case Refusal::no_file: return "a call on the file of the journal was refused, with this errno";
+        case Refusal::damaged: return "the file is damaged, or none of a journal, from this line on";
         }
         return "the call was refused";
     }
@@ -247,6 +255,28 @@ template <class Write> std::string text(Write write) {
             fault(r.code);
         }
         resize(out, r.number);
+    }
+}
+
+// Writes a text to a stream, some thousand bytes at a time, of which `write`, a call with a line, an array and its length, writes pieces:
+// no more than those and the longest line are in memory.
+template <class Write> void pieces(std::ostream &out, Write write) {
+    std::vector<std::uint8_t> piece;
+    resize(piece, 1 << 16);
+    for (std::uint64_t line = 0;;) {
+        const hull_reply r = write(line, piece.data(), piece.size());
+        if (r.code == HULL_TOO_SMALL) {
+            resize(piece, r.number);
+            continue;
+        }
+        if (r.code != HULL_TEXT) {
+            fault(r.code);
+        }
+        if (r.number == 0) {
+            return;
+        }
+        out.write(reinterpret_cast<const char *>(piece.data()), static_cast<std::streamsize>(r.number));
+        line = r.high;
     }
 }
 
@@ -702,6 +732,9 @@ public:
         hull_shared_line_init(&line_, 1);
     }
     ~Desk() {
+        if (journal_ != nullptr) {
+            hull_shared_journal_close(journal_);
+        }
         hull_shared_close(at_);
         hull_shared_end(at_);
         hull_shared_desk_free(at_);
@@ -714,8 +747,23 @@ private:
     friend class SharedHull;
     friend class Seat;
     std::mutex lock_; // one call at a time on the desk; calls of seats don't take it
+    // What is safe of the journal in the file, as a call of hull_shared_journal tells it.
+    template <class Ask> std::uint64_t safe(const Ask &ask) {
+        const std::shared_lock<std::shared_mutex> kept(journal_lock_);
+        if (journal_ == nullptr) {
+            told::fault(HULL_NOT_OPEN);
+        }
+        const hull_reply r = ask(journal_);
+        if (r.code != HULL_SAFE) {
+            told::fault(r.code, r.code == HULL_NO_FILE ? r.high : 0);
+        }
+        return r.number;
+    }
+
     hull_shared_desk *at_;
     hull_shared_line line_;
+    std::shared_mutex journal_lock_; // taken by close alone; shared by who asks what is safe
+    hull_shared_journal *journal_ = nullptr;
 };
 
 // Lines that a drain took out of a journal. They are kept until the part ends.
@@ -728,23 +776,9 @@ public:
 
     // Writes that text to a stream, some thousand bytes at a time: no more than those and the longest line are in memory.
     void write_to(std::ostream &out) const {
-        std::vector<std::uint8_t> piece;
-        told::resize(piece, 1 << 16);
-        for (std::uint64_t line = 0;;) {
-            const hull_reply r = hull_shared_part_text_from(alive(), line, piece.data(), piece.size());
-            if (r.code == HULL_TOO_SMALL) {
-                told::resize(piece, r.number);
-                continue;
-            }
-            if (r.code != HULL_TEXT) {
-                told::fault(r.code);
-            }
-            if (r.number == 0) {
-                return;
-            }
-            out.write(reinterpret_cast<const char *>(piece.data()), static_cast<std::streamsize>(r.number));
-            line = r.high;
-        }
+        told::pieces(out, [at = alive()](std::uint64_t line, std::uint8_t *piece, std::size_t room) {
+            return hull_shared_part_text_from(at, line, piece, room);
+        });
     }
 
 private:
@@ -778,7 +812,7 @@ public:
             give_back();
             desk_ = std::move(other.desk_);
             at_ = std::move(other.at_);
-            number_ = other.number_, turn_ = other.turn_, corners_ = other.corners_;
+            number_ = other.number_, turn_ = other.turn_, corners_ = other.corners_, patience_ = other.patience_;
         }
         return *this;
     }
@@ -799,6 +833,10 @@ public:
     // The number of the seat's last call that was served, under which it has its line in the journal.
     std::optional<std::uint64_t> turn() const noexcept { return turn_; }
 
+    // How long calls of the seat wait until they come in, or for room: for ever, as a seat begins, with nothing, and not at all with no
+    // time. Where they have not come in by then: Refusal::busy, and no call was made.
+    void wait_at_most(std::optional<std::chrono::nanoseconds> time) noexcept { patience_ = time; }
+
     std::uint32_t add(Point p) { return told::times_added(call(HULL_KIND_ADD, p)); }
     std::optional<std::uint32_t> remove(Point p) { return told::times_left(call(HULL_KIND_REMOVE, p)); }
     Place place(Point p) { return told::place(call(HULL_KIND_PLACE, p)); }
@@ -814,8 +852,19 @@ public:
             told::fault(HULL_VACANT);
         }
         JournalPart part(hull_shared_capacity(at_.get()));
-        told_of(hull_shared_drain(&desk_->line_, at_.get(), part.at_.get(), HULL_KIND_COUNT, 0, 0));
+        told_of(hull_shared_call_into(&desk_->line_, at_.get(), HULL_KIND_COUNT, 0, 0, {nullptr, 0, part.at_.get()}, until()));
         return part;
+    }
+
+    // Waits until the lines of all calls of the seat are in the file of a hull that keeps one (SharedHull::keep), for as long as calls of
+    // the seat wait: Refusal::busy, no_file; not_open where there is no file.
+    void wait_safe() {
+        if (!at_) {
+            told::fault(HULL_VACANT);
+        }
+        desk_->safe([this](hull_shared_journal *at) {
+            return turn_ ? hull_shared_journal_wait(at, *turn_, until()) : hull_shared_journal_safe(at);
+        });
     }
 
     // The corners. They are asked for with room for as many as there were before, and again where there are more: each asking
@@ -840,7 +889,7 @@ private:
             told::fault(HULL_NO_MEMORY);
         }
         const std::lock_guard<std::mutex> lock(desk_->lock_);
-        const std::uint32_t code = hull_shared_lend(desk_->at_, at.get(), number);
+        const std::uint32_t code = hull_shared_lend(desk_->at_, &desk_->line_, at.get(), number);
         if (code != HULL_LENT) {
             told::fault(code);
         }
@@ -852,12 +901,22 @@ private:
             told::fault(HULL_VACANT);
         }
         const hull_shared_target to = {out, room, nullptr};
-        return told_of(hull_shared_call_into(&desk_->line_, at_.get(), kind, p.x, p.y, to));
+        return told_of(hull_shared_call_into(&desk_->line_, at_.get(), kind, p.x, p.y, to, until()));
+    }
+
+    // Until when a call that begins now waits.
+    std::uint64_t until() const noexcept {
+        if (!patience_) {
+            return HULL_SHARED_NEVER;
+        }
+        const std::uint64_t now = hull_shared_now(), time = static_cast<std::uint64_t>(patience_->count());
+        return patience_->count() <= 0 ? 0 : time < HULL_SHARED_NEVER - now ? now + time : HULL_SHARED_NEVER;
     }
 
     hull_reply told_of(const hull_shared_reply &r) {
         switch (r.told.code) {
         case HULL_FULL:
+        case HULL_BUSY:
         case HULL_OUT_OF_RANGE:
         case HULL_ZERO_DIRECTION: told::fault(r.told.code);
         default:
@@ -873,6 +932,7 @@ private:
     std::uint32_t number_;
     std::optional<std::uint64_t> turn_;
     std::size_t corners_ = 64;
+    std::optional<std::chrono::nanoseconds> patience_;
 };
 
 // One hull that up to HULL_SHARED_SEATS_MAX threads change and question at once, each by a seat of its own. Each call takes
@@ -900,15 +960,50 @@ public:
         return hull;
     }
 
+    // A hull whose journal is kept in a file, which is made, or gone on with: the hull holds what it left then, and the limit is its own.
+    // Its thread writes the lines to the file when it is asked to (sync, Seat::wait_safe), each `every` unless that is 0, and where half of
+    // limits.capacity are held; calls wait for room. limits.first is not read, and limits.seats is at most HULL_SHARED_SEATS_MAX - 1.
+    // Refusal::no_file, damaged, illegal, and those of opening. No seat of such a hull is drained by its caller.
+    static SharedHull keep(const std::string &path, Limits limits, std::chrono::nanoseconds every = std::chrono::nanoseconds(0)) {
+        SharedHull hull(new_desk());
+        Desk &desk = *hull.desk_;
+        hull_shared_journal *journal = nullptr;
+        hull_reply r = hull_shared_journal_open(path.c_str(), &journal);
+        opened(r.code, r.number);
+        r = hull_shared_journal_start(journal, desk.at_, &desk.line_, limits.points, limits.capacity, limits.seats,
+                                      static_cast<std::uint64_t>(every.count()));
+        if (r.code != HULL_OPEN) {
+            hull_shared_journal_close(journal);
+        }
+        opened(r.code, r.number);
+        desk.journal_ = journal;
+        return hull;
+    }
+
+    // The number of the first line that is not safe in the file: those before it are there for good. Refusal::no_file where a write was
+    // refused: nothing more will be safe; not_open where the hull keeps no file, or is closed.
+    std::uint64_t safe() const { return desk()->safe(hull_shared_journal_safe); }
+
+    // Waits until the lines of all calls are safe that were answered before; the number of the first line that is not.
+    std::uint64_t sync() const {
+        return desk()->safe([](hull_shared_journal *at) { return hull_shared_journal_sync(at, HULL_SHARED_NEVER); });
+    }
+
     // Whether a call that finds no room waits until a drain has made some. Before a seat is lent.
     void wait_for_room(bool waits) { hull_shared_line_wait_for_room(&desk()->line_, waits ? 1 : 0); }
 
     // Has the hull drained by itself, as hull_shared_line_on_half_full says; the hook throws nothing. Before a seat is lent.
     void on_half_full(hull_shared_hook *hook, void *context) {
+        if (desk()->journal_ != nullptr) {
+            told::fault(HULL_SEATS_OUT); // that of its file
+        }
         if (hull_shared_line_on_half_full(&desk()->line_, hook, context) == 0) {
             told::fault(HULL_NO_MEMORY);
         }
     }
+
+    // How the calls of the hull's seats stand, as hull_shared_stats says. It waits for nothing.
+    hull_shared_state stats() const { return hull_shared_stats(&desk()->line_); }
 
     // A hull that goes on where a journal ends, with the points that it left: `text` is the journal's, whole, whose lines count as
     // taken out. Refusal::no_journal, old_rules, too_few_seats, illegal, and those of opening.
@@ -923,18 +1018,43 @@ public:
     // Lends the seat of a number, 0 and up.
     Seat lend(std::uint32_t number) { return Seat(desk(), number); }
 
-    // Closes the hull, unless it is closed; the text of its journal, which the program hullbook judges. Refusal::seats_out
-    // where a seat is out: the hull stays open. Refusal::no_memory where there is none for the text: this may be called again.
+    // Closes the hull, unless it is closed; the text of its journal, which the program hullbook judges, and which stands last in the file
+    // that the hull keeps, if it does (Refusal::no_file where it does not). Refusal::seats_out where a seat is out: the hull stays open.
+    // Refusal::no_memory where there is none for the text: this may be called again.
     std::string close() {
         const std::lock_guard<std::mutex> lock(desk()->lock_);
+        end();
+        return told::text([this](std::uint8_t *out, std::size_t room) { return hull_shared_text(desk_->at_, out, room); });
+    }
+
+    // The same, and writes that text to a stream, some thousand bytes at a time.
+    void close_to(std::ostream &out) {
+        const std::lock_guard<std::mutex> lock(desk()->lock_);
+        end();
+        told::pieces(out, [this](std::uint64_t line, std::uint8_t *piece, std::size_t room) {
+            return hull_shared_text_from(desk_->at_, line, piece, room);
+        });
+    }
+
+private:
+    // Closes the desk, whose lock is taken, and its file, unless they are closed.
+    void end() {
+        const std::lock_guard<std::shared_mutex> kept(desk_->journal_lock_);
+        if (desk_->journal_ != nullptr) {
+            const hull_reply r = hull_shared_journal_close(desk_->journal_);
+            if (r.code != HULL_SEATS_OUT) {
+                desk_->journal_ = nullptr;
+            }
+            if (r.code != HULL_CLOSED) {
+                told::fault(r.code, r.high);
+            }
+        }
         const std::uint32_t code = hull_shared_close(desk_->at_);
         if (code != HULL_CLOSED && code != HULL_NOT_OPEN) {
             told::fault(code);
         }
-        return told::text([this](std::uint8_t *out, std::size_t room) { return hull_shared_text(desk_->at_, out, room); });
     }
 
-private:
     explicit SharedHull(std::shared_ptr<Desk> desk) : desk_(std::move(desk)) {}
 
     static std::shared_ptr<Desk> new_desk() {

@@ -101,7 +101,16 @@ typedef enum hull_code {
     HULL_ILLEGAL = 59,       /* the journal is no legal history: line `number` of its text, from 1, is the first that is not right */
     HULL_TOO_FEW_SEATS = 60, /* the journal has lines by `number` seats (0 to `number` - 1), more than were asked for */
 
-    HULL_NO_OUTLINE = 61     /* the array is no outline; told in a checked build alone (HULL_CHECKED in hull.h) */
+    HULL_NO_OUTLINE = 61,    /* the array is no outline; told in a checked build alone (HULL_CHECKED in hull.h) */
+
+    /* of lines, in which calls of seats wait, alone */
+    HULL_BUSY = 62,          /* the door did not open in time: no number was taken, and no call made */
+    HULL_OTHER_LINE = 63,    /* the line is that of another desk, or the seat was lent with another: no call was made */
+
+    /* of files that keep a journal alone */
+    HULL_NO_FILE = 64,       /* the system refused a call on the file: errno is told with it */
+    HULL_DAMAGED = 65,       /* line `number` of the file, from 1, is wrong, and more than a torn part stands from there on */
+    HULL_SAFE = 66           /* the lines before line `number` are in the file for good */
 } hull_code;
 
 /* What a call was answered: a code (hull_code), and what belongs to it (told above); all else is 0. */
@@ -198,6 +207,11 @@ static inline const char *hull_code_name(uint32_t code) {
     case HULL_ILLEGAL: return "HULL_ILLEGAL";
     case HULL_TOO_FEW_SEATS: return "HULL_TOO_FEW_SEATS";
     case HULL_NO_OUTLINE: return "HULL_NO_OUTLINE";
+    case HULL_BUSY: return "HULL_BUSY";
+    case HULL_OTHER_LINE: return "HULL_OTHER_LINE";
+    case HULL_NO_FILE: return "HULL_NO_FILE";
+    case HULL_DAMAGED: return "HULL_DAMAGED";
+    case HULL_SAFE: return "HULL_SAFE";
     default: return "no code";
     }
 }

@@ -9,11 +9,14 @@
  * are back, the desk is closed (hull_shared_close), its journal is written (hull_shared_text), and the desk ends
  * (hull_shared_end). Beside each desk stands a hull_shared_line, in which its calls wait.
  *
+ * The calls on desks, seats and parts are proved. Those on lines and on files (hull_shared_journal) are C over them, which is tested:
+ * archive/line.c and archive/journal.c, compiled into the archive.
+ *
  *     hull_shared_desk *desk = hull_shared_desk_new();
  *     hull_shared_seat *seat = hull_shared_seat_new();          // one for each thread
  *     static hull_shared_line line;                             // all zero; one for the desk
  *     hull_shared_open(desk, 1000, 0, 4096, 2);
- *     hull_shared_lend(desk, seat, 0);
+ *     hull_shared_lend(desk, &line, seat, 0);
  *     hull_shared_call(&line, seat, HULL_KIND_ADD, 3, 4);       // in the thread of that seat
  *
  * A desk holds at most as many lines of its journal as it was opened for. Where it holds as many, a call is answered FULL, and
@@ -21,7 +24,8 @@
  * lines that are held out into a part, whose text is written to a file (hull_shared_part_text). The parts in their order, and
  * last the text of the closed desk, are the whole journal; its numbers have no gaps. A line can wait for room
  * (hull_shared_line_wait_for_room), and drain by itself (hull_shared_line_on_half_full). What was not drained is lost where the
- * program crashes, and what was drained and not yet written. Or the desk keeps no lines (hull_shared_open_without_journal).
+ * program crashes, and what was drained and not yet written; hull_shared_journal_start keeps it in a file. Or the desk keeps no lines
+ * (hull_shared_open_without_journal).
  *
  * hull_shared_desk_new, hull_shared_seat_new and hull_shared_part_new make desks, seats and parts in memory from malloc. Or
  * they lie in rooms that the caller gives: of hull_shared_desk_size() bytes at a multiple of hull_shared_desk_alignment(), and
@@ -34,7 +38,7 @@
  * - on one desk there is one call at a time, and so on one room for a seat, and on one part. Different seats are independent:
  *   that is what they are for. A desk or a room may pass from thread to thread, if the threads order that between them (a
  *   start, a join, a lock);
- * - a seat is given back to the desk that it went out of, and all calls of a desk's seats are passed that desk's line;
+ * - a seat is given back to the desk that it went out of;
  * - an array that is passed has the length that is told, and overlaps nothing; one of no elements may be null. One for corners was
  *   written before (calloc does that); one for a text need not be: it is filled with zeros first;
  * - no call is made from a signal handler, nor in the child of a fork of a process with threads;
@@ -46,26 +50,8 @@
 
 #include "hull_common.h"
 
-#if defined(__unix__) || defined(__APPLE__)
-#include <sched.h>
-#endif
-/* Threads sleep by futex, or by a mutex and a condition of pthreads where there is none. */
-#if defined(__linux__)
-#include <linux/futex.h>
-#include <sys/syscall.h>
-#include <unistd.h>
-#endif
-#if !defined(SYS_futex) && !defined(HULL_SHARED_BY_PTHREADS)
-#define HULL_SHARED_BY_PTHREADS
-#endif
-#if defined(HULL_SHARED_BY_PTHREADS)
-#include <pthread.h>
-#endif
-
 #ifdef __cplusplus
 extern "C" {
-#elif !defined(HULL_SHARED_BY_PTHREADS)
-long syscall(long number, ...); /* which unistd.h leaves out under -std=c99 */
 #endif
 
 /* How many calls and how many seats a desk may be opened with. */
@@ -91,6 +77,14 @@ typedef struct hull_shared_desk hull_shared_desk;
 typedef struct hull_shared_seat hull_shared_seat;
 typedef struct hull_shared_part hull_shared_part;
 
+/* Where the calls of one desk wait. All zero, it is ready, as of `static hull_shared_line line;`; it needs no end, unless it has a
+ * hook (hull_shared_line_end). Nobody but the calls of this header reads or writes it, or moves it while a seat is out that was lent
+ * with it. */
+#define HULL_SHARED_LINE_WORDS 1088
+typedef struct hull_shared_line {
+    uint64_t words[HULL_SHARED_LINE_WORDS];
+} hull_shared_line;
+
 /* How many bytes a room has, and at which multiples of bytes it begins. */
 size_t hull_shared_desk_size(void);
 size_t hull_shared_desk_alignment(void);
@@ -99,11 +93,17 @@ size_t hull_shared_seat_alignment(void);
 size_t hull_shared_part_size(void);
 size_t hull_shared_part_alignment(void);
 
+/* A room for a seat has behind the proved seat the line that it was lent with, and its number. */
+size_t hull_shared_seat_size_with_line(void);
+#define hull_shared_seat_size hull_shared_seat_size_with_line
+
 /* Make a desk that is not open, a room with no seat, and a part that holds nothing. What lay there is written over. They ask
  * for no memory. */
 void hull_shared_make_desk(hull_shared_desk *room);
 void hull_shared_make_seat(hull_shared_seat *room);
 void hull_shared_make_part(hull_shared_part *room);
+void hull_shared_make_seat_with_line(hull_shared_seat *room);
+#define hull_shared_make_seat hull_shared_make_seat_with_line
 
 /* The same in memory from malloc; null where it refuses. */
 static inline hull_shared_desk *hull_shared_desk_new(void) {
@@ -183,11 +183,17 @@ static inline hull_reply hull_shared_reopen_answering_or_null(hull_shared_desk *
 }
 #define hull_shared_reopen_answering hull_shared_reopen_answering_or_null
 
-/* Moves seat `number` into the room: LENT; NOT_OPEN, ROOM_IN_USE, NO_SEAT, NO_MEMORY. */
+/* Moves seat `number` into the room, for calls that wait in this line: LENT; OTHER_LINE where a seat of another desk is out that was
+ * lent with this line, NOT_OPEN, ROOM_IN_USE, NO_SEAT, NO_MEMORY. From the first seat that goes out with it until the last is back the
+ * line is this desk's. The line is null where the seat's number is looked for by its caller alone (hull_shared_take). */
 uint32_t hull_shared_lend(hull_shared_desk *desk, hull_shared_seat *room, uint32_t number);
+uint32_t hull_shared_lend_with_line(hull_shared_desk *desk, hull_shared_line *line, hull_shared_seat *room, uint32_t number);
+#define hull_shared_lend hull_shared_lend_with_line
 
 /* Moves the seat in the room back to the desk that it went out of: RETURNED; NOT_OPEN, VACANT, WAITING, PLACE_IN_USE. */
 uint32_t hull_shared_give_back(hull_shared_desk *desk, hull_shared_seat *room);
+uint32_t hull_shared_give_back_with_line(hull_shared_desk *desk, hull_shared_seat *room);
+#define hull_shared_give_back hull_shared_give_back_with_line
 
 /* Takes a number for a call of a kind (hull_kind, but for HULL_KIND_MULTIPLICITY, which a journal has no line for): TAKEN;
  * VACANT, WAITING, UNKNOWN_KIND, OUT_OF_RANGE, ZERO_DIRECTION. Once a number is taken, the seat has to look until it is
@@ -293,427 +299,174 @@ static inline hull_reply hull_shared_part_text_size(const hull_shared_part *part
 
 /* ---- waiting
  *
- * The library neither sleeps nor wakes: a seat with a number looks, and in between this header waits, in a line that all
- * seats of a desk share. What is proved of the library holds however its callers wait; that none of them sleeps for ever
- * rests on what is said here.
+ * The proved library neither sleeps nor wakes: a seat with a number looks, and in between the calls below wait in a line
+ * (archive/line.c, which says why none of them sleeps for ever).
  *
- * 1. A seat with a number sleeps at the place of its number (modulo 64: at most 64 numbers are out, so that no two seats have
- *    one place). It announces itself there (waiters + 1), reads the place's epoch, and looks once more; only then it sleeps,
- *    unless the epoch has changed since. Who was served has handed the next number on; where it then finds an announcement at
- *    that number's place, it changes the epoch and wakes. All these steps have one order, in which each thread's keep theirs.
- *    If the last look did not see the number handed on, then the hand-over came behind that look, and so behind the
- *    announcement and the reading of the epoch: it finds the one and changes the other. Either the sleeper is asleep by then
- *    and is woken, or it finds another epoch and does not fall asleep.
+ * A number in other hands is waited for, and its thread may have no processor. So a call waits at a door before it takes its
+ * number, and one call is inside at a time (hull_shared_line_init takes another number). Who finds the door shut looks for a moment,
+ * and sleeps outside, in the order of coming. Calls that begin now may pass those that sleep, which saves a wake-up for each call, but
+ * not for ever: who leaves makes the first of the sleepers the next, by its name, and when half a millisecond has gone since the last
+ * of them came in (HULL_SHARED_TURN), the door is closed to all others until that one is in. So who sleeps behind k others comes in
+ * after at most k + 1 such turns, each longer by the call that is inside when it ends and by one wake-up.
  *
- * 2. A number in other hands is waited for, and its thread may have no processor. So hull_shared_call stops at a door before
- *    it takes a number: `beside` + 1 calls may be inside. Who finds the door shut looks for a moment, is counted as asleep
- *    outside, and sleeps. Who leaves makes one of the sleepers the heir and wakes it, and wakes no other as long as an heir
- *    is awake. Calls that begin now may pass the sleepers, which saves a wake-up for each call, but not for ever: behind
- *    HULL_SHARED_IN_A_ROW calls since the last heir came in, the door is closed to all but the heir. The door is one word, so
- *    that its changes have one order. As long as fewer are inside than may be, and some are asleep outside or the door is
- *    closed, an heir is awake, who will look: who lies down finds the door full, or closed, where an heir is awake already;
- *    an heir lies down only where it is full; and who leaves makes an heir where some are asleep and there is none. (Dice and
- *    Kogan, 2019, restrict in this way how many threads contend for a lock.)
+ * Each of these calls
+ * - leaves errno as it was;
+ * - is no point at which a thread is cancelled (pthread_cancel), neither while it sleeps nor in a hook: who was cancelled meets that
+ *   behind the call. It is never made with cancelling that is asynchronous. Who wants to give up makes a call with a deadline;
+ * - wants no library of threads: on Linux threads sleep by futex, elsewhere, or where line.c is compiled with
+ *   HULL_SHARED_BY_PTHREADS, by mutexes and conditions of pthreads. Deadlines are of CLOCK_MONOTONIC.
  *
- * 3. A call that found no room, where the line waits for some, sleeps outside the door and with no number, by a word that each
- *    drain changes behind its look. It read that word before it took its number: a drain that came behind its call changes the
- *    word behind that reading, so that it does not fall asleep, or is woken, as all are who sleep so. Who drained for the hook
- *    changes the word once more when the hook has ended, since another may have to drain then. */
-#define HULL_SHARED_IN_A_ROW 256
+ * A thread that ends or is stopped for good inside the door keeps its number, and all others wait: hull_shared_stats tells its
+ * seat. Nothing takes a number back, since what was begun there may be half done. */
 
-/* A place to sleep; apart from the next one by a line of the cache. */
-typedef struct hull_shared_place {
-    uint32_t epoch;
-    uint32_t waiters;
-    unsigned char apart[56];
-} hull_shared_place;
+/* How long calls that begin may pass those that sleep outside, in nanoseconds. */
+#define HULL_SHARED_TURN 500000
 
-/* Where the calls of one desk wait. All zero, it is ready, as of `static hull_shared_line line;` (where there is no futex by
- * hull_shared_line_init alone); it needs no end. It may be made anew only when no call waits in it. */
-typedef void hull_shared_hook(void *context, const hull_shared_part *part);
-typedef struct hull_shared_line {
-    uint32_t beside;     /* how many calls may be inside at once, less one */
-    uint32_t served;     /* the number served of late, in its lower bits; it only tells who is near its turn */
-    uint32_t in_a_row;   /* the calls since the last heir came in */
-    unsigned char apart[52];
-    uint32_t door;       /* calls inside; HULL_SHARED_HEIR and _CLOSED; HULL_SHARED_ASLEEP for each who sleeps outside */
-    uint32_t heirs;      /* who was made heir and is still to learn it: 0 or 1 */
-    unsigned char outside[56];
-    hull_shared_place places[HULL_SHARED_SEATS_MAX];
-    uint32_t waits;      /* whether a call that found no room waits for some */
-    uint32_t drains;     /* changed when there may be room again; who waits for room sleeps by it */
-    uint32_t draining;   /* whether a thread drains for the hook */
-    hull_shared_hook *hook;
-    void *context;
-    hull_shared_part *part;
-#if defined(HULL_SHARED_BY_PTHREADS)
-    pthread_mutex_t lock;
-    pthread_cond_t changed;
-#endif
-} hull_shared_line;
-
-enum {
-    HULL_SHARED_INSIDE = 255,        /* the bits of the door that count who is inside */
-    HULL_SHARED_HEIR = 256,          /* an heir is awake */
-    HULL_SHARED_CLOSED = 512,        /* only the heir may come in */
-    HULL_SHARED_ASLEEP = 1024,
-    HULL_SHARED_NEAR = 2,            /* so many numbers before its own a seat is near its turn */
-    HULL_SHARED_LOOKS = 20,          /* so often one looks near its turn, or outside, before it sleeps */
-    HULL_SHARED_HEIRS_LOOKS = 200    /* and an heir, since who leaves has to wake one again */
-};
-
-/* What tests put between two steps, to hold a thread up there. */
-#ifndef HULL_SHARED_STEP
-#define HULL_SHARED_STEP(name) ((void)0)
-#endif
-
-/* Makes a line in which `inside` calls may have numbers at once, 1 to 64. With 1, which is what all zero means, calls are
- * fast and served as said above; with as many as there are seats each call is served in the order in which the calls began,
- * and waits for every one before it to be made by its own thread. */
-static inline void hull_shared_line_init(hull_shared_line *line, uint32_t inside) {
-    memset(line, 0, sizeof *line);
-    line->beside = inside < 1 || inside > HULL_SHARED_SEATS_MAX ? 0 : inside - 1;
-#if defined(HULL_SHARED_BY_PTHREADS)
-    pthread_mutex_init(&line->lock, NULL);
-    pthread_cond_init(&line->changed, NULL);
-#endif
-}
+/* Makes a line in which `inside` calls may have numbers at once: 1; or 0 where that is not 1 to 64, and the line is as it was. With
+ * 1, which is what all zero means, calls are fast and come in as said above; with as many as there are seats each call is served in
+ * the order in which the calls began, and waits for every one before it to be made by its own thread. It may be made anew only when
+ * no seat is out that was lent with it. */
+int hull_shared_line_init(hull_shared_line *line, uint32_t inside);
 
 /* Whether a call that finds no room waits until a drain has made some, and is made then, in place of being answered FULL. It has
  * no number meanwhile, and stands outside the door. Some thread has to drain, or the line has a hook. */
-static inline void hull_shared_line_wait_for_room(hull_shared_line *line, int waits) {
-    line->waits = waits != 0;
-}
+void hull_shared_line_wait_for_room(hull_shared_line *line, int waits);
 
 /* Has the desk drained by itself: the thread whose call finds half of the lines held, or no room, takes them out by its seat,
  * asking how many points there are, and then calls `hook` with `context` and the part, beside the calls of others. One thread
  * does so at a time, so that the parts come in their order; the part has its room again behind that. The hook may read the part
- * (hull_shared_part_text, hull_shared_part_text_from) and no more, and makes no call by the seat of its thread. Where calls
- * outrun it, they are answered FULL, or wait (hull_shared_line_wait_for_room). 1, or 0 where memory is refused to the part; a
- * line that has a hook is given up by hull_shared_line_end. */
-static inline int hull_shared_line_on_half_full(hull_shared_line *line, hull_shared_hook *hook, void *context) {
-    if (line->part == NULL) {
-        line->part = hull_shared_part_new();
-    }
-    line->context = context;
-    line->hook = line->part == NULL ? NULL : hook;
-    return line->part != NULL;
-}
+ * (hull_shared_part_text, hull_shared_part_text_from) and no more, returns to its caller (no longjmp, no exception), and makes no call
+ * by the seat of its thread. Where calls outrun it, they are answered FULL, or wait (hull_shared_line_wait_for_room). 1, or 0 where
+ * memory is refused to the part; a line that has a hook is given up by hull_shared_line_end. Before a seat is lent with the line. */
+typedef void hull_shared_hook(void *context, const hull_shared_part *part);
+int hull_shared_line_on_half_full(hull_shared_line *line, hull_shared_hook *hook, void *context);
 
-/* Gives the memory of a line back that has a hook, once no call waits in it. */
-static inline void hull_shared_line_end(hull_shared_line *line) {
-    if (line->part != NULL) {
-        hull_shared_part_end(line->part);
-        hull_shared_part_free(line->part);
-    }
-    line->part = NULL;
-    line->hook = NULL;
-}
+/* Drains for the hook by this seat now, behind a drain that is under way, however few lines are held: 1, or 0 where the line has no
+ * hook or is not the seat's, or memory is refused. */
+int hull_shared_line_drain(hull_shared_line *line, hull_shared_seat *seat);
 
-/* Sleeps until someone wakes who sleeps by this word, unless the word is no longer `seen`; it may return before. */
-static inline void hull_shared_sleep(hull_shared_line *line, uint32_t *word, uint32_t seen) {
-#if defined(HULL_SHARED_BY_PTHREADS)
-    pthread_mutex_lock(&line->lock);
-    if (__atomic_load_n(word, __ATOMIC_SEQ_CST) == seen) {
-        pthread_cond_wait(&line->changed, &line->lock);
-    }
-    pthread_mutex_unlock(&line->lock);
-#else
-    (void)line;
-    syscall(SYS_futex, word, FUTEX_WAIT_PRIVATE, seen, NULL, NULL, 0);
-#endif
-}
+/* Gives the memory of a line back that has a hook, once no seat is out that was lent with it. */
+void hull_shared_line_end(hull_shared_line *line);
 
-/* Wakes so many who sleep by this word, which was changed before. */
-static inline void hull_shared_wake_some(hull_shared_line *line, uint32_t *word, int many) {
-#if defined(HULL_SHARED_BY_PTHREADS)
-    (void)word;
-    (void)many;
-    pthread_mutex_lock(&line->lock);
-    pthread_cond_broadcast(&line->changed);
-    pthread_mutex_unlock(&line->lock);
-#else
-    (void)line;
-    syscall(SYS_futex, word, FUTEX_WAKE_PRIVATE, many, NULL, NULL, 0);
-#endif
-}
+/* Makes a call of a kind (hull_kind) by a seat that was lent with this line, and waits for its answer, which is the kind's, or FULL,
+ * unless the line waits for room. Where no number was taken: OTHER_LINE where the seat was lent with another line or with none, and
+ * else the code of hull_shared_take: VACANT, WAITING, UNKNOWN_KIND, OUT_OF_RANGE, ZERO_DIRECTION. Of a list of corners it tells how
+ * many they are. Where the line has a hook, the call may drain for it behind its answer. */
+hull_shared_reply hull_shared_call(hull_shared_line *line, hull_shared_seat *seat, uint32_t kind, int64_t x, int64_t y);
 
-static inline void hull_shared_wake(hull_shared_line *line, uint32_t *word) {
-    hull_shared_wake_some(line, word, 1);
-}
+/* The same, but it does not wait: BUSY where a call is inside the door, or the door is closed for one that sleeps; no number was
+ * taken then, and no call made. FULL at once, also where the line waits for room. */
+hull_shared_reply hull_shared_try_call(hull_shared_line *line, hull_shared_seat *seat, uint32_t kind, int64_t x, int64_t y);
 
-/* Wakes all who wait for room. */
-static inline void hull_shared_room_again(hull_shared_line *line) {
-    __atomic_fetch_add(&line->drains, 1, __ATOMIC_SEQ_CST);
-    hull_shared_wake_some(line, &line->drains, 0x7fffffff);
-}
+/* The same, but it waits no longer at the door, or for room, than until hull_shared_now() is `until`: BUSY where it had not come in by
+ * then, FULL where there was no room by then; no call was made then. A number once taken is waited for, and a hook is run to its
+ * end. */
+hull_shared_reply hull_shared_call_until(hull_shared_line *line, hull_shared_seat *seat, uint32_t kind, int64_t x, int64_t y,
+                                         uint64_t until);
 
-/* Waits a little between two looks: a pause, longer each time up to 64. */
-static inline void hull_shared_pause(unsigned looks) {
-    unsigned i;
-    for (i = 0; i < (1u << (looks < 6 ? looks : 6)); i++) {
-#if defined(__x86_64__) || defined(__i386__)
-        __builtin_ia32_pause();
-#elif defined(__aarch64__)
-        __asm__ volatile("yield");
-#endif
-    }
-}
+/* Nanoseconds of a clock that never goes back, for deadlines. */
+uint64_t hull_shared_now(void);
 
-/* Comes in by the door, if it is open: to an heir also where it is closed to others. It may fail where others change the
- * door. */
-static inline int hull_shared_comes_in(hull_shared_line *line, int is_heir) {
-    uint32_t door = __atomic_load_n(&line->door, __ATOMIC_RELAXED), next = door + 1;
-    if ((door & HULL_SHARED_INSIDE) > line->beside || ((door & HULL_SHARED_CLOSED) != 0 && !is_heir)) {
-        return 0;
-    }
-    if (is_heir) {
-        next &= ~(uint32_t)(HULL_SHARED_HEIR | HULL_SHARED_CLOSED);
-    }
-    return __atomic_compare_exchange_n(&line->door, &door, next, 0, __ATOMIC_SEQ_CST, __ATOMIC_RELAXED);
-}
-
-/* Is counted as asleep outside, if the door is not open to it; an heir is none any more then. */
-static inline int hull_shared_lies_down(hull_shared_line *line, int is_heir) {
-    uint32_t door = __atomic_load_n(&line->door, __ATOMIC_RELAXED), next = door + HULL_SHARED_ASLEEP;
-    if ((door & HULL_SHARED_INSIDE) <= line->beside && ((door & HULL_SHARED_CLOSED) == 0 || is_heir)) {
-        return 0;
-    }
-    if (is_heir) {
-        next &= ~(uint32_t)HULL_SHARED_HEIR;
-    }
-    return __atomic_compare_exchange_n(&line->door, &door, next, 0, __ATOMIC_SEQ_CST, __ATOMIC_RELAXED);
-}
-
-/* Sleeps outside until it is made the heir. */
-static inline void hull_shared_become_heir(hull_shared_line *line) {
-    for (;;) {
-        uint32_t one = 1;
-        if (__atomic_compare_exchange_n(&line->heirs, &one, 0, 0, __ATOMIC_SEQ_CST, __ATOMIC_SEQ_CST)) {
-            return;
-        }
-        HULL_SHARED_STEP("no heir yet");
-        hull_shared_sleep(line, &line->heirs, 0);
-    }
-}
-
-/* Waits at the door, and comes in. */
-static inline void hull_shared_enter(hull_shared_line *line) {
-    int is_heir = 0;
-    unsigned looks = 0;
-    while (!hull_shared_comes_in(line, is_heir)) {
-        if (looks < (is_heir ? HULL_SHARED_HEIRS_LOOKS : HULL_SHARED_LOOKS)) {
-            hull_shared_pause(looks++);
-            continue;
-        }
-        HULL_SHARED_STEP("the door was shut");
-        if (hull_shared_lies_down(line, is_heir)) {
-            HULL_SHARED_STEP("counted as asleep");
-            hull_shared_become_heir(line);
-            is_heir = 1;
-            looks = 0;
-        }
-    }
-    if (is_heir) {
-        __atomic_store_n(&line->in_a_row, 0, __ATOMIC_RELAXED);
-    }
-}
-
-/* Leaves by the door; wakes an heir where some sleep outside and none is awake. */
-static inline void hull_shared_leave(hull_shared_line *line) {
-    uint32_t row = __atomic_load_n(&line->in_a_row, __ATOMIC_RELAXED) + 1;
-    uint32_t door = __atomic_load_n(&line->door, __ATOMIC_RELAXED), next, wakes;
-    __atomic_store_n(&line->in_a_row, row, __ATOMIC_RELAXED);
-    do {
-        next = door - 1;
-        wakes = door >= HULL_SHARED_ASLEEP && (door & HULL_SHARED_HEIR) == 0;
-        if (wakes) {
-            next = (next - HULL_SHARED_ASLEEP) | HULL_SHARED_HEIR;
-        }
-        if (row >= HULL_SHARED_IN_A_ROW && (next & HULL_SHARED_HEIR) != 0) {
-            next |= HULL_SHARED_CLOSED;
-        }
-    } while (!__atomic_compare_exchange_n(&line->door, &door, next, 0, __ATOMIC_SEQ_CST, __ATOMIC_RELAXED));
-    if (wakes) {
-        HULL_SHARED_STEP("left, to wake");
-        __atomic_store_n(&line->heirs, 1, __ATOMIC_SEQ_CST);
-        hull_shared_wake(line, &line->heirs);
-    }
-}
-
-/* Wakes who sleeps with this number, which was handed on before. Who calls hull_shared_look on his own tells this number, the
- * turn of the reply and one more, behind each answer and HULL_FULL. */
-static inline void hull_shared_handed_on(hull_shared_line *line, uint64_t number) {
-    hull_shared_place *place = &line->places[number % HULL_SHARED_SEATS_MAX];
-    __atomic_store_n(&line->served, (uint32_t)number, __ATOMIC_RELAXED);
-    if (__atomic_load_n(&place->waiters, __ATOMIC_SEQ_CST) != 0) {
-        HULL_SHARED_STEP("to wake");
-        __atomic_fetch_add(&place->epoch, 1, __ATOMIC_SEQ_CST);
-        hull_shared_wake(line, &place->epoch);
-    }
-}
-
-/* Where a look writes to: an array for corners, or a part; neither, where both are null. */
+/* Where a call writes to: an array for corners, or a part; neither, where both are null. */
 typedef struct hull_shared_target {
     hull_point *out;
     size_t room;
     hull_shared_part *part;
 } hull_shared_target;
 
-/* Looks once; where the number was served, who waits for the next is woken. */
-static inline hull_shared_reply hull_shared_look_and_wake(hull_shared_line *line, hull_shared_seat *seat,
-                                                          hull_shared_target to) {
-    hull_shared_reply reply = to.part != NULL ? hull_shared_look_and_drain(seat, to.part)
-                              : to.out != NULL ? hull_shared_look_into(seat, to.out, to.room)
-                                               : hull_shared_look(seat);
-    if (reply.told.code != HULL_NOT_YET && reply.told.code != HULL_NO_NUMBER && reply.told.code != HULL_VACANT &&
-        reply.told.code != HULL_NO_ROOM) {
-        HULL_SHARED_STEP("served");
-        hull_shared_handed_on(line, reply.turn + 1);
-        if (to.part != NULL && reply.told.code != HULL_FULL) {
-            hull_shared_room_again(line);
-        }
-    }
-    return reply;
-}
-
-/* Sleeps at the place of the seat's number, unless a last look finds it served. */
-static inline hull_shared_reply hull_shared_sleep_and_look(hull_shared_line *line, hull_shared_seat *seat, uint64_t number,
-                                                           hull_shared_target to) {
-    hull_shared_place *place = &line->places[number % HULL_SHARED_SEATS_MAX];
-    hull_shared_reply reply;
-    uint32_t epoch;
-    __atomic_fetch_add(&place->waiters, 1, __ATOMIC_SEQ_CST);
-    epoch = __atomic_load_n(&place->epoch, __ATOMIC_SEQ_CST);
-    HULL_SHARED_STEP("announced");
-    reply = hull_shared_look_and_wake(line, seat, to);
-    if (reply.told.code == HULL_NOT_YET) {
-        HULL_SHARED_STEP("looked");
-        hull_shared_sleep(line, &place->epoch, epoch);
-    }
-    __atomic_fetch_sub(&place->waiters, 1, __ATOMIC_SEQ_CST);
-    return reply;
-}
-
-/* Waits until the number that the seat has taken is served: the answer to its call. */
-static inline hull_shared_reply hull_shared_wait(hull_shared_line *line, hull_shared_seat *seat, hull_shared_target to) {
-    hull_shared_reply reply = hull_shared_look_and_wake(line, seat, to);
-    unsigned looks = 0;
-    while (reply.told.code == HULL_NOT_YET) {
-        uint32_t before = (uint32_t)reply.turn - __atomic_load_n(&line->served, __ATOMIC_RELAXED);
-        if (before <= HULL_SHARED_NEAR && looks < HULL_SHARED_LOOKS) {
-            hull_shared_pause(looks++);
-            reply = hull_shared_look_and_wake(line, seat, to);
-        } else {
-            reply = hull_shared_sleep_and_look(line, seat, reply.turn, to);
-        }
-    }
-    return reply;
-}
-
-/* Makes a call once and waits for its answer. */
-static inline hull_shared_reply hull_shared_call_once(hull_shared_line *line, hull_shared_seat *seat, uint32_t kind, int64_t x,
-                                                      int64_t y, hull_shared_target to) {
-    hull_shared_reply reply;
-    hull_shared_enter(line);
-    reply = hull_shared_take(seat, kind, x, y);
-    if (reply.told.code == HULL_TAKEN) {
-        reply = hull_shared_wait(line, seat, to);
-    }
-    hull_shared_leave(line);
-    return reply;
-}
-
-/* Drains for the hook, unless there is none or another thread does: whether there is room again. Behind the hook those are woken
- * who wait for room, since another of them may have to drain. */
-static inline int hull_shared_drain_for_hook(hull_shared_line *line, hull_shared_seat *seat) {
-    hull_shared_target to = {NULL, 0, NULL};
-    uint32_t capacity = hull_shared_capacity(seat);
-    hull_shared_reply reply;
-    int has_room = 0;
-    if (line->hook == NULL || __atomic_exchange_n(&line->draining, 1, __ATOMIC_SEQ_CST) != 0) {
-        return 0;
-    }
-    if (hull_shared_part_room(line->part) < capacity) {
-        hull_shared_part_end(line->part);
-        hull_shared_part_reserve(line->part, capacity);
-    }
-    if (hull_shared_part_room(line->part) >= capacity) {
-        to.part = line->part;
-        reply = hull_shared_call_once(line, seat, HULL_KIND_COUNT, 0, 0, to);
-        if (reply.has_line) {
-            has_room = 1;
-            line->hook(line->context, line->part);
-            hull_shared_part_end(line->part);
-            hull_shared_part_reserve(line->part, capacity);
-        }
-    }
-    __atomic_store_n(&line->draining, 0, __ATOMIC_SEQ_CST);
-    hull_shared_room_again(line);
-    return has_room;
-}
-
-/* Makes a call and waits for its answer; where it found no room, it is made again once there is some, if the line waits or
- * drains by itself. The word that tells of room is read before a number is taken: a drain behind the call changes it. */
-static inline hull_shared_reply hull_shared_call_into(hull_shared_line *line, hull_shared_seat *seat, uint32_t kind, int64_t x,
-                                                      int64_t y, hull_shared_target to) {
-    for (;;) {
-        uint32_t drains = __atomic_load_n(&line->drains, __ATOMIC_SEQ_CST);
-        hull_shared_reply reply = hull_shared_call_once(line, seat, kind, x, y, to);
-        if (to.part != NULL) {
-            return reply;
-        }
-        if (reply.told.code != HULL_FULL) {
-            if (line->hook != NULL && reply.held > 0 && reply.held >= hull_shared_capacity(seat) / 2) {
-                hull_shared_drain_for_hook(line, seat);
-            }
-            return reply;
-        }
-        if (!hull_shared_drain_for_hook(line, seat)) {
-            if (!line->waits) {
-                return reply;
-            }
-            HULL_SHARED_STEP("no room");
-            hull_shared_sleep(line, &line->drains, drains);
-        }
-    }
-}
-
-/* Makes a call of a kind (hull_kind) and waits for its answer, which is the kind's, or FULL, unless the line waits for room. Where no number was taken, the
- * code is that of hull_shared_take: VACANT, WAITING, UNKNOWN_KIND, OUT_OF_RANGE, ZERO_DIRECTION. Of a list of corners it
- * tells how many they are. */
-static inline hull_shared_reply hull_shared_call(hull_shared_line *line, hull_shared_seat *seat, uint32_t kind, int64_t x,
-                                                 int64_t y) {
-    hull_shared_target nowhere = {NULL, 0, NULL};
-    return hull_shared_call_into(line, seat, kind, x, y, nowhere);
-}
+/* The call that all others here are made of: waits until `until`, HULL_SHARED_NEVER for no end, and not at all with 0. */
+#define HULL_SHARED_NEVER UINT64_MAX
+hull_shared_reply hull_shared_call_into(hull_shared_line *line, hull_shared_seat *seat, uint32_t kind, int64_t x, int64_t y,
+                                        hull_shared_target to, uint64_t until);
 
 /* Makes a call, as hull_shared_call does, and takes all lines that are held then out into the part: the call's own is the last
  * of them. NO_ROOM where the part has room for fewer lines than the desk of the seat holds at most: no number was taken, and no
  * call made. */
-static inline hull_shared_reply hull_shared_drain(hull_shared_line *line, hull_shared_seat *seat, hull_shared_part *part,
-                                                  uint32_t kind, int64_t x, int64_t y) {
-    hull_shared_target to = {NULL, 0, part};
-    if (hull_shared_part_room(part) < hull_shared_capacity(seat)) {
-        hull_shared_reply none;
-        memset(&none, 0, sizeof none);
-        none.told.code = HULL_NO_ROOM;
-        return none;
-    }
-    return hull_shared_call_into(line, seat, kind, x, y, to);
-}
+hull_shared_reply hull_shared_drain(hull_shared_line *line, hull_shared_seat *seat, hull_shared_part *part, uint32_t kind, int64_t x,
+                                    int64_t y);
 
 /* Asks for the corners, which are written to the front of the array as hull_vertices writes them: CORNERS; TOO_SMALL where
- * the array has no room for all, with their `number`, and then it is as it was; NO_MEMORY, FULL, VACANT, WAITING. With each
- * answer the call has its line, TOO_SMALL too. With no room the array may be null. */
-static inline hull_shared_reply hull_shared_vertices(hull_shared_line *line, hull_shared_seat *seat, hull_point *out,
-                                                     size_t room) {
-    hull_point none = {0, 0};
-    hull_shared_target to = {NULL, 0, NULL};
-    to.out = room == 0 ? &none : out;
-    to.room = room;
-    return hull_shared_call_into(line, seat, HULL_KIND_VERTICES, 0, 0, to);
-}
+ * the array has no room for all, with their `number`, and then it is as it was; NO_MEMORY, FULL, VACANT, WAITING, OTHER_LINE. With
+ * each answer the call has its line, TOO_SMALL too. With no room the array may be null. */
+hull_shared_reply hull_shared_vertices(hull_shared_line *line, hull_shared_seat *seat, hull_point *out, size_t room);
+
+/* Wakes who sleeps with this number, which was handed on before. Who calls hull_shared_look on his own tells this number, the
+ * turn of the reply and one more, behind each answer and HULL_FULL. */
+void hull_shared_handed_on(hull_shared_line *line, uint64_t number);
+
+/* How a line stands at one moment, for who watches a service; while calls go on, its numbers may be of moments apart. */
+typedef struct hull_shared_state {
+    uint32_t out;       /* how many seats are out that were lent with it */
+    uint32_t inside;    /* how many calls are inside the door */
+    uint32_t sleepers;  /* how many sleep outside it */
+    uint32_t for_room;  /* how many sleep until there is room */
+    uint32_t held;      /* how many lines are held behind the call of this line that was served last */
+    uint64_t turn;      /* the number that is served now, the one behind that call's; 0 before the first, and where no seat is out */
+    uint32_t seat;      /* the seat whose call is inside and has that number, or is to take it; HULL_SHARED_SEATS_MAX where none is */
+    uint32_t named;     /* the seat that slept outside and is to come in next; HULL_SHARED_SEATS_MAX where none is */
+    uint32_t drainer;   /* the seat that drains for the hook; HULL_SHARED_SEATS_MAX where none does */
+    uint64_t seat_for;  /* for how many nanoseconds that seat's call has been inside, to some milliseconds */
+    uint64_t drains_for; /* for how many nanoseconds that one has drained, to some milliseconds */
+} hull_shared_state;
+
+/* How the line stands. It takes no number and waits for nothing; any thread may ask, whether or not it has a seat. */
+hull_shared_state hull_shared_stats(const hull_shared_line *line);
+
+/* ---- a file that keeps the journal
+ *
+ *     hull_shared_journal *journal;
+ *     hull_shared_journal_open("zone.journal", &journal);                              // made, or gone on with
+ *     hull_shared_journal_start(journal, desk, &line, 1000, 20000, 2, 10000000);       // points, lines, seats, nanoseconds
+ *     hull_shared_lend(desk, &line, seat, 0);
+ *     reply = hull_shared_call(&line, seat, HULL_KIND_ADD, 3, 4);
+ *     hull_shared_journal_wait(journal, reply.line, HULL_SHARED_NEVER);                // it is on the disk
+ *     hull_shared_give_back(desk, seat);
+ *     hull_shared_journal_close(journal);
+ *
+ * The file is a row of parts, each the text of a part of a journal (hull_shared_part_text), which goes on where the one before it ends.
+ * A part is appended with one fsync behind it, and only then its lines are told as safe. So however the process ends, or the machine,
+ * the file has all that was told as safe, and behind it at most one part more, which may be torn. What was answered and not told as safe
+ * may be lost: the last of it, never something from between. (`csplit FILE '/^hullbook/' '{*}'` takes the parts apart for `hullbook
+ * check`.)
+ *
+ * The calls of this section want a file system of POSIX and a library of threads. One process has a file at a time (flock). The signals
+ * of a process do not come to the journal's thread. */
+typedef struct hull_shared_journal hull_shared_journal;
+
+/* Opens the file, or makes one with no part: OPEN, with the number of the line to come (0 where the file has no part) as `number`, and
+ * how many bytes of a torn part were cut off its end as `high`. NO_FILE, with errno as `number`, where the system refuses a call on it
+ * (EWOULDBLOCK: another process has it); DAMAGED, with the line `number` of the file, from 1, where what is wrong is more than a torn
+ * part at its end, or the file is none of a journal: it is as it was; NO_MEMORY. The journal is null but with OPEN. */
+hull_reply hull_shared_journal_open(const char *path, hull_shared_journal **journal);
+
+/* Opens the desk by what the file has, and keeps its journal there from then on. Where the file has no part the desk is a new one for
+ * `limit` points; else it holds what the parts left, each point as often, its limit is theirs, and its next line has the number behind
+ * theirs. It has seats 0 to `seats` - 1 for the caller, and seat `seats` for the journal, whose thread drains it when it is asked to, and
+ * where lines are held each `every` nanoseconds, unless that is 0. The line drains where it is half full, waits for room, and has no hook
+ * but this one. Nobody else drains it.
+ *
+ * OPEN; NO_FILE, DAMAGED or ILLEGAL with the line `number` of the file, from 1, where a change in it can't have come to what it says;
+ * OUT_OF_LIMITS, also where points are held more than HULL_SHARED_CAPACITY_MAX times in all; WAS_OPENED; OTHER_LINE; NO_MEMORY. The
+ * desk and the journal are as they were then. The line must not have a hook. */
+hull_reply hull_shared_journal_start(hull_shared_journal *journal, hull_shared_desk *desk, hull_shared_line *line, uint32_t limit,
+                                     uint32_t capacity, uint32_t seats, uint64_t every);
+
+/* Which lines are safe: SAFE, with the number of the first that is not as `number`. NO_FILE where a write or a fsync was refused, with
+ * errno as `high`, or ILLEGAL where somebody else drained the line: no later line will be safe, and the file stays as it is. Calls are
+ * answered on. */
+hull_reply hull_shared_journal_safe(hull_shared_journal *journal);
+
+/* Waits until the line of this number, whose call was answered, is safe: SAFE, as above, NO_FILE or ILLEGAL; BUSY where it is not yet
+ * when hull_shared_now() is `until`. Many who wait are served by one fsync. */
+hull_reply hull_shared_journal_wait(hull_shared_journal *journal, uint64_t line, uint64_t until);
+
+/* Waits until the lines of all calls are safe that were answered before: as above. */
+hull_reply hull_shared_journal_sync(hull_shared_journal *journal, uint64_t until);
+
+/* Ends the journal: closes its desk, once all seats of the caller are back, appends the last lines, and closes the file: CLOSED with
+ * the number of the line to come; NO_FILE or ILLEGAL as above, and all is closed, but not all is in the file; SEATS_OUT, and nothing is.
+ * The desk is closed then, and to be ended by its owner. A journal that was not started is only closed. */
+hull_reply hull_shared_journal_close(hull_shared_journal *journal);
 
 #ifdef __cplusplus
 }

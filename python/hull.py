@@ -56,9 +56,9 @@ if sys.version_info < (3, 8):
 
 __version__ = "1.1.0"
 __all__ = [
-    "CAPACITY_LIMIT", "COORDINATE_LIMIT", "MULTIPLICITY_LIMIT", "POINT_LIMIT", "SEAT_LIMIT", "Ended", "FloatHull", "Hull",
+    "CAPACITY_LIMIT", "COORDINATE_LIMIT", "MULTIPLICITY_LIMIT", "POINT_LIMIT", "SEAT_LIMIT", "Busy", "Ended", "FloatHull", "Hull",
     "JournalFault", "JournalFull", "JournalPart", "Lattice", "NoSeat", "OutOfRange", "Outline", "Place", "Relation", "Seat", "SeatsOut",
-    "SharedHull", "Shows", "TooMany", "Witness", "ZeroDirection", "direction_of", "from_floats", "merge", "to_floats", "wkt",
+    "SharedHull", "Shows", "Stats", "TooMany", "Witness", "ZeroDirection", "direction_of", "from_floats", "merge", "to_floats", "wkt",
 ]
 
 #: A point, and one that is held with how often it is.
@@ -113,6 +113,10 @@ class JournalFull(RuntimeError):
     """The shared hull holds as many lines as it may, until it is drained: the call was not made."""
 
 
+class Busy(Exception):
+    """The shared hull was in use by others for as long as the seat waits (`Seat.wait_at_most`): the call was not made."""
+
+
 class Ended(RuntimeError):
     """This process is the child of a fork, in which the hull can't be used: another thread was in it, or it is a shared one."""
 
@@ -162,10 +166,14 @@ class _Code(enum.IntEnum):
     SEATS_OUT = 47
     TEXT = 50
     ENDED = 51
+    IN_USE = 52
     NO_JOURNAL = 57
     OLD_RULES = 58
     ILLEGAL = 59
     TOO_FEW_SEATS = 60
+    BUSY = 62
+    NO_FILE = 64
+    DAMAGED = 65
 
 
 class _Kind(enum.IntEnum):
@@ -224,6 +232,7 @@ _FAULTS: Dict[int, Callable[[], Exception]] = {
     _Code.VACANT: lambda: ValueError("the seat was given back"),
     _Code.SEATS_OUT: lambda: SeatsOut("a seat of the hull is out"),
     _Code.FULL: lambda: JournalFull("the journal of the hull is full"),
+    _Code.BUSY: lambda: Busy("the hull is in use by others"),
     _Code.ENDED: lambda: Ended("the hull was ended by a fork"),
 }
 
@@ -287,15 +296,17 @@ def _shared_library() -> ctypes.CDLL:
         ("python_open", [at, number, long, number, number], number),
         ("python_open_without_journal", [at, number, long, number], number),
         ("python_open_answering", [at, number, long, number, number], number),
-        ("python_wait_for_room", [at, number], number),
+        ("python_wait_for_room", [at, number], number), ("python_wait_at_most", [at, long], number), ("python_stats", [at, at], number),
         ("python_reopen", [at, at, size, number, number], _Reply),
-        ("python_close", [at], number), ("python_text", [at, at, size], _Reply), ("python_out", [at], long),
+        ("python_keep", [at, ctypes.c_char_p, number, number, number, long], _Reply), ("python_safe", [at, number], _Reply),
+        ("python_wait_safe", [at], _Reply), ("python_close", [at], _Reply), ("python_text", [at, at, size], _Reply), ("python_out", [at], long),
         ("python_seat_new", [], at), ("python_seat_free", [at], None), ("python_lend", [at, at, number], number),
         ("python_give_back", [at], None), ("python_ask", [at, number, whole, whole], _Reply),
         ("python_ask_vertices", [at, at, size], _Reply), ("python_drain", [at, at], _Reply),
         ("python_capacity", [at], number), ("python_turn", [at, at], number),
         ("python_part_new", [number], at), ("python_part_free", [at], None),
-        ("python_part_text", [at, at, size], _Reply), ("python_part_text_from", [at, long, at, size], _Reply),
+        ("python_text_from", [at, long, at, size], _Reply), ("python_part_text", [at, at, size], _Reply),
+        ("python_part_text_from", [at, long, at, size], _Reply),
     ])
 
 
@@ -1242,6 +1253,39 @@ class FloatHull:
         return self.hull.wkt(self.power)
 
 
+class _State(ctypes.Structure):
+    """hull_shared_state of the header."""
+
+    _fields_ = [
+        ("out", ctypes.c_uint32), ("inside", ctypes.c_uint32), ("sleepers", ctypes.c_uint32), ("for_room", ctypes.c_uint32),
+        ("held", ctypes.c_uint32), ("turn", ctypes.c_uint64), ("seat", ctypes.c_uint32), ("named", ctypes.c_uint32),
+        ("drainer", ctypes.c_uint32), ("seat_for", ctypes.c_uint64), ("drains_for", ctypes.c_uint64),
+    ]
+
+
+class Stats(NamedTuple):
+    """How the calls of a shared hull stand at one moment."""
+
+    #: How many seats are out.
+    out: int
+    #: How many calls are inside, how many sleep until they may come in, and how many until there is room in the journal.
+    inside: int
+    sleepers: int
+    for_room: int
+    #: How many lines are held behind the call that was served last.
+    held: int
+    #: The number that is served now, the one behind that call's; 0 before the first.
+    turn: int
+    #: The seat whose call has that number, if one is inside, and for how many seconds, to some milliseconds.
+    seat: Optional[int]
+    seat_for: float
+    #: The seat that slept and is to come in next, if one is.
+    named: Optional[int]
+    #: The seat that takes lines out for the hull's file, if one does, and for how many seconds.
+    drainer: Optional[int]
+    drains_for: float
+
+
 class SharedHull:
     """One hull that up to SEAT_LIMIT threads change and question at once, each by a seat of its own.
 
@@ -1302,6 +1346,50 @@ class SharedHull:
         hull._words = None, None, capacity, seats
         return hull
 
+    @classmethod
+    def keep(cls, path: "Union[str, bytes, os.PathLike[str]]", capacity: SupportsIndex, seats: SupportsIndex,
+             limit: SupportsIndex = POINT_LIMIT, every: Optional[float] = None) -> SharedHull:
+        """A hull whose journal is kept in a file, which is made, or gone on with: the hull holds what it left, and its limit is its own.
+
+        A thread of the library writes the lines to the file when it is asked to (`sync`, `Seat.wait_safe`), each `every` seconds where
+        that is given, and where half of `capacity` are held; calls wait for room. There are SEAT_LIMIT - 1 seats at most, none of which
+        drains. OSError where the system refuses a call on the file; JournalFault where the file is damaged, or none of a journal.
+        """
+        words = operator.index(limit), 0, operator.index(capacity), operator.index(seats)
+        if not all(0 <= word < 1 << 32 for word in words):
+            _told(_Code.OUT_OF_LIMITS)
+        if every is not None and not every >= 0:
+            raise ValueError(f"a time is no less than 0, and not {every!r}")
+        hull = cls.__new__(cls)
+        hull._desk = _at(_shared_kinds()[0], _shared_library().hull_python_desk_new())
+        hull._words = words
+        time = 0 if every is None else max(1, int(min(every, 1e9) * 1e9))
+        file = os.fsencode(path)
+        if b"\0" in file:
+            raise ValueError("embedded null byte")
+        told = _shared_library().hull_python_keep(hull._desk, file, words[0], words[2], words[3], time)
+        if told.code != _Code.OPEN:
+            _no_file(told, told.number)
+            _refused(told.code)
+        return hull
+
+    def safe(self) -> int:
+        """The number of the first line that is not safe in the file that is kept: those before it are there for good.
+
+        ValueError where the hull keeps none, or is closed; OSError where a write was refused: nothing more will be safe.
+        """
+        return self._safe(0)
+
+    def sync(self) -> int:
+        """Waits until the lines of all calls are safe that were answered before; the number of the first line that is not."""
+        return self._safe(1)
+
+    def _safe(self, waits: int) -> int:
+        told = _shared_library().hull_python_safe(self._desk, waits)
+        _no_file(told, told.high)
+        _told(told.code)
+        return int(told.number)
+
     def __reduce__(self) -> Any:
         raise TypeError("a hull lies in one place: it can't be copied")
 
@@ -1326,6 +1414,14 @@ class SharedHull:
             if fault is None:
                 raise
 
+    def stats(self) -> Stats:
+        """How the calls of the hull's seats stand at one moment; while calls go on, its numbers may be of moments apart."""
+        state = _State()
+        _shared_library().hull_python_stats(self._desk, ctypes.addressof(state))
+        seat, named, drainer = (number if number < SEAT_LIMIT else None for number in (state.seat, state.named, state.drainer))
+        return Stats(state.out, state.inside, state.sleepers, state.for_room, state.held, state.turn, seat, state.seat_for / 1e9,
+                     named, drainer, state.drains_for / 1e9)
+
     def lend(self, number: SupportsIndex) -> Seat:
         """Lends the seat of a number, 0 and up, for one thread; NoSeat where it is out or there is none."""
         number = operator.index(number)
@@ -1335,19 +1431,41 @@ class SharedHull:
 
     def _close(self) -> None:
         """Closes the hull, unless it is closed."""
-        code = _shared_library().hull_python_close(self._desk)
-        if code == _Code.SEATS_OUT:
+        told = _shared_library().hull_python_close(self._desk)
+        if told.code == _Code.SEATS_OUT:
             raise SeatsOut(f"seats of the hull are out: {', '.join(map(str, self._out()))}")
-        if code != _Code.NOT_OPEN:
-            _told(code)
+        _no_file(told, told.high)
+        if told.code == _Code.IN_USE:
+            raise ValueError("a thread waits for what is safe in the hull's file")
+        if told.code != _Code.NOT_OPEN:
+            _told(told.code)
 
     def close(self) -> str:
         """Closes the hull, unless it is closed, and returns the text of its journal; SeatsOut where a seat is out.
 
-        MemoryError where there is none for the text: the hull is closed, and this may be called again.
+        MemoryError where there is none for the text: the hull is closed, and this may be called again. Where the hull keeps a file, the
+        text stands last in it, or OSError tells that it does not: the hull is closed.
         """
         self._close()
         return _text(_shared_library().hull_python_text, self._desk)
+
+    def close_in_pieces(self, size: SupportsIndex = 1 << 16) -> Iterator[str]:
+        """The same, and returns that text in pieces of whole lines, each of at most `size` bytes, or one line that is longer.
+
+        One piece is in memory at a time: `file.writelines(hull.close_in_pieces())`.
+        """
+        self._close()
+        return _pieces(_shared_library().hull_python_text_from, self._desk, size)
+
+
+def _no_file(told: _Reply, errno: int) -> None:
+    """Raises the fault of a file that is kept."""
+    if told.code == _Code.NO_FILE:
+        raise OSError(errno, os.strerror(errno))
+    if told.code == _Code.DAMAGED:
+        raise JournalFault(f"line {told.number}: the file is damaged, or none of a journal")
+    if told.code == _Code.ILLEGAL:
+        raise JournalFault(f"line {told.number}: the journal is no legal history, or a seat of its hull drained")
 
 
 def _text(write: Callable[..., _Reply], at: Any) -> str:
@@ -1360,6 +1478,22 @@ def _text(write: Callable[..., _Reply], at: Any) -> str:
         if told.code != _Code.TOO_SMALL:
             _refused(told.code)
         room = ctypes.create_string_buffer(told.number)
+
+
+def _pieces(write: Callable[..., _Reply], at: Any, size: SupportsIndex) -> Iterator[str]:
+    """The text of what lies at a place, in pieces that a function writes from a line on."""
+    line, room = 0, ctypes.create_string_buffer(max(operator.index(size), 1))
+    while True:
+        told = write(at, line, ctypes.addressof(room), len(room))
+        if told.code == _Code.TOO_SMALL:
+            room = ctypes.create_string_buffer(told.number)
+            continue
+        if told.code != _Code.TEXT:
+            _refused(told.code)
+        if told.number == 0:
+            return
+        yield ctypes.string_at(room, told.number).decode("ascii")
+        line = told.high
 
 
 class JournalPart:
@@ -1385,18 +1519,7 @@ class JournalPart:
 
         One piece is in memory at a time: `file.writelines(part.pieces())`.
         """
-        line, room = 0, ctypes.create_string_buffer(max(operator.index(size), 1))
-        while True:
-            told = _shared_library().hull_python_part_text_from(self._at, line, ctypes.addressof(room), len(room))
-            if told.code == _Code.TOO_SMALL:
-                room = ctypes.create_string_buffer(told.number)
-                continue
-            if told.code != _Code.TEXT:
-                _refused(told.code)
-            if told.number == 0:
-                return
-            yield ctypes.string_at(room, told.number).decode("ascii")
-            line = told.high
+        return _pieces(_shared_library().hull_python_part_text_from, self._at, size)
 
     def __iter__(self) -> Iterator[str]:
         for piece in self.pieces():
@@ -1445,6 +1568,26 @@ class Seat:
 
     def __repr__(self) -> str:
         return f"<Seat {self._number}, {'out' if self._is_out else 'given back'}, last turn {self.turn()}>"
+
+    def wait_at_most(self, seconds: Optional[float]) -> None:
+        """How long calls of the seat wait until they come in, or for room: for ever, as a seat begins, with None, not at all with 0.
+
+        Where they have not come in by then they raise Busy, and are not made.
+        """
+        never = (1 << 64) - 1
+        if seconds is not None and not seconds >= 0:
+            raise ValueError(f"a time is no less than 0, and not {seconds!r}")
+        time = never if seconds is None else min(int(min(seconds, 1e10) * 1e9), never)
+        _shared_library().hull_python_wait_at_most(self._at, time)
+
+    def wait_safe(self) -> None:
+        """Waits until the lines of all calls of the seat are safe in the file that the hull keeps, for as long as its calls wait.
+
+        Busy where they are not by then; else what `SharedHull.safe` raises.
+        """
+        told = _shared_library().hull_python_wait_safe(self._at)
+        _no_file(told, told.high)
+        _told(told.code)
 
     def turn(self) -> Optional[int]:
         """The number of the last call that was served, under which it has its line; None where none was."""

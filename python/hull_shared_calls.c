@@ -10,6 +10,8 @@ typedef struct hull_python_desk {
     hull_shared_desk *desk;
     uint64_t out; /* bit k: seat k is out */
     uint32_t owners;
+    uint32_t asking; /* how many wait for what is safe in the file of the journal */
+    hull_shared_journal *journal; /* null where it keeps none */
 } hull_python_desk;
 
 /* A room for a seat. */
@@ -19,7 +21,8 @@ typedef struct hull_python_seat {
     hull_python_desk *desk; /* null where it has none */
     uint32_t number;
     uint32_t has_turn;
-    uint64_t turn; /* the number of the line of the last call that was served */
+    uint64_t turn;     /* the number of the line of the last call that was served */
+    uint64_t patience; /* for how many nanoseconds a call waits, HULL_SHARED_NEVER for ever */
 } hull_python_seat;
 
 typedef struct hull_python_part {
@@ -37,6 +40,8 @@ hull_python_desk *hull_python_desk_new(void) {
     d->desk = desk;
     d->out = 0;
     d->owners = 1;
+    d->asking = 0;
+    d->journal = NULL;
     hull_shared_line_init(&d->line, 1);
     hull_begins(&d->owned, 0);
     return d;
@@ -49,6 +54,9 @@ void hull_python_desk_free(hull_python_desk *d) {
         hull_leaves(&d->owned);
     }
     if (owners == 0 && hull_goes(&d->owned)) {
+        if (d->journal != NULL) {
+            hull_shared_journal_close(d->journal);
+        }
         hull_shared_close(d->desk);
         hull_shared_end(d->desk);
         hull_shared_desk_free(d->desk);
@@ -78,12 +86,99 @@ hull_reply hull_python_reopen(hull_python_desk *d, const uint8_t *text, size_t l
     HULL_REPLY_OF(d, hull_shared_reopen(d->desk, text, length, capacity, seats));
 }
 
-uint32_t hull_python_close(hull_python_desk *d) {
-    HULL_CODE_OF(d, hull_shared_close(d->desk));
+/* Opens the desk by the file of a journal, which is kept from then on. */
+static hull_reply keep(hull_python_desk *d, const char *path, uint32_t limit, uint32_t capacity, uint32_t seats, uint64_t every) {
+    hull_shared_journal *journal;
+    hull_reply reply = hull_shared_journal_open(path, &journal);
+    if (reply.code != HULL_OPEN) {
+        return reply;
+    }
+    reply = hull_shared_journal_start(journal, d->desk, &d->line, limit, capacity, seats, every);
+    if (reply.code == HULL_OPEN) {
+        d->journal = journal;
+    } else {
+        hull_shared_journal_close(journal);
+    }
+    return reply;
+}
+
+hull_reply hull_python_keep(hull_python_desk *d, const char *path, uint32_t limit, uint32_t capacity, uint32_t seats, uint64_t every) {
+    HULL_REPLY_OF(d, keep(d, path, limit, capacity, seats, every));
+}
+
+/* The journal of a desk, which is not closed until stops_asking; null where it has none. */
+static hull_shared_journal *asks(hull_python_desk *d) {
+    hull_shared_journal *journal = NULL;
+    if (hull_enters(&d->owned)) {
+        journal = d->journal;
+        d->asking += journal != NULL;
+        hull_leaves(&d->owned);
+    }
+    return journal;
+}
+
+static void stops_asking(hull_python_desk *d) {
+    if (hull_enters(&d->owned)) {
+        d->asking--;
+        hull_leaves(&d->owned);
+    }
+}
+
+/* What is safe in the file: of now, behind all calls that were answered (sync), or behind a line (wait), for so many nanoseconds. NOT_OPEN
+ * where no file is kept. */
+enum { HULL_PYTHON_NOW, HULL_PYTHON_SYNC, HULL_PYTHON_WAIT };
+static hull_reply safe(hull_python_desk *d, uint32_t how, uint64_t line, uint64_t time) {
+    hull_shared_journal *journal = asks(d);
+    uint64_t now = hull_shared_now(), until = time < HULL_SHARED_NEVER - now ? now + time : HULL_SHARED_NEVER;
+    hull_reply reply;
+    memset(&reply, 0, sizeof reply);
+    reply.code = d->owned.is_ended ? HULL_ENDED : HULL_NOT_OPEN;
+    if (journal != NULL) {
+        reply = how == HULL_PYTHON_NOW    ? hull_shared_journal_safe(journal)
+                : how == HULL_PYTHON_SYNC ? hull_shared_journal_sync(journal, until)
+                                          : hull_shared_journal_wait(journal, line, until);
+        stops_asking(d);
+    }
+    return reply;
+}
+
+hull_reply hull_python_safe(hull_python_desk *d, uint32_t waits) {
+    return safe(d, waits ? HULL_PYTHON_SYNC : HULL_PYTHON_NOW, 0, HULL_SHARED_NEVER);
+}
+
+/* Closes the desk, and the file of its journal once nobody asks for what is safe. */
+static hull_reply closes(hull_python_desk *d) {
+    hull_reply reply;
+    memset(&reply, 0, sizeof reply);
+    reply.code = HULL_CLOSED;
+    if (d->journal != NULL) {
+        reply.code = d->asking != 0 ? HULL_IN_USE : HULL_CLOSED;
+        if (reply.code == HULL_CLOSED) {
+            reply = hull_shared_journal_close(d->journal);
+            d->journal = reply.code == HULL_SEATS_OUT ? d->journal : NULL;
+        }
+        return reply;
+    }
+    reply.code = hull_shared_close(d->desk);
+    return reply;
+}
+
+hull_reply hull_python_close(hull_python_desk *d) {
+    HULL_REPLY_OF(d, closes(d));
 }
 
 hull_reply hull_python_text(hull_python_desk *d, uint8_t *out, size_t length) {
     HULL_REPLY_OF(d, hull_shared_text(d->desk, out, length));
+}
+
+hull_reply hull_python_text_from(hull_python_desk *d, uint64_t line, uint8_t *out, size_t length) {
+    HULL_REPLY_OF(d, hull_shared_text_from(d->desk, line, out, length));
+}
+
+/* How the calls of the seats stand, which waits for nothing. */
+uint32_t hull_python_stats(hull_python_desk *d, hull_shared_state *state) {
+    *state = hull_shared_stats(&d->line);
+    return 0;
 }
 
 /* Which seats are out: bit k for seat k. */
@@ -104,13 +199,29 @@ hull_python_seat *hull_python_seat_new(void) {
         return NULL;
     }
     s->seat = seat;
+    s->patience = HULL_SHARED_NEVER;
     hull_begins(&s->owned, 0);
     return s;
 }
 
+/* For how many nanoseconds calls of the seat wait. */
+uint32_t hull_python_wait_at_most(hull_python_seat *s, uint64_t nanoseconds) {
+    if (hull_enters(&s->owned)) {
+        s->patience = nanoseconds;
+        hull_leaves(&s->owned);
+    }
+    return 0;
+}
+
+/* Until when a call that begins now waits. */
+static uint64_t until(const hull_python_seat *s) {
+    uint64_t now = hull_shared_now();
+    return s->patience == 0 ? 0 : s->patience < HULL_SHARED_NEVER - now ? now + s->patience : HULL_SHARED_NEVER;
+}
+
 /* Moves seat `number` into the room, which owns the desk from then on. */
 static uint32_t lend(hull_python_seat *s, hull_python_desk *d, uint32_t number) {
-    uint32_t code = hull_shared_lend(d->desk, s->seat, number);
+    uint32_t code = hull_shared_lend(d->desk, &d->line, s->seat, number);
     if (code == HULL_LENT) {
         s->desk = d;
         s->number = number;
@@ -159,12 +270,13 @@ static hull_reply ask(hull_python_seat *s, uint32_t kind, int64_t x, int64_t y, 
     memset(&reply, 0, sizeof reply);
     reply.told.code = HULL_VACANT;
     if (s->desk != NULL) {
-        reply = hull_shared_call_into(&s->desk->line, s->seat, kind, x, y, to);
+        reply = hull_shared_call_into(&s->desk->line, s->seat, kind, x, y, to, until(s));
     }
     switch (reply.told.code) {
     case HULL_VACANT:
     case HULL_OUT_OF_RANGE:
     case HULL_ZERO_DIRECTION:
+    case HULL_BUSY:
     case HULL_FULL: break;
     default:
         if (reply.has_line) {
@@ -192,6 +304,31 @@ static hull_reply drain(hull_python_seat *s, hull_python_part *p) {
 /* Asks how many points there are, and drains into the part, which has room for as many lines as the desk holds at most. */
 hull_reply hull_python_drain(hull_python_seat *s, hull_python_part *p) {
     HULL_REPLY_OF(p, drain(s, p));
+}
+
+/* What is safe in the file of the seat's desk, behind the line of its last call, for as long as its calls wait: VACANT where it has no
+ * desk. The seat may be given back meanwhile, so that it keeps its desk. */
+hull_reply hull_python_wait_safe(hull_python_seat *s) {
+    hull_python_desk *d = NULL;
+    uint64_t line = 0, time = 0;
+    uint32_t how = HULL_PYTHON_NOW;
+    hull_reply reply;
+    memset(&reply, 0, sizeof reply);
+    reply.code = s->owned.is_ended ? HULL_ENDED : HULL_VACANT;
+    if (hull_enters(&s->owned)) {
+        d = s->desk;
+        line = s->turn, time = s->patience, how = s->has_turn ? HULL_PYTHON_WAIT : HULL_PYTHON_NOW;
+        if (d != NULL && hull_enters(&d->owned)) {
+            d->owners++;
+            hull_leaves(&d->owned);
+        }
+        hull_leaves(&s->owned);
+    }
+    if (d != NULL) {
+        reply = safe(d, how, line, time);
+        hull_python_desk_free(d);
+    }
+    return reply;
 }
 
 uint32_t hull_python_capacity(hull_python_seat *s) {

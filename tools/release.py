@@ -32,6 +32,11 @@ SUMS = f"{DIST}/SUMS"
 TARGETS = {"x86_64": ("x86_64-unknown-linux-gnu", "gcc"), "aarch64": ("aarch64-unknown-linux-gnu", "aarch64-linux-gnu-gcc")}
 LIBRARIES = {"libhull": "hull_c", "libhull_shared": "hull_shared"}
 PROGRAMS = ("hullbook", "hulldraw")
+# what the archive of a library has beside what was proved: C, and what it includes; with the flags of each processor
+INSIDE = {"libhull": [], "libhull_shared": ["archive/line.c", "archive/journal.c"]}
+INCLUDED = ["archive/sleeping.h", "archive/watched.h", "include/hull_common.h", "include/hull_shared.h"]
+# (no calls of libgcc's, which a program linked by another compiler has not)
+FLAGS = {"x86_64": ["-std=gnu11", "-O2", "-fPIC"], "aarch64": ["-std=gnu11", "-O2", "-fPIC", "-mno-outline-atomics"]}
 # what the shared object of a library has beside its archive
 BESIDE = {"libhull": "python/hull_calls.c", "libhull_shared": "python/hull_shared_calls.c"}
 HEADERS = ["include/hull.h", "include/hull_common.h", "include/hull_shared.h", "python/hull_owned.h"]
@@ -82,20 +87,30 @@ def proved(crate, processor, to):
         shutil.copy(f"{room.folder}/out/{crate.made()}", to)
 
 
+def compiled(processor, source, to):
+    """Compiles a file of C for a processor, by Debian's compiler and with its C library's headers."""
+    call(TARGETS[processor][1], *FLAGS[processor], f"-I{kit.TOP}/include", "-c", f"{kit.TOP}/{source}", "-o", to)
+
+
 def make_archive(name, processor, to):
-    """An archive for C: what was proved, and the functions that it asks for memory."""
+    """An archive for C: what was proved, the functions that it asks for memory, and the calls that are C over what was proved."""
     with tempfile.TemporaryDirectory() as room:
         proved(kit.crates()[LIBRARIES[name]], processor, f"{room}/proved.a")
         flags = ["-O2", "-fPIC", "-ffreestanding", f"--target={TARGETS[processor][0]}"]
         call(toolchain("clang"), *flags, "-c", f"{kit.TOP}/archive/allocator.c", "-o", f"{room}/allocator.o")
-        call(toolchain("llvm-ar"), "-M", given=f"CREATE {to}\nADDLIB {room}/proved.a\nADDMOD {room}/allocator.o\nSAVE\nEND\n")
+        objects = ["allocator.o"]
+        for source in INSIDE[name]:
+            objects.append(os.path.basename(source).replace(".c", ".o"))
+            compiled(processor, source, f"{room}/{objects[-1]}")
+        added = "".join(f"ADDMOD {room}/{it}\n" for it in objects)
+        call(toolchain("llvm-ar"), "-M", given=f"CREATE {to}\nADDLIB {room}/proved.a\n{added}SAVE\nEND\n")
 
 
 def make_object(name, processor, to):
     """The shared object of a library: the whole archive, and the calls that Python makes of it."""
     emulation = {"x86_64": "elf_x86_64", "aarch64": "aarch64linux"}[processor]
     with tempfile.TemporaryDirectory() as room:
-        call(TARGETS[processor][1], "-O2", "-fPIC", f"-I{kit.TOP}/include", "-c", f"{kit.TOP}/{BESIDE[name]}", "-o", f"{room}/calls.o")
+        compiled(processor, BESIDE[name], f"{room}/calls.o")
         archive = f"{room}/{name}.a"
         if put(f"{processor}/{name}.a", archive):
             sys.exit(70)
@@ -121,9 +136,9 @@ def products():
     found = [Product(f"x86_64/{it}", it, [], lambda to, it=it: make_program(it, to)) for it in PROGRAMS]
     for processor in TARGETS:
         for name, crate in LIBRARIES.items():
-            others = ["archive/allocator.c"]
+            others = ["archive/allocator.c", *INSIDE[name], *(INCLUDED if INSIDE[name] else [])]
             found.append(Product(f"{processor}/{name}.a", crate, others, lambda to, at=(name, processor): make_archive(*at, to)))
-            others = [*others, BESIDE[name], *HEADERS]
+            others = [*dict.fromkeys([*others, BESIDE[name], *HEADERS])]
             found.append(Product(f"{processor}/{name}.so", crate, others, lambda to, at=(name, processor): make_object(*at, to)))
     web = [f"web/{it}" for it in sorted(os.listdir(f"{kit.TOP}/web")) if os.path.isfile(f"{kit.TOP}/web/{it}")]
     found += [Product(f"web/{it}", "hull_c", ["web/build.py"], lambda to, it=it: make_page(it, to)) for it in ("hull.wasm", "hull32.wasm")]
@@ -237,7 +252,7 @@ def reason_not_to(path, product, head, row):
         return "its sources have gone on since the release"
     if head["toolchain"] != kit.version():
         return f"it was released with {head['toolchain']}"
-    if path.endswith(".so") and head[f"compiler-{processor}"] != compiler(processor):
+    if (path.endswith(".so") or INSIDE.get(os.path.basename(path).removesuffix(".a"))) and head[f"compiler-{processor}"] != compiler(processor):
         return "another C compiler"
     if processor == "web" and kit.text_of(f"{kit.TOP}/web/out/made-of").strip() != product.crate.sources():
         return "web/build.py has not made it here"

@@ -14,7 +14,7 @@ PLACES = {
     "python/hull.py": r'^__version__ = "(.*)"$',
     "rust/hull/Cargo.toml": r'^version = "(.*)"$',
     "web/package.json": r'^ *"version": "(.*)",$',
-    "CHANGELOG.md": r"\A# Changes\n\n## (.*)$",
+    "CHANGELOG.md": r"\A# Changes\n\n(?:## Coming\n(?:(?!## ).*\n)*)?## (.*)$",
 }
 
 

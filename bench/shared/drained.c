@@ -78,7 +78,7 @@ int main(int count, char **words) {
     pthread_barrier_init(&begin, NULL, threads + 1);
     for (unsigned k = 0; k < threads; k++) {
         seats[k] = hull_shared_seat_new();
-        bad |= hull_shared_lend(desk, seats[k], k) != HULL_LENT || pthread_create(&ids[k], NULL, work, &seats[k]) != 0;
+        bad |= hull_shared_lend(desk, &line, seats[k], k) != HULL_LENT || pthread_create(&ids[k], NULL, work, &seats[k]) != 0;
     }
     pthread_barrier_wait(&begin);
     clock_gettime(CLOCK_MONOTONIC, &from);

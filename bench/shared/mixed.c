@@ -128,7 +128,7 @@ static double through_seats(unsigned threads, long points, unsigned inside) {
     }
     for (unsigned k = 0; k < threads; k++) {
         rooms[k] = hull_shared_seat_new();
-        if (rooms[k] == NULL || hull_shared_lend(desk, rooms[k], k) != HULL_LENT) {
+        if (rooms[k] == NULL || hull_shared_lend(desk, &line, rooms[k], k) != HULL_LENT) {
             abort();
         }
     }

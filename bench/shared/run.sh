@@ -1,7 +1,7 @@
 #!/bin/sh
 # One hull for several threads, timed: mixed calls from 1, 2, 4, 8 and 64 threads through a shared hull, beside a mutex
 # round a hull of one thread, in C and in Rust; and calls of four threads with a journal that is held, drained, written out or
-# not kept. Wants cc and rustc, and a quiet machine.
+# not kept; and how long a call waits at most. Wants cc and rustc, and a quiet machine.
 #
 # run.sh [POINTS [CALLS [ROUNDS [BUSY]]]]: so many points at first (1000), so many calls in all (200000), so many rounds
 # taken in turn (5), beside so many processes that spin (0)
@@ -19,6 +19,10 @@ rust --crate-type rlib --crate-name hull --out-dir "$room" "$top/rust/hull/src/l
 rust --extern hull "$here/mixed.rs" -o "$room/mixed_rust"
 "$room/mixed_c" "$@"
 cc -std=gnu11 -O2 -I"$room/include" "$here/drained.c" -L"$room/lib" -lhull_shared -lpthread -o "$room/drained"
+cc -std=gnu11 -O2 -I"$room/include" "$here/passes.c" -L"$room/lib" -lhull_shared -lpthread -o "$room/passes"
+for threads in 8 64; do
+    "$room/passes" "$threads" 8
+done
 for round in 1 2 3 4; do
     for mode in held drained written none; do
         "$room/drained" 4 500000 $mode

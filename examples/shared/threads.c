@@ -58,7 +58,7 @@ int main(void) {
     }
     for (unsigned i = 0; i < SEATS; i++) {
         rooms[i] = hull_shared_seat_new();
-        if (rooms[i] == NULL || hull_shared_lend(desk, rooms[i], i) != HULL_LENT) {
+        if (rooms[i] == NULL || hull_shared_lend(desk, &line, rooms[i], i) != HULL_LENT) {
             return 1;
         }
     }

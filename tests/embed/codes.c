@@ -1043,13 +1043,14 @@ static void new_ones(void) {
         "HULL_LENT", "HULL_NO_SEAT", "HULL_ROOM_IN_USE", "HULL_NOT_OPEN", "HULL_RETURNED", "HULL_VACANT", "HULL_WAITING",
         "HULL_PLACE_IN_USE", "HULL_TAKEN", "HULL_NOT_YET", "HULL_NO_NUMBER", "HULL_FULL", "HULL_SEATS_OUT", "HULL_CLOSED",
         "HULL_NOT_CLOSED", "HULL_TEXT", "HULL_ENDED", "HULL_IN_USE", "HULL_RESERVED", "HULL_PART_IN_USE", "HULL_NO_ROOM",
-        "HULL_NO_LINES", "HULL_NO_JOURNAL", "HULL_OLD_RULES", "HULL_ILLEGAL", "HULL_TOO_FEW_SEATS", "HULL_NO_OUTLINE"};
+        "HULL_NO_LINES", "HULL_NO_JOURNAL", "HULL_OLD_RULES", "HULL_ILLEGAL", "HULL_TOO_FEW_SEATS", "HULL_NO_OUTLINE",
+        "HULL_BUSY", "HULL_OTHER_LINE", "HULL_NO_FILE", "HULL_DAMAGED", "HULL_SAFE"};
     const uint32_t count = sizeof names / sizeof *names;
     for (uint32_t code = 0; code < count; code++) {
         check(strcmp(hull_code_name(code), names[code]) == 0, names[code], __LINE__);
     }
     CHECK(strcmp(hull_code_name(count), "no code") == 0 && strcmp(hull_code_name(UINT32_MAX), "no code") == 0);
-    CHECK(HULL_ABSENT == 9 && HULL_IN_USE == 52 && HULL_OUT_OF_ORDER == 21 && HULL_TOO_FEW_SEATS == 60 && HULL_NO_OUTLINE == 61);
+    CHECK(HULL_ABSENT == 9 && HULL_IN_USE == 52 && HULL_OUT_OF_ORDER == 21 && HULL_TOO_FEW_SEATS == 60 && HULL_NO_OUTLINE == 61 && HULL_SAFE == 66);
 }
 
 /* Each call that is passed an array, with none: null and no elements. */

@@ -79,7 +79,7 @@ page_has_calls() {
     shift
     missing=$(sed -n 's/^[a-z][a-z0-9_ ]*[ *]\(hull_[a-z_]*\)(.*/\1/p' "$@" | sort -u |
         grep -vE '_or_null$|_faults?$|_refusal$|^hull_(array|room_new|room_free)$' |
-        grep -vE '^hull_shared_(sleep|wake|pause|comes_in|lies_down|become_heir|enter|leave|look_and_wake|sleep_and_look|wait|call_into|call_once|drain_for_hook|room_again|wake_some)$' |
+        grep -vE '_with_line$|^hull_shared_call_into$' |
         while read -r name; do grep -q "$name[^a-z_]\|$name\$" "$page" || echo "$name"; done)
     [ -z "$missing" ] || { echo "not on $page: $missing"; return 1; }
 }

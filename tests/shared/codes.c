@@ -131,7 +131,7 @@ static void codes(hull_shared_desk *desk, hull_shared_seat *one, hull_shared_sea
     is("end of a fresh desk", hull_shared_end(desk), HULL_ENDED);
     is("text of a fresh desk", hull_shared_text(desk, text, 1).code, HULL_NOT_CLOSED);
     is("piece of a fresh desk", hull_shared_text_from(desk, 0, text, 100).code, HULL_NOT_CLOSED);
-    is("lend of a fresh desk", hull_shared_lend(desk, one, 0), HULL_NOT_OPEN);
+    is("lend of a fresh desk", hull_shared_lend(desk, &line, one, 0), HULL_NOT_OPEN);
     is("limit 0", hull_shared_open(desk, 0, first, 20, 2), HULL_OUT_OF_LIMITS);
     is("limit", hull_shared_open(desk, HULL_LIMIT_MAX + 1, first, 20, 2), HULL_OUT_OF_LIMITS);
     is("capacity 0", hull_shared_open(desk, 3, first, 0, 2), HULL_OUT_OF_LIMITS);
@@ -143,11 +143,11 @@ static void codes(hull_shared_desk *desk, hull_shared_seat *one, hull_shared_sea
     is("take of none", hull_shared_take(one, 1, 0, 0).told.code, HULL_VACANT);
     is("look of none", hull_shared_look(one).told.code, HULL_VACANT);
     is("return of none", hull_shared_give_back(desk, one), HULL_VACANT);
-    is("seat 2", hull_shared_lend(desk, one, 2), HULL_NO_SEAT);
-    is("seat 1", hull_shared_lend(desk, one, 1), HULL_LENT);
-    is("into a room in use", hull_shared_lend(desk, one, 0), HULL_ROOM_IN_USE);
-    is("seat 1 again", hull_shared_lend(desk, two, 1), HULL_NO_SEAT);
-    is("seat 0", hull_shared_lend(desk, two, 0), HULL_LENT);
+    is("seat 2", hull_shared_lend(desk, &line, one, 2), HULL_NO_SEAT);
+    is("seat 1", hull_shared_lend(desk, &line, one, 1), HULL_LENT);
+    is("into a room in use", hull_shared_lend(desk, &line, one, 0), HULL_ROOM_IN_USE);
+    is("seat 1 again", hull_shared_lend(desk, &line, two, 1), HULL_NO_SEAT);
+    is("seat 0", hull_shared_lend(desk, &line, two, 0), HULL_LENT);
     is("look with no number", hull_shared_look(one).told.code, HULL_NO_NUMBER);
     is("take", hull_shared_take(one, HULL_KIND_COUNT, 0, 0).told.code, HULL_TAKEN);
     is("take twice", hull_shared_take(one, HULL_KIND_COUNT, 0, 0).told.code, HULL_WAITING);
@@ -175,7 +175,7 @@ static void codes(hull_shared_desk *desk, hull_shared_seat *one, hull_shared_sea
     is("text of an open desk", hull_shared_text(desk, text, sizeof text).code, HULL_NOT_CLOSED);
     is("close", hull_shared_close(desk), HULL_CLOSED);
     is("close again", hull_shared_close(desk), HULL_NOT_OPEN);
-    is("lend of a closed desk", hull_shared_lend(desk, one, 0), HULL_NOT_OPEN);
+    is("lend of a closed desk", hull_shared_lend(desk, &line, one, 0), HULL_NOT_OPEN);
     is("open of a closed desk", hull_shared_open(desk, 3, 0, 20, 2), HULL_WAS_OPENED);
     hull_reply told = hull_shared_text(desk, text, 10);
     is("too small", told.code, HULL_TOO_SMALL);
@@ -186,53 +186,13 @@ static void codes(hull_shared_desk *desk, hull_shared_seat *one, hull_shared_sea
     is("end", hull_shared_end(desk), HULL_ENDED);
 }
 
-/* Nobody is inside or counted as asleep, none is the heir, and no place has a waiter. */
+/* Nobody is inside or counted as asleep, and nobody waits for room. */
 static void is_empty(void) {
-    is("the door", line.door, 0);
-    is("heirs", line.heirs, 0);
-    for (int i = 0; i < HULL_SHARED_SEATS_MAX; i++) {
-        is("waiters", line.places[i].waiters, 0);
-    }
-}
-
-/* How many come in by a door that `inside` may pass. */
-static uint32_t come_in(hull_shared_line *door, uint32_t inside) {
-    uint32_t count = 0;
-    hull_shared_line_init(door, inside);
-    while (hull_shared_comes_in(door, 0)) {
-        count++;
-    }
-    return count;
-}
-
-/* Each step of the door, by one thread. */
-static void doors(void) {
-    static hull_shared_line door;
-    is("one inside", come_in(&door, 1), 1);
-    is("two inside", come_in(&door, 2), 2);
-    is("all inside", come_in(&door, HULL_SHARED_SEATS_MAX), HULL_SHARED_SEATS_MAX);
-    is("a wrong number inside", come_in(&door, 0) == 1 && come_in(&door, HULL_SHARED_SEATS_MAX + 1) == 1, 1);
-    /* one is inside, and three sleep: who leaves makes one of them the heir, and no other as long as that one is awake */
-    door.door = 1 + 3 * HULL_SHARED_ASLEEP;
-    hull_shared_leave(&door);
-    is("one is woken", door.door, HULL_SHARED_HEIR + 2 * HULL_SHARED_ASLEEP);
-    is("it is told", door.heirs, 1);
-    is("another passes", hull_shared_comes_in(&door, 0), 1);
-    hull_shared_leave(&door);
-    is("none is woken", door.door, HULL_SHARED_HEIR + 2 * HULL_SHARED_ASLEEP);
-    /* behind so many in a row the door is closed to all but the heir */
-    door.in_a_row = HULL_SHARED_IN_A_ROW - 2;
-    is("another passes", hull_shared_comes_in(&door, 0), 1);
-    hull_shared_leave(&door);
-    is("it is open still", door.door, HULL_SHARED_HEIR + 2 * HULL_SHARED_ASLEEP);
-    is("the last of the row passes", hull_shared_comes_in(&door, 0), 1);
-    hull_shared_leave(&door);
-    is("it is closed", door.door, HULL_SHARED_CLOSED + HULL_SHARED_HEIR + 2 * HULL_SHARED_ASLEEP);
-    is("none passes", hull_shared_comes_in(&door, 0), 0);
-    is("who finds it closed lies down", hull_shared_lies_down(&door, 0), 1);
-    is("the heir does not", hull_shared_lies_down(&door, 1), 0);
-    is("the heir comes in", hull_shared_comes_in(&door, 1), 1);
-    is("it is open again", door.door, 1 + 3 * HULL_SHARED_ASLEEP);
+    hull_shared_state state = hull_shared_stats(&line);
+    is("inside", state.inside, 0);
+    is("sleepers", state.sleepers, 0);
+    is("who waits for room", state.for_room, 0);
+    is("who is inside", state.seat, HULL_SHARED_SEATS_MAX);
 }
 
 static void *count_points(void *seat) {
@@ -244,8 +204,8 @@ static void *count_points(void *seat) {
 static void own_looks(hull_shared_desk *desk, hull_shared_seat *one, hull_shared_seat *two) {
     struct timespec moment = {0, 2000000};
     is("open", hull_shared_open(desk, 3, 7, 100, 2), HULL_OPEN);
-    is("lend", hull_shared_lend(desk, one, 0), HULL_LENT);
-    is("lend", hull_shared_lend(desk, two, 1), HULL_LENT);
+    is("lend", hull_shared_lend(desk, &line, one, 0), HULL_LENT);
+    is("lend", hull_shared_lend(desk, &line, two, 1), HULL_LENT);
     for (int i = 0; i < 20; i++) {
         pthread_t thread;
         is("take", hull_shared_take(one, HULL_KIND_COUNT, 0, 0).told.code, HULL_TAKEN);
@@ -304,7 +264,7 @@ static void parts(hull_shared_desk *desk, hull_shared_seat *seat, hull_shared_pa
     is("drain of none", hull_shared_drain(&line, seat, part, HULL_KIND_COUNT, 0, 0).told.code, HULL_VACANT);
     is("capacity of none", hull_shared_capacity(seat), 0);
     is("open", hull_shared_open(desk, 3, 7, 4, 1), HULL_OPEN);
-    is("lend", hull_shared_lend(desk, seat, 0), HULL_LENT);
+    is("lend", hull_shared_lend(desk, &line, seat, 0), HULL_LENT);
     is("capacity", hull_shared_capacity(seat), 4);
     is("room of a bare part", hull_shared_part_room(part), 0);
     is("text of a bare part", hull_shared_part_text(part, text, sizeof text).code, HULL_NO_LINES);
@@ -353,7 +313,7 @@ static void parts(hull_shared_desk *desk, hull_shared_seat *seat, hull_shared_pa
     is("the first number of the last part", text[25] == '1' && text[26] == '3', 1);
     is("end", hull_shared_end(desk), HULL_ENDED);
     is("open, answering", hull_shared_open_answering(desk, 3, 7, 1, 1), HULL_OPEN);
-    is("lend", hull_shared_lend(desk, seat, 0), HULL_LENT);
+    is("lend", hull_shared_lend(desk, &line, seat, 0), HULL_LENT);
     is("served", call(seat, HULL_KIND_ADD, 1, 2), HULL_ADDED);
     is("a change of a full desk", call(seat, HULL_KIND_REMOVE, 1, 2), HULL_FULL);
     reply = hull_shared_call(&line, seat, HULL_KIND_PLACE, 1, 2);
@@ -372,7 +332,7 @@ static void no_arrays(hull_shared_desk *desk, hull_shared_seat *seat, hull_share
     hull_reply told;
     is("no text", hull_shared_reopen(desk, NULL, 0, 8, 1).code, HULL_NO_JOURNAL);
     is("open", hull_shared_open(desk, 3, 7, 8, 1), HULL_OPEN);
-    is("lend", hull_shared_lend(desk, seat, 0), HULL_LENT);
+    is("lend", hull_shared_lend(desk, &line, seat, 0), HULL_LENT);
     is("look into nothing with no number", hull_shared_look_into(seat, NULL, 0).told.code, HULL_NO_NUMBER);
     is("corners of none", hull_shared_vertices(&line, seat, NULL, 0).told.code, HULL_CORNERS);
     is("a point", call(seat, HULL_KIND_ADD, 1, 2), HULL_ADDED);
@@ -425,7 +385,7 @@ static void reopened(hull_shared_desk *desk, hull_shared_seat *seat, hull_shared
     is("seats", reopen(desk, old, 4, HULL_SHARED_SEATS_MAX + 1).code, HULL_OUT_OF_LIMITS);
     is("reopen", reopen(desk, old, 4, 2).code, HULL_OPEN);
     is("reopen an open desk", reopen(desk, old, 4, 2).code, HULL_WAS_OPENED);
-    is("lend", hull_shared_lend(desk, seat, 1), HULL_LENT);
+    is("lend", hull_shared_lend(desk, &line, seat, 1), HULL_LENT);
     is("capacity", hull_shared_capacity(seat), 4);
     reply = hull_shared_call(&line, seat, HULL_KIND_ADD, 0, 0);
     is("the point is there", reply.told.code, HULL_AGAIN);
@@ -455,7 +415,7 @@ static void short_reopening(hull_shared_desk *desk, hull_shared_seat *seat) {
         told = reopen(desk, old, 4, 1);
     }
     is("reopen", told.code, HULL_OPEN);
-    is("lend", hull_shared_lend(desk, seat, 0), HULL_LENT);
+    is("lend", hull_shared_lend(desk, &line, seat, 0), HULL_LENT);
     is("count", hull_shared_call(&line, seat, HULL_KIND_COUNT, 0, 0).told.number, 2);
     is("return", hull_shared_give_back(desk, seat), HULL_RETURNED);
     is("close", hull_shared_close(desk), HULL_CLOSED);
@@ -469,7 +429,7 @@ static void short_run(hull_shared_desk *desk, hull_shared_seat *seat, hull_share
     if (code == HULL_NO_MEMORY) {
         is("after a refusal", hull_shared_open(desk, 3, 0, 4, 1), HULL_OPEN);
     }
-    is("lend", hull_shared_lend(desk, seat, 0), HULL_LENT);
+    is("lend", hull_shared_lend(desk, &line, seat, 0), HULL_LENT);
     for (int i = 0; i < 2; i++) {
         code = call(seat, HULL_KIND_ADD, i, 0);
         is("added or refused", code == HULL_ADDED || code == HULL_NO_MEMORY, 1);
@@ -510,7 +470,6 @@ int main(void) {
     }
     is("alignment", (uintptr_t)desk % hull_shared_desk_alignment(), 0);
     is("alignment", (uintptr_t)one % hull_shared_seat_alignment(), 0);
-    doors();
     codes(desk, one, two);
     own_looks(desk, one, two);
     parts(desk, one, part);

@@ -109,7 +109,7 @@ int main(int count, char **words) {
                   : hull_shared_open_without_journal(desk, HULL_LIMIT_MAX, 0, threads)) != HULL_OPEN;
     for (unsigned k = 0; k < threads; k++) {
         seats[k] = hull_shared_seat_new();
-        bad |= seats[k] == NULL || hull_shared_lend(desk, seats[k], k) != HULL_LENT;
+        bad |= seats[k] == NULL || hull_shared_lend(desk, &line, seats[k], k) != HULL_LENT;
     }
     for (unsigned k = 0; k < threads && !bad; k++) {
         bad |= pthread_create(&ids[k], NULL, work, &seats[k]) != 0;

@@ -1,16 +1,16 @@
 /* full THREADS CALLS CAPACITY FOLDER: so many threads make so many mixed calls each over one hull, with no thought of draining, at a
  * desk that holds so few lines; the line drains by itself, and waits for room. The parts go to the files part.1, part.2 and so on of
  * the folder, in their order, and the text of the closed desk is the last; how many they are goes to standard output. The status is 0
- * only where each call was served, each has its line, and every code at the end was as it should be. With SLOW defined, threads are
- * held up between the steps of waiting and of waking (steps.h), and each part takes long to write. */
-#ifdef SLOW
-#include "steps.h"
-#endif
+ * only where each call was served, each has its line, and every code at the end was as it should be. With SLOW defined, each part takes
+ * long to write. */
 #include "hull_shared.h"
 
 #include <pthread.h>
 #include <stdio.h>
 #include <stdlib.h>
+#ifdef SLOW
+#include <time.h>
+#endif
 
 static unsigned long calls;
 static hull_shared_line line;
@@ -21,6 +21,7 @@ static const char *folder;
 static int parts;
 static unsigned long long lines;
 static int bad;
+static int bad_parts; /* told by the hook */
 
 /* Random numbers (Marsaglia's xorshift, 2003). */
 static uint64_t next(uint64_t *state) {
@@ -52,12 +53,12 @@ static void keep(void *context, const hull_shared_part *part) {
     (void)context;
     do {
         r = hull_shared_part_text_from(part, at, piece, sizeof piece);
-        bad |= r.code != HULL_TEXT || file == NULL || fwrite(piece, 1, r.number, file) != r.number;
+        bad_parts |= r.code != HULL_TEXT || file == NULL || fwrite(piece, 1, r.number, file) != r.number;
         count((const char *)piece, r.code == HULL_TEXT ? r.number : 0);
         at = r.high;
-    } while (!bad && r.number > 0);
+    } while (!bad_parts && r.number > 0);
     lines -= 2;
-    bad |= file == NULL || fclose(file) != 0;
+    bad_parts |= file == NULL || fclose(file) != 0;
 #ifdef SLOW
     nanosleep(&(struct timespec){0, 500000}, NULL); /* others find no room meanwhile */
 #endif
@@ -103,7 +104,7 @@ int main(int argc, char **words) {
     bad |= hull_shared_open(desk, 100000, 0, (uint32_t)atoi(words[3]), many) != HULL_OPEN;
     for (uint32_t i = 0; i < many; i++) {
         rooms[i] = hull_shared_seat_new();
-        bad |= hull_shared_lend(desk, rooms[i], i) != HULL_LENT;
+        bad |= hull_shared_lend(desk, &line, rooms[i], i) != HULL_LENT;
     }
     for (size_t i = 0; i < many; i++) {
         bad |= pthread_create(&threads[i], NULL, work, (void *)i) != 0;
@@ -115,8 +116,9 @@ int main(int argc, char **words) {
     }
     bad |= hull_shared_close(desk) != HULL_CLOSED;
     keep_last();
-    bad |= lines != (unsigned long long)many * calls + (unsigned long long)(parts - 1);
-    bad |= hull_shared_end(desk) != HULL_ENDED || line.door != 0 || line.heirs != 0 || line.draining != 0;
+    bad |= bad_parts || lines != (unsigned long long)many * calls + (unsigned long long)(parts - 1);
+    bad |= hull_shared_end(desk) != HULL_ENDED || hull_shared_stats(&line).inside != 0 || hull_shared_stats(&line).sleepers != 0 ||
+           hull_shared_stats(&line).drainer != HULL_SHARED_SEATS_MAX;
     hull_shared_desk_free(desk);
     hull_shared_line_end(&line);
     printf("%d\n", parts);

@@ -2,6 +2,8 @@
 // parts are written to the files PARTS.1, PARTS.2 and so on, of PARTS the word: `hullbook check` judges them in this order.
 #include "hull.hpp"
 
+#include <cerrno>
+#include <cstdio>
 #include <fstream>
 #include <sstream>
 #include <string>
@@ -37,8 +39,14 @@ static bool writes_long_lines() {
     }
     const std::size_t corners = seat.vertices().size();
     const hull::JournalPart part = seat.drain();
-    std::ostringstream pieces;
+    std::ostringstream pieces, last;
     part.write_to(pieces);
+    seat.vertices();
+    seat.give_back();
+    shared.close_to(last);
+    if (last.str() != shared.close() || last.str().size() < 1 << 16) {
+        return false;
+    }
     std::istringstream lines(pieces.str());
     std::size_t longest = 0;
     for (std::string line; std::getline(lines, line);) {
@@ -67,6 +75,64 @@ static bool drains_by_itself() {
     return good && seat.count() == 1 && seat.turn() == 0u;
 }
 
+// A call that waits no longer than its seat is to, and how the hull stands meanwhile.
+static bool gives_up() {
+    hull::SharedHull shared({1000, 0, 1, 2});
+    shared.wait_for_room(true);
+    hull::Seat seat = shared.lend(0);
+    seat.wait_at_most(std::chrono::nanoseconds(0));
+    seat.add({1, 2});
+    for (std::chrono::nanoseconds time : {std::chrono::nanoseconds(0), std::chrono::nanoseconds(5000000)}) {
+        seat.wait_at_most(time);
+        try {
+            seat.add({1, 2});
+            return false;
+        } catch (const hull::Fault &fault) {
+            if (fault.code() != hull::Refusal::full) {
+                return false;
+            }
+        }
+    }
+    const hull_shared_state state = shared.stats();
+    return state.held == 1 && state.turn == 3 && state.inside == 0 && state.seat == HULL_SHARED_SEATS_MAX;
+}
+
+// A hull that keeps its journal in a file, and one that goes on with it.
+static bool keeps(const std::string &path) {
+    std::remove(path.c_str());
+    for (std::uint32_t round = 0; round < 3; round++) {
+        hull::SharedHull shared = hull::SharedHull::keep(path, {100, 0, 50, 1}, std::chrono::milliseconds(round));
+        hull::Seat seat = shared.lend(0);
+        for (std::int64_t x = 0; x < 60; x++) {
+            if (seat.add({x, x}) != round + 1) {
+                return false;
+            }
+        }
+        seat.wait_safe();
+        if (shared.safe() <= *seat.turn() || shared.sync() < shared.safe() || seat.count() != 60) {
+            return false;
+        }
+        try {
+            shared.close();
+            return false;
+        } catch (const hull::Fault &fault) {
+            if (fault.code() != hull::Refusal::seats_out) {
+                return false;
+            }
+        }
+        seat.give_back();
+        if (round < 2) {
+            shared.close(); // or at its end
+        }
+    }
+    try {
+        hull::SharedHull::keep("/nowhere/at/all", {100, 0, 50, 1});
+        return false;
+    } catch (const hull::Fault &fault) {
+        return fault.code() == hull::Refusal::no_file && fault.number() == ENOENT;
+    }
+}
+
 int main(int, char **words) {
     hull::SharedHull shared({6, 7, 3, 1});
     hull::Seat seat = shared.lend(0);
@@ -92,5 +158,5 @@ int main(int, char **words) {
     good = good && seat.add({4, 5}) == 1 && seat.turn() == 13;
     seat.give_back();
     good = good && shared.close() == "hullbook journal 3 first 13 limit 6 capacity 3\n13 0 add 4 5 = added\nend 1\n";
-    return good && drains_by_itself() && writes_long_lines() ? 0 : 1;
+    return good && keeps(words[1] + std::string(".journal")) && drains_by_itself() && gives_up() && writes_long_lines() ? 0 : 1;
 }

@@ -29,7 +29,7 @@ static void fill(hull_shared_part *part) {
     hull_shared_seat *seat = hull_shared_seat_new();
     hull_shared_line_init(&line, 1);
     hull_shared_open(desk, 1000, 0, 5000, 1);
-    hull_shared_lend(desk, seat, 0);
+    hull_shared_lend(desk, &line, seat, 0);
     for (int64_t x = 0; x < 1000; x++) {
         hull_shared_call(&line, seat, HULL_KIND_ADD, x, x * x);
     }

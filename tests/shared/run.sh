@@ -4,15 +4,17 @@
 # threads that make 100000 mixed calls each (64 of them a tenth, and eight in Rust and in Python a tenth), with one, two or
 # all of them inside the door, also with threads held up between the steps of waiting, whose journal `bin/hullbook check`
 # judges, eight of which one takes the lines out, and eight that keep none, up to 64 at desks of few lines that drain by
-# themselves, every code, each request for memory refused in
-# turn, and wake-ups out of order (wakeups.sh). The gate runs it. What is missing here (a compiler, python3, valgrind) is
-# told and skipped, and counts nothing. The last line counts, and the status is not 0 where something failed. With a
-# number, that many calls a thread.
+# themselves, every code, each request for memory refused in turn, what a call in a line promises but its answer (waits.c), every
+# order of the steps of the door (door_model.c), files of journals whose process is killed (kills.c), and wake-ups out of order
+# (wakeups.sh). The gate runs it. What is missing here (a
+# compiler, python3, valgrind) is told and skipped, and counts nothing. The last line counts, and the status is not 0 where
+# something failed. With a number, that many calls a thread; with a second one, so many kills (150).
 set -u
 here=$(cd "$(dirname "$0")" && pwd)
 top=$(cd "$here/../.." && pwd)
 examples=$top/examples/shared
 calls=${1:-100000}
+kills=${2:-150}
 passed=0
 failed=0
 
@@ -45,12 +47,21 @@ is_there() {
     command -v "$1" >/dev/null 2>&1
 }
 
-# builds a program in C: its source, and further flags
+# builds a program in C: its source, and further flags, or files that go before the archive
 build() {
     source=$1
     shift
-    cc -std=gnu11 -Wall -Wextra -Werror -O2 -g -I"$prefix/include" "$source" -L"$prefix/lib" -lhull_shared -lpthread "$@" \
+    cc -std=gnu11 -Wall -Wextra -Werror -O2 -g -I"$prefix/include" "$source" "$@" -L"$prefix/lib" -lhull_shared -lpthread \
         -o "$room/$(basename "$source" .c)"
+}
+
+# the same over archive/line.c compiled anew: whose threads are held up between two steps, and which sleep without futex
+build_slow() {
+    build "$@" -DSLOW -include "$here/steps.h" "$top/archive/line.c"
+}
+
+build_by_pthreads() {
+    build "$@" -DHULL_SHARED_BY_PTHREADS "$top/archive/line.c"
 }
 
 # rustc with the edition of the wrapper, and warnings refused
@@ -88,6 +99,10 @@ in_c() {
     count "the loop for pieces of docs/SHARED.md: $(cat "$room/told")" $?
     build "$examples/threads.c" && "$room/threads" >"$room/journal" && legal "$room/journal"
     count "examples/shared/threads.c writes a legal journal" $?
+    build "$examples/kept.c" && "$room/kept" "$room/kept.journal" >"$room/said" && printf 'hullbook jour' >>"$room/kept.journal" &&
+        "$room/kept" "$room/kept.journal" >"$room/said" && grep -q ' 13 bytes were cut off' "$room/said" &&
+        grep -q '^19 points' "$room/said" && apart "$room/kept.journal"
+    count "examples/shared/kept.c goes on with its file, and cuts its torn end off" $?
     build "$here/storm.c"
     count "storm.c compiles" $?
     for threads in 2 4 8 64; do
@@ -98,12 +113,12 @@ in_c() {
             storm "$threads" "$each" "$inside"
         done
     done
-    build "$here/storm.c" -DSLOW
+    build_slow "$here/storm.c"
     count "storm.c compiles with threads that are held up" $?
     for inside in 1 2 8; do
         storm 8 $((calls / 100)) "$inside"
     done
-    build "$here/storm.c" -DHULL_SHARED_BY_PTHREADS
+    build_by_pthreads "$here/storm.c"
     count "storm.c compiles without futex" $?
     for inside in 1 8; do
         storm 8 $((calls / 100)) "$inside"
@@ -112,6 +127,9 @@ in_c() {
     count "drains.c compiles" $?
     drains
     storms_of_full_desks
+    waits
+    journals
+    models
     "$here/wakeups.sh" "$prefix" >"$room/told" 2>&1
     count "no wake-up is lost, and a line that loses one is found: $(tail -n 1 "$room/told")" $?
 }
@@ -169,10 +187,86 @@ storms_of_full_desks() {
     full 64 $((calls / 10)) 2000
     full 8 $((calls / 10)) 200
     full 2 $((calls / 100)) 1
-    build "$here/full.c" -DSLOW
+    build_slow "$here/full.c"
     full 8 $((calls / 100)) 200
-    build "$here/full.c" -DHULL_SHARED_BY_PTHREADS
+    build_by_pthreads "$here/full.c"
     full 8 $((calls / 100)) 200
+}
+
+# what calls in a line promise but their answers
+waits() {
+    build "$here/doors.c" && "$room/doors"
+    count "each step of the door" $?
+    build "$here/waits.c" -Wl,--wrap=malloc && "$room/waits"
+    count "errno, deadlines, lines of others, threads that are cancelled or die" $?
+    build_by_pthreads "$here/waits.c" -Wl,--wrap=malloc && "$room/waits"
+    count "the same without futex" $?
+}
+
+# every order of the steps of the door, and the faults that are planted there: THREADS CALLS INSIDE MODES
+model() {
+    "$room/door_model" "$@" >"$room/told"
+    count "every order of the door: $(cat "$room/told")" $?
+}
+
+# the file of a journal: each code and each cut, a process that is killed at random moments, and faults that are planted there
+journals() {
+    build "$here/journals.c" -Wl,--wrap=pwrite,--wrap=fsync && "$room/journals" "$room/zone.journal" && apart "$room/zone.journal"
+    count "every code of a journal's file, and each length that its end may be cut to" $?
+    build "$here/kills.c" -Wl,--wrap=pwrite,--wrap=fsync && "$room/kills" "$kills" "$room/zone.journal" 1 >"$room/told" &&
+        apart "$room/zone.journal"
+    count "a process that keeps a journal is killed: $(cat "$room/told")" $?
+    killed_wrongly 'lines are told as safe before they are written' \
+        '/^    uint32_t failed = j->failed;/a\    __atomic_store_n(\&j->safe, j->next + 1000, __ATOMIC_SEQ_CST), tells(j);'
+    killed_wrongly 'nothing is synced' 's/failed == 0 && fsync\(j->file\) != 0/0/'
+    killed_wrongly 'what a write did not take is left out' 's/^    while \(count > 0\) \{/    if (count > 0) {/'
+    killed_wrongly 'a torn part stays' 's/\(uint64_t\)size > j->end && \(ftruncate/0 \&\& (ftruncate/'
+    killed_wrongly 'what was asked for is done before it is drained' \
+        's/hull_shared_line_drain\(j->line, j->seat\)\) \{/(__atomic_store_n(\&j->done, asked, __ATOMIC_SEQ_CST), tells(j), hull_shared_line_drain(j->line, j->seat))) {/'
+}
+
+# whether the parts of a file are one legal journal
+apart() {
+    rm -rf "$room/apart" && mkdir "$room/apart" && csplit -s -z -n 6 -f "$room/apart/" "$1" '/^hullbook/' '{*}' &&
+        "$top/bin/hullbook" check "$room/apart"/* >"$room/verdict" 2>&1
+}
+
+# the same with a fault, which has to be seen: NAME, and a script of sed for the file
+killed_wrongly() {
+    sed -E "$2" "$top/archive/journal.c" >"$room/journal.c"
+    ! cmp -s "$room/journal.c" "$top/archive/journal.c" || echo "nothing is changed by $2"
+    build "$here/kills.c" "$room/journal.c" -I"$top/archive" -Wl,--wrap=pwrite,--wrap=fsync &&
+        ! "$room/kills" 300 "$room/wrong.journal" 2 >"$room/told" 2>&1
+    count "$1: seen ($(tail -n 1 "$room/told"))" $?
+}
+
+models() {
+    build "$here/door_model.c"
+    count "door_model.c compiles" $?
+    model 3 3 1 ccc
+    model 3 3 1 cut
+    model 3 2 2 ccu
+    model 4 2 1 cccc
+    model 4 1 2 ccuu
+    for fault in $(seq 12); do
+        for words in "2 2 1 cc" "2 2 1 cu" "3 2 1 ccc" "3 1 1 cut"; do
+            # shellcheck disable=SC2086 # the words stand apart by spaces
+            ! "$room/door_model" $words "$fault" >"$room/told" || break
+        done
+        ! grep -q 'nothing wrong' "$room/told"
+        count "a fault of the door is found: $(sed 's/.*fault \(.*\): .* times, /\1: /' "$room/told")" $?
+    done
+}
+
+# the orders that threads have by a line are those that helgrind is told of; with nothing told it finds what it takes for races
+by_helgrind() {
+    build "$here/full.c" && mkdir -p "$room/parts"
+    valgrind --tool=helgrind -q --error-exitcode=9 "$room/full" 4 200 50 "$room/parts" >"$room/said" 2>"$room/told"
+    count "helgrind finds nothing in full.c" $?
+    build "$here/full.c" -DHULL_SHARED_UNWATCHED "$top/archive/line.c"
+    valgrind --tool=helgrind -q --error-exitcode=9 "$room/full" 4 200 50 "$room/parts" >"$room/said" 2>"$room/told"
+    [ $? -eq 9 ]
+    count "and much where it is told nothing" $?
 }
 
 by_valgrind() {
@@ -181,6 +275,7 @@ by_valgrind() {
             "$room/$name" >"$room/said" 2>"$room/told"
         count "valgrind finds nothing in $name" $?
     done
+    by_helgrind
 }
 
 # what the linker is told of the calls that overlaps.c slows down
@@ -213,7 +308,11 @@ in_rust() {
         --crate-name overlap_tests -C link-arg="$room/overlaps.o" $wraps "$here/shared_tests.rs" &&
         "$room/overlap_tests" lendings >"$room/told" 2>&1
     count "calls on one desk from several threads of Rust wait for each other" $?
-    rust --cfg hull_steps -C extra-filename=_slow --crate-type rlib --crate-name hull "$top/rust/hull/src/lib.rs" &&
+    mkdir "$room/slow" && cp "$prefix/lib/libhull.a" "$prefix/lib/libhull_shared.a" "$room/slow/" &&
+        cc -std=gnu11 -O2 -fPIC -DSLOW -include "$here/steps.h" -I"$prefix/include" -c "$top/archive/line.c" -o "$room/slow/line.o" &&
+        ar r "$room/slow/libhull_shared.a" "$room/slow/line.o" &&
+        rustc --edition 2021 -O -D warnings -L "native=$room/slow" -C extra-filename=_slow --crate-type rlib --crate-name hull \
+            --out-dir "$room" "$top/rust/hull/src/lib.rs" &&
         rust --test --extern hull="$room/libhull_slow.rlib" --crate-name slow_tests "$here/shared_tests.rs" &&
         passes "$room/slow_tests"
     count "the same with threads that are held up between the steps of waiting" $?

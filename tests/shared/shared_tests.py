@@ -5,12 +5,13 @@ Eight threads make calls at once; the journal of those goes to the file that JOU
 import copy
 import os
 import random
+import tempfile
 import threading
 import unittest
 
 import hull as hull_module
 from hull import CAPACITY_LIMIT, COORDINATE_LIMIT, POINT_LIMIT, SEAT_LIMIT
-from hull import JournalFault, JournalFull, NoSeat, OutOfRange, Place, SeatsOut, SharedHull, TooMany, ZeroDirection
+from hull import Busy, JournalFault, JournalFull, NoSeat, OutOfRange, Place, SeatsOut, SharedHull, TooMany, ZeroDirection
 
 
 class Calls(unittest.TestCase):
@@ -105,6 +106,65 @@ class Calls(unittest.TestCase):
         two.drain()
         self.assertEqual(two.count(), 10)
 
+    def test_deadlines(self):
+        hull = SharedHull(capacity=1, seats=2, limit=100, waits=True)
+        one, two = hull.lend(0), hull.lend(1)
+        self.assertEqual(one.add(1, 1), 1)
+        for time in (0, 0.01, 1e-12):
+            two.wait_at_most(time)
+            self.assertRaises(JournalFull, two.add, 1, 1)
+        for time in (-1, float("nan")):
+            self.assertRaises(ValueError, two.wait_at_most, time)
+        self.assertEqual((hull.stats().held, hull.stats().turn, hull.stats().seat, hull.stats().inside), (1, 4, None, 0))
+        two.wait_at_most(None)
+        thread = threading.Thread(target=two.add, args=(1, 1))
+        thread.start()
+        while hull.stats().for_room == 0:
+            pass
+        one.drain()
+        thread.join()
+        self.assertTrue(issubclass(Busy, Exception) and hull.stats().sleepers == 0)
+
+    def test_a_file(self):
+        with tempfile.TemporaryDirectory() as folder:
+            path = os.path.join(folder, "zone.journal")
+            lines = 0
+            for again in range(1, 4):
+                hull = SharedHull.keep(path, capacity=50, seats=4, limit=200, every=0.001 if again == 2 else None)
+                self.assertEqual(hull.safe(), lines)
+                with self.assertRaises(BlockingIOError):
+                    SharedHull.keep(path, capacity=50, seats=4)
+
+                def add(number):
+                    with hull.lend(number) as seat:
+                        seat.wait_safe()
+                        for x in range(20):
+                            self.assertEqual(seat.add(x, number), again)
+                            seat.wait_safe()
+                            self.assertGreater(hull.safe(), seat.turn())
+
+                threads = [threading.Thread(target=add, args=(number,)) for number in range(4)]
+                for thread in threads:
+                    thread.start()
+                for thread in threads:
+                    thread.join()
+                seat = hull.lend(0)
+                self.assertRaises(SeatsOut, hull.close)
+                self.assertEqual(seat.count(), 80)
+                self.assertGreater(hull.sync(), seat.turn())
+                seat.give_back()
+                self.assertRaises(ValueError, seat.wait_safe)
+                text = hull.close().splitlines()
+                lines = int(text[0].split()[4]) + len(text) - 2
+                self.assertRaises(ValueError, hull.safe)
+            with open(path, encoding="ascii") as file:
+                self.assertEqual(sum(" add " in line for line in file), 240)
+            with open(path, "w", encoding="ascii") as file:
+                file.write("somebody's\n")
+            self.assertRaises(JournalFault, SharedHull.keep, path, capacity=1, seats=1)
+            self.assertRaises(FileNotFoundError, SharedHull.keep, os.path.join(folder, "none", "at all"), capacity=1, seats=1)
+            self.assertRaises(ValueError, SharedHull.keep, os.path.join(folder, "new"), capacity=1, seats=SEAT_LIMIT)
+
     def test_seats_and_the_journal(self):
         hull = SharedHull(capacity=10, seats=2)
         with hull.lend(0) as seat:
@@ -117,6 +177,8 @@ class Calls(unittest.TestCase):
         hull.lend(1)  # let go at once
         text = hull.close()
         self.assertIn("add 3 4", text)
+        for size in (1, 50, 1 << 16):
+            self.assertEqual("".join(hull.close_in_pieces(size)), text)
         self.assertEqual(hull.close(), text)
         self.assertRaises(ValueError, hull.lend, 0)
         for value in (hull, seat):

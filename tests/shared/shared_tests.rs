@@ -1,7 +1,10 @@
 //! Each function of a shared hull in `rust/hull`, each of its answers and each of its faults; and eight threads at
 //! once, the journal of whose calls goes to the file that JOURNAL names.
 use hull::{Fault, Limits, Place, Point, Seat, SharedHull, CAPACITY_LIMIT, COORDINATE_LIMIT, POINT_LIMIT, SEAT_LIMIT};
+use std::sync::atomic::{AtomicUsize, Ordering};
+use std::sync::{Arc, Mutex};
 use std::thread;
+use std::time::{Duration, Instant};
 
 fn point(x: i64, y: i64) -> Point {
     Point { x, y }
@@ -75,6 +78,13 @@ fn parts() {
     seat.give_back();
     let head = "hullbook journal 3 first 15 limit 6 capacity 3\n";
     assert_eq!(hull.close().unwrap(), format!("{head}15 0 add 0 0 = added\nend 1\n"));
+    written.clear();
+    hull.close_to(&mut written).unwrap();
+    assert_eq!(written, hull.close().unwrap().into_bytes());
+    let hull = SharedHull::open(SMALL).unwrap();
+    let _seat = hull.lend(0).unwrap();
+    let told = hull.close_to(&mut written).unwrap_err().into_inner().unwrap();
+    assert_eq!(told.downcast_ref::<Fault>(), Some(&Fault::SeatsOut));
 }
 
 /// Each reason why a text is not gone on with, and one that is.
@@ -155,6 +165,104 @@ fn seats_and_the_journal() {
     assert!(text.contains("add 3 4"), "{text}");
     assert_eq!(hull.close().unwrap(), text);
     assert_eq!(hull.lend(0).unwrap_err(), Fault::NotOpen);
+}
+
+/// A hull that drains by itself and waits for room, by threads with no thought of that; the parts are all lines.
+#[test]
+fn drains_by_itself() {
+    let mut hull = SharedHull::open(Limits { points: 2000, first: 0, capacity: 20, seats: 4 }).unwrap();
+    let texts = Arc::new(Mutex::new(String::new()));
+    let kept = texts.clone();
+    hull.wait_for_room(true).unwrap();
+    hull.on_half_full(move |part| kept.lock().unwrap().push_str(&part.text().unwrap())).unwrap();
+    thread::scope(|scope| {
+        for number in 0..4 {
+            let mut seat = hull.lend(number).unwrap();
+            scope.spawn(move || (0..500).for_each(|x| assert!(seat.add(point(x, i64::from(number))).unwrap() > 0)));
+        }
+    });
+    let all = texts.lock().unwrap().clone() + &hull.close().unwrap();
+    assert_eq!(all.lines().filter(|line| line.contains(" add ")).count(), 2000);
+    assert_eq!(hull.stats().seat, None);
+}
+
+/// What a hook panics with, its call panics with; the next drains again.
+#[test]
+fn hooks_that_panic() {
+    let mut hull = SharedHull::open(Limits { points: 9, first: 0, capacity: 4, seats: 1 }).unwrap();
+    let parts = Arc::new(AtomicUsize::new(0));
+    let count = parts.clone();
+    hull.on_half_full(move |_| assert!(count.fetch_add(1, Ordering::SeqCst) != 1, "the second part")).unwrap();
+    let mut seat = hull.lend(0).unwrap();
+    let told = std::panic::catch_unwind(std::panic::AssertUnwindSafe(|| (0..100).for_each(|_| assert_eq!(seat.count(), Ok(0)))));
+    assert_eq!(*told.unwrap_err().downcast::<&str>().unwrap(), "the second part");
+    assert_eq!((seat.count(), seat.count(), seat.count()), (Ok(0), Ok(0), Ok(0)));
+    assert_eq!(parts.load(Ordering::SeqCst), 3);
+    assert_eq!((hull.wait_for_room(true), hull.on_half_full(|_| ())), (Err(Fault::SeatsOut), Err(Fault::SeatsOut)));
+}
+
+/// A call waits no longer than its seat is to: for room, and until it comes in.
+#[test]
+fn deadlines() {
+    let mut hull = SharedHull::open(Limits { points: 9, first: 7, capacity: 2, seats: 2 }).unwrap();
+    hull.wait_for_room(true).unwrap();
+    let (mut one, mut two) = (hull.lend(0).unwrap(), hull.lend(1).unwrap());
+    one.wait_at_most(Some(Duration::ZERO));
+    assert_eq!((one.count(), two.count(), one.count()), (Ok(0), Ok(0), Err(Fault::Full)));
+    let begun = Instant::now();
+    one.wait_at_most(Some(Duration::from_millis(20)));
+    assert_eq!(one.count(), Err(Fault::Full));
+    assert!(begun.elapsed() >= Duration::from_millis(20));
+    let stats = hull.stats();
+    assert_eq!((stats.inside, stats.sleepers, stats.for_room, stats.held, stats.seat, stats.drainer), (0, 0, 0, 2, None, None));
+    one.wait_at_most(None);
+    let waiting = thread::spawn(move || one.count());
+    while hull.stats().for_room == 0 {
+        thread::yield_now();
+    }
+    assert_eq!(two.drain().unwrap().lines().unwrap().count(), 5);
+    assert_eq!(waiting.join().unwrap(), Ok(0));
+}
+
+/// A hull that keeps its journal in a file, and others that go on with it.
+#[test]
+fn keeps_a_file() {
+    let path = std::env::temp_dir().join(format!("hull-journal-{}", std::process::id()));
+    let limits = Limits { points: 2000, first: 0, capacity: 50, seats: 4 };
+    let mut lines = 0;
+    for round in 1..4 {
+        let mut hull = SharedHull::keep(&path, limits, (round == 2).then(|| Duration::from_millis(1))).unwrap();
+        assert_eq!((hull.safe(), hull.wait_for_room(false)), (Ok(lines), Err(Fault::SeatsOut)));
+        thread::scope(|scope| {
+            for number in 0..4 {
+                let mut seat = hull.lend(number).unwrap();
+                let hull = &hull;
+                scope.spawn(move || {
+                    assert_eq!(seat.wait_safe(), Ok(()));
+                    for x in 0..20 {
+                        assert_eq!(seat.add(point(x, i64::from(number))), Ok(round));
+                        seat.wait_safe().unwrap();
+                        assert!(hull.safe().unwrap() > seat.turn().unwrap());
+                    }
+                });
+            }
+        });
+        assert_eq!(SharedHull::keep(&path, limits, None).unwrap_err(), Fault::NoFile { errno: 11 });
+        let seat = hull.lend(0).unwrap();
+        assert_eq!((hull.close().unwrap_err(), hull.sync().is_ok()), (Fault::SeatsOut, true));
+        drop(seat);
+        if round < 3 {
+            let text = hull.close().unwrap();
+            let first: u64 = text.split(' ').nth(4).unwrap().parse().unwrap();
+            lines = first + text.lines().count() as u64 - 2;
+            assert_eq!(hull.safe(), Err(Fault::NotOpen));
+        }
+    }
+    std::fs::write(&path, "somebody's\n").unwrap();
+    assert_eq!(SharedHull::keep(&path, limits, None).unwrap_err(), Fault::Damaged { line: 1 });
+    std::fs::remove_file(&path).unwrap();
+    assert_eq!(SharedHull::keep("a\0b", limits, None).unwrap_err(), Fault::NoFile { errno: 22 });
+    assert_eq!(SharedHull::open(limits).unwrap().safe(), Err(Fault::NotOpen));
 }
 
 /// A seat outlives the hull that it was lent by.

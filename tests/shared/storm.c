@@ -1,10 +1,7 @@
 /* storm THREADS CALLS INSIDE: so many threads make so many mixed calls each over one hull, of which so many may have numbers at once,
- * and the text of the journal goes to standard output. With SLOW defined, threads are held up between the steps of waiting and of
- * waking (steps.h). The status is 0 only where each call had an answer of its kind, each thread's numbers rose, all numbers together
- * were each served once, every code at the end was as it should be, and nobody is counted in the line any more. */
-#ifdef SLOW
-#include "steps.h"
-#endif
+ * and the text of the journal goes to standard output. The status is 0 only where each call had an answer of its kind, each thread's
+ * numbers rose, all numbers together were each served once, every code at the end was as it should be, and nobody is counted in the
+ * line any more. */
 #include "hull_shared.h"
 
 #include <pthread.h>
@@ -148,7 +145,7 @@ int main(int count, char **words) {
     for (unsigned k = 0; k < threads; k++) {
         turns[k] = room_of(calls * sizeof(uint64_t));
         rooms[k] = hull_shared_seat_new();
-        bad |= rooms[k] == NULL || hull_shared_lend(desk, rooms[k], k) != HULL_LENT;
+        bad |= rooms[k] == NULL || hull_shared_lend(desk, &line, rooms[k], k) != HULL_LENT;
     }
     for (unsigned k = 0; k < threads; k++) {
         bad |= pthread_create(&ids[k], NULL, work, &rooms[k]) != 0;
@@ -156,10 +153,9 @@ int main(int count, char **words) {
     for (unsigned k = 0; k < threads; k++) {
         bad |= pthread_join(ids[k], NULL) != 0 || wrong[k];
     }
-    bad |= !each_once(threads) || line.door != 0 || line.heirs != 0;
-    for (unsigned k = 0; k < HULL_SHARED_SEATS_MAX; k++) {
-        bad |= line.places[k].waiters != 0;
-    }
+    hull_shared_state state = hull_shared_stats(&line);
+    bad |= !each_once(threads) || state.inside != 0 || state.sleepers != 0 || state.for_room != 0 || state.turn != threads * calls;
+    bad |= state.seat != HULL_SHARED_SEATS_MAX || (words[3][0] == '1' && words[3][1] == 0 && state.held != threads * calls);
     bad |= hull_shared_call(&line, rooms[0], HULL_KIND_COUNT, 0, 0).told.code != HULL_FULL;
     for (unsigned k = 0; k < threads; k++) {
         bad |= hull_shared_close(desk) != HULL_SEATS_OUT;

@@ -126,6 +126,7 @@ pub(crate) fn fault_of(code: u32) -> Fault {
         code::NOT_OPEN => Fault::NotOpen,
         code::SEATS_OUT => Fault::SeatsOut,
         code::FULL => Fault::Full,
+        code::BUSY => Fault::Busy,
         other => unreachable!("the library answered {other}"),
     }
 }

@@ -26,6 +26,11 @@ impl<T> Counted<T> {
         Ok(Counted(at))
     }
 
+    /// Whether nobody else owns it.
+    pub(crate) fn is_alone(&self) -> bool {
+        self.owned().owners.load(Ordering::Acquire) == 1
+    }
+
     fn owned(&self) -> &Owned<T> {
         // SAFETY: the value is there until its last owner is dropped.
         unsafe { self.0.as_ref() }

@@ -16,7 +16,6 @@
 //! [`SharedHull`] (over `libhull_shared.a`), at which each thread has a [`Seat`] and whose calls are kept in a journal.
 mod answer;
 mod counted;
-mod door;
 mod exchange;
 mod many;
 mod outline;
@@ -31,7 +30,7 @@ use std::ptr::NonNull;
 pub use exchange::{direction_of, wkt, Lattice, Rounded};
 pub use outline::{Distance, Nearest, Outline, Relation, Separation, Strip, Witness};
 pub use raw::{Held, Point};
-pub use shared::{JournalPart, Limits, Seat, SharedHull, CAPACITY_LIMIT, SEAT_LIMIT};
+pub use shared::{JournalPart, Limits, Seat, SharedHull, Stats, CAPACITY_LIMIT, SEAT_LIMIT};
 
 /// The greatest size of a coordinate, of a point and of a direction: 2^40.
 pub const COORDINATE_LIMIT: i64 = 1 << 40;
@@ -68,6 +67,8 @@ pub enum Fault {
     SeatsOut,
     /// The journal of the shared hull is full: the call was not made.
     Full,
+    /// The shared hull was in use by others for as long as the seat waits: the call was not made.
+    Busy,
     /// The text is none of a journal: this line of it, from 1, has the first fault, of this number (1 its form, 2 a number, 3 a
     /// coordinate, 4 a seat, 5 a word, 6 the text ends before its end line, 7 no header).
     NoJournal { line: u64, fault: u8 },
@@ -77,6 +78,10 @@ pub enum Fault {
     Illegal { line: u64 },
     /// The journal has lines by so many seats, more than were asked for.
     TooFewSeats { wanted: u32 },
+    /// The system refused a call on the file of the journal, with this `errno`.
+    NoFile { errno: i32 },
+    /// The file is none of a journal, or more of it is wrong than a torn end, from this line of it on, from 1.
+    Damaged { line: u64 },
 }
 
 impl fmt::Display for Fault {
@@ -85,6 +90,10 @@ impl fmt::Display for Fault {
             Fault::NoJournal { line, fault } => return write!(f, "the text is none of a journal: line {line}: fault {fault}"),
             Fault::Illegal { line } => return write!(f, "the journal is no legal history: line {line} of its text"),
             Fault::TooFewSeats { wanted } => return write!(f, "the journal has lines by {wanted} seats"),
+            Fault::NoFile { errno } => {
+                return write!(f, "the file of the journal: {}", std::io::Error::from_raw_os_error(*errno))
+            }
+            Fault::Damaged { line } => return write!(f, "the file is damaged, or none of a journal, from line {line} on"),
             Fault::OldRules => "points are not counted in journals before version 3",
             Fault::OutOfRange => "a coordinate is out of range",
             Fault::ZeroDirection => "a direction is zero",
@@ -97,6 +106,7 @@ impl fmt::Display for Fault {
             Fault::NotOpen => "the hull is closed",
             Fault::SeatsOut => "a seat of the hull is out",
             Fault::Full => "the journal of the hull is full",
+            Fault::Busy => "the hull is in use by others",
         })
     }
 }

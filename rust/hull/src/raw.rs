@@ -83,6 +83,56 @@ pub(crate) struct SeatReply {
     pub has_line: u32,
 }
 
+/// Where the calls of a desk wait: all zero, it is ready.
+#[repr(C, align(64))]
+pub(crate) struct Line {
+    words: std::cell::UnsafeCell<[u64; LINE_WORDS]>,
+}
+
+const LINE_WORDS: usize = 1088;
+
+impl Line {
+    pub const fn new() -> Line {
+        Line { words: std::cell::UnsafeCell::new([0; LINE_WORDS]) }
+    }
+
+    pub fn at(&self) -> *mut u8 {
+        self.words.get().cast()
+    }
+}
+
+// SAFETY: calls from several threads on one line are what it is for; none moves it.
+unsafe impl Sync for Line {}
+
+/// Where a call writes to: an array for corners, or a part; neither, where both are null.
+#[repr(C)]
+pub(crate) struct Target {
+    pub out: *mut Point,
+    pub room: usize,
+    pub part: *mut u8,
+}
+
+/// The time of a call that waits for ever.
+pub(crate) const NEVER: u64 = u64::MAX;
+
+/// How a line stands.
+#[repr(C)]
+pub(crate) struct State {
+    pub out: u32,
+    pub inside: u32,
+    pub sleepers: u32,
+    pub for_room: u32,
+    pub held: u32,
+    pub turn: u64,
+    pub seat: u32,
+    pub named: u32,
+    pub drainer: u32,
+    pub seat_for: u64,
+    pub drains_for: u64,
+}
+
+pub(crate) type Hook = extern "C" fn(context: *mut u8, part: *mut u8);
+
 /// What shows how outlines stand.
 #[repr(C)]
 #[derive(Clone, Copy)]
@@ -130,8 +180,6 @@ pub(crate) mod code {
     pub const LENT: u32 = 35;
     pub const NO_SEAT: u32 = 36;
     pub const NOT_OPEN: u32 = 38;
-    pub const TAKEN: u32 = 43;
-    pub const NOT_YET: u32 = 44;
     pub const FULL: u32 = 46;
     pub const SEATS_OUT: u32 = 47;
     pub const CLOSED: u32 = 48;
@@ -141,6 +189,10 @@ pub(crate) mod code {
     pub const OLD_RULES: u32 = 58;
     pub const ILLEGAL: u32 = 59;
     pub const TOO_FEW_SEATS: u32 = 60;
+    pub const BUSY: u32 = 62;
+    pub const NO_FILE: u32 = 64;
+    pub const DAMAGED: u32 = 65;
+    pub const SAFE: u32 = 66;
 }
 
 /// The numbers of the kinds.
@@ -238,28 +290,46 @@ extern "C" {
 extern "C" {
     pub(crate) fn hull_shared_desk_size() -> usize;
     pub(crate) fn hull_shared_desk_alignment() -> usize;
-    pub(crate) fn hull_shared_seat_size() -> usize;
+    pub(crate) fn hull_shared_seat_size_with_line() -> usize;
     pub(crate) fn hull_shared_seat_alignment() -> usize;
     pub(crate) fn hull_shared_make_desk(room: *mut u8);
-    pub(crate) fn hull_shared_make_seat(room: *mut u8);
+    pub(crate) fn hull_shared_make_seat_with_line(room: *mut u8);
     pub(crate) fn hull_shared_open(desk: *mut u8, limit: u32, first: u64, capacity: u32, seats: u32) -> u32;
     pub(crate) fn hull_shared_reopen(desk: *mut u8, text: *const u8, length: usize, capacity: u32, seats: u32) -> Reply;
-    pub(crate) fn hull_shared_lend(desk: *mut u8, room: *mut u8, number: u32) -> u32;
-    pub(crate) fn hull_shared_give_back(desk: *mut u8, room: *mut u8) -> u32;
-    pub(crate) fn hull_shared_take(seat: *mut u8, kind: u32, x: i64, y: i64) -> SeatReply;
-    pub(crate) fn hull_shared_look_into(seat: *mut u8, out: *mut Point, room: usize) -> SeatReply;
+    pub(crate) fn hull_shared_lend_with_line(desk: *mut u8, line: *mut u8, room: *mut u8, number: u32) -> u32;
+    pub(crate) fn hull_shared_give_back_with_line(desk: *mut u8, room: *mut u8) -> u32;
+    pub(crate) fn hull_shared_call_into(line: *mut u8, seat: *mut u8, kind: u32, x: i64, y: i64, to: Target, until: u64) -> SeatReply;
+    pub(crate) fn hull_shared_now() -> u64;
+    pub(crate) fn hull_shared_line_wait_for_room(line: *mut u8, waits: i32);
+    pub(crate) fn hull_shared_line_on_half_full(line: *mut u8, hook: Hook, context: *mut u8) -> i32;
+    pub(crate) fn hull_shared_line_end(line: *mut u8);
+    pub(crate) fn hull_shared_stats(line: *mut u8) -> State;
+    pub(crate) fn hull_shared_journal_open(path: *const std::os::raw::c_char, journal: *mut *mut u8) -> Reply;
+    pub(crate) fn hull_shared_journal_start(
+        journal: *mut u8,
+        desk: *mut u8,
+        line: *mut u8,
+        limit: u32,
+        capacity: u32,
+        seats: u32,
+        every: u64,
+    ) -> Reply;
+    pub(crate) fn hull_shared_journal_safe(journal: *mut u8) -> Reply;
+    pub(crate) fn hull_shared_journal_wait(journal: *mut u8, line: u64, until: u64) -> Reply;
+    pub(crate) fn hull_shared_journal_sync(journal: *mut u8, until: u64) -> Reply;
+    pub(crate) fn hull_shared_journal_close(journal: *mut u8) -> Reply;
     pub(crate) fn hull_shared_part_size() -> usize;
     pub(crate) fn hull_shared_part_alignment() -> usize;
     pub(crate) fn hull_shared_make_part(room: *mut u8);
     pub(crate) fn hull_shared_capacity(seat: *mut u8) -> u32;
     pub(crate) fn hull_shared_part_reserve(part: *mut u8, lines: u32) -> u32;
-    pub(crate) fn hull_shared_look_and_drain(seat: *mut u8, part: *mut u8) -> SeatReply;
     pub(crate) fn hull_shared_part_text(part: *mut u8, out: *mut u8, length: usize) -> Reply;
     pub(crate) fn hull_shared_part_text_from(part: *mut u8, line: u64, out: *mut u8, length: usize) -> Reply;
     pub(crate) fn hull_shared_part_end(part: *mut u8) -> u32;
     pub(crate) fn hull_shared_open_without_journal(desk: *mut u8, limit: u32, first: u64, seats: u32) -> u32;
     pub(crate) fn hull_shared_open_answering(desk: *mut u8, limit: u32, first: u64, capacity: u32, seats: u32) -> u32;
     pub(crate) fn hull_shared_close(desk: *mut u8) -> u32;
+    pub(crate) fn hull_shared_text_from(desk: *mut u8, line: u64, out: *mut u8, length: usize) -> Reply;
     pub(crate) fn hull_shared_text(desk: *mut u8, out: *mut u8, length: usize) -> Reply;
     pub(crate) fn hull_shared_end(desk: *mut u8) -> u32;
 }

@@ -1,14 +1,20 @@
 //! One hull for many threads, each with a seat of its own: safe Rust over `libhull_shared.a`.
 use crate::answer;
 use crate::counted::Counted;
-use crate::door::Door;
-use crate::raw::{self, code, kind, Reply};
+use crate::raw::{self, code, kind, Line, Reply, Target};
 use crate::{Fault, Place, Point, Vertices, NOWHERE};
 use std::alloc::{alloc, dealloc, Layout};
+use std::any::Any;
+use std::cell::Cell;
+use std::ffi::CString;
 use std::fmt;
-use std::hint::spin_loop;
-use std::ptr::NonNull;
-use std::sync::{Mutex, MutexGuard, PoisonError};
+use std::mem::ManuallyDrop;
+use std::os::unix::ffi::OsStrExt;
+use std::panic::{catch_unwind, resume_unwind, AssertUnwindSafe};
+use std::path::Path;
+use std::ptr::{null_mut, NonNull};
+use std::sync::{Mutex, MutexGuard, PoisonError, RwLock};
+use std::time::Duration;
 
 /// The greatest capacity of a shared hull: how many lines of its journal may be held at most.
 pub const CAPACITY_LIMIT: u32 = (1 << 24) - 1;
@@ -57,11 +63,38 @@ impl Drop for Room {
     }
 }
 
-/// A desk, on which there is one call at a time, and the door for calls of its seats. The hull and each seat that is out own it
-/// together.
+/// What takes the lines out when half of those that may be are held.
+type Keep = Box<dyn FnMut(&JournalPart) + Send>;
+
+thread_local! {
+    /// What a hook panicked with: the call in which it ran panics with it.
+    static PANIC: Cell<Option<Box<dyn Any + Send>>> = const { Cell::new(None) };
+}
+
+/// A desk, on which there is one call at a time, and the line in which the calls of its seats wait. The hull and each seat that is out
+/// own it together.
 struct Desk {
     room: Mutex<Room>,
-    door: Door,
+    line: Line,
+    keep: Mutex<Option<Keep>>,
+    journal: RwLock<Option<Journal>>,
+}
+
+/// Where the file of a journal is kept, which is closed when it is taken; who asks what is safe reads it.
+struct Journal(NonNull<u8>);
+
+// SAFETY: its calls may be made by any thread, but for the last, which ends it.
+unsafe impl Send for Journal {}
+unsafe impl Sync for Journal {}
+
+/// The fault of a call on the file of a journal, which told this.
+fn fault_of_file(told: &Reply, errno: u64) -> Fault {
+    match told.code {
+        code::NO_FILE => Fault::NoFile { errno: errno as i32 },
+        code::DAMAGED => Fault::Damaged { line: told.number },
+        code::ILLEGAL => Fault::Illegal { line: told.number },
+        other => answer::fault_of(other),
+    }
 }
 
 impl Desk {
@@ -70,7 +103,36 @@ impl Desk {
         unsafe {
             let room = Room::new(raw::hull_shared_desk_size(), raw::hull_shared_desk_alignment())?;
             raw::hull_shared_make_desk(room.at());
-            Ok(Desk { room: Mutex::new(room), door: Door::new() })
+            Ok(Desk { room: Mutex::new(room), line: Line::new(), keep: Mutex::new(None), journal: RwLock::new(None) })
+        }
+    }
+
+    /// What is safe of the journal in the file, as a call on it tells.
+    fn safe(&self, ask: impl FnOnce(*mut u8) -> Reply) -> Result<u64, Fault> {
+        let journal = self.journal.read().unwrap_or_else(PoisonError::into_inner);
+        let told = ask(journal.as_ref().ok_or(Fault::NotOpen)?.0.as_ptr());
+        match told.code {
+            code::SAFE => Ok(told.number),
+            _ => Err(fault_of_file(&told, told.high)),
+        }
+    }
+
+    /// Ends the file of the journal, if there is one, and with it the desk, which is locked.
+    fn end_journal(&self, _: &MutexGuard<'_, Room>) -> Result<(), Fault> {
+        let mut journal = self.journal.write().unwrap_or_else(PoisonError::into_inner);
+        let at = match *journal {
+            Some(Journal(at)) => at,
+            None => return Ok(()),
+        };
+        // SAFETY: nobody else has it or the desk, since both locks are taken; it is used no more but where it goes on.
+        let told = unsafe { raw::hull_shared_journal_close(at.as_ptr()) };
+        if told.code == code::SEATS_OUT {
+            return Err(Fault::SeatsOut);
+        }
+        *journal = None;
+        match told.code {
+            code::CLOSED => Ok(()),
+            _ => Err(fault_of_file(&told, told.high)),
         }
     }
 
@@ -82,12 +144,52 @@ impl Desk {
 impl Drop for Desk {
     fn drop(&mut self) {
         let room = self.lock();
+        let _ = self.end_journal(&room);
         // SAFETY: the desk lies in the room. All seats are back, since each owns the desk until then.
         unsafe {
             raw::hull_shared_close(room.at());
             raw::hull_shared_end(room.at());
+            raw::hull_shared_line_end(self.line.at());
         }
     }
+}
+
+/// The hook of a line: hands the part to what the hull was given.
+extern "C" fn keep_part(context: *mut u8, part: *mut u8) {
+    // SAFETY: the context is a desk, which its seat owns meanwhile; the part lies at its place, and is the line's: it is not dropped.
+    let (desk, part) = unsafe {
+        let room = Room { at: NonNull::new_unchecked(part), layout: Layout::new::<u8>() };
+        (&*context.cast::<Desk>(), ManuallyDrop::new(JournalPart { room }))
+    };
+    let mut keep = desk.keep.lock().unwrap_or_else(PoisonError::into_inner);
+    if let Some(keep) = keep.as_mut() {
+        if let Err(fault) = catch_unwind(AssertUnwindSafe(|| keep(&part))) {
+            PANIC.with(|panic| panic.set(Some(fault)));
+        }
+    }
+}
+
+/// How the calls of a shared hull stand at one moment ([`SharedHull::stats`]).
+#[derive(Clone, Copy, Debug, PartialEq, Eq)]
+pub struct Stats {
+    /// How many seats are out.
+    pub out: u32,
+    /// How many calls are inside.
+    pub inside: u32,
+    /// How many sleep until they may come in.
+    pub sleepers: u32,
+    /// How many sleep until there is room in the journal.
+    pub for_room: u32,
+    /// How many lines are held behind the call that was served last.
+    pub held: u32,
+    /// The number that is served now, the one behind that call's; 0 before the first.
+    pub turn: u64,
+    /// The seat whose call has that number, and for how long it has been inside, to some milliseconds.
+    pub seat: Option<(u32, Duration)>,
+    /// The seat that slept and is to come in next.
+    pub named: Option<u32>,
+    /// The seat that takes lines out for [`SharedHull::on_half_full`], and for how long it has.
+    pub drainer: Option<(u32, Duration)>,
 }
 
 /// One hull that up to [`SEAT_LIMIT`] threads change and question at once. Each call takes effect at one moment between
@@ -164,16 +266,108 @@ impl SharedHull {
         }
     }
 
+    /// Opens a hull whose journal is kept in a file, which is made, or gone on with: the hull holds what it left then, and the limit is
+    /// its own. A thread writes the lines to the file when it is asked to ([`SharedHull::sync`], [`Seat::wait_safe`]), each `every` where
+    /// that is given, and where half of `limits.capacity` are held; calls wait for room. `limits.first` is not read, and `limits.seats`
+    /// is at most one less than [`SEAT_LIMIT`]. No seat of such a hull is drained by its caller: nothing more is safe behind that.
+    ///
+    /// [`Fault::NoFile`], [`Fault::Damaged`] and [`Fault::Illegal`], with the line of the file, and those of opening.
+    pub fn keep(path: impl AsRef<Path>, limits: Limits, every: Option<Duration>) -> Result<SharedHull, Fault> {
+        const EINVAL: i32 = 22;
+        let desk = Counted::new(Desk::new()?)?;
+        let path = CString::new(path.as_ref().as_os_str().as_bytes()).map_err(|_| Fault::NoFile { errno: EINVAL })?;
+        let every = every.map_or(0, |time| u64::try_from(time.as_nanos()).unwrap_or(u64::MAX / 2).min(u64::MAX / 2));
+        let mut journal = null_mut();
+        // SAFETY: the path ends with a 0.
+        let told = unsafe { raw::hull_shared_journal_open(path.as_ptr(), &mut journal) };
+        let at = NonNull::new(journal).ok_or_else(|| fault_of_file(&told, told.number))?;
+        let Limits { points, capacity, seats, .. } = limits;
+        // SAFETY: desk and line lie in their places as long as the journal is there, and nobody else has them yet.
+        let told = unsafe {
+            raw::hull_shared_journal_start(at.as_ptr(), desk.lock().at(), desk.line.at(), points, capacity, seats, every)
+        };
+        if told.code != code::OPEN {
+            // SAFETY: it was not started, and is used no more.
+            unsafe { raw::hull_shared_journal_close(at.as_ptr()) };
+            return Err(fault_of_file(&told, told.number));
+        }
+        *desk.journal.write().unwrap_or_else(PoisonError::into_inner) = Some(Journal(at));
+        Ok(SharedHull { desk })
+    }
+
+    /// The number of the first line that is not safe in the file: those before it are there for good, however the process ends.
+    /// [`Fault::NotOpen`] where the hull keeps no file or is closed; [`Fault::NoFile`] where a write was refused: nothing more is safe.
+    pub fn safe(&self) -> Result<u64, Fault> {
+        // SAFETY: the journal is there as long as it is read.
+        self.desk.safe(|at| unsafe { raw::hull_shared_journal_safe(at) })
+    }
+
+    /// Waits until the lines of all calls are safe that were answered before, and tells the number of the first line that is not.
+    pub fn sync(&self) -> Result<u64, Fault> {
+        // SAFETY: as above.
+        self.desk.safe(|at| unsafe { raw::hull_shared_journal_sync(at, raw::NEVER) })
+    }
+
+    /// Whether a call that finds no room waits until some seat has taken lines out, and is made then, in place of [`Fault::Full`].
+    /// [`Fault::SeatsOut`] where a seat is out.
+    pub fn wait_for_room(&mut self, waits: bool) -> Result<(), Fault> {
+        self.unused()?;
+        // SAFETY: no seat is out, and so no call is under way.
+        unsafe { raw::hull_shared_line_wait_for_room(self.desk.line.at(), waits.into()) };
+        Ok(())
+    }
+
+    /// Has lines taken out by themselves: the thread whose call finds half of those that may be held, or no room, takes them out by its
+    /// seat, asking how many points there are, and hands them to `keep`, beside the calls of others. One thread does so at a time, so
+    /// that the parts come in their order. Where calls outrun it, they are told [`Fault::Full`], or wait ([`SharedHull::wait_for_room`]).
+    /// Where `keep` panics, so does the call in which it ran, which was made; `keep` makes no call by a seat of its thread.
+    ///
+    /// [`Fault::SeatsOut`] where a seat is out, [`Fault::NoMemory`].
+    pub fn on_half_full(&mut self, keep: impl FnMut(&JournalPart) + Send + 'static) -> Result<(), Fault> {
+        self.unused()?;
+        *self.desk.keep.lock().unwrap_or_else(PoisonError::into_inner) = Some(Box::new(keep));
+        let context: *const Desk = &*self.desk;
+        // SAFETY: no seat is out; the desk lies in one place as long as one is, and what it was given is `Send`.
+        match unsafe { raw::hull_shared_line_on_half_full(self.desk.line.at(), keep_part, context as *mut u8) } {
+            0 => Err(Fault::NoMemory),
+            _ => Ok(()),
+        }
+    }
+
+    /// No seat is out: neither of a caller, nor of a thread that keeps the journal.
+    fn unused(&self) -> Result<(), Fault> {
+        let keeps = self.desk.journal.read().unwrap_or_else(PoisonError::into_inner).is_some();
+        (!keeps && self.desk.is_alone()).then_some(()).ok_or(Fault::SeatsOut)
+    }
+
+    /// How the calls of the hull's seats stand. It waits for nothing; while calls go on, its numbers may be of moments apart.
+    pub fn stats(&self) -> Stats {
+        // SAFETY: the line lies with the desk, and all that is read is read by atomic steps.
+        let told = unsafe { raw::hull_shared_stats(self.desk.line.at()) };
+        let seat = |number, time| (number < SEAT_LIMIT).then(|| (number, Duration::from_nanos(time)));
+        Stats {
+            out: told.out,
+            inside: told.inside,
+            sleepers: told.sleepers,
+            for_room: told.for_room,
+            held: told.held,
+            turn: told.turn,
+            seat: seat(told.seat, told.seat_for),
+            named: Some(told.named).filter(|named| *named < SEAT_LIMIT),
+            drainer: seat(told.drainer, told.drains_for),
+        }
+    }
+
     /// Lends the seat of a number, 0 and up; [`Fault::NoSeat`] where it is out or there is none, and [`Fault::NotOpen`]
     /// once the hull is closed.
     pub fn lend(&self, number: u32) -> Result<Seat, Fault> {
         // SAFETY: the two that are asked read nothing; the room is of that size and alignment, and nobody else's; the
         // desk lies in its own, and its lock keeps other calls away.
         unsafe {
-            let room = Room::new(raw::hull_shared_seat_size(), raw::hull_shared_seat_alignment())?;
-            raw::hull_shared_make_seat(room.at());
-            match raw::hull_shared_lend(self.desk.lock().at(), room.at(), number) {
-                code::LENT => Ok(Seat { room, desk: self.desk.clone(), number, turn: None, corners: 64 }),
+            let room = Room::new(raw::hull_shared_seat_size_with_line(), raw::hull_shared_seat_alignment())?;
+            raw::hull_shared_make_seat_with_line(room.at());
+            match raw::hull_shared_lend_with_line(self.desk.lock().at(), self.desk.line.at(), room.at(), number) {
+                code::LENT => Ok(Seat { room, desk: self.desk.clone(), number, turn: None, corners: 64, patience: None }),
                 other => Err(answer::fault_of(other)),
             }
         }
@@ -183,12 +377,27 @@ impl SharedHull {
     /// program `hullbook` judges.
     ///
     /// [`Fault::SeatsOut`] where a seat is out: the hull stays open. [`Fault::NoMemory`] where there is none for the
-    /// text: the hull is closed, and this may be called again.
+    /// text: the hull is closed, and this may be called again. Where the hull keeps a file, the text stands last in it, or
+    /// [`Fault::NoFile`] tells that it does not: the hull is closed.
     pub fn close(&self) -> Result<String, Fault> {
+        let desk = self.end()?;
+        text_of(&desk)
+    }
+
+    /// The same, and writes that text to a writer, some thousand bytes at a time. A fault is the error's inner one.
+    pub fn close_to(&self, out: &mut impl std::io::Write) -> std::io::Result<()> {
+        let desk = self.end().map_err(told_as_io)?;
+        // SAFETY: the desk lies in the room, which is locked; the array was written.
+        all_to(out, pieces_of(1 << 16, |line, text| unsafe { raw::hull_shared_text_from(desk.at(), line, text.as_mut_ptr(), text.len()) }))
+    }
+
+    /// Closes the desk and its file, unless they are closed.
+    fn end(&self) -> Result<MutexGuard<'_, Room>, Fault> {
         let desk = self.desk.lock();
+        self.desk.end_journal(&desk)?;
         // SAFETY: the desk lies in the room, and its lock keeps other calls away.
         match unsafe { raw::hull_shared_close(desk.at()) } {
-            code::CLOSED | code::NOT_OPEN => text_of(&desk),
+            code::CLOSED | code::NOT_OPEN => Ok(desk),
             other => Err(answer::fault_of(other)),
         }
     }
@@ -272,30 +481,45 @@ impl JournalPart {
     /// That text in pieces of whole lines, each of at most so many bytes, or a line that is longer: one piece is in memory at a
     /// time. Behind a fault there is none any more.
     pub fn pieces(&self, bytes: usize) -> impl Iterator<Item = Result<String, Fault>> + '_ {
-        let mut next = Some(0);
-        std::iter::from_fn(move || {
-            let line = next?;
-            let mut behind = 0;
-            // SAFETY: as in `text`.
-            let piece = zeros(bytes).and_then(|room| {
-                written_into(room, |text| unsafe {
-                    let told = raw::hull_shared_part_text_from(self.room.at(), line, text.as_mut_ptr(), text.len());
-                    behind = told.high;
-                    told
-                })
-            });
-            next = Some(behind).filter(|_| matches!(&piece, Ok(text) if !text.is_empty()));
-            Some(piece).filter(|piece| !matches!(piece, Ok(text) if text.is_empty()))
+        // SAFETY: as in `text`.
+        pieces_of(bytes, |line, text| unsafe {
+            raw::hull_shared_part_text_from(self.room.at(), line, text.as_mut_ptr(), text.len())
         })
     }
 
     /// Writes that text to a writer, some thousand bytes at a time.
     pub fn write_to(&self, out: &mut impl std::io::Write) -> std::io::Result<()> {
-        for piece in self.pieces(1 << 16) {
-            out.write_all(piece.map_err(|fault| std::io::Error::new(std::io::ErrorKind::Other, fault))?.as_bytes())?;
-        }
-        Ok(())
+        all_to(out, self.pieces(1 << 16))
     }
+}
+
+/// A text in pieces of whole lines, of which a call writes those from a line on to an array.
+fn pieces_of<'a>(bytes: usize, write: impl Fn(u64, &mut [u8]) -> Reply + 'a) -> impl Iterator<Item = Result<String, Fault>> + 'a {
+    let mut next = Some(0);
+    std::iter::from_fn(move || {
+        let line = next?;
+        let mut behind = 0;
+        let piece = zeros(bytes).and_then(|room| {
+            written_into(room, |text| {
+                let told = write(line, text);
+                behind = told.high;
+                told
+            })
+        });
+        next = Some(behind).filter(|_| matches!(&piece, Ok(text) if !text.is_empty()));
+        Some(piece).filter(|piece| !matches!(piece, Ok(text) if text.is_empty()))
+    })
+}
+
+fn all_to(out: &mut impl std::io::Write, pieces: impl Iterator<Item = Result<String, Fault>>) -> std::io::Result<()> {
+    for piece in pieces {
+        out.write_all(piece.map_err(told_as_io)?.as_bytes())?;
+    }
+    Ok(())
+}
+
+fn told_as_io(fault: Fault) -> std::io::Error {
+    std::io::Error::new(std::io::ErrorKind::Other, fault)
 }
 
 impl Drop for JournalPart {
@@ -320,8 +544,9 @@ impl fmt::Debug for SharedHull {
 /// A seat at a shared hull, by which one thread at a time makes calls. It may go to another thread (`Send`), and goes
 /// back to its hull when it is dropped.
 ///
-/// Each call waits for its turn: one that others pass comes in after at most some hundred of theirs for each that waits.
-/// [`Fault::Full`] where as many lines are held as may be: the call is not made, and there is room again behind a
+/// Each call waits for its turn: one that others pass comes in after at most half a millisecond for each that waits before it, or tells
+/// [`Fault::Busy`] where it was to wait for less ([`wait_at_most`](Seat::wait_at_most)). [`Fault::Full`]
+/// where as many lines are held as may be: the call is not made, and there is room again behind a
 /// [`drain`](Seat::drain), which is never refused so.
 pub struct Seat {
     room: Room,
@@ -329,6 +554,7 @@ pub struct Seat {
     number: u32,
     turn: Option<u64>,
     corners: usize,
+    patience: Option<Duration>,
 }
 
 impl Seat {
@@ -340,6 +566,34 @@ impl Seat {
     /// The number of the seat's last call that was served, under which it has its line in the journal.
     pub fn turn(&self) -> Option<u64> {
         self.turn
+    }
+
+    /// How long calls of the seat wait until they come in, or for room: for ever, which is how a seat begins, with `None`, and not at all
+    /// with no time. Where they have not come in by then they tell [`Fault::Busy`], and are not made.
+    pub fn wait_at_most(&mut self, time: Option<Duration>) {
+        self.patience = time;
+    }
+
+    /// Until when a call that begins now waits.
+    fn until(&self) -> u64 {
+        match self.patience {
+            None => raw::NEVER,
+            Some(time) if time.is_zero() => 0,
+            // SAFETY: it reads a clock.
+            Some(time) => (unsafe { raw::hull_shared_now() }).saturating_add(u64::try_from(time.as_nanos()).unwrap_or(raw::NEVER)),
+        }
+    }
+
+    /// Waits until the lines of all calls of the seat are safe in the file that the hull keeps ([`SharedHull::keep`]), for as long as
+    /// calls of the seat wait: [`Fault::Busy`] where they are not by then, and the faults of [`SharedHull::safe`].
+    pub fn wait_safe(&self) -> Result<(), Fault> {
+        let until = self.until();
+        // SAFETY: the journal is there as long as it is read.
+        let told = self.desk.safe(|at| match self.turn {
+            Some(line) => unsafe { raw::hull_shared_journal_wait(at, line, until) },
+            None => unsafe { raw::hull_shared_journal_safe(at) },
+        });
+        told.map(|_| ())
     }
 
     /// Gives the seat back to its hull, as dropping it does.
@@ -415,8 +669,7 @@ impl Seat {
     pub fn drain(&mut self) -> Result<JournalPart, Fault> {
         // SAFETY: a seat lies in the room, and `&mut self` keeps other calls away.
         let part = JournalPart::new(unsafe { raw::hull_shared_capacity(self.room.at()) })?;
-        // SAFETY: as above; the part lies in its room, and nobody else has it yet.
-        self.call_by(kind::COUNT, NOWHERE, |seat| unsafe { raw::hull_shared_look_and_drain(seat, part.room.at()) })?;
+        self.call_to(kind::COUNT, NOWHERE, Target { out: null_mut(), room: 0, part: part.room.at() })?;
         Ok(part)
     }
 
@@ -424,36 +677,23 @@ impl Seat {
         self.call_into(kind, at, &mut [])
     }
 
-    /// Makes a call; corners are written to the array.
+    /// Makes a call; corners are written to the array, all of which was written.
     fn call_into(&mut self, kind: u32, at: Point, out: &mut [Point]) -> Result<Reply, Fault> {
-        // SAFETY: a seat lies in the room, and `&mut self` keeps other calls away; the array is the caller's, and all of it was
-        // written.
-        self.call_by(kind, at, |seat| unsafe { raw::hull_shared_look_into(seat, out.as_mut_ptr(), out.len()) })
+        self.call_to(kind, at, Target { out: out.as_mut_ptr(), room: out.len(), part: null_mut() })
     }
 
-    /// Comes in by the door, takes a number for a call, and looks until it is served.
-    fn call_by(
-        &mut self,
-        kind: u32,
-        at: Point,
-        mut look: impl FnMut(*mut u8) -> raw::SeatReply,
-    ) -> Result<Reply, Fault> {
-        let _inside = self.desk.door.enter();
-        // SAFETY: a seat lies in the room, and `&mut self` keeps other calls away.
-        let taken = unsafe { raw::hull_shared_take(self.room.at(), kind, at.x, at.y) }.told.code;
-        if taken != code::TAKEN {
-            return Err(answer::fault_of(taken));
+    /// Makes a call in the line of the desk; what it writes to is the caller's alone.
+    fn call_to(&mut self, kind: u32, at: Point, to: Target) -> Result<Reply, Fault> {
+        let until = self.until();
+        // SAFETY: a seat lies in the room, which was lent with this line, and `&mut self` keeps other calls away.
+        let reply = unsafe { raw::hull_shared_call_into(self.desk.line.at(), self.room.at(), kind, at.x, at.y, to, until) };
+        self.turn = if reply.has_line == 1 { Some(reply.line) } else { self.turn };
+        if let Some(fault) = PANIC.with(Cell::take) {
+            resume_unwind(fault);
         }
-        loop {
-            let reply = look(self.room.at());
-            match reply.told.code {
-                code::NOT_YET => spin_loop(), // by no call: who is inside is alone
-                code::FULL => return Err(Fault::Full),
-                _ => {
-                    self.turn = if reply.has_line == 1 { Some(reply.line) } else { self.turn };
-                    return Ok(reply.told);
-                }
-            }
+        match reply.told.code {
+            code::OUT_OF_RANGE | code::ZERO_DIRECTION | code::FULL | code::BUSY => Err(answer::fault_of(reply.told.code)),
+            _ => Ok(reply.told),
         }
     }
 }
@@ -461,7 +701,7 @@ impl Seat {
 impl Drop for Seat {
     fn drop(&mut self) {
         // SAFETY: the seat lies in its room and went out of this desk, whose lock keeps other calls away.
-        unsafe { raw::hull_shared_give_back(self.desk.lock().at(), self.room.at()) };
+        unsafe { raw::hull_shared_give_back_with_line(self.desk.lock().at(), self.room.at()) };
     }
 }
 

@@ -1,0 +1,135 @@
+/* How a thread sleeps by a word in memory and is woken, and a lock made of that: by futex, or where there is none (or with
+ * HULL_SHARED_BY_PTHREADS) by mutexes and conditions of pthreads. Who wakes has changed the word before. No sleep here is a point at
+ * which a thread is cancelled: its caller stands in the middle of what others wait for. */
+#ifndef HULL_SLEEPING_H
+#define HULL_SLEEPING_H
+
+#include <pthread.h>
+#include <stddef.h>
+#include <stdint.h>
+#include <time.h>
+
+#if defined(__linux__) && !defined(HULL_SHARED_BY_PTHREADS)
+#include <linux/futex.h>
+#include <sys/syscall.h>
+#include <unistd.h>
+#endif
+
+/* What tests put between two steps, to hold a thread up there. */
+#ifndef HULL_SHARED_STEP
+#define HULL_SHARED_STEP(name) ((void)0)
+#endif
+
+#define HULL_NEVER UINT64_MAX
+
+static inline uint64_t hull_clock(clockid_t clock) {
+    struct timespec t;
+    clock_gettime(clock, &t);
+    return (uint64_t)t.tv_sec * 1000000000 + (uint64_t)t.tv_nsec;
+}
+
+static inline uint64_t hull_now(void) {
+    return hull_clock(CLOCK_MONOTONIC);
+}
+
+/* The same to some milliseconds, which takes a third of the time. */
+static inline uint64_t hull_lately(void) {
+#if defined(CLOCK_MONOTONIC_COARSE)
+    return hull_clock(CLOCK_MONOTONIC_COARSE);
+#else
+    return hull_now();
+#endif
+}
+
+static inline struct timespec hull_timespec(uint64_t nanoseconds) {
+    struct timespec t;
+    t.tv_sec = (time_t)(nanoseconds / 1000000000);
+    t.tv_nsec = (long)(nanoseconds % 1000000000);
+    return t;
+}
+
+#if defined(SYS_futex)
+
+/* Sleeps until someone wakes who sleeps by this word, or until that time, unless the word is no longer `seen`; it may return before. */
+static inline void hull_sleep(uint32_t *word, uint32_t seen, uint64_t until) {
+    struct timespec t = hull_timespec(until);
+    syscall(SYS_futex, word, FUTEX_WAIT_BITSET_PRIVATE, seen, until == HULL_NEVER ? NULL : &t, NULL, FUTEX_BITSET_MATCH_ANY);
+}
+
+/* Wakes so many who sleep by this word. */
+static inline void hull_wake(uint32_t *word, int many) {
+    syscall(SYS_futex, word, FUTEX_WAKE_PRIVATE, many, NULL, NULL, 0);
+}
+
+#else
+
+/* Where threads sleep: words share one, so that all are woken and look at their words. */
+static struct {
+    pthread_mutex_t lock;
+    pthread_cond_t changed;
+} hull_bed = {PTHREAD_MUTEX_INITIALIZER, PTHREAD_COND_INITIALIZER};
+
+static inline void hull_sleep(uint32_t *word, uint32_t seen, uint64_t until) {
+    int before;
+    pthread_setcancelstate(PTHREAD_CANCEL_DISABLE, &before);
+    pthread_mutex_lock(&hull_bed.lock);
+    if (__atomic_load_n(word, __ATOMIC_SEQ_CST) == seen) {
+        if (until == HULL_NEVER) {
+            pthread_cond_wait(&hull_bed.changed, &hull_bed.lock);
+        } else {
+            /* by the other clock, which may be set: so for a second at most */
+            uint64_t now = hull_now(), left = until > now ? until - now : 0;
+            struct timespec t = hull_timespec(hull_clock(CLOCK_REALTIME) + (left < 1000000000 ? left : 1000000000));
+            pthread_cond_timedwait(&hull_bed.changed, &hull_bed.lock, &t);
+        }
+    }
+    pthread_mutex_unlock(&hull_bed.lock);
+    pthread_setcancelstate(before, &before);
+}
+
+static inline void hull_wake(uint32_t *word, int many) {
+    (void)word;
+    (void)many;
+    pthread_mutex_lock(&hull_bed.lock);
+    pthread_cond_broadcast(&hull_bed.changed);
+    pthread_mutex_unlock(&hull_bed.lock);
+}
+
+#endif
+
+/* Waits a little between two looks: a pause, longer each time up to 64. */
+static inline void hull_pause(unsigned looks) {
+    unsigned i;
+    for (i = 0; i < (1u << (looks < 6 ? looks : 6)); i++) {
+#if defined(__x86_64__) || defined(__i386__)
+        __builtin_ia32_pause();
+#elif defined(__aarch64__)
+        __asm__ volatile("yield");
+#endif
+    }
+}
+
+/* A lock for a few instructions, all zero when it is free: 1 where one has it, 2 where others may sleep (Drepper, 2004, the second of
+ * his mutexes). */
+static inline void hull_lock(uint32_t *lock) {
+    uint32_t free = 0;
+    unsigned looks;
+    for (looks = 0; looks < 20; looks++) {
+        free = 0;
+        if (__atomic_compare_exchange_n(lock, &free, 1, 0, __ATOMIC_SEQ_CST, __ATOMIC_RELAXED)) {
+            return;
+        }
+        hull_pause(looks);
+    }
+    while (__atomic_exchange_n(lock, 2, __ATOMIC_SEQ_CST) != 0) {
+        hull_sleep(lock, 2, HULL_NEVER);
+    }
+}
+
+static inline void hull_unlock(uint32_t *lock) {
+    if (__atomic_exchange_n(lock, 0, __ATOMIC_SEQ_CST) == 2) {
+        hull_wake(lock, 1);
+    }
+}
+
+#endif

@@ -1,0 +1,63 @@
+/* passes THREADS SECONDS: so many threads make calls at a desk for so long, one after the other; written is how long a call waited at
+ * most, by how many others one was passed at most, and the least and the most calls of a thread. */
+#include "hull_shared.h"
+
+#include <pthread.h>
+#include <stdio.h>
+#include <stdlib.h>
+#include <unistd.h>
+
+static hull_shared_line line;
+static hull_shared_desk *desk;
+static hull_shared_seat *seats[HULL_SHARED_SEATS_MAX];
+static struct { uint64_t waited, passed, made; } told[HULL_SHARED_SEATS_MAX];
+static uint64_t turn; /* behind the call that was told last */
+static int stops;
+
+static void *work(void *own) {
+    size_t me = (size_t)own;
+    uint64_t state = 88172645463325252u + me; /* xorshift; Marsaglia, 2003 */
+    while (!__atomic_load_n(&stops, __ATOMIC_RELAXED)) {
+        uint64_t before = __atomic_load_n(&turn, __ATOMIC_RELAXED), begun = hull_shared_now(), waited, passed;
+        hull_shared_reply reply;
+        state ^= state << 13, state ^= state >> 7, state ^= state << 17;
+        reply = hull_shared_call(&line, seats[me], 1 + state % 3, (int64_t)(state >> 20) % 1000, (int64_t)(state >> 40) % 1000);
+        waited = hull_shared_now() - begun;
+        passed = reply.turn > before ? reply.turn - before : 0;
+        __atomic_store_n(&turn, reply.turn + 1, __ATOMIC_RELAXED);
+        told[me].waited = waited > told[me].waited ? waited : told[me].waited;
+        told[me].passed = passed > told[me].passed && told[me].made > 0 ? passed : told[me].passed;
+        told[me].made++;
+    }
+    return NULL;
+}
+
+int main(int count, char **words) {
+    pthread_t threads[HULL_SHARED_SEATS_MAX];
+    uint64_t waited = 0, passed = 0, all = 0, least = UINT64_MAX, most = 0;
+    unsigned many = count == 3 ? (unsigned)atoi(words[1]) : 0;
+    desk = hull_shared_desk_new();
+    if (many < 1 || many > HULL_SHARED_SEATS_MAX || hull_shared_open_without_journal(desk, 100000, 0, many) != HULL_OPEN) {
+        return 2;
+    }
+    for (size_t k = 0; k < many; k++) {
+        seats[k] = hull_shared_seat_new();
+        if (hull_shared_lend(desk, &line, seats[k], (uint32_t)k) != HULL_LENT || pthread_create(&threads[k], NULL, work, (void *)k) != 0) {
+            return 2;
+        }
+    }
+    sleep((unsigned)atoi(words[2]));
+    __atomic_store_n(&stops, 1, __ATOMIC_RELAXED);
+    for (unsigned k = 0; k < many; k++) {
+        pthread_join(threads[k], NULL);
+        waited = told[k].waited > waited ? told[k].waited : waited;
+        passed = told[k].passed > passed ? told[k].passed : passed;
+        least = told[k].made < least ? told[k].made : least;
+        most = told[k].made > most ? told[k].made : most;
+        all += told[k].made;
+    }
+    printf("%2u threads: a call waited %.1f ms at most, and was passed by %llu others; %llu to %llu calls a thread, %.0f ns a call\n", many,
+           (double)waited / 1e6, (unsigned long long)passed, (unsigned long long)least, (unsigned long long)most,
+           (double)atoi(words[2]) * 1e9 / (double)all);
+    return 0;
+}

@@ -1,0 +1,68 @@
+/* kept FILE: two threads put ten points each into a hull whose journal the file keeps, and wait until each is on the disk: however this
+ * program ends, the next run goes on with all points that were told. Run again, it adds them once more. */
+#include "hull_shared.h"
+
+#include <pthread.h>
+#include <stdio.h>
+#include <string.h>
+
+enum { SEATS = 2, POINTS = 10, LINES = 20000, EACH = 10000000 };
+
+static hull_shared_line line;
+static hull_shared_journal *journal;
+static hull_shared_seat *seats[SEATS];
+
+static void *insert(void *seat) {
+    long number = (hull_shared_seat **)seat - seats;
+    for (long i = 0; i < POINTS; i++) {
+        hull_shared_reply reply = hull_shared_call(&line, seats[number], HULL_KIND_ADD, i, number * i * i);
+        if (!reply.has_line || hull_shared_journal_wait(journal, reply.line, HULL_SHARED_NEVER).code != HULL_SAFE) {
+            return seat; /* it is not told to anybody */
+        }
+    }
+    return NULL;
+}
+
+/* Opens the desk by the file; why not, where it can't. */
+static int open_desk(hull_shared_desk *desk, const char *file) {
+    hull_reply r = hull_shared_journal_open(file, &journal);
+    if (r.code == HULL_OPEN) {
+        printf("goes on with line %llu, %llu bytes were cut off\n", (unsigned long long)r.number, (unsigned long long)r.high);
+        r = hull_shared_journal_start(journal, desk, &line, 1000, LINES, SEATS, EACH);
+    }
+    if (r.code == HULL_NO_FILE) {
+        fprintf(stderr, "%s: %s\n", file, strerror((int)r.number));
+    } else if (r.code != HULL_OPEN) {
+        fprintf(stderr, "%s: %s, line %llu\n", file, hull_code_name(r.code), (unsigned long long)r.number);
+    }
+    return r.code == HULL_OPEN;
+}
+
+int main(int count, char **words) {
+    hull_shared_desk *desk = hull_shared_desk_new();
+    pthread_t threads[SEATS];
+    void *failed = NULL, *one;
+    if (count != 2 || desk == NULL || !open_desk(desk, words[1])) {
+        return 1;
+    }
+    for (unsigned i = 0; i < SEATS; i++) {
+        seats[i] = hull_shared_seat_new();
+        if (seats[i] == NULL || hull_shared_lend(desk, &line, seats[i], i) != HULL_LENT ||
+            pthread_create(&threads[i], NULL, insert, &seats[i]) != 0) {
+            return 1;
+        }
+    }
+    for (int i = 0; i < SEATS; i++) {
+        pthread_join(threads[i], &one);
+        failed = one != NULL ? one : failed;
+    }
+    printf("%d points\n", (int)hull_shared_call(&line, seats[0], HULL_KIND_COUNT, 0, 0).told.number);
+    for (int i = 0; i < SEATS; i++) {
+        hull_shared_give_back(desk, seats[i]);
+        hull_shared_seat_free(seats[i]);
+    }
+    int wrong = failed != NULL || hull_shared_journal_close(journal).code != HULL_CLOSED;
+    hull_shared_end(desk);
+    hull_shared_desk_free(desk);
+    return wrong;
+}

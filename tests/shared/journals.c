@@ -1,0 +1,331 @@
+/* journals FILE: each code of the calls on the file of a journal, and each length that its last part may be cut to; the file is left
+ * with some parts. The status is 0 only where each is as it should be. */
+#include "hull_shared.h"
+
+#include <errno.h>
+#include <fcntl.h>
+#include <pthread.h>
+#include <sched.h>
+#include <stdio.h>
+#include <stdlib.h>
+#include <time.h>
+#include <unistd.h>
+
+static const char *path;
+static hull_shared_line line;
+static hull_shared_desk *desk;
+static hull_shared_seat *seat;
+static int bad;
+static const uint64_t MILLISECOND = 1000000;
+
+static void is(const char *what, uint64_t got, uint64_t wanted) {
+    if (got != wanted) {
+        fprintf(stderr, "%s: %llu, not %llu\n", what, (unsigned long long)got, (unsigned long long)wanted);
+        bad = 1;
+    }
+}
+
+/* The linker sends pwrite and fsync here (--wrap). */
+static int writes_fail, syncs_fail, writes_short, syncs_take;
+ssize_t __real_pwrite(int file, const void *bytes, size_t count, off_t at);
+ssize_t __wrap_pwrite(int file, const void *bytes, size_t count, off_t at) {
+    if (writes_fail && --writes_fail == 0) {
+        errno = ENOSPC;
+        return -1;
+    }
+    if (writes_short && (writes_short++ & 1) != 0) {
+        errno = EINTR;
+        return -1;
+    }
+    return __real_pwrite(file, bytes, writes_short && count > 7 ? 7 : count, at);
+}
+int __real_fsync(int file);
+int __wrap_fsync(int file) {
+    struct timespec t = {0, syncs_take * 1000000L};
+    if (syncs_take) {
+        nanosleep(&t, NULL);
+    }
+    if (syncs_fail) {
+        errno = EIO;
+        return -1;
+    }
+    return __real_fsync(file);
+}
+
+/* The bytes of the file, and how many they are. */
+static size_t contents(uint8_t *bytes, size_t room) {
+    FILE *file = fopen(path, "rb");
+    size_t count = file == NULL ? 0 : fread(bytes, 1, room, file);
+    if (file != NULL) {
+        fclose(file);
+    }
+    return count;
+}
+
+static void put(const uint8_t *bytes, size_t count) {
+    FILE *file = fopen(path, "wb");
+    is("a file", file != NULL && fwrite(bytes, 1, count, file) == count && fclose(file) == 0, 1);
+}
+
+static void put_text(const char *text) {
+    put((const uint8_t *)text, strlen(text));
+}
+
+static hull_shared_journal *opened(uint64_t next, uint64_t cut) {
+    hull_shared_journal *journal = NULL;
+    hull_reply r;
+    errno = 71;
+    r = hull_shared_journal_open(path, &journal);
+    is("errno", (uint64_t)errno, 71);
+    is("open", r.code, HULL_OPEN);
+    is("the next line", r.number, next);
+    is("the bytes cut off", r.high, cut);
+    return journal;
+}
+
+static void started(hull_shared_journal *journal, uint32_t capacity, uint64_t every) {
+    errno = 72;
+    is("start", hull_shared_journal_start(journal, desk, &line, 50, capacity, 1, every).code, HULL_OPEN);
+    is("lend", hull_shared_lend(desk, &line, seat, 0), HULL_LENT);
+    is("errno", (uint64_t)errno, 72);
+}
+
+/* Closes all; the number of the line to come, which is at least that: the journal's thread may have drained once more. */
+static uint64_t closed(hull_shared_journal *journal, uint32_t code, uint64_t least) {
+    hull_reply r;
+    is("seats are out", hull_shared_journal_close(journal).code, HULL_SEATS_OUT);
+    is("give back", hull_shared_give_back(desk, seat), HULL_RETURNED);
+    r = hull_shared_journal_close(journal);
+    is("close", r.code, code);
+    is("the line to come", r.number >= least && r.number <= least + 2, 1);
+    is("the desk is closed", hull_shared_close(desk), HULL_NOT_OPEN);
+    is("end", hull_shared_end(desk), HULL_ENDED);
+    return r.number;
+}
+
+static hull_shared_reply call(uint32_t kind, int64_t x, int64_t y) {
+    return hull_shared_call(&line, seat, kind, x, y);
+}
+
+/* A file that is made, gone on with, and gone on with again: points, numbers and the limit are those of before. */
+static void goes_on(void) {
+    hull_shared_journal *journal = opened(0, 0), *other = &*journal;
+    hull_reply r = hull_shared_journal_open(path, &other);
+    is("a file in use", r.code, HULL_NO_FILE);
+    is("why", r.number, EWOULDBLOCK);
+    is("no journal", other == NULL, 1);
+    is("seats", hull_shared_journal_start(journal, desk, &line, 50, 10, HULL_SHARED_SEATS_MAX, 0).code, HULL_OUT_OF_LIMITS);
+    is("limit", hull_shared_journal_start(journal, desk, &line, 0, 10, 1, 0).code, HULL_OUT_OF_LIMITS);
+    is("not started", hull_shared_journal_wait(journal, 5, HULL_SHARED_NEVER).code, HULL_SAFE);
+    started(journal, 10, 0);
+    is("started", hull_shared_journal_start(journal, desk, &line, 50, 10, 1, 0).code, HULL_WAS_OPENED);
+    for (int k = 0; k < 60; k++) {
+        hull_shared_reply reply = call(HULL_KIND_ADD, k / 2, -k / 2);
+        is("added", reply.told.code, k % 2 == 0 ? HULL_ADDED : HULL_AGAIN);
+        r = hull_shared_journal_wait(journal, reply.line, HULL_SHARED_NEVER);
+        is("safe", r.code, HULL_SAFE);
+        is("its line", r.number > reply.line, 1);
+    }
+    is("removed", call(HULL_KIND_REMOVE, 3, -3).told.code, HULL_LEFT);
+    is("removed", call(HULL_KIND_REMOVE, 4, -4).told.code, HULL_LEFT);
+    is("removed", call(HULL_KIND_REMOVE, 4, -4).told.code, HULL_REMOVED);
+    is("corners", call(HULL_KIND_VERTICES, 0, 0).told.number, 2);
+    r = hull_shared_journal_sync(journal, HULL_SHARED_NEVER);
+    is("sync", r.code, HULL_SAFE);
+    uint64_t next = r.number;
+    is("all is safe", hull_shared_journal_safe(journal).number, next);
+    is("some number", call(HULL_KIND_COUNT, 0, 0).line, next);
+    next = closed(journal, HULL_CLOSED, next + 1);
+    for (int again = 0; again < 3; again++) {
+        journal = opened(next, 0);
+        started(journal, 20000, again == 1 ? MILLISECOND : 0);
+        is("the points", call(HULL_KIND_COUNT, 0, 0).told.number, again == 2 ? 28 : 29);
+        is("their number", call(HULL_KIND_PLACE, 0, 0).line, next + 1);
+        is("a point that is held twice", call(HULL_KIND_REMOVE, 5, -5).told.code,
+           again == 0 ? HULL_LEFT : again == 1 ? HULL_REMOVED : HULL_ABSENT);
+        is("one that was removed", call(HULL_KIND_REMOVE, 4, -4).told.code, HULL_ABSENT);
+        while (again == 1 && hull_shared_journal_safe(journal).number < next + 4) {
+            sched_yield(); /* its thread drains with nobody asking */
+        }
+        next = closed(journal, HULL_CLOSED, again == 1 ? hull_shared_journal_safe(journal).number : next + 4);
+    }
+    journal = opened(next, 0);
+    started(journal, 100, 0);
+    for (int k = 0; k < 22; k++) {
+        is("as many as the file's limit", call(HULL_KIND_ADD, k, 100).told.code, HULL_ADDED);
+    }
+    is("and no more", call(HULL_KIND_ADD, 1, 101).told.code, HULL_TOO_MANY);
+    closed(journal, HULL_CLOSED, next + 23);
+}
+
+/* Each length to which the last part may be cut, and a part that was never written: what stood before is there, and nothing else. */
+static void torn(void) {
+    static uint8_t bytes[1 << 16];
+    size_t length = contents(bytes, sizeof bytes), last = length, cuts = 0;
+    uint64_t before = 0;
+    for (size_t at = 0; at < length; at++) { /* where the last part begins, and its number */
+        if (memcmp(bytes + at, "hullbook", 8) == 0) {
+            last = at;
+            before = strtoull((char *)bytes + at + 25, NULL, 10);
+        }
+    }
+    for (size_t cut = last; cut < length; cut++) {
+        static uint8_t now[1 << 16];
+        put(bytes, cut);
+        hull_shared_journal_close(opened(before, cut - last));
+        is("the file is cut", contents(now, sizeof now), last);
+        is("and no other byte is changed", memcmp(now, bytes, last) == 0, 1);
+        cuts++;
+    }
+    is("cuts", cuts > 60, 1);
+    for (size_t from = 0; from < 40; from++) { /* a block that was never written */
+        static uint8_t now[1 << 16];
+        memcpy(now, bytes, length);
+        memset(now + last + from, 0, length - last - from);
+        put(now, length);
+        hull_shared_journal_close(opened(before, length - last));
+    }
+    memset(bytes, 0, length);
+    put(bytes, length);
+    hull_shared_journal_close(opened(0, length));
+}
+
+static void not_opened(const char *text, uint64_t at) {
+    static uint8_t now[1 << 16];
+    hull_shared_journal *journal;
+    hull_reply r;
+    put_text(text);
+    r = hull_shared_journal_open(path, &journal);
+    is(text, r.code, HULL_DAMAGED);
+    is("its line", r.number, at);
+    is("no journal", journal == NULL, 1);
+    is("the file is as it was", contents(now, sizeof now) == strlen(text) && memcmp(now, text, strlen(text)) == 0, 1);
+}
+
+static void not_started(const char *text, uint32_t code, uint64_t at) {
+    hull_shared_journal *journal;
+    hull_reply r;
+    put_text(text);
+    is(text, hull_shared_journal_open(path, &journal).code, HULL_OPEN);
+    r = hull_shared_journal_start(journal, desk, &line, 50, 10, 1, 0);
+    is(text, r.code, code);
+    is("its line", r.number, at);
+    is("the desk is fresh", hull_shared_close(desk), HULL_NOT_OPEN);
+    is("close", hull_shared_journal_close(journal).code, HULL_CLOSED);
+}
+
+#define HEAD "hullbook journal 3 first 5 limit 3 capacity 9\n"
+#define PART HEAD "5 0 add 0 0 = added\nend 1\n"
+#define NEXT "hullbook journal 3 first 6 limit 3 capacity 9\n"
+
+static void damaged(void) {
+    not_opened("a file of somebody's\n", 1);
+    not_opened("one line", 1);
+    not_opened("hullbook is a program", 1);
+    not_opened("hullbook journal 2 first 5 limit 3 capacity 9\nend 0\n", 1);
+    not_opened(HEAD "5 0 add 0 0 = added\n" PART, 3);
+    not_opened(PART HEAD "end 0\n", 4);
+    not_opened(PART NEXT "7 0 count = count 1\nend 1\n" NEXT "end 0\n", 5);
+    not_opened(PART "hullbook journal 3 first 6 limit 4 capacity 9\nend 0\n", 4);
+    not_opened(PART "something else\n", 4);
+    not_started(HEAD "5 0 add 0 0 = again 2\nend 1\n", HULL_ILLEGAL, 2);
+    not_started(HEAD "5 0 add 0 0 = again 1\nend 1\n", HULL_ILLEGAL, 2);
+    not_started(PART NEXT "6 0 add 0 0 = added\nend 1\n", HULL_ILLEGAL, 5);
+    not_started(PART NEXT "6 0 remove 0 0 = left 1\nend 1\n", HULL_ILLEGAL, 5);
+    not_started(PART NEXT "6 0 remove 0 0 = absent\nend 1\n", HULL_ILLEGAL, 5);
+    not_started(PART NEXT "6 0 remove 0 1 = removed\nend 1\n", HULL_ILLEGAL, 5);
+    not_started(PART NEXT "6 0 add 0 01 = added\nend 1\n", HULL_ILLEGAL, 5);
+    put_text(PART NEXT "6 3 count = count 1\n7 63 remove 0 0 = removed\nend 2\n" "hullbook journal 3 first 8 limit 3 capacity 9\n8 0 pl");
+    hull_shared_journal_close(opened(8, 52));
+}
+
+/* A write and a fsync that are refused: nothing more is safe, the file is whole, and calls go on. */
+static void refused(void) {
+    for (int syncs = 0; syncs < 2; syncs++) {
+        hull_shared_journal *journal;
+        hull_shared_reply reply;
+        hull_reply r;
+        put_text(PART);
+        journal = opened(6, 0);
+        started(journal, 8, 0);
+        reply = call(HULL_KIND_ADD, 1, 1);
+        is("safe", hull_shared_journal_wait(journal, reply.line, HULL_SHARED_NEVER).code, HULL_SAFE);
+        uint64_t safe = hull_shared_journal_safe(journal).number;
+        *(syncs ? &syncs_fail : &writes_fail) = 1;
+        r = hull_shared_journal_wait(journal, call(HULL_KIND_ADD, 2, 2).line, HULL_SHARED_NEVER);
+        is("a refusal", r.code, HULL_NO_FILE);
+        is("what is safe", r.number, safe);
+        is("why", r.high, syncs ? EIO : ENOSPC);
+        for (int k = 0; k < 30; k++) {
+            is("calls go on", call(HULL_KIND_COUNT, 0, 0).told.code, HULL_NUMBER);
+        }
+        syncs_fail = 0;
+        is("it stays so", hull_shared_journal_sync(journal, HULL_SHARED_NEVER).code, HULL_NO_FILE);
+        closed(journal, HULL_NO_FILE, safe);
+        hull_shared_journal_close(opened(safe, 0));
+    }
+}
+
+/* A part that somebody else took out: the file has no gap. */
+static void drained_by_another(void) {
+    hull_shared_part *part = hull_shared_part_new();
+    hull_shared_journal *journal;
+    put_text(PART);
+    journal = opened(6, 0);
+    started(journal, 8, 0);
+    is("room", hull_shared_part_reserve(part, 8), HULL_RESERVED);
+    is("drain", hull_shared_drain(&line, seat, part, HULL_KIND_COUNT, 0, 0).told.code, HULL_NUMBER);
+    is("a gap", hull_shared_journal_wait(journal, 6, HULL_SHARED_NEVER).code, HULL_ILLEGAL);
+    hull_shared_part_end(part);
+    hull_shared_part_free(part);
+    closed(journal, HULL_ILLEGAL, 6);
+    hull_shared_journal_close(opened(6, 0));
+}
+
+/* Writes that take a few bytes at a time or are interrupted, and a fsync that takes long. */
+static void slowly(void) {
+    hull_shared_journal *journal;
+    uint64_t begun;
+    put_text(PART);
+    writes_short = 1;
+    journal = opened(6, 0);
+    started(journal, 100, 0);
+    for (int k = 0; k < 40; k++) {
+        call(HULL_KIND_PLACE, k, k);
+    }
+    is("sync", hull_shared_journal_sync(journal, HULL_SHARED_NEVER).number, 47);
+    syncs_take = 100;
+    begun = hull_shared_now();
+    is("in time", hull_shared_journal_sync(journal, begun + 10 * MILLISECOND).code, HULL_BUSY);
+    is("it did not wait", hull_shared_now() - begun < 90 * MILLISECOND, 1);
+    is("a line that is safe", hull_shared_journal_wait(journal, 40, 0).code, HULL_SAFE);
+    is("sync", hull_shared_journal_sync(journal, HULL_SHARED_NEVER).code, HULL_SAFE);
+    syncs_take = 0;
+    closed(journal, HULL_CLOSED, hull_shared_stats(&line).turn);
+    writes_short = 0;
+}
+
+int main(int count, char **words) {
+    if (count != 2) {
+        return 2;
+    }
+    alarm(120);
+    path = words[1];
+    desk = hull_shared_desk_new();
+    seat = hull_shared_seat_new();
+    hull_shared_line_init(&line, 1);
+    unlink(path);
+    goes_on();
+    torn();
+    damaged();
+    refused();
+    drained_by_another();
+    slowly();
+    unlink(path);
+    goes_on();
+    hull_shared_journal *journal;
+    is("no folder", hull_shared_journal_open("/nowhere/at/all", &journal).number, ENOENT);
+    hull_shared_seat_free(seat);
+    hull_shared_desk_free(desk);
+    return bad;
+}
