@@ -59,7 +59,9 @@ export class Example {
         }
         const t = this.time / 1000, [x, y] = [420 + 330 * Math.cos(t / 3), 320 * Math.sin(t / 2.1)], turn = t / 4;
         const [cos, sin] = [Math.cos(turn), Math.sin(turn)];
-        this.other.load(OTHER.map(([px, py]) => [Math.round(x + px * cos - py * sin), Math.round(y + px * sin + py * cos)]));
+        // (few points: to load them at once would want code of its own in the module)
+        this.other.clear();
+        for (const [px, py] of OTHER) this.other.add(Math.round(x + px * cos - py * sin), Math.round(y + px * sin + py * cos));
         if (!this.isTaken) this.segment[1] = [520, Math.round(-430 + 420 * Math.sin(t / 1.7))];
         this.ask();
     }

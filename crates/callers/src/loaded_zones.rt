@@ -2,12 +2,13 @@
 ghost use Rattle.std.specs.Prelude.{IfOk};
 ghost use Rattle.hull_set.specs.Held.{nothing_held};
 ghost use Rattle.hull_set.specs.Replies.{Answers};
-ghost use Rattle.hull_tree.specs.Loaded.{held_after_adds};
+ghost use Rattle.leaf_trees.specs.Entries.{held_after_adds};
 
 use heap::Heap;
 use hull_set::{Call, HullSet, POINT_LIMIT, Place, Reply, Rules};
-use hull_tree::{HullTree, LoadFault};
+use hull_tree::HullTree;
 use lattice::Point;
+use leaf_trees::LoadFault;
 
 /// Where `p` lies, seen from the hull of points in any order.
 pub fn place_among(alloc: Heap, points: &[Point], p: Point) -> Result<Place, LoadFault>
