@@ -243,7 +243,8 @@ static void held_in(const char *text, uint32_t held[31][31]) {
         long long number, seat, x, y;
         char kind[16], answer[16];
         unsigned times = 1;
-        if (sscanf(at, "%lld %lld %15s %lld %lld = %15s %u", &number, &seat, kind, &x, &y, answer, &times) < 6 || x < -15 || x > 15 || y < -15 || y > 15) {
+        if (sscanf(at, "%lld %lld %15s %lld %lld = %15s %u", &number, &seat, kind, &x, &y, answer, &times) < 6 || x < -15 || x > 15 ||
+            y < -15 || y > 15) {
             continue;
         }
         if (strcmp(answer, "added") == 0 || strcmp(answer, "removed") == 0) {
