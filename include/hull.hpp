@@ -980,6 +980,16 @@ public:
         return hull;
     }
 
+    // Makes such a file short that no hull keeps now: the additions that leave the same points, up to the same number, which is told.
+    // Refusal::no_file, damaged, illegal, no_memory, and the file is as it was.
+    static std::uint64_t compact(const std::string &path) {
+        const hull_reply r = hull_shared_journal_compact(path.c_str());
+        if (r.code != HULL_SAFE) {
+            told::fault(r.code, r.number);
+        }
+        return r.number;
+    }
+
     // The number of the first line that is not safe in the file: those before it are there for good. Refusal::no_file where a write was
     // refused: nothing more will be safe; not_open where the hull keeps no file, or is closed.
     std::uint64_t safe() const { return desk()->safe(hull_shared_journal_safe); }

@@ -435,9 +435,16 @@ typedef struct hull_shared_journal hull_shared_journal;
 
 /* Opens the file, or makes one with no part: OPEN, with the number of the line to come (0 where the file has no part) as `number`, and
  * how many bytes of a torn part were cut off its end as `high`. NO_FILE, with errno as `number`, where the system refuses a call on it
- * (EWOULDBLOCK: another process has it); DAMAGED, with the line `number` of the file, from 1, where what is wrong is more than a torn
- * part at its end, or the file is none of a journal: it is as it was; NO_MEMORY. The journal is null but with OPEN. */
+ * (EWOULDBLOCK: another process has it; EINVAL: it is no file with bytes of its own); DAMAGED, with the line `number` of the file, from
+ * 1, where what is wrong is more than a torn part at its end, or the file is none of a journal: it is as it was; NO_MEMORY. The journal is
+ * null but with OPEN. */
 hull_reply hull_shared_journal_open(const char *path, hull_shared_journal **journal);
+
+/* Makes the file short, of a journal that no process has open: one part, of additions that leave the same points, each held as often, and
+ * end with the same number, so that the next line is the one that it would have been. SAFE with that number; else as
+ * hull_shared_journal_open and hull_shared_journal_start refuse the file, which is as it was then. Another file, PATH.new, is written
+ * and synced, and takes its name: however the process ends, one of the two is there, whole. What else was asked and answered is not in it. */
+hull_reply hull_shared_journal_compact(const char *path);
 
 /* Opens the desk by what the file has, and keeps its journal there from then on. Where the file has no part the desk is a new one for
  * `limit` points; else it holds what the parts left, each point as often, its limit is theirs, and its next line has the number behind

@@ -298,6 +298,7 @@ def _shared_library() -> ctypes.CDLL:
         ("python_open_answering", [at, number, long, number, number], number),
         ("python_wait_for_room", [at, number], number), ("python_wait_at_most", [at, long], number), ("python_stats", [at, at], number),
         ("python_reopen", [at, at, size, number, number], _Reply),
+        ("python_compact", [ctypes.c_char_p], _Reply),
         ("python_keep", [at, ctypes.c_char_p, number, number, number, long], _Reply), ("python_safe", [at, number], _Reply),
         ("python_wait_safe", [at], _Reply), ("python_close", [at], _Reply), ("python_text", [at, at, size], _Reply), ("python_out", [at], long),
         ("python_seat_new", [], at), ("python_seat_free", [at], None), ("python_lend", [at, at, number], number),
@@ -1364,14 +1365,22 @@ class SharedHull:
         hull._desk = _at(_shared_kinds()[0], _shared_library().hull_python_desk_new())
         hull._words = words
         time = 0 if every is None else max(1, int(min(every, 1e9) * 1e9))
-        file = os.fsencode(path)
-        if b"\0" in file:
-            raise ValueError("embedded null byte")
-        told = _shared_library().hull_python_keep(hull._desk, file, words[0], words[2], words[3], time)
+        told = _shared_library().hull_python_keep(hull._desk, _file(path), words[0], words[2], words[3], time)
         if told.code != _Code.OPEN:
             _no_file(told, told.number)
             _refused(told.code)
         return hull
+
+    @staticmethod
+    def compact(path: "Union[str, bytes, os.PathLike[str]]") -> int:
+        """Makes such a file short that no hull keeps now: the additions that leave the same points, up to the same number, which is returned.
+
+        What `keep` raises where the file is refused, which is as it was then.
+        """
+        told = _shared_library().hull_python_compact(_file(path))
+        _no_file(told, told.number)
+        _told(told.code)
+        return int(told.number)
 
     def safe(self) -> int:
         """The number of the first line that is not safe in the file that is kept: those before it are there for good.
@@ -1456,6 +1465,14 @@ class SharedHull:
         """
         self._close()
         return _pieces(_shared_library().hull_python_text_from, self._desk, size)
+
+
+def _file(path: "Union[str, bytes, os.PathLike[str]]") -> bytes:
+    """A path as C takes it."""
+    file = os.fsencode(path)
+    if b"\0" in file:
+        raise ValueError("embedded null byte")
+    return file
 
 
 def _no_file(told: _Reply, errno: int) -> None:

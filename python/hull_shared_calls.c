@@ -86,6 +86,10 @@ hull_reply hull_python_reopen(hull_python_desk *d, const uint8_t *text, size_t l
     HULL_REPLY_OF(d, hull_shared_reopen(d->desk, text, length, capacity, seats));
 }
 
+hull_reply hull_python_compact(const char *path) {
+    return hull_shared_journal_compact(path);
+}
+
 /* Opens the desk by the file of a journal, which is kept from then on. */
 static hull_reply keep(hull_python_desk *d, const char *path, uint32_t limit, uint32_t capacity, uint32_t seats, uint64_t every) {
     hull_shared_journal *journal;

@@ -158,6 +158,44 @@ static void goes_on(void) {
     closed(journal, HULL_CLOSED, next + 23);
 }
 
+/* A file that is made short leaves the same points, and the same number; one that is open, none, or damaged stays as it is. */
+static void compact(void) {
+    static uint8_t now[1 << 16];
+    size_t room;
+    hull_shared_journal *journal;
+    uint64_t next;
+    hull_reply r = hull_shared_journal_open(path, &journal);
+    next = r.number;
+    r = hull_shared_journal_compact(path);
+    is("a file in use", r.code == HULL_NO_FILE && r.number == EWOULDBLOCK, 1);
+    hull_shared_journal_close(journal);
+    for (int again = 0; again < 2; again++) {
+        errno = 73;
+        r = hull_shared_journal_compact(path);
+        is("errno", (uint64_t)errno, 73);
+        is("made short", r.code, HULL_SAFE);
+        is("the line to come", r.number, next);
+    }
+    room = contents(now, sizeof now);
+    is("its one part", memcmp(now, "hullbook", 8) == 0 && strstr((char *)now + 8, "hullbook") == NULL && room < 4096, 1);
+    journal = opened(next, 0);
+    started(journal, 100, 0);
+    is("a point that was held twice", call(HULL_KIND_REMOVE, 1, -1).told.code, HULL_LEFT);
+    is("its number", call(HULL_KIND_ADD, 1, -1).line, next + 1);
+    is("the points", call(HULL_KIND_COUNT, 0, 0).told.number, 50);
+    closed(journal, HULL_CLOSED, next + 3);
+    put_text("somebody's\n");
+    is("no journal", hull_shared_journal_compact(path).code, HULL_DAMAGED);
+    put_text("hullbook journal 3 first 5 limit 3 capacity 9\n5 0 add 0 0 = again 2\nend 1\n");
+    is("no history", hull_shared_journal_compact(path).code, HULL_ILLEGAL);
+    writes_fail = 1;
+    put_text("hullbook journal 3 first 5 limit 3 capacity 9\n5 0 add 0 0 = added\nend 1\n");
+    is("a write that is refused", hull_shared_journal_compact(path).code, HULL_NO_FILE);
+    hull_shared_journal_close(opened(6, 0));
+    put_text("");
+    is("nothing", hull_shared_journal_compact(path).code, HULL_SAFE);
+}
+
 /* Each length to which the last part may be cut, and a part that was never written: what stood before is there, and nothing else. */
 static void torn(void) {
     static uint8_t bytes[1 << 16];
@@ -323,8 +361,13 @@ int main(int count, char **words) {
     slowly();
     unlink(path);
     goes_on();
+    compact();
+    unlink(path);
+    goes_on();
     hull_shared_journal *journal;
     is("no folder", hull_shared_journal_open("/nowhere/at/all", &journal).number, ENOENT);
+    is("a folder", hull_shared_journal_open("/", &journal).number, EISDIR);
+    is("a device", hull_shared_journal_open("/dev/zero", &journal).number, EINVAL);
     hull_shared_seat_free(seat);
     hull_shared_desk_free(desk);
     return bad;

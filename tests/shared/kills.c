@@ -4,7 +4,8 @@
  * of bytes, and some of them are the last thing that the process does.
  *
  * Each line that was told as safe has to be there, with its call and answer, all bytes that stood before have to be as they were, and
- * the file has to be gone on with. The status is 0 only where it is so. */
+ * the file has to be gone on with. Now and then a process that makes the file short is killed, or is not: it has to leave the same points
+ * and the same number. The status is 0 only where it is so. */
 #include "hull_shared.h"
 
 #include <fcntl.h>
@@ -44,7 +45,7 @@ static struct shared {
 
 static const char *path;
 static uint64_t state = 88172645463325252u;
-static unsigned long kills, in_opening, torn, lost, checked;
+static unsigned long kills, in_opening, torn, lost, checked, shortened, tries;
 
 /* Random numbers (Marsaglia's xorshift, 2003). */
 static uint64_t next_of(uint64_t *from) {
@@ -194,6 +195,7 @@ static void line_of(const struct record *r, char *out, size_t room) {
 static void checks(void) {
     size_t length, count = 0, room = 1024;
     char *text = contents(&length), **lines = malloc(room * sizeof *lines), wanted[256];
+    uint64_t first = 0;
     for (char *at = strtok(text, "\n"); at != NULL; at = strtok(NULL, "\n")) {
         if (*at < '0' || *at > '9') {
             continue;
@@ -201,6 +203,7 @@ static void checks(void) {
         if (count == room) {
             lines = realloc(lines, (room *= 2) * sizeof *lines);
         }
+        first = count == 0 ? strtoull(at, NULL, 10) : first;
         lines[count++] = at;
     }
     for (uint32_t k = 0; k < shared->count && k < RECORDS; k++) {
@@ -208,12 +211,12 @@ static void checks(void) {
         if (!__atomic_load_n(&r->is_there, __ATOMIC_SEQ_CST)) {
             continue; /* it was killed while it wrote this */
         }
-        if (r->line >= count) {
+        if (r->line < first || r->line - first >= count) {
             fails("a line that was told as safe is not there", r->line);
         }
         line_of(r, wanted, sizeof wanted);
-        if (strcmp(lines[r->line], wanted) != 0) {
-            fprintf(stderr, "%s\n%s\n", lines[r->line], wanted);
+        if (strcmp(lines[r->line - first], wanted) != 0) {
+            fprintf(stderr, "%s\n%s\n", lines[r->line - first], wanted);
             fails("a line that was told as safe is another", r->line);
         }
         checked++;
@@ -222,22 +225,75 @@ static void checks(void) {
     free(text);
 }
 
-static uint64_t hash_of(const char *text, size_t length) {
-    uint64_t hash = 14695981039346656037u; /* Fowler, Noll and Vo, 1991 */
-    for (size_t i = 0; i < length; i++) {
-        hash = (hash ^ (unsigned char)text[i]) * 1099511628211u;
-    }
-    return hash;
-}
-
-/* Opens the file as the next process does, which cuts a torn part off. */
-static void heals(void) {
+/* Opens the file as the next process does, which cuts a torn part off: the number of the line to come. */
+static uint64_t heals(void) {
     hull_reply r = hull_shared_journal_open(path, &journal);
     if (r.code != HULL_OPEN) {
         fails(hull_code_name(r.code), r.number);
     }
     torn += r.high > 0;
     hull_shared_journal_close(journal);
+    return r.number;
+}
+
+/* Takes from a file how often each point is held, by the last answer of each change. */
+static void held_in(const char *text, uint32_t held[31][31]) {
+    memset(held, 0, 31 * 31 * sizeof **held);
+    for (const char *at = text; at != NULL && *at != 0; at = strchr(at, '\n'), at += at != NULL) {
+        long long number, seat, x, y;
+        char kind[16], answer[16];
+        unsigned times = 1;
+        if (sscanf(at, "%lld %lld %15s %lld %lld = %15s %u", &number, &seat, kind, &x, &y, answer, &times) < 6 || x < -15 || x > 15 ||
+            y < -15 || y > 15) {
+            continue;
+        }
+        if (strcmp(answer, "added") == 0 || strcmp(answer, "removed") == 0) {
+            held[x + 15][y + 15] = answer[0] == 'a';
+        } else if (strcmp(answer, "again") == 0 || strcmp(answer, "left") == 0) {
+            held[x + 15][y + 15] = times;
+        }
+    }
+}
+
+/* A process that makes the file short is killed, or is not: the points and the number are the same. */
+static void is_made_short(void) {
+    static uint32_t before[31][31], behind[31][31];
+    size_t length;
+    char *text = contents(&length);
+    uint64_t next = heals();
+    int status;
+    pid_t child;
+    held_in(text, before);
+    free(text);
+    tries++;
+    child = fork();
+    if (child == 0) {
+        _exit(hull_shared_journal_compact(path).code == HULL_SAFE ? 0 : STARTED_BADLY);
+    }
+    usleep((useconds_t)draw(30000));
+    kill(child, SIGKILL);
+    waitpid(child, &status, 0);
+    shortened += WIFEXITED(status) && WEXITSTATUS(status) == 0;
+    if (WIFEXITED(status) && WEXITSTATUS(status) != 0) {
+        fails("the file is not made short", (uint64_t)WEXITSTATUS(status));
+    }
+    if (heals() != next) {
+        fails("the number of the file that was made short is another", next);
+    }
+    text = contents(&length);
+    held_in(text, behind);
+    free(text);
+    if (memcmp(before, behind, sizeof before) != 0) {
+        fails("the file that was made short leaves other points", next);
+    }
+}
+
+static uint64_t hash_of(const char *text, size_t length) {
+    uint64_t hash = 14695981039346656037u; /* Fowler, Noll and Vo, 1991 */
+    for (size_t i = 0; i < length; i++) {
+        hash = (hash ^ (unsigned char)text[i]) * 1099511628211u;
+    }
+    return hash;
 }
 
 static void lives_and_dies(void) {
@@ -275,6 +331,10 @@ int main(int count, char **words) {
         return 2;
     }
     path = words[2];
+    struct stat there;
+    if (stat(path, &there) == 0 && !S_ISREG(there.st_mode)) {
+        return 2; /* it is taken away now and then */
+    }
     state += count >= 4 ? strtoull(words[3], NULL, 10) * 0x9E3779B97F4A7C15u : 0;
     shared = mmap(NULL, sizeof *shared, PROT_READ | PROT_WRITE, MAP_SHARED | MAP_ANONYMOUS, -1, 0);
     for (; kills < all; kills++) {
@@ -296,9 +356,16 @@ int main(int count, char **words) {
         kept = length;
         hash = hash_of(text, kept);
         free(text);
+        if (draw(8) == 0) {
+            is_made_short();
+            text = contents(&length);
+            kept = length;
+            hash = hash_of(text, kept);
+            free(text);
+        }
     }
     printf("%lu kills, %lu of them while the file was opened; %lu torn parts cut off, %lu bytes lost with the power, "
-           "%lu lines told as safe all there\n",
-           kills, in_opening, torn, lost, checked);
+           "%lu lines told as safe all there; %lu of %lu processes that make the file short were killed\n",
+           kills, in_opening, torn, lost, checked, tries - shortened, tries);
     return checked < kills;
 }

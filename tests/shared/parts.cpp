@@ -123,6 +123,9 @@ static bool keeps(const std::string &path) {
         seat.give_back();
         if (round < 2) {
             shared.close(); // or at its end
+            if (hull::SharedHull::compact(path) < 60 * (round + 1)) {
+                return false;
+            }
         }
     }
     try {

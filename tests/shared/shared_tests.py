@@ -159,6 +159,10 @@ class Calls(unittest.TestCase):
                 self.assertRaises(ValueError, hull.safe)
             with open(path, encoding="ascii") as file:
                 self.assertEqual(sum(" add " in line for line in file), 240)
+            self.assertEqual(SharedHull.compact(path), lines)
+            with open(path, encoding="ascii") as file:
+                self.assertEqual(len(list(file)), 242)
+            self.assertRaises(ValueError, SharedHull.compact, "a\0b")
             with open(path, "w", encoding="ascii") as file:
                 file.write("somebody's\n")
             self.assertRaises(JournalFault, SharedHull.keep, path, capacity=1, seats=1)

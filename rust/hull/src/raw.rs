@@ -314,6 +314,7 @@ extern "C" {
         seats: u32,
         every: u64,
     ) -> Reply;
+    pub(crate) fn hull_shared_journal_compact(path: *const std::os::raw::c_char) -> Reply;
     pub(crate) fn hull_shared_journal_safe(journal: *mut u8) -> Reply;
     pub(crate) fn hull_shared_journal_wait(journal: *mut u8, line: u64, until: u64) -> Reply;
     pub(crate) fn hull_shared_journal_sync(journal: *mut u8, until: u64) -> Reply;

@@ -87,6 +87,12 @@ struct Journal(NonNull<u8>);
 unsafe impl Send for Journal {}
 unsafe impl Sync for Journal {}
 
+/// A path as C takes it.
+fn name_of(path: &Path) -> Result<CString, Fault> {
+    const EINVAL: i32 = 22;
+    CString::new(path.as_os_str().as_bytes()).map_err(|_| Fault::NoFile { errno: EINVAL })
+}
+
 /// The fault of a call on the file of a journal, which told this.
 fn fault_of_file(told: &Reply, errno: u64) -> Fault {
     match told.code {
@@ -273,9 +279,8 @@ impl SharedHull {
     ///
     /// [`Fault::NoFile`], [`Fault::Damaged`] and [`Fault::Illegal`], with the line of the file, and those of opening.
     pub fn keep(path: impl AsRef<Path>, limits: Limits, every: Option<Duration>) -> Result<SharedHull, Fault> {
-        const EINVAL: i32 = 22;
         let desk = Counted::new(Desk::new()?)?;
-        let path = CString::new(path.as_ref().as_os_str().as_bytes()).map_err(|_| Fault::NoFile { errno: EINVAL })?;
+        let path = name_of(path.as_ref())?;
         let every = every.map_or(0, |time| u64::try_from(time.as_nanos()).unwrap_or(u64::MAX / 2).min(u64::MAX / 2));
         let mut journal = null_mut();
         // SAFETY: the path ends with a 0.
@@ -293,6 +298,18 @@ impl SharedHull {
         }
         *desk.journal.write().unwrap_or_else(PoisonError::into_inner) = Some(Journal(at));
         Ok(SharedHull { desk })
+    }
+
+    /// Makes such a file short that no hull keeps now: the additions that leave the same points, up to the same number, which is told.
+    /// [`Fault::NoFile`], [`Fault::Damaged`], [`Fault::Illegal`] and [`Fault::NoMemory`], and the file is as it was.
+    pub fn compact(path: impl AsRef<Path>) -> Result<u64, Fault> {
+        let path = name_of(path.as_ref())?;
+        // SAFETY: the path ends with a 0.
+        let told = unsafe { raw::hull_shared_journal_compact(path.as_ptr()) };
+        match told.code {
+            code::SAFE => Ok(told.number),
+            _ => Err(fault_of_file(&told, told.number)),
+        }
     }
 
     /// The number of the first line that is not safe in the file: those before it are there for good, however the process ends.
