@@ -2,6 +2,7 @@ ghost use Rattle.std.specs.Prelude.{◌≡◌, IfOk};
 ghost use Rattle.hull_draw.specs.Bridges.{bridges_of};
 
 use hull_tree::{HullTree, push_level};
+use leaf_trees::Bridge;
 use std::alloc::{AllocError, Global};
 
 /// How many levels of a tree are drawn at most: deeper bridges are shorter than the dots at their ends.

@@ -10,6 +10,7 @@ use hull_book::{Journal, Line};
 use hull_set::{HullSet, NoMemory};
 use hull_tree::trees_are_sound;
 use lattice::Point;
+use leaf_trees::Bridge;
 use std::alloc::Global;
 use std::marker::Model;
 
