@@ -201,6 +201,31 @@ struct Distance {
     Point a, b, c;
 };
 
+// How far an outline is from another one, or from a segment. Two are compared exactly; so one is no number that was rounded.
+class Clearance {
+public:
+    explicit Clearance(const hull_clearance &told) noexcept : told_(told) {}
+
+    // The greatest double that is not above it, and the least that is not below it: one where it is a double.
+    double down() const noexcept { return hull_clearance_down(&told_); }
+    double up() const noexcept { return hull_clearance_up(&told_); }
+
+    // The words of its square, which is a fraction, and of those two doubles.
+    const hull_clearance &words() const noexcept { return told_; }
+
+    friend bool operator==(const Clearance &a, const Clearance &b) noexcept { return a.compared(b) == 0; }
+    friend bool operator!=(const Clearance &a, const Clearance &b) noexcept { return a.compared(b) != 0; }
+    friend bool operator<(const Clearance &a, const Clearance &b) noexcept { return a.compared(b) < 0; }
+    friend bool operator>(const Clearance &a, const Clearance &b) noexcept { return a.compared(b) > 0; }
+    friend bool operator<=(const Clearance &a, const Clearance &b) noexcept { return a.compared(b) <= 0; }
+    friend bool operator>=(const Clearance &a, const Clearance &b) noexcept { return a.compared(b) >= 0; }
+
+private:
+    std::int32_t compared(const Clearance &other) const noexcept { return hull_clearance_compare(&told_, &other.told_); }
+
+    hull_clearance told_;
+};
+
 // What a reply tells, as a value; what refuses the call is thrown.
 namespace told {
 
@@ -339,6 +364,14 @@ inline std::optional<Witness> witness(const hull_witness &w) {
         return std::nullopt;
     }
     return Witness{static_cast<Witness::Shows>(w.code), w.a, w.b, w.c, w.d};
+}
+
+inline std::optional<Clearance> clearance(const hull_clearance &c) {
+    switch (c.code) {
+    case HULL_NUMBER: return Clearance(c);
+    case HULL_EMPTY: return std::nullopt;
+    default: fault(c.code);
+    }
 }
 
 inline std::optional<Distance> distance(const hull_witness &w) {
@@ -514,6 +547,28 @@ public:
     bool within(const Outline &other, std::uint64_t numerator, std::uint32_t denominator = 1) const {
         return told::number(hull_outline_within(data(), corners_.size(), other.data(), other.corners_.size(), numerator, denominator)) == 1;
     }
+
+    // The same of the segment from `a` to `b`, which may be one point, and of a point.
+    bool within_segment(Point a, Point b, std::uint64_t numerator, std::uint32_t denominator = 1) const {
+        return told::number(hull_outline_within_segment(data(), corners_.size(), a.x, a.y, b.x, b.y, numerator, denominator)) == 1;
+    }
+    bool within_point(Point p, std::uint64_t numerator, std::uint32_t denominator = 1) const {
+        return within_segment(p, p, numerator, denominator);
+    }
+
+    // How this outline stands to the segment from `a` to `b`, which may be one point.
+    Relation relation_to_segment(Point a, Point b) const {
+        return static_cast<Relation>(told::number(hull_outline_relation_to_segment(data(), corners_.size(), a.x, a.y, b.x, b.y)));
+    }
+
+    // How far the other outline, the segment from `a` to `b`, or a point is from this outline; none where there are no corners.
+    std::optional<Clearance> clearance(const Outline &other) const {
+        return told::clearance(hull_outline_clearance(data(), corners_.size(), other.data(), other.corners_.size()));
+    }
+    std::optional<Clearance> clearance_to_segment(Point a, Point b) const {
+        return told::clearance(hull_outline_clearance_to_segment(data(), corners_.size(), a.x, a.y, b.x, b.y));
+    }
+    std::optional<Clearance> clearance_to_point(Point p) const { return clearance_to_segment(p, p); }
 
     // Where the two meet, or what parts them; none where one of them has no corners.
     std::optional<Witness> witness(const Outline &other) const {

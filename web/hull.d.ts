@@ -143,12 +143,24 @@ export interface Outline extends Questions {
     /** Whether two hulls are no farther apart than numerator / denominator (1 where none is given), exactly; false where one has no
      * corner. OutOfRange where the numerator is no whole Number from 0 to 2^53 - 1, or the denominator none from 1 to 2^32 - 1. */
     within(other: Outline, numerator: number, denominator?: number): boolean;
+    /** The same of the segment from (ax, ay) to (bx, by), which may be one point. */
+    withinSegment(ax: number, ay: number, bx: number, by: number, numerator: number, denominator?: number): boolean;
+    /** How this hull stands to the segment from (ax, ay) to (bx, by), which may be one point: one along an edge touches, one through the
+     * inside overlaps. */
+    relationToSegment(ax: number, ay: number, bx: number, by: number): Relation;
     /** Where two hulls meet, or what parts them. Null where one has no corner. */
     witness(other: Outline): Witness | null;
     /** Where two hulls are nearest: a place on this one and one on the other, as `nearest` tells it; two of none where they meet. */
     distance(other: Outline): [ours: Point[], theirs: Point[]] | null;
     /** The squared distance of two hulls, 0 where they meet. */
     squaredDistance(other: Outline): Fraction | null;
+    /** The squared distance of a segment, which may be one point. Null where there is no corner. */
+    squaredDistanceToSegment(ax: number, ay: number, bx: number, by: number): Fraction | null;
+    /** The greatest Number that is not above the distance of two hulls, and the least that is not below it: one where the distance is a
+     * Number, else the next two. Null where one has no corner. */
+    distanceBounds(other: Outline): [down: number, up: number] | null;
+    /** The same of a segment, which may be one point. */
+    distanceBoundsToSegment(ax: number, ay: number, bx: number, by: number): [down: number, up: number] | null;
 }
 
 /** How one hull stands to another: `within` where the other one covers all of it and more, `covers` the other way, `equal` where each

@@ -41,6 +41,7 @@ const POINT = { size: 16, y: 8 };
 const HELD = { size: 24, y: 8, times: 16 };
 const BRIDGE = { size: 72, upper: 8, lower: 40 };
 const WITNESS = { size: 72, first: 8 };
+const CLEARANCE = { shift: 4, lower: 8, upper: 16, numerator: 24, denominator: 48 };
 // what a witness shows, with how many of its points belong to it
 const SHOWN = {
     [CODE.apart]: ["apart", 2], [CODE.covered]: ["covered", 1], [CODE.within]: ["within", 1], [CODE.crossing]: ["crossing", 4],
@@ -112,7 +113,7 @@ class Instance {
         this.reply = this.take(REQUESTS_AT_ONCE * REPLY.size);
         this.requestsAt = BigInt(this.requests);
         this.replyAt = BigInt(this.reply);
-        this.witness = this.take(WITNESS.size);
+        this.witness = this.take(WITNESS.size); // and a clearance
         this.out = { at: this.take(BRIDGE.size), bytes: BRIDGE.size };
     }
 
@@ -199,6 +200,21 @@ class Instance {
         this.call(name, BigInt(this.witness), ...words);
         const at = this.witness + WITNESS.first;
         return [this.heap.view.getUint32(this.witness, true), [0, 1, 2, 3].map((i) => this.point(at + i * POINT.size))];
+    }
+
+    /** Makes a call that tells how far something is: its square as a fraction, and the doubles next to it; null where that is nothing. */
+    measured(name, ...words) {
+        this.call(name, BigInt(this.witness), ...words);
+        const { view } = this.heap, at = this.witness, fault = FAULTS[view.getUint32(at, true)];
+        if (fault !== undefined) throw fault();
+        if (view.getUint32(at, true) === CODE.empty) return null;
+        const scale = 2 ** view.getUint32(at + CLEARANCE.shift, true);
+        const words64 = (from, count) => Array.from({ length: count }, (_, i) => view.getBigUint64(at + from + 8 * i, true));
+        const inOne = (from, count) => words64(from, count).reduce((above, word) => (above << 64n) + word, 0n);
+        return {
+            bounds: [readWhole(view, at + CLEARANCE.lower) / scale, readWhole(view, at + CLEARANCE.upper) / scale],
+            squared: { numerator: inOne(CLEARANCE.numerator, 3), denominator: inOne(CLEARANCE.denominator, 2) },
+        };
     }
 
     whole(offset) {
@@ -563,11 +579,17 @@ class OutlineOfInstance extends Questions {
     }
 
     within(other, numerator, denominator = 1) {
-        const isWhole = (value) => Number.isSafeInteger(value) && value >= 0;
-        if (!isWhole(numerator) || !isWhole(denominator) || denominator < 1 || denominator >= HALF) {
-            throw new OutOfRange("a length is a whole Number from 0 on by one from 1 to 2^32 - 1");
-        }
-        return this.#numberBeside("hull_outline_within", other, BigInt(numerator), denominator) === 1;
+        return this.#numberBeside("hull_outline_within", other, ...lengthOf(numerator, denominator)) === 1;
+    }
+
+    withinSegment(ax, ay, bx, by, numerator, denominator = 1) {
+        this.#found("hull_outline_within_segment", whole(ax), whole(ay), whole(bx), whole(by), ...lengthOf(numerator, denominator));
+        return this._live().number() === 1;
+    }
+
+    relationToSegment(ax, ay, bx, by) {
+        this.#found("hull_outline_relation_to_segment", whole(ax), whole(ay), whole(bx), whole(by));
+        return RELATIONS[this._live().number()];
     }
 
     witness(other) {
@@ -591,6 +613,33 @@ class OutlineOfInstance extends Questions {
         const place = this.nearest(x, y);
         return place && squaredDistanceOf([place, place.length ? [[x, y]] : []]);
     }
+
+    squaredDistanceToSegment(ax, ay, bx, by) {
+        return this.#measuredTo(ax, ay, bx, by)?.squared ?? null;
+    }
+
+    distanceBounds(other) {
+        return this.#beside("measured", "hull_outline_clearance", other)?.bounds ?? null;
+    }
+
+    distanceBoundsToSegment(ax, ay, bx, by) {
+        return this.#measuredTo(ax, ay, bx, by)?.bounds ?? null;
+    }
+
+    /** How far a segment is. */
+    #measuredTo(ax, ay, bx, by) {
+        const ends = [whole(ax), whole(ay), whole(bx), whole(by)];
+        return this._live().measured("hull_outline_clearance_to_segment", this.#address, this.#corners, ...ends);
+    }
+}
+
+/** The two numbers of a length, as the module takes them. */
+function lengthOf(numerator, denominator) {
+    const isWhole = (value) => Number.isSafeInteger(value) && value >= 0;
+    if (!isWhole(numerator) || !isWhole(denominator) || denominator < 1 || denominator >= HALF) {
+        throw new OutOfRange("a length is a whole Number from 0 on by one from 1 to 2^32 - 1");
+    }
+    return [BigInt(numerator), denominator];
 }
 
 /** The squared distance of two places, each a point or an edge; 0 where both are none. */

@@ -125,6 +125,15 @@ static void two_outlines() {
     CHECK(outline.relation(beside) == Relation::apart && outline.relation(flush) == Relation::touching && outline.relation(across) == Relation::overlapping);
     CHECK(outline.contains_inside(small) && !outline.contains_inside(outline) && !outline.contains_inside(flush));
     CHECK(outline.within(beside, 2) && !outline.within(beside, 1999, 1000) && !outline.within(none, 1, 0));
+    const auto gap = outline.clearance(beside), to_corner = outline.clearance_to_point({13, 14}), to_way = outline.clearance_to_segment({13, 14}, {16, 10});
+    CHECK(gap && gap->down() == 2 && gap->up() == 2 && to_corner && to_corner->down() == 5 && to_way && *to_way <= *to_corner && *to_way > *gap);
+    CHECK(*gap < *to_corner && *gap != *to_corner && *gap == *outline.clearance_to_point({12, 5}) && *gap >= *gap);
+    CHECK(to_corner->words().low == 25 && outline.clearance(small)->up() == 0 && !none.clearance(outline) && !none.clearance_to_point({0, 0}));
+    CHECK(outline.within_segment({13, 14}, {13, 20}, 5) && !outline.within_point({13, 14}, 4999, 1000) && outline.within_point({13, 14}, 5));
+    CHECK(outline.relation_to_segment({10, 3}, {10, 12}) == Relation::touching && outline.relation_to_segment({2, 2}, {9, 9}) == Relation::covers);
+    CHECK(refuses(Refusal::out_of_range, [&] { outline.clearance_to_point({far + 1, 0}); }));
+    CHECK(refuses(Refusal::out_of_range, [&] { outline.relation_to_segment({0, 0}, {0, far + 1}); }));
+    CHECK(refuses(Refusal::out_of_range, [&] { outline.within_point({0, -far - 1}, 1); }));
     CHECK(!none.witness(outline) && !outline.witness(none) && !none.meets(outline) && outline.contains(none));
     using Where = hull::Distance::Where;
     const hull::Outline aside({{13, 5}});

@@ -319,6 +319,29 @@ class Calls(unittest.TestCase):
         self.assertTrue(again == both and len(pickle.dumps(both)) < 16 * POINT_LIMIT + 1000)
         self.assertRaises(TooMany, hull_module.merge, [both, hull_module.Outline([(-1, 1)])])
 
+    def test_clearances(self):
+        Outline, Relation = hull_module.Outline, hull_module.Relation
+        outline, none, beside = Outline([(0, 0), (10, 0), (10, 10), (0, 10)]), Outline([]), Outline([(12, 0), (15, 3), (12, 6)])
+        self.assertEqual((outline.distance_bounds(beside), outline.distance_bounds(outline)), ((2.0, 2.0), (0.0, 0.0)))
+        self.assertEqual((outline.distance_bounds_to(13, 14), outline.squared_distance_to_segment(16, 10, 13, 14)), ((5.0, 5.0), Fraction(576, 25)))
+        low, high = outline.distance_bounds_to(11, 11)
+        self.assertTrue(low < high == math.sqrt(2) and Fraction(low) ** 2 < 2 < Fraction(high) ** 2)
+        self.assertEqual(outline.distance_bounds_to_segment(13, 14, 13, 20), (5.0, 5.0))
+        self.assertEqual((none.distance_bounds(outline), outline.distance_bounds(none), none.distance_bounds_to(0, 0)), (None, None, None))
+        self.assertIsNone(none.squared_distance_to_segment(0, 0, 1, 1))
+        self.assertTrue(outline.within_segment(13, 14, 13, 20, 5) and outline.within_point(13, 14, 5.0) and outline.within_point(13, 14, 2 ** 64))
+        self.assertFalse(outline.within_segment(13, 14, 13, 20, 4.999) or outline.within_point(13, 14, Fraction(2 ** 40 - 1, 2 ** 39)))
+        self.assertFalse(none.within_point(0, 0, 5) or none.within_point(0, 0, 2 ** 64))
+        self.assertIs(outline.relation_to_segment(10, 12, 10, 3), Relation.TOUCHING)
+        self.assertIs(outline.relation_to_segment(9, 9, 2, 2), Relation.COVERS)
+        self.assertIs(none.relation_to_segment(9, 9, 2, 2), Relation.WITHIN)
+        far = COORDINATE_LIMIT + 1
+        for ask in (outline.distance_bounds_to_segment, outline.squared_distance_to_segment, outline.relation_to_segment):
+            self.assertRaises(OutOfRange, ask, 0, 0, far, 0)
+            self.assertRaises(OutOfRange, ask, 0, -far, 0, 0)
+        self.assertRaises(OutOfRange, outline.within_point, far, 0, 1)
+        self.assertRaises(OutOfRange, outline.within_point, 0, 0, -1)
+
     def test_two_outlines(self):
         Outline, Shows = hull_module.Outline, hull_module.Shows
         outline, none = Outline([(0, 0), (10, 0), (10, 10), (0, 10)]), Outline([])

@@ -139,6 +139,30 @@ fn encounters() {
 }
 
 #[test]
+fn clearances() {
+    let outline = Outline::new(&[point(0, 0), point(10, 0), point(10, 10), point(0, 10)]).unwrap();
+    let beside = Outline::new(&[point(12, 0), point(15, 3), point(12, 6)]).unwrap();
+    let none = Outline::new(&[]).unwrap();
+    let gap = outline.clearance(&beside).unwrap();
+    let to = |at| outline.clearance_to_point(at).unwrap().unwrap();
+    assert_eq!((gap.down(), gap.up(), gap.squared()), (2.0, 2.0, ([0, 0, 4], [0, 1])));
+    assert_eq!((to(point(13, 14)).down(), to(point(5, 5)).up()), (5.0, 0.0));
+    assert!(to(point(11, 11)).down() < 2f64.sqrt() && to(point(11, 11)).up() == 2f64.sqrt());
+    assert!(gap < to(point(13, 14)) && gap == to(point(12, 5)) && to(point(11, 11)) < gap && gap <= gap);
+    let way = outline.clearance_to_segment(point(13, 14), point(16, 10)).unwrap().unwrap();
+    assert!(way < to(point(13, 14)) && way.squared().0[2] * 25 == way.squared().1[1] * 576);
+    assert!(none.clearance(&outline).is_none() && none.clearance_to_point(point(0, 0)).unwrap().is_none());
+    assert_eq!(outline.within_segment(point(13, 14), point(13, 20), 5, 1), Ok(true));
+    assert_eq!(outline.within_point(point(13, 14), 4999, 1000), Ok(false));
+    assert_eq!(outline.relation_to_segment(point(10, 12), point(10, 3)), Ok(Relation::Touching));
+    assert_eq!(outline.relation_to_segment(point(9, 9), point(2, 2)), Ok(Relation::Covers));
+    let far = point(0, COORDINATE_LIMIT + 1);
+    assert_eq!(outline.clearance_to_point(far).err(), Some(Fault::OutOfRange));
+    assert_eq!(outline.within_point(far, 1, 1), Err(Fault::OutOfRange));
+    assert_eq!(outline.relation_to_segment(point(0, 0), far), Err(Fault::OutOfRange));
+}
+
+#[test]
 fn two_outlines() {
     let outline = Outline::new(&[point(0, 0), point(10, 0), point(10, 10), point(0, 10)]).unwrap();
     let small = Outline::new(&[point(2, 2), point(4, 2), point(3, 4)]).unwrap();

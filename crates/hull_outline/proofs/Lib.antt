@@ -37,3 +37,7 @@ pub mod FarApart
 pub mod DividingAxes
 pub mod Dividing
 pub mod Insides
+pub mod TwoPoints
+pub mod FactorsOf
+pub mod Scaled
+pub mod WordsOf

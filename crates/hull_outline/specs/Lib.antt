@@ -16,3 +16,6 @@ pub mod Wide
 pub mod Closest
 pub mod Relations
 pub mod Ranges
+pub mod Squares
+pub mod Roundings
+pub mod Segments

@@ -1,6 +1,6 @@
 //! What a reply in numbers tells, in types of Rust. Both libraries tell by the same numbers.
-use crate::raw::{code, Reply, WitnessTold};
-use crate::{Distance, Fault, Nearest, Place, Point, Separation, Strip, Witness};
+use crate::raw::{code, ClearanceTold, Reply, WitnessTold};
+use crate::{Clearance, Distance, Fault, Nearest, Place, Point, Relation, Separation, Strip, Witness};
 
 /// How often a point is held that was added.
 pub(crate) fn times_added(reply: Reply) -> Result<u32, Fault> {
@@ -98,6 +98,25 @@ pub(crate) fn distance(told: WitnessTold) -> Option<Distance> {
         code::CORNER => Some(Distance::CornerAndEdge(told.a, [told.b, told.c])),
         code::EDGE => Some(Distance::EdgeAndCorner([told.a, told.b], told.c)),
         _ => None,
+    }
+}
+
+pub(crate) fn clearance(told: ClearanceTold) -> Result<Option<Clearance>, Fault> {
+    match told.code {
+        code::NUMBER => Ok(Some(Clearance::new(told))),
+        code::EMPTY => Ok(None),
+        other => Err(fault_of(other)),
+    }
+}
+
+pub(crate) fn relation(number: u64) -> Relation {
+    match number {
+        0 => Relation::Apart,
+        1 => Relation::Touching,
+        2 => Relation::Overlapping,
+        3 => Relation::Within,
+        4 => Relation::Covers,
+        _ => Relation::Equal,
     }
 }
 

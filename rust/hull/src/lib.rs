@@ -15,6 +15,7 @@
 //! A [`Hull`] may go to another thread (`Send`), but be used by one at a time: share it as `Mutex<Hull>`, or open a
 //! [`SharedHull`] (over `libhull_shared.a`), at which each thread has a [`Seat`] and whose calls are kept in a journal.
 mod answer;
+mod clearance;
 mod counted;
 mod door;
 mod exchange;
@@ -28,6 +29,7 @@ use std::alloc::{alloc, dealloc, Layout};
 use std::fmt;
 use std::ptr::NonNull;
 
+pub use clearance::Clearance;
 pub use exchange::{direction_of, wkt, Lattice, Rounded};
 pub use outline::{Distance, Nearest, Outline, Relation, Separation, Strip, Witness};
 pub use raw::{Held, Point};

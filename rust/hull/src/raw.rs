@@ -94,6 +94,18 @@ pub(crate) struct WitnessTold {
     pub d: Point,
 }
 
+/// How far outlines are apart.
+#[repr(C)]
+#[derive(Clone, Copy, Debug)]
+pub(crate) struct ClearanceTold {
+    pub code: u32,
+    pub shift: u32,
+    pub lower: u64,
+    pub upper: u64,
+    pub numerator: [u64; 3],
+    pub denominator: [u64; 2],
+}
+
 /// The numbers of the codes.
 pub(crate) mod code {
     pub const OUT_OF_RANGE: u32 = 1;
@@ -208,6 +220,39 @@ extern "C" {
         other_count: usize,
         numerator: u64,
         denominator: u32,
+    ) -> Reply;
+    pub(crate) fn hull_outline_clearance(
+        corners: *const Point,
+        count: usize,
+        others: *const Point,
+        other_count: usize,
+    ) -> ClearanceTold;
+    pub(crate) fn hull_outline_clearance_to_segment(
+        corners: *const Point,
+        count: usize,
+        ax: i64,
+        ay: i64,
+        bx: i64,
+        by: i64,
+    ) -> ClearanceTold;
+    pub(crate) fn hull_clearance_compare(this: *const ClearanceTold, that: *const ClearanceTold) -> i32;
+    pub(crate) fn hull_outline_within_segment(
+        corners: *const Point,
+        count: usize,
+        ax: i64,
+        ay: i64,
+        bx: i64,
+        by: i64,
+        numerator: u64,
+        denominator: u32,
+    ) -> Reply;
+    pub(crate) fn hull_outline_relation_to_segment(
+        corners: *const Point,
+        count: usize,
+        ax: i64,
+        ay: i64,
+        bx: i64,
+        by: i64,
     ) -> Reply;
     pub(crate) fn hull_outline_witness(
         corners: *const Point,
