@@ -632,6 +632,58 @@ static inline hull_reply hull_outline_relation_to_segment_or_null(const hull_poi
 }
 #define hull_outline_relation_to_segment hull_outline_relation_to_segment_or_null
 
+/* Where a ray or a segment first comes into the outline: a code, and what belongs to it; all else is 0. */
+typedef struct hull_hit {
+    uint32_t code;         /* HULL_COVERED: at its start. HULL_EDGE: across the edge from a to the next corner, b, or at one of these.
+                            * HULL_CORNER: at the corner a of an outline that lies on its line. HULL_APART: nowhere. HULL_EMPTY: there are
+                            * no corners. HULL_OUT_OF_RANGE, HULL_ZERO_DIRECTION, HULL_NO_OUTLINE */
+    hull_point a;
+    hull_point b;
+    uint64_t high;         /* it has gone (high 2^64 + low) / (divisor_high 2^64 + divisor_low) of its way until then, exactly, not in */
+    uint64_t low;          /* lowest terms: of the segment, or in lengths of the direction; 0 / 1 at its start */
+    uint64_t divisor_high;
+    uint64_t divisor_low;
+} hull_hit;
+
+static inline hull_hit hull_hit_refusal(uint32_t code) {
+    hull_hit h;
+    memset(&h, 0, sizeof h);
+    h.code = code;
+    return h;
+}
+
+/* The ray from (x, y) in the direction (dx, dy). Of several points where it touches the outline it is the first. A few bisections. */
+hull_hit hull_outline_cast_ray(const hull_point *corners, size_t count, int64_t x, int64_t y, int64_t dx, int64_t dy);
+static inline hull_hit hull_outline_cast_ray_or_null(const hull_point *corners, size_t count, int64_t x, int64_t y, int64_t dx,
+                                                     int64_t dy) {
+    const uint32_t fault = hull_outline_fault(corners, count);
+    return fault != HULL_OK ? hull_hit_refusal(fault)
+                            : hull_outline_cast_ray((const hull_point *)hull_array(corners, count), count, x, y, dx, dy);
+}
+#define hull_outline_cast_ray hull_outline_cast_ray_or_null
+
+/* The last point of that ray in the outline: HULL_EDGE with the edge across which it goes out, or at whose end it leaves, or HULL_CORNER; and
+ * how far on it that is. Where the ray only touches in one point, that is the first, too. */
+hull_hit hull_outline_last_on_ray(const hull_point *corners, size_t count, int64_t x, int64_t y, int64_t dx, int64_t dy);
+static inline hull_hit hull_outline_last_on_ray_or_null(const hull_point *corners, size_t count, int64_t x, int64_t y, int64_t dx,
+                                                        int64_t dy) {
+    const uint32_t fault = hull_outline_fault(corners, count);
+    return fault != HULL_OK ? hull_hit_refusal(fault)
+                            : hull_outline_last_on_ray((const hull_point *)hull_array(corners, count), count, x, y, dx, dy);
+}
+#define hull_outline_last_on_ray hull_outline_last_on_ray_or_null
+
+/* The segment from (ax, ay) to (bx, by), whose ends may be one point. The last point of it in the outline is where the segment from
+ * (bx, by) to (ax, ay) first comes in; where it only touches, both are one. */
+hull_hit hull_outline_cast_segment(const hull_point *corners, size_t count, int64_t ax, int64_t ay, int64_t bx, int64_t by);
+static inline hull_hit hull_outline_cast_segment_or_null(const hull_point *corners, size_t count, int64_t ax, int64_t ay, int64_t bx,
+                                                         int64_t by) {
+    const uint32_t fault = hull_outline_fault(corners, count);
+    return fault != HULL_OK ? hull_hit_refusal(fault)
+                            : hull_outline_cast_segment((const hull_point *)hull_array(corners, count), count, ax, ay, bx, by);
+}
+#define hull_outline_cast_segment hull_outline_cast_segment_or_null
+
 /* A support function for callers with directions in doubles: the first of the farthest points in the direction (dx, dy), taken to
  * whole numbers as hull_direction_from_doubles tells (hull_exchange.h); in the direction (0, 0) the first point by x and then y.
  * HULL_POINT; HULL_EMPTY; HULL_OUT_OF_RANGE where one of them is not finite. */

@@ -226,6 +226,18 @@ private:
     hull_clearance told_;
 };
 
+// Where a ray or a segment first comes into an outline, or a ray leaves it.
+struct Hit {
+    enum class Where : std::uint32_t {
+        start = HULL_COVERED, // at its start, which the outline covers
+        edge = HULL_EDGE,     // across the edge from `from` to the next corner, `to`, or at one of these
+        corner = HULL_CORNER  // at the corner `from`, of an outline that lies on its line
+    };
+    Where where;
+    Point from, to;
+    Area part, whole; // it has gone part / whole of its way until then, exactly: of the segment, or in lengths of the direction
+};
+
 // What a reply tells, as a value; what refuses the call is thrown.
 namespace told {
 
@@ -371,6 +383,19 @@ inline std::optional<Clearance> clearance(const hull_clearance &c) {
     case HULL_NUMBER: return Clearance(c);
     case HULL_EMPTY: return std::nullopt;
     default: fault(c.code);
+    }
+}
+
+inline std::optional<Hit> hit(const hull_hit &h) {
+    const auto number = [](std::uint64_t high, std::uint64_t low) { return static_cast<Area>(high) << 64 | low; };
+    switch (h.code) {
+    case HULL_COVERED:
+    case HULL_EDGE:
+    case HULL_CORNER:
+        return Hit{static_cast<Hit::Where>(h.code), h.a, h.b, number(h.high, h.low), number(h.divisor_high, h.divisor_low)};
+    case HULL_APART:
+    case HULL_EMPTY: return std::nullopt;
+    default: fault(h.code);
     }
 }
 
@@ -569,6 +594,22 @@ public:
         return told::clearance(hull_outline_clearance_to_segment(data(), corners_.size(), a.x, a.y, b.x, b.y));
     }
     std::optional<Clearance> clearance_to_point(Point p) const { return clearance_to_segment(p, p); }
+
+    // Where the ray from a point in a direction first comes in; none where it misses.
+    std::optional<Hit> cast_ray(Point from, Point direction) const {
+        return told::hit(hull_outline_cast_ray(data(), corners_.size(), from.x, from.y, direction.x, direction.y));
+    }
+
+    // The last point of that ray in the outline; none where it misses.
+    std::optional<Hit> last_on_ray(Point from, Point direction) const {
+        return told::hit(hull_outline_last_on_ray(data(), corners_.size(), from.x, from.y, direction.x, direction.y));
+    }
+
+    // Where the segment from `a` to `b` first comes in; none where it misses. Its last point in the outline is where that from `b` to
+    // `a` comes in.
+    std::optional<Hit> cast_segment(Point a, Point b) const {
+        return told::hit(hull_outline_cast_segment(data(), corners_.size(), a.x, a.y, b.x, b.y));
+    }
 
     // Where the two meet, or what parts them; none where one of them has no corners.
     std::optional<Witness> witness(const Outline &other) const {

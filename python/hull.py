@@ -226,6 +226,16 @@ class _Clearance(ctypes.Structure):
         return functools.reduce(lambda above, word: above << 64 | word, words, 0)
 
 
+class _Hit(ctypes.Structure):
+    _fields_ = [("code", ctypes.c_uint32), ("a", ctypes.c_int64 * 2), ("b", ctypes.c_int64 * 2), ("high", ctypes.c_uint64),
+                ("low", ctypes.c_uint64), ("divisor_high", ctypes.c_uint64), ("divisor_low", ctypes.c_uint64)]
+    code: int
+    high: int
+    low: int
+    divisor_high: int
+    divisor_low: int
+
+
 _FAULTS: Dict[int, Callable[[], Exception]] = {
     _Code.OUT_OF_RANGE: lambda: OutOfRange("a coordinate is out of range"),
     _Code.ZERO_DIRECTION: lambda: ZeroDirection("a direction is zero"),
@@ -291,6 +301,9 @@ def _library() -> ctypes.CDLL:
         ("outline_relation_to_segment", [at, size, whole, whole, whole, whole], _Reply),
         ("outline_clearance", [at, size, at, size], _Clearance),
         ("outline_clearance_to_segment", [at, size, whole, whole, whole, whole], _Clearance),
+        ("outline_cast_ray", [at, size, whole, whole, whole, whole], _Hit),
+        ("outline_last_on_ray", [at, size, whole, whole, whole, whole], _Hit),
+        ("outline_cast_segment", [at, size, whole, whole, whole, whole], _Hit),
         ("outline_least_width", [at, size], _Witness), ("outline_witness", [at, size, at, size], _Witness),
         ("outline_distance", [at, size, at, size], _Witness),
         ("outline_calls", [at, size, at, size, at, size], size),
@@ -1131,6 +1144,33 @@ class Outline(_Questions):
         """
         ends = _whole(ax), _whole(ay), _whole(bx), _whole(by)
         return Relation(self._found(_LIBRARY.hull_outline_relation_to_segment, *ends).number)
+
+    def cast_ray(self, x: SupportsIndex, y: SupportsIndex, dx: SupportsIndex, dy: SupportsIndex) -> Optional[Tuple[Fraction, Tuple[Pair, ...]]]:
+        """Where the ray from (x, y) in the direction (dx, dy) first comes in; None where it misses.
+
+        That is how far it has gone, in lengths of the direction, and where: of two pairs across the edge between them, or at one of
+        them; of one at that corner of an outline on its line; of none at its start, which the outline covers.
+        """
+        return self._hit(_LIBRARY.hull_outline_cast_ray, x, y, dx, dy)
+
+    def last_on_ray(self, x: SupportsIndex, y: SupportsIndex, dx: SupportsIndex, dy: SupportsIndex) -> Optional[Tuple[Fraction, Tuple[Pair, ...]]]:
+        """The last point of that ray in the outline, told in the same way; None where it misses."""
+        return self._hit(_LIBRARY.hull_outline_last_on_ray, x, y, dx, dy)
+
+    def cast_segment(self, ax: SupportsIndex, ay: SupportsIndex, bx: SupportsIndex,
+                     by: SupportsIndex) -> Optional[Tuple[Fraction, Tuple[Pair, ...]]]:
+        """The same of the segment from (ax, ay) to (bx, by), in its lengths; its last point is where that from (bx, by) comes in."""
+        return self._hit(_LIBRARY.hull_outline_cast_segment, ax, ay, bx, by)
+
+    def _hit(self, ask: Callable[..., Any], *numbers: SupportsIndex) -> Optional[Tuple[Fraction, Tuple[Pair, ...]]]:
+        """Where and how far on its way a way comes in."""
+        told: _Hit = ask(*self._there(), *map(_whole, numbers))
+        _told(told.code)
+        if told.code in (_Code.APART, _Code.EMPTY):
+            return None
+        part = Fraction(told.high << 64 | told.low, told.divisor_high << 64 | told.divisor_low)
+        points: Tuple[Pair, ...] = ((told.a[0], told.a[1]), (told.b[0], told.b[1]))
+        return part, points[:{int(_Code.EDGE): 2, int(_Code.CORNER): 1}.get(told.code, 0)]
 
     def witness(self, other: Outline) -> Optional[Witness]:
         """Where the two outlines meet, or what parts them: a `Witness`; None where one of them has no corner."""

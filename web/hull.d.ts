@@ -148,6 +148,12 @@ export interface Outline extends Questions {
     /** How this hull stands to the segment from (ax, ay) to (bx, by), which may be one point: one along an edge touches, one through the
      * inside overlaps. */
     relationToSegment(ax: number, ay: number, bx: number, by: number): Relation;
+    /** Where the ray from (x, y) in a direction first comes in; null where it misses. ZeroDirection. */
+    castRay(x: number, y: number, dx: number, dy: number): Hit | null;
+    /** The last point of that ray in the hull; null where it misses. ZeroDirection. */
+    lastOnRay(x: number, y: number, dx: number, dy: number): Hit | null;
+    /** The same of the segment from (ax, ay) to (bx, by); its last point is where that from (bx, by) to (ax, ay) comes in. */
+    castSegment(ax: number, ay: number, bx: number, by: number): Hit | null;
     /** Where two hulls meet, or what parts them. Null where one has no corner. */
     witness(other: Outline): Witness | null;
     /** Where two hulls are nearest: a place on this one and one on the other, as `nearest` tells it; two of none where they meet. */
@@ -171,6 +177,13 @@ export type Relation = "apart" | "touching" | "overlapping" | "within" | "covers
  * covers; `within`, a corner of the first that the second covers; `crossing`, two corners of each whose segments cross. */
 export interface Witness {
     shows: "apart" | "covered" | "within" | "crossing";
+    points: Point[];
+}
+
+/** Where a way first comes in: how far it has gone, of a segment or in lengths of a ray's direction; and across the edge between two
+ * corners, or at one of these, at one corner of a hull on its line, or at its start, which the hull covers (no points). */
+export interface Hit {
+    part: Fraction;
     points: Point[];
 }
 

@@ -42,6 +42,7 @@ const HELD = { size: 24, y: 8, times: 16 };
 const BRIDGE = { size: 72, upper: 8, lower: 40 };
 const WITNESS = { size: 72, first: 8 };
 const CLEARANCE = { shift: 4, lower: 8, upper: 16, numerator: 24, denominator: 48 };
+const HIT = { first: 8, numerator: 40, denominator: 56 };
 // what a witness shows, with how many of its points belong to it
 const SHOWN = {
     [CODE.apart]: ["apart", 2], [CODE.covered]: ["covered", 1], [CODE.within]: ["within", 1], [CODE.crossing]: ["crossing", 4],
@@ -215,6 +216,18 @@ class Instance {
             bounds: [readWhole(view, at + CLEARANCE.lower) / scale, readWhole(view, at + CLEARANCE.upper) / scale],
             squared: { numerator: inOne(CLEARANCE.numerator, 3), denominator: inOne(CLEARANCE.denominator, 2) },
         };
+    }
+
+    /** Makes a call that tells where a way comes in; null where it does not. */
+    met(name, ...words) {
+        this.call(name, BigInt(this.witness), ...words);
+        const { view } = this.heap, at = this.witness, code = view.getUint32(at, true);
+        if (FAULTS[code] !== undefined) throw FAULTS[code]();
+        const count = { [CODE.covered]: 0, [CODE.corner]: 1, [CODE.edge]: 2 }[code];
+        if (count === undefined) return null;
+        const number = (from) => (view.getBigUint64(at + from, true) << 64n) + view.getBigUint64(at + from + 8, true);
+        const points = [0, 1].slice(0, count).map((i) => this.point(at + HIT.first + i * POINT.size));
+        return { part: { numerator: number(HIT.numerator), denominator: number(HIT.denominator) }, points };
     }
 
     whole(offset) {
@@ -590,6 +603,18 @@ class OutlineOfInstance extends Questions {
     relationToSegment(ax, ay, bx, by) {
         this.#found("hull_outline_relation_to_segment", whole(ax), whole(ay), whole(bx), whole(by));
         return RELATIONS[this._live().number()];
+    }
+
+    castRay(x, y, dx, dy) {
+        return this._live().met("hull_outline_cast_ray", this.#address, this.#corners, whole(x), whole(y), whole(dx), whole(dy));
+    }
+
+    lastOnRay(x, y, dx, dy) {
+        return this._live().met("hull_outline_last_on_ray", this.#address, this.#corners, whole(x), whole(y), whole(dx), whole(dy));
+    }
+
+    castSegment(ax, ay, bx, by) {
+        return this._live().met("hull_outline_cast_segment", this.#address, this.#corners, whole(ax), whole(ay), whole(bx), whole(by));
     }
 
     witness(other) {

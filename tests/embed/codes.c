@@ -720,6 +720,50 @@ static void segments_beside(void) {
     CHECK(bare(hull_outline_relation_to_segment(line, 2, 0, 0, 0, INT64_MIN), HULL_OUT_OF_RANGE));
 }
 
+/* a hit with these corners, so far on the way */
+static int is_hit(hull_hit h, uint32_t code, hull_point a, hull_point b, uint64_t part, uint64_t whole) {
+    return h.code == code && h.a.x == a.x && h.a.y == a.y && h.b.x == b.x && h.b.y == b.y && h.high == 0 && h.low == part
+        && h.divisor_high == 0 && h.divisor_low == whole;
+}
+
+/* where rays and segments come in: at a start, across an edge, at a corner, along an edge, on a line; or nowhere */
+static void casts(void) {
+    static const hull_point square[] = {{0, 0}, {4, 0}, {4, 4}, {0, 4}}, line[] = {{0, 0}, {4, 4}}, none = {0, 0};
+    CHECK(is_hit(hull_outline_cast_ray(square, 4, -2, 1, 3, 1), HULL_EDGE, square[3], square[0], 8, 12));
+    CHECK(is_hit(hull_outline_cast_segment(square, 4, -2, 1, 7, 4), HULL_EDGE, square[3], square[0], 8, 36));
+    CHECK(is_hit(hull_outline_cast_segment(square, 4, 7, 4, -2, 1), HULL_EDGE, square[1], square[2], 12, 36));
+    CHECK(is_hit(hull_outline_cast_ray(square, 4, 1, 1, 1, 0), HULL_COVERED, none, none, 0, 1));
+    CHECK(is_hit(hull_outline_cast_segment(square, 4, 4, 4, 9, 9), HULL_COVERED, none, none, 0, 1));
+    CHECK(is_hit(hull_outline_cast_segment(square, 4, 3, 7, 5, -1), HULL_EDGE, square[2], square[3], 12, 32));
+    CHECK(hull_outline_cast_ray(square, 4, -3, 4, 1, 0).code == HULL_EDGE && hull_outline_cast_ray(square, 4, 9, 4, -1, 0).code == HULL_EDGE);
+    CHECK(is_hit(hull_outline_cast_ray(line, 2, 7, 7, -1, -1), HULL_CORNER, line[1], none, 6, 2));
+    CHECK(is_hit(hull_outline_cast_segment(line, 2, 4, 0, 0, 4), HULL_EDGE, line[0], line[1], 16, 32));
+    CHECK(is_hit(hull_outline_cast_segment(line, 1, -1, 0, 3, 0), HULL_CORNER, line[0], none, 4, 16));
+    CHECK(is_hit(hull_outline_last_on_ray(square, 4, -2, 1, 3, 1), HULL_EDGE, square[1], square[2], 24, 12));
+    CHECK(is_hit(hull_outline_last_on_ray(square, 4, 1, 1, 1, 0), HULL_EDGE, square[1], square[2], 12, 4));
+    CHECK(is_hit(hull_outline_last_on_ray(line, 2, 7, 7, -1, -1), HULL_CORNER, line[0], none, 14, 2));
+    CHECK(is_hit(hull_outline_last_on_ray(square, 4, -2, 1, -3, 1), HULL_APART, none, none, 0, 0));
+    CHECK(is_hit(hull_outline_last_on_ray(NULL, 0, 0, 0, 1, 0), HULL_EMPTY, none, none, 0, 0));
+    CHECK(is_hit(hull_outline_last_on_ray(square, 4, 9, 0, 0, 0), HULL_ZERO_DIRECTION, none, none, 0, 0));
+    CHECK(is_hit(hull_outline_last_on_ray(square, 4, 0, -HULL_COORDINATE_MAX - 1, 0, 1), HULL_OUT_OF_RANGE, none, none, 0, 0));
+    CHECK(is_hit(hull_outline_cast_ray(square, 4, -2, 1, -3, 1), HULL_APART, none, none, 0, 0));
+    CHECK(is_hit(hull_outline_cast_segment(square, 4, -2, 1, -1, 1), HULL_APART, none, none, 0, 0));
+    CHECK(is_hit(hull_outline_cast_ray(square, 4, -2, 5, 1, 0), HULL_APART, none, none, 0, 0));
+    CHECK(is_hit(hull_outline_cast_ray(square, 0, 0, 0, 1, 0), HULL_EMPTY, none, none, 0, 0));
+    CHECK(is_hit(hull_outline_cast_segment(NULL, 0, 0, 0, 1, 0), HULL_EMPTY, none, none, 0, 0));
+    const int64_t far = HULL_COORDINATE_MAX, beyond = far + 1;
+    CHECK(is_hit(hull_outline_cast_ray(square, 4, beyond, 0, 1, 0), HULL_OUT_OF_RANGE, none, none, 0, 0));
+    CHECK(is_hit(hull_outline_cast_ray(square, 4, 9, 0, 0, -beyond), HULL_OUT_OF_RANGE, none, none, 0, 0));
+    CHECK(is_hit(hull_outline_cast_ray(square, 4, 9, 0, 0, 0), HULL_ZERO_DIRECTION, none, none, 0, 0));
+    CHECK(is_hit(hull_outline_cast_segment(square, 4, 9, 0, 0, beyond), HULL_OUT_OF_RANGE, none, none, 0, 0));
+    const hull_point wide[] = {{-far, -far}, {far, -far}, {far, far - 1}};
+    const hull_hit long_way = hull_outline_cast_segment(wide, 3, -far, far, far, -far + 1);
+    CHECK(long_way.code == HULL_EDGE && long_way.high > 0 && long_way.divisor_high > long_way.high && long_way.a.x == far && long_way.b.x == -far);
+    refused_from = 0, asked = 0;
+    CHECK(hull_outline_cast_ray(square, 4, -2, 1, 3, 1).code == HULL_EDGE && asked == 0);
+    refused_from = -1;
+}
+
 /* where corners are least wide is no wider than along any direction of a grid, and no narrower than the strip of each edge */
 static int is_least(const hull_point *corners, size_t count) {
     hull_witness w = hull_outline_least_width(corners, count);
@@ -1175,6 +1219,7 @@ int main(int words, char **word) {
     two_outlines();
     clearances();
     segments_beside();
+    casts();
     extents();
     in_doubles();
     calls();

@@ -134,6 +134,16 @@ static void two_outlines() {
     CHECK(refuses(Refusal::out_of_range, [&] { outline.clearance_to_point({far + 1, 0}); }));
     CHECK(refuses(Refusal::out_of_range, [&] { outline.relation_to_segment({0, 0}, {0, far + 1}); }));
     CHECK(refuses(Refusal::out_of_range, [&] { outline.within_point({0, -far - 1}, 1); }));
+    using Met = hull::Hit::Where;
+    const auto ray = outline.cast_ray({-2, 1}, {3, 1}), way = outline.cast_segment({14, 3}, {-6, 3});
+    CHECK(ray && ray->where == Met::edge && ray->from == (Point{0, 10}) && ray->to == (Point{0, 0}) && ray->part * 3 == ray->whole * 2);
+    CHECK(way && way->where == Met::edge && way->from == (Point{10, 0}) && way->part * 5 == way->whole);
+    CHECK(outline.cast_ray({3, 3}, {1, 0})->where == Met::start && across.cast_ray({35, 7}, {-20, -1})->where == Met::corner);
+    const auto out = outline.last_on_ray({-2, 1}, {3, 1});
+    CHECK(out && out->where == Met::edge && out->from == (Point{10, 0}) && out->part == 4 * out->whole && !outline.last_on_ray({-2, 1}, {-3, 1}));
+    CHECK(!outline.cast_ray({-2, 1}, {-3, 1}) && !outline.cast_segment({14, 3}, {11, 3}) && !none.cast_ray({0, 0}, {1, 0}));
+    CHECK(refuses(Refusal::zero_direction, [&] { outline.cast_ray({0, 0}, {0, 0}); }));
+    CHECK(refuses(Refusal::out_of_range, [&] { outline.cast_segment({0, 0}, {0, far + 1}); }));
     CHECK(!none.witness(outline) && !outline.witness(none) && !none.meets(outline) && outline.contains(none));
     using Where = hull::Distance::Where;
     const hull::Outline aside({{13, 5}});

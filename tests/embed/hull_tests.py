@@ -342,6 +342,19 @@ class Calls(unittest.TestCase):
         self.assertRaises(OutOfRange, outline.within_point, far, 0, 1)
         self.assertRaises(OutOfRange, outline.within_point, 0, 0, -1)
 
+    def test_casts(self):
+        outline, line, none = (hull_module.Outline(corners) for corners in ([(0, 0), (10, 0), (10, 10), (0, 10)], [(0, 0), (4, 4)], []))
+        self.assertEqual(outline.cast_ray(-2, 1, 3, 1), (Fraction(2, 3), ((0, 10), (0, 0))))
+        self.assertEqual(outline.cast_segment(14, 3, -6, 3), (Fraction(1, 5), ((10, 0), (10, 10))))
+        self.assertEqual((outline.cast_ray(3, 3, 1, 0), line.cast_ray(7, 7, -1, -1)), ((0, ()), (3, ((4, 4),))))
+        self.assertEqual(outline.last_on_ray(-2, 1, 3, 1), (4, ((10, 0), (10, 10))))
+        self.assertEqual((line.last_on_ray(7, 7, -1, -1), none.last_on_ray(0, 0, 1, 0)), ((7, ((0, 0),)), None))
+        misses = outline.cast_ray(-2, 1, -3, 1), outline.cast_segment(14, 3, 11, 3), none.cast_ray(0, 0, 1, 0), none.cast_segment(0, 0, 1, 0)
+        self.assertEqual(misses, (None,) * 4)
+        self.assertRaises(ZeroDirection, outline.cast_ray, 0, 0, 0, 0)
+        self.assertRaises(OutOfRange, outline.cast_ray, 0, 0, 0, COORDINATE_LIMIT + 1)
+        self.assertRaises(OutOfRange, outline.cast_segment, 0, -COORDINATE_LIMIT - 1, 0, 0)
+
     def test_two_outlines(self):
         Outline, Shows = hull_module.Outline, hull_module.Shows
         outline, none = Outline([(0, 0), (10, 0), (10, 10), (0, 10)]), Outline([])

@@ -106,6 +106,8 @@ in_c() {
     try "every code of every function" "$room/codes" "$here/lattice.txt"
     try "grid.c compiles" compile grid
     try "each 13th pair of outlines of a small grid, by all corners and edges" "$room/grid" 13
+    try "rays.c compiles" compile rays
+    try "rays and segments at all outlines of a small grid, by all edges" "$room/rays" 2
     try "checked.c compiles" compile checked -Wl,--wrap=malloc
     try "a checked build tells of arrays that are no outline" "$room/checked"
     try "replay.c compiles" compile replay
@@ -308,6 +310,7 @@ in_python() {
     interpreter=python3
     replays Python python "$here/replay.py"
     try "2000 pairs of outlines by chance, by all corners and edges" python "$here/random_outlines.py" 2000 1
+    try "2000 rays and segments by chance, by all edges" python "$here/random_casts.py" 2000 1
     try "libhull.so slowed down compiles" slowed hull
     try "libhull_shared.so slowed down compiles" slowed hull_shared -DSHARED
     try "calls on one hull from several threads wait for each other" python_slowed "$here/hull_tests.py" Locks

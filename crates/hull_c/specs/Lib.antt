@@ -9,3 +9,4 @@ pub mod Findings
 pub mod Pairs
 pub mod CornersOf
 pub mod Clearances
+pub mod Casts

@@ -16,6 +16,7 @@ ghost use Rattle.hull_reply.specs.Left.{leaves};
 ghost use Rattle.hull_reply.specs.Rooms.{room_alignment, room_size};
 ghost use Rattle.hull_reply.specs.Served.{IsAnswered};
 ghost use Rattle.hull_c.specs.Bridges.{AreBridges};
+ghost use Rattle.hull_c.specs.Casts.{IsHitAlong, IsHitOf, TellsLastOnRay, TellsRay, TellsSegmentHit};
 ghost use Rattle.hull_c.specs.Clearances.{ComparesAs, IsClearanceOf, TellsClearance, TellsClearanceTo, TellsRelationTo};
 ghost use Rattle.hull_c.specs.Clearances.{TellsWithinOf, square_of};
 ghost use Rattle.hull_c.specs.CornersOf.{TellsCornersOf};
@@ -33,6 +34,7 @@ ghost use Rattle.hull_c.specs.Calls.{AreCorners, IsCleared, IsFresh, IsLimitOf};
 
 mod bridges;
 mod calls;
+mod casts;
 mod clearances;
 mod corners;
 mod corners_of;
@@ -46,6 +48,7 @@ mod threads;
 
 pub use bridges::HullBridge;
 use bucket_tree::BucketTree;
+pub use casts::HullHit;
 pub use clearances::HullClearance;
 use heap::Heap;
 pub use held::HullHeld;
@@ -457,6 +460,51 @@ pub extern "C" fn hull_outline_relation_to_segment(
     ensures { IsToldOf ax ay (λ a. IsToldOf bx by (TellsRelationTo corners.now a)) result }
 {
     clearances::relation_to_segment(corners, ax, ay, bx, by)
+}
+
+/// Where the ray from (x, y) in the direction (dx, dy) first comes into the hull of these corners, and how far on it that is.
+#[unsafe(no_mangle)]
+pub extern "C" fn hull_outline_cast_ray(
+    corners: &[Point],
+    x: i64,
+    y: i64,
+    dx: i64,
+    dy: i64,
+) -> HullHit
+    requires { IsShortOutline corners.now }
+    ensures { IsHitOf x y (λ a. IsHitAlong dx dy (TellsRay corners.now a)) result }
+{
+    casts::cast_ray(corners, x, y, dx, dy)
+}
+
+/// The last point in the hull of these corners of the ray from (x, y) in the direction (dx, dy), and how far on it that is.
+#[unsafe(no_mangle)]
+pub extern "C" fn hull_outline_last_on_ray(
+    corners: &[Point],
+    x: i64,
+    y: i64,
+    dx: i64,
+    dy: i64,
+) -> HullHit
+    requires { IsShortOutline corners.now }
+    ensures { IsHitOf x y (λ a. IsHitAlong dx dy (TellsLastOnRay corners.now a)) result }
+{
+    casts::last_on_ray(corners, x, y, dx, dy)
+}
+
+/// Where the segment from (ax, ay) to (bx, by) first comes into the hull of these corners, and how far on it that is.
+#[unsafe(no_mangle)]
+pub extern "C" fn hull_outline_cast_segment(
+    corners: &[Point],
+    ax: i64,
+    ay: i64,
+    bx: i64,
+    by: i64,
+) -> HullHit
+    requires { IsShortOutline corners.now }
+    ensures { IsHitOf ax ay (λ a. IsHitOf bx by (TellsSegmentHit corners.now a)) result }
+{
+    casts::cast_segment(corners, ax, ay, bx, by)
 }
 
 /// Tells whether points are the corners of a set in the order in which [`hull_vertices`] writes them: 1, or 0.

@@ -19,3 +19,4 @@ pub mod Ranges
 pub mod Squares
 pub mod Roundings
 pub mod Segments
+pub mod Casts

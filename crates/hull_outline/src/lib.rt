@@ -24,6 +24,7 @@
 
 mod area;
 mod bisection;
+mod casts;
 mod diameter;
 mod distance;
 mod encounters;
@@ -50,9 +51,11 @@ mod vector;
 mod widths;
 mod witnesses;
 
+pub use casts::{Entry, Hit};
 pub use distance::Distance;
 pub use laws::{
-    never_both, none_closer, none_inside_divided, none_nearer_than_corner, none_nearer_than_edge,
+    enters_there, leaves_there, never_both, none_after, none_before, none_closer,
+    none_inside_divided, none_nearer_than_corner, none_nearer_than_edge,
 };
 pub use meetings::Meeting;
 pub use nearest::Nearest;

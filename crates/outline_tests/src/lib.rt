@@ -4,6 +4,8 @@
 #[cfg(test)]
 mod answers;
 #[cfg(test)]
+mod casts;
+#[cfg(test)]
 mod clearances;
 #[cfg(test)]
 mod distances;

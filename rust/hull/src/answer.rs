@@ -1,6 +1,6 @@
 //! What a reply in numbers tells, in types of Rust. Both libraries tell by the same numbers.
-use crate::raw::{code, ClearanceTold, Reply, WitnessTold};
-use crate::{Clearance, Distance, Fault, Nearest, Place, Point, Relation, Separation, Strip, Witness};
+use crate::raw::{code, ClearanceTold, HitTold, Reply, WitnessTold};
+use crate::{Clearance, Distance, Entry, Fault, Hit, Nearest, Place, Point, Relation, Separation, Strip, Witness};
 
 /// How often a point is held that was added.
 pub(crate) fn times_added(reply: Reply) -> Result<u32, Fault> {
@@ -118,6 +118,18 @@ pub(crate) fn relation(number: u64) -> Relation {
         4 => Relation::Covers,
         _ => Relation::Equal,
     }
+}
+
+pub(crate) fn hit(told: HitTold) -> Result<Option<Hit>, Fault> {
+    let place = match told.code {
+        code::COVERED => Entry::Start,
+        code::EDGE => Entry::Edge(told.a, told.b),
+        code::CORNER => Entry::Corner(told.a),
+        code::APART | code::EMPTY => return Ok(None),
+        other => return Err(fault_of(other)),
+    };
+    let number = |high, low| u128::from(high) << 64 | u128::from(low);
+    Ok(Some(Hit { place, part: number(told.high, told.low), whole: number(told.divisor_high, told.divisor_low) }))
 }
 
 pub(crate) fn strip(told: WitnessTold) -> Option<Strip> {

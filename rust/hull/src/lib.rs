@@ -31,7 +31,7 @@ use std::ptr::NonNull;
 
 pub use clearance::Clearance;
 pub use exchange::{direction_of, wkt, Lattice, Rounded};
-pub use outline::{Distance, Nearest, Outline, Relation, Separation, Strip, Witness};
+pub use outline::{Distance, Entry, Hit, Nearest, Outline, Relation, Separation, Strip, Witness};
 pub use raw::{Held, Point};
 pub use shared::{JournalPart, Limits, Seat, SharedHull, CAPACITY_LIMIT, SEAT_LIMIT};
 

@@ -111,6 +111,29 @@ pub enum Distance {
     EdgeAndCorner([Point; 2], Point),
 }
 
+/// Where a way first comes into an outline.
+#[derive(Clone, Copy, Debug, PartialEq, Eq)]
+pub enum Entry {
+    /// At its start, which the outline covers.
+    Start,
+    /// Across the edge from one corner to the next, or at an end of it.
+    Edge(Point, Point),
+    /// At this corner, of an outline that lies on the way's line.
+    Corner(Point),
+}
+
+/// Where a way first comes into an outline, or leaves it, and that it has gone `part / whole` until then, exactly: of a segment, or in lengths of
+/// a ray's direction.
+#[derive(Clone, Copy, Debug, PartialEq, Eq)]
+pub struct Hit {
+    /// The start, an edge or a corner.
+    pub place: Entry,
+    /// So far on the way,
+    pub part: u128,
+    /// divided by this, which is not 0.
+    pub whole: u128,
+}
+
 /// The corners that a call writes to an array, which may be too short for them.
 pub(crate) fn written_corners(write: impl Fn(&mut [Point]) -> Reply) -> Result<Vec<Point>, Fault> {
     let mut corners = Vec::new();
@@ -362,6 +385,28 @@ impl Outline {
     /// How far a point is from the outline; `None` for an outline of no corners.
     pub fn clearance_to_point(&self, point: Point) -> Result<Option<Clearance>, Fault> {
         self.clearance_to_segment(point, point)
+    }
+
+    /// Where the ray from `from` in a direction first comes in; `None` where it misses.
+    pub fn cast_ray(&self, from: Point, direction: Point) -> Result<Option<Hit>, Fault> {
+        let corners = &self.corners;
+        // SAFETY: the same.
+        answer::hit(unsafe { raw::hull_outline_cast_ray(corners.as_ptr(), corners.len(), from.x, from.y, direction.x, direction.y) })
+    }
+
+    /// The last point in the outline of that ray; `None` where it misses.
+    pub fn last_on_ray(&self, from: Point, direction: Point) -> Result<Option<Hit>, Fault> {
+        let corners = &self.corners;
+        // SAFETY: the same.
+        answer::hit(unsafe { raw::hull_outline_last_on_ray(corners.as_ptr(), corners.len(), from.x, from.y, direction.x, direction.y) })
+    }
+
+    /// Where the segment from `a` to `b` first comes in; `None` where it misses. Its last point in the outline is where that from `b`
+    /// to `a` comes in.
+    pub fn cast_segment(&self, a: Point, b: Point) -> Result<Option<Hit>, Fault> {
+        let corners = &self.corners;
+        // SAFETY: the same.
+        answer::hit(unsafe { raw::hull_outline_cast_segment(corners.as_ptr(), corners.len(), a.x, a.y, b.x, b.y) })
     }
 
     /// Where the two outlines meet, or what parts them; `None` where one of them has no corners.

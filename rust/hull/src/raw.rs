@@ -106,6 +106,19 @@ pub(crate) struct ClearanceTold {
     pub denominator: [u64; 2],
 }
 
+/// Where a way first comes into an outline.
+#[repr(C)]
+#[derive(Clone, Copy)]
+pub(crate) struct HitTold {
+    pub code: u32,
+    pub a: Point,
+    pub b: Point,
+    pub high: u64,
+    pub low: u64,
+    pub divisor_high: u64,
+    pub divisor_low: u64,
+}
+
 /// The numbers of the codes.
 pub(crate) mod code {
     pub const OUT_OF_RANGE: u32 = 1;
@@ -254,6 +267,30 @@ extern "C" {
         bx: i64,
         by: i64,
     ) -> Reply;
+    pub(crate) fn hull_outline_cast_ray(
+        corners: *const Point,
+        count: usize,
+        x: i64,
+        y: i64,
+        dx: i64,
+        dy: i64,
+    ) -> HitTold;
+    pub(crate) fn hull_outline_last_on_ray(
+        corners: *const Point,
+        count: usize,
+        x: i64,
+        y: i64,
+        dx: i64,
+        dy: i64,
+    ) -> HitTold;
+    pub(crate) fn hull_outline_cast_segment(
+        corners: *const Point,
+        count: usize,
+        ax: i64,
+        ay: i64,
+        bx: i64,
+        by: i64,
+    ) -> HitTold;
     pub(crate) fn hull_outline_witness(
         corners: *const Point,
         count: usize,

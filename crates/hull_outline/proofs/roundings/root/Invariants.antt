@@ -1,5 +1,5 @@
 -- the root lies between the two numbers
-use Rattle.std.proofs.Common.{◌+◌, ◌-◌, ◌*◌, ◌<◌, ◌≤◌}
+use Rattle.std.proofs.Common.{◌-◌, ◌*◌, ◌<◌, ◌≤◌}
 use Rattle.hull_outline.specs.Roundings.{full}
 use Rattle.hull_outline.specs.Wide.{number_of}
 use Rattle.hull_outline.proofs.roundings.root.Given as goal

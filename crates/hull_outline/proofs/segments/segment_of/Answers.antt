@@ -3,7 +3,7 @@ use Rattle.std.proofs.Common.{◌≡◌, ℕ, ◌<◌, ◌∙◌, get_or, List, 
 use Rattle.lattice.specs.Plane.{Pair, IsBefore}
 use Rattle.hull_geometry.specs.Positions.{origin, point_at}
 use Rattle.hull_geometry.proofs.PointLists.{get_or_free}
-use Rattle.hull_outline.specs.Outlines.{IsOutlineOf, IsShortOutline}
+use Rattle.hull_outline.specs.Outlines.{IsShortOutline}
 use Rattle.hull_outline.specs.Segments.{ends}
 use Rattle.hull_outline.proofs.Tests.{passed, failed}
 use Rattle.hull_outline.proofs.TwoPoints.{ends_few, ends_in_order, ends_outline, first_alone, one_of_two_points, two_of}
