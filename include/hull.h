@@ -537,6 +537,153 @@ static inline hull_witness hull_outline_distance_or_null(const hull_point *corne
 }
 #define hull_outline_distance hull_outline_distance_or_null
 
+/* How far an outline is from another, or from a segment, in numbers that compare without a division: a code, and what belongs to it;
+ * all else is 0. */
+typedef struct hull_clearance {
+    uint32_t code;         /* HULL_NUMBER; HULL_EMPTY where one has no corners; HULL_OUT_OF_RANGE, HULL_NO_OUTLINE */
+    uint32_t shift;        /* the greatest double that is not above the distance is lower / 2^shift, */
+    uint64_t lower;        /* of 53 bits, or 0, */
+    uint64_t upper;        /* and the least that is not below it upper / 2^shift: the same where the distance is a double, else the next */
+    uint64_t high;         /* the square of the distance is (high 2^128 + middle 2^64 + low) .. */
+    uint64_t middle;
+    uint64_t low;
+    uint64_t divisor_high; /* .. divided by (divisor_high 2^64 + divisor_low), not in lowest terms */
+    uint64_t divisor_low;
+} hull_clearance;
+
+static inline hull_clearance hull_clearance_refusal(uint32_t code) {
+    hull_clearance c;
+    memset(&c, 0, sizeof c);
+    c.code = code;
+    return c;
+}
+
+/* How far two outlines are apart: 0 where they have a point in common. It takes as long as hull_outline_distance, which tells where
+ * they are nearest, and a microsecond. */
+hull_clearance hull_outline_clearance(const hull_point *corners, size_t count, const hull_point *others, size_t other_count);
+static inline hull_clearance hull_outline_clearance_or_null(const hull_point *corners, size_t count, const hull_point *others,
+                                                            size_t other_count) {
+    const uint32_t fault = hull_outlines_fault(corners, count, others, other_count);
+    return fault != HULL_OK ? hull_clearance_refusal(fault)
+                            : hull_outline_clearance((const hull_point *)hull_array(corners, count), count,
+                                  (const hull_point *)hull_array(others, other_count), other_count);
+}
+#define hull_outline_clearance hull_outline_clearance_or_null
+
+/* How far the outline is from the segment from (ax, ay) to (bx, by), whose ends may be one point. */
+hull_clearance hull_outline_clearance_to_segment(const hull_point *corners, size_t count, int64_t ax, int64_t ay, int64_t bx, int64_t by);
+static inline hull_clearance hull_outline_clearance_to_segment_or_null(const hull_point *corners, size_t count, int64_t ax, int64_t ay,
+                                                                       int64_t bx, int64_t by) {
+    const uint32_t fault = hull_outline_fault(corners, count);
+    return fault != HULL_OK ? hull_clearance_refusal(fault)
+                            : hull_outline_clearance_to_segment((const hull_point *)hull_array(corners, count), count, ax, ay, bx, by);
+}
+#define hull_outline_clearance_to_segment hull_outline_clearance_to_segment_or_null
+
+/* And from the point (x, y). */
+static inline hull_clearance hull_outline_clearance_to_point(const hull_point *corners, size_t count, int64_t x, int64_t y) {
+    return hull_outline_clearance_to_segment(corners, count, x, y, x, y);
+}
+
+/* How one distance, of those above, stands to another, exactly: below 0 where it is less, 0 where they are equal, above 0 where it is
+ * greater. Two that are equal may have other fractions. */
+int32_t hull_clearance_compare(const hull_clearance *a, const hull_clearance *b);
+
+/* The greatest double that is not above a distance, and the least that is not below it; they are one where the distance is a double,
+ * and else nothing stands between them. */
+static inline double hull_clearance_scaled(uint64_t number, uint32_t shift) {
+    double scale = 1;
+    for (uint32_t i = 0; i < shift; i++) {
+        scale *= 2;
+    }
+    return (double)number / scale; /* exact: a power of two, and no more than 53 bits */
+}
+static inline double hull_clearance_down(const hull_clearance *c) { return hull_clearance_scaled(c->lower, c->shift); }
+static inline double hull_clearance_up(const hull_clearance *c) { return hull_clearance_scaled(c->upper, c->shift); }
+
+/* Whether the outline and the segment from (ax, ay) to (bx, by), whose ends may be one point, are no farther apart than
+ * numerator / denominator, exactly, as hull_outline_within tells it of two outlines: HULL_NUMBER with 1 or 0; or HULL_OUT_OF_RANGE. */
+hull_reply hull_outline_within_segment(const hull_point *corners, size_t count, int64_t ax, int64_t ay, int64_t bx, int64_t by,
+                                       uint64_t numerator, uint32_t denominator);
+static inline hull_reply hull_outline_within_segment_or_null(const hull_point *corners, size_t count, int64_t ax, int64_t ay, int64_t bx,
+                                                             int64_t by, uint64_t numerator, uint32_t denominator) {
+    const uint32_t fault = hull_outline_fault(corners, count);
+    return fault != HULL_OK ? hull_refusal(fault)
+                            : hull_outline_within_segment((const hull_point *)hull_array(corners, count), count, ax, ay, bx, by,
+                                       numerator, denominator);
+}
+#define hull_outline_within_segment hull_outline_within_segment_or_null
+
+/* And the point (x, y). */
+static inline hull_reply hull_outline_within_point(const hull_point *corners, size_t count, int64_t x, int64_t y, uint64_t numerator,
+                                                   uint32_t denominator) {
+    return hull_outline_within_segment(corners, count, x, y, x, y, numerator, denominator);
+}
+
+/* How the outline stands to the segment from (ax, ay) to (bx, by), whose ends may be one point, as hull_outline_relation tells it of two
+ * outlines: HULL_NUMBER with a hull_relation; or HULL_OUT_OF_RANGE. A segment that runs along an edge touches; one that goes through
+ * the inside, or ends there, overlaps. */
+hull_reply hull_outline_relation_to_segment(const hull_point *corners, size_t count, int64_t ax, int64_t ay, int64_t bx, int64_t by);
+static inline hull_reply hull_outline_relation_to_segment_or_null(const hull_point *corners, size_t count, int64_t ax, int64_t ay,
+                                                                  int64_t bx, int64_t by) {
+    const uint32_t fault = hull_outline_fault(corners, count);
+    return fault != HULL_OK ? hull_refusal(fault)
+                            : hull_outline_relation_to_segment((const hull_point *)hull_array(corners, count), count, ax, ay, bx, by);
+}
+#define hull_outline_relation_to_segment hull_outline_relation_to_segment_or_null
+
+/* Where a ray or a segment first comes into the outline: a code, and what belongs to it; all else is 0. */
+typedef struct hull_hit {
+    uint32_t code;         /* HULL_COVERED: at its start. HULL_EDGE: across the edge from a to the next corner, b, or at one of these.
+                            * HULL_CORNER: at the corner a of an outline that lies on its line. HULL_APART: nowhere. HULL_EMPTY: there are
+                            * no corners. HULL_OUT_OF_RANGE, HULL_ZERO_DIRECTION, HULL_NO_OUTLINE */
+    hull_point a;
+    hull_point b;
+    uint64_t high;         /* it has gone (high 2^64 + low) / (divisor_high 2^64 + divisor_low) of its way until then, exactly, not in */
+    uint64_t low;          /* lowest terms: of the segment, or in lengths of the direction; 0 / 1 at its start */
+    uint64_t divisor_high;
+    uint64_t divisor_low;
+} hull_hit;
+
+static inline hull_hit hull_hit_refusal(uint32_t code) {
+    hull_hit h;
+    memset(&h, 0, sizeof h);
+    h.code = code;
+    return h;
+}
+
+/* The ray from (x, y) in the direction (dx, dy). Of several points where it touches the outline it is the first. A few bisections. */
+hull_hit hull_outline_cast_ray(const hull_point *corners, size_t count, int64_t x, int64_t y, int64_t dx, int64_t dy);
+static inline hull_hit hull_outline_cast_ray_or_null(const hull_point *corners, size_t count, int64_t x, int64_t y, int64_t dx,
+                                                     int64_t dy) {
+    const uint32_t fault = hull_outline_fault(corners, count);
+    return fault != HULL_OK ? hull_hit_refusal(fault)
+                            : hull_outline_cast_ray((const hull_point *)hull_array(corners, count), count, x, y, dx, dy);
+}
+#define hull_outline_cast_ray hull_outline_cast_ray_or_null
+
+/* The last point of that ray in the outline: HULL_EDGE with the edge across which it goes out, or at whose end it leaves, or HULL_CORNER; and
+ * how far on it that is. Where the ray only touches in one point, that is the first, too. */
+hull_hit hull_outline_last_on_ray(const hull_point *corners, size_t count, int64_t x, int64_t y, int64_t dx, int64_t dy);
+static inline hull_hit hull_outline_last_on_ray_or_null(const hull_point *corners, size_t count, int64_t x, int64_t y, int64_t dx,
+                                                        int64_t dy) {
+    const uint32_t fault = hull_outline_fault(corners, count);
+    return fault != HULL_OK ? hull_hit_refusal(fault)
+                            : hull_outline_last_on_ray((const hull_point *)hull_array(corners, count), count, x, y, dx, dy);
+}
+#define hull_outline_last_on_ray hull_outline_last_on_ray_or_null
+
+/* The segment from (ax, ay) to (bx, by), whose ends may be one point. The last point of it in the outline is where the segment from
+ * (bx, by) to (ax, ay) first comes in; where it only touches, both are one. */
+hull_hit hull_outline_cast_segment(const hull_point *corners, size_t count, int64_t ax, int64_t ay, int64_t bx, int64_t by);
+static inline hull_hit hull_outline_cast_segment_or_null(const hull_point *corners, size_t count, int64_t ax, int64_t ay, int64_t bx,
+                                                         int64_t by) {
+    const uint32_t fault = hull_outline_fault(corners, count);
+    return fault != HULL_OK ? hull_hit_refusal(fault)
+                            : hull_outline_cast_segment((const hull_point *)hull_array(corners, count), count, ax, ay, bx, by);
+}
+#define hull_outline_cast_segment hull_outline_cast_segment_or_null
+
 /* A support function for callers with directions in doubles: the first of the farthest points in the direction (dx, dy), taken to
  * whole numbers as hull_direction_from_doubles tells (hull_exchange.h); in the direction (0, 0) the first point by x and then y.
  * HULL_POINT; HULL_EMPTY; HULL_OUT_OF_RANGE where one of them is not finite. */

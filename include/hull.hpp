@@ -209,6 +209,43 @@ struct Distance {
     Point a, b, c;
 };
 
+// How far an outline is from another one, or from a segment. Two are compared exactly; so one is no number that was rounded.
+class Clearance {
+public:
+    explicit Clearance(const hull_clearance &told) noexcept : told_(told) {}
+
+    // The greatest double that is not above it, and the least that is not below it: one where it is a double.
+    double down() const noexcept { return hull_clearance_down(&told_); }
+    double up() const noexcept { return hull_clearance_up(&told_); }
+
+    // The words of its square, which is a fraction, and of those two doubles.
+    const hull_clearance &words() const noexcept { return told_; }
+
+    friend bool operator==(const Clearance &a, const Clearance &b) noexcept { return a.compared(b) == 0; }
+    friend bool operator!=(const Clearance &a, const Clearance &b) noexcept { return a.compared(b) != 0; }
+    friend bool operator<(const Clearance &a, const Clearance &b) noexcept { return a.compared(b) < 0; }
+    friend bool operator>(const Clearance &a, const Clearance &b) noexcept { return a.compared(b) > 0; }
+    friend bool operator<=(const Clearance &a, const Clearance &b) noexcept { return a.compared(b) <= 0; }
+    friend bool operator>=(const Clearance &a, const Clearance &b) noexcept { return a.compared(b) >= 0; }
+
+private:
+    std::int32_t compared(const Clearance &other) const noexcept { return hull_clearance_compare(&told_, &other.told_); }
+
+    hull_clearance told_;
+};
+
+// Where a ray or a segment first comes into an outline, or a ray leaves it.
+struct Hit {
+    enum class Where : std::uint32_t {
+        start = HULL_COVERED, // at its start, which the outline covers
+        edge = HULL_EDGE,     // across the edge from `from` to the next corner, `to`, or at one of these
+        corner = HULL_CORNER  // at the corner `from`, of an outline that lies on its line
+    };
+    Where where;
+    Point from, to;
+    Area part, whole; // it has gone part / whole of its way until then, exactly: of the segment, or in lengths of the direction
+};
+
 // What a reply tells, as a value; what refuses the call is thrown.
 namespace told {
 
@@ -369,6 +406,27 @@ inline std::optional<Witness> witness(const hull_witness &w) {
         return std::nullopt;
     }
     return Witness{static_cast<Witness::Shows>(w.code), w.a, w.b, w.c, w.d};
+}
+
+inline std::optional<Clearance> clearance(const hull_clearance &c) {
+    switch (c.code) {
+    case HULL_NUMBER: return Clearance(c);
+    case HULL_EMPTY: return std::nullopt;
+    default: fault(c.code);
+    }
+}
+
+inline std::optional<Hit> hit(const hull_hit &h) {
+    const auto number = [](std::uint64_t high, std::uint64_t low) { return static_cast<Area>(high) << 64 | low; };
+    switch (h.code) {
+    case HULL_COVERED:
+    case HULL_EDGE:
+    case HULL_CORNER:
+        return Hit{static_cast<Hit::Where>(h.code), h.a, h.b, number(h.high, h.low), number(h.divisor_high, h.divisor_low)};
+    case HULL_APART:
+    case HULL_EMPTY: return std::nullopt;
+    default: fault(h.code);
+    }
 }
 
 inline std::optional<Distance> distance(const hull_witness &w) {
@@ -543,6 +601,44 @@ public:
     // Whether the two are no farther apart than numerator / denominator, exactly; false where one of them has no corners.
     bool within(const Outline &other, std::uint64_t numerator, std::uint32_t denominator = 1) const {
         return told::number(hull_outline_within(data(), corners_.size(), other.data(), other.corners_.size(), numerator, denominator)) == 1;
+    }
+
+    // The same of the segment from `a` to `b`, which may be one point, and of a point.
+    bool within_segment(Point a, Point b, std::uint64_t numerator, std::uint32_t denominator = 1) const {
+        return told::number(hull_outline_within_segment(data(), corners_.size(), a.x, a.y, b.x, b.y, numerator, denominator)) == 1;
+    }
+    bool within_point(Point p, std::uint64_t numerator, std::uint32_t denominator = 1) const {
+        return within_segment(p, p, numerator, denominator);
+    }
+
+    // How this outline stands to the segment from `a` to `b`, which may be one point.
+    Relation relation_to_segment(Point a, Point b) const {
+        return static_cast<Relation>(told::number(hull_outline_relation_to_segment(data(), corners_.size(), a.x, a.y, b.x, b.y)));
+    }
+
+    // How far the other outline, the segment from `a` to `b`, or a point is from this outline; none where there are no corners.
+    std::optional<Clearance> clearance(const Outline &other) const {
+        return told::clearance(hull_outline_clearance(data(), corners_.size(), other.data(), other.corners_.size()));
+    }
+    std::optional<Clearance> clearance_to_segment(Point a, Point b) const {
+        return told::clearance(hull_outline_clearance_to_segment(data(), corners_.size(), a.x, a.y, b.x, b.y));
+    }
+    std::optional<Clearance> clearance_to_point(Point p) const { return clearance_to_segment(p, p); }
+
+    // Where the ray from a point in a direction first comes in; none where it misses.
+    std::optional<Hit> cast_ray(Point from, Point direction) const {
+        return told::hit(hull_outline_cast_ray(data(), corners_.size(), from.x, from.y, direction.x, direction.y));
+    }
+
+    // The last point of that ray in the outline; none where it misses.
+    std::optional<Hit> last_on_ray(Point from, Point direction) const {
+        return told::hit(hull_outline_last_on_ray(data(), corners_.size(), from.x, from.y, direction.x, direction.y));
+    }
+
+    // Where the segment from `a` to `b` first comes in; none where it misses. Its last point in the outline is where that from `b` to
+    // `a` comes in.
+    std::optional<Hit> cast_segment(Point a, Point b) const {
+        return told::hit(hull_outline_cast_segment(data(), corners_.size(), a.x, a.y, b.x, b.y));
     }
 
     // Where the two meet, or what parts them; none where one of them has no corners.

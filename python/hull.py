@@ -220,6 +220,30 @@ class _Witness(ctypes.Structure):
         return x, y
 
 
+class _Clearance(ctypes.Structure):
+    _fields_ = [("code", ctypes.c_uint32), ("shift", ctypes.c_uint32), ("lower", ctypes.c_uint64), ("upper", ctypes.c_uint64),
+                ("numerator", ctypes.c_uint64 * 3), ("denominator", ctypes.c_uint64 * 2)]
+    code: int
+    shift: int
+    lower: int
+    upper: int
+
+    def number(self, name: str) -> int:
+        """The whole number in these words, the highest of which is the first."""
+        words: List[int] = list(getattr(self, name))
+        return functools.reduce(lambda above, word: above << 64 | word, words, 0)
+
+
+class _Hit(ctypes.Structure):
+    _fields_ = [("code", ctypes.c_uint32), ("a", ctypes.c_int64 * 2), ("b", ctypes.c_int64 * 2), ("high", ctypes.c_uint64),
+                ("low", ctypes.c_uint64), ("divisor_high", ctypes.c_uint64), ("divisor_low", ctypes.c_uint64)]
+    code: int
+    high: int
+    low: int
+    divisor_high: int
+    divisor_low: int
+
+
 _FAULTS: Dict[int, Callable[[], Exception]] = {
     _Code.OUT_OF_RANGE: lambda: OutOfRange("a coordinate is out of range"),
     _Code.ZERO_DIRECTION: lambda: ZeroDirection("a direction is zero"),
@@ -282,6 +306,13 @@ def _library() -> ctypes.CDLL:
         ("outline_meets", [at, size, at, size], _Reply), ("outline_contains", [at, size, at, size], _Reply),
         ("outline_relation", [at, size, at, size], _Reply), ("outline_contains_inside", [at, size, at, size], _Reply),
         ("outline_within", [at, size, at, size, long, number], _Reply),
+        ("outline_within_segment", [at, size, whole, whole, whole, whole, long, number], _Reply),
+        ("outline_relation_to_segment", [at, size, whole, whole, whole, whole], _Reply),
+        ("outline_clearance", [at, size, at, size], _Clearance),
+        ("outline_clearance_to_segment", [at, size, whole, whole, whole, whole], _Clearance),
+        ("outline_cast_ray", [at, size, whole, whole, whole, whole], _Hit),
+        ("outline_last_on_ray", [at, size, whole, whole, whole, whole], _Hit),
+        ("outline_cast_segment", [at, size, whole, whole, whole, whole], _Hit),
         ("outline_least_width", [at, size], _Witness), ("outline_witness", [at, size, at, size], _Witness),
         ("outline_distance", [at, size, at, size], _Witness),
         ("outline_calls", [at, size, at, size, at, size], size),
@@ -1097,14 +1128,61 @@ class Outline(_Questions):
 
         A float is taken for the fraction that it is. OutOfRange where the distance is below 0, or is not finite.
         """
-        length = Fraction(distance) if math.isfinite(distance) else Fraction(-1)
-        if length < 0:
-            raise OutOfRange(f"a distance is 0 or more, and not {distance}")
-        if length.numerator >= 2 ** 64 or length.denominator >= 2 ** 32:
+        length, short = _length(distance)
+        if not short:
             squared = self.squared_distance(other)
             return squared is not None and squared <= length * length
         reply: _Reply = self._beside(lambda *there: _LIBRARY.hull_outline_within(*there, length.numerator, length.denominator), other)
         return reply.number == 1
+
+    def within_segment(self, ax: SupportsIndex, ay: SupportsIndex, bx: SupportsIndex, by: SupportsIndex,
+                       distance: Union[int, float, Fraction]) -> bool:
+        """Whether the segment from (ax, ay) to (bx, by), which may be one point, is no farther than that, exactly, as `within`."""
+        length, short = _length(distance)
+        if not short:
+            squared = self.squared_distance_to_segment(ax, ay, bx, by)
+            return squared is not None and squared <= length * length
+        ends = _whole(ax), _whole(ay), _whole(bx), _whole(by)
+        return self._found(_LIBRARY.hull_outline_within_segment, *ends, length.numerator, length.denominator).number == 1
+
+    def within_point(self, x: SupportsIndex, y: SupportsIndex, distance: Union[int, float, Fraction]) -> bool:
+        """Whether the point (x, y) is no farther than that, exactly, as `within`."""
+        return self.within_segment(x, y, x, y, distance)
+
+    def relation_to_segment(self, ax: SupportsIndex, ay: SupportsIndex, bx: SupportsIndex, by: SupportsIndex) -> Relation:
+        """How this outline stands to the segment from (ax, ay) to (bx, by), which may be one point.
+
+        A segment that runs along an edge touches; one that goes through the inside, or ends there, overlaps.
+        """
+        ends = _whole(ax), _whole(ay), _whole(bx), _whole(by)
+        return Relation(self._found(_LIBRARY.hull_outline_relation_to_segment, *ends).number)
+
+    def cast_ray(self, x: SupportsIndex, y: SupportsIndex, dx: SupportsIndex, dy: SupportsIndex) -> Optional[Tuple[Fraction, Tuple[Pair, ...]]]:
+        """Where the ray from (x, y) in the direction (dx, dy) first comes in; None where it misses.
+
+        That is how far it has gone, in lengths of the direction, and where: of two pairs across the edge between them, or at one of
+        them; of one at that corner of an outline on its line; of none at its start, which the outline covers.
+        """
+        return self._hit(_LIBRARY.hull_outline_cast_ray, x, y, dx, dy)
+
+    def last_on_ray(self, x: SupportsIndex, y: SupportsIndex, dx: SupportsIndex, dy: SupportsIndex) -> Optional[Tuple[Fraction, Tuple[Pair, ...]]]:
+        """The last point of that ray in the outline, told in the same way; None where it misses."""
+        return self._hit(_LIBRARY.hull_outline_last_on_ray, x, y, dx, dy)
+
+    def cast_segment(self, ax: SupportsIndex, ay: SupportsIndex, bx: SupportsIndex,
+                     by: SupportsIndex) -> Optional[Tuple[Fraction, Tuple[Pair, ...]]]:
+        """The same of the segment from (ax, ay) to (bx, by), in its lengths; its last point is where that from (bx, by) comes in."""
+        return self._hit(_LIBRARY.hull_outline_cast_segment, ax, ay, bx, by)
+
+    def _hit(self, ask: Callable[..., Any], *numbers: SupportsIndex) -> Optional[Tuple[Fraction, Tuple[Pair, ...]]]:
+        """Where and how far on its way a way comes in."""
+        told: _Hit = ask(*self._there(), *map(_whole, numbers))
+        _told(told.code)
+        if told.code in (_Code.APART, _Code.EMPTY):
+            return None
+        part = Fraction(told.high << 64 | told.low, told.divisor_high << 64 | told.divisor_low)
+        points: Tuple[Pair, ...] = ((told.a[0], told.a[1]), (told.b[0], told.b[1]))
+        return part, points[:{int(_Code.EDGE): 2, int(_Code.CORNER): 1}.get(told.code, 0)]
 
     def witness(self, other: Outline) -> Optional[Witness]:
         """Where the two outlines meet, or what parts them: a `Witness`; None where one of them has no corner."""
@@ -1132,6 +1210,49 @@ class Outline(_Questions):
         """The squared distance of the two outlines, 0 where they meet; None where one has no corner."""
         places = self.distance(other)
         return None if places is None else _squared_distance(places)
+
+    def distance_bounds(self, other: Outline) -> Optional[Floats]:
+        """The greatest float that is not above the distance of the two outlines, and the least that is not below it.
+
+        They are one where the distance is a float, and else follow one another. None where one has no corner.
+        """
+        return _bounds(self._beside(_LIBRARY.hull_outline_clearance, other))
+
+    def squared_distance_to_segment(self, ax: SupportsIndex, ay: SupportsIndex, bx: SupportsIndex,
+                                    by: SupportsIndex) -> Optional[Fraction]:
+        """The squared distance of the segment from (ax, ay) to (bx, by), which may be one point; None where there is no corner."""
+        told = self._clearance_to_segment(ax, ay, bx, by)
+        return None if told.code == _Code.EMPTY else Fraction(told.number("numerator"), told.number("denominator"))
+
+    def distance_bounds_to_segment(self, ax: SupportsIndex, ay: SupportsIndex, bx: SupportsIndex, by: SupportsIndex) -> Optional[Floats]:
+        """The same two floats of the distance of a segment, which may be one point."""
+        return _bounds(self._clearance_to_segment(ax, ay, bx, by))
+
+    def distance_bounds_to(self, x: SupportsIndex, y: SupportsIndex) -> Optional[Floats]:
+        """The same two floats of the distance of the point (x, y)."""
+        return self.distance_bounds_to_segment(x, y, x, y)
+
+    def _clearance_to_segment(self, ax: SupportsIndex, ay: SupportsIndex, bx: SupportsIndex, by: SupportsIndex) -> _Clearance:
+        """How far a segment is."""
+        ends = _whole(ax), _whole(ay), _whole(bx), _whole(by)
+        told: _Clearance = _LIBRARY.hull_outline_clearance_to_segment(*self._there(), *ends)
+        _told(told.code)
+        return told
+
+
+def _length(distance: Union[int, float, Fraction]) -> Tuple[Fraction, bool]:
+    """A distance as the fraction that it is, and whether the library takes it."""
+    length = Fraction(distance) if math.isfinite(distance) else Fraction(-1)
+    if length < 0:
+        raise OutOfRange(f"a distance is 0 or more, and not {distance}")
+    return length, length.numerator < 2 ** 64 and length.denominator < 2 ** 32
+
+
+def _bounds(told: _Clearance) -> Optional[Floats]:
+    """The floats next to a distance; None where there is none."""
+    if told.code == _Code.EMPTY:
+        return None
+    return math.ldexp(told.lower, -told.shift), math.ldexp(told.upper, -told.shift)
 
 
 _NO_CORNERS = (ctypes.c_int64 * 2)()

@@ -143,12 +143,30 @@ export interface Outline extends Questions {
     /** Whether two hulls are no farther apart than numerator / denominator (1 where none is given), exactly; false where one has no
      * corner. OutOfRange where the numerator is no whole Number from 0 to 2^53 - 1, or the denominator none from 1 to 2^32 - 1. */
     within(other: Outline, numerator: number, denominator?: number): boolean;
+    /** The same of the segment from (ax, ay) to (bx, by), which may be one point. */
+    withinSegment(ax: number, ay: number, bx: number, by: number, numerator: number, denominator?: number): boolean;
+    /** How this hull stands to the segment from (ax, ay) to (bx, by), which may be one point: one along an edge touches, one through the
+     * inside overlaps. */
+    relationToSegment(ax: number, ay: number, bx: number, by: number): Relation;
+    /** Where the ray from (x, y) in a direction first comes in; null where it misses. ZeroDirection. */
+    castRay(x: number, y: number, dx: number, dy: number): Hit | null;
+    /** The last point of that ray in the hull; null where it misses. ZeroDirection. */
+    lastOnRay(x: number, y: number, dx: number, dy: number): Hit | null;
+    /** The same of the segment from (ax, ay) to (bx, by); its last point is where that from (bx, by) to (ax, ay) comes in. */
+    castSegment(ax: number, ay: number, bx: number, by: number): Hit | null;
     /** Where two hulls meet, or what parts them. Null where one has no corner. */
     witness(other: Outline): Witness | null;
     /** Where two hulls are nearest: a place on this one and one on the other, as `nearest` tells it; two of none where they meet. */
     distance(other: Outline): [ours: Point[], theirs: Point[]] | null;
     /** The squared distance of two hulls, 0 where they meet. */
     squaredDistance(other: Outline): Fraction | null;
+    /** The squared distance of a segment, which may be one point. Null where there is no corner. */
+    squaredDistanceToSegment(ax: number, ay: number, bx: number, by: number): Fraction | null;
+    /** The greatest Number that is not above the distance of two hulls, and the least that is not below it: one where the distance is a
+     * Number, else the next two. Null where one has no corner. */
+    distanceBounds(other: Outline): [down: number, up: number] | null;
+    /** The same of a segment, which may be one point. */
+    distanceBoundsToSegment(ax: number, ay: number, bx: number, by: number): [down: number, up: number] | null;
 }
 
 /** How one hull stands to another: `within` where the other one covers all of it and more, `covers` the other way, `equal` where each
@@ -159,6 +177,13 @@ export type Relation = "apart" | "touching" | "overlapping" | "within" | "covers
  * covers; `within`, a corner of the first that the second covers; `crossing`, two corners of each whose segments cross. */
 export interface Witness {
     shows: "apart" | "covered" | "within" | "crossing";
+    points: Point[];
+}
+
+/** Where a way first comes in: how far it has gone, of a segment or in lengths of a ray's direction; and across the edge between two
+ * corners, or at one of these, at one corner of a hull on its line, or at its start, which the hull covers (no points). */
+export interface Hit {
+    part: Fraction;
     points: Point[];
 }
 

@@ -41,6 +41,8 @@ const POINT = { size: 16, y: 8 };
 const HELD = { size: 24, y: 8, times: 16 };
 const BRIDGE = { size: 72, upper: 8, lower: 40 };
 const WITNESS = { size: 72, first: 8 };
+const CLEARANCE = { shift: 4, lower: 8, upper: 16, numerator: 24, denominator: 48 };
+const HIT = { first: 8, numerator: 40, denominator: 56 };
 // what a witness shows, with how many of its points belong to it
 const SHOWN = {
     [CODE.apart]: ["apart", 2], [CODE.covered]: ["covered", 1], [CODE.within]: ["within", 1], [CODE.crossing]: ["crossing", 4],
@@ -112,7 +114,7 @@ class Instance {
         this.reply = this.take(REQUESTS_AT_ONCE * REPLY.size);
         this.requestsAt = BigInt(this.requests);
         this.replyAt = BigInt(this.reply);
-        this.witness = this.take(WITNESS.size);
+        this.witness = this.take(WITNESS.size); // and a clearance
         this.out = { at: this.take(BRIDGE.size), bytes: BRIDGE.size };
     }
 
@@ -199,6 +201,33 @@ class Instance {
         this.call(name, BigInt(this.witness), ...words);
         const at = this.witness + WITNESS.first;
         return [this.heap.view.getUint32(this.witness, true), [0, 1, 2, 3].map((i) => this.point(at + i * POINT.size))];
+    }
+
+    /** Makes a call that tells how far something is: its square as a fraction, and the doubles next to it; null where that is nothing. */
+    measured(name, ...words) {
+        this.call(name, BigInt(this.witness), ...words);
+        const { view } = this.heap, at = this.witness, fault = FAULTS[view.getUint32(at, true)];
+        if (fault !== undefined) throw fault();
+        if (view.getUint32(at, true) === CODE.empty) return null;
+        const scale = 2 ** view.getUint32(at + CLEARANCE.shift, true);
+        const words64 = (from, count) => Array.from({ length: count }, (_, i) => view.getBigUint64(at + from + 8 * i, true));
+        const inOne = (from, count) => words64(from, count).reduce((above, word) => (above << 64n) + word, 0n);
+        return {
+            bounds: [readWhole(view, at + CLEARANCE.lower) / scale, readWhole(view, at + CLEARANCE.upper) / scale],
+            squared: { numerator: inOne(CLEARANCE.numerator, 3), denominator: inOne(CLEARANCE.denominator, 2) },
+        };
+    }
+
+    /** Makes a call that tells where a way comes in; null where it does not. */
+    met(name, ...words) {
+        this.call(name, BigInt(this.witness), ...words);
+        const { view } = this.heap, at = this.witness, code = view.getUint32(at, true);
+        if (FAULTS[code] !== undefined) throw FAULTS[code]();
+        const count = { [CODE.covered]: 0, [CODE.corner]: 1, [CODE.edge]: 2 }[code];
+        if (count === undefined) return null;
+        const number = (from) => (view.getBigUint64(at + from, true) << 64n) + view.getBigUint64(at + from + 8, true);
+        const points = [0, 1].slice(0, count).map((i) => this.point(at + HIT.first + i * POINT.size));
+        return { part: { numerator: number(HIT.numerator), denominator: number(HIT.denominator) }, points };
     }
 
     whole(offset) {
@@ -563,11 +592,29 @@ class OutlineOfInstance extends Questions {
     }
 
     within(other, numerator, denominator = 1) {
-        const isWhole = (value) => Number.isSafeInteger(value) && value >= 0;
-        if (!isWhole(numerator) || !isWhole(denominator) || denominator < 1 || denominator >= HALF) {
-            throw new OutOfRange("a length is a whole Number from 0 on by one from 1 to 2^32 - 1");
-        }
-        return this.#numberBeside("hull_outline_within", other, BigInt(numerator), denominator) === 1;
+        return this.#numberBeside("hull_outline_within", other, ...lengthOf(numerator, denominator)) === 1;
+    }
+
+    withinSegment(ax, ay, bx, by, numerator, denominator = 1) {
+        this.#found("hull_outline_within_segment", whole(ax), whole(ay), whole(bx), whole(by), ...lengthOf(numerator, denominator));
+        return this._live().number() === 1;
+    }
+
+    relationToSegment(ax, ay, bx, by) {
+        this.#found("hull_outline_relation_to_segment", whole(ax), whole(ay), whole(bx), whole(by));
+        return RELATIONS[this._live().number()];
+    }
+
+    castRay(x, y, dx, dy) {
+        return this._live().met("hull_outline_cast_ray", this.#address, this.#corners, whole(x), whole(y), whole(dx), whole(dy));
+    }
+
+    lastOnRay(x, y, dx, dy) {
+        return this._live().met("hull_outline_last_on_ray", this.#address, this.#corners, whole(x), whole(y), whole(dx), whole(dy));
+    }
+
+    castSegment(ax, ay, bx, by) {
+        return this._live().met("hull_outline_cast_segment", this.#address, this.#corners, whole(ax), whole(ay), whole(bx), whole(by));
     }
 
     witness(other) {
@@ -591,6 +638,33 @@ class OutlineOfInstance extends Questions {
         const place = this.nearest(x, y);
         return place && squaredDistanceOf([place, place.length ? [[x, y]] : []]);
     }
+
+    squaredDistanceToSegment(ax, ay, bx, by) {
+        return this.#measuredTo(ax, ay, bx, by)?.squared ?? null;
+    }
+
+    distanceBounds(other) {
+        return this.#beside("measured", "hull_outline_clearance", other)?.bounds ?? null;
+    }
+
+    distanceBoundsToSegment(ax, ay, bx, by) {
+        return this.#measuredTo(ax, ay, bx, by)?.bounds ?? null;
+    }
+
+    /** How far a segment is. */
+    #measuredTo(ax, ay, bx, by) {
+        const ends = [whole(ax), whole(ay), whole(bx), whole(by)];
+        return this._live().measured("hull_outline_clearance_to_segment", this.#address, this.#corners, ...ends);
+    }
+}
+
+/** The two numbers of a length, as the module takes them. */
+function lengthOf(numerator, denominator) {
+    const isWhole = (value) => Number.isSafeInteger(value) && value >= 0;
+    if (!isWhole(numerator) || !isWhole(denominator) || denominator < 1 || denominator >= HALF) {
+        throw new OutOfRange("a length is a whole Number from 0 on by one from 1 to 2^32 - 1");
+    }
+    return [BigInt(numerator), denominator];
 }
 
 /** The squared distance of two places, each a point or an edge; 0 where both are none. */

@@ -41,6 +41,12 @@ int main(void) {
         CHECK(bare(hull_outline_contains(list, 4, square, 4), HULL_NO_OUTLINE) && bare(hull_outline_contains(square, 4, list, 4), HULL_NO_OUTLINE));
         CHECK(bare(hull_outline_relation(list, 4, square, 4), HULL_NO_OUTLINE) && bare(hull_outline_within(square, 4, list, 4, 1, 1), HULL_NO_OUTLINE));
         CHECK(bare(hull_outline_contains_inside(list, 4, square, 4), HULL_NO_OUTLINE));
+        CHECK(hull_outline_clearance(list, 4, square, 4).code == HULL_NO_OUTLINE && hull_outline_clearance(square, 4, list, 4).code == HULL_NO_OUTLINE);
+        CHECK(hull_outline_clearance_to_point(list, 4, 0, 0).code == HULL_NO_OUTLINE);
+        CHECK(bare(hull_outline_within_point(list, 4, 0, 0, 1, 1), HULL_NO_OUTLINE));
+        CHECK(bare(hull_outline_relation_to_segment(list, 4, 0, 0, 1, 1), HULL_NO_OUTLINE));
+        CHECK(hull_outline_cast_ray(list, 4, 0, 0, 1, 0).code == HULL_NO_OUTLINE && hull_outline_last_on_ray(list, 4, 0, 0, 1, 0).code == HULL_NO_OUTLINE);
+        CHECK(hull_outline_cast_segment(list, 4, 0, 0, 1, 0).code == HULL_NO_OUTLINE);
         CHECK(hull_outline_witness(list, 4, square, 4).code == HULL_NO_OUTLINE && hull_outline_witness(square, 4, list, 4).code == HULL_NO_OUTLINE);
         CHECK(hull_outline_distance(list, 4, square, 4).code == HULL_NO_OUTLINE && hull_outline_distance(square, 4, list, 4).code == HULL_NO_OUTLINE);
         CHECK(bare(hull_outline_extreme_d(list, 4, 1, 0), HULL_NO_OUTLINE));

@@ -650,6 +650,120 @@ static void two_outlines(void) {
     refused_from = -1;
 }
 
+/* nothing but a code */
+static int no_clearance(hull_clearance c, uint32_t code) {
+    return c.code == code && !c.shift && !c.lower && !c.upper && !c.high && !c.middle && !c.low && !c.divisor_high && !c.divisor_low;
+}
+
+/* a clearance of these two doubles, with a square of these words */
+static int is_clearance(hull_clearance c, double down, double up, uint64_t high, uint64_t middle, uint64_t low, uint64_t divisor) {
+    return c.code == HULL_NUMBER && hull_clearance_down(&c) == down && hull_clearance_up(&c) == up && c.high == high && c.middle == middle
+        && c.low == low && c.divisor_high == 0 && c.divisor_low == divisor;
+}
+
+/* the doubles next to a distance follow one another, or are one whose square it is */
+static int is_next(hull_clearance c) {
+    const double ends[] = {hull_clearance_down(&c), hull_clearance_up(&c)};
+    uint64_t bits[2];
+    memcpy(bits, ends, sizeof bits);
+    return c.code == HULL_NUMBER && bits[1] - bits[0] <= 1;
+}
+
+/* how far outlines, segments and points are, in numbers: whole, between doubles, none, and the longest; which of two is the greater */
+static void clearances(void) {
+    static const hull_point square[] = {{0, 0}, {4, 0}, {4, 4}, {0, 4}}, right[] = {{7, 8}, {9, 8}}, high[] = {{2, 5}}, slope[] = {{5, 0}, {6, 1}};
+    CHECK(is_clearance(hull_outline_clearance(square, 4, right, 2), 5, 5, 0, 0, 25, 1));
+    CHECK(is_clearance(hull_outline_clearance(square, 4, square, 4), 0, 0, 0, 0, 0, 1));
+    CHECK(is_clearance(hull_outline_clearance_to_point(square, 4, 5, 5), 0x1.6a09e667f3bccp+0, 0x1.6a09e667f3bcdp+0, 0, 0, 2, 1));
+    CHECK(is_next(hull_outline_clearance_to_point(square, 4, 5, 5)) && is_next(hull_outline_clearance(square, 4, slope, 2)));
+    CHECK(is_clearance(hull_outline_clearance(high, 1, square, 4), 1, 1, 0, 0, 16, 16));
+    CHECK(is_clearance(hull_outline_clearance_to_segment(square, 4, 9, 8, 7, 8), 5, 5, 0, 0, 25, 1));
+    CHECK(is_clearance(hull_outline_clearance_to_segment(square, 4, 1, 1, 9, 9), 0, 0, 0, 0, 0, 1));
+    CHECK(no_clearance(hull_outline_clearance(square, 0, right, 2), HULL_EMPTY) && no_clearance(hull_outline_clearance(right, 2, square, 0), HULL_EMPTY));
+    CHECK(no_clearance(hull_outline_clearance_to_point(NULL, 0, 1, 1), HULL_EMPTY));
+    const int64_t far = HULL_COORDINATE_MAX, beyond = far + 1;
+    CHECK(no_clearance(hull_outline_clearance_to_segment(square, 4, beyond, 0, 0, 0), HULL_OUT_OF_RANGE));
+    CHECK(no_clearance(hull_outline_clearance_to_segment(square, 4, 0, 0, 0, -beyond), HULL_OUT_OF_RANGE));
+    const hull_point rising[] = {{-far, -far}, {far, far - 1}}, corner[] = {{-far, far}};
+    const hull_clearance longest = hull_outline_clearance_to_point(corner, 1, far, -far), wide = hull_outline_clearance(rising, 2, corner, 1);
+    const hull_clearance least = hull_outline_clearance_to_point(rising, 2, 0, 0);
+    CHECK(longest.middle == 1ull << 19 && longest.low == 0 && longest.high == 0 && is_next(longest) && hull_clearance_up(&longest) > 3.1e12);
+    CHECK(wide.high == 1ull << 36 && wide.middle == 0 && wide.low == 0 && wide.divisor_high > 0 && is_next(wide) && is_next(least) && hull_clearance_up(&least) < 1);
+    CHECK(hull_clearance_compare(&longest, &wide) > 0 && hull_clearance_compare(&wide, &longest) < 0 && hull_clearance_compare(&least, &wide) < 0);
+    const hull_clearance one = hull_outline_clearance(high, 1, square, 4), same = hull_outline_clearance_to_point(high, 1, 2, 6);
+    CHECK(one.divisor_low != same.divisor_low && hull_clearance_compare(&one, &same) == 0 && hull_clearance_compare(&same, &least) > 0);
+    CHECK(number(hull_outline_within_segment(square, 4, 9, 8, 7, 8, 5, 1), HULL_NUMBER, 1));
+    CHECK(number(hull_outline_within_segment(square, 4, 9, 8, 7, 8, 49, 10), HULL_NUMBER, 0));
+    CHECK(number(hull_outline_within_point(square, 4, 7, 8, 5, 1), HULL_NUMBER, 1) && number(hull_outline_within_point(square, 0, 0, 0, 1, 0), HULL_NUMBER, 0));
+    CHECK(bare(hull_outline_within_segment(square, 4, 0, 0, beyond, 0, 1, 1), HULL_OUT_OF_RANGE));
+    CHECK(bare(hull_outline_within_point(square, 4, 0, -beyond, 1, 1), HULL_OUT_OF_RANGE));
+}
+
+/* how an outline stands to segments: beside it, along an edge, from its inside, through it, around it */
+static void segments_beside(void) {
+    static const hull_point square[] = {{0, 0}, {4, 0}, {4, 4}, {0, 4}}, line[] = {{0, 0}, {4, 4}};
+    static const struct {
+        int64_t ax, ay, bx, by;
+        hull_relation how;
+    } tries[] = {{5, 0, 5, 4, HULL_RELATION_APART}, {4, 5, 4, -1, HULL_RELATION_TOUCHING}, {8, 0, 0, 8, HULL_RELATION_TOUCHING},
+                 {6, 4, 4, 4, HULL_RELATION_TOUCHING}, {2, 2, 9, 9, HULL_RELATION_OVERLAPPING}, {-1, 2, 5, 2, HULL_RELATION_OVERLAPPING},
+                 {1, 0, 3, 0, HULL_RELATION_COVERS}, {3, 3, 1, 1, HULL_RELATION_COVERS}, {4, 4, 4, 4, HULL_RELATION_COVERS},
+                 {5, 5, 5, 5, HULL_RELATION_APART}};
+    for (size_t i = 0; i < sizeof tries / sizeof tries[0]; i++) {
+        CHECK(number(hull_outline_relation_to_segment(square, 4, tries[i].ax, tries[i].ay, tries[i].bx, tries[i].by), HULL_NUMBER, tries[i].how));
+        CHECK(number(hull_outline_relation_to_segment(square, 4, tries[i].bx, tries[i].by, tries[i].ax, tries[i].ay), HULL_NUMBER, tries[i].how));
+    }
+    CHECK(number(hull_outline_relation_to_segment(line, 2, 4, 4, 0, 0), HULL_NUMBER, HULL_RELATION_EQUAL));
+    CHECK(number(hull_outline_relation_to_segment(line, 2, 5, 5, -1, -1), HULL_NUMBER, HULL_RELATION_WITHIN));
+    CHECK(number(hull_outline_relation_to_segment(line, 0, 5, 5, -1, -1), HULL_NUMBER, HULL_RELATION_WITHIN));
+    CHECK(bare(hull_outline_relation_to_segment(line, 2, HULL_COORDINATE_MAX + 1, 0, 0, 0), HULL_OUT_OF_RANGE));
+    CHECK(bare(hull_outline_relation_to_segment(line, 2, 0, 0, 0, INT64_MIN), HULL_OUT_OF_RANGE));
+}
+
+/* a hit with these corners, so far on the way */
+static int is_hit(hull_hit h, uint32_t code, hull_point a, hull_point b, uint64_t part, uint64_t whole) {
+    return h.code == code && h.a.x == a.x && h.a.y == a.y && h.b.x == b.x && h.b.y == b.y && h.high == 0 && h.low == part
+        && h.divisor_high == 0 && h.divisor_low == whole;
+}
+
+/* where rays and segments come in: at a start, across an edge, at a corner, along an edge, on a line; or nowhere */
+static void casts(void) {
+    static const hull_point square[] = {{0, 0}, {4, 0}, {4, 4}, {0, 4}}, line[] = {{0, 0}, {4, 4}}, none = {0, 0};
+    CHECK(is_hit(hull_outline_cast_ray(square, 4, -2, 1, 3, 1), HULL_EDGE, square[3], square[0], 8, 12));
+    CHECK(is_hit(hull_outline_cast_segment(square, 4, -2, 1, 7, 4), HULL_EDGE, square[3], square[0], 8, 36));
+    CHECK(is_hit(hull_outline_cast_segment(square, 4, 7, 4, -2, 1), HULL_EDGE, square[1], square[2], 12, 36));
+    CHECK(is_hit(hull_outline_cast_ray(square, 4, 1, 1, 1, 0), HULL_COVERED, none, none, 0, 1));
+    CHECK(is_hit(hull_outline_cast_segment(square, 4, 4, 4, 9, 9), HULL_COVERED, none, none, 0, 1));
+    CHECK(is_hit(hull_outline_cast_segment(square, 4, 3, 7, 5, -1), HULL_EDGE, square[2], square[3], 12, 32));
+    CHECK(hull_outline_cast_ray(square, 4, -3, 4, 1, 0).code == HULL_EDGE && hull_outline_cast_ray(square, 4, 9, 4, -1, 0).code == HULL_EDGE);
+    CHECK(is_hit(hull_outline_cast_ray(line, 2, 7, 7, -1, -1), HULL_CORNER, line[1], none, 6, 2));
+    CHECK(is_hit(hull_outline_cast_segment(line, 2, 4, 0, 0, 4), HULL_EDGE, line[0], line[1], 16, 32));
+    CHECK(is_hit(hull_outline_cast_segment(line, 1, -1, 0, 3, 0), HULL_CORNER, line[0], none, 4, 16));
+    CHECK(is_hit(hull_outline_last_on_ray(square, 4, -2, 1, 3, 1), HULL_EDGE, square[1], square[2], 24, 12));
+    CHECK(is_hit(hull_outline_last_on_ray(square, 4, 1, 1, 1, 0), HULL_EDGE, square[1], square[2], 12, 4));
+    CHECK(is_hit(hull_outline_last_on_ray(line, 2, 7, 7, -1, -1), HULL_CORNER, line[0], none, 14, 2));
+    CHECK(is_hit(hull_outline_last_on_ray(square, 4, -2, 1, -3, 1), HULL_APART, none, none, 0, 0));
+    CHECK(is_hit(hull_outline_last_on_ray(NULL, 0, 0, 0, 1, 0), HULL_EMPTY, none, none, 0, 0));
+    CHECK(is_hit(hull_outline_last_on_ray(square, 4, 9, 0, 0, 0), HULL_ZERO_DIRECTION, none, none, 0, 0));
+    CHECK(is_hit(hull_outline_last_on_ray(square, 4, 0, -HULL_COORDINATE_MAX - 1, 0, 1), HULL_OUT_OF_RANGE, none, none, 0, 0));
+    CHECK(is_hit(hull_outline_cast_ray(square, 4, -2, 1, -3, 1), HULL_APART, none, none, 0, 0));
+    CHECK(is_hit(hull_outline_cast_segment(square, 4, -2, 1, -1, 1), HULL_APART, none, none, 0, 0));
+    CHECK(is_hit(hull_outline_cast_ray(square, 4, -2, 5, 1, 0), HULL_APART, none, none, 0, 0));
+    CHECK(is_hit(hull_outline_cast_ray(square, 0, 0, 0, 1, 0), HULL_EMPTY, none, none, 0, 0));
+    CHECK(is_hit(hull_outline_cast_segment(NULL, 0, 0, 0, 1, 0), HULL_EMPTY, none, none, 0, 0));
+    const int64_t far = HULL_COORDINATE_MAX, beyond = far + 1;
+    CHECK(is_hit(hull_outline_cast_ray(square, 4, beyond, 0, 1, 0), HULL_OUT_OF_RANGE, none, none, 0, 0));
+    CHECK(is_hit(hull_outline_cast_ray(square, 4, 9, 0, 0, -beyond), HULL_OUT_OF_RANGE, none, none, 0, 0));
+    CHECK(is_hit(hull_outline_cast_ray(square, 4, 9, 0, 0, 0), HULL_ZERO_DIRECTION, none, none, 0, 0));
+    CHECK(is_hit(hull_outline_cast_segment(square, 4, 9, 0, 0, beyond), HULL_OUT_OF_RANGE, none, none, 0, 0));
+    const hull_point wide[] = {{-far, -far}, {far, -far}, {far, far - 1}};
+    const hull_hit long_way = hull_outline_cast_segment(wide, 3, -far, far, far, -far + 1);
+    CHECK(long_way.code == HULL_EDGE && long_way.high > 0 && long_way.divisor_high > long_way.high && long_way.a.x == far && long_way.b.x == -far);
+    refused_from = 0, asked = 0;
+    CHECK(hull_outline_cast_ray(square, 4, -2, 1, 3, 1).code == HULL_EDGE && asked == 0);
+    refused_from = -1;
+}
+
 /* where corners are least wide is no wider than along any direction of a grid, and no narrower than the strip of each edge */
 static int is_least(const hull_point *corners, size_t count) {
     hull_witness w = hull_outline_least_width(corners, count);
@@ -1104,6 +1218,9 @@ int main(int words, char **word) {
     outlines_of_points();
     encounters();
     two_outlines();
+    clearances();
+    segments_beside();
+    casts();
     extents();
     in_doubles();
     calls();

@@ -319,6 +319,42 @@ class Calls(unittest.TestCase):
         self.assertTrue(again == both and len(pickle.dumps(both)) < 16 * POINT_LIMIT + 1000)
         self.assertRaises(TooMany, hull_module.merge, [both, hull_module.Outline([(-1, 1)])])
 
+    def test_clearances(self):
+        Outline, Relation = hull_module.Outline, hull_module.Relation
+        outline, none, beside = Outline([(0, 0), (10, 0), (10, 10), (0, 10)]), Outline([]), Outline([(12, 0), (15, 3), (12, 6)])
+        self.assertEqual((outline.distance_bounds(beside), outline.distance_bounds(outline)), ((2.0, 2.0), (0.0, 0.0)))
+        self.assertEqual((outline.distance_bounds_to(13, 14), outline.squared_distance_to_segment(16, 10, 13, 14)), ((5.0, 5.0), Fraction(576, 25)))
+        low, high = outline.distance_bounds_to(11, 11)
+        self.assertTrue(low < high == math.sqrt(2) and Fraction(low) ** 2 < 2 < Fraction(high) ** 2)
+        self.assertEqual(outline.distance_bounds_to_segment(13, 14, 13, 20), (5.0, 5.0))
+        self.assertEqual((none.distance_bounds(outline), outline.distance_bounds(none), none.distance_bounds_to(0, 0)), (None, None, None))
+        self.assertIsNone(none.squared_distance_to_segment(0, 0, 1, 1))
+        self.assertTrue(outline.within_segment(13, 14, 13, 20, 5) and outline.within_point(13, 14, 5.0) and outline.within_point(13, 14, 2 ** 64))
+        self.assertFalse(outline.within_segment(13, 14, 13, 20, 4.999) or outline.within_point(13, 14, Fraction(2 ** 40 - 1, 2 ** 39)))
+        self.assertFalse(none.within_point(0, 0, 5) or none.within_point(0, 0, 2 ** 64))
+        self.assertIs(outline.relation_to_segment(10, 12, 10, 3), Relation.TOUCHING)
+        self.assertIs(outline.relation_to_segment(9, 9, 2, 2), Relation.COVERS)
+        self.assertIs(none.relation_to_segment(9, 9, 2, 2), Relation.WITHIN)
+        far = COORDINATE_LIMIT + 1
+        for ask in (outline.distance_bounds_to_segment, outline.squared_distance_to_segment, outline.relation_to_segment):
+            self.assertRaises(OutOfRange, ask, 0, 0, far, 0)
+            self.assertRaises(OutOfRange, ask, 0, -far, 0, 0)
+        self.assertRaises(OutOfRange, outline.within_point, far, 0, 1)
+        self.assertRaises(OutOfRange, outline.within_point, 0, 0, -1)
+
+    def test_casts(self):
+        outline, line, none = (hull_module.Outline(corners) for corners in ([(0, 0), (10, 0), (10, 10), (0, 10)], [(0, 0), (4, 4)], []))
+        self.assertEqual(outline.cast_ray(-2, 1, 3, 1), (Fraction(2, 3), ((0, 10), (0, 0))))
+        self.assertEqual(outline.cast_segment(14, 3, -6, 3), (Fraction(1, 5), ((10, 0), (10, 10))))
+        self.assertEqual((outline.cast_ray(3, 3, 1, 0), line.cast_ray(7, 7, -1, -1)), ((0, ()), (3, ((4, 4),))))
+        self.assertEqual(outline.last_on_ray(-2, 1, 3, 1), (4, ((10, 0), (10, 10))))
+        self.assertEqual((line.last_on_ray(7, 7, -1, -1), none.last_on_ray(0, 0, 1, 0)), ((7, ((0, 0),)), None))
+        misses = outline.cast_ray(-2, 1, -3, 1), outline.cast_segment(14, 3, 11, 3), none.cast_ray(0, 0, 1, 0), none.cast_segment(0, 0, 1, 0)
+        self.assertEqual(misses, (None,) * 4)
+        self.assertRaises(ZeroDirection, outline.cast_ray, 0, 0, 0, 0)
+        self.assertRaises(OutOfRange, outline.cast_ray, 0, 0, 0, COORDINATE_LIMIT + 1)
+        self.assertRaises(OutOfRange, outline.cast_segment, 0, -COORDINATE_LIMIT - 1, 0, 0)
+
     def test_two_outlines(self):
         Outline, Shows = hull_module.Outline, hull_module.Shows
         outline, none = Outline([(0, 0), (10, 0), (10, 10), (0, 10)]), Outline([])

@@ -1,5 +1,5 @@
 //! Each function of `rust/hull`, each of its answers and each of its faults.
-use hull::{direction_of, wkt, Distance, Fault, Held, Hull, Lattice, Nearest, Outline, Place, Point, Relation, Separation, Strip, Witness};
+use hull::{direction_of, wkt, Distance, Entry, Fault, Held, Hit, Hull, Lattice, Nearest, Outline, Place, Point, Relation, Separation, Strip, Witness};
 use hull::{Limits, SharedHull, COORDINATE_LIMIT, MULTIPLICITY_LIMIT, POINT_LIMIT};
 use std::alloc::{GlobalAlloc, Layout, System};
 use std::cell::Cell;
@@ -136,6 +136,50 @@ fn encounters() {
     assert_eq!(outline.meets_segment(far, point(0, 0)), Err(Fault::OutOfRange));
     assert_eq!(outline.apart_from_segment(point(0, 0), far), Err(Fault::OutOfRange));
     assert_eq!(outline.nearest(far), Err(Fault::OutOfRange));
+}
+
+#[test]
+fn clearances() {
+    let outline = Outline::new(&[point(0, 0), point(10, 0), point(10, 10), point(0, 10)]).unwrap();
+    let beside = Outline::new(&[point(12, 0), point(15, 3), point(12, 6)]).unwrap();
+    let none = Outline::new(&[]).unwrap();
+    let gap = outline.clearance(&beside).unwrap();
+    let to = |at| outline.clearance_to_point(at).unwrap().unwrap();
+    assert_eq!((gap.down(), gap.up(), gap.squared()), (2.0, 2.0, ([0, 0, 4], [0, 1])));
+    assert_eq!((to(point(13, 14)).down(), to(point(5, 5)).up()), (5.0, 0.0));
+    assert!(to(point(11, 11)).down() < 2f64.sqrt() && to(point(11, 11)).up() == 2f64.sqrt());
+    assert!(gap < to(point(13, 14)) && gap == to(point(12, 5)) && to(point(11, 11)) < gap && gap <= gap);
+    let way = outline.clearance_to_segment(point(13, 14), point(16, 10)).unwrap().unwrap();
+    assert!(way < to(point(13, 14)) && way.squared().0[2] * 25 == way.squared().1[1] * 576);
+    assert!(none.clearance(&outline).is_none() && none.clearance_to_point(point(0, 0)).unwrap().is_none());
+    assert_eq!(outline.within_segment(point(13, 14), point(13, 20), 5, 1), Ok(true));
+    assert_eq!(outline.within_point(point(13, 14), 4999, 1000), Ok(false));
+    assert_eq!(outline.relation_to_segment(point(10, 12), point(10, 3)), Ok(Relation::Touching));
+    assert_eq!(outline.relation_to_segment(point(9, 9), point(2, 2)), Ok(Relation::Covers));
+    let far = point(0, COORDINATE_LIMIT + 1);
+    assert_eq!(outline.clearance_to_point(far).err(), Some(Fault::OutOfRange));
+    assert_eq!(outline.within_point(far, 1, 1), Err(Fault::OutOfRange));
+    assert_eq!(outline.relation_to_segment(point(0, 0), far), Err(Fault::OutOfRange));
+}
+
+#[test]
+fn casts() {
+    let outline = Outline::new(&[point(0, 0), point(10, 0), point(10, 10), point(0, 10)]).unwrap();
+    let line = Outline::new(&[point(0, 0), point(4, 4)]).unwrap();
+    let none = Outline::new(&[]).unwrap();
+    let ray = outline.cast_ray(point(-2, 1), point(3, 1)).unwrap().unwrap();
+    assert_eq!((ray.place, ray.part * 3), (Entry::Edge(point(0, 10), point(0, 0)), ray.whole * 2));
+    let way = outline.cast_segment(point(14, 3), point(-6, 3)).unwrap().unwrap();
+    assert_eq!((way.place, way.part * 5), (Entry::Edge(point(10, 0), point(10, 10)), way.whole));
+    let out = outline.last_on_ray(point(-2, 1), point(3, 1)).unwrap().unwrap();
+    assert_eq!((out.place, out.part), (Entry::Edge(point(10, 0), point(10, 10)), out.whole * 4));
+    assert_eq!(outline.last_on_ray(point(-2, 1), point(-3, 1)), Ok(None));
+    assert_eq!(outline.cast_ray(point(3, 3), point(1, 0)), Ok(Some(Hit { place: Entry::Start, part: 0, whole: 1 })));
+    assert_eq!(line.cast_ray(point(7, 7), point(-1, -1)).unwrap().unwrap().place, Entry::Corner(point(4, 4)));
+    assert_eq!((outline.cast_ray(point(-2, 1), point(-3, 1)), none.cast_ray(point(0, 0), point(1, 0))), (Ok(None), Ok(None)));
+    assert_eq!(outline.cast_segment(point(14, 3), point(11, 3)), Ok(None));
+    assert_eq!(outline.cast_ray(point(0, 0), point(0, 0)), Err(Fault::ZeroDirection));
+    assert_eq!(outline.cast_segment(point(0, 0), point(0, COORDINATE_LIMIT + 1)), Err(Fault::OutOfRange));
 }
 
 #[test]

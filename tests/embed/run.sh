@@ -78,7 +78,7 @@ page_has_calls() {
     page=$top/man/$1.3
     shift
     missing=$(sed -n 's/^[a-z][a-z0-9_ ]*[ *]\(hull_[a-z_]*\)(.*/\1/p' "$@" | sort -u |
-        grep -vE '_or_null$|_faults?$|_refusal$|^hull_(array|room_new|room_free)$' |
+        grep -vE '_or_null$|_faults?$|_refusal$|^hull_(array|room_new|room_free|clearance_scaled)$' |
         grep -vE '_with_line$|^hull_shared_call_into$' |
         while read -r name; do grep -q "$name[^a-z_]\|$name\$" "$page" || echo "$name"; done)
     [ -z "$missing" ] || { echo "not on $page: $missing"; return 1; }
@@ -104,6 +104,10 @@ in_c() {
     done
     try "codes.c compiles" compile codes -Wl,--wrap=malloc,--wrap=calloc,--wrap=realloc
     try "every code of every function" "$room/codes" "$here/lattice.txt"
+    try "grid.c compiles" compile grid
+    try "each 13th pair of outlines of a small grid, by all corners and edges" "$room/grid" 13
+    try "rays.c compiles" compile rays
+    try "rays and segments at all outlines of a small grid, by all edges" "$room/rays" 2
     try "checked.c compiles" compile checked -Wl,--wrap=malloc
     try "a checked build tells of arrays that are no outline" "$room/checked"
     try "replay.c compiles" compile replay
@@ -305,6 +309,8 @@ in_python() {
     done
     interpreter=python3
     replays Python python "$here/replay.py"
+    try "2000 pairs of outlines by chance, by all corners and edges" python "$here/random_outlines.py" 2000 1
+    try "2000 rays and segments by chance, by all edges" python "$here/random_casts.py" 2000 1
     try "libhull.so slowed down compiles" slowed hull
     try "libhull_shared.so slowed down compiles" slowed hull_shared -DSHARED
     try "calls on one hull from several threads wait for each other" python_slowed "$here/hull_tests.py" Locks

@@ -8,3 +8,5 @@ pub mod Outlines
 pub mod Findings
 pub mod Pairs
 pub mod CornersOf
+pub mod Clearances
+pub mod Casts

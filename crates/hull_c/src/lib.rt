@@ -16,6 +16,9 @@ ghost use Rattle.hull_reply.specs.Left.{leaves};
 ghost use Rattle.hull_reply.specs.Rooms.{room_alignment, room_size};
 ghost use Rattle.hull_reply.specs.Served.{IsAnswered};
 ghost use Rattle.hull_c.specs.Bridges.{AreBridges};
+ghost use Rattle.hull_c.specs.Casts.{IsHitAlong, IsHitOf, TellsLastOnRay, TellsRay, TellsSegmentHit};
+ghost use Rattle.hull_c.specs.Clearances.{ComparesAs, IsClearanceOf, TellsClearance, TellsClearanceTo, TellsRelationTo};
+ghost use Rattle.hull_c.specs.Clearances.{TellsWithinOf, square_of};
 ghost use Rattle.hull_c.specs.CornersOf.{TellsCornersOf};
 ghost use Rattle.hull_c.specs.Findings.{IsToldAlong, IsToldOf, TellsBox, TellsDiameter, TellsNearest, TellsParting};
 ghost use Rattle.hull_c.specs.Findings.{TellsWhether, TellsWidth};
@@ -31,6 +34,8 @@ ghost use Rattle.hull_c.specs.Calls.{AreCorners, IsCleared, IsFresh, IsLimitOf};
 
 mod bridges;
 mod calls;
+mod casts;
+mod clearances;
 mod corners;
 mod corners_of;
 mod findings;
@@ -43,6 +48,8 @@ mod threads;
 
 pub use bridges::HullBridge;
 use bucket_tree::BucketTree;
+pub use casts::HullHit;
+pub use clearances::HullClearance;
 use heap::Heap;
 pub use held::HullHeld;
 use hull_outline::Length;
@@ -382,6 +389,122 @@ pub extern "C" fn hull_outline_distance(corners: &[Point], others: &[Point]) -> 
     ensures { TellsDistance corners.now others.now result }
 {
     pairs::distance(corners, others)
+}
+
+/// How far the hulls of two arrays of corners are apart: the doubles next to the distance, and its square as a fraction.
+#[unsafe(no_mangle)]
+pub extern "C" fn hull_outline_clearance(corners: &[Point], others: &[Point]) -> HullClearance
+    requires this { IsShortOutline corners.now }
+    requires that { IsShortOutline others.now }
+    ensures { TellsClearance corners.now others.now result }
+{
+    clearances::between(corners, others)
+}
+
+/// How far the hull of these corners is from the segment from (ax, ay) to (bx, by), which may be one point.
+#[unsafe(no_mangle)]
+pub extern "C" fn hull_outline_clearance_to_segment(
+    corners: &[Point],
+    ax: i64,
+    ay: i64,
+    bx: i64,
+    by: i64,
+) -> HullClearance
+    requires { IsShortOutline corners.now }
+    ensures { IsClearanceOf ax ay (λ a. IsClearanceOf bx by (TellsClearanceTo corners.now a)) result }
+{
+    clearances::to_segment(corners, ax, ay, bx, by)
+}
+
+/// How one distance stands to another, by their fractions: -1 where it is less, 0 where they are equal, 1 where it is greater.
+#[unsafe(no_mangle)]
+pub extern "C" fn hull_clearance_compare(this: &HullClearance, that: &HullClearance) -> i32
+    ensures { ComparesAs (square_of this.now) (square_of that.now) result }
+{
+    clearances::compare(this, that)
+}
+
+/// Tells whether the hull of these corners and the segment from (ax, ay) to (bx, by), which may be one point, are no farther apart
+/// than `numerator / denominator`: 1, or 0, also where there are no corners.
+#[unsafe(no_mangle)]
+pub extern "C" fn hull_outline_within_segment(
+    corners: &[Point],
+    ax: i64,
+    ay: i64,
+    bx: i64,
+    by: i64,
+    numerator: u64,
+    denominator: u32,
+) -> HullReply
+    requires { IsShortOutline corners.now }
+    ensures { IsToldOf ax ay (λ a. IsToldOf bx by
+        (TellsWithinOf (record { numerator = numerator; denominator = denominator }) corners.now a)) result }
+{
+    let length = Length {
+        numerator,
+        denominator,
+    };
+    clearances::is_within_of_segment(corners, ax, ay, bx, by, length)
+}
+
+/// How the hull of these corners stands to the segment from (ax, ay) to (bx, by), by the numbers of [`hull_outline_relation`].
+#[unsafe(no_mangle)]
+pub extern "C" fn hull_outline_relation_to_segment(
+    corners: &[Point],
+    ax: i64,
+    ay: i64,
+    bx: i64,
+    by: i64,
+) -> HullReply
+    requires { IsShortOutline corners.now }
+    ensures { IsToldOf ax ay (λ a. IsToldOf bx by (TellsRelationTo corners.now a)) result }
+{
+    clearances::relation_to_segment(corners, ax, ay, bx, by)
+}
+
+/// Where the ray from (x, y) in the direction (dx, dy) first comes into the hull of these corners, and how far on it that is.
+#[unsafe(no_mangle)]
+pub extern "C" fn hull_outline_cast_ray(
+    corners: &[Point],
+    x: i64,
+    y: i64,
+    dx: i64,
+    dy: i64,
+) -> HullHit
+    requires { IsShortOutline corners.now }
+    ensures { IsHitOf x y (λ a. IsHitAlong dx dy (TellsRay corners.now a)) result }
+{
+    casts::cast_ray(corners, x, y, dx, dy)
+}
+
+/// The last point in the hull of these corners of the ray from (x, y) in the direction (dx, dy), and how far on it that is.
+#[unsafe(no_mangle)]
+pub extern "C" fn hull_outline_last_on_ray(
+    corners: &[Point],
+    x: i64,
+    y: i64,
+    dx: i64,
+    dy: i64,
+) -> HullHit
+    requires { IsShortOutline corners.now }
+    ensures { IsHitOf x y (λ a. IsHitAlong dx dy (TellsLastOnRay corners.now a)) result }
+{
+    casts::last_on_ray(corners, x, y, dx, dy)
+}
+
+/// Where the segment from (ax, ay) to (bx, by) first comes into the hull of these corners, and how far on it that is.
+#[unsafe(no_mangle)]
+pub extern "C" fn hull_outline_cast_segment(
+    corners: &[Point],
+    ax: i64,
+    ay: i64,
+    bx: i64,
+    by: i64,
+) -> HullHit
+    requires { IsShortOutline corners.now }
+    ensures { IsHitOf ax ay (λ a. IsHitOf bx by (TellsSegmentHit corners.now a)) result }
+{
+    casts::cast_segment(corners, ax, ay, bx, by)
 }
 
 /// Tells whether points are the corners of a set in the order in which [`hull_vertices`] writes them: 1, or 0.

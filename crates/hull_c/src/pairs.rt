@@ -150,7 +150,7 @@ pub(crate) fn contains(corners: &[Point], others: &[Point]) -> HullReply
 }
 
 /// The number of the header for how one outline stands to another.
-fn number_of(relation: Relation) -> u64
+pub(crate) fn number_of(relation: Relation) -> u64
     ensures { result ≡ relation_number relation }
 {
     match relation {

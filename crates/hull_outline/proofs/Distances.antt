@@ -57,7 +57,7 @@ abbrev along_by : Pair → Pair → Pair → Pair → ℤ
 along_by a b q p = (b.x -ℤ a.x) *ℤ (p.x -ℤ q.x) +ℤ (b.y -ℤ a.y) *ℤ (p.y -ℤ q.y)
 
 -- the squares of the parts of a vector across another and along it make the product of both squared lengths (Lagrange)
-lagrange : (u v x y : ℤ)
+pub lagrange : (u v x y : ℤ)
     → (u *ℤ u +ℤ v *ℤ v) *ℤ (x *ℤ x +ℤ y *ℤ y)
     ≡ (u *ℤ y -ℤ v *ℤ x) *ℤ (u *ℤ y -ℤ v *ℤ x) +ℤ (u *ℤ x +ℤ v *ℤ y) *ℤ (u *ℤ x +ℤ v *ℤ y)
 lagrange u v x y =

@@ -1,6 +1,7 @@
 pub mod Convex
 pub mod Corners
 pub mod EdgesOf
+pub mod Hits
 pub mod Rings
 pub mod TwoChains
 pub mod RoundChains
@@ -37,3 +38,11 @@ pub mod FarApart
 pub mod DividingAxes
 pub mod Dividing
 pub mod Insides
+pub mod TwoPoints
+pub mod FactorsOf
+pub mod Scaled
+pub mod WordsOf
+pub mod Courses
+pub mod DifferencesTold
+pub mod Casting
+pub mod Leaving

@@ -220,7 +220,7 @@ exchanged p q a b = rw (as_difference p, as_difference q, as_difference a, as_di
     (simp difference_rules (difference-eq _ _ _ _ (omega arith)))
 
 -- whichever of them is less
-between_by : (p q s a b e : ℤ) → pos 0 ≤ℤ p → q ≤ℤ pos 0 → pos 0 <ℤ s → s ≡ p -ℤ q → s *ℤ e ≡ p *ℤ b -ℤ q *ℤ a
+pub between_by : (p q s a b e : ℤ) → pos 0 ≤ℤ p → q ≤ℤ pos 0 → pos 0 <ℤ s → s ≡ p -ℤ q → s *ℤ e ≡ p *ℤ b -ℤ q *ℤ a
     → IsBetween a b e
 between_by p q s a b e hp hq hs w h = elim (le_or_lt a b) [
   | inl l ↦ inl (between_ordered p q s a b e hp hq hs w h l)

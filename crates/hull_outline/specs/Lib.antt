@@ -16,3 +16,7 @@ pub mod Wide
 pub mod Closest
 pub mod Relations
 pub mod Ranges
+pub mod Squares
+pub mod Roundings
+pub mod Segments
+pub mod Casts

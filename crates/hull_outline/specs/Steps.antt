@@ -10,6 +10,10 @@ step a b = record { x = b.x -ℤ a.x; y = b.y -ℤ a.y }
 abbrev pub left_of : Pair → Pair → Pair
 left_of a b = record { x = a.y -ℤ b.y; y = b.x -ℤ a.x }
 
+-- a direction turned to the left by 90 degrees
+abbrev pub turned_left : Pair → Pair
+turned_left d = record { x = neg_ℤ d.y; y = d.x }
+
 -- a direction backwards
 abbrev pub backward : Pair → Pair
 backward d = record { x = neg_ℤ d.x; y = neg_ℤ d.y }

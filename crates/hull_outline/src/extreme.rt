@@ -1,10 +1,10 @@
 //! The first of the points that lie farthest in a direction.
-ghost use Rattle.std.specs.Prelude.{◌↔◌, IsTrue, ◌<◌, length, pos, ◌<ℤ◌, ◌≤ℤ◌};
+ghost use Rattle.std.specs.Prelude.{◌↔◌, IsTrue, ◌<◌, ◌≤◌, length, pos, ◌<ℤ◌, ◌≤ℤ◌};
 ghost use Rattle.lattice.specs.Plane as plane;
 ghost use Rattle.hull_set.specs.Replies.{AnswersExtreme, reply_to_extreme};
 ghost use Rattle.hull_geometry.specs.Tangents.{IsFirstFarthest};
 ghost use Rattle.hull_outline.specs.Outlines.{HoldsOfSetsOf};
-ghost use Rattle.hull_outline.specs.Rounds.{IsParted};
+ghost use Rattle.hull_outline.specs.Rounds.{corner, IsParted};
 ghost use Rattle.hull_outline.specs.Lent.{corners_of};
 
 use super::bisection::{first_failing, first_failing_back};
@@ -20,38 +20,61 @@ pub(crate) fn is_nearer(d: Vector, p: Point, q: Point) -> bool
     d.product(p) < d.product(q)
 }
 
-/// The first of the farthest in a direction that does not go up: the corner up to which the lower chain rises.
-fn farthest_below(corners: &[Point], last: usize, d: Vector) -> Point
+/// The place of the first of the farthest in a direction that does not go up: of the corner up to which the lower chain rises.
+fn place_below(corners: &[Point], last: usize, d: Vector) -> usize
     requires some { 0 < length corners.now }
     requires parted { IsParted corners.now last }
     requires down { d.y ≤ℤ pos 0 }
-    ensures { HoldsOfSetsOf corners.now (λ S. IsFirstFarthest S d result) }
+    ensures within { result < length corners.now }
+    ensures farthest { HoldsOfSetsOf corners.now (λ S. IsFirstFarthest S d (corner corners.now result)) }
 {
-    corners[first_failing(corners, 0, last, &|p, q| is_nearer(d, p, q))]
+    first_failing(corners, 0, last, &|p, q| is_nearer(d, p, q))
 }
 
-/// The first of the farthest in a direction that goes up: the corner from which the upper chain falls.
-fn farthest_above(corners: &[Point], last: usize, d: Vector) -> Point
+/// The same in a direction that goes up: of the corner from which the upper chain falls.
+fn place_above(corners: &[Point], last: usize, d: Vector) -> usize
     requires some { 0 < length corners.now }
     requires parted { IsParted corners.now last }
     requires up { pos 0 <ℤ d.y }
-    ensures { HoldsOfSetsOf corners.now (λ S. IsFirstFarthest S d result) }
+    ensures within { result ≤ length corners.now }
+    ensures farthest { HoldsOfSetsOf corners.now (λ S. IsFirstFarthest S d (corner corners.now result)) }
 {
-    let place = first_failing_back(corners, last, &|p, q| !is_nearer(d, q, p));
-    corner_at(corners, place)
+    first_failing_back(corners, last, &|p, q| !is_nearer(d, q, p))
 }
 
-/// The first of the points that lie farthest in a direction, which may be zero: then all lie as far.
+/// The place of the first of the points that lie farthest in a direction, which may be zero: then all lie as far. The first point may be
+/// told at the end of the list, too.
+fn place_of_farthest(corners: &[Point], last: usize, d: Vector) -> usize
+    requires some { 0 < length corners.now }
+    requires parted { IsParted corners.now last }
+    ensures within { result ≤ length corners.now }
+    ensures farthest { HoldsOfSetsOf corners.now (λ S. IsFirstFarthest S d (corner corners.now result)) }
+{
+    if d.y() > 0 {
+        place_above(corners, last, d)
+    } else {
+        place_below(corners, last, d)
+    }
+}
+
+/// The first of the points that lie farthest in a direction.
 pub(crate) fn farthest(corners: &[Point], last: usize, d: Vector) -> Point
     requires some { 0 < length corners.now }
     requires parted { IsParted corners.now last }
     ensures { HoldsOfSetsOf corners.now (λ S. IsFirstFarthest S d result) }
 {
-    if d.y() > 0 {
-        farthest_above(corners, last, d)
-    } else {
-        farthest_below(corners, last, d)
-    }
+    corner_at(corners, place_of_farthest(corners, last, d))
+}
+
+/// Its place in the list.
+pub(crate) fn farthest_place(corners: &[Point], last: usize, d: Vector) -> usize
+    requires some { 0 < length corners.now }
+    requires parted { IsParted corners.now last }
+    ensures within { result < length corners.now }
+    ensures farthest { HoldsOfSetsOf corners.now (λ S. IsFirstFarthest S d (corner corners.now result)) }
+{
+    let place = place_of_farthest(corners, last, d);
+    if place < corners.len() { place } else { 0 }
 }
 
 impl<'a> Outline<'a> {

@@ -1,4 +1,5 @@
 //! Laws of the definitions: each function has an empty body, and its contract is the law.
+ghost use Rattle.hull_outline.specs.Casts.{EntersThere, LeavesThere, NoneAfter, NoneBefore};
 ghost use Rattle.hull_outline.specs.Closest.{NoneCloser};
 ghost use Rattle.hull_outline.specs.Meetings.{NeverBoth};
 ghost use Rattle.hull_outline.specs.Nearest.{NoneNearerThanCorner, NoneNearerThanEdge};
@@ -30,4 +31,25 @@ pub fn none_closer()
 /// numbers: hulls that touch have their boundaries in common at most.
 pub fn none_inside_divided()
     ensures { NoneInsideDivided }
+{}
+
+/// No point of a way that is covered, also none between whole numbers, comes before the one at the quotient that
+/// [`Outline::cast_ray`](crate::Outline::cast_ray) tells.
+pub fn none_before()
+    ensures { NoneBefore }
+{}
+
+/// And that one is covered.
+pub fn enters_there()
+    ensures { EntersThere }
+{}
+
+/// No point of a ray that is covered comes after the one that [`Outline::last_on_ray`](crate::Outline::last_on_ray) tells.
+pub fn none_after()
+    ensures { NoneAfter }
+{}
+
+/// And that one is covered.
+pub fn leaves_there()
+    ensures { LeavesThere }
 {}

@@ -24,11 +24,13 @@
 
 mod area;
 mod bisection;
+mod casts;
 mod diameter;
 mod distance;
 mod encounters;
 mod extents;
 mod extreme;
+mod factors;
 mod laws;
 mod meetings;
 mod nearest;
@@ -37,26 +39,33 @@ mod place;
 mod ranges;
 mod ratios;
 mod relations;
+mod roundings;
 mod rounds;
+mod segments;
 mod separations;
 mod sights;
+mod squares;
 mod strips;
 mod tangents;
 mod vector;
 mod widths;
 mod witnesses;
 
+pub use casts::{Entry, Hit};
 pub use distance::Distance;
 pub use laws::{
-    never_both, none_closer, none_inside_divided, none_nearer_than_corner, none_nearer_than_edge,
+    enters_there, leaves_there, never_both, none_after, none_before, none_closer,
+    none_inside_divided, none_nearer_than_corner, none_nearer_than_edge,
 };
 pub use meetings::Meeting;
 pub use nearest::Nearest;
 pub use outline::Outline;
 pub use ranges::Length;
 pub use relations::Relation;
+pub use roundings::Rounded;
 pub use rounds::is_outline;
 pub use separations::Separation;
+pub use squares::SquaredDistance;
 pub use strips::Strip;
 pub use vector::Vector;
 pub use witnesses::Witness;

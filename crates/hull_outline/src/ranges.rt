@@ -1,16 +1,15 @@
 //! Whether two hulls are within a length of one another: with no division and no root, so exactly.
-ghost use Rattle.std.specs.Prelude.{◌≡◌, ◌↔◌, IsTrue, ◌<◌, ◌≤◌, ◌*◌, pos, ◌*ℤ◌};
-ghost use Rattle.lattice.specs.Plane as plane;
+ghost use Rattle.std.specs.Prelude.{◌↔◌, IsTrue, ◌<◌, ◌≤◌, ◌*◌};
 ghost use Rattle.lattice.specs.Plane.{widest_side};
 ghost use Rattle.hull_outline.specs.Outlines.{HoldsOfBoth};
 ghost use Rattle.hull_outline.specs.Ranges.{IsNoFarther, TellsWithin};
 ghost use Rattle.hull_outline.specs.Lent.{corners_of};
 
 use super::distance::Distance;
+use super::factors::distance_beside;
 use super::outline::Outline;
 use super::ratios::is_less_ratio;
-use super::strips::{length_of, natural};
-use lattice::{Point, orient};
+use super::strips::length_of;
 
 /// A length: the quotient of two numbers. With the denominator 0 it is longer than any distance.
 #[derive(Clone, Copy, PartialEq, Eq, Debug)]
@@ -19,19 +18,6 @@ pub struct Length {
     pub numerator: u64,
     /// divided by this.
     pub denominator: u32,
-}
-
-/// How far `t` lies beside the line from `a` to `b`, by the distance of the two.
-fn distance_beside(a: Point, b: Point, t: Point) -> u128
-    ensures value { pos result *ℤ pos result ≡ plane.orient a b t *ℤ plane.orient a b t }
-    ensures size { result ≤ widest_side }
-{
-    let side = orient(a, b, t);
-    if side < 0 {
-        natural(-side)
-    } else {
-        natural(side)
-    }
 }
 
 impl Length {

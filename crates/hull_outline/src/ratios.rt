@@ -27,7 +27,7 @@ fn half_product(a: u128, b: u128) -> u128
 }
 
 /// The product of two digits, the upper and the lower one.
-fn two_digits(a: u128, b: u128) -> (u128, u128)
+pub(crate) fn two_digits(a: u128, b: u128) -> (u128, u128)
     requires first { a < base }
     requires second { b < base }
     ensures value { a * b ≡ result.0 * base + result.1 }
@@ -41,7 +41,7 @@ fn two_digits(a: u128, b: u128) -> (u128, u128)
 }
 
 /// The product of three digits.
-fn three_digits(a: u128, b: u128, c: u128) -> Wide
+pub(crate) fn three_digits(a: u128, b: u128, c: u128) -> Wide
     requires first { a < base }
     requires second { b < base }
     requires third { c < base }
@@ -59,8 +59,24 @@ fn three_digits(a: u128, b: u128, c: u128) -> Wide
     }
 }
 
+/// Four times a number.
+pub(crate) fn four_times(w: Wide) -> Wide
+    requires digits { HasDigits w }
+    requires small { number_of w < 2 ^ 250 }
+    ensures value { number_of result ≡ 4 * number_of w }
+    ensures digits { HasDigits result }
+{
+    let low = 4 * w.low;
+    let middle = 4 * w.middle + low / BASE;
+    Wide {
+        high: 4 * w.high + middle / BASE,
+        middle: middle % BASE,
+        low: low % BASE,
+    }
+}
+
 /// Whether one number is less than another.
-fn is_less(u: Wide, v: Wide) -> bool
+pub(crate) fn is_less(u: Wide, v: Wide) -> bool
     requires first { HasDigits u }
     requires second { HasDigits v }
     ensures { IsTrue result ↔ (number_of u < number_of v) }

@@ -2,7 +2,7 @@
 ghost use Rattle.std.specs.Prelude.{◌≡◌, ◌*◌, ◌^◌, ◌*ℤ◌, ◌+ℤ◌, ◌-ℤ◌, pos, neg_ℤ};
 ghost use Rattle.lattice.specs.Plane as plane;
 ghost use Rattle.lattice.specs.Plane.{IsWithin, widest, widest_side};
-ghost use Rattle.hull_outline.specs.Steps.{step, left_of, backward};
+ghost use Rattle.hull_outline.specs.Steps.{step, left_of, turned_left, backward};
 
 use lattice::{Direction, Point};
 use std::marker::Model;
@@ -58,6 +58,16 @@ fn sum_of_products(u: i64, p: i64, v: i64, q: i64) -> i128
     multiplied(u as i128, p as i128) + multiplied(v as i128, q as i128)
 }
 
+/// The sum of the squares of two components.
+fn sum_of_squares(u: i64, v: i64) -> i128
+    requires first { IsWithin (2 * widest) u }
+    requires second { IsWithin (2 * widest) v }
+    ensures value { result ≡ u *ℤ u +ℤ v *ℤ v }
+    ensures size { IsWithin widest_side result }
+{
+    multiplied(u as i128, u as i128) + multiplied(v as i128, v as i128)
+}
+
 impl Vector {
     /// The same direction.
     pub(crate) fn along(d: Direction) -> Vector
@@ -101,6 +111,24 @@ impl Vector {
             dx: difference(a.y(), b.y()),
             dy: difference(b.x(), a.x()),
         }
+    }
+
+    /// The direction turned to the left by 90 degrees.
+    pub(crate) fn turned_left(self) -> Vector
+        ensures { result ≡ turned_left self }
+    {
+        Vector {
+            dx: -self.dy,
+            dy: self.dx,
+        }
+    }
+
+    /// The square of its length.
+    pub(crate) fn squared_length(self) -> i128
+        ensures value { result ≡ self.x *ℤ self.x +ℤ self.y *ℤ self.y }
+        ensures size { IsWithin widest_side result }
+    {
+        sum_of_squares(self.x(), self.y())
     }
 
     /// The direction backwards.

@@ -4,6 +4,10 @@
 #[cfg(test)]
 mod answers;
 #[cfg(test)]
+mod casts;
+#[cfg(test)]
+mod clearances;
+#[cfg(test)]
 mod distances;
 #[cfg(test)]
 mod lists;

@@ -1,6 +1,6 @@
 //! What a reply in numbers tells, in types of Rust. Both libraries tell by the same numbers.
-use crate::raw::{code, Reply, WitnessTold};
-use crate::{Distance, Fault, Nearest, Place, Point, Separation, Strip, Witness};
+use crate::raw::{code, ClearanceTold, HitTold, Reply, WitnessTold};
+use crate::{Clearance, Distance, Entry, Fault, Hit, Nearest, Place, Point, Relation, Separation, Strip, Witness};
 
 /// How often a point is held that was added.
 pub(crate) fn times_added(reply: Reply) -> Result<u32, Fault> {
@@ -99,6 +99,37 @@ pub(crate) fn distance(told: WitnessTold) -> Option<Distance> {
         code::EDGE => Some(Distance::EdgeAndCorner([told.a, told.b], told.c)),
         _ => None,
     }
+}
+
+pub(crate) fn clearance(told: ClearanceTold) -> Result<Option<Clearance>, Fault> {
+    match told.code {
+        code::NUMBER => Ok(Some(Clearance::new(told))),
+        code::EMPTY => Ok(None),
+        other => Err(fault_of(other)),
+    }
+}
+
+pub(crate) fn relation(number: u64) -> Relation {
+    match number {
+        0 => Relation::Apart,
+        1 => Relation::Touching,
+        2 => Relation::Overlapping,
+        3 => Relation::Within,
+        4 => Relation::Covers,
+        _ => Relation::Equal,
+    }
+}
+
+pub(crate) fn hit(told: HitTold) -> Result<Option<Hit>, Fault> {
+    let place = match told.code {
+        code::COVERED => Entry::Start,
+        code::EDGE => Entry::Edge(told.a, told.b),
+        code::CORNER => Entry::Corner(told.a),
+        code::APART | code::EMPTY => return Ok(None),
+        other => return Err(fault_of(other)),
+    };
+    let number = |high, low| u128::from(high) << 64 | u128::from(low);
+    Ok(Some(Hit { place, part: number(told.high, told.low), whole: number(told.divisor_high, told.divisor_low) }))
 }
 
 pub(crate) fn strip(told: WitnessTold) -> Option<Strip> {

@@ -15,6 +15,7 @@
 //! A [`Hull`] may go to another thread (`Send`), but be used by one at a time: share it as `Mutex<Hull>`, or open a
 //! [`SharedHull`] (over `libhull_shared.a`), at which each thread has a [`Seat`] and whose calls are kept in a journal.
 mod answer;
+mod clearance;
 mod counted;
 mod exchange;
 mod many;
@@ -27,8 +28,9 @@ use std::alloc::{alloc, dealloc, Layout};
 use std::fmt;
 use std::ptr::NonNull;
 
+pub use clearance::Clearance;
 pub use exchange::{direction_of, wkt, Lattice, Rounded};
-pub use outline::{Distance, Nearest, Outline, Relation, Separation, Strip, Witness};
+pub use outline::{Distance, Entry, Hit, Nearest, Outline, Relation, Separation, Strip, Witness};
 pub use raw::{Held, Point};
 pub use shared::{JournalPart, Limits, Seat, SharedHull, Stats, CAPACITY_LIMIT, SEAT_LIMIT};
 

@@ -3,7 +3,7 @@ use crate::counted::Counted;
 use crate::exchange::asked_along;
 use crate::raw::{self, code, kind, Reply, Request};
 use crate::{answer, many};
-use crate::{Fault, Place, Point, NOWHERE};
+use crate::{Clearance, Fault, Place, Point, NOWHERE};
 use std::fmt;
 use std::hash::{Hash, Hasher};
 
@@ -109,6 +109,29 @@ pub enum Distance {
     CornerAndEdge(Point, [Point; 2]),
     /// At the foot on an edge of the first, strictly between its ends, of a corner of the second.
     EdgeAndCorner([Point; 2], Point),
+}
+
+/// Where a way first comes into an outline.
+#[derive(Clone, Copy, Debug, PartialEq, Eq)]
+pub enum Entry {
+    /// At its start, which the outline covers.
+    Start,
+    /// Across the edge from one corner to the next, or at an end of it.
+    Edge(Point, Point),
+    /// At this corner, of an outline that lies on the way's line.
+    Corner(Point),
+}
+
+/// Where a way first comes into an outline, or leaves it, and that it has gone `part / whole` until then, exactly: of a segment, or in lengths of
+/// a ray's direction.
+#[derive(Clone, Copy, Debug, PartialEq, Eq)]
+pub struct Hit {
+    /// The start, an edge or a corner.
+    pub place: Entry,
+    /// So far on the way,
+    pub part: u128,
+    /// divided by this, which is not 0.
+    pub whole: u128,
 }
 
 /// The corners that a call writes to an array, which may be too short for them.
@@ -303,14 +326,7 @@ impl Outline {
     pub fn relation(&self, other: &Outline) -> Relation {
         let (these, those) = (&self.corners, &other.corners);
         // SAFETY: the same.
-        match unsafe { raw::hull_outline_relation(these.as_ptr(), these.len(), those.as_ptr(), those.len()) }.number {
-            0 => Relation::Apart,
-            1 => Relation::Touching,
-            2 => Relation::Overlapping,
-            3 => Relation::Within,
-            4 => Relation::Covers,
-            _ => Relation::Equal,
-        }
+        answer::relation(unsafe { raw::hull_outline_relation(these.as_ptr(), these.len(), those.as_ptr(), those.len()) }.number)
     }
 
     /// Whether all of the other outline lies inside this one, with no point of it on the boundary.
@@ -326,6 +342,71 @@ impl Outline {
         let (these, those) = (&self.corners, &other.corners);
         // SAFETY: the same.
         unsafe { raw::hull_outline_within(these.as_ptr(), these.len(), those.as_ptr(), those.len(), numerator, denominator) }.number == 1
+    }
+
+    /// The same of the outline and the segment from `a` to `b`, which may be one point.
+    pub fn within_segment(&self, a: Point, b: Point, numerator: u64, denominator: u32) -> Result<bool, Fault> {
+        let corners = &self.corners;
+        // SAFETY: the same.
+        let told = unsafe {
+            raw::hull_outline_within_segment(corners.as_ptr(), corners.len(), a.x, a.y, b.x, b.y, numerator, denominator)
+        };
+        answer::number(told).map(|number| number == 1)
+    }
+
+    /// And of a point.
+    pub fn within_point(&self, point: Point, numerator: u64, denominator: u32) -> Result<bool, Fault> {
+        self.within_segment(point, point, numerator, denominator)
+    }
+
+    /// How this outline stands to the segment from `a` to `b`, which may be one point.
+    pub fn relation_to_segment(&self, a: Point, b: Point) -> Result<Relation, Fault> {
+        let corners = &self.corners;
+        // SAFETY: the same.
+        let told = unsafe { raw::hull_outline_relation_to_segment(corners.as_ptr(), corners.len(), a.x, a.y, b.x, b.y) };
+        answer::number(told).map(|number| answer::relation(number as u64))
+    }
+
+    /// How far the two outlines are apart; `None` where one of them has no corners.
+    pub fn clearance(&self, other: &Outline) -> Option<Clearance> {
+        let (these, those) = (&self.corners, &other.corners);
+        // SAFETY: the same.
+        let told = unsafe { raw::hull_outline_clearance(these.as_ptr(), these.len(), those.as_ptr(), those.len()) };
+        answer::clearance(told).ok().flatten()
+    }
+
+    /// How far the segment from `a` to `b`, which may be one point, is from the outline; `None` for an outline of no corners.
+    pub fn clearance_to_segment(&self, a: Point, b: Point) -> Result<Option<Clearance>, Fault> {
+        let corners = &self.corners;
+        // SAFETY: the same.
+        answer::clearance(unsafe { raw::hull_outline_clearance_to_segment(corners.as_ptr(), corners.len(), a.x, a.y, b.x, b.y) })
+    }
+
+    /// How far a point is from the outline; `None` for an outline of no corners.
+    pub fn clearance_to_point(&self, point: Point) -> Result<Option<Clearance>, Fault> {
+        self.clearance_to_segment(point, point)
+    }
+
+    /// Where the ray from `from` in a direction first comes in; `None` where it misses.
+    pub fn cast_ray(&self, from: Point, direction: Point) -> Result<Option<Hit>, Fault> {
+        let corners = &self.corners;
+        // SAFETY: the same.
+        answer::hit(unsafe { raw::hull_outline_cast_ray(corners.as_ptr(), corners.len(), from.x, from.y, direction.x, direction.y) })
+    }
+
+    /// The last point in the outline of that ray; `None` where it misses.
+    pub fn last_on_ray(&self, from: Point, direction: Point) -> Result<Option<Hit>, Fault> {
+        let corners = &self.corners;
+        // SAFETY: the same.
+        answer::hit(unsafe { raw::hull_outline_last_on_ray(corners.as_ptr(), corners.len(), from.x, from.y, direction.x, direction.y) })
+    }
+
+    /// Where the segment from `a` to `b` first comes in; `None` where it misses. Its last point in the outline is where that from `b`
+    /// to `a` comes in.
+    pub fn cast_segment(&self, a: Point, b: Point) -> Result<Option<Hit>, Fault> {
+        let corners = &self.corners;
+        // SAFETY: the same.
+        answer::hit(unsafe { raw::hull_outline_cast_segment(corners.as_ptr(), corners.len(), a.x, a.y, b.x, b.y) })
     }
 
     /// Where the two outlines meet, or what parts them; `None` where one of them has no corners.

@@ -144,6 +144,31 @@ pub(crate) struct WitnessTold {
     pub d: Point,
 }
 
+/// How far outlines are apart.
+#[repr(C)]
+#[derive(Clone, Copy, Debug)]
+pub(crate) struct ClearanceTold {
+    pub code: u32,
+    pub shift: u32,
+    pub lower: u64,
+    pub upper: u64,
+    pub numerator: [u64; 3],
+    pub denominator: [u64; 2],
+}
+
+/// Where a way first comes into an outline.
+#[repr(C)]
+#[derive(Clone, Copy)]
+pub(crate) struct HitTold {
+    pub code: u32,
+    pub a: Point,
+    pub b: Point,
+    pub high: u64,
+    pub low: u64,
+    pub divisor_high: u64,
+    pub divisor_low: u64,
+}
+
 /// The numbers of the codes.
 pub(crate) mod code {
     pub const OUT_OF_RANGE: u32 = 1;
@@ -261,6 +286,63 @@ extern "C" {
         numerator: u64,
         denominator: u32,
     ) -> Reply;
+    pub(crate) fn hull_outline_clearance(
+        corners: *const Point,
+        count: usize,
+        others: *const Point,
+        other_count: usize,
+    ) -> ClearanceTold;
+    pub(crate) fn hull_outline_clearance_to_segment(
+        corners: *const Point,
+        count: usize,
+        ax: i64,
+        ay: i64,
+        bx: i64,
+        by: i64,
+    ) -> ClearanceTold;
+    pub(crate) fn hull_clearance_compare(this: *const ClearanceTold, that: *const ClearanceTold) -> i32;
+    pub(crate) fn hull_outline_within_segment(
+        corners: *const Point,
+        count: usize,
+        ax: i64,
+        ay: i64,
+        bx: i64,
+        by: i64,
+        numerator: u64,
+        denominator: u32,
+    ) -> Reply;
+    pub(crate) fn hull_outline_relation_to_segment(
+        corners: *const Point,
+        count: usize,
+        ax: i64,
+        ay: i64,
+        bx: i64,
+        by: i64,
+    ) -> Reply;
+    pub(crate) fn hull_outline_cast_ray(
+        corners: *const Point,
+        count: usize,
+        x: i64,
+        y: i64,
+        dx: i64,
+        dy: i64,
+    ) -> HitTold;
+    pub(crate) fn hull_outline_last_on_ray(
+        corners: *const Point,
+        count: usize,
+        x: i64,
+        y: i64,
+        dx: i64,
+        dy: i64,
+    ) -> HitTold;
+    pub(crate) fn hull_outline_cast_segment(
+        corners: *const Point,
+        count: usize,
+        ax: i64,
+        ay: i64,
+        bx: i64,
+        by: i64,
+    ) -> HitTold;
     pub(crate) fn hull_outline_witness(
         corners: *const Point,
         count: usize,

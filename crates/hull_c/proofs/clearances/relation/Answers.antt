@@ -1,0 +1,11 @@
+-- the answer of the outline
+use Rattle.std.proofs.Common.{rules, sym, subst}
+use Rattle.hull_outline.specs.Outlines.{IsOutlineOf}
+use Rattle.hull_c.proofs.clearances.relation.Goals as goal
+
+pub returns : goal.returns
+returns c = (
+  c.relation_to_segment-found.result,
+  search rules,
+  λ S o. c.relation_to_segment-found.ensures S (subst (IsOutlineOf S) (sym c.of_vertices.ensures) o),
+)

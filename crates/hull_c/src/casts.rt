@@ -1,0 +1,221 @@
+//! Where a ray or a segment first comes into an array of corners.
+ghost use Rattle.std.specs.Prelude.{◌≡◌, ◌+◌, ◌*◌, ◌^◌};
+ghost use Rattle.hull_geometry.specs.Positions.{origin};
+ghost use Rattle.hull_outline.specs.Outlines.{IsShortOutline};
+ghost use Rattle.hull_c.specs.Casts.{IsEntryTold, IsHitAlong, IsHitAt, IsHitOf, IsHitTold, IsNoHit, IsPart, TellsLastOnRay};
+ghost use Rattle.hull_c.specs.Casts.{TellsRay, TellsSegmentHit};
+ghost use Rattle.hull_c.specs.Findings.{finding_number};
+
+use super::findings::Finding;
+use hull_outline::{Entry, Hit, Outline};
+use hull_reply::{Code, direction_of, point_of};
+use lattice::{Direction, Point};
+
+/// The base of words, 2^64.
+const WORD: u128 = 18446744073709551616;
+
+/// Where a way first comes into an outline: the number of a code or a finding, with an edge or a corner, and how far on the way that
+/// is; all else is 0.
+#[repr(C)]
+#[derive(Clone, Copy)]
+pub struct HullHit {
+    /// The number.
+    pub code: u32,
+    /// A corner.
+    pub x: i64,
+    /// Its other coordinate.
+    pub y: i64,
+    /// The next corner.
+    pub other_x: i64,
+    /// Its other coordinate.
+    pub other_y: i64,
+    /// So far on the way, the higher word
+    pub high: u64,
+    /// and the lower,
+    pub low: u64,
+    /// divided by this, the higher word
+    pub divisor_high: u64,
+    /// and the lower.
+    pub divisor_low: u64,
+}
+
+/// A number alone.
+fn bare(number: u32) -> HullHit
+    ensures { IsNoHit number result }
+{
+    HullHit {
+        code: number,
+        x: 0,
+        y: 0,
+        other_x: 0,
+        other_y: 0,
+        high: 0,
+        low: 0,
+        divisor_high: 0,
+        divisor_low: 0,
+    }
+}
+
+/// A finding with two points.
+fn at(finding: Finding, p: Point, q: Point) -> HullHit
+    ensures { IsHitAt (finding_number finding) p q result }
+{
+    let mut hit = bare(finding.number());
+    hit.x = p.x();
+    hit.y = p.y();
+    hit.other_x = q.x();
+    hit.other_y = q.y();
+    hit
+}
+
+/// A finding with a corner.
+fn at_corner(c: Point) -> HullHit
+    ensures { IsHitAt (finding_number Finding.Corner) c origin result }
+{
+    let mut hit = bare(Finding::Corner.number());
+    hit.x = c.x();
+    hit.y = c.y();
+    hit
+}
+
+/// Where a way comes in.
+fn place(entry: Entry) -> HullHit
+    ensures { IsEntryTold entry result }
+{
+    match entry {
+        Entry::Start => bare(Finding::Covered.number()),
+        Entry::Edge(p, q) => at(Finding::Edge, p, q),
+        Entry::Corner(c) => at_corner(c),
+    }
+}
+
+/// The words of a number.
+fn words(number: u128) -> (u64, u64)
+    ensures { result.0 * 2 ^ 64 + result.1 ≡ number }
+{
+    ((number / WORD) as u64, (number % WORD) as u64)
+}
+
+/// Where a way comes in, and how far on it that is.
+fn way_in(found: Hit) -> HullHit
+    ensures place { IsEntryTold found.place result }
+    ensures part { IsPart found.numerator found.denominator result }
+{
+    let mut hit = place(found.place);
+    let (high, low) = words(found.numerator);
+    let (divisor_high, divisor_low) = words(found.denominator);
+    hit.high = high;
+    hit.low = low;
+    hit.divisor_high = divisor_high;
+    hit.divisor_low = divisor_low;
+    hit
+}
+
+/// The same, if it does.
+fn hit_of(found: Option<Hit>) -> HullHit
+    ensures { IsHitTold found result }
+{
+    match found {
+        None => bare(Finding::Apart.number()),
+        Some(told) => way_in(told),
+    }
+}
+
+/// Where a ray comes in.
+fn ray(corners: &[Point], start: Point, direction: Direction) -> HullHit
+    requires { IsShortOutline corners.now }
+    ensures { TellsRay corners.now start direction result }
+{
+    if corners.is_empty() {
+        return bare(Code::Empty.number());
+    }
+    hit_of(Outline::of_vertices(corners).cast_ray(start, direction))
+}
+
+/// Where a ray goes out.
+fn last(corners: &[Point], start: Point, direction: Direction) -> HullHit
+    requires { IsShortOutline corners.now }
+    ensures { TellsLastOnRay corners.now start direction result }
+{
+    if corners.is_empty() {
+        return bare(Code::Empty.number());
+    }
+    hit_of(Outline::of_vertices(corners).last_on_ray(start, direction))
+}
+
+/// Where a segment comes in.
+fn segment(corners: &[Point], a: Point, b: Point) -> HullHit
+    requires { IsShortOutline corners.now }
+    ensures { TellsSegmentHit corners.now a b result }
+{
+    if corners.is_empty() {
+        return bare(Code::Empty.number());
+    }
+    hit_of(Outline::of_vertices(corners).cast_segment(a, b))
+}
+
+/// Where a ray in the direction of two numbers comes in.
+fn ray_along(corners: &[Point], start: Point, dx: i64, dy: i64) -> HullHit
+    requires { IsShortOutline corners.now }
+    ensures { IsHitAlong dx dy (TellsRay corners.now start) result }
+{
+    match direction_of(dx, dy) {
+        Ok(direction) => ray(corners, start, direction),
+        Err(fault) => bare(fault.number()),
+    }
+}
+
+/// Where a ray in the direction of two numbers goes out.
+fn last_along(corners: &[Point], start: Point, dx: i64, dy: i64) -> HullHit
+    requires { IsShortOutline corners.now }
+    ensures { IsHitAlong dx dy (TellsLastOnRay corners.now start) result }
+{
+    match direction_of(dx, dy) {
+        Ok(direction) => last(corners, start, direction),
+        Err(fault) => bare(fault.number()),
+    }
+}
+
+/// Where a segment to the point of two numbers comes in.
+fn segment_to(corners: &[Point], a: Point, x: i64, y: i64) -> HullHit
+    requires { IsShortOutline corners.now }
+    ensures { IsHitOf x y (TellsSegmentHit corners.now a) result }
+{
+    match point_of(x, y) {
+        Ok(b) => segment(corners, a, b),
+        Err(fault) => bare(fault.number()),
+    }
+}
+
+/// Where the ray of four numbers comes in: of a point and a direction.
+pub(crate) fn cast_ray(corners: &[Point], x: i64, y: i64, dx: i64, dy: i64) -> HullHit
+    requires { IsShortOutline corners.now }
+    ensures { IsHitOf x y (λ a. IsHitAlong dx dy (TellsRay corners.now a)) result }
+{
+    match point_of(x, y) {
+        Ok(start) => ray_along(corners, start, dx, dy),
+        Err(fault) => bare(fault.number()),
+    }
+}
+
+/// Where the ray of four numbers goes out.
+pub(crate) fn last_on_ray(corners: &[Point], x: i64, y: i64, dx: i64, dy: i64) -> HullHit
+    requires { IsShortOutline corners.now }
+    ensures { IsHitOf x y (λ a. IsHitAlong dx dy (TellsLastOnRay corners.now a)) result }
+{
+    match point_of(x, y) {
+        Ok(start) => last_along(corners, start, dx, dy),
+        Err(fault) => bare(fault.number()),
+    }
+}
+
+/// Where the segment between the points of four numbers comes in.
+pub(crate) fn cast_segment(corners: &[Point], ax: i64, ay: i64, bx: i64, by: i64) -> HullHit
+    requires { IsShortOutline corners.now }
+    ensures { IsHitOf ax ay (λ a. IsHitOf bx by (TellsSegmentHit corners.now a)) result }
+{
+    match point_of(ax, ay) {
+        Ok(a) => segment_to(corners, a, bx, by),
+        Err(fault) => bare(fault.number()),
+    }
+}

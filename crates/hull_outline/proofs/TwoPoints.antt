@@ -1,0 +1,123 @@
+-- The two ends of a segment in order, and one end alone, are the outline of their set.
+use Rattle.std.proofs.Common.{◌≡◌, ℕ, zero, suc, ◌<◌, ◌≤◌, List, [], ◌∷◌, length, take, inl, inr, refl, sym, ap, ◌∙◌, subst}
+use Rattle.std.proofs.Common.{arith}
+use Rattle.lattice.specs.Covers.{IsPointSet}
+use Rattle.lattice.specs.Plane.{Pair, IsBefore}
+use Rattle.lattice.proofs.Order.{before_irrefl, before_not, before_total, is_before-true, is_before-false}
+use Rattle.hull_geometry.specs.Positions.{point_at}
+use Rattle.hull_geometry.proofs.Rounding.{small_list}
+use Rattle.hull_geometry.proofs.SetLaws.{ordered_with}
+use Rattle.hull_outline.specs.Outlines.{IsOutlineOf}
+use Rattle.hull_outline.specs.Rounds.{GoesOn, TurnsLeft, IsParted, IsRound}
+use Rattle.hull_outline.specs.Segments.{ends}
+use Rattle.hull_outline.proofs.Made.{own_outline}
+
+-- ---- the set of the ends
+
+-- of two points in order it is both
+pub ends_in_order : (p q : Pair) → IsBefore p q → ends p q ≡ p ∷ q ∷ []
+ends_in_order p q b = rw (is_before-false q p (before_not p q b), is_before-true p q b) refl
+
+-- of two the other way, too
+pub ends_turned : (p q : Pair) → IsBefore q p → ends p q ≡ q ∷ p ∷ []
+ends_turned p q b = rw (is_before-true q p b) refl
+
+-- of one point twice it is that one
+pub ends_alone : (p : Pair) → ends p p ≡ p ∷ []
+ends_alone p = rw (is_before-false p p (before_irrefl p)) refl
+
+-- whichever of them is named first
+pub ends_either : (p q : Pair) → IsBefore q p → ends q p ≡ ends p q
+ends_either p q b = ends_in_order q p b ∙ sym (ends_turned p q b)
+
+-- it is in order
+ends_ordered : (a b : Pair) → IsPointSet (ends a b)
+ends_ordered a b = ordered_with a (b ∷ []) (λ i j d h n. absurd (omega (arith, h, n)))
+
+-- ---- its outline
+
+two_steps : (p q : Pair) → IsBefore p q → (i : ℕ) → i < length (p ∷ q ∷ []) → GoesOn (p ∷ q ∷ []) 1 i
+two_steps p q b zero l = (λ k. b, λ k. absurd (omega (arith, k)))
+two_steps p q b (suc zero) l = (λ k. absurd (omega (arith, k)), λ k. b)
+two_steps p q b (suc (suc i)) l = absurd (omega (arith, l))
+
+two_turns : (p q : Pair) (i : ℕ) → i < length (p ∷ q ∷ []) → TurnsLeft (p ∷ q ∷ []) 1 i
+two_turns p q zero l = λ n k. absurd (n (omega arith))
+two_turns p q (suc zero) l = λ n k. absurd (omega (arith, k))
+two_turns p q (suc (suc i)) l = absurd (omega (arith, l))
+
+-- two points in order are a round
+two_round : (p q : Pair) → IsBefore p q → IsRound (p ∷ q ∷ []) 1
+two_round p q b = record {
+  starts = omega arith;
+  within = omega arith;
+  steps = two_steps p q b;
+  turns = two_turns p q;
+}
+
+-- so their last one stands second
+two_parted : (p q : Pair) → IsBefore p q → IsParted (p ∷ q ∷ []) 1
+two_parted p q b = (λ n. omega arith, λ n. two_round p q b)
+
+-- they are the outline of their set
+two_outline : (p q : Pair) → IsBefore p q → IsPointSet (p ∷ q ∷ []) → IsOutlineOf (p ∷ q ∷ []) (p ∷ q ∷ [])
+two_outline p q b s = (s, own_outline (p ∷ q ∷ []) 1 (two_parted p q b) (p ∷ q ∷ []) s (λ t. (λ m. m, λ m. m)))
+
+-- and so is one
+one_outline : (p : Pair) → IsPointSet (p ∷ []) → IsOutlineOf (p ∷ []) (p ∷ [])
+one_outline p s = (s, small_list (p ∷ []) (omega arith))
+
+-- the ends of a segment are the outline of their set
+pub ends_outline : (a b : Pair) → IsOutlineOf (ends a b) (ends a b)
+ends_outline a b = elim (before_total a b) [
+  | inl h ↦ subst (λ (z : List Pair). IsOutlineOf z z) (sym (ends_in_order a b h))
+      (two_outline a b h (subst IsPointSet (ends_in_order a b h) (ends_ordered a b)))
+  | inr (inl e) ↦ subst (λ (z : Pair). IsOutlineOf (ends a z) (ends a z)) e
+      (subst (λ (z : List Pair). IsOutlineOf z z) (sym (ends_alone a))
+      (one_outline a (subst IsPointSet (ends_alone a) (ends_ordered a a))))
+  | inr (inr h) ↦ subst (λ (z : List Pair). IsOutlineOf z z) (sym (ends_turned a b h))
+      (two_outline b a h (subst IsPointSet (ends_turned a b h) (ends_ordered a b)))
+]
+
+-- there are one or two
+pub ends_few : (a b : Pair) → length (ends a b) ≤ 2
+ends_few a b = elim (before_total a b) [
+  | inl h ↦ rw (ends_in_order a b h) (omega arith)
+  | inr (inl e) ↦ subst (λ (z : Pair). length (ends a z) ≤ 2) e (rw (ends_alone a) (omega arith))
+  | inr (inr h) ↦ rw (ends_turned a b h) (omega arith)
+]
+
+-- so there is one
+pub ends_some : (a b : Pair) → ¬ (ends a b ≡ [])
+ends_some a b = elim (before_total a b) [
+  | inl h ↦ λ e. none _ _ (sym (ends_in_order a b h) ∙ e)
+  | inr (inl h) ↦ λ e. none _ _ (sym (ends_alone a) ∙ ap (ends a) h ∙ e)
+  | inr (inr h) ↦ λ e. none _ _ (sym (ends_turned a b h) ∙ e)
+]
+  where
+    none : (p : Pair) (S : List Pair) → p ∷ S ≡ [] → ⊥
+    none p S e = let l : length (p ∷ S) ≡ 0 = ap length e in omega (arith, l)
+
+-- ---- two points in a list
+
+-- a list of two is those
+pub two_of : (V : List Pair) → length V ≡ 2 → V ≡ point_at V 0 ∷ point_at V 1 ∷ []
+two_of [] l = absurd (omega (arith, l))
+two_of (p ∷ []) l = absurd (omega (arith, l))
+two_of (p ∷ q ∷ []) l = refl
+two_of (p ∷ q ∷ r ∷ V) l = absurd (omega (arith, l))
+
+-- of it the first alone
+pub one_of_two_points : (V : List Pair) → length V ≡ 2 → take 1 V ≡ point_at V 0 ∷ []
+one_of_two_points [] l = absurd (omega (arith, l))
+one_of_two_points (p ∷ []) l = absurd (omega (arith, l))
+one_of_two_points (p ∷ q ∷ []) l = refl
+one_of_two_points (p ∷ q ∷ r ∷ V) l = absurd (omega (arith, l))
+
+-- the first of two alone, where they are one
+pub first_alone : (p q : Pair) → ¬ IsBefore p q → ¬ IsBefore q p → p ∷ [] ≡ ends p q
+first_alone p q n m = elim (before_total p q) [
+  | inl h ↦ absurd (n h)
+  | inr (inl e) ↦ sym (ends_alone p) ∙ ap (ends p) e
+  | inr (inr h) ↦ absurd (m h)
+]

@@ -1,0 +1,22 @@
+-- Numbers in words of 64 bits, their products and sums.
+use Rattle.std.proofs.Common.{◌≡◌, ℕ, ◌+◌, ◌*◌, ◌/◌, ◌%◌, arith}
+use Rattle.hull_outline.specs.Squares.{word}
+use Rattle.hull_outline.specs.Wide.{base}
+
+-- two digits to the base 2^84 in words
+pub words_of_digits : (u l : ℕ)
+    → (u / 17592186044416 * word + (u % 17592186044416 * 1048576 + l / 18446744073709551616)) * word
+    + l % 18446744073709551616
+    ≡ u * base + l
+words_of_digits u l = omega arith
+
+-- three words times one
+pub times_one : (h m l b carried first above second fourth third : ℕ) → carried * word + first ≡ l * b + 0
+    → above * word + second ≡ m * b + carried → fourth * word + third ≡ h * b + above
+    → ((fourth * word + third) * word + second) * word + first ≡ ((h * word + m) * word + l) * b
+times_one h m l b carried first above second fourth third e f g = omega (arith, e, f, g)
+
+-- a number times two words
+pub times_two : (n high low above below : ℕ) → above ≡ n * high → below ≡ n * low
+    → above * word + below ≡ n * (high * word + low)
+times_two n high low above below e f = omega (arith, e, f)

@@ -1,0 +1,30 @@
+-- where the start lies right of the edge the way comes in there, and elsewhere it misses
+use Rattle.std.proofs.Common.{pos, ◌≤ℤ◌, ◌<ℤ◌, ℤ, inl, inr}
+use Rattle.lattice.specs.Signs.{le_or_lt}
+use Rattle.lattice.proofs.Numbers.{le_less}
+use Rattle.hull_outline.proofs.Casting.{missed_edge}
+use Rattle.hull_outline.proofs.DifferencesTold.{excess_told, le_told, less_told, twice}
+use Rattle.hull_outline.proofs.Tests.{failed, passed}
+use Rattle.hull_outline.proofs.casts.Way.across.Goals as goal
+
+-- what is not below 0
+not_below : (x : ℤ) → ¬ (x <ℤ pos 0) → pos 0 ≤ℤ x
+not_below x n = elim (le_or_lt (pos 0) x) [ inl h ↦ h | inr h ↦ absurd (n h) ]
+
+pub returns-then-not-is_right : goal.returns-then-not-is_right
+returns-then-not-is_right c = λ S o n x.
+    missed_edge S _ _ _ _ o n x.start.0 x.end.0 x.from x.to x.across
+    (not_below _ (failed _ _ c.if-not-is_right.true c.is_right.ensures))
+
+pub excess-requires-2-clause-order : goal.excess-requires-2-clause-order
+excess-requires-2-clause-order c =
+    le_told _ _ _ _ c.side-2.ensures.size c.side.ensures.size c.side-2.ensures.value c.side.ensures.value
+    (le_less _ _ c.requires)
+
+pub returns : goal.returns
+returns c = λ S o n x. record {
+  entry = (x, passed _ _ c.if-not-is_right.false c.is_right.ensures);
+  part = less_told _ _ _ (twice _ c.orient.ensures.size) c.orient.ensures.value c.excess.ensures.value;
+  whole = excess_told _ _ _ _ _ c.side.ensures.size c.side-2.ensures.size c.side.ensures.value c.side-2.ensures.value
+      c.excess-2.ensures.value;
+}

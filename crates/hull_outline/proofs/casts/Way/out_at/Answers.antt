@@ -1,0 +1,47 @@
+-- where the corner lies on the line and not behind the way goes out there, and elsewhere it misses
+use Rattle.std.proofs.Common.{◌≡◌, ◌∙◌, pos, ◌≤ℤ◌, ◌<ℤ◌, ℤ, inl, inr, arith}
+use Rattle.std.proofs.lemmas.Int.{ints}
+use Rattle.lattice.specs.Signs.{le_or_lt}
+use Rattle.hull_outline.proofs.DifferencesTold.{told_within, twice, whole_told}
+use Rattle.hull_outline.proofs.Leaving.{ahead_back, farthest_back, length_back, line_back, missed_beyond, not_behind_back}
+use Rattle.hull_outline.proofs.Tests.{failed, passed}
+use Rattle.hull_outline.proofs.casts.Way.out_at.Goals as goal
+
+-- what is not above
+not_above : (x y : ℤ) → ¬ (x <ℤ y) → y ≤ℤ x
+not_above x y n = elim (le_or_lt y x) [ inl h ↦ h | inr h ↦ absurd (n h) ]
+
+-- a number that is not unequal to 0
+on : (x : ℤ) → ¬ ¬ (x ≡ pos 0) → x ≡ pos 0
+on x n = elim (le_or_lt x (pos 0)) [
+  | inl h ↦ elim (le_or_lt (pos 0) x) [ inl k ↦ omega (arith, ints) | inr k ↦ absurd (n (λ e. omega (arith, ints, e))) ]
+  | inr h ↦ absurd (n (λ e. omega (arith, ints, e)))
+]
+
+pub returns-then-is_beside : goal.returns-then-is_beside
+returns-then-is_beside c = λ S x.
+    missed_beyond S c.args.self.now.start c.args.self.now.along c.args.e x.0 x.2 x.1.0
+    (λ z. absurd (passed _ _ c.if-is_beside.true c.is_beside.ensures z))
+
+pub returns-then-is_behind : goal.returns-then-is_behind
+returns-then-is_behind c = λ S x.
+    missed_beyond S c.args.self.now.start c.args.self.now.along c.args.e x.0 x.2 x.1.0
+    (λ z. passed _ _ c.if-is_behind.true c.is_behind.ensures)
+
+pub excess-requires-2-clause-first : goal.excess-requires-2-clause-first
+excess-requires-2-clause-first c = told_within _ c.squared_length.ensures.size
+
+pub returns : goal.returns
+returns c = λ S x.
+    let a = c.args.self.now.start in
+    let w = c.args.self.now.along in record {
+      exit = (
+        x.1,
+        line_back a w c.args.e (on _ (failed _ _ c.if-is_beside.false c.is_beside.ensures)),
+        not_behind_back a w c.args.e (not_above _ _ (failed _ _ c.if-is_behind.false c.is_behind.ensures)),
+        farthest_back S a w c.args.e x.2,
+      );
+      part = whole_told _ _ _ c.ahead.ensures.size c.ahead.ensures.value c.excess.ensures.value ∙ ahead_back a w c.args.e;
+      whole = whole_told _ _ _ (twice _ c.squared_length.ensures.size) c.squared_length.ensures.value
+          c.excess-2.ensures.value ∙ length_back a w;
+    }

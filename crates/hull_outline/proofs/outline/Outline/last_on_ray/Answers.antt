@@ -1,0 +1,40 @@
+-- the way goes out where the way back would come in
+use Rattle.std.proofs.Common.{arith, sym, subst}
+use Rattle.lattice.specs.Covers.{IsExtreme}
+use Rattle.lattice.specs.Places.{IsFarthest}
+use Rattle.hull_outline.specs.Casts.{moved}
+use Rattle.hull_outline.proofs.Corners.{corner_extreme}
+use Rattle.hull_outline.proofs.Ends.{no_corners}
+use Rattle.hull_outline.proofs.Hits.{crossed_back, goes_over, last_along, not_crossed_back, nothing_there}
+use Rattle.hull_outline.proofs.Leaving.{uncrossed_back}
+use Rattle.hull_outline.proofs.Made.{parted_is_outline}
+use Rattle.hull_outline.proofs.outline.Outline.last_on_ray.Goals as goal
+
+pub returns-then-is_empty : goal.returns-then-is_empty
+returns-then-is_empty c = λ S o.
+    nothing_there S c.args.start (moved c.args.start c.args.direction)
+    (no_corners S c.args.self.now.corners.now o (grind (arith, c.is_empty.ensures, c.if-is_empty.true)))
+
+pub out_across-requires : goal.out_across-requires
+out_across-requires c =
+    let (S, o) = parted_is_outline c.args.self.now.corners.now c.args.self.now.last c.args.self.now.parted in
+    goes_over S _ _ _ _
+    (crossed_back S _ _ c.args.start c.along.result _ _ c.back.ensures.start c.back.ensures.along (c.in-Some.ensures S o))
+
+pub returns-in-Some : goal.returns-in-Some
+returns-in-Some c = λ S o.
+    last_along S c.args.start c.along.result c.args.direction _ c.along.ensures
+    (c.out_across.ensures S
+    (crossed_back S _ _ c.args.start c.along.result _ _ c.back.ensures.start c.back.ensures.along (c.in-Some.ensures S o)))
+
+pub returns-in-None : goal.returns-in-None
+returns-in-None c = λ S o.
+    let V = c.args.self.now.corners.now in
+    let i = c.farthest_place-place.result in
+    last_along S c.args.start c.along.result c.args.direction _ c.along.ensures
+    (c.out_at.ensures S (
+      uncrossed_back S c.args.start c.along.result
+          (not_crossed_back S _ _ c.args.start c.along.result c.back.ensures.start c.back.ensures.along (c.in-None.ensures S o)),
+      subst (IsExtreme S) (sym c.corner_at.ensures) (corner_extreme S V i o.1 (grind (arith, c.is_empty.ensures, c.if-is_empty.false))),
+      subst (IsFarthest S c.along.result) (sym c.corner_at.ensures) (c.farthest_place-place.ensures.farthest S o).1,
+    ))

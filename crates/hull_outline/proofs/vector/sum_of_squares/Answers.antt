@@ -1,0 +1,52 @@
+-- squares of components fit 128 bits, and so does the sum of two
+use Rattle.std.proofs.Common.{◌≡◌, ◌∙◌, ◌*◌, ◌^◌, arith, lit≤, to_z, of_z}
+use lib.IntN.{ℤ, ◌*ℤ◌}
+use mir.Syntax.{w128, w64}
+use borrow.Author.Differences.{ints}
+use Rattle.lattice.specs.Plane.{IsWithin, widest, widest_side}
+use Rattle.lattice.specs.Integers.{within_add, within_mul, within_more}
+use Rattle.lattice.proofs.Casts.{cast_add}
+use Rattle.hull_outline.proofs.vector.sum_of_squares.Goals as goal
+
+-- a component, cast to 128 bits
+cast_component : (z : ℤ) → IsWithin (2 * widest) z → to_z w128 (of_z w128 (to_z w64 (of_z w64 z))) ≡ z
+cast_component z h = omega (arith, ints)
+
+-- its square
+square_within : (u : ℤ) → IsWithin (2 * widest) u → IsWithin (2 * widest * (2 * widest)) (u *ℤ u)
+square_within u h = within_mul (2 * widest) (2 * widest) u u h h
+
+-- which fits
+square_small : (z : ℤ) → IsWithin (2 * widest * (2 * widest)) z → IsWithin (2 ^ 125) z
+square_small z h = within_more (2 * widest * (2 * widest)) (2 ^ 125) z (lit≤ tt) h
+
+pub multiplied-requires : goal.multiplied-requires
+multiplied-requires c =
+    rw (cast_component c.args.u c.requires.first) (square_small _ (square_within c.args.u c.requires.first))
+
+pub multiplied-requires-2 : goal.multiplied-requires-2
+multiplied-requires-2 c =
+    rw (cast_component c.args.v c.requires.second) (square_small _ (square_within c.args.v c.requires.second))
+
+pub overflow_add-result : goal.overflow_add-result
+overflow_add-result c =
+    let h = c.multiplied.ensures.size in
+    let k = c.multiplied-2.ensures.size in
+    omega (arith, ints)
+
+pub returns-clause-value : goal.returns-clause-value
+returns-clause-value c =
+    cast_add c.multiplied.result c.multiplied-2.result c.multiplied.ensures.size c.multiplied-2.ensures.size
+    ∙ (rw (
+      c.multiplied.ensures.value,
+      c.multiplied-2.ensures.value,
+      cast_component c.args.u c.requires.first,
+      cast_component c.args.v c.requires.second,
+    ))
+
+pub returns-clause-size : goal.returns-clause-size
+returns-clause-size c =
+    rw (returns-clause-value c)
+    (within_more _ widest_side _ (lit≤ tt)
+    (within_add (2 * widest * (2 * widest)) (2 * widest * (2 * widest)) (c.args.u *ℤ c.args.u) (c.args.v *ℤ c.args.v)
+    (square_within c.args.u c.requires.first) (square_within c.args.v c.requires.second)))

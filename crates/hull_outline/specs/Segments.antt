@@ -1,0 +1,8 @@
+-- A segment as a set of points.
+use Rattle.std.specs.Prelude.{List, [], ◌∷◌}
+use Rattle.lattice.specs.Covers.{with_point}
+use Rattle.lattice.specs.Plane.{Pair}
+
+-- the set of its ends, of which there is one where both are the same point
+abbrev pub ends : Pair → Pair → List Pair
+ends a b = with_point a (b ∷ [])

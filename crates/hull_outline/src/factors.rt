@@ -1,0 +1,68 @@
+//! The square of a distance as a quotient of numbers that 128 bits hold.
+ghost use Rattle.std.specs.Prelude.{◌≡◌, ◌≤◌, ◌*◌, pos, ◌*ℤ◌};
+ghost use Rattle.lattice.specs.Plane as plane;
+ghost use Rattle.lattice.specs.Plane.{widest_side};
+ghost use Rattle.hull_outline.specs.Squares.{AreFactorsOf, AreSmall};
+
+use super::distance::Distance;
+use super::strips::{length_of, natural};
+use lattice::{Point, orient};
+
+/// The square of a distance: the product of the first two numbers, divided by the third.
+#[derive(Clone, Copy)]
+pub(crate) struct Factors {
+    pub(crate) first: u128,
+    pub(crate) second: u128,
+    pub(crate) divisor: u128,
+}
+
+/// How far `t` lies beside the line from `a` to `b`, by the distance of the two.
+pub(crate) fn distance_beside(a: Point, b: Point, t: Point) -> u128
+    ensures value { pos result *ℤ pos result ≡ plane.orient a b t *ℤ plane.orient a b t }
+    ensures size { result ≤ widest_side }
+{
+    let side = orient(a, b, t);
+    if side < 0 {
+        natural(-side)
+    } else {
+        natural(side)
+    }
+}
+
+/// The square of the distance of `t` from the line from `a` to `b`.
+fn beside(a: Point, b: Point, t: Point) -> Factors
+    ensures value { (pos (result.first * result.second) ≡ plane.orient a b t *ℤ plane.orient a b t)
+        × (pos result.divisor ≡ plane.distance_squared a b) }
+    ensures small { AreSmall result }
+{
+    let _at_most = length_of(a, t);
+    let side = distance_beside(a, b, t);
+    Factors {
+        first: side,
+        second: side,
+        divisor: length_of(a, b),
+    }
+}
+
+impl Distance {
+    /// The numbers of its square.
+    pub(crate) fn factors(&self) -> Factors
+        ensures value { AreFactorsOf self.now result }
+        ensures small { AreSmall result }
+    {
+        match *self {
+            Distance::Zero => Factors {
+                first: 0,
+                second: 0,
+                divisor: 1,
+            },
+            Distance::Corners(c, d) => Factors {
+                first: length_of(c, d),
+                second: 1,
+                divisor: 1,
+            },
+            Distance::CornerAndEdge(c, a, b) => beside(a, b, c),
+            Distance::EdgeAndCorner(a, b, d) => beside(a, b, d),
+        }
+    }
+}

@@ -1,0 +1,67 @@
+//! How a hull stands to a segment as another hull, and how far it is from one. A segment may be one point.
+ghost use Rattle.std.specs.Prelude.{◌≡◌, length, [], MatchOption};
+ghost use Rattle.lattice.specs.Plane.{IsBefore};
+ghost use Rattle.hull_geometry.specs.Positions.{point_at};
+ghost use Rattle.hull_outline.specs.Closest.{IsDistance};
+ghost use Rattle.hull_outline.specs.Outlines.{HoldsOfSetsOf};
+ghost use Rattle.hull_outline.specs.Ranges.{TellsWithin};
+ghost use Rattle.hull_outline.specs.Relations.{IsRelation};
+ghost use Rattle.hull_outline.specs.Segments.{ends};
+ghost use Rattle.hull_outline.specs.Lent.{corners_of};
+
+use super::distance::Distance;
+use super::outline::Outline;
+use super::ranges::Length;
+use super::relations::Relation;
+use lattice::{Point, before};
+
+/// Two points, the first by x and then y before the other.
+fn in_order(a: Point, b: Point) -> [Point; 2]
+    ensures two { length result ≡ 2 }
+    ensures order { ¬ IsBefore (point_at result 1) (point_at result 0) }
+    ensures same { ends (point_at result 0) (point_at result 1) ≡ ends a b }
+{
+    if before(b, a) { [b, a] } else { [a, b] }
+}
+
+/// The outline of two points in order: both, or one where they are the same.
+fn segment_of<'a>(points: &'a [Point]) -> Outline<'a>
+    requires two { length points.now ≡ 2 }
+    requires order { ¬ IsBefore (point_at points.now 1) (point_at points.now 0) }
+    ensures { corners_of result ≡ ends (point_at points.now 0) (point_at points.now 1) }
+{
+    if before(points[0], points[1]) {
+        Outline::of_vertices(points)
+    } else {
+        Outline::of_vertices(&points[..1])
+    }
+}
+
+impl<'a> Outline<'a> {
+    /// How this hull stands to the segment from `a` to `b`, as [`Outline::relation`] tells it of two hulls: a segment that runs
+    /// along an edge touches, one that goes through overlaps, and one that ends inside overlaps, too.
+    pub fn relation_to_segment(&self, a: Point, b: Point) -> Relation
+        ensures { HoldsOfSetsOf (corners_of self.now) (λ S. IsRelation S (ends a b) result) }
+    {
+        let points = in_order(a, b);
+        self.relation(&segment_of(&points))
+    }
+
+    /// Where this hull and the segment from `a` to `b` are nearest to one another; `None` for the empty hull. As
+    /// [`Outline::distance`].
+    pub fn distance_to_segment(&self, a: Point, b: Point) -> Option<Distance>
+        ensures { HoldsOfSetsOf (corners_of self.now)
+            (λ S. MatchOption result (S ≡ []) (λ found. IsDistance S (ends a b) found)) }
+    {
+        let points = in_order(a, b);
+        self.distance(&segment_of(&points))
+    }
+
+    /// Whether this hull and the segment from `a` to `b` are no farther apart than that length; false for the empty hull.
+    pub fn is_within_of_segment(&self, a: Point, b: Point, length: Length) -> bool
+        ensures { HoldsOfSetsOf (corners_of self.now) (λ S. TellsWithin result length S (ends a b)) }
+    {
+        let points = in_order(a, b);
+        self.is_within(&segment_of(&points), length)
+    }
+}

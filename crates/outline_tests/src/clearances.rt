@@ -1,0 +1,81 @@
+//! How far a hull is from segments, as numbers that are known, and how it stands to them.
+use super::meetings::outline_of;
+use hull_outline::{Distance, Length, Relation, Rounded, SquaredDistance};
+use lattice::Point;
+use std::cmp::Ordering;
+use std::process::Abort;
+use std::test::Fail;
+
+/// A square with sides of 4.
+fn square() -> Result<[Point; 4], Fail> {
+    Ok([
+        Point::new(0, 0)?,
+        Point::new(4, 0)?,
+        Point::new(4, 4)?,
+        Point::new(0, 4)?,
+    ])
+}
+
+/// How far the square is from the segment between the points of four numbers.
+fn distance_to(
+    rt: &impl Abort,
+    corners: &[Point],
+    from: (i64, i64),
+    to: (i64, i64),
+) -> Result<Distance, Fail> {
+    let (a, b) = (Point::new(from.0, from.1)?, Point::new(to.0, to.1)?);
+    match outline_of(rt, corners).distance_to_segment(a, b) {
+        Some(distance) => Ok(distance),
+        None => panic!(rt; "the square has corners"),
+    }
+}
+
+#[test]
+fn distances_as_numbers(rt: HostRuntime) -> Result<(), Fail> {
+    let corners = square()?;
+    let five = distance_to(&rt, &corners, (7, 8), (9, 8))?;
+    let root_of_two = distance_to(&rt, &corners, (5, 5), (5, 5))?;
+    let exact = Rounded {
+        lower: 5 << 50,
+        upper: 5 << 50,
+        shift: 50,
+    };
+    let between = Rounded {
+        lower: 6369051672525772,
+        upper: 6369051672525773,
+        shift: 52,
+    };
+    assert!(rt; five.rounded() == exact && root_of_two.rounded() == between);
+    let square = SquaredDistance {
+        high: 0,
+        middle: 0,
+        low: 25,
+        divisor_high: 0,
+        divisor_low: 1,
+    };
+    assert!(rt; five.squared() == square);
+    assert!(rt; five.compare(&root_of_two) == Ordering::Greater);
+    assert!(rt; root_of_two.squared().compare(&five.squared()) == Ordering::Less);
+    assert!(rt;
+        five.compare(&five) == Ordering::Equal && Distance::Zero.compare(&five) == Ordering::Less
+    );
+    Ok(())
+}
+
+#[test]
+fn a_square_beside_segments(rt: HostRuntime) -> Result<(), Fail> {
+    let corners = square()?;
+    let outline = outline_of(&rt, &corners);
+    let (inside, beside, above) = (Point::new(1, 1)?, Point::new(7, 8)?, Point::new(0, 9)?);
+    assert!(rt; outline.relation_to_segment(inside, inside) == Relation::Covers);
+    assert!(rt; outline.relation_to_segment(beside, inside) == Relation::Overlapping);
+    assert!(rt; outline.relation_to_segment(beside, above) == Relation::Apart);
+    assert!(rt; outline.relation_to_segment(corners[3], above) == Relation::Touching);
+    let length = Length {
+        numerator: 49,
+        denominator: 10,
+    };
+    assert!(rt; !outline.is_within_of_segment(beside, beside, length));
+    assert!(rt; outline.is_within_of_segment(beside, above, length));
+    Ok(())
+}
