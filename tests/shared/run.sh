@@ -5,8 +5,8 @@
 # all of them inside the door, also with threads held up between the steps of waiting, whose journal `bin/hullbook check`
 # judges, eight of which one takes the lines out, and eight that keep none, up to 64 at desks of few lines that drain by
 # themselves, every code, each request for memory refused in turn, what a call in a line promises but its answer (waits.c), every
-# order of the steps of the door (door_model.c), files of journals whose process is killed (kills.c), and wake-ups out of order
-# (wakeups.sh). The gate runs it. What is missing here (a
+# order of the steps of the door (door_model.c), files of journals whose process is killed (kills.c), a service of 64 threads that is
+# killed and taken up again (service.c), and wake-ups out of order (wakeups.sh). The gate runs it. What is missing here (a
 # compiler, python3, valgrind) is told and skipped, and counts nothing. The last line counts, and the status is not 0 where
 # something failed. With a number, that many calls a thread; with a second one, so many kills (150).
 set -u
@@ -129,6 +129,7 @@ in_c() {
     storms_of_full_desks
     waits
     journals
+    services
     models
     "$here/wakeups.sh" "$prefix" >"$room/told" 2>&1
     count "no wake-up is lost, and a line that loses one is found: $(tail -n 1 "$room/told")" $?
@@ -238,6 +239,26 @@ killed_wrongly() {
     build "$here/kills.c" "$room/journal.c" -I"$top/archive" -Wl,--wrap=pwrite,--wrap=fsync &&
         ! "$room/kills" 300 "$room/wrong.journal" 2 >"$room/told" 2>&1
     count "$1: seen ($(tail -n 1 "$room/told"))" $?
+}
+
+# a service whose process is killed and taken up again, and faults that are planted beneath it
+services() {
+    build "$here/service.c" && "$room/service" $((2 * calls)) 3 "$room/service.journal" "$top/bin/hullbook" >"$room/told" &&
+        apart "$room/service.journal"
+    count "a service of 64 threads is killed and taken up again: $(cat "$room/told")" $?
+    served_wrongly 'lines are told as safe before they are written' \
+        '/^    uint32_t failed = j->failed;/a\    __atomic_store_n(\&j->safe, j->next + 1000, __ATOMIC_SEQ_CST), tells(j);'
+    served_wrongly 'a file that is made short lets points go' \
+        '/^static int has_room/,/^}/s/places\[i\]\.times > 0\)/places[i].times > 1)/'
+}
+
+# the same with a fault, which has to be seen: NAME, and a script of sed for the file
+served_wrongly() {
+    sed -E "$2" "$top/archive/journal.c" >"$room/journal.c"
+    ! cmp -s "$room/journal.c" "$top/archive/journal.c" || echo "nothing is changed by $2"
+    build "$here/service.c" "$room/journal.c" -I"$top/archive" &&
+        ! "$room/service" 6000000 120 "$room/wrong.journal" "$top/bin/hullbook" >"$room/told" 2>&1
+    count "$1, beneath a service: seen ($(tail -n 1 "$room/told"))" $?
 }
 
 models() {
