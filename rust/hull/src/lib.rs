@@ -131,8 +131,8 @@ pub struct Hull {
     room: NonNull<u8>,
 }
 
-// SAFETY: `SparingTree` is `Send`, which a test in `set_tests` asks for by a bound: plain data, and boxes from `malloc`. It is not
-// `Sync`, since a question too lends the library the whole hull.
+// SAFETY: the set is `Send`, which `hulls_go_to_any_thread` of `hull_c` asks for by a bound: plain data, and boxes from `malloc`. It is
+// not `Sync`, since a question too lends the library the whole hull.
 unsafe impl Send for Hull {}
 
 impl Hull {
