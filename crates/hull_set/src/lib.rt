@@ -1,8 +1,8 @@
 //! What a set of lattice points is that answers questions about its convex hull: its calls, and which replies they may have.
 //!
 //! [`HullSet`] is the promise: each call answers by the allowed-reply relation of `specs/Replies.antt`, which speaks of
-//! the live points, and of how often each is held, alone. What keeps it are `PlainSet` (crate `hull_plain`), and `HullTree`
-//! and `SparingTree` (crate `hull_tree`).
+//! the live points, and of how often each is held, alone. What keeps it are `PlainSet` (crate `hull_plain`), `HullTree`
+//! (`hull_tree`) and `BucketTree` (`bucket_tree`).
 #![tactic(auto)]
 
 mod call;
