@@ -477,15 +477,166 @@ std::vector<Answer> all(std::uint32_t kind, const std::vector<Point> &points, Se
 
 } // namespace told
 
-// The corners of a hull, as Hull::vertices tells them, to be asked as that hull was when they were taken. Nothing of it is written by
-// a question: any number of threads ask one outline at once.
-class Outline {
+// What is asked of an outline, the corners of a hull: as that hull was when they were taken. Self has data() and size(), where its
+// corners lie and how many they are. Nothing of it is written by a question: any number of threads ask one outline at once.
+template <class Self> class OutlineQuestions {
     auto serve() const {
         return [this](const hull_request *requests, hull_reply *replies, std::size_t count) {
-            return hull_outline_calls(data(), corners_.size(), requests, count, replies, count);
+            return hull_outline_calls(data(), size(), requests, count, replies, count);
         };
     }
 
+public:
+    Place place(Point p) const { return told::place(hull_outline_place(data(), size(), p.x, p.y)); }
+
+    std::optional<Tangents> tangents(Point p) const {
+        return told::tangents(hull_outline_tangents(data(), size(), p.x, p.y));
+    }
+
+    std::optional<Point> extreme(Point direction) const {
+        return told::extreme(hull_outline_extreme(data(), size(), direction.x, direction.y));
+    }
+
+    // The point that lies farthest in a direction of two doubles, taken to whole numbers as hull_direction_from_doubles tells; in the
+    // direction (0, 0) the first point. Refusal::out_of_range where one is not finite.
+    std::optional<Point> extreme_d(double dx, double dy) const {
+        return told::extreme(hull_outline_extreme_d(data(), size(), dx, dy));
+    }
+
+    // Twice the area, 0 for a point and a line.
+    Area doubled_area() const { return told::number(hull_outline_area(data(), size())); }
+
+    // Each of many points, or directions, in their order.
+    std::vector<Place> place_all(const std::vector<Point> &points) const {
+        return told::all<Place>(HULL_KIND_PLACE, points, serve(), told::place);
+    }
+    std::vector<std::optional<Tangents>> tangents_all(const std::vector<Point> &points) const {
+        return told::all<std::optional<Tangents>>(HULL_KIND_TANGENTS, points, serve(), told::tangents);
+    }
+    std::vector<std::optional<Point>> extreme_all(const std::vector<Point> &directions) const {
+        return told::all<std::optional<Point>>(HULL_KIND_EXTREME, directions, serve(), told::extreme);
+    }
+
+    // Whether the outline and the segment from `a` to `b`, which may be one point, have a point in common.
+    bool meets_segment(Point a, Point b) const {
+        return told::number(hull_outline_meets_segment(data(), size(), a.x, a.y, b.x, b.y)) == 1;
+    }
+
+    // What parts the outline from the segment; none where they meet, and for an outline of no corners.
+    std::optional<Separation> apart_from_segment(Point a, Point b) const {
+        return told::separation(hull_outline_apart(data(), size(), a.x, a.y, b.x, b.y));
+    }
+
+    // Where the nearest point is; none for an outline of no corners.
+    std::optional<Nearest> nearest(Point p) const {
+        return told::nearest(hull_outline_nearest(data(), size(), p.x, p.y), p);
+    }
+
+    // The smallest box; none for an outline of no corners.
+    std::optional<Box> bounding_box() const { return told::box(hull_outline_box(data(), size())); }
+
+    // How far the outline reaches in a direction: the greatest product of a corner with it less the least; none for an outline of no
+    // corners. Divided by the length of the direction it is the width along it.
+    std::optional<Area> width_along(Point direction) const {
+        const hull_reply r = hull_outline_width(data(), size(), direction.x, direction.y);
+        return r.code == HULL_EMPTY ? std::nullopt : std::optional<Area>(told::number(r));
+    }
+
+    // The two corners that are farthest from one another; none for an outline of no corners.
+    std::optional<std::pair<Point, Point>> diameter() const {
+        return told::points(hull_outline_diameter(data(), size()));
+    }
+
+    // Where the outline is least wide: no direction has a narrower strip; none where there are fewer than two corners.
+    std::optional<Strip> least_width() const {
+        const hull_witness w = hull_outline_least_width(data(), size());
+        return w.code == HULL_EDGE ? std::optional<Strip>(Strip{w.a, w.b, w.c}) : std::nullopt;
+    }
+
+    // Whether the two outlines have a point in common, boundaries included.
+    template <class Other> bool meets(const OutlineQuestions<Other> &other) const {
+        return told::number(hull_outline_meets(data(), size(), other.data(), other.size())) == 1;
+    }
+
+    // Whether this outline covers whatever the other one covers.
+    template <class Other> bool contains(const OutlineQuestions<Other> &other) const {
+        return told::number(hull_outline_contains(data(), size(), other.data(), other.size())) == 1;
+    }
+
+    // How this outline stands to the other one.
+    template <class Other> Relation relation(const OutlineQuestions<Other> &other) const {
+        return static_cast<Relation>(told::number(hull_outline_relation(data(), size(), other.data(), other.size())));
+    }
+
+    // Whether all of the other outline lies inside this one, with no point of it on the boundary.
+    template <class Other> bool contains_inside(const OutlineQuestions<Other> &other) const {
+        return told::number(hull_outline_contains_inside(data(), size(), other.data(), other.size())) == 1;
+    }
+
+    // Whether the two are no farther apart than numerator / denominator, exactly; false where one of them has no corners.
+    template <class Other> bool within(const OutlineQuestions<Other> &other, std::uint64_t numerator, std::uint32_t denominator = 1) const {
+        return told::number(hull_outline_within(data(), size(), other.data(), other.size(), numerator, denominator)) == 1;
+    }
+
+    // The same of the segment from `a` to `b`, which may be one point, and of a point.
+    bool within_segment(Point a, Point b, std::uint64_t numerator, std::uint32_t denominator = 1) const {
+        return told::number(hull_outline_within_segment(data(), size(), a.x, a.y, b.x, b.y, numerator, denominator)) == 1;
+    }
+    bool within_point(Point p, std::uint64_t numerator, std::uint32_t denominator = 1) const {
+        return within_segment(p, p, numerator, denominator);
+    }
+
+    // How this outline stands to the segment from `a` to `b`, which may be one point.
+    Relation relation_to_segment(Point a, Point b) const {
+        return static_cast<Relation>(told::number(hull_outline_relation_to_segment(data(), size(), a.x, a.y, b.x, b.y)));
+    }
+
+    // How far the other outline, the segment from `a` to `b`, or a point is from this outline; none where there are no corners.
+    template <class Other> std::optional<Clearance> clearance(const OutlineQuestions<Other> &other) const {
+        return told::clearance(hull_outline_clearance(data(), size(), other.data(), other.size()));
+    }
+    std::optional<Clearance> clearance_to_segment(Point a, Point b) const {
+        return told::clearance(hull_outline_clearance_to_segment(data(), size(), a.x, a.y, b.x, b.y));
+    }
+    std::optional<Clearance> clearance_to_point(Point p) const { return clearance_to_segment(p, p); }
+
+    // Where the ray from a point in a direction first comes in; none where it misses.
+    std::optional<Hit> cast_ray(Point from, Point direction) const {
+        return told::hit(hull_outline_cast_ray(data(), size(), from.x, from.y, direction.x, direction.y));
+    }
+
+    // The last point of that ray in the outline; none where it misses.
+    std::optional<Hit> last_on_ray(Point from, Point direction) const {
+        return told::hit(hull_outline_last_on_ray(data(), size(), from.x, from.y, direction.x, direction.y));
+    }
+
+    // Where the segment from `a` to `b` first comes in; none where it misses. Its last point in the outline is where that from `b` to
+    // `a` comes in.
+    std::optional<Hit> cast_segment(Point a, Point b) const {
+        return told::hit(hull_outline_cast_segment(data(), size(), a.x, a.y, b.x, b.y));
+    }
+
+    // Where the two meet, or what parts them; none where one of them has no corners.
+    template <class Other> std::optional<Witness> witness(const OutlineQuestions<Other> &other) const {
+        return told::witness(hull_outline_witness(data(), size(), other.data(), other.size()));
+    }
+
+    // Where the two are nearest to one another; none where one of them has no corners.
+    template <class Other> std::optional<Distance> distance(const OutlineQuestions<Other> &other) const {
+        return told::distance(hull_outline_distance(data(), size(), other.data(), other.size()));
+    }
+
+protected:
+    OutlineQuestions() = default;
+
+private:
+    template <class Other> friend class OutlineQuestions;
+    const Point *data() const noexcept { return static_cast<const Self *>(this)->data(); }
+    std::size_t size() const noexcept { return static_cast<const Self *>(this)->size(); }
+};
+
+// The corners of a hull, as Hull::vertices tells them.
+class Outline : public OutlineQuestions<Outline> {
 public:
     // The outline of no point.
     Outline() = default;
@@ -493,7 +644,7 @@ public:
     // The outline of these corners: counterclockwise from the first by x and then by y, none inside an edge, at most
     // HULL_LIMIT_MAX; Refusal::no_outline where they are not.
     explicit Outline(std::vector<Point> corners) : corners_(std::move(corners)) {
-        if (told::number(hull_is_outline(data(), corners_.size())) != 1) {
+        if (told::number(hull_is_outline(data(), size())) != 1) {
             told::fault(HULL_NO_OUTLINE);
         }
     }
@@ -509,150 +660,14 @@ public:
 
     const std::vector<Point> &corners() const noexcept { return corners_; }
 
-    Place place(Point p) const { return told::place(hull_outline_place(data(), corners_.size(), p.x, p.y)); }
-
-    std::optional<Tangents> tangents(Point p) const {
-        return told::tangents(hull_outline_tangents(data(), corners_.size(), p.x, p.y));
-    }
-
-    std::optional<Point> extreme(Point direction) const {
-        return told::extreme(hull_outline_extreme(data(), corners_.size(), direction.x, direction.y));
-    }
-
-    // The point that lies farthest in a direction of two doubles, taken to whole numbers as hull_direction_from_doubles tells; in the
-    // direction (0, 0) the first point. Refusal::out_of_range where one is not finite.
-    std::optional<Point> extreme_d(double dx, double dy) const {
-        return told::extreme(hull_outline_extreme_d(data(), corners_.size(), dx, dy));
-    }
-
-    // Twice the area, 0 for a point and a line.
-    Area doubled_area() const { return told::number(hull_outline_area(data(), corners_.size())); }
-
-    // Each of many points, or directions, in their order.
-    std::vector<Place> place_all(const std::vector<Point> &points) const {
-        return told::all<Place>(HULL_KIND_PLACE, points, serve(), told::place);
-    }
-    std::vector<std::optional<Tangents>> tangents_all(const std::vector<Point> &points) const {
-        return told::all<std::optional<Tangents>>(HULL_KIND_TANGENTS, points, serve(), told::tangents);
-    }
-    std::vector<std::optional<Point>> extreme_all(const std::vector<Point> &directions) const {
-        return told::all<std::optional<Point>>(HULL_KIND_EXTREME, directions, serve(), told::extreme);
-    }
+    // Where the corners lie, and how many they are.
+    const Point *data() const noexcept { return corners_.data(); }
+    std::size_t size() const noexcept { return corners_.size(); }
 
     friend bool operator==(const Outline &a, const Outline &b) noexcept { return a.corners_ == b.corners_; }
     friend bool operator!=(const Outline &a, const Outline &b) noexcept { return !(a == b); }
 
-    // Whether the outline and the segment from `a` to `b`, which may be one point, have a point in common.
-    bool meets_segment(Point a, Point b) const {
-        return told::number(hull_outline_meets_segment(data(), corners_.size(), a.x, a.y, b.x, b.y)) == 1;
-    }
-
-    // What parts the outline from the segment; none where they meet, and for an outline of no corners.
-    std::optional<Separation> apart_from_segment(Point a, Point b) const {
-        return told::separation(hull_outline_apart(data(), corners_.size(), a.x, a.y, b.x, b.y));
-    }
-
-    // Where the nearest point is; none for an outline of no corners.
-    std::optional<Nearest> nearest(Point p) const {
-        return told::nearest(hull_outline_nearest(data(), corners_.size(), p.x, p.y), p);
-    }
-
-    // The smallest box; none for an outline of no corners.
-    std::optional<Box> bounding_box() const { return told::box(hull_outline_box(data(), corners_.size())); }
-
-    // How far the outline reaches in a direction: the greatest product of a corner with it less the least; none for an outline of no
-    // corners. Divided by the length of the direction it is the width along it.
-    std::optional<Area> width_along(Point direction) const {
-        const hull_reply r = hull_outline_width(data(), corners_.size(), direction.x, direction.y);
-        return r.code == HULL_EMPTY ? std::nullopt : std::optional<Area>(told::number(r));
-    }
-
-    // The two corners that are farthest from one another; none for an outline of no corners.
-    std::optional<std::pair<Point, Point>> diameter() const {
-        return told::points(hull_outline_diameter(data(), corners_.size()));
-    }
-
-    // Where the outline is least wide: no direction has a narrower strip; none where there are fewer than two corners.
-    std::optional<Strip> least_width() const {
-        const hull_witness w = hull_outline_least_width(data(), corners_.size());
-        return w.code == HULL_EDGE ? std::optional<Strip>(Strip{w.a, w.b, w.c}) : std::nullopt;
-    }
-
-    // Whether the two outlines have a point in common, boundaries included.
-    bool meets(const Outline &other) const {
-        return told::number(hull_outline_meets(data(), corners_.size(), other.data(), other.corners_.size())) == 1;
-    }
-
-    // Whether this outline covers whatever the other one covers.
-    bool contains(const Outline &other) const {
-        return told::number(hull_outline_contains(data(), corners_.size(), other.data(), other.corners_.size())) == 1;
-    }
-
-    // How this outline stands to the other one.
-    Relation relation(const Outline &other) const {
-        return static_cast<Relation>(told::number(hull_outline_relation(data(), corners_.size(), other.data(), other.corners_.size())));
-    }
-
-    // Whether all of the other outline lies inside this one, with no point of it on the boundary.
-    bool contains_inside(const Outline &other) const {
-        return told::number(hull_outline_contains_inside(data(), corners_.size(), other.data(), other.corners_.size())) == 1;
-    }
-
-    // Whether the two are no farther apart than numerator / denominator, exactly; false where one of them has no corners.
-    bool within(const Outline &other, std::uint64_t numerator, std::uint32_t denominator = 1) const {
-        return told::number(hull_outline_within(data(), corners_.size(), other.data(), other.corners_.size(), numerator, denominator)) == 1;
-    }
-
-    // The same of the segment from `a` to `b`, which may be one point, and of a point.
-    bool within_segment(Point a, Point b, std::uint64_t numerator, std::uint32_t denominator = 1) const {
-        return told::number(hull_outline_within_segment(data(), corners_.size(), a.x, a.y, b.x, b.y, numerator, denominator)) == 1;
-    }
-    bool within_point(Point p, std::uint64_t numerator, std::uint32_t denominator = 1) const {
-        return within_segment(p, p, numerator, denominator);
-    }
-
-    // How this outline stands to the segment from `a` to `b`, which may be one point.
-    Relation relation_to_segment(Point a, Point b) const {
-        return static_cast<Relation>(told::number(hull_outline_relation_to_segment(data(), corners_.size(), a.x, a.y, b.x, b.y)));
-    }
-
-    // How far the other outline, the segment from `a` to `b`, or a point is from this outline; none where there are no corners.
-    std::optional<Clearance> clearance(const Outline &other) const {
-        return told::clearance(hull_outline_clearance(data(), corners_.size(), other.data(), other.corners_.size()));
-    }
-    std::optional<Clearance> clearance_to_segment(Point a, Point b) const {
-        return told::clearance(hull_outline_clearance_to_segment(data(), corners_.size(), a.x, a.y, b.x, b.y));
-    }
-    std::optional<Clearance> clearance_to_point(Point p) const { return clearance_to_segment(p, p); }
-
-    // Where the ray from a point in a direction first comes in; none where it misses.
-    std::optional<Hit> cast_ray(Point from, Point direction) const {
-        return told::hit(hull_outline_cast_ray(data(), corners_.size(), from.x, from.y, direction.x, direction.y));
-    }
-
-    // The last point of that ray in the outline; none where it misses.
-    std::optional<Hit> last_on_ray(Point from, Point direction) const {
-        return told::hit(hull_outline_last_on_ray(data(), corners_.size(), from.x, from.y, direction.x, direction.y));
-    }
-
-    // Where the segment from `a` to `b` first comes in; none where it misses. Its last point in the outline is where that from `b` to
-    // `a` comes in.
-    std::optional<Hit> cast_segment(Point a, Point b) const {
-        return told::hit(hull_outline_cast_segment(data(), corners_.size(), a.x, a.y, b.x, b.y));
-    }
-
-    // Where the two meet, or what parts them; none where one of them has no corners.
-    std::optional<Witness> witness(const Outline &other) const {
-        return told::witness(hull_outline_witness(data(), corners_.size(), other.data(), other.corners_.size()));
-    }
-
-    // Where the two are nearest to one another; none where one of them has no corners.
-    std::optional<Distance> distance(const Outline &other) const {
-        return told::distance(hull_outline_distance(data(), corners_.size(), other.data(), other.corners_.size()));
-    }
-
 private:
-    const Point *data() const noexcept { return corners_.data(); }
     std::vector<Point> corners_;
 };
 
