@@ -30,7 +30,7 @@ use std::ptr::NonNull;
 
 pub use clearance::Clearance;
 pub use exchange::{direction_of, wkt, Lattice, Rounded};
-pub use outline::{Distance, Entry, Hit, Nearest, Outline, Relation, Separation, Strip, Witness};
+pub use outline::{Corners, Distance, Entry, Hit, Nearest, Outline, Relation, Separation, Strip, Witness};
 pub use raw::{Held, Point};
 pub use shared::{JournalPart, Limits, Seat, SharedHull, Stats, CAPACITY_LIMIT, SEAT_LIMIT};
 

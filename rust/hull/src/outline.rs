@@ -6,12 +6,19 @@ use crate::{answer, many};
 use crate::{Clearance, Fault, Place, Point, NOWHERE};
 use std::fmt;
 use std::hash::{Hash, Hasher};
+use std::ops::Deref;
 
 /// The corners of a hull, as [`Hull::vertices`](crate::Hull::vertices) tells them, to be asked as that hull was when they were
-/// taken. Nothing of it is ever written, so threads share it with no lock; a clone is the same corners.
+/// taken ([`Corners`] has the questions). Nothing of it is ever written, so threads share it with no lock; a clone is the same corners.
 #[derive(Clone)]
 pub struct Outline {
     corners: Counted<Vec<Point>>,
+}
+
+/// What is asked of the corners of a hull, wherever they lie: in an [`Outline`], or in the view of a reader of a shared hull.
+#[repr(transparent)]
+pub struct Corners {
+    points: [Point],
 }
 
 impl PartialEq for Outline {
@@ -183,15 +190,36 @@ impl Outline {
             _ => Err(Fault::NoOutline),
         }
     }
+}
+
+impl Deref for Outline {
+    type Target = Corners;
+
+    fn deref(&self) -> &Corners {
+        // SAFETY: they are an outline, as `new` saw.
+        unsafe { Corners::of(&self.corners) }
+    }
+}
+
+impl Corners {
+    /// The corners, as what is asked of them.
+    ///
+    /// # Safety
+    ///
+    /// They are an outline: the corners of a hull from the first by x and then by y, counterclockwise.
+    pub(crate) unsafe fn of(points: &[Point]) -> &Corners {
+        // SAFETY: it has the layout of the slice, and lives as long.
+        unsafe { &*(points as *const [Point] as *const Corners) }
+    }
 
     /// The corners.
     pub fn corners(&self) -> &[Point] {
-        &self.corners
+        &self.points
     }
 
     fn ask(&self, kind: u32, at: Point) -> Reply {
-        // SAFETY: the corners are an outline, as `new` saw, and nobody writes them.
-        unsafe { raw::hull_outline_call(self.corners.as_ptr(), self.corners.len(), kind, at.x, at.y) }
+        // SAFETY: the corners are an outline, as `Outline::new` saw, and nobody writes them.
+        unsafe { raw::hull_outline_call(self.points.as_ptr(), self.points.len(), kind, at.x, at.y) }
     }
 
     /// Where a point lies.
@@ -222,8 +250,8 @@ impl Outline {
         told: impl Fn(Reply) -> Result<T, Fault>,
     ) -> Result<Vec<T>, Fault> {
         let serve = |requests: &[Request], replies: &mut [Reply]| {
-            let corners = &self.corners;
-            // SAFETY: the corners are an outline, as `new` saw; the arrays were written, and are as long as is told.
+            let corners = &self.points;
+            // SAFETY: the corners are an outline, as `Outline::new` saw; the arrays were written, and are as long as is told.
             unsafe {
                 raw::hull_outline_calls(
                     corners.as_ptr(),
@@ -243,12 +271,12 @@ impl Outline {
         self.ask_all(kind::PLACE, points, answer::place)
     }
 
-    /// The tangent points seen from each of the points, as by [`tangents`](Outline::tangents).
+    /// The tangent points seen from each of the points, as by [`tangents`](Corners::tangents).
     pub fn tangents_all(&self, points: &[Point]) -> Result<Vec<Option<(Point, Point)>>, Fault> {
         self.ask_all(kind::TANGENTS, points, answer::tangents)
     }
 
-    /// The farthest point in each of the directions, as by [`extreme`](Outline::extreme).
+    /// The farthest point in each of the directions, as by [`extreme`](Corners::extreme).
     pub fn extreme_all(&self, directions: &[Point]) -> Result<Vec<Option<Point>>, Fault> {
         self.ask_all(kind::EXTREME, directions, answer::extreme)
     }
@@ -261,15 +289,15 @@ impl Outline {
 
     /// Whether the outline and the segment from `a` to `b`, which may be one point, have a point in common.
     pub fn meets_segment(&self, a: Point, b: Point) -> Result<bool, Fault> {
-        let corners = &self.corners;
-        // SAFETY: the corners are an outline, as `new` saw, and nobody writes them.
+        let corners = &self.points;
+        // SAFETY: the corners are an outline, as `Outline::new` saw, and nobody writes them.
         let told = unsafe { raw::hull_outline_meets_segment(corners.as_ptr(), corners.len(), a.x, a.y, b.x, b.y) };
         answer::number(told).map(|number| number == 1)
     }
 
     /// What parts the outline from the segment from `a` to `b`; `None` where they meet, and for an outline of no corners.
     pub fn apart_from_segment(&self, a: Point, b: Point) -> Result<Option<Separation>, Fault> {
-        let corners = &self.corners;
+        let corners = &self.points;
         // SAFETY: the same.
         let told = unsafe { raw::hull_outline_apart(corners.as_ptr(), corners.len(), a.x, a.y, b.x, b.y) };
         answer::separation(told)
@@ -278,75 +306,75 @@ impl Outline {
     /// Where the point is that is nearest to `point`; `None` for an outline of no corners.
     pub fn nearest(&self, point: Point) -> Result<Option<Nearest>, Fault> {
         // SAFETY: the same.
-        let told = unsafe { raw::hull_outline_nearest(self.corners.as_ptr(), self.corners.len(), point.x, point.y) };
+        let told = unsafe { raw::hull_outline_nearest(self.points.as_ptr(), self.points.len(), point.x, point.y) };
         answer::nearest(told)
     }
 
     /// The least and the greatest point of the smallest box with sides along the axes; `None` for an outline of no corners.
     pub fn bounding_box(&self) -> Option<(Point, Point)> {
         // SAFETY: the same.
-        answer::bounds(unsafe { raw::hull_outline_box(self.corners.as_ptr(), self.corners.len()) })
+        answer::bounds(unsafe { raw::hull_outline_box(self.points.as_ptr(), self.points.len()) })
     }
 
     /// How far the outline reaches in a direction: the greatest product of a corner with it less the least; `None` for an outline of
     /// no corners. Divided by the length of the direction it is the width along it.
     pub fn width_along(&self, direction: Point) -> Result<Option<u128>, Fault> {
         // SAFETY: the same.
-        let told = unsafe { raw::hull_outline_width(self.corners.as_ptr(), self.corners.len(), direction.x, direction.y) };
+        let told = unsafe { raw::hull_outline_width(self.points.as_ptr(), self.points.len(), direction.x, direction.y) };
         answer::width(told)
     }
 
     /// The two corners that are farthest from one another; `None` for an outline of no corners.
     pub fn diameter(&self) -> Option<(Point, Point)> {
         // SAFETY: the same.
-        answer::points(unsafe { raw::hull_outline_diameter(self.corners.as_ptr(), self.corners.len()) })
+        answer::points(unsafe { raw::hull_outline_diameter(self.points.as_ptr(), self.points.len()) })
     }
 
     /// Where the outline is least wide: no direction has a narrower strip; `None` where there are fewer than two corners.
     pub fn least_width(&self) -> Option<Strip> {
         // SAFETY: the same.
-        answer::strip(unsafe { raw::hull_outline_least_width(self.corners.as_ptr(), self.corners.len()) })
+        answer::strip(unsafe { raw::hull_outline_least_width(self.points.as_ptr(), self.points.len()) })
     }
 
     /// Whether the two outlines have a point in common, boundaries included.
-    pub fn meets(&self, other: &Outline) -> bool {
-        let (these, those) = (&self.corners, &other.corners);
+    pub fn meets(&self, other: &Corners) -> bool {
+        let (these, those) = (&self.points, &other.points);
         // SAFETY: the same, of both.
         unsafe { raw::hull_outline_meets(these.as_ptr(), these.len(), those.as_ptr(), those.len()) }.number == 1
     }
 
     /// Whether this outline covers whatever the other one covers.
-    pub fn contains(&self, other: &Outline) -> bool {
-        let (these, those) = (&self.corners, &other.corners);
+    pub fn contains(&self, other: &Corners) -> bool {
+        let (these, those) = (&self.points, &other.points);
         // SAFETY: the same.
         unsafe { raw::hull_outline_contains(these.as_ptr(), these.len(), those.as_ptr(), those.len()) }.number == 1
     }
 
     /// How this outline stands to the other one.
-    pub fn relation(&self, other: &Outline) -> Relation {
-        let (these, those) = (&self.corners, &other.corners);
+    pub fn relation(&self, other: &Corners) -> Relation {
+        let (these, those) = (&self.points, &other.points);
         // SAFETY: the same.
         answer::relation(unsafe { raw::hull_outline_relation(these.as_ptr(), these.len(), those.as_ptr(), those.len()) }.number)
     }
 
     /// Whether all of the other outline lies inside this one, with no point of it on the boundary.
-    pub fn contains_inside(&self, other: &Outline) -> bool {
-        let (these, those) = (&self.corners, &other.corners);
+    pub fn contains_inside(&self, other: &Corners) -> bool {
+        let (these, those) = (&self.points, &other.points);
         // SAFETY: the same.
         unsafe { raw::hull_outline_contains_inside(these.as_ptr(), these.len(), those.as_ptr(), those.len()) }.number == 1
     }
 
     /// Whether the two outlines are no farther apart than `numerator / denominator`, exactly; false where one of them has no corners.
     /// A length with the denominator 0 is longer than any distance.
-    pub fn within(&self, other: &Outline, numerator: u64, denominator: u32) -> bool {
-        let (these, those) = (&self.corners, &other.corners);
+    pub fn within(&self, other: &Corners, numerator: u64, denominator: u32) -> bool {
+        let (these, those) = (&self.points, &other.points);
         // SAFETY: the same.
         unsafe { raw::hull_outline_within(these.as_ptr(), these.len(), those.as_ptr(), those.len(), numerator, denominator) }.number == 1
     }
 
     /// The same of the outline and the segment from `a` to `b`, which may be one point.
     pub fn within_segment(&self, a: Point, b: Point, numerator: u64, denominator: u32) -> Result<bool, Fault> {
-        let corners = &self.corners;
+        let corners = &self.points;
         // SAFETY: the same.
         let told = unsafe {
             raw::hull_outline_within_segment(corners.as_ptr(), corners.len(), a.x, a.y, b.x, b.y, numerator, denominator)
@@ -361,15 +389,15 @@ impl Outline {
 
     /// How this outline stands to the segment from `a` to `b`, which may be one point.
     pub fn relation_to_segment(&self, a: Point, b: Point) -> Result<Relation, Fault> {
-        let corners = &self.corners;
+        let corners = &self.points;
         // SAFETY: the same.
         let told = unsafe { raw::hull_outline_relation_to_segment(corners.as_ptr(), corners.len(), a.x, a.y, b.x, b.y) };
         answer::number(told).map(|number| answer::relation(number as u64))
     }
 
     /// How far the two outlines are apart; `None` where one of them has no corners.
-    pub fn clearance(&self, other: &Outline) -> Option<Clearance> {
-        let (these, those) = (&self.corners, &other.corners);
+    pub fn clearance(&self, other: &Corners) -> Option<Clearance> {
+        let (these, those) = (&self.points, &other.points);
         // SAFETY: the same.
         let told = unsafe { raw::hull_outline_clearance(these.as_ptr(), these.len(), those.as_ptr(), those.len()) };
         answer::clearance(told).ok().flatten()
@@ -377,7 +405,7 @@ impl Outline {
 
     /// How far the segment from `a` to `b`, which may be one point, is from the outline; `None` for an outline of no corners.
     pub fn clearance_to_segment(&self, a: Point, b: Point) -> Result<Option<Clearance>, Fault> {
-        let corners = &self.corners;
+        let corners = &self.points;
         // SAFETY: the same.
         answer::clearance(unsafe { raw::hull_outline_clearance_to_segment(corners.as_ptr(), corners.len(), a.x, a.y, b.x, b.y) })
     }
@@ -389,14 +417,14 @@ impl Outline {
 
     /// Where the ray from `from` in a direction first comes in; `None` where it misses.
     pub fn cast_ray(&self, from: Point, direction: Point) -> Result<Option<Hit>, Fault> {
-        let corners = &self.corners;
+        let corners = &self.points;
         // SAFETY: the same.
         answer::hit(unsafe { raw::hull_outline_cast_ray(corners.as_ptr(), corners.len(), from.x, from.y, direction.x, direction.y) })
     }
 
     /// The last point in the outline of that ray; `None` where it misses.
     pub fn last_on_ray(&self, from: Point, direction: Point) -> Result<Option<Hit>, Fault> {
-        let corners = &self.corners;
+        let corners = &self.points;
         // SAFETY: the same.
         answer::hit(unsafe { raw::hull_outline_last_on_ray(corners.as_ptr(), corners.len(), from.x, from.y, direction.x, direction.y) })
     }
@@ -404,21 +432,21 @@ impl Outline {
     /// Where the segment from `a` to `b` first comes in; `None` where it misses. Its last point in the outline is where that from `b`
     /// to `a` comes in.
     pub fn cast_segment(&self, a: Point, b: Point) -> Result<Option<Hit>, Fault> {
-        let corners = &self.corners;
+        let corners = &self.points;
         // SAFETY: the same.
         answer::hit(unsafe { raw::hull_outline_cast_segment(corners.as_ptr(), corners.len(), a.x, a.y, b.x, b.y) })
     }
 
     /// Where the two outlines meet, or what parts them; `None` where one of them has no corners.
-    pub fn witness(&self, other: &Outline) -> Option<Witness> {
-        let (these, those) = (&self.corners, &other.corners);
+    pub fn witness(&self, other: &Corners) -> Option<Witness> {
+        let (these, those) = (&self.points, &other.points);
         // SAFETY: the same.
         answer::witness(unsafe { raw::hull_outline_witness(these.as_ptr(), these.len(), those.as_ptr(), those.len()) })
     }
 
     /// Where the two outlines are nearest to one another; `None` where one of them has no corners.
-    pub fn distance(&self, other: &Outline) -> Option<Distance> {
-        let (these, those) = (&self.corners, &other.corners);
+    pub fn distance(&self, other: &Corners) -> Option<Distance> {
+        let (these, those) = (&self.points, &other.points);
         // SAFETY: the same.
         answer::distance(unsafe { raw::hull_outline_distance(these.as_ptr(), these.len(), those.as_ptr(), those.len()) })
     }
