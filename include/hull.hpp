@@ -671,6 +671,23 @@ private:
     std::vector<Point> corners_;
 };
 
+// Corners that lie elsewhere, as those of a view that a Reader holds; to be asked as long as they lie there.
+class OutlineView : public OutlineQuestions<OutlineView> {
+public:
+    OutlineView() = default;
+
+    const Point *data() const noexcept { return at_; }
+    std::size_t size() const noexcept { return count_; }
+    const Point *begin() const noexcept { return at_; }
+    const Point *end() const noexcept { return at_ + count_; }
+
+private:
+    friend class Reader;
+    OutlineView(const Point *at, std::size_t count) : at_(at), count_(count) {}
+    const Point *at_ = nullptr;
+    std::size_t count_ = 0;
+};
+
 // A hull, which holds each of its points at least once; questions are over the points, each taken once. It may go to another
 // thread, and be used by one at a time; that goes for const calls, too. One that was moved from can be assigned to or end: its calls are
 // refused (Refusal::ended).
@@ -857,6 +874,7 @@ public:
 private:
     friend class SharedHull;
     friend class Seat;
+    friend class Reader;
     std::mutex lock_; // one call at a time on the desk; calls of seats don't take it
     // What is safe of the journal in the file, as a call of hull_shared_journal tells it.
     template <class Ask> std::uint64_t safe(const Ask &ask) {
@@ -1046,6 +1064,90 @@ private:
     std::optional<std::chrono::nanoseconds> patience_;
 };
 
+// A reader of a shared hull (SharedHull::lend_reader), which holds a view: the corners as they were behind one line of the journal. It
+// takes no lock, no turn and no line, waits for nobody, and nobody waits for it. One thread at a time uses it; it may go to another one,
+// and goes back when it ends.
+class Reader {
+public:
+    Reader(Reader &&) noexcept = default;
+    Reader &operator=(Reader &&other) noexcept {
+        if (this != &other) {
+            give_back();
+            desk_ = std::move(other.desk_), at_ = std::move(other.at_), view_ = other.view_, line_ = other.line_;
+        }
+        return *this;
+    }
+    ~Reader() { give_back(); }
+
+    // Gives the reader back to its hull, as its end does; calls throw from then on.
+    void give_back() noexcept {
+        if (desk_ && at_) {
+            const std::lock_guard<std::mutex> lock(desk_->lock_);
+            hull_shared_return_reader(desk_->at_, at_.get());
+        }
+        at_.reset();
+        desk_.reset();
+    }
+
+    // Takes the newest view, where this is not it: it shows what each call did that had returned before. What was told of the view before
+    // is over then. Where others were in the way a thousand times, the view is the one from before, and this is false.
+    bool read() {
+        const hull_shared_view v = hull_shared_read(alive());
+        view_ = OutlineView(static_cast<const Point *>(v.corners), v.count);
+        line_ = v.has_line != 0 ? std::optional<std::uint64_t>(v.line) : std::nullopt;
+        return v.code == HULL_VIEWED;
+    }
+
+    // Whether the view is still the newest: one look.
+    bool is_newest() const { return hull_shared_is_newest(alive()) == 1; }
+
+    // The view, and the number of the line behind which it is true; none where it is that of a hull with no line.
+    const OutlineView &view() const noexcept { return view_; }
+    std::optional<std::uint64_t> line() const noexcept { return line_; }
+
+    // The newest view: this one, or another that is taken.
+    const OutlineView &newest() {
+        if (!is_newest()) {
+            read();
+        }
+        return view_;
+    }
+
+private:
+    friend class SharedHull;
+    struct Free {
+        void operator()(hull_shared_reader *at) const noexcept { hull_shared_reader_free(at); }
+    };
+
+    explicit Reader(std::shared_ptr<Desk> desk) : desk_(std::move(desk)) {
+        std::unique_ptr<hull_shared_reader, Free> at(hull_shared_reader_new());
+        if (!at) {
+            told::fault(HULL_NO_MEMORY);
+        }
+        {
+            const std::lock_guard<std::mutex> lock(desk_->lock_);
+            const std::uint32_t code = hull_shared_lend_reader(desk_->at_, at.get());
+            if (code != HULL_LENT) {
+                told::fault(code);
+            }
+        }
+        at_ = std::move(at);
+        read();
+    }
+
+    hull_shared_reader *alive() const {
+        if (!at_) {
+            told::fault(HULL_VACANT);
+        }
+        return at_.get();
+    }
+
+    std::shared_ptr<Desk> desk_;
+    std::unique_ptr<hull_shared_reader, Free> at_;
+    OutlineView view_;
+    std::optional<std::uint64_t> line_;
+};
+
 // One hull that up to HULL_SHARED_SEATS_MAX threads change and question at once, each by a seat of its own. Each call takes
 // effect at one moment between its beginning and its end, in the order of the calls' numbers, and has its line in a journal.
 // The hull may be moved, and used by several threads at once.
@@ -1138,6 +1240,16 @@ public:
 
     // Lends the seat of a number, 0 and up.
     Seat lend(std::uint32_t number) { return Seat(desk(), number); }
+
+    // Has calls publish for so many readers, before a seat is lent; and lends a reader. Refusal::no_seat where as many are out.
+    void admit(std::uint32_t readers) {
+        const std::lock_guard<std::mutex> lock(desk()->lock_);
+        const std::uint32_t code = hull_shared_admit(desk_->at_, readers);
+        if (code != HULL_ADMITTED) {
+            told::fault(code);
+        }
+    }
+    Reader lend_reader() { return Reader(desk()); }
 
     // Closes the hull, unless it is closed; the text of its journal, which the program hullbook judges, and which stands last in the file
     // that the hull keeps, if it does (Refusal::no_file where it does not). Refusal::seats_out where a seat is out: the hull stays open.

@@ -110,7 +110,13 @@ typedef enum hull_code {
     /* of files that keep a journal alone */
     HULL_NO_FILE = 64,       /* the system refused a call on the file: errno is told with it */
     HULL_DAMAGED = 65,       /* line `number` of the file, from 1, is wrong, and more than a torn part stands from there on */
-    HULL_SAFE = 66           /* the lines before line `number` are in the file for good */
+    HULL_SAFE = 66,          /* the lines before line `number` are in the file for good */
+
+    /* of readers alone */
+    HULL_VIEWED = 67,        /* the reader holds this view, and had the newest */
+    HULL_OLD = 68,           /* it holds the view that it held before: others were in the way of a newer one */
+    HULL_ADMITTED = 69,      /* the desk publishes for readers now */
+    HULL_WAS_ADMITTED = 70   /* it does already */
 } hull_code;
 
 /* What a call was answered: a code (hull_code), and what belongs to it (told above); all else is 0. */
@@ -212,6 +218,10 @@ static inline const char *hull_code_name(uint32_t code) {
     case HULL_NO_FILE: return "HULL_NO_FILE";
     case HULL_DAMAGED: return "HULL_DAMAGED";
     case HULL_SAFE: return "HULL_SAFE";
+    case HULL_VIEWED: return "HULL_VIEWED";
+    case HULL_OLD: return "HULL_OLD";
+    case HULL_ADMITTED: return "HULL_ADMITTED";
+    case HULL_WAS_ADMITTED: return "HULL_WAS_ADMITTED";
     default: return "no code";
     }
 }

@@ -58,6 +58,9 @@ extern "C" {
 #define HULL_SHARED_CAPACITY_MAX 16777215
 #define HULL_SHARED_SEATS_MAX 64
 
+/* How many readers a desk may admit. */
+#define HULL_SHARED_READERS_MAX 64
+
 /* What a take or a look came to: an answer, and the number that the seat took, its turn. It is told with each answer, with
  * HULL_FULL, HULL_TAKEN, HULL_WAITING and HULL_NOT_YET, and is 0 where the seat has none. Behind an answer or HULL_FULL the turn
  * after it is served. A line of the journal has a number of its own, the one after that of the line before it: it is told in
@@ -296,6 +299,75 @@ static inline hull_reply hull_shared_text_size(const hull_shared_desk *desk) {
 static inline hull_reply hull_shared_part_text_size(const hull_shared_part *part) {
     return hull_shared_part_text(part, NULL, 0);
 }
+
+/* ---- readers
+ *
+ * A thread that asks more than it changes has a reader, beside the seats: it reads views, each the corners as they were behind one line
+ * of the journal, with no lock, no line and no turn, by a few atomic steps. Nobody waits for a reader and a reader for nobody. A view is
+ * an outline (hull_outline_call and all other calls of include/hull.h on outlines ask it), and stays as it is while it is held.
+ *
+ *     hull_shared_admit(desk, 8);                               // behind the opening, before a seat is lent
+ *     hull_shared_reader *reader = hull_shared_reader_new();    // one for each thread
+ *     hull_shared_lend_reader(desk, reader);
+ *     hull_shared_view view = hull_shared_read(reader);         // in that thread, as often as one likes
+ *     hull_outline_place(view.corners, view.count, 3, 4);       // true behind line view.line
+ *
+ * A call that changes what is held publishes the corners behind its line before it returns, so a view that is read then is of that line or of a
+ * later one; questions of seats publish nothing. Where the corners stay, which a question to them tells, they are shared; else they are
+ * copied, in time in proportion to them, and so a desk that nobody reads admits none. Where memory for a view is refused, the call is
+ * made all the same, and the next change publishes: until then views are of the line before. */
+
+/* A room for a reader. One call at a time is made with it. */
+typedef struct hull_shared_reader hull_shared_reader;
+
+/* What a reader holds: HULL_VIEWED, or HULL_OLD where it is the view that was held before since others were in the way a thousand times.
+ * The corners lie at `corners`, as hull_vertices writes them, until the room reads again or is given back. `lines` tells how many lines
+ * of the whole journal they are behind, and `line` the number of the last of these, where `has_line` is 1. HULL_VACANT, and no corners,
+ * where the room has no reader. */
+typedef struct hull_shared_view {
+    const hull_point *corners;
+    size_t count;
+    uint64_t lines;
+    uint64_t line;
+    uint32_t has_line;
+    uint32_t code;
+} hull_shared_view;
+
+/* How many bytes a room has, and at which multiples of bytes it begins; and a room is made, with no reader. */
+size_t hull_shared_reader_size(void);
+size_t hull_shared_reader_alignment(void);
+void hull_shared_make_reader(hull_shared_reader *room);
+
+static inline hull_shared_reader *hull_shared_reader_new(void) {
+    hull_shared_reader *reader =
+        (hull_shared_reader *)hull_room_new(hull_shared_reader_size(), hull_shared_reader_alignment());
+    if (reader != NULL) {
+        hull_shared_make_reader(reader);
+    }
+    return reader;
+}
+
+/* Gives the memory of a room with no reader back to free; nothing where it is null. */
+static inline void hull_shared_reader_free(hull_shared_reader *reader) {
+    hull_room_free(reader);
+}
+
+/* Has the desk publish for so many readers, from what is held now on: ADMITTED; NOT_OPEN, OUT_OF_LIMITS, SEATS_OUT where a seat is out,
+ * WAS_ADMITTED where it does already, NO_MEMORY. All memory but that of views is asked for here. */
+uint32_t hull_shared_admit(hull_shared_desk *desk, uint32_t readers);
+
+/* Moves a reader into the room: LENT; NOT_OPEN, ROOM_IN_USE, NO_SEAT where as many are out as were admitted. It holds the newest view. */
+uint32_t hull_shared_lend_reader(hull_shared_desk *desk, hull_shared_reader *room);
+
+/* Moves it back to the desk that it went out of, and lets its view go: RETURNED; NOT_OPEN, VACANT. The desk closes once all readers are
+ * back. */
+uint32_t hull_shared_return_reader(hull_shared_desk *desk, hull_shared_reader *room);
+
+/* Takes the newest view, where the reader does not hold it; the one before is let go then. */
+hull_shared_view hull_shared_read(hull_shared_reader *reader);
+
+/* Whether the view that the reader holds is the newest: 1 or 0, by one look. */
+uint32_t hull_shared_is_newest(hull_shared_reader *reader);
 
 /* ---- waiting
  *
