@@ -1241,12 +1241,13 @@ public:
     // Lends the seat of a number, 0 and up.
     Seat lend(std::uint32_t number) { return Seat(desk(), number); }
 
-    // Has calls publish for so many readers, before a seat is lent; and lends a reader. Refusal::no_seat where as many are out.
+    // Has calls publish for so many readers: Refusal::seats_out, out_of_limits (where they were admitted before, too), no_memory. And lends
+    // a reader: Refusal::no_seat where as many are out as were admitted.
     void admit(std::uint32_t readers) {
         const std::lock_guard<std::mutex> lock(desk()->lock_);
         const std::uint32_t code = hull_shared_admit(desk_->at_, readers);
         if (code != HULL_ADMITTED) {
-            told::fault(code);
+            told::fault(code == HULL_WAS_ADMITTED ? HULL_OUT_OF_LIMITS : code);
         }
     }
     Reader lend_reader() { return Reader(desk()); }

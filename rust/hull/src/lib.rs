@@ -21,6 +21,7 @@ mod exchange;
 mod many;
 mod outline;
 mod raw;
+mod reader;
 mod shared;
 
 use raw::{kind, Reply};
@@ -32,7 +33,8 @@ pub use clearance::Clearance;
 pub use exchange::{direction_of, wkt, Lattice, Rounded};
 pub use outline::{Corners, Distance, Entry, Hit, Nearest, Outline, Relation, Separation, Strip, Witness};
 pub use raw::{Held, Point};
-pub use shared::{JournalPart, Limits, Seat, SharedHull, Stats, CAPACITY_LIMIT, SEAT_LIMIT};
+pub use reader::Reader;
+pub use shared::{JournalPart, Limits, Seat, SharedHull, Stats, CAPACITY_LIMIT, READER_LIMIT, SEAT_LIMIT};
 
 /// The greatest size of a coordinate, of a point and of a direction: 2^40.
 pub const COORDINATE_LIMIT: i64 = 1 << 40;

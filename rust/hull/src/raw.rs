@@ -83,6 +83,17 @@ pub(crate) struct SeatReply {
     pub has_line: u32,
 }
 
+/// What a reader holds.
+#[repr(C)]
+pub(crate) struct View {
+    pub corners: *const Point,
+    pub count: usize,
+    pub lines: u64,
+    pub line: u64,
+    pub has_line: u32,
+    pub code: u32,
+}
+
 /// Where the calls of a desk wait: all zero, it is ready.
 #[repr(C, align(64))]
 pub(crate) struct Line {
@@ -218,6 +229,9 @@ pub(crate) mod code {
     pub const NO_FILE: u32 = 64;
     pub const DAMAGED: u32 = 65;
     pub const SAFE: u32 = 66;
+    pub const VIEWED: u32 = 67;
+    pub const ADMITTED: u32 = 69;
+    pub const WAS_ADMITTED: u32 = 70;
 }
 
 /// The numbers of the kinds.
@@ -381,6 +395,14 @@ extern "C" {
     pub(crate) fn hull_shared_lend_with_line(desk: *mut u8, line: *mut u8, room: *mut u8, number: u32) -> u32;
     pub(crate) fn hull_shared_give_back_with_line(desk: *mut u8, room: *mut u8) -> u32;
     pub(crate) fn hull_shared_call_into(line: *mut u8, seat: *mut u8, kind: u32, x: i64, y: i64, to: Target, until: u64) -> SeatReply;
+    pub(crate) fn hull_shared_reader_size() -> usize;
+    pub(crate) fn hull_shared_reader_alignment() -> usize;
+    pub(crate) fn hull_shared_make_reader(room: *mut u8);
+    pub(crate) fn hull_shared_admit(desk: *mut u8, readers: u32) -> u32;
+    pub(crate) fn hull_shared_lend_reader(desk: *mut u8, room: *mut u8) -> u32;
+    pub(crate) fn hull_shared_return_reader(desk: *mut u8, room: *mut u8) -> u32;
+    pub(crate) fn hull_shared_read(reader: *mut u8) -> View;
+    pub(crate) fn hull_shared_is_newest(reader: *mut u8) -> u32;
     pub(crate) fn hull_shared_now() -> u64;
     pub(crate) fn hull_shared_line_wait_for_room(line: *mut u8, waits: i32);
     pub(crate) fn hull_shared_line_on_half_full(line: *mut u8, hook: Hook, context: *mut u8) -> i32;

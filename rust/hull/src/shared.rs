@@ -2,7 +2,7 @@
 use crate::answer;
 use crate::counted::Counted;
 use crate::raw::{self, code, kind, Line, Reply, Target};
-use crate::{Fault, Place, Point, Vertices, NOWHERE};
+use crate::{Fault, Place, Point, Reader, Vertices, NOWHERE};
 use std::alloc::{alloc, dealloc, Layout};
 use std::any::Any;
 use std::cell::Cell;
@@ -34,8 +34,11 @@ pub struct Limits {
     pub seats: u32,
 }
 
-/// Memory in which a desk, a seat or a part lies, which is given back when it is dropped.
-struct Room {
+/// The greatest number of readers of a shared hull.
+pub const READER_LIMIT: u32 = 64;
+
+/// Memory in which a desk, a seat, a reader or a part lies, which is given back when it is dropped.
+pub(crate) struct Room {
     at: NonNull<u8>,
     layout: Layout,
 }
@@ -44,14 +47,14 @@ struct Room {
 unsafe impl Send for Room {}
 
 impl Room {
-    fn new(size: usize, alignment: usize) -> Result<Room, Fault> {
+    pub(crate) fn new(size: usize, alignment: usize) -> Result<Room, Fault> {
         let layout = Layout::from_size_align(size, alignment).expect("a room has a layout");
         // SAFETY: the layout has a size of more than 0.
         let at = NonNull::new(unsafe { alloc(layout) }).ok_or(Fault::NoMemory)?;
         Ok(Room { at, layout })
     }
 
-    fn at(&self) -> *mut u8 {
+    pub(crate) fn at(&self) -> *mut u8 {
         self.at.as_ptr()
     }
 }
@@ -73,7 +76,7 @@ thread_local! {
 
 /// A desk, on which there is one call at a time, and the line in which the calls of its seats wait. The hull and each seat that is out
 /// own it together.
-struct Desk {
+pub(crate) struct Desk {
     room: Mutex<Room>,
     line: Line,
     keep: Mutex<Option<Keep>>,
@@ -142,7 +145,7 @@ impl Desk {
         }
     }
 
-    fn lock(&self) -> MutexGuard<'_, Room> {
+    pub(crate) fn lock(&self) -> MutexGuard<'_, Room> {
         self.room.lock().unwrap_or_else(PoisonError::into_inner)
     }
 }
@@ -388,6 +391,21 @@ impl SharedHull {
                 other => Err(answer::fault_of(other)),
             }
         }
+    }
+
+    /// Has calls publish what they leave for so many readers, 1 to [`READER_LIMIT`]; [`Fault::SeatsOut`] where a seat is out,
+    /// [`Fault::BadLimit`] where there may not be so many, or they were admitted before, and [`Fault::NoMemory`].
+    pub fn admit(&self, readers: u32) -> Result<(), Fault> {
+        // SAFETY: the desk lies in its room, whose lock keeps other calls away.
+        match unsafe { raw::hull_shared_admit(self.desk.lock().at(), readers) } {
+            code::ADMITTED => Ok(()),
+            other => Err(answer::fault_of(other)),
+        }
+    }
+
+    /// Lends a reader; [`Fault::NoSeat`] where as many are out as were admitted, and [`Fault::NotOpen`] once the hull is closed.
+    pub fn lend_reader(&self) -> Result<Reader, Fault> {
+        Reader::new(&self.desk)
     }
 
     /// Closes the hull, unless it is closed, and returns the text of its journal, of the lines that were not taken out, which the
