@@ -1247,7 +1247,7 @@ public:
         const std::lock_guard<std::mutex> lock(desk()->lock_);
         const std::uint32_t code = hull_shared_admit(desk_->at_, readers);
         if (code != HULL_ADMITTED) {
-            told::fault(code == HULL_WAS_ADMITTED ? HULL_OUT_OF_LIMITS : code);
+            told::fault(code == HULL_WAS_ADMITTED ? std::uint32_t{HULL_OUT_OF_LIMITS} : code);
         }
     }
     Reader lend_reader() { return Reader(desk()); }

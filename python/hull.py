@@ -56,9 +56,9 @@ if sys.version_info < (3, 8):
 
 __version__ = "2.0.0"
 __all__ = [
-    "CAPACITY_LIMIT", "COORDINATE_LIMIT", "MULTIPLICITY_LIMIT", "POINT_LIMIT", "SEAT_LIMIT", "Busy", "Ended", "FloatHull", "Hull",
-    "JournalFault", "JournalFull", "JournalPart", "Lattice", "NoSeat", "OutOfRange", "Outline", "Place", "Relation", "Seat", "SeatsOut",
-    "SharedHull", "Shows", "Stats", "TooMany", "Witness", "ZeroDirection", "direction_of", "from_floats", "merge", "to_floats", "wkt",
+    "CAPACITY_LIMIT", "COORDINATE_LIMIT", "MULTIPLICITY_LIMIT", "POINT_LIMIT", "READER_LIMIT", "SEAT_LIMIT", "Busy", "Ended", "FloatHull", "Hull",
+    "JournalFault", "JournalFull", "JournalPart", "Lattice", "NoSeat", "OutOfRange", "Outline", "Place", "Reader", "Relation", "Seat", "SeatsOut",
+    "SharedHull", "Shows", "Stats", "TooMany", "View", "Witness", "ZeroDirection", "direction_of", "from_floats", "merge", "to_floats", "wkt",
 ]
 
 #: A point, and one that is held with how often it is.
@@ -87,6 +87,8 @@ MULTIPLICITY_LIMIT = 65535
 CAPACITY_LIMIT = (1 << 24) - 1
 #: The greatest number of seats of a shared hull.
 SEAT_LIMIT = 64
+#: The greatest number of readers of a shared hull.
+READER_LIMIT = 64
 
 
 class OutOfRange(ValueError):
@@ -174,6 +176,8 @@ class _Code(enum.IntEnum):
     BUSY = 62
     NO_FILE = 64
     DAMAGED = 65
+    ADMITTED = 69
+    WAS_ADMITTED = 70
 
 
 class _Kind(enum.IntEnum):
@@ -336,6 +340,9 @@ def _shared_library() -> ctypes.CDLL:
         ("python_give_back", [at], None), ("python_ask", [at, number, whole, whole], _Reply),
         ("python_ask_vertices", [at, at, size], _Reply), ("python_drain", [at, at], _Reply),
         ("python_capacity", [at], number), ("python_turn", [at, at], number),
+        ("python_admit", [at, number], number), ("python_reader_new", [], at), ("python_reader_free", [at], None),
+        ("python_lend_reader", [at, at], number), ("python_return_reader", [at], None), ("python_is_newest", [at], number),
+        ("python_read", [at, at, size], _Reply),
         ("python_part_new", [number], at), ("python_part_free", [at], None),
         ("python_text_from", [at, long, at, size], _Reply), ("python_part_text", [at, at, size], _Reply),
         ("python_part_text_from", [at, long, at, size], _Reply),
@@ -360,10 +367,11 @@ _HullAt = _kind(_LIBRARY.hull_python_free)
 
 
 @functools.lru_cache(maxsize=None)
-def _shared_kinds() -> Tuple[Any, Any, Any]:
-    """The classes of where a desk, a seat and a part lie."""
+def _shared_kinds() -> Tuple[Any, Any, Any, Any]:
+    """The classes of where a desk, a seat, a part and a reader lie."""
     library = _shared_library()
-    return _kind(library.hull_python_desk_free), _kind(library.hull_python_seat_free), _kind(library.hull_python_part_free)
+    return (_kind(library.hull_python_desk_free), _kind(library.hull_python_seat_free), _kind(library.hull_python_part_free),
+            _kind(library.hull_python_reader_free))
 
 
 def _at(kind: Any, place: Optional[int]) -> Any:
@@ -1559,6 +1567,21 @@ class SharedHull:
             _told(_Code.NO_SEAT)
         return Seat(self._desk, number)
 
+    def admit(self, readers: SupportsIndex) -> None:
+        """Has calls publish what they leave for so many readers, 1 to READER_LIMIT; before a seat is lent, and once.
+
+        Each change copies the corners for them where it alters these. SeatsOut where a seat is out.
+        """
+        code = _shared_library().hull_python_admit(self._desk, min(max(operator.index(readers), 0), READER_LIMIT + 1))
+        if code == _Code.WAS_ADMITTED:
+            raise ValueError("the hull has admitted readers already")
+        if code != _Code.ADMITTED:
+            _refused(code)
+
+    def lend_reader(self) -> Reader:
+        """Lends a reader, for one thread; NoSeat where as many are out as were admitted."""
+        return Reader(self._desk)
+
     def _close(self) -> None:
         """Closes the hull, unless it is closed."""
         told = _shared_library().hull_python_close(self._desk)
@@ -1662,6 +1685,69 @@ class JournalPart:
     def __iter__(self) -> Iterator[str]:
         for piece in self.pieces():
             yield from piece.splitlines()
+
+
+class View(Outline):
+    """The corners of a shared hull as they were behind one line of its journal, to be asked as an Outline."""
+
+    __slots__ = ("line",)
+
+    #: The number of that line; None where the hull had none.
+    line: Optional[int]
+
+
+class Reader:
+    """A reader of a shared hull, beside its seats: it takes no turn and no line, waits for nobody, and nobody waits for it.
+
+    It goes back to its hull by `give_back`, at the end of a `with`, and when it is let go.
+    """
+
+    __slots__ = ("_at", "_view", "__weakref__")
+
+    def __init__(self, desk: Any) -> None:
+        self._view: Optional[View] = None
+        self._at = _at(_shared_kinds()[3], _shared_library().hull_python_reader_new())
+        _told(_shared_library().hull_python_lend_reader(self._at, desk))
+
+    def __reduce__(self) -> Any:
+        raise TypeError("a reader lies in one place: it can't be copied")
+
+    def __enter__(self) -> Reader:
+        return self
+
+    def __exit__(self, *_: object) -> None:
+        self.give_back()
+
+    def give_back(self) -> None:
+        """Gives the reader back to its hull. Calls on it raise ValueError from then on; its views stay."""
+        _shared_library().hull_python_return_reader(self._at)
+
+    def is_newest(self) -> bool:
+        """Whether no view is newer than the one that `view` returned last."""
+        code = _shared_library().hull_python_is_newest(self._at)
+        if code > 1:
+            _refused(code)
+        return self._view is not None and code == 1
+
+    def view(self) -> View:
+        """The newest view: it shows what each call did that had returned before. The same one as before where none is newer."""
+        if self._view is None or not self.is_newest():
+            self._view = self._read()
+        return self._view
+
+    def _read(self) -> View:
+        """The newest view, copied."""
+        lines: List[Optional[int]] = []
+
+        def read(out: int, room: int) -> _Reply:
+            told: _Reply = _shared_library().hull_python_read(self._at, out, room)
+            lines.append(told.high if told.x else None)
+            return told
+
+        view = View(())
+        view._hold(_written_corners(read))
+        view.line = lines[-1]
+        return view
 
 
 class Seat:

@@ -25,6 +25,13 @@ typedef struct hull_python_seat {
     uint64_t patience; /* for how many nanoseconds a call waits, HULL_SHARED_NEVER for ever */
 } hull_python_seat;
 
+/* A room for a reader. */
+typedef struct hull_python_reader {
+    hull_owned owned;
+    hull_shared_reader *reader;
+    hull_python_desk *desk; /* null where it has none */
+} hull_python_reader;
+
 typedef struct hull_python_part {
     hull_owned owned;
     hull_shared_part *part;
@@ -353,6 +360,96 @@ uint32_t hull_python_turn(hull_python_seat *s, uint64_t *turn) {
         hull_leaves(&s->owned);
     }
     return has;
+}
+
+/* Has the desk publish for so many readers. */
+uint32_t hull_python_admit(hull_python_desk *d, uint32_t readers) {
+    HULL_CODE_OF(d, hull_shared_admit(d->desk, readers));
+}
+
+hull_python_reader *hull_python_reader_new(void) {
+    hull_python_reader *r = (hull_python_reader *)calloc(1, sizeof *r);
+    hull_shared_reader *reader = r == NULL ? NULL : hull_shared_reader_new();
+    if (reader == NULL) {
+        free(r);
+        return NULL;
+    }
+    r->reader = reader;
+    hull_begins(&r->owned, 0);
+    return r;
+}
+
+/* Moves a reader into the room, which owns the desk from then on. */
+static uint32_t lend_reader(hull_python_reader *r, hull_python_desk *d) {
+    const uint32_t code = hull_shared_lend_reader(d->desk, r->reader);
+    if (code == HULL_LENT) {
+        r->desk = d;
+        d->owners++;
+    }
+    return code;
+}
+
+uint32_t hull_python_lend_reader(hull_python_reader *r, hull_python_desk *d) {
+    HULL_CODE_OF(d, lend_reader(r, d));
+}
+
+/* Moves the reader back, and lets its desk go. */
+static void return_reader(hull_python_reader *r) {
+    hull_python_desk *d = r->desk;
+    r->desk = NULL;
+    if (d != NULL && hull_enters(&d->owned)) {
+        hull_shared_return_reader(d->desk, r->reader);
+        hull_leaves(&d->owned);
+        hull_python_desk_free(d);
+    }
+}
+
+void hull_python_return_reader(hull_python_reader *r) {
+    if (hull_enters(&r->owned)) {
+        return_reader(r);
+        hull_leaves(&r->owned);
+    }
+}
+
+void hull_python_reader_free(hull_python_reader *r) {
+    if (!r->owned.is_ended) {
+        return_reader(r);
+    }
+    if (hull_goes(&r->owned)) {
+        hull_shared_reader_free(r->reader);
+        free(r);
+    }
+}
+
+/* Whether the view is the newest; ENDED and VACANT tell why it can't be said. */
+static uint32_t is_newest(hull_python_reader *r) {
+    return r->desk == NULL ? HULL_VACANT : hull_shared_is_newest(r->reader);
+}
+
+uint32_t hull_python_is_newest(hull_python_reader *r) {
+    HULL_CODE_OF(r, is_newest(r));
+}
+
+/* Copies the newest view into the array, if it has room: CORNERS, with how many; x tells whether it has a line, and `high` which. */
+static hull_reply read_into(hull_python_reader *r, hull_point *out, size_t room) {
+    hull_reply reply;
+    memset(&reply, 0, sizeof reply);
+    reply.code = HULL_VACANT;
+    if (r->desk != NULL) {
+        const hull_shared_view view = hull_shared_read(r->reader);
+        reply.code = view.count <= room ? HULL_CORNERS : HULL_TOO_SMALL;
+        reply.number = view.count;
+        reply.x = view.has_line;
+        reply.high = view.line;
+        if (view.count != 0 && view.count <= room) {
+            memcpy(out, view.corners, view.count * sizeof *out);
+        }
+    }
+    return reply;
+}
+
+hull_reply hull_python_read(hull_python_reader *r, hull_point *out, size_t room) {
+    HULL_REPLY_OF(r, read_into(r, out, room));
 }
 
 /* A part with room for so many lines. */
