@@ -5,7 +5,7 @@
 # all of them inside the door, also with threads held up between the steps of waiting, whose journal `bin/hullbook check`
 # judges, eight of which one takes the lines out, and eight that keep none, up to 64 at desks of few lines that drain by
 # themselves, every code, each request for memory refused in turn, what a call in a line promises but its answer (waits.c), every
-# order of the steps of the door (door_model.c), files of journals whose process is killed (kills.c), a service of 64 threads that is
+# order of the steps of the door (door_model.c), views of readers beside them (readers.c), files of journals whose process is killed (kills.c), a service of 64 threads that is
 # killed and taken up again (service.c), and wake-ups out of order (wakeups.sh). The gate runs it. What is missing here (a
 # compiler, python3, valgrind) is told and skipped, and counts nothing. The last line counts, and the status is not 0 where
 # something failed. With a number, that many calls a thread; with a second one, so many kills (150).
@@ -127,6 +127,7 @@ in_c() {
     count "drains.c compiles" $?
     drains
     storms_of_full_desks
+    readings
     waits
     journals
     services
@@ -192,6 +193,22 @@ storms_of_full_desks() {
     full 8 $((calls / 100)) 200
     build_by_pthreads "$here/full.c"
     full 8 $((calls / 100)) 200
+}
+
+# threads that read while others make calls: SEATS READERS CALLS
+read_by() {
+    "$room/readers" "$1" "$2" "$3" >"$room/told"
+    count "$1 seats of $3 calls and $2 readers: $(cat "$room/told")" $?
+}
+
+readings() {
+    build "$here/readers.c" -lhull
+    count "readers.c compiles" $?
+    read_by 4 60 $((calls / 5))
+    read_by 1 1 "$calls"
+    read_by 8 2 $((calls / 5))
+    build_slow "$here/readers.c" -lhull
+    read_by 4 60 $((calls / 50))
 }
 
 # what calls in a line promise but their answers
@@ -375,6 +392,16 @@ if is_there c++; then
     count "parts of a journal in C++, and a hull that goes on with the first: both are one legal journal" $?
 else
     skip "C++" c++
+fi
+ompl=$(pkg-config --cflags ompl eigen3 2>/dev/null || :)
+# shellcheck disable=SC2086 # the flags stand apart by spaces
+if is_there c++ && echo '#include <ompl/base/MotionValidator.h>' | c++ $ompl -std=c++20 -x c++ -E - >/dev/null 2>&1; then
+    c++ $ompl -std=c++20 -Wall -Wextra -O2 -I"$prefix/include" "$examples/moving.cpp" -L"$prefix/lib" -lhull -lhull_shared -lompl -lpthread \
+        -o "$room/moving" 2>"$room/told" && "$room/moving" 2>"$room/told" | cmp - "$examples/moving.txt" && "$room/moving" mutex >"$room/said" 2>>"$room/told" &&
+        "$room/moving" copies >"$room/said" 2>>"$room/told"
+    count "examples/shared/moving.cpp plans beside OMPL: $(tr '\n' ' ' <"$room/told")" $?
+else
+    skip "planners among obstacles that move" libompl-dev
 fi
 if is_there rustc; then in_rust; else skip "Rust" rustc; fi
 if is_there python3; then in_python; else skip "Python" python3; fi

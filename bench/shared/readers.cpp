@@ -1,0 +1,338 @@
+// Threads that ask while one thread changes: readers of a shared hull, beside a std::shared_mutex round a hull of one thread, copies of
+// the corners behind a std::atomic<std::shared_ptr> (C++20), and seats.
+//
+//     readers [POINTS [CHANGES [MILLISECONDS [ROUNDS]]]]
+//
+// A square of 2^21 a side has so many random points at first (1000). One thread adds and removes random points in turn, so many a second
+// (10000), and one, two or four others ask where random points lie, for so long (300). The ways take turns, in so many rounds (5); of
+// each the best. Then what a change takes alone that leaves the corners, with readers and with none; and a view, taken and let go.
+#include "hull.h"
+#include "hull_shared.h"
+
+#include <algorithm>
+#include <atomic>
+#include <chrono>
+#include <cstdio>
+#include <cstdlib>
+#include <memory>
+#include <mutex>
+#include <shared_mutex>
+#include <thread>
+#include <vector>
+
+namespace {
+
+constexpr std::int64_t side = 1 << 20;
+constexpr unsigned most_threads = 4;
+using Clock = std::chrono::steady_clock;
+
+// Random coordinates (xorshift; Marsaglia, 2003).
+struct Points {
+    std::uint64_t state;
+    std::int64_t next() {
+        state ^= state << 13, state ^= state >> 7, state ^= state << 17;
+        return static_cast<std::int64_t>(state % (2 * side)) - side;
+    }
+};
+
+// What the threads share, and how it is changed and asked.
+class Way {
+public:
+    virtual ~Way() = default;
+    virtual void change(bool adds, std::int64_t x, std::int64_t y) = 0;
+    // One thread's questions, until it is told to stop: how many.
+    virtual unsigned long ask(unsigned me, const std::atomic<bool> &stops, Points points) = 0;
+};
+
+// Asks until it is told to stop, looking every 64 questions whether it is; `place` gives a code.
+template <class Place> unsigned long asked(const std::atomic<bool> &stops, Points points, Place place) {
+    unsigned long count = 0, inside = 0;
+    while (!stops.load(std::memory_order_relaxed)) {
+        for (int i = 0; i < 64; i++, count++) {
+            const std::int64_t x = points.next(), y = points.next();
+            inside += place(x, y) == HULL_INSIDE;
+        }
+    }
+    return inside == 0 ? 0 : count; // so that no answer is left out
+}
+
+// The seats of a desk: one for who changes, and one for each who asks; and the readers.
+class Shared : public Way {
+public:
+    Shared(unsigned readers) {
+        desk_ = hull_shared_desk_new();
+        bool good = desk_ != nullptr && hull_shared_open_without_journal(desk_, HULL_LIMIT_MAX, 0, most_threads + 1) == HULL_OPEN;
+        good = good && (readers == 0 || hull_shared_admit(desk_, readers) == HULL_ADMITTED);
+        for (unsigned k = 0; good && k < readers; k++) {
+            readers_.push_back(hull_shared_reader_new());
+            good = readers_[k] != nullptr && hull_shared_lend_reader(desk_, readers_[k]) == HULL_LENT;
+        }
+        for (unsigned k = 0; good && k <= most_threads; k++) {
+            seats_.push_back(hull_shared_seat_new());
+            good = seats_[k] != nullptr && hull_shared_lend(desk_, &line_, seats_[k], k) == HULL_LENT;
+        }
+        if (!good) {
+            std::abort();
+        }
+    }
+    ~Shared() override {
+        for (hull_shared_seat *seat : seats_) {
+            hull_shared_give_back(desk_, seat), hull_shared_seat_free(seat);
+        }
+        for (hull_shared_reader *reader : readers_) {
+            hull_shared_return_reader(desk_, reader), hull_shared_reader_free(reader);
+        }
+        hull_shared_close(desk_), hull_shared_end(desk_), hull_shared_desk_free(desk_);
+    }
+    void change(bool adds, std::int64_t x, std::int64_t y) override {
+        hull_shared_call(&line_, seats_[most_threads], adds ? HULL_KIND_ADD : HULL_KIND_REMOVE, x, y);
+    }
+
+protected:
+    hull_shared_line line_ = {};
+    hull_shared_desk *desk_;
+    std::vector<hull_shared_seat *> seats_;
+    std::vector<hull_shared_reader *> readers_;
+};
+
+class Seats : public Shared {
+public:
+    Seats() : Shared(0) {}
+    unsigned long ask(unsigned me, const std::atomic<bool> &stops, Points points) override {
+        return asked(stops, points, [&](std::int64_t x, std::int64_t y) {
+            return hull_shared_call(&line_, seats_[me], HULL_KIND_PLACE, x, y).told.code;
+        });
+    }
+};
+
+// Each question takes the newest view.
+class Views : public Shared {
+public:
+    Views() : Shared(most_threads) {}
+    unsigned long ask(unsigned me, const std::atomic<bool> &stops, Points points) override {
+        return asked(stops, points, [&](std::int64_t x, std::int64_t y) {
+            const hull_shared_view view = hull_shared_read(readers_[me]);
+            return hull_outline_place(view.corners, view.count, x, y).code;
+        });
+    }
+};
+
+// Each question looks first whether the view is the newest.
+class Looks : public Shared {
+public:
+    Looks() : Shared(most_threads) {}
+    unsigned long ask(unsigned me, const std::atomic<bool> &stops, Points points) override {
+        hull_shared_view view = hull_shared_read(readers_[me]);
+        return asked(stops, points, [&](std::int64_t x, std::int64_t y) {
+            if (hull_shared_is_newest(readers_[me]) == 0) {
+                view = hull_shared_read(readers_[me]);
+            }
+            return hull_outline_place(view.corners, view.count, x, y).code;
+        });
+    }
+};
+
+// A hull of one thread, behind a lock that who asks takes to read.
+class Locked : public Way {
+public:
+    ~Locked() override { hull_free(set_); }
+    void change(bool adds, std::int64_t x, std::int64_t y) override {
+        const std::unique_lock<std::shared_mutex> lock(lock_);
+        adds ? hull_add(set_, x, y) : hull_remove(set_, x, y);
+    }
+    unsigned long ask(unsigned, const std::atomic<bool> &stops, Points points) override {
+        return asked(stops, points, [&](std::int64_t x, std::int64_t y) {
+            const std::shared_lock<std::shared_mutex> lock(lock_);
+            return hull_place(set_, x, y).code;
+        });
+    }
+
+private:
+    hull_set *set_ = hull_new(HULL_LIMIT_MAX);
+    std::shared_mutex lock_;
+};
+
+// Copies of the corners, made at each change that moves one, which who asks takes by a pointer that is counted.
+class Copied : public Way {
+public:
+    using Corners = std::vector<hull_point>;
+    ~Copied() override { hull_free(set_); }
+    void change(bool adds, std::int64_t x, std::int64_t y) override {
+        adds ? hull_add(set_, x, y) : hull_remove(set_, x, y);
+        Corners corners(hull_vertices(set_, nullptr, 0).number);
+        hull_vertices(set_, corners.data(), corners.size());
+        newest_.store(std::make_shared<const Corners>(std::move(corners)));
+    }
+    unsigned long ask(unsigned, const std::atomic<bool> &stops, Points points) override {
+        return asked(stops, points, [&](std::int64_t x, std::int64_t y) {
+            const std::shared_ptr<const Corners> corners = newest_.load();
+            return hull_outline_place(corners->data(), corners->size(), x, y).code;
+        });
+    }
+
+private:
+    hull_set *set_ = hull_new(HULL_LIMIT_MAX);
+    std::atomic<std::shared_ptr<const Corners>> newest_{std::make_shared<const Corners>()};
+};
+
+// Corners that nobody changes: as fast as it may be.
+class Bare : public Way {
+public:
+    ~Bare() override { hull_free(set_); }
+    void change(bool adds, std::int64_t x, std::int64_t y) override {
+        adds ? hull_add(set_, x, y) : hull_remove(set_, x, y);
+    }
+    unsigned long ask(unsigned, const std::atomic<bool> &stops, Points points) override {
+        return asked(stops, points, [&](std::int64_t x, std::int64_t y) {
+            return hull_outline_place(corners_.data(), corners_.size(), x, y).code;
+        });
+    }
+    void take() {
+        corners_.resize(hull_vertices(set_, nullptr, 0).number);
+        hull_vertices(set_, corners_.data(), corners_.size());
+    }
+
+private:
+    hull_set *set_ = hull_new(HULL_LIMIT_MAX);
+    std::vector<hull_point> corners_;
+};
+
+void fill(Way &way, long count) {
+    Points points{7};
+    for (long i = 0; i < count; i++) {
+        const std::int64_t x = points.next(), y = points.next();
+        way.change(true, x, y);
+    }
+}
+
+// Makes changes at this rate until it is told to stop: a point comes, and goes again.
+void changes(Way &way, const std::atomic<bool> &stops, long a_second) {
+    Points points{88172645463325252u};
+    std::int64_t x = 0, y = 0;
+    auto next = Clock::now();
+    for (unsigned long i = 0; !stops.load(std::memory_order_relaxed); i++) {
+        std::this_thread::sleep_until(next += std::chrono::nanoseconds(1000000000 / a_second));
+        if (i % 2 == 0) {
+            x = points.next(), y = points.next();
+        }
+        way.change(i % 2 == 0, x, y);
+    }
+}
+
+// How many questions a second so many threads have answered, beside so many changes a second.
+double rate(Way &way, unsigned threads, long a_second, std::chrono::milliseconds time) {
+    std::atomic<bool> stops{false};
+    std::vector<unsigned long> counts(threads);
+    std::vector<std::thread> all;
+    const auto begin = Clock::now();
+    for (unsigned k = 0; k < threads; k++) {
+        all.emplace_back([&, k] { counts[k] = way.ask(k, stops, Points{(k + 1) * UINT64_C(0x9E3779B97F4A7C15)}); });
+    }
+    if (a_second > 0) {
+        all.emplace_back([&] { changes(way, stops, a_second); });
+    }
+    std::this_thread::sleep_for(time);
+    stops.store(true);
+    for (std::thread &one : all) {
+        one.join();
+    }
+    unsigned long sum = 0;
+    for (unsigned long count : counts) {
+        sum += count;
+    }
+    return static_cast<double>(sum) / std::chrono::duration<double>(Clock::now() - begin).count();
+}
+
+double processor_seconds() {
+    timespec t;
+    clock_gettime(CLOCK_THREAD_CPUTIME_ID, &t);
+    return static_cast<double>(t.tv_sec) + static_cast<double>(t.tv_nsec) * 1e-9;
+}
+
+// Nanoseconds of a change that leaves the corners, of one thread: a point comes well inside, and goes.
+double inner_change(Way &way, long points, long count) {
+    Points random{99};
+    for (const std::int64_t x : {-side, side}) {
+        way.change(true, x, -side), way.change(true, x, side);
+    }
+    fill(way, points);
+    const double begin = processor_seconds();
+    for (long i = 0; i < count; i += 2) {
+        const std::int64_t x = random.next() / 2, y = random.next() / 2;
+        way.change(true, x, y), way.change(false, x, y);
+    }
+    return (processor_seconds() - begin) * 1e9 / static_cast<double>(count);
+}
+
+// Nanoseconds of a view that is taken anew, with the one before let go, behind a change: what such a row takes more than one without.
+double view(long count, bool reads) {
+    struct Reading : Shared {
+        using Shared::Shared;
+        unsigned long ask(unsigned, const std::atomic<bool> &, Points) override { return 0; }
+        void read(bool reads) {
+            if (reads) {
+                hull_shared_read(readers_[0]);
+            }
+        }
+    } way(1);
+    fill(way, 1000);
+    double took = 0;
+    for (long i = 0; i < count; i++) {
+        way.change(i % 2 == 0, 1, 1);
+        const double begin = processor_seconds();
+        way.read(reads);
+        took += processor_seconds() - begin;
+    }
+    return took * 1e9 / static_cast<double>(count);
+}
+
+} // namespace
+
+int main(int words, char **word) {
+    const long points = words > 1 ? std::atol(word[1]) : 1000, a_second = words > 2 ? std::atol(word[2]) : 10000;
+    const std::chrono::milliseconds time(words > 3 ? std::atol(word[3]) : 300);
+    const long rounds = words > 4 ? std::atol(word[4]) : 5;
+    Bare bare;
+    Looks looks;
+    Views views;
+    Locked locked;
+    Copied copied;
+    Seats seats;
+    struct Row {
+        const char *name;
+        Way *way;
+        double best[3];
+    } rows[] = {{"bare outline", &bare, {}}, {"reader, looks first", &looks, {}}, {"reader, each a view", &views, {}},
+                {"shared_mutex", &locked, {}}, {"atomic shared_ptr", &copied, {}}, {"seats", &seats, {}}};
+    for (Row &row : rows) {
+        fill(*row.way, points);
+    }
+    bare.take();
+    const unsigned counts[] = {1, 2, 4};
+    for (long round = 0; round < rounds; round++) {
+        for (Row &row : rows) {
+            for (int i = 0; i < 3; i++) {
+                row.best[i] = std::max(row.best[i], rate(*row.way, counts[i], row.way == &bare ? 0 : a_second, time));
+            }
+        }
+    }
+    std::printf("%ld points, %ld changes a second beside; millions of places a second, best of %ld rounds of %ld ms\n", points, a_second,
+                rounds, static_cast<long>(time.count()));
+    std::printf("%-22s %8s %8s %8s %10s %14s\n", "", "1 thread", "2", "4", "4 over 1", "of bare, 1 and 4");
+    for (const Row &row : rows) {
+        std::printf("%-22s %8.2f %8.2f %8.2f %10.2f %8.2f %5.2f\n", row.name, row.best[0] / 1e6, row.best[1] / 1e6, row.best[2] / 1e6,
+                    row.best[2] / row.best[0], row.best[0] / rows[0].best[0], row.best[2] / rows[0].best[2]);
+    }
+    double with = 1e18, without = 1e18, taken = 1e18, none = 1e18;
+    for (long round = 0; round < rounds; round++) {
+        Seats plain;
+        Looks reads;
+        without = std::min(without, inner_change(plain, points, 200000));
+        with = std::min(with, inner_change(reads, points, 200000));
+        taken = std::min(taken, view(100000, true));
+        none = std::min(none, view(100000, false));
+    }
+    std::printf("a change that leaves the corners: %.0f ns, with readers %.0f: %.2f times\n", without, with, with / without);
+    std::printf("a view taken, and the one before let go: %.0f ns of processor\n", taken - none);
+    return 0;
+}
