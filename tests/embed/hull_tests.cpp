@@ -502,6 +502,38 @@ static void lendings() {
     CHECK(!h.close().empty() && hull_overlaps() == 0);
 }
 
+static_assert(!std::is_copy_constructible_v<hull::Reader> && std::is_nothrow_move_assignable_v<hull::Reader>);
+
+// readers, with their views
+static void readers() {
+    SharedHull h({10, 7, 20, 1});
+    CHECK(refuses(Refusal::no_seat, [&] { h.lend_reader(); }) && refuses(Refusal::out_of_limits, [&] { h.admit(0); }));
+    h.admit(2);
+    CHECK(refuses(Refusal::out_of_limits, [&] { h.admit(2); }));
+    hull::Reader one = h.lend_reader(), two = h.lend_reader();
+    CHECK(refuses(Refusal::no_seat, [&] { h.lend_reader(); }));
+    CHECK(one.view().size() == 0 && !one.line() && one.is_newest());
+    Seat seat = h.lend(0);
+    for (Point p : {Point(0, 0), Point(8, 0), Point(0, 8)}) {
+        seat.add(p);
+    }
+    CHECK(!one.is_newest() && one.newest().size() == 3 && one.is_newest() && one.line() == 9);
+    CHECK(one.view().place({1, 1}) == Place::Inside && one.view().doubled_area() == 64);
+    CHECK(one.view().relation(hull::Outline({{0, 0}, {8, 0}, {0, 8}})) == hull::Relation::Equal);
+    const hull::OutlineView before = one.view();
+    seat.remove({8, 0});
+    CHECK(two.read() && two.view().size() == 2 && two.line() == 10);
+    CHECK(before.data()[1] == Point(8, 0) && before.contains(two.view()) && !two.view().contains(before));
+    CHECK(*(two.view().end() - 1) == Point(0, 8) && *two.view().begin() == Point(0, 0));
+    seat.give_back();
+    CHECK(refuses(Refusal::seats_out, [&] { h.close(); }));
+    one = std::move(two);
+    CHECK(one.view().size() == 2 && refuses(Refusal::vacant, [&] { two.read(); }));
+    one.give_back();
+    CHECK(refuses(Refusal::vacant, [&] { one.is_newest(); }) && !h.close().empty());
+    CHECK(refuses(Refusal::not_open, [&] { h.lend_reader(); }) && refuses(Refusal::not_open, [&] { h.admit(1); }));
+}
+
 // threads at once, of which one asks for more corners than it had room for
 static void threads(const char *file) {
     SharedHull h({HULL_LIMIT_MAX, 0, 100000, 4});
@@ -536,6 +568,7 @@ int main(int words, char **word) {
     two_outlines();
     exchange();
     shared();
+    readers();
     if (hull_overlaps != nullptr) {
         lendings();
     }

@@ -202,6 +202,8 @@ read_by() {
 }
 
 readings() {
+    build "$here/reader_codes.c" -lhull -Wl,--wrap=malloc,--wrap=realloc && "$room/reader_codes"
+    count "every code of a reader, and each request for memory refused" $?
     build "$here/readers.c" -lhull
     count "readers.c compiles" $?
     read_by 4 60 $((calls / 5))
@@ -308,7 +310,7 @@ by_helgrind() {
 }
 
 by_valgrind() {
-    for name in codes threads; do
+    for name in codes threads reader_codes; do
         valgrind -q --error-exitcode=9 --leak-check=full --show-leak-kinds=all --errors-for-leak-kinds=all \
             "$room/$name" >"$room/said" 2>"$room/told"
         count "valgrind finds nothing in $name" $?

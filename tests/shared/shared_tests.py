@@ -10,7 +10,7 @@ import threading
 import unittest
 
 import hull as hull_module
-from hull import CAPACITY_LIMIT, COORDINATE_LIMIT, POINT_LIMIT, SEAT_LIMIT
+from hull import CAPACITY_LIMIT, COORDINATE_LIMIT, POINT_LIMIT, READER_LIMIT, SEAT_LIMIT
 from hull import Busy, JournalFault, JournalFull, NoSeat, OutOfRange, Place, SeatsOut, SharedHull, TooMany, ZeroDirection
 
 
@@ -72,6 +72,41 @@ class Calls(unittest.TestCase):
             self.assertEqual(repr(hull), "<SharedHull for 4 calls behind a journal, 0 of 2 seats out>")
         self.assertEqual(hull.close(), "hullbook journal 3 first 7 limit 3 capacity 4\n"
                                        "7 1 add 0 0 = again 2\n8 1 count = count 2\nend 2\n")
+
+    def test_readers(self):
+        hull = SharedHull(capacity=20, seats=1, limit=10, first=7)
+        self.assertRaises(NoSeat, hull.lend_reader)
+        for wrong in (-1, 0, READER_LIMIT + 1, 1 << 40):
+            self.assertRaises(ValueError, hull.admit, wrong)
+        hull.admit(2)
+        self.assertRaises(ValueError, hull.admit, 2)
+        one, two = hull.lend_reader(), hull.lend_reader()
+        self.assertRaises(NoSeat, hull.lend_reader)
+        self.assertFalse(one.is_newest())  # it has returned no view yet
+        self.assertEqual((one.view().vertices(), one.view().line, one.is_newest()), ([], None, True))
+        with hull.lend(0) as seat:
+            for x, y in [(0, 0), (8, 0), (0, 8)]:
+                seat.add(x, y)
+            self.assertFalse(one.is_newest())
+            view = one.view()
+            self.assertEqual((view.vertices(), view.line, seat.turn()), ([(0, 0), (8, 0), (0, 8)], 9, 9))
+            self.assertEqual((view.place(1, 1), view.doubled_area(), one.view() is view), (Place.INSIDE, 64, True))
+            seat.remove(8, 0)
+            self.assertEqual((two.view().vertices(), two.view().line), ([(0, 0), (0, 8)], 10))
+            self.assertTrue(view.contains(two.view()))
+            for i in range(100):
+                seat.add(8, 8) if i % 2 == 0 else seat.remove(8, 8)
+                self.assertEqual(len(one.view()), 3 - i % 2)
+                if i % 10 == 9:
+                    seat.drain()
+        self.assertRaises(SeatsOut, hull.close)
+        one.give_back()
+        self.assertRaises(ValueError, one.view)
+        self.assertRaises(ValueError, one.is_newest)
+        with two:
+            self.assertEqual(view.vertices(), [(0, 0), (8, 0), (0, 8)])
+        hull.close()
+        self.assertRaises(ValueError, hull.lend_reader)
 
     def test_no_journal(self):
         hull = SharedHull(capacity=None, seats=1, limit=6, first=7)

@@ -1,6 +1,7 @@
 //! Each function of a shared hull in `rust/hull`, each of its answers and each of its faults; and eight threads at
 //! once, the journal of whose calls goes to the file that JOURNAL names.
-use hull::{Fault, Limits, Place, Point, Seat, SharedHull, CAPACITY_LIMIT, COORDINATE_LIMIT, POINT_LIMIT, SEAT_LIMIT};
+use hull::{Fault, Limits, Outline, Place, Point, Relation, Seat, SharedHull};
+use hull::{CAPACITY_LIMIT, COORDINATE_LIMIT, POINT_LIMIT, READER_LIMIT, SEAT_LIMIT};
 use std::sync::atomic::{AtomicUsize, Ordering};
 use std::sync::{Arc, Mutex};
 use std::thread;
@@ -109,6 +110,60 @@ fn reopened() {
     seat.give_back();
     let new = "hullbook journal 3 first 7 limit 3 capacity 4\n7 1 add 0 0 = again 2\n8 1 count = count 2\nend 2\n";
     assert_eq!(hull.close().unwrap(), new);
+}
+
+#[test]
+fn readers() {
+    let hull = SharedHull::open(Limits { points: 10, first: 7, capacity: 20, seats: 1 }).unwrap();
+    assert_eq!(hull.lend_reader().unwrap_err(), Fault::NoSeat);
+    assert_eq!((hull.admit(0), hull.admit(READER_LIMIT + 1)), (Err(Fault::BadLimit), Err(Fault::BadLimit)));
+    assert_eq!((hull.admit(2), hull.admit(2)), (Ok(()), Err(Fault::BadLimit)));
+    let (mut one, mut two) = (hull.lend_reader().unwrap(), hull.lend_reader().unwrap());
+    assert_eq!(hull.lend_reader().unwrap_err(), Fault::NoSeat);
+    assert!(one.view().corners().is_empty() && one.line().is_none() && one.is_newest());
+    let mut seat = hull.lend(0).unwrap();
+    for (x, y) in [(0, 0), (8, 0), (0, 8)] {
+        seat.add(point(x, y)).unwrap();
+    }
+    assert!(!one.is_newest());
+    assert_eq!(one.newest().corners(), [point(0, 0), point(8, 0), point(0, 8)]);
+    assert_eq!((one.is_newest(), one.line(), seat.turn()), (true, Some(9), Some(9)));
+    assert_eq!((one.view().place(point(1, 1)), one.view().doubled_area()), (Ok(Place::Inside), 64));
+    seat.remove(point(8, 0)).unwrap();
+    assert!(two.read());
+    assert!(one.view().contains(two.view()) && !two.view().contains(one.view()));
+    assert_eq!(one.view().relation(&Outline::new(&[point(0, 0), point(8, 0), point(0, 8)]).unwrap()), Relation::Equal);
+    drop(seat);
+    assert_eq!(hull.close().unwrap_err(), Fault::SeatsOut);
+    thread::spawn(move || drop((one, two))).join().unwrap();
+    hull.close().unwrap();
+    assert_eq!((hull.lend_reader().unwrap_err(), hull.admit(1)), (Fault::NotOpen, Err(Fault::NotOpen)));
+}
+
+#[test]
+fn readers_beside_changes() {
+    let hull = SharedHull::open_without_journal(Limits { points: 1000, first: 0, capacity: 1, seats: 1 }).unwrap();
+    hull.admit(4).unwrap();
+    let mut seat = hull.lend(0).unwrap();
+    let returned = AtomicUsize::new(0);
+    thread::scope(|scope| {
+        for _ in 0..4 {
+            let (mut reader, returned) = (hull.lend_reader().unwrap(), &returned);
+            scope.spawn(move || {
+                let mut most = 0;
+                while most < 500 {
+                    let told = returned.load(Ordering::SeqCst);
+                    let corners = reader.newest().corners().len();
+                    assert!(corners >= told && corners >= most, "{corners} corners, {told} told, {most} before");
+                    most = corners;
+                }
+            });
+        }
+        for i in 0..500 {
+            seat.add(point(i, i * i)).unwrap();
+            returned.store(i as usize + 1, Ordering::SeqCst);
+        }
+    });
 }
 
 #[test]

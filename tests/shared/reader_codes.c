@@ -1,0 +1,223 @@
+/* Brings about every code that the calls on readers have, and refuses each request for memory of a short run in turn: the status is 0
+ * only where each code is the one of the header, each view has the corners behind its line, and nothing was lost. */
+#include "hull.h"
+#include "hull_shared.h"
+
+#include <stdio.h>
+#include <stdlib.h>
+
+/* The linker sends malloc and realloc here (--wrap). */
+void *__real_malloc(size_t size);
+void *__real_realloc(void *block, size_t size);
+static long left = -1;
+static int met;
+
+static int refused(void) {
+    if (left < 0) {
+        return 0;
+    }
+    if (left-- == 0) {
+        met = 1;
+        return 1;
+    }
+    return 0;
+}
+
+void *__wrap_malloc(size_t size) {
+    return refused() ? NULL : __real_malloc(size);
+}
+
+void *__wrap_realloc(void *block, size_t size) {
+    return refused() ? NULL : __real_realloc(block, size);
+}
+
+static hull_shared_line line;
+static int bad;
+
+static void is(const char *what, uint64_t got, uint64_t wanted) {
+    if (got != wanted) {
+        fprintf(stderr, "%s: %llu, not %llu\n", what, (unsigned long long)got, (unsigned long long)wanted);
+        bad = 1;
+    }
+}
+
+static uint32_t call(hull_shared_seat *seat, uint32_t kind, int64_t x, int64_t y) {
+    return hull_shared_call(&line, seat, kind, x, y).told.code;
+}
+
+/* The view that a reader takes: so many corners, behind so many lines, the last of which has the number behind them. */
+static hull_shared_view viewed(const char *what, hull_shared_reader *reader, size_t count, uint64_t lines, uint64_t first) {
+    const hull_shared_view view = hull_shared_read(reader);
+    is(what, view.code, HULL_VIEWED);
+    is("its corners", view.count, count);
+    is("its lines", view.lines, lines);
+    is("whether it has a line", view.has_line, lines > 0);
+    is("its line", view.line, lines > 0 ? first + lines - 1 : 0);
+    is("it is the newest", hull_shared_is_newest(reader), 1);
+    return view;
+}
+
+/* What is refused, and how a reader goes out and comes back. */
+static void codes(hull_shared_desk *desk, hull_shared_seat *seat, hull_shared_reader *one, hull_shared_reader *two) {
+    is("admit to a fresh desk", hull_shared_admit(desk, 1), HULL_NOT_OPEN);
+    is("lend of a fresh desk", hull_shared_lend_reader(desk, one), HULL_NOT_OPEN);
+    is("return to a fresh desk", hull_shared_return_reader(desk, one), HULL_NOT_OPEN);
+    is("open", hull_shared_open(desk, 10, 7, 100, 2), HULL_OPEN);
+    is("none was admitted", hull_shared_lend_reader(desk, one), HULL_NO_SEAT);
+    is("admit none", hull_shared_admit(desk, 0), HULL_OUT_OF_LIMITS);
+    is("admit too many", hull_shared_admit(desk, HULL_SHARED_READERS_MAX + 1), HULL_OUT_OF_LIMITS);
+    is("a seat goes out", hull_shared_lend(desk, &line, seat, 1), HULL_LENT);
+    is("admit beside it", hull_shared_admit(desk, 1), HULL_SEATS_OUT);
+    is("it comes back", hull_shared_give_back(desk, seat), HULL_RETURNED);
+    is("admit one", hull_shared_admit(desk, 1), HULL_ADMITTED);
+    is("admit again", hull_shared_admit(desk, 1), HULL_WAS_ADMITTED);
+    is("return of none", hull_shared_return_reader(desk, one), HULL_VACANT);
+    const hull_shared_view none = hull_shared_read(one);
+    is("a room with no reader", none.code, HULL_VACANT);
+    is("has no corners", none.count, 0);
+    is("and not the newest", hull_shared_is_newest(one), 0);
+    is("lend", hull_shared_lend_reader(desk, one), HULL_LENT);
+    is("lend into its room", hull_shared_lend_reader(desk, one), HULL_ROOM_IN_USE);
+    is("lend a second", hull_shared_lend_reader(desk, two), HULL_NO_SEAT);
+    is("close with a reader out", hull_shared_close(desk), HULL_SEATS_OUT);
+    is("return", hull_shared_return_reader(desk, one), HULL_RETURNED);
+    is("lend another", hull_shared_lend_reader(desk, two), HULL_LENT);
+    is("return it", hull_shared_return_reader(desk, two), HULL_RETURNED);
+    is("close", hull_shared_close(desk), HULL_CLOSED);
+    is("admit to a closed desk", hull_shared_admit(desk, 1), HULL_NOT_OPEN);
+    is("end", hull_shared_end(desk), HULL_ENDED);
+}
+
+/* Views behind changes and questions of a desk whose numbers begin with 7. */
+static void views(hull_shared_seat *seat, hull_shared_reader *one, hull_shared_reader *two) {
+    viewed("the empty hull", one, 0, 0, 7);
+    is("added", call(seat, HULL_KIND_ADD, 0, 0), HULL_ADDED);
+    is("not the newest", hull_shared_is_newest(one), 0);
+    viewed("a point", one, 1, 1, 7);
+    is("a question", call(seat, HULL_KIND_PLACE, 0, 0), HULL_ON);
+    is("publishes nothing", hull_shared_is_newest(one), 1);
+    is("absent", call(seat, HULL_KIND_REMOVE, 5, 5), HULL_ABSENT);
+    is("added", call(seat, HULL_KIND_ADD, 8, 0), HULL_ADDED);
+    is("added", call(seat, HULL_KIND_ADD, 0, 8), HULL_ADDED);
+    const hull_shared_view view = viewed("a triangle behind five lines", one, 3, 5, 7);
+    is("its question", hull_outline_place(view.corners, view.count, 1, 1).code, HULL_INSIDE);
+    is("an inner point", call(seat, HULL_KIND_ADD, 1, 1), HULL_ADDED);
+    const hull_shared_view same = viewed("the same corners", two, 3, 6, 7);
+    is("are shared", same.corners == view.corners, 1);
+    is("the view before stays", view.corners[1].x == 8 && view.corners[1].y == 0, 1);
+    is("a corner goes", call(seat, HULL_KIND_REMOVE, 8, 0), HULL_REMOVED);
+    is("and stays in the views", view.corners[1].x == 8 && same.corners[2].y == 8, 1);
+    viewed("others are left", one, 3, 7, 7);
+    is("again", call(seat, HULL_KIND_ADD, 1, 1), HULL_AGAIN);
+    is("left", call(seat, HULL_KIND_REMOVE, 1, 1), HULL_LEFT);
+    viewed("a point that is held still", two, 3, 9, 7);
+}
+
+static hull_shared_desk *open_for(uint32_t readers, hull_shared_desk *desk, hull_shared_seat *seat) {
+    is("open", hull_shared_open(desk, 10, 7, 100, 1), HULL_OPEN);
+    is("admit", hull_shared_admit(desk, readers), HULL_ADMITTED);
+    is("lend", hull_shared_lend(desk, &line, seat, 0), HULL_LENT);
+    return desk;
+}
+
+static void end(hull_shared_desk *desk, hull_shared_seat *seat, hull_shared_reader *one, hull_shared_reader *two) {
+    is("the seat comes back", hull_shared_give_back(desk, seat), HULL_RETURNED);
+    is("the first reader does", hull_shared_return_reader(desk, one), HULL_RETURNED);
+    is("and the second", hull_shared_return_reader(desk, two), HULL_RETURNED);
+    is("close", hull_shared_close(desk), HULL_CLOSED);
+}
+
+/* Kept, drained, and opened again: the lines of the text count. */
+static void lives_on(hull_shared_desk *desk, hull_shared_seat *seat, hull_shared_reader *one, hull_shared_reader *two) {
+    static uint8_t text[4096];
+    open_for(2, desk, seat);
+    is("one", hull_shared_lend_reader(desk, one), HULL_LENT);
+    is("two", hull_shared_lend_reader(desk, two), HULL_LENT);
+    views(seat, one, two);
+    end(desk, seat, one, two);
+    const hull_reply told = hull_shared_text(desk, text, sizeof text);
+    is("end", hull_shared_end(desk), HULL_ENDED);
+    is("reopen", hull_shared_reopen(desk, text, told.number, 3, 1).code, HULL_OPEN);
+    is("admit", hull_shared_admit(desk, 2), HULL_ADMITTED);
+    is("one", hull_shared_lend_reader(desk, one), HULL_LENT);
+    is("two", hull_shared_lend_reader(desk, two), HULL_LENT);
+    viewed("what the text left", one, 3, 9, 7);
+    hull_shared_part *part = hull_shared_part_new();
+    is("room for a drain", hull_shared_part_reserve(part, 3), HULL_RESERVED);
+    is("lend", hull_shared_lend(desk, &line, seat, 0), HULL_LENT);
+    is("a drain that changes", hull_shared_drain(&line, seat, part, HULL_KIND_ADD, 9, 9).told.code, HULL_ADDED);
+    viewed("publishes", two, 4, 10, 7);
+    is("added", call(seat, HULL_KIND_ADD, 9, 0), HULL_ADDED);
+    viewed("and so does the next call", one, 4, 11, 7);
+    hull_shared_part_end(part), hull_shared_part_free(part);
+    end(desk, seat, one, two);
+    is("end", hull_shared_end(desk), HULL_ENDED);
+}
+
+/* A desk that keeps no lines. */
+static void without_journal(hull_shared_desk *desk, hull_shared_seat *seat, hull_shared_reader *one, hull_shared_reader *two) {
+    is("open", hull_shared_open_without_journal(desk, 10, 7, 1), HULL_OPEN);
+    is("admit", hull_shared_admit(desk, HULL_SHARED_READERS_MAX), HULL_ADMITTED);
+    is("lend", hull_shared_lend(desk, &line, seat, 0), HULL_LENT);
+    is("one", hull_shared_lend_reader(desk, one), HULL_LENT);
+    is("two", hull_shared_lend_reader(desk, two), HULL_LENT);
+    views(seat, one, two);
+    end(desk, seat, one, two);
+    is("end", hull_shared_end(desk), HULL_ENDED);
+}
+
+/* A run in which some request for memory is refused: what is told is of what happened, and views are never wrong. */
+static void short_run(hull_shared_desk *desk, hull_shared_seat *seat, hull_shared_reader *one) {
+    if (hull_shared_open(desk, 10, 0, 20, 1) != HULL_OPEN) {
+        return;
+    }
+    const uint32_t admitted = hull_shared_admit(desk, 1);
+    is("admitted, or no memory", admitted == HULL_ADMITTED || admitted == HULL_NO_MEMORY, 1);
+    const int lent = hull_shared_lend_reader(desk, one) == HULL_LENT;
+    is("a reader only where they are", lent, admitted == HULL_ADMITTED);
+    if (hull_shared_lend(desk, &line, seat, 0) == HULL_LENT) {
+        uint64_t points = 0, last = 0;
+        for (int64_t i = 0; i < 4; i++) {
+            points += call(seat, HULL_KIND_ADD, i, i * i) == HULL_ADDED;
+            if (lent) {
+                const hull_shared_view view = hull_shared_read(one);
+                is("no more corners than points", view.count <= points, 1);
+                is("no view goes back", view.lines >= last, 1);
+                last = view.lines;
+            }
+        }
+        left = -1;
+        points += call(seat, HULL_KIND_ADD, 9, 99) == HULL_ADDED;
+        if (lent) {
+            is("the next change publishes all", hull_shared_read(one).count, points);
+        }
+        is("the seat comes back", hull_shared_give_back(desk, seat), HULL_RETURNED);
+    }
+    if (lent) {
+        is("so does the reader", hull_shared_return_reader(desk, one), HULL_RETURNED);
+    }
+    is("close", hull_shared_close(desk), HULL_CLOSED);
+    is("end", hull_shared_end(desk), HULL_ENDED);
+}
+
+int main(void) {
+    hull_shared_desk *desk = hull_shared_desk_new();
+    hull_shared_seat *seat = hull_shared_seat_new();
+    hull_shared_reader *one = hull_shared_reader_new(), *two = hull_shared_reader_new();
+    long requests = 0;
+    if (desk == NULL || seat == NULL || one == NULL || two == NULL) {
+        return 2;
+    }
+    codes(desk, seat, one, two);
+    lives_on(desk, seat, one, two);
+    without_journal(desk, seat, one, two);
+    do {
+        left = requests++;
+        met = 0;
+        short_run(desk, seat, one);
+        left = -1;
+    } while (met);
+    is("requests were refused", requests > 8, 1);
+    hull_shared_reader_free(one), hull_shared_reader_free(two), hull_shared_seat_free(seat), hull_shared_desk_free(desk);
+    return bad;
+}
