@@ -518,8 +518,8 @@ static void readers() {
         seat.add(p);
     }
     CHECK(!one.is_newest() && one.newest().size() == 3 && one.is_newest() && one.line() == 9);
-    CHECK(one.view().place({1, 1}) == Place::Inside && one.view().doubled_area() == 64);
-    CHECK(one.view().relation(hull::Outline({{0, 0}, {8, 0}, {0, 8}})) == hull::Relation::Equal);
+    CHECK(one.view().place({1, 1}) == Place::inside && one.view().doubled_area() == 64);
+    CHECK(one.view().relation(hull::Outline({{0, 0}, {8, 0}, {0, 8}})) == hull::Relation::equal);
     const hull::OutlineView before = one.view();
     seat.remove({8, 0});
     CHECK(two.read() && two.view().size() == 2 && two.line() == 10);
