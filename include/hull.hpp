@@ -1177,12 +1177,18 @@ public:
     // Its thread writes the lines to the file when it is asked to (sync, Seat::wait_safe), each `every` unless that is 0, and where half of
     // limits.capacity are held; calls wait for room. limits.first is not read, and limits.seats is at most HULL_SHARED_SEATS_MAX - 1.
     // Refusal::no_file, damaged, illegal, and those of opening. No seat of such a hull is drained by its caller.
-    static SharedHull keep(const std::string &path, Limits limits, std::chrono::nanoseconds every = std::chrono::nanoseconds(0)) {
+    // It publishes for so many readers.
+    static SharedHull keep(const std::string &path, Limits limits, std::chrono::nanoseconds every = std::chrono::nanoseconds(0),
+                           std::uint32_t readers = 0) {
         SharedHull hull(new_desk());
         Desk &desk = *hull.desk_;
         hull_shared_journal *journal = nullptr;
         hull_reply r = hull_shared_journal_open(path.c_str(), &journal);
         opened(r.code, r.number);
+        if (readers != 0 && hull_shared_journal_admit(journal, readers) != HULL_ADMITTED) {
+            hull_shared_journal_close(journal);
+            told::fault(HULL_OUT_OF_LIMITS);
+        }
         r = hull_shared_journal_start(journal, desk.at_, &desk.line_, limits.points, limits.capacity, limits.seats,
                                       static_cast<std::uint64_t>(every.count()));
         if (r.code != HULL_OPEN) {

@@ -518,6 +518,10 @@ hull_reply hull_shared_journal_open(const char *path, hull_shared_journal **jour
  * and synced, and takes its name: however the process ends, one of the two is there, whole. What else was asked and answered is not in it. */
 hull_reply hull_shared_journal_compact(const char *path);
 
+/* Has the desk that is to be opened by the journal admit so many readers (hull_shared_admit, which a desk with the journal's seat out
+ * refuses): ADMITTED; WAS_OPENED, OUT_OF_LIMITS. */
+uint32_t hull_shared_journal_admit(hull_shared_journal *journal, uint32_t readers);
+
 /* Opens the desk by what the file has, and keeps its journal there from then on. Where the file has no part the desk is a new one for
  * `limit` points; else it holds what the parts left, each point as often, its limit is theirs, and its next line has the number behind
  * theirs. It has seats 0 to `seats` - 1 for the caller, and seat `seats` for the journal, whose thread drains it when it is asked to, and

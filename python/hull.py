@@ -334,7 +334,7 @@ def _shared_library() -> ctypes.CDLL:
         ("python_wait_for_room", [at, number], number), ("python_wait_at_most", [at, long], number), ("python_stats", [at, at], number),
         ("python_reopen", [at, at, size, number, number], _Reply),
         ("python_compact", [ctypes.c_char_p], _Reply),
-        ("python_keep", [at, ctypes.c_char_p, number, number, number, long], _Reply), ("python_safe", [at, number], _Reply),
+        ("python_keep", [at, ctypes.c_char_p, number, number, number, long, number], _Reply), ("python_safe", [at, number], _Reply),
         ("python_wait_safe", [at], _Reply), ("python_close", [at], _Reply), ("python_text", [at, at, size], _Reply), ("python_out", [at], long),
         ("python_seat_new", [], at), ("python_seat_free", [at], None), ("python_lend", [at, at, number], number),
         ("python_give_back", [at], None), ("python_ask", [at, number, whole, whole], _Reply),
@@ -1478,23 +1478,23 @@ class SharedHull:
 
     @classmethod
     def keep(cls, path: "Union[str, bytes, os.PathLike[str]]", capacity: SupportsIndex, seats: SupportsIndex,
-             limit: SupportsIndex = POINT_LIMIT, every: Optional[float] = None) -> SharedHull:
+             limit: SupportsIndex = POINT_LIMIT, every: Optional[float] = None, readers: SupportsIndex = 0) -> SharedHull:
         """A hull whose journal is kept in a file, which is made, or gone on with: the hull holds what it left, and its limit is its own.
 
         A thread of the library writes the lines to the file when it is asked to (`sync`, `Seat.wait_safe`), each `every` seconds where
         that is given, and where half of `capacity` are held; calls wait for room. There are SEAT_LIMIT - 1 seats at most, none of which
-        drains. OSError where the system refuses a call on the file; JournalFault where the file is damaged, or none of a journal.
+        drains. It publishes for so many `readers`. OSError where the system refuses a call on the file; JournalFault where the file is damaged, or none of a journal.
         """
-        words = operator.index(limit), 0, operator.index(capacity), operator.index(seats)
+        words = operator.index(limit), operator.index(readers), operator.index(capacity), operator.index(seats)
         if not all(0 <= word < 1 << 32 for word in words):
             _told(_Code.OUT_OF_LIMITS)
         if every is not None and not every >= 0:
             raise ValueError(f"a time is no less than 0, and not {every!r}")
         hull = cls.__new__(cls)
         hull._desk = _at(_shared_kinds()[0], _shared_library().hull_python_desk_new())
-        hull._words = words
+        hull._words = words[0], 0, words[2], words[3]
         time = 0 if every is None else max(1, int(min(every, 1e9) * 1e9))
-        told = _shared_library().hull_python_keep(hull._desk, _file(path), words[0], words[2], words[3], time)
+        told = _shared_library().hull_python_keep(hull._desk, _file(path), words[0], words[2], words[3], time, words[1])
         if told.code != _Code.OPEN:
             _no_file(told, told.number)
             _refused(told.code)

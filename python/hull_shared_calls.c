@@ -98,10 +98,16 @@ hull_reply hull_python_compact(const char *path) {
 }
 
 /* Opens the desk by the file of a journal, which is kept from then on. */
-static hull_reply keep(hull_python_desk *d, const char *path, uint32_t limit, uint32_t capacity, uint32_t seats, uint64_t every) {
+static hull_reply keep(hull_python_desk *d, const char *path, uint32_t limit, uint32_t capacity, uint32_t seats, uint64_t every,
+                       uint32_t readers) {
     hull_shared_journal *journal;
     hull_reply reply = hull_shared_journal_open(path, &journal);
     if (reply.code != HULL_OPEN) {
+        return reply;
+    }
+    if (readers != 0 && hull_shared_journal_admit(journal, readers) != HULL_ADMITTED) {
+        hull_shared_journal_close(journal);
+        reply.code = HULL_OUT_OF_LIMITS;
         return reply;
     }
     reply = hull_shared_journal_start(journal, d->desk, &d->line, limit, capacity, seats, every);
@@ -113,8 +119,9 @@ static hull_reply keep(hull_python_desk *d, const char *path, uint32_t limit, ui
     return reply;
 }
 
-hull_reply hull_python_keep(hull_python_desk *d, const char *path, uint32_t limit, uint32_t capacity, uint32_t seats, uint64_t every) {
-    HULL_REPLY_OF(d, keep(d, path, limit, capacity, seats, every));
+hull_reply hull_python_keep(hull_python_desk *d, const char *path, uint32_t limit, uint32_t capacity, uint32_t seats, uint64_t every,
+                            uint32_t readers) {
+    HULL_REPLY_OF(d, keep(d, path, limit, capacity, seats, every, readers));
 }
 
 /* The journal of a desk, which is not closed until stops_asking; null where it has none. */

@@ -409,6 +409,7 @@ extern "C" {
     pub(crate) fn hull_shared_line_end(line: *mut u8);
     pub(crate) fn hull_shared_stats(line: *mut u8) -> State;
     pub(crate) fn hull_shared_journal_open(path: *const std::os::raw::c_char, journal: *mut *mut u8) -> Reply;
+    pub(crate) fn hull_shared_journal_admit(journal: *mut u8, readers: u32) -> u32;
     pub(crate) fn hull_shared_journal_start(
         journal: *mut u8,
         desk: *mut u8,

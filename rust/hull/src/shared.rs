@@ -282,6 +282,19 @@ impl SharedHull {
     ///
     /// [`Fault::NoFile`], [`Fault::Damaged`] and [`Fault::Illegal`], with the line of the file, and those of opening.
     pub fn keep(path: impl AsRef<Path>, limits: Limits, every: Option<Duration>) -> Result<SharedHull, Fault> {
+        SharedHull::keep_for_readers(path, limits, every, 0)
+    }
+
+    /// The same, and it publishes for so many readers, at most [`READER_LIMIT`] ([`SharedHull::admit`]).
+    pub fn keep_for_readers(
+        path: impl AsRef<Path>,
+        limits: Limits,
+        every: Option<Duration>,
+        readers: u32,
+    ) -> Result<SharedHull, Fault> {
+        if readers > READER_LIMIT {
+            return Err(Fault::BadLimit);
+        }
         let desk = Counted::new(Desk::new()?)?;
         let path = name_of(path.as_ref())?;
         let every = every.map_or(0, |time| u64::try_from(time.as_nanos()).unwrap_or(u64::MAX / 2).min(u64::MAX / 2));
@@ -292,6 +305,7 @@ impl SharedHull {
         let Limits { points, capacity, seats, .. } = limits;
         // SAFETY: desk and line lie in their places as long as the journal is there, and nobody else has them yet.
         let told = unsafe {
+            raw::hull_shared_journal_admit(at.as_ptr(), readers);
             raw::hull_shared_journal_start(at.as_ptr(), desk.lock().at(), desk.line.at(), points, capacity, seats, every)
         };
         if told.code != code::OPEN {
