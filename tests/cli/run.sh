@@ -10,9 +10,7 @@
 # The last line counts, and the status is not 0 where a case came out otherwise.
 set -uf
 here=$(cd "$(dirname "$0")" && pwd)
-top=$(cd "$here/../.." && pwd)
-room=$(mktemp -d)
-trap 'rm -rf "$room"' EXIT
+. "$here/../lib.sh"
 mkdir "$room/folder"
 
 # the bytes of a part of a case
@@ -66,19 +64,15 @@ outcome() {
 
 hullbook=$("$top/tools/become.sh" --path hullbook) || exit
 
-passed=0
-failed=0
 for case in $(find "$here/cases" -name '*.case' | sort); do
     why=$(outcome "$case" '')
     case $(head_of "$case" words) in
         'run '*INPUT*) [ "$why" ] || why=$(outcome "$case" --sparing) ;;
     esac
     if [ -z "$why" ]; then
-        passed=$((passed + 1))
+        said "$(basename "$case" .case)" ok
     else
-        failed=$((failed + 1))
-        echo "$(basename "$case" .case): FAILED, $why"
+        said "$(basename "$case" .case)" "FAILED, $why"
     fi
 done
-echo "$passed passed, $failed failed"
-[ "$failed" -eq 0 ]
+end

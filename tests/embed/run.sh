@@ -5,53 +5,15 @@
 # counts, and the status is not 0 where something failed.
 set -u
 here=$(cd "$(dirname "$0")" && pwd)
-top=$(cd "$here/../.." && pwd)
+. "$here/../lib.sh"
 examples=$top/examples/embed
-room=$(mktemp -d)
-trap 'rm -rf "$room"' EXIT
 prefix=$room/prefix
-passed=0
-failed=0
-
-# counts a try: NAME, and the status that it ended with; what a failed one said is shown
-count() {
-    if [ "$2" -eq 0 ]; then
-        echo "$1: ok"
-        passed=$((passed + 1))
-    else
-        echo "$1: FAILED"
-        tail -n 20 "$room/told"
-        failed=$((failed + 1))
-    fi
-}
-
-# runs a command and counts it: NAME COMMAND..
-try() {
-    trial=$1
-    shift
-    "$@" >"$room/told" 2>&1
-    count "$trial" $?
-}
-
-skip() {
-    echo "$1: skipped, there is no $2"
-}
-
-is_there() {
-    command -v "$1" >/dev/null 2>&1
-}
 
 # whether a command writes what a file has: FILE COMMAND..
 writes() {
     wanted=$1
     shift
     "$@" >"$room/said" && cmp "$room/said" "$wanted"
-}
-
-end() {
-    echo "$passed passed, $failed failed"
-    [ "$failed" -eq 0 ]
-    exit
 }
 
 # the flags of a compiler that links the library
@@ -89,52 +51,52 @@ replays() {
     language=$1
     shift
     if [ -s "$room/calls" ]; then
-        try "60000 random calls in $language are answered as all points answer them" "$@" "$room/calls"
+        attempt "60000 random calls in $language are answered as all points answer them" "$@" "$room/calls"
     else
         skip "random calls in $language" python3
     fi
 }
 
 in_c() {
-    try "hull(3) has every call" page_has_calls hull "$prefix/include/hull.h" "$prefix/include/hull_exchange.h" "$prefix/include/hull_common.h"
-    try "hull_shared(3) has every call" page_has_calls hull_shared "$prefix/include/hull_shared.h"
+    attempt "hull(3) has every call" page_has_calls hull "$prefix/include/hull.h" "$prefix/include/hull_exchange.h" "$prefix/include/hull_common.h"
+    attempt "hull_shared(3) has every call" page_has_calls hull_shared "$prefix/include/hull_shared.h"
     for name in first placement motions; do
-        try "examples/embed/$name.c compiles by what is installed" compile "$name"
-        try "examples/embed/$name.c writes examples/embed/$name.txt" writes "$examples/$name.txt" "$room/$name"
+        attempt "examples/embed/$name.c compiles by what is installed" compile "$name"
+        attempt "examples/embed/$name.c writes examples/embed/$name.txt" writes "$examples/$name.txt" "$room/$name"
     done
-    try "codes.c compiles" compile codes -Wl,--wrap=malloc,--wrap=calloc,--wrap=realloc
-    try "every code of every function" "$room/codes" "$here/lattice.txt"
-    try "grid.c compiles" compile grid
-    try "each 13th pair of outlines of a small grid, by all corners and edges" "$room/grid" 13
-    try "rays.c compiles" compile rays
-    try "rays and segments at all outlines of a small grid, by all edges" "$room/rays" 2
-    try "checked.c compiles" compile checked -Wl,--wrap=malloc
-    try "a checked build tells of arrays that are no outline" "$room/checked"
-    try "replay.c compiles" compile replay
+    attempt "codes.c compiles" compile codes -Wl,--wrap=malloc,--wrap=calloc,--wrap=realloc
+    attempt "every code of every function" "$room/codes" "$here/lattice.txt"
+    attempt "grid.c compiles" compile grid
+    attempt "each 13th pair of outlines of a small grid, by all corners and edges" "$room/grid" 13
+    attempt "rays.c compiles" compile rays
+    attempt "rays and segments at all outlines of a small grid, by all edges" "$room/rays" 2
+    attempt "checked.c compiles" compile checked -Wl,--wrap=malloc
+    attempt "a checked build tells of arrays that are no outline" "$room/checked"
+    attempt "replay.c compiles" compile replay
     replays C "$room/replay"
-    try "full.c compiles" compile full
-    try "as many points as there may be" "$room/full"
-    try "refusals.c compiles" compile refusals -Wl,--wrap=malloc,--wrap=realloc,--wrap=free
-    try "each request for memory refused in turn" "$room/refusals"
+    attempt "full.c compiles" compile full
+    attempt "as many points as there may be" "$room/full"
+    attempt "refusals.c compiles" compile refusals -Wl,--wrap=malloc,--wrap=realloc,--wrap=free
+    attempt "each request for memory refused in turn" "$room/refusals"
     if echo '#include <ccd/ccd.h>' | cc -E - >/dev/null 2>&1; then
         # shellcheck disable=SC2046 # the flags stand apart by spaces
-        try "examples/embed/gjk.c compiles beside libccd" \
+        attempt "examples/embed/gjk.c compiles beside libccd" \
             cc -std=c11 -Wall -Wextra -Werror -O2 "$examples/gjk.c" $(flags) -lccd -lm -o "$room/gjk"
-        try "examples/embed/gjk.c writes examples/embed/gjk.txt" writes "$examples/gjk.txt" "$room/gjk"
+        attempt "examples/embed/gjk.c writes examples/embed/gjk.txt" writes "$examples/gjk.txt" "$room/gjk"
     else
         skip "a support function for libccd" libccd-dev
     fi
     for header in hull hull_shared hull_exchange; do
         for standard in c99 c11; do
-            try "$header.h is $standard, checked or not" header_is "$header" "$standard"
+            attempt "$header.h is $standard, checked or not" header_is "$header" "$standard"
         done
     done
     sed -n '/^```c$/,/^```$/{/^```/!p;}' "$top/README.md" >"$room/readme.c"
     for standard in c99 c11; do
         # shellcheck disable=SC2046 # the flags stand apart by spaces
-        try "the README's program is $standard" \
+        attempt "the README's program is $standard" \
             cc -std=$standard -pedantic -Wall -Wextra -Werror "$room/readme.c" $(flags) -o "$room/readme"
-        try "the README's program says that (5, 5) is inside" sh -c "'$room/readme' | grep -qx '(5, 5) is inside: 1'"
+        attempt "the README's program says that (5, 5) is inside" sh -c "'$room/readme' | grep -qx '(5, 5) is inside: 1'"
     done
 }
 
@@ -159,38 +121,38 @@ wants_17() {
 
 in_cplusplus() {
     for header in hull.h hull_shared.h hull_exchange.h hull.hpp; do
-        try "$header is C++17" is_cplusplus $header -std=c++17
-        try "$header is C++20" is_cplusplus $header -std=c++20
-        try "$header is C++17 without exceptions" is_cplusplus $header -std=c++17 -fno-exceptions
+        attempt "$header is C++17" is_cplusplus $header -std=c++17
+        attempt "$header is C++20" is_cplusplus $header -std=c++20
+        attempt "$header is C++17 without exceptions" is_cplusplus $header -std=c++17 -fno-exceptions
     done
-    try "hull.hpp says that it needs C++17" wants_17
+    attempt "hull.hpp says that it needs C++17" wants_17
     # shellcheck disable=SC2046 # the flags stand apart by spaces
-    try "the README's program is C++17" \
+    attempt "the README's program is C++17" \
         c++ -x c++ -std=c++17 -pedantic -Wall -Wextra -Werror "$room/readme.c" -x none $(flags) -o "$room/readme"
     # shellcheck disable=SC2046
-    try "the tests of hull.hpp compile" c++ -std=c++17 -pedantic -Wall -Wextra -Werror -O2 -g "$here/hull_tests.cpp" \
+    attempt "the tests of hull.hpp compile" c++ -std=c++17 -pedantic -Wall -Wextra -Werror -O2 -g "$here/hull_tests.cpp" \
         $(flags) -lhull_shared -lpthread -o "$room/hull_tests_cpp"
-    try "the tests of hull.hpp" "$room/hull_tests_cpp" "$here/lattice.txt"
+    attempt "the tests of hull.hpp" "$room/hull_tests_cpp" "$here/lattice.txt"
     # shellcheck disable=SC2046
-    try "replay.cpp compiles" c++ -std=c++17 -pedantic -Wall -Wextra -Werror -O2 "$here/replay.cpp" $(flags) -lhull_shared -lpthread \
+    attempt "replay.cpp compiles" c++ -std=c++17 -pedantic -Wall -Wextra -Werror -O2 "$here/replay.cpp" $(flags) -lhull_shared -lpthread \
         -o "$room/replay_cpp"
     replays C++ "$room/replay_cpp"
     # shellcheck disable=SC2046
-    try "examples/embed/planner.cpp compiles by what is installed" c++ -std=c++17 -pedantic -Wall -Wextra -Werror -O2 \
+    attempt "examples/embed/planner.cpp compiles by what is installed" c++ -std=c++17 -pedantic -Wall -Wextra -Werror -O2 \
         "$examples/planner.cpp" $(flags) -lhull_shared -lpthread -o "$room/planner"
-    try "examples/embed/planner.cpp writes examples/embed/planner.txt" writes "$examples/planner.txt" "$room/planner"
+    attempt "examples/embed/planner.cpp writes examples/embed/planner.txt" writes "$examples/planner.txt" "$room/planner"
     ompl=$(pkg-config --cflags ompl eigen3 2>/dev/null) || ompl=
     # shellcheck disable=SC2086 # the flags stand apart by spaces
     if echo '#include <ompl/base/MotionValidator.h>' | c++ $ompl -std=c++17 -x c++ -E - >/dev/null 2>&1; then
         # shellcheck disable=SC2046
-        try "examples/embed/sampling.cpp compiles beside OMPL" c++ $ompl -std=c++17 -Wall -Wextra -O2 \
+        attempt "examples/embed/sampling.cpp compiles beside OMPL" c++ $ompl -std=c++17 -Wall -Wextra -O2 \
             "$examples/sampling.cpp" $(flags) -lhull_shared -lompl -lpthread -o "$room/sampling"
-        try "examples/embed/sampling.cpp writes examples/embed/sampling.txt" writes "$examples/sampling.txt" "$room/sampling"
+        attempt "examples/embed/sampling.cpp writes examples/embed/sampling.txt" writes "$examples/sampling.txt" "$room/sampling"
     else
         skip "motions for OMPL" libompl-dev
     fi
     if is_there valgrind; then
-        try "valgrind finds nothing in the tests of hull.hpp" valgrind -q --error-exitcode=9 --leak-check=full \
+        attempt "valgrind finds nothing in the tests of hull.hpp" valgrind -q --error-exitcode=9 --leak-check=full \
             --show-leak-kinds=all --errors-for-leak-kinds=all "$room/hull_tests_cpp" "$here/lattice.txt" "$room/threads_journal"
     else
         skip "memory by valgrind in C++" valgrind
@@ -199,7 +161,7 @@ in_cplusplus() {
 
 by_valgrind() {
     for name in first placement motions codes; do
-        try "valgrind finds nothing in $name" \
+        attempt "valgrind finds nothing in $name" \
             valgrind -q --error-exitcode=9 --leak-check=full --show-leak-kinds=all --errors-for-leak-kinds=all "$room/$name" \
             "$here/lattice.txt"
     done
@@ -211,30 +173,30 @@ rust() {
 }
 
 in_rust() {
-    try "rust/hull compiles" rust --crate-type rlib --crate-name hull "$top/rust/hull/src/lib.rs"
-    try "the tests of rust/hull compile" rust --test --extern hull --crate-name hull_tests "$here/hull_tests.rs"
-    try "the tests of rust/hull" env LATTICE="$here/lattice.txt" "$room/hull_tests"
-    try "replay.rs compiles" rust --crate-name replay_rust --extern hull "$here/replay.rs"
+    attempt "rust/hull compiles" rust --crate-type rlib --crate-name hull "$top/rust/hull/src/lib.rs"
+    attempt "the tests of rust/hull compile" rust --test --extern hull --crate-name hull_tests "$here/hull_tests.rs"
+    attempt "the tests of rust/hull" env LATTICE="$here/lattice.txt" "$room/hull_tests"
+    attempt "replay.rs compiles" rust --crate-name replay_rust --extern hull "$here/replay.rs"
     replays Rust "$room/replay_rust"
-    try "the examples in the documents of rust/hull" rustdoc --test --edition 2021 --crate-name hull -L "native=$prefix/lib" \
+    attempt "the examples in the documents of rust/hull" rustdoc --test --edition 2021 --crate-name hull -L "native=$prefix/lib" \
         -L "$room" --extern hull="$room/libhull.rlib" "$top/rust/hull/src/lib.rs"
-    try "the units of rust/hull compile" rust --test --crate-name hull_units "$top/rust/hull/src/lib.rs"
-    try "the units of rust/hull" "$room/hull_units"
+    attempt "the units of rust/hull compile" rust --test --crate-name hull_units "$top/rust/hull/src/lib.rs"
+    attempt "the units of rust/hull" "$room/hull_units"
     if is_there valgrind; then
-        try "valgrind finds nothing lost by the tests of rust/hull" valgrind -q --trace-children=yes --error-exitcode=9 --leak-check=full \
+        attempt "valgrind finds nothing lost by the tests of rust/hull" valgrind -q --trace-children=yes --error-exitcode=9 --leak-check=full \
             --show-leak-kinds=definite,indirect --errors-for-leak-kinds=definite,indirect \
             env LATTICE="$here/lattice.txt" "$room/hull_tests"
     else
         skip "memory by valgrind in Rust" valgrind
     fi
-    try "examples/embed/collision.rs compiles" rust --extern hull "$examples/collision.rs"
-    try "examples/embed/collision.rs writes examples/embed/collision.txt" writes "$examples/collision.txt" "$room/collision"
+    attempt "examples/embed/collision.rs compiles" rust --extern hull "$examples/collision.rs"
+    attempt "examples/embed/collision.rs writes examples/embed/collision.txt" writes "$examples/collision.txt" "$room/collision"
     if is_there cargo; then
         cp -r "$top/rust/hull" "$room/crate"
-        try "cargo builds rust/hull" \
+        attempt "cargo builds rust/hull" \
             env HULL_PREFIX="$prefix" cargo build --offline --quiet --manifest-path "$room/crate/Cargo.toml"
-        try "cargo builds a program over the crate that is installed" by_cargo
-        try "cargo is told where the archives are not" tells_missing_archives
+        attempt "cargo builds a program over the crate that is installed" by_cargo
+        attempt "cargo is told where the archives are not" tells_missing_archives
     else
         skip "rust/hull by cargo" cargo
     fi
@@ -304,29 +266,29 @@ with() {
 in_python() {
     for interpreter in $(pythons); do
         numbered=$("$interpreter" -c 'import sys; print("%d.%d" % sys.version_info[:2])')
-        try "the tests of python/hull.py by $interpreter ($numbered)" python "$here/hull_tests.py"
-        try "hulls end behind their last user by $interpreter ($numbered)" python -W ignore "$here/lives_tests.py"
+        attempt "the tests of python/hull.py by $interpreter ($numbered)" python "$here/hull_tests.py"
+        attempt "hulls end behind their last user by $interpreter ($numbered)" python -W ignore "$here/lives_tests.py"
     done
     interpreter=python3
     replays Python python "$here/replay.py"
-    try "2000 pairs of outlines by chance, by all corners and edges" python "$here/random_outlines.py" 2000 1
-    try "2000 rays and segments by chance, by all edges" python "$here/random_casts.py" 2000 1
-    try "libhull.so slowed down compiles" slowed hull
-    try "libhull_shared.so slowed down compiles" slowed hull_shared -DSHARED
-    try "calls on one hull from several threads wait for each other" python_slowed "$here/hull_tests.py" Locks
-    try "calls on one desk, seat and part do" python_slowed "$here/../shared/shared_tests.py" Locks
-    try "refused memory is told" python_slowed "$here/lives_tests.py" Refusals
-    try "examples/embed/places.py writes examples/embed/places.txt" writes "$examples/places.txt" python "$examples/places.py"
+    attempt "2000 pairs of outlines by chance, by all corners and edges" python "$here/random_outlines.py" 2000 1
+    attempt "2000 rays and segments by chance, by all edges" python "$here/random_casts.py" 2000 1
+    attempt "libhull.so slowed down compiles" slowed hull
+    attempt "libhull_shared.so slowed down compiles" slowed hull_shared -DSHARED
+    attempt "calls on one hull from several threads wait for each other" python_slowed "$here/hull_tests.py" Locks
+    attempt "calls on one desk, seat and part do" python_slowed "$here/../shared/shared_tests.py" Locks
+    attempt "refused memory is told" python_slowed "$here/lives_tests.py" Refusals
+    attempt "examples/embed/places.py writes examples/embed/places.txt" writes "$examples/places.txt" python "$examples/places.py"
     if with numpy; then
-        try "examples/embed/places.py with numpy" writes "$examples/places.txt" python "$examples/places.py"
-        try "the tests of arrays of numpy, by $interpreter" python "$here/hull_tests.py" Arrays
+        attempt "examples/embed/places.py with numpy" writes "$examples/places.txt" python "$examples/places.py"
+        attempt "the tests of arrays of numpy, by $interpreter" python "$here/hull_tests.py" Arrays
     else
         skip "arrays of numpy" "python3 with numpy"
     fi
     if with mypy; then
-        try "examples in Python by mypy --strict" env MYPYPATH="$prefix/lib/hull" MYPY_CACHE_DIR="$room/mypy" \
+        attempt "examples in Python by mypy --strict" env MYPYPATH="$prefix/lib/hull" MYPY_CACHE_DIR="$room/mypy" \
             "$interpreter" -m mypy --strict "$examples/places.py" "$top/examples/shared/threads.py"
-        try "python/hull.py by mypy --strict" env MYPY_CACHE_DIR="$room/mypy" "$interpreter" -m mypy --strict "$top/python/hull.py"
+        attempt "python/hull.py by mypy --strict" env MYPY_CACHE_DIR="$room/mypy" "$interpreter" -m mypy --strict "$top/python/hull.py"
     else
         skip "annotations" mypy
     fi
@@ -351,19 +313,19 @@ by_mpi() {
 # more points than one machine holds, on a small scale: by one process, by Dask's workers, by MPI
 in_many_processes() {
     if with "numpy, distributed"; then
-        try "examples/large/blocks.py by one process" by_dask square 2000000 --block 65536 --workers 0
-        try "examples/large/blocks.py by three workers" by_dask square 2000000 --block 65536 --workers 3
-        try "examples/large/blocks.py where a worker is killed in the middle" by_dask square 2000000 --block 65536 --workers 3 --kill
-        try "examples/large/blocks.py where all are corners" by_dask parabola 262144 --shape parabola --block 16384 --workers 3 --kill
+        attempt "examples/large/blocks.py by one process" by_dask square 2000000 --block 65536 --workers 0
+        attempt "examples/large/blocks.py by three workers" by_dask square 2000000 --block 65536 --workers 3
+        attempt "examples/large/blocks.py where a worker is killed in the middle" by_dask square 2000000 --block 65536 --workers 3 --kill
+        attempt "examples/large/blocks.py where all are corners" by_dask parabola 262144 --shape parabola --block 16384 --workers 3 --kill
     else
         skip "outlines by Dask's workers" "python3 with numpy and distributed (python3-distributed)"
     fi
     if is_there mpicc && is_there mpirun; then
         # shellcheck disable=SC2046 # the flags stand apart by spaces
-        try "examples/large/reduce.c compiles" mpicc -std=c11 -Wall -Wextra -Werror -O2 "$top/examples/large/reduce.c" $(flags) -o "$room/reduce"
+        attempt "examples/large/reduce.c compiles" mpicc -std=c11 -Wall -Wextra -Werror -O2 "$top/examples/large/reduce.c" $(flags) -o "$room/reduce"
         for processes in 1 3 4; do
-            try "examples/large/reduce.c by $processes processes" by_mpi "$processes" square 2000000 square 1 65536
-            try "examples/large/reduce.c by $processes, where all are corners" by_mpi "$processes" parabola 262144 parabola 1 16384
+            attempt "examples/large/reduce.c by $processes processes" by_mpi "$processes" square 2000000 square 1 65536
+            attempt "examples/large/reduce.c by $processes, where all are corners" by_mpi "$processes" parabola 262144 parabola 1 16384
         done
     else
         skip "outlines reduced by MPI" "mpicc (libopenmpi-dev, openmpi-bin)"
@@ -386,15 +348,15 @@ planners() {
 }
 
 in_planners() {
-    try "docs/PLANNERS.md has three listings in C and in Python" planners
+    attempt "docs/PLANNERS.md has three listings in C and in Python" planners
     if is_there cc; then
         # shellcheck disable=SC2046 # the flags stand apart by spaces
-        try "those in C compile" cc -std=c11 -Wall -Wextra -Werror -O2 -UNDEBUG "$room/planners.c" $(flags) -o "$room/planners"
-        try "those in C are true" "$room/planners"
+        attempt "those in C compile" cc -std=c11 -Wall -Wextra -Werror -O2 -UNDEBUG "$room/planners.c" $(flags) -o "$room/planners"
+        attempt "those in C are true" "$room/planners"
     else
         skip "listings in C" cc
     fi
-    if is_there python3; then try "those in Python are true" python "$room/planners.py"; else skip "listings in Python" python3; fi
+    if is_there python3; then attempt "those in Python are true" python "$room/planners.py"; else skip "listings in Python" python3; fi
 }
 
 what=
@@ -403,7 +365,7 @@ if ! { "$top/tools/release.py" --program hullbook && "$top/tools/release.py" --p
     skip "the programs' installation" "hullbook or hulldraw of these sources"
 fi
 # shellcheck disable=SC2086 # no word where there is no option
-try "bin/install" "$top/bin/install" $what "$prefix"
+attempt "bin/install" "$top/bin/install" $what "$prefix"
 [ "$failed" -eq 0 ] || end
 
 if is_there python3; then

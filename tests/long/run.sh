@@ -18,9 +18,7 @@
 # needs, and is stopped there: one that passes over half of all points at each `remove` does not come to its end.
 set -u
 here=$(cd "$(dirname "$0")" && pwd)
-top=$(cd "$here/../.." && pwd)
-room=$(mktemp -d)
-trap 'rm -rf "$room"' EXIT
+. "$here/../lib.sh"
 hullbook=$("$top/tools/become.sh" --path hullbook) || exit
 
 # Writes the script `grid`, and with answers=1 its report without the ledgers: the calls worker by worker, phase by phase.
@@ -97,17 +95,6 @@ origin() {
             say("add 0 0", "toomany")
             say("count", "count 1")
         }'
-}
-
-passed=0
-failed=0
-said() {
-    echo "$1: $2"
-    if [ "$2" = ok ]; then
-        passed=$((passed + 1))
-    else
-        failed=$((failed + 1))
-    fi
 }
 
 # tries NAME with a journal of this CAPACITY: the answers of its report, that the sparing tree gives the same, its ledgers'
@@ -218,5 +205,4 @@ hard chance 15
 try grid 65536
 try parabola 65536
 try origin 65537
-echo "$passed passed, $failed failed"
-[ "$failed" -eq 0 ]
+end

@@ -14,9 +14,7 @@
 # counts, and the status is not 0 where something else came.
 set -u
 here=$(cd "$(dirname "$0")" && pwd)
-top=$(cd "$here/../.." && pwd)
-room=$(mktemp -d)
-trap 'rm -rf "$room"' EXIT
+. "$here/../lib.sh"
 kit=$(dirname "$(rt doc)")
 "$kit/toolchain/bin/clang" --target=x86_64-unknown-linux-gnu -O1 -fPIC -shared -nostdlib -fuse-ld=lld \
     -o "$room/refuse.so" "$here/refuse.c" || exit 1
@@ -83,8 +81,6 @@ judge() {
         }'
 }
 
-passed=0
-failed=0
 # tries the words behind NAME, LAST and WANTED on the program
 try() {
     name=$1
@@ -117,5 +113,4 @@ try 'journal after' 15 01234 run "$room/script" --after "$room/journal" --journa
 # What is put together behind a last line without a newline stands in the line after it.
 printf '0 count' >"$room/short"
 try unfinished 2 0124 run "$room/short"
-echo "$passed passed, $failed failed"
-[ "$failed" -eq 0 ]
+end

@@ -5,21 +5,8 @@
 # pictures in docs/pictures instead. The last line counts, and the status is not 0 where something else came.
 set -u
 here=$(cd "$(dirname "$0")" && pwd)
-top=$(cd "$here/../.." && pwd)
-room=$(mktemp -d)
-trap 'rm -rf "$room"' EXIT
+. "$here/../lib.sh"
 hulldraw=$("$top/tools/become.sh" --path hulldraw) || exit
-
-passed=0
-failed=0
-said() {
-    if [ "$2" = "$3" ]; then
-        passed=$((passed + 1))
-    else
-        failed=$((failed + 1))
-        echo "$1: $2, not $3"
-    fi
-}
 
 # a picture, from a journal with some words: NAME JOURNAL WORDS..
 picture() {
@@ -31,9 +18,9 @@ picture() {
         return
     fi
     "$hulldraw" "$journal" "$@" >"$room/$name.svg"
-    said "status of $name" $? 0
+    came "status of $name" $? 0
     cmp -s "$room/$name.svg" "$top/docs/pictures/$name.svg"
-    said "picture of $name" $? 0
+    came "picture of $name" $? 0
 }
 
 new=${1:-}
@@ -50,8 +37,8 @@ picture film film --film
 [ "$new" != new ] || exit 0
 
 # points a unit apart at two corners: all are drawn, and of their labels one at each corner, which lies over no other
-said 'the dots of near points, and of their corners' "$(grep -o 'h0' "$room/near.svg" | wc -l)" $((7 + 4))
-said 'the labels of near points' "$(sed -n "s/.*class='t'.*>\([0-9]*\)<.*/\1/p" "$room/near.svg" | tr '\n' ' ')" '3 12 '
+came 'the dots of near points, and of their corners' "$(grep -o 'h0' "$room/near.svg" | wc -l)" $((7 + 4))
+came 'the labels of near points' "$(sed -n "s/.*class='t'.*>\([0-9]*\)<.*/\1/p" "$room/near.svg" | tr '\n' ' ')" '3 12 '
 
 # 99,996 points inside a square of side 2,000,000, on different verticals, and its four corners
 awk 'BEGIN {
@@ -63,19 +50,19 @@ awk 'BEGIN {
     print "end " n }' >"$room/large"
 
 # how often a word stands in a picture
-count() {
+how_many() {
     grep -o "$1" "$room/large.svg" | wc -l
 }
 "$hulldraw" "$room/large" --bridges >"$room/large.svg"
-said 'status of the large picture' $? 0
-said 'its corners' "$(grep -c "points='0,2000000 2000000,2000000 2000000,0 0,0 '" "$room/large.svg")" 1
-said 'its dots, one of 26 and the corners' "$(count 'h0')" $((3847 + 4))
-said 'its bridges, of eight levels' "$(count "class='[ul] v[0-7]'")" 510
-said 'its labels' "$(count "class='t'")" 0
-said 'its legend' "$(grep -c '>points 100000 (limit 1048576); one of 26 is drawn<' "$room/large.svg")" 1
-said 'its area' "$(grep -c '>doubled area 8000000000000<' "$room/large.svg")" 1
+came 'status of the large picture' $? 0
+came 'its corners' "$(grep -c "points='0,2000000 2000000,2000000 2000000,0 0,0 '" "$room/large.svg")" 1
+came 'its dots, one of 26 and the corners' "$(how_many 'h0')" $((3847 + 4))
+came 'its bridges, of eight levels' "$(how_many "class='[ul] v[0-7]'")" 510
+came 'its labels' "$(how_many "class='t'")" 0
+came 'its legend' "$(grep -c '>points 100000 (limit 1048576); one of 26 is drawn<' "$room/large.svg")" 1
+came 'its area' "$(grep -c '>doubled area 8000000000000<' "$room/large.svg")" 1
 "$hulldraw" "$room/large" --line 2 >"$room/large.svg"
-said 'corners after two lines' "$(grep -c "points='0,1000000 2000000,1000000 '" "$room/large.svg")" 1
+came 'corners after two lines' "$(grep -c "points='0,1000000 2000000,1000000 '" "$room/large.svg")" 1
 
 # N points far apart, two of which are held twice: their labels are written up to 400 points
 points() {
@@ -88,46 +75,46 @@ points() {
 }
 points 400
 "$hulldraw" "$room/points" >"$room/large.svg"
-said 'the labels of 400 points' "$(count "class='t'")" 2
+came 'the labels of 400 points' "$(how_many "class='t'")" 2
 points 401
 "$hulldraw" "$room/points" >"$room/large.svg"
-said 'the labels of 401 points' "$(count "class='t'")" 0
+came 'the labels of 401 points' "$(how_many "class='t'")" 0
 # the greatest picture, the empty set after no line, and bridges after some
 "$hulldraw" "$here/journals/thirty.txt" --size 10000 >"$room/large.svg"
-said 'status of the greatest picture' $? 0
-said 'its width' "$(count "^<svg [^>]*width='10064'")" 1
+came 'status of the greatest picture' $? 0
+came 'its width' "$(how_many "^<svg [^>]*width='10064'")" 1
 "$hulldraw" "$here/journals/thirty.txt" --line 4294967295 --bridges >"$room/large.svg"
-said 'status of the last line that there may be' $? 0
+came 'status of the last line that there may be' $? 0
 cmp -s "$room/large.svg" "$top/docs/pictures/bridges.svg"
-said 'its picture, the whole' $? 0
+came 'its picture, the whole' $? 0
 "$hulldraw" "$here/journals/thirty.txt" --size 240 >"$room/large.svg"
-said 'status of the smallest picture' $? 0
-said 'its width' "$(count "^<svg [^>]*width='304'")" 1
+came 'status of the smallest picture' $? 0
+came 'its width' "$(how_many "^<svg [^>]*width='304'")" 1
 "$hulldraw" "$here/journals/thirty.txt" --line 0 >"$room/large.svg"
-said 'status of no line' $? 0
-said 'the points after no line' "$(count '>points 0 ')" 1
+came 'status of no line' $? 0
+came 'the points after no line' "$(how_many '>points 0 ')" 1
 "$hulldraw" "$here/journals/thirty.txt" --line 2 --bridges >"$room/large.svg"
-said 'status of bridges after two lines' $? 0
-said 'the bridges after two lines' "$(count "class='[ul] v[0-7]'")" 2
+came 'status of bridges after two lines' $? 0
+came 'the bridges after two lines' "$(how_many "class='[ul] v[0-7]'")" 2
 
 # a small film, and one of its first 600 lines
 "$hulldraw" "$here/journals/film.txt" --film --size 240 >"$room/large.svg"
-said 'status of a small film' $? 0
-said 'its width' "$(count "^<svg [^>]*width='304'")" 1
+came 'status of a small film' $? 0
+came 'its width' "$(how_many "^<svg [^>]*width='304'")" 1
 "$hulldraw" "$room/large" --film >"$room/large.svg"
-said 'status of the large film' $? 0
-said 'its frames' "$(grep -c '^<g><set' "$room/large.svg")" 600
-said 'the calls in its captions' "$(count "class='b'> add [-0-9]* [-0-9]*<")" 600
-said 'the replies in its captions' "$(count "class='b'>= added<")" 600
-said 'its title' "$(grep -c '>the first 600 of 100000 calls<' "$room/large.svg")" 1
+came 'status of the large film' $? 0
+came 'its frames' "$(grep -c '^<g><set' "$room/large.svg")" 600
+came 'the calls in its captions' "$(how_many "class='b'> add [-0-9]* [-0-9]*<")" 600
+came 'the replies in its captions' "$(how_many "class='b'>= added<")" 600
+came 'its title' "$(grep -c '>the first 600 of 100000 calls<' "$room/large.svg")" 1
 "$hulldraw" "$here/journals/wrong.txt" --film >"$room/large.svg"
-said 'where a film ends at a wrong line' "$(grep -c 'is wrong' "$room/large.svg")" 1
+came 'where a film ends at a wrong line' "$(grep -c 'is wrong' "$room/large.svg")" 1
 # a list that has no room in its line, and a refused point
 "$hulldraw" "$here/journals/many.txt" --film >"$room/large.svg"
-said 'status of a film with a long list' $? 0
-said 'its long list' "$(grep -c '>= list 8 -11000 0 -9999 -9999 0 -11000 &#8230; and 5 more<' "$room/large.svg")" 1
-said 'its refused point' "$(count "<path class='x' d='M11002 10998h0'/>")" 1
-said 'its wrong lines' "$(count 'is wrong')" 0
+came 'status of a film with a long list' $? 0
+came 'its long list' "$(grep -c '>= list 8 -11000 0 -9999 -9999 0 -11000 &#8230; and 5 more<' "$room/large.svg")" 1
+came 'its refused point' "$(how_many "<path class='x' d='M11002 10998h0'/>")" 1
+came 'its wrong lines' "$(how_many 'is wrong')" 0
 
 # what is refused: MESSAGE STATUS WORDS..
 refused() {
@@ -135,9 +122,9 @@ refused() {
     status=$2
     shift 2
     "$hulldraw" "$@" >"$room/output" 2>"$room/error"
-    said "status of $*" $? "$status"
-    said "message of $*" "$(cat "$room/error")" "$message"
-    said "output of $*" "$(wc -c <"$room/output")" 0
+    came "status of $*" $? "$status"
+    came "message of $*" "$(cat "$room/error")" "$message"
+    came "output of $*" "$(wc -c <"$room/output")" 0
 }
 printf 'hullbook journal 3 first 0 limit 4 capacity 9\n0 0 add 01 0 = added\nend 1\n' >"$room/spelling"
 refused 'hulldraw: usage' 2
@@ -153,8 +140,8 @@ refused 'hulldraw: usage' 2 "$room/large" --film --bridges
 refused 'hulldraw: open' 3 "$room/absent"
 refused 'hulldraw: line 2: fault 2' 2 "$room/spelling"
 "$hulldraw" "$room/large" >/dev/full 2>"$room/error"
-said 'status on a full device' $? 3
-said 'message on a full device' "$(cat "$room/error")" 'hulldraw: write'
+came 'status on a full device' $? 3
+came 'message on a full device' "$(cat "$room/error")" 'hulldraw: write'
 # each request for memory refused in turn, until twenty runs in a row come out whole: before that nothing is written, with
 # a word and status 4
 kit=$(dirname "$(rt doc)")
@@ -180,6 +167,5 @@ while [ "$row" -lt 20 ] && [ "$number" -lt 1000 ]; do
         echo "status $status"
     fi
 done >"$room/stages"
-said 'what comes where memory is refused' "$(uniq "$room/stages" | tr '\n' ' ')" 'memory text memory whole '
-echo "$passed passed, $failed failed"
-[ "$failed" -eq 0 ]
+came 'what comes where memory is refused' "$(uniq "$room/stages" | tr '\n' ' ')" 'memory text memory whole '
+end

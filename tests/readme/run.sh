@@ -4,9 +4,7 @@
 # where something else came.
 set -u
 here=$(cd "$(dirname "$0")" && pwd)
-top=$(cd "$here/../.." && pwd)
-room=$(mktemp -d)
-trap 'rm -rf "$room"' EXIT
+. "$here/../lib.sh"
 cd "$top" || exit 1
 
 # the lines of the blocks that begin with this line: the fence `sh` where it is one, else their first line
@@ -15,13 +13,6 @@ block() {
         /^```/ { if (inside) { inside = 0; next } inside = 1; fence = $0; line = 0; next }
         inside { line++; if (line == 1) wanted = (fence == first || $0 == first) }
         inside && wanted { print }' README.md
-}
-
-passed=0
-failed=0
-said() {
-    echo "$1: $2"
-    if [ "$2" = ok ]; then passed=$((passed + 1)); else failed=$((failed + 1)); fi
 }
 
 block '```sh' >"$room/commands"
@@ -35,5 +26,5 @@ while IFS= read -r command; do
 done <"$room/commands"
 block '# four corners of a plate, by two workers at once' | cmp -s - examples/placement.txt && said 'the script' ok || said 'the script' 'is another'
 block '0 add 0 0 = added' | cmp -s - "$room/report" && said 'the report' ok || said 'the report' 'is another'
-echo "$passed passed, $failed failed"
-[ "$failed" -eq 0 ] && [ "$passed" -gt 2 ]
+[ "$passed" -gt 2 ] || said 'the commands' 'are missing'
+end

@@ -4,9 +4,7 @@
 # It works on a copy in a temporary folder. The last line counts, and the status is not 0 where a case came out otherwise.
 set -u
 here=$(cd "$(dirname "$0")" && pwd)
-top=$(cd "$here/../.." && pwd)
-room=$(mktemp -d)
-trap 'rm -rf "$room"' EXIT
+. "$here/../lib.sh"
 
 mkdir -p "$room/crates/refused/src"
 cp "$top/HANDLES" "$room/"
@@ -15,16 +13,6 @@ cp "$top/HANDLES" "$room/"
     echo 'refused: ticket_lock'
 } >"$room/crates.txt"
 cp -r "$top/crates/ticket_lock" "$room/crates/"
-
-passed=0
-failed=0
-said() {
-    echo "$1: $2"
-    case $2 in
-    ok*) passed=$((passed + 1)) ;;
-    *) failed=$((failed + 1)) ;;
-    esac
-}
 
 for case in "$here"/*.case; do
     name=$(basename "$case" .case)
@@ -45,5 +33,4 @@ for case in "$here"/*.case; do
         said "$name" "FAILED, it must be refused by $wanted: status $status, errors $errors"
     fi
 done
-echo "$passed passed, $failed failed"
-[ $failed -eq 0 ]
+end

@@ -11,41 +11,16 @@
 # something failed. With a number, that many calls a thread; with a second one, so many kills (150).
 set -u
 here=$(cd "$(dirname "$0")" && pwd)
-top=$(cd "$here/../.." && pwd)
+. "$here/../lib.sh"
 examples=$top/examples/shared
 calls=${1:-100000}
 kills=${2:-150}
-passed=0
-failed=0
 
-if ! command -v cc >/dev/null 2>&1; then
+if ! is_there cc; then
     echo "there is no cc: nothing was tried"
-    echo "0 passed, 0 failed"
-    exit 0
+    end
 fi
-room=$(mktemp -d)
-trap 'rm -rf "$room"' EXIT
 prefix=$room/prefix
-
-# counts a try: NAME, and the status that it ended with
-count() {
-    if [ "$2" -eq 0 ]; then
-        echo "$1: ok"
-        passed=$((passed + 1))
-    else
-        echo "$1: failed"
-        [ ! -f "$room/told" ] || tail -n 20 "$room/told"
-        failed=$((failed + 1))
-    fi
-}
-
-skip() {
-    echo "$1: skipped, there is no $2"
-}
-
-is_there() {
-    command -v "$1" >/dev/null 2>&1
-}
 
 # builds a program in C: its source, and further flags, or files that go before the archive
 build() {
@@ -371,10 +346,7 @@ in_python() {
 "$top/bin/install" --library "$prefix" >"$room/told" 2>&1
 status=$?
 count "bin/install" $status
-if [ $status -ne 0 ]; then
-    echo "$passed passed, $failed failed"
-    exit 1
-fi
+[ $status -eq 0 ] || end
 
 in_c
 if is_there valgrind; then by_valgrind; else skip "memory by valgrind" valgrind; fi
@@ -408,5 +380,4 @@ fi
 if is_there rustc; then in_rust; else skip "Rust" rustc; fi
 if is_there python3; then in_python; else skip "Python" python3; fi
 
-echo "$passed passed, $failed failed"
-[ "$failed" -eq 0 ]
+end

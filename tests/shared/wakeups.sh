@@ -10,12 +10,9 @@
 # and the status is not 0 where something else came.
 set -u
 here=$(cd "$(dirname "$0")" && pwd)
+. "$here/../lib.sh"
 prefix=$1
 limit=${2:-10}
-room=$(mktemp -d)
-trap 'rm -rf "$room"' EXIT
-passed=0
-failed=0
 
 # a copy of the file and what it includes, as they stand
 copy() {
@@ -46,7 +43,7 @@ try() {
     # shellcheck disable=SC2016 # the words are the inner shell's
     sh -c 'for _ in $(seq "$2"); do timeout -k 1 "$3" "$0" 8 20 "$1" || exit; done' \
         "$room/storm" "$3" "$(storms "$2")" "$(within "$2")" >/dev/null 2>&1
-    came $? "$1" "$2"
+    ended $? "$1" "$2"
 }
 
 # how long each storm may take: what has to end has longer, on a busy machine
@@ -60,18 +57,16 @@ storms() {
 }
 
 # counts a run: its status, its NAME, and whether it had to end or to hang
-came() {
+ended() {
     case $1 in
-    0) came=end ;;
-    124 | 137) came=hang ;;
-    *) came="fail" ;;
+    0) how=end ;;
+    124 | 137) how=hang ;;
+    *) how="fail" ;;
     esac
-    if [ "$came" = "$3" ]; then
-        echo "$2: ok, they $came"
-        passed=$((passed + 1))
+    if [ "$how" = "$3" ]; then
+        said "$2" "ok, they $how"
     else
-        echo "$2: they have to $3, and $came"
-        failed=$((failed + 1))
+        said "$2" "they have to $3, and $how"
     fi
 }
 
@@ -130,7 +125,7 @@ try_full() {
     # shellcheck disable=SC2016 # the words are the inner shell's
     sh -c 'for _ in $(seq "$1"); do rm -f "$3"/*; timeout -k 1 "$2" "$0" 8 20 2 "$3" || exit; done' \
         "$room/full" "$(storms "$2")" "$(within "$2")" "$room/parts" >/dev/null 2>&1
-    came $? "$1" "$2"
+    ended $? "$1" "$2"
 }
 
 copy
@@ -145,5 +140,4 @@ copy
 change 's/^( +)hull_wake\(&line->drains, 0x7fffffff\);/\1;/'
 try_full 'who makes room wakes nobody' hang
 
-echo "$passed passed, $failed failed"
-[ "$failed" -eq 0 ]
+end

@@ -17,13 +17,11 @@
 # worker makes all its calls before the next one starts.)
 set -u
 here=$(cd "$(dirname "$0")" && pwd)
-top=$(cd "$here/../.." && pwd)
+. "$here/../lib.sh"
 rounds=${1:-1}
 seed=${2:-1}
 program=${HULLBOOK:-$("$top/tools/become.sh" --path hullbook)}
 limit=${LIMIT:-120}
-room=$(mktemp -d)
-trap 'rm -rf "$room"' EXIT
 kit=$(dirname "$(rt doc)")
 "$kit/toolchain/bin/clang" --target=x86_64-unknown-linux-gnu -O1 -fPIC -shared -nostdlib -fuse-ld=lld \
     -Wno-incompatible-library-redeclaration -o "$room/delay.so" "$here/delay.c" || exit 1
@@ -52,17 +50,6 @@ script() {
                 for (n = 0; n < calls / phases; n++) print draw(workers) " " call()
             }
         }'
-}
-
-passed=0
-failed=0
-said() {
-    if [ "$2" = ok ]; then
-        passed=$((passed + 1))
-    else
-        echo "$1: $2"
-        failed=$((failed + 1))
-    fi
 }
 
 # the first difference of two files, or ok
@@ -150,5 +137,4 @@ while [ "$round" -lt "$rounds" ]; do
     round=$((round + 1))
 done
 echo "$made calls were made, on scripts drawn from seed $seed on, $rounds of each kind"
-echo "$passed passed, $failed failed"
-[ "$failed" -eq 0 ]
+end

@@ -6,25 +6,11 @@
 # seed (the clock). The last line counts, and the status is not 0 where something else came.
 set -u
 here=$(cd "$(dirname "$0")" && pwd)
-top=$(cd "$here/../.." && pwd)
+. "$here/../lib.sh"
 texts=${1:-6000}
 seed=${2:-$(date +%s)}
-room=$(mktemp -d)
-trap 'rm -rf "$room"' EXIT
 kit=$(dirname "$(rt doc)")
 program=$("$top/tools/become.sh" --path hullbook) || exit
-
-passed=0
-failed=0
-# says how a part came out
-said() {
-    echo "$1: $2"
-    if [ "$2" = ok ]; then
-        passed=$((passed + 1))
-    else
-        failed=$((failed + 1))
-    fi
-}
 
 # the words behind NAME, STATUS, OUTPUT and ERROR on the program: whether it ends with this status and writes these lines
 try() {
@@ -122,5 +108,4 @@ if command -v rustc >/dev/null 2>&1; then
 else
     echo 'texts broken by chance: left out, since there is no rustc here'
 fi
-echo "$passed passed, $failed failed"
-[ "$failed" -eq 0 ]
+end

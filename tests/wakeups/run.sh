@@ -7,17 +7,13 @@
 # something else came.
 set -u
 here=$(cd "$(dirname "$0")" && pwd)
-top=$(cd "$here/../.." && pwd)
+. "$here/../lib.sh"
 limit=${1:-30}
-room=$(mktemp -d)
-trap 'rm -rf "$room"' EXIT
 crate=$room/crates/ticket_lock
 mkdir -p "$crate"
 cp "$top/HANDLES" "$room/"
 grep '^ticket_lock[ :]' "$top/crates.txt" >"$room/crates.txt"
 
-passed=0
-failed=0
 # the nap, and the lines round which the copies are built
 nap='for _ in 0..4000 { std::hint::spin_loop(); }'
 announces='^ *let announced = self.sleepers.announce(number);$'
@@ -43,18 +39,16 @@ copy() {
 try() {
     (cd "$crate" && timeout -k 1 300 rt try --test --seconds "$limit") >"$room/told" 2>&1
     if grep -q '^test result: ok' "$room/told"; then
-        came=end
+        how=end
     elif grep -q '^run=no-answer' "$room/told"; then
-        came=hang
+        how=hang
     else
-        came="neither: $(grep -m 1 'error\|FAILED' "$room/told")"
+        how="neither: $(grep -m 1 'error\|FAILED' "$room/told")"
     fi
-    if [ "$came" = "$2" ]; then
-        echo "$1: ok, they $came"
-        passed=$((passed + 1))
+    if [ "$how" = "$2" ]; then
+        said "$1" "ok, they $how"
     else
-        echo "$1: they have to $2, and $came"
-        failed=$((failed + 1))
+        said "$1" "they have to $2, and $how"
     fi
 }
 
@@ -77,5 +71,4 @@ copy
 sed -i "/lock.sleepers.wake(next);/d" "$crate/src/guard.rt"
 try 'nobody is woken' hang
 
-echo "$passed passed, $failed failed"
-[ "$failed" -eq 0 ]
+end

@@ -6,15 +6,11 @@
 #     tests/web/run.sh [FOLDER]    where pictures of the page stay, to be looked at
 set -u
 here=$(cd "$(dirname "$0")" && pwd)
-top=$(cd "$here/../.." && pwd)
-room=$(mktemp -d)
-trap 'rm -rf "$room"' EXIT
+. "$here/../lib.sh"
 pictures=${1:-}
 CHROMIUM=${CHROMIUM:-$(command -v chromium || command -v chromium-browser || true)}
 FIREFOX=${FIREFOX:-$(command -v firefox-esr || command -v firefox || true)}
 export CHROMIUM FIREFOX
-passed=0
-failed=0
 
 # adds what a run of tries says in its last line to the counts
 counted() {
@@ -35,25 +31,9 @@ counted() {
     esac
 }
 
-said() {
-    if [ "$2" = "$3" ]; then
-        passed=$((passed + 1))
-        echo "$1: ok"
-    else
-        failed=$((failed + 1))
-        echo "$1: FAILED, $2, not $3"
-    fi
-}
-
-finish() {
-    echo "$passed passed, $failed failed"
-    [ "$failed" -eq 0 ]
-    exit
-}
-
 if ! command -v node >/dev/null; then
     echo 'skipped: Node is not there'
-    finish
+    end
 fi
 program=$("$top/tools/release.py" --program hullbook) || program=
 [ -x "$program" ] || program=
@@ -65,7 +45,7 @@ for module in hull.wasm hull32.wasm; do
 done
 if [ ! -f "$top/web/out/hull.wasm" ]; then
     echo 'skipped: web/out/hull.wasm is not there, which web/build.py makes'
-    finish
+    end
 fi
 # before Node 24 a module with a 64-bit memory has to be asked for
 set --
@@ -84,15 +64,15 @@ else
 fi
 if [ ! -f "$top/web/out/hull32.wasm" ]; then
     echo 'skipped: web/out/hull32.wasm is not there, which web/build.py makes with wasm-opt'
-    finish
+    end
 fi
 for tool in esbuild wasm-metadce; do
     command -v $tool >/dev/null && continue
     echo "skipped: the page: $tool is not there, which web/page.mjs makes it with"
-    finish
+    end
 done
 node "$top/web/page.mjs" && node "$top/web/page.mjs" hull.wasm "$room/wide.html"
-said 'the page is written, with either module' $? 0
+came 'the page is written, with either module' $? 0
 counted node "$here/size_tests.mjs" "$top/web/out/index.html"
 for browser in chromium firefox; do
     [ "$browser" = chromium ] && there=$CHROMIUM || there=$FIREFOX
@@ -104,7 +84,7 @@ for browser in chromium firefox; do
     counted node "$here/page_tests.mjs" "$top/web/out/index.html" "$room/$browser" "$browser"
     for journal in clicks saved; do
         if [ -x "$program" ]; then
-            said "the program's verdict on $browser's $journal" "$("$program" check "$room/$browser/$browser-$journal.journal" 2>&1)" legal
+            came "the program's verdict on $browser's $journal" "$("$program" check "$room/$browser/$browser-$journal.journal" 2>&1)" legal
         else
             echo "skipped: the program's verdict on $browser's $journal: the program is not there"
         fi
@@ -115,4 +95,4 @@ for browser in chromium firefox; do
     ONLY=Phone counted node "$here/page_tests.mjs" "$room/wide.html" "$room/wide" "$browser"
     [ -n "$pictures" ] && mkdir -p "$pictures" && cp "$room/$browser"/*.png "$pictures"
 done
-finish
+end

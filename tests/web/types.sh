@@ -3,11 +3,8 @@
 # without skipLibCheck. A program with a fault in each line is refused in each line.
 set -u
 here=$(cd "$(dirname "$0")" && pwd)
+. "$here/../lib.sh"
 web=$here/../../web
-room=$(mktemp -d)
-trap 'rm -rf "$room"' EXIT
-passed=0
-failed=0
 mkdir -p "$room/node_modules/hullbook"
 cp "$web"/package.json "$web"/*.d.ts "$web"/hull.js "$web"/heap.js "$web"/journal.js "$web"/exchange.js "$room/node_modules/hullbook"
 cp "$here/typed.ts" "$here/mistyped.ts" "$room"
@@ -24,20 +21,14 @@ for target in ES2020 ES2021 ES2022 ESNext; do
         [ "$kind" = ES2021 ] && kind=ES2020
         for skip in true false; do
             if told=$(compiled "$target" "$kind" "$look" "$skip" typed.ts); then
-                passed=$((passed + 1))
+                said "types, $target, $look, skipLibCheck $skip" ok
             else
-                failed=$((failed + 1))
-                echo "types, $target, $look, skipLibCheck $skip: FAILED, $told" | head -5
+                said "types, $target, $look, skipLibCheck $skip" "FAILED, $(echo "$told" | head -5)"
             fi
         done
     done
 done
 faults=$(compiled ES2022 ES2022 node false mistyped.ts | grep -o '^mistyped.ts([0-9]*' | sort -u | wc -l)
 lines=$(grep -c '; // wrong' mistyped.ts)
-if [ "$faults" -eq "$lines" ]; then
-    passed=$((passed + 1))
-else
-    failed=$((failed + 1))
-    echo "types: FAILED, $faults of $lines wrong lines are refused"
-fi
+came 'types, how many of the wrong lines are refused' "$faults" "$lines"
 echo "$passed passed, $failed failed"
