@@ -521,6 +521,41 @@ static inline hull_witness hull_outline_witness_or_null(const hull_point *corner
 }
 #define hull_outline_witness hull_outline_witness_or_null
 
+/* Many outlines at once, each by where its corners lie and how many they are. These calls are C over the ones above (archive/pairs.c),
+ * which is tested.
+ *
+ * Which outlines are no farther apart than numerator / denominator, exactly as hull_outline_within tells it of two; with 0 / 1, which have
+ * a point in common. The pairs (first, second), of places with first < second, are written to `out` in their order: HULL_NUMBER with how
+ * many they are; HULL_TOO_SMALL with the same, where the array has no room for them, and then it has some of them; HULL_NO_MEMORY, of 40
+ * bytes an outline. Outlines of no corners are near none. Boxes are swept in the order of their left sides, so that pairs that are far
+ * apart along x or y cost nothing or a comparison. */
+typedef struct hull_corners {
+    const hull_point *corners;
+    size_t count;
+} hull_corners;
+typedef struct hull_pair {
+    size_t first;
+    size_t second;
+} hull_pair;
+hull_reply hull_pairs_within(const hull_corners *outlines, size_t count, uint64_t numerator, uint32_t denominator, hull_pair *out,
+                             size_t room);
+
+/* How the outline stands to each of the others: a hull_relation for each, as hull_outline_relation tells it. */
+void hull_outline_relations(const hull_point *corners, size_t count, const hull_corners *others, size_t other_count, uint8_t *out);
+
+/* Whether the outline meets each of the segments, 1 or 0, up to the end, or to the first segment with a coordinate that is out of range;
+ * how many were asked. */
+typedef struct hull_segment {
+    hull_point from;
+    hull_point to;
+} hull_segment;
+size_t hull_outline_meets_segments(const hull_point *corners, size_t count, const hull_segment *segments, size_t segment_count,
+                                   uint8_t *out);
+
+/* For each corner the place of the first of the points that is there, or `point_count` where none is: which input a corner of
+ * hull_outline_of is. How many corners are among the points. */
+size_t hull_outline_indices(const hull_point *corners, size_t count, const hull_point *points, size_t point_count, size_t *out);
+
 /* How far they are apart: where the two are nearest to one another. HULL_MEETING where they have a point in common. HULL_POINTS: at a
  * corner a of the first and a corner b of the second; the squared distance is that of the two. HULL_CORNER: at a corner a of the first
  * and its foot on the edge of the second from b to c, counterclockwise, strictly between them. HULL_EDGE: at the foot on the edge of

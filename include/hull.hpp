@@ -477,6 +477,14 @@ std::vector<Answer> all(std::uint32_t kind, const std::vector<Point> &points, Se
 
 } // namespace told
 
+// From one point to another, which may be the same.
+struct Segment {
+    Point from, to;
+};
+static_assert(sizeof(Segment) == sizeof(hull_segment), "an array of the one is an array of the other");
+
+class Outline;
+
 // What is asked of an outline, the corners of a hull: as that hull was when they were taken. Self has data() and size(), where its
 // corners lie and how many they are. Nothing of it is written by a question: any number of threads ask one outline at once.
 template <class Self> class OutlineQuestions {
@@ -616,6 +624,26 @@ public:
         return told::hit(hull_outline_cast_segment(data(), size(), a.x, a.y, b.x, b.y));
     }
 
+    // Whether the outline meets each of many segments, and how it stands to each of many outlines, in their order.
+    std::vector<bool> meets_segments(const std::vector<Segment> &segments) const {
+        std::vector<std::uint8_t> told;
+        told::with_memory([&] { told.resize(segments.size()); });
+        const auto *at = reinterpret_cast<const hull_segment *>(segments.data());
+        if (hull_outline_meets_segments(data(), size(), at, segments.size(), told.data()) != segments.size()) {
+            told::fault(HULL_OUT_OF_RANGE);
+        }
+        return told::with_memory([&] { return std::vector<bool>(told.begin(), told.end()); });
+    }
+    std::vector<Relation> relations(const std::vector<Outline> &others) const;
+
+    // For each corner the place of the first of the points that is there; how many the points are where none is.
+    std::vector<std::size_t> indices(const std::vector<Point> &points) const {
+        std::vector<std::size_t> places;
+        told::with_memory([&] { places.resize(size()); });
+        hull_outline_indices(data(), size(), points.data(), points.size(), places.data());
+        return places;
+    }
+
     // Where the two meet, or what parts them; none where one of them has no corners.
     template <class Other> std::optional<Witness> witness(const OutlineQuestions<Other> &other) const {
         return told::witness(hull_outline_witness(data(), size(), other.data(), other.size()));
@@ -670,6 +698,56 @@ public:
 private:
     std::vector<Point> corners_;
 };
+
+namespace told {
+
+// Where the corners of outlines lie.
+inline std::vector<hull_corners> all_corners(const std::vector<Outline> &outlines) {
+    std::vector<hull_corners> all;
+    with_memory([&] { all.reserve(outlines.size()); });
+    for (const Outline &outline : outlines) {
+        all.push_back({outline.data(), outline.size()});
+    }
+    return all;
+}
+
+} // namespace told
+
+template <class Self> std::vector<Relation> OutlineQuestions<Self>::relations(const std::vector<Outline> &others) const {
+    const std::vector<hull_corners> all = told::all_corners(others);
+    std::vector<std::uint8_t> told;
+    std::vector<Relation> relations;
+    told::with_memory([&] { told.resize(all.size()), relations.reserve(all.size()); });
+    hull_outline_relations(data(), size(), all.data(), all.size(), told.data());
+    for (const std::uint8_t relation : told) {
+        relations.push_back(static_cast<Relation>(relation));
+    }
+    return relations;
+}
+
+// Which outlines are no farther apart than numerator / denominator, exactly; with 0, which have a point in common: the pairs of their
+// places, the lesser first, in their order.
+inline std::vector<std::pair<std::size_t, std::size_t>> pairs_within(const std::vector<Outline> &outlines, std::uint64_t numerator = 0,
+                                                                     std::uint32_t denominator = 1) {
+    const std::vector<hull_corners> all = told::all_corners(outlines);
+    std::vector<hull_pair> pairs;
+    hull_reply r = {};
+    for (r.number = all.size(); r.code != HULL_NUMBER;) {
+        told::resize(pairs, r.number);
+        r = hull_pairs_within(all.data(), all.size(), numerator, denominator, pairs.data(), pairs.size());
+        if (r.code != HULL_NUMBER && r.code != HULL_TOO_SMALL) {
+            told::fault(r.code);
+        }
+    }
+    pairs.resize(static_cast<std::size_t>(r.number));
+    return told::with_memory([&] {
+        std::vector<std::pair<std::size_t, std::size_t>> found;
+        for (const hull_pair &pair : pairs) {
+            found.emplace_back(pair.first, pair.second);
+        }
+        return found;
+    });
+}
 
 // Corners that lie elsewhere, as those of a view that a Reader holds; to be asked as long as they lie there.
 class OutlineView : public OutlineQuestions<OutlineView> {

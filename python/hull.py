@@ -56,9 +56,10 @@ if sys.version_info < (3, 8):
 
 __version__ = "2.0.0"
 __all__ = [
-    "CAPACITY_LIMIT", "COORDINATE_LIMIT", "MULTIPLICITY_LIMIT", "POINT_LIMIT", "READER_LIMIT", "SEAT_LIMIT", "Busy", "Ended", "FloatHull", "Hull",
-    "JournalFault", "JournalFull", "JournalPart", "Lattice", "NoSeat", "OutOfRange", "Outline", "Place", "Reader", "Relation", "Seat", "SeatsOut",
-    "SharedHull", "Shows", "Stats", "TooMany", "View", "Witness", "ZeroDirection", "direction_of", "from_floats", "merge", "to_floats", "wkt",
+    "CAPACITY_LIMIT", "COORDINATE_LIMIT", "MULTIPLICITY_LIMIT", "POINT_LIMIT", "READER_LIMIT", "SEAT_LIMIT", "Busy", "Ended",
+    "FloatHull", "Hull", "JournalFault", "JournalFull", "JournalPart", "Lattice", "NoSeat", "OutOfRange", "Outline", "Place",
+    "Reader", "Relation", "Seat", "SeatsOut", "SharedHull", "Shows", "Stats", "TooMany", "View", "Witness", "ZeroDirection",
+    "direction_of", "from_floats", "merge", "pairs_within", "to_floats", "wkt",
 ]
 
 #: A point, and one that is held with how often it is.
@@ -320,6 +321,8 @@ def _library() -> ctypes.CDLL:
         ("outline_least_width", [at, size], _Witness), ("outline_witness", [at, size, at, size], _Witness),
         ("outline_distance", [at, size, at, size], _Witness),
         ("outline_calls", [at, size, at, size, at, size], size),
+        ("pairs_within", [at, size, long, number, at, size], _Reply), ("outline_relations", [at, size, at, size, at], None),
+        ("outline_meets_segments", [at, size, at, size, at], size), ("outline_indices", [at, size, at, size, at], size),
     ])
 
 
@@ -1126,6 +1129,41 @@ class Outline(_Questions):
         reply: _Reply = self._beside(_LIBRARY.hull_outline_relation, other)
         return Relation(reply.number)
 
+    def relations(self, others: Sequence[Outline]) -> List[Relation]:
+        """How this outline stands to each of the others, in their order."""
+        there, told = _there_of(others), bytearray(len(others) + 1)
+        room = (ctypes.c_uint8 * len(told)).from_buffer(told)
+        _LIBRARY.hull_outline_relations(*self._there(), there.buffer_info()[0], len(others), ctypes.addressof(room))
+        return [Relation(relation) for relation in told[:-1]]
+
+    @overload
+    def meets_segments(self, segments: _Array) -> Any: ...
+    @overload
+    def meets_segments(self, segments: Iterable[Tuple[Tuple[SupportsIndex, SupportsIndex], Tuple[SupportsIndex, SupportsIndex]]]) -> bytes: ...
+
+    def meets_segments(self, segments: Any) -> Any:
+        """Whether the outline meets each of the segments, as bytes of 1 and 0.
+
+        A segment is a pair of points; an array of numpy has shape (n, 4) or (n, 2, 2), and then so are the answers an array.
+        """
+        numpy = _of_numpy(segments)
+        ends = segments.reshape(-1, 2) if numpy is not None else [point for segment in segments for point in segment]
+        flat = _flat(ends)
+        count, room = len(flat) // 4, ctypes.create_string_buffer(max(len(flat) // 4, 1))
+        if len(flat) != 4 * count:
+            raise ValueError("a segment has two ends")
+        flat.append(0)  # so that no segments have a place in memory, too
+        _LIBRARY.hull_outline_meets_segments(*self._there(), flat.buffer_info()[0], count, ctypes.addressof(room))
+        return _like(segments, room.raw[:count])
+
+    def indices(self, points: Any) -> List[Optional[int]]:
+        """For each corner the place of the first of the points that is there, which input it is; None where none is."""
+        flat, room = _flat(points), array("Q", (0,)) * (self._count + 1)
+        count = len(flat) // 2
+        flat.append(0)
+        _LIBRARY.hull_outline_indices(*self._there(), flat.buffer_info()[0], count, room.buffer_info()[0])
+        return [place if place < count else None for place in room[:self._count]]
+
     def contains_inside(self, other: Outline) -> bool:
         """Whether all of the other outline lies inside this one, with no point of it on the boundary."""
         reply: _Reply = self._beside(_LIBRARY.hull_outline_contains_inside, other)
@@ -1289,6 +1327,37 @@ def merge(outlines: Iterable[Outline]) -> Outline:
     made = Outline(())
     made._hold(_corners_of(flat))
     return made
+
+
+def _there_of(outlines: Sequence[Outline]) -> "array[int]":
+    """Where the corners of outlines lie, and how many they are, one behind the other."""
+    there = array("Q")
+    for outline in outlines:
+        if not isinstance(outline, Outline):
+            raise TypeError(f"an Outline was wanted, and not {type(outline).__name__}")
+        there.extend(outline._there())
+    there.append(0)  # so that no outlines have a place in memory, too
+    return there
+
+
+def pairs_within(outlines: Sequence[Outline], distance: Union[int, float, Fraction] = 0) -> List[Tuple[int, int]]:
+    """Which outlines are no farther apart than that, exactly; with 0, which have a point in common.
+
+    The pairs (i, j) of their places, i < j, in their order: found by a sweep over their boxes. OutOfRange as `Outline.within` has it.
+    """
+    length, short = _length(distance)
+    asked = length if short else Fraction(min(math.ceil(length), 2 ** 64 - 1))
+    there, room = _there_of(outlines), len(outlines) + 1
+    while True:
+        pairs = array("Q", (0, 0)) * room
+        told = _LIBRARY.hull_pairs_within(there.buffer_info()[0], len(outlines), asked.numerator, asked.denominator,
+                                          pairs.buffer_info()[0], room)
+        if told.code != _Code.TOO_SMALL:
+            break
+        room = told.number
+    _told(told.code)
+    found = list(zip(pairs[0:2 * told.number:2], pairs[1:2 * told.number:2]))
+    return found if short else [(i, j) for i, j in found if outlines[i].within(outlines[j], distance)]
 
 
 class FloatHull:

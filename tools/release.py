@@ -33,8 +33,9 @@ TARGETS = {"x86_64": ("x86_64-unknown-linux-gnu", "gcc"), "aarch64": ("aarch64-u
 LIBRARIES = {"libhull": "hull_c", "libhull_shared": "hull_shared"}
 PROGRAMS = ("hullbook", "hulldraw")
 # what the archive of a library has beside what was proved: C, and what it includes; with the flags of each processor
-INSIDE = {"libhull": [], "libhull_shared": ["archive/line.c", "archive/journal.c"]}
-INCLUDED = ["archive/sleeping.h", "archive/watched.h", "include/hull_common.h", "include/hull_shared.h"]
+INSIDE = {"libhull": ["archive/pairs.c"], "libhull_shared": ["archive/line.c", "archive/journal.c"]}
+INCLUDED = {"libhull": ["include/hull_common.h", "include/hull.h"],
+            "libhull_shared": ["archive/sleeping.h", "archive/watched.h", "include/hull_common.h", "include/hull_shared.h"]}
 # (no calls of libgcc's, which a program linked by another compiler has not)
 FLAGS = {"x86_64": ["-std=gnu11", "-O2", "-fPIC"], "aarch64": ["-std=gnu11", "-O2", "-fPIC", "-mno-outline-atomics"]}
 # what the shared object of a library has beside its archive
@@ -136,7 +137,7 @@ def products():
     found = [Product(f"x86_64/{it}", it, [], lambda to, it=it: make_program(it, to)) for it in PROGRAMS]
     for processor in TARGETS:
         for name, crate in LIBRARIES.items():
-            others = ["archive/allocator.c", *INSIDE[name], *(INCLUDED if INSIDE[name] else [])]
+            others = ["archive/allocator.c", *INSIDE[name], *INCLUDED[name]]
             found.append(Product(f"{processor}/{name}.a", crate, others, lambda to, at=(name, processor): make_archive(*at, to)))
             others = [*dict.fromkeys([*others, BESIDE[name], *HEADERS])]
             found.append(Product(f"{processor}/{name}.so", crate, others, lambda to, at=(name, processor): make_object(*at, to)))

@@ -650,6 +650,81 @@ static void two_outlines(void) {
     refused_from = -1;
 }
 
+enum { MANY = 40 };
+
+/* Forty outlines of the corners of shapes, shifted by chance over a square of this size; some of no corners. */
+static void scattered(hull_point corners[MANY][4], hull_corners *all, uint64_t *state, int64_t size) {
+    static const hull_point shapes[][4] = {{{0, 0}, {3, -1}, {5, 2}, {1, 3}}, {{0, 0}, {8, 0}, {0, 6}}, {{0, 0}, {2, 1}}, {{0, 0}}, {{0, 0}}};
+    static const size_t counts[] = {4, 3, 2, 1, 0};
+    for (int i = 0; i < MANY; i++) {
+        int64_t shift[2];
+        for (int k = 0; k < 2; k++) {
+            *state = *state * 6364136223846793005u + 1442695040888963407u;
+            shift[k] = (int64_t)(*state >> 33) % size;
+        }
+        for (int j = 0; j < 4; j++) {
+            corners[i][j].x = shapes[i % 5][j].x + shift[0], corners[i][j].y = shapes[i % 5][j].y + shift[1];
+        }
+        all[i].corners = corners[i], all[i].count = counts[i % 5];
+    }
+}
+
+/* Whether the pairs that are told are those that are found one by one, in their order; `found` is how many. */
+static int pairs_told(const hull_corners *all, uint64_t numerator, uint32_t denominator, uint64_t *found) {
+    hull_pair pairs[MANY * MANY];
+    const hull_reply told = hull_pairs_within(all, MANY, numerator, denominator, pairs, MANY * MANY);
+    int same = told.code == HULL_NUMBER;
+    *found = 0;
+    for (size_t i = 0; i < MANY; i++) {
+        for (size_t j = i + 1; j < MANY; j++) {
+            if (hull_outline_within(all[i].corners, all[i].count, all[j].corners, all[j].count, numerator, denominator).number == 1) {
+                same &= *found < told.number && pairs[*found].first == i && pairs[*found].second == j;
+                ++*found;
+            }
+        }
+    }
+    return same && *found == told.number;
+}
+
+/* outlines near one another, and one beside many, as each pair tells it */
+static void many_outlines(void) {
+    hull_point corners[MANY][4];
+    hull_corners all[MANY];
+    hull_pair pairs[MANY];
+    uint64_t state = 5, found = 0, last = 0;
+    int same = 1, grows = 1;
+    for (int trial = 0; trial < 60; trial++) {
+        uint8_t relations[MANY];
+        scattered(corners, all, &state, trial % 2 == 0 ? 20 : 200);
+        static const uint64_t lengths[][2] = {{0, 1}, {0, 7}, {1, 3}, {5, 2}, {9, 1}, {1u << 30, 1}, {UINT64_MAX, 1}, {1, 0}};
+        last = 0;
+        for (int k = 0; k < 8; k++) {
+            same &= pairs_told(all, lengths[k][0], (uint32_t)lengths[k][1], &found);
+            grows &= found >= last;
+            last = found;
+        }
+        hull_outline_relations(all[0].corners, all[0].count, all, MANY, relations);
+        for (int i = 0; i < MANY; i++) {
+            same &= relations[i] == hull_outline_relation(all[0].corners, all[0].count, all[i].corners, all[i].count).number;
+        }
+    }
+    CHECK(same && grows && last == 32 * 31 / 2);
+    CHECK(number(hull_pairs_within(all, MANY, UINT64_MAX, 1, pairs, MANY), HULL_TOO_SMALL, 32 * 31 / 2));
+    CHECK(number(hull_pairs_within(all, MANY, 1, 0, NULL, 0), HULL_TOO_SMALL, 32 * 31 / 2));
+    CHECK(number(hull_pairs_within(NULL, 0, 1, 1, NULL, 0), HULL_NUMBER, 0));
+    refused_from = 0, asked = 0;
+    CHECK(bare(hull_pairs_within(all, MANY, 0, 1, pairs, MANY), HULL_NO_MEMORY) && asked == 1);
+    refused_from = -1;
+    const hull_segment segments[] = {{{-1, 1}, {9, 1}}, {{9, 9}, {20, 20}}, {{0, 0}, {0, HULL_COORDINATE_MAX + 1}}, {{0, 0}, {0, 0}}};
+    static const hull_point square[] = {{0, 0}, {8, 0}, {8, 8}, {0, 8}}, points[] = {{8, 8}, {1, 1}, {0, 0}, {8, 8}, {8, 0}};
+    uint8_t meets[4] = {9, 9, 9, 9};
+    size_t places[4];
+    CHECK(hull_outline_meets_segments(square, 4, segments, 4, meets) == 2 && meets[0] == 1 && meets[1] == 0 && meets[2] == 9);
+    CHECK(hull_outline_meets_segments(square, 4, NULL, 0, NULL) == 0);
+    CHECK(hull_outline_indices(square, 4, points, 5, places) == 3 && places[0] == 2 && places[1] == 4 && places[2] == 0 && places[3] == 5);
+    CHECK(hull_outline_indices(square, 4, NULL, 0, places) == 0 && places[0] == 0 && hull_outline_indices(NULL, 0, points, 5, NULL) == 0);
+}
+
 /* nothing but a code */
 static int no_clearance(hull_clearance c, uint32_t code) {
     return c.code == code && !c.shift && !c.lower && !c.upper && !c.high && !c.middle && !c.low && !c.divisor_high && !c.divisor_low;
@@ -1158,7 +1233,8 @@ static void new_ones(void) {
         "HULL_PLACE_IN_USE", "HULL_TAKEN", "HULL_NOT_YET", "HULL_NO_NUMBER", "HULL_FULL", "HULL_SEATS_OUT", "HULL_CLOSED",
         "HULL_NOT_CLOSED", "HULL_TEXT", "HULL_ENDED", "HULL_IN_USE", "HULL_RESERVED", "HULL_PART_IN_USE", "HULL_NO_ROOM",
         "HULL_NO_LINES", "HULL_NO_JOURNAL", "HULL_OLD_RULES", "HULL_ILLEGAL", "HULL_TOO_FEW_SEATS", "HULL_NO_OUTLINE",
-        "HULL_BUSY", "HULL_OTHER_LINE", "HULL_NO_FILE", "HULL_DAMAGED", "HULL_SAFE"};
+        "HULL_BUSY", "HULL_OTHER_LINE", "HULL_NO_FILE", "HULL_DAMAGED", "HULL_SAFE", "HULL_VIEWED", "HULL_OLD", "HULL_ADMITTED",
+        "HULL_WAS_ADMITTED"};
     const uint32_t count = sizeof names / sizeof *names;
     for (uint32_t code = 0; code < count; code++) {
         check(strcmp(hull_code_name(code), names[code]) == 0, names[code], __LINE__);
@@ -1218,6 +1294,7 @@ int main(int words, char **word) {
     outlines_of_points();
     encounters();
     two_outlines();
+    many_outlines();
     clearances();
     segments_beside();
     casts();

@@ -125,6 +125,14 @@ static void two_outlines() {
     CHECK(outline.relation(beside) == Relation::apart && outline.relation(flush) == Relation::touching && outline.relation(across) == Relation::overlapping);
     CHECK(outline.contains_inside(small) && !outline.contains_inside(outline) && !outline.contains_inside(flush));
     CHECK(outline.within(beside, 2) && !outline.within(beside, 1999, 1000) && !outline.within(none, 1, 0));
+    CHECK(outline.relations({small, beside, none, outline}) == (std::vector<Relation>{Relation::covers, Relation::apart, Relation::covers, Relation::equal}));
+    using Pairs = std::vector<std::pair<std::size_t, std::size_t>>;
+    CHECK(hull::pairs_within({beside, outline, none, small, across}) == (Pairs{{0, 4}, {1, 3}, {1, 4}}) && hull::pairs_within({}).empty());
+    CHECK(hull::pairs_within({beside, outline}, 2).size() == 1 && hull::pairs_within({beside, outline}, 1999, 1000).empty());
+    CHECK(hull::pairs_within({small, small, small, small}) == (Pairs{{0, 1}, {0, 2}, {0, 3}, {1, 2}, {1, 3}, {2, 3}}));
+    CHECK(outline.meets_segments({{{-1, 1}, {20, 1}}, {{11, 0}, {11, 9}}}) == (std::vector<bool>{true, false}) && outline.meets_segments({}).empty());
+    CHECK(refuses(Refusal::out_of_range, [&] { outline.meets_segments({{{0, 0}, {far + 1, 0}}}); }));
+    CHECK(small.indices({{3, 4}, {9, 9}, {2, 2}, {3, 4}}) == (std::vector<std::size_t>{2, 4, 0}));
     const auto gap = outline.clearance(beside), to_corner = outline.clearance_to_point({13, 14}), to_way = outline.clearance_to_segment({13, 14}, {16, 10});
     CHECK(gap && gap->down() == 2 && gap->up() == 2 && to_corner && to_corner->down() == 5 && to_way && *to_way <= *to_corner && *to_way > *gap);
     CHECK(*gap < *to_corner && *gap != *to_corner && *gap == *outline.clearance_to_point({12, 5}) && *gap >= *gap);

@@ -5,6 +5,7 @@ import ctypes
 import math
 import os
 import pickle
+import random
 import struct
 import sys
 import threading
@@ -394,6 +395,35 @@ class Calls(unittest.TestCase):
         self.assertRaises(ZeroDirection, outline.width_along, 0, 0)
         self.assertRaises(OutOfRange, outline.width_along, COORDINATE_LIMIT + 1, 0)
         self.assertRaises(TypeError, outline.meets, [(0, 0)])
+
+    def test_many_outlines(self):
+        Outline, pairs_within, by_chance = hull_module.Outline, hull_module.pairs_within, random.Random(3)
+
+        def point(most):
+            return by_chance.randrange(-most, most), by_chance.randrange(-most, most)
+
+        def outline(points, size, most):
+            x, y = point(most)
+            return Outline.of([(x + dx, y + dy) for dx, dy in (point(size) for _ in range(points))])
+
+        for _ in range(30):
+            size, most = by_chance.choice([1, 3, 10]), by_chance.choice([4, 30])
+            all = [outline(by_chance.randrange(8), size, most) for _ in range(by_chance.randrange(30))]
+            for distance in (0, 1, Fraction(5, 2), 3.5, Fraction(1, 3 ** 30), 2 ** 70):
+                pairs = [(i, j) for j in range(len(all)) for i in range(j) if all[i].within(all[j], distance)]
+                self.assertEqual(pairs_within(all, distance), sorted(pairs))
+            segments = [(point(40), point(40)) for _ in range(30)]
+            points = [point(5) for _ in range(30)]
+            for one in all[:4]:
+                self.assertEqual(one.relations(all), [one.relation(other) for other in all])
+                self.assertEqual(list(one.meets_segments(segments)), [one.meets_segment(*a, *b) for a, b in segments])
+            hull = Outline.of(points + [(9, 9)])
+            self.assertEqual(hull.indices(points), [points.index(c) if c in points else None for c in hull.vertices()])
+        self.assertRaises(TypeError, pairs_within, [[(0, 0)]])
+        self.assertRaises(OutOfRange, pairs_within, [], -1)
+        self.assertRaises(OutOfRange, hull.meets_segments, [((0, 0), (0, COORDINATE_LIMIT + 1))])
+        self.assertRaises(ValueError, hull.meets_segments, [((0, 0),)])
+        self.assertEqual((hull.meets_segments([]), hull.indices([]), Outline([]).indices([(1, 1)])), (b"", [None] * len(hull), []))
 
     def test_directions_of_floats(self):
         direction_of, top = hull_module.direction_of, 1 << 39

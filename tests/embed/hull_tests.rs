@@ -1,5 +1,5 @@
 //! Each function of `rust/hull`, each of its answers and each of its faults.
-use hull::{direction_of, wkt, Distance, Entry, Fault, Held, Hit, Hull, Lattice, Nearest, Outline, Place, Point, Relation, Separation, Strip, Witness};
+use hull::{pairs_within, direction_of, wkt, Distance, Entry, Fault, Held, Hit, Hull, Lattice, Nearest, Outline, Place, Point, Relation, Separation, Strip, Witness};
 use hull::{Limits, SharedHull, COORDINATE_LIMIT, MULTIPLICITY_LIMIT, POINT_LIMIT};
 use std::alloc::{GlobalAlloc, Layout, System};
 use std::cell::Cell;
@@ -204,6 +204,16 @@ fn two_outlines() {
     assert_eq!((stand(&across), outline.relation(&outline)), ((Relation::Overlapping, Relation::Overlapping), Relation::Equal));
     assert!(outline.contains_inside(&small) && !outline.contains_inside(&outline) && !outline.contains_inside(&flush));
     assert!(outline.within(&beside, 2, 1) && !outline.within(&beside, 1999, 1000) && !outline.within(&none, 1, 0));
+    let all = [beside.clone(), outline.clone(), none.clone(), small.clone(), across.clone()];
+    let told = [Relation::Apart, Relation::Equal, Relation::Covers, Relation::Covers, Relation::Overlapping];
+    assert_eq!((outline.relations(&all).unwrap(), outline.relations(&[])), (told.to_vec(), Ok(vec![])));
+    assert_eq!(pairs_within(&all, 0, 1), Ok(vec![(0, 4), (1, 3), (1, 4)]));
+    assert_eq!((pairs_within(&all[..2], 2, 1), pairs_within(&all[..2], 1999, 1000)), (Ok(vec![(0, 1)]), Ok(vec![])));
+    assert_eq!(pairs_within(&vec![small.clone(); 9], 0, 1).unwrap().len(), 36);
+    let ways = [[point(-1, 1), point(20, 1)], [point(11, 0), point(11, 9)]];
+    assert_eq!((outline.meets_segments(&ways), outline.meets_segments(&[])), (Ok(vec![true, false]), Ok(vec![])));
+    assert_eq!(outline.meets_segments(&[[point(0, 0), point(0, COORDINATE_LIMIT + 1)]]), Err(Fault::OutOfRange));
+    assert_eq!(small.indices(&[point(3, 4), point(9, 9), point(2, 2), point(3, 4)]), Ok(vec![Some(2), None, Some(0)]));
     let far = Outline::new(&[point(13, 5)]).unwrap();
     let edge = [point(10, 0), point(10, 10)];
     assert_eq!((outline.distance(&small), outline.distance(&none)), (Some(Distance::Zero), None));

@@ -83,6 +83,13 @@ pub(crate) struct SeatReply {
     pub has_line: u32,
 }
 
+/// Where the corners of an outline lie, and how many they are.
+#[repr(C)]
+pub(crate) struct CornersAt {
+    pub corners: *const Point,
+    pub count: usize,
+}
+
 /// What a reader holds.
 #[repr(C)]
 pub(crate) struct View {
@@ -256,6 +263,35 @@ extern "C" {
     pub(crate) fn hull_call(hull: *mut u8, kind: u32, x: i64, y: i64) -> Reply;
     pub(crate) fn hull_limit(hull: *mut u8) -> Reply;
     pub(crate) fn hull_clear(hull: *mut u8) -> Reply;
+    pub(crate) fn hull_pairs_within(
+        outlines: *const CornersAt,
+        count: usize,
+        numerator: u64,
+        denominator: u32,
+        out: *mut [usize; 2],
+        room: usize,
+    ) -> Reply;
+    pub(crate) fn hull_outline_relations(
+        corners: *const Point,
+        count: usize,
+        others: *const CornersAt,
+        other_count: usize,
+        out: *mut u8,
+    );
+    pub(crate) fn hull_outline_meets_segments(
+        corners: *const Point,
+        count: usize,
+        segments: *const [Point; 2],
+        segment_count: usize,
+        out: *mut u8,
+    ) -> usize;
+    pub(crate) fn hull_outline_indices(
+        corners: *const Point,
+        count: usize,
+        points: *const Point,
+        point_count: usize,
+        out: *mut usize,
+    ) -> usize;
     pub(crate) fn hull_is_outline(points: *const Point, count: usize) -> Reply;
     pub(crate) fn hull_outline_of(points: *const Point, count: usize, out: *mut Point, room: usize) -> Reply;
     pub(crate) fn hull_outline_call(corners: *const Point, count: usize, kind: u32, x: i64, y: i64) -> Reply;
