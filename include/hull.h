@@ -719,6 +719,22 @@ static inline hull_hit hull_outline_cast_segment_or_null(const hull_point *corne
 }
 #define hull_outline_cast_segment hull_outline_cast_segment_or_null
 
+/* When two outlines first meet, of which the second moves straight by (dx, dy), each at most HULL_COORDINATE_MAX in size, while the first
+ * stands; boundaries count. This is C over the calls above (archive/motions.c), which is tested; a ray for each corner of both. */
+typedef struct hull_motion {
+    hull_hit hit;      /* HULL_COVERED: they meet before it moves. HULL_EDGE or HULL_CORNER: where the corner arrives, and so far on the way
+                        * as a ray is told. HULL_APART: they don't meet. HULL_EMPTY: one of them has no corners. HULL_OUT_OF_RANGE */
+    hull_point corner; /* with HULL_EDGE or HULL_CORNER, a corner that arrives first, */
+    uint32_t moves;    /* of the second outline, where this is 1, at the first one; or of the first, at the second one, which is told as
+                        * it lay before it moved */
+} hull_motion;
+hull_motion hull_outline_first_meeting(const hull_point *corners, size_t count, const hull_point *others, size_t other_count, int64_t dx,
+                                       int64_t dy);
+
+/* Writes the outline moved by (dx, dy) to an array with room for as many corners, which may be the same array: an outline again.
+ * HULL_CORNERS with how many; HULL_OUT_OF_RANGE where a coordinate would be, and then nothing is written. */
+hull_reply hull_outline_moved(const hull_point *corners, size_t count, int64_t dx, int64_t dy, hull_point *out);
+
 /* A support function for callers with directions in doubles: the first of the farthest points in the direction (dx, dy), taken to
  * whole numbers as hull_direction_from_doubles tells (hull_exchange.h); in the direction (0, 0) the first point by x and then y.
  * HULL_POINT; HULL_EMPTY; HULL_OUT_OF_RANGE where one of them is not finite. */

@@ -246,6 +246,13 @@ struct Hit {
     Area part, whole; // it has gone part / whole of its way until then, exactly: of the segment, or in lengths of the direction
 };
 
+// When an outline that moves straight first meets one that stands.
+struct Motion {
+    std::optional<Hit> hit; // where the corner arrives, and how far on the way; Hit::Where::start where they meet before; none where they don't
+    Point corner;           // a corner that arrives first:
+    bool moves;             // one of the outline that moves; or of the one that stands, at the other as it lay before it moved
+};
+
 // What a reply tells, as a value; what refuses the call is thrown.
 namespace told {
 
@@ -624,6 +631,12 @@ public:
         return told::hit(hull_outline_cast_segment(data(), size(), a.x, a.y, b.x, b.y));
     }
 
+    // When the other outline, which moves straight by `way`, each component at most HULL_COORDINATE_MAX in size, first meets this one.
+    template <class Other> Motion first_meeting(const OutlineQuestions<Other> &other, Point way) const {
+        const hull_motion m = hull_outline_first_meeting(data(), size(), other.data(), other.size(), way.x, way.y);
+        return {told::hit(m.hit), m.corner, m.moves == 1};
+    }
+
     // Whether the outline meets each of many segments, and how it stands to each of many outlines, in their order.
     std::vector<bool> meets_segments(const std::vector<Segment> &segments) const {
         std::vector<std::uint8_t> told;
@@ -687,6 +700,20 @@ public:
     }
 
     const std::vector<Point> &corners() const noexcept { return corners_; }
+
+    // The outline moved by a vector; Refusal::out_of_range where a coordinate would be. Or this one is, with no memory asked for.
+    Outline moved(Point by) const {
+        Outline other;
+        told::with_memory([&] { other.corners_ = corners_; });
+        other.move(by);
+        return other;
+    }
+    void move(Point by) {
+        const hull_reply r = hull_outline_moved(data(), size(), by.x, by.y, corners_.data());
+        if (r.code != HULL_CORNERS) {
+            told::fault(r.code);
+        }
+    }
 
     // Where the corners lie, and how many they are.
     const Point *data() const noexcept { return corners_.data(); }

@@ -57,7 +57,7 @@ if sys.version_info < (3, 8):
 __version__ = "2.0.0"
 __all__ = [
     "CAPACITY_LIMIT", "COORDINATE_LIMIT", "MULTIPLICITY_LIMIT", "POINT_LIMIT", "READER_LIMIT", "SEAT_LIMIT", "Busy", "Ended",
-    "FloatHull", "Hull", "JournalFault", "JournalFull", "JournalPart", "Lattice", "NoSeat", "OutOfRange", "Outline", "Place",
+    "FloatHull", "Hull", "JournalFault", "JournalFull", "JournalPart", "Lattice", "Motion", "NoSeat", "OutOfRange", "Outline", "Place",
     "Reader", "Relation", "Seat", "SeatsOut", "SharedHull", "Shows", "Stats", "TooMany", "View", "Witness", "ZeroDirection",
     "direction_of", "from_floats", "merge", "pairs_within", "to_floats", "wkt",
 ]
@@ -249,6 +249,13 @@ class _Hit(ctypes.Structure):
     divisor_low: int
 
 
+class _Motion(ctypes.Structure):
+    _fields_ = [("hit", _Hit), ("corner", ctypes.c_int64 * 2), ("moves", ctypes.c_uint32)]
+    hit: _Hit
+    corner: Any
+    moves: int
+
+
 _FAULTS: Dict[int, Callable[[], Exception]] = {
     _Code.OUT_OF_RANGE: lambda: OutOfRange("a coordinate is out of range"),
     _Code.ZERO_DIRECTION: lambda: ZeroDirection("a direction is zero"),
@@ -321,6 +328,7 @@ def _library() -> ctypes.CDLL:
         ("outline_least_width", [at, size], _Witness), ("outline_witness", [at, size, at, size], _Witness),
         ("outline_distance", [at, size, at, size], _Witness),
         ("outline_calls", [at, size, at, size, at, size], size),
+        ("outline_first_meeting", [at, size, at, size, whole, whole], _Motion), ("outline_moved", [at, size, whole, whole, at], _Reply),
         ("pairs_within", [at, size, long, number, at, size], _Reply), ("outline_relations", [at, size, at, size, at], None),
         ("outline_meets_segments", [at, size, at, size, at], size), ("outline_indices", [at, size, at, size, at], size),
     ])
@@ -485,6 +493,19 @@ def _like(points: object, numbers: Any) -> Any:
     if numpy is not None:
         return numpy.frombuffer(numbers, dtype=numpy.uint8 if isinstance(numbers, bytes) else numpy.uint32)
     return numbers
+
+
+class Motion(NamedTuple):
+    """When an outline that moves straight first meets one that stands."""
+
+    #: How much of its way it has gone; 0 where they meet before it moves.
+    part: Fraction
+    #: Where the corner arrives, as `Outline.cast_ray` tells it; of none, where they meet before.
+    at: Tuple[Pair, ...]
+    #: A corner that arrives first; None where they meet before.
+    corner: Optional[Pair]
+    #: Whether it is of the outline that moves; else of the one that stands, at the other as it lay before it moved.
+    moves: bool
 
 
 class Relation(enum.IntEnum):
@@ -1129,6 +1150,24 @@ class Outline(_Questions):
         reply: _Reply = self._beside(_LIBRARY.hull_outline_relation, other)
         return Relation(reply.number)
 
+    def moved(self, dx: SupportsIndex, dy: SupportsIndex) -> Outline:
+        """The outline moved by (dx, dy); OutOfRange where a coordinate would be."""
+        x, y, made = _index(dx), _index(dy), Outline(())
+        if max(abs(x), abs(y)) > 2 * COORDINATE_LIMIT:
+            raise _out_of_range()
+        corners = array("q", self._corners)
+        _told(_LIBRARY.hull_outline_moved(*self._there(), x, y, corners.buffer_info()[0] if corners else 0).code)
+        made._hold(corners)
+        return made
+
+    def first_meeting(self, other: Outline, dx: SupportsIndex, dy: SupportsIndex) -> Optional[Motion]:
+        """When the other outline, which moves straight by (dx, dy), first meets this one, which stands; None where they don't meet."""
+        told: _Motion = self._beside(lambda *there: _LIBRARY.hull_outline_first_meeting(*there, _whole(dx), _whole(dy)), other)
+        hit = self._hit_of(told.hit)
+        if hit is None:
+            return None
+        return Motion(hit[0], hit[1], (told.corner[0], told.corner[1]) if hit[1] else None, told.moves == 1)
+
     def relations(self, others: Sequence[Outline]) -> List[Relation]:
         """How this outline stands to each of the others, in their order."""
         there, told = _there_of(others), bytearray(len(others) + 1)
@@ -1222,7 +1261,11 @@ class Outline(_Questions):
 
     def _hit(self, ask: Callable[..., Any], *numbers: SupportsIndex) -> Optional[Tuple[Fraction, Tuple[Pair, ...]]]:
         """Where and how far on its way a way comes in."""
-        told: _Hit = ask(*self._there(), *map(_whole, numbers))
+        return self._hit_of(ask(*self._there(), *map(_whole, numbers)))
+
+    @staticmethod
+    def _hit_of(told: _Hit) -> Optional[Tuple[Fraction, Tuple[Pair, ...]]]:
+        """The same, of what was told."""
         _told(told.code)
         if told.code in (_Code.APART, _Code.EMPTY):
             return None

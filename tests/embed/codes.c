@@ -725,6 +725,73 @@ static void many_outlines(void) {
     CHECK(hull_outline_indices(square, 4, NULL, 0, places) == 0 && places[0] == 0 && hull_outline_indices(NULL, 0, points, 5, NULL) == 0);
 }
 
+/* A shape k times as large, moved by a vector. */
+static void placed(const hull_point *shape, size_t count, int64_t k, int64_t dx, int64_t dy, hull_point *out) {
+    for (size_t i = 0; i < count; i++) {
+        out[i].x = k * shape[i].x + dx, out[i].y = k * shape[i].y + dy;
+    }
+}
+
+/* Whether two shapes meet when the second has gone part / whole of its way. */
+static int meet_at(const hull_point *a, size_t count, const hull_point *b, size_t other_count, int64_t dx, int64_t dy, int64_t part,
+                   int64_t whole) {
+    hull_point first[4], second[4];
+    placed(a, count, whole, 0, 0, first), placed(b, other_count, whole, part * dx, part * dy, second);
+    return hull_outline_meets(first, count, second, other_count).number == 1;
+}
+
+/* Whether the moment that is told is the first: they meet then, and not at one that lies before it by less than any two moments of such
+ * small shapes are apart; where none is told, they meet at none of many. `hits` counts those that meet on the way. */
+static int is_first_moment(const hull_point *a, size_t count, const hull_point *b, size_t other_count, int64_t dx, int64_t dy, int *hits) {
+    const hull_motion m = hull_outline_first_meeting(a, count, b, other_count, dx, dy);
+    if (m.hit.code == HULL_COVERED) {
+        return meet_at(a, count, b, other_count, dx, dy, 0, 1) && m.hit.low == 0 && m.hit.divisor_low == 1;
+    }
+    if (m.hit.code == HULL_APART) {
+        int never = 1;
+        for (int64_t part = 0; part <= 60; part++) {
+            never &= !meet_at(a, count, b, other_count, dx, dy, part, 60);
+        }
+        return never;
+    }
+    const int64_t part = (int64_t)m.hit.low, whole = (int64_t)m.hit.divisor_low, times = 1000;
+    const hull_point *from = m.moves ? b : a;
+    int is_corner = 0;
+    for (size_t i = 0; i < (m.moves ? other_count : count); i++) {
+        is_corner |= from[i].x == m.corner.x && from[i].y == m.corner.y;
+    }
+    ++*hits;
+    return (m.hit.code == HULL_EDGE || m.hit.code == HULL_CORNER) && is_corner && m.hit.high == 0 && part > 0 && part <= whole &&
+           meet_at(a, count, b, other_count, dx, dy, part, whole) &&
+           !meet_at(a, count, b, other_count, dx, dy, part * times - 1, whole * times);
+}
+
+/* outlines that move straight to others, and outlines that are moved */
+static void motions(void) {
+    static const hull_point shapes[][4] = {{{0, 0}, {3, -1}, {5, 2}, {1, 3}}, {{0, 0}, {4, 0}, {0, 3}}, {{0, 0}, {2, 1}}, {{0, 0}, {0, 4}}, {{0, 0}}};
+    static const size_t counts[] = {4, 3, 2, 2, 1};
+    static const int64_t ways[][2] = {{6, 0}, {0, -7}, {5, 3}, {-4, 7}, {-8, -2}, {1, 1}, {0, 0}};
+    int same = 1, hits = 0, tries = 0;
+    for (int i = 0; i < 5 * 5 * 7 * 9 * 9; i++, tries++) {
+        const int64_t *way = ways[i / 25 % 7];
+        hull_point other[4];
+        placed(shapes[i / 5 % 5], counts[i / 5 % 5], 1, 3 * (i / 175 % 9) - 12, 3 * (i / 1575) - 12, other);
+        same &= is_first_moment(shapes[i % 5], counts[i % 5], other, counts[i / 5 % 5], way[0], way[1], &hits);
+    }
+    CHECK(same && hits > 500 && hits < tries - 500);
+    const int64_t far = HULL_COORDINATE_MAX;
+    const hull_point left[] = {{-far, -far}, {-far + 2, -far}, {-far, -far + 5}}, right[] = {{far - 1, -1}, {far, 1}};
+    const hull_motion wide = hull_outline_first_meeting(left, 3, right, 2, -far, 0);
+    CHECK(wide.hit.code == HULL_APART && hull_outline_first_meeting(left, 3, right, 0, 1, 1).hit.code == HULL_EMPTY);
+    CHECK(hull_outline_first_meeting(left, 3, right, 2, far + 1, 0).hit.code == HULL_OUT_OF_RANGE);
+    CHECK(hull_outline_first_meeting(left, 3, right, 2, 0, -far - 1).hit.code == HULL_OUT_OF_RANGE);
+    hull_point moved[3] = {{7, 7}, {7, 7}, {7, 7}};
+    CHECK(bare(hull_outline_moved(left, 3, -1, 0, moved), HULL_OUT_OF_RANGE) && bare(hull_outline_moved(right, 2, 0, 4 * far, moved), HULL_OUT_OF_RANGE));
+    CHECK(moved[0].x == 7 && number(hull_outline_moved(left, 3, 2 * far - 2, far, moved), HULL_CORNERS, 3));
+    CHECK(moved[0].x == far - 2 && moved[0].y == 0 && moved[1].x == far && moved[2].y == 5);
+    CHECK(number(hull_is_outline(moved, 3), HULL_NUMBER, 1) && number(hull_outline_moved(NULL, 0, 5 * far, 0, NULL), HULL_CORNERS, 0));
+}
+
 /* nothing but a code */
 static int no_clearance(hull_clearance c, uint32_t code) {
     return c.code == code && !c.shift && !c.lower && !c.upper && !c.high && !c.middle && !c.low && !c.divisor_high && !c.divisor_low;
@@ -1295,6 +1362,7 @@ int main(int words, char **word) {
     encounters();
     two_outlines();
     many_outlines();
+    motions();
     clearances();
     segments_beside();
     casts();

@@ -132,6 +132,11 @@ static void two_outlines() {
     CHECK(hull::pairs_within({small, small, small, small}) == (Pairs{{0, 1}, {0, 2}, {0, 3}, {1, 2}, {1, 3}, {2, 3}}));
     CHECK(outline.meets_segments({{{-1, 1}, {20, 1}}, {{11, 0}, {11, 9}}}) == (std::vector<bool>{true, false}) && outline.meets_segments({}).empty());
     CHECK(refuses(Refusal::out_of_range, [&] { outline.meets_segments({{{0, 0}, {far + 1, 0}}}); }));
+    const hull::Motion slides = outline.first_meeting(beside, {-8, 4}), falls = outline.first_meeting(beside, {0, 9}), stays = outline.first_meeting(small, {1, 1});
+    CHECK(slides.hit && slides.moves && slides.corner == Point(12, 0) && slides.hit->part * 4 == slides.hit->whole && slides.hit->from == Point(10, 0));
+    CHECK(!falls.hit && stays.hit && stays.hit->where == hull::Hit::Where::start && !outline.first_meeting(none, {1, 1}).hit);
+    CHECK(refuses(Refusal::out_of_range, [&] { outline.first_meeting(beside, {far + 1, 0}); }));
+    CHECK(beside.moved({-8, 4}).corners() == (std::vector<Point>{{4, 4}, {7, 7}, {4, 10}}) && refuses(Refusal::out_of_range, [&] { beside.moved({far, 0}); }));
     CHECK(small.indices({{3, 4}, {9, 9}, {2, 2}, {3, 4}}) == (std::vector<std::size_t>{2, 4, 0}));
     const auto gap = outline.clearance(beside), to_corner = outline.clearance_to_point({13, 14}), to_way = outline.clearance_to_segment({13, 14}, {16, 10});
     CHECK(gap && gap->down() == 2 && gap->up() == 2 && to_corner && to_corner->down() == 5 && to_way && *to_way <= *to_corner && *to_way > *gap);

@@ -396,6 +396,32 @@ class Calls(unittest.TestCase):
         self.assertRaises(OutOfRange, outline.width_along, COORDINATE_LIMIT + 1, 0)
         self.assertRaises(TypeError, outline.meets, [(0, 0)])
 
+    def test_motions(self):
+        Outline = hull_module.Outline
+        outline, none = Outline([(0, 0), (10, 0), (10, 10), (0, 10)]), Outline([])
+        small, beside = Outline([(2, 2), (4, 2), (3, 4)]), Outline([(12, 0), (15, 3), (12, 6)])
+        self.assertEqual(outline.first_meeting(beside, -8, 4), (Fraction(1, 4), ((10, 0), (10, 10)), (12, 0), True))
+        self.assertEqual(beside.first_meeting(outline, 8, -4)[0], Fraction(1, 4))
+        self.assertEqual(outline.first_meeting(small, 1, 1), (0, (), None, False))
+        self.assertEqual((outline.first_meeting(beside, 0, 9), outline.first_meeting(beside, 0, 0), outline.first_meeting(none, 1, 1)), (None,) * 3)
+        self.assertRaises(OutOfRange, outline.first_meeting, beside, COORDINATE_LIMIT + 1, 0)
+        self.assertRaises(TypeError, outline.first_meeting, [(0, 0)], 1, 1)
+        self.assertEqual((beside.moved(-8, 4).vertices(), none.moved(1, 1).vertices()), ([(4, 4), (7, 7), (4, 10)], []))
+        for way in ((COORDINATE_LIMIT, 0), (0, 1 << 70)):
+            self.assertRaises(OutOfRange, beside.moved, *way)
+        by_chance = random.Random(5)
+        for _ in range(200):
+            one, other = (Outline.of([(by_chance.randrange(-9, 9) + at, by_chance.randrange(-9, 9)) for _ in range(5)]) for at in (0, 25))
+            dx, dy = by_chance.randrange(-40, 1), by_chance.randrange(-9, 9)
+            met = one.first_meeting(other, dx, dy)
+
+            def meet(part):
+                large = [Outline.of([(x * part.denominator, y * part.denominator) for x, y in shape.vertices()]) for shape in (one, other)]
+                return large[0].meets(large[1].moved(dx * part.numerator, dy * part.numerator))
+
+            self.assertFalse(any(meet(Fraction(k, 97)) for k in range(98) if met is None or Fraction(k, 97) < met.part))
+            self.assertTrue(met is None or meet(met.part))
+
     def test_many_outlines(self):
         Outline, pairs_within, by_chance = hull_module.Outline, hull_module.pairs_within, random.Random(3)
 

@@ -210,6 +210,14 @@ fn two_outlines() {
     assert_eq!(pairs_within(&all, 0, 1), Ok(vec![(0, 4), (1, 3), (1, 4)]));
     assert_eq!((pairs_within(&all[..2], 2, 1), pairs_within(&all[..2], 1999, 1000)), (Ok(vec![(0, 1)]), Ok(vec![])));
     assert_eq!(pairs_within(&vec![small.clone(); 9], 0, 1).unwrap().len(), 36);
+    let slides = outline.first_meeting(&beside, point(-8, 4)).unwrap().unwrap();
+    assert_eq!((slides.corner, slides.moves, slides.hit.part * 4), (point(12, 0), true, slides.hit.whole));
+    assert_eq!(slides.hit.place, Entry::Edge(point(10, 0), point(10, 10)));
+    assert_eq!((outline.first_meeting(&beside, point(0, 9)), outline.first_meeting(&none, point(1, 1))), (Ok(None), Ok(None)));
+    assert_eq!(outline.first_meeting(&small, point(1, 1)).unwrap().unwrap().hit.place, Entry::Start);
+    assert_eq!(outline.first_meeting(&beside, point(COORDINATE_LIMIT + 1, 0)), Err(Fault::OutOfRange));
+    assert_eq!(beside.moved(point(-8, 4)).unwrap().corners(), [point(4, 4), point(7, 7), point(4, 10)]);
+    assert_eq!(beside.moved(point(COORDINATE_LIMIT, 0)), Err(Fault::OutOfRange));
     let ways = [[point(-1, 1), point(20, 1)], [point(11, 0), point(11, 9)]];
     assert_eq!((outline.meets_segments(&ways), outline.meets_segments(&[])), (Ok(vec![true, false]), Ok(vec![])));
     assert_eq!(outline.meets_segments(&[[point(0, 0), point(0, COORDINATE_LIMIT + 1)]]), Err(Fault::OutOfRange));

@@ -19,6 +19,7 @@ mod clearance;
 mod counted;
 mod exchange;
 mod many;
+mod motions;
 mod outline;
 mod pairs;
 mod raw;
@@ -32,6 +33,7 @@ use std::ptr::NonNull;
 
 pub use clearance::Clearance;
 pub use exchange::{direction_of, wkt, Lattice, Rounded};
+pub use motions::Motion;
 pub use outline::{Corners, Distance, Entry, Hit, Nearest, Outline, Relation, Separation, Strip, Witness};
 pub use pairs::pairs_within;
 pub use raw::{Held, Point};

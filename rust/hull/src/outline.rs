@@ -12,7 +12,7 @@ use std::ops::Deref;
 /// taken ([`Corners`] has the questions). Nothing of it is ever written, so threads share it with no lock; a clone is the same corners.
 #[derive(Clone)]
 pub struct Outline {
-    corners: Counted<Vec<Point>>,
+    pub(crate) corners: Counted<Vec<Point>>,
 }
 
 /// What is asked of the corners of a hull, wherever they lie: in an [`Outline`], or in the view of a reader of a shared hull.

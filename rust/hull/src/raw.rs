@@ -187,6 +187,13 @@ pub(crate) struct HitTold {
     pub divisor_low: u64,
 }
 
+#[repr(C)]
+pub(crate) struct MotionTold {
+    pub hit: HitTold,
+    pub corner: Point,
+    pub moves: u32,
+}
+
 /// The numbers of the codes.
 pub(crate) mod code {
     pub const OUT_OF_RANGE: u32 = 1;
@@ -271,6 +278,15 @@ extern "C" {
         out: *mut [usize; 2],
         room: usize,
     ) -> Reply;
+    pub(crate) fn hull_outline_first_meeting(
+        corners: *const Point,
+        count: usize,
+        others: *const Point,
+        other_count: usize,
+        dx: i64,
+        dy: i64,
+    ) -> MotionTold;
+    pub(crate) fn hull_outline_moved(corners: *const Point, count: usize, dx: i64, dy: i64, out: *mut Point) -> Reply;
     pub(crate) fn hull_outline_relations(
         corners: *const Point,
         count: usize,

@@ -1,0 +1,85 @@
+/* The first moment of a straight motion of one outline to another, for C, C++, Rust and Python. Two convex shapes that are apart and move
+ * straight towards one another first meet at a corner of one of them. So that moment is the least of the ways that the corners of the one
+ * that moves go to the other, and that the corners of the other go back to the one that moves, by the proved calls of the header. */
+#include "hull.h"
+
+/* The product of two numbers of 128 bits, from the least of its four words on. */
+static void product(unsigned __int128 a, unsigned __int128 b, uint64_t words[4]) {
+    const uint64_t ones[2] = {(uint64_t)a, (uint64_t)(a >> 64)}, others[2] = {(uint64_t)b, (uint64_t)(b >> 64)};
+    memset(words, 0, 4 * sizeof *words);
+    for (int i = 0; i < 2; i++) {
+        uint64_t carry = 0;
+        for (int j = 0; j < 2; j++) {
+            const unsigned __int128 sum = (unsigned __int128)ones[i] * others[j] + words[i + j] + carry;
+            words[i + j] = (uint64_t)sum;
+            carry = (uint64_t)(sum >> 64);
+        }
+        words[i + 2] = carry;
+    }
+}
+
+static unsigned __int128 number(uint64_t high, uint64_t low) {
+    return (unsigned __int128)high << 64 | low;
+}
+
+/* Whether the way of the one is shorter than that of the other. */
+static int is_shorter(const hull_hit *one, const hull_hit *other) {
+    uint64_t ones[4], others[4];
+    product(number(one->high, one->low), number(other->divisor_high, other->divisor_low), ones);
+    product(number(other->high, other->low), number(one->divisor_high, one->divisor_low), others);
+    for (int i = 3; i > 0; i--) {
+        if (ones[i] != others[i]) {
+            return ones[i] < others[i];
+        }
+    }
+    return ones[0] < others[0];
+}
+
+/* Takes the hits of corners that go by this direction to an outline, as far as it leads, where they are sooner than what was found. */
+static void sooner(hull_motion *found, const hull_point *outline, size_t count, const hull_point *corners, size_t corner_count, int64_t dx,
+                   int64_t dy, uint32_t moves) {
+    for (size_t i = 0; i < corner_count; i++) {
+        const hull_hit hit = hull_outline_cast_ray(outline, count, corners[i].x, corners[i].y, dx, dy);
+        const int is_one = hit.code == HULL_COVERED || hit.code == HULL_EDGE || hit.code == HULL_CORNER;
+        if (is_one && number(hit.high, hit.low) <= number(hit.divisor_high, hit.divisor_low) &&
+            (found->hit.code == HULL_APART || is_shorter(&hit, &found->hit))) {
+            *found = (hull_motion){hit, corners[i], moves};
+        }
+    }
+}
+
+static int is_in_range(int64_t d) {
+    return d >= -HULL_COORDINATE_MAX && d <= HULL_COORDINATE_MAX;
+}
+
+hull_motion hull_outline_first_meeting(const hull_point *corners, size_t count, const hull_point *others, size_t other_count, int64_t dx,
+                                       int64_t dy) {
+    hull_motion found = {hull_hit_refusal(HULL_APART), {0, 0}, 0};
+    if (!is_in_range(dx) || !is_in_range(dy)) {
+        found.hit.code = HULL_OUT_OF_RANGE;
+    } else if (count == 0 || other_count == 0) {
+        found.hit.code = HULL_EMPTY;
+    } else if (hull_outline_meets(corners, count, others, other_count).number == 1) {
+        found.hit.code = HULL_COVERED;
+        found.hit.divisor_low = 1;
+    } else if (dx != 0 || dy != 0) {
+        sooner(&found, corners, count, others, other_count, dx, dy, 1);
+        sooner(&found, others, other_count, corners, count, -dx, -dy, 0);
+    }
+    return found;
+}
+
+hull_reply hull_outline_moved(const hull_point *corners, size_t count, int64_t dx, int64_t dy, hull_point *out) {
+    hull_reply reply = hull_refusal(HULL_CORNERS);
+    const hull_reply box = hull_outline_box(corners, count);
+    const int64_t most = 2 * HULL_COORDINATE_MAX;
+    reply.number = count;
+    if (count != 0 && (dx < -most || dx > most || dy < -most || dy > most || !is_in_range(box.x + dx) || !is_in_range(box.other_x + dx) ||
+                       !is_in_range(box.y + dy) || !is_in_range(box.other_y + dy))) {
+        return hull_refusal(HULL_OUT_OF_RANGE);
+    }
+    for (size_t i = 0; i < count; i++) {
+        out[i] = (hull_point){corners[i].x + dx, corners[i].y + dy};
+    }
+    return reply;
+}
