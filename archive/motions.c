@@ -1,4 +1,6 @@
-/* The first moment of a straight motion of one outline to another, for C, C++, Rust and Python. Two convex shapes that are apart and move
+/* Outlines that are moved, turned, and move straight to others, for C, C++, Rust and Python.
+ *
+ * The first moment of a straight motion: two convex shapes that are apart and move
  * straight towards one another first meet at a corner of one of them. So that moment is the least of the ways that the corners of the one
  * that moves go to the other, and that the corners of the other go back to the one that moves, by the proved calls of the header. */
 #include "hull.h"
@@ -81,5 +83,45 @@ hull_reply hull_outline_moved(const hull_point *corners, size_t count, int64_t d
     for (size_t i = 0; i < count; i++) {
         out[i] = (hull_point){corners[i].x + dx, corners[i].y + dy};
     }
+    return reply;
+}
+
+/* A point turned by the angle of (a, b), and magnified by its length: whether it is in range. */
+static int turns(hull_point p, int64_t a, int64_t b, hull_point *out) {
+    const __int128 x = (__int128)a * p.x - (__int128)b * p.y, y = (__int128)b * p.x + (__int128)a * p.y;
+    const __int128 most = HULL_COORDINATE_MAX;
+    if (x < -most || x > most || y < -most || y > most) {
+        return 0;
+    }
+    out->x = (int64_t)x, out->y = (int64_t)y;
+    return 1;
+}
+
+static int comes_before(hull_point p, hull_point q) {
+    return p.x != q.x ? p.x < q.x : p.y < q.y;
+}
+
+hull_reply hull_outline_turned(const hull_point *corners, size_t count, int64_t a, int64_t b, hull_point *out) {
+    hull_point first = {0, 0}, turned;
+    size_t from = 0;
+    hull_reply reply = hull_refusal(HULL_CORNERS);
+    if (!is_in_range(a) || !is_in_range(b)) {
+        return hull_refusal(HULL_OUT_OF_RANGE);
+    }
+    if (a == 0 && b == 0) {
+        return hull_refusal(HULL_ZERO_DIRECTION);
+    }
+    for (size_t i = 0; i < count; i++) {
+        if (!turns(corners[i], a, b, &turned)) {
+            return hull_refusal(HULL_OUT_OF_RANGE);
+        }
+        if (i == 0 || comes_before(turned, first)) {
+            first = turned, from = i;
+        }
+    }
+    for (size_t i = 0; i < count; i++) {
+        turns(corners[(from + i) % count], a, b, &out[i]);
+    }
+    reply.number = count;
     return reply;
 }

@@ -207,6 +207,12 @@ static inline hull_point hull_held_behind(hull_held last) {
     return next;
 }
 
+/* The held point that is nearest to (x, y), of several the first by x and then y: HULL_POINT, with the squared distance, of 84 bits, in
+ * `number` and `high`; HULL_EMPTY, HULL_OUT_OF_RANGE, HULL_NO_MEMORY as hull_held_from. This is C over that listing (archive/nearest.c),
+ * which is tested: all points are looked at whose x is no farther than twice that distance, or four times the power of four before it;
+ * of n random points in a square some tens of roots of n. */
+hull_reply hull_nearest_held(const hull_set *h, int64_t x, int64_t y);
+
 /* Holds the points of the array, which stand in order by x and then y, each once and as often as it says, in the place of all that
  * was held: HULL_NUMBER, the number of points; or the hull is as it was: HULL_OUT_OF_RANGE (a coordinate of any of them, or how
  * often it is held is 0 or above HULL_MULTIPLICITY_MAX), else HULL_OUT_OF_ORDER, else HULL_TOO_MANY (more points than the limit) or
@@ -734,6 +740,11 @@ hull_motion hull_outline_first_meeting(const hull_point *corners, size_t count, 
 /* Writes the outline moved by (dx, dy) to an array with room for as many corners, which may be the same array: an outline again.
  * HULL_CORNERS with how many; HULL_OUT_OF_RANGE where a coordinate would be, and then nothing is written. */
 hull_reply hull_outline_moved(const hull_point *corners, size_t count, int64_t dx, int64_t dy, hull_point *out);
+
+/* Writes the outline turned about the origin by the angle of (a, b), and magnified by its length, to another array with room for as many
+ * corners: an outline again, by whole numbers. By a rational angle, as (3, 4), all others are to be magnified as much, which (5, 0) does.
+ * HULL_CORNERS with how many; HULL_OUT_OF_RANGE where a coordinate is or would be, HULL_ZERO_DIRECTION. */
+hull_reply hull_outline_turned(const hull_point *corners, size_t count, int64_t a, int64_t b, hull_point *out);
 
 /* A support function for callers with directions in doubles: the first of the farthest points in the direction (dx, dy), taken to
  * whole numbers as hull_direction_from_doubles tells (hull_exchange.h); in the direction (0, 0) the first point by x and then y.

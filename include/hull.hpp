@@ -701,18 +701,32 @@ public:
 
     const std::vector<Point> &corners() const noexcept { return corners_; }
 
-    // The outline moved by a vector; Refusal::out_of_range where a coordinate would be. Or this one is, with no memory asked for.
+    // The outline moved by a vector; Refusal::out_of_range where a coordinate would be.
     Outline moved(Point by) const {
         Outline other;
         told::with_memory([&] { other.corners_ = corners_; });
         other.move(by);
         return other;
     }
+
+    // The same of this one, with no memory asked for.
     void move(Point by) {
         const hull_reply r = hull_outline_moved(data(), size(), by.x, by.y, corners_.data());
         if (r.code != HULL_CORNERS) {
             told::fault(r.code);
         }
+    }
+
+    // The outline turned about the origin by the angle of `by`, and magnified by its length: by a rational angle, as of (3, 4), all others
+    // are to be magnified as much, which (5, 0) does. Refusal::out_of_range, zero_direction.
+    Outline turned(Point by) const {
+        Outline other;
+        told::with_memory([&] { other.corners_.resize(size()); });
+        const hull_reply r = hull_outline_turned(data(), size(), by.x, by.y, other.corners_.data());
+        if (r.code != HULL_CORNERS) {
+            told::fault(r.code);
+        }
+        return other;
     }
 
     // Where the corners lie, and how many they are.
@@ -846,6 +860,14 @@ public:
         all.resize(static_cast<std::size_t>(
             told::number(hull_held_from(alive(), -HULL_COORDINATE_MAX, -HULL_COORDINATE_MAX, all.data(), all.size()))));
         return all;
+    }
+
+    // The held point that is nearest to a point, of several the first by x and then y, and the square of how far it is; none where none is
+    // held. All points are looked at that are not much farther along x.
+    std::optional<std::pair<Point, Area>> nearest_held(Point p) const {
+        const hull_reply r = hull_nearest_held(alive(), p.x, p.y);
+        const std::optional<Point> nearest = told::extreme(r);
+        return nearest ? std::optional(std::pair<Point, Area>(*nearest, static_cast<Area>(r.high) << 64 | r.number)) : std::nullopt;
     }
 
     // Another hull that holds the same, each point as often, with the same limit.

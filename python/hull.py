@@ -307,7 +307,7 @@ def _library() -> ctypes.CDLL:
         ("python_new", [number], at), ("python_free", [at], None), ("python_call", [at, number, whole, whole], _Reply),
         ("python_calls", [at, at, at, size], size), ("python_vertices", [at, at, size], _Reply),
         ("python_load", [at, at, size], _Reply), ("python_load_held", [at, at, size], _Reply),
-        ("python_held_from", [at, whole, whole, at, size], _Reply), ("python_copy", [at, at], _Reply),
+        ("python_held_from", [at, whole, whole, at, size], _Reply), ("python_nearest_held", [at, whole, whole], _Reply), ("python_copy", [at, at], _Reply),
         ("python_limit", [at], _Reply), ("python_clear", [at], _Reply),
         ("is_outline", [at, size], _Reply), ("outline_of", [at, size, at, size], _Reply),
         ("outline_call", [at, size, number, whole, whole], _Reply),
@@ -329,6 +329,7 @@ def _library() -> ctypes.CDLL:
         ("outline_distance", [at, size, at, size], _Witness),
         ("outline_calls", [at, size, at, size, at, size], size),
         ("outline_first_meeting", [at, size, at, size, whole, whole], _Motion), ("outline_moved", [at, size, whole, whole, at], _Reply),
+        ("outline_turned", [at, size, whole, whole, at], _Reply),
         ("pairs_within", [at, size, long, number, at, size], _Reply), ("outline_relations", [at, size, at, size, at], None),
         ("outline_meets_segments", [at, size, at, size, at], size), ("outline_indices", [at, size, at, size, at], size),
     ])
@@ -923,6 +924,15 @@ class Hull(_Questions):
             x, y = piece[-1][0]
             x, y = (x, y + 1) if y < COORDINATE_LIMIT else (x + 1, -COORDINATE_LIMIT)
 
+    def nearest_held(self, x: SupportsIndex, y: SupportsIndex) -> Optional[Tuple[Pair, int]]:
+        """The held point that is nearest to (x, y), of several the first by x and then y, and the square of how far it is.
+
+        None where none is held. All points are looked at that are not much farther along x.
+        """
+        reply = self._ask(_LIBRARY.hull_python_nearest_held, _whole(x), _whole(y))
+        nearest = _farthest(reply)
+        return None if nearest is None else (nearest, reply.high << 64 | reply.number)
+
     def __iter__(self) -> Iterator[Pair]:
         """The points that are held, in order by x and then y, each once."""
         return (point for point, _ in self.items())
@@ -1149,6 +1159,17 @@ class Outline(_Questions):
         """How this outline stands to the other one."""
         reply: _Reply = self._beside(_LIBRARY.hull_outline_relation, other)
         return Relation(reply.number)
+
+    def turned(self, a: SupportsIndex, b: SupportsIndex) -> Outline:
+        """The outline turned about (0, 0) by the angle of (a, b), and magnified by its length; OutOfRange where a coordinate would be.
+
+        By a rational angle, as (3, 4), all others are to be magnified as much, which (5, 0) does.
+        """
+        made, corners = Outline(()), array("q", self._corners)
+        corners.extend((0, 0))
+        _told(_LIBRARY.hull_outline_turned(*self._there(), _whole(a), _whole(b), corners.buffer_info()[0]).code)
+        made._hold(corners[:2 * self._count])
+        return made
 
     def moved(self, dx: SupportsIndex, dy: SupportsIndex) -> Outline:
         """The outline moved by (dx, dy); OutOfRange where a coordinate would be."""

@@ -57,6 +57,10 @@ hull_reply hull_python_held_from(hull_python *h, int64_t x, int64_t y, hull_held
     HULL_REPLY_OF(h, hull_held_from(h->hull, x, y, out, room));
 }
 
+hull_reply hull_python_nearest_held(hull_python *h, int64_t x, int64_t y) {
+    HULL_REPLY_OF(h, hull_nearest_held(h->hull, x, y));
+}
+
 /* `to` is new, so that nobody else makes calls on it. */
 hull_reply hull_python_copy(hull_python *to, hull_python *from) {
     HULL_REPLY_OF(from, hull_copy(to->hull, from->hull));

@@ -33,7 +33,7 @@ TARGETS = {"x86_64": ("x86_64-unknown-linux-gnu", "gcc"), "aarch64": ("aarch64-u
 LIBRARIES = {"libhull": "hull_c", "libhull_shared": "hull_shared"}
 PROGRAMS = ("hullbook", "hulldraw")
 # what the archive of a library has beside what was proved: C, and what it includes; with the flags of each processor
-INSIDE = {"libhull": ["archive/motions.c", "archive/pairs.c"], "libhull_shared": ["archive/line.c", "archive/journal.c"]}
+INSIDE = {"libhull": ["archive/motions.c", "archive/nearest.c", "archive/pairs.c"], "libhull_shared": ["archive/line.c", "archive/journal.c"]}
 INCLUDED = {"libhull": ["include/hull_common.h", "include/hull.h"],
             "libhull_shared": ["archive/sleeping.h", "archive/watched.h", "include/hull_common.h", "include/hull_shared.h"]}
 # (no calls of libgcc's, which a program linked by another compiler has not)

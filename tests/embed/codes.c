@@ -789,7 +789,68 @@ static void motions(void) {
     CHECK(bare(hull_outline_moved(left, 3, -1, 0, moved), HULL_OUT_OF_RANGE) && bare(hull_outline_moved(right, 2, 0, 4 * far, moved), HULL_OUT_OF_RANGE));
     CHECK(moved[0].x == 7 && number(hull_outline_moved(left, 3, 2 * far - 2, far, moved), HULL_CORNERS, 3));
     CHECK(moved[0].x == far - 2 && moved[0].y == 0 && moved[1].x == far && moved[2].y == 5);
+    static const hull_point shape[] = {{0, 0}, {3, -1}, {5, 2}, {1, 3}};
+    hull_point turned[4] = {{7, 7}, {7, 7}, {7, 7}, {7, 7}};
+    int outlines = 1;
+    for (int i = 0; i < 11 * 11; i++) {
+        const int64_t a = i % 11 - 5, b = i / 11 - 5, length = a * a + b * b;
+        const hull_reply told = hull_outline_turned(shape, 4, a, b, turned);
+        outlines &= length == 0 ? bare(told, HULL_ZERO_DIRECTION)
+                                : number(told, HULL_CORNERS, 4) && number(hull_is_outline(turned, 4), HULL_NUMBER, 1) &&
+                                      hull_outline_area(turned, 4).number == (uint64_t)length * hull_outline_area(shape, 4).number &&
+                                      hull_outline_place(turned, 4, 3 * a + b, 3 * b - a).code == HULL_ON;
+    }
+    CHECK(outlines && bare(hull_outline_turned(shape, 4, far, 1, turned), HULL_OUT_OF_RANGE));
+    CHECK(bare(hull_outline_turned(shape, 4, far + 1, 0, turned), HULL_OUT_OF_RANGE) && number(hull_outline_turned(NULL, 0, 1, 1, NULL), HULL_CORNERS, 0));
     CHECK(number(hull_is_outline(moved, 3), HULL_NUMBER, 1) && number(hull_outline_moved(NULL, 0, 5 * far, 0, NULL), HULL_CORNERS, 0));
+}
+
+/* Whether the nearest of these points, the first of several, is told, with the square of how far it is. */
+static int is_nearest(const hull_set *h, const hull_point *points, size_t count, int64_t x, int64_t y) {
+    const hull_reply told = hull_nearest_held(h, x, y);
+    hull_point best = {0, 0};
+    __extension__ unsigned __int128 least = 0;
+    for (size_t i = 0; i < count; i++) {
+        __extension__ const __int128 dx = points[i].x - x, dy = points[i].y - y;
+        __extension__ const unsigned __int128 d = (unsigned __int128)(dx * dx) + (unsigned __int128)(dy * dy);
+        const int before = points[i].x != best.x ? points[i].x < best.x : points[i].y < best.y;
+        if (i == 0 || d < least || (d == least && before)) {
+            best = points[i], least = d;
+        }
+    }
+    return told.code == HULL_POINT && told.x == best.x && told.y == best.y && told.number == (uint64_t)least &&
+           told.high == (uint64_t)(least >> 64);
+}
+
+/* the nearest of points in squares from 4 to 2^41 a side, thick and thin */
+static void nearest_held(void) {
+    enum { POINTS = 300 };
+    static hull_point points[POINTS];
+    uint64_t state = 9;
+    int same = 1;
+    hull_set *h = hull_new(POINTS);
+    CHECK(bare(hull_nearest_held(h, 0, 0), HULL_EMPTY) && bare(hull_nearest_held(h, HULL_COORDINATE_MAX + 1, 0), HULL_OUT_OF_RANGE));
+    for (int power = 2; power <= 41; power++) {
+        const size_t count = power % 3 == 0 ? POINTS : power % 3 == 1 ? 1 : 7;
+        hull_clear(h);
+        for (size_t i = 0; i < count; i++) {
+            for (int k = 0; k < 2; k++) {
+                state = state * 6364136223846793005u + 1442695040888963407u;
+                *(k == 0 ? &points[i].x : &points[i].y) = (int64_t)(state >> 20) % ((INT64_C(1) << power) + 1) - (INT64_C(1) << (power - 1));
+            }
+            points[i].x = power % 5 == 0 ? points[i].x % 2 : points[i].x;
+            hull_add(h, points[i].x, points[i].y);
+        }
+        for (int i = 0; i < 40; i++) {
+            const hull_point at = points[(size_t)i % count];
+            const int64_t off = i % 4 == 0 ? 0 : (INT64_C(1) << (i % 3 == 0 ? 3 : power)) / 3 - i;
+            const int64_t x = at.x + off > HULL_COORDINATE_MAX ? at.x : at.x + off, y = at.y - off < -HULL_COORDINATE_MAX ? at.y : at.y - off;
+            same &= is_nearest(h, points, count, x, y);
+        }
+        same &= is_nearest(h, points, count, HULL_COORDINATE_MAX, -HULL_COORDINATE_MAX) && is_nearest(h, points, count, -HULL_COORDINATE_MAX, 0);
+    }
+    CHECK(same);
+    hull_free(h);
 }
 
 /* nothing but a code */
@@ -1363,6 +1424,7 @@ int main(int words, char **word) {
     two_outlines();
     many_outlines();
     motions();
+    nearest_held();
     clearances();
     segments_beside();
     casts();

@@ -137,6 +137,11 @@ static void two_outlines() {
     CHECK(!falls.hit && stays.hit && stays.hit->where == hull::Hit::Where::start && !outline.first_meeting(none, {1, 1}).hit);
     CHECK(refuses(Refusal::out_of_range, [&] { outline.first_meeting(beside, {far + 1, 0}); }));
     CHECK(beside.moved({-8, 4}).corners() == (std::vector<Point>{{4, 4}, {7, 7}, {4, 10}}) && refuses(Refusal::out_of_range, [&] { beside.moved({far, 0}); }));
+    CHECK(small.turned({0, 1}).corners() == (std::vector<Point>{{-4, 3}, {-2, 2}, {-2, 4}}) && refuses(Refusal::zero_direction, [&] { small.turned({0, 0}); }));
+    hull::Hull held(5);
+    CHECK(!held.nearest_held({0, 0}) && held.add({9, 9}) == 1 && held.add({-9, 9}) == 1);
+    CHECK(held.nearest_held({0, 5}) == (std::pair<Point, hull::Area>{{-9, 9}, 97}) && held.nearest_held({1, 9})->second == 64);
+    CHECK(refuses(Refusal::out_of_range, [&] { held.nearest_held({far + 1, 0}); }));
     CHECK(small.indices({{3, 4}, {9, 9}, {2, 2}, {3, 4}}) == (std::vector<std::size_t>{2, 4, 0}));
     const auto gap = outline.clearance(beside), to_corner = outline.clearance_to_point({13, 14}), to_way = outline.clearance_to_segment({13, 14}, {16, 10});
     CHECK(gap && gap->down() == 2 && gap->up() == 2 && to_corner && to_corner->down() == 5 && to_way && *to_way <= *to_corner && *to_way > *gap);

@@ -409,6 +409,12 @@ class Calls(unittest.TestCase):
         self.assertEqual((beside.moved(-8, 4).vertices(), none.moved(1, 1).vertices()), ([(4, 4), (7, 7), (4, 10)], []))
         for way in ((COORDINATE_LIMIT, 0), (0, 1 << 70)):
             self.assertRaises(OutOfRange, beside.moved, *way)
+        self.assertEqual((small.turned(0, 1).vertices(), none.turned(1, 1).vertices()), ([(-4, 3), (-2, 2), (-2, 4)], []))
+        self.assertRaises(ZeroDirection, small.turned, 0, 0)
+        self.assertRaises(OutOfRange, small.turned, COORDINATE_LIMIT, 1)
+        held = Hull([(9, 9), (-9, 9)])
+        self.assertEqual((held.nearest_held(0, 5), held.nearest_held(1, 9), Hull().nearest_held(1, 1)), (((-9, 9), 97), ((9, 9), 64), None))
+        self.assertRaises(OutOfRange, held.nearest_held, COORDINATE_LIMIT + 1, 0)
         by_chance = random.Random(5)
         for _ in range(200):
             one, other = (Outline.of([(by_chance.randrange(-9, 9) + at, by_chance.randrange(-9, 9)) for _ in range(5)]) for at in (0, 25))

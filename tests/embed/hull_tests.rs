@@ -218,6 +218,13 @@ fn two_outlines() {
     assert_eq!(outline.first_meeting(&beside, point(COORDINATE_LIMIT + 1, 0)), Err(Fault::OutOfRange));
     assert_eq!(beside.moved(point(-8, 4)).unwrap().corners(), [point(4, 4), point(7, 7), point(4, 10)]);
     assert_eq!(beside.moved(point(COORDINATE_LIMIT, 0)), Err(Fault::OutOfRange));
+    assert_eq!(small.turned(point(0, 1)).unwrap().corners(), [point(-4, 3), point(-2, 2), point(-2, 4)]);
+    assert_eq!((small.turned(point(0, 0)), small.turned(point(COORDINATE_LIMIT, 1))), (Err(Fault::ZeroDirection), Err(Fault::OutOfRange)));
+    let mut held = Hull::new(5).unwrap();
+    assert_eq!(held.nearest_held(point(0, 0)), Ok(None));
+    held.add(point(9, 9)).and(held.add(point(-9, 9))).unwrap();
+    assert_eq!((held.nearest_held(point(0, 5)), held.nearest_held(point(1, 9))), (Ok(Some((point(-9, 9), 97))), Ok(Some((point(9, 9), 64)))));
+    assert_eq!(held.nearest_held(point(COORDINATE_LIMIT + 1, 0)), Err(Fault::OutOfRange));
     let ways = [[point(-1, 1), point(20, 1)], [point(11, 0), point(11, 9)]];
     assert_eq!((outline.meets_segments(&ways), outline.meets_segments(&[])), (Ok(vec![true, false]), Ok(vec![])));
     assert_eq!(outline.meets_segments(&[[point(0, 0), point(0, COORDINATE_LIMIT + 1)]]), Err(Fault::OutOfRange));

@@ -199,6 +199,15 @@ impl Hull {
         Ok(all)
     }
 
+    /// The held point that is nearest to `point`, of several the first by x and then y, and the square of how far it is; `None` where
+    /// none is held. All points are looked at that are not much farther along x.
+    pub fn nearest_held(&self, point: Point) -> Result<Option<(Point, u128)>, Fault> {
+        // SAFETY: as in `call`.
+        let reply = unsafe { raw::hull_nearest_held(self.room.as_ptr(), point.x, point.y) };
+        let squared = u128::from(reply.high) << 64 | u128::from(reply.number);
+        Ok(answer::extreme(reply)?.map(|nearest| (nearest, squared)))
+    }
+
     /// Another hull that holds the same, each point as often, with the same limit.
     pub fn try_clone(&self) -> Result<Hull, Fault> {
         let mut other = Hull::new(self.limit())?;

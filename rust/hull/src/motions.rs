@@ -2,7 +2,7 @@
 use crate::answer;
 use crate::counted::Counted;
 use crate::outline::{Corners, Outline};
-use crate::raw::{self, code};
+use crate::raw::{self, code, Reply};
 use crate::{Fault, Hit, Point};
 
 /// When an outline that moves straight first meets one that stands ([`Corners::first_meeting`]).
@@ -31,18 +31,33 @@ impl Corners {
 }
 
 impl Outline {
-    /// The outline moved by a vector; [`Fault::OutOfRange`] where a coordinate would be.
-    pub fn moved(&self, by: Point) -> Result<Outline, Fault> {
+    /// Another outline of as many corners, which a call writes.
+    fn rewritten(&self, write: impl Fn(&[Point], &mut [Point]) -> Reply) -> Result<Outline, Fault> {
         let mut corners = Vec::new();
         corners.try_reserve_exact(self.corners().len()).map_err(|_| Fault::NoMemory)?;
         corners.extend_from_slice(self.corners());
-        // SAFETY: the corners are an outline, and the array has as many, which were written.
-        let told = unsafe {
-            raw::hull_outline_moved(self.corners().as_ptr(), self.corners().len(), by.x, by.y, corners.as_mut_ptr())
-        };
+        let told = write(self.corners(), &mut corners);
         match told.code {
             code::CORNERS => Ok(Outline { corners: Counted::new(corners)? }),
             other => Err(answer::fault_of(other)),
         }
+    }
+
+    /// The outline moved by a vector; [`Fault::OutOfRange`] where a coordinate would be.
+    pub fn moved(&self, by: Point) -> Result<Outline, Fault> {
+        // SAFETY: the corners are an outline, and the array has as many, which were written.
+        self.rewritten(|these, out| unsafe {
+            raw::hull_outline_moved(these.as_ptr(), these.len(), by.x, by.y, out.as_mut_ptr())
+        })
+    }
+
+    /// The outline turned about the origin by the angle of `by`, and magnified by its length; [`Fault::OutOfRange`] where a coordinate
+    /// would be, and [`Fault::ZeroDirection`]. By a rational angle, as of (3, 4), all others are to be magnified as much, which (5, 0)
+    /// does.
+    pub fn turned(&self, by: Point) -> Result<Outline, Fault> {
+        // SAFETY: the same.
+        self.rewritten(|these, out| unsafe {
+            raw::hull_outline_turned(these.as_ptr(), these.len(), by.x, by.y, out.as_mut_ptr())
+        })
     }
 }

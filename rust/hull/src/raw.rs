@@ -286,6 +286,8 @@ extern "C" {
         dx: i64,
         dy: i64,
     ) -> MotionTold;
+    pub(crate) fn hull_outline_turned(corners: *const Point, count: usize, a: i64, b: i64, out: *mut Point) -> Reply;
+    pub(crate) fn hull_nearest_held(hull: *mut u8, x: i64, y: i64) -> Reply;
     pub(crate) fn hull_outline_moved(corners: *const Point, count: usize, dx: i64, dy: i64, out: *mut Point) -> Reply;
     pub(crate) fn hull_outline_relations(
         corners: *const Point,

@@ -1,0 +1,74 @@
+/* The held point that is nearest to a point, for C, C++, Rust and Python, over the listing of the header, which is proved: what is held in
+ * a strip round the point's x is looked through, at first a narrow one, and then one that is as wide as what was found there. */
+#include "hull.h"
+
+enum { AT_ONCE = 64 };
+
+/* What is asked for, and the nearest that was found by now; or that memory was refused. */
+struct search {
+    int64_t x, y;
+    uint32_t code; /* HULL_EMPTY, HULL_POINT, HULL_NO_MEMORY */
+    hull_point nearest;
+    unsigned __int128 squared;
+};
+
+static unsigned __int128 squared(int64_t d) {
+    return (unsigned __int128)((__int128)d * d);
+}
+
+/* Keeps the point where it is nearer than what was found. Of several that are as near, the first by x and then y is kept. */
+static void meets(struct search *s, hull_held p) {
+    const unsigned __int128 d = squared(p.x - s->x) + squared(p.y - s->y);
+    const int is_first = p.x != s->nearest.x ? p.x < s->nearest.x : p.y < s->nearest.y;
+    if (s->code == HULL_EMPTY || d < s->squared || (d == s->squared && is_first)) {
+        s->code = HULL_POINT, s->nearest.x = p.x, s->nearest.y = p.y, s->squared = d;
+    }
+}
+
+/* Looks through the held points whose x is no farther than that. */
+static void looks(const hull_set *h, struct search *s, int64_t wide) {
+    const int64_t far = HULL_COORDINATE_MAX;
+    const int64_t right = s->x > far - wide ? far : s->x + wide;
+    hull_point from = {s->x < wide - far ? -far : s->x - wide, -far};
+    hull_held some[AT_ONCE];
+    hull_reply told = {.number = AT_ONCE};
+    memset(some, 0, sizeof some);
+    while (told.number == AT_ONCE && from.x <= right) {
+        told = hull_held_from(h, from.x, from.y, some, AT_ONCE);
+        if (told.code != HULL_NUMBER) {
+            s->code = told.code;
+            return;
+        }
+        for (size_t i = 0; i < told.number && some[i].x <= right; i++) {
+            meets(s, some[i]);
+        }
+        from = hull_held_behind(some[AT_ONCE - 1]);
+    }
+}
+
+hull_reply hull_nearest_held(const hull_set *h, int64_t x, int64_t y) {
+    const int64_t far = HULL_COORDINATE_MAX;
+    struct search s = {x, y, HULL_EMPTY, {0, 0}, 0};
+    hull_reply reply = hull_refusal(HULL_OUT_OF_RANGE);
+    int64_t wide = 1;
+    if (x < -far || x > far || y < -far || y > far) {
+        return reply;
+    }
+    looks(h, &s, wide);
+    while (s.code == HULL_EMPTY && wide < 2 * far) {
+        wide *= 4;
+        looks(h, &s, wide < 2 * far ? wide : 2 * far);
+    }
+    if (s.code == HULL_POINT && s.squared > squared(wide)) {
+        for (wide = 2 * far; squared(wide / 2) >= s.squared;) {
+            wide /= 2;
+        }
+        looks(h, &s, wide);
+    }
+    reply.code = s.code;
+    if (s.code == HULL_POINT) {
+        reply.x = s.nearest.x, reply.y = s.nearest.y;
+        reply.number = (uint64_t)s.squared, reply.high = (uint64_t)(s.squared >> 64);
+    }
+    return reply;
+}
