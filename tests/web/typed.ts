@@ -1,6 +1,7 @@
 // What the types let through: the README's first example and one call of each kind.
 import { HullError, load, type Fraction, type Held, type Hull, type Outline, type Place, type Point, type Relation, type Tangents } from "hullbook";
 import { directionOf, fromFloats, wkt } from "hullbook/exchange.js";
+import { firstMeeting, indices, meetsSegments, moved, nearestHeld, pairsWithin, relations, turned } from "hullbook/many.js";
 import { Replay, joinJournals, journalText, judge, readJournal } from "hullbook/journal.js";
 
 export async function first(): Promise<Point[]> {
@@ -23,6 +24,11 @@ export function asked(hull: Hull, outline: Outline): (Fraction | Held | Tangents
     const [ours] = outline.distance(outline) ?? [];
     const times: Uint32Array = hull.addAll([[1, 2]]), left: number | null = hull.remove(1, 2);
     return [outline.squaredDistance(outline), hull.held()[times[0]], seen, seen?.left, ours?.[left ?? 0], hull.extreme(...directionOf(0.1, 0.2)), outline.witness(outline)?.points[0]];
+}
+
+export function many(hull: Hull, all: Outline[]): (number | bigint | boolean | Point | Relation | undefined | null)[] {
+    const pairs: [number, number][] = pairsWithin(all, 3, 2), met = firstMeeting(all[0], all[1], 3, 4), near = nearestHeld(hull, 1, 2);
+    return [pairs[0][1], relations(all[0], all)[0], meetsSegments(all[0], [[0, 0, 1, 1]])[0], indices(all[0], [[1, 2]])[0], met?.part.numerator, met?.corner, moved(all[0], 1, 2)[0], turned(all[0], 3, 4)[0], near?.squared];
 }
 
 export function stands(ours: Outline, theirs: Outline): Relation | null {

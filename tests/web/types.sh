@@ -6,7 +6,7 @@ here=$(cd "$(dirname "$0")" && pwd)
 . "$here/../lib.sh"
 web=$here/../../web
 mkdir -p "$room/node_modules/hullbook"
-cp "$web"/package.json "$web"/*.d.ts "$web"/hull.js "$web"/heap.js "$web"/journal.js "$web"/exchange.js "$room/node_modules/hullbook"
+cp "$web"/package.json "$web"/*.d.ts "$web"/hull.js "$web"/heap.js "$web"/journal.js "$web"/exchange.js "$web"/many.js "$room/node_modules/hullbook"
 cp "$here/typed.ts" "$here/mistyped.ts" "$room"
 echo '{"type": "module"}' >"$room/package.json"
 cd "$room" || exit 1

@@ -1,15 +1,16 @@
 // What stands below the page, in Node: texts of points, doubles, deeds and what takes them back, parts of journals, and colors.
 import { strict as assert } from "node:assert";
 import { readFileSync } from "node:fs";
-import { OutOfRange, load } from "../../web/hull.js";
+import { OutOfRange, ZeroDirection, load } from "../../web/hull.js";
 import { directionOf, fromFloat, fromFloats, toFloat, wkt } from "../../web/exchange.js";
+import { firstMeeting, indices, meetsSegments, moved, nearestHeld, pairsWithin, relations, turned } from "../../web/many.js";
 import { Replay, TextError, emptyJournal, joinJournals, journalText, readJournal } from "../../web/journal.js";
 import { addressOf, callsOf, kindOf, powerFor, readAddress, readRows, writeRows } from "../../web/texts.js";
 import { Work } from "../../web/work.js";
 import { random_of } from "./plain.mjs";
 
 const web = (name) => new URL(`../../web/${name}`, import.meta.url);
-const { Hull } = await load(web(`out/${process.env.MODULE ?? "hull.wasm"}`));
+const { Hull, Outline } = await load(web(`out/${process.env.MODULE ?? "hull.wasm"}`));
 
 let passed = 0, failed = 0;
 async function tried(name, run) {
@@ -22,6 +23,52 @@ async function tried(name, run) {
         console.log(`${name}: FAILED, ${String(error.stack).split("\n").slice(0, 10).join(" ")}`);
     }
 }
+
+await tried("many outlines, and outlines that move", () => {
+    const chance = random_of(5), whole = (most) => chance(2 * most + 1) - most;
+    let hits = 0, near = 0;
+    for (let trial = 0; trial < 30; trial++) {
+        const points = (count, size) => {
+            const x = whole(20), y = whole(20);
+            return Array.from({ length: count }, () => [x + whole(size), y + whole(size)]);
+        };
+        const inputs = Array.from({ length: 12 }, (_, k) => points(k % 6, 1 + (k % 3) * 3)), all = inputs.map((input) => Outline.of(input));
+        for (const [numerator, denominator] of [[0, 1], [5, 2], [9, 1], [2 ** 53 - 1, 1]]) {
+            const pairs = [];
+            for (let i = 0; i < 12; i++) for (let j = i + 1; j < 12; j++) if (all[i].within(all[j], numerator, denominator)) pairs.push([i, j]);
+            assert.deepEqual(pairsWithin(all, numerator, denominator), pairs);
+            near += pairs.length;
+        }
+        assert.deepEqual(relations(all[1], all), all.map((other) => all[1].relation(other)));
+        const ways = Array.from({ length: 20 }, () => [whole(40), whole(40), whole(40), whole(40)]);
+        assert.deepEqual(meetsSegments(all[5], ways), ways.map((way) => all[5].meetsSegment(...way)));
+        assert.deepEqual(indices(all[5], inputs[5]).map((at) => inputs[5][at]), all[5].vertices());
+        const [dx, dy] = [whole(60), whole(60)], met = firstMeeting(all[5], all[4], dx, dy);
+        const meet = (part, parts) => {
+            const large = (outline, x, y) => new Outline(outline.vertices().map(([a, b]) => [a * parts + part * x, b * parts + part * y]));
+            return large(all[5], 0, 0).meets(large(all[4], dx, dy));
+        };
+        const [part, parts] = met ? [Number(met.part.numerator), Number(met.part.denominator)] : [61, 60];
+        for (let k = 0; k <= 60; k++) if (k * parts < part * 60) assert.ok(!meet(k, 60), `${k} of 60`);
+        if (met) assert.ok(meet(part, parts));
+        hits += met && met.corner ? 1 : 0;
+        assert.deepEqual(new Outline(moved(all[5], 7, -3)).vertices(), all[5].vertices().map(([x, y]) => [x + 7, y - 3]));
+        assert.equal(new Outline(turned(all[5], 3, -4)).doubledArea(), 25n * all[5].doubledArea());
+        const hull = new Hull();
+        hull.addAll(inputs[5]);
+        const least = Math.min(...inputs[5].map(([x, y]) => (x - 1) ** 2 + (y - 2) ** 2));
+        assert.equal(nearestHeld(hull, 1, 2).squared, BigInt(least));
+        hull.free();
+        all.forEach((outline) => outline.free());
+    }
+    assert.ok(hits > 3 && near > 100);
+    const far = Outline.of([[2 ** 40, 0]]);
+    assert.throws(() => moved(far, 1, 0), OutOfRange);
+    assert.throws(() => turned(far, 3, 4), OutOfRange);
+    assert.throws(() => turned(far, 0, 0), ZeroDirection);
+    assert.deepEqual([nearestHeld(new Hull(), 0, 0), firstMeeting(far, Outline.of([]), 1, 1), pairsWithin([])], [null, null, []]);
+    return `${near} pairs, ${hits} meetings`;
+});
 
 await tried("doubles to the lattice, as the table of all languages has them", () => {
     let rows = 0;

@@ -1,0 +1,95 @@
+// Many outlines at once, and outlines that move: loops over what hull.js asks of one or of two.
+import { COORDINATE_LIMIT, OutOfRange, ZeroDirection } from "./hull.js";
+
+/** How the outline stands to each of the others, in their order. */
+export function relations(outline, others) {
+    return Array.from(others, (other) => outline.relation(other));
+}
+
+/** Whether the outline meets each of the segments [ax, ay, bx, by], in their order. */
+export function meetsSegments(outline, segments) {
+    return Array.from(segments, ([ax, ay, bx, by]) => outline.meetsSegment(ax, ay, bx, by));
+}
+
+/** The pairs [i, j], i < j, of outlines that are no farther apart than numerator / denominator, exactly; with 0, that have a point in
+ * common. By a sweep over their boxes. */
+export function pairsWithin(outlines, numerator = 0, denominator = 1) {
+    const boxes = [], pairs = [], length = Math.ceil(numerator / denominator) + (numerator > 2 ** 50 ? 1 : 0);
+    outlines.forEach((outline, at) => {
+        const box = outline.boundingBox();
+        if (box) boxes.push({ at, left: box[0][0], right: box[1][0], bottom: box[0][1], top: box[1][1] });
+    });
+    boxes.sort((a, b) => a.left - b.left || a.at - b.at);
+    boxes.forEach((box, k) => {
+        for (let j = k + 1; j < boxes.length && boxes[j].left - box.right <= length; j++) {
+            const other = boxes[j];
+            if (other.bottom - box.top > length || box.bottom - other.top > length) continue;
+            if (outlines[box.at].within(outlines[other.at], numerator, denominator)) pairs.push([box.at, other.at].sort((a, b) => a - b));
+        }
+    });
+    return pairs.sort(([a, b], [c, d]) => a - c || b - d);
+}
+
+/** For each corner the place of the first of the points that is there; -1 where none is. */
+export function indices(outline, points) {
+    const places = new Map();
+    Array.from(points).forEach(([x, y], place) => {
+        const name = `${x} ${y}`;
+        if (!places.has(name)) places.set(name, place);
+    });
+    return outline.vertices().map(([x, y]) => places.get(`${x} ${y}`) ?? -1);
+}
+
+const isSooner = (one, other) => one.numerator * other.denominator < other.numerator * one.denominator;
+
+/** The soonest of the hits of corners that go this way to an outline, as far as it leads, and of one found before. */
+function soonest(found, outline, corners, dx, dy, moves) {
+    for (const corner of corners) {
+        const hit = outline.castRay(...corner, dx, dy);
+        if (hit && hit.part.numerator <= hit.part.denominator && (!found || isSooner(hit.part, found.part))) {
+            found = { part: hit.part, points: hit.points, corner, moves };
+        }
+    }
+    return found;
+}
+
+/** When an outline that moves straight by (dx, dy) first meets one that stands; null where they don't meet. Two convex shapes first meet at
+ * a corner of one of them. */
+export function firstMeeting(standing, moving, dx, dy) {
+    if (standing.meets(moving)) return { part: { numerator: 0n, denominator: 1n }, points: [], corner: null, moves: false };
+    if (dx === 0 && dy === 0) return null;
+    const found = soonest(null, standing, moving.vertices(), dx, dy, true);
+    return soonest(found, moving, standing.vertices(), -dx, -dy, false);
+}
+
+/** Whole numbers as points, all in range. */
+function placed(corners) {
+    if (!corners.flat().every((coordinate) => Math.abs(coordinate) <= COORDINATE_LIMIT)) throw new OutOfRange("a coordinate is out of range");
+    return corners;
+}
+
+/** The corners of the outline moved by (dx, dy), of which another one can be made. OutOfRange. */
+export function moved(outline, dx, dy) {
+    return placed(outline.vertices().map(([x, y]) => [x + dx, y + dy]));
+}
+
+/** The corners of the outline turned about (0, 0) by the angle of (a, b), and magnified by its length. OutOfRange, ZeroDirection. */
+export function turned(outline, a, b) {
+    if (a === 0 && b === 0) throw new ZeroDirection("a direction is zero");
+    const [c, s] = [BigInt(a), BigInt(b)];
+    const corners = outline.vertices().map(([x, y]) => [BigInt(x), BigInt(y)]).map(([x, y]) => [Number(c * x - s * y), Number(s * x + c * y)]);
+    const isBefore = ([x, y], [u, v]) => x < u || (x === u && y < v);
+    const from = corners.reduce((least, corner, at) => (isBefore(corner, corners[least]) ? at : least), 0);
+    return placed([...corners.slice(from), ...corners.slice(0, from)]);
+}
+
+/** The held point nearest to (x, y), of several the first by x and then y, and the square of how far it is; null where none is held. One look
+ * at each held point. */
+export function nearestHeld(hull, x, y) {
+    let found = null;
+    for (const { point } of hull.held()) {
+        const [dx, dy] = [BigInt(point[0] - x), BigInt(point[1] - y)], squared = dx * dx + dy * dy;
+        if (!found || squared < found.squared) found = { point, squared };
+    }
+    return found;
+}
