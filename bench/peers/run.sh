@@ -1,7 +1,8 @@
 #!/bin/sh
 # This library in C++ beside its peers, in one process, in turns: changes beside CGAL's Delaunay hierarchy and corners kept in an
-# array, and what a set that stands is asked beside sort and chain, CGAL, GEOS and Boost. Wants c++ and the headers of the peers
-# (Debian: libcgal-dev libgeos-dev libboost-dev), and says so where they are not there.
+# array, what a set that stands is asked beside sort and chain, CGAL, GEOS and Boost, shapes two at a time beside Box2D and libccd, and
+# which input a corner is beside SciPy. Wants c++ and the headers of the peers (Debian: libcgal-dev libgeos-dev libboost-dev libbox2d-dev
+# libccd-dev python3-scipy), and says so where they are not there.
 #
 # run.sh [ROUNDS]: the least of so many rounds (3 where none is given)
 set -eu
@@ -25,6 +26,19 @@ for points in 1000 10000; do
 done
 c++ -std=c++17 -O2 -I"$room/include" "$here/memory.cpp" -L"$room/lib" -lhull -o "$room/memory"
 "$room/memory" 1000000
+if printf '%s\n' '#include <box2d/box2d.h>' '#include <ccd/ccd.h>' | c++ -fsyntax-only -x c++ - 2>/dev/null; then
+    c++ -std=c++17 -O2 -I"$room/include" "$here/shapes.cpp" -L"$room/lib" -lhull -lbox2d -lccd -o "$room/shapes"
+    "$room/shapes" 4 "${1:-3}"
+    "$room/shapes" 8 "${1:-3}"
+else
+    echo 'skipped: shapes two at a time, since there are no headers of Box2D and libccd'
+fi
+python=$(command -v /usr/bin/python3 || command -v python3 || :)
+if [ -n "$python" ] && "$python" -c 'import scipy' 2>/dev/null; then
+    PYTHONPATH=$room/lib/hull "$python" "$here/indices.py" "${1:-3}"
+else
+    echo 'skipped: which input a corner is, since there is no SciPy'
+fi
 if ! printf '%s\n' '#include <boost/geometry.hpp>' '#include <geos_c.h>' | c++ -fsyntax-only -x c++ - 2>/dev/null; then
     echo 'skipped: a set that stands, since there are no headers of GEOS and Boost'
     exit 0
