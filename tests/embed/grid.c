@@ -1,9 +1,9 @@
-/* All outlines of a grid of 4 by 4 points beside each other: how they stand, which holds which, how far apart they are, and those of
- * one corner or two as segments, too; beside answers by all corners and edges, in fractions, with nothing of the library.
+/* All outlines of a grid of 4 by 4 points beside each other: how they stand, which holds which, how far apart they are, those of
+ * one corner or two as segments, too, and when they meet where the second one comes from beside the first; beside answers by all corners and edges, in fractions, with nothing of the library.
  * grid SHARE: of the pairs each SHARE-th, so all of them where it is 1. Prints how many pairs stand how, and what is wrong. */
 #include "outlines.h"
 
-static uint64_t pairs, stand[6];
+static uint64_t pairs, met, stand[6];
 
 static void check(int truth, const char *question, const outline *s, const outline *t) {
     if (truth || wrong++ > 9) {
@@ -31,9 +31,15 @@ static size_t placed(const outline *s, const outline *t, int where) {
     return found;
 }
 
+/* whether c and d lie on two sides of the line from a to b */
+static int parts(hull_point a, hull_point b, hull_point c, hull_point d) {
+    const int64_t one = side(a, b, c), other = side(a, b, d);
+    return (one < 0 && other > 0) || (one > 0 && other < 0);
+}
+
 /* whether the segments from a to b and from c to d cross between their ends */
 static int cross(hull_point a, hull_point b, hull_point c, hull_point d) {
-    return side(a, b, c) * side(a, b, d) < 0 && side(c, d, a) * side(c, d, b) < 0;
+    return parts(a, b, c, d) && parts(c, d, a, b);
 }
 
 static int meet(const outline *s, const outline *t) {
@@ -140,6 +146,54 @@ static void check_segment(const outline *s, const outline *t, hull_relation how,
     }
 }
 
+/* an outline k times as large, moved by a vector */
+static outline scaled(const outline *s, int64_t k, int64_t dx, int64_t dy) {
+    outline o = {.count = s->count};
+    for (size_t i = 0; i < s->count; i++) {
+        o.at[i] = (hull_point){k * s->at[i].x + dx, k * s->at[i].y + dy};
+    }
+    return o;
+}
+
+/* whether the two meet when the second has gone so much of its way */
+static int meet_at(const outline *s, const outline *t, int64_t dx, int64_t dy, fraction part) {
+    const outline large = scaled(s, part.under, 0, 0), moved = scaled(t, part.under, part.over * dx, part.over * dy);
+    return meet(&large, &moved);
+}
+
+/* the second outline from beside the first, straight to it or past it, by the number of the pair: they meet at the moment that is told, and
+ * not at one that is earlier by less than any two moments of such outlines differ; where none is told, at no twelfth of the way */
+static void check_motion(const outline *s, const outline *t) {
+    const int64_t dx = -1 - (int64_t)(pairs % 9), dy = (int64_t)(pairs / 9 % 7) - 3, beside = 4 + (int64_t)(pairs % 3);
+    outline from = {.count = t->count};
+    const hull_reply placed = hull_outline_moved(t->at, t->count, beside, dy % 2, from.at);
+    const hull_motion m = hull_outline_first_meeting(s->at, s->count, from.at, from.count, dx, dy);
+    const fraction part = {(int64_t)m.hit.low, (int64_t)m.hit.divisor_low};
+    check(placed.code == HULL_CORNERS && m.hit.code != HULL_COVERED && m.hit.high == 0 && m.hit.divisor_high == 0, "moved", s, t);
+    if (m.hit.code == HULL_APART) {
+        for (int64_t k = 0; k <= 12; k++) {
+            check(!meet_at(s, &from, dx, dy, (fraction){k, 12}), "no meeting", s, &from);
+        }
+        return;
+    }
+    check(part.over <= part.under && meet_at(s, &from, dx, dy, part), "meeting", s, &from);
+    check(!meet_at(s, &from, dx, dy, (fraction){part.over * 1000 - 1, part.under * 1000}), "earlier", s, &from);
+    met++;
+}
+
+/* the two among many, and among none */
+static void check_many(const outline *s, const outline *t, hull_relation how, fraction length, int within) {
+    const hull_corners all[] = {{t->at, t->count}, {NULL, 0}, {s->at, s->count}};
+    hull_pair found[1];
+    uint8_t relations[3];
+    const hull_reply near = hull_pairs_within(all, 3, (uint64_t)length.over, (uint32_t)length.under, found, 1);
+    const hull_reply touch = hull_pairs_within(all, 3, 0, 1, found, 1);
+    check(tells(near, (uint64_t)within) && tells(touch, how != HULL_RELATION_APART), "pairs_within", s, t);
+    check(touch.number == 0 || (found[0].first == 0 && found[0].second == 2), "the pair", s, t);
+    hull_outline_relations(s->at, s->count, all, 3, relations);
+    check(relations[0] == how && relations[1] == HULL_RELATION_COVERS && relations[2] == HULL_RELATION_EQUAL, "relations", s, t);
+}
+
 static void check_pair(const outline *s, const outline *t) {
     static fraction last = {0, 1};
     static hull_clearance told_last;
@@ -160,6 +214,8 @@ static void check_pair(const outline *s, const outline *t) {
     if (t->count <= 2) {
         check_segment(s, t, how, squared, length);
     }
+    check_many(s, t, how, length, within);
+    check_motion(s, t);
     stand[how]++;
     told_last = told, last = squared;
     pairs++;
@@ -172,6 +228,7 @@ int main(int words, char **word) {
         check_pair(&outlines[pair / made], &outlines[pair % made]);
     }
     printf("%zu outlines, %" PRIu64 " pairs: %" PRIu64 " apart, %" PRIu64 " touching, %" PRIu64 " overlapping, %" PRIu64 " within, %" PRIu64
-           " covering, %" PRIu64 " equal; %" PRIu64 " wrong\n", made, pairs, stand[0], stand[1], stand[2], stand[3], stand[4], stand[5], wrong);
-    return wrong > 0;
+           " covering, %" PRIu64 " equal, %" PRIu64 " met; %" PRIu64 " wrong\n", made, pairs, stand[0], stand[1], stand[2], stand[3], stand[4], stand[5], met,
+           wrong);
+    return wrong > 0 || met < pairs / 4;
 }
