@@ -273,6 +273,7 @@ in_python() {
     replays Python python "$here/replay.py"
     attempt "2000 pairs of outlines by chance, by all corners and edges" python "$here/random_outlines.py" 2000 1
     attempt "2000 rays and segments by chance, by all edges" python "$here/random_casts.py" 2000 1
+    attempt "2000 motions by chance, by all differences of corners" python "$here/random_motions.py" 2000 1
     attempt "libhull.so slowed down compiles" slowed hull
     attempt "libhull_shared.so slowed down compiles" slowed hull_shared -DSHARED
     attempt "calls on one hull from several threads wait for each other" python_slowed "$here/hull_tests.py" Locks
