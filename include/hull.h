@@ -528,7 +528,7 @@ static inline hull_witness hull_outline_witness_or_null(const hull_point *corner
 #define hull_outline_witness hull_outline_witness_or_null
 
 /* Many outlines at once, each by where its corners lie and how many they are. These calls are C over the ones above (archive/pairs.c),
- * which is tested.
+ * which is tested; a build with HULL_CHECKED looks at none of their arrays, nor of those that move and turn outlines.
  *
  * Which outlines are no farther apart than numerator / denominator, exactly as hull_outline_within tells it of two; with 0 / 1, which have
  * a point in common. The pairs (first, second), of places with first < second, are written to `out` in their order: HULL_NUMBER with how
