@@ -5,7 +5,8 @@
 # all of them inside the door, also with threads held up between the steps of waiting, whose journal `bin/hullbook check`
 # judges, eight of which one takes the lines out, and eight that keep none, up to 64 at desks of few lines that drain by
 # themselves, every code, each request for memory refused in turn, what a call in a line promises but its answer (waits.c), every
-# order of the steps of the door (door_model.c), views of readers beside them (readers.c), files of journals whose process is killed (kills.c), a service of 64 threads that is
+# order of the steps of the door (door_model.c) and of views (views_model.c), views of 60 readers beside calls (readers.c), files of
+# journals whose process is killed (kills.c), a service of 64 threads that is
 # killed and taken up again (service.c), and wake-ups out of order (wakeups.sh). The gate runs it. What is missing here (a
 # compiler, python3, valgrind) is told and skipped, and counts nothing. The last line counts, and the status is not 0 where
 # something failed. With a number, that many calls a thread; with a second one, so many kills (150).
@@ -186,6 +187,16 @@ readings() {
     read_by 8 2 $((calls / 5))
     build_slow "$here/readers.c" -lhull
     read_by 4 60 $((calls / 50))
+    build "$here/views_model.c"
+    for words in "2 4 4 2" "3 5 2 1" "1 3 5 3"; do
+        # shellcheck disable=SC2086 # the words stand apart by spaces
+        "$room/views_model" $words >"$room/told"
+        count "every order of the steps of publishing and reading: $(cat "$room/told")" $?
+    done
+    for fault in $(seq 11); do
+        "$room/views_model" 2 4 4 2 "$fault" >"$room/told"
+        count "a fault of views is found: $(sed 's/.*fault \(.*\): .* views, /\1: /' "$room/told")" $?
+    done
 }
 
 # what calls in a line promise but their answers
