@@ -1,8 +1,9 @@
 //! Sets that list their corners where these are few.
-ghost use Rattle.std.specs.Prelude.{◌≤◌, ◌<◌, List, length, vec_len, IfOk, IfSome, IfNone};
-ghost use Rattle.lattice.specs.Plane.{Pair};
+ghost use Rattle.std.specs.Prelude.{◌≤◌, vec_len, IfOk, IfSome, IfNone};
 ghost use Rattle.lattice.specs.Vertices.{IsVertexList};
+ghost use Rattle.hull_questions.specs.Walks.{IsLongerThan};
 
+use bucket_tree::BucketTree;
 use heap::Heap;
 use hull_set::{HullSet, NoMemory};
 use lattice::Point;
@@ -15,6 +16,11 @@ pub trait ListsCorners: HullSet {
         ensures vertices { IfOk result (λ found.
             IfSome found (λ v. IsVertexList (Self.held self.now).points v.items)) }
         ensures few { IfOk result (λ found. IfSome found (λ v. vec_len v ≤ most)) }
-        ensures more { IfOk result (λ found. IfNone found ((V : List Pair) → IsVertexList (Self.held self.now).points V
-            → most < length V)) };
+        ensures more { IfOk result (λ found. IfNone found (IsLongerThan most (Self.held self.now).points)) };
+}
+
+impl ListsCorners for BucketTree {
+    fn vertices_up_to(&self, most: usize) -> Result<Option<Vec<Point, Heap>>, NoMemory> {
+        BucketTree::vertices_up_to(self, most)
+    }
 }

@@ -1,5 +1,6 @@
 //! The set.
-ghost use Rattle.std.specs.Prelude.{◌≡◌};
+ghost use Rattle.std.specs.Prelude.{◌≡◌, IfSome};
+ghost use Rattle.hull_outline.specs.Outlines.{IsOutlineOf};
 
 use super::corners::Corners;
 use super::gathering::ListsCorners;
@@ -42,6 +43,16 @@ impl<S: HullSet + Drop> Settled<S> {
         ensures { result.now ≡ self.now }
     {
         &self.set
+    }
+
+    /// Its corners, counterclockwise from the first by x and then y, where they are known.
+    pub fn corners(&self) -> Option<&[Point]>
+        ensures { IfSome result (λ corners. IsOutlineOf (S.held self.now).points corners.now) }
+    {
+        match &self.corners {
+            Corners::Known(kept) => Some(kept.outline().corners()),
+            Corners::Unknown(_) => None,
+        }
     }
 }
 
