@@ -114,6 +114,8 @@ in_c() {
     replays C "$room/replay"
     try "full.c compiles" compile full
     try "as many points as there may be" "$room/full"
+    try "settled.c compiles" compile settled -Wl,--wrap=malloc,--wrap=realloc
+    try "settled hulls answer as others do" "$room/settled"
     try "refusals.c compiles" compile refusals -Wl,--wrap=malloc,--wrap=realloc,--wrap=free
     try "each request for memory refused in turn" "$room/refusals"
     if echo '#include <ccd/ccd.h>' | cc -E - >/dev/null 2>&1; then
