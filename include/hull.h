@@ -85,6 +85,12 @@ static inline void hull_free(hull_set *h) {
     }
 }
 
+/* Counts a question to come, which changes no answer. A hull whose corners are known answers from their array, in a fraction of the
+ * time: they are gathered once the questions that were counted are as many as an eighth of them, and stay known while changes leave
+ * them as they are, as most do. HULL_NUMBER: how many corners are known, 0 where none are. It asks for memory, and where that is
+ * refused nothing is known. hull_calls counts each place, tangents, extreme and area of its requests. */
+hull_reply hull_settle(hull_set *h);
+
 /* Makes a call by its kind (hull_kind), with the point or the direction (x, y): what the functions below do that have a kind's
  * name; HULL_UNKNOWN_KIND where no kind has the number. Only of HULL_KIND_ADD and HULL_KIND_VERTICES memory is asked for. */
 hull_reply hull_call(hull_set *h, uint32_t kind, int64_t x, int64_t y);

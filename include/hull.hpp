@@ -908,19 +908,19 @@ public:
         return told::all<std::optional<Point>>(HULL_KIND_EXTREME, directions, serve(), told::extreme);
     }
 
-    Place place(Point p) const { return told::place(hull_place(alive(), p.x, p.y)); }
+    Place place(Point p) const { return told::place(hull_place(counted(), p.x, p.y)); }
 
     // The tangent points seen from a point, of several on one line the farthest; none where there is no point, or the hull
     // covers the one asked about.
-    std::optional<Tangents> tangents(Point p) const { return told::tangents(hull_tangents(alive(), p.x, p.y)); }
+    std::optional<Tangents> tangents(Point p) const { return told::tangents(hull_tangents(counted(), p.x, p.y)); }
 
     // The point that lies farthest in a direction, of several the first by x and then by y; none where there is none.
     std::optional<Point> extreme(Point direction) const {
-        return told::extreme(hull_extreme(alive(), direction.x, direction.y));
+        return told::extreme(hull_extreme(counted(), direction.x, direction.y));
     }
 
     // The same in a direction of two doubles, as Outline::extreme_d.
-    std::optional<Point> extreme_d(double dx, double dy) const { return told::extreme(hull_extreme_d(alive(), dx, dy)); }
+    std::optional<Point> extreme_d(double dx, double dy) const { return told::extreme(hull_extreme_d(counted(), dx, dy)); }
 
     // How often a point is held: 0 where it is not there.
     std::uint32_t multiplicity(Point p) const {
@@ -936,7 +936,7 @@ public:
     Outline outline() const { return Outline(vertices()); }
 
     // Twice the area, 0 for a point and a line.
-    Area doubled_area() const { return told::number(hull_area(alive())); }
+    Area doubled_area() const { return told::number(hull_area(counted())); }
 
     // How many different points there are.
     std::size_t size() const { return static_cast<std::size_t>(hull_count(alive()).number); }
@@ -955,6 +955,12 @@ private:
             told::fault(HULL_ENDED);
         }
         return at_.get();
+    }
+    // The hull, of which a question is asked: see hull_settle.
+    hull_set *counted() const {
+        hull_set *const h = alive();
+        hull_settle(h);
+        return h;
     }
     static void check(const std::vector<Point> &points) {
         for (const Point &p : points) {

@@ -27,8 +27,16 @@ void hull_python_free(hull_python *h) {
     }
 }
 
+/* A call; a question that the corners answer is counted before. */
+static hull_reply hull_counted_call(hull_set *h, uint32_t kind, int64_t x, int64_t y) {
+    if (kind >= HULL_KIND_PLACE && kind <= HULL_KIND_AREA && kind != HULL_KIND_VERTICES) {
+        hull_settle(h);
+    }
+    return hull_call(h, kind, x, y);
+}
+
 hull_reply hull_python_call(hull_python *h, uint32_t kind, int64_t x, int64_t y) {
-    HULL_REPLY_OF(h, hull_call(h->hull, kind, x, y));
+    HULL_REPLY_OF(h, hull_counted_call(h->hull, kind, x, y));
 }
 
 /* How many replies were written; SIZE_MAX where the hull is ended. */

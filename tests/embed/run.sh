@@ -76,6 +76,8 @@ in_c() {
     replays C "$room/replay"
     attempt "full.c compiles" compile full
     attempt "as many points as there may be" "$room/full"
+    attempt "settled.c compiles" compile settled -Wl,--wrap=malloc,--wrap=realloc
+    attempt "settled hulls answer as others do" "$room/settled"
     attempt "refusals.c compiles" compile refusals -Wl,--wrap=malloc,--wrap=realloc,--wrap=free
     attempt "each request for memory refused in turn" "$room/refusals"
     if echo '#include <ccd/ccd.h>' | cc -E - >/dev/null 2>&1; then

@@ -1,4 +1,6 @@
 //! The set.
+mod few_vertices;
+
 ghost use Rattle.std.specs.Prelude.{◌≡◌, ◌≢◌, ◌≤◌, ◌<◌, ◌+◌, ◌↔◌, None, IsTrue, true, false, length, IfOk, IfErr, Err};
 ghost use Rattle.lattice.specs.Plane.{Pair};
 ghost use Rattle.hull_set.specs.Held.{times_among, nothing_held, with_new, with_none};

@@ -1,5 +1,5 @@
 -- What the calls on a hull come to that are its own.
-use Rattle.std.specs.Prelude.{◌≡◌, ◌⊎◌, ◌≢◌, ◌≤◌, ℕ, List, []}
+use Rattle.std.specs.Prelude.{◌≡◌, ◌⊎◌, ◌≢◌, ◌≤◌, ℕ, List, [], length}
 use Rattle.lattice.specs.Plane.{Pair}
 use Rattle.lattice.specs.Vertices.{IsVertexList}
 use Rattle.hull_set.specs.Held.{nothing_held}
@@ -35,3 +35,10 @@ AreCorners old new before after told =
     × (((corners : List Pair) × IsVertexList (held_by old.root).points corners
     × TellsCorners corners before after told)
     ⊎ (((held_by old.root).points ≢ []) × (after ≡ before) × IsBare code.NoMemory told))
+
+-- nothing changed; the number of the corners was told, or 0
+abbrev pub IsSettled : LimitedTree → LimitedTree → HullReply → Type 0
+IsSettled old new told =
+    (new ≡ old)
+    × ((number : ℕ) × IsNumber code.Number number told
+    × ((number ≡ 0) ⊎ ((corners : List Pair) × IsVertexList (held_by old.root).points corners × (number ≡ length corners))))

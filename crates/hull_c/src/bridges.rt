@@ -2,7 +2,8 @@
 ghost use Rattle.std.specs.Prelude.{◌≡◌, ◌≤◌, ◌++◌, length, drop};
 ghost use Rattle.hull_c.specs.Bridges.{AreBridges, TellsBridges};
 
-use bucket_tree::{BucketTree, bucket_trees_are_sound};
+use super::hull::Hull;
+use bucket_tree::bucket_trees_are_sound;
 use hull_reply::{Code, HullPoint, HullReply};
 use leaf_trees::Bridge;
 use std::marker::Model;
@@ -81,11 +82,12 @@ fn put_bridges(bridges: &[Bridge], out: &mut [HullBridge]) -> HullReply
 }
 
 /// Writes the bridges that the forks of a level store.
-pub(crate) fn bridges(hull: &mut BucketTree, level: u32, out: &mut [HullBridge]) -> HullReply
+pub(crate) fn bridges(hull: &mut Hull, level: u32, out: &mut [HullBridge]) -> HullReply
     ensures { AreBridges hull.old hull.new level out.old out.new result }
 {
-    bucket_trees_are_sound(hull);
-    let Ok(bridges) = hull.bridges_at(level) else {
+    let tree = hull.tree();
+    bucket_trees_are_sound(tree);
+    let Ok(bridges) = tree.bridges_at(level) else {
         return HullReply::bare(Code::NoMemory);
     };
     put_bridges(&bridges, out)

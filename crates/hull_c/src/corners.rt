@@ -1,15 +1,15 @@
 //! The corners of a hull, in an array of the caller's.
 ghost use Rattle.hull_c.specs.Calls.{AreCorners};
 
-use bucket_tree::BucketTree;
+use super::hull::Hull;
 use hull_reply::{Code, HullPoint, HullReply, put_corners};
 use hull_set::HullSet;
 
 /// Writes the corners of the hull to the front of the array, if it has room for all of them.
-pub(crate) fn vertices(hull: &mut BucketTree, out: &mut [HullPoint]) -> HullReply
+pub(crate) fn vertices(hull: &mut Hull, out: &mut [HullPoint]) -> HullReply
     ensures { AreCorners hull.old hull.new out.old out.new result }
 {
-    let Ok(corners) = hull.vertices() else {
+    let Ok(corners) = hull.set.vertices() else {
         return HullReply::bare(Code::NoMemory);
     };
     put_corners(&corners, out)

@@ -7,10 +7,11 @@ ghost use Rattle.leaf_trees.specs.Entries.{AreEntries, points_listed};
 ghost use Rattle.hull_reply.specs.Told.{IsBare};
 ghost use Rattle.hull_c.specs.Held.{AreLoaded, HoldsListed, IsEntry, IsListed, IsWritten};
 
+use super::hull::Hull;
 use bucket_tree::{BucketTree, bucket_trees_are_sound};
 use heap::Heap;
 use hull_reply::{Code, HullReply, point_of};
-use hull_set::{HullSet, MULTIPLICITY_LIMIT};
+use hull_set::MULTIPLICITY_LIMIT;
 use lattice::Point;
 use std::marker::Model;
 
@@ -61,11 +62,12 @@ fn write_entries(entries: &[(Point, u32)], out: &mut [HullHeld])
 }
 
 /// Writes the points from a start on, in order, until the array is full, and tells how many they are.
-fn list_from(hull: &BucketTree, start: Point, out: &mut [HullHeld]) -> HullReply
+fn list_from(hull: &Hull, start: Point, out: &mut [HullHeld]) -> HullReply
     ensures { IsWritten hull.now start out.old out.new result }
 {
-    bucket_trees_are_sound(hull);
-    let Ok(entries) = hull.entries_from(start, out.len()) else {
+    let tree = hull.tree();
+    bucket_trees_are_sound(tree);
+    let Ok(entries) = tree.entries_from(start, out.len()) else {
         return HullReply::bare(Code::NoMemory);
     };
     write_entries(&entries, out);
@@ -73,7 +75,7 @@ fn list_from(hull: &BucketTree, start: Point, out: &mut [HullHeld]) -> HullReply
 }
 
 /// The same from a start that two numbers are.
-pub(crate) fn list(hull: &mut BucketTree, x: i64, y: i64, out: &mut [HullHeld]) -> HullReply
+pub(crate) fn list(hull: &mut Hull, x: i64, y: i64, out: &mut [HullHeld]) -> HullReply
     ensures { IsListed hull.old hull.new x y out.old out.new result }
 {
     match point_of(x, y) {
@@ -139,15 +141,15 @@ fn entries_of(alloc: Heap, array: &[HullHeld]) -> Result<Vec<(Point, u32), Heap>
 }
 
 /// Lets all points go.
-fn load_nothing(hull: &mut BucketTree, alloc: Heap) -> HullReply
+fn load_nothing(hull: &mut Hull, alloc: Heap) -> HullReply
     ensures { HoldsListed [] hull.old hull.new result }
 {
-    *hull = BucketTree::new(alloc, hull.limit());
+    *hull = Hull::new(BucketTree::new(alloc, hull.limit()));
     HullReply::numbered(Code::Number, 0)
 }
 
 /// Holds the points of an array that fits, in the place of all that was held; or memory was refused.
-fn load_fitting(hull: &mut BucketTree, alloc: Heap, array: &[HullHeld]) -> HullReply
+fn load_fitting(hull: &mut Hull, alloc: Heap, array: &[HullHeld]) -> HullReply
     requires read { All IsEntry array.now }
     requires entries { AreEntries array.now }
     requires few { length array.now ≤ hull.old.limit }
@@ -160,12 +162,12 @@ fn load_fitting(hull: &mut BucketTree, alloc: Heap, array: &[HullHeld]) -> HullR
     let Ok(loaded) = BucketTree::from_entries(alloc, hull.limit(), &entries) else {
         return HullReply::bare(Code::NoMemory);
     };
-    *hull = loaded;
+    *hull = Hull::new(loaded);
     HullReply::numbered(Code::Number, array.len() as u64)
 }
 
 /// Holds the points of an array, each as often as it says, in the place of all that was held.
-pub(crate) fn load(hull: &mut BucketTree, alloc: Heap, array: &[HullHeld]) -> HullReply
+pub(crate) fn load(hull: &mut Hull, alloc: Heap, array: &[HullHeld]) -> HullReply
     ensures { AreLoaded array.now hull.old hull.new result }
 {
     if array.is_empty() {

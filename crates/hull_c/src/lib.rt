@@ -1,4 +1,4 @@
-//! A convex hull for C: a static library over [`BucketTree`](bucket_tree::BucketTree), whose header is
+//! A convex hull for C: a static library over a [`Settled`](settled_set::Settled) [`BucketTree`](bucket_tree::BucketTree), whose header is
 //! `include/hull.h`.
 //!
 //! A hull lies in room that the caller gives. Changes and questions are one export, [`hull_call`], by their kind; the
@@ -10,7 +10,7 @@
 ghost use Rattle.std.specs.Prelude.{◌≡◌};
 ghost use Rattle.std.specs.Borrow.{full_share, sem};
 ghost use Rattle.std.specs.Ptr.{lies_at, room_at};
-ghost use Rattle.bucket_tree.specs.contracts.tree.BucketTree.{the_row};
+ghost use Rattle.hull_c.specs.contracts.hull.Hull.{the_row};
 ghost use Rattle.bucket_tree.specs.Sets.{bucket_set};
 ghost use Rattle.hull_reply.specs.Left.{leaves};
 ghost use Rattle.hull_reply.specs.Rooms.{room_alignment, room_size};
@@ -30,7 +30,7 @@ ghost use Rattle.hull_c.specs.Loads.{IsLoaded};
 ghost use Rattle.hull_c.specs.Outlines.{AreOutlineAnswers, IsOutlineAnswer, TellsOutline};
 ghost use Rattle.hull_outline.specs.Outlines.{IsShortOutline};
 ghost use Rattle.hull_c.specs.Requests.{AreServed};
-ghost use Rattle.hull_c.specs.Calls.{AreCorners, IsCleared, IsFresh, IsLimitOf};
+ghost use Rattle.hull_c.specs.Calls.{AreCorners, IsCleared, IsFresh, IsLimitOf, IsSettled};
 
 mod bridges;
 mod calls;
@@ -40,6 +40,7 @@ mod corners;
 mod corners_of;
 mod findings;
 mod held;
+mod hull;
 mod load;
 mod outline;
 mod pairs;
@@ -47,11 +48,11 @@ mod requests;
 mod threads;
 
 pub use bridges::HullBridge;
-use bucket_tree::BucketTree;
 pub use casts::HullHit;
 pub use clearances::HullClearance;
 use heap::Heap;
 pub use held::HullHeld;
+use hull::Hull;
 use hull_outline::Length;
 pub use hull_reply::HullPoint;
 use hull_reply::HullReply;
@@ -71,8 +72,24 @@ pub unsafe extern "C" fn hull_call(at: *mut u8, kind: u32, x: i64, y: i64) -> Hu
     requires* { sem 𝓛 (lies_at the_row full_share at t) }
     ensures* { sem 𝓛 (leaves the_row at (λ new. IsAnswered bucket_set kind x y t new result)) }
 {
-    let hull = at as *mut BucketTree;
+    let hull = at as *mut Hull;
     calls::call(unsafe { &mut *hull }, kind, x, y)
+}
+
+/// Counts a question to come: gathers the corners of the hull, where they are not known and are few beside the questions since
+/// the last change of them. Tells how many corners are known, or 0.
+///
+/// # Safety
+///
+/// A hull lies at `at`, and no other call on it is under way.
+#[unsafe(no_mangle)]
+pub unsafe extern "C" fn hull_settle(at: *mut u8) -> HullReply
+    ghost t: { the_row.Denot }
+    requires* { sem 𝓛 (lies_at the_row full_share at t) }
+    ensures* { sem 𝓛 (leaves the_row at (λ new. IsSettled t new result)) }
+{
+    let hull = at as *mut Hull;
+    calls::settle(unsafe { &mut *hull })
 }
 
 /// Writes the corners of the hull to the front of the array, counterclockwise from the first by x and then y.
@@ -86,7 +103,7 @@ pub unsafe extern "C" fn hull_vertices(at: *mut u8, out: &mut [HullPoint]) -> Hu
     requires* { sem 𝓛 (lies_at the_row full_share at t) }
     ensures* { sem 𝓛 (leaves the_row at (λ new. AreCorners t new out.old out.new result)) }
 {
-    let hull = at as *mut BucketTree;
+    let hull = at as *mut Hull;
     corners::vertices(unsafe { &mut *hull }, out)
 }
 
@@ -106,7 +123,7 @@ pub unsafe extern "C" fn hull_calls(
     requires* { sem 𝓛 (lies_at the_row full_share at t) }
     ensures* { sem 𝓛 (leaves the_row at (λ new. AreServed requests.now replies.old t new replies.new result)) }
 {
-    let hull = at as *mut BucketTree;
+    let hull = at as *mut Hull;
     requests::calls_of(unsafe { &mut *hull }, requests, replies)
 }
 
@@ -122,7 +139,7 @@ pub unsafe extern "C" fn hull_load(at: *mut u8, alloc: Heap, points: &[HullPoint
     requires* { sem 𝓛 (lies_at the_row full_share at t) }
     ensures* { sem 𝓛 (leaves the_row at (λ new. IsLoaded points.now t new result)) }
 {
-    let hull = at as *mut BucketTree;
+    let hull = at as *mut Hull;
     load::load(unsafe { &mut *hull }, alloc, points)
 }
 
@@ -138,7 +155,7 @@ pub unsafe extern "C" fn hull_load_held(at: *mut u8, alloc: Heap, held: &[HullHe
     requires* { sem 𝓛 (lies_at the_row full_share at t) }
     ensures* { sem 𝓛 (leaves the_row at (λ new. AreLoaded held.now t new result)) }
 {
-    let hull = at as *mut BucketTree;
+    let hull = at as *mut Hull;
     held::load(unsafe { &mut *hull }, alloc, held)
 }
 
@@ -159,7 +176,7 @@ pub unsafe extern "C" fn hull_held_from(
     requires* { sem 𝓛 (lies_at the_row full_share at t) }
     ensures* { sem 𝓛 (leaves the_row at (λ new. IsListed t new x y out.old out.new result)) }
 {
-    let hull = at as *mut BucketTree;
+    let hull = at as *mut Hull;
     held::list(unsafe { &mut *hull }, x, y, out)
 }
 
@@ -175,7 +192,7 @@ pub unsafe extern "C" fn hull_bridges(at: *mut u8, level: u32, out: &mut [HullBr
     requires* { sem 𝓛 (lies_at the_row full_share at t) }
     ensures* { sem 𝓛 (leaves the_row at (λ new. AreBridges t new level out.old out.new result)) }
 {
-    let hull = at as *mut BucketTree;
+    let hull = at as *mut Hull;
     bridges::bridges(unsafe { &mut *hull }, level, out)
 }
 
@@ -190,7 +207,7 @@ pub unsafe extern "C" fn hull_clear(at: *mut u8, alloc: Heap) -> HullReply
     requires* { sem 𝓛 (lies_at the_row full_share at t) }
     ensures* { sem 𝓛 (leaves the_row at (λ new. IsCleared t new result)) }
 {
-    let hull = at as *mut BucketTree;
+    let hull = at as *mut Hull;
     calls::clear(unsafe { &mut *hull }, alloc)
 }
 
@@ -205,7 +222,7 @@ pub unsafe extern "C" fn hull_limit(at: *mut u8) -> HullReply
     requires* { sem 𝓛 (lies_at the_row full_share at t) }
     ensures* { sem 𝓛 (leaves the_row at (λ new. IsLimitOf t new result)) }
 {
-    let hull = at as *mut BucketTree;
+    let hull = at as *mut Hull;
     calls::limit(unsafe { &mut *hull })
 }
 
@@ -532,7 +549,7 @@ pub extern "C" fn hull_outline_of(
 pub extern "C" fn hull_size() -> usize
     ensures { result ≡ room_size the_row }
 {
-    size_of::<BucketTree>()
+    size_of::<Hull>()
 }
 
 /// At which multiples of bytes the room of a hull begins.
@@ -540,7 +557,7 @@ pub extern "C" fn hull_size() -> usize
 pub extern "C" fn hull_alignment() -> usize
     ensures { result ≡ room_alignment the_row }
 {
-    align_of::<BucketTree>()
+    align_of::<Hull>()
 }
 
 /// Makes an empty hull in a room: one that takes `limit` points, or the greatest number of points where `limit` is 0 or
@@ -554,7 +571,7 @@ pub unsafe extern "C" fn hull_make(alloc: Heap, limit: u32, room: *mut u8)
     requires* { sem 𝓛 (room_at the_row room) }
     ensures* { sem 𝓛 (leaves the_row room (IsFresh limit)) }
 {
-    let at = room as *mut BucketTree;
+    let at = room as *mut Hull;
     let hull = calls::fresh(alloc, limit);
     unsafe { at.write(hull) };
 }
@@ -570,6 +587,6 @@ pub unsafe extern "C" fn hull_end(at: *mut u8) -> u32
     requires* { sem 𝓛 (lies_at the_row full_share at t) }
     ensures* { sem 𝓛 (leaves_room the_row at (result ≡ 0)) }
 {
-    let hull = at as *mut BucketTree;
+    let hull = at as *mut Hull;
     calls::finish(unsafe { hull.read() })
 }

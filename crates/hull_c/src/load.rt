@@ -4,6 +4,7 @@ ghost use Rattle.std.specs.List.{All};
 ghost use Rattle.hull_reply.specs.Coordinates.{IsPointOf};
 ghost use Rattle.hull_c.specs.Loads.{IsLoaded, IsUnread, HasCoordinates};
 
+use super::hull::Hull;
 use bucket_tree::BucketTree;
 use heap::Heap;
 use hull_reply::{Code, HullPoint, HullReply, point_of};
@@ -45,11 +46,11 @@ pub(crate) fn points_of(alloc: Heap, array: &[HullPoint]) -> Result<Vec<Point, H
 }
 
 /// Holds the points of an array, each as often as it stands there, in the place of all that was held.
-pub(crate) fn load(hull: &mut BucketTree, alloc: Heap, array: &[HullPoint]) -> HullReply
+pub(crate) fn load(hull: &mut Hull, alloc: Heap, array: &[HullPoint]) -> HullReply
     ensures { IsLoaded array.now hull.old hull.new result }
 {
     if array.is_empty() {
-        *hull = BucketTree::new(alloc, hull.limit());
+        *hull = Hull::new(BucketTree::new(alloc, hull.limit()));
         return HullReply::numbered(Code::Number, 0);
     }
     let points = match points_of(alloc, array) {
@@ -58,8 +59,9 @@ pub(crate) fn load(hull: &mut BucketTree, alloc: Heap, array: &[HullPoint]) -> H
     };
     match BucketTree::from_points(alloc, hull.limit(), &points) {
         Ok(loaded) => {
-            *hull = loaded;
-            HullReply::numbered(Code::Number, u64::from(hull.count()))
+            let count = loaded.count();
+            *hull = Hull::new(loaded);
+            HullReply::numbered(Code::Number, u64::from(count))
         }
         Err(LoadFault::TooMany) => HullReply::bare(Code::TooMany),
         Err(LoadFault::NoMemory) => HullReply::bare(Code::NoMemory),

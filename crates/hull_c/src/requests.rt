@@ -1,10 +1,10 @@
 //! Many calls at once.
-ghost use Rattle.std.specs.Prelude.{◌↔◌, IsTrue};
+ghost use Rattle.std.specs.Prelude.{◌≡◌, ◌↔◌, IsTrue};
 ghost use Rattle.hull_c.specs.Requests.{AnswersRequest, AreServed, IsBad};
 
 use super::calls;
-use bucket_tree::BucketTree;
-use hull_reply::{Code, HullReply};
+use super::hull::Hull;
+use hull_reply::{Code, HullReply, Kind};
 
 /// A call: the number of its kind, and a point or a direction.
 #[repr(C)]
@@ -18,10 +18,20 @@ pub struct HullRequest {
     pub y: i64,
 }
 
-/// Serves what a request asks for.
-fn answer(hull: &mut BucketTree, request: HullRequest) -> HullReply
+/// Counts a question that the corners answer.
+fn count_question(hull: &mut Hull, kind: u32)
+    ensures { hull.new ≡ hull.old }
+{
+    if let Some(Kind::Place | Kind::Tangents | Kind::Extreme | Kind::Area) = Kind::of(kind) {
+        hull.set.settle();
+    }
+}
+
+/// Serves what a request asks for, and counts it.
+fn answer(hull: &mut Hull, request: HullRequest) -> HullReply
     ensures { AnswersRequest request hull.old hull.new result }
 {
+    count_question(hull, request.kind);
     calls::call(hull, request.kind, request.x, request.y)
 }
 
@@ -37,7 +47,7 @@ fn is_bad(code: u32) -> bool
 /// Makes the calls in their order, up to the end of the shorter array or the first request that can't be served, and
 /// tells how many replies were written.
 pub(crate) fn calls_of(
-    hull: &mut BucketTree,
+    hull: &mut Hull,
     requests: &[HullRequest],
     replies: &mut [HullReply],
 ) -> usize

@@ -13,3 +13,4 @@ pub mod Fans
 pub mod TangentParts
 pub mod TurnedTangents
 pub mod SmallTrees
+pub mod LongWalks

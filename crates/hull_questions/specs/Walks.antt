@@ -1,7 +1,7 @@
 -- A walk along the lower chain of a half, and what it leaves.
-use Rattle.std.specs.Prelude.{◌≡◌, ℤ, List, [], ◌∷◌, ◌++◌, map}
+use Rattle.std.specs.Prelude.{◌≡◌, ℕ, ◌<◌, ◌≤◌, ℤ, Bool, true, false, List, [], ◌∷◌, ◌++◌, length, map}
 use Rattle.lattice.specs.Plane.{Pair, turned_point}
-use Rattle.lattice.specs.Vertices.{fan}
+use Rattle.lattice.specs.Vertices.{fan, IsVertexList}
 use Rattle.bridge_search.specs.Trees.{Tree}
 use Rattle.bridge_search.specs.Leaves.{points_of}
 use Rattle.hull_geometry.specs.Edges.{IsLowerEdge, IsChain, end_of}
@@ -26,3 +26,18 @@ IsListed t from to side before after = (passed : List Pair) × IsWalk t from pas
 -- z is the sum of the doubled areas between an apex and the edges of a walk from one point to another
 abbrev pub IsFan : Tree → Pair → Pair → Pair → ℤ → Type 0
 IsFan t apex from to z = (passed : List Pair) × IsWalk t from passed to × (z ≡ fan apex from passed)
+
+-- to the list, which has `most` points at most, came a corner; or it has as many
+abbrev pub IsPushedUpTo : Pair → ℕ → List Pair → List Pair → Bool → Type 0
+IsPushedUpTo corner most before after true = (after ≡ before ++ corner ∷ []) × (length after ≤ most)
+IsPushedUpTo corner most before after false = most ≤ length before
+
+-- to it came the points of a walk but for the last; or they are too many for it
+abbrev pub IsListedUpTo : Tree → Pair → Pair → Side → ℕ → List Pair → List Pair → Bool → Type 0
+IsListedUpTo t from to side most before after true = IsListed t from to side before after × (length after ≤ most)
+IsListedUpTo t from to side most before after false =
+    (all : List Pair) × IsListed t from to side before all × (most < length all)
+
+-- S has more vertices than `most`
+abbrev pub IsLongerThan : ℕ → List Pair → Type 0
+IsLongerThan most S = (all : List Pair) × IsVertexList S all × (most < length all)

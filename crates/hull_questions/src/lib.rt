@@ -14,6 +14,7 @@ mod stretches;
 
 pub use questions::area::area2;
 pub use questions::extreme::{extreme, extreme_counted};
+pub use questions::few_vertices::vertices_up_to;
 pub use questions::place::place;
 pub use questions::tangents::tangents;
 pub use questions::vertices::vertices;

@@ -227,6 +227,13 @@ impl Hull {
         unsafe { raw::hull_call(self.room.as_ptr(), kind, at.x, at.y) }
     }
 
+    /// Asks what the corners answer, and has the question counted: they are gathered once questions are many beside them.
+    fn ask(&self, kind: u32, at: Point) -> Reply {
+        // SAFETY: as in `call`.
+        unsafe { raw::hull_settle(self.room.as_ptr()) };
+        self.call(kind, at)
+    }
+
     /// Holds a point once more, and tells how often it is held now: 1 where it is new.
     pub fn add(&mut self, point: Point) -> Result<u32, Fault> {
         answer::times_added(self.call(kind::ADD, point))
@@ -240,18 +247,18 @@ impl Hull {
 
     /// Where a point lies.
     pub fn place(&self, point: Point) -> Result<Place, Fault> {
-        answer::place(self.call(kind::PLACE, point))
+        answer::place(self.ask(kind::PLACE, point))
     }
 
     /// The left and the right point that bound the hull as it is seen from `point`, of several on one line the farthest;
     /// `None` where there is no point, or the hull covers the one asked about.
     pub fn tangents(&self, point: Point) -> Result<Option<(Point, Point)>, Fault> {
-        answer::tangents(self.call(kind::TANGENTS, point))
+        answer::tangents(self.ask(kind::TANGENTS, point))
     }
 
     /// The point that lies farthest in a direction, of several the first by x and then by y; `None` where there is none.
     pub fn extreme(&self, direction: Point) -> Result<Option<Point>, Fault> {
-        answer::extreme(self.call(kind::EXTREME, direction))
+        answer::extreme(self.ask(kind::EXTREME, direction))
     }
 
     /// The same in a direction of two floats, taken to whole numbers by [`direction_of`]; in the direction (0, 0) the first point
@@ -267,7 +274,7 @@ impl Hull {
 
     /// Twice the area, 0 for a point and a line.
     pub fn doubled_area(&self) -> u128 {
-        let reply = self.call(kind::AREA, NOWHERE);
+        let reply = self.ask(kind::AREA, NOWHERE);
         u128::from(reply.high) << 64 | u128::from(reply.number)
     }
 

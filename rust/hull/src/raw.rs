@@ -268,6 +268,7 @@ extern "C" {
     pub(crate) fn hull_make(limit: u32, room: *mut u8);
     pub(crate) fn hull_end(hull: *mut u8) -> u32;
     pub(crate) fn hull_call(hull: *mut u8, kind: u32, x: i64, y: i64) -> Reply;
+    pub(crate) fn hull_settle(hull: *mut u8) -> Reply;
     pub(crate) fn hull_limit(hull: *mut u8) -> Reply;
     pub(crate) fn hull_clear(hull: *mut u8) -> Reply;
     pub(crate) fn hull_pairs_within(

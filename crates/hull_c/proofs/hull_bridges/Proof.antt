@@ -1,7 +1,7 @@
 -- `hull_bridges` meets its contract.
 use Rattle.hull_reply.proofs.Steps.{w32, [], ◌∷◌}
 use Rattle.hull_reply.proofs.Lends.{lends, natural, relent, reply}
-use Rattle.bucket_tree.specs.contracts.tree.BucketTree.{the_row}
+use Rattle.hull_c.specs.contracts.hull.Hull.{the_row}
 use Rattle.hull_c.specs.contracts.bridges.HullBridge.{the_row as Bridge}
 use Rattle.hull_c.specs.Bridges.{AreBridges}
 use Rattle.hull_c.proofs.hull_bridges.Statement.{statement}

@@ -1,7 +1,7 @@
 -- `hull_call` meets its contract.
 use Rattle.hull_reply.proofs.Steps.{w32, w64, [], ◌∷◌}
 use Rattle.hull_reply.proofs.Lends.{integer, lends, natural, reply}
-use Rattle.bucket_tree.specs.contracts.tree.BucketTree.{the_row}
+use Rattle.hull_c.specs.contracts.hull.Hull.{the_row}
 use Rattle.bucket_tree.specs.Sets.{bucket_set}
 use Rattle.hull_reply.specs.Served.{IsAnswered}
 use Rattle.hull_c.proofs.hull_call.Statement.{statement}

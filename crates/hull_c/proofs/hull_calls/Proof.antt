@@ -1,7 +1,7 @@
 -- `hull_calls` meets its contract.
 use Rattle.hull_reply.proofs.Steps.{w64, [], ◌∷◌}
 use Rattle.hull_reply.proofs.Lends.{lends, number, relent, shared_array}
-use Rattle.bucket_tree.specs.contracts.tree.BucketTree.{the_row}
+use Rattle.hull_c.specs.contracts.hull.Hull.{the_row}
 use Rattle.hull_c.specs.contracts.requests.HullRequest.{the_row as Request}
 use Rattle.hull_reply.specs.contracts.reply.HullReply.{the_row as Reply}
 use Rattle.hull_c.specs.Requests.{AreServed}

@@ -1,7 +1,7 @@
 -- `hull_clear` meets its contract.
 use Rattle.hull_reply.proofs.Steps.{[], ◌∷◌}
 use Rattle.hull_reply.proofs.Lends.{lends, memory, reply}
-use Rattle.bucket_tree.specs.contracts.tree.BucketTree.{the_row}
+use Rattle.hull_c.specs.contracts.hull.Hull.{the_row}
 use Rattle.hull_c.specs.Calls.{IsCleared}
 use Rattle.hull_c.proofs.hull_clear.Statement.{statement}
 use Rattle.hull_c.proofs.hull_clear.Code as code

@@ -6,8 +6,8 @@ use Rattle.hull_reply.proofs.Steps.{w32, uint_Lawful, fjoin, enter, of_opd, stop
 use Rattle.hull_reply.proofs.Steps.{free_all, look_at, get, through, sets, sets_last, env, yes, Ptr, RawPtr, block_ptr, lies_at, in_a_block}
 use Rattle.hull_reply.proofs.Steps.{rawptr_vals, rawptr_Tells, plain, nothing, on_entry, Stays, walk_of, stay_dropped, Goes-dropped}
 use Rattle.hull_reply.proofs.Steps.{ends_at}
-use Rattle.bucket_tree.specs.contracts.tree.BucketTree.{the_row as R}
-use Rattle.bucket_tree.proofs.tree.BucketTree.TheLaws.{the_row_laws as tree_laws}
+use Rattle.hull_c.specs.contracts.hull.Hull.{the_row as R}
+use Rattle.hull_c.proofs.hull.Hull.TheLaws.{the_row_laws as tree_laws}
 use borrow.Table.OneValue.{part_out}
 use denote.Memory.{lone}
 use base.Fml.{fat, froom}

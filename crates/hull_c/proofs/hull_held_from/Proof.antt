@@ -1,7 +1,7 @@
 -- `hull_held_from` meets its contract.
 use Rattle.hull_reply.proofs.Steps.{w64, [], ◌∷◌}
 use Rattle.hull_reply.proofs.Lends.{integer, lends, relent, reply}
-use Rattle.bucket_tree.specs.contracts.tree.BucketTree.{the_row}
+use Rattle.hull_c.specs.contracts.hull.Hull.{the_row}
 use Rattle.hull_c.specs.contracts.held.HullHeld.{the_row as Held}
 use Rattle.hull_c.specs.Held.{IsListed}
 use Rattle.hull_c.proofs.hull_held_from.Statement.{statement}

@@ -1,7 +1,7 @@
 -- `hull_limit` meets its contract.
 use Rattle.hull_reply.proofs.Steps.{[]}
 use Rattle.hull_reply.proofs.Lends.{lends, reply}
-use Rattle.bucket_tree.specs.contracts.tree.BucketTree.{the_row}
+use Rattle.hull_c.specs.contracts.hull.Hull.{the_row}
 use Rattle.hull_c.specs.Calls.{IsLimitOf}
 use Rattle.hull_c.proofs.hull_limit.Statement.{statement}
 use Rattle.hull_c.proofs.hull_limit.Code as code

@@ -1,7 +1,7 @@
 -- `hull_load_held` meets its contract.
 use Rattle.hull_reply.proofs.Steps.{[], ◌∷◌}
 use Rattle.hull_reply.proofs.Lends.{lends, memory, reply, shared_array}
-use Rattle.bucket_tree.specs.contracts.tree.BucketTree.{the_row}
+use Rattle.hull_c.specs.contracts.hull.Hull.{the_row}
 use Rattle.hull_c.specs.contracts.held.HullHeld.{the_row as Held}
 use Rattle.hull_c.specs.Held.{AreLoaded}
 use Rattle.hull_c.proofs.hull_load_held.Statement.{statement}

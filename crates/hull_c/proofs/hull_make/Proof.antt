@@ -6,8 +6,8 @@ use Rattle.hull_reply.proofs.Steps.{triple_of, lasts, Lasts, lands_as, u32, w32,
 use Rattle.hull_reply.proofs.Steps.{exec, returns, alloc_all, pass_all, free_all, look_at, get, through, sets, env, yes, Ptr, RawPtr}
 use Rattle.hull_reply.proofs.Steps.{block_ptr, lies_at, in_a_block, rawptr_vals, rawptr_Tells, plain, nothing, Stays, walk_of, stay_dropped}
 use Rattle.hull_reply.proofs.Steps.{Goes-dropped, ends_at}
-use Rattle.bucket_tree.specs.contracts.tree.BucketTree.{the_row as R}
-use Rattle.bucket_tree.proofs.tree.BucketTree.TheLaws.{the_row_laws as tree_laws}
+use Rattle.hull_c.specs.contracts.hull.Hull.{the_row as R}
+use Rattle.hull_c.proofs.hull.Hull.TheLaws.{the_row_laws as tree_laws}
 use denote.Laws.{Is, shows}
 use denote.Steps.{peeks}
 use Rattle.hull_c.specs.contracts.hull_make as f

@@ -1,7 +1,7 @@
 -- `hull_vertices` meets its contract.
 use Rattle.hull_reply.proofs.Steps.{[], ◌∷◌}
 use Rattle.hull_reply.proofs.Lends.{lends, relent, reply}
-use Rattle.bucket_tree.specs.contracts.tree.BucketTree.{the_row}
+use Rattle.hull_c.specs.contracts.hull.Hull.{the_row}
 use Rattle.hull_reply.specs.contracts.corners.HullPoint.{the_row as Corner}
 use Rattle.hull_c.specs.Calls.{AreCorners}
 use Rattle.hull_c.proofs.hull_vertices.Statement.{statement}

@@ -14,7 +14,7 @@ use std::alloc::AllocError;
 
 /// A corner of a half's lower chain as the corner of the hull that it is, whose upper chain is the lower one of the half
 /// turned by 180 degrees.
-fn seen_from(side: Side, corner: Point) -> Point
+pub(super) fn seen_from(side: Side, corner: Point) -> Point
     ensures { result ≡ upright side corner }
 {
     match side {

@@ -1,0 +1,32 @@
+//! The vertices of a set, where they are few.
+ghost use Rattle.std.specs.Prelude.{◌≤◌, vec_len, IfOk, IfSome, IfNone};
+ghost use Rattle.lattice.specs.Vertices.{IsVertexList};
+ghost use Rattle.hull_questions.specs.Walks.{IsLongerThan};
+ghost use Rattle.bucket_tree.specs.Roots.{points_of_root};
+
+use super::{BucketTree, bucket_trees_are_sound};
+use crate::part::Part;
+use crate::questions::{corners_answer, corners_are_few};
+use heap::Heap;
+use hull_questions::vertices_up_to;
+use hull_set::NoMemory;
+use lattice::Point;
+
+impl BucketTree {
+    /// The vertices, as [`vertices`](hull_set::HullSet::vertices) lists them, where they are no more than `most`, and nothing
+    /// where they are more: then no more forks are passed than those above `most` edges.
+    pub fn vertices_up_to(&self, most: usize) -> Result<Option<Vec<Point, Heap>>, NoMemory>
+        ensures vertices { IfOk result (λ found. IfSome found
+            (λ v. IsVertexList (points_of_root self.now.root) v.items)) }
+        ensures few { IfOk result (λ found. IfSome found (λ v. vec_len v ≤ most)) }
+        ensures more { IfOk result (λ found. IfNone found (IsLongerThan most (points_of_root self.now.root))) }
+    {
+        bucket_trees_are_sound(self);
+        let Some(root) = &self.root else {
+            return Ok(Some(Vec::new(self.alloc)));
+        };
+        corners_answer(root);
+        corners_are_few(root);
+        Ok(vertices_up_to(self.alloc, Part::new(root), most)?)
+    }
+}

@@ -1,0 +1,52 @@
+//! What lies in the room of a hull.
+ghost use Rattle.std.specs.Prelude.{◌≡◌, ◌≤◌};
+ghost use Rattle.hull_set.specs.declared.TheConstants.{POINT_LIMIT};
+
+use bucket_tree::BucketTree;
+use hull_set::HullSet;
+use settled_set::Settled;
+use std::marker::Model;
+
+/// A tree, and its corners in an array while they are known. Contracts see the tree alone.
+#[derive(Drop)]
+pub(crate) struct Hull {
+    pub(crate) set: Settled<BucketTree>,
+}
+
+impl Model for Hull {
+    ghost use Rattle.bucket_tree.specs.contracts.tree.BucketTree as tree;
+    ghost use Rattle.bucket_tree.specs.Sets.{LimitedTree};
+
+    ghost Value = { LimitedTree };
+
+    ghost coded = { tree.the_row.coded };
+
+    ghost view = { λ h. h.set };
+}
+
+impl Hull {
+    /// This tree, of whose corners nothing is known.
+    pub(crate) fn new(tree: BucketTree) -> Hull
+        ensures { result ≡ tree }
+    {
+        Hull {
+            set: Settled::new(tree),
+        }
+    }
+
+    /// The tree.
+    pub(crate) fn tree(&self) -> &BucketTree
+        ensures { result.now ≡ self.now }
+    {
+        self.set.set()
+    }
+
+    /// How many points it takes.
+    pub(crate) fn limit(&self) -> u32
+        ensures limit { result ≡ self.now.limit }
+        ensures low { 1 ≤ result }
+        ensures high { result ≤ POINT_LIMIT }
+    {
+        self.set.limit()
+    }
+}

@@ -1,0 +1,98 @@
+//! The vertices of a hull, where they are few.
+ghost use Rattle.std.specs.Prelude.{◌≤◌, IfOk, IfSome, IfNone, vec_len};
+ghost use Rattle.lattice.specs.Vertices.{IsVertexList};
+ghost use Rattle.bridge_search.specs.Trees.{first_of, last_of};
+ghost use Rattle.bridge_search.specs.Leaves.{points_of};
+ghost use Rattle.hull_questions.specs.Stretches.{IsStretch};
+ghost use Rattle.hull_questions.specs.Walks.{IsListedUpTo, IsLongerThan, IsPushedUpTo};
+
+use super::vertices::seen_from;
+use crate::stretches::{Course, course_of};
+use bridge_search::{Half, Turned};
+use heap::Heap;
+use lattice::{Point, Side, before};
+use std::alloc::AllocError;
+
+/// Appends a corner where the list has fewer points than `most`, and tells whether it has.
+fn push_up_to(corner: Point, most: usize, out: &mut Vec<Point, Heap>) -> Result<bool, AllocError>
+    requires { vec_len out.old ≤ most }
+    ensures { IfOk result (λ pushed. IsPushedUpTo corner most out.old.items out.new.items pushed) }
+{
+    if out.len() >= most {
+        return Ok(false);
+    }
+    out.push(corner)?;
+    Ok(true)
+}
+
+/// Appends the corners of the lower chain of a half from one corner to another, which is left out, up to `most` points in all;
+/// and tells whether these are all.
+fn push_stretch_up_to<H: Half>(
+    half: H,
+    from: Point,
+    to: Point,
+    side: Side,
+    most: usize,
+    out: &mut Vec<Point, Heap>,
+) -> Result<bool, AllocError>
+    requires stretch { IsStretch (H.tree half) from to }
+    requires few { vec_len out.old ≤ most }
+    ensures { IfOk result (λ whole. IsListedUpTo (H.tree half) from to side most out.old.items out.new.items whole) }
+{
+    match course_of(half, from, to) {
+        Course::Nowhere => Ok(true),
+        Course::Left => push_stretch_up_to(half.left(), from, to, side, most, out),
+        Course::Right => push_stretch_up_to(half.right(), from, to, side, most, out),
+        Course::Across(bridge) => {
+            if !push_stretch_up_to(half.left(), from, bridge.0, side, most, out)? {
+                return Ok(false);
+            }
+            if !push_up_to(seen_from(side, bridge.0), most, out)? {
+                return Ok(false);
+            }
+            push_stretch_up_to(half.right(), bridge.1, to, side, most, out)
+        }
+    }
+}
+
+/// Appends the corners of the lower chain of a half but the last, up to `most` points in all; and tells whether these are all.
+fn push_chain_up_to<H: Half>(
+    half: H,
+    side: Side,
+    most: usize,
+    out: &mut Vec<Point, Heap>,
+) -> Result<bool, AllocError>
+    requires { vec_len out.old ≤ most }
+    ensures { IfOk result (λ whole. IsListedUpTo (H.tree half) (first_of (H.tree half)) (last_of (H.tree half)) side most
+        out.old.items out.new.items whole) }
+{
+    push_stretch_up_to(half, half.first(), half.last(), side, most, out)
+}
+
+/// The vertices of the hull of a half, as [`vertices`](crate::vertices), where they are no more than `most`, and nothing where
+/// they are more: no more forks are passed then than those above `most` edges. An `Err` comes only where `alloc` refuses
+/// memory.
+pub fn vertices_up_to<H: Half>(
+    alloc: Heap,
+    half: H,
+    most: usize,
+) -> Result<Option<Vec<Point, Heap>>, AllocError>
+    ensures vertices { IfOk result (λ found. IfSome found (λ v. IsVertexList (points_of (H.tree half)) v.items)) }
+    ensures few { IfOk result (λ found. IfSome found (λ v. vec_len v ≤ most)) }
+    ensures more { IfOk result (λ found. IfNone found (IsLongerThan most (points_of (H.tree half)))) }
+{
+    let mut out = Vec::new(alloc);
+    if !before(half.first(), half.last()) {
+        if !push_up_to(half.first(), most, &mut out)? {
+            return Ok(None);
+        }
+        return Ok(Some(out));
+    }
+    if !push_chain_up_to(half, Side::Lower, most, &mut out)? {
+        return Ok(None);
+    }
+    if !push_chain_up_to(Turned::new(half), Side::Upper, most, &mut out)? {
+        return Ok(None);
+    }
+    Ok(Some(out))
+}

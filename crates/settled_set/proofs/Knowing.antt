@@ -1,0 +1,18 @@
+-- What holds of each set with the corners that are known holds of the set itself.
+use Rattle.std.proofs.Common.{◌≡◌, List, ◌≤◌, length, sym, subst}
+use Rattle.lattice.specs.Plane.{Pair}
+use Rattle.hull_outline.specs.Outlines.{HoldsOfSetsOf, IsOutlineOf}
+use Rattle.hull_geometry.proofs.FewVertices.{vertices_few}
+use Rattle.settled_set.specs.Known.{AreCornersOf}
+use Rattle.settled_set.specs.declared.corners.Corners.{Corners}
+use Rattle.settled_set.specs.declared.corners.Corners.TheVariants.{Known}
+
+-- an answer that is right for each set with the corners is right
+pub by_corners : (S : List Pair) (corners : Corners) (V W : List Pair) (P : List Pair → Type 0) → AreCornersOf S corners
+    → corners ≡ Known V → W ≡ V → HoldsOfSetsOf W P → P S
+by_corners S corners V W P a e f h = h S (subst (IsOutlineOf S) (sym f) (subst (AreCornersOf S) e a))
+
+-- there are no more corners than points
+pub few_corners : (S : List Pair) (corners : Corners) (V : List Pair) → AreCornersOf S corners → corners ≡ Known V
+    → length V ≤ length S
+few_corners S corners V a e = vertices_few S V (subst (AreCornersOf S) e a).1

@@ -1,0 +1,16 @@
+-- there are no more corners than points, and no more of these than the limit
+use Rattle.std.proofs.Common.{◌≤◌, ap, arith, length, subst}
+use Rattle.std.specs.Vec.{vec_len}
+use Rattle.settled_set.proofs.Knowing.{few_corners}
+use Rattle.settled_set.proofs.settled.SettledHullSet.vertices.Goals as goal
+
+pub returns-in-Ok-clause-few : goal.returns-in-Ok-clause-few
+returns-in-Ok-clause-few g c = subst (λ s. vec_len c.in-Ok.copy ≤ g.S.HullSet.bound s) c.self.view_is
+    (omega (
+      arith,
+      few_corners (g.S.HullSet.held c.self.inside.set).points c.self.inside.corners c.in-Known.kept
+          c.self.invariant c.in-Known.is,
+      ap length c.in-Ok.ensures,
+      c.count-count.ensures.reply,
+      c.count-count.ensures.room,
+    ))

@@ -1,0 +1,84 @@
+//! The corners of a set, while they are known.
+ghost use Rattle.std.specs.Prelude.{◌≡◌, ◌⊎◌, ◌+◌, ℕ, List};
+ghost use Rattle.std.specs.List.{Contains};
+ghost use Rattle.lattice.specs.Plane.{Pair};
+ghost use Rattle.lattice.specs.Covers.{Covers, IsExtreme, with_point, without_point};
+ghost use Rattle.hull_outline.specs.Outlines.{IsOutlineOf};
+ghost use Rattle.settled_set.specs.Known.{AreCornersOf};
+ghost use Rattle.settled_set.specs.declared.corners.Corners.TheVariants.{Known, Unknown};
+
+use super::gathering::ListsCorners;
+use super::kept::Kept;
+use hull_set::HullSet;
+use lattice::Point;
+
+/// How many corners are gathered for each question that was asked.
+const CORNERS_A_QUESTION: usize = 8;
+
+/// What is known of the corners of a set after they are gathered, where they are no more than that; else that so many
+/// questions came. Where memory is refused it is the same.
+fn gathered<S: ListsCorners>(set: &S, most: usize, asked: u32) -> Corners
+    ensures corners { AreCornersOf (S.held set.now).points result }
+    ensures unknown { (n : ℕ) → result ≡ Unknown n → n ≡ asked }
+{
+    let _count = set.count();
+    let _limit = set.limit();
+    match set.vertices_up_to(most) {
+        Ok(Some(corners)) => Corners::Known(Kept::new(corners)),
+        _ => Corners::Unknown(asked),
+    }
+}
+
+/// What is known of the corners of a set.
+#[derive(Drop)]
+pub(crate) enum Corners {
+    /// They are these.
+    Known(Kept),
+    /// Nothing; and since something was, so many questions came.
+    Unknown(u32),
+}
+
+impl Corners {
+    /// A point comes to the set, or is there: what is known stays where the corners stay, and else is let go.
+    pub(crate) fn point_comes(&mut self, p: Point)
+        ensures with_it { (S : List Pair) → AreCornersOf S self.old → AreCornersOf (with_point p S) self.new }
+        ensures stay { (S : List Pair) → AreCornersOf S self.old → Covers S p → self.new ≡ self.old }
+    {
+        if let Corners::Known(kept) = self {
+            if !kept.outline().stays_with(p) {
+                *self = Corners::Unknown(0);
+            }
+        }
+    }
+
+    /// A point leaves the set, or is not there: the same.
+    pub(crate) fn point_goes(&mut self, p: Point)
+        ensures without { (S : List Pair) → AreCornersOf S self.old → AreCornersOf (without_point p S) self.new }
+        ensures stay { (S : List Pair) → AreCornersOf S self.old → ¬ IsExtreme S p → self.new ≡ self.old }
+    {
+        if let Corners::Known(kept) = self {
+            if !kept.outline().stays_without(p) {
+                *self = Corners::Unknown(0);
+            }
+        }
+    }
+
+    /// One more question is asked: where nothing is known, and this is the first, second, fourth, eighth question and so
+    /// on since something was, the corners are gathered, if there are at most so many for each question that was asked.
+    /// So all gathering takes a constant for each question, and h corners are known after h questions.
+    pub(crate) fn count_question<S: ListsCorners>(&mut self, set: &S)
+        requires { AreCornersOf (S.held set.now).points self.old }
+        ensures corners { AreCornersOf (S.held set.now).points self.new }
+        ensures known { (V : List Pair) → self.old ≡ Known V → self.new ≡ self.old }
+        ensures counted { (m n : ℕ) → self.old ≡ Unknown m → self.new ≡ Unknown n → n ≡ m + 1 ⊎ n ≡ m }
+    {
+        if let Corners::Unknown(asked) = self {
+            let asked = asked.saturating_add(1);
+            *self = if asked & (asked - 1) == 0 {
+                gathered(set, asked as usize * CORNERS_A_QUESTION, asked)
+            } else {
+                Corners::Unknown(asked)
+            };
+        }
+    }
+}
