@@ -62,6 +62,7 @@ fn is_inwards(side: Side, edge: &(Point, Point), p: Point) -> bool
 }
 
 /// How a point stands to an edge on a side.
+#[inline(always)]
 pub(crate) fn how_stands(side: Side, edge: &(Point, Point), p: Point) -> Standing
     ensures { TellsOf side edge.now p result }
 {
@@ -88,6 +89,7 @@ pub struct Changed {
 
 /// Renews the edge of a fork on a side, of which one part changed at a point: it is searched where it may not stand, and a
 /// closed side is not looked at. How many turns the search took, and whether the side is still open.
+#[inline(always)]
 fn renew_edge(side: Side, fork: &mut Fork, p: Point, at_issue: bool) -> (u32, bool)
     requires row { AreInRow fork.old.left fork.old.right }
     requires few { length (points_below fork.old.left ++ points_below fork.old.right) ≤ POINT_LIMIT }
