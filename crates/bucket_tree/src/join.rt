@@ -36,7 +36,6 @@ fn search(left: &Node, right: &Node) -> ((Point, Point), (Point, Point), u32)
 }
 
 /// The bridge on a side between two parts, and the turns of the search for it.
-#[inline(never)]
 pub(crate) fn search_one(side: Side, left: &Node, right: &Node) -> ((Point, Point), u32)
     requires row { AreInRow left.now right.now }
     requires few { length (points_below left.now ++ points_below right.now) ≤ POINT_LIMIT }

@@ -62,7 +62,6 @@ fn is_inwards(side: Side, edge: &(Point, Point), p: Point) -> bool
 }
 
 /// How a point stands to an edge on a side.
-#[inline(always)]
 pub(crate) fn how_stands(side: Side, edge: &(Point, Point), p: Point) -> Standing
     ensures { TellsOf side edge.now p result }
 {
@@ -87,8 +86,33 @@ pub struct Changed {
     pub sides: Open,
 }
 
-/// Renews the edge of a fork on a side, of which one part changed at a point: it is searched where it may not stand, and a
-/// closed side is not looked at. How many turns the search took, and whether the side is still open.
+/// Renews the edge of a fork on an open side, of which one part changed at a point: it is searched where it may not stand. How
+/// many turns the search took, and whether the side is still open.
+#[inline(never)]
+fn renew_open_edge(side: Side, fork: &mut Fork, p: Point) -> (u32, bool)
+    requires row { AreInRow fork.old.left fork.old.right }
+    requires few { length (points_below fork.old.left ++ points_below fork.old.right) ≤ POINT_LIMIT }
+    requires clear { IsClearOf side (edge_on side fork.old) p
+        → IsBridgeBetween side fork.old.left fork.old.right (edge_on side fork.old) }
+    ensures same { IsSameBut side fork.old fork.new }
+    ensures bridge { IsBridge side (On (tree_of fork.old.left)) (On (tree_of fork.old.right))
+        (edge_on side fork.new).0 (edge_on side fork.new).1 }
+    ensures turns { result.0 ≤ 2 * max (forks_above fork.old.left) (forks_above fork.old.right) + 12 }
+    ensures closes { result.1 ≡ false
+        → IsCovered side p (points_below fork.old.left ++ points_below fork.old.right) }
+{
+    match how_stands(side, fork.edge(side), p) {
+        Standing::Covered => (0, false),
+        Standing::Clear => (0, true),
+        Standing::Touching => {
+            let (edge, turns) = search_one(side, &fork.left, &fork.right);
+            fork.set_edge(side, edge);
+            (turns, true)
+        }
+    }
+}
+
+/// Renews the edge of a fork on a side, as [`renew_open_edge`]; a closed side is not looked at.
 #[inline(always)]
 fn renew_edge(side: Side, fork: &mut Fork, p: Point, at_issue: bool) -> (u32, bool)
     requires row { AreInRow fork.old.left fork.old.right }
@@ -106,18 +130,11 @@ fn renew_edge(side: Side, fork: &mut Fork, p: Point, at_issue: bool) -> (u32, bo
     if !at_issue {
         return (0, false);
     }
-    match how_stands(side, fork.edge(side), p) {
-        Standing::Covered => (0, false),
-        Standing::Clear => (0, true),
-        Standing::Touching => {
-            let (edge, turns) = search_one(side, &fork.left, &fork.right);
-            fork.set_edge(side, edge);
-            (turns, true)
-        }
-    }
+    renew_open_edge(side, fork, p)
 }
 
 /// Renews the edges of a fork of which one part changed at a point: each open side is looked at, and no other.
+#[inline(always)]
 pub(crate) fn renew_edges(fork: &mut Fork, p: Point, sides: Open) -> Changed
     requires row { AreInRow fork.old.left fork.old.right }
     requires few { length (points_below fork.old.left ++ points_below fork.old.right) ≤ POINT_LIMIT }
