@@ -1,8 +1,8 @@
 -- A fork one of whose parts changed in place.
 use Rattle.std.proofs.Common.{◌≡◌, ℕ, ◌+◌, ◌*◌, ◌≤◌, ◌<◌, max, false, refl, sym, ap, ◌∙◌, subst, ◌++◌, length, arith}
-use Rattle.std.proofs.Common.{Box, Option, None, Some}
-use Rattle.std.specs.Prelude.{IfSome}
-use Rattle.std.specs.List.{Contains}
+use Rattle.std.proofs.Common.{Box, Some, Ok, Err}
+use Rattle.std.specs.Box.{with_value}
+use Rattle.std.specs.Prelude.{Result, IfOk, IfErr}
 use Rattle.lattice.specs.Covers.{with_point, without_point}
 use Rattle.lattice.specs.Plane.{Pair, IsBefore}
 use Rattle.lattice.specs.declared.side.Side.{Side}
@@ -13,10 +13,10 @@ use Rattle.hull_set.specs.Held.{once}
 use Rattle.hull_set.specs.declared.TheConstants.{POINT_LIMIT}
 use Rattle.bucket_tree.specs.Changes.{IsBridgeBetween, IsClearOf, IsClosedOver, ClosesBy, IsBehind, IsBehindLeft, IsBehindRight}
 use Rattle.bucket_tree.specs.Changes.{IsRenewed, IsSameBut, edge_on}
-use Rattle.bucket_tree.specs.Counts.{counted}
+use Rattle.bucket_tree.specs.Counts.{counted, times_at}
 use Rattle.bucket_tree.specs.InPlace.{HasPutIn, HasTakenOut, IsInPlace}
 use Rattle.bucket_tree.specs.Nodes.{points_below, times_below, forks_above, AreNear, AreInRow, IsWellBuilt}
-use Rattle.bucket_tree.specs.declared.in_place.Changed.{Changed}
+use Rattle.bucket_tree.specs.declared.renewal.Changed.{Changed}
 use Rattle.bucket_tree.specs.declared.node.Fork.{Fork as Below}
 use Rattle.bucket_tree.specs.declared.node.Node.{Node, Leaf, Fork}
 use Rattle.bucket_tree.specs.declared.renewal.Open.{Open}
@@ -24,15 +24,17 @@ use Rattle.bucket_tree.proofs.BuiltLeaves.{leaf_built}
 use Rattle.bucket_tree.proofs.Gained.{gained_left, gained_right, left_row, left_few, right_row, right_few}
 use Rattle.bucket_tree.proofs.Kept.{DiffersAt, differs_gained, differs_lost, differs_not, still, stored, closed_left}
 use Rattle.bucket_tree.proofs.Kept.{closed_right, closed_within_left, closed_within_right, first_stays, last_stays, same_edges}
-use Rattle.bucket_tree.proofs.Lost.{lost_left_row, lost_left_few, lost_left, lost_right_row, lost_right_few, lost_right}
+use Rattle.bucket_tree.proofs.Lost.{same_left, same_right, lost_left_row, lost_left_few, lost_left, lost_right_row, lost_right_few, lost_right}
 use Rattle.bucket_tree.proofs.MostTurns.{one_fork}
 use Rattle.bucket_tree.proofs.NodePoints.{some_below}
+use Rattle.bucket_tree.proofs.Rooted.{absent_below}
 use Rattle.bucket_tree.proofs.NodeRows.{corners_in_row, halves_row}
 
 -- ---- a fork
 
 -- what is known of a well-built fork and of what is below it
 pub record IsApart (n : Node) (h : ℕ) (f : Below) : Type 0 where
+  pub built : IsWellBuilt n
   pub row : AreInRow f.left f.right
   pub near : AreNear (forks_above f.left) (forks_above f.right)
   pub points : points_below n ≡ points_below f.left ++ points_below f.right
@@ -47,6 +49,7 @@ pub apart : (n : Node) (h : ℕ) (f : Box Below _) → n ≡ Fork h f → IsWell
 apart n h f e w =
     let b = subst IsWellBuilt e w in
     record {
+      built = w;
       row = halves_row n h f e w;
       near = b.balanced.0;
       points = ap points_below e;
@@ -181,14 +184,18 @@ module _ (p : Pair) (n : Node) (h : ℕ) (f : Below) (k : Node) (below : Changed
       (left_row false p f.left f.right k a.row ahead put.in_place.built put.gained)
       (differs_gained false p f.left k a.row.left_built.ordered put.gained) put.in_place.closed
 
-  pub put_left_few : ¬ Contains (points_below n) p → length (points_below n) < POINT_LIMIT
-      → length (points_below k ++ points_below f.right) ≤ POINT_LIMIT
-  put_left_few absent few = left_few false p n f.left f.right k a.row ahead put.gained a.points absent few
+  left_absent : times_at n p ≡ 0
+  left_absent = same_left p n f.left f.right a.row a.points a.times ahead ∙ put.absent
+
+  pub put_left_few : length (points_below n) < POINT_LIMIT → length (points_below k ++ points_below f.right) ≤ POINT_LIMIT
+  put_left_few few = left_few false p n f.left f.right k a.row ahead put.gained a.points
+      (absent_below (Some n) n p refl a.built left_absent) few
 
   pub put_left : (g : Box Below _) (above : Changed) → IsRenewed g.value → g.value.left ≡ k → g.value.right ≡ f.right
       → above.turns ≤ below.turns + 4 * max (forks_above k) (forks_above f.right) + 24
       → ClosesBy p below.sides above.sides (points_below k ++ points_below f.right) → HasPutIn p n (Fork h g) above
   put_left g above r u v t c = record {
+    absent = left_absent;
     in_place = left_in_place p n h f k below above g a put.in_place r u v t c;
     gained = gained_left false p n (Fork h g) f.left k f.right a.row.in_order ahead a.row.left_built.buckets
         put.in_place.built.buckets a.points a.times
@@ -217,6 +224,7 @@ module _ (p : Pair) (n : Node) (h : ℕ) (f : Below) (k : Node) (below : Changed
   take_left g above r u v t c =
       let same = left_in_place p n h f k below above g a taken.in_place r u v t c in
       record {
+        once = same_left p n f.left f.right a.row a.points a.times stood_ahead ∙ taken.once;
         in_place = same;
         lost = lost_left p n f.left f.right a.row a.points a.times stood_ahead k (Fork h g) taken.lost same.built
             (left_points p n h f k below above g a taken.in_place r u v)
@@ -276,6 +284,19 @@ behind_of_right p sides f g h l u last first = record {
       (h.edges.clear side (subst (λ e. IsClearOf side e p) (same_edges f g l u side) z));
 }
 
+-- a fork that is behind two parts is behind with these in it
+pub over_parts : (p : Pair) (sides : Open) (l r : Node) (f : Below) → IsBehind p sides l r f
+    → IsBehind p sides l r (with_right (with_left f l) r)
+over_parts p sides l r f h =
+    let g = with_right (with_left f l) r in
+    record {
+      last = h.last;
+      first = h.first;
+      closed = λ side o. subst (IsBridgeBetween side l r) (sym (same_edges f g refl refl side)) (h.closed side o);
+      clear = λ side z. subst (IsBridgeBetween side l r) (sym (same_edges f g refl refl side))
+          (h.clear side (subst (λ e. IsClearOf side e p) (same_edges f g refl refl side) z));
+    }
+
 -- the fork g over a right part that changed is in place where that was, and its points are those of both parts
 module _ (p : Pair) (n : Node) (h : ℕ) (f : Below) (k : Node) (below above : Changed) (g : Box Below _) (a : IsApart n h f)
     (part : IsInPlace p f.right k below) (r : IsRenewed g.value) (u : g.value.left ≡ f.left) (v : g.value.right ≡ k) where
@@ -313,14 +334,18 @@ module _ (p : Pair) (n : Node) (h : ℕ) (f : Below) (k : Node) (below : Changed
       (right_row false p f.left f.right k a.row behind put.in_place.built put.gained)
       (differs_gained false p f.right k a.row.right_built.ordered put.gained) put.in_place.closed
 
-  pub put_right_few : ¬ Contains (points_below n) p → length (points_below n) < POINT_LIMIT
-      → length (points_below f.left ++ points_below k) ≤ POINT_LIMIT
-  put_right_few absent few = right_few false p n f.left f.right k a.row behind put.gained a.points absent few
+  right_absent : times_at n p ≡ 0
+  right_absent = same_right p n f.left f.right a.row a.points a.times behind ∙ put.absent
+
+  pub put_right_few : length (points_below n) < POINT_LIMIT → length (points_below f.left ++ points_below k) ≤ POINT_LIMIT
+  put_right_few few = right_few false p n f.left f.right k a.row behind put.gained a.points
+      (absent_below (Some n) n p refl a.built right_absent) few
 
   pub put_right : (g : Box Below _) (above : Changed) → IsRenewed g.value → g.value.left ≡ f.left → g.value.right ≡ k
       → above.turns ≤ below.turns + 4 * max (forks_above f.left) (forks_above k) + 24
       → ClosesBy p below.sides above.sides (points_below f.left ++ points_below k) → HasPutIn p n (Fork h g) above
   put_right g above r u v t c = record {
+    absent = right_absent;
     in_place = right_in_place p n h f k below above g a put.in_place r u v t c;
     gained = gained_right false p n (Fork h g) f.left f.right k a.row.in_order
         (some_below f.right a.row.right_built.buckets) behind a.row.left_built.buckets a.points a.times
@@ -349,6 +374,7 @@ module _ (p : Pair) (n : Node) (h : ℕ) (f : Below) (k : Node) (below : Changed
   take_right g above r u v t c =
       let same = right_in_place p n h f k below above g a taken.in_place r u v t c in
       record {
+        once = same_right p n f.left f.right a.row a.points a.times stood_behind ∙ taken.once;
         in_place = same;
         lost = lost_right p n f.left f.right a.row a.points a.times stood_behind k (Fork h g) taken.lost same.built
             (right_points p n h f k below above g a taken.in_place r u v)
@@ -358,15 +384,31 @@ module _ (p : Pair) (n : Node) (h : ℕ) (f : Below) (k : Node) (below : Changed
 
 -- ---- a bucket
 
+-- a bucket that stays as it was, and how often it holds p
+module _ (p : Pair) (n : Node) (b : Box BucketValue _) (w v : BucketValue) (r : Result Changed ℕ) (e : n ≡ Leaf b)
+    (d : w ≡ b.value) where
+  pub leaf_same : IfErr r (λ _. v ≡ w) → IfErr r (λ _. Leaf (with_value b v) ≡ n)
+  leaf_same h = go r h
+    where
+      go : (r : Result Changed ℕ) → IfErr r (λ _. v ≡ w) → IfErr r (λ _. Leaf (with_value b v) ≡ n)
+      go (Ok change) h = tt
+      go (Err times) h = ap (λ z. Leaf (with_value b z)) (h ∙ d) ∙ sym e
+
+  pub leaf_told : IfErr r (λ times. times ≡ counted w.points w.times p) → IfErr r (λ times. times ≡ times_at n p)
+  leaf_told h = subst (λ z. IfErr r (λ times. times ≡ z))
+      (ap (λ (z : BucketValue). counted z.points z.times p) d ∙ sym (ap (λ z. times_at z p) e)) h
+
 -- p came to a bucket, if it did
-pub leaf_put : (p : Pair) (n : Node) (b c : Box BucketValue _) (w v : BucketValue) (r : Option Changed) → n ≡ Leaf b
-    → w ≡ b.value → c.value ≡ v → IsBucket v → IfSome r (λ _. v.points ≡ with_point p w.points)
-    → IfSome r (λ _. (q : Pair) → counted v.points v.times q ≡ counted w.points w.times q + once p q)
-    → IfSome r (λ change. IsClosedOver p change.sides v.points) → IfSome r (λ change. change.turns ≡ 0)
-    → IfSome r (HasPutIn p n (Leaf c))
-leaf_put p n b c w v None e d f h points times closed turns = tt
-leaf_put p n b c w v (Some change) e d f h points times closed turns =
+pub leaf_put : (p : Pair) (n : Node) (b c : Box BucketValue _) (w v : BucketValue) (r : Result Changed ℕ) → n ≡ Leaf b
+    → w ≡ b.value → c.value ≡ v → IsBucket v → IfOk r (λ _. counted w.points w.times p ≡ 0)
+    → IfOk r (λ _. v.points ≡ with_point p w.points)
+    → IfOk r (λ _. (q : Pair) → counted v.points v.times q ≡ counted w.points w.times q + once p q)
+    → IfOk r (λ change. IsClosedOver p change.sides v.points) → IfOk r (λ change. change.turns ≡ 0)
+    → IfOk r (HasPutIn p n (Leaf c))
+leaf_put p n b c w v (Err none) e d f h absent points times closed turns = tt
+leaf_put p n b c w v (Ok change) e d f h absent points times closed turns =
     subst (λ z. HasPutIn p z (Leaf c) change) (sym e) record {
+      absent = subst (λ (z : BucketValue). counted z.points z.times p ≡ 0) d absent;
       in_place = record {
         built = leaf_built c v f h;
         height = refl;
@@ -380,14 +422,16 @@ leaf_put p n b c w v (Some change) e d f h points times closed turns =
     }
 
 -- p went from a bucket, if it did
-pub leaf_taken : (p : Pair) (n : Node) (b c : Box BucketValue _) (w v : BucketValue) (r : Option Changed) → n ≡ Leaf b
-    → w ≡ b.value → c.value ≡ v → IsBucket v → IfSome r (λ _. v.points ≡ without_point p w.points)
-    → IfSome r (λ _. (q : Pair) → counted w.points w.times q ≡ counted v.points v.times q + once p q)
-    → IfSome r (λ change. IsClosedOver p change.sides v.points) → IfSome r (λ change. change.turns ≡ 0)
-    → IfSome r (HasTakenOut p n (Leaf c))
-leaf_taken p n b c w v None e d f h points times closed turns = tt
-leaf_taken p n b c w v (Some change) e d f h points times closed turns =
+pub leaf_taken : (p : Pair) (n : Node) (b c : Box BucketValue _) (w v : BucketValue) (r : Result Changed ℕ) → n ≡ Leaf b
+    → w ≡ b.value → c.value ≡ v → IsBucket v → IfOk r (λ _. counted w.points w.times p ≡ 1)
+    → IfOk r (λ _. v.points ≡ without_point p w.points)
+    → IfOk r (λ _. (q : Pair) → counted w.points w.times q ≡ counted v.points v.times q + once p q)
+    → IfOk r (λ change. IsClosedOver p change.sides v.points) → IfOk r (λ change. change.turns ≡ 0)
+    → IfOk r (HasTakenOut p n (Leaf c))
+leaf_taken p n b c w v (Err none) e d f h held points times closed turns = tt
+leaf_taken p n b c w v (Ok change) e d f h held points times closed turns =
     subst (λ z. HasTakenOut p z (Leaf c) change) (sym e) record {
+      once = subst (λ (z : BucketValue). counted z.points z.times p ≡ 1) d held;
       in_place = record {
         built = leaf_built c v f h;
         height = refl;

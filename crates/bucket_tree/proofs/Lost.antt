@@ -61,13 +61,16 @@ module _ (p : Pair) (n l r : Node) (row : AreInRow l r) (points : points_below n
 
   -- where p stands before the right one
   module _ (b : IsBefore p (first_of (points_below r))) where
-    -- it is not held there
-    pub held_left : times_at n p ≡ 1 → times_at l p ≡ 1
-    held_left h =
+    -- it is held in the left one alone
+    pub same_left : times_at n p ≡ times_at l p
+    same_left =
         let z = counted_none (points_below r) (times_below r) p
         (All-weaker (IsBefore p) (λ t. ¬ (t ≡ p)) (λ t k. after_apart t p k) (points_below r)
         (all_after p (points_below l) (points_below r) row.in_order b)) in
-        omega (arith, h, held_by p, z)
+        omega (arith, held_by p, z)
+
+    pub held_left : times_at n p ≡ 1 → times_at l p ≡ 1
+    held_left h = sym same_left ∙ h
 
     whole_left : (k : List Pair) → k ≡ without_point p (points_below l)
         → k ++ points_below r ≡ without_point p (points_below n)
@@ -116,12 +119,15 @@ module _ (p : Pair) (n l r : Node) (row : AreInRow l r) (points : points_below n
     before_it : All (λ t. IsBefore t p) (points_below l)
     before_it = all_before p (points_below l) (points_below r) row.in_order (some_below r row.right_built.buckets) b
 
-    -- it is not held in the left one
-    pub held_right : times_at n p ≡ 1 → times_at r p ≡ 1
-    held_right h =
+    -- it is held in the right one alone
+    pub same_right : times_at n p ≡ times_at r p
+    same_right =
         let z = counted_none (points_below l) (times_below l) p
         (All-weaker (λ t. IsBefore t p) (λ t. ¬ (t ≡ p)) (λ t k. before_apart t p k) (points_below l) before_it) in
-        omega (arith, h, held_by p, z)
+        omega (arith, held_by p, z)
+
+    pub held_right : times_at n p ≡ 1 → times_at r p ≡ 1
+    held_right h = sym same_right ∙ h
 
     whole_right : (k : List Pair) → k ≡ without_point p (points_below r)
         → points_below l ++ k ≡ without_point p (points_below n)
@@ -169,14 +175,16 @@ module _ (p : Pair) (n l r : Node) (row : AreInRow l r) (points : points_below n
 several_same : (t : ℕ) (p : Pair) → several t p p ≡ t
 several_same t p = rw (same_true p) refl
 
--- a point that has no place is not held
+-- a point that has no place is not among them
+pub no_place : (S : List Pair) (i : ℕ) (p : Pair) → IsPositionOf S p (Err i) → ¬ Contains S p
+no_place S i p at m = absent_between p (take i S) (drop i S) at.1 at.2 (subst (λ z. Contains z p) (cut S i at.0) m)
+
+-- and not held
+pub count_none : (S : List Pair) (T : List ℕ) (i : ℕ) (p : Pair) → IsPositionOf S p (Err i) → counted S T p ≡ 0
+count_none S T i p at = counted_none S T p (all_of (λ t. ¬ (t ≡ p)) S (λ t m e. no_place S i p at (subst (Contains S) e m)))
+
 pub not_held : (S : List Pair) (T : List ℕ) (i : ℕ) (p : Pair) → IsPositionOf S p (Err i) → ¬ (counted S T p ≡ 1)
-not_held S T i p at h =
-    let z = counted_none S T p (all_of (λ t. ¬ (t ≡ p)) S (λ t m e. absent (subst (Contains S) e m))) in
-    omega (arith, z, h)
-  where
-    absent : ¬ Contains S p
-    absent m = absent_between p (take i S) (drop i S) at.1 at.2 (subst (λ z. Contains z p) (cut S i at.0) m)
+not_held S T i p at h = omega (arith, count_none S T i p at, h)
 
 -- a bucket's points and counts, of which p has the place i and is held once
 module _ (S : List Pair) (T : List ℕ) (i : ℕ) (p : Pair) (s : IsPointSet S) (e : length T ≡ length S)
@@ -263,42 +271,15 @@ count_at S T i p s e at =
     ap (λ y. several (get_or T i 0) y p) (at.1 origin) ∙ several_same (get_or T i 0) p in
     omega (arith, counted_remove S T i p e at.0, z, v)
 
--- one that has no place is not held
-pub count_none : (S : List Pair) (T : List ℕ) (i : ℕ) (p : Pair) → IsPositionOf S p (Err i) → counted S T p ≡ 0
-count_none S T i p at = counted_none S T p (all_of (λ t. ¬ (t ≡ p)) S (λ t m e. absent (subst (Contains S) e m)))
-  where
-    absent : ¬ Contains S p
-    absent m = absent_between p (take i S) (drop i S) at.1 at.2 (subst (λ z. Contains z p) (cut S i at.0) m)
-
 -- a fork holds a point in the half where it stands
 pub count_left : (n : Node) (h : ℕ) (f : Box Below _) (p : Pair) → n ≡ Fork h f → IsWellBuilt n
     → IsBefore p f.value.first_right → times_at n p ≡ times_at f.value.left p
 count_left n h f p e w b =
-    let row = halves_row n h f e w in
-    let c = subst (IsBefore p) (subst IsWellBuilt e w).labelled.1 b in
-    let z = counted_none (points_below f.value.right) (times_below f.value.right) p
-    (All-weaker (IsBefore p) (λ t. ¬ (t ≡ p)) (λ t k. after_apart t p k) (points_below f.value.right)
-    (all_after p (points_below f.value.left) (points_below f.value.right) row.in_order c)) in
-    omega (
-      arith,
-      held_row n f.value.left f.value.right p row.left_built.buckets (ap points_below e) (ap times_below
-          e),
-      z,
-    )
+    same_left p n f.value.left f.value.right (halves_row n h f e w) (ap points_below e) (ap times_below e)
+    (subst (IsBefore p) (subst IsWellBuilt e w).labelled.1 b)
 
 pub count_right : (n : Node) (h : ℕ) (f : Box Below _) (p : Pair) → n ≡ Fork h f → IsWellBuilt n
     → ¬ IsBefore p f.value.first_right → times_at n p ≡ times_at f.value.right p
 count_right n h f p e w b =
-    let row = halves_row n h f e w in
-    let c : ¬ IsBefore p (first_of (points_below f.value.right)) =
-    subst (λ z. ¬ IsBefore p z) (subst IsWellBuilt e w).labelled.1 b in
-    let z = counted_none (points_below f.value.left) (times_below f.value.left) p
-    (All-weaker (λ t. IsBefore t p) (λ t. ¬ (t ≡ p)) (λ t k. before_apart t p k) (points_below f.value.left)
-    (all_before p (points_below f.value.left) (points_below f.value.right) row.in_order
-    (some_below f.value.right row.right_built.buckets) c)) in
-    omega (
-      arith,
-      held_row n f.value.left f.value.right p row.left_built.buckets (ap points_below e) (ap times_below
-          e),
-      z,
-    )
+    same_right p n f.value.left f.value.right (halves_row n h f e w) (ap points_below e) (ap times_below e)
+    (subst (λ z. ¬ IsBefore p z) (subst IsWellBuilt e w).labelled.1 b)

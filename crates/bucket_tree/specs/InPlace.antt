@@ -1,10 +1,10 @@
 -- What a change in place comes to: no part moves.
 use Rattle.std.specs.Prelude.{◌≡◌, ◌≤◌, Some, false}
 use Rattle.lattice.specs.Plane.{Pair}
-use Rattle.bucket_tree.specs.declared.in_place.Changed.{Changed}
+use Rattle.bucket_tree.specs.declared.renewal.Changed.{Changed}
 use Rattle.bucket_tree.specs.declared.node.Node.{Node}
 use Rattle.bucket_tree.specs.Changes.{IsClosedOver}
-use Rattle.bucket_tree.specs.Counts.{HasGained, HasLost}
+use Rattle.bucket_tree.specs.Counts.{times_at, HasGained, HasLost}
 use Rattle.bucket_tree.specs.Nodes.{points_below, forks_above, IsWellBuilt}
 use Rattle.bucket_tree.specs.Turns.{most_turns}
 
@@ -16,12 +16,14 @@ pub record IsInPlace (p : Pair) (n m : Node) (change : Changed) : Type 0 where
   pub turns : change.turns ≤ most_turns (forks_above n)
   pub closed : IsClosedOver p change.sides (points_below m)
 
--- p came to the points below a node
+-- p, which was not there, came to the points below a node
 pub record HasPutIn (p : Pair) (n m : Node) (change : Changed) : Type 0 where
+  pub absent : times_at n p ≡ 0
   pub in_place : IsInPlace p n m change
   pub gained : HasGained false p n m
 
 -- p, held once, went from them, and others stay
 pub record HasTakenOut (p : Pair) (n m : Node) (change : Changed) : Type 0 where
+  pub once : times_at n p ≡ 1
   pub in_place : IsInPlace p n m change
   pub lost : HasLost p n (Some m)

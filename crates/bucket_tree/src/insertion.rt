@@ -1,11 +1,11 @@
 //! Putting points in.
-ghost use Rattle.std.specs.Prelude.{◌≡◌, ◌<◌, ◌≤◌, ◌+◌, ◌++◌, true, false, length};
+ghost use Rattle.std.specs.Prelude.{◌≡◌, ◌<◌, ◌≤◌, ◌+◌, ◌++◌, true, false, Err, length};
 ghost use Rattle.std.specs.List.{Contains};
 ghost use Rattle.lattice.specs.Covers.{IsPointSet, with_point};
 ghost use Rattle.hull_buckets.specs.declared.TheConstants.{ROOM};
 ghost use Rattle.hull_set.specs.Held.{once};
 ghost use Rattle.hull_set.specs.declared.TheConstants.{POINT_LIMIT};
-ghost use Rattle.hull_geometry.specs.Positions.{point_at};
+ghost use Rattle.hull_geometry.specs.Positions.{IsPositionOf, point_at};
 ghost use Rattle.bucket_tree.specs.Changes.{IsClosedOver};
 ghost use Rattle.bucket_tree.specs.Counts.{counted, HasGained, IsNoMuchHigher};
 ghost use Rattle.bucket_tree.specs.Nodes.{points_below, forks_above, IsWellBuilt};
@@ -45,9 +45,9 @@ pub(crate) fn open_at(bucket: &Bucket, place: usize, p: Point) -> Open
     }
 }
 
-/// Puts a new point into a bucket with room, held once, and tells the sides on which it is a corner there.
-pub(crate) fn put(bucket: &mut Bucket, p: Point) -> Open
-    requires absent { ¬ Contains bucket.old.points p }
+/// Puts a new point into a bucket with room, at its place, held once, and tells the sides on which it is a corner there.
+pub(crate) fn put_at(bucket: &mut Bucket, place: usize, p: Point) -> Open
+    requires position { IsPositionOf bucket.old.points p (Err place) }
     requires room { length bucket.old.points < ROOM }
     ensures points { bucket.new.points ≡ with_point p bucket.old.points }
     ensures times { (q : _) → counted bucket.new.points bucket.new.times q
@@ -55,11 +55,23 @@ pub(crate) fn put(bucket: &mut Bucket, p: Point) -> Open
     ensures closed { IsClosedOver p result bucket.new.points }
 {
     buckets_are_sound(bucket);
+    bucket.insert(place, p, 1);
+    open_at(bucket, place, p)
+}
+
+/// Puts a new point into a bucket with room, held once, and tells the sides on which it is a corner there.
+fn put(bucket: &mut Bucket, p: Point) -> Open
+    requires absent { ¬ Contains bucket.old.points p }
+    requires room { length bucket.old.points < ROOM }
+    ensures points { bucket.new.points ≡ with_point p bucket.old.points }
+    ensures times { (q : _) → counted bucket.new.points bucket.new.times q
+        ≡ counted bucket.old.points bucket.old.times q + once p q }
+    ensures closed { IsClosedOver p result bucket.new.points }
+{
     let Err(place) = bucket.place_of(p) else {
         unreachable!()
     };
-    bucket.insert(place, p, 1);
-    open_at(bucket, place, p)
+    put_at(bucket, place, p)
 }
 
 /// Puts a new point into one of two leaves in a row, which both have room.

@@ -23,7 +23,7 @@ mod tree;
 
 pub use find::times_of;
 pub use fork_ref::ForkRef;
-pub use in_place::{Changed, put_in_place, take_in_place};
+pub use in_place::{put_in_place, take_in_place};
 pub use insertion::{Inserted, insert};
 pub use load::from_parts;
 pub use node::{Fork, Node};
@@ -31,5 +31,5 @@ pub use part::Part;
 pub use questions::{area2, corners_answer, corners_are_few, extreme, place, tangents, vertices};
 pub use recounting::recount;
 pub use removal::{Removed, remove};
-pub use renewal::Open;
+pub use renewal::{Changed, Open};
 pub use tree::{BucketTree, bucket_trees_are_sound};

@@ -1,11 +1,12 @@
 //! The nodes of the tree.
 ghost use Rattle.std.specs.Prelude.{◌≡◌};
 ghost use Rattle.hull_geometry.specs.Positions.{first_of as first_in, last_of as last_in};
+ghost use Rattle.bucket_tree.specs.Changes.{IsSameBut, edge_on};
 ghost use Rattle.bucket_tree.specs.Nodes.{points_below, forks_above, HasBuckets, IsLabelled};
 
 use heap::Heap;
 use hull_buckets::Bucket;
-use lattice::Point;
+use lattice::{Point, Side};
 
 /// A part of the tree: a bucket, or a fork over two parts with its height.
 ///
@@ -32,6 +33,29 @@ pub struct Fork {
     pub(crate) last_left: Point,
     pub(crate) upper: (Point, Point),
     pub(crate) lower: (Point, Point),
+}
+
+impl Fork {
+    /// The edge on a side.
+    pub(crate) fn edge(&self, side: Side) -> &(Point, Point)
+        ensures { result.now ≡ edge_on side self.now }
+    {
+        match side {
+            Side::Lower => &self.lower,
+            Side::Upper => &self.upper,
+        }
+    }
+
+    /// Makes an edge the one on a side.
+    pub(crate) fn set_edge(&mut self, side: Side, edge: (Point, Point))
+        ensures same { IsSameBut side self.old self.new }
+        ensures edge { edge_on side self.new ≡ edge }
+    {
+        match side {
+            Side::Lower => self.lower = edge,
+            Side::Upper => self.upper = edge,
+        }
+    }
 }
 
 /// The first point below a node: one step a level.

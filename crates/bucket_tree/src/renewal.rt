@@ -8,7 +8,7 @@ ghost use Rattle.hull_buckets.specs.Buckets.{IsCovered};
 ghost use Rattle.hull_geometry.specs.Positions.{first_of as first_in, last_of as last_in};
 ghost use Rattle.hull_set.specs.declared.TheConstants.{POINT_LIMIT};
 ghost use Rattle.lattice.specs.Plane.{IsBefore};
-ghost use Rattle.bucket_tree.specs.Changes.{IsBehind, IsBridgeBetween, IsClearOf, TellsOf, ClosesBy};
+ghost use Rattle.bucket_tree.specs.Changes.{IsBehind, IsBridgeBetween, IsClearOf, IsRenewed, IsSameBut, TellsOf, ClosesBy, edge_on};
 ghost use Rattle.bucket_tree.specs.Nodes.{tree_of, points_below, times_below, forks_above, AreInRow, IsWellBuilt};
 ghost use Rattle.bucket_tree.specs.Nodes.{AreNear, HasBuckets};
 ghost use Rattle.bucket_tree.specs.Nodes.{IsHeightOver};
@@ -77,59 +77,80 @@ pub(crate) fn how_stands(side: Side, edge: &(Point, Point), p: Point) -> Standin
     Standing::Touching
 }
 
-/// A bridge after a change, the turns of a search for it, and whether its side is still open.
+/// What a change below a node came to there.
 #[derive(Clone, Copy)]
-pub(crate) struct Kept {
-    pub(crate) edge: (Point, Point),
-    pub(crate) turns: u32,
-    pub(crate) at_issue: bool,
+pub struct Changed {
+    /// The turns of the searches for bridges.
+    pub turns: u32,
+    /// The sides on which the point may be, or have been, a corner of the hull of all that are below the node.
+    pub sides: Open,
 }
 
-/// The bridge on a side of two parts, of which one changed at a point: the stored edge where it stands, else it is searched.
-pub(crate) fn bridge_after(
-    side: Side,
-    left: &Node,
-    right: &Node,
-    edge: (Point, Point),
-    p: Point,
-    at_issue: bool,
-) -> Kept
-    requires row { AreInRow left.now right.now }
-    requires few { length (points_below left.now ++ points_below right.now) ≤ POINT_LIMIT }
-    requires closed { at_issue ≡ false → IsBridgeBetween side left.now right.now edge }
-    requires clear { IsClearOf side edge p → IsBridgeBetween side left.now right.now edge }
-    ensures bridge { IsBridge side (On (tree_of left.now)) (On (tree_of right.now)) result.edge.0 result.edge.1 }
-    ensures turns { result.turns ≤ 2 * max (forks_above left.now) (forks_above right.now) + 12 }
-    ensures closes { result.at_issue ≡ false
-        → (at_issue ≡ false) ⊎ IsCovered side p (points_below left.now ++ points_below right.now) }
+/// Renews the edge of a fork on an open side, of which one part changed at a point: it is searched where it may not stand. How
+/// many turns the search took, and whether the side is still open.
+#[inline(never)]
+fn renew_open_edge(side: Side, fork: &mut Fork, p: Point) -> (u32, bool)
+    requires row { AreInRow fork.old.left fork.old.right }
+    requires few { length (points_below fork.old.left ++ points_below fork.old.right) ≤ POINT_LIMIT }
+    requires clear { IsClearOf side (edge_on side fork.old) p
+        → IsBridgeBetween side fork.old.left fork.old.right (edge_on side fork.old) }
+    ensures same { IsSameBut side fork.old fork.new }
+    ensures bridge { IsBridge side (On (tree_of fork.old.left)) (On (tree_of fork.old.right))
+        (edge_on side fork.new).0 (edge_on side fork.new).1 }
+    ensures turns { result.0 ≤ 2 * max (forks_above fork.old.left) (forks_above fork.old.right) + 12 }
+    ensures closes { result.1 ≡ false
+        → IsCovered side p (points_below fork.old.left ++ points_below fork.old.right) }
 {
-    if at_issue {
-        match how_stands(side, &edge, p) {
-            Standing::Covered => Kept {
-                edge,
-                turns: 0,
-                at_issue: false,
-            },
-            Standing::Clear => Kept {
-                edge,
-                turns: 0,
-                at_issue: true,
-            },
-            Standing::Touching => {
-                let (edge, turns) = search_one(side, left, right);
-                Kept {
-                    edge,
-                    turns,
-                    at_issue: true,
-                }
-            }
+    match how_stands(side, fork.edge(side), p) {
+        Standing::Covered => (0, false),
+        Standing::Clear => (0, true),
+        Standing::Touching => {
+            let (edge, turns) = search_one(side, &fork.left, &fork.right);
+            fork.set_edge(side, edge);
+            (turns, true)
         }
-    } else {
-        Kept {
-            edge,
-            turns: 0,
-            at_issue: false,
-        }
+    }
+}
+
+/// Renews the edge of a fork on a side, as [`renew_open_edge`]; a closed side is not looked at.
+#[inline(always)]
+fn renew_edge(side: Side, fork: &mut Fork, p: Point, at_issue: bool) -> (u32, bool)
+    requires row { AreInRow fork.old.left fork.old.right }
+    requires few { length (points_below fork.old.left ++ points_below fork.old.right) ≤ POINT_LIMIT }
+    requires closed { at_issue ≡ false → IsBridgeBetween side fork.old.left fork.old.right (edge_on side fork.old) }
+    requires clear { IsClearOf side (edge_on side fork.old) p
+        → IsBridgeBetween side fork.old.left fork.old.right (edge_on side fork.old) }
+    ensures same { IsSameBut side fork.old fork.new }
+    ensures bridge { IsBridge side (On (tree_of fork.old.left)) (On (tree_of fork.old.right))
+        (edge_on side fork.new).0 (edge_on side fork.new).1 }
+    ensures turns { result.0 ≤ 2 * max (forks_above fork.old.left) (forks_above fork.old.right) + 12 }
+    ensures closes { result.1 ≡ false
+        → (at_issue ≡ false) ⊎ IsCovered side p (points_below fork.old.left ++ points_below fork.old.right) }
+{
+    if !at_issue {
+        return (0, false);
+    }
+    renew_open_edge(side, fork, p)
+}
+
+/// Renews the edges of a fork of which one part changed at a point: each open side is looked at, and no other.
+#[inline(always)]
+pub(crate) fn renew_edges(fork: &mut Fork, p: Point, sides: Open) -> Changed
+    requires row { AreInRow fork.old.left fork.old.right }
+    requires few { length (points_below fork.old.left ++ points_below fork.old.right) ≤ POINT_LIMIT }
+    requires behind { IsBehind p sides fork.old.left fork.old.right fork.old }
+    requires low { max (forks_above fork.old.left) (forks_above fork.old.right) ≤ 28 }
+    ensures renewed { IsRenewed fork.new }
+    ensures left { fork.new.left ≡ fork.old.left }
+    ensures right { fork.new.right ≡ fork.old.right }
+    ensures turns { result.turns ≤ 4 * max (forks_above fork.old.left) (forks_above fork.old.right) + 24 }
+    ensures closes { ClosesBy p sides result.sides (points_below fork.old.left ++ points_below fork.old.right) }
+{
+    let (upper_turns, upper) = renew_edge(Side::Upper, fork, p, sides.upper);
+    let (lower_turns, lower) = renew_edge(Side::Lower, fork, p, sides.lower);
+    Changed {
+        turns: upper_turns + lower_turns,
+        sides: Open { lower, upper },
     }
 }
 
@@ -147,25 +168,14 @@ fn renew(left: Node, right: Node, mut place: Box<Fork, Heap>, p: Point, sides: O
     ensures turns { result.turns ≤ 4 * max (forks_above left) (forks_above right) + 24 }
     ensures closes { ClosesBy p sides result.sides (points_below left ++ points_below right) }
 {
-    let upper = bridge_after(Side::Upper, &left, &right, place.upper, p, sides.upper);
-    let lower = bridge_after(Side::Lower, &left, &right, place.lower, p, sides.lower);
     let height = height_of(&left).max(height_of(&right)) + 1;
-    let (last_left, first_right) = (place.last_left, place.first_right);
-    *place = Fork {
-        first_right,
-        left,
-        right,
-        last_left,
-        upper: upper.edge,
-        lower: lower.edge,
-    };
+    place.left = left;
+    place.right = right;
+    let change = renew_edges(&mut place, p, sides);
     Renewed {
         node: Node::Fork(height, place),
-        turns: upper.turns + lower.turns,
-        sides: Open {
-            lower: lower.at_issue,
-            upper: upper.at_issue,
-        },
+        turns: change.turns,
+        sides: change.sides,
     }
 }
 

@@ -236,8 +236,32 @@ impl BucketTree {
         recount(root, p, times as u16);
     }
 
-    /// Puts a point in that is not there, where there is room for it. Tells whether memory was refused, which leaves all
-    /// as it was, and how many turns the searches took.
+    /// Puts a new point in where its bucket has room, and tells how many turns the searches took. Else all is as it was, and how
+    /// often the point is held is told.
+    fn put_where_room(&mut self, p: Point) -> Result<u32, u32>
+        requires room { length (points_of_root self.old.root) < self.old.limit }
+        ensures absent { IfOk result (λ _. times_of_root self.old.root p ≡ 0) }
+        ensures new { IfOk result (λ _. held_by self.new.root ≡ with_new p (held_by self.old.root)) }
+        ensures few { IfOk result (λ turns. turns ≤ 10000) }
+        ensures same { IfErr result (λ _. self.new ≡ self.old) }
+        ensures told { IfErr result (λ times. times ≡ times_of_root self.old.root p) }
+        ensures least { IfErr result (λ times. times ≤ MULTIPLICITY_LIMIT) }
+        ensures same_limit { self.new.limit ≡ self.old.limit }
+    {
+        let Some(root) = &mut self.root else {
+            return Err(0);
+        };
+        match put_in_place(root, p) {
+            Ok(change) => {
+                self.count += 1;
+                Ok(change.turns)
+            }
+            Err(times) => Err(u32::from(times)),
+        }
+    }
+
+    /// Puts a new point in, where there is room for it: the first one, or one whose bucket is to be parted. Tells whether memory
+    /// was refused, which leaves all as it was, and how many turns the searches took.
     fn put_in(&mut self, p: Point) -> (bool, u32)
         requires absent { times_of_root self.old.root p ≡ 0 }
         requires room { length (points_of_root self.old.root) < self.old.limit }
@@ -246,20 +270,13 @@ impl BucketTree {
         ensures same_limit { self.new.limit ≡ self.old.limit }
         ensures few { result.1 ≤ 10000 }
     {
-        let Some(root) = &mut self.root else {
+        let Some(root) = self.root.take() else {
             let Ok(leaf) = first_leaf(self.alloc, p) else {
                 return (true, 0);
             };
             self.root = Some(leaf);
             self.count = 1;
             return (false, 0);
-        };
-        if let Some(change) = put_in_place(root, p) {
-            self.count += 1;
-            return (false, change.turns);
-        }
-        let Some(root) = self.root.take() else {
-            unreachable!()
         };
         let change = insert(self.alloc, root, p);
         self.root = Some(change.node);
@@ -270,6 +287,29 @@ impl BucketTree {
         (false, change.turns)
     }
 
+    /// Takes a point that is held once out where no part has to move, and tells how many turns the searches took. Else all is as
+    /// it was, and how often the point is held is told.
+    fn take_where_others(&mut self, p: Point) -> Result<u32, u32>
+        ensures once { IfOk result (λ _. times_of_root self.old.root p ≡ 1) }
+        ensures without { IfOk result (λ _. held_by self.new.root ≡ with_none p (held_by self.old.root)) }
+        ensures few { IfOk result (λ turns. turns ≤ 10000) }
+        ensures same { IfErr result (λ _. self.new ≡ self.old) }
+        ensures told { IfErr result (λ times. times ≡ times_of_root self.old.root p) }
+        ensures least { IfErr result (λ times. times ≤ MULTIPLICITY_LIMIT) }
+        ensures same_limit { self.new.limit ≡ self.old.limit }
+    {
+        let Some(root) = &mut self.root else {
+            return Err(0);
+        };
+        match take_in_place(root, p) {
+            Ok(change) => {
+                self.count -= 1;
+                Ok(change.turns)
+            }
+            Err(times) => Err(u32::from(times)),
+        }
+    }
+
     /// Takes a point out that is held once, and tells how many turns the searches took.
     fn take_out(&mut self, p: Point) -> u32
         requires { times_of_root self.old.root p ≡ 1 }
@@ -277,13 +317,6 @@ impl BucketTree {
         ensures same_limit { self.new.limit ≡ self.old.limit }
         ensures few { result ≤ 10000 }
     {
-        let Some(root) = &mut self.root else {
-            unreachable!()
-        };
-        if let Some(change) = take_in_place(root, p) {
-            self.count -= 1;
-            return change.turns;
-        }
         let Some(root) = self.root.take() else {
             unreachable!()
         };
@@ -291,6 +324,23 @@ impl BucketTree {
         self.root = removed.rest;
         self.count -= 1;
         removed.turns
+    }
+
+    /// Holds a point that is held so many times once more; a point that is not held has no room.
+    fn count_up(&mut self, p: Point, times: u32) -> AddReply
+        requires told { times ≡ times_of_root self.old.root p }
+        requires few { times ≤ MULTIPLICITY_LIMIT }
+        requires room { times ≡ 0 → length (points_of_root self.old.root) ≡ self.old.limit }
+        ensures reply { Answers Rules.Counted (held_by self.old.root) self.old.limit (Call.Add p) (reply_to_add result) }
+        ensures effect { held_by self.new.root ≡ after (held_by self.old.root) (Call.Add p) (reply_to_add result) }
+        ensures same_limit { self.new.limit ≡ self.old.limit }
+    {
+        bucket_trees_are_sound(self);
+        if times == 0 || times == MULTIPLICITY_LIMIT {
+            return AddReply::TooMany;
+        }
+        self.set_times(p, times + 1);
+        AddReply::Again(times + 1)
     }
 
     /// Holds `p` once more; [`add_counted`](BucketTree::add_counted) tells more.
@@ -302,16 +352,16 @@ impl BucketTree {
         ensures few { result.1 ≤ 10000 }
     {
         bucket_trees_are_sound(self);
-        let times = self.times(p);
-        if times == MULTIPLICITY_LIMIT {
-            return (AddReply::TooMany, 0);
-        }
-        if times > 0 {
-            self.set_times(p, times + 1);
-            return (AddReply::Again(times + 1), 0);
-        }
         if self.is_full() {
-            return (AddReply::TooMany, 0);
+            let times = self.times(p);
+            return (self.count_up(p, times), 0);
+        }
+        let times = match self.put_where_room(p) {
+            Ok(turns) => return (AddReply::Added, turns),
+            Err(times) => times,
+        };
+        if times > 0 {
+            return (self.count_up(p, times), 0);
         }
         let (refused, turns) = self.put_in(p);
         if refused {
@@ -331,7 +381,10 @@ impl BucketTree {
         ensures few { result.1 ≤ 10000 }
     {
         bucket_trees_are_sound(self);
-        let times = self.times(p);
+        let times = match self.take_where_others(p) {
+            Ok(turns) => return (RemoveReply::Removed, turns),
+            Err(times) => times,
+        };
         if times == 0 {
             return (RemoveReply::Absent, 0);
         }

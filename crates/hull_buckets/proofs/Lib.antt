@@ -7,6 +7,7 @@ pub mod Ends
 pub mod Steps
 pub mod Around
 pub mod Inserted
+pub mod Joined
 pub mod Removed
 pub mod Rows
 pub mod Changed

@@ -4,13 +4,14 @@ ghost use Rattle.std.specs.List.{All, Contains, insert, remove};
 ghost use Rattle.lattice.specs.Bridges.{IsAllBefore};
 ghost use Rattle.lattice.specs.Covers.{IsPointSet, with_point, without_point};
 ghost use Rattle.lattice.specs.declared.side.Side.{Side};
+ghost use Rattle.lattice.specs.declared.side.Side.TheVariants.{Lower, Upper};
 ghost use Rattle.hull_geometry.specs.Positions.{IsPositionOf, point_at};
 ghost use Rattle.hull_buckets.specs.Buckets.{IsBucket};
 ghost use Rattle.hull_buckets.specs.declared.TheConstants.{ROOM};
 
 use super::ROOM;
 use super::mask::has;
-use super::mending::{all_corners, with_corner, without_corner};
+use super::mending::{all_corners, corners_before, corners_from, with_corner, without_corner};
 use super::positions::position_of;
 use super::row::{put_behind, put_in, put_over, take_out};
 use lattice::{Point, Side};
@@ -162,6 +163,26 @@ impl Bucket {
         ensures points { result.points ≡ points.now }
         ensures times { result.times ≡ times.now }
     {
+        Bucket::with_corners(
+            points,
+            times,
+            all_corners(Side::Lower, points),
+            all_corners(Side::Upper, points),
+        )
+    }
+
+    /// A bucket of points in order, each held so often, whose corners are known.
+    fn with_corners(points: &[Point], times: &[u16], lower: u64, upper: u64) -> Bucket
+        requires some { 0 < length points.now }
+        requires few { length points.now ≤ ROOM }
+        requires ordered { IsPointSet points.now }
+        requires counted { length times.now ≡ length points.now }
+        requires held { All IsMultiplicity times.now }
+        requires below { IsMaskOf Lower points.now lower }
+        requires above { IsMaskOf Upper points.now upper }
+        ensures points { result.points ≡ points.now }
+        ensures times { result.times ≡ times.now }
+    {
         let mut own_points = [points[0]; ROOM];
         let mut own_times = [times[0]; ROOM];
         put_behind(&mut own_points, 0, points);
@@ -170,21 +191,21 @@ impl Bucket {
             points: own_points,
             times: own_times,
             len: points.len(),
-            lower: all_corners(Side::Lower, points),
-            upper: all_corners(Side::Upper, points),
+            lower,
+            upper,
         }
     }
 
-    /// Keeps the first so many points, and no others.
+    /// Keeps the first so many points, and not the others.
     fn truncate(&mut self, len: usize)
         requires some { 0 < len }
-        requires within { len ≤ length self.old.points }
+        requires within { len < length self.old.points }
         ensures points { self.new.points ≡ take len self.old.points }
         ensures times { self.new.times ≡ take len self.old.times }
     {
-        let points = &self.points[..len];
-        self.lower = all_corners(Side::Lower, points);
-        self.upper = all_corners(Side::Upper, points);
+        let points = &self.points[..self.len];
+        self.lower = corners_before(Side::Lower, points, self.lower, len);
+        self.upper = corners_before(Side::Upper, points, self.upper, len);
         self.len = len;
     }
 
@@ -197,7 +218,12 @@ impl Bucket {
     {
         let (points, times) = (self.points(), self.times());
         let middle = points.len() / 2;
-        let second = Bucket::from_parts(&points[middle..], &times[middle..]);
+        let second = Bucket::with_corners(
+            &points[middle..],
+            &times[middle..],
+            corners_from(Side::Lower, points, self.lower, middle),
+            corners_from(Side::Upper, points, self.upper, middle),
+        );
         self.truncate(middle);
         second
     }

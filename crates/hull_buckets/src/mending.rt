@@ -1,9 +1,9 @@
 //! The chain of a bucket's points after one came or went, or after all did.
-ghost use Rattle.std.specs.Prelude.{◌≡◌, ◌↔◌, ◌<◌, ◌≤◌, ◌+◌, ◌%◌, ◌^◌, ◌++◌, IsTrue, length};
+ghost use Rattle.std.specs.Prelude.{◌≡◌, ◌↔◌, ◌<◌, ◌≤◌, ◌+◌, ◌%◌, ◌^◌, ◌++◌, IsTrue, length, take, drop};
 ghost use Rattle.lattice.specs.Covers.{IsPointSet};
 ghost use Rattle.hull_geometry.specs.Mending.{IsOverEdge};
 ghost use Rattle.hull_geometry.specs.Positions.{point_at};
-ghost use Rattle.hull_buckets.specs.Buckets.{IsMaskOf, WasMaskOf};
+ghost use Rattle.hull_buckets.specs.Buckets.{AreEnds, IsMaskOf, WasMaskOf};
 ghost use Rattle.hull_buckets.specs.Masks.{at_places, without_place};
 ghost use Rattle.hull_buckets.specs.declared.TheConstants.{ROOM};
 
@@ -50,6 +50,19 @@ pub(crate) fn with_corner(side: Side, points: &[Point], old: u64, place: usize) 
     taken_up(side, points, front, high)
 }
 
+/// The mask of the chain of points, by corners at its two ends: one pass goes over the points between these, and on over the
+/// corners behind them until the chain turns as it did.
+fn joined(side: Side, points: &[Point], low: u64, high: u64) -> u64
+    requires few { length points.now ≤ ROOM }
+    requires ordered { IsPointSet points.now }
+    requires ends { AreEnds side points.now low high }
+    ensures { IsMaskOf side points.now result }
+{
+    let middle = between(low, high, points.len());
+    let front = passed_over(side, points, low, middle);
+    taken_up(side, points, front, high)
+}
+
 /// The mask of the chain of points of which one has gone that stood at `place`; `old` was that of all of them.
 ///
 /// Where the point was no corner, nothing changes. Else its neighbours stay, and one pass goes over the points between
@@ -63,9 +76,30 @@ pub(crate) fn without_corner(side: Side, points: &[Point], old: u64, place: usiz
     if !has(old, place) {
         return low + high;
     }
-    let middle = between(low, high, points.len());
-    let front = passed_over(side, points, low, middle);
-    taken_up(side, points, front, high)
+    joined(side, points, low, high)
+}
+
+/// The mask of the chain of the first so many points, where `old` is that of all of them: its corners stay, and a pass goes
+/// over the points behind the last of them.
+pub(crate) fn corners_before(side: Side, points: &[Point], old: u64, count: usize) -> u64
+    requires few { length points.now ≤ ROOM }
+    requires ordered { IsPointSet points.now }
+    requires within { count < length points.now }
+    requires mask { IsMaskOf side points.now old }
+    ensures { IsMaskOf side (take count points.now) result }
+{
+    joined(side, &points[..count], below(old, count), 0)
+}
+
+/// The mask of the chain of the points from a place on, where `old` is that of all of them.
+pub(crate) fn corners_from(side: Side, points: &[Point], old: u64, place: usize) -> u64
+    requires few { length points.now ≤ ROOM }
+    requires ordered { IsPointSet points.now }
+    requires within { place < length points.now }
+    requires mask { IsMaskOf side points.now old }
+    ensures { IsMaskOf side (drop place points.now) result }
+{
+    joined(side, &points[place..], 0, old >> place)
 }
 
 /// The mask of the chain of these points, in one pass.

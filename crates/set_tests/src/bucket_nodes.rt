@@ -25,7 +25,7 @@ fn one(alloc: Global, p: Point) -> Result<Node, AllocError> {
 
 /// A new point put in, in place where its bucket has room, and the turns of that.
 fn put(alloc: Global, mut node: Node, p: Point) -> (Node, u32) {
-    if let Some(change) = put_in_place(&mut node, p) {
+    if let Ok(change) = put_in_place(&mut node, p) {
         return (node, change.turns);
     }
     let Inserted { node, turns, .. } = insert(alloc, node, p);
@@ -34,7 +34,7 @@ fn put(alloc: Global, mut node: Node, p: Point) -> (Node, u32) {
 
 /// A point taken out that is held once, in place where its bucket keeps others, and the turns of that.
 fn take(mut node: Node, p: Point) -> (Option<Node>, u32) {
-    if let Some(change) = take_in_place(&mut node, p) {
+    if let Ok(change) = take_in_place(&mut node, p) {
         return (Some(node), change.turns);
     }
     let Removed { rest, turns, .. } = remove(node, p);

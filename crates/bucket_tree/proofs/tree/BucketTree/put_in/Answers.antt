@@ -1,5 +1,4 @@
--- the root is well built and low, the point is not below it, and there is room for one more; where it was not put in place, the
--- root is as it was
+-- the root is well built and low, the point is not below it, and there is room for one more
 use Rattle.std.proofs.Common.{◌≡◌, ◌≤◌, ◌∙◌, ap, arith, length, subst, sym, Some}
 use Rattle.std.specs.Prelude.{Option}
 use Rattle.bucket_tree.specs.Counts.{HasGained}
@@ -11,87 +10,36 @@ use Rattle.bucket_tree.proofs.MostTurns.{few_turns}
 use Rattle.bucket_tree.proofs.Rooted.{absent_below, built_root, limited_with, sound}
 use Rattle.bucket_tree.proofs.tree.BucketTree.put_in.Goals as goal
 
-pub put_in_place-requires-clause-absent : goal.put_in_place-requires-clause-absent
-put_in_place-requires-clause-absent c =
+pub insert-change-requires-clause-absent : goal.insert-change-requires-clause-absent
+insert-change-requires-clause-absent c =
     let r : c.self.inside.root ≡ Some c.in-Some.root = cc in
     absent_below _ c.in-Some.root c.args.p (sym (ap (λ (z : LimitedTree). z.root) c.self.view_is) ∙ r)
     (built_root _ _ _ _ c.self.invariant r) c.requires.absent
 
-pub put_in_place-requires-clause-low : goal.put_in_place-requires-clause-low
-put_in_place-requires-clause-low c =
-    let r : c.self.inside.root ≡ Some c.in-Some.root = cc in
-    (sound _ _ _ (subst (λ (z : Option Node). IsLimited z c.self.inside.count c.self.inside.limit) r
-    c.self.invariant)).low
-
-pub invariant_of-self-in-Some-put_in_place : goal.invariant_of-self-in-Some-put_in_place
-invariant_of-self-in-Some-put_in_place c =
-    let r : c.self.inside.root ≡ Some c.in-Some.root = cc in
-    let v : c.args.self.now.root ≡ Some c.in-Some.root = sym (ap (λ (z : LimitedTree). z.root) c.self.view_is) ∙ r in
-    limited_with c.in-Some.root c.put_in_place.new.node c.args.p c.self.inside.count c.self.inside.limit
-    (subst (λ (z : Option Node). IsLimited z c.self.inside.count c.self.inside.limit) r
-    c.self.invariant)
-    c.in-Some-put_in_place.ensures.some.in_place.built
-    c.in-Some-put_in_place.ensures.some.gained.0
-    (absent_below _ c.in-Some.root c.args.p v (built_root _ _ _ _ c.self.invariant r) c.requires.absent)
-    (omega (
-      arith,
-      c.requires.room,
-      c.self.invariant.counted,
-      ap (λ (z : LimitedTree). length (points_of_root z.root)) c.self.view_is,
-      ap (λ (z : LimitedTree). z.limit) c.self.view_is,
-    ))
-
-pub returns-in-Some-put_in_place-clause-few : goal.returns-in-Some-put_in_place-clause-few
-returns-in-Some-put_in_place-clause-few c =
-    let r : c.self.inside.root ≡ Some c.in-Some.root = cc in
-    let h : forks_above c.in-Some.root ≤ 28 =
-    (sound _ _ _ (subst (λ (z : Option Node). IsLimited z c.self.inside.count c.self.inside.limit) r
-    c.self.invariant)).low in
-    omega (arith, few_turns (forks_above c.in-Some.root) h, c.in-Some-put_in_place.ensures.some.in_place.turns)
-
-pub insert-change-requires-clause-absent : goal.insert-change-requires-clause-absent
-insert-change-requires-clause-absent c =
-    let e = c.put_in_place.ensures.none c.in_default-put_in_place.is in
-    let k : c.in-Some-take.root ≡ c.put_in_place.new.node = cc in
-    let q : c.self.inside.root ≡ Some c.in-Some.root = cc in
-    let r : c.self.inside.root ≡ Some c.in-Some-take.root = q ∙ ap Some (sym (k ∙ e)) in
-    absent_below _ c.in-Some-take.root c.args.p (sym (ap (λ (z : LimitedTree). z.root) c.self.view_is) ∙ r)
-    (built_root _ _ _ _ c.self.invariant r) c.requires.absent
-
 pub insert-change-requires-clause-low : goal.insert-change-requires-clause-low
 insert-change-requires-clause-low c =
-    let e = c.put_in_place.ensures.none c.in_default-put_in_place.is in
-    let k : c.in-Some-take.root ≡ c.put_in_place.new.node = cc in
-    let q : c.self.inside.root ≡ Some c.in-Some.root = cc in
-    let r : c.self.inside.root ≡ Some c.in-Some-take.root = q ∙ ap Some (sym (k ∙ e)) in
+    let r : c.self.inside.root ≡ Some c.in-Some.root = cc in
     (sound _ _ _ (subst (λ (z : Option Node). IsLimited z c.self.inside.count c.self.inside.limit) r
     c.self.invariant)).low
 
 pub returns-then-change-clause-few : goal.returns-then-change-clause-few
 returns-then-change-clause-few c =
-    let e = c.put_in_place.ensures.none c.in_default-put_in_place.is in
-    let k : c.in-Some-take.root ≡ c.put_in_place.new.node = cc in
-    let q : c.self.inside.root ≡ Some c.in-Some.root = cc in
-    let r : c.self.inside.root ≡ Some c.in-Some-take.root = q ∙ ap Some (sym (k ∙ e)) in
-    let h : forks_above c.in-Some-take.root ≤ 28 =
+    let r : c.self.inside.root ≡ Some c.in-Some.root = cc in
+    let h : forks_above c.in-Some.root ≤ 28 =
     (sound _ _ _ (subst (λ (z : Option Node). IsLimited z c.self.inside.count c.self.inside.limit) r
     c.self.invariant)).low in
-    omega (arith, few_turns (forks_above c.in-Some-take.root) h, c.insert-change.ensures.turns)
+    omega (arith, few_turns (forks_above c.in-Some.root) h, c.insert-change.ensures.turns)
 
 pub invariant_of-self-2 : goal.invariant_of-self-2
 invariant_of-self-2 c =
-    let e = c.put_in_place.ensures.none c.in_default-put_in_place.is in
-    let k : c.in-Some-take.root ≡ c.put_in_place.new.node = cc in
-    let q : c.self.inside.root ≡ Some c.in-Some.root = cc in
-    let r : c.self.inside.root ≡ Some c.in-Some-take.root = q ∙ ap Some (sym (k ∙ e)) in
-    let v : c.args.self.now.root ≡ Some c.in-Some-take.root = sym (ap (λ (z : LimitedTree). z.root) c.self.view_is) ∙ r in
-    limited_with c.in-Some-take.root c.insert-change.result.node c.args.p c.self.inside.count c.self.inside.limit
-    (subst (λ (z : Option Node). IsLimited z c.self.inside.count c.self.inside.limit) r
-    c.self.invariant)
+    let r : c.self.inside.root ≡ Some c.in-Some.root = cc in
+    let v : c.args.self.now.root ≡ Some c.in-Some.root = sym (ap (λ (z : LimitedTree). z.root) c.self.view_is) ∙ r in
+    limited_with c.in-Some.root c.insert-change.result.node c.args.p c.self.inside.count c.self.inside.limit
+    (subst (λ (z : Option Node). IsLimited z c.self.inside.count c.self.inside.limit) r c.self.invariant)
     c.insert-change.ensures.built
-    (subst (λ z. HasGained z c.args.p c.in-Some-take.root c.insert-change.result.node) c.if-change.false
+    (subst (λ z. HasGained z c.args.p c.in-Some.root c.insert-change.result.node) c.if-change.false
     c.insert-change.ensures.gained).0
-    (absent_below _ c.in-Some-take.root c.args.p v (built_root _ _ _ _ c.self.invariant r) c.requires.absent)
+    (absent_below _ c.in-Some.root c.args.p v (built_root _ _ _ _ c.self.invariant r) c.requires.absent)
     (omega (
       arith,
       c.requires.room,
@@ -102,11 +50,8 @@ invariant_of-self-2 c =
 
 pub returns-clause-few : goal.returns-clause-few
 returns-clause-few c =
-    let e = c.put_in_place.ensures.none c.in_default-put_in_place.is in
-    let k : c.in-Some-take.root ≡ c.put_in_place.new.node = cc in
-    let q : c.self.inside.root ≡ Some c.in-Some.root = cc in
-    let r : c.self.inside.root ≡ Some c.in-Some-take.root = q ∙ ap Some (sym (k ∙ e)) in
-    let h : forks_above c.in-Some-take.root ≤ 28 =
+    let r : c.self.inside.root ≡ Some c.in-Some.root = cc in
+    let h : forks_above c.in-Some.root ≤ 28 =
     (sound _ _ _ (subst (λ (z : Option Node). IsLimited z c.self.inside.count c.self.inside.limit) r
     c.self.invariant)).low in
-    omega (arith, few_turns (forks_above c.in-Some-take.root) h, c.insert-change.ensures.turns)
+    omega (arith, few_turns (forks_above c.in-Some.root) h, c.insert-change.ensures.turns)

@@ -3,7 +3,7 @@ use Rattle.std.proofs.Common.{◌≡◌, ℕ, ◌+◌, List, length, take, sym, 
 use Rattle.lattice.specs.Plane.{Pair}
 use Rattle.hull_buckets.specs.Buckets.{IsBucket}
 use Rattle.hull_buckets.proofs.Changed.{made}
-use Rattle.hull_buckets.proofs.bucket.Bucket.from_parts.Goals as goal
+use Rattle.hull_buckets.proofs.bucket.Bucket.with_corners.Goals as goal
 
 -- the first of what was written behind nothing
 first_written : {X : Type 0} (new more : List X) (n : ℕ) → n ≡ length more → take (0 + length more) new ≡ more
@@ -21,16 +21,16 @@ invariant_of-result c =
       subst (λ (z : List Pair). IsBucket (record {
         points = z;
         times = take (length c.args.points.now) c.put_behind-2.new.items;
-        lower = c.all_corners.result;
-        upper = c.all_corners-2.result;
+        lower = c.args.lower;
+        upper = c.args.upper;
       })) (sym P)
           (subst (λ (z : List ℕ). IsBucket (record {
             points = c.args.points.now;
             times = z;
-            lower = c.all_corners.result;
-            upper = c.all_corners-2.result;
+            lower = c.args.lower;
+            upper = c.args.upper;
           })) (sym T)
-          (made c.args.points.now c.args.times.now c.all_corners.result c.all_corners-2.result c.requires.some
-          c.requires.few c.requires.ordered c.requires.counted c.requires.held c.all_corners.ensures
-          c.all_corners-2.ensures)),
+          (made c.args.points.now c.args.times.now c.args.lower c.args.upper c.requires.some
+          c.requires.few c.requires.ordered c.requires.counted c.requires.held c.requires.below
+          c.requires.above)),
     )

@@ -6,7 +6,7 @@ use Rattle.bucket_tree.specs.Changes.{IsClearOf}
 use Rattle.bucket_tree.specs.Nodes.{points_below}
 use Rattle.bucket_tree.proofs.InPlace.{lower_moved}
 use Rattle.bucket_tree.proofs.Kept.{closes_by}
-use Rattle.bucket_tree.proofs.in_place.renew_edges.Goals as goal
+use Rattle.bucket_tree.proofs.renewal.renew_edges.Goals as goal
 
 pub renew_edge-upper_turns-requires-clause-closed : goal.renew_edge-upper_turns-requires-clause-closed
 renew_edge-upper_turns-requires-clause-closed c = c.requires.behind.closed Upper

@@ -1,0 +1,30 @@
+-- a new point counts once
+use Rattle.std.proofs.Common.{sym, ap, ◌∙◌, arith, List, length}
+use Rattle.lattice.specs.Plane.{Pair}
+use Rattle.hull_geometry.specs.Positions.{point_at}
+use Rattle.bucket_tree.proofs.Lost.{no_place}
+use Rattle.bucket_tree.proofs.Rows.{counted_put, inserted_there}
+use Rattle.hull_buckets.proofs.Changed.{insert_is}
+use Rattle.leaf_trees.proofs.Rows.{with_length}
+use Rattle.bucket_tree.proofs.insertion.put_at.Goals as goal
+
+pub returns-clause-times : goal.returns-clause-times
+returns-clause-times c q =
+    counted_put c.args.bucket.now.points c.insert.new.self.points c.args.bucket.now.times c.insert.new.self.times
+    c.args.place c.args.p q c.buckets_are_sound.ensures.ordered c.buckets_are_sound.ensures.counted
+    c.requires.position c.insert.ensures.points c.insert.ensures.times
+
+pub open_at-requires-clause-within : goal.open_at-requires-clause-within
+open_at-requires-clause-within c = omega (
+  arith,
+  c.requires.position.0,
+  ap (λ (z : List Pair). length z) c.insert.ensures.points,
+  with_length c.args.p c.args.bucket.now.points
+      (no_place c.args.bucket.now.points c.args.place c.args.p c.requires.position),
+)
+
+pub open_at-requires-clause-there : goal.open_at-requires-clause-there
+open_at-requires-clause-there c =
+    ap (λ z. point_at z c.args.place) (c.insert.ensures.points
+    ∙ sym (insert_is c.args.bucket.now.points c.args.p c.args.place c.buckets_are_sound.ensures.ordered c.requires.position))
+    ∙ inserted_there c.args.bucket.now.points c.args.p c.args.place c.requires.position.0
