@@ -46,3 +46,4 @@ pub mod Courses
 pub mod DifferencesTold
 pub mod Casting
 pub mod Leaving
+pub mod Staying

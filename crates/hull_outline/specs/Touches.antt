@@ -1,9 +1,10 @@
 -- The chains of a hull by their side, and the edges beside the corners where the tangents from a point touch.
-use Rattle.std.specs.Prelude.{ℕ, pos, ◌<ℤ◌, List, length}
+use Rattle.std.specs.Prelude.{◌≡◌, ℕ, ◌≤◌, pos, ◌<ℤ◌, List, length}
 use Rattle.lattice.specs.Plane.{Pair, orient}
 use Rattle.hull_geometry.specs.Edges.{IsAlong}
 use Rattle.lattice.specs.declared.side.Side.{Side}
 use Rattle.lattice.specs.declared.side.Side.TheVariants.{Lower, Upper}
+use Rattle.hull_outline.specs.Rounds.{corner}
 
 -- the place at which a chain starts, the last corner's being `last`
 abbrev pub starts_at : Side → ℕ → ℕ
@@ -22,3 +23,7 @@ IsPassed side q a b = IsAlong side b q × (pos 0 <ℤ orient a b q)
 -- it begins after q
 abbrev pub IsToCome : Side → Pair → Pair → Pair → Type 0
 IsToCome side q a b = IsAlong side q a × (pos 0 <ℤ orient a b q)
+
+-- p is a corner of the chain on this side
+abbrev pub StandsOn : Side → List Pair → ℕ → Pair → Type 0
+StandsOn side V last p = (i : ℕ) × (starts_at side last ≤ i) × (i ≤ ends_at side V last) × (corner V i ≡ p)

@@ -45,6 +45,7 @@ mod segments;
 mod separations;
 mod sights;
 mod squares;
+mod stays;
 mod strips;
 mod tangents;
 mod vector;

@@ -53,6 +53,22 @@ impl<'a> Outline<'a> {
         Outline { corners, last }
     }
 
+    /// The outline of corners whose last one, by x and then y, stands at `last`. Neither a pass nor a bisection.
+    pub fn of_parted(corners: &'a [Point], last: usize) -> Outline<'a>
+        requires parted { IsParted corners.now last }
+        requires few { length corners.now ≤ POINT_LIMIT }
+        ensures { corners_of result ≡ corners.now }
+    {
+        Outline { corners, last }
+    }
+
+    /// The place of the last corner, for [`Outline::of_parted`].
+    pub fn last(&self) -> usize
+        ensures { IsParted (corners_of self.now) result }
+    {
+        self.last
+    }
+
     /// The corners.
     pub fn corners(&self) -> &'a [Point]
         ensures corners { result.now ≡ corners_of self.now }

@@ -1,0 +1,208 @@
+-- Corners stay as a covered point comes, and as a point goes that is none of them.
+use Rattle.std.proofs.Common.{◌≡◌, ℕ, zero, suc, ◌+◌, ◌-◌, ◌≤◌, ◌<◌, pos, ◌≤ℤ◌, ◌⊎◌, List, length, inl, inr, sym, ap, ◌∙◌, subst}
+use Rattle.std.proofs.Common.{arith}
+use Rattle.std.specs.List.{Contains}
+use Rattle.std.proofs.lemmas.Bool.{cases_lt}
+use Rattle.lattice.specs.Covers.{Covers, IsPointSet, Member, with_point, without_point}
+use Rattle.lattice.specs.Plane.{Pair, orient, IsBefore}
+use Rattle.lattice.specs.Signs.{le_or_lt}
+use Rattle.lattice.specs.Vertices.{IsVertexList}
+use Rattle.lattice.specs.declared.side.Side.{Side}
+use Rattle.lattice.specs.declared.side.Side.TheVariants.{Lower, Upper}
+use Rattle.hull_geometry.specs.Edges.{IsAlong, IsEdgeOn}
+use Rattle.hull_geometry.specs.Monotone.{IsInwards}
+use Rattle.hull_geometry.specs.Sights.{IsEdgeOnAt}
+use Rattle.hull_geometry.proofs.Along.{along_total, along_trans, along_not, along_apart}
+use Rattle.hull_geometry.proofs.ChangedSets.{in_without}
+use Rattle.hull_geometry.proofs.EdgesAt.{outside_before, outside_after, outside_nothing, outside_right}
+use Rattle.hull_geometry.proofs.FringeHulls.{fringes_answer}
+use Rattle.hull_geometry.proofs.SetLaws.{ordered_with, ordered_without, members_with, members_without}
+use Rattle.hull_outline.specs.Outlines.{IsOutlineOf}
+use Rattle.hull_outline.specs.Rounds.{corner, IsParted, IsRound}
+use Rattle.hull_outline.specs.Touches.{starts_at, ends_at, StandsOn}
+use Rattle.hull_outline.proofs.Corners.{corner_back, corner_there, corner_of}
+use Rattle.hull_outline.proofs.EdgesAt.{start_within, edge_found}
+use Rattle.hull_outline.proofs.Ends.{ends_of, no_corners}
+use Rattle.hull_outline.proofs.Made.{own_outline}
+use Rattle.hull_outline.proofs.MadeEdges.{set_of, set_ordered, set_among, set_all}
+use Rattle.hull_outline.proofs.RoundChains.{renumbered}
+use Rattle.hull_outline.proofs.Turns.{turn_of}
+
+-- ---- a covered point stands under a segment between two corners
+
+-- along a side, a covered point comes neither before the start of a chain nor after its end
+within_ends : (side : Side) (S V : List Pair) (last : ℕ) (t : Pair) → IsOutlineOf S V → IsParted V last → 0 < length V
+    → Covers S t
+    → ¬ IsAlong side t (corner V (starts_at side last)) × ¬ IsAlong side (corner V (ends_at side V last)) t
+within_ends Lower S V last t o p n c =
+    let ends = ends_of S V last o p n in
+    (λ b. outside_before S (corner V 0) t ends.0 b c, λ b. outside_after S (corner V last) t ends.1 b c)
+within_ends Upper S V last t o p n c =
+    let ends = ends_of S V last o p n in (
+      λ b. outside_after S (corner V last) t ends.1 b c,
+      λ b. outside_before S (corner V 0) t ends.0 (subst (IsBefore t) (corner_back V (length V) (omega arith) n) b) c,
+    )
+
+-- whether one point comes before another along a side can be told
+along_told : (side : Side) (u v : Pair) → IsAlong side u v ⊎ ¬ (IsAlong side u v)
+along_told side u v = elim (along_total side u v) [
+  | inl b ↦ inl b
+  | inr (inl e) ↦ inr (λ b. along_apart side u v b e)
+  | inr (inr b) ↦ inr (along_not side v u b)
+]
+
+-- t is a corner, or stands inwards of a segment between two corners
+abbrev IsUnder : Side → List Pair → Pair → Type 0
+IsUnder side V t = Contains V t ⊎ ((a b : Pair) × Contains V a × Contains V b × IsInwards side a b t)
+
+-- a covered point between the ends of an edge stands inwards of it
+under_edge : (side : Side) (S V : List Pair) (u v t : Pair) → IsEdgeOn side S u v → Contains V u → Contains V v
+    → IsAlong side u t → IsAlong side t v → Covers S t → IsUnder side V t
+under_edge side S V u v t e mu mv b k c = inr (by_side side e b k)
+  where
+    left : (side : Side) → IsEdgeOn side S u v → pos 0 ≤ℤ orient u v t
+    left side e = elim (le_or_lt (pos 0) (orient u v t)) [
+      | inl h ↦ h
+      | inr h ↦ absurd (outside_right side S t (u, v, e, h) c)
+    ]
+
+    by_side : (side : Side) → IsEdgeOn side S u v → IsAlong side u t → IsAlong side t v
+        → (a b : Pair) × Contains V a × Contains V b × IsInwards side a b t
+    by_side Lower e b k = (u, v, mu, mv, (b, k, left Lower e))
+    by_side Upper e b k = (v, u, mv, mu, (k, b, left Upper e))
+
+-- at a covered point that comes before the end of a chain there is an edge of it
+under_chain : (side : Side) (S V : List Pair) (last : ℕ) (t : Pair) → IsOutlineOf S V → IsParted V last → 0 < length V
+    → Covers S t → IsAlong side t (corner V (ends_at side V last)) → IsUnder side V t
+under_chain side S V last t o p n c to =
+    let from = (within_ends side S V last t o p n c).0 in
+    let r = turn_of (λ i. ¬ (IsAlong side t (corner V (i + 1)))) told (ends_at side V last - starts_at side last)
+    (starts_at side last) (ends_at side V last) (span side) in
+    let high = start_within side V last r.0 t from to r.1.from r.1.to r.1.held in
+    let e : IsEdgeOnAt side S t (corner V r.0, corner V (r.0 + 1)) =
+    edge_found side S V last r.0 t o p n from to r.1.from high r.1.held (λ l. onward r.0 (r.1.fails l)) in
+    elim (along_total side (corner V r.0) t) [
+      | inl b ↦ under_edge side S V (corner V r.0) (corner V (r.0 + 1)) t e.edge (corner_there V r.0 n)
+          (corner_there V (r.0 + 1) n) b e.onward c
+      | inr (inl q) ↦ inl (subst (Contains V) q (corner_there V r.0 n))
+      | inr (inr b) ↦ absurd (e.starts b)
+    ]
+  where
+    told : (i : ℕ) → ¬ (IsAlong side t (corner V (i + 1))) ⊎ ¬ (¬ (IsAlong side t (corner V (i + 1))))
+    told i = elim (along_told side t (corner V (i + 1))) [ inl h ↦ inr (λ k. k h) | inr h ↦ inl h ]
+
+    onward : (i : ℕ) → ¬ (¬ (IsAlong side t (corner V (i + 1)))) → IsAlong side t (corner V (i + 1))
+    onward i h = elim (along_told side t (corner V (i + 1))) [ inl k ↦ k | inr k ↦ absurd (h k) ]
+
+    span : (side : Side) → ends_at side V last ≡ starts_at side last + (ends_at side V last - starts_at side last)
+    span Lower = omega arith
+    span Upper = omega (arith, p.0 n)
+
+-- each covered point is a corner or stands inwards of a segment between two
+under : (side : Side) (S V : List Pair) (last : ℕ) (t : Pair) → IsOutlineOf S V → IsParted V last → Covers S t
+    → IsUnder side V t
+under side S V last t o p c = elim (cases_lt 0 (length V)) [
+  | inr h ↦ absurd (outside_nothing S t (ap length (no_corners S V o (omega (arith, h)))) c)
+  | inl n ↦ elim (along_total side t (corner V (ends_at side V last))) [
+    | inl b ↦ under_chain side S V last t o p n c b
+    | inr (inl e) ↦ inl (subst (Contains V) (sym e) (corner_there V (ends_at side V last) n))
+    | inr (inr b) ↦ absurd ((within_ends side S V last t o p n c).1 b)
+  ]
+]
+
+-- ---- other sets with the same corners
+
+-- where a set has the corners of S among its points, and no point that S does not cover, it has the same corners
+same_corners : (S T V : List Pair) (last : ℕ) → IsOutlineOf S V → IsParted V last → IsPointSet T
+    → ((t : Pair) → Contains V t → Contains T t) → ((t : Pair) → Contains T t → Covers S t) → IsVertexList T V
+same_corners S T V last o p s sub cov =
+    (fringes_answer (set_of V) T (set_ordered V) s (λ side. record {
+      among = λ t m. sub t (set_among V t m);
+      under = λ t m. elim (under side S V last t o p (cov t m)) [
+        | inl k ↦ inl (set_all V t k)
+        | inr k ↦ inr (k.0, k.1, set_all V k.0 k.2, set_all V k.1 k.3, k.4)
+      ];
+    })).vertices V (own_outline V last p (set_of V) (set_ordered V) (λ t. (set_among V t, set_all V t)))
+
+-- the corners stay as a covered point comes
+pub stay_with : (S V : List Pair) (last : ℕ) (p : Pair) → IsOutlineOf S V → IsParted V last → Covers S p
+    → IsVertexList (with_point p S) V
+stay_with S V last p o parted c =
+    same_corners S (with_point p S) V last o parted (ordered_with p S o.0)
+    (λ t m. (members_with p t S).1 (inr ((o.1.members t).0 m).0))
+    (λ t m. elim ((members_with p t S).0 m) [ inl e ↦ subst (Covers S) (sym e) c | inr k ↦ Member k ])
+
+-- and as a point goes that is none of them
+pub stay_without : (S V : List Pair) (last : ℕ) (p : Pair) → IsOutlineOf S V → IsParted V last → ¬ (Contains V p)
+    → IsVertexList (without_point p S) V
+stay_without S V last p o parted n =
+    same_corners S (without_point p S) V last o parted (ordered_without p S o.0)
+    (λ t m. in_without p t S (λ e. n (subst (Contains V) e m)) ((o.1.members t).0 m).0)
+    (λ t m. Member ((members_without p t S o.0).0 m).0)
+
+-- ---- where a point stands on a chain of a round
+
+-- from a corner the next ones come along its chain
+later_along : (side : Side) (V : List Pair) (last i n : ℕ) → IsRound V last → starts_at side last ≤ i
+    → i + suc n ≤ ends_at side V last → IsAlong side (corner V i) (corner V (i + suc n))
+later_along side V last i n r l u = go side n l u
+  where
+    step : (side : Side) (k : ℕ) → starts_at side last ≤ k → k + 1 ≤ ends_at side V last
+        → IsAlong side (corner V k) (corner V (k + 1))
+    step Lower k l u = (r.steps k (omega (arith, u, r.within))).0 (omega (arith, u))
+    step Upper k l u = (r.steps k (omega (arith, u))).1 l
+
+    go : (side : Side) (n : ℕ) → starts_at side last ≤ i → i + suc n ≤ ends_at side V last
+        → IsAlong side (corner V i) (corner V (i + suc n))
+    go side zero l u = renumbered V (IsAlong side (corner V i)) (i + 1) (i + suc zero) (omega arith)
+        (step side i l (omega (arith, u)))
+    go side (suc n) l u = along_trans side (corner V i) (corner V (i + suc n)) (corner V (i + suc (suc n)))
+        (go side n l (omega (arith, u)))
+        (renumbered V (IsAlong side (corner V (i + suc n))) (i + suc n + 1) (i + suc (suc n)) (omega arith)
+        (step side (i + suc n) (omega (arith, l)) (omega (arith, u))))
+
+-- a single corner stands at every place
+single : (V : List Pair) (i j : ℕ) → 0 < length V → length V ≤ 1 → corner V i ≡ corner V j
+single V i j n one = only i ∙ sym (only j)
+  where
+    only : (k : ℕ) → corner V k ≡ corner V 0
+    only k = elim (cases_lt k (length V)) [
+      | inl h ↦ ap (corner V) (omega (arith, h, one))
+      | inr h ↦ corner_back V k h n
+    ]
+
+-- where the corners come before p up to a place, and not from it, p is the corner there if it is one of the chain
+pub found_on : (side : Side) (V : List Pair) (last at : ℕ) (p : Pair) → 0 < length V → IsParted V last
+    → starts_at side last ≤ at → at ≤ ends_at side V last
+    → (starts_at side last < at → IsAlong side (corner V (at - 1)) p)
+    → (at < ends_at side V last → ¬ (IsAlong side (corner V at) p)) → StandsOn side V last p → corner V at ≡ p
+found_on side V last at p n parted from to held fails (i, l, u, e) = elim (cases_lt 1 (length V)) [
+  | inr one ↦ single V at i n one ∙ e
+  | inl two ↦ elim (cases_lt i at) [
+    | inl h ↦ absurd (elim (cases_lt i (at - 1)) [
+      | inr k ↦ along_apart side (corner V (at - 1)) p (held (omega (arith, h, l)))
+          (renumbered V (λ z. z ≡ p) i (at - 1) (omega (arith, h, k)) e)
+      | inl k ↦ along_not side (corner V (at - 1)) p (held (omega (arith, h, l)))
+          (subst (λ (z : Pair). IsAlong side z (corner V (at - 1))) e
+          (renumbered V (IsAlong side (corner V i)) (i + suc (at - i - 2)) (at - 1) (omega (arith, k))
+          (later_along side V last i (at - i - 2) (parted.1 two) l (omega (arith, k, to)))))
+    ])
+    | inr h ↦ elim (cases_lt at i) [
+      | inr k ↦ renumbered V (λ z. z ≡ p) i at (omega (arith, h, k)) e
+      | inl k ↦ absurd (fails (omega (arith, k, u)) (subst (IsAlong side (corner V at)) e
+          (renumbered V (IsAlong side (corner V at)) (at + suc (i - at - 1)) i (omega (arith, k))
+          (later_along side V last at (i - at - 1) (parted.1 two) from (omega (arith, k, u))))))
+    ]
+  ]
+]
+
+-- a corner is one of a chain
+pub on_either : (V : List Pair) (last : ℕ) (p : Pair) → Contains V p → StandsOn Lower V last p ⊎ StandsOn Upper V last p
+on_either V last p m = let c = corner_of V p m in elim (cases_lt last c.0) [
+  | inr h ↦ inl (c.0, omega arith, h, sym c.2)
+  | inl h ↦ inr (c.0, omega (arith, h), omega (arith, c.1), sym c.2)
+]
+
+-- and what stands on a chain is one
+pub on_one : (side : Side) (V : List Pair) (last : ℕ) (p : Pair) → 0 < length V → StandsOn side V last p → Contains V p
+on_one side V last p n (i, l, u, e) = subst (Contains V) e (corner_there V i n)
