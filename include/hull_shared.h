@@ -88,6 +88,26 @@ typedef struct hull_shared_line {
     uint64_t words[HULL_SHARED_LINE_WORDS];
 } hull_shared_line;
 
+/* A room for a reader, by where it lies. */
+typedef struct hull_shared_reader hull_shared_reader;
+
+/* How many readers a desk may be opened for. */
+#define HULL_SHARED_READERS_MAX 64
+
+/* A view: the corners as they were behind one line of the journal, counterclockwise from the first by x and then y. Where they lie
+ * nothing writes to them until the next hull_shared_view of the same room, or its return. `lines` tells how many lines of the whole
+ * journal they are behind, those counted that were taken out or let go, and `line` the number of the last of them, where `has_line`
+ * is 1: with no line the hull was empty, or as it was opened with, and both are 0. VIEWED; OLD where the newest view could not be taken now: the view of
+ * before is told; VACANT. */
+typedef struct hull_shared_view_reply {
+    const hull_point *corners;
+    size_t count;
+    uint64_t lines;
+    uint64_t line;
+    uint32_t has_line;
+    uint32_t code;
+} hull_shared_view_reply;
+
 /* How many bytes a room has, and at which multiples of bytes it begins. */
 size_t hull_shared_desk_size(void);
 size_t hull_shared_desk_alignment(void);
@@ -95,6 +115,9 @@ size_t hull_shared_seat_size(void);
 size_t hull_shared_seat_alignment(void);
 size_t hull_shared_part_size(void);
 size_t hull_shared_part_alignment(void);
+
+size_t hull_shared_reader_size(void);
+size_t hull_shared_reader_alignment(void);
 
 /* A room for a seat has behind the proved seat the line that it was lent with, and its number. */
 size_t hull_shared_seat_size_with_line(void);
@@ -260,6 +283,30 @@ static inline hull_reply hull_shared_part_text_from_or_null(const hull_shared_pa
 
 /* Lets the part's room or lines go, so that it holds nothing: ENDED. */
 uint32_t hull_shared_part_end(hull_shared_part *part);
+
+/* Says for how many readers a desk is opened, which stand beside its seats: 1 to HULL_SHARED_READERS_MAX. Before it is opened, in any of
+ * the ways above; it asks for no memory. ADMITTED; WAS_OPENED, OUT_OF_LIMITS. A desk with readers publishes the corners behind each call
+ * that changes what is held, before the book is handed on: so a view that is taken after such a call returned shows its effect, or that
+ * of a later one. Where the corners stay as they were only their number is published. Questions publish nothing, and where memory is
+ * refused to a publication the next call publishes. No call of a seat waits for a reader. */
+uint32_t hull_shared_admit(hull_shared_desk *desk, uint32_t readers);
+
+/* Makes a room for a reader, which has none. It asks for no memory. */
+void hull_shared_make_reader(hull_shared_reader *room);
+
+/* Moves a reader into the room: LENT; NOT_OPEN, ROOM_IN_USE, NO_SEAT where as many are out as the desk was opened for, NO_MEMORY. One
+ * call at a time on the desk, as for seats. */
+uint32_t hull_shared_lend_reader(hull_shared_desk *desk, hull_shared_reader *room);
+
+/* Moves the reader in the room back to the desk that it came from, and lets its view go: RETURNED; NOT_OPEN, VACANT. A desk is not
+ * closed before all are back (SEATS_OUT). */
+uint32_t hull_shared_return_reader(hull_shared_desk *desk, hull_shared_reader *room);
+
+/* Takes the newest view, by a few atomic steps and with no lock, and tells it. */
+hull_shared_view_reply hull_shared_view(hull_shared_reader *reader);
+
+/* Whether the view that the room holds is the newest: 1 or 0. One load. 0 where the room has no reader. */
+uint32_t hull_shared_is_newest(hull_shared_reader *reader);
 
 /* Closes the desk: CLOSED; NOT_OPEN, SEATS_OUT where a seat is out, and IN_USE, which is told only to a caller who lets another
  * call on the desk or its seats go on. */

@@ -32,6 +32,10 @@ module _ {T L V : Type 0} {K : Ghosts T L V} where
   abbrev pub lines_of : Board T L V K → List L
   lines_of board = seen_lines board.front
 
+  -- its value
+  abbrev pub value_of : Board T L V K → V
+  value_of board = arc_value board.value
+
   -- how many they are: the number of the board
   abbrev pub number_of : Board T L V K → ℕ
   number_of board = length (lines_of board)

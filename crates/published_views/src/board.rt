@@ -33,7 +33,7 @@ pub struct Board<T: Truth> {
 }
 
 impl<T: Truth> Board<T> {
-    ghost use Rattle.published_views.specs.Views.{lines_of, number_of, seen_lines};
+    ghost use Rattle.published_views.specs.Views.{lines_of, number_of, seen_lines, value_of};
 
     /// A value that is true behind these lines.
     pub fn new(value: Arc<T::Value>, front: Front<T::Line>) -> Board<T>
@@ -58,6 +58,7 @@ impl<T: Truth> Board<T> {
 
     /// The value, which is true behind them.
     pub fn value(&self) -> &T::Value
+        ensures value { result.now ≡ value_of self.now }
         ensures is_true { ∥ T.holds (lines_of self.now) result.now ∥₁ }
     {
         &self.value

@@ -126,6 +126,15 @@ impl<T: Truth> Hall<T> {
         None
     }
 
+    /// The number of the newest value: one load. It is 0 where nothing was published yet.
+    pub fn newest_number(&self, told: &mut Told) -> u64
+        requires { IsToldOf self.now told.old }
+        ensures more { IsToldMore told.old told.new }
+        ensures newest { result ≡ told_number told.new }
+    {
+        self.newest.hear(told) / SLOT_LIMIT
+    }
+
     /// Whether a view is still of the newest value: one load.
     pub fn is_newest(&self, view: &View<T>, told: &mut Told) -> bool
         requires { IsToldOf self.now told.old }

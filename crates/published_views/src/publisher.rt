@@ -1,5 +1,5 @@
 //! Who publishes.
-ghost use Rattle.std.specs.Prelude.{◌≡◌, ◌<◌, IfOk, IfErr, IsTrue};
+ghost use Rattle.std.specs.Prelude.{◌≡◌, ◌<◌, IfOk, IfErr, IsTrue, OnErr};
 ghost use Rattle.std.specs.Arc.{arc_value};
 ghost use Rattle.published_views.specs.Numbers.{IsToldMore, told_number};
 ghost use Rattle.published_views.specs.Views.{IsOfHall, IsToldOf, hall_of, number_of, published};
@@ -25,6 +25,13 @@ impl<T: Truth> Publisher<T> {
         ensures nothing { published result ≡ 0 }
     {
         Publisher { hall, raised: 0 }
+    }
+
+    /// The number of what was published last: 0 where nothing was.
+    pub fn last(&self) -> u64
+        ensures { result ≡ published self.now }
+    {
+        self.raised / SLOT_LIMIT
     }
 
     /// One try at a slot: the board is put there if nobody reads it.
@@ -81,6 +88,7 @@ impl<T: Truth> Publisher<T> {
         ensures back { IfErr result (λ back. back ≡ board) }
         ensures same { hall_of self.new ≡ hall_of self.old }
         ensures last { IfOk result (λ _. published self.new ≡ number_of (arc_value board)) }
+        ensures kept { OnErr result ((published self.new ≡ published self.old) × (told.new ≡ told.old)) }
     {
         let number = board.number;
         let at = match self.put(Posted { board }) {

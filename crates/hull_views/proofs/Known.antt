@@ -1,0 +1,64 @@
+-- Corners that are known behind changes.
+use Rattle.std.proofs.Common.{◌≡◌, ◌∷◌, ◌++◌, Bool, false, List, [], not, true, IsTrue, Option, Some, None, IfSome, IsSomeAnd, rules, sym, subst}
+use mathlib.Core.Logic.{∥∥₁_elim, ∥∥₁_map}
+use Rattle.lattice.specs.Plane.{Pair}
+use Rattle.lattice.specs.Covers.{IsPointSet}
+use Rattle.lattice.specs.Vertices.{IsVertexList}
+use Rattle.hull_geometry.proofs.SetLaws.{ordered_with, ordered_without}
+use Rattle.hull_set.specs.Held.{Held, nothing_held}
+use Rattle.hull_views.specs.Changes.{changed, changed_by, held_behind}
+use Rattle.hull_views.specs.Lists.{StayThrough}
+use Rattle.hull_views.specs.declared.change.Change.{Change}
+use Rattle.hull_views.specs.declared.change.Change.TheVariants.{Came, CameAgain, WentOnce, Went, Nothing}
+use Rattle.hull_views.proofs.Changed.{changed_by-one_more}
+
+-- a fact that is there twice is there
+pub flatten : {P : Type 0} → ∥ ∥ P ∥₁ ∥₁ → ∥ P ∥₁
+flatten t = ∥∥₁_elim t squash₁ (λ p. p)
+
+-- a change leaves the points in order
+ordered_change : (held : Held) (c : Change) → IsPointSet held.points → IsPointSet (changed held c).points
+ordered_change held (Came p) h = ordered_with p held.points h
+ordered_change held (CameAgain p) h = h
+ordered_change held (WentOnce p) h = h
+ordered_change held (Went p) h = ordered_without p held.points h
+ordered_change held Nothing h = h
+
+-- and so do changes
+ordered_by : (held : Held) (changes : List Change) → IsPointSet held.points → IsPointSet (changed_by held changes).points
+unfolding changed_by
+ordered_by held [] h = h
+ordered_by held (c ∷ changes) h = ordered_by (changed held c) changes (ordered_change held c h)
+
+-- what is held behind changes stands in order
+pub ordered_behind : (changes : List Change) → IsPointSet (held_behind changes).points
+ordered_behind changes = ordered_by nothing_held changes (search rules)
+
+module _ {A : Type 0} (corners : A → List Pair) where
+  -- corners that stay through a change are known behind it
+  pub known_on : (old new : List Change) (c : Change) (was is : Bool) (known kept : Option A)
+      → ∥ (was ≡ false → IfSome known (λ k. IsVertexList (held_behind old).points (corners k))) ∥₁
+      → (is ≡ false → was ≡ false) → (is ≡ false → new ≡ old ++ c ∷ [])
+      → IfSome kept (λ l. (known ≡ Some l) × StayThrough (corners l) c)
+      → ∥ (is ≡ false → IfSome kept (λ k. IsVertexList (held_behind new).points (corners k))) ∥₁
+  known_on old new c was is known None t speaks more q = ∥∥₁_map t (λ g _. tt)
+  known_on old new c was is known (Some l) t speaks more q = ∥∥₁_map t (λ g yes.
+      let here = subst (λ o. IfSome o (λ k. IsVertexList (held_behind old).points (corners k))) (q.0) (g (speaks yes)) in
+      let on = q.1 (held_behind old) (ordered_behind old) here in
+      subst (λ ls. IsVertexList (held_behind ls).points (corners l)) (sym (more yes))
+      (subst (λ h. IsVertexList h.points (corners l)) (sym (changed_by-one_more nothing_held old c)) on))
+
+-- what is known is known of a list that equals it
+pub known_here : {A B : Type 0} (value : B → A) (corners : A → List Pair) (changes : List Change) (silent : Bool)
+    (known : Option B) (l : B)
+    → ∥ (silent ≡ false → IfSome known (λ k. IsVertexList (held_behind changes).points (corners (value k)))) ∥₁
+    → silent ≡ false → IsSomeAnd known (λ k. value k ≡ value l)
+    → ∥ IsVertexList (held_behind changes).points (corners (value l)) ∥₁
+known_here value corners changes silent None l t speaks e = absurd e
+known_here value corners changes silent (Some k) l t speaks e =
+    ∥∥₁_map t (λ g. subst (λ v. IsVertexList (held_behind changes).points (corners v)) e (g speaks))
+
+-- who is not silent behind a step that raised or did not has raised
+pub raised : (b : Bool) → not b ≡ false → IsTrue b
+raised true e = search rules
+raised false e = absurd (search rules)

@@ -1,0 +1,6 @@
+pub mod Changes
+pub mod Lists
+pub mod Shown
+pub mod Readers
+pub mod Tellers
+pub mod Laws

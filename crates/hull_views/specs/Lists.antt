@@ -1,0 +1,22 @@
+-- Lists of corners, and when they are those behind changes of the empty set.
+use Rattle.std.specs.Prelude.{List}
+use Rattle.lattice.specs.Plane.{Pair}
+use Rattle.lattice.specs.Vertices.{IsVertexList}
+use Rattle.lattice.specs.Covers.{IsPointSet}
+use Rattle.hull_set.specs.Held.{Held}
+use Rattle.hull_views.specs.Changes.{changed, held_behind}
+use Rattle.hull_views.specs.declared.change.Change.{Change}
+use Rattle.hull_views.specs.declared.corner_list.CornerList.{CornerList}
+
+-- the corners in the list
+abbrev pub corners_in : CornerList → List Pair
+corners_in list = list.points.items
+
+-- they are those of the live points behind these changes
+abbrev pub AreCornersBehind : List Change → CornerList → Type 0
+AreCornersBehind changes list = ∥ IsVertexList (held_behind changes).points (corners_in list) ∥₁
+
+-- the corners of each set that has these are the same behind the change
+abbrev pub StayThrough : List Pair → Change → Type 0
+StayThrough corners change = (held : Held) → IsPointSet held.points → IsVertexList held.points corners
+    → IsVertexList (changed held change).points corners

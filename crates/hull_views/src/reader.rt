@@ -1,0 +1,90 @@
+//! Who takes views.
+ghost use Rattle.std.specs.Arc.{arc_value};
+ghost use Rattle.std.specs.Prelude.{◌≡◌, ◌≤◌, IfSome, IsTrue, MatchBool, ◌≢◌, None, length};
+ghost use Rattle.published_views.specs.Numbers.{IsToldMore, told_number};
+ghost use Rattle.published_views.specs.Views.{IsOfHall, IsToldOf};
+ghost use Rattle.lattice.specs.Vertices.{IsVertexList};
+ghost use Rattle.hull_views.specs.Changes.{held_behind};
+ghost use Rattle.hull_views.specs.Shown.{lines_shown};
+
+use super::corners::Corners;
+use lattice::Point;
+use published_views::{Hall, Told, View};
+use std::sync::Arc;
+
+/// Who takes views of the corners, and holds the last one.
+#[derive(Drop)]
+pub struct Reader {
+    hall: Arc<Hall<Corners>>,
+    told: Told,
+    view: Option<View<Corners>>,
+    ghost own: { IsToldOf (arc_value hall) told },
+    ghost of_hall: { ∥ IfSome view (λ v. IsOfHall (arc_value hall) (arc_value v)) ∥₁ },
+    ghost told_of: { length (lines_shown view) ≤ told_number told },
+}
+
+impl Reader {
+    ghost use Rattle.hull_views.specs.Readers.{HasLooked, IsAt, corners_at, lines_at, newest_told};
+
+    /// A reader in this hall that holds no view.
+    pub(crate) fn new(hall: Arc<Hall<Corners>>, told: Told) -> Reader
+        requires { IsToldOf (arc_value hall) told }
+        ensures { (result.hall ≡ hall) × (result.told ≡ told) × (result.view ≡ None) }
+    {
+        Reader {
+            hall,
+            told,
+            view: None,
+        }
+    }
+
+    /// Whether the view that is held is the newest one: one load.
+    pub fn is_newest(&mut self) -> bool
+        ensures same { IsAt self.old self.new }
+        ensures newest { MatchBool result (length (lines_at self.new) ≡ newest_told self.new)
+            (length (lines_at self.new) ≢ newest_told self.new) }
+    {
+        self.hall.newest_number(&mut self.told) == self.line_count()
+    }
+
+    /// Takes the newest view where the one that is held is not, and says whether the one that is held then is the newest,
+    /// as it was at a moment of the call. It waits for nobody.
+    ///
+    /// It is `false` where a thousand tries were undone, each by a publication or by another reader's step; then the view is
+    /// the same as before.
+    pub fn look(&mut self) -> bool
+        ensures looked { HasLooked self.old self.new result }
+    {
+        if self.is_newest() {
+            return true;
+        }
+        match self.hall.view(&mut self.told) {
+            Some(view) => {
+                self.view = Some(view);
+                true
+            }
+            None => false,
+        }
+    }
+
+    /// How many lines the view is behind: none before the first view.
+    pub fn line_count(&self) -> u64
+        ensures { result ≡ length (lines_at self.now) }
+    {
+        match &self.view {
+            Some(view) => view.number(),
+            None => 0,
+        }
+    }
+
+    /// The corners behind those lines.
+    pub fn corners(&self) -> &[Point]
+        ensures points { result.now ≡ corners_at self.now }
+        ensures behind { ∥ IsVertexList (held_behind (lines_at self.now)).points result.now ∥₁ }
+    {
+        match &self.view {
+            Some(view) => view.value().points(),
+            None => &[],
+        }
+    }
+}

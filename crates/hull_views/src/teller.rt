@@ -1,0 +1,198 @@
+//! Who records what changes, and publishes the corners.
+ghost use Rattle.std.specs.Prelude.{◌≡◌, ◌<◌, ◌≤◌, ◌+◌, ◌++◌, ◌∷◌, None, [], IfOk, IfSome, IsSomeAnd, IsTrue, Some, false, length};
+ghost use Rattle.std.specs.Arc.{arc_value};
+ghost use Rattle.lattice.specs.Vertices.{IsVertexList};
+ghost use Rattle.lattice.specs.Covers.{IsPointSet};
+ghost use Rattle.published_views.specs.Numbers.{told_number};
+ghost use Rattle.published_views.specs.declared.TheConstants.{NUMBER_LIMIT};
+ghost use Rattle.published_views.specs.Views.{IsFrontOf, IsToldOf, hall_of, published, seen_lines, slots_of};
+ghost use Rattle.hull_views.specs.Changes.{changed, held_behind};
+ghost use Rattle.hull_views.specs.Lists.{AreCornersBehind, StayThrough, corners_in};
+ghost use Rattle.hull_views.specs.declared.TheConstants.{READER_LIMIT};
+
+use super::change::Change;
+use super::corner_list::CornerList;
+use super::corners::Corners;
+use super::entrance::Entrance;
+use hull_set::{HullSet, NoMemory};
+use published_views::{Board, Front, Hall, History, NUMBER_LIMIT, Newest, Publisher, Told};
+use std::alloc::Global;
+use std::sync::Arc;
+
+/// Who stands beside a set, records what changes in it, and publishes its corners.
+///
+/// A teller falls silent for good where a line was not added behind all others, as it would be only if another one added
+/// lines to its history, and at the greatest number that can be published: it publishes nothing more then.
+#[derive(Drop)]
+pub struct Teller {
+    alloc: Global,
+    history: History<Change>,
+    front: Front<Change>,
+    publisher: Publisher<Corners>,
+    told: Told,
+    known: Option<Arc<CornerList>>,
+    is_behind: bool,
+    is_silent: bool,
+    ghost own_history: { IsFrontOf history front },
+    ghost own_hall: { front.seen.book ≡ (hall_of publisher).history.book },
+    ghost own_word: { IsToldOf (hall_of publisher) told },
+    ghost rising: { published publisher ≤ length (seen_lines front) },
+    ghost few: { is_silent ≡ false → length (seen_lines front) < NUMBER_LIMIT },
+    ghost told_is: { is_silent ≡ false → told_number told ≡ published publisher },
+    ghost known_is: { ∥ (is_silent ≡ false
+        → IfSome known (λ l. IsVertexList (held_behind (seen_lines front)).points (corners_in (arc_value l)))) ∥₁ },
+}
+
+/// The corners of a set, gathered from it.
+fn gathered<S: HullSet>(alloc: Global, set: &S) -> Result<Arc<CornerList>, NoMemory>
+    ensures { IfOk result (λ list. IsVertexList (S.held set.now).points (corners_in (arc_value list))) }
+{
+    let _limit = set.limit();
+    let _count = set.count();
+    let list = set.vertices()?;
+    match Arc::new(alloc, CornerList::new(list)) {
+        Ok(list) => Ok(list),
+        Err(_) => Err(NoMemory),
+    }
+}
+
+/// The corners, if they are known.
+fn shared(known: &Option<Arc<CornerList>>) -> Option<Arc<CornerList>>
+    ensures { IfSome result (λ list. IsSomeAnd known.now (λ k. arc_value k ≡ arc_value list)) }
+{
+    match known {
+        Some(list) => Arc::try_clone(list).ok(),
+        None => None,
+    }
+}
+
+/// The corners where they stay through the change.
+fn kept(known: Option<Arc<CornerList>>, change: &Change) -> Option<Arc<CornerList>>
+    ensures { IfSome result (λ list. (known ≡ Some list) × StayThrough (corners_in (arc_value list)) change.now) }
+{
+    let list = known?;
+    if list.stay(change) { Some(list) } else { None }
+}
+
+impl Teller {
+    ghost use Rattle.hull_views.specs.Tellers.{HasKept, HasRecorded, IsOpened, IsPublic, is_silent, last_published};
+    ghost use Rattle.hull_views.specs.Tellers.{recorded};
+
+    /// A teller that has recorded nothing, and the entrance for so many readers.
+    pub fn open(alloc: Global, readers: u8) -> Result<(Teller, Entrance), NoMemory>
+        requires { readers ≤ READER_LIMIT }
+        ensures { IfOk result (λ r. IsOpened readers r.0 r.1) }
+    {
+        let (history, front) = History::open();
+        let (newest, told) = Newest::open();
+        let hall = Hall::new(alloc, newest, &front, usize::from(readers) + 2)?;
+        let Ok(hall) = Arc::new(alloc, hall) else {
+            return Err(NoMemory);
+        };
+        let Ok(other) = Arc::try_clone(&hall) else {
+            return Err(NoMemory);
+        };
+        let teller = Teller {
+            alloc,
+            history,
+            front,
+            publisher: Publisher::new(other),
+            told: told.again(),
+            known: None,
+            is_behind: false,
+            is_silent: false,
+        };
+        Ok((teller, Entrance { hall, told }))
+    }
+
+    /// Adds a line for a change to the history, or falls silent.
+    fn add_line(&mut self, change: Change)
+        requires { self.old.known ≡ None }
+        ensures recorded { HasRecorded self.old self.new change }
+        ensures none { self.new.known ≡ None }
+        ensures last { last_published self.new ≡ last_published self.old }
+    {
+        if self.front.count() >= NUMBER_LIMIT - 1 || !self.front.add(&self.history, change) {
+            self.is_silent = true;
+        }
+    }
+
+    /// Records a change, and publishes nothing: the next publication shows it.
+    pub fn record(&mut self, change: Change)
+        ensures recorded { HasRecorded self.old self.new change }
+        ensures last { last_published self.new ≡ last_published self.old }
+    {
+        let matters = change.matters();
+        let known = kept(self.known.take(), &change);
+        self.add_line(change);
+        self.known = known;
+        self.is_behind = self.is_behind || matters;
+    }
+
+    /// Gathers the corners behind the changes that are recorded from the set, where they are not known.
+    fn fill<S: HullSet>(&mut self, set: &S)
+        requires held { is_silent self.old ≡ false → S.held set.now ≡ held_behind (recorded self.old) }
+        ensures front { (self.new.front ≡ self.old.front) × (self.new.is_silent ≡ self.old.is_silent) }
+        ensures publisher { self.new.publisher ≡ self.old.publisher }
+    {
+        if self.known.is_none() {
+            self.known = gathered(self.alloc, set).ok();
+        }
+    }
+
+    /// Publishes these corners, and says whether they are public then.
+    fn post(&mut self, list: Arc<CornerList>) -> bool
+        requires speaks { is_silent self.old ≡ false }
+        requires rising { last_published self.old < length (recorded self.old) }
+        requires corners { AreCornersBehind (recorded self.old) (arc_value list) }
+        ensures same { HasKept self.old self.new }
+        ensures published { IsTrue result → IsPublic self.new }
+    {
+        let Ok(board) = Arc::new(self.alloc, Board::new(list, self.front.again())) else {
+            return false;
+        };
+        match self.publisher.publish(&mut self.told, board) {
+            Ok(is_raised) => {
+                self.is_behind = false;
+                self.is_silent = !is_raised;
+                is_raised
+            }
+            Err(_) => false,
+        }
+    }
+
+    /// Publishes the corners behind the changes that are recorded, unless these were published last, and says whether they
+    /// are public then. They are those of the set.
+    ///
+    /// It is `false` where memory was refused, where each slot is read, which cannot be with no more readers than it was
+    /// opened for, or where the teller is silent: then the next publication is to show them.
+    pub fn publish<S: HullSet>(&mut self, set: &S) -> bool
+        requires held { is_silent self.old ≡ false → S.held set.now ≡ held_behind (recorded self.old) }
+        ensures same { HasKept self.old self.new }
+        ensures published { IsTrue result → IsPublic self.new }
+    {
+        if self.is_silent {
+            return false;
+        }
+        if self.publisher.last() == self.front.count() {
+            return true;
+        }
+        self.fill(set);
+        match shared(&self.known) {
+            Some(list) => self.post(list),
+            None => false,
+        }
+    }
+
+    /// Records the change of a call, and publishes the corners behind it where it changed what is held, or where earlier ones
+    /// were not published. The set is as it is behind the call.
+    pub fn tell<S: HullSet>(&mut self, change: Change, set: &S)
+        requires held { is_silent self.old ≡ false → S.held set.now ≡ changed (held_behind (recorded self.old)) change }
+        ensures { HasRecorded self.old self.new change }
+    {
+        self.record(change);
+        if self.is_behind {
+            let _public = self.publish(set);
+        }
+    }
+}
