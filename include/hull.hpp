@@ -981,6 +981,7 @@ struct Limits {
     std::uint64_t first;    // the number of the first call
     std::uint32_t capacity; // how many lines of the journal are held at most, 1 to HULL_SHARED_CAPACITY_MAX
     std::uint32_t seats;    // how many seats there are, 1 to HULL_SHARED_SEATS_MAX
+    std::uint32_t readers = 0; // for how many readers calls publish, 0 to HULL_SHARED_READERS_MAX
 };
 
 // A desk with its line: it ends when the hull and all seats that are out let it go.
@@ -1286,7 +1287,7 @@ private:
 // The hull may be moved, and used by several threads at once.
 class SharedHull {
 public:
-    explicit SharedHull(Limits limits) : SharedHull(new_desk()) {
+    explicit SharedHull(Limits limits) : SharedHull(new_desk(limits.readers)) {
         opened(hull_shared_open(desk_->at_, limits.points, limits.first, limits.capacity, limits.seats));
     }
     SharedHull(SharedHull &&) noexcept = default;
@@ -1294,14 +1295,14 @@ public:
 
     // The same, but the line of each call is let go with its answer: the text of the journal has none. limits.capacity is not read.
     static SharedHull open_without_journal(Limits limits) {
-        SharedHull hull(new_desk());
+        SharedHull hull(new_desk(limits.readers));
         opened(hull_shared_open_without_journal(hull.desk_->at_, limits.points, limits.first, limits.seats));
         return hull;
     }
 
     // The same, but questions are answered also where as many lines are held as may be: by what is held, with no line.
     static SharedHull open_answering(Limits limits) {
-        SharedHull hull(new_desk());
+        SharedHull hull(new_desk(limits.readers));
         opened(hull_shared_open_answering(hull.desk_->at_, limits.points, limits.first, limits.capacity, limits.seats));
         return hull;
     }
@@ -1310,18 +1311,12 @@ public:
     // Its thread writes the lines to the file when it is asked to (sync, Seat::wait_safe), each `every` unless that is 0, and where half of
     // limits.capacity are held; calls wait for room. limits.first is not read, and limits.seats is at most HULL_SHARED_SEATS_MAX - 1.
     // Refusal::no_file, damaged, illegal, and those of opening. No seat of such a hull is drained by its caller.
-    // It publishes for so many readers.
-    static SharedHull keep(const std::string &path, Limits limits, std::chrono::nanoseconds every = std::chrono::nanoseconds(0),
-                           std::uint32_t readers = 0) {
-        SharedHull hull(new_desk());
+    static SharedHull keep(const std::string &path, Limits limits, std::chrono::nanoseconds every = std::chrono::nanoseconds(0)) {
+        SharedHull hull(new_desk(limits.readers));
         Desk &desk = *hull.desk_;
         hull_shared_journal *journal = nullptr;
         hull_reply r = hull_shared_journal_open(path.c_str(), &journal);
         opened(r.code, r.number);
-        if (readers != 0 && hull_shared_journal_admit(journal, readers) != HULL_ADMITTED) {
-            hull_shared_journal_close(journal);
-            told::fault(HULL_OUT_OF_LIMITS);
-        }
         r = hull_shared_journal_start(journal, desk.at_, &desk.line_, limits.points, limits.capacity, limits.seats,
                                       static_cast<std::uint64_t>(every.count()));
         if (r.code != HULL_OPEN) {
@@ -1369,8 +1364,8 @@ public:
 
     // A hull that goes on where a journal ends, with the points that it left: `text` is the journal's, whole, whose lines count as
     // taken out. Refusal::no_journal, old_rules, too_few_seats, illegal, and those of opening.
-    static SharedHull reopen(const std::string &text, std::uint32_t capacity, std::uint32_t seats) {
-        SharedHull hull(new_desk());
+    static SharedHull reopen(const std::string &text, std::uint32_t capacity, std::uint32_t seats, std::uint32_t readers = 0) {
+        SharedHull hull(new_desk(readers));
         const hull_reply r = hull_shared_reopen(hull.desk_->at_, reinterpret_cast<const std::uint8_t *>(text.data()),
                                                 text.size(), capacity, seats);
         opened(r.code, r.number);
@@ -1380,15 +1375,7 @@ public:
     // Lends the seat of a number, 0 and up.
     Seat lend(std::uint32_t number) { return Seat(desk(), number); }
 
-    // Has calls publish for so many readers: Refusal::seats_out, out_of_limits (where they were admitted before, too), no_memory. And lends
-    // a reader: Refusal::no_seat where as many are out as were admitted.
-    void admit(std::uint32_t readers) {
-        const std::lock_guard<std::mutex> lock(desk()->lock_);
-        const std::uint32_t code = hull_shared_admit(desk_->at_, readers);
-        if (code != HULL_ADMITTED) {
-            told::fault(code == HULL_WAS_ADMITTED ? std::uint32_t{HULL_OUT_OF_LIMITS} : code);
-        }
-    }
+    // Lends a reader, of those that the hull was opened for (Limits::readers); Refusal::no_seat where as many are out.
     Reader lend_reader() { return Reader(desk()); }
 
     // Closes the hull, unless it is closed; the text of its journal, which the program hullbook judges, and which stands last in the file
@@ -1430,8 +1417,16 @@ private:
 
     explicit SharedHull(std::shared_ptr<Desk> desk) : desk_(std::move(desk)) {}
 
-    static std::shared_ptr<Desk> new_desk() {
-        return told::with_memory([] { return std::make_shared<Desk>(); });
+    // A desk that is not open, for so many readers.
+    static std::shared_ptr<Desk> new_desk(std::uint32_t readers) {
+        std::shared_ptr<Desk> desk = told::with_memory([] { return std::make_shared<Desk>(); });
+        if (readers != 0) {
+            const std::uint32_t code = hull_shared_admit(desk->at_, readers);
+            if (code != HULL_ADMITTED) {
+                told::fault(code);
+            }
+        }
+        return desk;
     }
     static void opened(std::uint32_t code, std::uint64_t number = 0) {
         if (code != HULL_OPEN) {

@@ -113,10 +113,9 @@ typedef enum hull_code {
     HULL_SAFE = 66,          /* the lines before line `number` are in the file for good */
 
     /* of readers alone */
-    HULL_VIEWED = 67,        /* the reader holds this view, and had the newest */
-    HULL_OLD = 68,           /* it holds the view that it held before: others were in the way of a newer one */
-    HULL_ADMITTED = 69,      /* the desk publishes for readers now */
-    HULL_WAS_ADMITTED = 70   /* it does already */
+    HULL_ADMITTED = 67,      /* the desk is opened for so many readers */
+    HULL_VIEWED = 68,        /* the reader holds this view, and had the newest */
+    HULL_OLD = 69            /* it holds the view that it held before: others were in the way of a newer one */
 } hull_code;
 
 /* What a call was answered: a code (hull_code), and what belongs to it (told above); all else is 0. */
@@ -218,10 +217,9 @@ static inline const char *hull_code_name(uint32_t code) {
     case HULL_NO_FILE: return "HULL_NO_FILE";
     case HULL_DAMAGED: return "HULL_DAMAGED";
     case HULL_SAFE: return "HULL_SAFE";
+    case HULL_ADMITTED: return "HULL_ADMITTED";
     case HULL_VIEWED: return "HULL_VIEWED";
     case HULL_OLD: return "HULL_OLD";
-    case HULL_ADMITTED: return "HULL_ADMITTED";
-    case HULL_WAS_ADMITTED: return "HULL_WAS_ADMITTED";
     default: return "no code";
     }
 }

@@ -88,26 +88,6 @@ typedef struct hull_shared_line {
     uint64_t words[HULL_SHARED_LINE_WORDS];
 } hull_shared_line;
 
-/* A room for a reader, by where it lies. */
-typedef struct hull_shared_reader hull_shared_reader;
-
-/* How many readers a desk may be opened for. */
-#define HULL_SHARED_READERS_MAX 64
-
-/* A view: the corners as they were behind one line of the journal, counterclockwise from the first by x and then y. Where they lie
- * nothing writes to them until the next hull_shared_view of the same room, or its return. `lines` tells how many lines of the whole
- * journal they are behind, those counted that were taken out or let go, and `line` the number of the last of them, where `has_line`
- * is 1: with no line the hull was empty, or as it was opened with, and both are 0. VIEWED; OLD where the newest view could not be taken now: the view of
- * before is told; VACANT. */
-typedef struct hull_shared_view_reply {
-    const hull_point *corners;
-    size_t count;
-    uint64_t lines;
-    uint64_t line;
-    uint32_t has_line;
-    uint32_t code;
-} hull_shared_view_reply;
-
 /* How many bytes a room has, and at which multiples of bytes it begins. */
 size_t hull_shared_desk_size(void);
 size_t hull_shared_desk_alignment(void);
@@ -115,9 +95,6 @@ size_t hull_shared_seat_size(void);
 size_t hull_shared_seat_alignment(void);
 size_t hull_shared_part_size(void);
 size_t hull_shared_part_alignment(void);
-
-size_t hull_shared_reader_size(void);
-size_t hull_shared_reader_alignment(void);
 
 /* A room for a seat has behind the proved seat the line that it was lent with, and its number. */
 size_t hull_shared_seat_size_with_line(void);
@@ -284,30 +261,6 @@ static inline hull_reply hull_shared_part_text_from_or_null(const hull_shared_pa
 /* Lets the part's room or lines go, so that it holds nothing: ENDED. */
 uint32_t hull_shared_part_end(hull_shared_part *part);
 
-/* Says for how many readers a desk is opened, which stand beside its seats: 1 to HULL_SHARED_READERS_MAX. Before it is opened, in any of
- * the ways above; it asks for no memory. ADMITTED; WAS_OPENED, OUT_OF_LIMITS. A desk with readers publishes the corners behind each call
- * that changes what is held, before the book is handed on: so a view that is taken after such a call returned shows its effect, or that
- * of a later one. Where the corners stay as they were only their number is published. Questions publish nothing, and where memory is
- * refused to a publication the next call publishes. No call of a seat waits for a reader. */
-uint32_t hull_shared_admit(hull_shared_desk *desk, uint32_t readers);
-
-/* Makes a room for a reader, which has none. It asks for no memory. */
-void hull_shared_make_reader(hull_shared_reader *room);
-
-/* Moves a reader into the room: LENT; NOT_OPEN, ROOM_IN_USE, NO_SEAT where as many are out as the desk was opened for, NO_MEMORY. One
- * call at a time on the desk, as for seats. */
-uint32_t hull_shared_lend_reader(hull_shared_desk *desk, hull_shared_reader *room);
-
-/* Moves the reader in the room back to the desk that it came from, and lets its view go: RETURNED; NOT_OPEN, VACANT. A desk is not
- * closed before all are back (SEATS_OUT). */
-uint32_t hull_shared_return_reader(hull_shared_desk *desk, hull_shared_reader *room);
-
-/* Takes the newest view, by a few atomic steps and with no lock, and tells it. */
-hull_shared_view_reply hull_shared_view(hull_shared_reader *reader);
-
-/* Whether the view that the room holds is the newest: 1 or 0. One load. 0 where the room has no reader. */
-uint32_t hull_shared_is_newest(hull_shared_reader *reader);
-
 /* Closes the desk: CLOSED; NOT_OPEN, SEATS_OUT where a seat is out, and IN_USE, which is told only to a caller who lets another
  * call on the desk or its seats go on. */
 uint32_t hull_shared_close(hull_shared_desk *desk);
@@ -353,7 +306,7 @@ static inline hull_reply hull_shared_part_text_size(const hull_shared_part *part
  * of the journal, with no lock, no line and no turn, by a few atomic steps. Nobody waits for a reader and a reader for nobody. A view is
  * an outline (hull_outline_call and all other calls of include/hull.h on outlines ask it), and stays as it is while it is held.
  *
- *     hull_shared_admit(desk, 8);                               // behind the opening, before a seat is lent
+ *     hull_shared_admit(desk, 8);                               // before it is opened
  *     hull_shared_reader *reader = hull_shared_reader_new();    // one for each thread
  *     hull_shared_lend_reader(desk, reader);
  *     hull_shared_view view = hull_shared_read(reader);         // in that thread, as often as one likes
@@ -399,11 +352,12 @@ static inline void hull_shared_reader_free(hull_shared_reader *reader) {
     hull_room_free(reader);
 }
 
-/* Has the desk publish for so many readers, from what is held now on: ADMITTED; NOT_OPEN, OUT_OF_LIMITS, SEATS_OUT where a seat is out,
- * WAS_ADMITTED where it does already, NO_MEMORY. All memory but that of views is asked for here. */
+/* Says for how many readers a desk is opened, 1 to HULL_SHARED_READERS_MAX; before it is, in whichever way: ADMITTED; WAS_OPENED,
+ * OUT_OF_LIMITS. It asks for no memory: an opening asks for all but that of views. */
 uint32_t hull_shared_admit(hull_shared_desk *desk, uint32_t readers);
 
-/* Moves a reader into the room: LENT; NOT_OPEN, ROOM_IN_USE, NO_SEAT where as many are out as were admitted. It holds the newest view. */
+/* Moves a reader into the room: LENT; NOT_OPEN, ROOM_IN_USE, NO_SEAT where as many are out as were admitted, NO_MEMORY. It holds no corners
+ * until it reads. */
 uint32_t hull_shared_lend_reader(hull_shared_desk *desk, hull_shared_reader *room);
 
 /* Moves it back to the desk that it went out of, and lets its view go: RETURNED; NOT_OPEN, VACANT. The desk closes once all readers are
@@ -564,10 +518,6 @@ hull_reply hull_shared_journal_open(const char *path, hull_shared_journal **jour
  * hull_shared_journal_open and hull_shared_journal_start refuse the file, which is as it was then. Another file, PATH.new, is written
  * and synced, and takes its name: however the process ends, one of the two is there, whole. What else was asked and answered is not in it. */
 hull_reply hull_shared_journal_compact(const char *path);
-
-/* Has the desk that is to be opened by the journal admit so many readers (hull_shared_admit, which a desk with the journal's seat out
- * refuses): ADMITTED; WAS_OPENED, OUT_OF_LIMITS. */
-uint32_t hull_shared_journal_admit(hull_shared_journal *journal, uint32_t readers);
 
 /* Opens the desk by what the file has, and keeps its journal there from then on. Where the file has no part the desk is a new one for
  * `limit` points; else it holds what the parts left, each point as often, its limit is theirs, and its next line has the number behind

@@ -177,8 +177,7 @@ class _Code(enum.IntEnum):
     BUSY = 62
     NO_FILE = 64
     DAMAGED = 65
-    ADMITTED = 69
-    WAS_ADMITTED = 70
+    ADMITTED = 67
 
 
 class _Kind(enum.IntEnum):
@@ -346,7 +345,7 @@ def _shared_library() -> ctypes.CDLL:
         ("python_wait_for_room", [at, number], number), ("python_wait_at_most", [at, long], number), ("python_stats", [at, at], number),
         ("python_reopen", [at, at, size, number, number], _Reply),
         ("python_compact", [ctypes.c_char_p], _Reply),
-        ("python_keep", [at, ctypes.c_char_p, number, number, number, long, number], _Reply), ("python_safe", [at, number], _Reply),
+        ("python_keep", [at, ctypes.c_char_p, number, number, number, long], _Reply), ("python_safe", [at, number], _Reply),
         ("python_wait_safe", [at], _Reply), ("python_close", [at], _Reply), ("python_text", [at, at, size], _Reply), ("python_out", [at], long),
         ("python_seat_new", [], at), ("python_seat_free", [at], None), ("python_lend", [at, at, number], number),
         ("python_give_back", [at], None), ("python_ask", [at, number, whole, whole], _Reply),
@@ -1549,26 +1548,36 @@ class Stats(NamedTuple):
     drains_for: float
 
 
+def _new_desk(readers: SupportsIndex) -> Any:
+    """Where a desk lies that is not open, and is to be for so many readers."""
+    readers, desk = operator.index(readers), _at(_shared_kinds()[0], _shared_library().hull_python_desk_new())
+    if readers != 0:
+        code = _shared_library().hull_python_admit(desk, readers if 0 < readers <= READER_LIMIT else READER_LIMIT + 1)
+        if code != _Code.ADMITTED:
+            _refused(code)
+    return desk
+
+
 class SharedHull:
     """One hull that up to SEAT_LIMIT threads change and question at once, each by a seat of its own.
 
     It takes at most `limit` different points, and has a journal whose lines are numbered from `first` on: at most
     `capacity` of them are held, until a seat takes them out (`Seat.drain`). With `capacity` None the line of each call is
     let go with its answer. Where as many are held, calls raise JournalFull: with `answers` only changes do, and questions are
-    answered with no line; with `waits` a call waits until another thread has drained. Each call takes effect at one moment between its beginning and its end, in the order of the calls'
-    numbers.
+    answered with no line; with `waits` a call waits until another thread has drained. Each call takes effect at one moment between its
+    beginning and its end, in the order of the calls' numbers. Calls publish what they leave for so many `readers`, up to READER_LIMIT.
     """
 
     __slots__ = ("_desk", "_words", "__weakref__")
 
     def __init__(self, capacity: Optional[SupportsIndex], seats: SupportsIndex, limit: SupportsIndex = POINT_LIMIT,
-                 first: SupportsIndex = 0, *, answers: bool = False, waits: bool = False) -> None:
+                 first: SupportsIndex = 0, *, answers: bool = False, waits: bool = False, readers: SupportsIndex = 0) -> None:
         library = _shared_library()
         room = 1 if capacity is None else operator.index(capacity)
         words = operator.index(limit), operator.index(first), room, operator.index(seats)
         if not all(0 <= word < 1 << bits for word, bits in zip(words, (32, 64, 32, 32))):
             _told(_Code.OUT_OF_LIMITS)
-        self._desk = _at(_shared_kinds()[0], library.hull_python_desk_new())
+        self._desk = _new_desk(readers)
         self._words: Tuple[Any, ...] = words
         if capacity is None:
             code = library.hull_python_open_without_journal(self._desk, words[0], words[1], words[3])
@@ -1581,7 +1590,7 @@ class SharedHull:
         library.hull_python_wait_for_room(self._desk, 1 if waits else 0)
 
     @classmethod
-    def reopen(cls, text: Union[str, bytes], capacity: SupportsIndex, seats: SupportsIndex) -> SharedHull:
+    def reopen(cls, text: Union[str, bytes], capacity: SupportsIndex, seats: SupportsIndex, readers: SupportsIndex = 0) -> SharedHull:
         """A hull that goes on where a journal ends, with the points that it left.
 
         `text` is the journal's, whole, as `close` or the program `hullbook` wrote it: a str or bytes. Limit and numbers are the
@@ -1593,7 +1602,7 @@ class SharedHull:
         if not (0 <= capacity < 1 << 32 and 0 <= seats < 1 << 32):
             _told(_Code.OUT_OF_LIMITS)
         hull = cls.__new__(cls)
-        hull._desk = _at(_shared_kinds()[0], _shared_library().hull_python_desk_new())
+        hull._desk = _new_desk(readers)
         room = ctypes.create_string_buffer(text, max(len(text), 1))
         told = _shared_library().hull_python_reopen(hull._desk, ctypes.addressof(room), len(text), capacity, seats)
         words = {
@@ -1618,16 +1627,16 @@ class SharedHull:
         that is given, and where half of `capacity` are held; calls wait for room. There are SEAT_LIMIT - 1 seats at most, none of which
         drains. It publishes for so many `readers`. OSError where the system refuses a call on the file; JournalFault where the file is damaged, or none of a journal.
         """
-        words = operator.index(limit), operator.index(readers), operator.index(capacity), operator.index(seats)
+        words = operator.index(limit), 0, operator.index(capacity), operator.index(seats)
         if not all(0 <= word < 1 << 32 for word in words):
             _told(_Code.OUT_OF_LIMITS)
         if every is not None and not every >= 0:
             raise ValueError(f"a time is no less than 0, and not {every!r}")
         hull = cls.__new__(cls)
-        hull._desk = _at(_shared_kinds()[0], _shared_library().hull_python_desk_new())
-        hull._words = words[0], 0, words[2], words[3]
+        hull._desk = _new_desk(readers)
+        hull._words = words
         time = 0 if every is None else max(1, int(min(every, 1e9) * 1e9))
-        told = _shared_library().hull_python_keep(hull._desk, _file(path), words[0], words[2], words[3], time, words[1])
+        told = _shared_library().hull_python_keep(hull._desk, _file(path), words[0], words[2], words[3], time)
         if told.code != _Code.OPEN:
             _no_file(told, told.number)
             _refused(told.code)
@@ -1700,19 +1709,8 @@ class SharedHull:
             _told(_Code.NO_SEAT)
         return Seat(self._desk, number)
 
-    def admit(self, readers: SupportsIndex) -> None:
-        """Has calls publish what they leave for so many readers, 1 to READER_LIMIT; before a seat is lent, and once.
-
-        Each change copies the corners for them where it alters these. SeatsOut where a seat is out.
-        """
-        code = _shared_library().hull_python_admit(self._desk, min(max(operator.index(readers), 0), READER_LIMIT + 1))
-        if code == _Code.WAS_ADMITTED:
-            raise ValueError("the hull has admitted readers already")
-        if code != _Code.ADMITTED:
-            _refused(code)
-
     def lend_reader(self) -> Reader:
-        """Lends a reader, for one thread; NoSeat where as many are out as were admitted."""
+        """Lends a reader, for one thread, of those that the hull was opened for; NoSeat where as many are out."""
         return Reader(self._desk)
 
     def _close(self) -> None:

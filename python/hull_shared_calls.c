@@ -98,16 +98,10 @@ hull_reply hull_python_compact(const char *path) {
 }
 
 /* Opens the desk by the file of a journal, which is kept from then on. */
-static hull_reply keep(hull_python_desk *d, const char *path, uint32_t limit, uint32_t capacity, uint32_t seats, uint64_t every,
-                       uint32_t readers) {
+static hull_reply keep(hull_python_desk *d, const char *path, uint32_t limit, uint32_t capacity, uint32_t seats, uint64_t every) {
     hull_shared_journal *journal;
     hull_reply reply = hull_shared_journal_open(path, &journal);
     if (reply.code != HULL_OPEN) {
-        return reply;
-    }
-    if (readers != 0 && hull_shared_journal_admit(journal, readers) != HULL_ADMITTED) {
-        hull_shared_journal_close(journal);
-        reply.code = HULL_OUT_OF_LIMITS;
         return reply;
     }
     reply = hull_shared_journal_start(journal, d->desk, &d->line, limit, capacity, seats, every);
@@ -119,9 +113,8 @@ static hull_reply keep(hull_python_desk *d, const char *path, uint32_t limit, ui
     return reply;
 }
 
-hull_reply hull_python_keep(hull_python_desk *d, const char *path, uint32_t limit, uint32_t capacity, uint32_t seats, uint64_t every,
-                            uint32_t readers) {
-    HULL_REPLY_OF(d, keep(d, path, limit, capacity, seats, every, readers));
+hull_reply hull_python_keep(hull_python_desk *d, const char *path, uint32_t limit, uint32_t capacity, uint32_t seats, uint64_t every) {
+    HULL_REPLY_OF(d, keep(d, path, limit, capacity, seats, every));
 }
 
 /* The journal of a desk, which is not closed until stops_asking; null where it has none. */
@@ -369,7 +362,7 @@ uint32_t hull_python_turn(hull_python_seat *s, uint64_t *turn) {
     return has;
 }
 
-/* Has the desk publish for so many readers. */
+/* Says for how many readers the desk is opened. */
 uint32_t hull_python_admit(hull_python_desk *d, uint32_t readers) {
     HULL_CODE_OF(d, hull_shared_admit(d->desk, readers));
 }

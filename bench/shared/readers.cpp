@@ -61,8 +61,8 @@ class Shared : public Way {
 public:
     Shared(unsigned readers) {
         desk_ = hull_shared_desk_new();
-        bool good = desk_ != nullptr && hull_shared_open_without_journal(desk_, HULL_LIMIT_MAX, 0, most_threads + 1) == HULL_OPEN;
-        good = good && (readers == 0 || hull_shared_admit(desk_, readers) == HULL_ADMITTED);
+        bool good = desk_ != nullptr && (readers == 0 || hull_shared_admit(desk_, readers) == HULL_ADMITTED);
+        good = good && hull_shared_open_without_journal(desk_, HULL_LIMIT_MAX, 0, most_threads + 1) == HULL_OPEN;
         for (unsigned k = 0; good && k < readers; k++) {
             readers_.push_back(hull_shared_reader_new());
             good = readers_[k] != nullptr && hull_shared_lend_reader(desk_, readers_[k]) == HULL_LENT;

@@ -70,8 +70,7 @@ class Readers : public World {
 public:
     Readers() {
         for (std::size_t k = 0; k < obstacles; k++) {
-            hulls_.push_back(hull::SharedHull::open_without_journal({1000, 0, 1, 1}));
-            hulls_[k].admit(planners);
+            hulls_.push_back(hull::SharedHull::open_without_journal({1000, 0, 1, 1, planners}));
             seats_.push_back(hulls_[k].lend(0));
         }
     }

@@ -524,10 +524,9 @@ static_assert(!std::is_copy_constructible_v<hull::Reader> && std::is_nothrow_mov
 
 // readers, with their views
 static void readers() {
-    SharedHull h({10, 7, 20, 1});
-    CHECK(refuses(Refusal::no_seat, [&] { h.lend_reader(); }) && refuses(Refusal::out_of_limits, [&] { h.admit(0); }));
-    h.admit(2);
-    CHECK(refuses(Refusal::out_of_limits, [&] { h.admit(2); }));
+    CHECK(refuses(Refusal::no_seat, [&] { SharedHull({10, 7, 20, 1}).lend_reader(); }));
+    CHECK(refuses(Refusal::out_of_limits, [&] { SharedHull({10, 7, 20, 1, HULL_SHARED_READERS_MAX + 1}); }));
+    SharedHull h({10, 7, 20, 1, 2});
     hull::Reader one = h.lend_reader(), two = h.lend_reader();
     CHECK(refuses(Refusal::no_seat, [&] { h.lend_reader(); }));
     CHECK(one.view().size() == 0 && !one.line() && one.is_newest());
@@ -549,7 +548,9 @@ static void readers() {
     CHECK(one.view().size() == 2 && refuses(Refusal::vacant, [&] { two.read(); }));
     one.give_back();
     CHECK(refuses(Refusal::vacant, [&] { one.is_newest(); }) && !h.close().empty());
-    CHECK(refuses(Refusal::not_open, [&] { h.lend_reader(); }) && refuses(Refusal::not_open, [&] { h.admit(1); }));
+    CHECK(refuses(Refusal::not_open, [&] { h.lend_reader(); }));
+    SharedHull again = SharedHull::reopen(h.close(), 20, 1, 1), bare = SharedHull::open_without_journal({10, 7, 0, 1, 1});
+    CHECK(again.lend_reader().view().size() == 2 && bare.lend_reader().view().size() == 0);
 }
 
 // threads at once, of which one asks for more corners than it had room for

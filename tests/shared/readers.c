@@ -153,8 +153,8 @@ static unsigned long compared(kept *views, unsigned long count) {
 }
 
 static int begin(void) {
-    int bad = hull_shared_open(desk, HULL_LIMIT_MAX, 0, (uint32_t)(seats * calls), seats) != HULL_OPEN ||
-              hull_shared_admit(desk, readers) != HULL_ADMITTED;
+    int bad = hull_shared_admit(desk, readers) != HULL_ADMITTED ||
+              hull_shared_open(desk, HULL_LIMIT_MAX, 0, (uint32_t)(seats * calls), seats) != HULL_OPEN;
     for (unsigned k = 0; k < readers; k++) {
         reading[k].room = hull_shared_reader_new();
         reading[k].views = calloc(MOST_KEPT, sizeof(kept));

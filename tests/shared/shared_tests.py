@@ -74,12 +74,10 @@ class Calls(unittest.TestCase):
                                        "7 1 add 0 0 = again 2\n8 1 count = count 2\nend 2\n")
 
     def test_readers(self):
-        hull = SharedHull(capacity=20, seats=1, limit=10, first=7)
-        self.assertRaises(NoSeat, hull.lend_reader)
-        for wrong in (-1, 0, READER_LIMIT + 1, 1 << 40):
-            self.assertRaises(ValueError, hull.admit, wrong)
-        hull.admit(2)
-        self.assertRaises(ValueError, hull.admit, 2)
+        self.assertRaises(NoSeat, SharedHull(capacity=20, seats=1).lend_reader)
+        for wrong in (-1, READER_LIMIT + 1, 1 << 40):
+            self.assertRaises(ValueError, SharedHull, capacity=20, seats=1, readers=wrong)
+        hull = SharedHull(capacity=20, seats=1, limit=10, first=7, readers=2)
         one, two = hull.lend_reader(), hull.lend_reader()
         self.assertRaises(NoSeat, hull.lend_reader)
         self.assertFalse(one.is_newest())  # it has returned no view yet
@@ -107,6 +105,21 @@ class Calls(unittest.TestCase):
             self.assertEqual(view.vertices(), [(0, 0), (8, 0), (0, 8)])
         hull.close()
         self.assertRaises(ValueError, hull.lend_reader)
+        with SharedHull(capacity=None, seats=1, readers=READER_LIMIT) as bare, bare.lend_reader() as reader, bare.lend(0) as seat:
+            seat.add(1, 2)
+            self.assertEqual((reader.view().vertices(), reader.view().line), ([(1, 2)], 0))
+
+    def test_readers_go_on(self):
+        with SharedHull(capacity=20, seats=1, limit=10, first=7) as hull, hull.lend(0) as seat:
+            for x, y in [(0, 0), (8, 0), (0, 8), (1, 1)]:
+                seat.add(x, y)
+        again = SharedHull.reopen(hull.close(), capacity=20, seats=1, readers=1)
+        with again.lend_reader() as reader:
+            self.assertEqual((reader.view().vertices(), reader.view().line), ([(0, 0), (8, 0), (0, 8)], 10))
+        with tempfile.TemporaryDirectory() as folder, SharedHull.keep(f"{folder}/zone", capacity=20, seats=1, readers=1) as kept:
+            with kept.lend_reader() as reader, kept.lend(0) as seat:
+                seat.add(1, 2)
+                self.assertEqual(reader.view().vertices(), [(1, 2)])
 
     def test_no_journal(self):
         hull = SharedHull(capacity=None, seats=1, limit=6, first=7)

@@ -114,10 +114,12 @@ fn reopened() {
 
 #[test]
 fn readers() {
-    let hull = SharedHull::open(Limits { points: 10, first: 7, capacity: 20, seats: 1 }).unwrap();
-    assert_eq!(hull.lend_reader().unwrap_err(), Fault::NoSeat);
-    assert_eq!((hull.admit(0), hull.admit(READER_LIMIT + 1)), (Err(Fault::BadLimit), Err(Fault::BadLimit)));
-    assert_eq!((hull.admit(2), hull.admit(2)), (Ok(()), Err(Fault::BadLimit)));
+    let limits = Limits { points: 10, first: 7, capacity: 20, seats: 1 };
+    assert_eq!(SharedHull::open(limits).unwrap().lend_reader().unwrap_err(), Fault::NoSeat);
+    for wrong in [0, READER_LIMIT + 1] {
+        assert_eq!(SharedHull::for_readers(wrong).err(), Some(Fault::BadLimit));
+    }
+    let hull = SharedHull::for_readers(2).unwrap().open(limits).unwrap();
     let (mut one, mut two) = (hull.lend_reader().unwrap(), hull.lend_reader().unwrap());
     assert_eq!(hull.lend_reader().unwrap_err(), Fault::NoSeat);
     assert!(one.view().corners().is_empty() && one.line().is_none() && one.is_newest());
@@ -136,14 +138,18 @@ fn readers() {
     drop(seat);
     assert_eq!(hull.close().unwrap_err(), Fault::SeatsOut);
     thread::spawn(move || drop((one, two))).join().unwrap();
-    hull.close().unwrap();
-    assert_eq!((hull.lend_reader().unwrap_err(), hull.admit(1)), (Fault::NotOpen, Err(Fault::NotOpen)));
+    let text = hull.close().unwrap();
+    assert_eq!(hull.lend_reader().unwrap_err(), Fault::NotOpen);
+    let again = SharedHull::for_readers(1).unwrap().reopen(&text, 20, 1).unwrap();
+    assert_eq!(again.lend_reader().unwrap().view().corners(), [point(0, 0), point(0, 8)]);
+    let answering = SharedHull::for_readers(READER_LIMIT).unwrap().open_answering(limits).unwrap();
+    assert!(answering.lend_reader().unwrap().view().corners().is_empty());
 }
 
 #[test]
 fn readers_beside_changes() {
-    let hull = SharedHull::open_without_journal(Limits { points: 1000, first: 0, capacity: 1, seats: 1 }).unwrap();
-    hull.admit(4).unwrap();
+    let limits = Limits { points: 1000, first: 0, capacity: 1, seats: 1 };
+    let hull = SharedHull::for_readers(4).unwrap().open_without_journal(limits).unwrap();
     let mut seat = hull.lend(0).unwrap();
     let returned = AtomicUsize::new(0);
     thread::scope(|scope| {

@@ -107,14 +107,12 @@ pub enum Code {
     Illegal = 59,
     /// The journal has lines by `number` seats, which are more than were asked for. Nothing changed.
     TooFewSeats = 60,
-    /// The reader holds this view, and had the newest.
-    Viewed = 67,
-    /// The reader holds the view that it held before: others were in the way of a newer one.
-    Old = 68,
-    /// The desk publishes for readers now.
-    Admitted = 69,
-    /// The desk publishes for readers already. Nothing changed.
-    WasAdmitted = 70,
+    /// The desk is opened for so many readers now.
+    Admitted = 67,
+    /// The newest view was taken.
+    Viewed = 68,
+    /// The newest view was not taken: the view of before is told.
+    Old = 69,
 }
 
 impl Code {

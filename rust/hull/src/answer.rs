@@ -152,7 +152,7 @@ pub(crate) fn fault_of(code: u32) -> Fault {
         code::TOO_MANY => Fault::TooMany,
         code::NO_MEMORY => Fault::NoMemory,
         code::OUT_OF_ORDER => Fault::OutOfOrder,
-        code::OUT_OF_LIMITS | code::WAS_ADMITTED => Fault::BadLimit,
+        code::OUT_OF_LIMITS => Fault::BadLimit,
         code::NO_SEAT => Fault::NoSeat,
         code::NOT_OPEN => Fault::NotOpen,
         code::SEATS_OUT => Fault::SeatsOut,

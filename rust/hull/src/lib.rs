@@ -38,7 +38,7 @@ pub use outline::{Corners, Distance, Entry, Hit, Nearest, Outline, Relation, Sep
 pub use pairs::pairs_within;
 pub use raw::{Held, Point};
 pub use reader::Reader;
-pub use shared::{JournalPart, Limits, Seat, SharedHull, Stats, CAPACITY_LIMIT, READER_LIMIT, SEAT_LIMIT};
+pub use shared::{JournalPart, Limits, Opening, Seat, SharedHull, Stats, CAPACITY_LIMIT, READER_LIMIT, SEAT_LIMIT};
 
 /// The greatest size of a coordinate, of a point and of a direction: 2^40.
 pub const COORDINATE_LIMIT: i64 = 1 << 40;

@@ -243,9 +243,8 @@ pub(crate) mod code {
     pub const NO_FILE: u32 = 64;
     pub const DAMAGED: u32 = 65;
     pub const SAFE: u32 = 66;
-    pub const VIEWED: u32 = 67;
-    pub const ADMITTED: u32 = 69;
-    pub const WAS_ADMITTED: u32 = 70;
+    pub const ADMITTED: u32 = 67;
+    pub const VIEWED: u32 = 68;
 }
 
 /// The numbers of the kinds.
@@ -464,7 +463,6 @@ extern "C" {
     pub(crate) fn hull_shared_line_end(line: *mut u8);
     pub(crate) fn hull_shared_stats(line: *mut u8) -> State;
     pub(crate) fn hull_shared_journal_open(path: *const std::os::raw::c_char, journal: *mut *mut u8) -> Reply;
-    pub(crate) fn hull_shared_journal_admit(journal: *mut u8, readers: u32) -> u32;
     pub(crate) fn hull_shared_journal_start(
         journal: *mut u8,
         desk: *mut u8,

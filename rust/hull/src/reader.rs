@@ -15,8 +15,7 @@ use std::ptr::NonNull;
 /// ```
 /// use hull::{Limits, Place, Point, SharedHull};
 ///
-/// let hull = SharedHull::open(Limits { points: 1000, first: 0, capacity: 4096, seats: 2 })?;
-/// hull.admit(8)?;
+/// let hull = SharedHull::for_readers(8)?.open(Limits { points: 1000, first: 0, capacity: 4096, seats: 2 })?;
 /// let (mut seat, mut reader) = (hull.lend(0)?, hull.lend_reader()?);
 /// seat.add(Point { x: 3, y: 4 })?;
 /// assert_eq!(reader.newest().place(Point { x: 3, y: 4 })?, Place::On);

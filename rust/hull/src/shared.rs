@@ -220,39 +220,17 @@ pub struct SharedHull {
 impl SharedHull {
     /// Opens an empty hull, whose seats are all to be lent. All memory but that of points is asked for here.
     pub fn open(limits: Limits) -> Result<SharedHull, Fault> {
-        let desk = Counted::new(Desk::new()?)?;
-        let Limits { points, first, capacity, seats } = limits;
-        // SAFETY: the desk lies in its room, and nobody else has it yet.
-        let told = unsafe { raw::hull_shared_open(desk.lock().at(), points, first, capacity, seats) };
-        match told {
-            code::OPEN => Ok(SharedHull { desk }),
-            other => Err(answer::fault_of(other)),
-        }
+        Opening::new()?.open(limits)
     }
 
     /// The same, but questions are answered also where as many lines are held as may be: by what is held, with no line.
     pub fn open_answering(limits: Limits) -> Result<SharedHull, Fault> {
-        let desk = Counted::new(Desk::new()?)?;
-        let Limits { points, first, capacity, seats } = limits;
-        // SAFETY: as above.
-        let told = unsafe { raw::hull_shared_open_answering(desk.lock().at(), points, first, capacity, seats) };
-        match told {
-            code::OPEN => Ok(SharedHull { desk }),
-            other => Err(answer::fault_of(other)),
-        }
+        Opening::new()?.open_answering(limits)
     }
 
     /// The same, but the line of each call is let go with its answer: the text of the journal has none. `capacity` is not read.
     pub fn open_without_journal(limits: Limits) -> Result<SharedHull, Fault> {
-        let desk = Counted::new(Desk::new()?)?;
-        // SAFETY: as above.
-        let told = unsafe {
-            raw::hull_shared_open_without_journal(desk.lock().at(), limits.points, limits.first, limits.seats)
-        };
-        match told {
-            code::OPEN => Ok(SharedHull { desk }),
-            other => Err(answer::fault_of(other)),
-        }
+        Opening::new()?.open_without_journal(limits)
     }
 
     /// Opens a hull that goes on where a journal ends, with the points that it left: `text` is the journal's, whole, as
@@ -261,18 +239,7 @@ impl SharedHull {
     ///
     /// [`Fault::NoJournal`], [`Fault::OldRules`], [`Fault::TooFewSeats`] and [`Fault::Illegal`] tell why a text is not gone on with.
     pub fn reopen(text: &str, capacity: u32, seats: u32) -> Result<SharedHull, Fault> {
-        let desk = Counted::new(Desk::new()?)?;
-        // SAFETY: the desk lies in its room, and nobody else has it yet; the text is not written meanwhile.
-        let told =
-            unsafe { raw::hull_shared_reopen(desk.lock().at(), text.as_ptr(), text.len(), capacity, seats) };
-        match told.code {
-            code::OPEN => Ok(SharedHull { desk }),
-            code::NO_JOURNAL => Err(Fault::NoJournal { line: told.number, fault: told.high as u8 }),
-            code::OLD_RULES => Err(Fault::OldRules),
-            code::ILLEGAL => Err(Fault::Illegal { line: told.number }),
-            code::TOO_FEW_SEATS => Err(Fault::TooFewSeats { wanted: told.number as u32 }),
-            other => Err(answer::fault_of(other)),
-        }
+        Opening::new()?.reopen(text, capacity, seats)
     }
 
     /// Opens a hull whose journal is kept in a file, which is made, or gone on with: the hull holds what it left then, and the limit is
@@ -282,39 +249,25 @@ impl SharedHull {
     ///
     /// [`Fault::NoFile`], [`Fault::Damaged`] and [`Fault::Illegal`], with the line of the file, and those of opening.
     pub fn keep(path: impl AsRef<Path>, limits: Limits, every: Option<Duration>) -> Result<SharedHull, Fault> {
-        SharedHull::keep_for_readers(path, limits, every, 0)
+        Opening::new()?.keep(path, limits, every)
     }
 
-    /// The same, and it publishes for so many readers, at most [`READER_LIMIT`] ([`SharedHull::admit`]).
-    pub fn keep_for_readers(
-        path: impl AsRef<Path>,
-        limits: Limits,
-        every: Option<Duration>,
-        readers: u32,
-    ) -> Result<SharedHull, Fault> {
-        if readers > READER_LIMIT {
-            return Err(Fault::BadLimit);
+    /// A hull that is to be opened, in whichever of these ways, whose calls publish what they leave for so many readers, 1 to
+    /// [`READER_LIMIT`] ([`SharedHull::lend_reader`]); [`Fault::BadLimit`] and [`Fault::NoMemory`].
+    ///
+    /// ```
+    /// # let limits = hull::Limits { points: 1000, first: 0, capacity: 4096, seats: 2 };
+    /// let hull = hull::SharedHull::for_readers(8)?.open(limits)?;
+    /// # Ok::<(), hull::Fault>(())
+    /// ```
+    pub fn for_readers(readers: u32) -> Result<Opening, Fault> {
+        let opening = Opening::new()?;
+        // SAFETY: the desk lies in its room, and nobody else has it yet.
+        let told = unsafe { raw::hull_shared_admit(opening.desk.lock().at(), readers) };
+        match told {
+            code::ADMITTED => Ok(opening),
+            other => Err(answer::fault_of(other)),
         }
-        let desk = Counted::new(Desk::new()?)?;
-        let path = name_of(path.as_ref())?;
-        let every = every.map_or(0, |time| u64::try_from(time.as_nanos()).unwrap_or(u64::MAX / 2).min(u64::MAX / 2));
-        let mut journal = null_mut();
-        // SAFETY: the path ends with a 0.
-        let told = unsafe { raw::hull_shared_journal_open(path.as_ptr(), &mut journal) };
-        let at = NonNull::new(journal).ok_or_else(|| fault_of_file(&told, told.number))?;
-        let Limits { points, capacity, seats, .. } = limits;
-        // SAFETY: desk and line lie in their places as long as the journal is there, and nobody else has them yet.
-        let told = unsafe {
-            raw::hull_shared_journal_admit(at.as_ptr(), readers);
-            raw::hull_shared_journal_start(at.as_ptr(), desk.lock().at(), desk.line.at(), points, capacity, seats, every)
-        };
-        if told.code != code::OPEN {
-            // SAFETY: it was not started, and is used no more.
-            unsafe { raw::hull_shared_journal_close(at.as_ptr()) };
-            return Err(fault_of_file(&told, told.number));
-        }
-        *desk.journal.write().unwrap_or_else(PoisonError::into_inner) = Some(Journal(at));
-        Ok(SharedHull { desk })
     }
 
     /// Makes such a file short that no hull keeps now: the additions that leave the same points, up to the same number, which is told.
@@ -407,17 +360,8 @@ impl SharedHull {
         }
     }
 
-    /// Has calls publish what they leave for so many readers, 1 to [`READER_LIMIT`]; [`Fault::SeatsOut`] where a seat is out,
-    /// [`Fault::BadLimit`] where there may not be so many, or they were admitted before, and [`Fault::NoMemory`].
-    pub fn admit(&self, readers: u32) -> Result<(), Fault> {
-        // SAFETY: the desk lies in its room, whose lock keeps other calls away.
-        match unsafe { raw::hull_shared_admit(self.desk.lock().at(), readers) } {
-            code::ADMITTED => Ok(()),
-            other => Err(answer::fault_of(other)),
-        }
-    }
-
-    /// Lends a reader; [`Fault::NoSeat`] where as many are out as were admitted, and [`Fault::NotOpen`] once the hull is closed.
+    /// Lends a reader, of those that the hull was opened for ([`SharedHull::for_readers`]); [`Fault::NoSeat`] where as many are out, and
+    /// [`Fault::NotOpen`] once the hull is closed.
     pub fn lend_reader(&self) -> Result<Reader, Fault> {
         Reader::new(&self.desk)
     }
@@ -449,6 +393,87 @@ impl SharedHull {
             code::CLOSED | code::NOT_OPEN => Ok(desk),
             other => Err(answer::fault_of(other)),
         }
+    }
+}
+
+/// A shared hull that is not open yet: each of its functions opens it as that of [`SharedHull`] with the same name ([`SharedHull::for_readers`]).
+pub struct Opening {
+    desk: Counted<Desk>,
+}
+
+impl Opening {
+    fn new() -> Result<Opening, Fault> {
+        Ok(Opening { desk: Counted::new(Desk::new()?)? })
+    }
+
+    /// The hull, where its desk was opened.
+    fn opened(self, told: u32) -> Result<SharedHull, Fault> {
+        match told {
+            code::OPEN => Ok(SharedHull { desk: self.desk }),
+            other => Err(answer::fault_of(other)),
+        }
+    }
+
+    /// As [`SharedHull::open`].
+    pub fn open(self, limits: Limits) -> Result<SharedHull, Fault> {
+        let Limits { points, first, capacity, seats } = limits;
+        // SAFETY: the desk lies in its room, and nobody else has it yet.
+        let told = unsafe { raw::hull_shared_open(self.desk.lock().at(), points, first, capacity, seats) };
+        self.opened(told)
+    }
+
+    /// As [`SharedHull::open_answering`].
+    pub fn open_answering(self, limits: Limits) -> Result<SharedHull, Fault> {
+        let Limits { points, first, capacity, seats } = limits;
+        // SAFETY: as above.
+        let told = unsafe { raw::hull_shared_open_answering(self.desk.lock().at(), points, first, capacity, seats) };
+        self.opened(told)
+    }
+
+    /// As [`SharedHull::open_without_journal`].
+    pub fn open_without_journal(self, limits: Limits) -> Result<SharedHull, Fault> {
+        // SAFETY: as above.
+        let told = unsafe {
+            raw::hull_shared_open_without_journal(self.desk.lock().at(), limits.points, limits.first, limits.seats)
+        };
+        self.opened(told)
+    }
+
+    /// As [`SharedHull::reopen`].
+    pub fn reopen(self, text: &str, capacity: u32, seats: u32) -> Result<SharedHull, Fault> {
+        // SAFETY: the desk lies in its room, and nobody else has it yet; the text is not written meanwhile.
+        let told =
+            unsafe { raw::hull_shared_reopen(self.desk.lock().at(), text.as_ptr(), text.len(), capacity, seats) };
+        match told.code {
+            code::NO_JOURNAL => Err(Fault::NoJournal { line: told.number, fault: told.high as u8 }),
+            code::OLD_RULES => Err(Fault::OldRules),
+            code::ILLEGAL => Err(Fault::Illegal { line: told.number }),
+            code::TOO_FEW_SEATS => Err(Fault::TooFewSeats { wanted: told.number as u32 }),
+            other => self.opened(other),
+        }
+    }
+
+    /// As [`SharedHull::keep`].
+    pub fn keep(self, path: impl AsRef<Path>, limits: Limits, every: Option<Duration>) -> Result<SharedHull, Fault> {
+        let desk = self.desk;
+        let path = name_of(path.as_ref())?;
+        let every = every.map_or(0, |time| u64::try_from(time.as_nanos()).unwrap_or(u64::MAX / 2).min(u64::MAX / 2));
+        let mut journal = null_mut();
+        // SAFETY: the path ends with a 0.
+        let told = unsafe { raw::hull_shared_journal_open(path.as_ptr(), &mut journal) };
+        let at = NonNull::new(journal).ok_or_else(|| fault_of_file(&told, told.number))?;
+        let Limits { points, capacity, seats, .. } = limits;
+        // SAFETY: desk and line lie in their places as long as the journal is there, and nobody else has them yet.
+        let told = unsafe {
+            raw::hull_shared_journal_start(at.as_ptr(), desk.lock().at(), desk.line.at(), points, capacity, seats, every)
+        };
+        if told.code != code::OPEN {
+            // SAFETY: it was not started, and is used no more.
+            unsafe { raw::hull_shared_journal_close(at.as_ptr()) };
+            return Err(fault_of_file(&told, told.number));
+        }
+        *desk.journal.write().unwrap_or_else(PoisonError::into_inner) = Some(Journal(at));
+        Ok(SharedHull { desk })
     }
 }
 
