@@ -17,7 +17,7 @@ use lattice::{Direction, Point};
 pub(crate) fn is_nearer(d: Vector, p: Point, q: Point) -> bool
     ensures { IsTrue result ↔ (plane.product d p <ℤ plane.product d q) }
 {
-    d.product(p) < d.product(q)
+    d.along_step(Vector::step(p, q)) > 0
 }
 
 /// The place of the first of the farthest in a direction that does not go up: of the corner up to which the lower chain rises.

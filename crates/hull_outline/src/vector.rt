@@ -46,26 +46,16 @@ fn multiplied(a: i128, b: i128) -> i128
     a * b
 }
 
-/// u * p + v * q, of two components and two coordinates.
+/// u * p + v * q, of components.
 fn sum_of_products(u: i64, p: i64, v: i64, q: i64) -> i128
     requires first { IsWithin (2 * widest) u }
-    requires second { IsWithin widest p }
+    requires second { IsWithin (2 * widest) p }
     requires third { IsWithin (2 * widest) v }
-    requires fourth { IsWithin widest q }
+    requires fourth { IsWithin (2 * widest) q }
     ensures value { result ≡ u *ℤ p +ℤ v *ℤ q }
     ensures size { IsWithin widest_side result }
 {
     multiplied(u as i128, p as i128) + multiplied(v as i128, q as i128)
-}
-
-/// The sum of the squares of two components.
-fn sum_of_squares(u: i64, v: i64) -> i128
-    requires first { IsWithin (2 * widest) u }
-    requires second { IsWithin (2 * widest) v }
-    ensures value { result ≡ u *ℤ u +ℤ v *ℤ v }
-    ensures size { IsWithin widest_side result }
-{
-    multiplied(u as i128, u as i128) + multiplied(v as i128, v as i128)
 }
 
 impl Vector {
@@ -128,7 +118,7 @@ impl Vector {
         ensures value { result ≡ self.x *ℤ self.x +ℤ self.y *ℤ self.y }
         ensures size { IsWithin widest_side result }
     {
-        sum_of_squares(self.x(), self.y())
+        sum_of_products(self.x(), self.x(), self.y(), self.y())
     }
 
     /// The direction backwards.
@@ -164,5 +154,13 @@ impl Vector {
         ensures size { IsWithin widest_side result }
     {
         sum_of_products(self.x(), p.x(), self.y(), p.y())
+    }
+
+    /// How far a step goes in this direction.
+    pub(crate) fn along_step(self, step: Vector) -> i128
+        ensures value { result ≡ self.x *ℤ step.x +ℤ self.y *ℤ step.y }
+        ensures size { IsWithin widest_side result }
+    {
+        sum_of_products(self.x(), step.x(), self.y(), step.y())
     }
 }

@@ -18,4 +18,6 @@ mod plane;
 #[cfg(test)]
 mod questions;
 #[cfg(test)]
+mod settled;
+#[cfg(test)]
 mod tree;

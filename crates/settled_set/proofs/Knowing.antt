@@ -1,5 +1,6 @@
 -- What holds of each set with the corners that are known holds of the set itself.
 use Rattle.std.proofs.Common.{◌≡◌, List, ◌≤◌, length, sym, subst}
+use Rattle.std.specs.Prelude.{Option, Some, None, IfSome}
 use Rattle.lattice.specs.Plane.{Pair}
 use Rattle.hull_outline.specs.Outlines.{HoldsOfSetsOf, IsOutlineOf}
 use Rattle.hull_geometry.proofs.FewVertices.{vertices_few}
@@ -16,3 +17,8 @@ by_corners S corners V W P a e f h = h S (subst (IsOutlineOf S) (sym f) (subst (
 pub few_corners : (S : List Pair) (corners : Corners) (V : List Pair) → AreCornersOf S corners → corners ≡ Known V
     → length V ≤ length S
 few_corners S corners V a e = vertices_few S V (subst (AreCornersOf S) e a).1
+
+-- what holds of a value that is there may be told as what follows from it
+pub some_weaker : {T : Type 0} (o : Option T) (P Q : T → Type 0) → ((v : T) → P v → Q v) → IfSome o P → IfSome o Q
+some_weaker None P Q f h = h
+some_weaker (Some v) P Q f h = f v h

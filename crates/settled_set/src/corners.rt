@@ -1,19 +1,39 @@
 //! The corners of a set, while they are known.
-ghost use Rattle.std.specs.Prelude.{◌≡◌, ◌⊎◌, ◌+◌, ℕ, List};
-ghost use Rattle.std.specs.List.{Contains};
+ghost use Rattle.std.specs.Prelude.{◌≡◌, ◌⊎◌, ◌+◌, ℕ, List, IfSome, MatchOption};
 ghost use Rattle.lattice.specs.Plane.{Pair};
 ghost use Rattle.lattice.specs.Covers.{Covers, IsExtreme, with_point, without_point};
-ghost use Rattle.hull_outline.specs.Outlines.{IsOutlineOf};
+ghost use Rattle.hull_outline.specs.Outlines.{IsOutlineOf, IsShortOutline};
 ghost use Rattle.settled_set.specs.Known.{AreCornersOf};
 ghost use Rattle.settled_set.specs.declared.corners.Corners.TheVariants.{Known, Unknown};
 
 use super::gathering::ListsCorners;
 use super::kept::Kept;
+use heap::Heap;
 use hull_set::HullSet;
 use lattice::Point;
 
 /// How many corners are gathered for each question that was asked.
 const CORNERS_A_QUESTION: usize = 8;
+
+/// What is known of the corners of a set.
+#[derive(Drop)]
+pub(crate) enum Corners {
+    /// They are these.
+    Known(Kept),
+    /// Nothing; and since something was, so many questions came.
+    Unknown(u32),
+}
+
+/// What a list of the corners makes known, or that so many questions came.
+fn known_by(found: Option<Vec<Point, Heap>>, asked: u32) -> Corners
+    requires { IfSome found (λ v. IsShortOutline v.items) }
+    ensures { MatchOption found (result ≡ Unknown asked) (λ v. result ≡ Known v.items) }
+{
+    match found {
+        Some(corners) => Corners::Known(Kept::new(corners)),
+        None => Corners::Unknown(asked),
+    }
+}
 
 /// What is known of the corners of a set after they are gathered, where they are no more than that; else that so many
 /// questions came. Where memory is refused it is the same.
@@ -24,18 +44,9 @@ fn gathered<S: ListsCorners>(set: &S, most: usize, asked: u32) -> Corners
     let _count = set.count();
     let _limit = set.limit();
     match set.vertices_up_to(most) {
-        Ok(Some(corners)) => Corners::Known(Kept::new(corners)),
-        _ => Corners::Unknown(asked),
+        Ok(found) => known_by(found, asked),
+        Err(_) => Corners::Unknown(asked),
     }
-}
-
-/// What is known of the corners of a set.
-#[derive(Drop)]
-pub(crate) enum Corners {
-    /// They are these.
-    Known(Kept),
-    /// Nothing; and since something was, so many questions came.
-    Unknown(u32),
 }
 
 impl Corners {

@@ -1,33 +1,33 @@
--- products of a component and a coordinate fit 128 bits, and so does the sum of two
+-- products of components fit 128 bits, and so does the sum of two
 use Rattle.std.proofs.Common.{◌≡◌, ◌∙◌, ◌*◌, ◌^◌, arith, lit≤, to_z, of_z}
 use lib.IntN.{ℤ, ◌*ℤ◌}
 use mir.Syntax.{w128, w64}
 use borrow.Author.Differences.{ints}
 use Rattle.lattice.specs.Plane.{IsWithin, widest, widest_side}
 use Rattle.lattice.specs.Integers.{within_add, within_mul, within_more}
-use Rattle.lattice.proofs.Casts.{cast_wide, cast_add}
+use Rattle.lattice.proofs.Casts.{cast_add}
 use Rattle.hull_outline.proofs.vector.sum_of_products.Goals as goal
 
 -- a component, cast to 128 bits
 cast_component : (z : ℤ) → IsWithin (2 * widest) z → to_z w128 (of_z w128 (to_z w64 (of_z w64 z))) ≡ z
 cast_component z h = omega (arith, ints)
 
--- a component times a coordinate
-part_within : (u p : ℤ) → IsWithin (2 * widest) u → IsWithin widest p → IsWithin (2 * widest * widest) (u *ℤ p)
-part_within u p h k = within_mul (2 * widest) widest u p h k
+-- two of them multiplied
+part_within : (u p : ℤ) → IsWithin (2 * widest) u → IsWithin (2 * widest) p → IsWithin (2 * widest * (2 * widest)) (u *ℤ p)
+part_within u p h k = within_mul (2 * widest) (2 * widest) u p h k
 
 -- which fits
-part_small : (z : ℤ) → IsWithin (2 * widest * widest) z → IsWithin (2 ^ 125) z
-part_small z h = within_more (2 * widest * widest) (2 ^ 125) z (lit≤ tt) h
+part_small : (z : ℤ) → IsWithin (2 * widest * (2 * widest)) z → IsWithin (2 ^ 125) z
+part_small z h = within_more (2 * widest * (2 * widest)) (2 ^ 125) z (lit≤ tt) h
 
 pub multiplied-requires : goal.multiplied-requires
 multiplied-requires c =
-    rw (cast_component c.args.u c.requires.first, cast_wide c.args.p c.requires.second)
+    rw (cast_component c.args.u c.requires.first, cast_component c.args.p c.requires.second)
     (part_small _ (part_within c.args.u c.args.p c.requires.first c.requires.second))
 
 pub multiplied-requires-2 : goal.multiplied-requires-2
 multiplied-requires-2 c =
-    rw (cast_component c.args.v c.requires.third, cast_wide c.args.q c.requires.fourth)
+    rw (cast_component c.args.v c.requires.third, cast_component c.args.q c.requires.fourth)
     (part_small _ (part_within c.args.v c.args.q c.requires.third c.requires.fourth))
 
 pub overflow_add-result : goal.overflow_add-result
@@ -43,15 +43,15 @@ returns-clause-value c =
       c.multiplied.ensures.value,
       c.multiplied-2.ensures.value,
       cast_component c.args.u c.requires.first,
-      cast_wide c.args.p c.requires.second,
+      cast_component c.args.p c.requires.second,
       cast_component c.args.v c.requires.third,
-      cast_wide c.args.q c.requires.fourth,
+      cast_component c.args.q c.requires.fourth,
     ))
 
 pub returns-clause-size : goal.returns-clause-size
 returns-clause-size c =
     rw (returns-clause-value c)
     (within_more _ widest_side _ (lit≤ tt)
-    (within_add (2 * widest * widest) (2 * widest * widest) (c.args.u *ℤ c.args.p) (c.args.v *ℤ c.args.q)
+    (within_add (2 * widest * (2 * widest)) (2 * widest * (2 * widest)) (c.args.u *ℤ c.args.p) (c.args.v *ℤ c.args.q)
     (part_within c.args.u c.args.p c.requires.first c.requires.second)
     (part_within c.args.v c.args.q c.requires.third c.requires.fourth)))

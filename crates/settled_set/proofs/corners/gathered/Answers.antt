@@ -1,23 +1,20 @@
 -- the vertices are the corners of the points, and no more than these
-use Rattle.std.proofs.Common.{arith, subst}
-use Rattle.std.specs.Option.{IfSome}
-use Rattle.lattice.specs.Vertices.{IsVertexList}
+use Rattle.std.proofs.Common.{arith}
+use Rattle.settled_set.proofs.Knowing.{some_weaker}
 use Rattle.hull_geometry.proofs.FewVertices.{vertices_few}
 use Rattle.settled_set.proofs.corners.gathered.Goals as goal
 
-pub new-requires : goal.new-requires
-new-requires g c =
+pub known_by-requires : goal.known_by-requires
+known_by-requires g c =
     let S = (g.S.HullSet.held c.args.set.now).points in
-    let told : IsVertexList S c.in-Ok-Some.corners.items =
-    subst (λ f. IfSome f (λ v. IsVertexList S v.items)) c.in-Ok-Some.field-0-is c.in-Ok-Some.ensures.vertices in
-    let few = vertices_few S c.in-Ok-Some.corners.items told in (
+    some_weaker c.in-Ok.found _ _ (λ v told. (
       (S, (c.count-count.ensures.in_order, told)),
       omega (
         arith,
-        few,
+        vertices_few S v.items told,
         c.count-count.ensures.reply,
         c.count-count.ensures.room,
         c.limit-limit.ensures.value,
         c.limit-limit.ensures.high,
       ),
-    )
+    )) c.in-Ok.ensures.vertices

@@ -1,0 +1,115 @@
+//! A settled set and the set that it is made of under the same changes, asked as often as it takes to know the corners, and not.
+use crate::numbers::{Numbers, centred};
+use bucket_tree::BucketTree;
+use hull_set::{HullSet, POINT_LIMIT};
+use lattice::{Direction, Point};
+use settled_set::Settled;
+use std::alloc::Global;
+use std::test::Fail;
+
+/// Both sets.
+#[derive(Drop)]
+struct Sets {
+    settled: Settled<BucketTree>,
+    tree: BucketTree,
+}
+
+impl Sets {
+    fn new(alloc: Global) -> Sets {
+        Sets {
+            settled: Settled::new(BucketTree::new(alloc, POINT_LIMIT)),
+            tree: BucketTree::new(alloc, POINT_LIMIT),
+        }
+    }
+
+    /// Makes a change on both, and tells whether they answer alike.
+    fn change(&mut self, p: Point, adds: bool) -> bool {
+        if adds {
+            self.settled.add(p) == self.tree.add(p)
+        } else {
+            self.settled.remove(p) == self.tree.remove(p)
+        }
+    }
+
+    /// Whether all that one can ask is answered alike, and the corners, where they are known, are those of the tree.
+    fn are_alike(&self, q: Point, d: Direction) -> bool {
+        let (settled, tree) = (&self.settled, &self.tree);
+        let corners = tree.vertices();
+        let known = match (&corners, settled.corners()) {
+            (Ok(all), Some(known)) => all.as_slice() == known,
+            (Ok(_), None) => true,
+            _ => false,
+        };
+        known
+            && settled.vertices() == corners
+            && settled.area2() == tree.area2()
+            && settled.count() == tree.count()
+            && settled.place(q) == tree.place(q)
+            && settled.tangents(q) == tree.tangents(q)
+            && settled.extreme(d) == tree.extreme(d)
+    }
+}
+
+/// Makes so many changes in a square of that half width, a question after each third; in how many of these the corners were known, if
+/// all were answered alike.
+fn known_among(alloc: Global, half: u32, changes: u32) -> Result<Option<u32>, Fail> {
+    let mut sets = Sets::new(alloc);
+    let mut numbers = Numbers::new();
+    let mut known = 0;
+    for step in 0..changes {
+        let right = numbers.next().checked_rem(2 * half + 1).unwrap_or(0);
+        let up = numbers.next().checked_rem(2 * half + 1).unwrap_or(0);
+        let (p, q) = (
+            Point::new(centred(right, half), centred(up, half))?,
+            Point::new(centred(up, half), centred(right, half))?,
+        );
+        let d = Direction::new(1 - 2 * i64::from(up % 2), 2 - i64::from(right % 4))?;
+        let mut alike = sets.change(p, numbers.next() % 8 < 5);
+        if step % 3 == 0 {
+            sets.settled.settle();
+            known += u32::from(sets.settled.corners().is_some());
+            alike = sets.are_alike(q, d) && alike;
+        }
+        if !alike {
+            return Ok(None);
+        }
+    }
+    Ok(Some(known))
+}
+
+#[test]
+fn few_corners_are_known_at_once(rt: HostRuntime) -> Result<(), Fail> {
+    let known = known_among(rt.alloc(), 3, 3000)?;
+    assert!(rt; known > Some(500));
+    Ok(())
+}
+
+#[test]
+fn many_points_are_answered_alike(rt: HostRuntime) -> Result<(), Fail> {
+    let known = known_among(rt.alloc(), 1000, 6000)?;
+    assert!(rt; known > Some(500));
+    Ok(())
+}
+
+// 300 corners are known from the question on at which eight times its number is as many.
+#[test]
+fn corners_are_known_after_so_many_questions(rt: HostRuntime) -> Result<(), Fail> {
+    let mut sets = Sets::new(rt.alloc());
+    for k in 0i64..300 {
+        let alike = sets.change(Point::new(k, k * k)?, true);
+        assert!(rt; alike);
+    }
+    let mut asked = 0;
+    while sets.settled.corners().is_none() && asked < 1000 {
+        sets.settled.settle();
+        asked += 1;
+    }
+    assert_eq!(rt; asked, 64);
+    let inside = sets.change(Point::new(10, 150)?, true);
+    assert!(rt; inside && sets.settled.corners().is_some());
+    let corner = sets.change(Point::new(7, 49)?, false);
+    assert!(rt; corner && sets.settled.corners().is_none());
+    let alike = sets.are_alike(Point::new(3, 20)?, Direction::new(1, -3)?);
+    assert!(rt; alike);
+    Ok(())
+}
