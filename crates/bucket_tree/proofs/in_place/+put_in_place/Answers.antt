@@ -118,7 +118,8 @@ after_right-requires-clause-behind t c =
     let b = subst (λ z. ¬ IsBefore c.args.p z) (ap (λ (z : Below). z.first_right) (c.deref.ensures ∙ sym c.deref_mut-else-before.ensures.value))
     (failed c.before-in-Fork.result c.before-in-Fork.ensures.1 c.if-before.false) in
     subst (IsBehindRight c.args.p c.in-Ok-put_in_place.below.sides) (sym c.deref_mut-in-Ok-put_in_place.ensures.value)
-    (put_right_behind c.args.p n c.in-Fork.field-0 f c.put_in_place-else-before.new.node c.in-Ok-put_in_place.below a b c.in-Ok-put_in_place.ensures.put)
+    (put_right_behind c.args.p n c.in-Fork.field-0 f c.put_in_place-else-before.new.node
+    c.in-Ok-put_in_place.below a b c.in-Ok-put_in_place.ensures.put)
 
 pub after_right-requires-clause-few : goal.after_right-requires-clause-few
 after_right-requires-clause-few t c =
@@ -181,4 +182,5 @@ returns-in-Err-put_in_place-clause-told t c =
     (apart n c.in-Fork.field-0 c.in-Fork.fork c.in-Fork.is c.requires.built) in
     let b = subst (λ z. ¬ IsBefore c.args.p z) (ap (λ (z : Below). z.first_right) (c.deref.ensures ∙ sym c.deref_mut-else-before.ensures.value))
     (failed c.before-in-Fork.result c.before-in-Fork.ensures.1 c.if-before.false) in
-    c.in-Err-put_in_place.ensures.told ∙ sym (same_right c.args.p n f.left f.right a.row a.points a.times (subst (λ z. ¬ IsBefore c.args.p z) a.first b))
+    c.in-Err-put_in_place.ensures.told
+    ∙ sym (same_right c.args.p n f.left f.right a.row a.points a.times (subst (λ z. ¬ IsBefore c.args.p z) a.first b))

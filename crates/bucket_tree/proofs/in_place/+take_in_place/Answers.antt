@@ -122,7 +122,8 @@ after_right-requires-clause-behind t c =
     let b = subst (λ z. ¬ IsBefore c.args.p z) (ap (λ (z : Below). z.first_right) (c.deref.ensures ∙ sym c.deref_mut-else-before.ensures.value))
     (failed c.before-in-Fork.result c.before-in-Fork.ensures.1 c.if-before.false) in
     subst (IsBehindRight c.args.p c.in-Ok-take_in_place.below.sides) (sym c.deref_mut-in-Ok-take_in_place.ensures.value)
-    (take_right_behind c.args.p n c.in-Fork.field-0 f c.take_in_place-else-before.new.node c.in-Ok-take_in_place.below a b c.in-Ok-take_in_place.ensures.taken)
+    (take_right_behind c.args.p n c.in-Fork.field-0 f c.take_in_place-else-before.new.node
+    c.in-Ok-take_in_place.below a b c.in-Ok-take_in_place.ensures.taken)
 
 pub after_right-requires-clause-few : goal.after_right-requires-clause-few
 after_right-requires-clause-few t c =
@@ -134,7 +135,8 @@ after_right-requires-clause-few t c =
     (failed c.before-in-Fork.result c.before-in-Fork.ensures.1 c.if-before.false) in
     subst (λ (z : Below). length (points_below z.left ++ points_below z.right) ≤ POINT_LIMIT)
     (sym c.deref_mut-in-Ok-take_in_place.ensures.value)
-    (take_right_few c.args.p n c.in-Fork.field-0 f c.take_in_place-else-before.new.node c.in-Ok-take_in_place.below a b c.in-Ok-take_in_place.ensures.taken
+    (take_right_few c.args.p n c.in-Fork.field-0 f c.take_in_place-else-before.new.node
+    c.in-Ok-take_in_place.below a b c.in-Ok-take_in_place.ensures.taken
     c.requires.few)
 
 pub after_right-requires-clause-turns : goal.after_right-requires-clause-turns
@@ -158,7 +160,8 @@ returns-in-Ok-take_in_place-clause-taken t c =
     let b = subst (λ z. ¬ IsBefore c.args.p z) (ap (λ (z : Below). z.first_right) (c.deref.ensures ∙ sym c.deref_mut-else-before.ensures.value))
     (failed c.before-in-Fork.result c.before-in-Fork.ensures.1 c.if-before.false) in
     let v = c.deref_mut-in-Ok-take_in_place.ensures.value in
-    take_right c.args.p n c.in-Fork.field-0 f c.take_in_place-else-before.new.node c.in-Ok-take_in_place.below a b c.in-Ok-take_in_place.ensures.taken _
+    take_right c.args.p n c.in-Fork.field-0 f c.take_in_place-else-before.new.node
+    c.in-Ok-take_in_place.below a b c.in-Ok-take_in_place.ensures.taken _
     c.after_right.result c.after_right.ensures.renewed
     (c.after_right.ensures.left ∙ ap (λ (z : Below). z.left) v)
     (c.after_right.ensures.right ∙ ap (λ (z : Below). z.right) v)
@@ -185,4 +188,5 @@ returns-in-Err-take_in_place-clause-told t c =
     (apart n c.in-Fork.field-0 c.in-Fork.fork c.in-Fork.is c.requires.built) in
     let b = subst (λ z. ¬ IsBefore c.args.p z) (ap (λ (z : Below). z.first_right) (c.deref.ensures ∙ sym c.deref_mut-else-before.ensures.value))
     (failed c.before-in-Fork.result c.before-in-Fork.ensures.1 c.if-before.false) in
-    c.in-Err-take_in_place.ensures.told ∙ sym (same_right c.args.p n f.left f.right a.row a.points a.times (subst (λ z. ¬ IsBefore c.args.p z) a.first b))
+    c.in-Err-take_in_place.ensures.told
+    ∙ sym (same_right c.args.p n f.left f.right a.row a.points a.times (subst (λ z. ¬ IsBefore c.args.p z) a.first b))
