@@ -3,13 +3,8 @@
 //!
 //! A [`Bucket`] takes points in and out, is parted in the middle, and takes in a bucket behind it; each change mends
 //! the two words, by passes over the places that it can touch. To a search of bridges and to questions it is a half of
-<<<<<<< HEAD
 //! a hull, a [`Run`] of its corners. A leaf tree over buckets has a thirtieth of the forks that one over points has;
 //! `BucketTree` (crate `bucket_tree`) is one.
-=======
-//! a hull, a [`Run`] of its corners. A leaf tree over buckets has a thirtieth of the forks that one over points has; the
-//! crate `bucket_tree` is such a set.
->>>>>>> a0ffb7e24d3ffcce4722e16e7aa5462dd26c6677
 //!
 //! # A worked example
 //!
