@@ -1,6 +1,6 @@
 -- A list around one of its places, and a point beside the corners before it and behind it.
-use Rattle.std.proofs.Common.{◌≡◌, ℕ, pos, ◌≤ℤ◌, ◌+◌, ◌-◌, ◌<◌, sym, ap, ◌∙◌, subst, arith, inl, inr, ◌⊎◌, Ok, Err}
-use Rattle.std.proofs.Common.{List, [], ◌∷◌, ◌++◌, length, take, drop, length-append, get_or, refl, zero, suc}
+use Rattle.std.proofs.Common.{◌≡◌, ℕ, pos, ◌≤ℤ◌, ◌+◌, ◌-◌, ◌<◌, sym, ap, ◌∙◌, subst, arith, inl, inr, ◌⊎◌, Err}
+use Rattle.std.proofs.Common.{List, [], ◌∷◌, ◌++◌, length, take, drop, length-append, refl, zero, suc}
 use Rattle.std.proofs.lemmas.List.{drop_more}
 use Rattle.std.proofs.lemmas.List.Elements.{All-contains, Contains-append_cases, Contains-append_left}
 use Rattle.std.proofs.lemmas.List.Elements.{Contains-append_right}
@@ -130,11 +130,6 @@ taken_away S k s l =
 
 -- ---- positions
 
--- the point behind the first of two lists, whatever stands for one that is not there
-pub get_behind : (xs : List Pair) (b : Pair) (rest : List Pair) (e : Pair) → get_or (xs ++ b ∷ rest) (length xs) e ≡ b
-get_behind [] b rest e = refl
-get_behind (x ∷ xs) b rest e = get_behind xs b rest e
-
 -- a point between two lists would stand behind the first
 pub between_lists : (xs ys : List Pair) (p : Pair) → ((t : Pair) → Contains xs t → IsBefore t p)
     → ((t : Pair) → Contains ys t → IsBefore p t) → IsPositionOf (xs ++ ys) p (Err (length xs))
@@ -142,15 +137,6 @@ between_lists xs ys p f g = (
   (let n = length-append xs ys in omega (arith, n)),
   subst (All (λ t. IsBefore t p)) (sym (take_front xs ys)) (all_of (λ t. IsBefore t p) xs f),
   subst (All (IsBefore p)) (sym (drop_front xs ys)) (all_of (IsBefore p) ys g),
-)
-
--- with it between them, it stands there
-pub behind_list : (xs ys : List Pair) (p : Pair) → ((t : Pair) → Contains xs t → IsBefore t p)
-    → IsPositionOf (xs ++ p ∷ ys) p (Ok (length xs))
-behind_list xs ys p f = (
-  (let n = length-append xs (p ∷ ys) in omega (arith, n)),
-  get_behind xs p ys,
-  subst (All (λ t. IsBefore t p)) (sym (take_front xs (p ∷ ys))) (all_of (λ t. IsBefore t p) xs f),
 )
 
 -- what stands before the point at a place stands before it in the order

@@ -193,10 +193,6 @@ module _ (side : Side) (S : List Pair) (old k : ℕ) (ordered : IsPointSet S) (l
 pub record AreLeft (side : Side) (T : List Pair) (old k low high : ℕ) : Type 0 where
   pub ordered : IsPointSet T
   pub apart : AreApart low high
-  pub low_within : low < 2 ^ length T
-  pub high_within : high < 2 ^ length T
-  pub left_turning : IsTurning side (at_places low T)
-  pub right_turning : IsTurning side (at_places high T)
   pub stays : old / 2 ^ k % 2 ≡ 0 → IsMaskOf side T (low + high)
   pub ends : old / 2 ^ k % 2 ≡ 1 → AreEnds side T low high
 
@@ -209,10 +205,6 @@ left_of side T old k low high w e f =
     (subst (λ (z : List Pair). AreLeft side z old k (old % 2 ^ k) (old / 2 ^ (k + 1) * 2 ^ k)) (sym w.left) (record {
       ordered = others_set w.old k w.ordered w.within;
       apart = are_apart side w.old old k w.ordered w.within w.corners;
-      low_within = low_within side w.old old k w.ordered w.within w.corners;
-      high_within = high_within side w.old old k w.ordered w.within w.corners;
-      left_turning = left_turning side w.old old k w.ordered w.within w.corners;
-      right_turning = right_turning side w.old old k w.ordered w.within w.corners;
       stays = stays side w.old old k w.ordered w.within w.corners;
       ends = ends side w.old old k w.ordered w.within w.corners;
     })))
