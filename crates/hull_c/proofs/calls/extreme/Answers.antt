@@ -15,9 +15,9 @@ use Rattle.hull_c.proofs.calls.extreme.Goals as goal
 pub returns-in-Ok : goal.returns-in-Ok
 returns-in-Ok c =
     asked Extreme c.args.x c.args.y (plain.Extreme c.in-Ok.d) c.args.hull.now (reply_to_extreme c.extreme.result)
-    c.told.result (search rules)
+    c.told_farthest.result (search rules)
     (subst (λ (t : LimitedTree). AnswersExtreme (held_by t.root).points c.in-Ok.d (reply_to_extreme c.extreme.result))
-    c.hull.view_is c.extreme.ensures) refl (subst (λ (r : Reply). Tells c.told.result r) c.extreme_reply.ensures c.told.ensures)
+    c.hull.view_is c.extreme.ensures) refl c.told_farthest.ensures
 
 pub returns-in-Err : goal.returns-in-Err
 returns-in-Err c =
