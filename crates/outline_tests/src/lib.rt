@@ -13,3 +13,5 @@ mod distances;
 mod lists;
 #[cfg(test)]
 mod meetings;
+#[cfg(test)]
+mod stays;

@@ -101,6 +101,7 @@ impl<S: HullSet + Drop> HullSet for Settled<S> {
         reply
     }
 
+    #[inline(always)]
     fn extreme(&self, d: Direction) -> Option<Point> {
         match &self.corners {
             Corners::Known(kept) => kept.outline().extreme(d),

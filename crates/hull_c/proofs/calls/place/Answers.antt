@@ -13,10 +13,10 @@ use Rattle.hull_c.proofs.calls.place.Goals as goal
 
 pub returns-in-Ok : goal.returns-in-Ok
 returns-in-Ok c =
-    asked Place c.args.x c.args.y (plain.Place c.in-Ok.q) c.args.hull.now (Lies c.place.result) c.told.result
+    asked Place c.args.x c.args.y (plain.Place c.in-Ok.q) c.args.hull.now (Lies c.place.result) c.told_place.result
     (search rules)
     (subst (λ (t : LimitedTree). LiesAt (held_by t.root).points c.in-Ok.q c.place.result) c.hull.view_is c.place.ensures)
-    refl c.told.ensures
+    refl c.told_place.ensures
 
 pub returns-in-Err : goal.returns-in-Err
 returns-in-Err c =
