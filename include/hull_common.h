@@ -110,7 +110,12 @@ typedef enum hull_code {
     /* of files that keep a journal alone */
     HULL_NO_FILE = 64,       /* the system refused a call on the file: errno is told with it */
     HULL_DAMAGED = 65,       /* line `number` of the file, from 1, is wrong, and more than a torn part stands from there on */
-    HULL_SAFE = 66           /* the lines before line `number` are in the file for good */
+    HULL_SAFE = 66,          /* the lines before line `number` are in the file for good */
+
+    /* of readers, which take views of a shared hull, alone */
+    HULL_ADMITTED = 67,      /* the desk is opened for so many readers */
+    HULL_VIEWED = 68,        /* the newest view was taken */
+    HULL_OLD = 69            /* the newest view was not taken: the view of before is told */
 } hull_code;
 
 /* What a call was answered: a code (hull_code), and what belongs to it (told above); all else is 0. */
@@ -212,6 +217,9 @@ static inline const char *hull_code_name(uint32_t code) {
     case HULL_NO_FILE: return "HULL_NO_FILE";
     case HULL_DAMAGED: return "HULL_DAMAGED";
     case HULL_SAFE: return "HULL_SAFE";
+    case HULL_ADMITTED: return "HULL_ADMITTED";
+    case HULL_VIEWED: return "HULL_VIEWED";
+    case HULL_OLD: return "HULL_OLD";
     default: return "no code";
     }
 }

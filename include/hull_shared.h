@@ -295,12 +295,19 @@ void hull_shared_make_reader(hull_shared_reader *room);
  * call at a time on the desk, as for seats. */
 uint32_t hull_shared_lend_reader(hull_shared_desk *desk, hull_shared_reader *room);
 
-/* Moves the reader in the room back to the desk that it came from, and lets its view go: RETURNED; NOT_OPEN, VACANT. A desk is not
- * closed before all are back (SEATS_OUT). */
+/* Moves the reader in the room back to the desk that it came from, and lets its view go: RETURNED; NOT_OPEN, VACANT, and
+ * PLACE_IN_USE where no reader of the desk is out. A desk is not closed before all are back (SEATS_OUT). */
 uint32_t hull_shared_return_reader(hull_shared_desk *desk, hull_shared_reader *room);
 
 /* Takes the newest view, by a few atomic steps and with no lock, and tells it. */
-hull_shared_view_reply hull_shared_view(hull_shared_reader *reader);
+void hull_shared_view(hull_shared_reader *reader, hull_shared_view_reply *told);
+static inline hull_shared_view_reply hull_shared_view_told(hull_shared_reader *reader) {
+    hull_shared_view_reply told;
+    memset(&told, 0, sizeof told);
+    hull_shared_view(reader, &told);
+    return told;
+}
+#define hull_shared_view hull_shared_view_told
 
 /* Whether the view that the room holds is the newest: 1 or 0. One load. 0 where the room has no reader. */
 uint32_t hull_shared_is_newest(hull_shared_reader *reader);

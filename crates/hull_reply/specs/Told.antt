@@ -61,6 +61,9 @@ code_number code.NoJournal = 57
 code_number code.OldRules = 58
 code_number code.Illegal = 59
 code_number code.TooFewSeats = 60
+code_number code.Admitted = 67
+code_number code.Viewed = 68
+code_number code.Old = 69
 
 -- a code, and nothing beside it
 abbrev pub IsBare : Code → HullReply → Type 0

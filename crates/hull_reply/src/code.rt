@@ -107,6 +107,12 @@ pub enum Code {
     Illegal = 59,
     /// The journal has lines by `number` seats, which are more than were asked for. Nothing changed.
     TooFewSeats = 60,
+    /// The desk is opened for so many readers now.
+    Admitted = 67,
+    /// The newest view was taken.
+    Viewed = 68,
+    /// The newest view was not taken: the view of before is told.
+    Old = 69,
 }
 
 impl Code {
