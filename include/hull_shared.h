@@ -91,13 +91,11 @@ typedef struct hull_shared_reader hull_shared_reader;
 /* How many readers a desk may be opened for. */
 #define HULL_SHARED_READERS_MAX 64
 
-/* A view: the corners as they were behind one line of the journal, counterclockwise from the first by x and then y. Where they lie
- * nothing writes to them until the next hull_shared_view of the same room, or its return. `lines` tells how many lines of the whole
- * journal they are behind, those counted that were taken out or let go, and `line` the number of the last of them, where `has_line`
- * is 1: with no line the hull was empty, or as it was opened with, and both are 0. VIEWED; OLD where the newest view could not be taken now: the view of
- * before is told; VACANT. */
+/* A view: the corners as they were behind one line of the journal. `lines` tells how many lines of the whole journal they are
+ * behind, those counted that were taken out or let go, and `line` the number of the last of them, where `has_line` is 1: behind no
+ * line the hull is empty, and both are 0. `count` tells how many corners there are. VIEWED; OLD where the newest view could not be
+ * taken now: the view of before is told; VACANT. */
 typedef struct hull_shared_view_reply {
-    const hull_point *corners;
     size_t count;
     uint64_t lines;
     uint64_t line;
@@ -299,15 +297,17 @@ uint32_t hull_shared_lend_reader(hull_shared_desk *desk, hull_shared_reader *roo
  * PLACE_IN_USE where no reader of the desk is out. A desk is not closed before all are back (SEATS_OUT). */
 uint32_t hull_shared_return_reader(hull_shared_desk *desk, hull_shared_reader *room);
 
-/* Takes the newest view, by a few atomic steps and with no lock, and tells it. */
-void hull_shared_view(hull_shared_reader *reader, hull_shared_view_reply *told);
-static inline hull_shared_view_reply hull_shared_view_told(hull_shared_reader *reader) {
-    hull_shared_view_reply told;
-    memset(&told, 0, sizeof told);
-    hull_shared_view(reader, &told);
-    return told;
+/* Takes the newest view, by a few atomic steps and with no lock, and tells it: nothing writes to it for as long as the room holds it,
+ * until the next hull_shared_view of the same room, or its return. */
+hull_shared_view_reply hull_shared_view(hull_shared_reader *reader);
+
+/* Writes the corners of the view that the room holds to the front of the array, counterclockwise from the first by x and then y:
+ * CORNERS with their `number`; VACANT, and TOO_SMALL with their `number`, where they have no room: the array is as it was then. */
+hull_reply hull_shared_view_corners(hull_shared_reader *reader, hull_point *out, size_t room);
+static inline hull_reply hull_shared_view_corners_or_null(hull_shared_reader *reader, hull_point *out, size_t room) {
+    return hull_shared_view_corners(reader, (hull_point *)hull_array(out, room), room);
 }
-#define hull_shared_view hull_shared_view_told
+#define hull_shared_view_corners hull_shared_view_corners_or_null
 
 /* Whether the view that the room holds is the newest: 1 or 0. One load. 0 where the room has no reader. */
 uint32_t hull_shared_is_newest(hull_shared_reader *reader);

@@ -3,6 +3,7 @@ mod Makes
 mod SeatReplies
 pub mod Books
 pub mod Changes
+pub mod Told
 pub mod Fronts
 pub mod Homes
 pub mod Lists

@@ -33,6 +33,10 @@ use Rattle.hull_shared.specs.declared.seat.IdleSeat.{IdleSeat}
 use Rattle.hull_shared.specs.declared.seat.SharedSeat.{SharedSeat}
 use Rattle.hull_shared.specs.declared.seat.SharedSeat.TheVariants as seat
 
+-- the desk was not opened, and is to be opened for no reader
+abbrev pub IsFreshForNone : Desk → Type 0
+IsFreshForNone d = (f : FreshDesk) × (f.readers ≡ 0) × (d ≡ Fresh f)
+
 -- ---- opening
 
 -- a book with no line over a set that holds nothing
@@ -205,4 +209,4 @@ HasWritten old new before after told = (new ≡ old) × (after ≡ before) × Is
 -- an end: a closed desk is fresh again; an open one stays as it was
 abbrev pub HasEnded : Desk → Desk → ℕ → Type 0
 HasEnded (Open d) new told = (new ≡ Open d) × (told ≡ code_number code.NotClosed)
-HasEnded old new told = ((f : FreshDesk) × (f.readers ≡ 0) × (new ≡ Fresh f)) × (told ≡ code_number code.Ended)
+HasEnded old new told = IsFreshForNone new × (told ≡ code_number code.Ended)

@@ -2,7 +2,9 @@
 use Rattle.std.specs.Prelude.{◌≡◌, ◌≢◌, ◌⊎◌, ◌+◌, ◌-◌, ◌%◌, ◌^◌, ◌≤◌, ℕ, Bool, true, false, List, [], length, Option, Some, None, Result, Ok, Err}
 use Rattle.lattice.specs.Plane.{Pair}
 use Rattle.lattice.specs.Vertices.{IsVertexList}
-use Rattle.hull_reply.specs.Told.{code_number}
+use Rattle.hull_reply.specs.Corners.{TellsCorners}
+use Rattle.hull_reply.specs.Told.{code_number, IsBare}
+use Rattle.hull_reply.specs.declared.reply.HullReply.{HullReply}
 use Rattle.hull_reply.specs.declared.code.Code.{Code}
 use Rattle.hull_reply.specs.declared.code.Code.TheVariants as code
 use Rattle.hull_views.specs.Changes.{held_behind}
@@ -47,7 +49,8 @@ ComesToReader room told (Err fault) = (room ≡ Vacant) × (told ≡ code_number
 
 -- a reader is asked for at the gate of a desk: none where it has none
 abbrev pub LendsReader : OpenDesk → Desk → SharedReader → ℕ → Option Gate → Type 0
-LendsReader d new room told None = (new ≡ Open d) × (room ≡ Vacant) × (told ≡ code_number code.NoSeat)
+LendsReader d new room told None =
+    ((e : OpenDesk) × (new ≡ Open e) × IsWithGate d None e) × (room ≡ Vacant) × (told ≡ code_number code.NoSeat)
 LendsReader d new room told (Some g) = (h : Gate) × (r : Result OutReader Code) × LetsIn g h r
     × ((e : OpenDesk) × (new ≡ Open e) × IsWithGate d (Some h) e) × ComesToReader room told r
 
@@ -59,7 +62,8 @@ HasLentReader old new was room told = (new ≡ old) × (room ≡ was) × (told �
 
 -- a reader comes back at the gate of a desk: it stays where it is, where none of the desk's is out
 abbrev pub ReturnsReader : OpenDesk → Desk → OutReader → SharedReader → ℕ → Option Gate → Type 0
-ReturnsReader d new r room told None = (new ≡ Open d) × (room ≡ Out r) × (told ≡ code_number code.PlaceInUse)
+ReturnsReader d new r room told None =
+    ((e : OpenDesk) × (new ≡ Open e) × IsWithGate d None e) × (room ≡ Out r) × (told ≡ code_number code.PlaceInUse)
 ReturnsReader d new r room told (Some g) = (h : Gate) × (back : Bool) × TakesIn g h back
     × ((e : OpenDesk) × (new ≡ Open e) × IsWithGate d (Some h) e)
     × (((back ≡ true) × (room ≡ Vacant) × (told ≡ code_number code.Returned))
@@ -104,6 +108,11 @@ abbrev pub HasViewedIn : SharedReader → SharedReader → ViewReply → Type 0
 HasViewedIn Vacant new v = (new ≡ Vacant) × IsBareView code.Vacant v
 HasViewedIn (Out r) (Out s) v = HasViewed r s v
 HasViewedIn (Out r) Vacant v = ⊥
+
+-- the corners of the view that the reader in a room holds are written to the array, if it has room for them
+abbrev pub HasPutView : SharedReader → SharedReader → List Pair → List Pair → HullReply → Type 0
+HasPutView Vacant new before after told = (new ≡ Vacant) × (after ≡ before) × IsBare code.Vacant told
+HasPutView (Out r) new before after told = (new ≡ Out r) × TellsCorners (corners_at r.reader) before after told
 
 -- 1 where the view of this reader is the newest that it was told of, and else 0
 abbrev pub IsToldNewest : OutReader → ℕ → Type 0

@@ -27,7 +27,7 @@ ghost use Rattle.hull_shared.specs.contracts.part.Part.{the_row as part_row};
 ghost use Rattle.hull_shared.specs.contracts.reader.SharedReader.{the_row as reader_row};
 ghost use Rattle.hull_shared.specs.contracts.seat.SharedSeat.{the_row as seat_row};
 ghost use Rattle.hull_shared.specs.Desks.{HasClosed, HasEnded, HasLent, HasOpened, HasReturned, HasWritten};
-ghost use Rattle.hull_shared.specs.Desks.{IsSeatOfDesk};
+ghost use Rattle.hull_shared.specs.Desks.{IsFreshForNone, IsSeatOfDesk};
 ghost use Rattle.hull_reply.specs.Left.{leaves};
 ghost use Rattle.hull_reply.specs.Rooms.{room_alignment, room_size};
 ghost use Rattle.hull_shared.specs.Left.{leaves_both};
@@ -35,14 +35,15 @@ ghost use Rattle.hull_shared.specs.Limits.{kept_with, unkept_with};
 ghost use Rattle.hull_shared.specs.Drains.{HasRepliedWith};
 ghost use Rattle.hull_shared.specs.Looks.{HasReplied, HasRepliedInto, HasTaken, HasToldCapacity};
 ghost use Rattle.hull_shared.specs.Pieces.{HasWrittenPiece, HasWrittenPieceOfDesk};
-ghost use Rattle.hull_shared.specs.Readings.{HasAdmitted, HasLentReader, HasReturnedReader, HasToldNewest, HasViewedIn};
+ghost use Rattle.hull_shared.specs.Readings.{HasAdmitted, HasLentReader, HasPutView, HasReturnedReader};
+ghost use Rattle.hull_shared.specs.Readings.{HasToldNewest, HasViewedIn};
 ghost use Rattle.hull_shared.specs.Reopenings.{HasReopened};
 ghost use Rattle.hull_shared.specs.Parts.{HasEndedPart, HasReserved, HasToldRoom, HasWrittenPart};
-ghost use Rattle.hull_shared.specs.declared.desk.Desk.TheVariants.{Fresh};
 ghost use Rattle.hull_shared.specs.declared.part.Part.TheVariants.{Bare};
 ghost use Rattle.hull_shared.specs.declared.reader.SharedReader.TheVariants.{Vacant as NoReader};
 ghost use Rattle.hull_shared.specs.declared.seat.SharedSeat.TheVariants.{Vacant};
 
+mod admitting;
 mod answer;
 mod book;
 mod closing;
@@ -149,7 +150,7 @@ pub extern "C" fn hull_shared_reader_alignment() -> usize
 
 /// A desk that is not open.
 fn fresh_desk() -> Desk
-    ensures { result ≡ Fresh (record { readers = 0 }) }
+    ensures { IsFreshForNone result }
 {
     Desk::Fresh(FreshDesk::of_none())
 }
@@ -183,7 +184,7 @@ fn bare_part() -> Part
 #[unsafe(no_mangle)]
 pub unsafe extern "C" fn hull_shared_make_desk(room: *mut u8)
     requires* { sem 𝓛 (room_at desk_row room) }
-    ensures* { sem 𝓛 (leaves desk_row room (λ new. new ≡ Fresh (record { readers = 0 }))) }
+    ensures* { sem 𝓛 (leaves desk_row room IsFreshForNone) }
 {
     let at = room as *mut Desk;
     let desk = fresh_desk();
@@ -597,16 +598,30 @@ pub unsafe extern "C" fn hull_shared_return_reader(at: *mut u8, room: *mut u8) -
 ///
 /// # Safety
 ///
-/// A room for a reader lies at `at`, and no other call on it is under way. What lies at the pointer that is told is read only
-/// until the next call of this room.
+/// A room for a reader lies at `at`, and no other call on it is under way.
 #[unsafe(no_mangle)]
-pub unsafe extern "C" fn hull_shared_view(at: *mut u8, told: &mut ViewReply)
+pub unsafe extern "C" fn hull_shared_view(at: *mut u8) -> ViewReply
     ghost t: { reader_row.Denot }
     requires* { sem 𝓛 (lies_at reader_row full_share at t) }
-    ensures* { sem 𝓛 (leaves reader_row at (λ new. HasViewedIn t new told.new)) }
+    ensures* { sem 𝓛 (leaves reader_row at (λ new. HasViewedIn t new result)) }
 {
     let reader = at as *mut SharedReader;
-    reading::view(unsafe { &mut *reader }, told)
+    reading::view(unsafe { &mut *reader })
+}
+
+/// Writes the corners of the view that a room holds to the front of an array.
+///
+/// # Safety
+///
+/// A room for a reader lies at `at`, and no other call on it is under way.
+#[unsafe(no_mangle)]
+pub unsafe extern "C" fn hull_shared_view_corners(at: *mut u8, out: &mut [HullPoint]) -> HullReply
+    ghost t: { reader_row.Denot }
+    requires* { sem 𝓛 (lies_at reader_row full_share at t) }
+    ensures* { sem 𝓛 (leaves reader_row at (λ new. HasPutView t new out.old out.new result)) }
+{
+    let reader = at as *mut SharedReader;
+    reading::put_view(unsafe { &mut *reader }, out)
 }
 
 /// Whether the view that a room holds is the newest: 1 or 0.

@@ -1,19 +1,16 @@
 //! Readers go out of their desk, take views, and come back.
 ghost use Rattle.hull_shared.specs.Readings.{HasAdmitted, HasLentReader, HasReturnedReader, HasToldNewest, HasViewed};
-ghost use Rattle.hull_shared.specs.Readings.{HasViewedIn, IsBareView};
+ghost use Rattle.hull_shared.specs.Readings.{HasPutView, HasViewedIn, IsBareView};
 
 use crate::desk::{Desk, FreshDesk};
 use crate::reader::{OutReader, SharedReader};
-use hull_reply::Code;
+use hull_reply::{Code, HullPoint, HullReply, put_corners};
 use hull_views::READER_LIMIT;
-use lattice::Point;
 
 /// A view in numbers.
 #[repr(C)]
 #[derive(Clone, Copy)]
 pub struct ViewReply {
-    /// Where the corners lie.
-    pub corners: *const Point,
     /// How many corners there are.
     pub count: usize,
     /// How many lines of the whole journal they are behind.
@@ -32,7 +29,6 @@ impl ViewReply {
         ensures { IsBareView code result }
     {
         ViewReply {
-            corners: std::ptr::null(),
             count: 0,
             lines: 0,
             line: 0,
@@ -53,10 +49,9 @@ impl OutReader {
             Code::Old
         };
         let lines = self.reader.line_count();
-        let corners = self.reader.corners();
+        let count = self.reader.corners().len();
         let mut reply = ViewReply::bare(code);
-        reply.corners = corners.as_ptr();
-        reply.count = corners.len();
+        reply.count = count;
         reply.lines = lines;
         if lines != 0 {
             reply.line = self.first.wrapping_add(lines - 1);
@@ -125,13 +120,23 @@ pub(crate) fn return_reader(desk: &mut Desk, room: &mut SharedReader) -> u32
 }
 
 /// Takes the newest view, and tells it.
-pub(crate) fn view(room: &mut SharedReader, told: &mut ViewReply)
-    ensures { HasViewedIn room.old room.new told.new }
+pub(crate) fn view(room: &mut SharedReader) -> ViewReply
+    ensures { HasViewedIn room.old room.new result }
 {
-    *told = match room {
+    match room {
         SharedReader::Vacant => ViewReply::bare(Code::Vacant),
         SharedReader::Out(out) => out.view(),
-    };
+    }
+}
+
+/// Writes the corners of the view that the room holds to the array, if it has room for them.
+pub(crate) fn put_view(room: &mut SharedReader, out: &mut [HullPoint]) -> HullReply
+    ensures { HasPutView room.old room.new out.old out.new result }
+{
+    match room {
+        SharedReader::Vacant => HullReply::bare(Code::Vacant),
+        SharedReader::Out(own) => put_corners(own.reader.corners(), out),
+    }
 }
 
 /// Whether the view that the room holds is the newest: 1 or 0.

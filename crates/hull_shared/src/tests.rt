@@ -73,9 +73,7 @@ fn call(room: &mut SharedSeat, kind: u32, x: i64, y: i64) -> u32 {
 
 // The view that the reader in the room holds after a look.
 fn seen(reader: &mut SharedReader) -> ViewReply {
-    let mut told = ViewReply::bare(Code::Vacant);
-    view(reader, &mut told);
-    told
+    view(reader)
 }
 
 /// A view shows what was published: behind how many lines it is, and how many corners there were. A question publishes
