@@ -4,6 +4,7 @@ mod SeatReplies
 pub mod Books
 pub mod Changes
 pub mod Told
+mod JournalViews
 pub mod Fronts
 pub mod Homes
 pub mod Lists

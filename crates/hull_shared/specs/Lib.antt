@@ -16,3 +16,4 @@ pub mod Pieces
 pub mod Drains
 pub mod Left
 pub mod Responses
+pub mod JournalViews

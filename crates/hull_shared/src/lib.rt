@@ -75,7 +75,9 @@ mod threads;
 
 use desk::{Desk, FreshDesk};
 use hull_reply::{HullPoint, HullReply};
-pub use law::{answers_at_desks_are_of_lines, headline_holds_of_desks};
+pub use law::{
+    answers_at_desks_are_of_lines, headline_holds_of_desks, views_are_of_the_journal,
+};
 pub use looking::SeatReply;
 use part::Part;
 pub use reading::ViewReply;
