@@ -1207,7 +1207,8 @@ public:
     Reader &operator=(Reader &&other) noexcept {
         if (this != &other) {
             give_back();
-            desk_ = std::move(other.desk_), at_ = std::move(other.at_), view_ = other.view_, line_ = other.line_;
+            desk_ = std::move(other.desk_), at_ = std::move(other.at_), corners_ = std::move(other.corners_);
+            count_ = other.count_, lines_ = other.lines_, is_copied_ = other.is_copied_, line_ = other.line_;
         }
         return *this;
     }
@@ -1227,24 +1228,31 @@ public:
     // is over then. Where others were in the way a thousand times, the view is the one from before, and this is false.
     bool read() {
         const hull_shared_view v = hull_shared_read(alive());
-        view_ = OutlineView(static_cast<const Point *>(v.corners), v.count);
-        line_ = v.has_line != 0 ? std::optional<std::uint64_t>(v.line) : std::nullopt;
+        if (!is_copied_ || v.lines != lines_) {
+            is_copied_ = false;
+            if (corners_.size() < v.count) {
+                told::resize(corners_, v.count);
+            }
+            hull_shared_view_corners(at_.get(), corners_.data(), corners_.size());
+            count_ = v.count, lines_ = v.lines, is_copied_ = true;
+            line_ = v.has_line != 0 ? std::optional<std::uint64_t>(v.line) : std::nullopt;
+        }
         return v.code == HULL_VIEWED;
     }
 
     // Whether the view is still the newest: one look.
-    bool is_newest() const { return hull_shared_is_newest(alive()) == 1; }
+    bool is_newest() const { return is_copied_ && hull_shared_is_newest(alive()) == 1; }
 
     // The view, and the number of the line behind which it is true; none where it is that of a hull with no line.
-    const OutlineView &view() const noexcept { return view_; }
+    OutlineView view() const noexcept { return OutlineView(corners_.data(), count_); }
     std::optional<std::uint64_t> line() const noexcept { return line_; }
 
     // The newest view: this one, or another that is taken.
-    const OutlineView &newest() {
+    OutlineView newest() {
         if (!is_newest()) {
             read();
         }
-        return view_;
+        return view();
     }
 
 private:
@@ -1278,7 +1286,10 @@ private:
 
     std::shared_ptr<Desk> desk_;
     std::unique_ptr<hull_shared_reader, Free> at_;
-    OutlineView view_;
+    std::vector<Point> corners_; // those of the view at its front
+    std::size_t count_ = 0;
+    std::uint64_t lines_ = 0;
+    bool is_copied_ = false; // they are those of the view that the room holds
     std::optional<std::uint64_t> line_;
 };
 

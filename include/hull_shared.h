@@ -303,14 +303,16 @@ static inline hull_reply hull_shared_part_text_size(const hull_shared_part *part
 /* ---- readers
  *
  * A thread that asks more than it changes has a reader, beside the seats: it reads views, each the corners as they were behind one line
- * of the journal, with no lock, no line and no turn, by a few atomic steps. Nobody waits for a reader and a reader for nobody. A view is
- * an outline (hull_outline_call and all other calls of include/hull.h on outlines ask it), and stays as it is while it is held.
+ * of the journal, with no lock, no line and no turn, by a few atomic steps. Nobody waits for a reader and a reader for nobody. A view stays as
+ * it is while it is held; its corners are written to an array, which is an outline (hull_outline_call and all other calls of
+ * include/hull.h on outlines ask it).
  *
  *     hull_shared_admit(desk, 8);                               // before it is opened
  *     hull_shared_reader *reader = hull_shared_reader_new();    // one for each thread
  *     hull_shared_lend_reader(desk, reader);
  *     hull_shared_view view = hull_shared_read(reader);         // in that thread, as often as one likes
- *     hull_outline_place(view.corners, view.count, 3, 4);       // true behind line view.line
+ *     hull_shared_view_corners(reader, corners, room);          // where it is another one
+ *     hull_outline_place(corners, view.count, 3, 4);            // true behind line view.line
  *
  * A call that changes what is held publishes the corners behind its line before it returns, so a view that is read then is of that line or of a
  * later one; questions of seats publish nothing. Where the corners stay, which a question to them tells, they are shared; else they are
@@ -321,11 +323,9 @@ static inline hull_reply hull_shared_part_text_size(const hull_shared_part *part
 typedef struct hull_shared_reader hull_shared_reader;
 
 /* What a reader holds: HULL_VIEWED, or HULL_OLD where it is the view that was held before since others were in the way a thousand times.
- * The corners lie at `corners`, as hull_vertices writes them, until the room reads again or is given back. `lines` tells how many lines
- * of the whole journal they are behind, and `line` the number of the last of these, where `has_line` is 1. HULL_VACANT, and no corners,
- * where the room has no reader. */
+ * `count` tells how many corners it has, `lines` behind how many lines of the whole journal, and `line` the number of the last of these,
+ * where `has_line` is 1. HULL_VACANT, and no corners, where the room has no reader. */
 typedef struct hull_shared_view {
-    const hull_point *corners;
     size_t count;
     uint64_t lines;
     uint64_t line;
@@ -366,6 +366,14 @@ uint32_t hull_shared_return_reader(hull_shared_desk *desk, hull_shared_reader *r
 
 /* Takes the newest view, where the reader does not hold it; the one before is let go then. */
 hull_shared_view hull_shared_read(hull_shared_reader *reader);
+
+/* Writes the corners of the view that is held to the front of the array, as hull_vertices writes them: CORNERS with their `number`;
+ * VACANT, and TOO_SMALL with their `number`, where they have no room, and then the array is as it was. */
+hull_reply hull_shared_view_corners(hull_shared_reader *reader, hull_point *out, size_t room);
+static inline hull_reply hull_shared_view_corners_or_null(hull_shared_reader *reader, hull_point *out, size_t room) {
+    return hull_shared_view_corners(reader, (hull_point *)hull_array(out, room), room);
+}
+#define hull_shared_view_corners hull_shared_view_corners_or_null
 
 /* Whether the view that the reader holds is the newest: 1 or 0, by one look. */
 uint32_t hull_shared_is_newest(hull_shared_reader *reader);

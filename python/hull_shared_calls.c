@@ -437,13 +437,9 @@ static hull_reply read_into(hull_python_reader *r, hull_point *out, size_t room)
     reply.code = HULL_VACANT;
     if (r->desk != NULL) {
         const hull_shared_view view = hull_shared_read(r->reader);
-        reply.code = view.count <= room ? HULL_CORNERS : HULL_TOO_SMALL;
-        reply.number = view.count;
+        reply = hull_shared_view_corners(r->reader, out, room);
         reply.x = view.has_line;
         reply.high = view.line;
-        if (view.count != 0 && view.count <= room) {
-            memcpy(out, view.corners, view.count * sizeof *out);
-        }
     }
     return reply;
 }

@@ -105,14 +105,16 @@ public:
     }
 };
 
-// Each question takes the newest view.
+// Each question takes the newest view, and copies its corners.
 class Views : public Shared {
 public:
     Views() : Shared(most_threads) {}
     unsigned long ask(unsigned me, const std::atomic<bool> &stops, Points points) override {
+        std::vector<hull_point> corners(1 << 12);
         return asked(stops, points, [&](std::int64_t x, std::int64_t y) {
             const hull_shared_view view = hull_shared_read(readers_[me]);
-            return hull_outline_place(view.corners, view.count, x, y).code;
+            hull_shared_view_corners(readers_[me], corners.data(), corners.size());
+            return hull_outline_place(corners.data(), view.count, x, y).code;
         });
     }
 };
@@ -122,12 +124,15 @@ class Looks : public Shared {
 public:
     Looks() : Shared(most_threads) {}
     unsigned long ask(unsigned me, const std::atomic<bool> &stops, Points points) override {
+        std::vector<hull_point> corners(1 << 12);
         hull_shared_view view = hull_shared_read(readers_[me]);
+        hull_shared_view_corners(readers_[me], corners.data(), corners.size());
         return asked(stops, points, [&](std::int64_t x, std::int64_t y) {
             if (hull_shared_is_newest(readers_[me]) == 0) {
                 view = hull_shared_read(readers_[me]);
+                hull_shared_view_corners(readers_[me], corners.data(), corners.size());
             }
-            return hull_outline_place(view.corners, view.count, x, y).code;
+            return hull_outline_place(corners.data(), view.count, x, y).code;
         });
     }
 };

@@ -537,10 +537,10 @@ static void readers() {
     CHECK(!one.is_newest() && one.newest().size() == 3 && one.is_newest() && one.line() == 9);
     CHECK(one.view().place({1, 1}) == Place::inside && one.view().doubled_area() == 64);
     CHECK(one.view().relation(hull::Outline({{0, 0}, {8, 0}, {0, 8}})) == hull::Relation::equal);
-    const hull::OutlineView before = one.view();
+    const hull::Outline before(std::vector<Point>(one.view().begin(), one.view().end()));
     seat.remove({8, 0});
     CHECK(two.read() && two.view().size() == 2 && two.line() == 10);
-    CHECK(before.data()[1] == Point(8, 0) && before.contains(two.view()) && !two.view().contains(before));
+    CHECK(before.corners()[1] == Point(8, 0) && one.view().relation(before) == hull::Relation::equal && before.contains(two.view()) && !two.view().contains(before));
     CHECK(*(two.view().end() - 1) == Point(0, 8) && *two.view().begin() == Point(0, 0));
     seat.give_back();
     CHECK(refuses(Refusal::seats_out, [&] { h.close(); }));

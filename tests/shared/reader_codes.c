@@ -33,6 +33,7 @@ void *__wrap_realloc(void *block, size_t size) {
 
 static hull_shared_line line;
 static int bad;
+static hull_point corners[8]; /* those of the view that was asked for last */
 
 static void is(const char *what, uint64_t got, uint64_t wanted) {
     if (got != wanted) {
@@ -50,6 +51,10 @@ static hull_shared_view viewed(const char *what, hull_shared_reader *reader, siz
     const hull_shared_view view = hull_shared_read(reader);
     is(what, view.code, HULL_VIEWED);
     is("its corners", view.count, count);
+    is("no room for them", hull_shared_view_corners(reader, corners, count - (count > 0)).code, count > 0 ? HULL_TOO_SMALL : HULL_CORNERS);
+    const hull_reply told = hull_shared_view_corners(reader, corners, 8);
+    is("they are written", told.code, HULL_CORNERS);
+    is("all of them", told.number, count);
     is("its lines", view.lines, lines);
     is("whether it has a line", view.has_line, lines > 0);
     is("its line", view.line, lines > 0 ? first + lines - 1 : 0);
@@ -76,6 +81,7 @@ static void codes(hull_shared_desk *desk, hull_shared_reader *one, hull_shared_r
     const hull_shared_view none = hull_shared_read(one);
     is("a room with no reader", none.code, HULL_VACANT);
     is("has no corners", none.count, 0);
+    is("nor writes any", hull_shared_view_corners(one, corners, 8).code, HULL_VACANT);
     is("and not the newest", hull_shared_is_newest(one), 0);
     is("lend", hull_shared_lend_reader(desk, one), HULL_LENT);
     is("lend into its room", hull_shared_lend_reader(desk, one), HULL_ROOM_IN_USE);
@@ -100,15 +106,15 @@ static void views(hull_shared_seat *seat, hull_shared_reader *one, hull_shared_r
     is("absent", call(seat, HULL_KIND_REMOVE, 5, 5), HULL_ABSENT);
     is("added", call(seat, HULL_KIND_ADD, 8, 0), HULL_ADDED);
     is("added", call(seat, HULL_KIND_ADD, 0, 8), HULL_ADDED);
-    const hull_shared_view view = viewed("a triangle behind five lines", one, 3, 5, 7);
-    is("its question", hull_outline_place(view.corners, view.count, 1, 1).code, HULL_INSIDE);
+    viewed("a triangle behind five lines", one, 3, 5, 7);
+    is("its question", hull_outline_place(corners, 3, 1, 1).code, HULL_INSIDE);
     is("an inner point", call(seat, HULL_KIND_ADD, 1, 1), HULL_ADDED);
-    const hull_shared_view same = viewed("the same corners", two, 3, 6, 7);
-    is("are shared", same.corners == view.corners, 1);
-    is("the view before stays", view.corners[1].x == 8 && view.corners[1].y == 0, 1);
+    viewed("the same corners", two, 3, 6, 7);
     is("a corner goes", call(seat, HULL_KIND_REMOVE, 8, 0), HULL_REMOVED);
-    is("and stays in the views", view.corners[1].x == 8 && same.corners[2].y == 8, 1);
+    is("and stays in the views", hull_shared_view_corners(one, corners, 8).number == 3 && corners[1].x == 8, 1);
+    is("of both", hull_shared_view_corners(two, corners, 8).number == 3 && corners[2].y == 8, 1);
     viewed("others are left", one, 3, 7, 7);
+    is("with the inner point", hull_outline_place(corners, 3, 1, 1).code == HULL_ON && hull_outline_place(corners, 3, 8, 0).code == HULL_OUTSIDE, 1);
     is("again", call(seat, HULL_KIND_ADD, 1, 1), HULL_AGAIN);
     is("left", call(seat, HULL_KIND_REMOVE, 1, 1), HULL_LEFT);
     viewed("a point that is held still", two, 3, 9, 7);

@@ -11,7 +11,7 @@
 #include <stdlib.h>
 #include <string.h>
 
-enum { MOST_KEPT = 20000 };
+enum { MOST_KEPT = 20000, MOST_CORNERS = 256 };
 
 /* a call by its line */
 typedef struct {
@@ -27,6 +27,7 @@ typedef struct {
 typedef struct {
     hull_shared_reader *room;
     kept *views;
+    hull_point corners[MOST_CORNERS];
     unsigned long count, taken, old;
     int wrong;
 } reader;
@@ -93,6 +94,13 @@ static void *work(void *place) {
     return NULL;
 }
 
+/* The sum over the corners of the view that is held. */
+static uint64_t sum_held(reader *me) {
+    const hull_reply told = hull_shared_view_corners(me->room, me->corners, MOST_CORNERS);
+    me->wrong |= told.code != HULL_CORNERS;
+    return sum_of(me->corners, (size_t)told.number);
+}
+
 /* Takes a view; it is no older than what had returned before, nor than the one before. */
 static hull_shared_view look(reader *me, uint64_t *last) {
     const uint64_t told = __atomic_load_n(&changed, __ATOMIC_SEQ_CST);
@@ -103,7 +111,7 @@ static hull_shared_view look(reader *me, uint64_t *last) {
     me->wrong |= view.lines < *last || (view.code == HULL_VIEWED && view.lines < told);
     me->wrong |= view.has_line != (view.lines > 0) || (view.has_line == 1 && view.line + 1 != view.lines);
     if (view.lines != *last && me->count < MOST_KEPT) {
-        me->views[me->count++] = (kept){view.lines, sum_of(view.corners, view.count)};
+        me->views[me->count++] = (kept){view.lines, sum_held(me)};
     }
     *last = view.lines;
     return view;
@@ -112,12 +120,13 @@ static hull_shared_view look(reader *me, uint64_t *last) {
 static void *read_on(void *given) {
     reader *me = given;
     uint64_t last = 0;
+    memset(me->corners, 0, sizeof me->corners);
     while (__atomic_load_n(&working, __ATOMIC_SEQ_CST) > 0) {
         const hull_shared_view view = look(me, &last);
-        const uint64_t sum = sum_of(view.corners, view.count);
         if (me->taken % 16 == 0) {
+            const uint64_t sum = sum_held(me);
             sched_yield();
-            me->wrong |= sum_of(view.corners, view.count) != sum;
+            me->wrong |= sum_held(me) != sum || hull_shared_view_corners(me->room, me->corners, 0).number != view.count;
         }
     }
     look(me, &last);
@@ -144,8 +153,8 @@ static unsigned long compared(kept *views, unsigned long count) {
                                                                : hull_place(set, m->x, m->y);
             wrong |= r.code != m->code;
         }
-        hull_point corners[256];
-        const hull_reply r = hull_vertices(set, corners, 256);
+        hull_point corners[MOST_CORNERS];
+        const hull_reply r = hull_vertices(set, corners, MOST_CORNERS);
         right += r.code == HULL_CORNERS && sum_of(corners, r.number) == views[i].sum;
     }
     hull_free(set);

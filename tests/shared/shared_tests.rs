@@ -128,11 +128,11 @@ fn readers() {
         seat.add(point(x, y)).unwrap();
     }
     assert!(!one.is_newest());
-    assert_eq!(one.newest().corners(), [point(0, 0), point(8, 0), point(0, 8)]);
+    assert_eq!(one.newest().unwrap().corners(), [point(0, 0), point(8, 0), point(0, 8)]);
     assert_eq!((one.is_newest(), one.line(), seat.turn()), (true, Some(9), Some(9)));
     assert_eq!((one.view().place(point(1, 1)), one.view().doubled_area()), (Ok(Place::Inside), 64));
     seat.remove(point(8, 0)).unwrap();
-    assert!(two.read());
+    assert_eq!(two.read(), Ok(true));
     assert!(one.view().contains(two.view()) && !two.view().contains(one.view()));
     assert_eq!(one.view().relation(&Outline::new(&[point(0, 0), point(8, 0), point(0, 8)]).unwrap()), Relation::Equal);
     drop(seat);
@@ -159,7 +159,7 @@ fn readers_beside_changes() {
                 let mut most = 0;
                 while most < 500 {
                     let told = returned.load(Ordering::SeqCst);
-                    let corners = reader.newest().corners().len();
+                    let corners = reader.newest().unwrap().corners().len();
                     assert!(corners >= told && corners >= most, "{corners} corners, {told} told, {most} before");
                     most = corners;
                 }

@@ -2,7 +2,11 @@ mod LendsBoth
 mod Makes
 mod SeatReplies
 pub mod Books
+pub mod Changes
+pub mod Told
+mod JournalViews
 pub mod Fronts
 pub mod Homes
 pub mod Lists
 pub mod Served
+mod ViewReplies

@@ -18,18 +18,24 @@ use Rattle.bucket_tree.specs.Roots.{held_by}
 use Rattle.bucket_tree.specs.Sets.{LimitedTree}
 use Rattle.ticket_lock.specs.Tokens.{seat_seen}
 use Rattle.hull_shared.specs.DeskBooks.{DeskValue, HoldsNone}
+use Rattle.hull_shared.specs.Gates.{AreReadersOut, LetsSoMany}
 use Rattle.hull_shared.specs.Limits.{AreLimits}
 use Rattle.hull_shared.specs.Locks.{book_of, head_of, lock_of}
 use Rattle.hull_shared.specs.Places.{HasAt, HasOwnLines}
 use Rattle.hull_shared.specs.declared.desk.ClosedDesk.{ClosedDesk}
 use Rattle.hull_shared.specs.declared.desk.Desk.{Desk}
 use Rattle.hull_shared.specs.declared.desk.Desk.TheVariants.{Fresh, Open, Closed}
+use Rattle.hull_shared.specs.declared.desk.FreshDesk.{FreshDesk}
 use Rattle.hull_shared.specs.declared.desk.OpenDesk.{OpenDesk}
 use Rattle.hull_shared.specs.declared.limits.Limits.{Limits}
 use Rattle.hull_shared.specs.declared.place.Place.{Place}
 use Rattle.hull_shared.specs.declared.seat.IdleSeat.{IdleSeat}
 use Rattle.hull_shared.specs.declared.seat.SharedSeat.{SharedSeat}
 use Rattle.hull_shared.specs.declared.seat.SharedSeat.TheVariants as seat
+
+-- the desk was not opened, and is to be opened for no reader
+abbrev pub IsFreshForNone : Desk → Type 0
+IsFreshForNone d = (f : FreshDesk) × (f.readers ≡ 0) × (d ≡ Fresh f)
 
 -- ---- opening
 
@@ -64,21 +70,25 @@ IsOpening l r = MatchResult r
     (λ d. AreLimits l × IsNew l d)
     (λ fault. (¬ AreLimits l × (fault ≡ code.OutOfLimits)) ⊎ (AreLimits l × (fault ≡ code.NoMemory)))
 
--- a fresh desk is open, or fresh still
-abbrev pub Becomes : Desk → ℕ → Result OpenDesk Code → Type 0
-Becomes new told (Ok d) = (new ≡ Open d) × (told ≡ code_number code.Open)
-Becomes new told (Err fault) = (new ≡ Fresh) × (told ≡ code_number fault)
+-- the desk was opened for so many readers, none of whom is out
+abbrev pub IsOpenFor : ℕ → ℕ → OpenDesk → Type 0
+IsOpenFor readers first d = LetsSoMany readers first d.gate
+
+-- a fresh desk is open for the readers that were admitted, or as it was
+abbrev pub Becomes : FreshDesk → ℕ → Desk → ℕ → Result OpenDesk Code → Type 0
+Becomes fresh first new told (Ok d) = (new ≡ Open d) × (told ≡ code_number code.Open) × IsOpenFor fresh.readers first d
+Becomes fresh first new told (Err fault) = (new ≡ Fresh fresh) × (told ≡ code_number fault)
 
 -- an opening: of a fresh desk; one that was opened stays as it was
 abbrev pub HasOpened : Limits → Desk → Desk → ℕ → Type 0
-HasOpened l Fresh new told = (r : Result OpenDesk Code) × IsOpening l r × Becomes new told r
+HasOpened l (Fresh fresh) new told = (r : Result OpenDesk Code) × IsOpening l r × Becomes fresh l.first new told r
 HasOpened l old new told = (new ≡ old) × (told ≡ code_number code.WasOpened)
 
 -- ---- seats that go out and come back
 
 -- the desk is the same but for its places
 abbrev pub IsSameDesk : OpenDesk → OpenDesk → Type 0
-IsSameDesk d e = (lock_of e.lock ≡ lock_of d.lock) × (e.seats ≡ d.seats)
+IsSameDesk d e = (lock_of e.lock ≡ lock_of d.lock) × (e.seats ≡ d.seats) × (e.gate ≡ d.gate)
 
 -- the seat of this number went out of its place
 pub record HasGone (number : ℕ) (d e : OpenDesk) (i : IdleSeat) : Type 0 where
@@ -163,16 +173,19 @@ pub record IsJournalOf (d : OpenDesk) (c : ClosedDesk) : Type 0 where
   pub own_lines : (j : ℕ) (p : Place) → HasAt d.places.list.items j p → HasOwnLines whole p
   pub part : c.part ≡ last_part (head_of (lock_of d.lock)).book.journal whole
 
--- why an open desk stays open: a seat is out; or none is, and yet the lock has another owner, which no caller who keeps
--- the header's duties meets
-abbrev pub IsKeptOpen : OpenDesk → Code → Type 0
-IsKeptOpen d fault = (¬ All IsSome d.places.list.items × (fault ≡ code.SeatsOut))
-    ⊎ (All IsSome d.places.list.items × (fault ≡ code.InUse))
+-- all seats and all readers are at the desk
+abbrev pub AreAllBack : OpenDesk → Type 0
+AreAllBack d = All IsSome d.places.list.items × ¬ AreReadersOut d.gate
 
--- a closing: all seats are at the desk, and it is closed; or it stays open
+-- why an open desk stays open: a seat or a reader is out; or none is, and yet the lock has another owner, which no caller
+-- who keeps the header's duties meets
+abbrev pub IsKeptOpen : OpenDesk → Code → Type 0
+IsKeptOpen d fault = (¬ AreAllBack d × (fault ≡ code.SeatsOut)) ⊎ (AreAllBack d × (fault ≡ code.InUse))
+
+-- a closing: all seats and readers are at the desk, and it is closed; or it stays open
 abbrev pub HasClosed : Desk → Desk → ℕ → Type 0
 HasClosed (Open d) new told =
-    (All IsSome d.places.list.items × ((c : ClosedDesk) × (new ≡ Closed c) × IsJournalOf d c)
+    (AreAllBack d × ((c : ClosedDesk) × (new ≡ Closed c) × IsJournalOf d c)
     × (told ≡ code_number code.Closed))
     ⊎ ((new ≡ Open d) × ((fault : Code) × IsKeptOpen d fault × (told ≡ code_number fault)))
 HasClosed old new told = (new ≡ old) × (told ≡ code_number code.NotOpen)
@@ -196,4 +209,4 @@ HasWritten old new before after told = (new ≡ old) × (after ≡ before) × Is
 -- an end: a closed desk is fresh again; an open one stays as it was
 abbrev pub HasEnded : Desk → Desk → ℕ → Type 0
 HasEnded (Open d) new told = (new ≡ Open d) × (told ≡ code_number code.NotClosed)
-HasEnded old new told = (new ≡ Fresh) × (told ≡ code_number code.Ended)
+HasEnded old new told = IsFreshForNone new × (told ≡ code_number code.Ended)

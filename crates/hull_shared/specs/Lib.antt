@@ -1,3 +1,5 @@
+pub mod Tellings
+pub mod Gates
 pub mod Lines
 pub mod DeskBooks
 pub mod ServedBooks
@@ -7,9 +9,11 @@ pub mod Limits
 pub mod Asked
 pub mod Looks
 pub mod Desks
+pub mod Readings
 pub mod Reopenings
 pub mod Parts
 pub mod Pieces
 pub mod Drains
 pub mod Left
 pub mod Responses
+pub mod JournalViews

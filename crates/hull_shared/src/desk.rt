@@ -1,8 +1,10 @@
 //! A desk: the lock round the book, and the seats that are not out.
-ghost use Rattle.std.specs.Prelude.{◌≡◌};
+ghost use Rattle.std.specs.Prelude.{◌≡◌, ◌≤◌};
+ghost use Rattle.hull_views.specs.declared.TheConstants.{READER_LIMIT};
 ghost use Rattle.hull_shared.specs.Locks.{capacity_of, lock_of};
 ghost use Rattle.hull_shared.specs.Places.{AreLaidOut};
 
+use crate::gate::Gate;
 use crate::lock::SharedLock;
 use crate::place::Places;
 use hull_book::Journal;
@@ -15,8 +17,26 @@ pub(crate) struct OpenDesk {
     pub(crate) seats: u8,
     pub(crate) capacity: u32,
     pub(crate) places: Places,
+    pub(crate) gate: Option<Gate>,
     ghost holds: { capacity ≡ capacity_of (lock_of lock) },
     ghost laid_out: { AreLaidOut (lock_of lock) seats places },
+}
+
+/// A desk that was not opened.
+#[derive(Clone, Copy)]
+pub(crate) struct FreshDesk {
+    /// For how many readers it is to be opened.
+    pub(crate) readers: u8,
+    ghost few: { readers ≤ READER_LIMIT },
+}
+
+impl FreshDesk {
+    /// A desk that is to be opened for no reader.
+    pub(crate) fn of_none() -> FreshDesk
+        ensures { result.readers ≡ 0 }
+    {
+        FreshDesk { readers: 0 }
+    }
 }
 
 /// What is left of a desk that is closed.
@@ -28,7 +48,7 @@ pub(crate) struct ClosedDesk {
 /// A room for a desk.
 pub(crate) enum Desk {
     /// It was not opened, or ended, and holds nothing.
-    Fresh,
+    Fresh(FreshDesk),
     /// It is open.
     Open(OpenDesk),
     /// It is closed, and has its journal.

@@ -4,6 +4,7 @@ ghost use Rattle.hull_headline.specs.Headline.{HoldsEachPointAsOften, IsInOrderO
 ghost use Rattle.hull_headline.specs.Headline.{PartsAndHeldAreTheJournal, StoresThatOfLivePoints};
 ghost use Rattle.hull_headline.specs.Headline.{TicketsCountTheCalls, WheneverFree};
 ghost use Rattle.bucket_tree.specs.Sets.{bucket_set};
+ghost use Rattle.hull_shared.specs.JournalViews.{ViewsAreOfTheJournal};
 ghost use Rattle.hull_shared.specs.Locks.{StoresBridgesOf, desk};
 ghost use Rattle.hull_shared.specs.Responses.{AnswersAtDesksAreOfLines};
 
@@ -37,3 +38,10 @@ pub fn answers_at_desks_are_of_lines()
 {
     partitioned_schedules_are_linearizable::<Box<DeskBook>>();
 }
+
+/// Where the changes behind which a view is begin those of a journal, its corners are those that a replay of as many lines
+/// leaves. Those of a desk's readers begin them: the teller of its book has recorded the changes of the journal's lines and
+/// no others, which is an invariant of the type of such books, and of two beginnings of its history one begins the other.
+pub fn views_are_of_the_journal()
+    ensures { ViewsAreOfTheJournal }
+{}

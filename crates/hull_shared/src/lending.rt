@@ -76,7 +76,7 @@ fn after_lending(desk: Desk, request: (SharedSeat, u32)) -> (Desk, (SharedSeat, 
 {
     let (room, number) = request;
     match desk {
-        Desk::Fresh => (Desk::Fresh, (room, Code::NotOpen.number())),
+        Desk::Fresh(fresh) => (Desk::Fresh(fresh), (room, Code::NotOpen.number())),
         Desk::Closed(closed) => (Desk::Closed(closed), (room, Code::NotOpen.number())),
         Desk::Open(open) => match room {
             SharedSeat::Idle(idle) => (
@@ -107,7 +107,7 @@ fn after_return(desk: Desk, room: SharedSeat) -> (Desk, (SharedSeat, u32))
     ensures { HasReturned desk result.0 room result.1.0 result.1.1 }
 {
     match desk {
-        Desk::Fresh => (Desk::Fresh, (room, Code::NotOpen.number())),
+        Desk::Fresh(fresh) => (Desk::Fresh(fresh), (room, Code::NotOpen.number())),
         Desk::Closed(closed) => (Desk::Closed(closed), (room, Code::NotOpen.number())),
         Desk::Open(open) => match room {
             SharedSeat::Vacant => (

@@ -24,9 +24,10 @@ ghost use Rattle.std.specs.Borrow.{full_share, sem};
 ghost use Rattle.std.specs.Ptr.{lies_at, room_at};
 ghost use Rattle.hull_shared.specs.contracts.desk.Desk.{the_row as desk_row};
 ghost use Rattle.hull_shared.specs.contracts.part.Part.{the_row as part_row};
+ghost use Rattle.hull_shared.specs.contracts.reader.SharedReader.{the_row as reader_row};
 ghost use Rattle.hull_shared.specs.contracts.seat.SharedSeat.{the_row as seat_row};
 ghost use Rattle.hull_shared.specs.Desks.{HasClosed, HasEnded, HasLent, HasOpened, HasReturned, HasWritten};
-ghost use Rattle.hull_shared.specs.Desks.{IsSeatOfDesk};
+ghost use Rattle.hull_shared.specs.Desks.{IsFreshForNone, IsSeatOfDesk};
 ghost use Rattle.hull_reply.specs.Left.{leaves};
 ghost use Rattle.hull_reply.specs.Rooms.{room_alignment, room_size};
 ghost use Rattle.hull_shared.specs.Left.{leaves_both};
@@ -34,17 +35,21 @@ ghost use Rattle.hull_shared.specs.Limits.{kept_with, unkept_with};
 ghost use Rattle.hull_shared.specs.Drains.{HasRepliedWith};
 ghost use Rattle.hull_shared.specs.Looks.{HasReplied, HasRepliedInto, HasTaken, HasToldCapacity};
 ghost use Rattle.hull_shared.specs.Pieces.{HasWrittenPiece, HasWrittenPieceOfDesk};
+ghost use Rattle.hull_shared.specs.Readings.{HasAdmitted, HasLentReader, HasPutView, HasReturnedReader};
+ghost use Rattle.hull_shared.specs.Readings.{HasToldNewest, HasViewedIn};
 ghost use Rattle.hull_shared.specs.Reopenings.{HasReopened};
 ghost use Rattle.hull_shared.specs.Parts.{HasEndedPart, HasReserved, HasToldRoom, HasWrittenPart};
-ghost use Rattle.hull_shared.specs.declared.desk.Desk.TheVariants.{Fresh};
 ghost use Rattle.hull_shared.specs.declared.part.Part.TheVariants.{Bare};
+ghost use Rattle.hull_shared.specs.declared.reader.SharedReader.TheVariants.{Vacant as NoReader};
 ghost use Rattle.hull_shared.specs.declared.seat.SharedSeat.TheVariants.{Vacant};
 
+mod admitting;
 mod answer;
 mod book;
 mod closing;
 mod desk;
 mod draining;
+mod gate;
 mod gathering;
 mod law;
 mod lending;
@@ -57,19 +62,24 @@ mod parts;
 mod pieces;
 mod place;
 mod places;
+mod reader;
+mod reading;
 mod reopening;
 mod seat;
 mod serving;
 mod setting_up;
+mod telling;
 #[cfg(test)]
 mod tests;
 mod threads;
 
-use desk::Desk;
+use desk::{Desk, FreshDesk};
 use hull_reply::{HullPoint, HullReply};
-pub use law::{answers_at_desks_are_of_lines, headline_holds_of_desks};
+pub use law::{answers_at_desks_are_of_lines, headline_holds_of_desks, views_are_of_the_journal};
 pub use looking::SeatReply;
 use part::Part;
+use reader::SharedReader;
+pub use reading::ViewReply;
 use seat::SharedSeat;
 use std::alloc::Global;
 pub use threads::rooms_go_to_any_thread;
@@ -122,11 +132,27 @@ pub extern "C" fn hull_shared_part_alignment() -> usize
     align_of::<Part>()
 }
 
+/// How many bytes the room of a reader has.
+#[unsafe(no_mangle)]
+pub extern "C" fn hull_shared_reader_size() -> usize
+    ensures { result ≡ room_size reader_row }
+{
+    size_of::<SharedReader>()
+}
+
+/// At which multiples of bytes the room of a reader begins.
+#[unsafe(no_mangle)]
+pub extern "C" fn hull_shared_reader_alignment() -> usize
+    ensures { result ≡ room_alignment reader_row }
+{
+    align_of::<SharedReader>()
+}
+
 /// A desk that is not open.
 fn fresh_desk() -> Desk
-    ensures { result ≡ Fresh }
+    ensures { IsFreshForNone result }
 {
-    Desk::Fresh
+    Desk::Fresh(FreshDesk::of_none())
 }
 
 /// A room with no seat.
@@ -134,6 +160,13 @@ fn vacant_seat() -> SharedSeat
     ensures { result ≡ Vacant }
 {
     SharedSeat::Vacant
+}
+
+/// A room with no reader.
+fn no_reader() -> SharedReader
+    ensures { result ≡ NoReader }
+{
+    SharedReader::Vacant
 }
 
 /// A part that holds nothing.
@@ -151,7 +184,7 @@ fn bare_part() -> Part
 #[unsafe(no_mangle)]
 pub unsafe extern "C" fn hull_shared_make_desk(room: *mut u8)
     requires* { sem 𝓛 (room_at desk_row room) }
-    ensures* { sem 𝓛 (leaves desk_row room (λ new. new ≡ Fresh)) }
+    ensures* { sem 𝓛 (leaves desk_row room IsFreshForNone) }
 {
     let at = room as *mut Desk;
     let desk = fresh_desk();
@@ -171,6 +204,21 @@ pub unsafe extern "C" fn hull_shared_make_seat(room: *mut u8)
     let at = room as *mut SharedSeat;
     let seat = vacant_seat();
     unsafe { at.write(seat) };
+}
+
+/// Makes a room for a reader, which has none.
+///
+/// # Safety
+///
+/// `room` has [`hull_shared_reader_size`] bytes at a multiple of [`hull_shared_reader_alignment`], which nothing else uses.
+#[unsafe(no_mangle)]
+pub unsafe extern "C" fn hull_shared_make_reader(room: *mut u8)
+    requires* { sem 𝓛 (room_at reader_row room) }
+    ensures* { sem 𝓛 (leaves reader_row room (λ new. new ≡ NoReader)) }
+{
+    let at = room as *mut SharedReader;
+    let reader = no_reader();
+    unsafe { at.write(reader) };
 }
 
 /// Makes a part in a room, which holds nothing.
@@ -494,6 +542,101 @@ pub unsafe extern "C" fn hull_shared_part_end(at: *mut u8) -> u32
 {
     let part = at as *mut Part;
     parts::end(unsafe { &mut *part })
+}
+
+/// Says for how many readers a desk is opened.
+///
+/// # Safety
+///
+/// A desk lies at `at`, and no other call on it is under way.
+#[unsafe(no_mangle)]
+pub unsafe extern "C" fn hull_shared_admit(at: *mut u8, readers: u32) -> u32
+    ghost t: { desk_row.Denot }
+    requires* { sem 𝓛 (lies_at desk_row full_share at t) }
+    ensures* { sem 𝓛 (leaves desk_row at (λ new. HasAdmitted readers t new result)) }
+{
+    let desk = at as *mut Desk;
+    reading::admit(unsafe { &mut *desk }, readers)
+}
+
+/// Moves a reader out of its desk, into a room.
+///
+/// # Safety
+///
+/// A desk lies at `at` and a room for a reader at `room`, and no other call on either is under way.
+#[unsafe(no_mangle)]
+pub unsafe extern "C" fn hull_shared_lend_reader(at: *mut u8, room: *mut u8) -> u32
+    ghost t: { desk_row.Denot × reader_row.Denot }
+    requires* desk { sem 𝓛 (lies_at desk_row full_share at t.0) }
+    requires* room { sem 𝓛 (lies_at reader_row full_share room t.1) }
+    ensures* { sem 𝓛 (leaves_both desk_row reader_row at room (λ new left. HasLentReader t.0 new t.1 left result)) }
+{
+    let desk = at as *mut Desk;
+    let reader = room as *mut SharedReader;
+    reading::lend_reader(unsafe { &mut *desk }, unsafe { &mut *reader })
+}
+
+/// Moves the reader in a room back to its desk, and lets its view go.
+///
+/// # Safety
+///
+/// A desk lies at `at` and a room for a reader at `room`; a reader in it went out of that desk; and no other call on either
+/// is under way.
+#[unsafe(no_mangle)]
+pub unsafe extern "C" fn hull_shared_return_reader(at: *mut u8, room: *mut u8) -> u32
+    ghost t: { desk_row.Denot × reader_row.Denot }
+    requires* desk { sem 𝓛 (lies_at desk_row full_share at t.0) }
+    requires* room { sem 𝓛 (lies_at reader_row full_share room t.1) }
+    ensures* { sem 𝓛 (leaves_both desk_row reader_row at room (λ new left. HasReturnedReader t.0 new t.1 left result)) }
+{
+    let desk = at as *mut Desk;
+    let reader = room as *mut SharedReader;
+    reading::return_reader(unsafe { &mut *desk }, unsafe { &mut *reader })
+}
+
+/// Takes the newest view, by a few atomic steps and with no lock, and tells it.
+///
+/// # Safety
+///
+/// A room for a reader lies at `at`, and no other call on it is under way.
+#[unsafe(no_mangle)]
+pub unsafe extern "C" fn hull_shared_read(at: *mut u8) -> ViewReply
+    ghost t: { reader_row.Denot }
+    requires* { sem 𝓛 (lies_at reader_row full_share at t) }
+    ensures* { sem 𝓛 (leaves reader_row at (λ new. HasViewedIn t new result)) }
+{
+    let reader = at as *mut SharedReader;
+    reading::view(unsafe { &mut *reader })
+}
+
+/// Writes the corners of the view that a room holds to the front of an array.
+///
+/// # Safety
+///
+/// A room for a reader lies at `at`, and no other call on it is under way.
+#[unsafe(no_mangle)]
+pub unsafe extern "C" fn hull_shared_view_corners(at: *mut u8, out: &mut [HullPoint]) -> HullReply
+    ghost t: { reader_row.Denot }
+    requires* { sem 𝓛 (lies_at reader_row full_share at t) }
+    ensures* { sem 𝓛 (leaves reader_row at (λ new. HasPutView t new out.old out.new result)) }
+{
+    let reader = at as *mut SharedReader;
+    reading::put_view(unsafe { &mut *reader }, out)
+}
+
+/// Whether the view that a room holds is the newest: 1 or 0.
+///
+/// # Safety
+///
+/// A room for a reader lies at `at`, and no other call on it is under way.
+#[unsafe(no_mangle)]
+pub unsafe extern "C" fn hull_shared_is_newest(at: *mut u8) -> u32
+    ghost t: { reader_row.Denot }
+    requires* { sem 𝓛 (lies_at reader_row full_share at t) }
+    ensures* { sem 𝓛 (leaves reader_row at (λ new. HasToldNewest t new result)) }
+{
+    let reader = at as *mut SharedReader;
+    reading::is_newest(unsafe { &mut *reader })
 }
 
 /// Closes a desk, all of whose seats are back.

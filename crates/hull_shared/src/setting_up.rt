@@ -11,6 +11,7 @@ ghost use Rattle.ticket_lock.specs.Tokens.{AreNumbered, IsSeatOf, seat_count, se
 
 use crate::book::DeskBook;
 use crate::desk::OpenDesk;
+use crate::gate::Gate;
 use crate::lock::{DeskLock, DeskSeat};
 use crate::place::Places;
 use crate::places::{close_lock, lay_out};
@@ -84,11 +85,13 @@ fn new_desk(
     seats: u8,
     capacity: u32,
     places: Places,
+    gate: Option<Gate>,
 ) -> Result<OpenDesk, NoMemory>
     requires capacity { capacity ≡ capacity_of lock }
     requires laid_out { AreLaidOut lock seats places }
     requires all_in { All IsSome places.list.items }
-    ensures { IfOk result (λ d. (lock_of d.lock ≡ lock) × (d.seats ≡ seats) × (d.places ≡ places)) }
+    ensures { IfOk result (λ d. (lock_of d.lock ≡ lock) × (d.seats ≡ seats) × (d.places ≡ places)
+        × (d.gate ≡ gate)) }
 {
     match Arc::new(alloc, unsafe { ManuallyDrop::new_unchecked(lock) }) {
         Ok(lock) => Ok(OpenDesk {
@@ -97,6 +100,7 @@ fn new_desk(
             seats,
             capacity,
             places,
+            gate,
         }),
         Err(AllocFailed { value }) => {
             let lock = ManuallyDrop::into_inner(value);
@@ -113,12 +117,14 @@ pub(crate) fn set_up(
     ledgers: Vec<Ledger>,
     seats: u8,
     capacity: u32,
+    gate: Option<Gate>,
 ) -> Result<OpenDesk, NoMemory>
     requires lawful { IsLawful bucket_set (whole book.book) }
     requires ledgers { AreLedgers (whole book.book) ledgers.items }
     requires seats { seats ≡ book.book.head.workers }
     requires capacity { capacity ≡ book.book.head.journal.capacity }
-    ensures { IfOk result (IsDeskRound book seats) }
+    ensures desk { IfOk result (IsDeskRound book seats) }
+    ensures gate { IfOk result (λ d. d.gate ≡ gate) }
 {
     let (book, ledgers) = boxed(alloc, book, ledgers)?;
     let Ok(list) = Vec::with_capacity(alloc, usize::from(seats)) else {
@@ -138,5 +144,5 @@ pub(crate) fn set_up(
         ledgers,
     } = made;
     let (lock, places) = lay_out(lock, all, ledgers, list);
-    new_desk(alloc, lock, seats, capacity, places)
+    new_desk(alloc, lock, seats, capacity, places, gate)
 }

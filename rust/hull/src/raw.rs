@@ -93,7 +93,6 @@ pub(crate) struct CornersAt {
 /// What a reader holds.
 #[repr(C)]
 pub(crate) struct View {
-    pub corners: *const Point,
     pub count: usize,
     pub lines: u64,
     pub line: u64,
@@ -456,6 +455,7 @@ extern "C" {
     pub(crate) fn hull_shared_lend_reader(desk: *mut u8, room: *mut u8) -> u32;
     pub(crate) fn hull_shared_return_reader(desk: *mut u8, room: *mut u8) -> u32;
     pub(crate) fn hull_shared_read(reader: *mut u8) -> View;
+    pub(crate) fn hull_shared_view_corners(reader: *mut u8, out: *mut Point, room: usize) -> Reply;
     pub(crate) fn hull_shared_is_newest(reader: *mut u8) -> u32;
     pub(crate) fn hull_shared_now() -> u64;
     pub(crate) fn hull_shared_line_wait_for_room(line: *mut u8, waits: i32);

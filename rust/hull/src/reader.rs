@@ -4,9 +4,8 @@ use crate::counted::Counted;
 use crate::outline::Corners;
 use crate::raw::{self, code};
 use crate::shared::{Desk, Room};
-use crate::{Fault, Point};
+use crate::{Fault, Point, NOWHERE};
 use std::fmt;
-use std::ptr::NonNull;
 
 /// A reader of a shared hull ([`SharedHull::lend_reader`](crate::SharedHull::lend_reader)), which holds a view: the corners as they
 /// were behind one line of the journal. It takes no lock, no turn and no line, waits for nobody, and nobody waits for it. It may go
@@ -18,20 +17,19 @@ use std::ptr::NonNull;
 /// let hull = SharedHull::for_readers(8)?.open(Limits { points: 1000, first: 0, capacity: 4096, seats: 2 })?;
 /// let (mut seat, mut reader) = (hull.lend(0)?, hull.lend_reader()?);
 /// seat.add(Point { x: 3, y: 4 })?;
-/// assert_eq!(reader.newest().place(Point { x: 3, y: 4 })?, Place::On);
+/// assert_eq!(reader.newest()?.place(Point { x: 3, y: 4 })?, Place::On);
 /// assert_eq!(reader.line(), seat.turn());
 /// # Ok::<(), hull::Fault>(())
 /// ```
 pub struct Reader {
     room: Room,
     desk: Counted<Desk>,
-    corners: NonNull<Point>,
+    // those of the view at the front, of so many lines; none where memory was refused for them
+    corners: Vec<Point>,
     count: usize,
+    lines: Option<u64>,
     line: Option<u64>,
 }
-
-// SAFETY: what it points to is written by nobody while the room holds it, and is tied to no thread.
-unsafe impl Send for Reader {}
 
 impl Reader {
     /// A reader of the desk.
@@ -46,32 +44,43 @@ impl Reader {
                 other => return Err(answer::fault_of(other)),
             }
         };
-        let mut reader = Reader { room, desk: desk.clone(), corners: NonNull::dangling(), count: 0, line: None };
-        reader.read();
+        let mut reader =
+            Reader { room, desk: desk.clone(), corners: Vec::new(), count: 0, lines: None, line: None };
+        reader.read()?;
         Ok(reader)
     }
 
     /// Takes the newest view, where the reader does not hold it: it shows what each call did that had returned before. False where
-    /// others were in the way a thousand times, and the view is the one from before.
-    pub fn read(&mut self) -> bool {
-        // SAFETY: a reader lies in the room, and `&mut self` keeps other calls away, and those who look at the view before.
+    /// others were in the way a thousand times, and the view is the one from before. [`Fault::NoMemory`] where there is none for the
+    /// corners: the view is as it was.
+    pub fn read(&mut self) -> Result<bool, Fault> {
+        // SAFETY: a reader lies in the room, and `&mut self` keeps other calls away.
         let told = unsafe { raw::hull_shared_read(self.room.at()) };
-        self.corners = NonNull::new(told.corners as *mut Point).unwrap_or(NonNull::dangling());
-        self.count = told.count;
-        self.line = (told.has_line == 1).then_some(told.line);
-        told.code == code::VIEWED
+        if self.lines != Some(told.lines) {
+            self.lines = None;
+            let more = told.count.saturating_sub(self.corners.len());
+            self.corners.try_reserve(more).map_err(|_| Fault::NoMemory)?;
+            self.corners.resize(self.corners.len() + more, NOWHERE);
+            let room = self.corners.len();
+            // SAFETY: the same; the array was written, and has room for the corners.
+            unsafe { raw::hull_shared_view_corners(self.room.at(), self.corners.as_mut_ptr(), room) };
+            self.count = told.count;
+            self.lines = Some(told.lines);
+            self.line = (told.has_line == 1).then_some(told.line);
+        }
+        Ok(told.code == code::VIEWED)
     }
 
     /// Whether the view is still the newest: one look.
     pub fn is_newest(&self) -> bool {
         // SAFETY: a reader lies in the room, and is not `Sync`.
-        unsafe { raw::hull_shared_is_newest(self.room.at()) == 1 }
+        self.lines.is_some() && unsafe { raw::hull_shared_is_newest(self.room.at()) == 1 }
     }
 
     /// The view, to be asked as an outline.
     pub fn view(&self) -> &Corners {
-        // SAFETY: the corners lie there until the room reads again or goes back, which wants `&mut self`, and are an outline.
-        unsafe { Corners::of(std::slice::from_raw_parts(self.corners.as_ptr(), self.count)) }
+        // SAFETY: they are an outline.
+        unsafe { Corners::of(&self.corners[..self.count]) }
     }
 
     /// The number of the line behind which the view is true; `None` where it is that of a hull with no line.
@@ -79,12 +88,12 @@ impl Reader {
         self.line
     }
 
-    /// The newest view: the one that is held, or another that is taken.
-    pub fn newest(&mut self) -> &Corners {
+    /// The newest view: the one that is held, or another that is taken. [`Fault::NoMemory`].
+    pub fn newest(&mut self) -> Result<&Corners, Fault> {
         if !self.is_newest() {
-            self.read();
+            self.read()?;
         }
-        self.view()
+        Ok(self.view())
     }
 }
 

@@ -39,7 +39,7 @@ returns c =
     slice_get_read d.places.list.items (length d.places.list.items) j c.index_mut.result.now refl
     (omega (arith, d.laid_out.each, d.places.list.ok.0, c.in-Some.ensures)) c.index_mut.ensures.value in
     record {
-      same = (refl, refl);
+      same = (refl, refl, refl);
       j = j;
       home = omega (arith, c.from.ensures, c.in-Some.ensures);
       was_out = cc;

@@ -1,0 +1,18 @@
+-- Views of a desk's corners, and its journal.
+use Rattle.std.specs.Prelude.{List, length, take}
+use mathlib.Core.List.{IsPrefix}
+use Rattle.lattice.specs.Plane.{Pair}
+use Rattle.lattice.specs.Vertices.{IsVertexList}
+use Rattle.hull_book.specs.History.{live}
+use Rattle.hull_book.specs.Marks.{plain}
+use Rattle.hull_book.specs.declared.marked_line.MarkedLine.{MarkedLine}
+use Rattle.hull_views.specs.Changes.{held_behind}
+use Rattle.hull_views.specs.declared.change.Change.{Change}
+use Rattle.hull_shared.specs.Tellings.{changes_of}
+
+-- Where the changes behind which a view is begin those of the journal's lines, its corners are those of the live points after
+-- as many lines of the journal: whoever replays it to there has them.
+abbrev pub ViewsAreOfTheJournal : Type 0
+ViewsAreOfTheJournal = (lines : List MarkedLine) (seen : List Change) (corners : List Pair)
+    → IsPrefix seen (changes_of (plain lines)) → IsVertexList (held_behind seen).points corners
+    → IsVertexList (live (take (length seen) (plain lines))) corners

@@ -1,0 +1,25 @@
+-- What the teller of a desk was told: the changes of the journal's lines.
+use Rattle.std.specs.Prelude.{◌≡◌, ◌∷◌, ◌++◌, List, [], false, map, Option, Some, None}
+use Rattle.hull_book.specs.Marks.{plain}
+use Rattle.hull_book.specs.declared.line.Line.{Line}
+use Rattle.hull_book.specs.declared.marked_line.MarkedLine.{MarkedLine}
+use Rattle.hull_set.specs.declared.call.Call.{Call}
+use Rattle.hull_set.specs.declared.reply.Reply.{Reply}
+use Rattle.hull_views.specs.Changes.{change_of}
+use Rattle.hull_views.specs.Tellers.{is_silent, recorded}
+use Rattle.hull_views.specs.declared.change.Change.{Change}
+use Rattle.hull_views.specs.declared.teller.Teller.{Teller}
+
+-- what the lines of a journal make of what is held, one after the other
+abbrev pub changes_of : List Line → List Change
+changes_of lines = map (λ l. change_of l.call l.reply) lines
+
+-- a teller that is not silent has recorded the changes of these lines, and no others
+abbrev pub AreTold : Option Teller → List MarkedLine → Type 0
+AreTold None lines = Unit {0}
+AreTold (Some t) lines = is_silent t ≡ false → recorded t ≡ changes_of (plain lines)
+
+-- the lines end with that of this call, and the teller was told of those before it
+abbrev pub IsOneCallBehind : Option Teller → List MarkedLine → Call → Reply → Type 0
+IsOneCallBehind t lines call reply = (before : List MarkedLine) × AreTold t before
+    × (changes_of (plain lines) ≡ changes_of (plain before) ++ change_of call reply ∷ [])

@@ -1,0 +1,53 @@
+//! Where readers come in at a desk.
+ghost use Rattle.std.specs.Prelude.{◌≤◌};
+
+use crate::reader::OutReader;
+use hull_reply::Code;
+use hull_views::Entrance;
+
+/// Where readers come in at a desk that was opened for some.
+#[derive(Drop)]
+pub(crate) struct Gate {
+    pub(crate) entrance: Entrance,
+    /// For how many readers the desk was opened.
+    pub(crate) admitted: u8,
+    /// How many of them are out.
+    pub(crate) out: u8,
+    /// The number of the first line.
+    pub(crate) first: u64,
+    ghost few: { out ≤ admitted },
+}
+
+impl Gate {
+    ghost use Rattle.hull_shared.specs.Gates.{LetsIn, TakesIn};
+
+    /// One reader more goes out, or why none does.
+    pub(crate) fn let_in(&mut self) -> Result<OutReader, Code>
+        ensures { LetsIn self.old self.new result }
+    {
+        if self.out == self.admitted {
+            return Err(Code::NoSeat);
+        }
+        match self.entrance.reader() {
+            Some(reader) => {
+                self.out += 1;
+                Ok(OutReader {
+                    reader,
+                    first: self.first,
+                })
+            }
+            None => Err(Code::NoMemory),
+        }
+    }
+
+    /// One reader is back, if one was out.
+    pub(crate) fn take_in(&mut self) -> bool
+        ensures { TakesIn self.old self.new result }
+    {
+        if self.out == 0 {
+            return false;
+        }
+        self.out -= 1;
+        true
+    }
+}

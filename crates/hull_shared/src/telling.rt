@@ -1,0 +1,52 @@
+//! What the teller of a desk is told of the calls that are served.
+ghost use Rattle.std.specs.Prelude.{◌≡◌, [], IfOk};
+ghost use Rattle.hull_book.specs.Books.{IsLawful};
+ghost use Rattle.hull_book.specs.History.{held_after};
+ghost use Rattle.hull_book.specs.LongBooks.{whole};
+ghost use Rattle.hull_book.specs.Marks.{as_part};
+ghost use Rattle.bucket_tree.specs.Sets.{bucket_set};
+ghost use Rattle.hull_shared.specs.Tellings.{AreTold, IsOneCallBehind};
+
+use bucket_tree::BucketTree;
+use hull_book::{Journal, LongBook};
+use hull_set::{Call, NoMemory, Reply};
+use hull_views::{Teller, change_of};
+
+/// Tells the teller, where there is one, of the call whose line is the last of the book's. It publishes what the call made
+/// of the corners.
+pub(crate) fn tell(
+    teller: &mut Option<Teller>,
+    book: &LongBook<BucketTree>,
+    call: &Call,
+    reply: &Reply,
+)
+    requires lawful { IsLawful bucket_set (whole book.now) }
+    requires behind { IsOneCallBehind teller.old book.now.lines call.now reply.now }
+    ensures { AreTold teller.new book.now.lines }
+{
+    if let Some(teller) = teller {
+        teller.tell(change_of(call, reply), book.set());
+    }
+}
+
+/// A teller that has recorded the lines of a journal, and published the corners that they left, which are those of the set.
+pub(crate) fn caught_up(
+    teller: Option<Teller>,
+    journal: &Journal,
+    set: &BucketTree,
+) -> Result<Option<Teller>, NoMemory>
+    requires told { AreTold teller [] }
+    requires held { bucket_set.held set.now ≡ held_after journal.now.lines }
+    ensures { IfOk result (λ t. AreTold t (as_part journal.now.lines)) }
+{
+    let Some(mut teller) = teller else {
+        return Ok(None);
+    };
+    for line in journal.lines() {
+        teller.record(change_of(&line.call, &line.reply));
+    }
+    if !teller.publish(set) {
+        return Err(NoMemory);
+    }
+    Ok(Some(teller))
+}
