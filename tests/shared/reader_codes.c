@@ -153,7 +153,7 @@ static void lives_on(hull_shared_desk *desk, hull_shared_seat *seat, hull_shared
     is("room for a drain", hull_shared_part_reserve(part, 3), HULL_RESERVED);
     is("lend", hull_shared_lend(desk, &line, seat, 0), HULL_LENT);
     is("a drain that changes", hull_shared_drain(&line, seat, part, HULL_KIND_ADD, 9, 9).told.code, HULL_ADDED);
-    viewed("publishes", two, 4, 10, 7);
+    viewed("publishes", two, 3, 10, 7);
     is("added", call(seat, HULL_KIND_ADD, 9, 0), HULL_ADDED);
     viewed("and so does the next call", one, 4, 11, 7);
     hull_shared_part_end(part), hull_shared_part_free(part);
