@@ -85,10 +85,10 @@ static inline void hull_free(hull_set *h) {
     }
 }
 
-/* Counts a question to come, which changes no answer. A hull whose corners are known answers from their array, in a fraction of the
- * time: they are gathered once the questions that were counted are as many as an eighth of them, and stay known while changes leave
- * them as they are, as most do. HULL_NUMBER: how many corners are known, 0 where none are. It asks for memory, and where that is
- * refused nothing is known. hull_calls counts each place, tangents, extreme and area of its requests. */
+/* Counts a question to come, which changes no answer. A hull whose corners are known answers from their array, in less time: they
+ * are gathered once the questions that were counted are half as many as they, and stay known while changes leave them as they are, as
+ * most do. HULL_NUMBER: how many corners are known, 0 where none are. It asks for memory, and where that is refused nothing is known.
+ * hull_calls counts each place, tangents, extreme and area of its requests. */
 hull_reply hull_settle(hull_set *h);
 
 /* Makes a call by its kind (hull_kind), with the point or the direction (x, y): what the functions below do that have a kind's

@@ -54,7 +54,7 @@ int main(void) {
         failed += !have_same_corners(settled, plain, known);
     }
     hull_free(settled), hull_free(plain);
-    int seldom = known_often < ROUNDS / 2 || lost < 100;
+    int seldom = known_often < ROUNDS / 4 || lost < 100;
     printf("settled: known in %d of %d rounds, lost %d times, %d answers differ\n", known_often, ROUNDS, lost, failed);
     return failed != 0 || seldom;
 }

@@ -78,20 +78,20 @@ fn known_among(alloc: Global, half: u32, changes: u32) -> Result<Option<u32>, Fa
 }
 
 #[test]
-fn few_corners_are_known_at_once(rt: HostRuntime) -> Result<(), Fail> {
+fn few_points_are_answered_alike(rt: HostRuntime) -> Result<(), Fail> {
     let known = known_among(rt.alloc(), 3, 3000)?;
-    assert!(rt; known > Some(500));
+    assert!(rt; known > Some(100));
     Ok(())
 }
 
 #[test]
 fn many_points_are_answered_alike(rt: HostRuntime) -> Result<(), Fail> {
     let known = known_among(rt.alloc(), 1000, 6000)?;
-    assert!(rt; known > Some(500));
+    assert!(rt; known > Some(100));
     Ok(())
 }
 
-// 300 corners are known from the question on at which eight times its number is as many.
+// 300 corners are known from the question on at which twice its number is as many.
 #[test]
 fn corners_are_known_after_so_many_questions(rt: HostRuntime) -> Result<(), Fail> {
     let mut sets = Sets::new(rt.alloc());
@@ -104,7 +104,7 @@ fn corners_are_known_after_so_many_questions(rt: HostRuntime) -> Result<(), Fail
         sets.settled.settle();
         asked += 1;
     }
-    assert_eq!(rt; asked, 64);
+    assert_eq!(rt; asked, 256);
     let inside = sets.change(Point::new(10, 150)?, true);
     assert!(rt; inside && sets.settled.corners().is_some());
     let corner = sets.change(Point::new(7, 49)?, false);

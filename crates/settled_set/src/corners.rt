@@ -13,7 +13,7 @@ use hull_set::HullSet;
 use lattice::Point;
 
 /// How many corners are gathered for each question that was asked.
-const CORNERS_A_QUESTION: usize = 8;
+const CORNERS_A_QUESTION: usize = 2;
 
 /// What is known of the corners of a set.
 #[derive(Drop)]
@@ -76,7 +76,7 @@ impl Corners {
 
     /// One more question is asked: where nothing is known, and this is the first, second, fourth, eighth question and so
     /// on since something was, the corners are gathered, if there are at most so many for each question that was asked.
-    /// So all gathering takes a constant for each question, and h corners are known after h questions.
+    /// So all gathering takes a constant for each question, and h corners are known after h questions at most.
     pub(crate) fn count_question<S: ListsCorners>(&mut self, set: &S)
         requires { AreCornersOf (S.held set.now).points self.old }
         ensures corners { AreCornersOf (S.held set.now).points self.new }
