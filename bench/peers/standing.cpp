@@ -247,6 +247,20 @@ class Table {
     }
 };
 
+// What one writes by hand, behind a call that replies as the library does.
+__attribute__((noinline)) hull_reply place_behind_a_call(const Chain &chain, int64_t x, int64_t y) {
+    hull_reply reply = {};
+    reply.code = chain.covers({x, y}) ? HULL_INSIDE : HULL_OUTSIDE;
+    return reply;
+}
+
+__attribute__((noinline)) hull_reply extreme_behind_a_call(const Chain &chain, int64_t dx, int64_t dy) {
+    const Point farthest = chain.extreme(dx, dy);
+    hull_reply reply = {};
+    reply.code = HULL_POINT, reply.x = farthest.x, reply.y = farthest.y;
+    return reply;
+}
+
 size_t load(const Points &points, hull_set *place) { return hull_load(place, points.data(), points.size()).number; }
 
 void time_loads(Table &table, const Points &points, bool slow) {
@@ -280,10 +294,11 @@ void time_loads(Table &table, const Points &points, bool slow) {
     }
 }
 
-void time_corners(Table &table, const Ours &ours, const Chain &chain) {
+void time_corners(Table &table, const Ours &ours, const Ours &known, const Chain &chain) {
     const size_t count = chain.corners.size();
     Points out(count), copy(count);
     table.time("corners", "hull_vertices", count, [&] { return hull_vertices(ours.place, out.data(), count).number; });
+    table.time("corners", "hull_vertices, known", count, [&] { return hull_vertices(known.place, out.data(), count).number; });
     table.time("corners", "a pass over an array", count, [&] {
         std::copy(chain.corners.begin(), chain.corners.end(), copy.begin());
         return copy.size();
@@ -302,7 +317,7 @@ template <class Answer> size_t count_of(const Points &asked, Answer answer) {
     return sum;
 }
 
-void time_places(Table &table, const Ours &ours, const Chain &chain, const Points &asked, bool all) {
+void time_places(Table &table, const Ours &ours, const Ours &known, const Chain &chain, const Points &asked, bool all) {
     const size_t n = asked.size();
     const Geos geos(chain.corners, alone(asked));
     const auto polygon = to_cgal(chain.corners), points = to_cgal(asked);
@@ -314,6 +329,8 @@ void time_places(Table &table, const Ours &ours, const Chain &chain, const Point
     const size_t h = chain.corners.size();
     time("hull_outline_place", [&](size_t i) { return hull_outline_place(corners, h, asked[i].x, asked[i].y).code != HULL_OUTSIDE; });
     time("hull_place", [&](size_t i) { return hull_place(ours.place, asked[i].x, asked[i].y).code != HULL_OUTSIDE; });
+    time("hull_place, known", [&](size_t i) { return hull_place(known.place, asked[i].x, asked[i].y).code != HULL_OUTSIDE; });
+    time("bisection behind a call", [&](size_t i) { return place_behind_a_call(chain, asked[i].x, asked[i].y).code != HULL_OUTSIDE; });
     time("corners and bisection", [&](size_t i) { return chain.covers(asked[i]); });
     time("GEOS prepared", [&](size_t i) { return geos.meets(i); });
     if (all) {
@@ -521,7 +538,7 @@ double place_time(const Chain &chain, const Points &asked, size_t threads, int r
     return least;
 }
 
-void time_extremes(Table &table, const Ours &ours, const Chain &chain, const Points &asked) {
+void time_extremes(Table &table, const Ours &ours, const Ours &known, const Chain &chain, const Points &asked) {
     const size_t n = asked.size();
     const Point *corners = chain.corners.data();
     const size_t h = chain.corners.size();
@@ -531,10 +548,16 @@ void time_extremes(Table &table, const Ours &ours, const Chain &chain, const Poi
     const size_t ours_sum = table.time("extreme", "hull_extreme", n, [&] {
         return count_of(asked, [&](size_t i) { return static_cast<size_t>(hull_extreme(ours.place, asked[i].x, asked[i].y).x); });
     });
+    const size_t known_sum = table.time("extreme", "hull_extreme, known", n, [&] {
+        return count_of(asked, [&](size_t i) { return static_cast<size_t>(hull_extreme(known.place, asked[i].x, asked[i].y).x); });
+    });
+    const size_t behind = table.time("extreme", "bisection behind a call", n, [&] {
+        return count_of(asked, [&](size_t i) { return static_cast<size_t>(extreme_behind_a_call(chain, asked[i].x, asked[i].y).x); });
+    });
     const size_t other = table.time("extreme", "corners and bisection", n, [&] {
         return count_of(asked, [&](size_t i) { return static_cast<size_t>(chain.extreme(asked[i].x, asked[i].y).x); });
     });
-    if (ours_sum != other || outline_sum != other) {
+    if (ours_sum != other || outline_sum != other || known_sum != other || behind != other) {
         std::printf("the farthest points differ\n");
         std::exit(1);
     }
@@ -571,14 +594,16 @@ int main(int argc, char **argv) {
             directions.push_back(d);
         }
     }
-    Ours ours;
-    load(points, ours.place);
+    Ours ours, known;
+    load(points, ours.place), load(points, known.place);
+    while (hull_settle(known.place).number == 0) {
+    }
     Table table;
     for (int round = 0; round < rounds; round++) {
         time_loads(table, points, shape == "square");
-        time_corners(table, ours, chain);
-        time_places(table, ours, chain, asked, chain.corners.size() < 1000);
-        time_extremes(table, ours, chain, directions);
+        time_corners(table, ours, known, chain);
+        time_places(table, ours, known, chain, asked, chain.corners.size() < 1000);
+        time_extremes(table, ours, known, chain, directions);
         time_meetings(table, chain, some);
         time_distances(table, chain, some);
         time_relations(table, chain, asked);
