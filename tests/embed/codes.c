@@ -1361,8 +1361,8 @@ static void new_ones(void) {
         "HULL_PLACE_IN_USE", "HULL_TAKEN", "HULL_NOT_YET", "HULL_NO_NUMBER", "HULL_FULL", "HULL_SEATS_OUT", "HULL_CLOSED",
         "HULL_NOT_CLOSED", "HULL_TEXT", "HULL_ENDED", "HULL_IN_USE", "HULL_RESERVED", "HULL_PART_IN_USE", "HULL_NO_ROOM",
         "HULL_NO_LINES", "HULL_NO_JOURNAL", "HULL_OLD_RULES", "HULL_ILLEGAL", "HULL_TOO_FEW_SEATS", "HULL_NO_OUTLINE",
-        "HULL_BUSY", "HULL_OTHER_LINE", "HULL_NO_FILE", "HULL_DAMAGED", "HULL_SAFE", "HULL_VIEWED", "HULL_OLD", "HULL_ADMITTED",
-        "HULL_WAS_ADMITTED"};
+        "HULL_BUSY", "HULL_OTHER_LINE", "HULL_NO_FILE", "HULL_DAMAGED", "HULL_SAFE", "HULL_ADMITTED",
+        "HULL_VIEWED", "HULL_OLD"};
     const uint32_t count = sizeof names / sizeof *names;
     for (uint32_t code = 0; code < count; code++) {
         check(strcmp(hull_code_name(code), names[code]) == 0, names[code], __LINE__);
