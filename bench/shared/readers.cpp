@@ -5,7 +5,8 @@
 //
 // A square of 2^21 a side has so many random points at first (1000). One thread adds and removes random points in turn, so many a second
 // (10000), and one, two or four others ask where random points lie, for so long (300). The ways take turns, in so many rounds (5); of
-// each the best. Then what a change takes alone that leaves the corners, with readers and with none; and a view, taken and let go.
+// each the best. Then what a change takes alone that leaves the corners, with readers and with none, where the desk keeps its journal and
+// where it keeps none; and a view, taken and let go.
 #include "hull.h"
 #include "hull_shared.h"
 
@@ -56,13 +57,15 @@ template <class Place> unsigned long asked(const std::atomic<bool> &stops, Point
     return inside == 0 ? 0 : count; // so that no answer is left out
 }
 
-// The seats of a desk: one for who changes, and one for each who asks; and the readers.
+// The seats of a desk, which keeps so many lines of its journal or no journal: one for who changes, and one for each who asks; and the
+// readers.
 class Shared : public Way {
 public:
-    Shared(unsigned readers) {
+    explicit Shared(unsigned readers, std::uint32_t lines = 0) {
         desk_ = hull_shared_desk_new();
         bool good = desk_ != nullptr && (readers == 0 || hull_shared_admit(desk_, readers) == HULL_ADMITTED);
-        good = good && hull_shared_open_without_journal(desk_, HULL_LIMIT_MAX, 0, most_threads + 1) == HULL_OPEN;
+        good = good && (lines > 0 ? hull_shared_open(desk_, HULL_LIMIT_MAX, 0, lines, most_threads + 1)
+                                  : hull_shared_open_without_journal(desk_, HULL_LIMIT_MAX, 0, most_threads + 1)) == HULL_OPEN;
         for (unsigned k = 0; good && k < readers; k++) {
             readers_.push_back(hull_shared_reader_new());
             good = readers_[k] != nullptr && hull_shared_lend_reader(desk_, readers_[k]) == HULL_LENT;
@@ -254,8 +257,16 @@ double processor_seconds() {
     return static_cast<double>(t.tv_sec) + static_cast<double>(t.tv_nsec) * 1e-9;
 }
 
-// Nanoseconds of a change that leaves the corners, of one thread: a point comes well inside, and goes.
-double inner_change(Way &way, long points, long count) {
+// A desk that nobody asks.
+struct Unasked : Shared {
+    using Shared::Shared;
+    unsigned long ask(unsigned, const std::atomic<bool> &, Points) override { return 0; }
+};
+
+// Nanoseconds of a change that leaves the corners, of one thread: a point comes well inside, and goes. With so many readers, and with room
+// for so many lines.
+double inner_change(unsigned readers, std::uint32_t lines, long points, long count) {
+    Unasked way(readers, lines);
     Points random{99};
     for (const std::int64_t x : {-side, side}) {
         way.change(true, x, -side), way.change(true, x, side);
@@ -271,9 +282,8 @@ double inner_change(Way &way, long points, long count) {
 
 // Nanoseconds of a view that is taken anew, with the one before let go, behind a change: what such a row takes more than one without.
 double view(long count, bool reads) {
-    struct Reading : Shared {
-        using Shared::Shared;
-        unsigned long ask(unsigned, const std::atomic<bool> &, Points) override { return 0; }
+    struct Reading : Unasked {
+        using Unasked::Unasked;
         void read(bool reads) {
             if (reads) {
                 hull_shared_read(readers_[0]);
@@ -328,16 +338,21 @@ int main(int words, char **word) {
         std::printf("%-22s %8.2f %8.2f %8.2f %10.2f %8.2f %5.2f\n", row.name, row.best[0] / 1e6, row.best[1] / 1e6, row.best[2] / 1e6,
                     row.best[2] / row.best[0], row.best[0] / rows[0].best[0], row.best[2] / rows[0].best[2]);
     }
-    double with = 1e18, without = 1e18, taken = 1e18, none = 1e18;
+    constexpr long count = 200000;
+    for (const std::uint32_t lines : {0u, static_cast<std::uint32_t>(points + count + 4)}) {
+        double with = 1e18, without = 1e18;
+        for (long round = 0; round < rounds; round++) {
+            without = std::min(without, inner_change(0, lines, points, count));
+            with = std::min(with, inner_change(most_threads, lines, points, count));
+        }
+        std::printf("a change that leaves the corners, %s: %.0f ns, with readers %.0f: %.2f times\n",
+                    lines == 0 ? "no journal" : "journal held", without, with, with / without);
+    }
+    double taken = 1e18, none = 1e18;
     for (long round = 0; round < rounds; round++) {
-        Seats plain;
-        Looks reads;
-        without = std::min(without, inner_change(plain, points, 200000));
-        with = std::min(with, inner_change(reads, points, 200000));
         taken = std::min(taken, view(100000, true));
         none = std::min(none, view(100000, false));
     }
-    std::printf("a change that leaves the corners: %.0f ns, with readers %.0f: %.2f times\n", without, with, with / without);
     std::printf("a view taken, and the one before let go: %.0f ns of processor\n", taken - none);
     return 0;
 }

@@ -1,7 +1,8 @@
 #!/bin/sh
 # One hull for several threads, timed: mixed calls from 1, 2, 4, 8 and 64 threads through a shared hull, beside a mutex
 # round a hull of one thread, in C and in Rust; and calls of four threads with a journal that is held, drained, written out or
-# not kept; and how long a call waits at most. Wants cc and rustc, and a quiet machine.
+# not kept; how long a call waits at most; and threads that ask while one changes, by readers and by other ways. Wants cc, c++ and
+# rustc, and a quiet machine.
 #
 # run.sh [POINTS [CALLS [ROUNDS [BUSY]]]]: so many points at first (1000), so many calls in all (200000), so many rounds
 # taken in turn (5), beside so many processes that spin (0)
@@ -29,3 +30,6 @@ for round in 1 2 3 4; do
     done
 done
 "$room/mixed_rust" "$@"
+c++ -std=c++20 -O2 -I"$room/include" "$here/readers.cpp" -L"$room/lib" -lhull -lhull_shared -lpthread -o "$room/readers"
+"$room/readers" 1000
+"$room/readers" 100000
