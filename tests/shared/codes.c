@@ -1,50 +1,9 @@
 /* Brings about every code that the calls on desks and seats have, and refuses each request for memory of a short run in turn: the
  * status is 0 only where each code is the one of the header, and nothing was lost. */
-#include "hull_shared.h"
+#include "refusing.h"
 
 #include <pthread.h>
-#include <stdio.h>
-#include <stdlib.h>
 #include <time.h>
-
-/* The linker sends malloc and realloc here (--wrap). */
-void *__real_malloc(size_t size);
-void *__real_realloc(void *block, size_t size);
-static long left = -1;
-static int met;
-
-static int refused(void) {
-    if (left < 0) {
-        return 0;
-    }
-    if (left-- == 0) {
-        met = 1;
-        return 1;
-    }
-    return 0;
-}
-
-void *__wrap_malloc(size_t size) {
-    return refused() ? NULL : __real_malloc(size);
-}
-
-void *__wrap_realloc(void *block, size_t size) {
-    return refused() ? NULL : __real_realloc(block, size);
-}
-
-static hull_shared_line line;
-static int bad;
-
-static void is(const char *what, uint64_t got, uint64_t wanted) {
-    if (got != wanted) {
-        fprintf(stderr, "%s: %llu, not %llu\n", what, (unsigned long long)got, (unsigned long long)wanted);
-        bad = 1;
-    }
-}
-
-static uint32_t call(hull_shared_seat *seat, uint32_t kind, int64_t x, int64_t y) {
-    return hull_shared_call(&line, seat, kind, x, y).told.code;
-}
 
 /* Corners in an array: all of them, or none where it is too short; each has its line. */
 static void corners(hull_shared_seat *seat) {

@@ -1,50 +1,9 @@
 /* Brings about every code that the calls on readers have, and refuses each request for memory of a short run in turn: the status is 0
  * only where each code is the one of the header, each view has the corners behind its line, and nothing was lost. */
 #include "hull.h"
-#include "hull_shared.h"
+#include "refusing.h"
 
-#include <stdio.h>
-#include <stdlib.h>
-
-/* The linker sends malloc and realloc here (--wrap). */
-void *__real_malloc(size_t size);
-void *__real_realloc(void *block, size_t size);
-static long left = -1;
-static int met;
-
-static int refused(void) {
-    if (left < 0) {
-        return 0;
-    }
-    if (left-- == 0) {
-        met = 1;
-        return 1;
-    }
-    return 0;
-}
-
-void *__wrap_malloc(size_t size) {
-    return refused() ? NULL : __real_malloc(size);
-}
-
-void *__wrap_realloc(void *block, size_t size) {
-    return refused() ? NULL : __real_realloc(block, size);
-}
-
-static hull_shared_line line;
-static int bad;
 static hull_point corners[8]; /* those of the view that was asked for last */
-
-static void is(const char *what, uint64_t got, uint64_t wanted) {
-    if (got != wanted) {
-        fprintf(stderr, "%s: %llu, not %llu\n", what, (unsigned long long)got, (unsigned long long)wanted);
-        bad = 1;
-    }
-}
-
-static uint32_t call(hull_shared_seat *seat, uint32_t kind, int64_t x, int64_t y) {
-    return hull_shared_call(&line, seat, kind, x, y).told.code;
-}
 
 /* The view that a reader takes: so many corners, behind so many lines, the last of which has the number behind them. */
 static hull_shared_view viewed(const char *what, hull_shared_reader *reader, size_t count, uint64_t lines, uint64_t first) {

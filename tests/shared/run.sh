@@ -6,10 +6,10 @@
 # judges, eight of which one takes the lines out, and eight that keep none, up to 64 at desks of few lines that drain by
 # themselves, every code, each request for memory refused in turn, what a call in a line promises but its answer (waits.c), every
 # order of the steps of the door (door_model.c) and of views (views_model.c), views of 60 readers beside calls (readers.c), files of
-# journals whose process is killed (kills.c), a service of 64 threads that is
-# killed and taken up again (service.c), and wake-ups out of order (wakeups.sh). The gate runs it. What is missing here (a
-# compiler, python3, valgrind) is told and skipped, and counts nothing. The last line counts, and the status is not 0 where
-# something failed. With a number, that many calls a thread; with a second one, so many kills (150).
+# journals whose process is killed (kills.c), a service of 64 threads that is killed and taken up again (service.c), and wake-ups out of
+# order (wakeups.sh). The gate runs it. What is missing here (a compiler, python3, valgrind) is told and skipped, and counts nothing. The
+# last line counts, and the status is not 0 where something failed. With a number, that many calls a thread; with a second one, so many
+# kills (150).
 set -u
 here=$(cd "$(dirname "$0")" && pwd)
 . "$here/../lib.sh"
