@@ -2,14 +2,14 @@
 # Shows that a hull that threads share does in C, C++, Rust and Python what it says: installs the libraries into a
 # temporary folder, compiles the programs of this folder and of examples/shared against what is there, and runs them:
 # threads that make 100000 mixed calls each (64 of them a tenth, and eight in Rust and in Python a tenth), with one, two or
-# all of them inside the door, also with threads held up between the steps of waiting, whose journal `bin/hullbook check`
-# judges, eight of which one takes the lines out, and eight that keep none, up to 64 at desks of few lines that drain by
-# themselves, every code, each request for memory refused in turn, what a call in a line promises but its answer (waits.c), every
-# order of the steps of the door (door_model.c) and of views (views_model.c), views of 60 readers beside calls (readers.c), files of
-# journals whose process is killed (kills.c), a service of 64 threads that is killed and taken up again (service.c), and wake-ups out of
-# order (wakeups.sh). The gate runs it. What is missing here (a compiler, python3, valgrind) is told and skipped, and counts nothing. The
-# last line counts, and the status is not 0 where something failed. With a number, that many calls a thread; with a second one, so many
-# kills (150).
+# all of them inside the door, also with threads held up between the steps of waiting, whose journal `bin/hullbook check` judges, eight of
+# which one takes the lines out, and eight that keep none, up to 64 at desks of few lines that drain by themselves, every code, each request
+# for memory refused in turn, what a call in a line promises but its answer (waits.c), every order of the steps of the door (door_model.c)
+# and of views (views_model.c), every order of the steps of two seats and a reader over the library itself (orders.c), views of 60 readers
+# beside calls (readers.c), files of journals whose process is killed (kills.c), a service of 64 threads that is killed and taken up again
+# (service.c), and wake-ups out of order (wakeups.sh). The gate runs it. What is missing here (a compiler, python3, valgrind) is told and
+# skipped, and counts nothing. The last line counts, and the status is not 0 where something failed. With a number, that many calls a
+# thread; with a second one, so many kills (150).
 set -u
 here=$(cd "$(dirname "$0")" && pwd)
 . "$here/../lib.sh"
@@ -187,6 +187,15 @@ readings() {
     read_by 8 2 $((calls / 5))
     build_slow "$here/readers.c" -lhull
     read_by 4 60 $((calls / 50))
+    build "$here/orders.c" -lhull
+    count "orders.c compiles" $?
+    for words in "3 3 1" "3 2 2" "4 1 1"; do
+        # shellcheck disable=SC2086 # the words stand apart by spaces
+        "$room/orders" $words >"$room/told"
+        count "every order of the steps of two seats and a reader: $(cat "$room/told")" $?
+    done
+    "$room/orders" 2 2 2 short >"$room/told"
+    count "views beside journals of one line less are told: $(cat "$room/told")" $?
     build "$here/views_model.c"
     for words in "2 4 4 2" "3 5 2 1" "1 3 5 3"; do
         # shellcheck disable=SC2086 # the words stand apart by spaces

@@ -25,7 +25,7 @@ pub(crate) fn tell(
     ensures { AreTold teller.new book.now.lines }
 {
     if let Some(teller) = teller {
-        teller.tell(change_of(call, reply), book.set());
+        let _is_shown = teller.tell(change_of(call, reply), book.set());
     }
 }
 

@@ -1,12 +1,13 @@
 -- Corners that are known behind changes.
-use Rattle.std.proofs.Common.{◌≡◌, ◌∷◌, ◌++◌, Bool, false, List, [], not, true, IsTrue, Option, Some, None, IfSome, IsSomeAnd, rules, sym, subst}
+use Rattle.std.proofs.Common.{◌≡◌, ◌≢◌, ◌≤◌, ◌||◌, ◌∙◌, ◌∷◌, ◌++◌, ℕ, Bool, false, List, [], length, not, true, IsTrue, MatchBool, Option, Some, None, IfSome, IsSomeAnd, ap, arith, refl, rules, sym, subst, take_all}
+use Rattle.std.proofs.lemmas.List.{take-append-le}
 use mathlib.Core.Logic.{∥∥₁_elim, ∥∥₁_map}
 use Rattle.lattice.specs.Plane.{Pair}
 use Rattle.lattice.specs.Covers.{IsPointSet}
 use Rattle.lattice.specs.Vertices.{IsVertexList}
 use Rattle.hull_geometry.proofs.SetLaws.{ordered_with, ordered_without}
 use Rattle.hull_set.specs.Held.{Held, nothing_held}
-use Rattle.hull_views.specs.Changes.{changed, changed_by, held_behind}
+use Rattle.hull_views.specs.Changes.{changed, changed_by, held_at, held_behind}
 use Rattle.hull_views.specs.Lists.{StayThrough}
 use Rattle.hull_views.specs.declared.change.Change.{Change}
 use Rattle.hull_views.specs.declared.change.Change.TheVariants.{Came, CameAgain, WentOnce, Went, Nothing}
@@ -34,16 +35,32 @@ ordered_by held (c ∷ changes) h = ordered_by (changed held c) changes (ordered
 pub ordered_behind : (changes : List Change) → IsPointSet (held_behind changes).points
 ordered_behind changes = ordered_by nothing_held changes (search rules)
 
+-- what is held behind the first so many changes is so behind one more, and behind all where this one is none
+pub shown_on : (n : ℕ) (old new : List Change) (c : Change) (was behind matters is : Bool)
+    → ∥ (was ≡ false → behind ≡ false → held_at n old ≡ held_behind old) ∥₁
+    → was ≡ false → n ≤ length old → (is ≡ false → new ≡ old ++ c ∷ [])
+    → MatchBool matters (c ≢ Nothing) (c ≡ Nothing)
+    → ∥ (is ≡ false → behind || matters ≡ false → held_at n new ≡ held_behind new) ∥₁
+shown_on n old new c was true matters is t speaks within more m = ∥∥₁_map t (λ _ yes e. absurd (search rules))
+shown_on n old new c was false true is t speaks within more m = ∥∥₁_map t (λ _ yes e. absurd (search rules))
+shown_on n old new c was false false is t speaks within more m = ∥∥₁_map t (λ g yes _.
+    ap (held_at n) (more yes)
+    ∙ ap held_behind (take-append-le n old (c ∷ []) within)
+    ∙ g speaks refl
+    ∙ sym (ap (changed (held_behind old)) m)
+    ∙ sym (changed_by-one_more nothing_held old c)
+    ∙ sym (ap held_behind (more yes)))
+
 module _ {A : Type 0} (corners : A → List Pair) where
   -- corners that stay through a change are known behind it
   pub known_on : (old new : List Change) (c : Change) (was is : Bool) (known kept : Option A)
       → ∥ (was ≡ false → IfSome known (λ k. IsVertexList (held_behind old).points (corners k))) ∥₁
-      → (is ≡ false → was ≡ false) → (is ≡ false → new ≡ old ++ c ∷ [])
+      → was ≡ false → (is ≡ false → new ≡ old ++ c ∷ [])
       → IfSome kept (λ l. (known ≡ Some l) × StayThrough (corners l) c)
       → ∥ (is ≡ false → IfSome kept (λ k. IsVertexList (held_behind new).points (corners k))) ∥₁
   known_on old new c was is known None t speaks more q = ∥∥₁_map t (λ g _. tt)
   known_on old new c was is known (Some l) t speaks more q = ∥∥₁_map t (λ g yes.
-      let here = subst (λ o. IfSome o (λ k. IsVertexList (held_behind old).points (corners k))) (q.0) (g (speaks yes)) in
+      let here = subst (λ o. IfSome o (λ k. IsVertexList (held_behind old).points (corners k))) (q.0) (g speaks) in
       let on = q.1 (held_behind old) (ordered_behind old) here in
       subst (λ ls. IsVertexList (held_behind ls).points (corners l)) (sym (more yes))
       (subst (λ h. IsVertexList h.points (corners l)) (sym (changed_by-one_more nothing_held old c)) on))
@@ -58,7 +75,16 @@ known_here value corners changes silent None l t speaks e = absurd e
 known_here value corners changes silent (Some k) l t speaks e =
     ∥∥₁_map t (λ g. subst (λ v. IsVertexList (held_behind changes).points (corners v)) e (g speaks))
 
+-- what is published to the last change shows all
+pub all_shown : (n : ℕ) (changes : List Change) → n ≡ length changes → held_at n changes ≡ held_behind changes
+all_shown n changes e = ap held_behind (take_all n changes (omega (arith, e)))
+
 -- who is not silent behind a step that raised or did not has raised
 pub raised : (b : Bool) → not b ≡ false → IsTrue b
 raised true e = search rules
 raised false e = absurd (search rules)
+
+-- who speaks is not silent
+pub speaking : (silent : Bool) → IsTrue (not silent) → silent ≡ false
+speaking true e = absurd (search rules)
+speaking false e = refl

@@ -1,5 +1,5 @@
 -- What calls with their replies make of what is held, as changes one after the other.
-use Rattle.std.specs.Prelude.{List, [], ◌∷◌}
+use Rattle.std.specs.Prelude.{ℕ, List, [], ◌∷◌, take}
 use Rattle.lattice.specs.Plane.{Pair}
 use Rattle.hull_set.specs.Held.{Held, nothing_held, with_new, with_again, with_one_less, with_none}
 use Rattle.hull_set.specs.declared.call.Call.{Call}
@@ -25,6 +25,10 @@ changed_by held (change ∷ changes) = changed_by (changed held change) changes
 -- what is held behind these changes of the empty set
 abbrev pub held_behind : List Change → Held
 held_behind changes = changed_by nothing_held changes
+
+-- what is held behind the first so many of the changes
+abbrev pub held_at : ℕ → List Change → Held
+held_at n changes = held_behind (take n changes)
 
 -- what a call to add a point makes of what is held
 abbrev pub change_of_add : Pair → Reply → Change

@@ -1,11 +1,13 @@
 -- Lists of corners, and when they are those behind changes of the empty set.
 use Rattle.std.specs.Prelude.{List}
+use Rattle.std.specs.List.{Contains}
 use Rattle.lattice.specs.Plane.{Pair}
 use Rattle.lattice.specs.Vertices.{IsVertexList}
-use Rattle.lattice.specs.Covers.{IsPointSet}
+use Rattle.lattice.specs.Covers.{Covers, IsPointSet}
 use Rattle.hull_set.specs.Held.{Held}
 use Rattle.hull_views.specs.Changes.{changed, held_behind}
 use Rattle.hull_views.specs.declared.change.Change.{Change}
+use Rattle.hull_views.specs.declared.change.Change.TheVariants.{Came, Went}
 use Rattle.hull_views.specs.declared.corner_list.CornerList.{CornerList}
 
 -- the corners in the list
@@ -20,3 +22,9 @@ AreCornersBehind changes list = ∥ IsVertexList (held_behind changes).points (c
 abbrev pub StayThrough : List Pair → Change → Type 0
 StayThrough corners change = (held : Held) → IsPointSet held.points → IsVertexList held.points corners
     → IsVertexList (changed held change).points corners
+
+-- the change moves no corner of a set of these points, whose corners these are: what comes is covered, what goes is no corner
+abbrev pub IsWithin : List Pair → List Pair → Change → Type 0
+IsWithin points corners (Came p) = Covers points p
+IsWithin points corners (Went p) = ¬ Contains corners p
+IsWithin points corners _ = Unit {0}

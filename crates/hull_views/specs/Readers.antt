@@ -1,5 +1,5 @@
 -- Readers: what their view shows, and what a look comes to.
-use Rattle.std.specs.Prelude.{◌≡◌, ◌≤◌, ℕ, Bool, true, false, List, [], length, Option, Some, None}
+use Rattle.std.specs.Prelude.{◌≡◌, ◌<◌, ◌≤◌, ℕ, Bool, true, false, List, [], length, Option, Some, None}
 use Rattle.lattice.specs.Plane.{Pair}
 use Rattle.published_views.specs.Numbers.{IsToldMore, told_number}
 use Rattle.std.specs.Arc.{arc_value}
@@ -37,10 +37,11 @@ pub record IsAt (old new : Reader) : Type 0 where
   pub there : IsThere old new
   pub view : new.view ≡ old.view
 
--- a look: the view that is held then is the newest that the reader was told; or it is the same as before
+-- a look: the view that is held then is the newest that the reader was told; or it is the same as before, and the reader was
+-- told of a newer one
 abbrev pub LooksTo : Reader → Reader → Bool → Type 0
 LooksTo old new true = length (lines_at new) ≡ newest_told new
-LooksTo old new false = new.view ≡ old.view
+LooksTo old new false = (new.view ≡ old.view) × (length (lines_at old) < newest_told new)
 
 -- and no view goes back
 pub record HasLooked (old new : Reader) (newest : Bool) : Type 0 where

@@ -1,18 +1,16 @@
 -- What a view shows, if there is one.
 use Rattle.std.specs.Prelude.{List, [], Option, Some, None}
-use Rattle.std.specs.Arc.{arc_value}
-use Rattle.std.specs.declared.sync.Arc.{Arc}
 use Rattle.published_views.specs.Views.{lines_of, value_of}
-use Rattle.published_views.specs.declared.board.Board.{Board}
-use Rattle.published_views.specs.declared.board.Truth.{Ghosts}
+use Rattle.published_views.specs.declared.view.View.{View}
+use Rattle.published_views.specs.declared.view.Truth.{Ghosts}
 
-module _ {T L V Z : Type 0} {K : Ghosts T L V} where
+module _ {T L V : Type 0} {K : Ghosts T L V} where
   -- the lines behind which it is true: none where nothing was published yet
-  abbrev pub lines_shown : Option (Arc (Board T L V K) Z) → List L
+  abbrev pub lines_shown : Option (View T L V K) → List L
   lines_shown None = []
-  lines_shown (Some view) = lines_of (arc_value view)
+  lines_shown (Some view) = lines_of view
 
   -- the value that it shows, or none
-  abbrev pub value_shown : Option (Arc (Board T L V K) Z) → Option V
+  abbrev pub value_shown : Option (View T L V K) → Option V
   value_shown None = None
-  value_shown (Some view) = Some (value_of (arc_value view))
+  value_shown (Some view) = Some (value_of view)

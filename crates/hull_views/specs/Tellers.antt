@@ -3,6 +3,7 @@ use Rattle.std.specs.Prelude.{◌≡◌, ◌+◌, ◌∷◌, ◌++◌, ℕ, Bool
 use Rattle.std.specs.Arc.{arc_value}
 use Rattle.published_views.specs.Numbers.{told_number}
 use Rattle.published_views.specs.Views.{hall_of, published, seen_lines, slots_of}
+use Rattle.hull_views.specs.Changes.{held_at, held_behind}
 use Rattle.hull_views.specs.declared.change.Change.{Change}
 use Rattle.hull_views.specs.declared.entrance.Entrance.{Entrance}
 use Rattle.hull_views.specs.declared.teller.Teller.{Teller}
@@ -43,6 +44,12 @@ pub record HasKept (old new : Teller) : Type 0 where
 pub record IsPublic (t : Teller) : Type 0 where
   pub last : last_published t ≡ length (recorded t)
   pub told : told_last t ≡ length (recorded t)
+
+-- what it published last, as it was told itself, is what is held behind all that it recorded: whoever is told of that number
+-- takes no view of less
+pub record IsShown (t : Teller) : Type 0 where
+  pub held : held_at (last_published t) (recorded t) ≡ held_behind (recorded t)
+  pub told : told_last t ≡ last_published t
 
 -- it has recorded nothing, and so many readers and two more have slots in its hall
 pub record IsOpened (readers : ℕ) (t : Teller) (entrance : Entrance) : Type 0 where

@@ -1,7 +1,7 @@
 //! The corners of a set.
-ghost use Rattle.std.specs.Prelude.{◌≡◌, ◌≤◌, IsTrue, length};
+ghost use Rattle.std.specs.Prelude.{◌≡◌, ◌↔◌, ◌≤◌, IsTrue, length};
 ghost use Rattle.hull_outline.specs.OneWay.{IsParted-prop};
-ghost use Rattle.hull_outline.specs.Outlines.{IsShortOutline};
+ghost use Rattle.hull_outline.specs.Outlines.{HoldsOfSetsOf, IsShortOutline};
 ghost use Rattle.hull_outline.specs.Rounds.{IsParted};
 ghost use Rattle.hull_set.specs.declared.TheConstants.{POINT_LIMIT};
 
@@ -20,7 +20,7 @@ pub struct CornerList {
 }
 
 impl CornerList {
-    ghost use Rattle.hull_views.specs.Lists.{StayThrough, corners_in};
+    ghost use Rattle.hull_views.specs.Lists.{IsWithin, StayThrough, corners_in};
 
     /// The list of these, which are the corners of a set.
     pub fn new(points: Vec<Point, Heap>) -> CornerList
@@ -40,7 +40,9 @@ impl CornerList {
 
     /// Whether the corners are the same behind the change of a set that has them. Of the corners alone, by bisections.
     pub fn stay(&self, change: &Change) -> bool
-        ensures { IsTrue result → StayThrough (corners_in self.now) change.now }
+        ensures stay { IsTrue result → StayThrough (corners_in self.now) change.now }
+        ensures within { HoldsOfSetsOf (corners_in self.now)
+            (λ S. IsTrue result ↔ IsWithin S (corners_in self.now) change.now) }
     {
         let outline = Outline::of_parted(&self.points, self.last);
         match change {

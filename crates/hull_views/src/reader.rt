@@ -19,7 +19,7 @@ pub struct Reader {
     told: Told,
     view: Option<View<Corners>>,
     ghost own: { IsToldOf (arc_value hall) told },
-    ghost of_hall: { ∥ IfSome view (λ v. IsOfHall (arc_value hall) (arc_value v)) ∥₁ },
+    ghost of_hall: { ∥ IfSome view (λ v. IsOfHall (arc_value hall) v) ∥₁ },
     ghost told_of: { length (lines_shown view) ≤ told_number told },
 }
 
@@ -51,7 +51,7 @@ impl Reader {
     /// as it was at a moment of the call. It waits for nobody.
     ///
     /// It is `false` where a thousand tries were undone, each by a publication or by another reader's step; then the view is
-    /// the same as before.
+    /// the same as before, and the reader was told of a newer one.
     pub fn look(&mut self) -> bool
         ensures looked { HasLooked self.old self.new result }
     {

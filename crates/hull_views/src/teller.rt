@@ -6,7 +6,7 @@ ghost use Rattle.lattice.specs.Covers.{IsPointSet};
 ghost use Rattle.published_views.specs.Numbers.{told_number};
 ghost use Rattle.published_views.specs.declared.TheConstants.{NUMBER_LIMIT};
 ghost use Rattle.published_views.specs.Views.{IsFrontOf, IsToldOf, hall_of, published, seen_lines, slots_of};
-ghost use Rattle.hull_views.specs.Changes.{changed, held_behind};
+ghost use Rattle.hull_views.specs.Changes.{changed, held_at, held_behind};
 ghost use Rattle.hull_views.specs.Lists.{AreCornersBehind, StayThrough, corners_in};
 ghost use Rattle.hull_views.specs.declared.TheConstants.{READER_LIMIT};
 
@@ -15,7 +15,7 @@ use super::corner_list::CornerList;
 use super::corners::Corners;
 use super::entrance::Entrance;
 use hull_set::{HullSet, NoMemory};
-use published_views::{Board, Front, Hall, History, NUMBER_LIMIT, Newest, Publisher, Told};
+use published_views::{Front, Hall, History, NUMBER_LIMIT, Newest, Publisher, Told, View};
 use std::alloc::Global;
 use std::sync::Arc;
 
@@ -41,6 +41,8 @@ pub struct Teller {
     ghost told_is: { is_silent ≡ false → told_number told ≡ published publisher },
     ghost known_is: { ∥ (is_silent ≡ false
         → IfSome known (λ l. IsVertexList (held_behind (seen_lines front)).points (corners_in (arc_value l)))) ∥₁ },
+    ghost shown: { ∥ (is_silent ≡ false → is_behind ≡ false
+        → held_at (published publisher) (seen_lines front) ≡ held_behind (seen_lines front)) ∥₁ },
 }
 
 /// The corners of a set, gathered from it.
@@ -66,16 +68,32 @@ fn shared(known: &Option<Arc<CornerList>>) -> Option<Arc<CornerList>>
     }
 }
 
-/// The corners where they stay through the change.
-fn kept(known: Option<Arc<CornerList>>, change: &Change) -> Option<Arc<CornerList>>
-    ensures { IfSome result (λ list. (known ≡ Some list) × StayThrough (corners_in (arc_value list)) change.now) }
+/// Lets the corners go, if they are known, where they do not stay through the change.
+fn keep(known: &mut Option<Arc<CornerList>>, change: &Change)
+    ensures { IfSome known.new
+        (λ list. (known.old ≡ Some list) × StayThrough (corners_in (arc_value list)) change.now) }
 {
-    let list = known?;
-    if list.stay(change) { Some(list) } else { None }
+    if let Some(list) = known {
+        if !list.stay(change) {
+            *known = None;
+        }
+    }
+}
+
+/// Adds a line for a change behind all that was seen, and says whether it did, and there is room for one more.
+fn add_line(history: &History<Change>, front: &mut Front<Change>, change: Change) -> bool
+    requires room { length (seen_lines front.old) < NUMBER_LIMIT }
+    requires history { IsFrontOf history.now front.old }
+    ensures history { IsFrontOf history.now front.new }
+    ensures longer { length (seen_lines front.old) ≤ length (seen_lines front.new) }
+    ensures added { IsTrue result → (seen_lines front.new ≡ seen_lines front.old ++ change ∷ [])
+        × (length (seen_lines front.new) < NUMBER_LIMIT) }
+{
+    front.add(history, change) && front.count() < NUMBER_LIMIT
 }
 
 impl Teller {
-    ghost use Rattle.hull_views.specs.Tellers.{HasKept, HasRecorded, IsOpened, IsPublic, is_silent, last_published};
+    ghost use Rattle.hull_views.specs.Tellers.{HasKept, HasRecorded, IsOpened, IsPublic, IsShown, is_silent, last_published};
     ghost use Rattle.hull_views.specs.Tellers.{recorded};
 
     /// A teller that has recorded nothing, and the entrance for so many readers.
@@ -105,28 +123,17 @@ impl Teller {
         Ok((teller, Entrance { hall, told }))
     }
 
-    /// Adds a line for a change to the history, or falls silent.
-    fn add_line(&mut self, change: Change)
-        requires { self.old.known ≡ None }
-        ensures recorded { HasRecorded self.old self.new change }
-        ensures none { self.new.known ≡ None }
-        ensures last { last_published self.new ≡ last_published self.old }
-    {
-        if self.front.count() >= NUMBER_LIMIT - 1 || !self.front.add(&self.history, change) {
-            self.is_silent = true;
-        }
-    }
-
     /// Records a change, and publishes nothing: the next publication shows it.
     pub fn record(&mut self, change: Change)
         ensures recorded { HasRecorded self.old self.new change }
         ensures last { last_published self.new ≡ last_published self.old }
     {
-        let matters = change.matters();
-        let known = kept(self.known.take(), &change);
-        self.add_line(change);
-        self.known = known;
-        self.is_behind = self.is_behind || matters;
+        if self.is_silent {
+            return;
+        }
+        keep(&mut self.known, &change);
+        self.is_silent = !add_line(&self.history, &mut self.front, change);
+        self.is_behind |= change.matters();
     }
 
     /// Gathers the corners behind the changes that are recorded from the set, where they are not known.
@@ -148,10 +155,8 @@ impl Teller {
         ensures same { HasKept self.old self.new }
         ensures published { IsTrue result → IsPublic self.new }
     {
-        let Ok(board) = Arc::new(self.alloc, Board::new(list, self.front.again())) else {
-            return false;
-        };
-        match self.publisher.publish(&mut self.told, board) {
+        let view = View::new(list, self.front.again());
+        match self.publisher.publish(&mut self.told, view) {
             Ok(is_raised) => {
                 self.is_behind = false;
                 self.is_silent = !is_raised;
@@ -164,7 +169,7 @@ impl Teller {
     /// Publishes the corners behind the changes that are recorded, unless these were published last, and says whether they
     /// are public then. They are those of the set.
     ///
-    /// It is `false` where memory was refused, where each slot is read, which cannot be with no more readers than it was
+    /// It is `false` where memory for new corners was refused, where each slot is read, which cannot be with no more readers than it was
     /// opened for, or where the teller is silent: then the next publication is to show them.
     pub fn publish<S: HullSet>(&mut self, set: &S) -> bool
         requires held { is_silent self.old ≡ false → S.held set.now ≡ held_behind (recorded self.old) }
@@ -185,14 +190,17 @@ impl Teller {
     }
 
     /// Records the change of a call, and publishes the corners behind it where it changed what is held, or where earlier ones
-    /// were not published. The set is as it is behind the call.
-    pub fn tell<S: HullSet>(&mut self, change: Change, set: &S)
+    /// were not published. The set is as it is behind the call. It says whether all that is held is shown then.
+    pub fn tell<S: HullSet>(&mut self, change: Change, set: &S) -> bool
         requires held { is_silent self.old ≡ false → S.held set.now ≡ changed (held_behind (recorded self.old)) change }
-        ensures { HasRecorded self.old self.new change }
+        ensures recorded { HasRecorded self.old self.new change }
+        ensures shown { ∥ (IsTrue result → IsShown self.new) ∥₁ }
     {
         self.record(change);
         if self.is_behind {
-            let _public = self.publish(set);
+            self.publish(set)
+        } else {
+            !self.is_silent
         }
     }
 }

@@ -1,9 +1,9 @@
--- Halls, boards that are published in one, and who was told of it.
+-- Halls, views of what is published in one, and who was told of it.
 use Rattle.std.specs.Prelude.{◌≡◌, ℕ, ◌/◌, List, length}
 use Rattle.std.specs.Arc.{arc_value}
 use Rattle.published_views.specs.declared.TheConstants.{SLOT_LIMIT}
-use Rattle.published_views.specs.declared.board.Board.{Board}
-use Rattle.published_views.specs.declared.board.Truth.{Ghosts}
+use Rattle.published_views.specs.declared.view.View.{View}
+use Rattle.published_views.specs.declared.view.Truth.{Ghosts}
 use Rattle.published_views.specs.declared.hall.Hall.{Hall}
 use Rattle.published_views.specs.declared.history.Front.{Front}
 use Rattle.published_views.specs.declared.history.History.{History}
@@ -28,21 +28,21 @@ abbrev pub IsToldOfWord : Newest → Told → Type 0
 IsToldOfWord newest told = told.seen.book ≡ newest.word.book
 
 module _ {T L V : Type 0} {K : Ghosts T L V} where
-  -- the lines behind which the value of a board is true
-  abbrev pub lines_of : Board T L V K → List L
-  lines_of board = seen_lines board.front
+  -- the lines behind which the value of a view is true
+  abbrev pub lines_of : View T L V K → List L
+  lines_of view = seen_lines view.front
 
   -- its value
-  abbrev pub value_of : Board T L V K → V
-  value_of board = arc_value board.value
+  abbrev pub value_of : View T L V K → V
+  value_of view = arc_value view.value
 
-  -- how many they are: the number of the board
-  abbrev pub number_of : Board T L V K → ℕ
-  number_of board = length (lines_of board)
+  -- how many they are: the number of the view
+  abbrev pub number_of : View T L V K → ℕ
+  number_of view = length (lines_of view)
 
   -- they are of the hall's history
-  abbrev pub IsOfHall : Hall T L V K → Board T L V K → Type 0
-  IsOfHall hall board = board.front.seen.book ≡ hall.history.book
+  abbrev pub IsOfHall : Hall T L V K → View T L V K → Type 0
+  IsOfHall hall view = view.front.seen.book ≡ hall.history.book
 
   -- how many slots it has
   abbrev pub slots_of : Hall T L V K → ℕ

@@ -1,16 +1,14 @@
 //! What readers and the publisher share: slots, and the word that says which of them is the newest.
 ghost use Rattle.std.specs.Prelude.{◌≡◌, ◌≢◌, ◌%◌, IfSome, IfOk, MatchBool, All};
-ghost use Rattle.std.specs.Arc.{arc_value};
 ghost use Rattle.counted_slot.specs.Counting.{readers};
 
 use super::SLOT_LIMIT;
-use super::board::{Board, Posted, Truth};
 use super::history::{Front, Lines};
 use super::newest::{Newest, Told};
+use super::view::{Truth, View};
 use counted_slot::{Counted, MOST_READERS, ONE_READER, PRESENT};
 use logbook::Seen;
 use std::alloc::{AllocError, Global};
-use std::sync::Arc;
 
 /// How often a view is tried before it is given up.
 const TRIES: u32 = 1000;
@@ -19,13 +17,10 @@ const TRIES: u32 = 1000;
 #[derive(Drop)]
 pub struct Hall<T: Truth> {
     pub(crate) newest: Newest,
-    pub(crate) slots: Vec<Counted<Option<Posted<T>>>>,
+    pub(crate) slots: Vec<Counted<Option<View<T>>>>,
     pub(crate) history: Seen<T::Line, u64, Lines>,
     ghost of_history: { All (λ slot. slot ≡ history) slots.items },
 }
-
-/// A view: a board that nothing writes to, for as long as it is held.
-pub type View<T> = Arc<Board<T>>;
 
 /// The state of a slot's word.
 pub(crate) fn state_of(word: u64) -> u64
@@ -68,11 +63,11 @@ impl<T: Truth> Hall<T> {
         })
     }
 
-    /// One try at the board with this number in this slot: a load, an exchange that counts a reader more, a count of its
-    /// owners, and a step that leaves.
+    /// One try at the view with this number in this slot: a load, an exchange that counts a reader more, a count of the
+    /// value's owners, and a step that leaves.
     fn enter(&self, at: usize, number: u64) -> Option<View<T>>
-        ensures number { IfSome result (λ v. number_of (arc_value v) ≡ number) }
-        ensures history { IfSome result (λ v. IsOfHall self.now (arc_value v)) }
+        ensures number { IfSome result (λ v. number_of v ≡ number) }
+        ensures history { IfSome result (λ v. IsOfHall self.now v) }
     {
         let slot = self.slots.get(at)?;
         let word = slot.load();
@@ -85,23 +80,23 @@ impl<T: Truth> Hall<T> {
             return None;
         }
         let view = match hand.get() {
-            Some(posted) => Arc::try_clone(&posted.board).ok(),
+            Some(view) => view.again(),
             None => None,
         };
         hand.leave();
         let view = view?;
-        if view.number != number {
+        if view.number() != number {
             return None;
         }
         Some(view)
     }
 
-    /// One try at a view: of the board that the word names, with the number that it had when it was heard.
+    /// One try at a view: of the one that the word names, with the number that it had when it was heard.
     fn try_view(&self, told: &mut Told) -> Option<View<T>>
         requires { IsToldOf self.now told.old }
         ensures more { IsToldMore told.old told.new }
-        ensures exact { IfSome result (λ v. number_of (arc_value v) ≡ told_number told.new) }
-        ensures history { IfSome result (λ v. IsOfHall self.now (arc_value v)) }
+        ensures exact { IfSome result (λ v. number_of v ≡ told_number told.new) }
+        ensures history { IfSome result (λ v. IsOfHall self.now v) }
     {
         let heard = self.newest.hear(told);
         self.enter((heard % SLOT_LIMIT) as usize, heard / SLOT_LIMIT)
@@ -115,8 +110,8 @@ impl<T: Truth> Hall<T> {
     pub fn view(&self, told: &mut Told) -> Option<View<T>>
         requires { IsToldOf self.now told.old }
         ensures more { IsToldMore told.old told.new }
-        ensures exact { IfSome result (λ v. number_of (arc_value v) ≡ told_number told.new) }
-        ensures history { IfSome result (λ v. IsOfHall self.now (arc_value v)) }
+        ensures exact { IfSome result (λ v. number_of v ≡ told_number told.new) }
+        ensures history { IfSome result (λ v. IsOfHall self.now v) }
     {
         for _ in 0..TRIES {
             if let Some(view) = self.try_view(told) {
@@ -139,9 +134,9 @@ impl<T: Truth> Hall<T> {
     pub fn is_newest(&self, view: &View<T>, told: &mut Told) -> bool
         requires { IsToldOf self.now told.old }
         ensures more { IsToldMore told.old told.new }
-        ensures newest { MatchBool result (number_of (arc_value view.now) ≡ told_number told.new)
-            (number_of (arc_value view.now) ≢ told_number told.new) }
+        ensures newest { MatchBool result (number_of view.now ≡ told_number told.new)
+            (number_of view.now ≢ told_number told.new) }
     {
-        self.newest.hear(told) / SLOT_LIMIT == view.number
+        self.newest.hear(told) / SLOT_LIMIT == view.number()
     }
 }

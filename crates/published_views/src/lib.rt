@@ -11,7 +11,6 @@
 //! try succeeds, since `counted_slot` does not say that a step wins.
 #![tactic(auto)]
 
-mod board;
 mod fronts;
 mod hall;
 mod history;
@@ -19,13 +18,14 @@ mod newest;
 mod publisher;
 #[cfg(test)]
 mod tests;
+mod view;
 
-pub use board::{Board, Posted, Truth};
 pub use fronts::is_front;
-pub use hall::{Hall, View};
+pub use hall::Hall;
 pub use history::{Front, History, Lines};
 pub use newest::{Newest, Rise, Rises, Told};
 pub use publisher::Publisher;
+pub use view::{Truth, View};
 
 /// How many slots a hall may have.
 pub const SLOT_LIMIT: u64 = 128;

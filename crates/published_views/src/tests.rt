@@ -1,5 +1,5 @@
 //! What is published here is how many lines there are.
-use crate::{Board, Front, Hall, History, Newest, Publisher, Told, Truth, is_front};
+use crate::{Front, Hall, History, Newest, Publisher, Told, Truth, View, is_front};
 use std::alloc::Global;
 use std::process::Abort;
 use std::sync::Arc;
@@ -59,10 +59,8 @@ fn publish(rt: &impl Abort, alloc: Global, stage: &mut Stage) -> bool {
     let Ok(value) = Arc::new(alloc, stage.front.count()) else {
         panic!(rt; "there is memory for the value")
     };
-    let Ok(board) = Arc::new(alloc, Board::new(value, stage.front.again())) else {
-        panic!(rt; "there is memory for the board")
-    };
-    match stage.publisher.publish(&mut stage.told, board) {
+    let view = View::new(value, stage.front.again());
+    match stage.publisher.publish(&mut stage.told, view) {
         Ok(is_raised) => is_raised,
         Err(_) => false,
     }
@@ -89,9 +87,9 @@ fn views_show_what_was_published(rt: HostRuntime) -> Result<(), Fail> {
     Ok(())
 }
 
-/// A board comes back where no slot but the newest is there.
+/// A view comes back where no slot but the newest is there.
 #[test]
-fn a_board_comes_back_where_there_is_no_slot(rt: HostRuntime) -> Result<(), Fail> {
+fn a_view_comes_back_where_there_is_no_slot(rt: HostRuntime) -> Result<(), Fail> {
     let mut stage = opened(&rt, rt.alloc(), 1);
     assert!(rt; !publish(&rt, rt.alloc(), &mut stage));
     let mut told = stage.told.again();

@@ -11,4 +11,5 @@ use Rattle.hull_shared.proofs.fresh_desk.Met.{met}
 pub hull_shared_make_desk_spec : {M : Type 1} → statement M
 hull_shared_make_desk_spec 𝓤 𝓛 𝓜 𝓡 wired =
     makes 𝓤 𝓛 𝓜 𝓡 the_row refl (λ u v is. ((the_row_laws.lawful 𝓛).typed u _ is).0) IsFreshForNone
-    (λ x. met 𝓤 𝓛 𝓜 𝓡 (code.calls-hull_shared::fresh_desk 𝓡.env wired) ((tt, tt, tt, tt, tt), tt)) (code.unfolded 𝓤 𝓛.H 𝓜 𝓡 wired)
+    (λ x. met 𝓤 𝓛 𝓜 𝓡 (code.calls-hull_shared::fresh_desk 𝓡.env wired) ((tt, tt, tt, tt, tt), tt))
+    (code.unfolded 𝓤 𝓛.H 𝓜 𝓡 wired)

@@ -11,4 +11,5 @@ use Rattle.hull_shared.proofs.no_reader.Met.{met}
 pub hull_shared_make_reader_spec : {M : Type 1} → statement M
 hull_shared_make_reader_spec 𝓤 𝓛 𝓜 𝓡 wired =
     makes 𝓤 𝓛 𝓜 𝓡 the_row refl (λ u v is. ((the_row_laws.lawful 𝓛).typed u _ is).0) (λ new. new ≡ Vacant)
-    (λ x. met 𝓤 𝓛 𝓜 𝓡 (code.calls-hull_shared::no_reader 𝓡.env wired) ((tt, tt, tt, tt, tt), tt)) (code.unfolded 𝓤 𝓛.H 𝓜 𝓡 wired)
+    (λ x. met 𝓤 𝓛 𝓜 𝓡 (code.calls-hull_shared::no_reader 𝓡.env wired) ((tt, tt, tt, tt, tt), tt))
+    (code.unfolded 𝓤 𝓛.H 𝓜 𝓡 wired)

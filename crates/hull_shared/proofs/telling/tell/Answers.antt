@@ -10,8 +10,8 @@ use Rattle.hull_shared.specs.Tellings.{AreTold, changes_of}
 use Rattle.hull_shared.proofs.Changes.{held_by_changes}
 use Rattle.hull_shared.proofs.telling.tell.Goals as goal
 
-pub tell-requires : goal.tell-requires
-tell-requires c =
+pub tell-is_shown-requires : goal.tell-is_shown-requires
+tell-is_shown-requires c =
     let behind = c.requires.behind in let t = c.in-Some.teller in
     let change = change_of c.args.call.now c.args.reply.now in
     record {

@@ -4,15 +4,20 @@ use Rattle.lattice.specs.Covers.{with_point, without_point}
 use Rattle.lattice.specs.Vertices.{IsVertexList}
 use Rattle.hull_views.proofs.corner_list.CornerList.stay.Goals as goal
 
-pub returns-in-Came : goal.returns-in-Came
-returns-in-Came c = λ yes held ordered corners.
+pub returns-in-Came-clause-stay : goal.returns-in-Came-clause-stay
+returns-in-Came-clause-stay c = λ yes held ordered corners.
     let own = c.of_parted-outline.ensures ∙ c.deref.ensures.value in
     rw (c.in-Came.is)
     (subst (λ l. IsVertexList (with_point c.in-Came.p held.points) l) own
     (c.stays_with.ensures.stays yes held.points (ordered, subst (λ l. IsVertexList held.points l) (sym own) corners)))
 
-pub returns-in-Went : goal.returns-in-Went
-returns-in-Went c = λ yes held ordered corners.
+pub returns-in-Came-clause-within : goal.returns-in-Came-clause-within
+returns-in-Came-clause-within c = λ S outline.
+    let own = c.of_parted-outline.ensures ∙ c.deref.ensures.value in
+    rw (c.in-Came.is) (c.stays_with.ensures.covered S (outline.0, subst (λ l. IsVertexList S l) (sym own) outline.1))
+
+pub returns-in-Went-clause-stay : goal.returns-in-Went-clause-stay
+returns-in-Went-clause-stay c = λ yes held ordered corners.
     let own = c.of_parted-outline.ensures ∙ c.deref.ensures.value in
     rw (c.in-Went.is)
     (subst (λ l. IsVertexList (without_point c.in-Went.p held.points) l) own

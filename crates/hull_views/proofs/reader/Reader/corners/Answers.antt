@@ -7,7 +7,7 @@ use Rattle.hull_views.proofs.Known.{flatten}
 use Rattle.hull_views.proofs.reader.Reader.corners.Goals as goal
 
 pub returns-in-Some-clause-behind : goal.returns-in-Some-clause-behind
-returns-in-Some-clause-behind c = rw (c.in-Some.is, c.points.ensures, ← c.deref.ensures) (flatten c.value.ensures.is_true)
+returns-in-Some-clause-behind c = rw (c.in-Some.is, c.points.ensures) (flatten c.value.ensures.is_true)
 
 pub returns-in-None-clause-behind : goal.returns-in-None-clause-behind
 unfolding changed_by

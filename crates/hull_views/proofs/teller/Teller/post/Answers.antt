@@ -1,18 +1,16 @@
 -- what was published is the last
 use Rattle.std.proofs.Common.{◌≡◌, ◌∙◌, ap, arith, length, sym}
 use mathlib.Core.Logic.{∥∥₁_map}
-use Rattle.std.specs.Arc.{arc_value}
 use Rattle.published_views.specs.Numbers.{told_number}
-use Rattle.published_views.specs.Views.{lines_of, number_of, seen_lines}
-use Rattle.hull_views.proofs.Known.{raised}
+use Rattle.published_views.specs.Views.{number_of, seen_lines}
+use Rattle.hull_views.proofs.Known.{all_shown, raised}
 use Rattle.hull_views.proofs.teller.Teller.post.Goals as goal
 
 pub invariant_of-self : goal.invariant_of-self
 invariant_of-self c =
-    let t = c.args.self.now in let p = c.in-Ok-publish.ensures in
-    let number : number_of (arc_value c.in-Ok.board) ≡ length (seen_lines t.front) =
-    ap (λ b. length (lines_of b)) c.in-Ok.ensures.ok
-    ∙ ap (λ f. length (seen_lines f)) (c.new.ensures.front ∙ c.again.ensures) in
+    let t = c.args.self.now in let p = c.in-Ok.ensures in
+    let number : number_of c.new-view.result ≡ length (seen_lines t.front) =
+    ap (λ f. length (seen_lines f)) (c.new-view.ensures.front ∙ c.again.ensures) in
     record {
       own_history = t.own_history;
       own_hall = t.own_hall ∙ ap (λ h. h.history.book) (sym p.same);
@@ -21,6 +19,7 @@ invariant_of-self c =
       few = λ _. t.few c.requires.speaks;
       told_is = λ e. p.told (raised _ e) ∙ sym p.last;
       known_is = ∥∥₁_map t.known_is (λ g _. g c.requires.speaks);
+      shown = ∥∥₁_map t.known_is (λ _ _ _. all_shown _ _ (p.last ∙ number));
     }
 
 pub invariant_of-self-in-Err : goal.invariant_of-self-in-Err
@@ -34,4 +33,5 @@ invariant_of-self-in-Err c =
       few = t.few;
       told_is = λ e. ap told_number p.kept.1 ∙ t.told_is e ∙ sym p.kept.0;
       known_is = t.known_is;
+      shown = rw (p.kept.0) t.shown;
     }

@@ -1,22 +1,22 @@
--- corners that stay are known behind the change
-use Rattle.std.proofs.Common.{◌≡◌, IfSome, Some, subst}
+-- corners that stay are known behind the change, and what was shown is shown behind one that changes nothing
 use Rattle.std.specs.Arc.{arc_value}
-use Rattle.hull_views.specs.Lists.{StayThrough, corners_in}
-use Rattle.hull_views.proofs.Known.{known_on}
+use Rattle.std.proofs.Common.{◌∙◌, arith, sym}
+use Rattle.hull_views.specs.Lists.{corners_in}
+use Rattle.hull_views.proofs.Known.{known_on, raised, shown_on}
 use Rattle.hull_views.proofs.teller.Teller.record.Goals as goal
 
-pub invariant_of-self-2 : goal.invariant_of-self-2
-invariant_of-self-2 c =
-    let t = c.add_line.new.self in let r = c.add_line.ensures.recorded in
+pub invariant_of-self : goal.invariant_of-self
+invariant_of-self c =
+    let t = c.args.self.now in let a = c.add_line.ensures in
     record {
-      own_history = t.own_history;
-      own_hall = t.own_hall;
+      own_history = a.history;
+      own_hall = a.history ∙ sym t.own_history ∙ t.own_hall;
       own_word = t.own_word;
-      rising = t.rising;
-      few = t.few;
-      told_is = t.told_is;
-      known_is = known_on (λ l. corners_in (arc_value l)) _ _ c.args.change _ _ _ c.kept-known.result c.args.self.now.known_is
-          r.speaks r.one_more
-          (subst (λ o. IfSome c.kept-known.result (λ l. (o ≡ Some l) × StayThrough (corners_in (arc_value l)) c.args.change))
-          c.take.ensures.value c.kept-known.ensures);
+      rising = omega (arith, t.rising, a.longer);
+      few = λ yes. (a.added (raised _ yes)).1;
+      told_is = λ yes. t.told_is c.if-self.false;
+      known_is = known_on (λ l. corners_in (arc_value l)) _ _ c.args.change _ _ _ c.keep.new.known t.known_is
+          c.if-self.false (λ yes. (a.added (raised _ yes)).0) c.keep.ensures;
+      shown = shown_on _ _ _ c.args.change _ _ _ _ t.shown
+          c.if-self.false t.rising (λ yes. (a.added (raised _ yes)).0) c.matters.ensures;
     }

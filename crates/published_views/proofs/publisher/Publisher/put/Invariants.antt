@@ -1,8 +1,8 @@
--- the board is still to be put
+-- the view is still to be put
 use Rattle.std.proofs.Common.{◌≡◌}
 use Rattle.std.specs.Arc.{arc_value}
 use Rattle.published_views.proofs.publisher.Publisher.put.Given as goal
 
 abbrev pub invariant-loop-at : goal.invariant-loop-at
 invariant-loop-at g l =
-    (l.posted ≡ l.fn.posted) × ((arc_value l.posted.board).front.seen.book ≡ (arc_value l.self.hall).history.book)
+    (l.view ≡ l.fn.view) × (l.view.front.seen.book ≡ (arc_value l.self.hall).history.book)

@@ -1,5 +1,5 @@
-//! What is published: a value, with the beginning of the history at which it is true.
-ghost use Rattle.std.specs.Prelude.{◌≡◌, length};
+//! What is published and read: a value, with the beginning of the history at which it is true.
+ghost use Rattle.std.specs.Prelude.{◌≡◌, IfSome};
 ghost use Rattle.std.specs.Arc.{arc_value};
 
 use super::history::{Front, Lines};
@@ -21,39 +21,49 @@ pub trait Truth {
     ghost holds: { List Self.Line → Self.Value → Type 0 };
 }
 
-/// A value, and the line behind which it is true. Boards of several lines may share one value.
+/// A value, and the line behind which it is true. Nobody writes to the value for as long as a view of it is held; views, also
+/// behind several lines, may share one.
 #[derive(Drop)]
-pub struct Board<T: Truth> {
-    pub(crate) number: u64,
+pub struct View<T: Truth> {
     pub(crate) value: Arc<T::Value>,
     pub(crate) front: Front<T::Line>,
     of: PhantomData<T>,
-    ghost counted: { number ≡ length front.seen.log },
     ghost is_true: { ∥ T.holds front.seen.log (arc_value value) ∥₁ },
 }
 
-impl<T: Truth> Board<T> {
+impl<T: Truth> View<T> {
     ghost use Rattle.published_views.specs.Views.{lines_of, number_of, seen_lines, value_of};
 
     /// A value that is true behind these lines.
-    pub fn new(value: Arc<T::Value>, front: Front<T::Line>) -> Board<T>
+    pub fn new(value: Arc<T::Value>, front: Front<T::Line>) -> View<T>
         requires { T.holds (seen_lines front) (arc_value value) }
         ensures value { result.value ≡ value }
         ensures front { result.front ≡ front }
     {
-        Board {
-            number: front.count(),
+        View {
             value,
             front,
             of: PhantomData,
         }
     }
 
+    /// One more view of the value, behind the same lines; `None` where the value has too many owners.
+    pub fn again(&self) -> Option<View<T>>
+        ensures value { IfSome result (λ view. value_of view ≡ value_of self.now) }
+        ensures front { IfSome result (λ view. view.front ≡ self.now.front) }
+    {
+        Some(View {
+            value: Arc::try_clone(&self.value).ok()?,
+            front: self.front.again(),
+            of: PhantomData,
+        })
+    }
+
     /// How many lines the history had.
     pub fn number(&self) -> u64
         ensures { result ≡ number_of self.now }
     {
-        self.number
+        self.front.count()
     }
 
     /// The value, which is true behind them.
@@ -65,14 +75,8 @@ impl<T: Truth> Board<T> {
     }
 }
 
-/// A board in a slot.
-#[derive(Drop)]
-pub struct Posted<T: Truth> {
-    pub(crate) board: Arc<Board<T>>,
-}
-
-impl<T: Truth> Fits for Posted<T> {
+impl<T: Truth> Fits for View<T> {
     type Tag = Seen<T::Line, u64, Lines>;
 
-    ghost fits = { λ seen p. (arc_value p.board).front.seen.book ≡ seen.book };
+    ghost fits = { λ seen view. view.front.seen.book ≡ seen.book };
 }

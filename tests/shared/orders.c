@@ -1,0 +1,206 @@
+/* orders CALLS VIEWS MISSES [SHORT]: every order of the steps of two seats that
+ * make so many calls each, and of a reader that takes so many views, where
+ * looks of seats whose number is not served yet are no more than so many: the
+ * numbers that seats take, their looks, and views.
+ *
+ * The status is 0 only where in each order each view has the corners of a hull
+ * to which the calls before its number were made, in the order of their lines,
+ * none is older than the last change that was served, none goes back, and each
+ * line is the next of the journal. With SHORT, each view is compared with one
+ * line less, which has to be told. */
+#include "hull.h"
+#include "hull_shared.h"
+
+#include <stdio.h>
+#include <stdlib.h>
+#include <string.h>
+
+enum { SEATS = 2, READER = SEATS, PLAYERS, MOST_CALLS = 4, MOST_STEPS = 64, MOST_CORNERS = 16 };
+
+typedef struct {
+    uint32_t kind;
+    int64_t x, y;
+} request;
+
+/* What the seats ask for: corners that come and go, points inside, and a
+ * question. */
+static const request asked[SEATS][MOST_CALLS] = {
+    {{HULL_KIND_ADD, 0, 0}, {HULL_KIND_ADD, 4, 0}, {HULL_KIND_REMOVE, 0, 0}, {HULL_KIND_ADD, 1, 1}},
+    {{HULL_KIND_ADD, 0, 4}, {HULL_KIND_PLACE, 1, 1}, {HULL_KIND_ADD, 0, 0}, {HULL_KIND_REMOVE, 0, 4}},
+};
+
+/* An order of steps: who was chosen among how many, at each of them. */
+typedef struct {
+    unsigned char chosen[MOST_STEPS], width[MOST_STEPS];
+    unsigned made, at;
+} order;
+
+/* A desk in the middle of an order. */
+typedef struct {
+    hull_shared_desk *desk;
+    hull_shared_seat *seats[SEATS];
+    hull_shared_reader *reader;
+    const request *waiting[SEATS];
+    request served[SEATS * MOST_CALLS];
+    unsigned begun[SEATS], first[SEATS], taken, lines, changed, views, misses;
+    uint64_t seen;
+    int wrong;
+} world;
+
+static unsigned calls, views, misses, is_short;
+static hull_shared_line line;
+
+static int begin(world *w) {
+    memset(w, 0, sizeof *w);
+    w->desk = hull_shared_desk_new();
+    w->reader = hull_shared_reader_new();
+    int bad = w->desk == NULL || w->reader == NULL || hull_shared_admit(w->desk, 1) != HULL_ADMITTED ||
+              hull_shared_open(w->desk, HULL_LIMIT_MAX, 0, SEATS * MOST_CALLS, SEATS) != HULL_OPEN ||
+              hull_shared_lend_reader(w->desk, w->reader) != HULL_LENT;
+    for (unsigned k = 0; k < SEATS; k++) {
+        w->seats[k] = hull_shared_seat_new();
+        bad |= w->seats[k] == NULL || hull_shared_lend(w->desk, &line, w->seats[k], k) != HULL_LENT;
+    }
+    return !bad;
+}
+
+static int end(world *w) {
+    int bad = 0;
+    for (unsigned k = 0; k < SEATS; k++) {
+        bad |= hull_shared_give_back(w->desk, w->seats[k]) != HULL_RETURNED;
+        hull_shared_seat_free(w->seats[k]);
+    }
+    bad |= hull_shared_return_reader(w->desk, w->reader) != HULL_RETURNED;
+    bad |= hull_shared_close(w->desk) != HULL_CLOSED || hull_shared_end(w->desk) != HULL_ENDED;
+    hull_shared_reader_free(w->reader);
+    hull_shared_desk_free(w->desk);
+    return !bad;
+}
+
+/* The corners of a hull to which the first so many calls were made: how many.
+ */
+static size_t replayed(const world *w, uint64_t lines, hull_point *corners) {
+    hull_set *set = hull_new(HULL_LIMIT_MAX);
+    for (uint64_t i = 0; set != NULL && i < lines; i++) {
+        const request *made = &w->served[i];
+        made->kind == HULL_KIND_ADD      ? hull_add(set, made->x, made->y)
+        : made->kind == HULL_KIND_REMOVE ? hull_remove(set, made->x, made->y)
+                                         : hull_place(set, made->x, made->y);
+    }
+    const size_t count = hull_vertices(set, corners, MOST_CORNERS).number;
+    hull_free(set);
+    return count;
+}
+
+/* The reader takes a view. */
+static void step_of_reader(world *w) {
+    const hull_shared_view view = hull_shared_read(w->reader);
+    hull_point shown[MOST_CORNERS], right[MOST_CORNERS];
+    memset(shown, 0, sizeof shown);
+    memset(right, 0, sizeof right);
+    w->wrong |= view.code != HULL_VIEWED || view.lines < w->changed || view.lines > w->lines || view.lines < w->seen;
+    const size_t count = hull_shared_view_corners(w->reader, shown, MOST_CORNERS).number;
+    w->wrong |= count != replayed(w, view.lines - (is_short && view.lines > 0), right) || memcmp(shown, right, sizeof shown) != 0;
+    w->seen = view.lines;
+    w->views++;
+}
+
+/* A seat that waits looks: its call is served, which is the next line, or its
+ * number is not served yet. */
+static void look(world *w, unsigned me) {
+    const hull_shared_reply reply = hull_shared_look(w->seats[me]);
+    const uint32_t code = reply.told.code;
+    if (code == HULL_NOT_YET) {
+        w->wrong |= w->first[me] == w->lines;
+        w->misses++;
+        return;
+    }
+    w->wrong |= w->first[me] != w->lines || reply.has_line != 1 || reply.line != w->lines;
+    w->served[w->lines++] = *w->waiting[me];
+    w->waiting[me] = NULL;
+    if (code == HULL_ADDED || code == HULL_AGAIN || code == HULL_REMOVED || code == HULL_LEFT) {
+        w->changed = w->lines;
+    }
+}
+
+static void step_of_seat(world *w, unsigned me) {
+    if (w->waiting[me] != NULL) {
+        look(w, me);
+        return;
+    }
+    const request *next = &asked[me][w->begun[me]++];
+    w->wrong |= hull_shared_take(w->seats[me], next->kind, next->x, next->y).told.code != HULL_TAKEN;
+    w->first[me] = w->taken++;
+    w->waiting[me] = next;
+}
+
+static int can_step(const world *w, unsigned player) {
+    if (player == READER) {
+        return w->views < views;
+    }
+    if (w->waiting[player] == NULL) {
+        return w->begun[player] < calls;
+    }
+    return w->first[player] == w->lines || w->misses < misses;
+}
+
+/* The next choice among so many. */
+static unsigned choose(order *o, unsigned width) {
+    if (o->at == o->made) {
+        o->chosen[o->made] = 0;
+        o->width[o->made++] = (unsigned char)width;
+    }
+    return o->chosen[o->at++];
+}
+
+/* Goes on to the next order, if there is one. */
+static int advance(order *o) {
+    o->at = 0;
+    while (o->made > 0 && o->chosen[o->made - 1] + 1 == o->width[o->made - 1]) {
+        o->made--;
+    }
+    if (o->made > 0) {
+        o->chosen[o->made - 1]++;
+    }
+    return o->made > 0;
+}
+
+/* Steps in this order, to the end: whether all was right. */
+static int play(order *o) {
+    world w;
+    if (!begin(&w)) {
+        return 0;
+    }
+    for (unsigned width = 1; width > 0;) {
+        unsigned able[PLAYERS];
+        width = 0;
+        for (unsigned k = 0; k < PLAYERS; k++) {
+            if (can_step(&w, k)) {
+                able[width++] = k;
+            }
+        }
+        if (width > 0) {
+            const unsigned player = able[choose(o, width)];
+            player == READER ? step_of_reader(&w) : step_of_seat(&w, player);
+        }
+    }
+    return end(&w) && !w.wrong && w.lines == SEATS * calls;
+}
+
+int main(int words, char **word) {
+    calls = words > 3 ? (unsigned)strtoul(word[1], NULL, 10) : 0;
+    views = words > 3 ? (unsigned)strtoul(word[2], NULL, 10) : 0;
+    misses = words > 3 ? (unsigned)strtoul(word[3], NULL, 10) : 0;
+    is_short = words > 4;
+    if (calls < 1 || calls > MOST_CALLS || SEATS * 2 * calls + views + misses > MOST_STEPS) {
+        return 2;
+    }
+    order o = {{0}, {0}, 0, 0};
+    unsigned long orders = 0, wrong = 0;
+    do {
+        orders++;
+        wrong += !play(&o);
+    } while (advance(&o));
+    printf("%lu orders, %lu of them wrong\n", orders, wrong);
+    return is_short ? wrong == 0 : wrong > 0;
+}
