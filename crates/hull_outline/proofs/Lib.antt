@@ -47,3 +47,4 @@ pub mod DifferencesTold
 pub mod Casting
 pub mod Leaving
 pub mod Staying
+pub mod Nearer

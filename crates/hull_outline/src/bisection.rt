@@ -7,7 +7,7 @@ ghost use Rattle.hull_outline.specs.Touches.{starts_at, ends_at};
 use lattice::{Point, Side, before};
 
 /// A place from `low` to `high` such that `holds` is true of the edge before it and false of the edge from it: of the
-/// corners there and the next ones. The ends count as such.
+/// corners there and the next ones. The ends count as such. (A step adds and takes off, so that a test by a sign takes no branch.)
 pub(crate) fn first_failing<F: Fn(Point, Point) -> bool>(
     corners: &[Point],
     low: usize,
@@ -25,13 +25,15 @@ pub(crate) fn first_failing<F: Fn(Point, Point) -> bool>(
         → F.post holds.now (corner corners.now result) (corner corners.now (result + 1)) false }
 {
     let mut low = low;
-    let mut high = high;
-    while low < high {
-        let middle = low + (high - low) / 2;
+    let mut edges = high - low;
+    while edges > 0 {
+        let half = edges / 2;
+        let middle = low + half;
         if holds(corners[middle], corners[middle + 1]) {
-            low = middle + 1;
+            low += half + 1;
+            edges -= half + 1;
         } else {
-            high = middle;
+            edges = half;
         }
     }
     low

@@ -10,6 +10,7 @@ ghost use Rattle.hull_outline.specs.Lent.{corners_of};
 use super::bisection::{first_failing, first_failing_back};
 use super::outline::Outline;
 use super::rounds::corner_at;
+use super::short_vector::ShortVector;
 use super::vector::Vector;
 use lattice::{Direction, Point};
 
@@ -17,7 +18,7 @@ use lattice::{Direction, Point};
 pub(crate) fn is_nearer(d: Vector, p: Point, q: Point) -> bool
     ensures { IsTrue result ↔ (plane.product d p <ℤ plane.product d q) }
 {
-    d.along_step(Vector::step(p, q)) > 0
+    d.along_step(Vector::step(q, p)) < 0
 }
 
 /// The place of the first of the farthest in a direction that does not go up: of the corner up to which the lower chain rises.
@@ -28,7 +29,10 @@ fn place_below(corners: &[Point], last: usize, d: Vector) -> usize
     ensures within { result < length corners.now }
     ensures farthest { HoldsOfSetsOf corners.now (λ S. IsFirstFarthest S d (corner corners.now result)) }
 {
-    first_failing(corners, 0, last, &|p, q| is_nearer(d, p, q))
+    match ShortVector::of(d) {
+        Some(short) => first_failing(corners, 0, last, &|p, q| short.is_nearer(p, q)),
+        None => first_failing(corners, 0, last, &|p, q| is_nearer(d, p, q)),
+    }
 }
 
 /// The same in a direction that goes up: of the corner from which the upper chain falls.
@@ -39,7 +43,10 @@ fn place_above(corners: &[Point], last: usize, d: Vector) -> usize
     ensures within { result ≤ length corners.now }
     ensures farthest { HoldsOfSetsOf corners.now (λ S. IsFirstFarthest S d (corner corners.now result)) }
 {
-    first_failing_back(corners, last, &|p, q| !is_nearer(d, q, p))
+    match ShortVector::of(d) {
+        Some(short) => first_failing_back(corners, last, &|p, q| !short.is_nearer(q, p)),
+        None => first_failing_back(corners, last, &|p, q| !is_nearer(d, q, p)),
+    }
 }
 
 /// The place of the first of the points that lie farthest in a direction, which may be zero: then all lie as far. The first point may be

@@ -43,6 +43,7 @@ mod roundings;
 mod rounds;
 mod segments;
 mod separations;
+mod short_vector;
 mod sights;
 mod squares;
 mod stays;

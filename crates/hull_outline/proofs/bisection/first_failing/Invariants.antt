@@ -1,17 +1,17 @@
--- the test was true of the edge before `low`, and is false of the edge from `high`
+-- the test was true of the edge before `low`, and is false of the edge behind those that are left
 use Rattle.std.proofs.Common.{◌<◌, ◌≤◌, ◌+◌, ◌-◌, true, false}
 use Rattle.hull_outline.specs.Rounds.{corner}
 use Rattle.hull_outline.proofs.bisection.first_failing.Given as goal
 
-abbrev pub invariant-loop-low : goal.invariant-loop-low
-invariant-loop-low g l = record {
+abbrev pub invariant-loop-edges : goal.invariant-loop-edges
+invariant-loop-edges g l = record {
   from : l.fn.low ≤ l.low;
-  ordered : l.low ≤ l.high;
-  to : l.high ≤ l.fn.high;
+  to : l.low + l.edges ≤ l.fn.high;
   held : l.fn.low < l.low
       → goal.F-post g l.holds (corner l.corners (l.low - 1)) (corner l.corners (l.low - 1 + 1)) true;
-  fails : l.high < l.fn.high → goal.F-post g l.holds (corner l.corners l.high) (corner l.corners (l.high + 1)) false;
+  fails : l.low + l.edges < l.fn.high
+      → goal.F-post g l.holds (corner l.corners (l.low + l.edges)) (corner l.corners (l.low + l.edges + 1)) false;
 }
 
-abbrev pub decreases-loop-low : goal.decreases-loop-low
-decreases-loop-low g l = l.high - l.low
+abbrev pub decreases-loop-edges : goal.decreases-loop-edges
+decreases-loop-edges g l = l.edges
