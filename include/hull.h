@@ -112,22 +112,16 @@ static inline hull_reply hull_remove(hull_set *h, int64_t x, int64_t y) {
 }
 
 /* Where the point (x, y) lies: HULL_INSIDE, HULL_ON, HULL_OUTSIDE (of an empty hull, too) or HULL_OUT_OF_RANGE. */
-static inline hull_reply hull_place(const hull_set *h, int64_t x, int64_t y) {
-    return hull_ask(h, HULL_KIND_PLACE, x, y);
-}
+hull_reply hull_place(const hull_set *h, int64_t x, int64_t y);
 
 /* Which points bound the hull as it is seen from (x, y): HULL_TANGENTS, HULL_NO_TANGENT or HULL_OUT_OF_RANGE. No point lies
  * left of the line from (x, y) through the left point, nor right of the one through the right point; of several points on
  * such a line it is the farthest. */
-static inline hull_reply hull_tangents(const hull_set *h, int64_t x, int64_t y) {
-    return hull_ask(h, HULL_KIND_TANGENTS, x, y);
-}
+hull_reply hull_tangents(const hull_set *h, int64_t x, int64_t y);
 
 /* The point that lies farthest in the direction (x, y), and of several the first by x and then by y: HULL_POINT, HULL_EMPTY,
  * HULL_OUT_OF_RANGE or HULL_ZERO_DIRECTION. */
-static inline hull_reply hull_extreme(const hull_set *h, int64_t x, int64_t y) {
-    return hull_ask(h, HULL_KIND_EXTREME, x, y);
-}
+hull_reply hull_extreme(const hull_set *h, int64_t x, int64_t y);
 
 /* How often the point (x, y) is held, 0 where it is not there: HULL_NUMBER or HULL_OUT_OF_RANGE. */
 static inline hull_reply hull_multiplicity(const hull_set *h, int64_t x, int64_t y) {

@@ -13,6 +13,7 @@ ghost use Rattle.std.specs.Ptr.{lies_at, room_at};
 ghost use Rattle.hull_c.specs.contracts.hull.Hull.{the_row};
 ghost use Rattle.bucket_tree.specs.Sets.{bucket_set};
 ghost use Rattle.hull_reply.specs.Left.{leaves};
+ghost use Rattle.hull_reply.specs.Requests.{kind_number};
 ghost use Rattle.hull_reply.specs.Rooms.{room_alignment, room_size};
 ghost use Rattle.hull_reply.specs.Served.{IsAnswered};
 ghost use Rattle.hull_c.specs.Bridges.{AreBridges};
@@ -55,7 +56,7 @@ pub use held::HullHeld;
 use hull::Hull;
 use hull_outline::Length;
 pub use hull_reply::HullPoint;
-use hull_reply::HullReply;
+use hull_reply::{HullReply, Kind};
 use lattice::Point;
 pub use pairs::HullWitness;
 pub use requests::HullRequest;
@@ -74,6 +75,51 @@ pub unsafe extern "C" fn hull_call(at: *mut u8, kind: u32, x: i64, y: i64) -> Hu
 {
     let hull = at as *mut Hull;
     calls::call(unsafe { &mut *hull }, kind, x, y)
+}
+
+/// Where the point (x, y) lies: what [`hull_call`] answers of that kind, in less time.
+///
+/// # Safety
+///
+/// A hull lies at `at`, and no other call on it is under way.
+#[unsafe(no_mangle)]
+pub unsafe extern "C" fn hull_place(at: *mut u8, x: i64, y: i64) -> HullReply
+    ghost t: { the_row.Denot }
+    requires* { sem 𝓛 (lies_at the_row full_share at t) }
+    ensures* { sem 𝓛 (leaves the_row at (λ new. IsAnswered bucket_set (kind_number Kind.Place) x y t new result)) }
+{
+    let hull = at as *mut Hull;
+    calls::place(unsafe { &mut *hull }, x, y)
+}
+
+/// The tangent points seen from (x, y): what [`hull_call`] answers of that kind, in less time.
+///
+/// # Safety
+///
+/// A hull lies at `at`, and no other call on it is under way.
+#[unsafe(no_mangle)]
+pub unsafe extern "C" fn hull_tangents(at: *mut u8, x: i64, y: i64) -> HullReply
+    ghost t: { the_row.Denot }
+    requires* { sem 𝓛 (lies_at the_row full_share at t) }
+    ensures* { sem 𝓛 (leaves the_row at (λ new. IsAnswered bucket_set (kind_number Kind.Tangents) x y t new result)) }
+{
+    let hull = at as *mut Hull;
+    calls::tangents(unsafe { &mut *hull }, x, y)
+}
+
+/// The farthest point in the direction (x, y): what [`hull_call`] answers of that kind, in less time.
+///
+/// # Safety
+///
+/// A hull lies at `at`, and no other call on it is under way.
+#[unsafe(no_mangle)]
+pub unsafe extern "C" fn hull_extreme(at: *mut u8, x: i64, y: i64) -> HullReply
+    ghost t: { the_row.Denot }
+    requires* { sem 𝓛 (lies_at the_row full_share at t) }
+    ensures* { sem 𝓛 (leaves the_row at (λ new. IsAnswered bucket_set (kind_number Kind.Extreme) x y t new result)) }
+{
+    let hull = at as *mut Hull;
+    calls::extreme(unsafe { &mut *hull }, x, y)
 }
 
 /// Counts a question to come: gathers the corners of the hull, where they are not known and are few beside the questions since

@@ -109,6 +109,7 @@ impl<S: HullSet + Drop> HullSet for Settled<S> {
         }
     }
 
+    #[inline(always)]
     fn place(&self, q: Point) -> Place {
         match &self.corners {
             Corners::Known(kept) => kept.outline().place(q),
