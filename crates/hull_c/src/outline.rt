@@ -9,10 +9,8 @@ use super::load::points_of;
 use super::requests::HullRequest;
 use heap::Heap;
 use hull_outline::Outline;
-use hull_reply::{
-    Code, HullPoint, HullReply, Kind, Request, extreme_reply, request_of, tangents_reply, told,
-};
-use hull_set::{Call, Reply};
+use hull_reply::{Code, HullPoint, HullReply, Kind, Request, request_of, told};
+use hull_set::{Call, Reply, extreme_reply, tangents_reply};
 use lattice::{Direction, Point};
 
 /// Where a point lies.
@@ -53,7 +51,7 @@ fn answer(outline: &Outline, call: Call) -> HullReply
         Call::Extreme(d) => extreme(outline, d),
         Call::Area => area(outline),
         Call::Vertices => HullReply::numbered(Code::Corners, outline.corners().len() as u64),
-        _ => HullReply::bare(Code::UnknownKind),
+        Call::Add(_) | Call::Remove(_) | Call::Count => HullReply::bare(Code::UnknownKind),
     }
 }
 

@@ -6,6 +6,7 @@
 #![tactic(auto)]
 
 mod call;
+mod calling;
 mod laws;
 mod place;
 mod point_list;
@@ -14,6 +15,7 @@ mod rules;
 mod set;
 
 pub use call::Call;
+pub use calling::{apply, extreme_reply, tangents_reply};
 pub use laws::{multiplicity_limit_is_stated, point_limit_is_stated, replies_are_unique};
 pub use point_list::PointList;
 pub use reply::Reply;
