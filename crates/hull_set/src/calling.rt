@@ -1,3 +1,4 @@
+//! Calls, made on a set.
 ghost use Rattle.std.specs.Prelude.{◌≡◌};
 ghost use Rattle.hull_set.specs.Replies.{Answers, after, reply_to_extreme, reply_to_tangents};
 
