@@ -17,7 +17,6 @@ mod serving;
 pub use code::Code;
 pub use coordinates::{direction_of, point_of};
 pub use corners::{HullPoint, put_corners};
-pub use hull_set::tangents_reply;
 pub use kind::Kind;
 pub use reply::{HullReply, told};
 pub use request::{Request, request_of};
