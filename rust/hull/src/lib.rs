@@ -227,11 +227,11 @@ impl Hull {
         unsafe { raw::hull_call(self.room.as_ptr(), kind, at.x, at.y) }
     }
 
-    /// Asks what the corners answer, and has the question counted: they are gathered once questions are many beside them.
-    fn ask(&self, kind: u32, at: Point) -> Reply {
+    /// The hull, for a question that the corners answer, which is counted: they are gathered once questions are many beside them.
+    fn settled(&self) -> *mut u8 {
         // SAFETY: as in `call`.
         unsafe { raw::hull_settle(self.room.as_ptr()) };
-        self.call(kind, at)
+        self.room.as_ptr()
     }
 
     /// Holds a point once more, and tells how often it is held now: 1 where it is new.
@@ -247,18 +247,21 @@ impl Hull {
 
     /// Where a point lies.
     pub fn place(&self, point: Point) -> Result<Place, Fault> {
-        answer::place(self.ask(kind::PLACE, point))
+        // SAFETY: as in `call`.
+        answer::place(unsafe { raw::hull_place(self.settled(), point.x, point.y) })
     }
 
     /// The left and the right point that bound the hull as it is seen from `point`, of several on one line the farthest;
     /// `None` where there is no point, or the hull covers the one asked about.
     pub fn tangents(&self, point: Point) -> Result<Option<(Point, Point)>, Fault> {
-        answer::tangents(self.ask(kind::TANGENTS, point))
+        // SAFETY: as in `call`.
+        answer::tangents(unsafe { raw::hull_tangents(self.settled(), point.x, point.y) })
     }
 
     /// The point that lies farthest in a direction, of several the first by x and then by y; `None` where there is none.
     pub fn extreme(&self, direction: Point) -> Result<Option<Point>, Fault> {
-        answer::extreme(self.ask(kind::EXTREME, direction))
+        // SAFETY: as in `call`.
+        answer::extreme(unsafe { raw::hull_extreme(self.settled(), direction.x, direction.y) })
     }
 
     /// The same in a direction of two floats, taken to whole numbers by [`direction_of`]; in the direction (0, 0) the first point
@@ -274,7 +277,8 @@ impl Hull {
 
     /// Twice the area, 0 for a point and a line.
     pub fn doubled_area(&self) -> u128 {
-        let reply = self.ask(kind::AREA, NOWHERE);
+        // SAFETY: as in `call`.
+        let reply = unsafe { raw::hull_call(self.settled(), kind::AREA, NOWHERE.x, NOWHERE.y) };
         u128::from(reply.high) << 64 | u128::from(reply.number)
     }
 

@@ -266,6 +266,9 @@ extern "C" {
     pub(crate) fn hull_make(limit: u32, room: *mut u8);
     pub(crate) fn hull_end(hull: *mut u8) -> u32;
     pub(crate) fn hull_call(hull: *mut u8, kind: u32, x: i64, y: i64) -> Reply;
+    pub(crate) fn hull_place(hull: *const u8, x: i64, y: i64) -> Reply;
+    pub(crate) fn hull_tangents(hull: *const u8, x: i64, y: i64) -> Reply;
+    pub(crate) fn hull_extreme(hull: *const u8, dx: i64, dy: i64) -> Reply;
     pub(crate) fn hull_settle(hull: *mut u8) -> Reply;
     pub(crate) fn hull_limit(hull: *mut u8) -> Reply;
     pub(crate) fn hull_clear(hull: *mut u8) -> Reply;
