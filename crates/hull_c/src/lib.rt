@@ -2,9 +2,10 @@
 //! `include/hull.h`.
 //!
 //! A hull lies in room that the caller gives. Changes and questions are one export, [`hull_call`], by their kind; the
-//! header has a function for each over it. An export lends the hull at the pointer to one plain function (`calls.rt`,
-//! `corners.rt`, `requests.rt`) and gives back its reply: what it promises is that function's contract. Its walk
-//! (`proofs/hull_*/Proof.antt`) shows that it lends the hull and takes it back.
+//! header has a function for each over it, but for the three questions that are asked most, which are exports of their own.
+//! An export lends the hull at the pointer to one plain function (`calls.rt`, `corners.rt`, `requests.rt`) and gives back its
+//! reply: what it promises is that function's contract. Its walk (`proofs/hull_*/Proof.antt`) shows that it lends the hull and
+//! takes it back.
 #![tactic(auto)]
 
 ghost use Rattle.std.specs.Prelude.{◌≡◌};
