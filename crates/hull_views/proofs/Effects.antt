@@ -3,7 +3,6 @@ use Rattle.std.proofs.Common.{◌≡◌, refl}
 use Rattle.lattice.specs.Plane.{Pair}
 use Rattle.hull_set.specs.Held.{Held}
 use Rattle.hull_set.specs.Replies.{after, after_add, after_remove}
-use Rattle.hull_set.specs.declared.call.Call.{Call}
 use Rattle.hull_set.specs.declared.call.Call.TheVariants.{Add, Remove}
 use Rattle.hull_set.specs.declared.reply.Reply.{Reply}
 use Rattle.hull_set.specs.declared.reply.Reply.TheVariants.{Added, Again, Left, Removed}

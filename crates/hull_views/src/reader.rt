@@ -18,6 +18,8 @@ pub struct Reader {
     hall: Arc<Hall<Corners>>,
     told: Told,
     view: Option<View<Corners>>,
+    number: u64,
+    ghost counted: { number ≡ length (lines_shown view) },
     ghost own: { IsToldOf (arc_value hall) told },
     ghost of_hall: { ∥ IfSome view (λ v. IsOfHall (arc_value hall) v) ∥₁ },
     ghost told_of: { length (lines_shown view) ≤ told_number told },
@@ -35,10 +37,11 @@ impl Reader {
             hall,
             told,
             view: None,
+            number: 0,
         }
     }
 
-    /// Whether the view that is held is the newest one: one load.
+    /// Whether the view that is held is the newest one: one load of what threads share.
     pub fn is_newest(&mut self) -> bool
         ensures same { IsAt self.old self.new }
         ensures newest { MatchBool result (length (lines_at self.new) ≡ newest_told self.new)
@@ -60,6 +63,7 @@ impl Reader {
         }
         match self.hall.view(&mut self.told) {
             Some(view) => {
+                self.number = view.number();
                 self.view = Some(view);
                 true
             }
@@ -71,10 +75,7 @@ impl Reader {
     pub fn line_count(&self) -> u64
         ensures { result ≡ length (lines_at self.now) }
     {
-        match &self.view {
-            Some(view) => view.number(),
-            None => 0,
-        }
+        self.number
     }
 
     /// The corners behind those lines.
