@@ -128,12 +128,13 @@ public:
     Looks() : Shared(most_threads) {}
     unsigned long ask(unsigned me, const std::atomic<bool> &stops, Points points) override {
         std::vector<hull_point> corners(1 << 12);
-        hull_shared_view view = hull_shared_read(readers_[me]);
-        hull_shared_view_corners(readers_[me], corners.data(), corners.size());
+        hull_shared_reader *const reader = readers_[me];
+        hull_shared_view view = hull_shared_read(reader);
+        hull_shared_view_corners(reader, corners.data(), corners.size());
         return asked(stops, points, [&](std::int64_t x, std::int64_t y) {
-            if (hull_shared_is_newest(readers_[me]) == 0) {
-                view = hull_shared_read(readers_[me]);
-                hull_shared_view_corners(readers_[me], corners.data(), corners.size());
+            if (hull_shared_is_newest(reader) == 0) {
+                view = hull_shared_read(reader);
+                hull_shared_view_corners(reader, corners.data(), corners.size());
             }
             return hull_outline_place(corners.data(), view.count, x, y).code;
         });

@@ -30,6 +30,10 @@ for round in 1 2 3 4; do
     done
 done
 "$room/mixed_rust" "$@"
-c++ -std=c++20 -O2 -I"$room/include" "$here/readers.cpp" -L"$room/lib" -lhull -lhull_shared -lpthread -o "$room/readers"
+# branches across 32 bytes are slow on some processors: where the assembler can keep them within, no row has the luck of its place
+flags=-Wa,-mbranches-within-32B-boundaries
+echo 'int main() { return 0; }' | c++ -x c++ $flags -o "$room/flags" - 2>"$room/told" || flags=
+# shellcheck disable=SC2086 # no flag, or one
+c++ -std=c++20 -O2 $flags -I"$room/include" "$here/readers.cpp" -L"$room/lib" -lhull -lhull_shared -lpthread -o "$room/readers"
 "$room/readers" 1000
 "$room/readers" 100000
