@@ -104,7 +104,11 @@ fn put_away(desk: Desk, room: SharedSeat, reader: SharedReader) {
     let _returned = return_reader(&mut desk, &mut reader);
     let _closed = close(&mut desk);
     let _ended = end(&mut desk);
-    let (Desk::Fresh(_), SharedSeat::Vacant, SharedReader::Vacant) = (desk, room, reader) else {
+    let Desk::Fresh(_) = desk else { unreachable!() };
+    let SharedSeat::Vacant = room else {
+        unreachable!()
+    };
+    let SharedReader::Vacant = reader else {
         unreachable!()
     };
 }
