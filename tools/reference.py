@@ -4,8 +4,8 @@ beside each library that has a caller in `callers` the page CALLING.md, which sh
 
     tools/reference.py [--write]
 
-Without --write it tells what would change; the last line is 'N passed, M failed'. A definition is one that other crates can name: `pub`
-at the head of a line of specs/, with the comment above it. What a comment says stands once, there.
+Without --write it tells what would change, and what of docs/ is longer than it may be; the last line is 'N passed, M failed'. A definition
+is one that other crates can name: `pub` at the head of a line of specs/, with the comment above it. What a comment says stands once, there.
 """
 import os
 import re
@@ -41,6 +41,13 @@ As it stands in `{path}`, and proved. What each function asks and ensures stands
 
 `tools/reference.py --write` writes this page.
 """
+# how many words of docs/ may be written by hand, and how many a part of a page may have: what a part is, and where one ends
+BY_HAND = 24000
+PARTS = {
+    "docs/PROVED.md": ("a cell", 60, r"\||(?m:^(?!\|).*\n)"),
+    "docs/DECISIONS.md": ("a decision", 120, r"\n\n(?=\*\*|#)"),
+    "docs/ARCHITECTURE.md": ("a sentence", 35, r"(?<=[.:;])\s+(?=[A-Z`*])|\n\n|\n *(?:- |\d+\. )|\|"),
+}
 FILES = """## Each file of lemmas
 
 What the file's first line says. `tools/reference.py --write` writes this part.
@@ -154,6 +161,23 @@ def pages():
         yield f"crates/{name}/CALLING.md", calling(name, path)
 
 
+def by_hand(page):
+    """What of a page is written by hand."""
+    return "" if page == "docs/DEFINITIONS.md" else kit.text_of(f"{kit.TOP}/{page}").partition("## Each file of lemmas")[0]
+
+
+def too_long():
+    """What of docs/ is longer than it may be, a line each."""
+    pages = [f"docs/{it}" for it in kit.files_below(f"{kit.TOP}/docs") if it.endswith(".md")]
+    count = sum(len(by_hand(it).split()) for it in pages)
+    if count > BY_HAND:
+        yield f"docs: FAILED, {count} words are written by hand, and {BY_HAND} may be"
+    for page, (what, most, end) in PARTS.items():
+        for part in re.split(end, by_hand(page)):
+            if len(part.split()) > most:
+                yield f"{page}: FAILED, {what} has {len(part.split())} words of {most}: {' '.join(part.split()[:8])}"
+
+
 def main(words):
     if words not in ([], ["--write"]):
         print(__doc__, file=sys.stderr)
@@ -167,6 +191,9 @@ def main(words):
         passed, failed = passed + same, failed + (not same)
         if not same:
             print(f"{page}: FAILED, it is not what the comments and callers say: tools/reference.py --write")
+    long = [*too_long()]
+    print("".join(f"{it}\n" for it in long), end="")
+    passed, failed = passed + (not long), failed + len(long)
     print(f"{passed} passed, {failed} failed")
     return 1 if failed else 0
 

@@ -19,14 +19,6 @@ not_under r z f e h = omega (arith, ints)
 pub is_under : (r z : ℤ) → IsWithin widest_side r → r ≡ z → le_z (pos 0) (to_z w128 (of_z w128 r)) ≡ false → z <ℤ pos 0
 is_under r z f e h = omega (arith, ints)
 
--- a test that passed says what it stands for
-pub passed : (r : Bool) (P : Type 0) → r ≡ true → (IsTrue r ↔ P) → P
-passed r P e h = h.0 e
-
--- a test that failed says that it does not hold
-pub failed : (r : Bool) (P : Type 0) → r ≡ false → (IsTrue r ↔ P) → P → ⊥
-failed r P e h p = let t : r ≡ true = h.1 p in cc
-
 -- a crossing told by its two sides, which the program cast
 pub crossing_told : (r : Bool) (s t : ℤ) (a b c d m : Pair) → IsWithin widest_side s → IsWithin widest_side t
     → s ≡ orient a b c → t ≡ orient b a d

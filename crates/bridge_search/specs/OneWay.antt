@@ -1,42 +1,19 @@
 -- A bridged half is so in one way: what a ghost field asks.
-use Rattle.std.specs.Prelude.{◌≡◌, ℤ, ◌≤ℤ◌, ◌<ℤ◌, ◌⊎◌}
-use Rattle.std.proofs.Common.{ap, arith, inl, inr}
 use lib.IntN.{ℤ_set}
-use lib.Dec.{T_prop}
-use Rattle.lattice.specs.Plane.{Pair, IsBefore}
+use Rattle.lattice.specs.Plane.{Pair}
 use Rattle.lattice.specs.Bridges.{IsAllBefore, IsUpperBridge, IsLowerBridge}
+use Rattle.lattice.specs.OneWay.{either_prop, le_prop, before_prop}
 use Rattle.bridge_search.specs.Trees.{Tree, Leaf, Fork, On, IsBridged}
 use Rattle.bridge_search.specs.Near.{IsAllNear}
 use Rattle.lattice.proofs.Order.{before_irrefl}
-use Rattle.lattice.specs.Integers.{linear}
-
--- a choice of two facts that exclude each other has one proof, where each has one
-either_prop : {A B : Type 0} → IsProp A → IsProp B → (A → B → ⊥) → IsProp (A ⊎ B)
-either_prop pa pb n (inl x) (inl y) = ap inl (pa x y)
-either_prop pa pb n (inl x) (inr y) = absurd (n x y)
-either_prop pa pb n (inr x) (inl y) = absurd (n y x)
-either_prop pa pb n (inr x) (inr y) = ap inr (pb x y)
 
 -- enough to show it where there is one
 given : {A : Type 0} → (A → IsProp A) → IsProp A
 given f x y = f x x y
 
--- a comparison of whole numbers has one proof
-le_prop : (a b : ℤ) → IsProp (a ≤ℤ b)
-le_prop a b = hlevel T_prop
-
--- and so has a strict one
-lt_prop : (a b : ℤ) → IsProp (a <ℤ b)
-lt_prop a b = hlevel T_prop
-
 -- that two points are the same has one proof
 pub point_set : IsSet Pair
 point_set = hlevel ℤ_set
-
--- that a point stands before another has one proof
-before_prop : (p q : Pair) → IsProp (IsBefore p q)
-before_prop p q = either_prop (lt_prop p.x q.x) (let e : IsProp (p.x ≡ q.x) = ℤ_set p.x q.x in hlevel (e, lt_prop))
-    (λ h k. omega (arith, linear))
 
 -- that one set stands before another has one proof
 all_before_prop : (l r : Pair → Type 0) → IsProp (IsAllBefore l r)

@@ -21,10 +21,6 @@ pub record IsOfMarks (marks : List Mark) (frame : Frame) : Type 0 where
   pub top : IsMarked marks frame.top
   pub bottom : IsMarked marks frame.bottom
 
--- at most, over two steps
-pub le_via : (a b c : ℤ) → a ≤ℤ b → b ≤ℤ c → a ≤ℤ c
-le_via a b c p q = omega (arith, ints)
-
 -- a frame that was widened holds one mark more
 pub holds_more : (marks : List Mark) (i : ℕ) (m : Mark) (f g : Frame) → i < length marks → m ≡ get_or marks i m
     → Widens f m.point g → Holds f (take i marks) → Holds g (take (i + 1) marks)

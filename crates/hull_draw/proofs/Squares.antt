@@ -38,6 +38,7 @@ use Rattle.hull_draw.specs.Frames.{extent_of, from_left, from_top}
 use Rattle.hull_draw.specs.Replays.{Ends}
 use Rattle.hull_draw.specs.Scenes.{SceneValue, IsScene}
 use Rattle.hull_draw.specs.Squares.{found_points, IsShownInSquare, AreShownInSquare, AreShownIn}
+use Rattle.hull_geometry.proofs.PointLists.{all_of}
 
 -- a unit of the picture goes as often into n as into what n is at most
 fewer_units : (n whole unit : ℕ) → 0 < unit → n ≤ whole → n / unit ≤ whole / unit
@@ -225,10 +226,6 @@ all_marked P (m ∷ ms) h =
     All-cons (λ (m : Mark). P m.point) m ms (All-head P m.point (map (λ (m : Mark). m.point) ms) h)
     (all_marked P ms (All-tail P m.point (map (λ (m : Mark). m.point) ms) h))
 
--- what holds of each member holds of all
-all_members : (P : Pair → Type 0) (S : List Pair) → ((p : Pair) → Contains S p → P p) → All P S
-all_members P S h = λ k d l. h _ (Contains-get_or S k d l)
-
 -- where no point is live nothing is marked
 no_marks : (marks : List Mark) (S : List Pair) → map (λ (m : Mark). m.point) marks ≡ S
     → ((p : Pair) → ¬ Contains S p) → marks ≡ []
@@ -332,8 +329,8 @@ shot_in_square journal size n frame before line scene upto fits square shot =
     (subst (λ (ls : List Line). IsMarked (called_marks ls) p) (sym upto) m)) in record {
       marks = all_marked (IsInSquare frame) scene.marks
           (subst (All (IsInSquare frame)) (sym shot.shows.marks.points)
-          (all_members (IsInSquare frame) (held_by shot.root).points live));
-      corners = all_members (IsInSquare frame) scene.corners (λ p m. live p ((shot.shows.corners.members p).0 m).0);
+          (all_of (IsInSquare frame) (held_by shot.root).points live));
+      corners = all_of (IsInSquare frame) scene.corners (λ p m. live p ((shot.shows.corners.members p).0 m).0);
       asked = λ p e. named p (last_called before line p e);
       found = λ right k d l. named _ (found_called journal size before line scene shot right upto k d l);
     }

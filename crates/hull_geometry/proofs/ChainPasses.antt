@@ -13,11 +13,12 @@ use Rattle.lattice.specs.Turns.{turn}
 use Rattle.lattice.specs.declared.side.Side.{Side}
 use Rattle.lattice.specs.declared.side.Side.TheVariants.{Lower, Upper}
 use Rattle.hull_geometry.proofs.ChangedSets.{set-insert}
-use Rattle.hull_geometry.proofs.Orientation.{orient_swap, orient-cycle, orient_other}
+use Rattle.hull_geometry.proofs.Orientation.{orient_swap, orient-cycle}
 use Rattle.hull_geometry.proofs.PointSets.{set_right}
 use Rattle.hull_geometry.proofs.PointLists.{AllPairs-cons, AllPairs-head, AllPairs-tail, all_append_right, left_part}
 use Rattle.hull_geometry.proofs.PointLists.{right_part, append_none, append_twice}
 use Rattle.hull_geometry.proofs.SameSide.{side_trans}
+use Rattle.lattice.proofs.LineCrossings.{orient_other}
 
 -- three points in the order, of which the middle one does not lie outwards: it lies inwards of the segment of the
 -- others

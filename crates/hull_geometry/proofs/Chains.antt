@@ -17,7 +17,7 @@ use Rattle.lattice.proofs.Order.{before_apart, after_apart}
 use Rattle.lattice.specs.declared.side.Side.{Side}
 use Rattle.lattice.specs.declared.side.Side.TheVariants.{Lower, Upper}
 use Rattle.hull_geometry.proofs.Along.{along_total, along_not, along_equal}
-use Rattle.hull_geometry.proofs.Orientation.{orient_swap, orient-cycle, at_least}
+use Rattle.hull_geometry.proofs.Orientation.{orient_swap, at_least, orient-cycle}
 use Rattle.hull_geometry.proofs.PointLists.{later}
 use Rattle.hull_geometry.proofs.Separators.{across, corner_apart}
 

@@ -6,7 +6,7 @@ use Rattle.lattice.specs.Covers.{IsBetween, IsOnSegment, Covers, OnSegment, InTr
 use Rattle.lattice.specs.Plane.{Pair, orient, IsBefore}
 use Rattle.lattice.specs.Signs.{le_or_lt}
 use Rattle.lattice.proofs.Vectors.{minus, opp, cross, Ahead, cross-opp_left, cross-opp_right, cross-opp, turn_trans}
-use Rattle.hull_geometry.proofs.Orientation.{orient_swap, orient-cycle, orient-sum, at_least, ahead_of, behind_of, turned}
+use Rattle.hull_geometry.proofs.Orientation.{orient_swap, orient-sum, at_least, ahead_of, behind_of, turned, orient-cycle}
 use Rattle.hull_geometry.proofs.Orientation.{along}
 
 -- q between a and b in the order is between them in x

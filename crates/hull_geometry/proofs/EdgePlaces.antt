@@ -9,7 +9,7 @@ use Rattle.lattice.specs.Vertices.{IsLeftOf}
 use Rattle.hull_geometry.specs.Edges.{IsLowerEdge, IsUpperEdge}
 use Rattle.hull_geometry.proofs.CoveredByEdges.{covered_by_edges}
 use Rattle.hull_geometry.proofs.NotCovered.{Separated, not_covered}
-use Rattle.hull_geometry.proofs.Orientation.{orient-cycle, at_least, above}
+use Rattle.hull_geometry.proofs.Orientation.{at_least, above, orient-cycle}
 use Rattle.hull_geometry.proofs.Separators.{across, product-right, across_nonzero}
 use Rattle.hull_geometry.proofs.Surrounded.{not_on}
 

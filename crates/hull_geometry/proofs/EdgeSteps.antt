@@ -24,7 +24,7 @@ length_above w (inl h) = let a = square_above w.x h in let b = square_nn w.y in 
 length_above w (inr h) = let a = square_above w.y h.1 in let b = square_nn w.x in omega (arith, ints)
 
 -- the product of two numbers not above 0
-product_same : (x y : ℤ) → x ≤ℤ pos 0 → y ≤ℤ pos 0 → pos 0 ≤ℤ (x *ℤ y)
+pub product_same : (x y : ℤ) → x ≤ℤ pos 0 → y ≤ℤ pos 0 → pos 0 ≤ℤ (x *ℤ y)
 product_same (pos zero) y h k = omega (arith, ints)
 product_same (pos (suc n)) y h k = absurd (omega (arith, ints))
 product_same (negsuc m) (pos zero) h k = omega (arith, ints)

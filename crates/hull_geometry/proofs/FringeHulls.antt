@@ -1,5 +1,5 @@
 -- A fringe of a set on both sides has the hull of the set.
-use Rattle.std.proofs.Common.{◌≡◌, ℤ, pos, ◌+ℤ◌, ◌-ℤ◌, ◌*ℤ◌, ◌≤ℤ◌, ◌<ℤ◌, neg_ℤ, ◌⊎◌, inl, inr, sym, ap, ◌∙◌}
+use Rattle.std.proofs.Common.{◌≡◌, ℤ, pos, ◌-ℤ◌, ◌*ℤ◌, ◌≤ℤ◌, ◌<ℤ◌, neg_ℤ, ◌⊎◌, inl, inr, sym, ap, ◌∙◌}
 use Rattle.std.proofs.Common.{subst, List, [], ◌∷◌, arith}
 use Rattle.std.specs.Prelude.{◌↔◌, ◌≢◌}
 use Rattle.std.specs.List.{Contains}
@@ -28,11 +28,13 @@ use Rattle.hull_geometry.proofs.CoveredByEdges.{covered_by_edges}
 use Rattle.hull_geometry.proofs.Decided.{covers_or_separated}
 use Rattle.hull_geometry.proofs.EdgeSteps.{past_farther, past_farther_back}
 use Rattle.hull_geometry.proofs.NotCovered.{Separated, not_covered}
-use Rattle.hull_geometry.proofs.Orientation.{orient-cross, orient-cycle, orient_other, ahead_of, behind_of, at_least}
+use Rattle.hull_geometry.proofs.Orientation.{orient-cross, ahead_of, behind_of, at_least, orient-cycle}
 use Rattle.hull_geometry.proofs.PointLists.{all_of}
 use Rattle.hull_geometry.proofs.Separators.{across, product-right}
 use Rattle.hull_geometry.proofs.SetLaws.{members_without, ordered_without}
 use Rattle.hull_geometry.proofs.Slopes.{stays, goes, drops, product-step}
+use Rattle.lattice.proofs.LineCrossings.{orient_other}
+use Rattle.hull_geometry.proofs.Surrounded.{product-level}
 
 -- ---- what stands inwards of a segment, in a direction
 
@@ -75,11 +77,6 @@ overtaken_facing side d a b t faces back k =
 
     equal : (x y : ℤ) → x ≡ y → y ≤ℤ x
     equal x y e = omega (arith, ints)
-
--- how far a vector goes in a direction that is level
-product-level : (d w : Pair) → d.y ≡ pos 0 → product d w ≡ d.x *ℤ w.x
-unfolding product
-product-level d w e = ap (λ (z : ℤ). d.x *ℤ w.x +ℤ z *ℤ w.y) e ∙ omega (arith, ints)
 
 -- in a level direction to the right what stands later lies no less far
 level_right : (d p q : Pair) → d.y ≡ pos 0 → pos 0 ≤ℤ d.x → IsBefore p q → product d p ≤ℤ product d q
@@ -176,7 +173,7 @@ beyond : (x y z a b : ℤ) → x -ℤ y ≡ a → x -ℤ z ≡ b → b ≡ pos 0
 beyond x y z a b e f g h k = omega (arith, ints)
 
 -- what covers stays covered by more points
-covers_more : (T U : List Pair) (q : Pair) → ((t : Pair) → Contains T t → Contains U t) → Covers T q → Covers U q
+pub covers_more : (T U : List Pair) (q : Pair) → ((t : Pair) → Contains T t → Contains U t) → Covers T q → Covers U q
 covers_more T U q f (Member m) = Member (f q m)
 covers_more T U q f (OnSegment a b ma mb h) = OnSegment a b (f a ma) (f b mb) h
 covers_more T U q f (InTriangle a b c ma mb mc h) = InTriangle a b c (f a ma) (f b mb) (f c mc) h

@@ -16,8 +16,9 @@ use Rattle.hull_geometry.specs.Fringes.{UnderAnEdgeIsInner, IsFringe, BridgeIsOf
 use Rattle.hull_geometry.specs.Fringes.{BridgeEndsAtWhatCame}
 use Rattle.hull_geometry.specs.Monotone.{IsInwards, IsInnerFrom, IsChainOf}
 use Rattle.hull_geometry.specs.Monotone as monotone
-use Rattle.hull_geometry.proofs.Orientation.{orient_other}
 use Rattle.hull_geometry.proofs.Turns.{stays_outwards, stays_first, stays_second, turn_at_start, turn_at_end}
+use Rattle.lattice.proofs.LineCrossings.{orient_other}
+use Rattle.hull_geometry.proofs.Touching.{straight}
 
 -- ---- inner to an edge, by turns
 
@@ -35,11 +36,6 @@ from_turn Upper u v t h = np_opposite _ _ (orient_other v u t) h
 to_none : (side : Side) (u v t : Pair) → orient u v t ≡ pos 0 → turn side u v t ≡ pos 0
 to_none Lower u v t e = e
 to_none Upper u v t e = zero_opposite _ _ (orient_other u v t) e
-
--- and back
-from_none : (side : Side) (u v t : Pair) → turn side u v t ≡ pos 0 → orient u v t ≡ pos 0
-from_none Lower u v t e = e
-from_none Upper u v t e = zero_opposite _ _ (orient_other v u t) e
 
 -- no turn is not inwards
 at_most : (x : ℤ) → x ≡ pos 0 → x ≤ℤ pos 0
@@ -71,14 +67,14 @@ end_inner side u v uv = (
 -- what stands before the start of an edge to which it is inner lies strictly inwards of its line
 strictly_before : (side : Side) (u v a : Pair) → IsBefore a u → IsInnerToEdge side u v a → pos 0 <ℤ turn side u v a
 strictly_before side u v a au h = elim (le_or_lt (turn side u v a) (pos 0)) [
-  | inl k ↦ absurd ((h.1 (from_none side u v a (zero_between _ (to_turn side u v a h.0) k))).0 au)
+  | inl k ↦ absurd ((h.1 (straight side u v a (zero_between _ (to_turn side u v a h.0) k))).0 au)
   | inr k ↦ k
 ]
 
 -- and what stands after its end
 strictly_after : (side : Side) (u v b : Pair) → IsBefore v b → IsInnerToEdge side u v b → pos 0 <ℤ turn side u v b
 strictly_after side u v b vb h = elim (le_or_lt (turn side u v b) (pos 0)) [
-  | inl k ↦ absurd ((h.1 (from_none side u v b (zero_between _ (to_turn side u v b h.0) k))).1 vb)
+  | inl k ↦ absurd ((h.1 (straight side u v b (zero_between _ (to_turn side u v b h.0) k))).1 vb)
   | inr k ↦ k
 ]
 

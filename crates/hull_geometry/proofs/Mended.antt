@@ -34,10 +34,7 @@ use Rattle.hull_geometry.proofs.Passes.{inner_across, member_inner, ends_take, e
 use Rattle.hull_geometry.proofs.PointLists.{AllPairs-head, append_twice, append_none, get_or_free, later, cut}
 use Rattle.hull_geometry.proofs.SetLaws.{members_with, members_without}
 use Rattle.hull_geometry.proofs.Turns.{turn_swap, inwards_from, inwards_to}
-
--- a number above 0 is at least 0
-weak : (x : ℤ) → pos 0 <ℤ x → pos 0 ≤ℤ x
-weak x h = omega (arith, ints)
+use Rattle.lattice.proofs.Numbers.{nn_above}
 
 -- the negation of a number at most 0
 not_below : (x y : ℤ) → y ≡ neg_ℤ x → x ≤ℤ pos 0 → pos 0 ≤ℤ y
@@ -152,11 +149,11 @@ split side xs d p y rest u e dp py h (du, uy, k) =
     let dy : IsBefore d y = before_trans d p y dp py in
     elim (before_total u p) [
       | inl up ↦ inner_left side (xs ++ p ∷ []) (y ∷ rest) u
-          (inner_across side xs d p [] u e (du, up, weak _ (inwards_from side d p y u dp dy du h k)))
+          (inner_across side xs d p [] u e (du, up, nn_above _ (inwards_from side d p y u dp dy du h k)))
       | inr (inl z) ↦ inner_left side (xs ++ p ∷ []) (y ∷ rest) u
           (inner_right side xs (p ∷ []) u (inl z))
       | inr (inr pu) ↦ inner_across side (xs ++ p ∷ []) p y rest u (ends_right p xs (p ∷ []) refl)
-          (pu, uy, weak _ (inwards_to side d p y u py dy uy h k))
+          (pu, uy, nn_above _ (inwards_to side d p y u py dy uy h k))
     ]
 
 -- what was inner to the chain is inner to the points before p, p and the points after it

@@ -10,7 +10,7 @@ use Rattle.lattice.specs.Polynomials.{difference-pos, difference_rules}
 use Rattle.lattice.specs.Signs.{product_nn, cancel_zero, product_np}
 use Rattle.lattice.proofs.Vectors.{as_pair, minus, opp, cross}
 use Rattle.lattice.proofs.Numbers.{above_by_less}
-use Rattle.hull_geometry.proofs.Orientation.{orient-cycle, orient-sum, product-minus, at_least, above}
+use Rattle.hull_geometry.proofs.Orientation.{orient-sum, product-minus, at_least, above, orient-cycle}
 
 -- in some direction q lies farther than all of S
 abbrev pub Separated : List Pair → Pair → Type 0

@@ -20,12 +20,6 @@ orient_swap q u v = cross_swap (minus u q) (minus v q)
 pub orient_swap_zero : (q u v : Pair) → orient q u v ≡ pos 0 → orient q v u ≡ pos 0
 orient_swap_zero q u v e = orient_swap q v u ∙ ap neg_ℤ e
 
--- the line from the other end
-pub orient_other : (q l t : Pair) → orient l q t ≡ neg_ℤ (orient q l t)
-unfolding orient
-orient_other q l t =
-    rw (as_pair q, as_pair l, as_pair t) (simp difference_rules (difference-eq _ _ _ _ (omega arith)))
-
 -- the three points turned round keep the side
 pub orient-cycle : (a b q : Pair) → orient a b q ≡ orient q a b
 unfolding orient

@@ -94,7 +94,7 @@ member_inner side (x ∷ xs) u (suc k, l, e) =
 -- ---- ends
 
 -- the end of two lists in a row, behind a point
-end_from : (x : Pair) (xs : List Pair) (y : Pair) (rest : List Pair) → end_of x (xs ++ y ∷ rest) ≡ end_of y rest
+pub end_from : (x : Pair) (xs : List Pair) (y : Pair) (rest : List Pair) → end_of x (xs ++ y ∷ rest) ≡ end_of y rest
 end_from x [] y rest = refl
 end_from x (z ∷ zs) y rest = end_from z zs y rest
 

@@ -14,7 +14,7 @@ use Rattle.hull_geometry.specs.Positions.{origin, point_at}
 use Rattle.hull_geometry.proofs.Chains.{first_extreme}
 use Rattle.lattice.proofs.Order.{before_irrefl, before_not}
 use Rattle.lattice.proofs.Numbers.{nn_zero}
-use Rattle.hull_geometry.proofs.Orientation.{orient-cycle, at_least}
+use Rattle.hull_geometry.proofs.Orientation.{at_least, orient-cycle}
 use Rattle.lattice.proofs.LineCrossings.{orient_start}
 use Rattle.hull_geometry.proofs.PointLists.{AllPairs-cons, AllPairs-none, get_or_free, only_member}
 

@@ -14,8 +14,8 @@ use Rattle.hull_geometry.specs.Monotone.{IsChainOf}
 use Rattle.hull_geometry.specs.Runs.{opposite, RunsHaveTheirBridge}
 use Rattle.hull_geometry.proofs.FringeChains.{corner_outwards}
 use Rattle.hull_geometry.proofs.Fringed.{strictly_inner, start_inner, end_inner}
-use Rattle.hull_geometry.proofs.Orientation.{orient_other}
 use Rattle.hull_geometry.proofs.Turns.{turn_cycle, turn_swap}
+use Rattle.lattice.proofs.LineCrossings.{orient_other}
 
 -- a turn seen from the other side
 turn_opposite : (side : Side) (a b t : Pair) → turn (opposite side) a b t ≡ neg_ℤ (turn side a b t)

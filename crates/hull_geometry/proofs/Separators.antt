@@ -13,7 +13,7 @@ use Rattle.hull_geometry.specs.Edges.{IsAlong}
 use Rattle.hull_geometry.proofs.Turns.{turns_on, turns_back}
 use Rattle.hull_geometry.proofs.NotCovered.{Separated}
 use Rattle.lattice.proofs.Order.{couple}
-use Rattle.hull_geometry.proofs.Orientation.{product-minus, orient-cycle, at_least, above}
+use Rattle.hull_geometry.proofs.Orientation.{product-minus, at_least, above, orient-cycle}
 
 -- a difference above 0
 less : (a b c : ℤ) → a ≡ c -ℤ b → pos 0 <ℤ a → b <ℤ c

@@ -108,7 +108,7 @@ goes side d p q t faces pq tq o f =
     ]
 
 -- how far a vector goes the other way
-product-opp : (d w : Pair) → product (opp d) w ≡ neg_ℤ (product d w)
+pub product-opp : (d w : Pair) → product (opp d) w ≡ neg_ℤ (product d w)
 unfolding product
 product-opp d w = rw (as_pair d, as_pair w) (simp difference_rules (difference-eq _ _ _ _ (omega arith)))
 

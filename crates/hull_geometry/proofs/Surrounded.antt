@@ -36,15 +36,15 @@ behind_np u (inl h) = omega (arith, ints)
 behind_np u (inr h) = omega (arith, ints, h.0)
 
 -- the product with a level vector
-level : (f a : Pair) → f.y ≡ pos 0 → product f a ≡ f.x *ℤ a.x
+pub product-level : (f a : Pair) → f.y ≡ pos 0 → product f a ≡ f.x *ℤ a.x
 unfolding product
-level f a e = ap (λ (z : ℤ). f.x *ℤ a.x +ℤ z *ℤ a.y) e ∙ omega (arith, ints)
+product-level f a e = ap (λ (z : ℤ). f.x *ℤ a.x +ℤ z *ℤ a.y) e ∙ omega (arith, ints)
 
 -- a level functional above 0 that does not put a vector behind below 0: that vector stands straight down
 straight : (f u : Pair) → Ahead (opp u) → f.y ≡ pos 0 → pos 0 <ℤ f.x → pos 0 ≤ℤ product f u
     → (u.x ≡ pos 0) × (u.y <ℤ pos 0)
 straight f u (inl h) e hf hu =
-    absurd (let p : (f.x *ℤ u.x) <ℤ pos 0 = product_pn f.x u.x hf (omega (arith, ints)) in let e = level f u e in
+    absurd (let p : (f.x *ℤ u.x) <ℤ pos 0 = product_pn f.x u.x hf (omega (arith, ints)) in let e = product-level f u e in
     omega (arith, ints))
 straight f u (inr h) e hf hu = (omega (arith, ints, h.0), omega (arith, ints, h.1))
 
@@ -52,7 +52,7 @@ straight f u (inr h) e hf hu = (omega (arith, ints, h.0), omega (arith, ints, h.
 straight_up : (f u : Pair) → Ahead u → f.y ≡ pos 0 → f.x <ℤ pos 0 → pos 0 ≤ℤ product f u
     → (u.x ≡ pos 0) × (pos 0 <ℤ u.y)
 straight_up f u (inl h) e hf hu =
-    absurd (let p : (u.x *ℤ f.x) <ℤ pos 0 = product_pn u.x f.x h hf in let e = level f u e in omega (arith, ints))
+    absurd (let p : (u.x *ℤ f.x) <ℤ pos 0 = product_pn u.x f.x h hf in let e = product-level f u e in omega (arith, ints))
 straight_up f u (inr h) e hf hu = h
 
 -- no left turn to a vector straight down

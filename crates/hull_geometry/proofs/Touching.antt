@@ -15,11 +15,12 @@ use Rattle.hull_geometry.specs.Sights.{IsClear}
 use Rattle.hull_geometry.specs.Tangents.{IsNoMore, IsTangent, IsLeftTangent, IsRightTangent}
 use Rattle.hull_geometry.specs.declared.hand.Hand.TheVariants.{Left}
 use Rattle.hull_geometry.proofs.EdgeSteps.{past_farther, past_farther_back}
-use Rattle.hull_geometry.proofs.Orientation.{orient_other, orient_swap_zero, above}
+use Rattle.hull_geometry.proofs.Orientation.{orient_swap_zero, above}
 use Rattle.hull_geometry.proofs.PointLists.{all_of}
 use Rattle.hull_geometry.proofs.Supports.{IsSupport, lower_support, upper_support}
 use Rattle.hull_geometry.proofs.Turns.{turn_cycle, turn_swap, turn_at_start, turn_at_end, turns_on, turns_back}
 use Rattle.hull_geometry.proofs.Turns.{fans_from, fans_to}
+use Rattle.lattice.proofs.LineCrossings.{orient_other}
 
 -- t is not outwards of the line from a to b, and where it lies on it, it is no farther from q than p
 abbrev IsNoFarther : Side → Pair → Pair → Pair → Pair → Pair → Type 0
@@ -31,7 +32,7 @@ no_tie : (side : Side) (a b t q p : Pair) → pos 0 <ℤ turn side a b t → IsN
 no_tie side a b t q p h = (nn_above _ h, λ e. absurd (omega (arith, ints)))
 
 -- a turn that is straight is straight to either side
-straight : (side : Side) (a b t : Pair) → turn side a b t ≡ pos 0 → orient a b t ≡ pos 0
+pub straight : (side : Side) (a b t : Pair) → turn side a b t ≡ pos 0 → orient a b t ≡ pos 0
 straight Lower a b t e = e
 straight Upper a b t e = zero_opposite _ _ (orient_other b a t) e
 

@@ -4,13 +4,13 @@ use Rattle.std.proofs.lemmas.Int.{ints}
 use Rattle.lattice.specs.Plane.{Pair, IsBefore}
 use Rattle.lattice.proofs.Numbers.{nn_above, nn_opposite, np_by, below_opposite}
 use Rattle.lattice.proofs.Sides.{side_after, side_to_end, side_more, side_less}
-use Rattle.lattice.proofs.LineCrossings.{orient_start, orient_end}
+use Rattle.lattice.proofs.LineCrossings.{orient_start, orient_end, orient_other}
 use Rattle.lattice.proofs.Vectors.{minus, cross, cross_swap, Ahead, turn_trans, turn_trans_strict}
 use Rattle.lattice.proofs.Vectors.{turn_trans_strict_right}
 use Rattle.lattice.specs.Turns.{turn}
 use Rattle.lattice.specs.declared.side.Side.{Side}
 use Rattle.lattice.specs.declared.side.Side.TheVariants.{Lower, Upper}
-use Rattle.hull_geometry.proofs.Orientation.{orient-cross, orient_swap, orient_other, orient-cycle, ahead_of}
+use Rattle.hull_geometry.proofs.Orientation.{orient-cross, orient_swap, ahead_of, orient-cycle}
 use Rattle.hull_geometry.proofs.Orientation.{at_least, above}
 
 -- the cross product of two steps, of which the first comes first on a lower chain and last on an upper one

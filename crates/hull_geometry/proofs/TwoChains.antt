@@ -19,10 +19,10 @@ use Rattle.lattice.specs.declared.side.Side.{Side}
 use Rattle.lattice.specs.declared.side.Side.TheVariants.{Lower, Upper}
 use Rattle.hull_geometry.proofs.ChainEdges.{chain_edges, lower_edge, upper_edge}
 use Rattle.hull_geometry.proofs.ChainPlaces.{chain_edge, chain_in, first_of, last_of, none_of, some_chain, end_at}
-use Rattle.hull_geometry.proofs.Orientation.{orient-cycle}
 use Rattle.hull_geometry.proofs.PointLists.{AllPairs-head, get_or_free, only_member}
 use Rattle.hull_geometry.proofs.Rounding.{fan-append, fan-back, fan-push, small_list}
 use Rattle.hull_geometry.proofs.VertexLists.{chain_push, end_push, vertex_list}
+use Rattle.hull_geometry.proofs.Orientation.{orient-cycle}
 
 -- ---- few points
 

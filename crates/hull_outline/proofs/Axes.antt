@@ -6,6 +6,7 @@ use Rattle.lattice.specs.Polynomials.{difference-eq, as_difference, difference_r
 use Rattle.lattice.specs.Signs.{le_or_lt, product_nn, product_pp, cancel_zero}
 use Rattle.lattice.proofs.Vectors.{as_pair, cross, cross_swap}
 use Rattle.lattice.proofs.Numbers.{nn_above, nn_opposite, nn_zero, np_below, zero_opposite}
+use Rattle.lattice.proofs.Lines.{zero_times}
 
 -- ---- numbers
 
@@ -21,10 +22,6 @@ second_of_three x y z e hx hy hz = omega (arith, ints)
 pub third_of_three : (x y z : ℤ) → x +ℤ (y +ℤ z) ≡ pos 0 → pos 0 ≤ℤ x → pos 0 ≤ℤ y → pos 0 ≤ℤ z → z ≡ pos 0
 third_of_three x y z e hx hy hz = omega (arith, ints)
 
--- a product with nothing
-pub nothing_times : (k z : ℤ) → k ≡ pos 0 → k *ℤ z ≡ pos 0
-nothing_times k z e = ap (λ (x : ℤ). x *ℤ z) e ∙ omega (arith, ints)
-
 -- three sums of products that are nothing, where only x can be below 0 or above it: it is not above
 no_more : (p q r s t cf ce x y z a b : ℤ) → q *ℤ y +ℤ (p *ℤ x +ℤ r *ℤ cf) ≡ pos 0
     → r *ℤ z +ℤ (q *ℤ ce +ℤ s *ℤ x) ≡ pos 0 → t *ℤ cf +ℤ (q *ℤ b +ℤ p *ℤ a) ≡ pos 0
@@ -38,10 +35,10 @@ no_more p q r s t cf ce x y z a b e f g hp hq hr hs ht hcf hce hy = elim (le_or_
       let rc = product_nn r cf hr (nn_above _ hcf) in
       let p-zero : p ≡ pos 0 = cancel_zero p x h (second_of_three _ _ _ e qy px rc) in
       let r-zero : r ≡ pos 0 = cancel_zero r cf hcf (third_of_three _ _ _ e qy px rc) in
-      let rest : q *ℤ ce ≡ pos 0 = second_of_three (r *ℤ z) (q *ℤ ce) (s *ℤ x) f (nn_zero _ (nothing_times r z r-zero))
+      let rest : q *ℤ ce ≡ pos 0 = second_of_three (r *ℤ z) (q *ℤ ce) (s *ℤ x) f (nn_zero _ (zero_times r z r-zero))
       (product_nn q ce hq (nn_above _ hce)) (product_nn s x hs (nn_above _ h)) in
       let q-zero : q ≡ pos 0 = cancel_zero q ce hce rest in
-      absurd (omega (arith, ints, nothing_times q b q-zero, nothing_times p a p-zero, product_pp t cf ht hcf))
+      absurd (omega (arith, ints, zero_times q b q-zero, zero_times p a p-zero, product_pp t cf ht hcf))
 ]
 
 -- ---- vectors
@@ -185,7 +182,7 @@ span_of d w l r m s e f up = elim (le_or_lt (cross l m) (pos 0)) [
 level_clash : (d w l r : Pair) → IsWedge d l r → product d l ≡ pos 0 → pos 0 <ℤ product d w → pos 0 ≤ℤ cross l w → ⊥
 level_clash d w l r e level up left =
     clash _ _ _ (three d w r l) (product_pp _ _ up e.turns) (product_nn _ _ e.right_up left)
-    (nothing_times _ (cross w r) level)
+    (zero_times _ (cross w r) level)
   where
     clash : (x y z : ℤ) → x +ℤ (y +ℤ z) ≡ pos 0 → pos 0 <ℤ x → pos 0 ≤ℤ y → z ≡ pos 0 → ⊥
     clash x y z e h k l = omega (arith, ints)

@@ -11,12 +11,11 @@ use Rattle.lattice.specs.Plane.{Pair, orient, product}
 use Rattle.lattice.specs.Polynomials.{difference-eq, difference-pos, as_difference, difference_rules}
 use Rattle.lattice.specs.Signs.{le_or_lt, product_nn, product_pn}
 use Rattle.lattice.specs.Vertices.{IsLeftOf}
-use Rattle.lattice.proofs.LineCrossings.{orient_end}
+use Rattle.lattice.proofs.LineCrossings.{orient_end, orient_other}
 use Rattle.lattice.proofs.Order.{same_pair}
 use Rattle.lattice.proofs.Numbers.{gap_above, gap_below, gap_np, np_below}
 use Rattle.lattice.proofs.Vectors.{as_pair}
 use Rattle.hull_geometry.proofs.Decided.{covers_or_separated}
-use Rattle.hull_geometry.proofs.Orientation.{orient_other}
 use Rattle.hull_geometry.proofs.PointLists.{all_of}
 use Rattle.hull_outline.specs.Casts.{EntersThere, IsUncrossed, MissesRay, NoneBefore, on_way}
 use Rattle.hull_outline.specs.Closest.{magnified}
@@ -24,10 +23,11 @@ use Rattle.hull_outline.specs.Meetings.{IsApart, segment}
 use Rattle.hull_outline.specs.Steps.{left_of, step}
 use Rattle.hull_outline.specs.declared.casts.Entry.TheVariants.{Start, Edge, Corner}
 use Rattle.hull_outline.proofs.FarApart.{magnified_near}
-use Rattle.hull_outline.proofs.Parted.{below_both, product_ss, weights_from, weights_x, weights_y, weights_sum}
+use Rattle.hull_outline.proofs.Parted.{below_both, weights_from, weights_x, weights_y, weights_sum}
 use Rattle.hull_outline.proofs.NearestOf.{step_back}
 use Rattle.hull_outline.proofs.Separated.{way_on}
 use Rattle.hull_outline.proofs.Shields.{between_by, one_of_two, parts_both, product_left}
+use Rattle.hull_geometry.proofs.EdgeSteps.{product_same}
 
 -- ---- misses
 
@@ -173,7 +173,7 @@ missed_behind S a b c o n m z h = elim (covers_or_separated S a o) [
         → v <ℤ pos 0 → ⊥
     clash w x u v o k e z hw hx hu hv =
         let p = product_pn w x hw hx in
-        let q = product_ss u v hu (np_below _ hv) in
+        let q = product_same u v hu (np_below _ hv) in
         let r : o *ℤ k ≡ pos 0 = ap (λ (t : ℤ). t *ℤ k) z ∙ none k in
         omega (arith, ints, e, p, q, r)
 

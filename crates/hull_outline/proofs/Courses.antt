@@ -13,7 +13,7 @@ use Rattle.lattice.proofs.Order.{same_pair}
 use Rattle.lattice.proofs.Vectors.{as_pair}
 use Rattle.hull_outline.specs.Casts.{IsKept, IsUncrossed, moved}
 use Rattle.hull_outline.specs.Steps.{backward, step, turned_left}
-use Rattle.hull_outline.proofs.Tests.{passed, failed}
+use Rattle.lattice.proofs.Tests.{passed, failed}
 
 -- ---- steps
 

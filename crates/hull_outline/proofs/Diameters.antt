@@ -22,7 +22,7 @@ use Rattle.hull_outline.proofs.Axes.{three, first_of_three, second_of_three, thi
 use Rattle.hull_outline.proofs.Corners.{corner_extreme, next_apart, next_left}
 use Rattle.hull_outline.proofs.EdgeAxes.{product_minus, both_back, top_of}
 use Rattle.hull_outline.proofs.NearestOf.{step_back}
-use Rattle.hull_outline.proofs.Parted.{product_ss, product_mm, product_mp}
+use Rattle.hull_outline.proofs.Parted.{product_mm, product_mp}
 use Rattle.hull_outline.proofs.Separated.{way_on}
 use Rattle.hull_outline.proofs.Shields.{product_left}
 use Rattle.lattice.proofs.Sides.{side_more}
@@ -30,6 +30,7 @@ use Rattle.lattice.proofs.Numbers.{above_by_less, above_opposite, below_by_less,
 use Rattle.lattice.proofs.Numbers.{less_not_le, less_opposites, nn_above, nn_opposite, np_below, zero_opposite}
 use lib.IntN.{*ℤ_comm}
 use Rattle.hull_outline.proofs.Distances.{distance_nn}
+use Rattle.hull_geometry.proofs.EdgeSteps.{product_same}
 
 -- ---- the greatest of a number of each point
 
@@ -233,7 +234,7 @@ opposite_is S d p a q b f mp left up down low turn tie far = elim (before_total 
     first = product_nn _ _ (nn_above _ up) farther
 
     second : pos 0 ≤ℤ (product d (minus b q) *ℤ cross (minus f p) (minus a p))
-    second = product_ss _ _ (np_below _ down) inside
+    second = product_same _ _ (np_below _ down) inside
 
     third : ¬ (f ≡ p) → pos 0 ≤ℤ (product d (minus f p) *ℤ cross (minus a p) (minus b q))
     third n = product_nn _ _ (nn_above _ (goes n)) turn

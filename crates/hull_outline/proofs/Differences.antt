@@ -16,12 +16,14 @@ use Rattle.hull_geometry.proofs.PointLists.{AllPairs-none, later}
 use Rattle.hull_geometry.proofs.SetLaws.{ordered_with, members_with}
 use Rattle.hull_outline.specs.Meetings.{IsApart}
 use Rattle.hull_outline.proofs.NearestOf.{step_back}
-use Rattle.hull_outline.proofs.Parted.{product_ss}
 use Rattle.hull_outline.proofs.Separated.{way_on}
 use Rattle.hull_outline.specs.Steps.{step}
 use Rattle.lattice.proofs.Order.{before_total, before_apart, after_apart}
-use Rattle.hull_geometry.proofs.Orientation.{orient-sum, orient-cycle, above, at_least}
+use Rattle.hull_geometry.proofs.Orientation.{orient-sum, above, at_least, orient-cycle}
 use Rattle.lattice.proofs.Numbers.{sum_nn}
+use Rattle.hull_geometry.proofs.EdgeSteps.{product_same}
+use Rattle.lattice.proofs.Lines.{times_zero}
+use Rattle.hull_outline.proofs.Shields.{between_back}
 
 -- ---- the differences of the points of two sets
 
@@ -199,12 +201,7 @@ shared_in_triangle S T a b c da db dc (t, ab, bc, ca) =
 -- the origin between two numbers: the way from one to the other goes on at the other
 onward : (x y : ℤ) → IsBetween x y (pos 0) → pos 0 ≤ℤ ((y -ℤ x) *ℤ y)
 onward x y (inl h) = product_nn (y -ℤ x) y (let k = h.0 in let l = h.1 in omega (arith, ints)) h.1
-onward x y (inr h) = product_ss (y -ℤ x) y (let k = h.0 in let l = h.1 in omega (arith, ints)) h.0
-
--- either of two may come first
-between_back : (x y v : ℤ) → IsBetween x y v → IsBetween y x v
-between_back x y v (inl h) = inr h
-between_back x y v (inr h) = inl h
+onward x y (inr h) = product_same (y -ℤ x) y (let k = h.0 in let l = h.1 in omega (arith, ints)) h.0
 
 -- the origin between two points: the way from one to the other goes on at the other
 onward_both : (a b : Pair) → IsBetween a.x b.x (pos 0) → IsBetween a.y b.y (pos 0) → pos 0 ≤ℤ product (step a b) b
@@ -224,10 +221,6 @@ flat_y : (a b : Pair)
 unfolding orient product
 flat_y a b =
     rw (as_pair a, as_pair b, as_difference (pos 0)) (simp difference_rules (difference-eq _ _ _ _ (omega arith)))
-
--- a product with nothing
-times_zero : (k z : ℤ) → z ≡ pos 0 → k *ℤ z ≡ pos 0
-times_zero k z e = ap (λ (x : ℤ). k *ℤ x) e ∙ omega (arith, ints)
 
 -- a difference that is nothing
 shared_at : (S T : List Pair) (a : Pair) → IsDifference S T a → a.x ≡ pos 0 → a.y ≡ pos 0 → Shared S T

@@ -9,13 +9,13 @@ use Rattle.lattice.specs.Polynomials.{difference-eq, as_difference, difference_r
 use Rattle.lattice.proofs.Vectors.{as_pair}
 use Rattle.lattice.specs.Signs.{le_or_lt, product_nn}
 use Rattle.hull_geometry.proofs.NotCovered.{not_covered}
-use Rattle.hull_geometry.proofs.Orientation.{orient_other}
 use Rattle.hull_outline.specs.Nearest.{NoneNearerThanCorner, NoneNearerThanEdge}
 use Rattle.hull_outline.specs.Steps.{step, left_of}
 use Rattle.hull_outline.proofs.Cones.{square_nn}
 use Rattle.hull_geometry.proofs.PointLists.{all_of}
 use Rattle.hull_outline.proofs.Shields.{product_left}
 use Rattle.lattice.proofs.Numbers.{le_by_opposite, le_less_trans, sum_nn}
+use Rattle.lattice.proofs.LineCrossings.{orient_other}
 
 -- a covered point is no farther in a direction than what no point of S is farther than
 pub covered_near : (S : List Pair) (d p : Pair) (m : ℤ) → ((s : Pair) → Contains S s → product d s ≤ℤ m) → Covers S p

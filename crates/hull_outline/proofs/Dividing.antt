@@ -15,7 +15,6 @@ use Rattle.lattice.proofs.Vectors.{minus, opp, cross}
 use Rattle.lattice.proofs.Numbers.{nn_by_le, np_by, np_opposite, le_trans}
 use Rattle.lattice.proofs.Sides.{side_after, side_more}
 use Rattle.hull_geometry.proofs.Decided.{covers_or_separated}
-use Rattle.hull_geometry.proofs.Orientation.{orient_other}
 use Rattle.hull_geometry.specs.Tangents.{IsFirstFarthest}
 use Rattle.hull_outline.specs.Nearest.{previous}
 use Rattle.hull_outline.specs.Outlines.{IsOutlineOf}
@@ -31,9 +30,10 @@ use Rattle.hull_outline.proofs.Distances.{covered_near}
 use Rattle.hull_outline.proofs.Ends.{alone}
 use Rattle.hull_outline.proofs.EdgeAxes.{bend_at, bend_at_most, both_back, product_minus, product_minus_back, side_off, side_off_more, top_of, wedge_from, wedge_to}
 use Rattle.hull_outline.proofs.NearestOf.{previous_at, same_beside}
-use Rattle.hull_outline.proofs.Parted.{product_opp}
 use Rattle.hull_outline.proofs.Shields.{product_left}
 use Rattle.hull_outline.proofs.Turns.{holds_by_corners}
+use Rattle.hull_geometry.proofs.Slopes.{product-opp}
+use Rattle.lattice.proofs.LineCrossings.{orient_other}
 
 -- the side of a point at a line through one point twice
 orient_cycled : (c u : Pair) → orient c c u ≡ pos 0
@@ -254,7 +254,7 @@ pub divided_turned : (S T : List Pair) → AreDivided S T → AreDivided T S
 divided_turned S T (d, n, h) = (
   opp d,
   λ z. n (none d.x z.0, none d.y z.1),
-  λ t s mt ms. back _ _ _ _ (product_opp d t) (product_opp d s) (h s t ms mt),
+  λ t s mt ms. back _ _ _ _ (product-opp d t) (product-opp d s) (h s t ms mt),
 )
   where
     none : (x : ℤ) → neg_ℤ x ≡ pos 0 → x ≡ pos 0
@@ -326,7 +326,7 @@ meeting_held S V T last o p t n one h =
     reached : (u : Pair) → Contains T u → Covers S u → Covers T (corner V 0)
     reached u m c = elim (covers_or_separated T (corner V 0) t) [
       | inl k ↦ k
-      | inr a ↦ absurd (at_least _ _ _ _ (product_opp a.0 u) (product_opp a.0 (corner V 0))
+      | inr a ↦ absurd (at_least _ _ _ _ (product-opp a.0 u) (product-opp a.0 (corner V 0))
           (covered_near S (opp a.0) u (product (opp a.0) (corner V 0))
           (λ s ms. subst (λ (z : Pair). product (opp a.0) z ≤ℤ product (opp a.0) (corner V 0)) (sym (only s ms)) (itself _)) c)
           (All-contains (λ z. product a.0 z <ℤ product a.0 (corner V 0)) T u a.1 m))

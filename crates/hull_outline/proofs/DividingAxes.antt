@@ -7,7 +7,8 @@ use Rattle.lattice.specs.Polynomials.{difference-eq, difference_rules}
 use Rattle.lattice.specs.Signs.{le_or_lt, product_nn, cancel_zero}
 use Rattle.lattice.proofs.Vectors.{as_pair, cross, cross_swap}
 use Rattle.lattice.proofs.Numbers.{above_opposite, nn_above, nn_opposite, np_below, np_opposite, nn_zero}
-use Rattle.hull_outline.proofs.Axes.{IsWedge, three, nothing_times, first_of_three, second_of_three, third_of_three}
+use Rattle.hull_outline.proofs.Axes.{IsWedge, three, first_of_three, second_of_three, third_of_three}
+use Rattle.lattice.proofs.Lines.{zero_times}
 
 -- ---- two vectors that do not lie in one line
 
@@ -24,8 +25,8 @@ by_y d l r = rw (as_pair d, as_pair l, as_pair r) (simp difference_rules (differ
 -- they are not both level
 not_level : (d l r : Pair) → ¬ IsZero d → pos 0 <ℤ cross r l → product d l ≡ pos 0 → product d r ≡ pos 0 → ⊥
 not_level d l r n t hl hr = n (
-  cancel_zero d.x (cross r l) t (by_x d l r ∙ none _ _ (nothing_times _ l.y hr) (nothing_times _ r.y hl)),
-  cancel_zero d.y (cross r l) t (by_y d l r ∙ none _ _ (nothing_times _ r.x hl) (nothing_times _ l.x hr)),
+  cancel_zero d.x (cross r l) t (by_x d l r ∙ none _ _ (zero_times _ l.y hr) (zero_times _ r.y hl)),
+  cancel_zero d.y (cross r l) t (by_y d l r ∙ none _ _ (zero_times _ r.x hl) (zero_times _ l.x hr)),
 )
   where
     none : (x y : ℤ) → x ≡ pos 0 → y ≡ pos 0 → x -ℤ y ≡ pos 0
@@ -86,7 +87,7 @@ not_astride d w x m s n ux f up hm hs left right =
     let s-none : product d s ≡ pos 0 = second_none _ _ _ _ e left p f.right_up r in
     let x-none : product d x ≡ pos 0 = third_none _ _ _ _ e k p q ux in
     let m-none : product d m ≡ pos 0 = third_none _ _ _ _ (three d x w m) left
-    (nn_zero _ (nothing_times _ _ x-none)) (product_nn _ _ up hm) f.left_up in
+    (nn_zero _ (zero_times _ _ x-none)) (product_nn _ _ up hm) f.left_up in
     not_level d m s n f.turns m-none s-none
 
 -- the same from the other side: not right of a vector that is right of a wedge's right one, and left of its left one
@@ -100,7 +101,7 @@ not_astride_right d w x m s n ux f up hm hs right left =
     let r = product_nn _ _ f.left_up (nn_above _ k) in
     let x-none : product d x ≡ pos 0 = second_none _ _ _ _ e left p ux r in
     let m-none : product d m ≡ pos 0 = third_none _ _ _ _ e k p q f.left_up in
-    let s-none : product d s ≡ pos 0 = second_none _ _ _ _ (three d x s w) k (nn_zero _ (nothing_times _ _ x-none)) f.right_up
+    let s-none : product d s ≡ pos 0 = second_none _ _ _ _ (three d x s w) k (nn_zero _ (zero_times _ _ x-none)) f.right_up
     (product_nn _ _ up hs) in
     not_level d m s n f.turns m-none s-none
 
@@ -137,7 +138,7 @@ wedge_left d l r m s n e f h = elim (le_or_lt (cross l s) (pos 0)) [
       let p = product_nn _ _ f.right_up h in
       let q = product_nn _ _ f.left_up (nn_above _ k) in
       let l-none : product d l ≡ pos 0 = third_none _ _ _ _ a f.turns p q e.left_up in
-      let r-none : product d r ≡ pos 0 = third_none _ _ _ _ (three d l s r) k (nn_zero _ (nothing_times _ _ l-none))
+      let r-none : product d r ≡ pos 0 = third_none _ _ _ _ (three d l s r) k (nn_zero _ (zero_times _ _ l-none))
       (product_nn _ _ f.right_up (nn_above _ e.turns)) e.right_up in
       absurd (not_level d l r n e.turns l-none r-none)
 ]
@@ -152,7 +153,7 @@ wedge_right d l r m s n e f h = elim (le_or_lt (cross m r) (pos 0)) [
       let q = product_nn _ _ f.left_up h in
       let r-none : product d r ≡ pos 0 = third_none _ _ _ _ a f.turns p q e.right_up in
       let l-none : product d l ≡ pos 0 = first_none _ _ _ _ (three d l m r) k e.left_up
-      (product_nn _ _ f.left_up (nn_above _ e.turns)) (nn_zero _ (nothing_times _ _ r-none)) in
+      (product_nn _ _ f.left_up (nn_above _ e.turns)) (nn_zero _ (zero_times _ _ r-none)) in
       absurd (not_level d l r n e.turns l-none r-none)
 ]
 

@@ -14,8 +14,9 @@ use Rattle.lattice.specs.declared.side.Side.TheVariants.{Lower, Upper}
 use Rattle.hull_geometry.proofs.ChangedSets.{in_without}
 use Rattle.hull_geometry.proofs.CoveredByEdges.{on_segment}
 use Rattle.hull_geometry.proofs.PointLists.{all_of}
-use Rattle.hull_geometry.proofs.Orientation.{orient_other, orient_swap_zero, at_least, ahead_of}
+use Rattle.hull_geometry.proofs.Orientation.{orient_swap_zero, at_least, ahead_of}
 use Rattle.lattice.proofs.Sides.{side_before, side_after, side_to_end, side_back, side_beyond, side_over}
+use Rattle.lattice.proofs.LineCrossings.{orient_other}
 
 -- an extreme point does not lie on a segment between two others
 not_within : (S : List Pair) (a v b : Pair) → Contains S a → IsExtreme S v → Contains S b → IsBefore a v → IsBefore v b

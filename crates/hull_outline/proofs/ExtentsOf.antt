@@ -7,14 +7,14 @@ use Rattle.lattice.specs.Plane.{Pair, product}
 use Rattle.hull_geometry.specs.Tangents.{IsFirstFarthest}
 use Rattle.hull_outline.specs.Extents.{IsExtent}
 use Rattle.hull_outline.specs.Steps.{backward}
-use Rattle.hull_outline.proofs.Parted.{product_opp}
 use Rattle.lattice.proofs.Numbers.{le_opposites}
+use Rattle.hull_geometry.proofs.Slopes.{product-opp}
 
 -- what is farthest backwards is nearest
 nearest_by : (S : List Pair) (d b q : Pair) → b ≡ backward d → IsFirstFarthest S b q → (t : Pair) → Contains S t
     → product d q ≤ℤ product d t
 nearest_by S d b q e f t m =
-    le_opposites _ _ _ _ (product_opp d t) (product_opp d q)
+    le_opposites _ _ _ _ (product-opp d t) (product-opp d q)
     (All-contains (λ u. product (backward d) u ≤ℤ product (backward d) q) S t
     (subst (λ (z : Pair). IsFirstFarthest S z q) e f).1 m)
 

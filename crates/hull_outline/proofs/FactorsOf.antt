@@ -37,22 +37,3 @@ quotient_small a b t side edge reach most e f g l =
         (subst (λ (z : ℤ). o ≤ℤ (z *ℤ pos r)) (sym ed) (subst (λ (z : ℤ). o ≤ℤ (d *ℤ z)) (sym ek) h))) l
 
 -- ---- two squares
-
--- products of fractions in words are those of the distances
-pub nearer_told : (x y : Distance) (f g : SquaredDistance) → IsSquareOf x f → IsSquareOf y g → (r : Ordering)
-    → TellsOrder (numerator_of f * denominator_of g) (numerator_of g * denominator_of f) r → TellsNearer x y r
-nearer_told x y f g s t Less h = less _ _ _ _ _ _ _ _ s.0 t.1 t.0 s.1 h
-  where
-    less : (m n k l : ℕ) (a b c d : ℤ) → pos m ≡ a → pos n ≡ b → pos k ≡ c → pos l ≡ d → m * n < k * l
-        → (a *ℤ b) <ℤ (c *ℤ d)
-    less m n k l a b c d ea eb ec ed h = rw (← ea, ← eb, ← ec, ← ed) (omega (arith, ints))
-nearer_told x y f g s t Equal h = equal _ _ _ _ _ _ _ _ s.0 t.1 t.0 s.1 h
-  where
-    equal : (m n k l : ℕ) (a b c d : ℤ) → pos m ≡ a → pos n ≡ b → pos k ≡ c → pos l ≡ d → m * n ≡ k * l
-        → a *ℤ b ≡ c *ℤ d
-    equal m n k l a b c d ea eb ec ed h = rw (← ea, ← eb, ← ec, ← ed) (omega (arith, ints))
-nearer_told x y f g s t Greater h = less _ _ _ _ _ _ _ _ t.0 s.1 s.0 t.1 h
-  where
-    less : (m n k l : ℕ) (a b c d : ℤ) → pos m ≡ a → pos n ≡ b → pos k ≡ c → pos l ≡ d → m * n < k * l
-        → (a *ℤ b) <ℤ (c *ℤ d)
-    less m n k l a b c d ea eb ec ed h = rw (← ea, ← eb, ← ec, ← ed) (omega (arith, ints))

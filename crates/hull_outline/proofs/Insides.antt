@@ -22,8 +22,8 @@ use Rattle.hull_outline.proofs.Corners.{corner_extreme}
 use Rattle.hull_outline.proofs.Distances.{covered_near}
 use Rattle.hull_outline.proofs.Ends.{no_corners}
 use Rattle.hull_outline.proofs.FarApart.{magnified_near, times_along}
-use Rattle.hull_outline.proofs.Parted.{product_opp}
 use Rattle.hull_outline.proofs.Turns.{farthest_corner, holds_by_corners, placed}
+use Rattle.hull_geometry.proofs.Slopes.{product-opp}
 
 -- ---- of what a line divides
 
@@ -31,8 +31,8 @@ use Rattle.hull_outline.proofs.Turns.{farthest_corner, holds_by_corners, placed}
 beyond_all : (S T : List Pair) (d : Pair) (k : ℕ) (q s : Pair) → Divides d S T → Covers (magnified k T) q → Contains S s
     → (pos k *ℤ product d s) ≤ℤ product d q
 beyond_all S T d k q s h c m =
-    back (pos k) _ _ _ _ (product_opp d q) (product_opp d s) (magnified_near T (opp d) s q k
-    (all_of (λ t. product (opp d) t ≤ℤ product (opp d) s) T (λ t mt. turned _ _ _ _ (product_opp d t) (product_opp d s) (h s t m mt)))
+    back (pos k) _ _ _ _ (product-opp d q) (product-opp d s) (magnified_near T (opp d) s q k
+    (all_of (λ t. product (opp d) t ≤ℤ product (opp d) s) T (λ t mt. turned _ _ _ _ (product-opp d t) (product-opp d s) (h s t m mt)))
     c)
   where
     turned : (x y u v : ℤ) → x ≡ neg_ℤ u → y ≡ neg_ℤ v → v ≤ℤ u → x ≤ℤ y

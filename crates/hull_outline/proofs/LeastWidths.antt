@@ -11,7 +11,6 @@ use Rattle.lattice.specs.Signs.{le_or_lt, product_nn, product_pp, cancel_nn}
 use Rattle.lattice.specs.Vertices.{IsLeftOf}
 use Rattle.lattice.proofs.Order.{equal_by}
 use Rattle.lattice.proofs.Vectors.{as_pair, minus, opp, cross, cross_swap}
-use Rattle.hull_geometry.proofs.Orientation.{orient_other}
 use Rattle.hull_outline.specs.Extents.{IsExtent, IsLeastWidth, IsOnePoint, IsStrip, IsStripAt, IsThinnerOf}
 use Rattle.hull_outline.specs.Extents.{IsThinnestOf, length_squared, side_of, edge_squared}
 use Rattle.hull_outline.specs.Nearest.{previous}
@@ -31,12 +30,14 @@ use Rattle.hull_geometry.proofs.PointLists.{all_of}
 use Rattle.hull_outline.proofs.Ends.{ends_of, no_corners}
 use Rattle.hull_outline.proofs.Fractions.{between_two, products_le, quotients_le}
 use Rattle.hull_outline.proofs.NearestOf.{previous_at}
-use Rattle.hull_outline.proofs.Parted.{product_ns, product_opp}
+use Rattle.hull_outline.proofs.Parted.{product_ns}
 use Rattle.hull_outline.proofs.Shields.{product_left}
 use Rattle.lattice.proofs.Sides.{side_more}
 use Rattle.lattice.proofs.Numbers.{gap_nn, le_by_gap, le_itself, le_less, le_opposites, le_trans, np_by}
 use Rattle.lattice.proofs.Numbers.{np_opposite, sum_nn}
 use lib.IntN.{*ℤ_comm}
+use Rattle.hull_geometry.proofs.Slopes.{product-opp}
+use Rattle.lattice.proofs.LineCrossings.{orient_other}
 
 -- ---- identities
 
@@ -345,7 +346,7 @@ least_many S V last w d n o p many best h x =
     (back _ (product d (corner V b.0)) (product d (corner V a.0)) (product_minus d (corner V b.0) (corner V a.0))
     (extent_is S d (corner V a.0) (corner V b.0) n x a.2.0 b.2.0
     (λ t m. All-contains (λ u. product d u ≤ℤ product d (corner V a.0)) S t a.2.1 m)
-    (λ t m. le_opposites _ _ _ _ (product_opp d t) (product_opp d (corner V b.0))
+    (λ t m. le_opposites _ _ _ _ (product-opp d t) (product-opp d (corner V b.0))
     (All-contains (λ u. product (opp d) u ≤ℤ product (opp d) (corner V b.0)) S t b.2.1 m))))
   where
     back : (x y z : ℤ) → x ≡ y -ℤ z → n ≡ z -ℤ y → x ≡ neg_ℤ n

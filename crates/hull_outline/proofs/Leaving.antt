@@ -12,7 +12,6 @@ use Rattle.lattice.specs.Vertices.{IsLeftOf}
 use Rattle.lattice.proofs.Numbers.{le_less_trans, sum_nn}
 use Rattle.lattice.proofs.Order.{same_pair}
 use Rattle.lattice.proofs.Vectors.{as_pair}
-use Rattle.hull_geometry.proofs.Orientation.{orient_other}
 use Rattle.hull_outline.specs.Casts.{IsUncrossed, MissesRay, NoneAfter, LeavesThere, on_from, moved}
 use Rattle.hull_outline.specs.Closest.{magnified}
 use Rattle.hull_outline.specs.Steps.{backward, left_of, step}
@@ -24,6 +23,7 @@ use Rattle.hull_outline.proofs.FarApart.{magnified_near}
 use Rattle.hull_outline.proofs.NearestOf.{step_back}
 use Rattle.hull_outline.proofs.Parted.{weights_sum}
 use Rattle.hull_outline.proofs.Shields.{product_left}
+use Rattle.lattice.proofs.LineCrossings.{orient_other}
 
 -- a step on and a step back have opposite sides
 pub side_back : (a w t : Pair) → orient a (moved a w) t ≡ neg_ℤ (orient a (moved a (backward w)) t)

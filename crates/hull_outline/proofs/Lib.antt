@@ -10,7 +10,6 @@ pub mod Made
 pub mod Ends
 pub mod FarthestOf
 pub mod EdgesAt
-pub mod Tests
 pub mod Triangles
 pub mod TangentsOf
 pub mod Parted

@@ -15,7 +15,7 @@ use Rattle.lattice.proofs.Vectors.{as_pair, opp}
 use Rattle.hull_geometry.specs.Positions.{point_at}
 use Rattle.hull_geometry.proofs.Decided.{covers_or_separated}
 use Rattle.hull_geometry.proofs.NotCovered.{not_covered}
-use Rattle.hull_geometry.proofs.Orientation.{orient_other, orient_swap_zero}
+use Rattle.hull_geometry.proofs.Orientation.{orient_swap_zero}
 use Rattle.hull_geometry.proofs.VertexOrder.{not_in_line}
 use Rattle.hull_outline.specs.Meetings.{segment}
 use Rattle.hull_outline.specs.Nearest.{IsOnward, IsBeside, IsTurnedFrom, previous}
@@ -29,7 +29,8 @@ use Rattle.hull_geometry.proofs.PointLists.{all_of}
 use Rattle.hull_outline.proofs.Parted.{farther_back}
 use Rattle.hull_outline.proofs.Shields.{among_on_segment, third_among, one_of_two, start_there, end_there}
 use Rattle.hull_outline.proofs.Turns.{farthest_corner, placed, less_told}
-use Rattle.lattice.proofs.Numbers.{gap_np, le_itself, le_trans, less_opposites}
+use Rattle.lattice.proofs.Numbers.{gap_np, le_itself, le_trans, less_opposites, not_less}
+use Rattle.lattice.proofs.LineCrossings.{orient_other}
 
 -- ---- the corners beside a corner
 
@@ -168,10 +169,6 @@ search_below P told (suc n) = elim (search_below P told n) [
   ]
 ]
 
--- a number that is not below 0
-not_below : (x : ℤ) → ¬ (x <ℤ pos 0) → pos 0 ≤ℤ x
-not_below x n = elim (le_or_lt (pos 0) x) [ inl h ↦ h | inr h ↦ absurd (n h) ]
-
 -- three corners or more, and q right of none of the edges: it is covered
 unseen_many : (S V : List Pair) (last : ℕ) (q : Pair) → IsOutlineOf S V → IsParted V last → 2 < length V → ¬ Covers S q
     → ((j : ℕ) → j < length V → ¬ (orient (corner V j) (corner V (j + 1)) q <ℤ pos 0)) → ⊥
@@ -187,7 +184,7 @@ unseen_many S V last q o p many out h = elim (covers_or_separated S q o.0) [
       clash _ _ (All-contains (λ t. product d t <ℤ product d q) S (corner V j) a.1
       (corner_extreme S V j o.1 (omega (arith, many))).0)
       (no_farther_in_cone d (previous V j) (corner V j) (corner V (j + 1)) q (turn_at S V j o.1 k.1 many)
-      (not_below _ (rw (b.3, ← b.4) (h b.0 b.1))) (not_below _ (h j k.1))
+      (not_less _ (pos 0) (rw (b.3, ← b.4) (h b.0 b.1))) (not_less _ (pos 0) (h j k.1))
       (gap_np _ _ (All-contains (λ t. product d t ≤ℤ product d (corner V j)) S (corner V (j + 1)) top
       (corner_extreme S V (j + 1) o.1 (omega (arith, many))).0))
       (gap_np _ _ (All-contains (λ t. product d t ≤ℤ product d (corner V j)) S (previous V j) top
@@ -348,8 +345,8 @@ module _ (S V : List Pair) (q : Pair) (o : IsOutlineOf S V) (none : NoneNearest 
   none_few few n out h =
       let a = next_at V 0 n in
       let back : corner V (a.0 + 1) ≡ corner V 0 = sym (same_beside V a.0 a.1 few) ∙ a.4 in
-      let there : pos 0 ≤ℤ orient (corner V 0) (corner V 1) q = not_below _ (h 0 n) in
-      let here : pos 0 ≤ℤ orient (corner V 1) (corner V 0) q = not_below _ (rw (a.3, ← back) (h a.0 a.1)) in
+      let there : pos 0 ≤ℤ orient (corner V 0) (corner V 1) q = not_less _ (pos 0) (h 0 n) in
+      let here : pos 0 ≤ℤ orient (corner V 1) (corner V 0) q = not_less _ (pos 0) (rw (a.3, ← back) (h a.0 a.1)) in
       let line : orient (corner V 0) (corner V 1) q ≡ pos 0 =
       omega (arith, ints, orient_other (corner V 0) (corner V 1) q, there, here) in
       elim (onward_told (corner V 0) (corner V 1) q) [

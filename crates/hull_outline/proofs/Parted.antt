@@ -1,5 +1,5 @@
 -- What meets is not apart: where two segments cross, no direction parts their ends.
-use Rattle.std.proofs.Common.{◌≡◌, ℤ, pos, negsuc, ◌+ℤ◌, ◌-ℤ◌, ◌*ℤ◌, ◌≤ℤ◌, ◌<ℤ◌, neg_ℤ, inl, inr, sym, ap, ◌∙◌, arith}
+use Rattle.std.proofs.Common.{◌≡◌, ℤ, pos, negsuc, ◌+ℤ◌, ◌-ℤ◌, ◌*ℤ◌, ◌≤ℤ◌, ◌<ℤ◌, inl, inr, sym, ap, ◌∙◌, arith}
 use Rattle.std.proofs.lemmas.Int.{ints}
 use Rattle.lattice.specs.Plane.{Pair, orient, product}
 use Rattle.lattice.specs.Polynomials.{difference-eq, as_difference, difference_rules}
@@ -10,6 +10,8 @@ use Rattle.hull_geometry.proofs.NotCovered.{not_covered}
 use Rattle.hull_outline.specs.Meetings.{IsCrossing, Reaches, IsReached, Crosses, NeverBoth}
 use Rattle.hull_geometry.proofs.PointLists.{all_of}
 use Rattle.lattice.proofs.Numbers.{gap_above, gap_np, le_itself, le_less}
+use Rattle.hull_geometry.proofs.EdgeSteps.{product_same}
+use Rattle.hull_geometry.proofs.Slopes.{product-opp}
 
 -- ---- the crossing of two lines, by its weights
 
@@ -88,21 +90,11 @@ product_mm (negsuc m) (negsuc n) h k = omega (arith, ints)
 product_mm (negsuc m) (pos n) h k = absurd (omega (arith, ints))
 product_mm (pos m) b h k = absurd (omega (arith, ints))
 
--- a product of two that are not positive
-pub product_ss : (a b : ℤ) → a ≤ℤ pos 0 → b ≤ℤ pos 0 → pos 0 ≤ℤ (a *ℤ b)
-product_ss a b h k = elim (le_or_lt (pos 0) a) [
-  | inl z ↦ let e : a ≡ pos 0 = omega (arith, ints) in rw e (omega (arith, ints))
-  | inr l ↦ elim (le_or_lt (pos 0) b) [
-    | inl z ↦ let e : b ≡ pos 0 = omega (arith, ints) in rw e (omega (arith, ints))
-    | inr m ↦ let p = product_mm a b l m in omega (arith, ints)
-  ]
-]
-
 -- a weight above 0 and one below 0 of two numbers below 0
 pub below_both : (r s x y : ℤ) → pos 0 ≤ℤ r → s ≤ℤ pos 0 → s <ℤ r → x <ℤ pos 0 → y <ℤ pos 0
     → (r *ℤ x -ℤ s *ℤ y) <ℤ pos 0
 below_both r s x y hr hs h hx hy = elim (le_or_lt r (pos 0)) [
-  | inr l ↦ let p = product_pn r x l hx in let n = product_ss s y hs (omega (arith, ints)) in omega (arith, ints)
+  | inr l ↦ let p = product_pn r x l hx in let n = product_same s y hs (omega (arith, ints)) in omega (arith, ints)
   | inl z ↦ let e : r ≡ pos 0 = omega (arith, ints) in let n = product_mm s y (omega (arith, ints)) hy in
       rw e (omega (arith, ints))
 ]
@@ -122,7 +114,7 @@ unbalanced : (p q r s w x y z : ℤ) → pos 0 <ℤ p → q <ℤ pos 0 → pos 0
     → pos 0 <ℤ y → pos 0 <ℤ z → p *ℤ x -ℤ q *ℤ w ≡ r *ℤ y -ℤ s *ℤ z → ⊥
 unbalanced p q r s w x y z hp hq hr hs hw hx hy hz e =
     let a = product_ns p x (omega (arith, ints)) hx in
-    let b = product_ss q w (omega (arith, ints)) hw in
+    let b = product_same q w (omega (arith, ints)) hw in
     let c = product_pp r y hr hy in
     let d = product_mp s z hs hz in omega (arith, ints)
 
@@ -142,14 +134,9 @@ not_crossing d a b c e ac ae bc be x = elim (le_or_lt (product d a) (product d b
   | inr h ↦ uncrossed d a b c e (product d a) x (le_itself _) (le_less _ _ h) ac ae
 ]
 
--- a direction backwards
-pub product_opp : (d t : Pair) → product (opp d) t ≡ neg_ℤ (product d t)
-unfolding product
-product_opp d t = rw (as_pair d, as_pair t) (simp difference_rules (difference-eq _ _ _ _ (omega arith)))
-
 -- what is farther in it is less far in the other
 pub farther_back : (d s t : Pair) → product d s <ℤ product d t → product (opp d) t <ℤ product (opp d) s
-farther_back d s t h = rw (product_opp d s, product_opp d t) (omega (arith, ints))
+farther_back d s t h = rw (product-opp d s, product-opp d t) (omega (arith, ints))
 
 -- no two sets both meet and are apart
 pub never_both : NeverBoth

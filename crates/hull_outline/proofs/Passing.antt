@@ -14,8 +14,7 @@ use Rattle.lattice.proofs.Order.{same_pair}
 use Rattle.hull_outline.specs.Nearest.{previous}
 use Rattle.hull_outline.proofs.Cones.{cone}
 use Rattle.lattice.specs.Vertices.{IsLeftOf}
-use Rattle.hull_geometry.proofs.Orientation.{orient_other}
-use Rattle.lattice.proofs.LineCrossings.{orient_end}
+use Rattle.lattice.proofs.LineCrossings.{orient_end, orient_other}
 use Rattle.lattice.proofs.Vectors.{as_pair, opp}
 use Rattle.hull_outline.specs.Meetings.{Parts, IsApart, segment}
 use Rattle.hull_outline.specs.Outlines.{IsOutlineOf}
@@ -25,11 +24,13 @@ use Rattle.hull_outline.proofs.Turns.{turn_of, farthest_corner, placed, less_tol
 use Rattle.hull_outline.proofs.NearestOf.{search_below, turn_at, previous_at}
 use Rattle.hull_outline.specs.Steps.{left_of}
 use Rattle.hull_outline.proofs.Differences.{Shared}
-use Rattle.hull_outline.proofs.Parted.{product_opp, weights_from, product_ss, product_ns, product_mp}
+use Rattle.hull_outline.proofs.Parted.{weights_from, product_ns, product_mp}
 use Rattle.hull_outline.proofs.Shields.{pushed, product_left, start_there, end_there}
-use Rattle.lattice.proofs.Numbers.{equal_by_gap, equal_by_none, gap_above, gap_below, gap_none, gap_np}
+use Rattle.lattice.proofs.Numbers.{equal_by_gap, equal_by_none, gap_above, gap_below, gap_none, gap_np, not_at_most, not_less}
 use Rattle.lattice.proofs.Numbers.{le_by_opposite, le_itself, le_less, less_by_gap, nn_above, np_below}
 use Rattle.lattice.proofs.Numbers.{zero_between}
+use Rattle.hull_geometry.proofs.EdgeSteps.{product_same}
+use Rattle.hull_geometry.proofs.Slopes.{product-opp}
 
 -- ---- weights
 
@@ -101,7 +102,7 @@ times_far k f p =
     (simp (difference-add, difference-mul) (difference-eq _ _ _ _ (omega arith)))
 
 -- a product with a positive number keeps the order
-times_less : (k x y : ℤ) → pos 0 <ℤ k → x <ℤ y → (k *ℤ x) <ℤ (k *ℤ y)
+pub times_less : (k x y : ℤ) → pos 0 <ℤ k → x <ℤ y → (k *ℤ x) <ℤ (k *ℤ y)
 times_less k x y h l = less_by_gap _ _ _ (spread k x y) (product_pp k (y -ℤ x) h (omega (arith, ints)))
   where
     spread : (k x y : ℤ) → k *ℤ y -ℤ k *ℤ x ≡ k *ℤ (y -ℤ x)
@@ -130,7 +131,7 @@ pub overweighed : (p q r s w x y z : ℤ) → pos 0 ≤ℤ p → q ≤ℤ pos 0 
     → x ≤ℤ pos 0 → pos 0 <ℤ y → pos 0 <ℤ z → p *ℤ x -ℤ q *ℤ w ≡ r *ℤ y -ℤ s *ℤ z → ⊥
 overweighed p q r s w x y z hp hq hr hs l hw hx hy hz e =
     let a = product_ns p x hp hx in
-    let b = product_ss q w hq hw in
+    let b = product_same q w hq hw in
     let c = above_both r s y z hr hs l hy hz in omega (arith, ints)
 
 module _ (S T : List Pair) (h : Shared S T) where
@@ -282,18 +283,6 @@ below_told x = less_told x (pos 0)
 from_told : (x : ℤ) → (pos 0 ≤ℤ x) ⊎ ¬ (pos 0 ≤ℤ x)
 from_told x = elim (le_or_lt (pos 0) x) [ inl h ↦ inl h | inr h ↦ inr (λ k. omega (arith, ints)) ]
 
--- what is not at least 0 is below
-below_of : (x : ℤ) → ¬ (pos 0 ≤ℤ x) → x <ℤ pos 0
-below_of x n = elim (le_or_lt (pos 0) x) [ inl h ↦ absurd (n h) | inr h ↦ h ]
-
--- what is not above 0 is at most that
-most_of : (x : ℤ) → ¬ (pos 0 <ℤ x) → x ≤ℤ pos 0
-most_of x n = elim (le_or_lt x (pos 0)) [ inl h ↦ h | inr h ↦ absurd (n h) ]
-
--- what is not below 0 is at least that
-least_of : (x : ℤ) → ¬ (x <ℤ pos 0) → pos 0 ≤ℤ x
-least_of x n = elim (le_or_lt (pos 0) x) [ inl h ↦ h | inr h ↦ absurd (n h) ]
-
 -- two points that lie as far as a third, when they are so many times as far out
 same_far : {m : ℤ} (k : ℤ) (f p q : Pair) → pos 0 <ℤ k → product f (times k p) ≡ m → product f (times k q) ≡ m
     → product f p ≡ product f q
@@ -393,8 +382,8 @@ module _ (S T W : List Pair) (last : ℕ) (o : IsOutlineOf T W) (p : IsParted W 
         j.0,
         j.1,
         subst (λ (z : Pair). at z ≤ℤ pos 0) j.2
-            (right_by _ _ _ _ _ _ _ (at_is c) on_way (product_opp K (times k c)) (times_far k (opp K) c)
-            (product_opp K (common S T h))
+            (right_by _ _ _ _ _ _ _ (at_is c) on_way (product-opp K (times k c)) (times_far k (opp K) c)
+            (product-opp K (common S T h))
             (most_of_T S T h (opp K) (product (opp K) c)
             (λ t mt. All-contains (λ z. product (opp K) z ≤ℤ product (opp K) c) T t r.1.1 mt))),
       )
@@ -434,15 +423,15 @@ module _ (S T W : List Pair) (last : ℕ) (o : IsOutlineOf T W) (p : IsParted W 
         let a = some_left in
         let m = ends_round W (λ z. pos 0 ≤ℤ at z) (λ z. from_told (at z)) a.0 b.0 a.1 b.1 a.2
         (omega (arith, ints, b.2)) in
-        (m.0, m.1, m.2, np_below _ (below_of _ m.3), (omega (arith, ints, below_of _ m.3, m.2)))
+        (m.0, m.1, m.2, np_below _ (not_at_most (pos 0) _ m.3), (omega (arith, ints, not_at_most (pos 0) _ m.3, m.2)))
     | inr none ↦ elim (search_below (λ i. pos 0 <ℤ at (corner W i)) (λ i. less_told (pos 0) (at (corner W i)))
         (length W)) [
           | inl a ↦
               let b = some_right in
               let m = ends_round W (λ z. pos 0 <ℤ at z) (λ z. less_told (pos 0) (at z)) a.0 b.0 a.1 b.1 a.2
               (omega (arith, ints, b.2)) in
-              (m.0, m.1, nn_above _ m.2, most_of _ m.3, (omega (arith, ints, most_of _ m.3, m.2)))
-          | inr flat ↦ absurd (not_level (λ i l. zero_between _ (least_of _ (none i l)) (most_of _ (flat i l))))
+              (m.0, m.1, nn_above _ m.2, not_less (pos 0) _ m.3, (omega (arith, ints, not_less (pos 0) _ m.3, m.2)))
+          | inr flat ↦ absurd (not_level (λ i l. zero_between _ (not_less _ (pos 0) (none i l)) (not_less (pos 0) _ (flat i l))))
         ]
   ]
 

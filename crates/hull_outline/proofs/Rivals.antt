@@ -19,10 +19,12 @@ use Rattle.hull_outline.proofs.Cones.{square_nn, square_above}
 use Rattle.hull_outline.proofs.Fractions.{products_le, products_lt}
 use Rattle.hull_outline.proofs.Gaps.{turned, parts, gap, along_gap, along_step, some_length, narrower}
 use Rattle.hull_outline.proofs.NearestOf.{step_back}
-use Rattle.hull_outline.proofs.Parted.{product_ss, product_ns}
+use Rattle.hull_outline.proofs.Parted.{product_ns}
 use Rattle.hull_outline.proofs.Separated.{apart_by, from_edge}
 use Rattle.lattice.proofs.Numbers.{above_not_np, below_not_nn, gap_above, gap_below, gap_nn, le_by_gap, le_by_sum}
 use Rattle.lattice.proofs.Numbers.{less_across, less_not_le, less_opposites, nn_above, nn_by_le, np_below}
+use Rattle.hull_geometry.proofs.EdgeSteps.{product_same}
+use Rattle.hull_outline.proofs.Passing.{times_less}
 
 -- ---- what parts a set from a point, as a fraction
 
@@ -238,19 +240,11 @@ ends_level : (a b : Pair) → product (left_of b a) a ≡ product (left_of b a) 
 unfolding product
 ends_level a b = rw (as_pair a, as_pair b) (simp difference_rules (difference-eq _ _ _ _ (omega arith)))
 
--- products of a number above 0 with numbers in order
-drawn_out : (k x y : ℤ) → pos 0 <ℤ k → x <ℤ y → (k *ℤ x) <ℤ (k *ℤ y)
-drawn_out k x y h l = omega (arith, ints, apart k x y, product_pp k (y -ℤ x) h (gap_above _ _ l))
-  where
-    apart : (k x y : ℤ) → k *ℤ (y -ℤ x) ≡ k *ℤ y -ℤ k *ℤ x
-    apart k x y = rw (as_difference k, as_difference x, as_difference y)
-        (simp difference_rules (difference-eq _ _ _ _ (omega arith)))
-
 -- which way two products go that are equal but for a factor above 0
 same_way : (l x y z : ℤ) → pos 0 <ℤ l → l *ℤ x ≡ y *ℤ z → y <ℤ pos 0 → x <ℤ pos 0 → pos 0 <ℤ z
 same_way l x y z hl e hy hx = elim (le_or_lt z (pos 0)) [
   | inr k ↦ k
-  | inl k ↦ absurd (below_not_nn _ _ e (product_pn l x hl hx) (product_ss y z (np_below _ hy) k))
+  | inl k ↦ absurd (below_not_nn _ _ e (product_pn l x hl hx) (product_same y z (np_below _ hy) k))
 ]
 
 -- and the other way
@@ -339,7 +333,7 @@ module _ (S T : List Pair) (c a b s : Pair) (d : Pair)
   over l m r =
       loses T s a b n (on b -ℤ on s) (on s -ℤ on a) H r h.start.0 h.end.0 (gap_nn _ _ m) (gap_nn _ _ l) sum (flat s a b)
       (rw (over_edge s) (omega (arith, ints, product_pp _ _ sum (gap_above _ _ c_out), out_from)))
-      (rw (over_edge s) (drawn_out _ _ _ sum (omega (arith, ints, nearer))))
+      (rw (over_edge s) (times_less _ _ _ sum (omega (arith, ints, nearer))))
     where
       w : Pair
       w = gap (on b -ℤ on s) (on s -ℤ on a) s a b

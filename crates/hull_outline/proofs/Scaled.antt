@@ -12,7 +12,3 @@ four_more n m k e = more n m (4 ^ k) (4 ^ (k + 1)) (pow-add 4 k 1) e
 -- so often is enough: a number above 0 times 4^95 is no less than 2^190
 pub enough : (n m k : ℕ) → 0 < n → m ≡ n * 4 ^ k → k ≡ 95 → 2 ^ 190 ≤ m
 enough n m k p e f = let g : m ≡ n * 4 ^ 95 = subst (λ (j : ℕ). m ≡ n * 4 ^ j) f e in omega (arith, g, p)
-
--- the upper of two bounds, where it follows the lower
-pub next_above : (n d low high : ℕ) → n < high * high * d → high ≡ low + 1 → n < (low + 1) * (low + 1) * d
-next_above n d low high h e = subst (λ (j : ℕ). n < j * j * d) e h

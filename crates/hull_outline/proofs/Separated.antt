@@ -8,7 +8,6 @@ use Rattle.lattice.specs.Covers.{Member}
 use Rattle.lattice.specs.Places.{IsFarthest}
 use Rattle.lattice.specs.Plane.{Pair, orient, product, IsBefore}
 use Rattle.lattice.proofs.Order.{before_total}
-use Rattle.hull_geometry.proofs.Orientation.{orient_other}
 use Rattle.hull_outline.specs.Encounters.{IsShielded, IsLeftmost}
 use Rattle.hull_outline.specs.Meetings.{Parts, segment}
 use Rattle.hull_outline.specs.Nearest.{IsNearestCorner, IsNearestEdge}
@@ -19,6 +18,7 @@ use Rattle.hull_outline.proofs.Cones.{way_square, square_nn, square_above}
 use Rattle.hull_geometry.proofs.PointLists.{all_of}
 use Rattle.hull_outline.proofs.Shields.{product_left, parted_right, parts_turned}
 use Rattle.lattice.proofs.Numbers.{le_by_opposite, le_less_trans, less_by_opposite, less_by_sum}
+use Rattle.lattice.proofs.LineCrossings.{orient_other}
 
 -- a direction that parts them, and a farthest point in it
 pub separation_of : (S T : List Pair) (w : Separation) → Contains S w.farthest → IsFarthest S w.direction w.farthest

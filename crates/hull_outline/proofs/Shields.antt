@@ -11,20 +11,21 @@ use Rattle.lattice.proofs.Vectors.{as_pair}
 use lib.IntN.{*ℤ_comm}
 use Rattle.lattice.specs.Signs.{le_or_lt, product_nn, cancel_nn}
 use Rattle.lattice.proofs.Order.{before_total, before_not, before_irrefl}
-use Rattle.lattice.proofs.LineCrossings.{orient_end}
+use Rattle.lattice.proofs.LineCrossings.{orient_end, orient_other}
 use Rattle.hull_geometry.specs.Positions.{origin}
 use Rattle.hull_geometry.proofs.CoveredByEdges.{on_segment}
 use Rattle.hull_geometry.proofs.Decided.{covers_or_separated}
 use Rattle.hull_geometry.proofs.NotCovered.{not_covered}
-use Rattle.hull_geometry.proofs.Orientation.{orient_other, orient-cycle}
 use Rattle.hull_outline.specs.Encounters.{IsAmong, IsShielded, IsLeftmost}
 use Rattle.hull_outline.specs.Meetings.{Parts, IsApart, segment}
 use Rattle.hull_outline.specs.Steps.{left_of}
 use Rattle.hull_geometry.proofs.PointLists.{all_of}
 use Rattle.hull_outline.proofs.EdgesOf.{other_line}
-use Rattle.hull_outline.proofs.Parted.{weights_x, weights_y, weights_sum, weights_from, below_both, product_ss}
+use Rattle.hull_outline.proofs.Parted.{weights_x, weights_y, weights_sum, weights_from, below_both}
 use Rattle.lattice.proofs.Numbers.{below_opposite, gap_below, gap_none, less_across, less_le_trans, nn_above}
 use Rattle.lattice.proofs.Numbers.{np_below}
+use Rattle.hull_geometry.proofs.EdgeSteps.{product_same}
+use Rattle.hull_geometry.proofs.Orientation.{orient-cycle}
 
 -- ---- the ends of a segment
 
@@ -68,9 +69,9 @@ at_first a b v e = elim (le_or_lt a b)
     [ inl h ↦ inl (omega (arith, ints), omega (arith, ints)) | inr h ↦ inr (omega (arith, ints), omega (arith, ints)) ]
 
 -- either of two may come first
-turned_between : (a b v : ℤ) → IsBetween a b v → IsBetween b a v
-turned_between a b v (inl h) = inr h
-turned_between a b v (inr h) = inl h
+pub between_back : (x y v : ℤ) → IsBetween x y v → IsBetween y x v
+between_back x y v (inl h) = inr h
+between_back x y v (inr h) = inl h
 
 -- a point of the line that stands at or after p and at or before r is on the segment
 up_to : (p q r : Pair) → orient p r q ≡ pos 0 → ¬ IsBefore q p → ¬ IsBefore r q → IsOnSegment p r q
@@ -85,8 +86,8 @@ up_to p q r z nqp nrq = elim (before_total p q) [
     | inr (inr k) ↦ absurd (nrq k)
     | inr (inl e) ↦ (
       z,
-      turned_between r.x p.x q.x (at_first r.x p.x q.x (ap (λ (t : Pair). t.x) e)),
-      turned_between r.y p.y q.y (at_first r.y p.y q.y (ap (λ (t : Pair). t.y) e)),
+      between_back r.x p.x q.x (at_first r.x p.x q.x (ap (λ (t : Pair). t.x) e)),
+      between_back r.y p.y q.y (at_first r.y p.y q.y (ap (λ (t : Pair). t.y) e)),
     )
     | inl k ↦ on_segment p r q b k (sym (orient-cycle p r q) ∙ z)
   ]
@@ -97,7 +98,7 @@ pub among_on_segment : (p q r : Pair) → orient p r q ≡ pos 0 → IsAmong p q
 among_on_segment p q r z (inl h) = up_to p q r z h.0 h.1
 among_on_segment p q r z (inr h) =
     let k = up_to r q p (other_line p r q z) h.0 h.1 in
-    (z, turned_between r.x p.x q.x k.1, turned_between r.y p.y q.y k.2)
+    (z, between_back r.x p.x q.x k.1, between_back r.y p.y q.y k.2)
 
 -- of three points that are in line, if two are not among the others, the third is
 pub third_among : (a b u : Pair) → ¬ IsAmong a u b → ¬ IsAmong u a b → IsAmong u b a
@@ -156,7 +157,7 @@ pub pushed : (p q r s x w y z : ℤ) → p <ℤ pos 0 → w ≡ pos 0 → pos 0 
 pushed p q r s x w y z hp hw hr hs l hy hz e = elim (le_or_lt x (pos 0)) [
   | inr h ↦ h
   | inl h ↦
-      let a = product_ss p x (omega (arith, ints)) h in
+      let a = product_same p x (omega (arith, ints)) h in
       let b : q *ℤ w ≡ pos 0 = ap (λ (k : ℤ). q *ℤ k) hw ∙ omega (arith, ints) in
       let c = below_both r s y z hr hs l hy hz in
       absurd (omega (arith, ints))
@@ -211,7 +212,7 @@ between_ordered p q s a b e hp hq hs w h l =
     spread s b e ∙ ap (λ (k : ℤ). s *ℤ b -ℤ k) h ∙ ap (λ (k : ℤ). k *ℤ b -ℤ (p *ℤ b -ℤ q *ℤ a)) w
     ∙ rest_second p q a b in
     let u = positive_part s (e -ℤ a) hs (rw above (product_nn p (b -ℤ a) hp (omega (arith, ints)))) in
-    let v = positive_part s (b -ℤ e) hs (rw below (product_ss q (a -ℤ b) hq (omega (arith, ints)))) in
+    let v = positive_part s (b -ℤ e) hs (rw below (product_same q (a -ℤ b) hq (omega (arith, ints)))) in
     (omega (arith, ints), omega (arith, ints))
 
 -- the two weights exchanged

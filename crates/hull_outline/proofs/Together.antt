@@ -4,7 +4,7 @@ use Rattle.std.specs.List.{Contains}
 use Rattle.std.proofs.lemmas.Bool.{cases_lt}
 use Rattle.std.proofs.lemmas.Int.{ints}
 use Rattle.std.proofs.lemmas.List.Elements.{All-contains}
-use Rattle.lattice.specs.Covers.{Covers, Member, OnSegment, InTriangle}
+use Rattle.lattice.specs.Covers.{Covers}
 use Rattle.lattice.specs.Plane.{Pair, product}
 use Rattle.lattice.proofs.Vectors.{opp}
 use Rattle.hull_geometry.proofs.Decided.{covers_or_separated}
@@ -13,10 +13,10 @@ use Rattle.hull_outline.specs.Meetings.{IsApart, segment}
 use Rattle.hull_outline.specs.Outlines.{IsOutlineOf}
 use Rattle.hull_outline.specs.Rounds.{corner, IsParted}
 use Rattle.hull_outline.proofs.Differences.{parted_or_shared}
-use Rattle.hull_outline.proofs.Parted.{product_opp}
 use Rattle.hull_outline.proofs.Passing.{none_shared}
 use Rattle.hull_outline.proofs.Shields.{start_there, end_there}
 use Rattle.hull_outline.proofs.Turns.{all_nearer}
+use Rattle.hull_geometry.proofs.Slopes.{product-opp}
 
 -- any set is apart from no points
 pub apart_from_none : (S T : List Pair) → T ≡ [] → IsApart S T
@@ -25,19 +25,13 @@ apart_from_none S T e = (
   λ s t ms mt. absurd (let m = subst (λ (z : List Pair). Contains z t) e mt in omega (arith, m.1)),
 )
 
--- what covers stays covered by more points
-pub covers_more : (T U : List Pair) (q : Pair) → ((t : Pair) → Contains T t → Contains U t) → Covers T q → Covers U q
-covers_more T U q f (Member m) = Member (f q m)
-covers_more T U q f (OnSegment a b ma mb h) = OnSegment a b (f a ma) (f b mb) h
-covers_more T U q f (InTriangle a b c ma mb mc h) = InTriangle a b c (f a ma) (f b mb) (f c mc) h
-
 -- one corner or two that lie farther than m: so does the set
 pub few_beyond : (T W : List Pair) (last : ℕ) (d : Pair) (m : ℤ) → IsOutlineOf T W → IsParted W last → 0 < length W
     → length W ≤ 2 → m <ℤ product d (corner W 0) → m <ℤ product d (corner W 1) → (t : Pair) → Contains T t
     → m <ℤ product d t
 few_beyond T W last d m o p n few first second t mt =
-    over _ _ (product_opp d t) (all_nearer T W last (opp d) (neg_ℤ m) o p n
-    (λ i l. under _ _ (product_opp d (corner W i)) (end i l)) t mt)
+    over _ _ (product-opp d t) (all_nearer T W last (opp d) (neg_ℤ m) o p n
+    (λ i l. under _ _ (product-opp d (corner W i)) (end i l)) t mt)
   where
     over : (x y : ℤ) → x ≡ neg_ℤ y → x <ℤ neg_ℤ m → m <ℤ y
     over x y e h = omega (arith, ints)

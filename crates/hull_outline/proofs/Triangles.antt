@@ -2,7 +2,7 @@
 use Rattle.std.proofs.Common.{ℕ, ◌-◌, ◌≤◌, ◌<◌, pos, ◌≤ℤ◌, List, length, arith}
 use Rattle.std.proofs.lemmas.List.Elements.{All-contains}
 use Rattle.lattice.specs.Plane.{Pair, orient}
-use Rattle.hull_geometry.proofs.Orientation.{orient-cycle, at_least}
+use Rattle.hull_geometry.proofs.Orientation.{at_least, orient-cycle}
 use Rattle.hull_outline.specs.Outlines.{IsOutline}
 use Rattle.hull_outline.specs.Rounds.{corner}
 use Rattle.hull_outline.proofs.Corners.{corner_extreme, next_left}

@@ -26,10 +26,6 @@ ends_turned p q b = rw (is_before-true q p b) refl
 pub ends_alone : (p : Pair) → ends p p ≡ p ∷ []
 ends_alone p = rw (is_before-false p p (before_irrefl p)) refl
 
--- whichever of them is named first
-pub ends_either : (p q : Pair) → IsBefore q p → ends q p ≡ ends p q
-ends_either p q b = ends_in_order q p b ∙ sym (ends_turned p q b)
-
 -- it is in order
 ends_ordered : (a b : Pair) → IsPointSet (ends a b)
 ends_ordered a b = ordered_with a (b ∷ []) (λ i j d h n. absurd (omega (arith, h, n)))

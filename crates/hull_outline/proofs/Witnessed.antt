@@ -8,7 +8,6 @@ use Rattle.lattice.specs.Plane.{Pair, orient, product}
 use Rattle.lattice.specs.Vertices.{IsLeftOf}
 use Rattle.lattice.proofs.Vectors.{opp}
 use Rattle.hull_geometry.specs.Tangents.{IsFirstFarthest}
-use Rattle.hull_geometry.proofs.Orientation.{orient_other}
 use Rattle.hull_outline.specs.Meetings.{IsApart, Meets, Reaches, IsReached, Crosses, segment}
 use Rattle.hull_outline.specs.Outlines.{IsOutlineOf}
 use Rattle.hull_outline.specs.Rounds.{corner, IsParted}
@@ -21,11 +20,14 @@ use Rattle.hull_outline.specs.declared.separations.Separation.{Separation}
 use Rattle.hull_outline.proofs.Corners.{corner_extreme}
 use Rattle.hull_outline.proofs.EdgeAxes.{IsBesideSome, edge_parts}
 use Rattle.hull_geometry.proofs.PointLists.{all_of}
-use Rattle.hull_outline.proofs.Parted.{product_opp, farther_back, never_both}
+use Rattle.hull_outline.proofs.Parted.{farther_back, never_both}
 use Rattle.hull_outline.proofs.Separated.{apart_by}
 use Rattle.hull_outline.proofs.Shields.{product_left, one_of_two, start_there, end_there}
-use Rattle.hull_outline.proofs.Together.{covers_more, few_beyond}
+use Rattle.hull_outline.proofs.Together.{few_beyond}
 use Rattle.lattice.proofs.Numbers.{le_by_opposite, less_by_opposite, nn_not_below}
+use Rattle.hull_geometry.proofs.Slopes.{product-opp}
+use Rattle.lattice.proofs.LineCrossings.{orient_other}
+use Rattle.hull_geometry.proofs.FringeHulls.{covers_more}
 
 -- what meets somewhere meets
 pub meeting_meets : (S T : List Pair) (m : Meeting) → IsMeeting S T m → Meets S T
@@ -96,7 +98,7 @@ separation_turned S T w d p h e f = record {
     less x y u v f e g h k = omega (arith, ints)
 
     beyond : (t : Pair) → Contains T t → product (backward w.direction) p <ℤ product (backward w.direction) t
-    beyond t m = less _ _ _ _ (product w.direction w.farthest) (product_opp w.direction p) (product_opp w.direction t)
+    beyond t m = less _ _ _ _ (product w.direction w.farthest) (product-opp w.direction p) (product-opp w.direction t)
         (All-contains (λ u. product w.direction u ≤ℤ product w.direction w.farthest) T t h.farthest m)
         (All-contains (λ u. product w.direction w.farthest <ℤ product w.direction u) S p h.beyond f.0)
 

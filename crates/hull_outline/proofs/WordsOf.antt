@@ -3,13 +3,6 @@ use Rattle.std.proofs.Common.{◌≡◌, ℕ, ◌+◌, ◌*◌, ◌/◌, ◌%◌
 use Rattle.hull_outline.specs.Squares.{word}
 use Rattle.hull_outline.specs.Wide.{base}
 
--- two digits to the base 2^84 in words
-pub words_of_digits : (u l : ℕ)
-    → (u / 17592186044416 * word + (u % 17592186044416 * 1048576 + l / 18446744073709551616)) * word
-    + l % 18446744073709551616
-    ≡ u * base + l
-words_of_digits u l = omega arith
-
 -- three words times one
 pub times_one : (h m l b carried first above second fourth third : ℕ) → carried * word + first ≡ l * b + 0
     → above * word + second ≡ m * b + carried → fourth * word + third ≡ h * b + above

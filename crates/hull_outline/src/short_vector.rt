@@ -1,10 +1,10 @@
 //! Directions with small components: how far a step goes in one is multiplied in 64 bits, where that takes 128.
-ghost use Rattle.std.specs.Prelude.{◌≡◌, ◌↔◌, ◌*◌, ◌^◌, ◌*ℤ◌, ◌+ℤ◌, ◌<ℤ◌, IsTrue, MatchOption};
+ghost use Rattle.std.specs.Prelude.{◌≡◌, ◌↔◌, ◌^◌, ◌*ℤ◌, ◌+ℤ◌, ◌<ℤ◌, IsTrue, MatchOption};
 ghost use Rattle.lattice.specs.Plane as plane;
-ghost use Rattle.lattice.specs.Plane.{IsWithin, widest, widest_side};
+ghost use Rattle.lattice.specs.Plane.{IsWithin, widest_side};
 
 use super::vector::Vector;
-use lattice::Point;
+use lattice::{Point, sum_of_near_products};
 use std::marker::Model;
 
 /// The size up to which a component is short: 2^20.
@@ -37,28 +37,6 @@ fn is_short(component: i64) -> bool
     -SHORT_LIMIT <= component && component <= SHORT_LIMIT
 }
 
-/// The product of two numbers, which fits.
-fn multiplied(a: i64, b: i64) -> i64
-    requires { IsWithin (2 ^ 61) (a *ℤ b) }
-    ensures value { result ≡ a *ℤ b }
-    ensures size { IsWithin (2 ^ 61) result }
-{
-    a * b
-}
-
-/// u * p + v * q, of short components and of components.
-fn sum_of_products(u: i64, p: i64, v: i64, q: i64) -> i128
-    requires first { IsWithin (2 ^ 20) u }
-    requires second { IsWithin (2 * widest) p }
-    requires third { IsWithin (2 ^ 20) v }
-    requires fourth { IsWithin (2 * widest) q }
-    ensures value { result ≡ u *ℤ p +ℤ v *ℤ q }
-    ensures size { IsWithin widest_side result }
-{
-    let sum = multiplied(u, p) + multiplied(v, q);
-    sum as i128
-}
-
 impl ShortVector {
     /// The same direction, where its components are short.
     pub(crate) fn of(d: Vector) -> Option<ShortVector>
@@ -77,7 +55,7 @@ impl ShortVector {
         ensures value { result ≡ self.x *ℤ step.x +ℤ self.y *ℤ step.y }
         ensures size { IsWithin widest_side result }
     {
-        sum_of_products(self.dx, step.x(), self.dy, step.y())
+        sum_of_near_products(self.dx, step.x(), self.dy, step.y())
     }
 
     /// Whether `p` lies less far than `q` in this direction.

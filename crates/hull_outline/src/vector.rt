@@ -1,10 +1,10 @@
 //! Steps from one point to another, as directions with components up to 2^41.
-ghost use Rattle.std.specs.Prelude.{◌≡◌, ◌*◌, ◌^◌, ◌*ℤ◌, ◌+ℤ◌, ◌-ℤ◌, pos, neg_ℤ};
+ghost use Rattle.std.specs.Prelude.{◌≡◌, ◌*◌, ◌*ℤ◌, ◌+ℤ◌, pos, neg_ℤ};
 ghost use Rattle.lattice.specs.Plane as plane;
 ghost use Rattle.lattice.specs.Plane.{IsWithin, widest, widest_side};
 ghost use Rattle.hull_outline.specs.Steps.{step, left_of, turned_left, backward};
 
-use lattice::{Direction, Point};
+use lattice::{Direction, Point, difference, sum_of_products};
 use std::marker::Model;
 
 /// A direction: two components, each at most 2^41 in size, as the differences of coordinates are.
@@ -25,37 +25,6 @@ impl Model for Vector {
     ghost inverse = { λ v. record { dx = v.x; dy = v.y } };
 
     ghost invariant = { λ v. IsWithin (2 * widest) v.dx × IsWithin (2 * widest) v.dy };
-}
-
-/// The difference of two coordinates.
-fn difference(a: i64, b: i64) -> i64
-    requires first { IsWithin widest a }
-    requires second { IsWithin widest b }
-    ensures value { result ≡ a -ℤ b }
-    ensures size { IsWithin (2 * widest) result }
-{
-    a - b
-}
-
-/// The product of two numbers, which fits.
-fn multiplied(a: i128, b: i128) -> i128
-    requires { IsWithin (2 ^ 125) (a *ℤ b) }
-    ensures value { result ≡ a *ℤ b }
-    ensures size { IsWithin (2 ^ 125) result }
-{
-    a * b
-}
-
-/// u * p + v * q, of components.
-fn sum_of_products(u: i64, p: i64, v: i64, q: i64) -> i128
-    requires first { IsWithin (2 * widest) u }
-    requires second { IsWithin (2 * widest) p }
-    requires third { IsWithin (2 * widest) v }
-    requires fourth { IsWithin (2 * widest) q }
-    ensures value { result ≡ u *ℤ p +ℤ v *ℤ q }
-    ensures size { IsWithin widest_side result }
-{
-    multiplied(u as i128, p as i128) + multiplied(v as i128, q as i128)
 }
 
 impl Vector {

@@ -11,10 +11,10 @@ use Rattle.lattice.specs.Covers.{IsPointSet, with_point, without_point}
 use Rattle.lattice.specs.Plane.{Pair}
 use Rattle.lattice.proofs.Order.{before_irrefl, before_total, before_not, is_before-true, is_before-false}
 use Rattle.hull_geometry.specs.Monotone.{IsChainOf, IsFringeOf, AreChainsOf, AreFringesOf}
-use Rattle.hull_plain.specs.Outlines.{HasRoom, FringesHaveRoom, IsOutlineOf, AreAlike, IsPlainSet}
+use Rattle.hull_plain.specs.Rims.{HasRoom, FringesHaveRoom, IsRimOf, AreAlike, IsPlainSet}
 use Rattle.lattice.specs.declared.side.Side.{Side}
 use Rattle.hull_plain.specs.declared.fringes.Fringes.{Fringes}
-use Rattle.hull_plain.specs.declared.outline.Outline.{Outline}
+use Rattle.hull_plain.specs.declared.rim.Rim.{Rim}
 use Rattle.hull_geometry.proofs.Between.{set_few}
 use Rattle.hull_set.proofs.OrderedMaps.{point_cmp, insert_is, remove_is}
 use Rattle.hull_geometry.proofs.SetLaws.{ordered_with, ordered_without}
@@ -24,7 +24,7 @@ pub fringes_have_less : {f : Fringes} {m n : ℕ} → FringesHaveRoom f n → m 
 fringes_have_less {f} {m} {n} h l = record { below = omega (arith, h.below); above = omega (arith, h.above) }
 
 -- room for more points is room for fewer
-pub has_less : {o : Outline} {m n : ℕ} → HasRoom o n → m ≤ n → HasRoom o m
+pub has_less : {o : Rim} {m n : ℕ} → HasRoom o n → m ≤ n → HasRoom o m
 has_less {o} {m} {n} h l = record {
   lower = omega (arith, h.lower);
   upper = omega (arith, h.upper);
@@ -61,7 +61,7 @@ length_without p (x ∷ xs) =
     ]
 
 -- a plain set stays one where a number of at least 1 is written beside a point
-pub written : {limit : ℕ} {es : List (Pair × ℕ)} {o : Outline} → IsPlainSet limit es o
+pub written : {limit : ℕ} {es : List (Pair × ℕ)} {o : Rim} → IsPlainSet limit es o
     → (p : Pair) (n : ℕ) (fs : List (Pair × ℕ)) → fs ≡ set_value (is_at (point_cmp p)) es n → 1 ≤ n
     → IsPlainSet limit fs o
 written {limit} {es} {o} k p n fs e above = subst (λ (z : List (Pair × ℕ)). IsPlainSet limit z o) (sym e) (record {
@@ -70,24 +70,24 @@ written {limit} {es} {o} k p n fs e above = subst (λ (z : List (Pair × ℕ)). 
   few = subst (λ (z : List Pair). length z ≤ limit) same k.few;
   in_order = subst IsPointSet same k.in_order;
   each_held = All-values-set_value (is_at (point_cmp p)) (λ m. 1 ≤ m) es n k.each_held above;
-  outline = subst (λ (z : List Pair). IsOutlineOf z o) same k.outline;
+  rim = subst (λ (z : List Pair). IsRimOf z o) same k.rim;
   room = subst (λ (z : List Pair). HasRoom o (length z)) same k.room;
 })
   where
     same : keys_of es ≡ keys_of (set_value (is_at (point_cmp p)) es n)
     same = sym (keys-set_value (is_at (point_cmp p)) es n)
 
--- an outline stays that of a set where its chains and fringes stay
-pub same_outline : (S : List Pair) (o new : Outline) → AreAlike o new → IsOutlineOf S o → IsOutlineOf S new
-same_outline S o new e k = record {
+-- a rim stays that of a set where its chains and fringes stay
+pub same_rim : (S : List Pair) (o new : Rim) → AreAlike o new → IsRimOf S o → IsRimOf S new
+same_rim S o new e k = record {
   chains = subst (λ (z : List Pair). AreChainsOf S z new.upper.items) (sym e.lower)
       (subst (AreChainsOf S o.lower.items) (sym e.upper) k.chains);
   fringes = subst (λ (z : List Pair). AreFringesOf S z new.fringes.above.items) (sym e.below)
       (subst (AreFringesOf S o.fringes.below.items) (sym e.above) k.fringes);
 }
 
--- and where its outline has the same points, and room for as many at least
-pub reserved : {limit : ℕ} {es : List (Pair × ℕ)} {o : Outline} → IsPlainSet limit es o → (new : Outline)
+-- and where its rim has the same points, and room for as many at least
+pub reserved : {limit : ℕ} {es : List (Pair × ℕ)} {o : Rim} → IsPlainSet limit es o → (new : Rim)
     → AreAlike o new → ((n : ℕ) → HasRoom o n → HasRoom new n) → IsPlainSet limit es new
 reserved {limit} {es} {o} k new e kept = record {
   low = k.low;
@@ -95,21 +95,21 @@ reserved {limit} {es} {o} k new e kept = record {
   few = k.few;
   in_order = k.in_order;
   each_held = k.each_held;
-  outline = same_outline (keys_of es) o new e k.outline;
+  rim = same_rim (keys_of es) o new e k.rim;
   room = kept _ k.room;
 }
 
 -- and where a point that was not there is put in, once
-pub put_in : {limit : ℕ} {es : List (Pair × ℕ)} {o : Outline} → IsPlainSet limit es o → (p : Pair) (new : Outline)
-    → length (keys_of es) < limit → IsOutlineOf (with_point p (keys_of es)) new
+pub put_in : {limit : ℕ} {es : List (Pair × ℕ)} {o : Rim} → IsPlainSet limit es o → (p : Pair) (new : Rim)
+    → length (keys_of es) < limit → IsRimOf (with_point p (keys_of es)) new
     → HasRoom new (length (keys_of es) + 1) → IsPlainSet limit (insert_entry point_cmp es p 1) new
-put_in {limit} {es} {o} k p new l outline room = record {
+put_in {limit} {es} {o} k p new l rim room = record {
   low = k.low;
   high = k.high;
   few = omega (arith, few);
   in_order = subst IsPointSet (sym same) (ordered_with p (keys_of es) k.in_order);
   each_held = All-values-insert_entry point_cmp p 1 (λ m. 1 ≤ m) es k.each_held (omega arith);
-  outline = subst (λ (z : List Pair). IsOutlineOf z new) (sym same) outline;
+  rim = subst (λ (z : List Pair). IsRimOf z new) (sym same) rim;
   room = has_less room few;
 }
   where
@@ -120,16 +120,16 @@ put_in {limit} {es} {o} k p new l outline room = record {
     few = rw same (length_with p (keys_of es))
 
 -- and where a point is taken out
-pub taken_out : {limit : ℕ} {es : List (Pair × ℕ)} {o : Outline} → IsPlainSet limit es o
-    → (p : Pair) (fs : List (Pair × ℕ)) (new : Outline) → fs ≡ remove_entry (is_at (point_cmp p)) es
-    → IsOutlineOf (keys_of fs) new → ((n : ℕ) → HasRoom o n → HasRoom new n) → IsPlainSet limit fs new
-taken_out {limit} {es} {o} k p fs new e outline kept = record {
+pub taken_out : {limit : ℕ} {es : List (Pair × ℕ)} {o : Rim} → IsPlainSet limit es o
+    → (p : Pair) (fs : List (Pair × ℕ)) (new : Rim) → fs ≡ remove_entry (is_at (point_cmp p)) es
+    → IsRimOf (keys_of fs) new → ((n : ℕ) → HasRoom o n → HasRoom new n) → IsPlainSet limit fs new
+taken_out {limit} {es} {o} k p fs new e rim kept = record {
   low = k.low;
   high = k.high;
   few = omega (arith, few, k.few);
   in_order = subst IsPointSet (sym same) (ordered_without p (keys_of es) k.in_order);
   each_held = rw e (All-map-remove_entry (is_at (point_cmp p)) (λ e. e.1) (λ m. 1 ≤ m) es k.each_held);
-  outline = outline;
+  rim = rim;
   room = kept _ (has_less k.room few);
 }
   where
@@ -140,7 +140,7 @@ taken_out {limit} {es} {o} k p fs new e outline kept = record {
     few = rw same (length_without p (keys_of es))
 
 -- the room of a set is room for what is left of it
-pub left_room : {limit : ℕ} {es : List (Pair × ℕ)} {o : Outline} → IsPlainSet limit es o → (p : Pair)
+pub left_room : {limit : ℕ} {es : List (Pair × ℕ)} {o : Rim} → IsPlainSet limit es o → (p : Pair)
     (fs : List (Pair × ℕ)) → fs ≡ remove_entry (is_at (point_cmp p)) es → HasRoom o (length (keys_of fs))
 left_room {limit} {es} {o} k p fs e =
     let same : keys_of fs ≡ without_point p (keys_of es) = ap keys_of e ∙ remove_is es p k.in_order in

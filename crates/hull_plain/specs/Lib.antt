@@ -1,5 +1,5 @@
 pub mod Sets
-pub mod Outlines
+pub mod Rims
 pub mod Drafts
 pub mod ChainSights
 pub mod Bounds

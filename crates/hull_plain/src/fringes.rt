@@ -6,7 +6,7 @@ ghost use Rattle.lattice.specs.Plane.{Pair};
 ghost use Rattle.lattice.specs.Covers.{IsPointSet, with_point, without_point};
 ghost use Rattle.hull_plain.specs.Drafts.{DraftHasRoom, IsAsRoomy};
 ghost use Rattle.hull_geometry.specs.Monotone.{AreFringesOf};
-ghost use Rattle.hull_plain.specs.Outlines.{FringesHaveRoom};
+ghost use Rattle.hull_plain.specs.Rims.{FringesHaveRoom};
 
 use super::draft::Draft;
 use super::fringe::{put_on, renew, take_off};

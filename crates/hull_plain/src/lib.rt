@@ -29,9 +29,9 @@ mod fringe;
 mod fringes;
 mod mending;
 mod monotone;
-mod outline;
 mod plain_set;
 mod positions;
+mod rim;
 mod sights;
 mod tangents;
 

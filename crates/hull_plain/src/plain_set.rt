@@ -1,7 +1,7 @@
 ghost use Rattle.std.specs.Prelude.{◌≡◌, ◌≤◌, []};
 ghost use Rattle.hull_plain.specs.Sets.{LimitedSet};
 
-use super::outline::Outline;
+use super::rim::Rim;
 use heap::Heap;
 use hull_set::{AddReply, HullSet, MULTIPLICITY_LIMIT, NoMemory, POINT_LIMIT, Place, RemoveReply};
 use lattice::{Direction, Point};
@@ -25,18 +25,18 @@ use std::marker::Model;
 pub struct PlainSet {
     limit: u32,
     points: BTreeMap<Point, u16, Heap>,
-    outline: Outline,
+    rim: Rim,
 }
 
 impl Model for PlainSet {
-    ghost use Rattle.hull_plain.specs.Outlines.{IsPlainSet};
+    ghost use Rattle.hull_plain.specs.Rims.{IsPlainSet};
     ghost use Rattle.hull_plain.specs.Sets.{LimitedSet};
 
     ghost Value = { LimitedSet };
 
     ghost view = { λ s. record { limit = s.limit; entries = s.points.entries } };
 
-    ghost invariant = { λ s. IsPlainSet s.limit s.points.entries s.outline };
+    ghost invariant = { λ s. IsPlainSet s.limit s.points.entries s.rim };
 }
 
 impl PlainSet {
@@ -49,7 +49,7 @@ impl PlainSet {
         PlainSet {
             limit,
             points: BTreeMap::new(alloc),
-            outline: Outline::new(alloc),
+            rim: Rim::new(alloc),
         }
     }
 }
@@ -93,13 +93,13 @@ impl HullSet for PlainSet {
         if count >= self.limit as usize {
             return AddReply::TooMany;
         }
-        if self.outline.reserve(count + 1).is_err() {
+        if self.rim.reserve(count + 1).is_err() {
             return AddReply::NoMemory;
         }
         if self.points.insert(p, 1).is_err() {
             return AddReply::NoMemory;
         }
-        self.outline.add(p, &self.points);
+        self.rim.add(p, &self.points);
         AddReply::Added
     }
 
@@ -112,27 +112,27 @@ impl HullSet for PlainSet {
             return RemoveReply::Left(u32::from(*times));
         }
         self.points.remove(&p);
-        self.outline.remove(p, &self.points);
+        self.rim.remove(p, &self.points);
         RemoveReply::Removed
     }
 
     fn extreme(&self, d: Direction) -> Option<Point> {
-        self.outline.extreme(d)
+        self.rim.extreme(d)
     }
 
     fn place(&self, q: Point) -> Place {
-        self.outline.place(q)
+        self.rim.place(q)
     }
 
     fn tangents(&self, q: Point) -> Option<(Point, Point)> {
-        self.outline.tangents(q)
+        self.rim.tangents(q)
     }
 
     fn vertices(&self) -> Result<Vec<Point, Heap>, NoMemory> {
-        Ok(self.outline.vertices()?)
+        Ok(self.rim.vertices()?)
     }
 
     fn area2(&self) -> u128 {
-        self.outline.area2()
+        self.rim.area2()
     }
 }

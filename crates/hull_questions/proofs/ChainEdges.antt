@@ -14,7 +14,7 @@ use Rattle.bridge_search.specs.Leaves.{points_of}
 use Rattle.bridge_search.proofs.Leaves.{on_of_contains, contains_of_on}
 use Rattle.hull_geometry.proofs.PointLists.{all_of}
 use Rattle.hull_geometry.specs.Edges.{IsLowerEdge}
-use Rattle.hull_geometry.proofs.Orientation.{orient-cross, orient-cycle, at_least, above, ahead_of}
+use Rattle.hull_geometry.proofs.Orientation.{orient-cross, at_least, above, ahead_of, orient-cycle}
 use Rattle.lattice.proofs.Sides.{side_by_start, side_by_end, side_after, side_to_end}
 use Rattle.lattice.proofs.Numbers.{nn_above, sum_above}
 use Rattle.hull_questions.proofs.StoredEdges.{same_ends}

@@ -9,7 +9,7 @@ use Rattle.bridge_search.specs.Leaves.{points_of}
 use Rattle.bridge_search.proofs.Ends.{last_by, on_last}
 use Rattle.bridge_search.proofs.Leaves.{on_of_contains, contains_of_on}
 use Rattle.bridge_search.proofs.Turns.{first_by, on_first}
-use Rattle.hull_geometry.proofs.Orientation.{orient_swap, orient-cycle, above}
+use Rattle.hull_geometry.proofs.Orientation.{orient_swap, above, orient-cycle}
 use Rattle.hull_questions.specs.Chains.{IsLowerCorner}
 use Rattle.hull_questions.proofs.ChainEdges.{not_zero}
 use Rattle.lattice.specs.declared.side.Side.TheVariants.{Lower}

@@ -16,13 +16,13 @@ use Rattle.hull_geometry.proofs.PointLists.{all_of}
 use Rattle.hull_geometry.specs.Tangents.{IsFirstFarthest, Faces}
 use Rattle.lattice.proofs.Order.{before_not, before_irrefl}
 use Rattle.hull_geometry.proofs.Slopes.{stays, goes}
-use Rattle.hull_geometry.proofs.Orientation.{orient_other}
 use Rattle.lattice.proofs.Numbers.{nn_opposite}
 use Rattle.lattice.specs.Turns.{turn}
 use Rattle.lattice.specs.declared.side.Side.{Side}
 use Rattle.lattice.specs.declared.side.Side.TheVariants.{Lower, Upper}
 use Rattle.hull_questions.proofs.StoredEdges.{same_ends}
 use Rattle.hull_questions.specs.Parts.{IsFacing, IsFartherPart, IsOneDown}
+use Rattle.lattice.proofs.LineCrossings.{orient_other}
 
 -- the first of the farthest is in the left half where no point of the right one lies farther than some point of the
 -- left one

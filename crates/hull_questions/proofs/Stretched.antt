@@ -15,6 +15,7 @@ use Rattle.hull_questions.proofs.ChainEdges.{left_lifts, right_lifts, edge_here}
 use Rattle.hull_questions.proofs.Corners.{first_corner, last_corner, bridge_start, bridge_end, corner_left}
 use Rattle.hull_questions.proofs.Corners.{corner_right, none_between, in_left, in_right}
 use Rattle.hull_questions.proofs.StoredEdges.{same_ends}
+use Rattle.hull_geometry.proofs.Passes.{end_from}
 
 -- the whole lower chain is a stretch
 pub whole_stretch : (t : Tree) → IsBridged t → IsStretch t (first_of t) (last_of t)
@@ -60,11 +61,6 @@ chain_over : (E : Pair → Pair → Type 0) (v : Pair) (xs : List Pair) (b : Pai
     → E (end_of v xs) b → IsChain E b ys → IsChain E v (xs ++ b ∷ ys)
 chain_over E v [] b ys c e d = (e, d)
 chain_over E v (x ∷ xs) b ys c e d = (c.0, chain_over E x xs b ys c.1 e d)
-
--- end where the other one ends
-end_over : (v : Pair) (xs : List Pair) (b : Pair) (ys : List Pair) → end_of v (xs ++ b ∷ ys) ≡ end_of b ys
-end_over v [] b ys = refl
-end_over v (x ∷ xs) b ys = end_over x xs b ys
 
 -- ---- the three ways
 
@@ -143,7 +139,7 @@ stretch_across (Fork e f u w) a b from to h g s at fb =
                   (edge_here (Fork e f u w) f.0 f.0 f.1 h refl (before_irrefl f.0)
                   (h.0 f.0 f.1 h.2.from_left h.2.to_right)).edge)
                   (chain_right u w f.0 f.1 f.1 ys h.0 h.2 q.chain (before_irrefl f.1));
-              ends = end_over from xs f.1 ys ∙ q.ends;
+              ends = end_from from xs f.1 ys ∙ q.ends;
             };
           },
         )

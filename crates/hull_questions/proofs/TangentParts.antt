@@ -14,7 +14,7 @@ use Rattle.hull_geometry.proofs.PointLists.{all_of}
 use Rattle.bridge_search.proofs.Turns.{first_by, on_first}
 use Rattle.hull_geometry.proofs.EdgeSteps.{past_farther, past_farther_back}
 use Rattle.lattice.proofs.Order.{before_total, before_trans}
-use Rattle.hull_geometry.proofs.Orientation.{orient_swap, orient-cycle, at_least, above}
+use Rattle.hull_geometry.proofs.Orientation.{orient_swap, at_least, above, orient-cycle}
 use Rattle.hull_geometry.proofs.SameSide.{OneSide, more_beside}
 use Rattle.hull_geometry.proofs.Sightings.{turn_on_back, no_more, tangent_of}
 use Rattle.hull_geometry.proofs.EdgesAt.{up_to, on_from}

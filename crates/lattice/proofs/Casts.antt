@@ -5,24 +5,22 @@ use lib.IntN.{ℤ, ◌+ℤ◌, ◌-ℤ◌, ◌*ℤ◌}
 use mir.Val.{to_z, of_z}
 use mir.Syntax.{w128, w64}
 use borrow.Author.Differences.{ints}
-use Rattle.lattice.specs.Plane.{IsWithin, widest, widest_side, nearest, IsCoordinate}
-use Rattle.lattice.specs.Integers.{within_sub, within_mul, within_more}
+use Rattle.lattice.specs.Plane.{Pair, IsWithin, widest, widest_side, nearest, IsCoordinate, orient}
+use Rattle.lattice.specs.Integers.{within_add, within_sub, within_mul, within_more}
+use Rattle.lattice.specs.Polynomials.{difference-eq, difference_rules}
+use Rattle.lattice.proofs.Vectors.{as_pair}
 
 -- a number of 64 bits that is no larger than a coordinate
 pub cast64 : (z : ℤ) → IsWithin widest z → to_z w64 (of_z w64 z) ≡ z
 cast64 z h = omega (arith, ints)
 
+-- any number of 64 bits
+pub cast_long : (z : ℤ) → FitsSigned w64 z → to_z w64 (of_z w64 z) ≡ z
+cast_long z h = to_z-of_z w64 z h
+
 -- a number of 128 bits
 pub cast128 : (z : ℤ) → FitsSigned w128 z → to_z w128 (of_z w128 z) ≡ z
 cast128 z h = to_z-of_z w128 z h
-
--- a number that is no larger than the widest product
-pub cast_product : (z : ℤ) → IsWithin (2 ^ 125) z → to_z w128 (of_z w128 z) ≡ z
-cast_product z h = omega (arith, ints)
-
--- a coordinate, cast to 128 bits
-pub cast_wide : (z : ℤ) → IsWithin widest z → to_z w128 (of_z w128 (to_z w64 (of_z w64 z))) ≡ z
-cast_wide z h = omega (arith, ints)
 
 -- u - v in 64 bits, cast to 128
 pub cast_difference : (u v : ℤ) → IsWithin widest u → IsWithin widest v
@@ -42,25 +40,6 @@ cast_add m n h k = omega (arith, ints)
 -- the limit of coordinates is safe
 pub coordinate_within : (z : ℤ) → IsCoordinate z → IsWithin widest z
 coordinate_within z h = omega (arith, ints)
-
--- (u - v) * (p - q), of coordinates
-pub minor_within : (u v p q : ℤ) → IsWithin widest u → IsWithin widest v → IsWithin widest p → IsWithin widest q
-    → IsWithin (4 * (widest * widest)) ((u -ℤ v) *ℤ (p -ℤ q))
-minor_within u v p q hu hv hp hq =
-    within_mul (widest + widest) (widest + widest) (u -ℤ v) (p -ℤ q) (within_sub widest widest u v hu hv)
-    (within_sub widest widest p q hp hq)
-
--- that is no larger than the widest product
-pub minor_small : (z : ℤ) → IsWithin (4 * (widest * widest)) z → IsWithin (2 ^ 125) z
-minor_small z h = within_more (4 * (widest * widest)) (2 ^ 125) z (lit≤ tt) h
-
--- a product of two coordinates
-pub pair_within : (u p : ℤ) → IsWithin widest u → IsWithin widest p → IsWithin (widest * widest) (u *ℤ p)
-pair_within u p hu hp = within_mul widest widest u p hu hp
-
--- that is no larger than the widest product
-pub pair_small : (z : ℤ) → IsWithin (widest * widest) z → IsWithin (2 ^ 125) z
-pair_small z h = within_more (widest * widest) (2 ^ 125) z (lit≤ tt) h
 
 -- a side times a difference of two coordinates
 pub weight_within : (u p r : ℤ) → IsWithin widest_side u → IsWithin widest p → IsWithin widest r
@@ -82,31 +61,37 @@ sum_fits m n h k = omega (arith, ints)
 pub cast_side : (z : ℤ) → IsWithin widest_side z → to_z w128 (of_z w128 z) ≡ z
 cast_side z h = omega (arith, ints)
 
+-- a difference of coordinates
+pub cast_step : (z : ℤ) → IsWithin (2 * widest) z → to_z w64 (of_z w64 z) ≡ z
+cast_step z h = omega (arith, ints)
+
+-- and cast to 128 bits
+pub cast_wide : (z : ℤ) → IsWithin (2 * widest) z → to_z w128 (of_z w128 (to_z w64 (of_z w64 z))) ≡ z
+cast_wide z h = omega (arith, ints)
+
+-- a product of two of them is no larger than the widest product
+pub pair_small : (u p : ℤ) → IsWithin (2 * widest) u → IsWithin (2 * widest) p → IsWithin (2 ^ 125) (u *ℤ p)
+pair_small u p h k = within_more _ (2 ^ 125) (u *ℤ p) (lit≤ tt) (within_mul (2 * widest) (2 * widest) u p h k)
+
+-- a side, by the step back along y
+pub side_by_steps : (a b c : Pair)
+    → (b.x -ℤ a.x) *ℤ (c.y -ℤ a.y) +ℤ (a.y -ℤ b.y) *ℤ (c.x -ℤ a.x) ≡ orient a b c
+unfolding orient
+side_by_steps a b c = rw (as_pair a, as_pair b, as_pair c) (simp difference_rules (difference-eq _ _ _ _ (omega arith)))
+
 -- ---- near points
--- u - v of near coordinates
-pub cast_near_difference : (u v : ℤ) → IsWithin nearest u → IsWithin nearest v
-    → to_z w64 (of_z w64 (to_z w64 (of_z w64 u) -ℤ to_z w64 (of_z w64 v))) ≡ u -ℤ v
-cast_near_difference u v hu hv = omega (arith, ints)
+-- a difference of near coordinates
+pub cast_near : (z : ℤ) → IsWithin (2 * nearest) z → to_z w64 (of_z w64 z) ≡ z
+cast_near z h = omega (arith, ints)
 
--- (u - v) * (p - q), of near coordinates
-pub near_within : (u v p q : ℤ) → IsWithin nearest u → IsWithin nearest v → IsWithin nearest p → IsWithin nearest q
-    → IsWithin (4 * (nearest * nearest)) ((u -ℤ v) *ℤ (p -ℤ q))
-near_within u v p q hu hv hp hq =
-    within_mul (nearest + nearest) (nearest + nearest) (u -ℤ v) (p -ℤ q) (within_sub nearest nearest u v hu hv)
-    (within_sub nearest nearest p q hp hq)
-
--- a product of differences of near coordinates fits
-pub cast_near_product : (z : ℤ) → IsWithin (4 * (nearest * nearest)) z → to_z w64 (of_z w64 z) ≡ z
-cast_near_product z h = omega (arith, ints)
-
--- the difference of two such products fits in 64 bits, and cast to 128 it is the same
-pub cast_near_side : (m n : ℤ) → IsWithin (4 * (nearest * nearest)) m → IsWithin (4 * (nearest * nearest)) n
-    → to_z w128 (of_z w128 (to_z w64 (of_z w64 (to_z w64 (of_z w64 m) -ℤ to_z w64 (of_z w64 n))))) ≡ m -ℤ n
-cast_near_side m n h k = omega (arith, ints)
+-- the sum of two near products fits in 64 bits, and cast to 128 it is the same
+pub cast_near_sum : (m n : ℤ) → IsWithin (4 * (nearest * nearest)) m → IsWithin (4 * (nearest * nearest)) n
+    → to_z w128 (of_z w128 (to_z w64 (of_z w64 (to_z w64 (of_z w64 m) +ℤ to_z w64 (of_z w64 n))))) ≡ m +ℤ n
+cast_near_sum m n h k = omega (arith, ints)
 
 -- and it is a side
-pub near_side_within : (m n : ℤ) → IsWithin (4 * (nearest * nearest)) m → IsWithin (4 * (nearest * nearest)) n
-    → IsWithin widest_side (m -ℤ n)
-near_side_within m n h k =
-    within_more (4 * (nearest * nearest) + 4 * (nearest * nearest)) widest_side (m -ℤ n) (lit≤ tt)
-    (within_sub (4 * (nearest * nearest)) (4 * (nearest * nearest)) m n h k)
+pub near_sum_within : (m n : ℤ) → IsWithin (4 * (nearest * nearest)) m → IsWithin (4 * (nearest * nearest)) n
+    → IsWithin widest_side (m +ℤ n)
+near_sum_within m n h k =
+    within_more (4 * (nearest * nearest) + 4 * (nearest * nearest)) widest_side (m +ℤ n) (lit≤ tt)
+    (within_add (4 * (nearest * nearest)) (4 * (nearest * nearest)) m n h k)

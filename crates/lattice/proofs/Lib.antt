@@ -9,3 +9,4 @@ pub mod Casts
 pub mod Weights
 pub mod Order
 pub mod Standing
+pub mod Tests

@@ -26,9 +26,9 @@ unfolding orient
 orient_cycle a b c = simp ring_laws (omega (arith, linear))
 
 -- the side changes its sign with the direction
-pub orient_swap : (a b c : Pair) → orient b a c ≡ neg_ℤ (orient a b c)
+pub orient_other : (a b c : Pair) → orient b a c ≡ neg_ℤ (orient a b c)
 unfolding orient
-orient_swap a b c = simp ring_laws (omega (arith, linear))
+orient_other a b c = simp ring_laws (omega (arith, linear))
 
 -- the bend of two lines by the two sides
 bend_is : (a b c d : Pair) → bend a b c d ≡ neg_ℤ (s1 a b c d +ℤ s2 a b c d)
@@ -86,7 +86,7 @@ cancels u v = simp ring_laws (omega (arith, linear))
 -- the point between c and d with the weights of the crossing is on the line ab
 crossing_side : (a b c d : Pair) → s1 a b c d *ℤ orient a b d +ℤ s2 a b c d *ℤ orient a b c ≡ pos 0
 crossing_side a b c d =
-    ap (λ (z : ℤ). orient a b c *ℤ orient a b d +ℤ z *ℤ orient a b c) (orient_swap a b d)
+    ap (λ (z : ℤ). orient a b c *ℤ orient a b d +ℤ z *ℤ orient a b c) (orient_other a b d)
     ∙ cancels (orient a b c) (orient a b d)
 
 -- the crossing of two lines that turn right is a point, and on both lines

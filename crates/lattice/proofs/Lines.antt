@@ -9,7 +9,7 @@ use Rattle.lattice.specs.Signs.{product_pp, product_nn}
 
 -- ---- identities
 -- the side changes from z to t by the cross product of the line's direction with t - z
-side_change : (p q t z : Pair)
+pub side_change : (p q t z : Pair)
     → orient p q t -ℤ orient p q z ≡ (q.x -ℤ p.x) *ℤ (t.y -ℤ z.y) -ℤ (q.y -ℤ p.y) *ℤ (t.x -ℤ z.x)
 unfolding orient
 side_change p q t z = simp ring_laws (omega (arith, linear))
@@ -35,11 +35,11 @@ abbrev pub IsNonnegative : ℤ → ℤ → Type 0
 IsNonnegative ux uy = (pos 0 <ℤ ux) ⊎ ((ux ≡ pos 0) × (pos 0 ≤ℤ uy))
 
 -- a product with zero on the right
-times_zero : (k u : ℤ) → u ≡ pos 0 → k *ℤ u ≡ pos 0
+pub times_zero : (k u : ℤ) → u ≡ pos 0 → k *ℤ u ≡ pos 0
 times_zero k u e = ap (λ (z : ℤ). k *ℤ z) e ∙ *ℤ-zero k
 
 -- a product with zero on the left
-zero_times : (k u : ℤ) → k ≡ pos 0 → k *ℤ u ≡ pos 0
+pub zero_times : (k u : ℤ) → k ≡ pos 0 → k *ℤ u ≡ pos 0
 zero_times k u e = ap (λ (z : ℤ). z *ℤ u) e ∙ zero-*ℤ u
 
 -- a positive multiple of a positive vector

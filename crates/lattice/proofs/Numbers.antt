@@ -1,6 +1,7 @@
 -- Whole numbers: their order, and what differences and opposites say of it.
-use Rattle.std.proofs.Common.{◌≡◌, ℤ, pos, ◌+ℤ◌, ◌-ℤ◌, ◌≤ℤ◌, ◌<ℤ◌, neg_ℤ, arith}
+use Rattle.std.proofs.Common.{◌≡◌, ℤ, pos, ◌+ℤ◌, ◌-ℤ◌, ◌≤ℤ◌, ◌<ℤ◌, neg_ℤ, inl, inr, arith}
 use Rattle.std.proofs.lemmas.Int.{ints}
+use Rattle.lattice.specs.Signs.{le_or_lt}
 
 -- a number above 0 is not below it
 pub nn_above : (x : ℤ) → pos 0 <ℤ x → pos 0 ≤ℤ x
@@ -161,3 +162,18 @@ le_opposites x y z w e f h = omega (arith, ints)
 -- the strict order of opposites
 pub less_opposites : (x y z w : ℤ) → x ≡ neg_ℤ z → y ≡ neg_ℤ w → x <ℤ y → w <ℤ z
 less_opposites x y z w e f h = omega (arith, ints)
+
+-- what is not less is at least as much
+pub not_less : (x y : ℤ) → ¬ (x <ℤ y) → y ≤ℤ x
+not_less x y n = elim (le_or_lt y x) [ inl h ↦ h | inr h ↦ absurd (n h) ]
+
+-- what is not at most as much is more
+pub not_at_most : (x y : ℤ) → ¬ (x ≤ℤ y) → y <ℤ x
+not_at_most x y n = elim (le_or_lt x y) [ inl h ↦ absurd (n h) | inr h ↦ h ]
+
+-- a number that is not unequal to 0
+pub not_apart : (x : ℤ) → ¬ ¬ (x ≡ pos 0) → x ≡ pos 0
+not_apart x n = elim (le_or_lt x (pos 0)) [
+  | inl h ↦ elim (le_or_lt (pos 0) x) [ inl k ↦ omega (arith, ints) | inr k ↦ absurd (n (λ e. omega (arith, ints, e))) ]
+  | inr h ↦ absurd (n (λ e. omega (arith, ints, e)))
+]

@@ -10,3 +10,4 @@ pub mod Signs
 pub mod Polynomials
 pub mod Crossing
 pub mod Laws
+pub mod OneWay

@@ -33,9 +33,10 @@ pub use laws::{
     lower_bridge_stands_as_point_comes, lower_bridge_stands_as_point_goes, upper_bridge_is_unique,
     upper_bridge_stands_as_point_comes, upper_bridge_stands_as_point_goes,
 };
-pub use near::{is_near, orient_near};
+pub use near::{is_near, orient_near, sum_of_near_products};
 pub use point::Point;
 pub use side::{Side, turn};
+pub use wide::{difference, sum_of_products};
 
 /// The greatest size of a coordinate of a point, and of a component of a direction.
 pub const COORDINATE_LIMIT: i64 = 1099511627776;

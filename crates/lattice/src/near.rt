@@ -1,5 +1,5 @@
 //! Sides of points near the origin, multiplied in 64 bits.
-ghost use Rattle.std.specs.Prelude.{◌≡◌, ◌↔◌, ◌*◌, ◌-ℤ◌, ◌*ℤ◌, IsTrue};
+ghost use Rattle.std.specs.Prelude.{◌≡◌, ◌↔◌, ◌*◌, ◌+ℤ◌, ◌-ℤ◌, ◌*ℤ◌, IsTrue};
 ghost use Rattle.lattice.specs.Plane as plane;
 ghost use Rattle.lattice.specs.Plane.{IsWithin, IsNear, nearest, widest_side};
 
@@ -22,16 +22,25 @@ fn multiplied(a: i64, b: i64) -> i64
     a * b
 }
 
-/// (u - v) * (p - q), of four coordinates of near points.
-fn product_of_differences(u: i64, v: i64, p: i64, q: i64) -> i64
-    requires first { IsWithin nearest u }
-    requires second { IsWithin nearest v }
-    requires third { IsWithin nearest p }
-    requires fourth { IsWithin nearest q }
-    ensures value { result ≡ (u -ℤ v) *ℤ (p -ℤ q) }
-    ensures size { IsWithin (4 * (nearest * nearest)) result }
+/// The difference of two coordinates of near points.
+fn near_difference(a: i64, b: i64) -> i64
+    requires first { IsWithin nearest a }
+    requires second { IsWithin nearest b }
+    ensures value { result ≡ a -ℤ b }
+    ensures size { IsWithin (2 * nearest) result }
 {
-    multiplied(u - v, p - q)
+    a - b
+}
+
+/// u * p + v * q, of numbers whose products fit 64 bits.
+pub fn sum_of_near_products(u: i64, p: i64, v: i64, q: i64) -> i128
+    requires first { IsWithin (4 * (nearest * nearest)) (u *ℤ p) }
+    requires second { IsWithin (4 * (nearest * nearest)) (v *ℤ q) }
+    ensures value { result ≡ u *ℤ p +ℤ v *ℤ q }
+    ensures size { IsWithin widest_side result }
+{
+    let sum = multiplied(u, p) + multiplied(v, q);
+    sum as i128
 }
 
 /// What [`orient`](crate::orient) tells, of three near points: multiplied in 64 bits, where that takes 128.
@@ -43,7 +52,10 @@ pub fn orient_near(a: Point, b: Point, c: Point) -> i128
     ensures value { result ≡ plane.orient a b c }
     ensures size { IsWithin widest_side result }
 {
-    let side = product_of_differences(b.x(), a.x(), c.y(), a.y())
-        - product_of_differences(b.y(), a.y(), c.x(), a.x());
-    side as i128
+    sum_of_near_products(
+        near_difference(b.x(), a.x()),
+        near_difference(c.y(), a.y()),
+        near_difference(a.y(), b.y()),
+        near_difference(c.x(), a.x()),
+    )
 }

@@ -1,6 +1,16 @@
-//! Differences and products that stay within 128 bits, for coordinates up to 2^40.
+//! Differences of coordinates, and sums of two products of such, within 128 bits, for coordinates up to 2^40.
 ghost use Rattle.std.specs.Prelude.{◌≡◌, ◌^◌, ◌*◌, ◌+ℤ◌, ◌-ℤ◌, ◌*ℤ◌};
-ghost use Rattle.lattice.specs.Plane.{IsWithin, widest};
+ghost use Rattle.lattice.specs.Plane.{IsWithin, widest, widest_side};
+
+/// The difference of two coordinates.
+pub fn difference(a: i64, b: i64) -> i64
+    requires first { IsWithin widest a }
+    requires second { IsWithin widest b }
+    ensures value { result ≡ a -ℤ b }
+    ensures size { IsWithin (2 * widest) result }
+{
+    a - b
+}
 
 /// The product of two numbers, which fits.
 pub(crate) fn multiplied(a: i128, b: i128) -> i128
@@ -11,26 +21,14 @@ pub(crate) fn multiplied(a: i128, b: i128) -> i128
     a * b
 }
 
-/// (u - v) * (p - q), of four coordinates: two subtractions of 64 bits and one product of 128.
-pub(crate) fn product_of_differences(u: i64, v: i64, p: i64, q: i64) -> i128
-    requires first { IsWithin widest u }
-    requires second { IsWithin widest v }
-    requires third { IsWithin widest p }
-    requires fourth { IsWithin widest q }
-    ensures value { result ≡ (u -ℤ v) *ℤ (p -ℤ q) }
-    ensures size { IsWithin (4 * (widest * widest)) result }
-{
-    multiplied((u - v) as i128, (p - q) as i128)
-}
-
-/// u * p + v * q, of two components and two coordinates.
-pub(crate) fn sum_of_products(u: i64, p: i64, v: i64, q: i64) -> i128
-    requires first { IsWithin widest u }
-    requires second { IsWithin widest p }
-    requires third { IsWithin widest v }
-    requires fourth { IsWithin widest q }
+/// u * p + v * q, of numbers no larger than differences of coordinates.
+pub fn sum_of_products(u: i64, p: i64, v: i64, q: i64) -> i128
+    requires first { IsWithin (2 * widest) u }
+    requires second { IsWithin (2 * widest) p }
+    requires third { IsWithin (2 * widest) v }
+    requires fourth { IsWithin (2 * widest) q }
     ensures value { result ≡ u *ℤ p +ℤ v *ℤ q }
-    ensures size { IsWithin (2 * (widest * widest)) result }
+    ensures size { IsWithin widest_side result }
 {
     multiplied(u as i128, p as i128) + multiplied(v as i128, q as i128)
 }

@@ -1,7 +1,7 @@
 -- the last point of the one stands before the first of the other, so all do
 use Rattle.lattice.specs.Plane.{IsBefore}
 use Rattle.bridge_search.proofs.Ends.{all_before}
-use Rattle.bridge_search.proofs.Signs.{passed}
+use Rattle.lattice.proofs.Tests.{passed}
 use Rattle.bridge_search.proofs.listed.bridges.Goals as goal
 
 pub upper_bridge-requires : goal.upper_bridge-requires

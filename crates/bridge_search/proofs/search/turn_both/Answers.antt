@@ -1,6 +1,7 @@
 -- the ends of both edges fit, and each of the four cases of the table keeps the bridge
-use Rattle.bridge_search.proofs.Signs.{not_under, is_under, passed, failed, crossing_told}
+use Rattle.bridge_search.proofs.Signs.{not_under, is_under, crossing_told}
 use Rattle.bridge_search.proofs.Turns as turns
+use Rattle.lattice.proofs.Tests.{passed, failed}
 use Rattle.bridge_search.proofs.search.turn_both.Goals as goal
 
 pub orient-side-requires-clause-first : goal.orient-side-requires-clause-first

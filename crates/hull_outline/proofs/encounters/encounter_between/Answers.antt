@@ -1,11 +1,12 @@
 -- the sides of the two points tell how the set stands to the segment
-use Rattle.std.proofs.Common.{◌≡◌, ℤ, pos, ◌≤ℤ◌, ◌<ℤ◌, inl, inr, arith}
+use Rattle.std.proofs.Common.{◌≡◌, pos, ◌<ℤ◌, inl, inr, arith}
 use Rattle.std.proofs.lemmas.Int.{ints}
 use Rattle.lattice.specs.Plane.{Pair, orient}
 use Rattle.lattice.specs.Signs.{le_or_lt}
-use Rattle.hull_geometry.proofs.Orientation.{orient_other}
 use Rattle.hull_outline.proofs.Shields.{side_back, shielded_across}
-use Rattle.hull_outline.proofs.Tests.{passed, failed}
+use Rattle.lattice.proofs.LineCrossings.{orient_other}
+use Rattle.lattice.proofs.Tests.{passed, failed}
+use Rattle.lattice.proofs.Numbers.{not_less}
 use Rattle.hull_outline.proofs.encounters.encounter_between.Goals as goal
 
 -- a point on neither side
@@ -15,10 +16,6 @@ on_line a b t m n = elim (le_or_lt (orient a b t) (pos 0)) [
   | inl h ↦ elim (le_or_lt (orient b a t) (pos 0))
       [ inr k ↦ absurd (m k) | inl k ↦ (omega (arith, ints, orient_other a b t)) ]
 ]
-
--- one that is not above 0
-not_above : (x : ℤ) → ¬ (pos 0 <ℤ x) → x ≤ℤ pos 0
-not_above x n = elim (le_or_lt x (pos 0)) [ inl h ↦ h | inr h ↦ absurd (n h) ]
 
 pub returns-then-is_left : goal.returns-then-is_left
 returns-then-is_left c = λ S f.
@@ -64,11 +61,11 @@ pub meeting_between-requires-clause-right_of_it : goal.meeting_between-requires-
 meeting_between-requires-clause-right_of_it c = passed _ _ c.if-not-is_left-2.false c.is_left-else-not-is_left.ensures
 
 pub meeting_between-requires-clause-start : goal.meeting_between-requires-clause-start
-meeting_between-requires-clause-start c = not_above _ (failed _ _ c.if-is_left-4.false c.is_left-else-is_left-3.ensures)
+meeting_between-requires-clause-start c = not_less (pos 0) _ (failed _ _ c.if-is_left-4.false c.is_left-else-is_left-3.ensures)
 
 pub meeting_between-requires-clause-end : goal.meeting_between-requires-clause-end
 meeting_between-requires-clause-end c =
-    not_above _ (failed _ _ c.if-is_left-3.false c.is_left-else-not-is_left-2.ensures)
+    not_less (pos 0) _ (failed _ _ c.if-is_left-3.false c.is_left-else-not-is_left-2.ensures)
 
 pub returns-else-is_left-4 : goal.returns-else-is_left-4
 returns-else-is_left-4 c = λ S f. c.meeting_between.ensures S f.leftmost.0 f.rightmost.0

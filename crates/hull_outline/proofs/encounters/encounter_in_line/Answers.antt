@@ -2,9 +2,9 @@
 use Rattle.std.proofs.Common.{◌≡◌, pos, sym, ◌∙◌}
 use Rattle.lattice.specs.Covers.{OnSegment}
 use Rattle.lattice.specs.Plane.{Pair, orient}
-use Rattle.hull_geometry.proofs.Orientation.{orient-cycle, orient_swap_zero}
+use Rattle.hull_geometry.proofs.Orientation.{orient_swap_zero, orient-cycle}
 use Rattle.hull_outline.proofs.Shields.{among_on_segment, shielded_in_line, third_among, start_there, end_there}
-use Rattle.hull_outline.proofs.Tests.{passed, failed}
+use Rattle.lattice.proofs.Tests.{passed, failed}
 use Rattle.hull_outline.proofs.encounters.encounter_in_line.Goals as goal
 
 -- the line, seen from the point

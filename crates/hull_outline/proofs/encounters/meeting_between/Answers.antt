@@ -3,9 +3,9 @@ use Rattle.std.proofs.Common.{◌≡◌, ℤ, pos, neg_ℤ, ◌≤ℤ◌, ◌<�
 use Rattle.std.proofs.lemmas.Int.{ints}
 use Rattle.lattice.specs.Covers.{OnSegment}
 use Rattle.lattice.specs.Signs.{le_or_lt}
-use Rattle.hull_geometry.proofs.Orientation.{orient_other}
 use Rattle.hull_outline.proofs.Shields.{side_back, start_on, start_there, end_there}
-use Rattle.hull_outline.proofs.Tests.{passed, failed}
+use Rattle.lattice.proofs.LineCrossings.{orient_other}
+use Rattle.lattice.proofs.Tests.{passed, failed}
 use Rattle.hull_outline.proofs.encounters.meeting_between.Goals as goal
 
 -- a number that is not above 0, nor its opposite

@@ -2,7 +2,7 @@
 use Rattle.std.proofs.Common.{◌<◌, ◌+◌, length, arith}
 use Rattle.hull_outline.proofs.Corners.{corner_extreme, next_left}
 use Rattle.hull_outline.proofs.NearestOf.{farthest_from}
-use Rattle.hull_outline.proofs.Tests.{passed, failed}
+use Rattle.lattice.proofs.Tests.{passed, failed}
 use Rattle.hull_outline.proofs.nearest.nearest_at.Goals as goal
 
 pub returns-then-is_nearest_at : goal.returns-then-is_nearest_at

@@ -1,7 +1,7 @@
 -- each step makes it four times as large, which is often enough
 use Rattle.std.proofs.Common.{◌∙◌, arith}
 use Rattle.hull_outline.proofs.Scaled.{enough, four_more}
-use Rattle.hull_outline.proofs.Tests.{passed}
+use Rattle.lattice.proofs.Tests.{passed}
 use Rattle.hull_outline.proofs.roundings.scaled.Goals as goal
 
 pub loop-shift-preserved : goal.loop-shift-preserved

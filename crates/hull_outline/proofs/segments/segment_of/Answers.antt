@@ -5,8 +5,8 @@ use Rattle.hull_geometry.specs.Positions.{origin, point_at}
 use Rattle.hull_geometry.proofs.PointLists.{get_or_free}
 use Rattle.hull_outline.specs.Outlines.{IsShortOutline}
 use Rattle.hull_outline.specs.Segments.{ends}
-use Rattle.hull_outline.proofs.Tests.{passed, failed}
 use Rattle.hull_outline.proofs.TwoPoints.{ends_few, ends_in_order, ends_outline, first_alone, one_of_two_points, two_of}
+use Rattle.lattice.proofs.Tests.{passed, failed}
 use Rattle.hull_outline.proofs.segments.segment_of.Goals as goal
 
 -- the ends are an outline, which is short

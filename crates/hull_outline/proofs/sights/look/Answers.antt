@@ -1,6 +1,6 @@
 -- neither before nor after the last corner is at it
 use Rattle.hull_outline.proofs.EdgesAt.{last_touched}
-use Rattle.hull_outline.proofs.Tests.{failed}
+use Rattle.lattice.proofs.Tests.{failed}
 use Rattle.hull_outline.proofs.sights.look.Goals as goal
 
 pub returns-else-before-3 : goal.returns-else-before-3

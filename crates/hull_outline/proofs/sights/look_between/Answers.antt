@@ -8,7 +8,7 @@ use Rattle.hull_geometry.proofs.EdgesAt.{touching_start, seen_by}
 use Rattle.hull_outline.specs.Rounds.{corner}
 use Rattle.hull_outline.proofs.Corners.{corner_back}
 use Rattle.hull_outline.proofs.EdgesAt.{after_start}
-use Rattle.hull_outline.proofs.Tests.{passed, failed}
+use Rattle.lattice.proofs.Tests.{passed, failed}
 use Rattle.hull_outline.proofs.sights.look_between.Goals as goal
 
 pub returns-then-not-before : goal.returns-then-not-before

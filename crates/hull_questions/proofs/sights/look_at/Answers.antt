@@ -6,11 +6,11 @@ use Rattle.bridge_search.specs.Trees.{Tree, first_of, last_of}
 use mir.Syntax.{w128}
 use Rattle.lattice.specs.Plane.{Pair, orient}
 use Rattle.lattice.proofs.Casts.{cast_side}
-use Rattle.bridge_search.proofs.Signs.{passed, failed}
 use Rattle.bridge_search.specs.Leaves.{points_of}
 use Rattle.hull_geometry.specs.Sights.{IsBetweenEnds}
 use Rattle.hull_geometry.proofs.EdgesAt.{touching_start, seen_by}
 use Rattle.hull_questions.proofs.Sighted.{between_ends}
+use Rattle.lattice.proofs.Tests.{passed, failed}
 use Rattle.hull_questions.proofs.sights.look_at.Goals as goal
 
 pub returns-then-not-before : goal.returns-then-not-before

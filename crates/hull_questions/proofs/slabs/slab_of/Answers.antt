@@ -1,9 +1,9 @@
 -- each turn of the loop goes into the half whose slab is that of both; one point tells it itself
 use Rattle.bridge_search.specs.Trees.{Tree}
-use Rattle.bridge_search.proofs.Signs.{passed, failed}
 use Rattle.hull_questions.proofs.ChainEdges.{edge_here}
 use Rattle.hull_questions.proofs.SlabParts.{IsSlabPart, slab_left, slab_right}
 use Rattle.hull_questions.specs.declared.slabs.Slab.TheVariants.{Edge}
+use Rattle.lattice.proofs.Tests.{passed, failed}
 use Rattle.hull_questions.proofs.slabs.slab_of.Goals as goal
 
 pub loop-edge-preserved-then-before : goal.loop-edge-preserved-then-before

@@ -1,6 +1,6 @@
 -- the bridge tells in which half the stretch lies, or that it goes over it
-use Rattle.bridge_search.proofs.Signs.{passed, failed}
 use Rattle.hull_questions.proofs.Stretched.{stretch_left, stretch_right, stretch_across}
+use Rattle.lattice.proofs.Tests.{passed, failed}
 use Rattle.hull_questions.proofs.stretches.course_of.Goals as goal
 
 pub returns-then-not-before-2 : goal.returns-then-not-before-2

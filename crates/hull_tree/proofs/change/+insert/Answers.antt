@@ -4,7 +4,6 @@ use Rattle.std.specs.List.{Contains}
 use Rattle.std.proofs.lemmas.List.Elements.{Contains-append_right}
 use Rattle.lattice.specs.Plane.{IsBefore}
 use Rattle.bridge_search.specs.Trees.{first_of}
-use Rattle.bridge_search.proofs.Signs.{passed, failed}
 use Rattle.hull_tree.specs.Nodes.{tree_of, below_of, left_half, right_half}
 use Rattle.hull_tree.specs.Changes.{points_below}
 use Rattle.hull_tree.specs.declared.node.Halves as halves
@@ -12,6 +11,7 @@ use Rattle.hull_tree.proofs.HalfRows.{IsOver, over_halves, change_left, change_r
 use Rattle.hull_tree.proofs.ChangedRows.{added}
 use Rattle.hull_tree.proofs.PartingPoints.{parted_add_left, parted_add_right}
 use Rattle.hull_tree.proofs.Renewed.{cost_through, rolled_below}
+use Rattle.lattice.proofs.Tests.{passed, failed}
 use Rattle.hull_tree.proofs.change.+insert.Goals as goal
 
 pub insert-insert_below-below-requires : goal.insert-insert_below-below-requires

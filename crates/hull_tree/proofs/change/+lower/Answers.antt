@@ -1,11 +1,11 @@
 -- the point that parts the halves tells in which half the point can be; the other half stays
 use Rattle.std.proofs.Common.{refl, ◌≡◌, ◌∙◌, sym, Some, rules}
-use Rattle.bridge_search.proofs.Signs.{passed, failed}
 use Rattle.hull_tree.specs.declared.node.Node as node
 use Rattle.hull_tree.specs.Nodes.{below_of}
 use Rattle.hull_tree.proofs.HalfRows.{IsOver, over_halves}
 use Rattle.hull_tree.proofs.Multiplicities.{all_left, all_right, leaf_lowered}
 use Rattle.leaf_trees.proofs.Multiplicities.{same_point}
+use Rattle.lattice.proofs.Tests.{passed, failed}
 use Rattle.hull_tree.proofs.change.+lower.Goals as goal
 
 pub returns-then-before-clause-was : goal.returns-then-before-clause-was

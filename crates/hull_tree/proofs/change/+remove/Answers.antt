@@ -2,13 +2,13 @@
 use Rattle.std.proofs.Common.{arith, refl, sym, ◌∙◌, subst, inl, inr, ◌≡◌, ◌⊎◌, Some}
 use Rattle.bridge_search.specs.Trees.{Leaf}
 use Rattle.bridge_search.proofs.Leaves.{on_of_contains}
-use Rattle.bridge_search.proofs.Signs.{passed, failed}
 use Rattle.hull_tree.specs.declared.node.Halves as halves
 use Rattle.hull_tree.specs.Nodes.{tree_of, below_of, left_half, right_half}
 use Rattle.hull_tree.proofs.HalfRows.{IsOver, over_halves}
 use Rattle.hull_tree.proofs.Multiplicities.{once_left, once_right}
 use Rattle.hull_tree.proofs.PartingPoints.{fork_of, last_left, first_left, parted_drop_left, parted_drop_right}
 use Rattle.hull_tree.proofs.PartingPoints.{points_drop_left, points_drop_right, rest_below}
+use Rattle.lattice.proofs.Tests.{passed, failed}
 use Rattle.hull_tree.proofs.change.+remove.Goals as goal
 
 pub remove-returns-then-is_half-clause-built : goal.remove-returns-then-is_half-clause-built

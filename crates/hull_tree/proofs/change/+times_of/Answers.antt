@@ -1,9 +1,9 @@
 -- the point that parts the halves tells in which half the point can be
 use Rattle.std.proofs.Common.{refl, ◌≡◌, ◌∙◌, sym, Some}
-use Rattle.bridge_search.proofs.Signs.{passed, failed}
 use Rattle.hull_tree.specs.Nodes.{below_of}
 use Rattle.hull_tree.proofs.HalfRows.{IsOver, over_halves}
 use Rattle.hull_tree.proofs.Multiplicities.{all_left, all_right}
+use Rattle.lattice.proofs.Tests.{passed, failed}
 use Rattle.hull_tree.proofs.change.+times_of.Goals as goal
 
 pub returns-then-before : goal.returns-then-before

@@ -1,14 +1,14 @@
 -- Each edge goes no way inwards, and as far out as the point.
-use Rattle.hull_draw.proofs.Edges.{le_via}
+use Rattle.lattice.proofs.Numbers.{le_trans}
 use Rattle.hull_draw.proofs.frame.Frame.widened.Goals as goal
 
 pub returns : goal.returns
 returns c = record {
   holds = λ q h. record {
-    right_of = le_via _ _ _ c.leftmost.ensures.first h.right_of;
-    left_of = le_via _ _ _ h.left_of c.rightmost.ensures.first;
-    above = le_via _ _ _ c.lowest.ensures.first h.above;
-    below = le_via _ _ _ h.below c.uppermost.ensures.first;
+    right_of = le_trans _ _ _ c.leftmost.ensures.first h.right_of;
+    left_of = le_trans _ _ _ h.left_of c.rightmost.ensures.first;
+    above = le_trans _ _ _ c.lowest.ensures.first h.above;
+    below = le_trans _ _ _ h.below c.uppermost.ensures.first;
   };
   own = record {
     right_of = c.leftmost.ensures.second;

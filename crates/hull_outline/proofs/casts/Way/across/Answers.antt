@@ -1,20 +1,15 @@
 -- where the start lies right of the edge the way comes in there, and elsewhere it misses
-use Rattle.std.proofs.Common.{pos, ◌≤ℤ◌, ◌<ℤ◌, ℤ, inl, inr}
-use Rattle.lattice.specs.Signs.{le_or_lt}
-use Rattle.lattice.proofs.Numbers.{le_less}
+use Rattle.std.proofs.Common.{pos}
+use Rattle.lattice.proofs.Numbers.{le_less, not_less}
 use Rattle.hull_outline.proofs.Casting.{missed_edge}
 use Rattle.hull_outline.proofs.DifferencesTold.{excess_told, le_told, less_told, twice}
-use Rattle.hull_outline.proofs.Tests.{failed, passed}
+use Rattle.lattice.proofs.Tests.{passed, failed}
 use Rattle.hull_outline.proofs.casts.Way.across.Goals as goal
-
--- what is not below 0
-not_below : (x : ℤ) → ¬ (x <ℤ pos 0) → pos 0 ≤ℤ x
-not_below x n = elim (le_or_lt (pos 0) x) [ inl h ↦ h | inr h ↦ absurd (n h) ]
 
 pub returns-then-not-is_right : goal.returns-then-not-is_right
 returns-then-not-is_right c = λ S o n x.
     missed_edge S _ _ _ _ o n x.start.0 x.end.0 x.from x.to x.across
-    (not_below _ (failed _ _ c.if-not-is_right.true c.is_right.ensures))
+    (not_less _ (pos 0) (failed _ _ c.if-not-is_right.true c.is_right.ensures))
 
 pub excess-requires-2-clause-order : goal.excess-requires-2-clause-order
 excess-requires-2-clause-order c =

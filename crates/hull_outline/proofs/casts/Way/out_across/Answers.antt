@@ -1,16 +1,11 @@
 -- where the start does not lie right of the edge the way goes out there, and elsewhere it misses
-use Rattle.std.proofs.Common.{◌≡◌, ◌∙◌, pos, neg_ℤ, ◌≤ℤ◌, ◌<ℤ◌, ℤ, inl, inr, arith}
+use Rattle.std.proofs.Common.{◌≡◌, ◌∙◌, pos, neg_ℤ, ℤ, arith}
 use Rattle.std.proofs.lemmas.Int.{ints}
-use Rattle.lattice.specs.Signs.{le_or_lt}
-use Rattle.lattice.proofs.Numbers.{le_less}
+use Rattle.lattice.proofs.Numbers.{le_less, not_less}
 use Rattle.hull_outline.proofs.DifferencesTold.{excess_told, le_told, none_told, twice, whole_told}
 use Rattle.hull_outline.proofs.Leaving.{missed_out, on_back}
-use Rattle.hull_outline.proofs.Tests.{failed, passed}
+use Rattle.lattice.proofs.Tests.{passed, failed}
 use Rattle.hull_outline.proofs.casts.Way.out_across.Goals as goal
-
--- what is not below 0
-not_below : (x : ℤ) → ¬ (x <ℤ pos 0) → pos 0 ≤ℤ x
-not_below x n = elim (le_or_lt (pos 0) x) [ inl h ↦ h | inr h ↦ absurd (n h) ]
 
 -- a number turned twice
 turned_twice : (x y : ℤ) → x ≡ y → x ≡ neg_ℤ (neg_ℤ y)
@@ -24,7 +19,7 @@ returns-then-is_right c = λ S x.
 pub excess-requires-clause-order : goal.excess-requires-clause-order
 excess-requires-clause-order c =
     none_told _ _ (twice _ c.orient.ensures.size) c.orient.ensures.value
-    (not_below _ (failed _ _ c.if-is_right.false c.is_right.ensures))
+    (not_less _ (pos 0) (failed _ _ c.if-is_right.false c.is_right.ensures))
 
 pub excess-requires-2-clause-order : goal.excess-requires-2-clause-order
 excess-requires-2-clause-order c =
@@ -39,7 +34,7 @@ pub returns : goal.returns
 returns c = λ S x.
     let a = c.args.self.now.start in
     let w = c.args.self.now.along in record {
-      exit = (x, not_below _ (failed _ _ c.if-is_right.false c.is_right.ensures));
+      exit = (x, not_less _ (pos 0) (failed _ _ c.if-is_right.false c.is_right.ensures));
       part = turned_twice _ _
           (whole_told _ _ _ (twice _ c.orient.ensures.size) c.orient.ensures.value c.excess.ensures.value);
       whole = excess_told _ _ _ _ _ c.side.ensures.size c.side-2.ensures.size

@@ -1,22 +1,10 @@
--- where the corner lies on the line and not behind the way goes out there, and elsewhere it misses
-use Rattle.std.proofs.Common.{◌≡◌, ◌∙◌, pos, ◌≤ℤ◌, ◌<ℤ◌, ℤ, inl, inr, arith}
-use Rattle.std.proofs.lemmas.Int.{ints}
-use Rattle.lattice.specs.Signs.{le_or_lt}
+-- where the corner lies not_apart the line and not behind the way goes out there, and elsewhere it misses
+use Rattle.std.proofs.Common.{◌∙◌}
 use Rattle.hull_outline.proofs.DifferencesTold.{told_within, twice, whole_told}
 use Rattle.hull_outline.proofs.Leaving.{ahead_back, farthest_back, length_back, line_back, missed_beyond, not_behind_back}
-use Rattle.hull_outline.proofs.Tests.{failed, passed}
+use Rattle.lattice.proofs.Tests.{passed, failed}
+use Rattle.lattice.proofs.Numbers.{not_less, not_apart}
 use Rattle.hull_outline.proofs.casts.Way.out_at.Goals as goal
-
--- what is not above
-not_above : (x y : ℤ) → ¬ (x <ℤ y) → y ≤ℤ x
-not_above x y n = elim (le_or_lt y x) [ inl h ↦ h | inr h ↦ absurd (n h) ]
-
--- a number that is not unequal to 0
-on : (x : ℤ) → ¬ ¬ (x ≡ pos 0) → x ≡ pos 0
-on x n = elim (le_or_lt x (pos 0)) [
-  | inl h ↦ elim (le_or_lt (pos 0) x) [ inl k ↦ omega (arith, ints) | inr k ↦ absurd (n (λ e. omega (arith, ints, e))) ]
-  | inr h ↦ absurd (n (λ e. omega (arith, ints, e)))
-]
 
 pub returns-then-is_beside : goal.returns-then-is_beside
 returns-then-is_beside c = λ S x.
@@ -37,8 +25,8 @@ returns c = λ S x.
     let w = c.args.self.now.along in record {
       exit = (
         x.1,
-        line_back a w c.args.e (on _ (failed _ _ c.if-is_beside.false c.is_beside.ensures)),
-        not_behind_back a w c.args.e (not_above _ _ (failed _ _ c.if-is_behind.false c.is_behind.ensures)),
+        line_back a w c.args.e (not_apart _ (failed _ _ c.if-is_beside.false c.is_beside.ensures)),
+        not_behind_back a w c.args.e (not_less _ _ (failed _ _ c.if-is_behind.false c.is_behind.ensures)),
         farthest_back S a w c.args.e x.2,
       );
       part = whole_told _ _ _ c.ahead.ensures.size c.ahead.ensures.value c.excess.ensures.value ∙ ahead_back a w c.args.e;

@@ -1,29 +1,17 @@
--- where the corner lies on the line and ahead the way comes in there, and elsewhere it misses
-use Rattle.std.proofs.Common.{◌≡◌, ◌∙◌, pos, ◌-ℤ◌, ◌≤ℤ◌, ◌<ℤ◌, ℤ, inl, inr, refl, sym, subst, arith}
-use Rattle.std.proofs.lemmas.Int.{ints}
+-- where the corner lies not_apart the line and ahead the way comes in there, and elsewhere it misses
+use Rattle.std.proofs.Common.{◌≡◌, ◌∙◌, ◌-ℤ◌, ◌≤ℤ◌, ◌<ℤ◌, refl, sym, subst}
 use Rattle.lattice.specs.Plane.{Pair, product}
-use Rattle.lattice.specs.Signs.{le_or_lt}
 use Rattle.hull_outline.specs.Casts.{moved}
 use Rattle.hull_outline.proofs.Casting.{missed_uncrossed}
 use Rattle.hull_outline.proofs.Courses.{length_of_step, step_moved}
 use Rattle.hull_outline.proofs.DifferencesTold.{told_within, twice, whole_told}
-use Rattle.hull_outline.proofs.Tests.{failed, passed}
+use Rattle.lattice.proofs.Tests.{passed, failed}
+use Rattle.lattice.proofs.Numbers.{not_less, not_apart}
 use Rattle.hull_outline.proofs.casts.Way.up_to.Goals as goal
 
 pub returns-then-is_beside : goal.returns-then-is_beside
 returns-then-is_beside c = λ S o n x.
     missed_uncrossed S _ _ c.args.c o n x.0 x.1.0 (λ z. absurd (passed _ _ c.if-is_beside.true c.is_beside.ensures z))
-
--- what is not above
-not_above : (x y : ℤ) → ¬ (x <ℤ y) → y ≤ℤ x
-not_above x y n = elim (le_or_lt y x) [ inl h ↦ h | inr h ↦ absurd (n h) ]
-
--- a number that is not another is not unequal to it
-on : (x : ℤ) → ¬ ¬ (x ≡ pos 0) → x ≡ pos 0
-on x n = elim (le_or_lt x (pos 0)) [
-  | inl h ↦ elim (le_or_lt (pos 0) x) [ inl k ↦ omega (arith, ints) | inr k ↦ absurd (n (λ e. omega (arith, ints, e))) ]
-  | inr h ↦ absurd (n (λ e. omega (arith, ints, e)))
-]
 
 pub returns-then-not-is_ahead : goal.returns-then-not-is_ahead
 returns-then-not-is_ahead c = λ S o n x.
@@ -31,7 +19,7 @@ returns-then-not-is_ahead c = λ S o n x.
     let w = c.args.self.now.along in
     missed_uncrossed S a (moved a w) c.args.c o n x.0 x.1.0
     (λ z. subst (λ (d : Pair). product d c.args.c ≤ℤ product d a) (sym (step_moved a w))
-    (not_above _ _ (failed _ _ c.if-not-is_ahead.true c.is_ahead.ensures)))
+    (not_less _ _ (failed _ _ c.if-not-is_ahead.true c.is_ahead.ensures)))
 
 pub excess-requires-2-clause-first : goal.excess-requires-2-clause-first
 excess-requires-2-clause-first c = told_within _ c.squared_length.ensures.size
@@ -42,7 +30,7 @@ returns c = λ S o n x.
     let w = c.args.self.now.along in record {
       entry = record {
         corner = x.1;
-        line = on _ (failed _ _ c.if-is_beside.false c.is_beside.ensures);
+        line = not_apart _ (failed _ _ c.if-is_beside.false c.is_beside.ensures);
         ahead = subst (λ (d : Pair). product d a <ℤ product d c.args.c) (sym (step_moved a w))
             (passed _ _ c.if-not-is_ahead.false c.is_ahead.ensures);
         first = x.2;

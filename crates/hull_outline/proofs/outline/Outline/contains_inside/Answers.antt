@@ -7,7 +7,7 @@ use Rattle.lattice.specs.Places.{IsInside}
 use Rattle.hull_outline.specs.Rounds.{corner}
 use Rattle.hull_outline.proofs.Corners.{read_corner}
 use Rattle.hull_outline.proofs.Insides.{corner_inside, inside_by_corners}
-use Rattle.hull_outline.proofs.Tests.{passed, failed}
+use Rattle.lattice.proofs.Tests.{passed, failed}
 use Rattle.hull_outline.proofs.outline.Outline.contains_inside.Goals as goal
 
 pub returns-then-not-lies_inside : goal.returns-then-not-lies_inside

@@ -3,7 +3,7 @@ use Rattle.std.proofs.Common.{subst}
 use Rattle.lattice.specs.Plane.{Pair}
 use Rattle.lattice.specs.Places.{IsFarthest}
 use Rattle.hull_outline.proofs.Shields.{start_there, end_there}
-use Rattle.hull_outline.proofs.Tests.{passed, failed}
+use Rattle.lattice.proofs.Tests.{passed, failed}
 use Rattle.hull_outline.proofs.outline.Outline.encounter.Goals as goal
 
 pub returns-then-covers : goal.returns-then-covers

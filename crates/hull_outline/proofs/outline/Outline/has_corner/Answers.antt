@@ -2,7 +2,7 @@
 use Rattle.std.proofs.Common.{◌<◌, length, arith, inl, inr}
 use Rattle.lattice.specs.declared.side.Side.TheVariants.{Lower, Upper}
 use Rattle.hull_outline.proofs.Staying.{on_either, on_one}
-use Rattle.hull_outline.proofs.Tests.{failed}
+use Rattle.lattice.proofs.Tests.{failed}
 use Rattle.hull_outline.proofs.outline.Outline.has_corner.Goals as goal
 
 pub returns-then-stands_on : goal.returns-then-stands_on

@@ -5,7 +5,7 @@ use Rattle.lattice.specs.Plane.{Pair, orient}
 use Rattle.hull_outline.specs.Rounds.{corner}
 use Rattle.hull_outline.specs.Steps.{left_of}
 use Rattle.hull_outline.proofs.Dividing.{divided_by_edge}
-use Rattle.hull_outline.proofs.Tests.{passed, failed}
+use Rattle.lattice.proofs.Tests.{passed, failed}
 use Rattle.hull_outline.proofs.outline.Outline.has_dividing_edge.Goals as goal
 
 pub returns-then-not-is_left : goal.returns-then-not-is_left

@@ -6,7 +6,7 @@ use Rattle.std.proofs.Common.{sym, subst}
 use Rattle.hull_outline.proofs.Corners.{corner_extreme}
 use Rattle.hull_outline.proofs.Hits.{farthest_to_start, goes_over}
 use Rattle.hull_outline.proofs.Made.{parted_is_outline}
-use Rattle.hull_outline.proofs.Tests.{failed, passed}
+use Rattle.lattice.proofs.Tests.{passed, failed}
 use Rattle.hull_outline.proofs.outline.Outline.hit.Goals as goal
 
 pub returns-then-covers : goal.returns-then-covers

@@ -6,7 +6,7 @@ use Rattle.hull_outline.specs.Closest.{IsDistance}
 use Rattle.hull_outline.specs.Ranges.{IsNoFarther, TellsWithin}
 use Rattle.hull_outline.specs.declared.distance.Distance.{Distance}
 use Rattle.hull_outline.specs.declared.ranges.Length.{Length}
-use Rattle.hull_outline.proofs.Tests.{passed, failed}
+use Rattle.lattice.proofs.Tests.{passed, failed}
 use Rattle.hull_outline.proofs.outline.Outline.is_within.Goals as goal
 
 -- what a test of a distance tells of the two sets

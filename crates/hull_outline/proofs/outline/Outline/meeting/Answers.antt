@@ -7,9 +7,9 @@ use Rattle.hull_outline.specs.Meetings.{IsApart, segment}
 use Rattle.hull_outline.specs.Rounds.{corner}
 use Rattle.hull_outline.proofs.Corners.{corner_extreme}
 use Rattle.hull_outline.proofs.Shields.{one_of_two}
-use Rattle.hull_outline.proofs.Tests.{passed, failed}
 use Rattle.hull_outline.proofs.Together.{apart_from_edges}
 use Rattle.hull_outline.proofs.Witnessed.{meeting_more}
+use Rattle.lattice.proofs.Tests.{passed, failed}
 use Rattle.hull_outline.proofs.outline.Outline.meeting.Goals as goal
 
 pub returns-then-covers : goal.returns-then-covers

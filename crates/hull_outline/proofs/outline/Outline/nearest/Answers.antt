@@ -1,7 +1,7 @@
 -- no corners, a covered point, or one outside
 use Rattle.std.proofs.Common.{arith}
 use Rattle.hull_outline.proofs.Ends.{no_corners}
-use Rattle.hull_outline.proofs.Tests.{passed, failed}
+use Rattle.lattice.proofs.Tests.{passed, failed}
 use Rattle.hull_outline.proofs.outline.Outline.nearest.Goals as goal
 
 pub returns-then-is_empty : goal.returns-then-is_empty

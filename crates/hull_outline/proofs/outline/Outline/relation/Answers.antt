@@ -1,6 +1,6 @@
 -- which of the two holds the other, or neither
 use Rattle.std.proofs.Common.{refl}
-use Rattle.hull_outline.proofs.Tests.{failed}
+use Rattle.lattice.proofs.Tests.{failed}
 use Rattle.hull_outline.proofs.outline.Outline.relation.Goals as goal
 
 pub relation_of_neither-requires : goal.relation_of_neither-requires

@@ -1,7 +1,7 @@
 -- hulls that meet, neither of which holds the other, have two corners or more
 use Rattle.hull_outline.proofs.Dividing.{apart_tells, many_of_met, meets_tells, meets_turned}
 use Rattle.hull_outline.proofs.Made.{parted_is_outline}
-use Rattle.hull_outline.proofs.Tests.{failed, passed}
+use Rattle.lattice.proofs.Tests.{passed, failed}
 use Rattle.hull_outline.proofs.outline.Outline.relation_of_neither.Goals as goal
 
 pub is_divided-requires-clause-this : goal.is_divided-requires-clause-this

@@ -1,14 +1,14 @@
 -- an edge with the leftmost point of the other set on its right parts them
-use Rattle.std.proofs.Common.{◌≡◌, ℕ, ◌+◌, ℤ, pos, ◌≤ℤ◌, ◌<ℤ◌, inl, inr, refl, sym, subst, arith}
+use Rattle.std.proofs.Common.{◌≡◌, ℕ, ◌+◌, pos, ◌≤ℤ◌, inl, inr, refl, sym, subst, arith}
 use Rattle.std.proofs.lemmas.Bool.{cases_lt}
 use Rattle.std.specs.List.{Contains}
 use Rattle.lattice.specs.Plane.{Pair, orient}
-use Rattle.lattice.specs.Signs.{le_or_lt}
 use Rattle.lattice.specs.Vertices.{IsLeftOf}
 use Rattle.hull_outline.specs.Rounds.{corner}
 use Rattle.hull_outline.proofs.Corners.{corner_extreme, next_left}
-use Rattle.hull_outline.proofs.Tests.{passed, failed}
 use Rattle.hull_outline.proofs.Witnessed.{separation_beside, right_of_line}
+use Rattle.lattice.proofs.Tests.{passed, failed}
+use Rattle.lattice.proofs.Numbers.{not_less}
 use Rattle.hull_outline.proofs.outline.Outline.separation_by_edge.Goals as goal
 
 pub returns-then-is_right : goal.returns-then-is_right
@@ -28,10 +28,6 @@ returns-then-is_right c = λ S o T t.
     (passed _ _ c.if-is_right.true c.is_right.ensures))
     c.left_of-then-is_right.ensures
 
--- what is not below 0
-not_below : (x : ℤ) → ¬ (x <ℤ pos 0) → pos 0 ≤ℤ x
-not_below x n = elim (le_or_lt (pos 0) x) [ inl h ↦ h | inr h ↦ absurd (n h) ]
-
 pub loop-i-preserved : goal.loop-i-preserved
 loop-i-preserved c = λ T t k l. elim (cases_lt k c.loop-i.i) [
   | inl h ↦ c.loop-i.invariant T t k h
@@ -40,7 +36,7 @@ loop-i-preserved c = λ T t k l. elim (cases_lt k c.loop-i.i) [
       let e : c.loop-i.i ≡ k = omega (arith, h, l) in
       let z : Pair = c.farthest-nearest.result in
       let side : pos 0 ≤ℤ orient c.corner_at-a.result c.corner_at-b.result z =
-      not_below _ (failed _ _ c.if-is_right.false c.is_right.ensures) in (
+      not_less _ (pos 0) (failed _ _ c.if-is_right.false c.is_right.ensures) in (
         z,
         (c.farthest-nearest.ensures T t).0,
         subst (λ (n : ℕ). pos 0 ≤ℤ orient (corner V n) (corner V (n + 1)) z) e

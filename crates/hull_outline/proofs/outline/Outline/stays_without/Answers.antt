@@ -1,7 +1,7 @@
 -- the corners stay as a point goes that is none of them
 use Rattle.std.proofs.lemmas.Bool.{not-true}
 use Rattle.hull_outline.proofs.Staying.{stay_without}
-use Rattle.hull_outline.proofs.Tests.{failed}
+use Rattle.lattice.proofs.Tests.{failed}
 use Rattle.hull_outline.proofs.outline.Outline.stays_without.Goals as goal
 
 pub returns-clause-stays : goal.returns-clause-stays

@@ -1,4 +1,4 @@
--- the first of the farthest points is that of the outline
+-- the first of the farthest points is that of the rim
 use Rattle.std.proofs.Common.{◌≡◌, ap, subst, List}
 use Rattle.std.specs.Map.{keys_of}
 use Rattle.lattice.specs.Plane.{Pair}
@@ -11,4 +11,4 @@ returns c =
     let v : keys_of c.self.inside.points.entries ≡ keys_of c.args.self.now.entries =
     ap (λ (z : LimitedSet). keys_of z.entries) c.self.view_is in
     subst (λ (z : List Pair). AnswersExtreme z c.args.d (reply_to_extreme c.extreme.result)) v
-    (c.extreme.ensures (keys_of c.self.inside.points.entries) c.self.invariant.outline)
+    (c.extreme.ensures (keys_of c.self.inside.points.entries) c.self.invariant.rim)

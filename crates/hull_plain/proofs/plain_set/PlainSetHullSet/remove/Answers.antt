@@ -1,4 +1,4 @@
--- a point that is held more than once is held once less, in its place in the map; else its key goes, and the outline
+-- a point that is held more than once is held once less, in its place in the map; else its key goes, and the rim
 -- is mended
 use Rattle.std.proofs.Common.{◌≡◌, ℕ, sym, ap, ◌∙◌, subst, refl, List, arith, ◌-◌, ◌+◌, ◌≤◌, Some, None}
 use Rattle.std.specs.Prelude.{IsSome}
@@ -56,14 +56,14 @@ remove-requires-2-clause-left c =
     subst IsPointSet (sym (ap keys_of entries ∙ remove_is _ c.args.p c.self.invariant.in_order))
     (ordered_without c.args.p _ c.self.invariant.in_order)
 
-pub remove-requires-2-clause-outline : goal.remove-requires-2-clause-outline
-remove-requires-2-clause-outline c =
+pub remove-requires-2-clause-rim : goal.remove-requires-2-clause-rim
+remove-requires-2-clause-rim c =
     let entries : c.remove.new.self.entries ≡ remove_entry (is_at (point_cmp c.args.p)) c.self.inside.points.entries =
     left_entries _ _ _ c.args.p c.in-Some.times.now c.in-Some.ensures.value
     (c.get_mut.follows.holds c.in-Some.times.now).0 c.remove.ensures.entries in (
       keys_of c.self.inside.points.entries,
       c.self.invariant.in_order,
-      c.self.invariant.outline,
+      c.self.invariant.rim,
       ap keys_of entries ∙ remove_is _ c.args.p c.self.invariant.in_order,
     )
 
@@ -80,7 +80,7 @@ invariant_of-self-2 c =
     left_entries _ _ _ c.args.p c.in-Some.times.now c.in-Some.ensures.value
     (c.get_mut.follows.holds c.in-Some.times.now).0 c.remove.ensures.entries in
     taken_out c.self.invariant c.args.p _ _ entries
-    c.remove-2.ensures.outline c.remove-2.ensures.kept
+    c.remove-2.ensures.rim c.remove-2.ensures.kept
 
 pub returns-clause-reply : goal.returns-clause-reply
 returns-clause-reply c =

@@ -1,4 +1,4 @@
--- the tangents are those of the outline
+-- the tangents are those of the rim
 use Rattle.std.proofs.Common.{◌≡◌, ap, subst, List}
 use Rattle.std.specs.Map.{keys_of}
 use Rattle.lattice.specs.Plane.{Pair}
@@ -11,4 +11,4 @@ returns c =
     let v : keys_of c.self.inside.points.entries ≡ keys_of c.args.self.now.entries =
     ap (λ (z : LimitedSet). keys_of z.entries) c.self.view_is in
     subst (λ (z : List Pair). AnswersTangents z c.args.q (reply_to_tangents c.tangents.result)) v
-    (c.tangents.ensures (keys_of c.self.inside.points.entries) c.self.invariant.outline)
+    (c.tangents.ensures (keys_of c.self.inside.points.entries) c.self.invariant.rim)

@@ -1,6 +1,6 @@
 -- the end of the bridge that lies farther is in the half that has the first of the farthest points
-use Rattle.bridge_search.proofs.Signs.{passed, failed}
 use Rattle.hull_questions.proofs.Extremes.{farther_left, farther_right, facing_fork, down_left, down_right}
+use Rattle.lattice.proofs.Tests.{passed, failed}
 use Rattle.hull_questions.proofs.questions.extreme.farther_part.Goals as goal
 
 pub returns-then-is_nearer-clause-part : goal.returns-then-is_nearer-clause-part

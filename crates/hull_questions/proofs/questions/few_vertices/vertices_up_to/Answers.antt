@@ -3,13 +3,13 @@ use Rattle.std.proofs.Common.{◌≡◌, ◌≤◌, ◌∙◌, ap, Bool, List, [
 use Rattle.bridge_search.specs.Trees.{Tree, first_of, last_of}
 use Rattle.bridge_search.specs.Leaves.{points_of}
 use Rattle.bridge_search.specs.TurnedTrees.{turned_tree}
-use Rattle.bridge_search.proofs.Signs.{passed, failed}
 use Rattle.lattice.specs.Plane.{Pair}
 use Rattle.lattice.specs.Vertices.{IsVertexList}
 use Rattle.lattice.specs.declared.side.Side.TheVariants.{Lower, Upper}
 use Rattle.hull_questions.specs.Walks.{IsListed, IsListedUpTo, IsPushedUpTo}
 use Rattle.hull_questions.proofs.LongWalks.{long_lower}
 use Rattle.hull_questions.proofs.Walked.{both_listed, vertices_alone}
+use Rattle.lattice.proofs.Tests.{passed, failed}
 use Rattle.hull_questions.proofs.questions.few_vertices.vertices_up_to.Goals as goal
 
 pub returns-then-not-branch-clause-more : goal.returns-then-not-branch-clause-more

@@ -1,8 +1,8 @@
 -- the side of the point as seen along the lower bridge tells which half has the tangent point
-use Rattle.bridge_search.proofs.Signs.{passed, failed}
 use Rattle.hull_questions.proofs.TangentParts.{near_part, far_part}
 use Rattle.hull_questions.proofs.questions.tangents.tangent_part.Goals.{then-beyond, else-beyond, then-beyond-2}
 use Rattle.hull_questions.proofs.questions.tangents.tangent_part.Goals.{else-beyond-2}
+use Rattle.lattice.proofs.Tests.{passed, failed}
 use Rattle.hull_questions.proofs.questions.tangents.tangent_part.Goals as goal
 
 pub returns-after-beyond : goal.returns-after-beyond

@@ -3,9 +3,9 @@ use Rattle.std.proofs.Common.{arith}
 use Rattle.bridge_search.specs.Trees.{Tree}
 use Rattle.bridge_search.specs.Leaves.{points_of}
 use Rattle.bridge_search.proofs.Leaves.{size_is_length}
-use Rattle.bridge_search.proofs.Signs.{passed, failed}
 use Rattle.hull_geometry.proofs.FewVertices.{vertices_few}
 use Rattle.hull_questions.proofs.Walked.{both_listed, vertices_alone}
+use Rattle.lattice.proofs.Tests.{passed, failed}
 use Rattle.hull_questions.proofs.questions.vertices.vertices.Goals as goal
 use Rattle.hull_questions.proofs.questions.vertices.vertices.Goals.{then-before+in_ok-push_chain+in_ok-push_chain-2}
 use Rattle.hull_questions.proofs.questions.vertices.vertices.Goals.{else-before+in_ok-push}

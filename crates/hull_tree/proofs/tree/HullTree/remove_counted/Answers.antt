@@ -6,7 +6,6 @@ use Rattle.std.specs.List.{Contains}
 use Rattle.hull_set.specs.Replies.{AnswersRemove}
 use Rattle.hull_set.specs.declared.reply.Reply.TheVariants.{Removed, Left, Absent}
 use Rattle.hull_set.specs.declared.rules.Rules.TheVariants.{Counted}
-use Rattle.bridge_search.proofs.Signs.{failed}
 use Rattle.hull_tree.specs.Changes.{points_below, height_at}
 use Rattle.hull_tree.specs.Roots.{held_by}
 use Rattle.hull_tree.specs.Sets.{LimitedTree}
@@ -15,6 +14,7 @@ use Rattle.hull_tree.proofs.CountedTrees.{counted, limited_after, sound_after, l
 use Rattle.hull_tree.proofs.CountedTrees.{answers_removed, dead, held_none}
 use Rattle.hull_tree.proofs.PartingPoints.{fork_of}
 use Rattle.bridge_search.proofs.Leaves.{on_of_contains}
+use Rattle.lattice.proofs.Tests.{failed}
 use Rattle.hull_tree.proofs.tree.HullTree.remove_counted.Goals as goal
 
 pub returns-then-times-eq0-clause-reply : goal.returns-then-times-eq0-clause-reply

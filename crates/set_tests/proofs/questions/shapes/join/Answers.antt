@@ -1,7 +1,7 @@
 -- the last point of the one stands before the first of the other, so the bridges can be searched
 use Rattle.lattice.specs.Plane.{IsBefore}
 use Rattle.bridge_search.proofs.Ends.{all_before}
-use Rattle.bridge_search.proofs.Signs.{passed}
+use Rattle.lattice.proofs.Tests.{passed}
 use Rattle.set_tests.proofs.questions.shapes.join.Goals as goal
 
 pub upper_bridge-requires : goal.upper_bridge-requires

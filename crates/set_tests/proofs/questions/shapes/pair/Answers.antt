@@ -1,7 +1,7 @@
 -- the edge from one point to another is both bridges of the two
 use Rattle.lattice.specs.Plane.{IsBefore}
-use Rattle.bridge_search.proofs.Signs.{passed}
 use Rattle.hull_questions.proofs.SmallTrees.{small_bridged}
+use Rattle.lattice.proofs.Tests.{passed}
 use Rattle.set_tests.proofs.questions.shapes.pair.Goals as goal
 
 pub invariant_of-result : goal.invariant_of-result

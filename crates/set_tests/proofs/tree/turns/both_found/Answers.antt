@@ -1,7 +1,7 @@
 -- the last point of the one half stands before the first of the other, so all points do
 use Rattle.lattice.specs.Plane.{IsBefore}
 use Rattle.bridge_search.proofs.Ends.{all_before}
-use Rattle.bridge_search.proofs.Signs.{passed}
+use Rattle.lattice.proofs.Tests.{passed}
 use Rattle.set_tests.proofs.tree.turns.both_found.Goals as goal
 
 pub both_bridges-requires : goal.both_bridges-requires

@@ -4,9 +4,9 @@ use Rattle.lattice.specs.Covers.{without_point}
 use Rattle.lattice.specs.Plane.{Pair}
 use Rattle.lattice.specs.Vertices.{IsVertexList}
 use Rattle.hull_geometry.proofs.SetLaws.{ordered_without}
-use Rattle.hull_outline.proofs.Tests.{failed}
 use Rattle.hull_outline.specs.Outlines.{IsOutlineOf}
 use Rattle.settled_set.specs.Known.{AreCornersOf}
+use Rattle.lattice.proofs.Tests.{failed}
 use Rattle.settled_set.proofs.corners.Corners.point_goes.Goals as goal
 
 pub returns-then-not-stays_without-clause-stay : goal.returns-then-not-stays_without-clause-stay

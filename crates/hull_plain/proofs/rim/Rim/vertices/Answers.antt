@@ -2,7 +2,7 @@
 use Rattle.std.proofs.Common.{◌<◌, ◌+◌, Result, Ok, Err, length}
 use Rattle.std.specs.Prelude.{OnErr}
 use Rattle.hull_geometry.proofs.TwoChains.{some_points}
-use Rattle.hull_plain.proofs.outline.Outline.vertices.Goals as goal
+use Rattle.hull_plain.proofs.rim.Rim.vertices.Goals as goal
 
 -- what an error tells tells what that does
 told : {A B : Type 0} (r : Result A B) (P Q : Type 0) → (P → Q) → OnErr r P → OnErr r Q

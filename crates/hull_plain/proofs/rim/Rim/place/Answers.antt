@@ -1,5 +1,5 @@
 -- the two chains tell it
-use Rattle.hull_plain.proofs.outline.Outline.place.Goals as goal
+use Rattle.hull_plain.proofs.rim.Rim.place.Goals as goal
 
 pub returns : goal.returns
 returns c = λ S k. c.place_of.ensures S k.chains

@@ -8,23 +8,23 @@ use Rattle.hull_plain.specs.Drafts.{DraftHasRoom}
 use Rattle.hull_geometry.specs.Monotone.{AreChainsOf, AreFringesOf}
 use Rattle.hull_set.specs.declared.TheConstants.{POINT_LIMIT}
 use Rattle.hull_plain.specs.declared.fringes.Fringes.{Fringes}
-use Rattle.hull_plain.specs.declared.outline.Outline.{Outline}
+use Rattle.hull_plain.specs.declared.rim.Rim.{Rim}
 
 -- the chains are those of S, and the fringes are fringes of S
-pub record IsOutlineOf (S : List Pair) (o : Outline) : Type 0 where
+pub record IsRimOf (S : List Pair) (o : Rim) : Type 0 where
   pub chains : AreChainsOf S o.lower.items o.upper.items
   pub fringes : AreFringesOf S o.fringes.below.items o.fringes.above.items
 
 -- they are those of some set
-abbrev pub IsOutline : Outline → Type 0
-IsOutline o = (S : List Pair) × IsOutlineOf S o
+abbrev pub IsRim : Rim → Type 0
+IsRim o = (S : List Pair) × IsRimOf S o
 
 -- they are those of a set of which S is left without p
-abbrev pub WasOutlineOf : Pair → List Pair → Outline → Type 0
-WasOutlineOf p S o = (whole : List Pair) × IsPointSet whole × IsOutlineOf whole o × (S ≡ without_point p whole)
+abbrev pub WasRimOf : Pair → List Pair → Rim → Type 0
+WasRimOf p S o = (whole : List Pair) × IsPointSet whole × IsRimOf whole o × (S ≡ without_point p whole)
 
--- two outlines have the same chains and fringes
-pub record AreAlike (o new : Outline) : Type 0 where
+-- two rims have the same chains and fringes
+pub record AreAlike (o new : Rim) : Type 0 where
   pub lower : new.lower.items ≡ o.lower.items
   pub upper : new.upper.items ≡ o.upper.items
   pub below : new.fringes.below.items ≡ o.fringes.below.items
@@ -35,24 +35,24 @@ pub record FringesHaveRoom (f : Fringes) (n : ℕ) : Type 0 where
   pub below : n ≤ f.below.room
   pub above : n ≤ f.above.room
 
--- for the outline of a set of n points, and for what mends it
-pub record HasRoom (o : Outline) (n : ℕ) : Type 0 where
+-- for the rim of a set of n points, and for what mends it
+pub record HasRoom (o : Rim) (n : ℕ) : Type 0 where
   pub lower : n ≤ o.lower.room
   pub upper : n ≤ o.upper.room
   pub fringes : FringesHaveRoom o.fringes n
   pub draft : DraftHasRoom o.draft n
 
 -- they are those of a set in which p is not and which is S once p came, and they have room for p
-abbrev pub AwaitsPoint : Pair → List Pair → Outline → Type 0
-AwaitsPoint p S o = (before : List Pair) × IsOutlineOf before o × (S ≡ with_point p before) × (¬ Contains before p)
+abbrev pub AwaitsPoint : Pair → List Pair → Rim → Type 0
+AwaitsPoint p S o = (before : List Pair) × IsRimOf before o × (S ≡ with_point p before) × (¬ Contains before p)
     × HasRoom o (length before + 1)
 
--- a limit that a set may have, no more points than that, in order, each held, and their outline with room for theirs
-pub record IsPlainSet (limit : ℕ) (entries : List (Pair × ℕ)) (o : Outline) : Type 0 where
+-- a limit that a set may have, no more points than that, in order, each held, and their rim with room for theirs
+pub record IsPlainSet (limit : ℕ) (entries : List (Pair × ℕ)) (o : Rim) : Type 0 where
   pub low : 1 ≤ limit
   pub high : limit ≤ POINT_LIMIT
   pub few : length (keys_of entries) ≤ limit
   pub in_order : IsPointSet (keys_of entries)
   pub each_held : All (λ times. 1 ≤ times) (values_of entries)
-  pub outline : IsOutlineOf (keys_of entries) o
+  pub rim : IsRimOf (keys_of entries) o
   pub room : HasRoom o (length (keys_of entries))

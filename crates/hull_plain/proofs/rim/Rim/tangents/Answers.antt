@@ -1,5 +1,5 @@
 -- the two chains tell them
-use Rattle.hull_plain.proofs.outline.Outline.tangents.Goals as goal
+use Rattle.hull_plain.proofs.rim.Rim.tangents.Goals as goal
 
 pub returns : goal.returns
 returns c = λ S k. c.tangents_from.ensures S k.chains

@@ -5,7 +5,7 @@ ghost use Rattle.std.specs.Map.{keys_of};
 ghost use Rattle.lattice.specs.Plane.{Pair};
 ghost use Rattle.lattice.specs.Covers.{IsPointSet, with_point, without_point};
 ghost use Rattle.lattice.specs.Vertices.{IsVertexList, IsDoubledArea};
-ghost use Rattle.hull_plain.specs.Outlines.{HasRoom, AreAlike, IsOutline, IsOutlineOf, AwaitsPoint, WasOutlineOf};
+ghost use Rattle.hull_plain.specs.Rims.{HasRoom, AreAlike, IsRim, IsRimOf, AwaitsPoint, WasRimOf};
 ghost use Rattle.hull_set.specs.Replies.{LiesAt, AnswersExtreme, AnswersTangents, reply_to_extreme, reply_to_tangents};
 
 use super::corners::{doubled_area_of, vertices_of};
@@ -24,19 +24,19 @@ use tiered_list::TieredList;
 
 /// The two chains of the hull of a set, and the fringes and the room to mend them.
 #[derive(Drop)]
-pub(crate) struct Outline {
+pub(crate) struct Rim {
     lower: TieredList,
     upper: TieredList,
     fringes: Fringes,
     draft: Draft,
 }
 
-impl Outline {
-    /// The outline of the empty set. Asks for no memory.
-    pub(crate) fn new(alloc: Heap) -> Outline
-        ensures { IsOutlineOf [] result }
+impl Rim {
+    /// The rim of the empty set. Asks for no memory.
+    pub(crate) fn new(alloc: Heap) -> Rim
+        ensures { IsRimOf [] result }
     {
-        Outline {
+        Rim {
             lower: TieredList::new(alloc),
             upper: TieredList::new(alloc),
             fringes: Fringes::new(alloc),
@@ -44,7 +44,7 @@ impl Outline {
         }
     }
 
-    /// Makes room for the outline of a set of `count` points.
+    /// Makes room for the rim of a set of `count` points.
     pub(crate) fn reserve(&mut self, count: usize) -> Result<(), AllocError>
         ensures alike { AreAlike self.old self.new }
         ensures room { OnOk result (HasRoom self.new count) }
@@ -56,11 +56,11 @@ impl Outline {
         self.draft.reserve(count)
     }
 
-    /// The outline after a new point `p` came to the set, which is `points` then.
+    /// The rim after a new point `p` came to the set, which is `points` then.
     pub(crate) fn add(&mut self, p: Point, points: &BTreeMap<Point, u16, Heap>)
         requires in_order { IsPointSet (keys_of points.now.entries) }
-        requires outline { AwaitsPoint p (keys_of points.now.entries) self.old }
-        ensures outline { IsOutlineOf (keys_of points.now.entries) self.new }
+        requires rim { AwaitsPoint p (keys_of points.now.entries) self.old }
+        ensures rim { IsRimOf (keys_of points.now.entries) self.new }
         ensures kept { (n : ℕ) → HasRoom self.old n → HasRoom self.new n }
     {
         put_in(Side::Lower, &mut self.lower, &mut self.draft, p);
@@ -68,12 +68,12 @@ impl Outline {
         self.fringes.add(p, points, &mut self.draft);
     }
 
-    /// The outline after `p` left the set, of which `points` are left.
+    /// The rim after `p` left the set, of which `points` are left.
     pub(crate) fn remove(&mut self, p: Point, points: &BTreeMap<Point, u16, Heap>)
         requires left { IsPointSet (keys_of points.now.entries) }
-        requires outline { WasOutlineOf p (keys_of points.now.entries) self.old }
+        requires rim { WasRimOf p (keys_of points.now.entries) self.old }
         requires room { HasRoom self.old (length (keys_of points.now.entries)) }
-        ensures outline { IsOutlineOf (keys_of points.now.entries) self.new }
+        ensures rim { IsRimOf (keys_of points.now.entries) self.new }
         ensures kept { (n : ℕ) → HasRoom self.old n → HasRoom self.new n }
     {
         self.fringes.remove(p, points, &mut self.draft);
@@ -85,7 +85,7 @@ impl Outline {
 
     /// The first of the farthest points in a direction.
     pub(crate) fn extreme(&self, d: Direction) -> Option<Point>
-        ensures { (S : List Pair) → IsOutlineOf S self.now → AnswersExtreme S d (reply_to_extreme result) }
+        ensures { (S : List Pair) → IsRimOf S self.now → AnswersExtreme S d (reply_to_extreme result) }
     {
         if d.y() > 0 {
             extreme_of(&self.upper, d)
@@ -96,35 +96,35 @@ impl Outline {
 
     /// Where `q` lies.
     pub(crate) fn place(&self, q: Point) -> Place
-        requires { IsOutline self.now }
-        ensures { (S : List Pair) → IsOutlineOf S self.now → LiesAt S q result }
+        requires { IsRim self.now }
+        ensures { (S : List Pair) → IsRimOf S self.now → LiesAt S q result }
     {
         place_of(&self.lower, &self.upper, q)
     }
 
     /// The left and the right tangent point of `q`, where the hull does not cover it.
     pub(crate) fn tangents(&self, q: Point) -> Option<(Point, Point)>
-        requires { IsOutline self.now }
-        ensures { (S : List Pair) → IsOutlineOf S self.now → AnswersTangents S q (reply_to_tangents result) }
+        requires { IsRim self.now }
+        ensures { (S : List Pair) → IsRimOf S self.now → AnswersTangents S q (reply_to_tangents result) }
     {
         tangents_from(&self.lower, &self.upper, q)
     }
 
     /// The vertices, in memory of its own.
     pub(crate) fn vertices(&self) -> Result<Vec<Point, Heap>, AllocError>
-        ensures vertices { IfOk result (λ v. (S : List Pair) → IsPointSet S → IsOutlineOf S self.now
+        ensures vertices { IfOk result (λ v. (S : List Pair) → IsPointSet S → IsRimOf S self.now
             → IsVertexList S v.items) }
-        ensures refused { OnErr result ((S : List Pair) → IsOutlineOf S self.now → S ≢ []) }
+        ensures refused { OnErr result ((S : List Pair) → IsRimOf S self.now → S ≢ []) }
     {
         vertices_of(self.draft.allocator(), &self.lower, &self.upper)
     }
 
     /// The doubled area.
     pub(crate) fn area2(&self) -> u128
-        requires outline { IsOutline self.now }
+        requires rim { IsRim self.now }
         requires few_below { length self.now.lower.items ≤ POINT_LIMIT }
         requires few_above { length self.now.upper.items ≤ POINT_LIMIT }
-        ensures { (S : List Pair) → IsPointSet S → IsOutlineOf S self.now → IsDoubledArea S (pos result) }
+        ensures { (S : List Pair) → IsPointSet S → IsRimOf S self.now → IsDoubledArea S (pos result) }
     {
         doubled_area_of(&self.lower, &self.upper)
     }

@@ -1,7 +1,7 @@
 -- the direction faces the upper chain where it goes up, and else the lower one
 use Rattle.std.proofs.Common.{rules, pos, ◌<ℤ◌, ◌≤ℤ◌}
 use Rattle.lattice.specs.declared.side.Side.TheVariants.{Lower, Upper}
-use Rattle.hull_plain.proofs.outline.Outline.extreme.Goals as goal
+use Rattle.hull_plain.proofs.rim.Rim.extreme.Goals as goal
 
 pub returns-then-y-gt0 : goal.returns-then-y-gt0
 returns-then-y-gt0 c = λ S k.
