@@ -1,5 +1,5 @@
 -- A fork one of whose parts changed in place.
-use Rattle.std.proofs.Common.{◌≡◌, ℕ, ◌+◌, ◌*◌, ◌≤◌, ◌<◌, max, false, refl, sym, ap, ◌∙◌, subst, ◌++◌, length, arith}
+use Rattle.std.proofs.Common.{◌≡◌, ℕ, ◌+◌, ◌*◌, ◌≤◌, ◌<◌, max, Bool, true, false, refl, sym, ap, ◌∙◌, subst, ◌++◌, length, arith}
 use Rattle.std.proofs.Common.{Box, Some, Ok, Err}
 use Rattle.std.specs.Box.{with_value}
 use Rattle.std.specs.Prelude.{Result, IfOk, IfErr}
@@ -14,7 +14,7 @@ use Rattle.hull_set.specs.declared.TheConstants.{POINT_LIMIT}
 use Rattle.bucket_tree.specs.Changes.{IsBridgeBetween, IsClearOf, IsClosedOver, ClosesBy, IsBehind, IsBehindLeft, IsBehindRight}
 use Rattle.bucket_tree.specs.Changes.{IsRenewed, IsSameBut, edge_on}
 use Rattle.bucket_tree.specs.Counts.{counted, times_at}
-use Rattle.bucket_tree.specs.InPlace.{HasPutIn, HasTakenOut, IsInPlace}
+use Rattle.bucket_tree.specs.InPlace.{AreFewFor, HasChanged, HasChangedIn, HasPutIn, HasTakenOut, IsInPlace, IsUnsearched}
 use Rattle.bucket_tree.specs.Nodes.{points_below, times_below, forks_above, AreNear, AreInRow, IsWellBuilt}
 use Rattle.bucket_tree.specs.declared.renewal.Changed.{Changed}
 use Rattle.bucket_tree.specs.declared.node.Fork.{Fork as Below}
@@ -382,6 +382,63 @@ module _ (p : Pair) (n : Node) (h : ℕ) (f : Below) (k : Node) (below : Changed
             (omega (arith, same.height), omega (arith, same.height));
       }
 
+-- ---- p came or went, as the first word says
+
+-- either way the node is in place
+pub changed_in_place : (put : Bool) (p : Pair) (n m : Node) (change : Changed) → HasChanged put p n m change
+    → IsInPlace p n m change
+changed_in_place true p n m change d = d.in_place
+changed_in_place false p n m change d = d.in_place
+
+-- fewer points are few enough too
+pub fewer_for : (put : Bool) (m n : ℕ) → m ≤ n → AreFewFor put n → AreFewFor put m
+fewer_for true m n l few = omega (arith, l, few)
+fewer_for false m n l few = omega (arith, l, few)
+
+module _ (p : Pair) (n : Node) (h : ℕ) (f : Below) (k : Node) (below : Changed) (a : IsApart n h f)
+    (b : IsBefore p f.first_right) where
+  -- a fork whose left part changed is behind
+  pub change_left_behind : (put : Bool) → HasChanged put p f.left k below → IsBehindLeft p below.sides (with_left f k)
+  change_left_behind true d = put_left_behind p n h f k below a b d
+  change_left_behind false d = take_left_behind p n h f k below a b d
+
+  -- its points are no more than a set may have
+  pub change_left_few : (put : Bool) → HasChanged put p f.left k below → AreFewFor put (length (points_below n))
+      → length (points_below k ++ points_below f.right) ≤ POINT_LIMIT
+  change_left_few true d few = put_left_few p n h f k below a b d few
+  change_left_few false d few = take_left_few p n h f k below a b d few
+
+  -- and renewed it has changed as the part
+  pub change_left : (put : Bool) → HasChanged put p f.left k below → (g : Box Below _) (above : Changed)
+      → IsRenewed g.value → g.value.left ≡ k → g.value.right ≡ f.right
+      → above.turns ≤ below.turns + 4 * max (forks_above k) (forks_above f.right) + 24
+      → ClosesBy p below.sides above.sides (points_below k ++ points_below f.right)
+      → HasChanged put p n (Fork h g) above
+  change_left true d = put_left p n h f k below a b d
+  change_left false d = take_left p n h f k below a b d
+
+module _ (p : Pair) (n : Node) (h : ℕ) (f : Below) (k : Node) (below : Changed) (a : IsApart n h f)
+    (b : ¬ IsBefore p f.first_right) where
+  -- a fork whose right part changed is behind
+  pub change_right_behind : (put : Bool) → HasChanged put p f.right k below → IsBehindRight p below.sides (with_right f k)
+  change_right_behind true d = put_right_behind p n h f k below a b d
+  change_right_behind false d = take_right_behind p n h f k below a b d
+
+  -- its points are no more than a set may have
+  pub change_right_few : (put : Bool) → HasChanged put p f.right k below → AreFewFor put (length (points_below n))
+      → length (points_below f.left ++ points_below k) ≤ POINT_LIMIT
+  change_right_few true d few = put_right_few p n h f k below a b d few
+  change_right_few false d few = take_right_few p n h f k below a b d few
+
+  -- and renewed it has changed as the part
+  pub change_right : (put : Bool) → HasChanged put p f.right k below → (g : Box Below _) (above : Changed)
+      → IsRenewed g.value → g.value.left ≡ f.left → g.value.right ≡ k
+      → above.turns ≤ below.turns + 4 * max (forks_above f.left) (forks_above k) + 24
+      → ClosesBy p below.sides above.sides (points_below f.left ++ points_below k)
+      → HasChanged put p n (Fork h g) above
+  change_right true d = put_right p n h f k below a b d
+  change_right false d = take_right p n h f k below a b d
+
 -- ---- a bucket
 
 -- a bucket that stays as it was, and how often it holds p
@@ -398,52 +455,43 @@ module _ (p : Pair) (n : Node) (b : Box BucketValue _) (w v : BucketValue) (r : 
   leaf_told h = subst (λ z. IfErr r (λ times. times ≡ z))
       (ap (λ (z : BucketValue). counted z.points z.times p) d ∙ sym (ap (λ z. times_at z p) e)) h
 
--- p came to a bucket, if it did
-pub leaf_put : (p : Pair) (n : Node) (b c : Box BucketValue _) (w v : BucketValue) (r : Result Changed ℕ) → n ≡ Leaf b
-    → w ≡ b.value → c.value ≡ v → IsBucket v → IfOk r (λ _. counted w.points w.times p ≡ 0)
-    → IfOk r (λ _. v.points ≡ with_point p w.points)
-    → IfOk r (λ _. (q : Pair) → counted v.points v.times q ≡ counted w.points w.times q + once p q)
-    → IfOk r (λ change. IsClosedOver p change.sides v.points) → IfOk r (λ change. change.turns ≡ 0)
-    → IfOk r (HasPutIn p n (Leaf c))
-leaf_put p n b c w v (Err none) e d f h absent points times closed turns = tt
-leaf_put p n b c w v (Ok change) e d f h absent points times closed turns =
-    subst (λ z. HasPutIn p z (Leaf c) change) (sym e) record {
-      absent = subst (λ (z : BucketValue). counted z.points z.times p ≡ 0) d absent;
-      in_place = record {
-        built = leaf_built c v f h;
-        height = refl;
-        turns = omega (arith, turns);
-        closed = subst (λ (z : BucketValue). IsClosedOver p change.sides z.points) (sym f) closed;
-      };
-      gained = subst (λ (z : BucketValue). (z.points ≡ with_point p b.value.points)
-          × ((q : Pair) → counted z.points z.times q ≡ counted b.value.points b.value.times q + once p q)) (sym f)
-          (subst (λ (z : BucketValue). (v.points ≡ with_point p z.points)
-          × ((q : Pair) → counted v.points v.times q ≡ counted z.points z.times q + once p q)) d (points, times));
-    }
+-- a bucket with other points is in place where it was
+leaf_in_place : (p : Pair) (b c : Box BucketValue _) (v : BucketValue) (change : Changed) → c.value ≡ v → IsBucket v
+    → IsUnsearched p v change → IsInPlace p (Leaf b) (Leaf c) change
+leaf_in_place p b c v change f h u = record {
+  built = leaf_built c v f h;
+  height = refl;
+  turns = omega (arith, u.turns);
+  closed = subst (λ (z : BucketValue). IsClosedOver p change.sides z.points) (sym f) u.closed;
+}
 
--- p went from a bucket, if it did
-pub leaf_taken : (p : Pair) (n : Node) (b c : Box BucketValue _) (w v : BucketValue) (r : Result Changed ℕ) → n ≡ Leaf b
-    → w ≡ b.value → c.value ≡ v → IsBucket v → IfOk r (λ _. counted w.points w.times p ≡ 1)
-    → IfOk r (λ _. v.points ≡ without_point p w.points)
-    → IfOk r (λ _. (q : Pair) → counted w.points w.times q ≡ counted v.points v.times q + once p q)
-    → IfOk r (λ change. IsClosedOver p change.sides v.points) → IfOk r (λ change. change.turns ≡ 0)
-    → IfOk r (HasTakenOut p n (Leaf c))
-leaf_taken p n b c w v (Err none) e d f h held points times closed turns = tt
-leaf_taken p n b c w v (Ok change) e d f h held points times closed turns =
-    subst (λ z. HasTakenOut p z (Leaf c) change) (sym e) record {
-      once = subst (λ (z : BucketValue). counted z.points z.times p ≡ 1) d held;
-      in_place = record {
-        built = leaf_built c v f h;
-        height = refl;
-        turns = omega (arith, turns);
-        closed = subst (λ (z : BucketValue). IsClosedOver p change.sides z.points) (sym f) closed;
-      };
-      lost = (leaf_built c v f h, lost.0, lost.1, (omega arith, omega arith));
-    }
+-- p came to a bucket, or went from it
+changed_leaf : (put : Bool) (p : Pair) (b c : Box BucketValue _) (v : BucketValue) (change : Changed) → c.value ≡ v
+    → IsBucket v → HasChangedIn put p b.value v change → HasChanged put p (Leaf b) (Leaf c) change
+changed_leaf true p b c v change f h d = record {
+  absent = d.absent;
+  in_place = leaf_in_place p b c v change f h d.unsearched;
+  gained = subst (λ (z : BucketValue). (z.points ≡ with_point p b.value.points)
+      × ((q : Pair) → counted z.points z.times q ≡ counted b.value.points b.value.times q + once p q)) (sym f)
+      (d.points, d.times);
+}
+changed_leaf false p b c v change f h d = record {
+  once = d.held;
+  in_place = leaf_in_place p b c v change f h d.unsearched;
+  lost = (leaf_built c v f h, lost.0, lost.1, (omega arith, omega arith));
+}
   where
     lost : (c.value.points ≡ without_point p b.value.points)
         × ((q : Pair) → counted b.value.points b.value.times q ≡ counted c.value.points c.value.times q + once p q)
     lost = subst (λ (z : BucketValue). (z.points ≡ without_point p b.value.points)
         × ((q : Pair) → counted b.value.points b.value.times q ≡ counted z.points z.times q + once p q)) (sym f)
-        (subst (λ (z : BucketValue). (v.points ≡ without_point p z.points)
-        × ((q : Pair) → counted z.points z.times q ≡ counted v.points v.times q + once p q)) d (points, times))
+        (d.points, d.times)
+
+-- so a leaf changed, if its bucket did
+pub leaf_changed : (put : Bool) (p : Pair) (n : Node) (b c : Box BucketValue _) (w v : BucketValue) (r : Result Changed ℕ)
+    → n ≡ Leaf b → w ≡ b.value → c.value ≡ v → IsBucket v → IfOk r (HasChangedIn put p w v)
+    → IfOk r (HasChanged put p n (Leaf c))
+leaf_changed put p n b c w v (Err none) e d f h change = tt
+leaf_changed put p n b c w v (Ok told) e d f h change =
+    subst (λ z. HasChanged put p z (Leaf c) told) (sym e)
+    (changed_leaf put p b c v told f h (subst (λ z. HasChangedIn put p z v told) d change))

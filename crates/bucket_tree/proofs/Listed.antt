@@ -8,9 +8,8 @@ use Rattle.std.proofs.lemmas.List.Sums.{sum_by-cons}
 use Rattle.lattice.specs.Plane.{Pair}
 use Rattle.lattice.specs.Covers.{IsPointSet}
 use Rattle.hull_set.proofs.Times.{same_held}
-use Rattle.leaf_trees.specs.Entries.{several, IsMultiplicity, AreEntries, IsTrueHeld, points_listed, times_listed}
+use Rattle.leaf_trees.specs.Entries.{several, IsMultiplicity, AreEntries, points_listed, times_listed}
 use Rattle.leaf_trees.specs.Entries.{held_listed}
-use Rattle.leaf_trees.proofs.AddedSets.{entries_held}
 use Rattle.bucket_tree.specs.Counts.{counted}
 use Rattle.bucket_tree.specs.Lists.{paired, numbers_listed}
 
@@ -127,8 +126,3 @@ module _ (S : List Pair) (T : List ℕ) (s : IsPointSet S) (e : length T ≡ len
       → held_listed (paired S T) ≡ record { points = S; times = f }
   paired_hold f g = same_held (points_listed (paired S T)) S (λ q. times_listed (paired S T) q) f (paired_points S T e)
       (λ q. paired_times S T q ∙ sym (g q))
-
-  -- so what they hold is the points
-  pub lists_held : (f : Pair → ℕ) → ((q : Pair) → f q ≡ counted S T q)
-      → IsTrueHeld (record { points = S; times = f })
-  lists_held f g = subst IsTrueHeld (paired_hold f g) (entries_held (paired S T) paired_entries)

@@ -1,6 +1,6 @@
 -- What the parts of a node list.
 use Rattle.std.proofs.Common.{◌≡◌, ℕ, zero, suc, ◌+◌, ◌-◌, ◌<◌, ◌≤◌, max, min, refl, sym, ap, ◌∙◌, subst, List, [], ◌∷◌}
-use Rattle.std.proofs.Common.{◌++◌, length, take, drop, arith, inl, inr, Ok, Err, Some, Box, append_assoc}
+use Rattle.std.proofs.Common.{◌++◌, length, take, drop, arith, inl, inr, Ok, Err, Box, append_assoc}
 use Rattle.std.proofs.lemmas.List.{length-append, length-drop}
 use Rattle.std.specs.List.{All}
 use Rattle.std.proofs.lemmas.List.Elements.{All-cons, All-head, All-tail, All-weaker}
@@ -9,16 +9,14 @@ use Rattle.lattice.specs.Plane.{Pair, IsBefore}
 use Rattle.lattice.proofs.Order.{before_trans, before_irrefl, before_not, is_before-true, is_before-false}
 use Rattle.hull_geometry.specs.Positions.{IsPositionOf, point_at, origin, last_of}
 use Rattle.hull_geometry.proofs.PointLists.{AllPairs-head, AllPairs-tail, all_of}
-use Rattle.leaf_trees.specs.Stretches.{entries_from, IsStretch}
-use Rattle.leaf_trees.proofs.Stretches.{from_append, from_shorter, none_from, take_more, take_least}
+use Rattle.leaf_trees.specs.Stretches.{entries_from}
+use Rattle.leaf_trees.proofs.Stretches.{from_append, none_from, take_more, take_least}
 use Rattle.bucket_tree.specs.Lists.{paired, entries_below}
 use Rattle.bucket_tree.specs.Nodes.{points_below, forks_above, HasBuckets, IsWellBuilt}
 use Rattle.bucket_tree.specs.declared.node.Fork.{Fork as Below}
 use Rattle.bucket_tree.specs.declared.node.Node.{Node, Fork}
 use Rattle.bucket_tree.proofs.Gained.{counts_below}
 use Rattle.bucket_tree.proofs.Listed.{paired_row, paired_length, paired_points, paired_take, paired_drop}
-use Rattle.bucket_tree.specs.Roots.{held_by}
-use Rattle.bucket_tree.proofs.Rooted.{entries_are, entries_hold, entries_length}
 use Rattle.bucket_tree.proofs.SetEnds.{by_last}
 
 -- a node over two parts
@@ -137,15 +135,3 @@ bucket_from S T f count m old e l c k =
     ∙ ap (λ (z : ℕ). take z (drop f (paired S T))) n
     ∙ take_least (m - length old) (length S - f) (drop f (paired S T)) long)
     ∙ sym (first_behind m (m - length old) old (drop f (paired S T)) (omega (arith, k)))
-
--- the first so many below a root, or all, are a stretch of what it holds
-pub stretch_of_root : (s : Pair) (m k : ℕ) (n : Node) (listed : List (Pair × ℕ)) → IsWellBuilt n
-    → k ≡ length (points_below n) → listed ≡ take (min m k) (entries_from s (entries_below n))
-    → IsStretch (held_by (Some n)) s m listed
-stretch_of_root s m k n listed w c l = record {
-  all = entries_below n;
-  entries = entries_are n w;
-  of_held = entries_hold n w;
-  stretch = l ∙ take_least m k (entries_from s (entries_below n))
-      (omega (arith, from_shorter s (entries_below n), entries_length n w, c));
-}

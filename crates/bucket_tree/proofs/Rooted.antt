@@ -1,26 +1,25 @@
 -- What a tree with a limit keeps, and that a change keeps it.
-use Rattle.std.proofs.Common.{◌≡◌, ℕ, ◌+◌, ◌-◌, ◌<◌, ◌≤◌, ap, refl, sym, ◌∙◌, List, [], ◌∷◌, length, arith, Some, None, subst}
+use Rattle.std.proofs.Common.{◌≡◌, ℕ, ◌+◌, ◌-◌, ◌<◌, ◌≤◌, ap, refl, sym, ◌∙◌, List, [], length, arith, Some, None, subst}
 use Rattle.std.specs.Prelude.{Option, ◌≢◌}
 use Rattle.std.specs.List.{All, Contains}
 use Rattle.std.proofs.lemmas.List.Elements.{All-append}
 use Rattle.lattice.specs.Plane.{Pair}
 use Rattle.lattice.specs.Covers.{with_point, without_point}
 use Rattle.hull_geometry.proofs.PointLists.{AllPairs-none}
-use Rattle.hull_set.specs.Held.{once, with_new, with_none}
 use Rattle.hull_set.proofs.Times.{same_held}
 use Rattle.leaf_trees.specs.Entries.{IsMultiplicity, IsTrueHeld, AreEntries, held_listed, points_listed, times_listed}
-use Rattle.leaf_trees.proofs.AddedSets.{nothing_is_held}
+use Rattle.leaf_trees.proofs.AddedSets.{entries_held, no_entries, none_listed}
 use Rattle.leaf_trees.proofs.Told.{live, dead}
 use Rattle.bucket_tree.proofs.Lost.{without_only}
 use Rattle.leaf_trees.proofs.Rows.{with_length, without_length}
 use Rattle.bucket_tree.specs.Counts.{times_at, counted, HasLost}
-use Rattle.bucket_tree.specs.Lists.{entries_below, numbers_listed}
+use Rattle.bucket_tree.specs.Lists.{entries_below, entries_of_root, numbers_listed}
 use Rattle.bucket_tree.specs.Nodes.{points_below, times_below, HasBuckets, IsWellBuilt}
 use Rattle.bucket_tree.specs.Roots.{held_by, points_of_root, times_of_root, IsWellBuiltRoot}
 use Rattle.bucket_tree.specs.Sets.{IsLimited, IsSound}
 use Rattle.bucket_tree.specs.declared.node.Node.{Node, Leaf, Fork', Gap}
 use Rattle.bucket_tree.proofs.Gained.{counts_below}
-use Rattle.bucket_tree.proofs.Listed.{paired_entries, paired_hold, lists_held, paired_length, paired_times, paired_again}
+use Rattle.bucket_tree.proofs.Listed.{paired_entries, paired_hold, paired_times, paired_again}
 use Rattle.bucket_tree.proofs.Listed.{numbers_held, numbers_length}
 use Rattle.bucket_tree.specs.Loads.{AreParts}
 use Rattle.std.proofs.lemmas.Map.Entries.{length-keys_of}
@@ -44,15 +43,19 @@ pub entries_hold : (n : Node) → IsWellBuilt n → held_listed (entries_below n
 entries_hold n w = paired_hold (points_below n) (times_below n) w.ordered (counts_below n w.buckets)
     (multiplicities n w.buckets) (times_at n) (λ q. refl)
 
--- and are as many as its points
-pub entries_length : (n : Node) → IsWellBuilt n → length (entries_below n) ≡ length (points_below n)
-entries_length n w = paired_length (points_below n) (times_below n) (counts_below n w.buckets)
+-- what is below a well-built root is listed by entries
+pub root_entries : (root : Option Node) → IsWellBuiltRoot root → AreEntries (entries_of_root root)
+root_entries None w = no_entries
+root_entries (Some n) w = entries_are n w
+
+-- which hold what it holds
+pub root_entries_hold : (root : Option Node) → IsWellBuiltRoot root → held_listed (entries_of_root root) ≡ held_by root
+root_entries_hold None w = none_listed
+root_entries_hold (Some n) w = entries_hold n w
 
 -- what a well-built root holds is its points
 pub root_held : (root : Option Node) → IsWellBuiltRoot root → IsTrueHeld (held_by root)
-root_held None w = nothing_is_held
-root_held (Some n) w = lists_held (points_below n) (times_below n) w.ordered (counts_below n w.buckets)
-    (multiplicities n w.buckets) (times_at n) (λ q. refl)
+root_held root w = subst IsTrueHeld (root_entries_hold root w) (entries_held (entries_of_root root) (root_entries root w))
 
 -- a tree with a limit is sound
 pub sound : (root : Option Node) (count limit : ℕ) → IsLimited root count limit → IsSound root
@@ -72,17 +75,6 @@ limited_with n m p count limit h b e a l =
     ap (λ (z : List Pair). length z) e ∙ with_length p (points_below n) a in
     record { built = b; counted = omega (arith, h.counted, k); room = omega (arith, l); low = h.low; high = h.high }
 
--- the same points
-pub limited_same : (root top : Option Node) (count limit : ℕ) → IsLimited root count limit → IsWellBuiltRoot top
-    → points_of_root top ≡ points_of_root root → IsLimited top count limit
-limited_same root top count limit h b e = record {
-  built = b;
-  counted = omega (arith, h.counted, ap (λ (z : List Pair). length z) e);
-  room = h.room;
-  low = h.low;
-  high = h.high;
-}
-
 -- one point less
 pub limited_without : (n : Node) (root : Option Node) (p : Pair) (count limit : ℕ) → IsLimited (Some n) count limit
     → IsWellBuiltRoot root → points_of_root root ≡ without_point p (points_below n) → Contains (points_below n) p
@@ -97,36 +89,6 @@ limited_without n root p count limit h b e m =
       low = h.low;
       high = h.high;
     }
-
--- a set of one point
-pub limited_one : (n : Node) (p : Pair) (limit : ℕ) → IsWellBuilt n → points_below n ≡ p ∷ [] → 1 ≤ limit
-    → limit ≤ 1048576 → IsLimited (Some n) 1 limit
-limited_one n p limit w e l g = record {
-  built = w;
-  counted = omega (arith, ap (λ (z : List Pair). length z) e);
-  room = l;
-  low = l;
-  high = g;
-}
-
--- what is held with a new point
-pub held_new : (n m : Node) (p : Pair) → points_below m ≡ with_point p (points_below n)
-    → ((q : Pair) → times_at m q ≡ times_at n q + once p q) → held_by (Some m) ≡ with_new p (held_by (Some n))
-held_new n m p e h =
-    same_held (points_below m) (with_point p (points_below n)) (times_at m) (λ q. times_at n q + once p q) e h
-
--- what is held where nothing came
-pub held_same : (n m : Node) → points_below m ≡ points_below n → ((q : Pair) → times_at m q ≡ times_at n q)
-    → held_by (Some m) ≡ held_by (Some n)
-held_same n m e h = same_held (points_below m) (points_below n) (times_at m) (times_at n) e h
-
--- what is held without a point that was held once
-pub held_none : (root : Option Node) (n : Node) (p : Pair) → points_of_root root ≡ without_point p (points_below n)
-    → ((q : Pair) → times_at n q ≡ times_of_root root q + once p q)
-    → held_by root ≡ with_none p (held_by (Some n))
-held_none root n p e h =
-    same_held (points_of_root root) (without_point p (points_below n)) (times_of_root root)
-    (λ q. times_at n q - once p q) e (λ q. omega (arith, h q))
 
 -- what a node holds that was built of entries
 pub held_entries : (n : Node) (es : List (Pair × ℕ)) → points_below n ≡ points_listed es

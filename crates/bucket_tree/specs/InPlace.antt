@@ -1,10 +1,14 @@
 -- What a change in place comes to: no part moves.
-use Rattle.std.specs.Prelude.{◌≡◌, ◌≤◌, Some, false}
+use Rattle.std.specs.Prelude.{◌≡◌, ◌≤◌, ◌<◌, ◌+◌, ℕ, Some, Bool, true, false}
+use Rattle.lattice.specs.Covers.{with_point, without_point}
 use Rattle.lattice.specs.Plane.{Pair}
+use Rattle.hull_buckets.specs.Buckets.{BucketValue}
+use Rattle.hull_set.specs.Held.{once}
+use Rattle.hull_set.specs.declared.TheConstants.{POINT_LIMIT}
 use Rattle.bucket_tree.specs.declared.renewal.Changed.{Changed}
 use Rattle.bucket_tree.specs.declared.node.Node.{Node}
 use Rattle.bucket_tree.specs.Changes.{IsClosedOver}
-use Rattle.bucket_tree.specs.Counts.{times_at, HasGained, HasLost}
+use Rattle.bucket_tree.specs.Counts.{counted, times_at, HasGained, HasLost}
 use Rattle.bucket_tree.specs.Nodes.{points_below, forks_above, IsWellBuilt}
 use Rattle.bucket_tree.specs.Turns.{most_turns}
 
@@ -27,3 +31,37 @@ pub record HasTakenOut (p : Pair) (n m : Node) (change : Changed) : Type 0 where
   pub once : times_at n p ≡ 1
   pub in_place : IsInPlace p n m change
   pub lost : HasLost p n (Some m)
+
+-- p came to the points, or went from them
+abbrev pub HasChanged : Bool → Pair → Node → Node → Changed → Type 0
+HasChanged true = HasPutIn
+HasChanged false = HasTakenOut
+
+-- so many points are few enough for that
+abbrev pub AreFewFor : Bool → ℕ → Type 0
+AreFewFor true n = n < POINT_LIMIT
+AreFewFor false n = n ≤ POINT_LIMIT
+
+-- a bucket changed with no search; where a side is closed, p stands under an edge of the points that are there now
+pub record IsUnsearched (p : Pair) (new : BucketValue) (change : Changed) : Type 0 where
+  pub closed : IsClosedOver p change.sides new.points
+  pub turns : change.turns ≡ 0
+
+-- p, which was not there, came to a bucket
+pub record HasPutInto (p : Pair) (old new : BucketValue) (change : Changed) : Type 0 where
+  pub absent : counted old.points old.times p ≡ 0
+  pub points : new.points ≡ with_point p old.points
+  pub times : (q : Pair) → counted new.points new.times q ≡ counted old.points old.times q + once p q
+  pub unsearched : IsUnsearched p new change
+
+-- p, held once, went from a bucket
+pub record HasTakenFrom (p : Pair) (old new : BucketValue) (change : Changed) : Type 0 where
+  pub held : counted old.points old.times p ≡ 1
+  pub points : new.points ≡ without_point p old.points
+  pub times : (q : Pair) → counted old.points old.times q ≡ counted new.points new.times q + once p q
+  pub unsearched : IsUnsearched p new change
+
+-- the one or the other
+abbrev pub HasChangedIn : Bool → Pair → BucketValue → BucketValue → Changed → Type 0
+HasChangedIn true = HasPutInto
+HasChangedIn false = HasTakenFrom

@@ -1,5 +1,5 @@
 -- The points of a tree with how often each is held, as one list.
-use Rattle.std.specs.Prelude.{ℕ, List, [], ◌∷◌, map}
+use Rattle.std.specs.Prelude.{ℕ, List, [], ◌∷◌, map, Option, Some, None}
 use Rattle.lattice.specs.Plane.{Pair}
 use Rattle.bucket_tree.specs.declared.node.Node.{Node}
 use Rattle.bucket_tree.specs.Nodes.{points_below, times_below}
@@ -17,3 +17,8 @@ numbers_listed entries = map (λ (e : Pair × ℕ). e.1) entries
 -- the points below a node in order, each with how often it is held
 abbrev pub entries_below : Node → List (Pair × ℕ)
 entries_below n = paired (points_below n) (times_below n)
+
+-- the points of a whole tree
+abbrev pub entries_of_root : Option Node → List (Pair × ℕ)
+entries_of_root None = []
+entries_of_root (Some n) = entries_below n

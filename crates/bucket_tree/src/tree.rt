@@ -1,13 +1,14 @@
 //! The set.
 mod few_vertices;
 
-ghost use Rattle.std.specs.Prelude.{◌≡◌, ◌≢◌, ◌≤◌, ◌<◌, ◌+◌, ◌↔◌, None, IsTrue, true, false, length, IfOk, IfErr, Err};
+ghost use Rattle.std.specs.Prelude.{◌≡◌, ◌≢◌, ◌≤◌, ◌<◌, ◌+◌, ◌↔◌, None, IsTrue, true, false, length, IfOk, IfErr};
+ghost use Rattle.std.proofs.Common.{arith};
 ghost use Rattle.lattice.specs.Plane.{Pair};
-ghost use Rattle.hull_set.specs.Held.{times_among, nothing_held, with_new, with_none};
+ghost use Rattle.hull_set.specs.Held.{with_new, with_none};
 ghost use Rattle.hull_set.specs.Replies.{Answers, after, reply_to_add, reply_to_remove};
-ghost use Rattle.leaf_trees.specs.Entries.{several, IsMultiplicity, AreEntries, held_listed, held_after_adds, AreTooMany};
-ghost use Rattle.leaf_trees.specs.Stretches.{IsStretch};
+ghost use Rattle.leaf_trees.specs.Entries.{several, IsMultiplicity};
 ghost use Rattle.bucket_tree.specs.Levels.{bridges_at};
+ghost use Rattle.bucket_tree.specs.Lists.{entries_of_root};
 ghost use Rattle.bucket_tree.specs.Roots.{held_by, points_of_root, times_of_root};
 ghost use Rattle.bucket_tree.specs.Sets.{LimitedTree, IsSound};
 
@@ -25,7 +26,7 @@ use hull_set::{
     AddReply, Call, HullSet, MULTIPLICITY_LIMIT, NoMemory, POINT_LIMIT, Place, RemoveReply, Rules,
 };
 use lattice::{Direction, Point};
-use leaf_trees::{Bridge, LoadFault, add_each, entries_of, merged_entries};
+use leaf_trees::{Bridge, Listed};
 use std::marker::Model;
 
 /// A set of points as a balanced tree of forks over buckets of up to 64 points: a point takes 32 to 48 bytes, and most changes
@@ -71,85 +72,6 @@ impl BucketTree {
         }
     }
 
-    /// The set of some points in order, each with how often it is held, with room for `limit` points. Each bucket and each
-    /// fork is made once. `NoMemory` comes only for some points, and leaves nothing behind.
-    pub fn from_entries(
-        alloc: Heap,
-        limit: u32,
-        entries: &[(Point, u32)],
-    ) -> Result<BucketTree, NoMemory>
-        requires high { limit ≤ POINT_LIMIT }
-        requires low { 1 ≤ limit }
-        requires room { length entries.now ≤ limit }
-        requires entries { AreEntries entries.now }
-        ensures held { IfOk result (λ tree. held_by tree.root ≡ held_listed entries.now) }
-        ensures limit { IfOk result (λ tree. tree.limit ≡ limit) }
-        ensures sound { IfOk result (λ tree. IsSound tree.root) }
-        ensures refused { IfErr result (λ _. 1 ≤ length entries.now) }
-    {
-        let mut tree = BucketTree::new(alloc, limit);
-        if entries.is_empty() {
-            return Ok(tree);
-        }
-        let root = from_entries(alloc, entries)?;
-        tree.root = Some(root);
-        tree.count = entries.len() as u32;
-        Ok(tree)
-    }
-
-    /// The set of some points in any order, each held as often as it stands among them, with room for `limit` points:
-    /// what adding them one by one makes, in a small part of the time. `TooMany` comes where adding them would answer
-    /// it; a fault leaves nothing behind.
-    pub fn from_points(alloc: Heap, limit: u32, points: &[Point]) -> Result<BucketTree, LoadFault>
-        requires high { limit ≤ POINT_LIMIT }
-        requires low { 1 ≤ limit }
-        ensures held { IfOk result (λ tree. held_by tree.root ≡ held_after_adds nothing_held points.now) }
-        ensures times { IfOk result (λ tree. (q : Pair) → times_of_root tree.root q ≡ times_among points.now q) }
-        ensures limit { IfOk result (λ tree. tree.limit ≡ limit) }
-        ensures sound { IfOk result (λ tree. IsSound tree.root) }
-        ensures too_many { result ≡ Err LoadFault.TooMany → AreTooMany nothing_held points.now limit }
-    {
-        let entries = entries_of(alloc, points)?;
-        if entries.len() > limit as usize {
-            return Err(LoadFault::TooMany);
-        }
-        Ok(BucketTree::from_entries(alloc, limit, &entries)?)
-    }
-
-    /// The points in order, each with how often it is held. `NoMemory` comes only for some points.
-    pub fn entries(&self) -> Result<Vec<(Point, u32), Heap>, NoMemory>
-        ensures entries { IfOk result (λ entries. AreEntries entries.items) }
-        ensures held { IfOk result (λ entries. held_listed entries.items ≡ held_by self.now.root) }
-        ensures refused { IfErr result (λ _. self.now.root ≢ None) }
-    {
-        let Some(root) = &self.root else {
-            return Ok(Vec::new(self.alloc));
-        };
-        let mut entries = Vec::with_capacity(self.alloc, self.count as usize)?;
-        push_entries(root, &mut entries);
-        Ok(entries)
-    }
-
-    /// The first `most` points that do not stand before `start`, in order, each with how often it is held: all points a
-    /// piece at a time, where each piece starts behind the last point of the one before. `NoMemory` comes only for some
-    /// points.
-    pub fn entries_from(
-        &self,
-        start: Point,
-        most: usize,
-    ) -> Result<Vec<(Point, u32), Heap>, NoMemory>
-        ensures stretch { IfOk result (λ entries. IsStretch (held_by self.now.root) start most entries.items) }
-        ensures refused { IfErr result (λ _. self.now.root ≢ None) }
-    {
-        let Some(root) = &self.root else {
-            return Ok(Vec::new(self.alloc));
-        };
-        let room = most.min(self.count as usize);
-        let mut entries = Vec::with_capacity(self.alloc, room)?;
-        push_from(root, start, room, &mut entries);
-        Ok(entries)
-    }
-
     /// The bridges that the forks of a level store, from left to right; the root stands on level 0, and the corners of a
     /// bucket are none. `NoMemory` comes only for some points.
     pub fn bridges_at(&self, level: u32) -> Result<Vec<Bridge, Heap>, NoMemory>
@@ -161,45 +83,6 @@ impl BucketTree {
             push_level(root, level, 0, &mut bridges)?;
         }
         Ok(bridges)
-    }
-
-    /// Adds points in any order, all or none of them: what adding them one by one makes. Where they are a quarter of the
-    /// points at least, the tree is built anew beside the old one, and else they are added one by one. `TooMany` comes where
-    /// adding them would answer it; after a fault the set holds what it held.
-    pub fn extend(&mut self, points: &[Point]) -> Result<(), LoadFault>
-        ensures held { IfOk result (λ _. held_by self.new.root ≡ held_after_adds (held_by self.old.root) points.now) }
-        ensures fault { IfErr result (λ _. held_by self.new.root ≡ held_by self.old.root) }
-        ensures too_many { result ≡ Err LoadFault.TooMany
-            → AreTooMany (held_by self.old.root) points.now self.old.limit }
-        ensures limit { self.new.limit ≡ self.old.limit }
-        ensures sound { IsSound self.new.root }
-    {
-        if points.len() < self.count as usize / 4 {
-            bucket_trees_are_sound(self);
-            add_each(self, points)
-        } else {
-            self.extend_anew(points)
-        }
-    }
-
-    /// Adds points, all or none of them: builds the tree anew beside the old one, from the points of both.
-    fn extend_anew(&mut self, points: &[Point]) -> Result<(), LoadFault>
-        ensures held { IfOk result (λ _. held_by self.new.root ≡ held_after_adds (held_by self.old.root) points.now) }
-        ensures fault { IfErr result (λ _. self.new ≡ self.old) }
-        ensures too_many { result ≡ Err LoadFault.TooMany
-            → AreTooMany (held_by self.old.root) points.now self.old.limit }
-        ensures limit { self.new.limit ≡ self.old.limit }
-        ensures sound { IsSound self.new.root }
-    {
-        bucket_trees_are_sound(self);
-        let added = entries_of(self.alloc, points)?;
-        let held = self.entries()?;
-        let entries = merged_entries(self.alloc, &held, &added)?;
-        if entries.len() > self.limit as usize {
-            return Err(LoadFault::TooMany);
-        }
-        *self = BucketTree::from_entries(self.alloc, self.limit, &entries)?;
-        Ok(())
     }
 
     /// How often a point is held.
@@ -492,6 +375,53 @@ impl HullSet for BucketTree {
             Some(root) => area2(root),
         }
     }
+}
+
+impl Listed for BucketTree {
+    // building anew is faster from a quarter on
+    const SHARE: usize = 4;
+
+    ghost SHARE = { 4 };
+
+    ghost listed = { λ t. entries_of_root t.root };
+
+    fn alloc(&self) -> Heap {
+        self.alloc
+    }
+
+    fn lists_are_sound(&self) {
+        bucket_trees_are_sound(self);
+    }
+
+    fn push_entries(&self, entries: &mut Vec<(Point, u32), Heap>) {
+        if let Some(root) = &self.root {
+            push_entries(root, entries);
+        }
+    }
+
+    fn push_from(&self, start: Point, most: usize, entries: &mut Vec<(Point, u32), Heap>) {
+        if let Some(root) = &self.root {
+            push_from(root, start, most, entries);
+        }
+    }
+
+    /// Each bucket and each fork is made once.
+    fn from_entries(
+        alloc: Heap,
+        limit: u32,
+        entries: &[(Point, u32)],
+    ) -> Result<BucketTree, NoMemory> {
+        let mut tree = BucketTree::new(alloc, limit);
+        if entries.is_empty() {
+            return Ok(tree);
+        }
+        let root = from_entries(alloc, entries)?;
+        tree.root = Some(root);
+        tree.count = entries.len() as u32;
+        Ok(tree)
+    }
+
+    ghost some_share = { Prim.omega arith };
 }
 
 /// The law of a tree: whatever calls came before, each stored bridge is that of all points below it, each bucket's masks

@@ -8,7 +8,7 @@ use heap::Heap;
 use hull_set::{Call, HullSet, POINT_LIMIT, Place, Reply, Rules};
 use hull_tree::HullTree;
 use lattice::Point;
-use leaf_trees::LoadFault;
+use leaf_trees::{Listed, LoadFault};
 
 /// Where `p` lies, seen from the hull of points in any order.
 pub fn place_among(alloc: Heap, points: &[Point], p: Point) -> Result<Place, LoadFault>

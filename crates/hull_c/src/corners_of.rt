@@ -13,7 +13,7 @@ use hull_outline::Outline;
 use hull_reply::{Code, HullPoint, HullReply, put_corners};
 use hull_set::{HullSet, POINT_LIMIT};
 use lattice::{Point, before};
-use leaf_trees::LoadFault;
+use leaf_trees::{Listed, LoadFault};
 
 /// The place of a point before which no other stands, by x and then y.
 fn first_place(points: &[Point]) -> usize

@@ -8,11 +8,12 @@ ghost use Rattle.hull_reply.specs.Told.{IsBare};
 ghost use Rattle.hull_c.specs.Held.{AreLoaded, HoldsListed, IsEntry, IsListed, IsWritten};
 
 use super::hull::Hull;
-use bucket_tree::{BucketTree, bucket_trees_are_sound};
+use bucket_tree::BucketTree;
 use heap::Heap;
 use hull_reply::{Code, HullReply, point_of};
 use hull_set::MULTIPLICITY_LIMIT;
 use lattice::Point;
+use leaf_trees::Listed;
 use std::marker::Model;
 
 /// A point that is held, and how often.
@@ -65,9 +66,7 @@ fn write_entries(entries: &[(Point, u32)], out: &mut [HullHeld])
 fn list_from(hull: &Hull, start: Point, out: &mut [HullHeld]) -> HullReply
     ensures { IsWritten hull.now start out.old out.new result }
 {
-    let tree = hull.tree();
-    bucket_trees_are_sound(tree);
-    let Ok(entries) = tree.entries_from(start, out.len()) else {
+    let Ok(entries) = hull.tree().entries_from(start, out.len()) else {
         return HullReply::bare(Code::NoMemory);
     };
     write_entries(&entries, out);

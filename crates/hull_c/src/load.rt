@@ -10,7 +10,7 @@ use heap::Heap;
 use hull_reply::{Code, HullPoint, HullReply, point_of};
 use hull_set::HullSet;
 use lattice::Point;
-use leaf_trees::LoadFault;
+use leaf_trees::{Listed, LoadFault};
 
 /// The point of these coordinates; [`Code::OutOfRange`] where one of them is none.
 fn read(asked: HullPoint) -> Result<Point, Code>

@@ -11,12 +11,10 @@ use Rattle.hull_geometry.proofs.PointLists.{AllPairs-none}
 use Rattle.hull_tree.specs.declared.node.Node.{Node}
 use Rattle.hull_tree.specs.Nodes.{tree_of, IsWellBuilt}
 use Rattle.hull_tree.specs.Changes.{points_below}
-use Rattle.hull_tree.specs.Roots.{held_by, points_of_root, IsWellBuiltRoot}
+use Rattle.hull_tree.specs.Roots.{points_of_root, IsWellBuiltRoot}
 use Rattle.hull_tree.specs.Sets.{IsLimited, IsSound, IsWhole}
-use Rattle.leaf_trees.specs.Entries.{IsTrueHeld}
 use Rattle.leaf_trees.proofs.Rows.{with_length, without_length}
 use Rattle.hull_tree.proofs.Heights.{at_most_28}
-use Rattle.hull_tree.proofs.Multiplicities.{live_iff}
 
 -- such a tree is sound
 pub sound : (root : Option Node) (count limit : ℕ) → IsLimited root count limit → IsSound root
@@ -26,14 +24,6 @@ sound (Some n) count limit h = record {
   in_order = points_in_order (tree_of n) h.built.bridged;
   low = at_most_28 (tree_of n) h.built.balanced (omega (arith, h.counted, h.room, h.high));
 }
-
--- what a sound root holds is its points
-pub root_held : (root : Option Node) → IsSound root → IsTrueHeld (held_by root)
-root_held None s = record {
-  in_order = AllPairs-none;
-  live = λ t. (λ m. absurd (omega (arith, m.1)), λ l. absurd (omega (arith, l)));
-}
-root_held (Some n) s = record { in_order = s.in_order; live = λ t. live_iff n t s.built }
 
 -- one point more, below the limit
 pub limited_with : (n m : Node) (p : Pair) (count limit : ℕ) → IsLimited (Some n) count limit → IsWellBuilt m

@@ -8,6 +8,7 @@ use Rattle.std.proofs.lemmas.Map.Entries.{length-keys_of}
 use Rattle.lattice.specs.Plane.{Pair}
 use Rattle.lattice.specs.Covers.{IsPointSet}
 use Rattle.hull_set.specs.declared.TheConstants.{POINT_LIMIT}
+use Rattle.leaf_trees.specs.Heights.{greatest_height}
 use Rattle.hull_tree.specs.declared.node.Node.{Node}
 use Rattle.leaf_trees.specs.Entries.{several, IsMultiplicity, points_listed, AreEntries}
 use Rattle.hull_tree.specs.Nodes.{tree_of, times_below, IsWellBuilt}
@@ -52,7 +53,7 @@ row_over m es l r h a b = record {
 }
 
 -- a node over few entries is not too high
-pub low_over : (es : List (Pair × ℕ)) (n : Node) → IsOver es n → length es ≤ 1048576 → height_at n ≤ 28
+pub low_over : (es : List (Pair × ℕ)) (n : Node) → IsOver es n → length es ≤ 1048576 → height_at n ≤ greatest_height
 low_over es n h l =
     at_most_28 (tree_of n) h.built.balanced
     (omega (arith, l, ap (λ (z : List Pair). length z) h.points, length-keys_of es))

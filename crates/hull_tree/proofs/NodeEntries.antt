@@ -1,5 +1,5 @@
 -- The points below a node, each with how often it is held, as entries.
-use Rattle.std.proofs.Common.{◌≡◌, ℕ, ◌+◌, refl, sym, ◌∙◌, ap, subst, List, [], ◌++◌, length, arith, Some}
+use Rattle.std.proofs.Common.{◌≡◌, ℕ, ◌+◌, refl, sym, ◌∙◌, ap, subst, List, [], ◌++◌, length, arith, Option, Some, None}
 use Rattle.std.specs.List.{All}
 use Rattle.std.proofs.lemmas.List.{map-append}
 use Rattle.std.proofs.lemmas.List.Elements.{All-append, All-cons}
@@ -10,12 +10,13 @@ use Rattle.lattice.specs.Covers.{IsPointSet}
 use Rattle.bridge_search.proofs.Leaves.{points_in_order}
 use Rattle.hull_set.proofs.Times.{same_held}
 use Rattle.leaf_trees.specs.Entries.{several, IsMultiplicity, points_listed, times_listed, held_listed, AreEntries}
+use Rattle.leaf_trees.proofs.AddedSets.{no_entries, none_listed}
 use Rattle.hull_tree.specs.declared.node.Node as node
 use Rattle.hull_tree.specs.declared.node.Halves as halves
 use Rattle.hull_tree.specs.Nodes.{tree_of, below_of, left_half, right_half, times_below, IsLabelled, IsWellBuilt}
 use Rattle.hull_tree.specs.Changes.{points_below, height_at, height_within}
-use Rattle.hull_tree.specs.Roots.{held_by}
-use Rattle.hull_tree.specs.Loaded.{entries_below}
+use Rattle.hull_tree.specs.Roots.{held_by, IsWellBuiltRoot}
+use Rattle.hull_tree.specs.Loaded.{entries_below, entries_of_root}
 use Rattle.hull_tree.proofs.HalfRows.{same_below}
 
 -- the points of the entries are those of the tree
@@ -80,3 +81,13 @@ pub entries_hold : (n : node.Node) → held_listed (entries_below n) ≡ held_by
 entries_hold n =
     same_held (points_listed (entries_below n)) (points_below n) (λ q. times_listed (entries_below n) q) (times_below n)
     (points_of_entries n) (λ q. times_of_entries n q)
+
+-- what is below a well-built root is listed by entries
+pub root_entries : (root : Option node.Node) → IsWellBuiltRoot root → AreEntries (entries_of_root root)
+root_entries None w = no_entries
+root_entries (Some n) w = entries_are n w
+
+-- which hold what it holds
+pub root_entries_hold : (root : Option node.Node) → held_listed (entries_of_root root) ≡ held_by root
+root_entries_hold None = none_listed
+root_entries_hold (Some n) = entries_hold n

@@ -1,22 +1,20 @@
 -- The entries from a start on, over the halves of a fork.
-use Rattle.std.proofs.Common.{◌≡◌, ◌∙◌, refl, sym, ap, subst, arith, ℕ, List, [], ◌++◌}
-use Rattle.std.proofs.Common.{take, min, length, append_assoc, Option, Some, None, ◌≢◌}
+use Rattle.std.proofs.Common.{◌≡◌, ◌∙◌, sym, ap, subst, ℕ, List, [], ◌++◌}
+use Rattle.std.proofs.Common.{take, append_assoc, Some}
 use Rattle.std.specs.List.{All}
 use Rattle.lattice.specs.Plane.{Pair, IsBefore}
 use Rattle.bridge_search.specs.Trees.{last_of}
-use Rattle.bridge_search.proofs.Ends.{last_by, on_last}
-use Rattle.bridge_search.proofs.Leaves.{on_of_contains, contains_of_on}
+use Rattle.bridge_search.proofs.Ends.{last_by}
+use Rattle.bridge_search.proofs.Leaves.{on_of_contains}
 use Rattle.hull_geometry.proofs.PointLists.{all_of}
 use Rattle.hull_tree.specs.declared.node.Node as node
 use Rattle.hull_tree.specs.declared.node.Halves as halves
 use Rattle.hull_tree.specs.Nodes.{tree_of, below_of, left_half, right_half, before_parting, IsWellBuilt}
 use Rattle.hull_tree.specs.Changes.{points_below}
-use Rattle.hull_tree.specs.Roots.{held_by, points_of_root}
 use Rattle.hull_tree.specs.Loaded.{entries_below}
-use Rattle.leaf_trees.specs.Stretches.{entries_from, IsStretch}
-use Rattle.leaf_trees.proofs.Stretches.{early, from_append, from_shorter, none_from, take_least, take_more}
-use Rattle.hull_tree.proofs.NodeEntries.{listed_halves, points_of_entries, length_of_entries, entries_are, entries_hold}
-use Rattle.hull_tree.proofs.CountedTrees.{some_points}
+use Rattle.leaf_trees.specs.Stretches.{entries_from}
+use Rattle.leaf_trees.proofs.Stretches.{early, from_append, none_from, take_more}
+use Rattle.hull_tree.proofs.NodeEntries.{listed_halves, points_of_entries}
 use Rattle.hull_tree.proofs.HalfRows.{over_halves}
 
 -- a node whose last point stands before the start has none
@@ -52,24 +50,3 @@ right_alone s m n h old w b k =
     (sym (ap (λ z. entries_from s z) (listed_halves n h b).entries
     ∙ from_append s (entries_below (left_half h)) (entries_below (right_half h))
     ∙ ap (λ (z : List (Pair × ℕ)). z ++ r) none))
-
--- the first so many of a tree's, or all, are a stretch of what it holds
-pub stretch_of_root : (s : Pair) (m k : ℕ) (n : node.Node) (listed : List (Pair × ℕ)) → IsWellBuilt n
-    → k ≡ length (points_below n) → listed ≡ take (min m k) (entries_from s (entries_below n))
-    → IsStretch (held_by (Some n)) s m listed
-stretch_of_root s m k n listed h c l = record {
-  all = entries_below n;
-  entries = entries_are n h;
-  of_held = entries_hold n;
-  stretch = l ∙ take_least m k (entries_from s (entries_below n))
-      (omega (arith, from_shorter s (entries_below n), length_of_entries n, c));
-}
-
--- what is not nothing has a point
-pub some_held : (root : Option node.Node) → root ≢ None → ¬ (points_of_root root ≡ [])
-some_held None h e = h refl
-some_held (Some n) h e = omega (
-  arith,
-  some_points (points_below n) (last_of (tree_of n)) (contains_of_on (tree_of n) (last_of (tree_of n)) (on_last (tree_of n))),
-  ap (λ (z : List Pair). length z) e,
-)

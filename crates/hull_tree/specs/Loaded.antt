@@ -1,5 +1,5 @@
 -- What a tree is loaded with at once: points in order, each with how often it is held.
-use Rattle.std.specs.Prelude.{◌≡◌, ℕ, ◌*◌, ◌^◌, ◌<◌, ◌≤◌, List, [], ◌∷◌, ◌++◌, length}
+use Rattle.std.specs.Prelude.{◌≡◌, ℕ, ◌*◌, ◌^◌, ◌<◌, ◌≤◌, List, [], ◌∷◌, ◌++◌, length, Option, Some, None}
 use Rattle.lattice.specs.Plane.{Pair}
 use Rattle.leaf_trees.specs.Entries.{points_listed, times_listed}
 use Rattle.hull_tree.specs.declared.node.Node.{Node}
@@ -13,6 +13,11 @@ abbrev pub entries_below : Node → List (Pair × ℕ)
 entries_below (node.Node' upper lower height near times node.None') = (upper.0, times) ∷ []
 entries_below (node.Node' upper lower height near times
     (node.Some' i (halves.Halves' left right last_left first_right))) = entries_below left ++ entries_below right
+
+-- the points of a whole tree
+abbrev pub entries_of_root : Option Node → List (Pair × ℕ)
+entries_of_root None = []
+entries_of_root (Some n) = entries_below n
 
 -- so often n is halved, rounded up, until one is left
 abbrev pub IsHalvings : ℕ → ℕ → Type 0

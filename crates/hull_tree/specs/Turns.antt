@@ -1,12 +1,21 @@
 -- How many turns the searches of a fork's bridges take, and those of all forks above a point.
-use Rattle.std.specs.Prelude.{◌≡◌, ◌⊎◌, ℕ, ◌+◌, ◌≤◌, Option, Some, None}
+use Rattle.std.specs.Prelude.{◌≡◌, ◌⊎◌, ℕ, ◌+◌, ◌*◌, ◌≤◌, Option, Some, None}
 use Rattle.lattice.specs.Plane.{Pair}
 use Rattle.bridge_search.specs.Trees.{Tree, Leaf, Fork, IsAtDepth}
 use Rattle.bridge_search.specs.Search.{IsDepthSum}
 use Rattle.hull_set.specs.declared.set.AddReply.{AddReply}
 use Rattle.hull_set.specs.declared.set.AddReply.TheVariants.{Added, Again, TooMany, NoMemory}
+use Rattle.leaf_trees.specs.Heights.{greatest_height}
 use Rattle.hull_tree.specs.declared.node.Node.{Node}
 use Rattle.hull_tree.specs.Nodes.{tree_of}
+
+-- those of a fork's two bridges at most: each search takes no more than both halves are high
+abbrev pub turns_a_fork : ℕ
+turns_a_fork = 2 * (greatest_height + greatest_height)
+
+-- those of a level of a change, which renews three forks there at most
+abbrev pub turns_a_level : ℕ
+turns_a_level = 3 * turns_a_fork
 
 -- n is the sum of the depths of both bridges' ends in the two halves: e the upper, f the lower bridge
 abbrev pub IsForkCost : Pair × Pair → Pair × Pair → Tree → Tree → ℕ → Type 0

@@ -7,12 +7,14 @@ ghost use Rattle.bridge_search.specs.Trees.{Leaf, IsFork, first_of as first_in, 
 ghost use Rattle.hull_tree.specs.Nodes.{tree_of, left_half, right_half, before_parting, after_parting};
 ghost use Rattle.hull_tree.specs.Nodes.{times_below, IsWellBuilt};
 ghost use Rattle.leaf_trees.specs.Entries.{several, IsMultiplicity};
+ghost use Rattle.leaf_trees.specs.Heights.{greatest_height};
 ghost use Rattle.hull_tree.specs.Changes.{points_below, height_at, points_within, times_within, height_within};
 ghost use Rattle.hull_tree.specs.Changes.{AreParted, IsAtMostOneMore};
-ghost use Rattle.hull_tree.specs.Turns.{IsCostAtMost};
+ghost use Rattle.hull_tree.specs.Turns.{IsCostAtMost, turns_a_level};
 
-use super::build::{join, rebalance, take_halves};
+use super::joining::{join, take_halves};
 use super::node::{Halves, Node, first_of, last_of};
+use super::rotation::rebalance;
 use heap::Heap;
 use hull_set::MULTIPLICITY_LIMIT;
 use lattice::{Point, before};
@@ -153,12 +155,12 @@ fn reach(last: &mut Point, p: Point)
 pub(crate) fn insert(node: &mut Node, p: Point, spare: Box<Halves, Heap>) -> u32
     requires built { IsWellBuilt node.old }
     requires absent { ¬ Contains (points_below node.old) p }
-    requires low { height_at node.old ≤ 28 }
+    requires low { height_at node.old ≤ greatest_height }
     ensures built { IsWellBuilt node.new }
     ensures points { points_below node.new ≡ with_point p (points_below node.old) }
     ensures times { (q : Pair) → times_below node.new q ≡ times_below node.old q + once p q }
     ensures height { IsAtMostOneMore (height_at node.old) (height_at node.new) }
-    ensures few { result ≤ 336 * height_at node.old }
+    ensures few { result ≤ turns_a_level * height_at node.old }
     ensures cost { IsCostAtMost (tree_of node.new) p result }
 {
     match &mut node.below {
@@ -178,13 +180,13 @@ pub(crate) fn insert(node: &mut Node, p: Point, spare: Box<Halves, Heap>) -> u32
 fn insert_below(halves: &mut Halves, p: Point, spare: Box<Halves, Heap>) -> u32
     requires parted { AreParted halves.old }
     requires absent { ¬ Contains (points_within halves.old) p }
-    requires low { height_within halves.old ≤ 28 }
+    requires low { height_within halves.old ≤ greatest_height }
     ensures parted { AreParted halves.new }
     ensures points { points_within halves.new ≡ with_point p (points_within halves.old) }
     ensures times { (q : Pair) → times_within halves.new q ≡ times_within halves.old q + once p q }
     ensures left { IsAtMostOneMore (height_at (left_half halves.old)) (height_at (left_half halves.new)) }
     ensures right { IsAtMostOneMore (height_at (right_half halves.old)) (height_at (right_half halves.new)) }
-    ensures few { result ≤ 336 * height_within halves.old }
+    ensures few { result ≤ turns_a_level * height_within halves.old }
     ensures cost { IsCostAtMost (tree_of (left_half halves.new)) p result
         ⊎ IsCostAtMost (tree_of (right_half halves.new)) p result }
 {
@@ -229,12 +231,12 @@ pub(crate) fn remove(node: &mut Node, p: Point) -> u32
     requires built { IsWellBuilt node.old }
     requires fork { IsFork (tree_of node.old) }
     requires once { times_below node.old p ≡ 1 }
-    requires low { height_at node.old ≤ 28 }
+    requires low { height_at node.old ≤ greatest_height }
     ensures built { IsWellBuilt node.new }
     ensures points { points_below node.new ≡ without_point p (points_below node.old) }
     ensures times { (q : Pair) → times_below node.new q + once p q ≡ times_below node.old q }
     ensures height { IsAtMostOneMore (height_at node.new) (height_at node.old) }
-    ensures few { result ≤ 336 * height_at node.old }
+    ensures few { result ≤ turns_a_level * height_at node.old }
 {
     let Some(halves) = &mut node.below else {
         unreachable!()
@@ -254,13 +256,13 @@ fn remove_below(halves: &mut Halves, p: Point) -> u32
     requires once { times_within halves.old p ≡ 1 }
     requires more_left { ¬ (tree_of (left_half halves.old) ≡ Leaf p) }
     requires more_right { ¬ (tree_of (right_half halves.old) ≡ Leaf p) }
-    requires low { height_within halves.old ≤ 28 }
+    requires low { height_within halves.old ≤ greatest_height }
     ensures parted { AreParted halves.new }
     ensures points { points_within halves.new ≡ without_point p (points_within halves.old) }
     ensures times { (q : Pair) → times_within halves.new q + once p q ≡ times_within halves.old q }
     ensures left { IsAtMostOneMore (height_at (left_half halves.new)) (height_at (left_half halves.old)) }
     ensures right { IsAtMostOneMore (height_at (right_half halves.new)) (height_at (right_half halves.old)) }
-    ensures few { result ≤ 336 * height_within halves.old }
+    ensures few { result ≤ turns_a_level * height_within halves.old }
 {
     if before(p, halves.first_right) {
         let turns = remove(&mut halves.left, p);

@@ -25,13 +25,16 @@
 //! Many threads share a tree by the crate `hull_pool`.
 #![tactic(auto)]
 
-mod build;
+mod bridges;
 mod change;
+mod joining;
+mod keeping;
 mod laws;
 mod levels;
 mod load;
 mod node;
 mod node_ref;
+mod rotation;
 mod stretch;
 mod tree;
 

@@ -4,7 +4,7 @@ ghost use Rattle.hull_tree.specs.Changes.{points_below};
 ghost use Rattle.hull_tree.specs.Loaded.{IsOver, entries_below};
 ghost use Rattle.leaf_trees.specs.Entries.{AreEntries};
 
-use super::build::join;
+use super::joining::join;
 use super::node::{Halves, Node, first_of, last_of};
 use heap::Heap;
 use hull_set::NoMemory;

@@ -1,19 +1,16 @@
-ghost use Rattle.std.specs.Prelude.{◌≡◌, ◌≢◌, ◌≤◌, Option, None, option_map, MatchOption, length, IfOk, IfErr, Err};
+ghost use Rattle.std.specs.Prelude.{◌≡◌, ◌≢◌, ◌≤◌, None, option_map, MatchOption, IfOk, IfErr};
+ghost use Rattle.std.proofs.Common.{arith};
 ghost use Rattle.hull_set.specs.Replies.{Answers, after, reply_to_add, reply_to_remove, reply_to_extreme};
 ghost use Rattle.std.specs.Borrow.{Bor};
 ghost use Rattle.hull_tree.specs.declared.node.Node.{Node};
-ghost use Rattle.hull_tree.specs.Roots.{held_by, times_of_root, IsWellBuiltRoot};
+ghost use Rattle.hull_tree.specs.Loaded.{entries_of_root};
+ghost use Rattle.hull_tree.specs.Roots.{held_by, IsWellBuiltRoot};
 ghost use Rattle.hull_tree.specs.Sets.{LimitedTree, IsSound, IsWhole};
-ghost use Rattle.lattice.specs.Plane.{Pair};
-ghost use Rattle.leaf_trees.specs.Entries.{AreEntries, held_listed, held_after_adds, AreTooMany};
-ghost use Rattle.hull_set.specs.Held.{times_among};
-ghost use Rattle.hull_set.specs.Held.{nothing_held};
 ghost use Rattle.hull_tree.specs.Levels.{bridges_at};
-ghost use Rattle.leaf_trees.specs.Stretches.{IsStretch};
 ghost use Rattle.hull_tree.specs.Turns.{IsLeastCount, IsLeafDepth};
 
-use super::build::blank;
 use super::change::{insert, is_leaf, lower, raise, remove, times_of};
+use super::joining::blank;
 use super::levels::push_level;
 use super::load::{node_over, push_entries};
 use super::node::Node;
@@ -26,7 +23,7 @@ use hull_set::{
     AddReply, Call, HullSet, MULTIPLICITY_LIMIT, NoMemory, POINT_LIMIT, Place, RemoveReply, Rules,
 };
 use lattice::{Direction, Point};
-use leaf_trees::{Bridge, LoadFault, add_each, entries_of, merged_entries};
+use leaf_trees::{Bridge, Listed};
 use std::marker::Model;
 
 /// A set of points as a balanced leaf tree, whose forks keep the bridges of their two halves, and whose leaves keep how
@@ -73,86 +70,6 @@ impl HullTree {
         }
     }
 
-    /// The set of some points in order, each with how often it is held, with room for `limit` points. Each fork is built
-    /// once, from the points up: so this takes a small part of the time of adding them one by one. `NoMemory` comes
-    /// only for some points, and leaves nothing behind.
-    pub fn from_entries(
-        alloc: Heap,
-        limit: u32,
-        entries: &[(Point, u32)],
-    ) -> Result<HullTree, NoMemory>
-        requires high { limit ≤ POINT_LIMIT }
-        requires low { 1 ≤ limit }
-        requires room { length entries.now ≤ limit }
-        requires entries { AreEntries entries.now }
-        ensures held { IfOk result (λ tree. held_by tree.root ≡ held_listed entries.now) }
-        ensures limit { IfOk result (λ tree. tree.limit ≡ limit) }
-        ensures sound { IfOk result (λ tree. IsSound tree.root) }
-        ensures refused { IfErr result (λ _. 1 ≤ length entries.now) }
-    {
-        let mut tree = HullTree::new(alloc, limit);
-        if entries.is_empty() {
-            return Ok(tree);
-        }
-        let root = node_over(alloc, entries)?;
-        tree.root = Some(root);
-        tree.count = entries.len() as u32;
-        Ok(tree)
-    }
-
-    /// The set of some points in any order, each held as often as it stands among them, with room for `limit` points:
-    /// what adding them one by one makes, in a small part of the time. `TooMany` comes where adding them would answer
-    /// it; a fault leaves nothing behind.
-    pub fn from_points(alloc: Heap, limit: u32, points: &[Point]) -> Result<HullTree, LoadFault>
-        requires high { limit ≤ POINT_LIMIT }
-        requires low { 1 ≤ limit }
-        ensures held { IfOk result (λ tree. held_by tree.root ≡ held_after_adds nothing_held points.now) }
-        ensures times { IfOk result (λ tree. (q : Pair) → times_of_root tree.root q ≡ times_among points.now q) }
-        ensures limit { IfOk result (λ tree. tree.limit ≡ limit) }
-        ensures sound { IfOk result (λ tree. IsSound tree.root) }
-        ensures too_many { result ≡ Err LoadFault.TooMany → AreTooMany nothing_held points.now limit }
-    {
-        let entries = entries_of(alloc, points)?;
-        if entries.len() > limit as usize {
-            return Err(LoadFault::TooMany);
-        }
-        Ok(HullTree::from_entries(alloc, limit, &entries)?)
-    }
-
-    /// The points in order, each with how often it is held. `NoMemory` comes only for some points.
-    pub fn entries(&self) -> Result<Vec<(Point, u32), Heap>, NoMemory>
-        ensures entries { IfOk result (λ entries. AreEntries entries.items) }
-        ensures held { IfOk result (λ entries. held_listed entries.items ≡ held_by self.now.root) }
-        ensures refused { IfErr result (λ _. self.now.root ≢ None) }
-    {
-        let Some(root) = &self.root else {
-            return Ok(Vec::new(self.alloc));
-        };
-        let mut entries = Vec::with_capacity(self.alloc, self.count as usize)?;
-        push_entries(root, &mut entries);
-        Ok(entries)
-    }
-
-    /// The first `most` points that do not stand before `start`, in order, each with how often it is held: all points a
-    /// piece at a time, where each piece starts behind the last point of the one before. `NoMemory` comes only for some
-    /// points.
-    pub fn entries_from(
-        &self,
-        start: Point,
-        most: usize,
-    ) -> Result<Vec<(Point, u32), Heap>, NoMemory>
-        ensures stretch { IfOk result (λ entries. IsStretch (held_by self.now.root) start most entries.items) }
-        ensures refused { IfErr result (λ _. self.now.root ≢ None) }
-    {
-        let Some(root) = &self.root else {
-            return Ok(Vec::new(self.alloc));
-        };
-        let room = most.min(self.count as usize);
-        let mut entries = Vec::with_capacity(self.alloc, room)?;
-        push_from(root, start, room, &mut entries);
-        Ok(entries)
-    }
-
     /// The bridges that the forks of a level store, from left to right; the root stands on level 0. `NoMemory` comes only for
     /// some points.
     pub fn bridges_at(&self, level: u32) -> Result<Vec<Bridge, Heap>, NoMemory>
@@ -164,44 +81,6 @@ impl HullTree {
             push_level(root, level, 0, &mut bridges)?;
         }
         Ok(bridges)
-    }
-
-    /// Adds points in any order, all or none of them: what adding them one by one makes. Where they are a sixteenth of the
-    /// points at least, the tree is built anew beside the old one, and else they are added one by one. `TooMany` comes where
-    /// adding them would answer it; after a fault the set holds what it held.
-    pub fn extend(&mut self, points: &[Point]) -> Result<(), LoadFault>
-        ensures held { IfOk result (λ _. held_by self.new.root ≡ held_after_adds (held_by self.old.root) points.now) }
-        ensures fault { IfErr result (λ _. held_by self.new.root ≡ held_by self.old.root) }
-        ensures too_many { result ≡ Err LoadFault.TooMany
-            → AreTooMany (held_by self.old.root) points.now self.old.limit }
-        ensures limit { self.new.limit ≡ self.old.limit }
-        ensures sound { IsSound self.new.root }
-    {
-        if points.len() < self.count as usize / 16 {
-            trees_are_sound(self);
-            add_each(self, points)
-        } else {
-            self.extend_anew(points)
-        }
-    }
-
-    /// Adds points, all or none of them: builds the tree anew beside the old one, from the points of both.
-    fn extend_anew(&mut self, points: &[Point]) -> Result<(), LoadFault>
-        ensures held { IfOk result (λ _. held_by self.new.root ≡ held_after_adds (held_by self.old.root) points.now) }
-        ensures fault { IfErr result (λ _. self.new ≡ self.old) }
-        ensures too_many { result ≡ Err LoadFault.TooMany
-            → AreTooMany (held_by self.old.root) points.now self.old.limit }
-        ensures limit { self.new.limit ≡ self.old.limit }
-        ensures sound { IsSound self.new.root }
-    {
-        let added = entries_of(self.alloc, points)?;
-        let held = self.entries()?;
-        let entries = merged_entries(self.alloc, &held, &added)?;
-        if entries.len() > self.limit as usize {
-            return Err(LoadFault::TooMany);
-        }
-        *self = HullTree::from_entries(self.alloc, self.limit, &entries)?;
-        Ok(())
     }
 
     /// The tree's own root; `None` for the empty set.
@@ -370,6 +249,53 @@ impl HullSet for HullTree {
             Some(half) => area2(half),
         }
     }
+}
+
+impl Listed for HullTree {
+    // building anew is faster from a sixteenth on
+    const SHARE: usize = 16;
+
+    ghost SHARE = { 16 };
+
+    ghost listed = { λ t. entries_of_root t.root };
+
+    fn alloc(&self) -> Heap {
+        self.alloc
+    }
+
+    fn lists_are_sound(&self) {
+        trees_are_sound(self);
+    }
+
+    fn push_entries(&self, entries: &mut Vec<(Point, u32), Heap>) {
+        if let Some(root) = &self.root {
+            push_entries(root, entries);
+        }
+    }
+
+    fn push_from(&self, start: Point, most: usize, entries: &mut Vec<(Point, u32), Heap>) {
+        if let Some(root) = &self.root {
+            push_from(root, start, most, entries);
+        }
+    }
+
+    /// Each fork is built once, from the points up.
+    fn from_entries(
+        alloc: Heap,
+        limit: u32,
+        entries: &[(Point, u32)],
+    ) -> Result<HullTree, NoMemory> {
+        let mut tree = HullTree::new(alloc, limit);
+        if entries.is_empty() {
+            return Ok(tree);
+        }
+        let root = node_over(alloc, entries)?;
+        tree.root = Some(root);
+        tree.count = entries.len() as u32;
+        Ok(tree)
+    }
+
+    ghost some_share = { Prim.omega arith };
 }
 
 /// The law of a tree: whatever calls came before, it is well built, its points stand in order, and it is at most 28

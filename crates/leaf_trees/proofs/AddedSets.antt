@@ -58,12 +58,17 @@ after_times (p ∷ ps) h q =
 pub entries_held : (es : List (Pair × ℕ)) → AreEntries es → IsTrueHeld (held_listed es)
 entries_held es h = record { in_order = h.in_order; live = λ t. (λ m. live_of es t h.held m, λ l. listed_live es t l) }
 
+-- no entries are entries
+pub no_entries : AreEntries []
+no_entries = record { in_order = AllPairs-none; held = λ k d l. absurd (omega (arith, l)) }
+
+-- which hold nothing
+pub none_listed : held_listed [] ≡ nothing_held
+none_listed = refl
+
 -- nothing is held
 pub nothing_is_held : IsTrueHeld nothing_held
-nothing_is_held = record {
-  in_order = AllPairs-none;
-  live = λ t. (λ m. absurd (omega (arith, m.1)), λ l. absurd (omega (arith, l)));
-}
+nothing_is_held = subst IsTrueHeld none_listed (entries_held [] no_entries)
 
 -- what holds each point as often as it was held and stands among some holds what adding those leaves
 pub same_as_added : (h k : Held) (ps : List Pair) → IsTrueHeld h → IsTrueHeld k
@@ -213,12 +218,3 @@ kept_by_remove h limit p (Left n) k a = record {
   );
 }
 kept_by_remove h limit p Absent k a = k
-
--- what was added holds each point once more for each time that it was
-pub added_times : (h : Held) (limit : ℕ) (p q : Pair) (r : AddReply) → (k : Held)
-    → k ≡ after h (Add p) (reply_to_add r) → (r ≡ add.TooMany → ⊥) → (r ≡ add.NoMemory → ⊥)
-    → k.times q ≡ h.times q + once p q
-added_times h limit p q add.Added k e m n = ap (λ (z : Held). z.times q) e
-added_times h limit p q (add.Again t) k e m n = ap (λ (z : Held). z.times q) e
-added_times h limit p q add.TooMany k e m n = absurd (m refl)
-added_times h limit p q add.NoMemory k e m n = absurd (n refl)

@@ -4,7 +4,7 @@ use bucket_tree::BucketTree;
 use hull_plain::PlainSet;
 use hull_set::{AddReply, HullSet, MULTIPLICITY_LIMIT, NoMemory, POINT_LIMIT, RemoveReply};
 use lattice::{Direction, Point};
-use leaf_trees::LoadFault;
+use leaf_trees::{Listed, LoadFault};
 use std::alloc::Global;
 use std::process::Abort;
 use std::test::Fail;

@@ -7,7 +7,7 @@ use hull_plain::PlainSet;
 use hull_set::{AddReply, HullSet, NoMemory, POINT_LIMIT, RemoveReply};
 use hull_tree::HullTree;
 use lattice::{Direction, Point};
-use leaf_trees::LoadFault;
+use leaf_trees::{Listed, LoadFault};
 use std::alloc::Global;
 use std::process::Abort;
 use std::test::Fail;

@@ -7,7 +7,7 @@ use hull_plain::PlainSet;
 use hull_set::{AddReply, HullSet, MULTIPLICITY_LIMIT, NoMemory, POINT_LIMIT};
 use hull_tree::HullTree;
 use lattice::{Direction, Point, before};
-use leaf_trees::LoadFault;
+use leaf_trees::{Listed, LoadFault};
 use std::alloc::{AllocError, Global};
 use std::process::Abort;
 use std::test::Fail;

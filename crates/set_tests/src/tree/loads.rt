@@ -4,7 +4,7 @@ use bucket_tree::BucketTree;
 use hull_set::{AddReply, HullSet, MULTIPLICITY_LIMIT, POINT_LIMIT, Place};
 use hull_tree::HullTree;
 use lattice::{Direction, Point};
-use leaf_trees::{LoadFault, entries_of};
+use leaf_trees::{Listed, LoadFault, entries_of};
 use std::alloc::{AllocError, Global};
 use std::process::Abort;
 use std::test::Fail;

@@ -1,6 +1,7 @@
 -- entries cut in the middle are entries, and the nodes over both parts stand in a row and fit one another
 use Rattle.std.proofs.Common.{◌≡◌, ◌≤◌, ◌+◌, ◌/◌, length, arith, subst, max}
 use Rattle.std.specs.Prelude.{ℕ}
+use Rattle.leaf_trees.specs.Heights.{greatest_height}
 use Rattle.hull_tree.specs.declared.node.Halves as halves
 use Rattle.hull_tree.specs.Nodes.{DifferByAtMost}
 use Rattle.hull_tree.specs.Changes.{height_at}
@@ -55,9 +56,9 @@ join-requires-clause-balanced t c =
 
 pub join-requires-clause-low : goal.join-requires-clause-low
 join-requires-clause-low t c =
-    let a : height_at c.in_ok-left.left ≤ 28 =
+    let a : height_at c.in_ok-left.left ≤ greatest_height =
     low_over _ _ c.in_ok-left.ensures (omega (arith, c.requires.few, c.split_at.ensures.front_len)) in
-    let b : height_at c.in_ok-right.right ≤ 28 =
+    let b : height_at c.in_ok-right.right ≤ greatest_height =
     low_over _ _ c.in_ok-right.ensures (omega (arith, c.requires.few, c.split_at.ensures.back_len)) in
     omega arith
 

@@ -3,6 +3,7 @@ use Rattle.std.proofs.Common.{arith, ◌≡◌, ◌≤◌, ◌+◌, ap, subst, s
 use Rattle.hull_set.specs.Replies.{AnswersAdd}
 use Rattle.hull_set.specs.declared.reply.Reply.TheVariants.{Added, Again, TooMany}
 use Rattle.hull_set.specs.declared.rules.Rules.TheVariants.{Counted}
+use Rattle.leaf_trees.specs.Heights.{greatest_height}
 use Rattle.hull_tree.specs.Changes.{height_at}
 use Rattle.hull_tree.specs.Roots.{held_by}
 use Rattle.hull_tree.specs.Sets.{LimitedTree}
@@ -88,7 +89,7 @@ pub insert-turns-requires-clause-low : goal.insert-turns-requires-clause-low
 insert-turns-requires-clause-low c =
     let k = counted c.self.invariant c.in-Some.is c.raise-times.ensures.was c.raise-times.ensures.built
     c.raise-times.ensures.same_tree in
-    let h : height_at c.raise-times.new.node ≤ 28 = (sound_after k).low in
+    let h : height_at c.raise-times.new.node ≤ greatest_height = (sound_after k).low in
     omega (arith, h)
 
 pub invariant_of-self-2 : goal.invariant_of-self-2
@@ -126,5 +127,5 @@ pub returns-clause-few : goal.returns-clause-few
 returns-clause-few c =
     let k = counted c.self.invariant c.in-Some.is c.raise-times.ensures.was c.raise-times.ensures.built
     c.raise-times.ensures.same_tree in
-    let h : height_at c.raise-times.new.node ≤ 28 = (sound_after k).low in
+    let h : height_at c.raise-times.new.node ≤ greatest_height = (sound_after k).low in
     omega (arith, h, c.insert-turns.ensures.few)

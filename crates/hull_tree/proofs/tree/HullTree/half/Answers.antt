@@ -1,5 +1,6 @@
 -- the root is well built and at most 28 high, so it is a half, with the points of the set
 use Rattle.std.proofs.Common.{◌≤◌, arith, subst}
+use Rattle.leaf_trees.specs.Heights.{greatest_height}
 use Rattle.hull_tree.specs.Nodes.{tree_of}
 use Rattle.hull_tree.specs.Sets.{LimitedTree, IsWhole}
 use Rattle.std.specs.Prelude.{Option}
@@ -16,7 +17,7 @@ returns-in-Some c =
 
 pub new-requires-clause-low : goal.new-requires-clause-low
 new-requires-clause-low c =
-    let h : height_at c.in-Some.node ≤ 28 =
+    let h : height_at c.in-Some.node ≤ greatest_height =
     (sound _ _ _ (subst (λ
     (z : Option Node). IsLimited z c.self.inside.count c.self.inside.limit) c.in-Some.is c.self.invariant)).low in
     omega (arith, h)

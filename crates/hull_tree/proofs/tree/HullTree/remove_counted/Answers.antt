@@ -6,6 +6,7 @@ use Rattle.std.specs.List.{Contains}
 use Rattle.hull_set.specs.Replies.{AnswersRemove}
 use Rattle.hull_set.specs.declared.reply.Reply.TheVariants.{Removed, Left, Absent}
 use Rattle.hull_set.specs.declared.rules.Rules.TheVariants.{Counted}
+use Rattle.leaf_trees.specs.Heights.{greatest_height}
 use Rattle.hull_tree.specs.Changes.{points_below, height_at}
 use Rattle.hull_tree.specs.Roots.{held_by}
 use Rattle.hull_tree.specs.Sets.{LimitedTree}
@@ -63,7 +64,7 @@ pub remove-requires-clause-low : goal.remove-requires-clause-low
 remove-requires-clause-low c =
     let k = counted c.self.invariant c.in-Some.is c.lower-times.ensures.was c.lower-times.ensures.built
     c.lower-times.ensures.same_tree in
-    let h : height_at c.lower-times.new.node ≤ 28 = (sound_after k).low in
+    let h : height_at c.lower-times.new.node ≤ greatest_height = (sound_after k).low in
     omega (arith, h)
 
 pub invariant_of-self-2 : goal.invariant_of-self-2
@@ -101,7 +102,7 @@ pub returns-clause-few : goal.returns-clause-few
 returns-clause-few c =
     let k = counted c.self.invariant c.in-Some.is c.lower-times.ensures.was c.lower-times.ensures.built
     c.lower-times.ensures.same_tree in
-    let h : height_at c.lower-times.new.node ≤ 28 = (sound_after k).low in
+    let h : height_at c.lower-times.new.node ≤ greatest_height = (sound_after k).low in
     omega (arith, h, c.remove.ensures.few)
 
 -- grind closes these at once; what is tried first takes long

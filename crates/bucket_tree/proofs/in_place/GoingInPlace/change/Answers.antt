@@ -1,0 +1,47 @@
+-- a point held once counts once
+use Rattle.std.proofs.Common.{◌+◌, ◌∙◌, ap, get_or, refl, subst, sym}
+use Rattle.lattice.specs.Covers.{without_point}
+use Rattle.hull_geometry.specs.Positions.{IsPositionOf, origin}
+use Rattle.hull_set.specs.Held.{once}
+use Rattle.std.specs.List.{remove}
+use Rattle.bucket_tree.specs.Counts.{counted}
+use Rattle.bucket_tree.specs.Changes.{IsClosedOver}
+use Rattle.bucket_tree.proofs.Lost.{count_at, count_none, held_without}
+use Rattle.bucket_tree.proofs.Kept.{closed_without}
+use Rattle.bucket_tree.proofs.in_place.GoingInPlace.change.Goals as goal
+
+pub returns-in_default-clause-told : goal.returns-in_default-clause-told
+returns-in_default-clause-told c =
+    sym (count_none c.args.bucket.now.points c.args.bucket.now.times c.in_default.field-0 c.args.p
+    (subst (IsPositionOf c.args.bucket.now.points c.args.p) c.in_default.is c.place_of.ensures))
+
+pub returns-then-times-ne1-clause-told : goal.returns-then-times-ne1-clause-told
+returns-then-times-ne1-clause-told c =
+    ap (λ z. get_or z c.in-Ok.place 0) c.times.ensures.times
+    ∙ sym (count_at c.args.bucket.now.points c.args.bucket.now.times c.in-Ok.place c.args.p
+    c.buckets_are_sound.ensures.ordered c.buckets_are_sound.ensures.counted
+    (subst (IsPositionOf c.args.bucket.now.points c.args.p) c.in-Ok.is c.place_of.ensures))
+
+pub returns-clause-change : goal.returns-clause-change
+returns-clause-change c =
+    let at = subst (IsPositionOf c.args.bucket.now.points c.args.p) c.in-Ok.is c.place_of.ensures in
+    let held =
+    count_at c.args.bucket.now.points c.args.bucket.now.times c.in-Ok.place c.args.p
+    c.buckets_are_sound.ensures.ordered c.buckets_are_sound.ensures.counted at
+    ∙ sym (ap (λ z. get_or z c.in-Ok.place 0) c.times.ensures.times) ∙ c.if-times-ne1.false in
+    let points = c.remove.ensures.points ∙ ap (λ z. without_point z c.args.bucket.now.points) (at.1 origin) in
+    record {
+      held = held;
+      points = points;
+      times = λ q.
+          held_without c.args.bucket.now.points c.args.bucket.now.times c.in-Ok.place c.args.p
+          c.buckets_are_sound.ensures.ordered c.buckets_are_sound.ensures.counted at held q
+          ∙ ap (λ z. counted z (remove c.args.bucket.now.times c.in-Ok.place) q + once c.args.p q) (sym points)
+          ∙ ap (λ z. counted c.remove.new.self.points z q + once c.args.p q) (sym c.remove.ensures.times);
+      unsearched = record {
+        closed = subst (IsClosedOver c.args.p c.open_at-sides.result) (sym points)
+            (closed_without c.args.p c.args.bucket.now.points c.open_at-sides.result c.buckets_are_sound.ensures.ordered
+            c.open_at-sides.ensures);
+        turns = refl;
+      };
+    }

@@ -1,0 +1,118 @@
+//! Forks joined of two halves, and taken apart.
+ghost use Rattle.std.specs.Prelude.{◌≡◌, Some, ◌≤◌, ◌+◌, ◌*◌, ◌++◌, max};
+ghost use Rattle.lattice.specs.Plane.{Pair};
+ghost use Rattle.bridge_search.specs.Trees.{IsFork, left_of, right_of, first_of as first_in, last_of as last_in};
+ghost use Rattle.leaf_trees.specs.Heights.{greatest_height};
+ghost use Rattle.hull_tree.specs.Nodes.{tree_of, halves_of, left_half, right_half, before_parting, after_parting};
+ghost use Rattle.hull_tree.specs.Nodes.{times_below, IsWellBuilt, DifferByAtMost};
+ghost use Rattle.hull_tree.specs.Changes.{points_below, height_at, left_height, right_height, IsParted, IsPartedAt};
+ghost use Rattle.hull_tree.specs.Turns.{IsDearerByAtMost, turns_a_fork};
+
+use super::bridges::search_both;
+use super::keeping::keep;
+use super::node::{Halves, Node};
+use heap::Heap;
+use lattice::Point;
+use std::mem;
+
+/// Two halves that stand for nothing yet.
+pub(crate) fn blank(point: Point) -> Halves {
+    Halves {
+        left: Node::leaf(point, 1),
+        right: Node::leaf(point, 1),
+        last_left: point,
+        first_right: point,
+    }
+}
+
+/// The left and the right half, which have a point in their places from then on.
+pub(crate) fn take_halves(halves: &mut Halves) -> (Node, Node)
+    ensures left { result.0 ≡ left_half halves.old }
+    ensures right { result.1 ≡ right_half halves.old }
+    ensures last { before_parting halves.new ≡ before_parting halves.old }
+    ensures first { after_parting halves.new ≡ after_parting halves.old }
+{
+    let point = halves.last_left;
+    let left = mem::replace(&mut halves.left, Node::leaf(point, 1));
+    let right = mem::replace(&mut halves.right, Node::leaf(point, 1));
+    (left, right)
+}
+
+/// A fork taken apart: its left and its right half, and their box, which keeps the points at their parting.
+pub(crate) fn take_apart(node: Node) -> (Node, Node, Box<Halves, Heap>)
+    requires built { IsWellBuilt node }
+    requires fork { IsFork (tree_of node) }
+    ensures halves { halves_of node ≡ Some (result.0, result.1) }
+    ensures parted { IsPartedAt result.0 result.1 (before_parting result.2.value) (after_parting result.2.value) }
+    ensures points { points_below node ≡ points_below result.0 ++ points_below result.1 }
+    ensures times { (q : Pair) → times_below node q ≡ times_below result.0 q + times_below result.1 q }
+    ensures first { first_in (tree_of node) ≡ first_in (tree_of result.0) }
+    ensures last { last_in (tree_of node) ≡ last_in (tree_of result.1) }
+    ensures height { height_at node ≡ max (height_at result.0) (height_at result.1) + 1 }
+    ensures near { DifferByAtMost 1 (height_at result.0) (height_at result.1) }
+{
+    let Node { below, .. } = node;
+    let Some(mut halves) = below else {
+        unreachable!()
+    };
+    let (left, right) = take_halves(&mut halves);
+    (left, right, halves)
+}
+
+/// Searches both bridges of a fork, keeps them and its height, and tells how many turns the two searches took. Each
+/// bridge of the tree is stored here.
+pub(crate) fn renew(node: &mut Node) -> u32
+    requires parted { IsParted node.old }
+    requires balanced { DifferByAtMost 1 (left_height node.old) (right_height node.old) }
+    requires low { max (left_height node.old) (right_height node.old) ≤ greatest_height }
+    ensures built { IsWellBuilt node.new }
+    ensures points { points_below node.new ≡ points_below node.old }
+    ensures times { (q : Pair) → times_below node.new q ≡ times_below node.old q }
+    ensures first { first_in (tree_of node.new) ≡ first_in (left_of (tree_of node.old)) }
+    ensures last { last_in (tree_of node.new) ≡ last_in (right_of (tree_of node.old)) }
+    ensures height { height_at node.new ≡ height_at node.old }
+    ensures within { result ≤ 2 * (left_height node.old + right_height node.old) }
+    ensures few { result ≤ turns_a_fork }
+    ensures cost_left { IsDearerByAtMost (left_of (tree_of node.old)) (tree_of node.new) result }
+    ensures cost_right { IsDearerByAtMost (right_of (tree_of node.old)) (tree_of node.new) result }
+{
+    let Some(halves) = &node.below else {
+        unreachable!()
+    };
+    let found = search_both(halves);
+    let turns = found.turns;
+    keep(node, found);
+    turns
+}
+
+/// The fork over two halves, in a box that keeps the points at their parting, and how many turns the searches for its
+/// bridges took.
+pub(crate) fn join(mut spare: Box<Halves, Heap>, left: Node, right: Node) -> (Node, u32)
+    requires parted { IsPartedAt left right (before_parting spare.value) (after_parting spare.value) }
+    requires balanced { DifferByAtMost 1 (height_at left) (height_at right) }
+    requires low { max (height_at left) (height_at right) ≤ greatest_height }
+    ensures built { IsWellBuilt result.0 }
+    ensures points { points_below result.0 ≡ points_below left ++ points_below right }
+    ensures times { (q : Pair) → times_below result.0 q ≡ times_below left q + times_below right q }
+    ensures first { first_in (tree_of result.0) ≡ first_in (tree_of left) }
+    ensures last { last_in (tree_of result.0) ≡ last_in (tree_of right) }
+    ensures height { height_at result.0 ≡ max (height_at left) (height_at right) + 1 }
+    ensures within { result.1 ≤ 2 * (height_at left + height_at right) }
+    ensures few { result.1 ≤ turns_a_fork }
+    ensures cost_left { IsDearerByAtMost (tree_of left) (tree_of result.0) result.1 }
+    ensures cost_right { IsDearerByAtMost (tree_of right) (tree_of result.0) result.1 }
+{
+    let point = spare.last_left;
+    spare.left = left;
+    spare.right = right;
+    let mut node = Node {
+        upper: (point, point),
+        lower: (point, point),
+        height: 0,
+        near: false,
+        times: 0,
+        below: Some(spare),
+    };
+    let turns = renew(&mut node);
+    (node, turns)
+}

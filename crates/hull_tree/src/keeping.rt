@@ -1,0 +1,58 @@
+//! What a fork keeps of its two halves.
+ghost use Rattle.std.specs.Prelude.{◌≡◌, ◌≤◌};
+ghost use Rattle.hull_tree.specs.Nodes.{keeping};
+
+use super::node::Node;
+use lattice::Point;
+
+/// What a fork keeps of its two halves, and how many turns the searches for its bridges took.
+#[derive(Clone, Copy)]
+pub(crate) struct Found {
+    pub(crate) upper: (Point, Point),
+    pub(crate) lower: (Point, Point),
+    pub(crate) height: u32,
+    pub(crate) near: bool,
+    pub(crate) turns: u32,
+}
+
+/// Stores a point where it is another than the one that is kept.
+fn keep_point(kept: &mut Point, found: Point)
+    ensures { kept.new ≡ found }
+{
+    if *kept != found {
+        *kept = found;
+    }
+}
+
+/// Stores a height where it is another than the one that is kept.
+fn keep_height(kept: &mut u16, found: u32)
+    requires { found ≤ 65535 }
+    ensures { kept.new ≡ found }
+{
+    let height = found as u16;
+    if *kept != height {
+        *kept = height;
+    }
+}
+
+/// Stores whether all points are near where the other is kept.
+fn keep_near(kept: &mut bool, found: bool)
+    ensures { kept.new ≡ found }
+{
+    if *kept != found {
+        *kept = found;
+    }
+}
+
+/// Stores what was found of a fork where it is another than what is kept: most searches find the bridge that is there.
+pub(crate) fn keep(node: &mut Node, found: Found)
+    requires { found.height ≤ 65535 }
+    ensures { node.new ≡ keeping node.old found.upper found.lower found.height found.near }
+{
+    keep_point(&mut node.upper.0, found.upper.0);
+    keep_point(&mut node.upper.1, found.upper.1);
+    keep_point(&mut node.lower.0, found.lower.0);
+    keep_point(&mut node.lower.1, found.lower.1);
+    keep_height(&mut node.height, found.height);
+    keep_near(&mut node.near, found.near);
+}

@@ -1,0 +1,154 @@
+//! Sets that list what they hold, and are made of such a list.
+ghost use Rattle.std.specs.Prelude.{◌≡◌, ◌≢◌, ◌≤◌, ◌+◌, ◌++◌, ℕ, List, [], Err, IfOk, IfErr, length, take, vec_len, vec_capacity};
+ghost use Rattle.lattice.specs.Plane.{Pair};
+ghost use Rattle.hull_set.specs.Held.{nothing_held, times_among};
+ghost use Rattle.leaf_trees.specs.Entries.{AreEntries, AreTooMany, held_after_adds, held_listed};
+ghost use Rattle.leaf_trees.specs.Stretches.{IsStretch, entries_from};
+
+use super::adding::add_each;
+use super::entries::{entries_of, merged_entries};
+use super::fault::LoadFault;
+use heap::Heap;
+use hull_set::{HullSet, NoMemory, POINT_LIMIT};
+use lattice::Point;
+
+/// A set that lists its points in order, each with how often it is held, and is made of such a list at once.
+pub trait Listed: HullSet + Drop {
+    /// Where they are this part of its points at least, the set is made anew for the points that come: one in so many.
+    const SHARE: usize;
+
+    ghost SHARE: { ℕ };
+
+    ghost listed: { Self → List (Pair × ℕ) };
+
+    /// Where the set asks for memory.
+    fn alloc(&self) -> Heap;
+
+    /// The law of such a set: it lists what it holds.
+    fn lists_are_sound(&self)
+        ensures sound { Self.sound self.now }
+        ensures entries { AreEntries (listed self.now) }
+        ensures held { held_listed (listed self.now) ≡ Self.held self.now };
+
+    /// Appends all points, each with how often it is held, to entries with room for them.
+    fn push_entries(&self, entries: &mut Vec<(Point, u32), Heap>)
+        requires { vec_len entries.old + length (Self.held self.now).points ≤ vec_capacity entries.old }
+        ensures { entries.new.items ≡ entries.old.items ++ listed self.now };
+
+    /// Appends the points that do not stand before `start`, each with how often it is held, until there are `most`
+    /// entries.
+    fn push_from(&self, start: Point, most: usize, entries: &mut Vec<(Point, u32), Heap>)
+        requires few { vec_len entries.old ≤ most }
+        requires room { most ≤ vec_capacity entries.old }
+        ensures { entries.new.items ≡ take most (entries.old.items ++ entries_from start (listed self.now)) };
+
+    /// The set of some points in order, each with how often it is held, with room for `limit` points: in a small part of
+    /// the time of adding them one by one. `NoMemory` comes only for some points, and leaves nothing behind.
+    fn from_entries(alloc: Heap, limit: u32, entries: &[(Point, u32)]) -> Result<Self, NoMemory>
+        requires high { limit ≤ POINT_LIMIT }
+        requires low { 1 ≤ limit }
+        requires room { length entries.now ≤ limit }
+        requires entries { AreEntries entries.now }
+        ensures held { IfOk result (λ set. Self.held set ≡ held_listed entries.now) }
+        ensures limit { IfOk result (λ set. Self.bound set ≡ limit) }
+        ensures sound { IfOk result (λ set. Self.sound set) }
+        ensures refused { IfErr result (λ _. 1 ≤ length entries.now) };
+
+    ghost some_share: { 1 ≤ SHARE };
+
+    /// The set of some points in any order, each held as often as it stands among them, with room for `limit` points:
+    /// what adding them one by one makes, in a small part of the time. `TooMany` comes where adding them would answer
+    /// it; a fault leaves nothing behind.
+    final fn from_points(alloc: Heap, limit: u32, points: &[Point]) -> Result<Self, LoadFault>
+        requires high { limit ≤ POINT_LIMIT }
+        requires low { 1 ≤ limit }
+        ensures held { IfOk result (λ set. Self.held set ≡ held_after_adds nothing_held points.now) }
+        ensures times { IfOk result (λ set. (q : Pair) → (Self.held set).times q ≡ times_among points.now q) }
+        ensures limit { IfOk result (λ set. Self.bound set ≡ limit) }
+        ensures sound { IfOk result (λ set. Self.sound set) }
+        ensures too_many { result ≡ Err LoadFault.TooMany → AreTooMany nothing_held points.now limit }
+    {
+        let entries = entries_of(alloc, points)?;
+        if entries.len() > limit as usize {
+            return Err(LoadFault::TooMany);
+        }
+        Ok(Self::from_entries(alloc, limit, &entries)?)
+    }
+
+    /// The points in order, each with how often it is held. `NoMemory` comes only for some points.
+    final fn entries(&self) -> Result<Vec<(Point, u32), Heap>, NoMemory>
+        ensures entries { IfOk result (λ entries. AreEntries entries.items) }
+        ensures held { IfOk result (λ entries. held_listed entries.items ≡ Self.held self.now) }
+        ensures refused { IfErr result (λ _. (Self.held self.now).points ≢ []) }
+    {
+        self.lists_are_sound();
+        let count = self.count() as usize;
+        if count == 0 {
+            return Ok(Vec::new(self.alloc()));
+        }
+        let mut entries = Vec::with_capacity(self.alloc(), count)?;
+        self.push_entries(&mut entries);
+        Ok(entries)
+    }
+
+    /// The first `most` points that do not stand before `start`, in order, each with how often it is held: all points a
+    /// piece at a time, where each piece starts behind the last point of the one before. `NoMemory` comes only for some
+    /// points.
+    final fn entries_from(
+        &self,
+        start: Point,
+        most: usize,
+    ) -> Result<Vec<(Point, u32), Heap>, NoMemory>
+        ensures stretch { IfOk result (λ entries. IsStretch (Self.held self.now) start most entries.items) }
+        ensures refused { IfErr result (λ _. (Self.held self.now).points ≢ []) }
+    {
+        self.lists_are_sound();
+        let count = self.count() as usize;
+        if count == 0 {
+            return Ok(Vec::new(self.alloc()));
+        }
+        let room = most.min(count);
+        let mut entries = Vec::with_capacity(self.alloc(), room)?;
+        self.push_from(start, room, &mut entries);
+        Ok(entries)
+    }
+
+    /// Adds points in any order, all or none of them: what adding them one by one makes. Where they are one in
+    /// [`SHARE`](Listed::SHARE) of the points at least, the set is made anew beside the old one, and else they are added one
+    /// by one. `TooMany` comes where adding them would answer it; after a fault the set holds what it held.
+    final fn extend(&mut self, points: &[Point]) -> Result<(), LoadFault>
+        ensures held { IfOk result (λ _. Self.held self.new ≡ held_after_adds (Self.held self.old) points.now) }
+        ensures fault { IfErr result (λ _. Self.held self.new ≡ Self.held self.old) }
+        ensures too_many { result ≡ Err LoadFault.TooMany
+            → AreTooMany (Self.held self.old) points.now (Self.bound self.old) }
+        ensures limit { Self.bound self.new ≡ Self.bound self.old }
+        ensures sound { Self.sound self.new }
+    {
+        self.lists_are_sound();
+        if points.len() < self.count() as usize / Self::SHARE {
+            add_each(self, points)
+        } else {
+            extend_anew(self, points)
+        }
+    }
+}
+
+/// Adds points, all or none of them: makes the set anew beside the old one, from the points of both.
+fn extend_anew<S: Listed>(set: &mut S, points: &[Point]) -> Result<(), LoadFault>
+    ensures held { IfOk result (λ _. S.held set.new ≡ held_after_adds (S.held set.old) points.now) }
+    ensures fault { IfErr result (λ _. set.new ≡ set.old) }
+    ensures too_many { result ≡ Err LoadFault.TooMany → AreTooMany (S.held set.old) points.now (S.bound set.old) }
+    ensures limit { S.bound set.new ≡ S.bound set.old }
+    ensures sound { S.sound set.new }
+{
+    set.lists_are_sound();
+    let limit = set.limit();
+    let added = entries_of(set.alloc(), points)?;
+    let held = set.entries()?;
+    let entries = merged_entries(set.alloc(), &held, &added)?;
+    if entries.len() > limit as usize {
+        return Err(LoadFault::TooMany);
+    }
+    *set = S::from_entries(set.alloc(), limit, &entries)?;
+    Ok(())
+}
