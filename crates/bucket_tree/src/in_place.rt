@@ -162,6 +162,7 @@ fn change_in_place<C: InPlace>(node: &mut Node, p: Point) -> Result<Changed, u16
 
 /// Puts a new point below a node, held once, where the bucket that it belongs to has room. Else all stays as it was, and how
 /// often the point is held there is told.
+#[inline(always)]
 pub fn put_in_place(node: &mut Node, p: Point) -> Result<Changed, u16>
     requires built { IsWellBuilt node.old }
     requires few { length (points_below node.old) < POINT_LIMIT }
@@ -175,6 +176,7 @@ pub fn put_in_place(node: &mut Node, p: Point) -> Result<Changed, u16>
 
 /// Takes a point that is held once out of what is below a node, where its bucket has others and is not to be merged with the
 /// one beside it. Else all stays as it was, and how often the point is held there is told.
+#[inline(always)]
 pub fn take_in_place(node: &mut Node, p: Point) -> Result<Changed, u16>
     requires built { IsWellBuilt node.old }
     requires few { length (points_below node.old) ≤ POINT_LIMIT }
